@@ -1,0 +1,2 @@
+pub mod ItemTable
+pub mod CodeMap

@@ -1,0 +1,17 @@
+//! What every crate names: numbers of items, leaves and buses, stamps and keys, turns and their answers,
+//! completed operations, the table of items and the code.
+#![tactic(auto)]
+
+mod answers;
+mod keys;
+mod numbers;
+mod operations;
+mod sizes;
+mod turns;
+
+pub use answers::{BusyCause, LogEntry, PendingWhy, Place, QueueName, TurnAnswer, TxKind};
+pub use keys::{Key, LEVELS, Stamp};
+pub use numbers::{BusNo, ChildNo, HartNo, ItemId, LeafNo, NoMemory, Words};
+pub use operations::{Effect, HaltCause, Op};
+pub use sizes::{Hold, LeafState, Span, Start, TreeCounts, TreeSizes};
+pub use turns::Turn;
