@@ -1,1 +1,13 @@
 pub mod Values
+pub mod Each
+pub mod States
+pub mod Leaf
+pub mod Directory
+pub mod Child
+pub mod Blank
+pub mod Bus
+pub mod HartTurn
+pub mod Route
+pub mod Machine
+pub mod Start
+pub mod Found

@@ -1,5 +1,25 @@
-//! The machine of buses as definitions: the values of a leaf, a directory and the tree, and what each turn does to them.
+//! The machine of buses as definitions: the values of a leaf, a directory and the tree, and what each turn makes of them.
 #![tactic(auto)]
+
+use ddm_types::{BusNo, ChildNo, LeafNo};
+
+/// One turn of a bus, seen from it.
+#[derive(Clone, Copy, Debug, PartialEq, Eq)]
+pub enum BusTurn {
+    Down,
+    Request(ChildNo),
+    Reply(ChildNo),
+    Leave(ChildNo, u8),
+}
+
+/// Where a copy of an item stands. Places of a list are counted from 0.
+#[derive(Clone, Copy, Debug, PartialEq, Eq)]
+pub enum CopyPlace {
+    LeafWay { leaf: LeafNo, way: u32 },
+    LeafBuffer { leaf: LeafNo, place: u32 },
+    Parking { bus: BusNo, place: u32 },
+    DownList { bus: BusNo, place: u32 },
+}
 
 /// How many transactions of each kind a bus has granted. `copies` counts those that carry data.
 #[derive(Clone, Copy, Debug, PartialEq, Eq)]
