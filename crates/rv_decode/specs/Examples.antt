@@ -6,8 +6,5 @@ use Rattle.rv_decode.specs.declared.instructions.Instr.TheVariants.{Lr, Ebreak}
 use Rattle.rv_decode.specs.Table.{decode_of}
 use Rattle.std.specs.Prelude.{ℕ}
 
-abbrev pub x : ℕ → Reg
-x n = record { 0 = n }
-
 abbrev pub IsLoadReserved : Type 0
-IsLoadReserved = decode_of 0x100522af ≡ Some (Lr (x 5) (x 10) false false)
+IsLoadReserved = decode_of 0x100522af ≡ Some (Lr 5 10 false false)

@@ -23,13 +23,13 @@ signed bits n = if nat_lt n (2 ^ (bits - 1)) then pos n else negsuc (2 ^ bits - 
 
 -- bits 11..7, 19..15 and 24..20: the registers
 abbrev pub rd_of : ℕ → Reg
-rd_of w = record { 0 = field 7 5 w }
+rd_of w = field 7 5 w
 
 abbrev pub rs1_of : ℕ → Reg
-rs1_of w = record { 0 = field 15 5 w }
+rs1_of w = field 15 5 w
 
 abbrev pub rs2_of : ℕ → Reg
-rs2_of w = record { 0 = field 20 5 w }
+rs2_of w = field 20 5 w
 
 -- bit 26 (acquire) and bit 25 (release) of an atomic instruction
 abbrev pub aq_of : ℕ → Bool

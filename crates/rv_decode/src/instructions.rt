@@ -1,6 +1,18 @@
+use std::marker::Model;
+
 /// The number of a register, below 32.
 #[derive(Clone, Copy, Debug, PartialEq, Eq)]
 pub struct Reg(pub u8);
+
+impl Model for Reg {
+    ghost use Rattle.std.specs.Prelude.{ℕ};
+
+    ghost Value = { ℕ };
+
+    ghost view = { λ reg. reg.0 };
+
+    ghost inverse = { λ n. record { 0 = n } };
+}
 
 #[derive(Clone, Copy, Debug, PartialEq, Eq)]
 pub enum BranchOp {
