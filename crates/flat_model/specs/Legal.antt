@@ -1,0 +1,89 @@
+-- Legal lists of completed instructions.
+use Rattle.std.specs.Prelude.{ℕ, Bool, true, false, ◌&&◌, nat_eq, nat_lt, List, [], ◌∷◌, length, Option, Some, None, IsSome, unwrap_or, option_and_then, Result, Ok, Err, if◌then◌else◌}
+use Rattle.ddm_types.specs.declared.operations.Effect.{Effect}
+use Rattle.ddm_types.specs.declared.operations.Effect.TheVariants.{Plain, Put, Load, Store, Lr, ScOk, ScFail, Amo}
+use Rattle.ddm_types.specs.declared.operations.Op.{Op}
+use Rattle.ddm_types.specs.CodeMap.{CodeWord}
+use Rattle.ddm_types.specs.ItemTable.{ItemTable, item_at}
+use Rattle.flat_model.specs.Flat.{FlatMachine, FlatStepped, flat_hart, flat_step, has_reserved}
+
+-- ---- what an effect is on
+
+-- the word that an effect reads or writes; a failed SC does neither
+abbrev pub effect_address : Effect → Option ℕ
+effect_address Plain = None
+effect_address (Put byte) = None
+effect_address (Load address word) = Some address
+effect_address (Store address before after) = Some address
+effect_address (Lr address word) = Some address
+effect_address (ScOk address before after) = Some address
+effect_address (ScFail address) = None
+effect_address (Amo address before after) = Some address
+
+-- an effect that stores
+abbrev pub is_change : Effect → Bool
+is_change Plain = false
+is_change (Put byte) = false
+is_change (Load address word) = false
+is_change (Store address before after) = true
+is_change (Lr address word) = false
+is_change (ScOk address before after) = true
+is_change (ScFail address) = false
+is_change (Amo address before after) = true
+
+abbrev pub effect_item : ItemTable → Effect → Option ℕ
+effect_item items effect = option_and_then (item_at items) (effect_address effect)
+
+-- the effect reads or writes a word of this item
+unfoldable pub on_item : ItemTable → ℕ → Effect → Bool
+on_item items x effect = has_reserved (effect_item items effect) x
+
+-- the effect writes a word of this item
+unfoldable pub changes_item : ItemTable → ℕ → Effect → Bool
+changes_item items x effect = is_change effect && on_item items x effect
+
+-- ---- legal lists
+
+-- the same effect, with the same numbers
+abbrev pub same_effect : Effect → Effect → Bool
+same_effect Plain Plain = true
+same_effect (Put a) (Put b) = nat_eq a b
+same_effect (Load a w) (Load b v) = nat_eq a b && nat_eq w v
+same_effect (Store a w x) (Store b v y) = nat_eq a b && nat_eq w v && nat_eq x y
+same_effect (Lr a w) (Lr b v) = nat_eq a b && nat_eq w v
+same_effect (ScOk a w x) (ScOk b v y) = nat_eq a b && nat_eq w v && nat_eq x y
+same_effect (ScFail a) (ScFail b) = nat_eq a b
+same_effect (Amo a w x) (Amo b v y) = nat_eq a b && nat_eq w v && nat_eq x y
+same_effect _ _ = false
+
+abbrev pub is_sc_ok : Effect → Bool
+is_sc_ok Plain = false
+is_sc_ok (Put byte) = false
+is_sc_ok (Load address word) = false
+is_sc_ok (Store address before after) = false
+is_sc_ok (Lr address word) = false
+is_sc_ok (ScOk address before after) = true
+is_sc_ok (ScFail address) = false
+is_sc_ok (Amo address before after) = false
+
+-- the machine after a step, if the step has this effect
+abbrev pub if_effect : Effect → FlatStepped → Option FlatMachine
+if_effect effect (Ok x) = if same_effect x.0 effect then Some x.1 else None
+if_effect effect (Err cause) = None
+
+-- the machine after a record, if the record is the step of its hart: from its pc, with its effect, an SC storing exactly where it says so
+unfoldable pub legal_step : List CodeWord → ItemTable → FlatMachine → Op → Option FlatMachine
+legal_step code items m op =
+    if nat_eq (flat_hart m op.hart).hart.pc op.pc then if_effect op.effect (flat_step code items m op.hart (is_sc_ok op.effect)) else None
+
+-- the machine after a list of records, if each in turn is the step of its hart
+unfoldable pub legal_run : List CodeWord → ItemTable → FlatMachine → List Op → Option FlatMachine
+legal_run code items m [] = Some m
+legal_run code items m (op ∷ ops) = option_and_then (λ next. legal_run code items next ops) (legal_step code items m op)
+
+abbrev pub Legal : List CodeWord → ItemTable → FlatMachine → List Op → Type 0
+Legal code items m ops = IsSome (legal_run code items m ops)
+
+-- the machine after a legal list
+abbrev pub flat_after : List CodeWord → ItemTable → FlatMachine → List Op → FlatMachine
+flat_after code items m ops = unwrap_or (legal_run code items m ops) m

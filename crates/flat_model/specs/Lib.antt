@@ -1,0 +1,4 @@
+pub mod Hart
+pub mod Flat
+pub mod Legal
+pub mod Computing

@@ -1,0 +1,28 @@
+//! The instructions of RV32IA without compressed forms, and the table that says which word is which.
+#![tactic(auto)]
+
+ghost use Rattle.rv_decode.specs.Examples.{InstructionVectors, OutsideVectors, ProgramWords, JumpWords, MemoryWords, ImmediateWords, RegisterWords, AtomicWords};
+
+mod instructions;
+
+pub use instructions::{AmoOp, BranchOp, ImmOp, Instr, LoadOp, Reg, RegOp, StoreOp};
+
+/// The table gives the published vectors: words that are instructions, and words outside the table.
+#[tactic(auto, using(crate::proofs::Vectors::instruction_vectors, crate::proofs::Vectors::outside_vectors))]
+pub fn decoder_vectors()
+    ensures instructions { InstructionVectors }
+    ensures outside { OutsideVectors }
+{
+}
+
+/// Each word of the worked programs, and a word of each row of the table, is what an assembler says.
+#[tactic(auto, using(crate::proofs::Vectors::program_words, crate::proofs::Vectors::jump_words, crate::proofs::Vectors::memory_words, crate::proofs::Vectors::immediate_words, crate::proofs::Vectors::register_words, crate::proofs::Vectors::atomic_words))]
+pub fn assembler_words()
+    ensures programs { ProgramWords }
+    ensures jumps { JumpWords }
+    ensures memory { MemoryWords }
+    ensures immediates { ImmediateWords }
+    ensures registers { RegisterWords }
+    ensures atomics { AtomicWords }
+{
+}
