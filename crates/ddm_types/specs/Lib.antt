@@ -1,2 +1,3 @@
 pub mod ItemTable
 pub mod CodeMap
+pub mod Keys
