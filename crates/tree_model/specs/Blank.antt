@@ -1,8 +1,7 @@
 -- What stands where a list has no element at an index.
-use Rattle.std.specs.Prelude.{ℕ, [], None}
-use Rattle.ddm_types.specs.Keys.{stamp_zero}
+use Rattle.std.specs.Prelude.{[], None}
 use Rattle.flat_model.specs.Hart.{HartValue}
-use Rattle.tree_model.specs.Values.{LeafValue, DirValue, Node, leaf_node}
+use Rattle.tree_model.specs.Values.{LeafValue, Node, leaf_node}
 
 abbrev pub no_hart : HartValue
 no_hart = record { registers = []; pc = 0; halt = None }

@@ -3,7 +3,7 @@
 -- A turn is judged in the order: nothing there, the item pending, full places (children in order of number, then the
 -- parent's own list). A granted turn begins with the count of the bus; what it tells a child carries the stamp that the bus
 -- has then, and what it puts into the parent's own down list carries the present stamp of the bus above.
-use Rattle.std.specs.Prelude.{ℕ, ◌+◌, Bool, true, false, not, ◌&&◌, ◌||◌, nat_eq, nat_lt, List, [], ◌∷◌, Option, Some, None, is_some, slice_get, slice_index_or, if◌then◌else◌}
+use Rattle.std.specs.Prelude.{ℕ, Bool, true, false, not, ◌&&◌, ◌||◌, nat_eq, nat_lt, List, Option, Some, None, slice_get, slice_index_or, if◌then◌else◌}
 use Rattle.ddm_types.specs.declared.answers.TxKind.{TxKind}
 use Rattle.ddm_types.specs.declared.answers.TxKind.TheVariants.{ReadTx, DataTx, EraseTx, ExclusiveTx, InjectTx, OutTx}
 use Rattle.ddm_types.specs.declared.answers.PendingWhy.{PendingWhy}
@@ -15,12 +15,11 @@ use Rattle.ddm_types.specs.declared.answers.TurnAnswer.{TurnAnswer}
 use Rattle.ddm_types.specs.declared.answers.TurnAnswer.TheVariants.{Granted, Empty, Busy}
 use Rattle.ddm_types.specs.declared.sizes.Hold.{Hold}
 use Rattle.ddm_types.specs.declared.keys.Stamp.{Stamp}
-use Rattle.ddm_types.specs.Keys.{stamp_zero}
 use Rattle.tree_model.specs.declared.BusTurn.{BusTurn}
-use Rattle.tree_model.specs.Values.{RequestValue, CopyValue, LeafValue, DownValue, Note, no_note, local, up_read, up_erase, DirValue, Node, leaf_node}
+use Rattle.tree_model.specs.Values.{RequestValue, CopyValue, DownValue, Note, no_note, local, up_read, up_erase, DirValue, Node}
 use Rattle.tree_model.specs.States.{is_held, is_exclusive, is_shared}
 use Rattle.tree_model.specs.Leaf.{blank}
-use Rattle.tree_model.specs.Directory.{dir_item, dir_hold, dir_note, is_answering, with_hold, with_note, with_answering, reads_for, joined_by, note_why, down_full, requests_full, replies_full, parking_full, parked_words, is_parked, pushed_down, pushed_request, pushed_reply, parked_copy, unparked, place_released, pending, stamp_of, counted, taken}
+use Rattle.tree_model.specs.Directory.{dir_hold, dir_note, is_answering, with_hold, with_note, with_answering, reads_for, joined_by, down_full, requests_full, replies_full, parking_full, parked_words, is_parked, pushed_down, pushed_request, pushed_reply, parked_copy, unparked, place_released, pending, stamp_of, counted, taken}
 use Rattle.tree_model.specs.Child.{child_hold, child_holds, child_waits, child_room, child_full_for, child_request, child_reply, child_leaving, pending_below, child_lose, child_take_data, child_take_exclusive, child_answer, child_take_inject, child_request_taken, child_reply_taken, child_given, child_give_up}
 use Rattle.tree_model.specs.Each.{map_from, any_from, find_from, change_at, first_given, first_some}
 use Rattle.tree_model.specs.Blank.{no_node}

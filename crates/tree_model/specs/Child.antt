@@ -1,6 +1,5 @@
 -- A child's face to its bus, by cases: a leaf, or a directory with the tree below it.
-use Rattle.std.specs.Prelude.{ℕ, Bool, true, false, ◌&&◌, List, [], ◌∷◌, length, drop, Option, Some, None, option_map, slice_get, nat_eq, filter, map, if◌then◌else◌, find}
-use Rattle.std.specs.List.{list_any}
+use Rattle.std.specs.Prelude.{ℕ, Bool, ◌&&◌, List, [], drop, Option, Some, None, option_map, slice_get, if◌then◌else◌}
 use Rattle.ddm_types.specs.declared.answers.TxKind.{TxKind}
 use Rattle.ddm_types.specs.declared.answers.TxKind.TheVariants.{ReadTx, DataTx, EraseTx, ExclusiveTx, InjectTx, OutTx}
 use Rattle.ddm_types.specs.declared.answers.PendingWhy.{PendingWhy}
@@ -9,7 +8,7 @@ use Rattle.ddm_types.specs.declared.sizes.Hold.{Hold}
 use Rattle.ddm_types.specs.declared.keys.Stamp.{Stamp}
 use Rattle.tree_model.specs.Values.{RequestValue, CopyValue, LeafValue, DirValue, Node, leaf_node, dir_node}
 use Rattle.tree_model.specs.States.{is_held}
-use Rattle.tree_model.specs.Leaf.{leaf_hold, leaf_waits, leaf_room, leaf_replies_full, leaf_leaving, leaf_lose, leaf_take_data, leaf_take_exclusive, leaf_answer, leaf_take_inject, leaf_give_up, buffered, unreserved}
+use Rattle.tree_model.specs.Leaf.{leaf_hold, leaf_waits, leaf_room, leaf_replies_full, leaf_leaving, leaf_lose, leaf_take_data, leaf_take_exclusive, leaf_answer, leaf_take_inject, leaf_give_up, buffered}
 use Rattle.tree_model.specs.Directory.{dir_hold, dir_waits, dir_room, down_full, pending, dir_leaving, parked_words, dir_lose, dir_take_data, dir_take_exclusive, dir_answer, dir_take_inject, dir_give_up}
 
 -- ---- what the bus sees

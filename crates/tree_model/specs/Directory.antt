@@ -1,15 +1,14 @@
 -- A directory: what it keeps of each item, its lists, what the bus above tells it, and what the bus below makes of it.
-use Rattle.std.specs.Prelude.{ℕ, ◌+◌, ◌-◌, ◌/◌, ◌%◌, ◌^◌, Bool, true, false, not, ◌&&◌, ◌||◌, nat_eq, nat_le, nat_lt, List, [], ◌∷◌, ◌++◌, length, drop, filter, find, position, Option, Some, None, is_some, option_map, slice_index_or, slice_set, slice_get, if◌then◌else◌}
+use Rattle.std.specs.Prelude.{ℕ, ◌+◌, ◌-◌, ◌/◌, ◌%◌, ◌^◌, Bool, true, false, not, ◌&&◌, ◌||◌, nat_eq, nat_le, List, [], ◌∷◌, ◌++◌, length, drop, filter, find, position, Option, Some, None, option_map, slice_index_or, slice_set, slice_get, if◌then◌else◌}
 use Rattle.std.specs.List.{list_any}
 use Rattle.ddm_types.specs.declared.answers.TxKind.{TxKind}
 use Rattle.ddm_types.specs.declared.answers.TxKind.TheVariants.{ReadTx, DataTx, EraseTx, ExclusiveTx, InjectTx}
 use Rattle.ddm_types.specs.declared.answers.PendingWhy.{PendingWhy}
-use Rattle.ddm_types.specs.declared.answers.QueueName.{QueueName}
 use Rattle.ddm_types.specs.declared.sizes.Hold.{Hold}
 use Rattle.ddm_types.specs.declared.keys.Stamp.{Stamp}
 use Rattle.ddm_types.specs.Keys.{stamp_at}
 use Rattle.tree_model.specs.Values.{RequestValue, CopyValue, DownValue, Note, no_note, local, up_read, up_erase, DirItem, absent_item, DirValue}
-use Rattle.tree_model.specs.States.{is_held, is_kind, brings_copy}
+use Rattle.tree_model.specs.States.{is_kind}
 use Rattle.tree_model.specs.Leaf.{blank, requests_item, copies_item}
 
 -- ---- what it keeps of an item

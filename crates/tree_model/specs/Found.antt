@@ -1,11 +1,11 @@
 -- The found copy of an item: from the top to the lowest child that holds it; at a directory the last data or inject of it in
 -- the down list, else the parked copy, else on to the lowest child that holds it; at a leaf its entry.
-use Rattle.std.specs.Prelude.{ℕ, ◌+◌, Bool, true, false, ◌&&◌, nat_eq, List, [], ◌∷◌, Option, Some, None, is_some, option_map, position, if◌then◌else◌}
+use Rattle.std.specs.Prelude.{ℕ, ◌+◌, Bool, true, false, ◌&&◌, nat_eq, List, [], ◌∷◌, Option, Some, None, position}
 use Rattle.ddm_types.specs.declared.sizes.LeafState.{LeafState}
 use Rattle.tree_model.specs.declared.CopyPlace.{CopyPlace}
-use Rattle.tree_model.specs.Values.{CopyValue, WayValue, BufferValue, DownValue, LeafValue, DirValue, Node, Nodes, leaf_node, dir_node, no_nodes, more_nodes, MachineValue}
+use Rattle.tree_model.specs.Values.{WayValue, BufferValue, DownValue, LeafValue, Node, Nodes, leaf_node, dir_node, no_nodes, more_nodes, MachineValue}
 use Rattle.tree_model.specs.States.{brings_copy}
-use Rattle.tree_model.specs.Leaf.{way_at, buffered, buffers_item, state_at, copies_item}
+use Rattle.tree_model.specs.Leaf.{way_at, buffered, buffers_item, state_at}
 use Rattle.tree_model.specs.Directory.{parked_words, parked_place}
 use Rattle.tree_model.specs.Child.{child_holds}
 use Rattle.tree_model.specs.Each.{first_some}

@@ -1,5 +1,5 @@
 -- A hart's turn at its leaf: one try of its next instruction.
-use Rattle.std.specs.Prelude.{ℕ, ◌+◌, ◌%◌, Bool, true, false, nat_eq, nat_le, List, [], ◌∷◌, ◌++◌, length, Option, Some, None, slice_set, slice_index_or, if◌then◌else◌}
+use Rattle.std.specs.Prelude.{ℕ, ◌+◌, ◌%◌, Bool, true, false, nat_le, List, [], ◌∷◌, ◌++◌, length, Option, Some, None, slice_set}
 use Rattle.ddm_types.specs.declared.answers.TxKind.{TxKind}
 use Rattle.ddm_types.specs.declared.answers.TxKind.TheVariants.{ReadTx, EraseTx}
 use Rattle.ddm_types.specs.declared.answers.BusyCause.{BusyCause}
@@ -10,8 +10,8 @@ use Rattle.ddm_types.specs.declared.keys.Key.{Key}
 use Rattle.ddm_types.specs.ItemTable.{ItemTable}
 use Rattle.ddm_types.specs.CodeMap.{CodeWord}
 use Rattle.flat_model.specs.declared.Ask.{Ask}
-use Rattle.flat_model.specs.Hart.{HartValue, Finished, ask_of, finish_of}
-use Rattle.tree_model.specs.Values.{RequestValue, WayValue, BufferValue, LeafValue}
+use Rattle.flat_model.specs.Hart.{Finished, ask_of, finish_of}
+use Rattle.tree_model.specs.Values.{WayValue, BufferValue, LeafValue}
 use Rattle.tree_model.specs.Leaf.{blank, EntryValue, entry_at, with_entry, way_at, with_way, in_way_of, free_way, waiting_item, asks_for, is_item}
 
 -- what a turn answers and leaves

@@ -1,14 +1,13 @@
 -- A leaf: its attraction memory, buffer, slot, replies and reservation, and what the bus tells it.
-use Rattle.std.specs.Prelude.{ℕ, ◌+◌, ◌%◌, Bool, true, false, not, ◌&&◌, ◌||◌, nat_eq, nat_le, List, [], ◌∷◌, ◌++◌, map, length, drop, replicate, filter, find, position, Option, Some, None, is_some, is_none, option_map, slice_index_or, slice_set, slice_get, if◌then◌else◌}
+use Rattle.std.specs.Prelude.{ℕ, ◌%◌, Bool, false, not, ◌&&◌, ◌||◌, nat_eq, nat_le, List, [], ◌∷◌, ◌++◌, map, length, replicate, filter, find, Option, Some, None, is_some, is_none, option_map, slice_index_or, slice_set, slice_get, if◌then◌else◌}
 use Rattle.std.specs.List.{range_with_len}
 use Rattle.ddm_types.specs.declared.answers.TxKind.{TxKind}
 use Rattle.ddm_types.specs.declared.answers.TxKind.TheVariants.{ReadTx, EraseTx}
-use Rattle.ddm_types.specs.declared.answers.QueueName.{QueueName}
 use Rattle.ddm_types.specs.declared.sizes.Hold.{Hold}
 use Rattle.ddm_types.specs.declared.sizes.LeafState.{LeafState}
 use Rattle.tree_model.specs.Values.{RequestValue, CopyValue, WayValue, BufferValue, LeafValue}
-use Rattle.tree_model.specs.States.{entry_hold, state_lost, state_with_data, state_answered, is_waiting, is_reading, may_leave, is_kind}
-use Rattle.tree_model.specs.Each.{any_from, find_from, first_some}
+use Rattle.tree_model.specs.States.{entry_hold, is_waiting, may_leave, is_kind}
+use Rattle.tree_model.specs.Each.{find_from, first_some}
 
 -- words that are all 0
 abbrev pub blank : ℕ → List ℕ

@@ -11,3 +11,4 @@ pub mod Route
 pub mod Machine
 pub mod Start
 pub mod Found
+pub mod Computing

@@ -1,5 +1,5 @@
 -- The machine, one turn of it, and a run over a list of turns.
-use Rattle.std.specs.Prelude.{ℕ, ◌+◌, ◌-◌, Bool, true, false, nat_eq, List, [], ◌∷◌, ◌++◌, Option, Some, None, slice_set, slice_index_or, if◌then◌else◌}
+use Rattle.std.specs.Prelude.{ℕ, ◌+◌, ◌-◌, List, [], ◌∷◌, ◌++◌, Option, Some, None, slice_set, slice_index_or}
 use Rattle.ddm_types.specs.declared.answers.TxKind.{TxKind}
 use Rattle.ddm_types.specs.declared.answers.LogEntry.{LogEntry}
 use Rattle.ddm_types.specs.declared.answers.TurnAnswer.{TurnAnswer}
@@ -8,7 +8,7 @@ use Rattle.ddm_types.specs.declared.keys.Key.{Key}
 use Rattle.ddm_types.specs.Keys.{stamp_zero, key_zero}
 use Rattle.tree_model.specs.declared.BusTurn.{BusTurn}
 use Rattle.tree_model.specs.declared.Traffic.{Traffic}
-use Rattle.tree_model.specs.Values.{LeafValue, DirValue, Node, Nodes, leaf_node, dir_node, no_nodes, MachineValue}
+use Rattle.tree_model.specs.Values.{LeafValue, Node, leaf_node, dir_node, MachineValue}
 use Rattle.tree_model.specs.Route.{bus_answer, bus_after, hart_answer, hart_after, now_in, leaves_of}
 
 -- ---- traffic: for each bus and kind the number of grants

@@ -1,5 +1,5 @@
 -- A turn finds its leaf or its bus in the tree. Leaves and buses have different numbers, so there is one at most.
-use Rattle.std.specs.Prelude.{ℕ, ◌+◌, Bool, true, false, nat_eq, List, [], ◌∷◌, Option, Some, None, is_some, if◌then◌else◌}
+use Rattle.std.specs.Prelude.{ℕ, ◌+◌, Bool, true, false, nat_eq, List, ◌∷◌, Option, Some, None, is_some, if◌then◌else◌}
 use Rattle.ddm_types.specs.declared.answers.TurnAnswer.{TurnAnswer}
 use Rattle.ddm_types.specs.declared.keys.Stamp.{Stamp}
 use Rattle.ddm_types.specs.declared.keys.Key.{Key}
@@ -10,7 +10,7 @@ use Rattle.tree_model.specs.declared.BusTurn.{BusTurn}
 use Rattle.tree_model.specs.Values.{LeafValue, DirValue, Node, Nodes, leaf_node, dir_node, no_nodes, more_nodes, nodes, children}
 use Rattle.tree_model.specs.Directory.{stamp_of}
 use Rattle.tree_model.specs.Bus.{Outcome, bus_step}
-use Rattle.tree_model.specs.HartTurn.{LeafOutcome, hart_step}
+use Rattle.tree_model.specs.HartTurn.{hart_step}
 use Rattle.tree_model.specs.Each.{first_some}
 
 -- The key of an instruction that completes now at a leaf: the stamps and child numbers on its path, then its hart's count.

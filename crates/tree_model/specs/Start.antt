@@ -1,7 +1,7 @@
 -- The machine before its first turn: the tree of a shape, the items and code of an image's segments and of the stacks, and
 -- each item placed in a leaf.
-use Rattle.std.specs.Prelude.{ℕ, zero, suc, ◌+◌, ◌-◌, ◌*◌, ◌/◌, ◌%◌, ◌^◌, Bool, true, false, not, ◌&&◌, ◌||◌, nat_eq, nat_lt, nat_le, List, [], ◌∷◌, ◌++◌, map, length, take, drop, replicate, sum, find, Option, Some, None, is_some, is_none, option_map, Result, Ok, Err, slice_index, slice_index_or, if◌then◌else◌}
-use Rattle.std.specs.List.{list_any, flat_map, range_with_len, fold}
+use Rattle.std.specs.Prelude.{ℕ, ◌+◌, ◌-◌, ◌*◌, ◌/◌, ◌%◌, Bool, true, false, ◌&&◌, ◌||◌, nat_eq, nat_lt, nat_le, List, [], ◌∷◌, ◌++◌, map, length, take, drop, replicate, sum, find, Option, Some, None, is_some, Result, Ok, Err, slice_index_or, if◌then◌else◌}
+use Rattle.std.specs.List.{flat_map, range_with_len, fold}
 use Rattle.ddm_types.specs.declared.sizes.Span.{Span}
 use Rattle.ddm_types.specs.declared.sizes.Start.{Start}
 use Rattle.ddm_types.specs.declared.sizes.TreeSizes.{TreeSizes}
@@ -10,11 +10,9 @@ use Rattle.ddm_types.specs.declared.sizes.LeafState.{LeafState}
 use Rattle.ddm_types.specs.Keys.{stamp_zero}
 use Rattle.ddm_types.specs.ItemTable.{ItemRow, ItemTable, item_count, items_of}
 use Rattle.ddm_types.specs.CodeMap.{CodeWord, words_from}
-use Rattle.flat_model.specs.Hart.{HartValue}
-use Rattle.flat_model.specs.Flat.{start_hart}
-use Rattle.tree_model.specs.Values.{LeafValue, no_note, DirItem, absent_item, DirValue, Node, Nodes, leaf_node, dir_node, no_nodes, nodes, children, MachineValue}
+use Rattle.flat_model.specs.Hart.{hart_start}
+use Rattle.tree_model.specs.Values.{LeafValue, DirItem, absent_item, DirValue, Node, leaf_node, dir_node, nodes, MachineValue}
 use Rattle.tree_model.specs.Leaf.{free_way, with_way}
-use Rattle.tree_model.specs.Directory.{with_hold}
 use Rattle.tree_model.specs.Machine.{no_traffic}
 use Rattle.tree_model.specs.Each.{map_from, first_some}
 use Rattle.tree_model.specs.Blank.{no_leaf}
@@ -129,7 +127,7 @@ start_code i = flat_map segment_code (fold put_segment [] i.segments)
 abbrev new_leaf : TreeValue → ImageValue → ℕ → ℕ → LeafValue
 new_leaf t i items number = record {
   number = number;
-  hart = start_hart (start_of_harts t i) number;
+  hart = hart_start (start_of_harts t i) number;
   done = 0;
   ways = replicate items None;
   buffer = [];

@@ -1,5 +1,5 @@
 -- The item states and the kinds of transactions, as tables. Source: the state tables of the DDM protocol.
-use Rattle.std.specs.Prelude.{ℕ, Bool, true, false, ◌&&◌, Option, Some, None, nat_eq}
+use Rattle.std.specs.Prelude.{ℕ, Bool, true, false, Option, Some, None, nat_eq}
 use Rattle.ddm_types.specs.declared.answers.TxKind.{TxKind}
 use Rattle.ddm_types.specs.declared.sizes.Hold.{Hold}
 use Rattle.ddm_types.specs.declared.sizes.LeafState.{LeafState}
