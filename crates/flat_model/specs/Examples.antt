@@ -1,18 +1,17 @@
 -- Worked examples: programs step by step, and single instructions with their operands.
-use Rattle.std.specs.Prelude.{◌≡◌, ℕ, Bool, true, false, List, [], ◌∷◌, replicate, Option, Some, None, Result, Ok, Err, slice_set, IsTrue, IsFalse}
+use Rattle.std.specs.Prelude.{◌≡◌, ℕ, Bool, true, false, List, [], ◌∷◌, replicate, Some, None, Result, Ok, Err, slice_set, IsTrue, IsFalse}
 use Rattle.ddm_types.specs.declared.keys.Key.{Key}
 use Rattle.ddm_types.specs.declared.operations.Effect.{Effect}
 use Rattle.ddm_types.specs.declared.operations.Effect.TheVariants.{Plain, Put, Load, Store, Lr, ScOk, ScFail, Amo}
 use Rattle.ddm_types.specs.declared.operations.HaltCause.{HaltCause}
 use Rattle.ddm_types.specs.declared.operations.HaltCause.TheVariants.{Exit, Illegal, Breakpoint, UnknownCall, MisalignedTarget, FetchOutside, MisalignedAccess, LoadOutside, StoreOutside}
 use Rattle.ddm_types.specs.declared.operations.Op.{Op}
-use Rattle.ddm_types.specs.declared.sizes.Start.{Start}
 use Rattle.ddm_types.specs.CodeMap.{CodeWord, words_from}
 use Rattle.ddm_types.specs.ItemTable.{ItemTable}
 use Rattle.flat_model.specs.declared.Ask.{Ask}
 use Rattle.flat_model.specs.declared.Ask.TheVariants.{Plain as AsksNothing, Put as AsksPut, NeedsShared, NeedsExclusive, Conditional, Halt}
 use Rattle.flat_model.specs.Hart.{HartValue, Finished, register, ask_of, finish_of}
-use Rattle.flat_model.specs.Flat.{FlatMachine, FlatStepped, flat_hart, flat_start, flat_step, machine_after, item_words}
+use Rattle.flat_model.specs.Flat.{FlatMachine, FlatStepped, flat_hart, flat_start, flat_step, machine_after}
 use Rattle.flat_model.specs.Legal.{Legal, legal_run, on_item, changes_item}
 
 -- ---- programs

@@ -1,5 +1,5 @@
 -- One hart: what its next instruction needs, and what it does.
-use Rattle.std.specs.Prelude.{ℕ, ◌+◌, ◌-◌, ◌*◌, ◌/◌, ◌%◌, ◌^◌, nat_eq, nat_lt, nat_le, min, max, Bool, true, false, not, ◌&&◌, List, [], ◌∷◌, replicate, Option, Some, None, Result, Ok, Err, ℤ, pos, negsuc, int_lt, bit_and, bit_or, bit_xor, slice_index, slice_set, if◌then◌else◌}
+use Rattle.std.specs.Prelude.{ℕ, ◌+◌, ◌-◌, ◌*◌, ◌/◌, ◌%◌, ◌^◌, nat_eq, nat_lt, min, max, Bool, true, false, not, List, [], ◌∷◌, replicate, Option, Some, None, ℤ, int_lt, bit_and, bit_or, bit_xor, slice_index, slice_set, if◌then◌else◌}
 use Rattle.std.specs.Int.{w8, w16, w32, cast_signed, cast_unsigned, int_shr, to_le_bytes, from_le_bytes, from_bool}
 use Rattle.ddm_types.specs.declared.operations.Effect.{Effect}
 use Rattle.ddm_types.specs.declared.operations.Effect.TheVariants.{Plain as PlainEffect, Put as PutEffect, Load as LoadEffect, Store as StoreEffect, Lr as LrEffect, ScOk, ScFail, Amo as AmoEffect}
@@ -7,7 +7,7 @@ use Rattle.ddm_types.specs.declared.operations.HaltCause.{HaltCause}
 use Rattle.ddm_types.specs.declared.operations.HaltCause.TheVariants.{Exit, Illegal, Breakpoint, UnknownCall, MisalignedTarget, FetchOutside, MisalignedAccess, LoadOutside, StoreOutside}
 use Rattle.ddm_types.specs.declared.sizes.Start.{Start}
 use Rattle.ddm_types.specs.CodeMap.{CodeWord, word_at}
-use Rattle.ddm_types.specs.ItemTable.{ItemTable, ItemRow, item_at, row_at}
+use Rattle.ddm_types.specs.ItemTable.{ItemTable, item_at, row_at}
 use Rattle.rv_decode.specs.declared.instructions.Reg.{Reg}
 use Rattle.rv_decode.specs.declared.instructions.BranchOp.{BranchOp}
 use Rattle.rv_decode.specs.declared.instructions.BranchOp.TheVariants.{Beq, Bne, Blt, Bge, Bltu, Bgeu}

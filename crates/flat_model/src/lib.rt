@@ -19,7 +19,7 @@ pub enum Ask {
 }
 
 /// A word that is stored is loaded back and becomes the exit code.
-#[tactic(auto, using(crate::proofs::Programs::store_and_load_back, crate::proofs::Programs::store_and_load_end, crate::proofs::Programs::store_and_load_legal))]
+#[tactic(auto, using(crate::proofs::Programs::store_and_load_back, crate::proofs::Programs::store_and_load_end))]
 pub fn store_and_load_back()
     ensures answers { StoreAndLoadBack }
     ensures end { StoreAndLoadEnd }
