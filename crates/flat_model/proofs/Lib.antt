@@ -2,3 +2,4 @@ pub mod Programs
 pub mod Instructions
 pub mod Halts
 pub mod Runs
+pub mod Steps

@@ -77,6 +77,24 @@ change_by (NeedsExclusive x) reserved finish words sc_ok = Ok (storing_to x (fin
 change_by (Conditional x) reserved finish words sc_ok = Ok (conditional (sc_ok && has_reserved reserved x) x (finish (words x)))
 change_by (Halt cause) reserved finish words sc_ok = Err cause
 
+-- the item whose words an instruction needs
+abbrev pub asked_item : Ask → Option ℕ
+asked_item Plain = None
+asked_item (Put byte) = None
+asked_item (NeedsShared x lr) = Some x
+asked_item (NeedsExclusive x) = Some x
+asked_item (Conditional x) = Some x
+asked_item (Halt cause) = None
+
+-- the hart's reservation after an instruction
+abbrev pub reserved_after : Ask → Option ℕ → Option ℕ
+reserved_after Plain reserved = reserved
+reserved_after (Put byte) reserved = reserved
+reserved_after (NeedsShared x lr) reserved = if lr then Some x else reserved
+reserved_after (NeedsExclusive x) reserved = reserved
+reserved_after (Conditional x) reserved = None
+reserved_after (Halt cause) reserved = reserved
+
 -- a halted hart answers its cause again
 abbrev pub unless_halted : Option HaltCause → Result Change HaltCause → Result Change HaltCause
 unless_halted None change = change
