@@ -3,3 +3,4 @@ pub mod Instructions
 pub mod Halts
 pub mod Runs
 pub mod Steps
+pub mod Frames

@@ -66,3 +66,17 @@ change_leaves (Conditional x) reserved finish words sc_ok c e = go (sc_ok && has
   go true e = grind arith
   go false e = grind arith
 change_leaves (Halt cause) reserved finish words sc_ok c e = grind arith
+
+pub step_reserved : (code : List CodeWord) (items : ItemTable) (h : HartValue) (reserved reserved' : Option ℕ) (words : ℕ → List ℕ) (sc_ok : Bool) → ((x : ℕ) → ask_of code items h ≡ Conditional x → (sc_ok && has_reserved reserved x) ≡ (sc_ok && has_reserved reserved' x)) → unreserved (hart_step code items (record { hart = h; reserved = reserved }) words sc_ok) ≡ unreserved (hart_step code items (record { hart = h; reserved = reserved' }) words sc_ok)
+unfolding hart_step
+step_reserved code items h reserved reserved' words sc_ok same = go h.halt where
+  go : (halt : Option HaltCause) → unreserved (unless_halted halt (change_by (ask_of code items h) reserved (finish_of code items h) words sc_ok)) ≡ unreserved (unless_halted halt (change_by (ask_of code items h) reserved' (finish_of code items h) words sc_ok))
+  go None = change_reserved (ask_of code items h) reserved reserved' (finish_of code items h) words sc_ok same
+  go (Some cause) = refl
+
+pub step_leaves : (code : List CodeWord) (items : ItemTable) (g : FlatHart) (words : ℕ → List ℕ) (sc_ok : Bool) (c : Change) → hart_step code items g words sc_ok ≡ Ok c → (c.after.reserved ≡ reserved_after (ask_of code items g.hart) g.reserved) × ((s : Stored) → c.stored ≡ Some s → asked_item (ask_of code items g.hart) ≡ Some s.item)
+unfolding hart_step
+step_leaves code items g words sc_ok c e = go g.hart.halt e where
+  go : (halt : Option HaltCause) → unless_halted halt (change_by (ask_of code items g.hart) g.reserved (finish_of code items g.hart) words sc_ok) ≡ Ok c → (c.after.reserved ≡ reserved_after (ask_of code items g.hart) g.reserved) × ((s : Stored) → c.stored ≡ Some s → asked_item (ask_of code items g.hart) ≡ Some s.item)
+  go None e = change_leaves (ask_of code items g.hart) g.reserved (finish_of code items g.hart) words sc_ok c e
+  go (Some cause) e = grind arith
