@@ -4,3 +4,4 @@ pub mod Halts
 pub mod Runs
 pub mod Steps
 pub mod Frames
+pub mod Items

@@ -189,18 +189,20 @@ abbrev pub aligned : ℕ → ℕ → (ℕ → Action) → Action
 aligned bytes a action = let other = Halts (MisalignedAccess a) in (if nat_eq (a % bytes) 0 then action a else other)
 
 -- a load is of some item
+abbrev pub load_found : ItemTable → (Access → Action) → ℕ → Option ℕ → Action
+load_found items action a None = Halts (LoadOutside a)
+load_found items action a (Some x) = action (access_in items a x)
+
 abbrev pub load_at : ItemTable → (Access → Action) → ℕ → Action
-load_at items action a = found (item_at items a) where
-  found : Option ℕ → Action
-  found None = Halts (LoadOutside a)
-  found (Some x) = action (access_in items a x)
+load_at items action a = load_found items action a (item_at items a)
 
 -- a store is of some item that may be written
+abbrev pub store_found : ItemTable → (Access → Action) → ℕ → Option ℕ → Action
+store_found items action a None = Halts (StoreOutside a)
+store_found items action a (Some x) = if (row_at items x).writable then action (access_in items a x) else Halts (StoreOutside a)
+
 abbrev pub store_at : ItemTable → (Access → Action) → ℕ → Action
-store_at items action a = found (item_at items a) where
-  found : Option ℕ → Action
-  found None = Halts (StoreOutside a)
-  found (Some x) = if (row_at items x).writable then action (access_in items a x) else Halts (StoreOutside a)
+store_at items action a = store_found items action a (item_at items a)
 
 -- a jump, or a branch that is taken
 abbrev pub jump : HartValue → ℕ → Action
