@@ -1,0 +1,7 @@
+pub mod Programs
+pub mod Instructions
+pub mod Halts
+pub mod Runs
+pub mod Steps
+pub mod Frames
+pub mod Items

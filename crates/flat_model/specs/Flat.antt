@@ -42,58 +42,100 @@ abbrev pub has_reserved : Option ℕ → ℕ → Bool
 has_reserved None x = false
 has_reserved (Some y) x = nat_eq y x
 
--- the machine with a hart changed, and its reservation
-abbrev pub with_hart : FlatMachine → ℕ → HartValue → Option ℕ → FlatMachine
-with_hart m h hart reserved = record m { harts = slice_set m.harts h (record { hart = hart; reserved = reserved }) }
+-- ---- the step of a hart
+
+-- the words that a step stores, as the whole item
+pub record Stored : Type 0 where
+  pub item : ℕ
+  pub words : List ℕ
+
+-- what a step does: its effect, its hart afterwards with the reservation, and the item that it stores to
+pub record Change : Type 0 where
+  pub effect : Effect
+  pub after : FlatHart
+  pub stored : Option Stored
+
+-- an instruction that changes no word
+abbrev pub leaving : Finished → Option ℕ → Change
+leaving f reserved = record { effect = f.effect; after = record { hart = f.hart; reserved = reserved }; stored = None }
+
+-- one that stores to an item
+abbrev pub storing_to : ℕ → Finished → Option ℕ → Change
+storing_to x f reserved = record { effect = f.effect; after = record { hart = f.hart; reserved = reserved }; stored = Some (record { item = x; words = f.words }) }
+
+-- an SC, which stores or fails, and ends its hart's reservation in either case
+abbrev pub conditional : Bool → ℕ → (Bool → Finished) → Change
+conditional true x finish = storing_to x (finish true) None
+conditional false x finish = leaving (finish false) None
+
+-- what a hart that isn't halted does, by what its instruction needs; `finish` is the instruction on an item's words
+abbrev pub change_by : Ask → Option ℕ → (List ℕ → Bool → Finished) → (ℕ → List ℕ) → Bool → Result Change HaltCause
+change_by Plain reserved finish words sc_ok = Ok (leaving (finish [] false) reserved)
+change_by (Put byte) reserved finish words sc_ok = Ok (leaving (finish [] false) reserved)
+change_by (NeedsShared x lr) reserved finish words sc_ok = Ok (leaving (finish (words x) false) (if lr then Some x else reserved))
+change_by (NeedsExclusive x) reserved finish words sc_ok = Ok (storing_to x (finish (words x) false) reserved)
+change_by (Conditional x) reserved finish words sc_ok = Ok (conditional (sc_ok && has_reserved reserved x) x (finish (words x)))
+change_by (Halt cause) reserved finish words sc_ok = Err cause
+
+-- the item whose words an instruction needs
+abbrev pub asked_item : Ask → Option ℕ
+asked_item Plain = None
+asked_item (Put byte) = None
+asked_item (NeedsShared x lr) = Some x
+asked_item (NeedsExclusive x) = Some x
+asked_item (Conditional x) = Some x
+asked_item (Halt cause) = None
+
+-- the hart's reservation after an instruction
+abbrev pub reserved_after : Ask → Option ℕ → Option ℕ
+reserved_after Plain reserved = reserved
+reserved_after (Put byte) reserved = reserved
+reserved_after (NeedsShared x lr) reserved = if lr then Some x else reserved
+reserved_after (NeedsExclusive x) reserved = reserved
+reserved_after (Conditional x) reserved = None
+reserved_after (Halt cause) reserved = reserved
+
+-- a halted hart answers its cause again
+abbrev pub unless_halted : Option HaltCause → Result Change HaltCause → Result Change HaltCause
+unless_halted None change = change
+unless_halted (Some cause) change = Err cause
+
+-- What a hart's step does, or why it halts. An SC stores exactly where `sc_ok` holds and the hart has its item reserved.
+unfoldable pub hart_step : List CodeWord → ItemTable → FlatHart → (ℕ → List ℕ) → Bool → Result Change HaltCause
+hart_step code items g words sc_ok = unless_halted g.hart.halt (change_by (ask_of code items g.hart) g.reserved (finish_of code items g.hart) words sc_ok)
+
+-- ---- the machine after a step
 
 -- a hart whose reservation ends if it is on this item
 abbrev pub without_reserved : ℕ → FlatHart → FlatHart
 without_reserved x g = record g { reserved = if has_reserved g.reserved x then None else g.reserved }
 
--- the machine after a store to an item: no hart has it reserved
-abbrev pub with_words : FlatMachine → ℕ → List ℕ → FlatMachine
-with_words m x words = record { harts = map (without_reserved x) m.harts; words = slice_set m.words x words }
+-- where a step stores to an item, each other hart's reservation on it ends
+abbrev pub with_stored : FlatMachine → Option Stored → FlatMachine
+with_stored m None = m
+with_stored m (Some s) = record { harts = map (without_reserved s.item) m.harts; words = slice_set m.words s.item s.words }
+
+abbrev pub with_hart : FlatMachine → ℕ → FlatHart → FlatMachine
+with_hart m h after = record m { harts = slice_set m.harts h after }
+
+abbrev pub with_change : FlatMachine → ℕ → Change → FlatMachine
+with_change m h c = with_hart (with_stored m c.stored) h c.after
 
 -- a step that completes or halts
 abbrev pub FlatStepped : Type 0
 FlatStepped = Result (Effect × FlatMachine) HaltCause
 
--- an instruction that changes no word: the hart's reservation afterwards is given
-abbrev pub goes_on : FlatMachine → ℕ → Finished → Option ℕ → FlatStepped
-goes_on m h f reserved = Ok (f.effect, with_hart m h f.hart reserved)
+abbrev pub stepped : FlatMachine → ℕ → Result Change HaltCause → FlatStepped
+stepped m h (Ok c) = Ok (c.effect, with_change m h c)
+stepped m h (Err cause) = Err cause
 
--- one that stores to an item: each other hart's reservation on it ends
-abbrev pub goes_on_storing : FlatMachine → ℕ → ℕ → Finished → Option ℕ → FlatStepped
-goes_on_storing m h x f reserved = Ok (f.effect, with_hart (with_words m x f.words) h f.hart reserved)
-
--- an SC: where it stores all reservations on the item end, and its hart's own in any case
-abbrev pub goes_on_if : Bool → FlatMachine → ℕ → ℕ → (Bool → Finished) → FlatStepped
-goes_on_if true m h x finish = goes_on_storing m h x (finish true) None
-goes_on_if false m h x finish = goes_on m h (finish false) None
-
--- the step of a hart that isn't halted, by what its instruction needs; `finish` is what it does with an item's words
-abbrev pub step_by : Ask → FlatMachine → ℕ → Option ℕ → (List ℕ → Bool → Finished) → Bool → FlatStepped
-step_by Plain m h reserved finish sc_ok = goes_on m h (finish [] false) reserved
-step_by (Put byte) m h reserved finish sc_ok = goes_on m h (finish [] false) reserved
-step_by (NeedsShared x lr) m h reserved finish sc_ok = goes_on m h (finish (item_words m x) false) (if lr then Some x else reserved)
-step_by (NeedsExclusive x) m h reserved finish sc_ok = goes_on_storing m h x (finish (item_words m x) false) reserved
-step_by (Conditional x) m h reserved finish sc_ok = goes_on_if (sc_ok && has_reserved reserved x) m h x (finish (item_words m x))
-step_by (Halt cause) m h reserved finish sc_ok = Err cause
-
--- a halted hart answers its cause again
-abbrev pub step_unless : Option HaltCause → Ask → FlatMachine → ℕ → Option ℕ → (List ℕ → Bool → Finished) → Bool → FlatStepped
-step_unless None ask m h reserved finish sc_ok = step_by ask m h reserved finish sc_ok
-step_unless (Some cause) ask m h reserved finish sc_ok = Err cause
-
--- The step of a hart: its effect and the machine after it, or why the hart halts. An SC stores exactly where `sc_ok` holds and the hart has its item reserved.
+-- the step of a hart: its effect and the machine after it, or why the hart halts
 unfoldable pub flat_step : List CodeWord → ItemTable → FlatMachine → ℕ → Bool → FlatStepped
-flat_step code items m h sc_ok =
-    let g = flat_hart m h in
-    step_unless g.hart.halt (ask_of code items g.hart) m h g.reserved (finish_of code items g.hart) sc_ok
+flat_step code items m h sc_ok = stepped m h (hart_step code items (flat_hart m h) (item_words m) sc_ok)
 
 -- a halt changes nothing but the hart's halt cause
 unfoldable pub flat_halted : FlatMachine → ℕ → HaltCause → FlatMachine
-flat_halted m h cause = let g = flat_hart m h in with_hart m h (record g.hart { halt = Some cause }) g.reserved
+flat_halted m h cause = let g = flat_hart m h in with_hart m h (record g { hart = record g.hart { halt = Some cause } })
 
 -- the machine after a step of either kind
 abbrev pub machine_after : FlatMachine → ℕ → FlatStepped → FlatMachine

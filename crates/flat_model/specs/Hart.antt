@@ -1,5 +1,5 @@
 -- One hart: what its next instruction needs, and what it does.
-use Rattle.std.specs.Prelude.{ℕ, ◌+◌, ◌-◌, ◌*◌, ◌/◌, ◌%◌, ◌^◌, nat_eq, nat_lt, nat_le, min, max, Bool, true, false, not, ◌&&◌, List, [], ◌∷◌, replicate, Option, Some, None, Result, Ok, Err, ℤ, pos, negsuc, int_lt, bit_and, bit_or, bit_xor, slice_index, slice_set, if◌then◌else◌}
+use Rattle.std.specs.Prelude.{ℕ, ◌+◌, ◌-◌, ◌*◌, ◌/◌, ◌%◌, ◌^◌, nat_eq, nat_lt, min, max, Bool, true, false, not, List, [], ◌∷◌, replicate, Option, Some, None, ℤ, int_lt, bit_and, bit_or, bit_xor, slice_index, slice_set, if◌then◌else◌}
 use Rattle.std.specs.Int.{w8, w16, w32, cast_signed, cast_unsigned, int_shr, to_le_bytes, from_le_bytes, from_bool}
 use Rattle.ddm_types.specs.declared.operations.Effect.{Effect}
 use Rattle.ddm_types.specs.declared.operations.Effect.TheVariants.{Plain as PlainEffect, Put as PutEffect, Load as LoadEffect, Store as StoreEffect, Lr as LrEffect, ScOk, ScFail, Amo as AmoEffect}
@@ -7,7 +7,7 @@ use Rattle.ddm_types.specs.declared.operations.HaltCause.{HaltCause}
 use Rattle.ddm_types.specs.declared.operations.HaltCause.TheVariants.{Exit, Illegal, Breakpoint, UnknownCall, MisalignedTarget, FetchOutside, MisalignedAccess, LoadOutside, StoreOutside}
 use Rattle.ddm_types.specs.declared.sizes.Start.{Start}
 use Rattle.ddm_types.specs.CodeMap.{CodeWord, word_at}
-use Rattle.ddm_types.specs.ItemTable.{ItemTable, ItemRow, item_at, row_at}
+use Rattle.ddm_types.specs.ItemTable.{ItemTable, item_at, row_at}
 use Rattle.rv_decode.specs.declared.instructions.Reg.{Reg}
 use Rattle.rv_decode.specs.declared.instructions.BranchOp.{BranchOp}
 use Rattle.rv_decode.specs.declared.instructions.BranchOp.TheVariants.{Beq, Bne, Blt, Bge, Bltu, Bgeu}
@@ -189,18 +189,20 @@ abbrev pub aligned : ℕ → ℕ → (ℕ → Action) → Action
 aligned bytes a action = let other = Halts (MisalignedAccess a) in (if nat_eq (a % bytes) 0 then action a else other)
 
 -- a load is of some item
+abbrev pub load_found : ItemTable → (Access → Action) → ℕ → Option ℕ → Action
+load_found items action a None = Halts (LoadOutside a)
+load_found items action a (Some x) = action (access_in items a x)
+
 abbrev pub load_at : ItemTable → (Access → Action) → ℕ → Action
-load_at items action a = found (item_at items a) where
-  found : Option ℕ → Action
-  found None = Halts (LoadOutside a)
-  found (Some x) = action (access_in items a x)
+load_at items action a = load_found items action a (item_at items a)
 
 -- a store is of some item that may be written
+abbrev pub store_found : ItemTable → (Access → Action) → ℕ → Option ℕ → Action
+store_found items action a None = Halts (StoreOutside a)
+store_found items action a (Some x) = if (row_at items x).writable then action (access_in items a x) else Halts (StoreOutside a)
+
 abbrev pub store_at : ItemTable → (Access → Action) → ℕ → Action
-store_at items action a = found (item_at items a) where
-  found : Option ℕ → Action
-  found None = Halts (StoreOutside a)
-  found (Some x) = if (row_at items x).writable then action (access_in items a x) else Halts (StoreOutside a)
+store_at items action a = store_found items action a (item_at items a)
 
 -- a jump, or a branch that is taken
 abbrev pub jump : HartValue → ℕ → Action

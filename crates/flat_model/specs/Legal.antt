@@ -1,10 +1,10 @@
 -- Legal lists of completed instructions.
-use Rattle.std.specs.Prelude.{ℕ, Bool, true, false, ◌&&◌, nat_eq, nat_lt, List, [], ◌∷◌, length, Option, Some, None, IsSome, unwrap_or, option_and_then, Result, Ok, Err, if◌then◌else◌}
+use Rattle.std.specs.Prelude.{◌≡◌, ℕ, ◌%◌, All, Bool, true, false, ◌&&◌, nat_eq, List, [], ◌∷◌, Option, Some, None, IsSome, unwrap_or, option_and_then, Ok, Err, if◌then◌else◌}
 use Rattle.ddm_types.specs.declared.operations.Effect.{Effect}
 use Rattle.ddm_types.specs.declared.operations.Effect.TheVariants.{Plain, Put, Load, Store, Lr, ScOk, ScFail, Amo}
 use Rattle.ddm_types.specs.declared.operations.Op.{Op}
 use Rattle.ddm_types.specs.CodeMap.{CodeWord}
-use Rattle.ddm_types.specs.ItemTable.{ItemTable, item_at}
+use Rattle.ddm_types.specs.ItemTable.{ItemTable, ItemRow, item_at}
 use Rattle.flat_model.specs.Flat.{FlatMachine, FlatStepped, flat_hart, flat_step, has_reserved}
 
 -- ---- what an effect is on
@@ -41,6 +41,10 @@ on_item items x effect = has_reserved (effect_item items effect) x
 -- the effect writes a word of this item
 unfoldable pub changes_item : ItemTable → ℕ → Effect → Bool
 changes_item items x effect = is_change effect && on_item items x effect
+
+-- items begin and end at whole words
+abbrev pub HasWholeWords : ItemTable → Type 0
+HasWholeWords items = (items.size % 4 ≡ 0) × All (λ (row : ItemRow). row.address % 4 ≡ 0) items.rows
 
 -- ---- legal lists
 

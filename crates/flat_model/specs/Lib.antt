@@ -1,4 +1,5 @@
 pub mod Hart
 pub mod Flat
 pub mod Legal
+pub mod Examples
 pub mod Computing

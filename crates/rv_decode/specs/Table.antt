@@ -158,63 +158,70 @@ Word v instr = record {
 
 -- ---- the table
 
--- RV32I and RV32A, in the order of the manual's listing of opcodes: the fixed fields from left to right
+-- The manual's listing of opcodes of RV32I and RV32A, in its order. A row has its format, then the fixed fields as they stand in the word from left to right (funct7, funct3, opcode), then the instruction.
 unfoldable pub table : List Row
 table =
-    -- RV32I
-    U                                        0b0110111  Lui
-  ∷ U                                        0b0010111  Auipc
-  ∷ J                                        0b1101111  Jal
-  ∷ I                        0b000           0b1100111  Jalr
-  ∷ B                        0b000           0b1100011  (Branch Beq)
-  ∷ B                        0b001           0b1100011  (Branch Bne)
-  ∷ B                        0b100           0b1100011  (Branch Blt)
-  ∷ B                        0b101           0b1100011  (Branch Bge)
-  ∷ B                        0b110           0b1100011  (Branch Bltu)
-  ∷ B                        0b111           0b1100011  (Branch Bgeu)
-  ∷ I                        0b000           0b0000011  (Load Lb)
-  ∷ I                        0b001           0b0000011  (Load Lh)
-  ∷ I                        0b010           0b0000011  (Load Lw)
-  ∷ I                        0b100           0b0000011  (Load Lbu)
-  ∷ I                        0b101           0b0000011  (Load Lhu)
-  ∷ S                        0b000           0b0100011  (Store Sb)
-  ∷ S                        0b001           0b0100011  (Store Sh)
-  ∷ S                        0b010           0b0100011  (Store Sw)
-  ∷ I                        0b000           0b0010011  (Immediate Addi)
-  ∷ I                        0b010           0b0010011  (Immediate Slti)
-  ∷ I                        0b011           0b0010011  (Immediate Sltiu)
-  ∷ I                        0b100           0b0010011  (Immediate Xori)
-  ∷ I                        0b110           0b0010011  (Immediate Ori)
-  ∷ I                        0b111           0b0010011  (Immediate Andi)
-  ∷ Shift       0b0000000    0b001           0b0010011  (Immediate Slli)
-  ∷ Shift       0b0000000    0b101           0b0010011  (Immediate Srli)
-  ∷ Shift       0b0100000    0b101           0b0010011  (Immediate Srai)
-  ∷ R           0b0000000    0b000           0b0110011  (Register Add)
-  ∷ R           0b0100000    0b000           0b0110011  (Register Sub)
-  ∷ R           0b0000000    0b001           0b0110011  (Register Sll)
-  ∷ R           0b0000000    0b010           0b0110011  (Register Slt)
-  ∷ R           0b0000000    0b011           0b0110011  (Register Sltu)
-  ∷ R           0b0000000    0b100           0b0110011  (Register Xor)
-  ∷ R           0b0000000    0b101           0b0110011  (Register Srl)
-  ∷ R           0b0100000    0b101           0b0110011  (Register Sra)
-  ∷ R           0b0000000    0b110           0b0110011  (Register Or)
-  ∷ R           0b0000000    0b111           0b0110011  (Register And)
-  ∷ FenceFormat              0b000           0b0001111  Fence
-  ∷ Word        0b00000000000000000000000001110011      Ecall
-  ∷ Word        0b00000000000100000000000001110011      Ebreak
-    -- RV32A
-  ∷ AtomicLoad  0b00010 0b00000 0b010        0b0101111  Lr
-  ∷ Atomic      0b00011      0b010           0b0101111  Sc
-  ∷ Atomic      0b00001      0b010           0b0101111  (Amo AmoSwap)
-  ∷ Atomic      0b00000      0b010           0b0101111  (Amo AmoAdd)
-  ∷ Atomic      0b00100      0b010           0b0101111  (Amo AmoXor)
-  ∷ Atomic      0b01100      0b010           0b0101111  (Amo AmoAnd)
-  ∷ Atomic      0b01000      0b010           0b0101111  (Amo AmoOr)
-  ∷ Atomic      0b10000      0b010           0b0101111  (Amo AmoMin)
-  ∷ Atomic      0b10100      0b010           0b0101111  (Amo AmoMax)
-  ∷ Atomic      0b11000      0b010           0b0101111  (Amo AmoMinu)
-  ∷ Atomic      0b11100      0b010           0b0101111  (Amo AmoMaxu)
-  ∷ []
+    -- RV32I: upper immediates
+    U 0b0110111 Lui
+    ∷ U 0b0010111 Auipc
+    -- unconditional jumps
+    ∷ J 0b1101111 Jal
+    ∷ I 0b000 0b1100111 Jalr
+    -- conditional branches
+    ∷ B 0b000 0b1100011 (Branch Beq)
+    ∷ B 0b001 0b1100011 (Branch Bne)
+    ∷ B 0b100 0b1100011 (Branch Blt)
+    ∷ B 0b101 0b1100011 (Branch Bge)
+    ∷ B 0b110 0b1100011 (Branch Bltu)
+    ∷ B 0b111 0b1100011 (Branch Bgeu)
+    -- loads and stores
+    ∷ I 0b000 0b0000011 (Load Lb)
+    ∷ I 0b001 0b0000011 (Load Lh)
+    ∷ I 0b010 0b0000011 (Load Lw)
+    ∷ I 0b100 0b0000011 (Load Lbu)
+    ∷ I 0b101 0b0000011 (Load Lhu)
+    ∷ S 0b000 0b0100011 (Store Sb)
+    ∷ S 0b001 0b0100011 (Store Sh)
+    ∷ S 0b010 0b0100011 (Store Sw)
+    -- register and immediate
+    ∷ I 0b000 0b0010011 (Immediate Addi)
+    ∷ I 0b010 0b0010011 (Immediate Slti)
+    ∷ I 0b011 0b0010011 (Immediate Sltiu)
+    ∷ I 0b100 0b0010011 (Immediate Xori)
+    ∷ I 0b110 0b0010011 (Immediate Ori)
+    ∷ I 0b111 0b0010011 (Immediate Andi)
+    ∷ Shift 0b0000000 0b001 0b0010011 (Immediate Slli)
+    ∷ Shift 0b0000000 0b101 0b0010011 (Immediate Srli)
+    ∷ Shift 0b0100000 0b101 0b0010011 (Immediate Srai)
+    -- register and register: funct7, funct3, opcode
+    ∷ R 0b0000000 0b000 0b0110011 (Register Add)
+    ∷ R 0b0100000 0b000 0b0110011 (Register Sub)
+    ∷ R 0b0000000 0b001 0b0110011 (Register Sll)
+    ∷ R 0b0000000 0b010 0b0110011 (Register Slt)
+    ∷ R 0b0000000 0b011 0b0110011 (Register Sltu)
+    ∷ R 0b0000000 0b100 0b0110011 (Register Xor)
+    ∷ R 0b0000000 0b101 0b0110011 (Register Srl)
+    ∷ R 0b0100000 0b101 0b0110011 (Register Sra)
+    ∷ R 0b0000000 0b110 0b0110011 (Register Or)
+    ∷ R 0b0000000 0b111 0b0110011 (Register And)
+    -- memory ordering
+    ∷ FenceFormat 0b000 0b0001111 Fence
+    -- environment call and breakpoint: the whole word
+    ∷ Word 0b00000000000000000000000001110011 Ecall
+    ∷ Word 0b00000000000100000000000001110011 Ebreak
+    -- RV32A: funct5, for LR its rs2, funct3, opcode
+    ∷ AtomicLoad 0b00010 0b00000 0b010 0b0101111 Lr
+    ∷ Atomic 0b00011 0b010 0b0101111 Sc
+    ∷ Atomic 0b00001 0b010 0b0101111 (Amo AmoSwap)
+    ∷ Atomic 0b00000 0b010 0b0101111 (Amo AmoAdd)
+    ∷ Atomic 0b00100 0b010 0b0101111 (Amo AmoXor)
+    ∷ Atomic 0b01100 0b010 0b0101111 (Amo AmoAnd)
+    ∷ Atomic 0b01000 0b010 0b0101111 (Amo AmoOr)
+    ∷ Atomic 0b10000 0b010 0b0101111 (Amo AmoMin)
+    ∷ Atomic 0b10100 0b010 0b0101111 (Amo AmoMax)
+    ∷ Atomic 0b11000 0b010 0b0101111 (Amo AmoMinu)
+    ∷ Atomic 0b11100 0b010 0b0101111 (Amo AmoMaxu)
+    ∷ []
 
 -- ---- what a word is
 

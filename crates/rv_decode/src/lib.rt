@@ -12,8 +12,7 @@ pub use instructions::{AmoOp, BranchOp, ImmOp, Instr, LoadOp, Reg, RegOp, StoreO
 pub fn decoder_vectors()
     ensures instructions { InstructionVectors }
     ensures outside { OutsideVectors }
-{
-}
+{}
 
 /// Each word of the worked programs, and a word of each row of the table, is what an assembler says.
 #[tactic(auto, using(crate::proofs::Vectors::program_words, crate::proofs::Vectors::jump_words, crate::proofs::Vectors::memory_words, crate::proofs::Vectors::immediate_words, crate::proofs::Vectors::register_words, crate::proofs::Vectors::atomic_words))]
@@ -24,5 +23,4 @@ pub fn assembler_words()
     ensures immediates { ImmediateWords }
     ensures registers { RegisterWords }
     ensures atomics { AtomicWords }
-{
-}
+{}
