@@ -11,8 +11,9 @@ use Rattle.ddm_types.specs.ItemTable.{ItemTable}
 use Rattle.ddm_types.specs.CodeMap.{CodeWord}
 use Rattle.flat_model.specs.declared.Ask.{Ask}
 use Rattle.flat_model.specs.Hart.{Finished, ask_of, finish_of}
+use Rattle.flat_model.specs.Flat.{has_reserved}
 use Rattle.tree_model.specs.Values.{WayValue, BufferValue, LeafValue}
-use Rattle.tree_model.specs.Leaf.{blank, EntryValue, entry_at, with_entry, way_at, with_way, in_way_of, free_way, waiting_item, asks_for, is_item}
+use Rattle.tree_model.specs.Leaf.{blank, EntryValue, entry_at, with_entry, way_at, with_way, in_way_of, free_way, waiting_item, asks_for}
 
 -- what a turn answers and leaves
 pub record LeafOutcome : Type 0 where
@@ -99,17 +100,17 @@ module _ (code : List CodeWord) (items : ItemTable) (now : Key) (victim : ℕ) w
   abbrev pub upgrades : ℕ → EntryValue → LeafValue → LeafOutcome
   upgrades x e v = issued EraseTx x (with_entry x LeafState.Waiting e.words v)
 
-  -- a store or an AMO: it completes on E
-  abbrev pub stores_by : ℕ → LeafState → EntryValue → LeafValue → LeafOutcome
-  stores_by x LeafState.Exclusive e v = completes_on now x LeafState.Exclusive (finish_of code items v.hart e.words true) v
-  stores_by x LeafState.Shared e v = upgrades x e v
-  stores_by x LeafState.Waiting e v = leaf_unchanged (TurnAnswer.Waiting x) v
-  stores_by x LeafState.Reading e v = leaf_unchanged (TurnAnswer.Waiting x) v
-  stores_by x LeafState.ReadingWaiting e v = leaf_unchanged (TurnAnswer.Waiting x) v
+  -- a store, an AMO or an SC with its reservation (that is what sc_ok says): it completes on E
+  abbrev pub stores_by : Bool → ℕ → LeafState → EntryValue → LeafValue → LeafOutcome
+  stores_by sc_ok x LeafState.Exclusive e v = completes_on now x LeafState.Exclusive (finish_of code items v.hart e.words sc_ok) v
+  stores_by sc_ok x LeafState.Shared e v = upgrades x e v
+  stores_by sc_ok x LeafState.Waiting e v = leaf_unchanged (TurnAnswer.Waiting x) v
+  stores_by sc_ok x LeafState.Reading e v = leaf_unchanged (TurnAnswer.Waiting x) v
+  stores_by sc_ok x LeafState.ReadingWaiting e v = leaf_unchanged (TurnAnswer.Waiting x) v
 
-  abbrev pub stores : ℕ → Option EntryValue → LeafValue → LeafOutcome
-  stores x None v = fetches x LeafState.ReadingWaiting victim v
-  stores x (Some e) v = stores_by x e.state e v
+  abbrev pub stores : Bool → ℕ → Option EntryValue → LeafValue → LeafOutcome
+  stores sc_ok x None v = fetches x LeafState.ReadingWaiting victim v
+  stores sc_ok x (Some e) v = stores_by sc_ok x e.state e v
 
   -- an SC that completes clears the reservation
   abbrev pub cleared_if_retired : LeafOutcome → LeafOutcome
@@ -120,15 +121,15 @@ module _ (code : List CodeWord) (items : ItemTable) (now : Key) (victim : ℕ) w
 
   -- an SC: with its reservation as a store, else it completes as failed
   abbrev pub stores_if : ℕ → Bool → LeafValue → LeafOutcome
-  stores_if x true v = cleared_if_retired (stores x (entry_at x v) v)
+  stores_if x true v = cleared_if_retired (stores true x (entry_at x v) v)
   stores_if x false v = reserving None (completes now (finish_of code items v.hart [] false) v)
 
   abbrev pub by_ask : Ask → LeafValue → LeafOutcome
   by_ask Ask.Plain v = completes now (finish_of code items v.hart [] false) v
   by_ask (Ask.Put byte) v = completes now (finish_of code items v.hart [] false) v
   by_ask (Ask.NeedsShared x lr) v = loads x lr v
-  by_ask (Ask.NeedsExclusive x) v = stores x (entry_at x v) v
-  by_ask (Ask.Conditional x) v = stores_if x (is_item x v.reservation) v
+  by_ask (Ask.NeedsExclusive x) v = stores false x (entry_at x v) v
+  by_ask (Ask.Conditional x) v = stores_if x (has_reserved v.reservation x) v
   by_ask (Ask.Halt cause) v = record { answer = TurnAnswer.Halted cause; leaf = record v { hart = record v.hart { halt = Some cause } } }
 
   abbrev pub unless_waiting : Option ℕ → LeafValue → LeafOutcome
@@ -140,5 +141,5 @@ module _ (code : List CodeWord) (items : ItemTable) (now : Key) (victim : ℕ) w
   unless_halted None v = unless_waiting (waiting_item v) v
 
   -- Judged in this order: halted before; an entry waits for a transaction; the instruction halts; else by what it needs.
-  unfoldable pub hart_step : LeafValue → LeafOutcome
-  hart_step v = unless_halted v.hart.halt v
+  unfoldable pub leaf_step : LeafValue → LeafOutcome
+  leaf_step v = unless_halted v.hart.halt v

@@ -5,6 +5,7 @@ use Rattle.ddm_types.specs.declared.answers.TxKind.{TxKind}
 use Rattle.ddm_types.specs.declared.answers.TxKind.TheVariants.{ReadTx, EraseTx}
 use Rattle.ddm_types.specs.declared.sizes.Hold.{Hold}
 use Rattle.ddm_types.specs.declared.sizes.LeafState.{LeafState}
+use Rattle.flat_model.specs.Flat.{has_reserved}
 use Rattle.tree_model.specs.Values.{RequestValue, CopyValue, WayValue, BufferValue, LeafValue}
 use Rattle.tree_model.specs.States.{entry_hold, is_waiting, may_leave, is_kind}
 use Rattle.tree_model.specs.Each.{find_from, first_some}
@@ -15,9 +16,7 @@ blank width = replicate width 0
 
 -- ---- requests and copies
 
-abbrev pub is_item : ℕ → Option ℕ → Bool
-is_item x None = false
-is_item x (Some y) = nat_eq x y
+
 
 abbrev pub requests_item : TxKind → ℕ → RequestValue → Bool
 requests_item kind x r = is_kind kind r.kind && nat_eq x r.item
@@ -139,7 +138,7 @@ asks_for kind x v = record v { slot = Some (record { kind = kind; item = x }) }
 
 -- a reservation on the item ends
 unfoldable pub unreserved : ℕ → LeafValue → LeafValue
-unreserved x v = record v { reservation = if is_item x v.reservation then None else v.reservation }
+unreserved x v = record v { reservation = if has_reserved v.reservation x then None else v.reservation }
 
 -- Told to lose the item: S and E end; W becomes RW and asks to read again; I, R and RW stay. A reservation on it ends.
 unfoldable pub leaf_lose : ℕ → LeafValue → LeafValue

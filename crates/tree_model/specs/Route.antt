@@ -10,7 +10,7 @@ use Rattle.tree_model.specs.declared.BusTurn.{BusTurn}
 use Rattle.tree_model.specs.Values.{LeafValue, DirValue, Node, Nodes, leaf_node, dir_node, no_nodes, more_nodes, nodes, children}
 use Rattle.tree_model.specs.Directory.{stamp_of}
 use Rattle.tree_model.specs.Bus.{Outcome, bus_step}
-use Rattle.tree_model.specs.HartTurn.{hart_step}
+use Rattle.tree_model.specs.HartTurn.{leaf_step}
 use Rattle.tree_model.specs.Each.{first_some}
 
 -- The key of an instruction that completes now at a leaf: the stamps and child numbers on its path, then its hart's count.
@@ -58,7 +58,7 @@ abbrev mutual
 
 module _ (code : List CodeWord) (items : ItemTable) (victim : ℕ) where
   abbrev leaf_answer_if : Bool → Key → LeafValue → Option TurnAnswer
-  leaf_answer_if true prefix v = Some (hart_step code items (now_at prefix v) victim v).answer
+  leaf_answer_if true prefix v = Some (leaf_step code items (now_at prefix v) victim v).answer
   leaf_answer_if false prefix v = None
 
   -- the answer of the leaf of that number; None where there is none
@@ -72,7 +72,7 @@ module _ (code : List CodeWord) (items : ItemTable) (victim : ℕ) where
     hart_answer_among leaf prefix d i (more_nodes n ns) = first_some (hart_answer leaf (prefix_for prefix d i) n) (hart_answer_among leaf prefix d (i + 1) ns)
 
   abbrev leaf_after_if : Bool → Key → LeafValue → Node
-  leaf_after_if true prefix v = leaf_node (hart_step code items (now_at prefix v) victim v).leaf
+  leaf_after_if true prefix v = leaf_node (leaf_step code items (now_at prefix v) victim v).leaf
   leaf_after_if false prefix v = leaf_node v
 
   -- the tree after that leaf's hart has taken its turn
