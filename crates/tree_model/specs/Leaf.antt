@@ -102,12 +102,19 @@ placed x state words v = in_free (free_way x v) where
   in_free None = v
   in_free (Some way) = with_way x way state words v
 
+abbrev pub way_waits : ℕ → Option WayValue → Bool
+way_waits x None = false
+way_waits x (Some e) = is_waiting e.state
+
+abbrev pub buffer_waits : BufferValue → Bool
+buffer_waits e = is_waiting e.state
+
+abbrev pub buffered_item : BufferValue → ℕ
+buffered_item e = e.item
+
 -- the first item whose entry waits for a transaction
 unfoldable pub waiting_item : LeafValue → Option ℕ
-waiting_item v = first_some (find_from waits_in_way 0 v.ways) (option_map (λ (e : BufferValue). e.item) (find (λ e. is_waiting e.state) v.buffer)) where
-  waits_in_way : ℕ → Option WayValue → Bool
-  waits_in_way x None = false
-  waits_in_way x (Some e) = is_waiting e.state
+waiting_item v = first_some (find_from way_waits 0 v.ways) (option_map buffered_item (find buffer_waits v.buffer))
 
 -- ---- what the bus sees of a leaf
 

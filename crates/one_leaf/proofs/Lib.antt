@@ -1,0 +1,4 @@
+pub mod Leaf
+pub mod Turn
+pub mod Runs
+pub mod Order

@@ -1,0 +1,2 @@
+pub mod OneLeaf
+pub mod Run
