@@ -1,2 +1,3 @@
 pub mod OneLeaf
 pub mod Run
+pub mod Start
