@@ -1,5 +1,5 @@
 -- The table of items, and which items a list of spans makes.
-use Rattle.std.specs.Prelude.{ℕ, ◌+◌, ◌-◌, ◌*◌, ◌/◌, Bool, true, false, ◌&&◌, nat_eq, nat_lt, List, [], ◌∷◌, map, length, Option, position, slice_index_or, if◌then◌else◌}
+use Rattle.std.specs.Prelude.{ℕ, ◌+◌, ◌-◌, ◌*◌, ◌/◌, Bool, false, ◌&&◌, nat_eq, nat_lt, List, [], ◌∷◌, map, length, Option, position, slice_index_or, if◌then◌else◌}
 use Rattle.std.specs.List.{list_any, fold, flat_map, range_with_len}
 use Rattle.ddm_types.specs.declared.sizes.Span.{Span}
 

@@ -3,6 +3,7 @@
 #![tactic(auto)]
 
 mod answers;
+mod code_map;
 mod keys;
 mod numbers;
 mod operations;
@@ -10,6 +11,7 @@ mod sizes;
 mod turns;
 
 pub use answers::{BusyCause, LogEntry, PendingWhy, Place, QueueName, TurnAnswer, TxKind};
+pub use code_map::{Code, CodePart};
 pub use keys::{Key, LEVELS, Stamp};
 pub use numbers::{BusNo, ChildNo, HartNo, ItemId, LeafNo, NoMemory, Words};
 pub use operations::{Effect, HaltCause, Op};
