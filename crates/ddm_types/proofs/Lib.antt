@@ -1,5 +1,6 @@
 pub mod Ascending
 pub mod Entries
+mod Examples
 pub mod Parts
 pub mod Permuted
 pub mod Rows
