@@ -11,4 +11,6 @@ pub mod Route
 pub mod Machine
 pub mod Start
 pub mod Found
+pub mod Faces
+pub mod BusRules
 pub mod Computing
