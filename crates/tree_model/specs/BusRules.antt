@@ -20,14 +20,10 @@ use Rattle.tree_model.specs.Leaf.{state_at, stands_in, way_at, is_item}
 use Rattle.tree_model.specs.Directory.{in_set, reads_for, erases_for, is_local, is_up_read, is_up_erase}
 use Rattle.tree_model.specs.Each.{all_from}
 use Rattle.tree_model.specs.Machine.{root_of}
+use Rattle.tree_model.specs.OwnRules.{implies, IsLeafOk, IsDirOk, IsTopOk}
 use Rattle.tree_model.specs.Faces.{ChildFace, ParentFace, parent_face, faces_of, has_kind, copies_in}
 
 -- ---- words that the rules use
-
--- the second test wherever the first one passes
-abbrev pub implies : Bool → Bool → Bool
-implies false b = true
-implies true b = b
 
 abbrev pub one_if : Bool → ℕ
 one_if b = if b then 1 else 0
@@ -322,3 +318,39 @@ kept_places n d = sum_by (kept_place_of d) (range_with_len 0 n)
 -- there is a holder, no copy is parked, and only exclusives come down
 abbrev pub top_holds_all : ParentFace → List ChildFace → Bool
 top_holds_all p cs = has_holder p cs && (not p.parked && list_all (is_kind ExclusiveTx) p.queue)
+
+-- ---- one bus
+
+pub record IsBusOk (n : ℕ) (p : DirValue) (ns : List Node) : Type 0 where
+  -- what the parent keeps by itself
+  pub own : IsDirOk n (length ns) p
+  -- 0 to 9, for each item
+  pub rules : (x : ℕ) → x < n → ItemRules (parent_face x p) (faces_of x ns)
+  -- 10: as many places are reserved as are kept for the items
+  pub reserved : p.reserved ≡ kept_places n p
+
+-- a child of a bus: a leaf by itself, a directory with its own bus
+abbrev pub IsChildOk : ℕ → Node → Type 0
+IsChildOk n (leaf_node v) = IsLeafOk n v
+IsChildOk n (dir_node d ns) = IsBusOk n d (children ns)
+
+-- ---- every bus
+
+abbrev mutual
+  -- the leaf, or the bus of the directory and every bus below it
+  pub IsTreeOk : ℕ → Node → Type 0
+  IsTreeOk n (leaf_node v) = IsLeafOk n v
+  IsTreeOk n (dir_node d ns) = IsBusOk n d (children ns) × AreTreesOk n ns
+
+  pub AreTreesOk : ℕ → Nodes → Type 0
+  AreTreesOk n no_nodes = ⊤
+  AreTreesOk n (more_nodes m ns) = IsTreeOk n m × AreTreesOk n ns
+
+abbrev pub items_of_machine : MachineValue → ℕ
+items_of_machine m = item_count m.items
+
+pub record IsMachineOk (m : MachineValue) : Type 0 where
+  pub tree : IsTreeOk (items_of_machine m) (root_of m)
+  pub top : IsTopOk m.top
+  -- 11: of each item there is a holder on bus 0, no copy is parked there, and only exclusives come down there
+  pub held : (x : ℕ) → x < items_of_machine m → IsTrue (top_holds_all (parent_face x m.top) (faces_of x (children m.kids)))

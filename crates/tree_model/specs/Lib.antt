@@ -12,5 +12,7 @@ pub mod Machine
 pub mod Start
 pub mod Found
 pub mod Faces
+pub mod OwnRules
 pub mod BusRules
+pub mod BusTests
 pub mod Computing
