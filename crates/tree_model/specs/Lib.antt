@@ -15,4 +15,7 @@ pub mod Faces
 pub mod OwnRules
 pub mod BusRules
 pub mod BusTests
+pub mod Moments
+pub mod Copies
+pub mod Claims
 pub mod Computing
