@@ -18,4 +18,7 @@ pub mod BusTests
 pub mod Moments
 pub mod Copies
 pub mod Claims
+pub mod Places
+pub mod Ops
+pub mod OrderRules
 pub mod Computing
