@@ -3,7 +3,8 @@ use Rattle.std.specs.Prelude.{ℕ, List, [], ◌∷◌, take, drop}
 use Rattle.ddm_types.specs.declared.turns.Turn.{Turn}
 use Rattle.tree_model.specs.Values.{MachineValue}
 use Rattle.tree_model.specs.Machine.{run_of}
-use Rattle.tree_model.specs.Start.{SegmentValue, ImageValue, TreeValue, start_machine}
+use Rattle.tree_model.specs.Start.{SegmentValue, ImageValue, TreeValue, start_machine, start_of_harts, start_words}
+use Rattle.flat_model.specs.Flat.{FlatMachine, flat_start}
 
 -- ---- two harts that store to one word
 
@@ -15,6 +16,10 @@ two_writers_image = record { entry = 0x10000; segments = record { header = 0; va
 
 abbrev pub two_writers_start : MachineValue
 two_writers_start = start_machine two_writers_tree two_writers_image
+
+-- the flat machine at the same start
+abbrev pub two_writers_flat : FlatMachine
+two_writers_flat = flat_start (start_of_harts two_writers_tree two_writers_image) (start_words two_writers_tree two_writers_image)
 
 abbrev pub two_writers_turns : List Turn
 two_writers_turns =
@@ -37,6 +42,10 @@ stale_load_image = record { entry = 0x10000; segments = record { header = 0; vad
 
 abbrev pub stale_load_start : MachineValue
 stale_load_start = start_machine stale_load_tree stale_load_image
+
+-- the flat machine at the same start
+abbrev pub stale_load_flat : FlatMachine
+stale_load_flat = flat_start (start_of_harts stale_load_tree stale_load_image) (start_words stale_load_tree stale_load_image)
 
 abbrev pub stale_load_turns : List Turn
 stale_load_turns =
@@ -69,6 +78,10 @@ last_copy_image = record { entry = 0x10000; segments = record { header = 0; vadd
 
 abbrev pub last_copy_start : MachineValue
 last_copy_start = start_machine last_copy_tree last_copy_image
+
+-- the flat machine at the same start
+abbrev pub last_copy_flat : FlatMachine
+last_copy_flat = flat_start (start_of_harts last_copy_tree last_copy_image) (start_words last_copy_tree last_copy_image)
 
 abbrev pub last_copy_turns : List Turn
 last_copy_turns =

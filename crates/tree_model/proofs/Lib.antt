@@ -1,3 +1,4 @@
 pub mod Examples
 pub mod BusRulesHold
 pub mod StaleLoad
+pub mod OrderRulesHold

@@ -21,4 +21,6 @@ pub mod Claims
 pub mod Places
 pub mod Ops
 pub mod OrderRules
+pub mod OrderTests
+pub mod Shape
 pub mod Computing

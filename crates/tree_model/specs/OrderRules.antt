@@ -66,6 +66,13 @@ key_ends depth k = are_zero (drop (2 * depth) (k.s0 ∷ k.c0 ∷ k.s1 ∷ k.c1 �
 abbrev pub is_own_key : MachineValue → LeafAt → Op → Bool
 is_own_key m a o = implies (nat_eq o.hart a.leaf.number) (key_ends (depth_of m) o.key && (same_numbers (op_path m o) a.path && less (op_key m o) a.now))
 
+abbrev pub is_at_leaf : Op → LeafAt → Bool
+is_at_leaf o a = nat_eq o.hart a.leaf.number
+
+-- there is a leaf of the operation's hart
+abbrev pub has_leaf : MachineValue → Op → Bool
+has_leaf m o = list_any (is_at_leaf o) (leaves_at m)
+
 -- ---- 2 and 10: stamps of down lists
 
 -- the stamp of an entry of a directory's down list, as a moment on the bus above it
@@ -283,6 +290,8 @@ EachItem m P = (x : ℕ) → x < items_of_machine m → P x
 pub record IsInOrder (s : FlatMachine) (m : MachineValue) : Type 0 where
   -- 1: the keys of the operations differ
   pub keys_differ : IsTrue (all_differ (map (op_key m) m.ops))
+  -- 1: there is a leaf of each operation's hart
+  pub leaves : AllPass (has_leaf m) m.ops
   -- 1: an operation of a leaf's hart has the leaf's path in its key, and the key is less than the leaf's `now`
   pub keys : All (λ a. AllPass (is_own_key m a) m.ops) (leaves_at m)
   -- 2: stamps of a down list never fall, and lie between the last that its own bus took over and the present one above
