@@ -1,4 +1,5 @@
 pub mod Examples
 pub mod BusRulesHold
+pub mod Refused
 pub mod StaleLoad
 pub mod OrderRulesHold
