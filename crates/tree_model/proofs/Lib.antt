@@ -1,5 +1,6 @@
 pub mod Examples
 pub mod BusRulesHold
+pub mod BusTestsTell
 pub mod Refused
 pub mod StaleLoad
 pub mod OrderRulesHold
