@@ -1,5 +1,5 @@
 -- The tests of the rules of a bus tell just what the facts say.
-use Rattle.std.specs.Prelude.{◌≡◌, ℕ, zero, suc, ◌+◌, ◌<◌, ◌≤◌, nat_eq, Bool, true, false, ◌&&◌, List, [], ◌∷◌, length, slice_index_or, refl}
+use Rattle.std.specs.Prelude.{◌≡◌, ℕ, zero, suc, ◌+◌, ◌<◌, ◌≤◌, nat_eq, Bool, true, ◌&&◌, List, [], ◌∷◌, length, slice_index_or, refl}
 use Rattle.std.specs.List.{list_all, range_with_len}
 use Rattle.std.proofs.Common.{arith, subst, inl, inr}
 use Rattle.std.proofs.lemmas.Bool.Decides.{eqb_tells}
@@ -114,11 +114,11 @@ range-at test zero a x h low high = absurd (let no : ⊥ = omega arith in no)
 range-at test (suc n) a x h low high =
     let parts : (test a ≡ true) × (list_all test (range_with_len (a + 1) n) ≡ true) = and_parts (test a) (list_all test (range_with_len (a + 1) n)) h in
     elim (eqb_tells a x) [
-      inl same ↦ subst (λ y. test y ≡ true) same.1 parts.0
-    | inr other ↦ range-at test n (a + 1) x parts.1 (above other.1) (omega arith)
+      | inl same ↦ subst (λ y. test y ≡ true) same.1 parts.0
+      | inr other ↦ range-at test n (a + 1) x parts.1 (above other.1) (omega arith)
     ] where
-  above : (a ≡ x → ⊥) → a + 1 ≤ x
-  above e = omega arith
+      above : (a ≡ x → ⊥) → a + 1 ≤ x
+      above e = omega arith
 
 range-each : (test : ℕ → Bool) (n a : ℕ) → ((x : ℕ) → a ≤ x → x < a + n → test x ≡ true) → list_all test (range_with_len a n) ≡ true
 range-each test zero a h = refl

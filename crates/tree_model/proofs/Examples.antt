@@ -1,9 +1,9 @@
 -- Runs that the definitions are computed on.
-use Rattle.std.specs.Prelude.{ℕ, List, [], ◌∷◌, take, drop}
+use Rattle.std.specs.Prelude.{ℕ, List, [], ◌∷◌, take}
 use Rattle.ddm_types.specs.declared.turns.Turn.{Turn}
 use Rattle.tree_model.specs.Values.{MachineValue}
 use Rattle.tree_model.specs.Machine.{run_of}
-use Rattle.tree_model.specs.Start.{SegmentValue, ImageValue, TreeValue, start_machine, start_of_harts, start_words}
+use Rattle.tree_model.specs.Start.{ImageValue, TreeValue, start_machine, start_of_harts, start_words}
 use Rattle.flat_model.specs.Flat.{FlatMachine, flat_start}
 
 -- ---- two harts that store to one word

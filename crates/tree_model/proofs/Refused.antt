@@ -3,7 +3,7 @@ use Rattle.std.specs.Prelude.{◌≡◌, ℕ, Bool, true, false, List, [], ◌�
 use Rattle.ddm_types.specs.declared.sizes.Hold.{Hold}
 use Rattle.ddm_types.specs.declared.sizes.LeafState.{LeafState}
 use Rattle.ddm_types.specs.Keys.{stamp_zero}
-use Rattle.tree_model.specs.Values.{CopyValue, WayValue, LeafValue, Note, no_note, local, DirItem, DirValue, Node, leaf_node}
+use Rattle.tree_model.specs.Values.{CopyValue, WayValue, Note, no_note, local, DirValue, Node, leaf_node}
 use Rattle.tree_model.specs.Blank.{no_hart}
 use Rattle.tree_model.specs.Computing.{tree_computes}
 use Rattle.tree_model.specs.Faces.{parent_face, faces_of}

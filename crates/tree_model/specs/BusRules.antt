@@ -4,20 +4,15 @@
 -- child's number is its place in the list of faces. Each rule is a test that computes, and the fact is that it gives true.
 -- A holder is a child that holds the item, or the parent's parked copy of it. The readers are the children that a note Local
 -- or UpRead names: the first and those that joined.
-use Rattle.std.specs.Prelude.{◌≡◌, ℕ, zero, suc, ◌+◌, ◌^◌, ◌<◌, ◌≤◌, Bool, true, false, not, ◌&&◌, ◌||◌, nat_eq, nat_lt, nat_le, List, [], ◌∷◌, map, length, drop, count_by, sum_by, Option, Some, None, is_none, slice_index_or, IsTrue, ⊤, if◌then◌else◌}
-use Rattle.std.specs.List.{list_any, list_all, range_with_len}
+use Rattle.std.specs.Prelude.{◌≡◌, ℕ, zero, suc, ◌+◌, ◌<◌, Bool, true, false, not, ◌&&◌, ◌||◌, nat_eq, nat_lt, nat_le, List, [], ◌∷◌, length, count_by, sum_by, IsTrue, ⊤, if◌then◌else◌}
+use Rattle.std.specs.List.{list_all, range_with_len}
 use Rattle.std.specs.Bool.{beq}
 use Rattle.ddm_types.specs.declared.answers.TxKind.{TxKind}
 use Rattle.ddm_types.specs.declared.answers.TxKind.TheVariants.{ReadTx, DataTx, EraseTx, ExclusiveTx, InjectTx, OutTx}
-use Rattle.ddm_types.specs.declared.sizes.Hold.{Hold}
-use Rattle.ddm_types.specs.declared.sizes.LeafState.{LeafState}
-use Rattle.ddm_types.specs.declared.keys.Stamp.{Stamp}
-use Rattle.ddm_types.specs.Keys.{stamp_zero, stamp_numbers}
 use Rattle.ddm_types.specs.ItemTable.{item_count}
-use Rattle.tree_model.specs.Values.{RequestValue, CopyValue, DownValue, WayValue, BufferValue, LeafValue, Note, no_note, local, up_read, up_erase, DirItem, DirValue, Node, Nodes, leaf_node, dir_node, no_nodes, more_nodes, children, MachineValue}
-use Rattle.tree_model.specs.States.{is_held, is_exclusive, is_shared, is_kind, is_waiting, is_reading, brings_copy}
-use Rattle.tree_model.specs.Leaf.{state_at, stands_in, way_at, is_item}
-use Rattle.tree_model.specs.Directory.{in_set, reads_for, erases_for, is_local, is_up_read, is_up_erase}
+use Rattle.tree_model.specs.Values.{Note, no_note, local, up_read, up_erase, DirValue, Node, Nodes, leaf_node, dir_node, no_nodes, more_nodes, children, MachineValue}
+use Rattle.tree_model.specs.States.{is_held, is_exclusive, is_shared, is_kind, brings_copy}
+use Rattle.tree_model.specs.Directory.{reads_for, erases_for, is_local, is_up_read, is_up_erase}
 use Rattle.tree_model.specs.Each.{all_from}
 use Rattle.tree_model.specs.Machine.{root_of}
 use Rattle.tree_model.specs.OwnRules.{implies, IsLeafOk, IsDirOk, IsTopOk}

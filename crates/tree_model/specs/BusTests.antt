@@ -1,11 +1,11 @@
 -- The rules of a bus as tests that compute: the same rules in the same order as the records of facts, all of one bus, of
 -- all buses of a machine, and after every turn of a run.
-use Rattle.std.specs.Prelude.{ℕ, ◌+◌, ◌≡◌, Bool, true, false, ◌&&◌, nat_eq, nat_le, List, [], ◌∷◌, map, length}
+use Rattle.std.specs.Prelude.{ℕ, ◌+◌, Bool, true, ◌&&◌, nat_eq, nat_le, List, [], ◌∷◌, map, length}
 use Rattle.std.specs.List.{list_all, range_with_len}
 use Rattle.ddm_types.specs.declared.turns.Turn.{Turn}
 use Rattle.tree_model.specs.Values.{LeafValue, DirValue, Node, Nodes, leaf_node, dir_node, no_nodes, more_nodes, children, MachineValue}
 use Rattle.tree_model.specs.Each.{all_from}
-use Rattle.tree_model.specs.Machine.{root_of, turn_of, Turned}
+use Rattle.tree_model.specs.Machine.{root_of, turn_of}
 use Rattle.tree_model.specs.Faces.{ChildFace, ParentFace, parent_face, faces_of}
 use Rattle.tree_model.specs.OwnRules.{are_distinct, copy_fits, copy_item, way_fits, buffer_fits, buffer_item, has_way_alone, waiting_count, slot_suits, reserves_below, stamp_ends, down_fits, request_fits, item_fits, top_item}
 use Rattle.tree_model.specs.BusRules.{answering_holds, sole_exclusive, sole_parked, exclusive_is_covered, queue_order, queue_start, inject_is_covered, erased_are_shared, hold_follows_queue, local_note, up_read_note, data_is_read, up_erase_note, erase_has_one_end, granted_reads_are_noted, granted_erases_are_noted, exclusive_is_noted, one_giver, givers_hold, read_is_last, asked_alone, one_request, read_request_is_open, erase_request_is_noted, kept_places, top_holds_all, items_of_machine}

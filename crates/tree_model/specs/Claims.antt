@@ -1,8 +1,7 @@
 -- The claims on an item: since when a leaf or directory has it Exclusive.
 use Rattle.std.specs.Prelude.{ℕ, ◌+◌, Bool, true, false, ◌||◌, List, [], ◌∷◌, ◌++◌, Option, Some, None}
-use Rattle.ddm_types.specs.declared.answers.TxKind.{TxKind}
 use Rattle.ddm_types.specs.declared.answers.TxKind.TheVariants.{ExclusiveTx, InjectTx}
-use Rattle.tree_model.specs.Values.{DownValue, DirValue, Node, Nodes, leaf_node, dir_node, no_nodes, more_nodes, MachineValue}
+use Rattle.tree_model.specs.Values.{DownValue, Node, Nodes, leaf_node, dir_node, no_nodes, more_nodes, MachineValue}
 use Rattle.tree_model.specs.States.{is_exclusive, is_kind}
 use Rattle.tree_model.specs.Directory.{queue_of, stamp_of}
 use Rattle.tree_model.specs.Child.{child_hold}

@@ -1,10 +1,8 @@
 -- The copies of an item in a machine: words of it in an entry of a leaf, in parking, in a reply list, or as data or inject in
 -- a down list.
 use Rattle.std.specs.Prelude.{ℕ, ◌+◌, Bool, true, false, List, [], ◌∷◌, ◌++◌, map, Option, Some, None}
-use Rattle.ddm_types.specs.declared.answers.TxKind.{TxKind}
 use Rattle.ddm_types.specs.declared.answers.TxKind.TheVariants.{EraseTx}
-use Rattle.ddm_types.specs.declared.keys.Stamp.{Stamp}
-use Rattle.tree_model.specs.Values.{DownValue, LeafValue, DirValue, Node, Nodes, leaf_node, dir_node, no_nodes, more_nodes, MachineValue}
+use Rattle.tree_model.specs.Values.{DownValue, DirValue, Node, Nodes, leaf_node, dir_node, no_nodes, more_nodes, MachineValue}
 use Rattle.tree_model.specs.States.{entry_hold, is_held, is_kind, brings_copy}
 use Rattle.tree_model.specs.Leaf.{EntryValue, entry_at}
 use Rattle.tree_model.specs.Directory.{queue_of, stamp_of}

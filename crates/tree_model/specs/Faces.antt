@@ -1,11 +1,11 @@
 -- Of one item: what a bus sees of a child, and what its parent keeps. The rules of a bus look at nothing else.
-use Rattle.std.specs.Prelude.{ℕ, Bool, true, false, not, ◌&&◌, ◌||◌, nat_eq, nat_lt, List, [], ◌∷◌, map, length, filter, Option, Some, None, is_none}
+use Rattle.std.specs.Prelude.{ℕ, Bool, true, false, not, ◌&&◌, ◌||◌, nat_eq, nat_lt, List, map, length, filter, Option, Some, None, is_none}
 use Rattle.std.specs.List.{list_any}
 use Rattle.ddm_types.specs.declared.answers.TxKind.{TxKind}
 use Rattle.ddm_types.specs.declared.answers.TxKind.TheVariants.{ReadTx, DataTx, EraseTx, ExclusiveTx, InjectTx, OutTx}
 use Rattle.ddm_types.specs.declared.sizes.Hold.{Hold}
 use Rattle.ddm_types.specs.declared.sizes.LeafState.{LeafState}
-use Rattle.tree_model.specs.Values.{RequestValue, CopyValue, DownValue, Note, LeafValue, DirValue, Node, leaf_node, dir_node}
+use Rattle.tree_model.specs.Values.{RequestValue, CopyValue, DownValue, Note, DirValue, Node, leaf_node, dir_node}
 use Rattle.tree_model.specs.States.{is_reading, is_shared, is_kind}
 use Rattle.tree_model.specs.Leaf.{copies_item, state_at}
 use Rattle.tree_model.specs.Directory.{dir_hold, dir_note, is_answering, is_up_erase, open_read, in_requests, names, queue_of, is_parked}

@@ -5,14 +5,12 @@ use Rattle.std.specs.Prelude.{◌≡◌, ℕ, ◌+◌, ◌-◌, ◌*◌, ◌<◌
 use Rattle.std.specs.List.{list_any, list_all, AllPass}
 use Rattle.ddm_types.specs.declared.answers.TxKind.{TxKind}
 use Rattle.ddm_types.specs.declared.answers.TxKind.TheVariants.{ReadTx, DataTx, EraseTx, ExclusiveTx, InjectTx, OutTx}
-use Rattle.ddm_types.specs.declared.keys.Stamp.{Stamp}
 use Rattle.ddm_types.specs.declared.keys.Key.{Key}
 use Rattle.ddm_types.specs.declared.operations.Op.{Op}
-use Rattle.ddm_types.specs.Keys.{stamp_numbers, key_numbers}
-use Rattle.flat_model.specs.Hart.{HartValue}
+use Rattle.ddm_types.specs.Keys.{key_numbers}
 use Rattle.flat_model.specs.Flat.{FlatMachine, flat_hart, item_words, flat_step}
 use Rattle.flat_model.specs.Legal.{on_item, changes_item, Legal, flat_after}
-use Rattle.tree_model.specs.Values.{DownValue, LeafValue, DirValue, MachineValue}
+use Rattle.tree_model.specs.Values.{DownValue, LeafValue, MachineValue}
 use Rattle.tree_model.specs.States.{is_held, is_exclusive}
 use Rattle.tree_model.specs.Leaf.{leaf_hold, is_item}
 use Rattle.tree_model.specs.Directory.{dir_hold, queue_of}

@@ -1,8 +1,7 @@
 -- The rules of order as tests that compute, of one machine, and after every turn of a run.
-use Rattle.std.specs.Prelude.{ℕ, Bool, true, false, ◌&&◌, nat_eq, List, [], ◌∷◌, map, is_some}
+use Rattle.std.specs.Prelude.{ℕ, Bool, ◌&&◌, nat_eq, List, [], ◌∷◌, map, is_some}
 use Rattle.std.specs.List.{list_all, range_with_len}
 use Rattle.ddm_types.specs.declared.turns.Turn.{Turn}
-use Rattle.ddm_types.specs.declared.operations.Op.{Op}
 use Rattle.flat_model.specs.Flat.{FlatMachine, FlatHart, flat_hart}
 use Rattle.flat_model.specs.Legal.{legal_run}
 use Rattle.tree_model.specs.Values.{MachineValue}
