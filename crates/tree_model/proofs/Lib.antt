@@ -4,3 +4,4 @@ pub mod BusTestsTell
 pub mod Refused
 pub mod StaleLoad
 pub mod OrderRulesHold
+pub mod Lag
