@@ -84,12 +84,11 @@ IsDirOk-from_tests n kids d h = record {
   request_room = all_true-at 8 (dir_tests n kids d) h;
   reply_room = all_true-at 9 (dir_tests n kids d) h;
   parking_room = all_true-at 10 (dir_tests n kids d) h;
-  epoch = all_true-at 11 (dir_tests n kids d) h;
 }
 
 pub tests-from_IsDirOk : (n kids : ℕ) (d : DirValue) → IsDirOk n kids d → all_true (dir_tests n kids d) ≡ true
 unfolding dir_tests
-tests-from_IsDirOk n kids d r = both_true (eq-eqb _ _ r.items) (both_true r.notes (both_true r.down (both_true r.requests (both_true r.replies (both_true r.parked (both_true r.parked_once (both_true r.down_room (both_true r.request_room (both_true r.reply_room (both_true r.parking_room (both_true r.epoch refl)))))))))))
+tests-from_IsDirOk n kids d r = both_true (eq-eqb _ _ r.items) (both_true r.notes (both_true r.down (both_true r.requests (both_true r.replies (both_true r.parked (both_true r.parked_once (both_true r.down_room (both_true r.request_room (both_true r.reply_room (both_true r.parking_room refl))))))))))
 
 pub IsTopOk-from_tests : (d : DirValue) → all_true (top_tests d) ≡ true → IsTopOk d
 unfolding top_tests
@@ -101,11 +100,12 @@ IsTopOk-from_tests d h = record {
   replies = eqb-true _ _ (all_true-at 4 (top_tests d) h);
   parked = eqb-true _ _ (all_true-at 5 (top_tests d) h);
   reserved = eqb-true _ _ (all_true-at 6 (top_tests d) h);
+  epoch = all_true-at 7 (top_tests d) h;
 }
 
 pub tests-from_IsTopOk : (d : DirValue) → IsTopOk d → all_true (top_tests d) ≡ true
 unfolding top_tests
-tests-from_IsTopOk d r = both_true (eq-eqb _ _ r.bus) (both_true (eq-eqb _ _ r.level) (both_true r.items (both_true (eq-eqb _ _ r.requests) (both_true (eq-eqb _ _ r.replies) (both_true (eq-eqb _ _ r.parked) (both_true (eq-eqb _ _ r.reserved) refl))))))
+tests-from_IsTopOk d r = both_true (eq-eqb _ _ r.bus) (both_true (eq-eqb _ _ r.level) (both_true r.items (both_true (eq-eqb _ _ r.requests) (both_true (eq-eqb _ _ r.replies) (both_true (eq-eqb _ _ r.parked) (both_true (eq-eqb _ _ r.reserved) (both_true r.epoch refl)))))))
 
 -- ---- a test of each number of a range
 
@@ -114,11 +114,11 @@ range-at test zero a x h low high = absurd (let no : ⊥ = omega arith in no)
 range-at test (suc n) a x h low high =
     let parts : (test a ≡ true) × (list_all test (range_with_len (a + 1) n) ≡ true) = and_parts (test a) (list_all test (range_with_len (a + 1) n)) h in
     elim (eqb_tells a x) [
-      | inl same ↦ subst (λ y. test y ≡ true) same.1 parts.0
-      | inr other ↦ range-at test n (a + 1) x parts.1 (above other.1) (omega arith)
+      inl same ↦ subst (λ y. test y ≡ true) same.1 parts.0
+    | inr other ↦ range-at test n (a + 1) x parts.1 (above other.1) (omega arith)
     ] where
-      above : (a ≡ x → ⊥) → a + 1 ≤ x
-      above e = omega arith
+  above : (a ≡ x → ⊥) → a + 1 ≤ x
+  above e = omega arith
 
 range-each : (test : ℕ → Bool) (n a : ℕ) → ((x : ℕ) → a ≤ x → x < a + n → test x ≡ true) → list_all test (range_with_len a n) ≡ true
 range-each test zero a h = refl

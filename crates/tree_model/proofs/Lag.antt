@@ -1,19 +1,18 @@
 -- Why the rules of order speak of claims and clocks. A bus keeps the last stamp that it took over, and a bus two levels below
 -- may still keep an older one. Each state here keeps all rules but one, and after one turn another rule is broken.
-use Rattle.std.specs.Prelude.{◌≡◌, ℕ, Bool, true, false, List, [], ◌∷◌, ◌++◌, length, replicate, slice_set, Option, Some, None, refl}
+use Rattle.std.specs.Prelude.{◌≡◌, ℕ, true, false, List, [], ◌∷◌, ◌++◌, replicate, slice_set, Some, None, refl}
 use Rattle.ddm_types.specs.declared.answers.TxKind.{TxKind}
 use Rattle.ddm_types.specs.declared.sizes.Hold.{Hold}
 use Rattle.ddm_types.specs.declared.sizes.LeafState.{LeafState}
 use Rattle.ddm_types.specs.declared.keys.Stamp.{Stamp}
-use Rattle.ddm_types.specs.declared.keys.Key.{Key}
 use Rattle.ddm_types.specs.declared.operations.Effect.{Effect}
 use Rattle.ddm_types.specs.declared.operations.Op.{Op}
 use Rattle.ddm_types.specs.declared.turns.Turn.{Turn}
 use Rattle.ddm_types.specs.Keys.{stamp_zero}
 use Rattle.ddm_types.specs.CodeMap.{words_from}
 use Rattle.flat_model.specs.Hart.{HartValue}
-use Rattle.flat_model.specs.Flat.{FlatHart, FlatMachine}
-use Rattle.tree_model.specs.Values.{LeafValue, DownValue, Note, no_note, up_erase, DirItem, DirValue, Node, leaf_node, dir_node, nodes, MachineValue}
+use Rattle.flat_model.specs.Flat.{FlatMachine}
+use Rattle.tree_model.specs.Values.{DownValue, Note, no_note, up_erase, DirValue, Node, leaf_node, dir_node, nodes, MachineValue}
 use Rattle.tree_model.specs.Machine.{turn_of}
 use Rattle.tree_model.specs.Computing.{tree_computes}
 use Rattle.tree_model.specs.BusTests.{machine_holds}
@@ -80,7 +79,7 @@ pub late_exclusive-bus : machine_holds late_exclusive ≡ true
 unfolding tree_computes
 late_exclusive-bus = refl
 
-pub late_exclusive-others : order_tests (flat 0x10000 0x10004) late_exclusive ≡ replicate 8 true
+pub late_exclusive-others : order_tests (flat 0x10000 0x10004) late_exclusive ≡ replicate 9 true
 unfolding tree_computes
 late_exclusive-others = refl
 
@@ -108,7 +107,7 @@ pub early_word-bus : machine_holds early_word ≡ true
 unfolding tree_computes
 early_word-bus = refl
 
-pub early_word-others : order_tests (flat 0x10004 0x10000) early_word ≡ replicate 8 true
+pub early_word-others : order_tests (flat 0x10004 0x10000) early_word ≡ replicate 9 true
 unfolding tree_computes
 early_word-others = refl
 
@@ -118,6 +117,6 @@ unfolding tree_computes
 early_word-tests = refl
 
 -- leaf 0 loads 7 with a key before the store: the operations in the order of their keys aren't legal
-pub early_word-next : order_tests (flat 0x10004 0x10000) (turn_of (Turn.Hart 0 0) early_word).machine ≡ replicate 5 true ++ false ∷ false ∷ true ∷ []
+pub early_word-next : order_tests (flat 0x10004 0x10000) (turn_of (Turn.Hart 0 0) early_word).machine ≡ replicate 6 true ++ false ∷ false ∷ true ∷ []
 unfolding tree_computes
 early_word-next = refl

@@ -3,11 +3,12 @@
 use Rattle.std.specs.Prelude.{ℕ, ◌+◌, Bool, true, ◌&&◌, nat_eq, nat_le, List, [], ◌∷◌, map, length}
 use Rattle.std.specs.List.{list_all, range_with_len}
 use Rattle.ddm_types.specs.declared.turns.Turn.{Turn}
+use Rattle.ddm_types.specs.Keys.{stamp_numbers}
 use Rattle.tree_model.specs.Values.{LeafValue, DirValue, Node, Nodes, leaf_node, dir_node, no_nodes, more_nodes, children, MachineValue}
 use Rattle.tree_model.specs.Each.{all_from}
 use Rattle.tree_model.specs.Machine.{root_of, turn_of}
 use Rattle.tree_model.specs.Faces.{ChildFace, ParentFace, parent_face, faces_of}
-use Rattle.tree_model.specs.OwnRules.{are_distinct, copy_fits, copy_item, way_fits, buffer_fits, buffer_item, has_way_alone, waiting_count, slot_suits, reserves_below, stamp_ends, down_fits, request_fits, item_fits, top_item}
+use Rattle.tree_model.specs.OwnRules.{are_distinct, copy_fits, copy_item, way_fits, buffer_fits, buffer_item, has_way_alone, waiting_count, slot_suits, reserves_below, are_zero, down_fits, request_fits, item_fits, top_item}
 use Rattle.tree_model.specs.BusRules.{answering_holds, sole_exclusive, sole_parked, exclusive_is_covered, queue_order, queue_start, inject_is_covered, erased_are_shared, hold_follows_queue, local_note, up_read_note, data_is_read, up_erase_note, erase_has_one_end, granted_reads_are_noted, granted_erases_are_noted, exclusive_is_noted, one_giver, givers_hold, read_is_last, asked_alone, one_request, read_request_is_open, erase_request_is_noted, kept_places, top_holds_all, items_of_machine}
 
 -- all of them give true
@@ -58,7 +59,7 @@ leaf_tests n v =
     nat_le (length v.buffer) v.buffer_room ∷
     nat_le (waiting_count v) 1 ∷
     slot_suits v v.slot ∷
-    list_all (copy_fits n v.width) v.replies ∷
+    list_all (copy_fits n) v.replies ∷
     nat_le (length v.replies) v.reply_room ∷
     reserves_below n v.reservation ∷ []
 
@@ -66,16 +67,15 @@ unfoldable pub dir_tests : ℕ → ℕ → DirValue → List Bool
 dir_tests n kids d =
     nat_eq (length d.items) n ∷
     list_all (item_fits kids) d.items ∷
-    list_all (down_fits n d) d.down ∷
+    list_all (down_fits n) d.down ∷
     list_all (request_fits n) d.requests ∷
-    list_all (copy_fits n d.width) d.replies ∷
-    list_all (copy_fits n d.width) d.parked ∷
+    list_all (copy_fits n) d.replies ∷
+    list_all (copy_fits n) d.parked ∷
     are_distinct (map copy_item d.parked) ∷
     nat_le (length d.down) d.down_room ∷
     nat_le (length d.requests) d.request_room ∷
     nat_le (length d.replies) d.reply_room ∷
-    nat_le (length d.parked + d.reserved) d.parking_room ∷
-    stamp_ends d.level d.epoch ∷ []
+    nat_le (length d.parked + d.reserved) d.parking_room ∷ []
 
 unfoldable pub top_tests : DirValue → List Bool
 top_tests d =
@@ -85,7 +85,8 @@ top_tests d =
     nat_eq (length d.requests) 0 ∷
     nat_eq (length d.replies) 0 ∷
     nat_eq (length d.parked) 0 ∷
-    nat_eq d.reserved 0 ∷ []
+    nat_eq d.reserved 0 ∷
+    are_zero (stamp_numbers 3 d.epoch) ∷ []
 
 -- ---- a bus
 

@@ -5,9 +5,10 @@ use Rattle.std.specs.Prelude.{◌≡◌, ℕ, ◌+◌, ◌-◌, ◌*◌, ◌<◌
 use Rattle.std.specs.List.{list_any, list_all, AllPass}
 use Rattle.ddm_types.specs.declared.answers.TxKind.{TxKind}
 use Rattle.ddm_types.specs.declared.answers.TxKind.TheVariants.{ReadTx, DataTx, EraseTx, ExclusiveTx, InjectTx, OutTx}
+use Rattle.ddm_types.specs.declared.keys.Stamp.{Stamp}
 use Rattle.ddm_types.specs.declared.keys.Key.{Key}
 use Rattle.ddm_types.specs.declared.operations.Op.{Op}
-use Rattle.ddm_types.specs.Keys.{key_numbers}
+use Rattle.ddm_types.specs.Keys.{stamp_numbers, key_numbers}
 use Rattle.flat_model.specs.Flat.{FlatMachine, flat_hart, item_words, flat_step}
 use Rattle.flat_model.specs.Legal.{on_item, changes_item, Legal, flat_after}
 use Rattle.tree_model.specs.Values.{DownValue, LeafValue, MachineValue}
@@ -105,6 +106,17 @@ never_fall c (e ∷ f ∷ es) = may_stand_behind (entry_moment c e) f.kind (entr
 
 abbrev pub lies_between : DirAt → DownValue → Bool
 lies_between c e = not (less (entry_moment c e) (taken_moment c)) && not (less (present_moment c) (entry_moment c e))
+
+-- the numbers of a stamp from this level on are 0
+abbrev pub stamp_ends : ℕ → Stamp → Bool
+stamp_ends level stamp = are_zero (drop level (stamp_numbers 3 stamp))
+
+abbrev pub entry_ends : DirAt → DownValue → Bool
+entry_ends c e = stamp_ends (length c.path) e.stamp
+
+-- stamps of the down list, and the last that its own bus took over, have numbers for the levels above that bus alone
+abbrev pub stamps_end : DirAt → Bool
+stamps_end c = list_all (entry_ends c) c.dir.down && stamp_ends (length c.path) c.dir.epoch
 
 -- stamps of the down list never fall, and lie between the last that its own bus took over and the present one of the bus above
 abbrev pub stamps_rise : DirAt → Bool
@@ -294,6 +306,8 @@ pub record IsInOrder (s : FlatMachine) (m : MachineValue) : Type 0 where
   pub keys : All (λ a. AllPass (is_own_key m a) m.ops) (leaves_at m)
   -- 2: stamps of a down list never fall, and lie between the last that its own bus took over and the present one above
   pub stamps : AllPass stamps_rise (dirs_at m)
+  -- 2: and they have numbers for the levels above that bus alone
+  pub levels : AllPass stamps_end (dirs_at m)
   -- 3: a copy has the words after all operations, or, where it has an end, after those before the end
   pub words : EachItem m (λ x. AllPass (has_right_words s m x) (copies_of x m))
   -- 4: a leaf whose entry has an end is before that end; a reply beside it has the same end

@@ -13,7 +13,7 @@ use Rattle.tree_model.specs.Copies.{CopyAt, copies_of}
 use Rattle.tree_model.specs.Claims.{claims_of}
 use Rattle.tree_model.specs.Places.{LeafAt, leaves_at, dirs_at}
 use Rattle.tree_model.specs.Ops.{sorted_ops}
-use Rattle.tree_model.specs.OrderRules.{op_key, all_differ, has_leaf, is_own_key, stamps_rise, has_right_words, is_before_end, writer_outlives_copies, writer_is_latest, exclusive_side, keeps_reservation, flat_now, op_count, leaf_knows_changes, copy_knows_changes, stamps_are_past_taken, claim_is_after_ops, claim_is_after_copies, clock_knows_changes}
+use Rattle.tree_model.specs.OrderRules.{op_key, all_differ, has_leaf, is_own_key, stamps_rise, stamps_end, has_right_words, is_before_end, writer_outlives_copies, writer_is_latest, exclusive_side, keeps_reservation, flat_now, op_count, leaf_knows_changes, copy_knows_changes, stamps_are_past_taken, claim_is_after_ops, claim_is_after_copies, clock_knows_changes}
 
 -- ---- those of one item
 
@@ -60,6 +60,7 @@ order_tests s m =
     list_all (has_leaf m) m.ops ∷
     list_all (own_keys m) (leaves_at m) ∷
     list_all stamps_rise (dirs_at m) ∷
+    list_all stamps_end (dirs_at m) ∷
     list_all (keeps_reservation s m) (leaves_at m) ∷
     is_some (legal_run m.code m.items s (sorted_ops m.ops)) ∷
     list_all (is_flat_hart s m) (leaves_at m) ∷

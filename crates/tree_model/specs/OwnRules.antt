@@ -1,11 +1,10 @@
 -- What a leaf and a directory keep by themselves, whatever stands around them: of n items. Each test computes, and the fact
 -- is that it gives true.
-use Rattle.std.specs.Prelude.{◌≡◌, ℕ, ◌+◌, ◌^◌, Bool, true, false, not, ◌&&◌, nat_eq, nat_lt, nat_le, List, [], ◌∷◌, map, length, drop, count_by, Option, Some, None, is_none, IsTrue}
+use Rattle.std.specs.Prelude.{◌≡◌, ℕ, ◌+◌, ◌^◌, Bool, true, false, not, ◌&&◌, nat_eq, nat_lt, nat_le, List, [], ◌∷◌, map, length, count_by, Option, Some, None, is_none, IsTrue}
 use Rattle.std.specs.List.{list_any, list_all}
 use Rattle.ddm_types.specs.declared.answers.TxKind.{TxKind}
 use Rattle.ddm_types.specs.declared.answers.TxKind.TheVariants.{ReadTx, DataTx, EraseTx, ExclusiveTx, InjectTx, OutTx}
 use Rattle.ddm_types.specs.declared.sizes.LeafState.{LeafState}
-use Rattle.ddm_types.specs.declared.keys.Stamp.{Stamp}
 use Rattle.ddm_types.specs.Keys.{stamp_numbers}
 use Rattle.tree_model.specs.Values.{RequestValue, CopyValue, DownValue, WayValue, BufferValue, LeafValue, Note, no_note, local, up_read, up_erase, DirItem, DirValue}
 use Rattle.tree_model.specs.States.{is_waiting, is_reading, is_exclusive, brings_copy}
@@ -31,22 +30,22 @@ are_zero ns = list_all (nat_eq 0) ns
 abbrev pub copy_item : CopyValue → ℕ
 copy_item c = c.item
 
--- a copy of one of n items, with so many words
-abbrev pub copy_fits : ℕ → ℕ → CopyValue → Bool
-copy_fits n width c = nat_lt c.item n && nat_eq (length c.words) width
+-- a copy of one of n items
+abbrev pub copy_fits : ℕ → CopyValue → Bool
+copy_fits n c = nat_lt c.item n
 
 -- ---- a leaf
 
--- the words of an entry: so many, and 0 where it waits for data
-abbrev pub words_fit : ℕ → LeafState → List ℕ → Bool
-words_fit width state words = nat_eq (length words) width && implies (is_reading state) (are_zero words)
+-- the words of an entry are 0 where it waits for data
+abbrev pub words_suit : LeafState → List ℕ → Bool
+words_suit state words = implies (is_reading state) (are_zero words)
 
 abbrev pub way_fits : LeafValue → Option WayValue → Bool
 way_fits v None = true
-way_fits v (Some e) = nat_lt e.way v.way_count && words_fit v.width e.state e.words
+way_fits v (Some e) = nat_lt e.way v.way_count && words_suit e.state e.words
 
 abbrev pub buffer_fits : ℕ → LeafValue → BufferValue → Bool
-buffer_fits n v e = nat_lt e.item n && (is_none (way_at e.item v) && words_fit v.width e.state e.words)
+buffer_fits n v e = nat_lt e.item n && (is_none (way_at e.item v) && words_suit e.state e.words)
 
 -- no other item than x stands in the way of x's set that x has
 abbrev same_if_there : LeafValue → ℕ → ℕ → ℕ → Option WayValue → Bool
@@ -87,11 +86,11 @@ buffer_item e = e.item
 pub record IsLeafOk (n : ℕ) (v : LeafValue) : Type 0 where
   -- each item has a place for its entry
   pub items : length v.ways ≡ n
-  -- a way is one of its set, and has the words that its state wants
+  -- a way is one of its set, and its words are 0 where it waits for data
   pub ways : IsTrue (list_all (way_fits v) v.ways)
   -- no two items stand in one way of one set
   pub ways_alone : IsTrue (all_from (has_way_alone v) 0 v.ways)
-  -- an entry of the buffer has an item that stands in no way, and the words that its state wants
+  -- an entry of the buffer has an item that stands in no way, and its words are 0 where it waits for data
   pub buffered : IsTrue (list_all (buffer_fits n v) v.buffer)
   -- no item stands in the buffer twice
   pub buffered_once : IsTrue (are_distinct (map buffer_item v.buffer))
@@ -100,15 +99,11 @@ pub record IsLeafOk (n : ℕ) (v : LeafValue) : Type 0 where
   pub one_waiting : IsTrue (nat_le (waiting_count v) 1)
   -- the slot has what the waiting entry wants
   pub slot : IsTrue (slot_suits v v.slot)
-  pub replies : IsTrue (list_all (copy_fits n v.width) v.replies)
+  pub replies : IsTrue (list_all (copy_fits n) v.replies)
   pub reply_room : IsTrue (nat_le (length v.replies) v.reply_room)
   pub reservation : IsTrue (reserves_below n v.reservation)
 
 -- ---- a directory
-
--- the numbers of the levels from this one on are 0
-abbrev pub stamp_ends : ℕ → Stamp → Bool
-stamp_ends level stamp = are_zero (drop level (stamp_numbers 3 stamp))
 
 -- a kind that comes down
 abbrev pub comes_down : TxKind → Bool
@@ -128,9 +123,9 @@ goes_up ExclusiveTx = false
 goes_up InjectTx = false
 goes_up OutTx = false
 
--- an entry that comes down, of one of n items, with so many words, which are 0 where it brings no copy
-abbrev pub down_fits : ℕ → DirValue → DownValue → Bool
-down_fits n d e = comes_down e.kind && (nat_lt e.item n && (nat_eq (length e.words) d.width && (implies (not (brings_copy e.kind)) (are_zero e.words) && stamp_ends d.level e.stamp)))
+-- an entry that comes down, of one of n items, whose words are 0 where it brings no copy
+abbrev pub down_fits : ℕ → DownValue → Bool
+down_fits n e = comes_down e.kind && (nat_lt e.item n && implies (not (brings_copy e.kind)) (are_zero e.words))
 
 abbrev pub request_fits : ℕ → RequestValue → Bool
 request_fits n r = goes_up r.kind && nat_lt r.item n
@@ -151,10 +146,10 @@ pub record IsDirOk (n kids : ℕ) (d : DirValue) : Type 0 where
   pub items : length d.items ≡ n
   -- each note names children that there are, and the first reader hasn't joined itself
   pub notes : IsTrue (list_all (item_fits kids) d.items)
-  pub down : IsTrue (list_all (down_fits n d) d.down)
+  pub down : IsTrue (list_all (down_fits n) d.down)
   pub requests : IsTrue (list_all (request_fits n) d.requests)
-  pub replies : IsTrue (list_all (copy_fits n d.width) d.replies)
-  pub parked : IsTrue (list_all (copy_fits n d.width) d.parked)
+  pub replies : IsTrue (list_all (copy_fits n) d.replies)
+  pub parked : IsTrue (list_all (copy_fits n) d.parked)
   -- no item is parked twice
   pub parked_once : IsTrue (are_distinct (map copy_item d.parked))
   pub down_room : IsTrue (nat_le (length d.down) d.down_room)
@@ -162,8 +157,6 @@ pub record IsDirOk (n kids : ℕ) (d : DirValue) : Type 0 where
   pub reply_room : IsTrue (nat_le (length d.replies) d.reply_room)
   -- the parked copies and the places kept for others have room
   pub parking_room : IsTrue (nat_le (length d.parked + d.reserved) d.parking_room)
-  -- the last stamp that it took has numbers for the levels above its bus alone
-  pub epoch : IsTrue (stamp_ends d.level d.epoch)
 
 -- ---- the top
 
@@ -179,3 +172,5 @@ pub record IsTopOk (d : DirValue) : Type 0 where
   pub replies : length d.replies ≡ 0
   pub parked : length d.parked ≡ 0
   pub reserved : d.reserved ≡ 0
+  -- it takes over no stamp
+  pub epoch : IsTrue (are_zero (stamp_numbers 3 d.epoch))
