@@ -12,7 +12,7 @@ use Rattle.tree_model.specs.BusRules.{ItemRules, IsBusOk, IsTreeOk, AreTreesOk, 
 use Rattle.tree_model.specs.BusTests.{all_true, item_tests, leaf_tests, dir_tests, top_tests, item_holds, bus_holds, tree_holds, trees_hold, held_at_top, machine_holds}
 
 -- each of them
-all_true-at : (k : ℕ) (bs : List Bool) → all_true bs ≡ true → slice_index_or bs k true ≡ true
+pub all_true-at : (k : ℕ) (bs : List Bool) → all_true bs ≡ true → slice_index_or bs k true ≡ true
 all_true-at k [] h = refl
 all_true-at zero (b ∷ bs) h = (and_parts b (all_true bs) h).0
 all_true-at (suc k) (b ∷ bs) h = all_true-at k bs (and_parts b (all_true bs) h).1
@@ -114,17 +114,17 @@ range-at test zero a x h low high = absurd (let no : ⊥ = omega arith in no)
 range-at test (suc n) a x h low high =
     let parts : (test a ≡ true) × (list_all test (range_with_len (a + 1) n) ≡ true) = and_parts (test a) (list_all test (range_with_len (a + 1) n)) h in
     elim (eqb_tells a x) [
-      inl same ↦ subst (λ y. test y ≡ true) same.1 parts.0
-    | inr other ↦ range-at test n (a + 1) x parts.1 (above other.1) (omega arith)
+      | inl same ↦ subst (λ y. test y ≡ true) same.1 parts.0
+      | inr other ↦ range-at test n (a + 1) x parts.1 (above other.1) (omega arith)
     ] where
-  above : (a ≡ x → ⊥) → a + 1 ≤ x
-  above e = omega arith
+      above : (a ≡ x → ⊥) → a + 1 ≤ x
+      above e = omega arith
 
 range-each : (test : ℕ → Bool) (n a : ℕ) → ((x : ℕ) → a ≤ x → x < a + n → test x ≡ true) → list_all test (range_with_len a n) ≡ true
 range-each test zero a h = refl
 range-each test (suc n) a h = both_true (h a (omega arith) (omega arith)) (range-each test n (a + 1) (λ x low high. h x (omega arith) (omega arith)))
 
-each-from_range : (test : ℕ → Bool) (n : ℕ) → list_all test (range_with_len 0 n) ≡ true → (x : ℕ) → x < n → test x ≡ true
+pub each-from_range : (test : ℕ → Bool) (n : ℕ) → list_all test (range_with_len 0 n) ≡ true → (x : ℕ) → x < n → test x ≡ true
 each-from_range test n h x high = range-at test n 0 x h (omega arith) (omega arith)
 
 range-from_each : (test : ℕ → Bool) (n : ℕ) → ((x : ℕ) → x < n → test x ≡ true) → list_all test (range_with_len 0 n) ≡ true

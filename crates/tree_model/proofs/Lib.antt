@@ -4,4 +4,5 @@ pub mod BusTestsTell
 pub mod Refused
 pub mod StaleLoad
 pub mod OrderRulesHold
+pub mod OrderTestsTell
 pub mod Lag

@@ -1,5 +1,5 @@
 -- The rules of order as tests that compute, of one machine, and after every turn of a run.
-use Rattle.std.specs.Prelude.{ℕ, Bool, ◌&&◌, nat_eq, List, [], ◌∷◌, map, is_some}
+use Rattle.std.specs.Prelude.{ℕ, Bool, ◌&&◌, nat_eq, List, [], ◌∷◌, map, is_some, is_none}
 use Rattle.std.specs.List.{list_all, range_with_len}
 use Rattle.ddm_types.specs.declared.turns.Turn.{Turn}
 use Rattle.flat_model.specs.Flat.{FlatMachine, FlatHart, flat_hart}
@@ -21,7 +21,8 @@ use Rattle.tree_model.specs.OrderRules.{op_key, all_differ, has_leaf, is_own_key
 abbrev pub copies_pass : MachineValue → ℕ → (CopyAt → Bool) → Bool
 copies_pass m x test = list_all test (copies_of x m)
 
-abbrev before_ends : MachineValue → ℕ → LeafAt → Bool
+-- a leaf is before the ends of its entry
+abbrev pub before_ends : MachineValue → ℕ → LeafAt → Bool
 before_ends m x a = list_all (is_before_end a) (copies_of x m)
 
 -- rules 3 to 6, 9, 11 and 12, in this order
@@ -43,14 +44,15 @@ item_in_order s m x = all_true (item_order_tests s m x)
 
 -- ---- the others
 
-abbrev same_hart : MachineValue → FlatHart → LeafAt → Bool
+abbrev pub same_hart : MachineValue → FlatHart → LeafAt → Bool
 same_hart m h a = same_numbers a.leaf.hart.registers h.hart.registers && (nat_eq a.leaf.hart.pc h.hart.pc && nat_eq a.leaf.done (op_count m a.leaf.number))
 
 -- a leaf's hart has the registers and the pc of the flat machine's, and has counted its operations
 abbrev pub is_flat_hart : FlatMachine → MachineValue → LeafAt → Bool
 is_flat_hart s m a = same_hart m (flat_hart (flat_now s m) a.leaf.number) a
 
-abbrev own_keys : MachineValue → LeafAt → Bool
+-- the keys of a leaf's own operations fit it
+abbrev pub own_keys : MachineValue → LeafAt → Bool
 own_keys m a = list_all (is_own_key m a) m.ops
 
 -- rules 1, 2, 7, 8 without its halts, and 10, in this order
@@ -69,6 +71,13 @@ order_tests s m =
 -- the rules of order, without the halts of rule 8
 abbrev pub order_holds : FlatMachine → MachineValue → Bool
 order_holds s m = all_true (order_tests s m) && list_all (item_in_order s m) (range_with_len 0 (items_of_machine m))
+
+abbrev pub not_halted : LeafAt → Bool
+not_halted a = is_none a.leaf.hart.halt
+
+-- no hart has halted
+abbrev pub none_halted : MachineValue → Bool
+none_halted m = list_all not_halted (leaves_at m)
 
 -- in the machine and after every turn
 unfoldable pub run_in_order : FlatMachine → List Turn → MachineValue → Bool
