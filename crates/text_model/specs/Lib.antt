@@ -1,0 +1,6 @@
+pub mod Schedule
+pub mod Words
+pub mod Trace
+pub mod Report
+pub mod Faults
+pub mod Compute
