@@ -4,3 +4,4 @@ pub mod Trace
 pub mod Report
 pub mod Faults
 pub mod Compute
+pub mod Examples

@@ -1,6 +1,8 @@
 //! The texts that the program reads and prints, as definitions: schedules, reports, traces and the lines of faults.
 #![tactic(auto)]
 
+pub mod examples;
+
 /// Why the text of a schedule is refused.
 #[derive(Clone, Copy, Debug, PartialEq, Eq)]
 pub enum ScheduleRefusal {
