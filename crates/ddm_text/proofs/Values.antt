@@ -1,7 +1,6 @@
 -- The value of digits.
-use Rattle.std.proofs.Common.{◌≡◌, ℕ, suc, ◌+◌, ◌-◌, ◌*◌, ◌<◌, ◌≤◌, List, [], ◌∷◌, Err, length, get_or, drop, ap, sym, ◌∙◌, subst, arith, drop-cons}
-use Rattle.ddm_text.specs.Numbers.{value_from, value_of, with_digit, at_most}
-use Rattle.ddm_text.specs.declared.reading.NumberRefusal.{NumberRefusal}
+use Rattle.std.proofs.Common.{◌≡◌, ℕ, suc, ◌+◌, ◌-◌, ◌*◌, ◌<◌, ◌≤◌, List, [], ◌∷◌, Err, length, get_or, drop, ap, sym, ◌∙◌, arith, drop-cons}
+use Rattle.ddm_text.specs.Numbers.{value_from, value_of, at_most}
 use Rattle.ddm_text.specs.declared.reading.NumberRefusal.TheVariants.{TooLarge}
 
 -- digits behind a number make it no smaller

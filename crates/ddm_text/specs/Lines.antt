@@ -1,5 +1,5 @@
 -- Lines, each ended by a line feed.
-use Rattle.std.specs.Prelude.{ℕ, ◌+◌, Bool, nat_eq, nat_le, List, Option, Some, None, length, take, drop, position, if◌then◌else◌}
+use Rattle.std.specs.Prelude.{ℕ, ◌+◌, Bool, nat_eq, nat_le, List, Option, Some, None, length, take, position, if◌then◌else◌}
 use Rattle.ddm_text.specs.declared.lines.LineCut.{LineCut}
 use Rattle.ddm_text.specs.declared.lines.LineCut.TheVariants.{Line, LineTooLong, NoEndOfLine}
 

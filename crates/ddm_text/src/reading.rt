@@ -1,4 +1,4 @@
-ghost use Rattle.std.specs.Prelude.{◌≡◌, not, position};
+ghost use Rattle.std.specs.Prelude.{◌≡◌, ◌≤◌, ℕ, not, position, decimal, IfOk};
 ghost use Rattle.ddm_text.specs.Numbers.{number_stop, number_of, is_digit, at_most, value_of};
 
 /// Why bytes aren't a number.
@@ -55,7 +55,11 @@ fn value_at_most(bytes: &[u8], most: u64) -> Result<u64, NumberRefusal>
 /// Reads a decimal number: `0`, or a digit 1 to 9 followed by digits.
 #[tactic(auto, unfolding(crate::specs::Numbers::number_of))]
 pub fn read_decimal(bytes: &[u8], most: u64) -> Result<u64, NumberRefusal>
-    ensures { result ≡ number_of bytes.now most }
+    ensures number { result ≡ number_of bytes.now most }
+
+    // The bytes are the number's one spelling, and that spelling is read.
+    ensures spelled { IfOk result (λ n. bytes.now ≡ decimal n) }
+    ensures read { (n : ℕ) → n ≤ most → bytes.now ≡ decimal n → result ≡ Ok n }
 {
     match number_stop(bytes) {
         Some(place) => Err(NumberRefusal::NotANumber(place)),

@@ -1,5 +1,5 @@
 -- Lines of small runs.
-use Rattle.std.proofs.Common.{◌≡◌, ℕ, List, [], ◌∷◌, refl}
+use Rattle.std.proofs.Common.{◌≡◌, [], ◌∷◌, refl}
 use Rattle.std.specs.Prelude.{codes}
 use Rattle.text_model.specs.declared.ScheduleRefusal.TheVariants.{NoEnd}
 use Rattle.text_model.specs.Trace.{trace_text}

@@ -1,27 +1,21 @@
 -- Worked examples: small schedules, and the report and the trace of small runs.
-use Rattle.std.specs.Prelude.{◌≡◌, ℕ, ◌+◌, ◌/◌, ◌<◌, List, [], ◌∷◌, Option, Some, None, Result, Ok, Err, codes, replicate, take, length}
+use Rattle.std.specs.Prelude.{◌≡◌, ℕ, ◌+◌, ◌/◌, ◌<◌, List, [], ◌∷◌, Some, None, Ok, Err, codes, replicate, take}
 use Rattle.ddm_types.specs.declared.turns.Turn.{Turn}
 use Rattle.ddm_types.specs.declared.turns.Turn.TheVariants.{Hart, Down, Request, Reply, Leave}
 use Rattle.ddm_types.specs.declared.keys.Key.{Key}
-use Rattle.ddm_types.specs.declared.operations.HaltCause.{HaltCause}
 use Rattle.ddm_types.specs.declared.operations.HaltCause.TheVariants.{Exit, FetchOutside}
 use Rattle.ddm_types.specs.declared.operations.Effect.{Effect}
 use Rattle.ddm_types.specs.declared.operations.Effect.TheVariants.{Plain, Put, Load, Store}
 use Rattle.ddm_types.specs.declared.operations.Op.{Op}
 use Rattle.ddm_types.specs.declared.answers.TxKind.{TxKind}
 use Rattle.ddm_types.specs.declared.answers.TxKind.TheVariants.{ReadTx, DataTx, EraseTx, ExclusiveTx, InjectTx, OutTx}
-use Rattle.ddm_types.specs.declared.answers.PendingWhy.{PendingWhy}
 use Rattle.ddm_types.specs.declared.answers.PendingWhy.TheVariants.{UpErase}
-use Rattle.ddm_types.specs.declared.answers.QueueName.{QueueName}
 use Rattle.ddm_types.specs.declared.answers.QueueName.TheVariants.{Down as DownListOf}
-use Rattle.ddm_types.specs.declared.answers.BusyCause.{BusyCause}
 use Rattle.ddm_types.specs.declared.answers.BusyCause.TheVariants.{ItemPending, QueueFull, BufferFull, NoRoom}
 use Rattle.ddm_types.specs.declared.answers.Place.{Place}
 use Rattle.ddm_types.specs.declared.answers.Place.TheVariants.{Parent, Child, Parking, All, Gone, Joined, Readers}
-use Rattle.ddm_types.specs.declared.answers.LogEntry.{LogEntry}
 use Rattle.ddm_types.specs.declared.answers.TurnAnswer.{TurnAnswer}
 use Rattle.ddm_types.specs.declared.answers.TurnAnswer.TheVariants.{Retired, Issued, Waiting, Halted, Granted, Empty, Busy}
-use Rattle.ddm_types.specs.declared.sizes.LeafState.{LeafState}
 use Rattle.ddm_types.specs.declared.sizes.LeafState.TheVariants.{Shared, Exclusive}
 use Rattle.flat_model.specs.Hart.{HartValue}
 use Rattle.tree_model.specs.declared.Traffic.{Traffic}
@@ -29,7 +23,7 @@ use Rattle.text_model.specs.declared.ScheduleRefusal.{ScheduleRefusal}
 use Rattle.text_model.specs.declared.ScheduleRefusal.TheVariants.{NoEnd}
 use Rattle.text_model.specs.declared.RunCounts.{RunCounts}
 use Rattle.text_model.specs.Schedule.{ShapeView, schedule_of}
-use Rattle.text_model.specs.Report.{HartView, ItemView, CopyPlaceView, leaf_way, leaf_buffer, parked_copy, down_copy, ReportView}
+use Rattle.text_model.specs.Report.{ItemView, leaf_way, parked_copy, ReportView}
 
 -- ---- schedules
 

@@ -27,23 +27,20 @@ pub fn refused_schedules()
 
     ensures goes_on_after_end { IsRefused (codes "end\nx") 2 ScheduleRefusal.AfterEnd }
     ensures one_turn_too_many { IsRefusedAfter 1048575 (codes "h 0 0\nh 0 0\nend\n") 2 ScheduleRefusal.TooManyTurns }
-{
-}
+{}
 
 /// A schedule of eight turns.
 pub fn accepted_schedule()
     ensures read { Gives eight_turns_text eight_turns }
     ensures written { schedule_text eight_turns ≡ eight_turns_text }
-{
-}
+{}
 
 /// The reports of a machine of one leaf that stores a word and loads it back, after its run and before any turn.
 pub fn small_reports()
     ensures store_and_load_back { report_of store_and_load ≡ store_and_load_report }
     ensures in_short { summary_of store_and_load ≡ store_and_load_summary }
     ensures before_any_turn { report_of no_turns ≡ no_turns_report }
-{
-}
+{}
 
 /// Lines of reports.
 pub fn report_lines()
@@ -55,15 +52,13 @@ pub fn report_lines()
     ensures parked_item { item_line parked_item ≡ codes "item 1 00020000 00000005 00000000 00000000 00000000 bus 1 parking 0 --\n" }
     ensures op { op_line 1 first_load ≡ codes "op 0 2.0.1 00010004 load 00020000 00000005\n" }
     ensures deep_key { op_line 4 deep_op ≡ codes "op 0 1.2.3.4.5.6.7.8.9 00010000 plain\n" }
-{
-}
+{}
 
 /// The trace of one read, and of turns out of other runs.
 pub fn small_traces()
     ensures one_read { trace_text one_read_turns one_read_answers ≡ one_read_trace }
     ensures other_answers { trace_text other_turns other_answers ≡ other_trace }
-{
-}
+{}
 
 /// Lines of faults.
 pub fn fault_lines()
@@ -74,5 +69,4 @@ pub fn fault_lines()
     ensures unknown_key { unknown_key_fault (codes "a cache") ≡ codes "ddm: tree: unknown key a?cache\n" }
     ensures schedule { schedule_fault 2 ScheduleRefusal.NoEnd ≡ codes "ddm: schedule line 2: no end\n" }
     ensures unreadable { read_fault (codes "schedule") ≡ codes "ddm: cannot read the schedule\n" }
-{
-}
+{}

@@ -7,6 +7,6 @@ pub returns-then-most-digit : goal.returns-then-most-digit
 returns-then-most-digit c =
     let l = c.digits in
     elim c.then-most-digit.branch [
-      then-most-digit-via-then-most-digit w ↦ at_most-next c.args.most l.value l.byte-index c.args.bytes.now (omega arith) l.invariant.rest (omega arith)
-    | then-most-digit-via-else-most-digit+then-most-digit-2 w ↦ at_most-next c.args.most l.value l.byte-index c.args.bytes.now (omega arith) l.invariant.rest (omega arith)
+      | then-most-digit-via-then-most-digit w ↦ at_most-next c.args.most l.value l.byte-index c.args.bytes.now (omega arith) l.invariant.rest (omega arith)
+      | then-most-digit-via-else-most-digit+then-most-digit-2 w ↦ at_most-next c.args.most l.value l.byte-index c.args.bytes.now (omega arith) l.invariant.rest (omega arith)
     ]
