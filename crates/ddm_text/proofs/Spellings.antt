@@ -10,7 +10,7 @@ use Rattle.ddm_text.specs.declared.reading.NumberRefusal.TheVariants.{NotANumber
 use Rattle.ddm_text.specs.Numbers.{is_digit, number_stop, stop_after_zero, value_from, value_of, at_most, unless_stopped, number_of}
 
 -- all bytes are digits
-abbrev AreDigits : List ℕ → Type 0
+abbrev pub AreDigits : List ℕ → Type 0
 AreDigits bytes = list_all is_digit bytes ≡ true
 
 own : IsNumeralModel AreDigits (value_from 0)
@@ -109,6 +109,9 @@ number_of-decimal n most within small =
     ap (λ stop. unless_stopped stop (at_most most (value_of (decimal n)))) (number_stop-decimal n fits)
     ∙ ap (λ value. at_most most value) (digits_value-decimal own n fits)
     ∙ at_most-within most n within
+
+pub AreDigits-decimal : (n : ℕ) → n < 2 ^ 64 → AreDigits (decimal n)
+AreDigits-decimal n small = digits_decimal own n small
 
 -- ---- the answer of `read_decimal`
 

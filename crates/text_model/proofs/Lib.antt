@@ -1,2 +1,5 @@
+pub mod Pieces
+pub mod TurnTexts
+pub mod ReadBack
 pub mod Schedules
 pub mod Reports

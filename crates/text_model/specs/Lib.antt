@@ -4,4 +4,5 @@ pub mod Trace
 pub mod Report
 pub mod Faults
 pub mod Compute
+pub mod ReadBack
 pub mod Examples
