@@ -1,15 +1,12 @@
 -- The pieces of a text that is put together from pieces.
-use Rattle.std.proofs.Common.{◌≡◌, ℕ, ◌+◌, ◌^◌, ◌<◌, Bool, true, false, not, cond, ◌&&◌, nat_eq, List, [], ◌∷◌, ◌++◌, decimal, refl, sym, ap, ◌∙◌, subst}
+use Rattle.std.proofs.Common.{◌≡◌, ℕ, ◌^◌, ◌<◌, Bool, true, false, not, cond, ◌&&◌, nat_eq, List, [], ◌∷◌, ◌++◌, decimal, refl, sym, ap, ◌∙◌}
 use Rattle.std.specs.List.{list_all}
 use Rattle.std.proofs.lemmas.Bool.{eqb-true}
 use Rattle.std.proofs.lemmas.List.Folds.{list_all-append}
 use Rattle.ddm_text.specs.Numbers.{is_digit}
 use Rattle.ddm_text.proofs.Spellings.{AreDigits, AreDigits-decimal}
 use Rattle.text_model.specs.Schedule.{with_byte_before, pieces_at}
-
--- no byte of the text is the separator
-abbrev pub Lacks : ℕ → List ℕ → Type 0
-Lacks separator text = list_all (λ byte. not (nat_eq byte separator)) text ≡ true
+use Rattle.text_model.specs.Lines.{Lacks}
 
 both : (a b : Bool) → (a && b) ≡ true → (a ≡ true) × (b ≡ true)
 both true b e = (refl, e)

@@ -1,15 +1,14 @@
 -- The text of turns is read back.
-use Rattle.std.proofs.Common.{◌≡◌, ℕ, ◌+◌, ◌<◌, ◌≤◌, Bool, true, false, cond, nat_lt, List, [], ◌∷◌, ◌++◌, length, Option, Some, None, refl, ap, ◌∙◌, append_assoc, arith}
+use Rattle.std.proofs.Common.{◌≡◌, ℕ, ◌+◌, ◌<◌, ◌≤◌, cond, List, [], ◌∷◌, ◌++◌, length, Some, None, refl, ap, ◌∙◌, append_assoc, arith}
 use Rattle.std.specs.Prelude.{codes, All, flat_map}
 use Rattle.std.proofs.lemmas.Bool.{lt-ltb}
 use Rattle.std.proofs.lemmas.List.Elements.{All-tail}
 use Rattle.ddm_types.specs.declared.turns.Turn.{Turn}
-use Rattle.text_model.specs.declared.ScheduleRefusal.{ScheduleRefusal}
 use Rattle.text_model.specs.declared.ScheduleRefusal.TheVariants.{TooManyTurns}
-use Rattle.text_model.specs.Schedule.{ShapeView, turn_text, turn_line, turn_lines, schedule_text, pieces_at, meaning_of, LineMeaning, turn_fault, turn_limit, refusal_of_turn, Reading, at_end, with_turn, unless_refused, line_reading, reading_from, reading_of, finished, schedule_of}
+use Rattle.text_model.specs.Schedule.{ShapeView, turn_text, turn_line, turn_lines, schedule_text, pieces_at, meaning_of, turn_fault, refusal_of_turn, Reading, at_end, with_turn, unless_refused, line_reading, reading_from, reading_of, finished, schedule_of}
 use Rattle.text_model.specs.ReadBack.{IsTurnOf, IsSmallShape, IsReadBack}
 use Rattle.text_model.proofs.Pieces.{pieces_at-append}
-use Rattle.text_model.proofs.TurnTexts.{IsShort, IsShort-IsTurnOf, meaning_of-turn_text, Lacks-turn_text}
+use Rattle.text_model.proofs.TurnTexts.{IsShort-IsTurnOf, meaning_of-turn_text, Lacks-turn_text}
 
 -- the lines of a schedule, and the empty piece behind them
 abbrev all_lines : List Turn → List (List ℕ)
@@ -25,8 +24,8 @@ pieces_at-schedule_text shape [] small all = refl
 pieces_at-schedule_text shape (turn ∷ turns) small all =
     let short = IsShort-IsTurnOf shape turn small (first_of shape turn turns all) in
     ap (λ t. pieces_at 10 t)
-        (append_assoc (turn_text turn ++ 10 ∷ []) (flat_map turn_line turns) (codes "end\n")
-        ∙ append_assoc (turn_text turn) (10 ∷ []) (flat_map turn_line turns ++ codes "end\n"))
+    (append_assoc (turn_text turn ++ 10 ∷ []) (flat_map turn_line turns) (codes "end\n")
+    ∙ append_assoc (turn_text turn) (10 ∷ []) (flat_map turn_line turns ++ codes "end\n"))
     ∙ pieces_at-append 10 (turn_text turn) (schedule_text turns) refl (Lacks-turn_text turn short)
     ∙ ap (λ ps. turn_text turn ∷ ps) (pieces_at-schedule_text shape turns small (All-tail (IsTurnOf shape) turn turns all))
 
@@ -39,10 +38,15 @@ line_reading-turn shape line made turn next pieces more small of room =
     ap (λ m. line_reading shape line made m next pieces more) (meaning_of-turn_text turn (IsShort-IsTurnOf shape turn small of))
     ∙ ap (λ o. unless_refused line o (with_turn turn more)) (not_refused shape made turn of room)
 
-abbrev whole : List Turn → Reading
-whole turns = record { turns = turns; standing = at_end }
+-- the line behind `end`, where the turns begin in a line
+abbrev line_behind : ℕ → List Turn → ℕ
+line_behind line [] = line + 1
+line_behind line (turn ∷ turns) = line_behind (line + 1) turns
 
-reading_from-all_lines : (shape : ShapeView) (line made : ℕ) (turns : List Turn) → IsSmallShape shape → All (IsTurnOf shape) turns → made + length turns ≤ 1048576 → reading_from shape line made (all_lines turns) ≡ whole turns
+abbrev whole : ℕ → List Turn → Reading
+whole line turns = record { turns = turns; standing = at_end (line_behind line turns) }
+
+reading_from-all_lines : (shape : ShapeView) (line made : ℕ) (turns : List Turn) → IsSmallShape shape → All (IsTurnOf shape) turns → made + length turns ≤ 1048576 → reading_from shape line made (all_lines turns) ≡ whole line turns
 unfolding reading_from meaning_of
 reading_from-all_lines shape line made [] small all room = refl
 reading_from-all_lines shape line made (turn ∷ []) small all room =

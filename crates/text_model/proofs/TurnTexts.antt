@@ -1,5 +1,5 @@
 -- The text of a turn is one line that says that turn.
-use Rattle.std.proofs.Common.{◌≡◌, ℕ, ◌+◌, ◌^◌, ◌<◌, ◌≤◌, ◌*◌, Bool, true, false, cond, nat_lt, List, [], ◌∷◌, ◌++◌, length, Option, Some, None, Result, Ok, Err, decimal, refl, sym, ap, ◌∙◌, subst, append_assoc, length-append, arith}
+use Rattle.std.proofs.Common.{◌≡◌, ℕ, ◌^◌, ◌<◌, ◌≤◌, Bool, true, false, cond, nat_lt, List, [], ◌∷◌, ◌++◌, length, Option, Some, None, decimal, refl, ap, ◌∙◌, subst, append_assoc, length-append, arith}
 use Rattle.std.specs.Prelude.{codes, bytes_eq, slice_get}
 use Rattle.std.specs.Result.{result_ok}
 use Rattle.std.proofs.lemmas.Fmt.{length-decimal-le}
@@ -10,10 +10,10 @@ use Rattle.text_model.specs.declared.ScheduleRefusal.TheVariants.{NoSuchHart, No
 use Rattle.text_model.specs.ReadBack.{IsTurnOf, IsSmallShape}
 use Rattle.ddm_types.specs.declared.turns.Turn.{Turn}
 use Rattle.ddm_types.specs.declared.turns.Turn.TheVariants.{Hart, Down, Request, Reply, Leave}
-use Rattle.ddm_text.specs.Numbers.{number_of}
 use Rattle.ddm_text.proofs.Spellings.{number_of-decimal}
-use Rattle.text_model.specs.Schedule.{ShapeView, turn_fault, child_fault, turn_text, pieces_at, number_in, place_in, choice_in, turn_of_words, meaning_of, LineMeaning, turn_line_of, end_line, no_line, hart_turn_of, down_turn_of, request_turn_of, reply_turn_of, leave_turn_of, line_of_turn, line_limit}
-use Rattle.text_model.proofs.Pieces.{Lacks, Lacks-append, Lacks-decimal, pieces_at-whole, pieces_at-separator, pieces_at-append}
+use Rattle.text_model.specs.Schedule.{ShapeView, turn_fault, child_fault, turn_text, pieces_at, number_in, place_in, choice_in, turn_of_words, meaning_of, LineMeaning, turn_line_of, end_line, no_line, hart_turn_of, down_turn_of, request_turn_of, reply_turn_of, leave_turn_of, line_of_turn}
+use Rattle.text_model.specs.Lines.{Lacks}
+use Rattle.text_model.proofs.Pieces.{Lacks-append, Lacks-decimal, pieces_at-whole, pieces_at-append}
 
 -- the numbers of a turn have at most three digits
 abbrev pub IsShort : Turn → Type 0
@@ -85,9 +85,9 @@ pieces_at-turn_text (Reply bus child) short =
     ∙ ap (λ ps. (103 ∷ []) ∷ decimal bus ∷ (114 ∷ []) ∷ ps) (last_number child short.1)
 pieces_at-turn_text (Leave bus child choice) short =
     ap (λ t. pieces_at 32 (103 ∷ 32 ∷ t))
-        (ap (λ u. (u ++ 32 ∷ []) ++ decimal choice) (append_assoc (decimal bus) (32 ∷ 108 ∷ 32 ∷ []) (decimal child))
-        ∙ append_assoc (decimal bus ++ 32 ∷ 108 ∷ 32 ∷ decimal child) (32 ∷ []) (decimal choice)
-        ∙ append_assoc (decimal bus) (32 ∷ 108 ∷ 32 ∷ decimal child) (32 ∷ decimal choice))
+    (ap (λ u. (u ++ 32 ∷ []) ++ decimal choice) (append_assoc (decimal bus) (32 ∷ 108 ∷ 32 ∷ []) (decimal child))
+    ∙ append_assoc (decimal bus ++ 32 ∷ 108 ∷ 32 ∷ decimal child) (32 ∷ []) (decimal choice)
+    ∙ append_assoc (decimal bus) (32 ∷ 108 ∷ 32 ∷ decimal child) (32 ∷ decimal choice))
     ∙ child_words 108 bus (decimal child ++ 32 ∷ decimal choice) refl short.0
     ∙ ap (λ ps. (103 ∷ []) ∷ decimal bus ∷ (108 ∷ []) ∷ ps) (two_numbers child choice short.1 (omega (arith, short.2)))
 
@@ -167,10 +167,10 @@ Lacks-turn_text (Reply bus child) short =
     Lacks-append 10 (103 ∷ 32 ∷ (decimal bus ++ 32 ∷ 114 ∷ 32 ∷ [])) (decimal child) (Lacks-number 103 bus (32 ∷ 114 ∷ 32 ∷ []) refl short.0 refl) (lacks_line_feed child short.1)
 Lacks-turn_text (Leave bus child choice) short =
     Lacks-append 10 (((103 ∷ 32 ∷ (decimal bus ++ 32 ∷ 108 ∷ 32 ∷ [])) ++ decimal child) ++ 32 ∷ []) (decimal choice)
-        (Lacks-append 10 ((103 ∷ 32 ∷ (decimal bus ++ 32 ∷ 108 ∷ 32 ∷ [])) ++ decimal child) (32 ∷ [])
-            (Lacks-append 10 (103 ∷ 32 ∷ (decimal bus ++ 32 ∷ 108 ∷ 32 ∷ [])) (decimal child) (Lacks-number 103 bus (32 ∷ 108 ∷ 32 ∷ []) refl short.0 refl) (lacks_line_feed child short.1))
-            refl)
-        (lacks_line_feed choice (omega (arith, short.2)))
+    (Lacks-append 10 ((103 ∷ 32 ∷ (decimal bus ++ 32 ∷ 108 ∷ 32 ∷ [])) ++ decimal child) (32 ∷ [])
+    (Lacks-append 10 (103 ∷ 32 ∷ (decimal bus ++ 32 ∷ 108 ∷ 32 ∷ [])) (decimal child) (Lacks-number 103 bus (32 ∷ 108 ∷ 32 ∷ []) refl short.0 refl) (lacks_line_feed child short.1))
+    refl)
+    (lacks_line_feed choice (omega (arith, short.2)))
 
 -- ---- a turn of a small tree
 

@@ -4,5 +4,6 @@ pub mod Trace
 pub mod Report
 pub mod Faults
 pub mod Compute
+pub mod Lines
 pub mod ReadBack
 pub mod Examples

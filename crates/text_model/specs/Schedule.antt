@@ -158,10 +158,11 @@ refusal_of_turn shape made turn = if nat_lt made turn_limit then turn_fault shap
 
 -- ---- a text
 
--- How far a text has come: in a line that isn't whole, at its end, or refused in a line. Lines are counted from 1.
+-- How far a text has come: in a line that isn't whole, at its end, which is the front of this line, or refused in a line.
+-- Lines are counted from 1.
 pub data Standing : Type 0 where
   in_line : ℕ → Standing
-  at_end : Standing
+  at_end : ℕ → Standing
   refused_at : ℕ → ScheduleRefusal → Standing
 
 -- the turns of the lines before that, and how far the text has come
@@ -177,7 +178,7 @@ with_turn turn more = record { turns = turn ∷ more.turns; standing = more.stan
 
 -- what follows the line `end`: the last piece must be empty
 abbrev pub after_end : ℕ → List ℕ → List (List ℕ) → Reading
-after_end line [] [] = nothing_but at_end
+after_end line [] [] = nothing_but (at_end line)
 after_end line [] (piece ∷ pieces) = nothing_but (refused_at line AfterEnd)
 after_end line (byte ∷ bytes) pieces = nothing_but (refused_at line AfterEnd)
 
@@ -208,9 +209,45 @@ reading_of shape made text = reading_from shape 1 made (pieces_at 10 text)
 -- where no more bytes come: the turns, or the line and the refusal
 abbrev pub finished : List Turn → Standing → Result (List Turn) (ℕ × ScheduleRefusal)
 finished turns (in_line line) = Err (line, NoEnd)
-finished turns at_end = Ok turns
+finished turns (at_end line) = Ok turns
 finished turns (refused_at line refusal) = Err (line, refusal)
 
 -- the turns that a whole text gives for a tree, or its first refusal
 unfoldable pub schedule_of : ShapeView → ℕ → List ℕ → Result (List Turn) (ℕ × ScheduleRefusal)
 schedule_of shape made text = let reading = reading_of shape made text in finished reading.turns reading.standing
+
+-- ---- a text in parts
+
+abbrev pub last_piece : List (List ℕ) → List ℕ
+last_piece [] = []
+last_piece (piece ∷ []) = piece
+last_piece (piece ∷ next ∷ pieces) = last_piece (next ∷ pieces)
+
+-- the bytes of a text's last line, which has no line feed
+unfoldable pub held_of : List ℕ → List ℕ
+held_of text = last_piece (pieces_at 10 text)
+
+-- a text from a line on, when `made` turns are there
+abbrev pub reading_on : ShapeView → ℕ → ℕ → List ℕ → Reading
+reading_on shape line made text = reading_from shape line made (pieces_at 10 text)
+
+abbrev pub with_turns : List Turn → Reading → Reading
+with_turns turns more = record { turns = turns ++ more.turns; standing = more.standing }
+
+-- more bytes behind the end
+abbrev pub end_with : ℕ → List ℕ → Standing
+end_with line [] = at_end line
+end_with line (byte ∷ bytes) = refused_at line AfterEnd
+
+-- a line that says this, with the bytes behind its line feed
+abbrev pub reading_of_line : ShapeView → ℕ → ℕ → LineMeaning → List ℕ → Reading
+reading_of_line shape line made (turn_line_of turn) more = unless_refused line (refusal_of_turn shape made turn) (with_turn turn (reading_on shape (line + 1) (made + 1) more))
+reading_of_line shape line made end_line more = nothing_but (end_with (line + 1) more)
+reading_of_line shape line made no_line more = nothing_but (refused_at line BadTurn)
+
+-- turns that a text has given so far, and how far it has come, with more bytes behind: `made` turns were there before
+-- those, and `held` are the bytes of the last line
+unfoldable pub resumed : ShapeView → ℕ → List ℕ → List ℕ → List Turn → Standing → Reading
+resumed shape made held more turns (in_line line) = with_turns turns (reading_on shape line (made + length turns) (held ++ more))
+resumed shape made held more turns (at_end line) = record { turns = turns; standing = end_with line more }
+resumed shape made held more turns (refused_at line refusal) = record { turns = turns; standing = refused_at line refusal }

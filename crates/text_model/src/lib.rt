@@ -2,6 +2,7 @@
 #![tactic(auto)]
 
 pub mod examples;
+pub mod laws;
 
 /// Why the text of a schedule is refused.
 #[derive(Clone, Copy, Debug, PartialEq, Eq)]
