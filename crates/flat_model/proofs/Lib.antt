@@ -5,3 +5,5 @@ pub mod Runs
 pub mod Steps
 pub mod Frames
 pub mod Items
+pub mod Insert
+pub mod Reserving

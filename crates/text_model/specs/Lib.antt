@@ -7,3 +7,6 @@ pub mod Compute
 pub mod Lines
 pub mod ReadBack
 pub mod Examples
+pub mod Seeded
+pub mod Run
+pub mod Computing

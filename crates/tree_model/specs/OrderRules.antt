@@ -9,11 +9,11 @@ use Rattle.ddm_types.specs.declared.keys.Stamp.{Stamp}
 use Rattle.ddm_types.specs.declared.keys.Key.{Key}
 use Rattle.ddm_types.specs.declared.operations.Op.{Op}
 use Rattle.ddm_types.specs.Keys.{stamp_numbers, key_numbers}
-use Rattle.flat_model.specs.Flat.{FlatMachine, flat_hart, item_words, flat_step}
+use Rattle.flat_model.specs.Flat.{FlatMachine, flat_hart, item_words, flat_step, has_reserved}
 use Rattle.flat_model.specs.Legal.{on_item, changes_item, Legal, flat_after}
 use Rattle.tree_model.specs.Values.{DownValue, LeafValue, MachineValue}
 use Rattle.tree_model.specs.States.{is_held, is_exclusive}
-use Rattle.tree_model.specs.Leaf.{leaf_hold, is_item}
+use Rattle.tree_model.specs.Leaf.{leaf_hold}
 use Rattle.tree_model.specs.Directory.{dir_hold, queue_of}
 use Rattle.tree_model.specs.OwnRules.{implies, are_zero}
 use Rattle.tree_model.specs.BusRules.{items_of_machine}
@@ -201,7 +201,7 @@ exclusive_side m x c =
 
 abbrev pub reservation_holds : FlatMachine → MachineValue → LeafAt → Option ℕ → Bool
 reservation_holds s m a None = true
-reservation_holds s m a (Some x) = is_held (leaf_hold x a.leaf) && is_item x (reserved_until s m a.leaf.number a.now)
+reservation_holds s m a (Some x) = is_held (leaf_hold x a.leaf) && has_reserved (reserved_until s m a.leaf.number a.now) x
 
 -- a leaf that has reserved an item has words of it, and the flat machine has it reserved for the leaf's hart at this moment
 abbrev pub keeps_reservation : FlatMachine → MachineValue → LeafAt → Bool
