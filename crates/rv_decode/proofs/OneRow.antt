@@ -1,9 +1,9 @@
 -- A word fits at most one row of the table.
-use Rattle.std.proofs.Common.{◌≡◌, ℕ, zero, suc, ◌+◌, ◌/◌, ◌%◌, ◌^◌, ◌<◌, Bool, true, false, not, ◌&&◌, ◌||◌, nat_eq, List, [], ◌∷◌, length, slice_index_or, Option, Some, None, refl, sym, ap, subst, ◌∙◌, arith, ◌↔◌}
+use Rattle.std.proofs.Common.{◌≡◌, ℕ, zero, suc, ◌%◌, ◌<◌, Bool, true, false, not, ◌&&◌, ◌||◌, nat_eq, List, [], ◌∷◌, length, slice_index_or, Some, refl, ap, subst, ◌∙◌, arith, ◌↔◌}
 use Rattle.std.specs.Prelude.{Contains, IsTrue, if◌then◌else◌}
 use Rattle.std.specs.List.{list_all, list_any}
 use Rattle.rv_decode.specs.declared.instructions.Instr.{Instr}
-use Rattle.rv_decode.specs.Table.{field, Fixed, Row, table, has_field, fits, decode_by, decode_of, Decodes}
+use Rattle.rv_decode.specs.Table.{Fixed, Row, table, has_field, fits, decode_by, decode_of, Decodes}
 
 -- two fixed fields that no word has both: other values of the same bits, or a whole word with another opcode
 abbrev clash : Fixed → Fixed → Bool
@@ -19,7 +19,7 @@ clash_whole_no : (w : ℕ) (f g : Fixed) → clash_whole f g ≡ true → has_fi
 clash_whole_no w f g c hf hg = grind arith
 
 -- two fields of two rows
-abbrev apart_fields : Fixed → Fixed → Bool
+abbrev pub apart_fields : Fixed → Fixed → Bool
 apart_fields f g = clash f g || (clash_whole f g || clash_whole g f)
 
 apart_fields_no : (w : ℕ) (f g : Fixed) → apart_fields f g ≡ true → has_field w f ≡ true → has_field w g ≡ true → ⊥
@@ -31,7 +31,7 @@ apart_fields_no w f g c hf hg = go (clash f g) (clash_whole f g) (clash_whole g 
   go false false false ea eb ed c = grind arith
 
 -- a field that is apart from one of these
-abbrev apart_from : Fixed → List Fixed → Bool
+abbrev pub apart_from : Fixed → List Fixed → Bool
 apart_from f gs = list_any (apart_fields f) gs
 
 apart_from_no : (w : ℕ) (f : Fixed) (gs : List Fixed) → apart_from f gs ≡ true → has_field w f ≡ true → list_all (has_field w) gs ≡ true → ⊥
@@ -42,10 +42,10 @@ apart_from_no w f (g ∷ gs) c hf hg = go (apart_fields f g) (has_field w g) ref
   go true true ea eb c hg rest = apart_fields_no w f g ea hf eb
   go false true ea eb c hg rest = rest c hg
 
-abbrev apart : List Fixed → List Fixed → Bool
+abbrev pub apart : List Fixed → List Fixed → Bool
 apart fs gs = list_any (λ f. apart_from f gs) fs
 
-apart_no : (w : ℕ) (fs gs : List Fixed) → apart fs gs ≡ true → list_all (has_field w) fs ≡ true → list_all (has_field w) gs ≡ true → ⊥
+pub apart_no : (w : ℕ) (fs gs : List Fixed) → apart fs gs ≡ true → list_all (has_field w) fs ≡ true → list_all (has_field w) gs ≡ true → ⊥
 apart_no w [] gs c hf hg = grind arith
 apart_no w (f ∷ fs) gs c hf hg = go (apart_from f gs) (has_field w f) refl refl c hf (λ c hf. apart_no w fs gs c hf hg) where
   go : (a b : Bool) → apart_from f gs ≡ a → has_field w f ≡ b → (a || apart fs gs) ≡ true → (b && list_all (has_field w) fs) ≡ true → (apart fs gs ≡ true → list_all (has_field w) fs ≡ true → ⊥) → ⊥
