@@ -1,0 +1,101 @@
+-- A hart's step put before steps of other harts: they stay steps with the same effects, where none of them is on the item that it stores to.
+use Rattle.std.proofs.Common.{◌≡◌, ◌≢◌, ℕ, ◌<◌, Bool, true, false, ◌&&◌, ◌⊎◌, inl, inr, List, [], ◌∷◌, length, Option, Some, None, Ok, Err, refl, sym, ap, subst, ◌∙◌, arith}
+use Rattle.std.proofs.lemmas.Bool.{eqb-true}
+use Rattle.std.specs.Prelude.{Result, if◌then◌else◌}
+use Rattle.ddm_types.specs.declared.operations.HaltCause.{HaltCause}
+use Rattle.ddm_types.specs.declared.operations.Effect.{Effect}
+use Rattle.ddm_types.specs.declared.operations.Op.{Op}
+use Rattle.ddm_types.specs.CodeMap.{CodeWord}
+use Rattle.ddm_types.specs.ItemTable.{ItemTable}
+use Rattle.flat_model.specs.declared.Ask.{Ask}
+use Rattle.flat_model.specs.declared.Ask.TheVariants.{Plain, Put, NeedsShared, NeedsExclusive, Conditional, Halt}
+use Rattle.flat_model.specs.Hart.{HartValue, Finished, ask_of, finish_of}
+use Rattle.flat_model.specs.Flat.{FlatHart, FlatMachine, FlatStepped, Stored, Change, flat_hart, item_words, has_reserved, leaving, storing_to, conditional, change_by, unless_halted, asked_item, hart_step, with_change, stepped, flat_step}
+use Rattle.flat_model.specs.Legal.{effect_item, on_item, is_change, is_sc_ok, HasWholeWords, legal_step, legal_run}
+use Rattle.flat_model.proofs.Items.{FollowsAsk, step_follows}
+use Rattle.flat_model.proofs.Steps.{finish_failing}
+
+-- an effect that isn't on the item, if there is one
+abbrev pub NotOn : ItemTable → Option ℕ → Effect → Type 0
+NotOn items x effect = (y : ℕ) → x ≡ Some y → effect_item items effect ≢ Some y
+
+-- two reservations of a hart: the same, or the first is of the item and the second is none
+abbrev pub SameReserved : Option ℕ → Option ℕ → Option ℕ → Type 0
+SameReserved x ra rb = (ra ≡ rb) ⊎ ((ra ≡ x) × (rb ≡ None))
+
+-- an answer that is like this change
+abbrev pub AnswersLike : Option ℕ → Result Change HaltCause → Change → Type 0
+AnswersLike x r c = (d : Change) × (r ≡ Ok d) × (d.effect ≡ c.effect) × (d.after.hart ≡ c.after.hart) × SameReserved x c.after.reserved d.after.reserved × (d.stored ≡ c.stored)
+
+abbrev FailsAlike : Ask → (List ℕ → Bool → Finished) → Type 0
+FailsAlike ask finish = (y : ℕ) → ask ≡ Conditional y → (ws ws' : List ℕ) → ((finish ws false).effect ≡ (finish ws' false).effect) × ((finish ws false).hart ≡ (finish ws' false).hart)
+
+shared_elsewhere : (items : ItemTable) (x : Option ℕ) (y : ℕ) (lr : Bool) (c : Change) → FollowsAsk items (NeedsShared y lr) c → NotOn items x c.effect → Some y ≢ x
+shared_elsewhere items x y lr c (e, inl i) off at = off y (sym at) i
+shared_elsewhere items x y lr c (e, inr i) off at = grind arith
+
+exclusive_elsewhere : (items : ItemTable) (x : Option ℕ) (y : ℕ) (c : Change) → FollowsAsk items (NeedsExclusive y) c → NotOn items x c.effect → Some y ≢ x
+exclusive_elsewhere items x y c (e, inl i) off at = off y (sym at) i
+exclusive_elsewhere items x y c (e, inr i) off at = grind arith
+
+stored_elsewhere : (items : ItemTable) (x : Option ℕ) (y : ℕ) (c : Change) (s : Stored) → c.stored ≡ Some s → FollowsAsk items (Conditional y) c → NotOn items x c.effect → Some y ≢ x
+stored_elsewhere items x y c s k (e, inl i) off at = off y (sym at) i
+stored_elsewhere items x y c s k (e, inr i) off at = grind arith
+
+same_reserved_if : (x : Option ℕ) (y : ℕ) (lr : Bool) (ra rb : Option ℕ) → SameReserved x ra rb → SameReserved x (if lr then Some y else ra) (if lr then Some y else rb)
+same_reserved_if x y true ra rb same = inl refl
+same_reserved_if x y false ra rb same = same
+
+has_alike : (x : Option ℕ) (y : ℕ) (ra rb : Option ℕ) → SameReserved x ra rb → Some y ≢ x → has_reserved ra y ≡ true → has_reserved rb y ≡ true
+has_alike x y ra rb (inl e) off h = rw e at h
+has_alike x y None rb (inr e) off h = grind arith
+has_alike x y (Some z) rb (inr e) off h = absurd (off (ap Some (sym (eqb-true z y h)) ∙ e.0))
+
+hasnt_alike : (x : Option ℕ) (y : ℕ) (ra rb : Option ℕ) → SameReserved x ra rb → has_reserved ra y ≡ false → has_reserved rb y ≡ false
+hasnt_alike x y ra rb (inl e) h = rw e at h
+hasnt_alike x y ra rb (inr e) h = rw e.1 refl
+
+is_ok : (known c : Change) → (let r : Result Change HaltCause = Ok known in r ≡ Ok c) → known ≡ c
+is_ok known c e = grind arith
+
+conditional_alike : (items : ItemTable) (x : Option ℕ) (y : ℕ) (finish : List ℕ → Bool → Finished) (wa wb : ℕ → List ℕ) (a b : Bool) → (a ≡ true → Some y ≢ x → b ≡ true) → (a ≡ false → b ≡ false) → ((z : ℕ) → Some z ≢ x → wa z ≡ wb z) → FailsAlike (Conditional y) finish → (c : Change) → conditional a y (finish (wa y)) ≡ c → FollowsAsk items (Conditional y) c → NotOn items x c.effect → AnswersLike x (Ok (conditional b y (finish (wb y)))) c
+conditional_alike items x y finish wa wb true b holds lapses words fails c e f off =
+    let away : Some y ≢ x = stored_elsewhere items x y c (record { item = y; words = (finish (wa y) true).words }) (sym (ap (λ (k : Change). k.stored) e)) f off in
+    let P : Change → Type 0 = AnswersLike x (Ok (conditional b y (finish (wb y)))) in
+    subst P e (rw (holds refl away) (rw (words y away) (storing_to y (finish (wb y) true) None, refl, refl, refl, inl refl, refl)))
+conditional_alike items x y finish wa wb false b holds lapses words fails c e f off =
+    let P : Change → Type 0 = AnswersLike x (Ok (conditional b y (finish (wb y)))) in
+    let same = fails y refl (wb y) (wa y) in
+    subst P e (rw (lapses refl) (leaving (finish (wb y) false) None, refl, same.0, same.1, inl refl, refl))
+
+change_alike : (items : ItemTable) (x : Option ℕ) (ask : Ask) (ra rb : Option ℕ) (finish : List ℕ → Bool → Finished) (wa wb : ℕ → List ℕ) (sc_ok : Bool) → SameReserved x ra rb → ((z : ℕ) → Some z ≢ x → wa z ≡ wb z) → FailsAlike ask finish → (c : Change) → change_by ask ra finish wa sc_ok ≡ Ok c → FollowsAsk items ask c → NotOn items x c.effect → AnswersLike x (change_by ask rb finish wb sc_ok) c
+change_alike items x Plain ra rb finish wa wb sc_ok same words fails c e f off =
+    let P : Change → Type 0 = AnswersLike x (change_by Plain rb finish wb sc_ok) in
+    subst P (is_ok (leaving (finish [] false) ra) c e) (leaving (finish [] false) rb, refl, refl, refl, same, refl)
+change_alike items x (Put byte) ra rb finish wa wb sc_ok same words fails c e f off =
+    let P : Change → Type 0 = AnswersLike x (change_by (Put byte) rb finish wb sc_ok) in
+    subst P (is_ok (leaving (finish [] false) ra) c e) (leaving (finish [] false) rb, refl, refl, refl, same, refl)
+change_alike items x (NeedsShared y lr) ra rb finish wa wb sc_ok same words fails c e f off =
+    let P : Change → Type 0 = AnswersLike x (change_by (NeedsShared y lr) rb finish wb sc_ok) in
+    subst P (is_ok (leaving (finish (wa y) false) (if lr then Some y else ra)) c e) (rw (words y (shared_elsewhere items x y lr c f off)) (leaving (finish (wb y) false) (if lr then Some y else rb), refl, refl, refl, same_reserved_if x y lr ra rb same, refl))
+change_alike items x (NeedsExclusive y) ra rb finish wa wb sc_ok same words fails c e f off =
+    let P : Change → Type 0 = AnswersLike x (change_by (NeedsExclusive y) rb finish wb sc_ok) in
+    subst P (is_ok (storing_to y (finish (wa y) false) ra) c e) (rw (words y (exclusive_elsewhere items x y c f off)) (storing_to y (finish (wb y) false) rb, refl, refl, refl, same, refl))
+change_alike items x (Conditional y) ra rb finish wa wb sc_ok same words fails c e f off =
+    conditional_alike items x y finish wa wb (sc_ok && has_reserved ra y) (sc_ok && has_reserved rb y) (holds sc_ok) (lapses sc_ok) words fails c (is_ok (conditional (sc_ok && has_reserved ra y) y (finish (wa y))) c e) f off where
+      holds : (sc : Bool) → (sc && has_reserved ra y) ≡ true → Some y ≢ x → (sc && has_reserved rb y) ≡ true
+      holds true h away = has_alike x y ra rb same away h
+      holds false h away = h
+
+      lapses : (sc : Bool) → (sc && has_reserved ra y) ≡ false → (sc && has_reserved rb y) ≡ false
+      lapses true h = hasnt_alike x y ra rb same h
+      lapses false h = refl
+change_alike items x (Halt cause) ra rb finish wa wb sc_ok same words fails c e f off = grind arith
+
+-- the step of a hart, where its reservation and the words of that item may differ
+pub step_alike : (code : List CodeWord) (items : ItemTable) (x : Option ℕ) (h : HartValue) (ra rb : Option ℕ) (wa wb : ℕ → List ℕ) (sc_ok : Bool) → HasWholeWords items → SameReserved x ra rb → ((z : ℕ) → Some z ≢ x → wa z ≡ wb z) → (c : Change) → hart_step code items (record { hart = h; reserved = ra }) wa sc_ok ≡ Ok c → NotOn items x c.effect → AnswersLike x (hart_step code items (record { hart = h; reserved = rb }) wb sc_ok) c
+unfolding hart_step
+step_alike code items x h ra rb wa wb sc_ok whole same words c e off = go h.halt e where
+  go : (halt : Option HaltCause) → unless_halted halt (change_by (ask_of code items h) ra (finish_of code items h) wa sc_ok) ≡ Ok c → AnswersLike x (unless_halted halt (change_by (ask_of code items h) rb (finish_of code items h) wb sc_ok)) c
+  go None k = change_alike items x (ask_of code items h) ra rb (finish_of code items h) wa wb sc_ok same words (finish_failing code items h) c k (step_follows code items (record { hart = h; reserved = ra }) wa sc_ok c whole e) off
+  go (Some cause) k = grind arith
