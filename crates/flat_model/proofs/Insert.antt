@@ -1,5 +1,5 @@
 -- A hart's step put before steps of other harts: they stay steps with the same effects, where none of them is on the item that it stores to.
-use Rattle.std.proofs.Common.{◌≡◌, ◌≢◌, ℕ, ◌<◌, Bool, true, false, ◌&&◌, ◌⊎◌, inl, inr, List, [], ◌∷◌, length, Option, Some, None, Ok, Err, refl, sym, ap, subst, ◌∙◌, arith}
+use Rattle.std.proofs.Common.{◌≡◌, ◌≢◌, ℕ, ◌<◌, Bool, true, false, ◌&&◌, nat_eq, ◌⊎◌, inl, inr, List, [], ◌∷◌, length, Option, Some, None, Ok, Err, refl, sym, ap, subst, ◌∙◌, arith}
 use Rattle.std.proofs.lemmas.Bool.{eqb-true}
 use Rattle.std.specs.Prelude.{Result, if◌then◌else◌}
 use Rattle.ddm_types.specs.declared.operations.HaltCause.{HaltCause}
@@ -14,6 +14,7 @@ use Rattle.flat_model.specs.Flat.{FlatHart, FlatMachine, FlatStepped, Stored, Ch
 use Rattle.flat_model.specs.Legal.{effect_item, on_item, is_change, is_sc_ok, HasWholeWords, legal_step, legal_run}
 use Rattle.flat_model.proofs.Items.{FollowsAsk, step_follows}
 use Rattle.flat_model.proofs.Steps.{finish_failing}
+use Rattle.flat_model.proofs.Frames.{freed, other_hart, own_hart, other_words, own_words, same_counts}
 
 -- an effect that isn't on the item, if there is one
 abbrev pub NotOn : ItemTable → Option ℕ → Effect → Type 0
@@ -99,3 +100,42 @@ step_alike code items x h ra rb wa wb sc_ok whole same words c e off = go h.halt
   go : (halt : Option HaltCause) → unless_halted halt (change_by (ask_of code items h) ra (finish_of code items h) wa sc_ok) ≡ Ok c → AnswersLike x (unless_halted halt (change_by (ask_of code items h) rb (finish_of code items h) wb sc_ok)) c
   go None k = change_alike items x (ask_of code items h) ra rb (finish_of code items h) wa wb sc_ok same words (finish_failing code items h) c k (step_follows code items (record { hart = h; reserved = ra }) wa sc_ok c whole e) off
   go (Some cause) k = grind arith
+
+-- ---- machines
+
+-- Two machines that are the same but for a hart h and the words of an item x; where the second has no reservation of x, the first may have one.
+pub record Alike (h : ℕ) (x : Option ℕ) (a b : FlatMachine) : Type 0 where
+  pub hart : (g : ℕ) → g ≢ h → (flat_hart a g).hart ≡ (flat_hart b g).hart
+  pub reserved : (g : ℕ) → g ≢ h → SameReserved x (flat_hart a g).reserved (flat_hart b g).reserved
+  pub words : (y : ℕ) → Some y ≢ x → item_words a y ≡ item_words b y
+  pub hart_count : length a.harts ≡ length b.harts
+  pub word_count : length a.words ≡ length b.words
+
+abbrev pub stored_item : Option Stored → Option ℕ
+stored_item None = None
+stored_item (Some s) = Some s.item
+
+freed_hart : (stored : Option Stored) (g : FlatHart) → (freed stored g).hart ≡ g.hart
+freed_hart None g = refl
+freed_hart (Some s) g = refl
+
+freed_reserved : (stored : Option Stored) (r : Option ℕ) (h : HartValue) → SameReserved (stored_item stored) r (freed stored (record { hart = h; reserved = r })).reserved
+freed_reserved None r h = inl refl
+freed_reserved (Some s) None h = inl refl
+freed_reserved (Some s) (Some y) h = go (nat_eq y s.item) refl where
+  go : (b : Bool) → nat_eq y s.item ≡ b → SameReserved (Some s.item) (Some y) (if b then None else Some y)
+  go true e = inr (ap Some (eqb-true y s.item e), refl)
+  go false e = inl refl
+
+stored_other : (stored : Option Stored) (y : ℕ) → Some y ≢ stored_item stored → (s : Stored) → stored ≡ Some s → y ≢ s.item
+stored_other stored y other s e at = other (ap Some at ∙ sym (ap stored_item e))
+
+-- a step of a hart leaves a machine like the one before it
+pub change_leaves_alike : (m : FlatMachine) (h : ℕ) (c : Change) → Alike h (stored_item c.stored) m (with_change m h c)
+change_leaves_alike m h c = record {
+  hart = λ g other. sym (ap (λ (k : FlatHart). k.hart) (other_hart m h c g other) ∙ freed_hart c.stored (flat_hart m g));
+  reserved = λ g other. rw (other_hart m h c g other) (freed_reserved c.stored (flat_hart m g).reserved (flat_hart m g).hart);
+  words = λ y other. sym (other_words m h c y (stored_other c.stored y other));
+  hart_count = sym (same_counts m h c).0;
+  word_count = sym (same_counts m h c).1;
+}
