@@ -1,6 +1,7 @@
 -- A hart's step put before steps of other harts: they stay steps with the same effects, where none of them is on the item that it stores to.
-use Rattle.std.proofs.Common.{◌≡◌, ◌≢◌, ℕ, ◌<◌, Bool, true, false, ◌&&◌, nat_eq, ◌⊎◌, inl, inr, List, [], ◌∷◌, length, Option, Some, None, Ok, Err, refl, sym, ap, subst, ◌∙◌, arith}
-use Rattle.std.proofs.lemmas.Bool.{eqb-true}
+use Rattle.std.proofs.Common.{◌≡◌, ◌≢◌, ℕ, zero, suc, ◌<◌, Bool, true, false, ◌&&◌, nat_eq, nat_lt, ◌⊎◌, inl, inr, List, [], ◌∷◌, length, slice_index_or, slice_set, Option, Some, None, Ok, Err, refl, sym, ap, subst, ◌∙◌, arith}
+use Rattle.std.proofs.lemmas.Bool.{eqb-true, eqb-false, ltb-true, ltb-false}
+use Rattle.std.proofs.Math.ListN.{get_or-eq_default}
 use Rattle.std.specs.Prelude.{Result, if◌then◌else◌}
 use Rattle.ddm_types.specs.declared.operations.HaltCause.{HaltCause}
 use Rattle.ddm_types.specs.declared.operations.Effect.{Effect}
@@ -10,7 +11,7 @@ use Rattle.ddm_types.specs.ItemTable.{ItemTable}
 use Rattle.flat_model.specs.declared.Ask.{Ask}
 use Rattle.flat_model.specs.declared.Ask.TheVariants.{Plain, Put, NeedsShared, NeedsExclusive, Conditional, Halt}
 use Rattle.flat_model.specs.Hart.{HartValue, Finished, ask_of, finish_of}
-use Rattle.flat_model.specs.Flat.{FlatHart, FlatMachine, FlatStepped, Stored, Change, flat_hart, item_words, has_reserved, leaving, storing_to, conditional, change_by, unless_halted, asked_item, hart_step, with_change, stepped, flat_step}
+use Rattle.flat_model.specs.Flat.{FlatHart, FlatMachine, FlatStepped, Stored, Change, flat_hart, item_words, has_reserved, leaving, storing_to, conditional, change_by, unless_halted, asked_item, hart_step, no_flat_hart, with_stored, with_change, stepped, flat_step}
 use Rattle.flat_model.specs.Legal.{effect_item, on_item, is_change, is_sc_ok, HasWholeWords, legal_step, legal_run}
 use Rattle.flat_model.proofs.Items.{FollowsAsk, step_follows}
 use Rattle.flat_model.proofs.Steps.{finish_failing}
@@ -139,3 +140,75 @@ change_leaves_alike m h c = record {
   hart_count = sym (same_counts m h c).0;
   word_count = sym (same_counts m h c).1;
 }
+
+-- ---- the same step of two machines that are alike
+
+freed_alike : (x : Option ℕ) (stored : Option Stored) (ga gb : FlatHart) → ((s : Stored) → stored ≡ Some s → Some s.item ≢ x) → SameReserved x ga.reserved gb.reserved → SameReserved x (freed stored ga).reserved (freed stored gb).reserved
+freed_alike x None ga gb away same = same
+freed_alike x (Some s) ga gb away (inl e) = inl (ap (λ r. if has_reserved r s.item then None else r) e)
+freed_alike x (Some s) ga gb away (inr e) = inr (kept ga.reserved e.0, rw e.1 refl) where
+  at : (y : ℕ) (b : Bool) → nat_eq y s.item ≡ b → Some y ≡ x → (if b then None else Some y) ≡ x
+  at y true k i = absurd (away s refl (ap Some (sym (eqb-true y s.item k)) ∙ i))
+  at y false k i = i
+
+  kept : (r : Option ℕ) → r ≡ x → (if has_reserved r s.item then None else r) ≡ x
+  kept None i = i
+  kept (Some y) i = at y (nat_eq y s.item) refl i
+
+set_alike : {X : Type 0} (xs ys : List X) (i y : ℕ) (v d : X) → length xs ≡ length ys → slice_index_or xs y d ≡ slice_index_or ys y d → slice_index_or (slice_set xs i v) y d ≡ slice_index_or (slice_set ys i v) y d
+set_alike [] [] i y v d l e = refl
+set_alike [] (b ∷ ys) i y v d l e = grind arith
+set_alike (a ∷ xs) [] i y v d l e = grind arith
+set_alike (a ∷ xs) (b ∷ ys) zero zero v d l e = refl
+set_alike (a ∷ xs) (b ∷ ys) zero (suc y) v d l e = e
+set_alike (a ∷ xs) (b ∷ ys) (suc i) zero v d l e = e
+set_alike (a ∷ xs) (b ∷ ys) (suc i) (suc y) v d l e = set_alike xs ys i y v d (omega arith) e
+
+stored_words_alike : (a b : FlatMachine) (stored : Option Stored) (y : ℕ) → length a.words ≡ length b.words → item_words a y ≡ item_words b y → item_words (with_stored a stored) y ≡ item_words (with_stored b stored) y
+stored_words_alike a b None y l e = e
+stored_words_alike a b (Some s) y l e = set_alike a.words b.words s.item y s.words [] l e
+
+changes_alike : (h : ℕ) (x : Option ℕ) (a b : FlatMachine) (g : ℕ) (c d : Change) → Alike h x a b → g < length a.harts → d.after.hart ≡ c.after.hart → SameReserved x c.after.reserved d.after.reserved → d.stored ≡ c.stored → ((s : Stored) → c.stored ≡ Some s → Some s.item ≢ x) → Alike h x (with_change a g c) (with_change b g d)
+changes_alike h x a b g c d like below same_hart same_reserved same_stored away = record {
+  hart = hart;
+  reserved = reserved;
+  words = λ y off. stored_words_alike a b c.stored y like.word_count (like.words y off) ∙ ap (λ s. item_words (with_stored b s) y) (sym same_stored);
+  hart_count = (same_counts a g c).0 ∙ like.hart_count ∙ sym (same_counts b g d).0;
+  word_count = (same_counts a g c).1 ∙ like.word_count ∙ sym (same_counts b g d).1;
+} where
+  below_b : g < length b.harts
+  below_b = rw like.hart_count at below
+
+  own_a : flat_hart (with_change a g c) g ≡ c.after
+  own_a = own_hart a g c below
+
+  own_b : flat_hart (with_change b g d) g ≡ d.after
+  own_b = own_hart b g d below_b
+
+  hart_of : FlatHart → HartValue
+  hart_of k = k.hart
+
+  reserved_of : FlatHart → Option ℕ
+  reserved_of k = k.reserved
+
+  hart : (k : ℕ) → k ≢ h → (flat_hart (with_change a g c) k).hart ≡ (flat_hart (with_change b g d) k).hart
+  hart k off = go (nat_eq k g) refl where
+    go : (t : Bool) → nat_eq k g ≡ t → (flat_hart (with_change a g c) k).hart ≡ (flat_hart (with_change b g d) k).hart
+    go true e = rw (eqb-true k g e) (rw own_a (rw own_b (sym same_hart)))
+    go false e = rw (other_hart a g c k (eqb-false k g e)) (rw (other_hart b g d k (eqb-false k g e)) (freed_hart c.stored (flat_hart a k) ∙ like.hart k off ∙ sym (freed_hart d.stored (flat_hart b k))))
+
+  reserved : (k : ℕ) → k ≢ h → SameReserved x (flat_hart (with_change a g c) k).reserved (flat_hart (with_change b g d) k).reserved
+  reserved k off = go (nat_eq k g) refl where
+    go : (t : Bool) → nat_eq k g ≡ t → SameReserved x (flat_hart (with_change a g c) k).reserved (flat_hart (with_change b g d) k).reserved
+    go true e = rw (eqb-true k g e) (rw own_a (rw own_b same_reserved))
+    go false e = rw (other_hart a g c k (eqb-false k g e)) (rw (other_hart b g d k (eqb-false k g e)) (rw same_stored (freed_alike x c.stored (flat_hart a k) (flat_hart b k) away (like.reserved k off))))
+
+-- a hart that steps is one of the machine's
+in_range : (code : List CodeWord) (items : ItemTable) (m : FlatMachine) (g : ℕ) (words : ℕ → List ℕ) (sc_ok : Bool) (c : Change) → hart_step code items (flat_hart m g) words sc_ok ≡ Ok c → g < length m.harts
+unfolding hart_step
+in_range code items m g words sc_ok c e = go (nat_lt g (length m.harts)) refl where
+  go : (t : Bool) → nat_lt g (length m.harts) ≡ t → g < length m.harts
+  go true k = ltb-true g (length m.harts) k
+  go false k = absurd (halted (rw (get_or-eq_default m.harts no_flat_hart (ltb-false g (length m.harts) k)) at e)) where
+    halted : hart_step code items no_flat_hart words sc_ok ≡ Ok c → ⊥
+    halted e = grind arith
