@@ -14,7 +14,7 @@ use Rattle.flat_model.specs.Hart.{HartValue, Finished, ask_of, finish_of}
 use Rattle.flat_model.specs.Flat.{FlatHart, FlatMachine, FlatStepped, Stored, Change, flat_hart, item_words, has_reserved, leaving, storing_to, conditional, change_by, unless_halted, asked_item, hart_step, no_flat_hart, with_stored, with_change, stepped, flat_step}
 use Rattle.flat_model.specs.Legal.{effect_item, on_item, is_change, is_sc_ok, HasWholeWords, legal_step, legal_run}
 use Rattle.flat_model.proofs.Items.{FollowsAsk, step_follows}
-use Rattle.flat_model.proofs.Steps.{finish_failing}
+use Rattle.flat_model.proofs.Steps.{finish_failing, step_leaves}
 use Rattle.flat_model.proofs.Frames.{freed, other_hart, own_hart, other_words, own_words, same_counts}
 
 -- an effect that isn't on the item, if there is one
@@ -212,3 +212,44 @@ in_range code items m g words sc_ok c e = go (nat_lt g (length m.harts)) refl wh
   go false k = absurd (halted (rw (get_or-eq_default m.harts no_flat_hart (ltb-false g (length m.harts) k)) at e)) where
     halted : hart_step code items no_flat_hart words sc_ok ≡ Ok c → ⊥
     halted e = grind arith
+
+-- a step by its change
+change_of : (code : List CodeWord) (items : ItemTable) (m n : FlatMachine) (g : ℕ) (sc_ok : Bool) (effect : Effect) → flat_step code items m g sc_ok ≡ Ok (effect, n) → (c : Change) × (hart_step code items (flat_hart m g) (item_words m) sc_ok ≡ Ok c) × (c.effect ≡ effect) × (with_change m g c ≡ n)
+unfolding flat_step
+change_of code items m n g sc_ok effect e = go (hart_step code items (flat_hart m g) (item_words m) sc_ok) refl e where
+  go : (r : Result Change HaltCause) → hart_step code items (flat_hart m g) (item_words m) sc_ok ≡ r → stepped m g r ≡ Ok (effect, n) → (c : Change) × (hart_step code items (flat_hart m g) (item_words m) sc_ok ≡ Ok c) × (c.effect ≡ effect) × (with_change m g c ≡ n)
+  go (Ok c) k e = (c, k, grind arith, grind arith)
+  go (Err cause) k e = grind arith
+
+flat_step_is : (code : List CodeWord) (items : ItemTable) (m : FlatMachine) (g : ℕ) (sc_ok : Bool) (c : Change) → hart_step code items (flat_hart m g) (item_words m) sc_ok ≡ Ok c → flat_step code items m g sc_ok ≡ Ok (c.effect, with_change m g c)
+unfolding flat_step
+flat_step_is code items m g sc_ok c e = ap (stepped m g) e
+
+-- a step that is on another item stores to another item
+stored_away : (code : List CodeWord) (items : ItemTable) (x : Option ℕ) (g : FlatHart) (words : ℕ → List ℕ) (sc_ok : Bool) (c : Change) → HasWholeWords items → hart_step code items g words sc_ok ≡ Ok c → NotOn items x c.effect → (s : Stored) → c.stored ≡ Some s → Some s.item ≢ x
+stored_away code items x g words sc_ok c whole e off s k at = go (step_follows code items g words sc_ok c whole e) where
+  go : FollowsAsk items (ask_of code items g.hart) c → ⊥
+  go (f, inl i) = off s.item (sym at) (i ∙ (step_leaves code items g words sc_ok c e).1 s k)
+  go (f, inr i) = grind arith
+
+-- the step of another hart that isn't on the item is a step of both machines, with the same effect, and leaves them alike
+pub flat_step_alike : (code : List CodeWord) (items : ItemTable) (h : ℕ) (x : Option ℕ) (a b : FlatMachine) (g : ℕ) (sc_ok : Bool) (effect : Effect) (a2 : FlatMachine) → HasWholeWords items → Alike h x a b → g ≢ h → flat_step code items a g sc_ok ≡ Ok (effect, a2) → NotOn items x effect → (b2 : FlatMachine) × (flat_step code items b g sc_ok ≡ Ok (effect, b2)) × Alike h x a2 b2 × ((flat_hart b2 h).hart ≡ (flat_hart b h).hart) × ((y : ℕ) → x ≡ Some y → item_words b2 y ≡ item_words b y)
+flat_step_alike code items h x a b g sc_ok effect a2 whole like other e off = go (change_of code items a a2 g sc_ok effect e) where
+  go : ((c : Change) × (hart_step code items (flat_hart a g) (item_words a) sc_ok ≡ Ok c) × (c.effect ≡ effect) × (with_change a g c ≡ a2)) → (b2 : FlatMachine) × (flat_step code items b g sc_ok ≡ Ok (effect, b2)) × Alike h x a2 b2 × ((flat_hart b2 h).hart ≡ (flat_hart b h).hart) × ((y : ℕ) → x ≡ Some y → item_words b2 y ≡ item_words b y)
+  go (c, step, is_effect, after) = answer like_b where
+    off_c : NotOn items x c.effect
+    off_c y i k = off y i (ap (effect_item items) (sym is_effect) ∙ k)
+
+    away : (s : Stored) → c.stored ≡ Some s → Some s.item ≢ x
+    away s k = stored_away code items x (flat_hart a g) (item_words a) sc_ok c whole step off_c s k
+
+    with_hart_b : HartValue → Type 0
+    with_hart_b k = AnswersLike x (hart_step code items (record { hart = k; reserved = (flat_hart b g).reserved }) (item_words b) sc_ok) c
+
+    like_b : AnswersLike x (hart_step code items (flat_hart b g) (item_words b) sc_ok) c
+    like_b = subst with_hart_b (like.hart g other) (step_alike code items x (flat_hart a g).hart (flat_hart a g).reserved (flat_hart b g).reserved (item_words a) (item_words b) sc_ok whole (like.reserved g other) like.words c step off_c)
+
+    answer : AnswersLike x (hart_step code items (flat_hart b g) (item_words b) sc_ok) c → (b2 : FlatMachine) × (flat_step code items b g sc_ok ≡ Ok (effect, b2)) × Alike h x a2 b2 × ((flat_hart b2 h).hart ≡ (flat_hart b h).hart) × ((y : ℕ) → x ≡ Some y → item_words b2 y ≡ item_words b y)
+    answer (d, step_b, same_effect, same_hart, same_reserved, same_stored) =
+        let answers : Effect → FlatStepped = λ k. Ok (k, with_change b g d) in
+        (with_change b g d, flat_step_is code items b g sc_ok d step_b ∙ ap answers (same_effect ∙ is_effect), subst (λ m. Alike h x m (with_change b g d)) after (changes_alike h x a b g c d like (in_range code items a g (item_words a) sc_ok c step) same_hart same_reserved same_stored away), ap (λ (k : FlatHart). k.hart) (other_hart b g d h (λ i. other (sym i))) ∙ freed_hart d.stored (flat_hart b h), λ y i. other_words b g d y (λ s k at. away s (sym same_stored ∙ k) (ap Some (sym at) ∙ sym i)))
