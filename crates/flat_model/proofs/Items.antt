@@ -1,7 +1,7 @@
 -- The item of an effect is the item that its instruction asked for, and the effects that store are those of steps that do.
-use Rattle.std.proofs.Common.{◌≡◌, ℕ, suc, ◌+◌, ◌*◌, ◌/◌, ◌%◌, ◌<◌, Bool, true, false, not, ◌&&◌, nat_eq, nat_lt, cond, ◌⊎◌, inl, inr, List, [], ◌∷◌, length, slice_index_or, Option, Some, None, Ok, Err, refl, sym, ap, subst, ◌∙◌, arith}
-use Rattle.std.specs.Prelude.{All, Result, position, if◌then◌else◌, is_some}
-use Rattle.std.specs.List.{position_or_len, prefix_len}
+use Rattle.std.proofs.Common.{◌≡◌, ℕ, suc, ◌+◌, ◌*◌, ◌/◌, ◌%◌, Bool, true, false, not, ◌&&◌, nat_eq, nat_lt, cond, ◌⊎◌, inl, inr, List, [], ◌∷◌, length, slice_index_or, Option, Some, None, Ok, Err, refl, ap, subst, ◌∙◌, arith}
+use Rattle.std.specs.Prelude.{All, Result, if◌then◌else◌, is_some}
+use Rattle.std.specs.List.{position_or_len}
 use Rattle.ddm_types.specs.declared.operations.HaltCause.{HaltCause}
 use Rattle.ddm_types.specs.declared.operations.HaltCause.TheVariants.{MisalignedAccess, MisalignedTarget, LoadOutside, StoreOutside, Exit, UnknownCall}
 use Rattle.ddm_types.specs.CodeMap.{CodeWord, word_at}
@@ -11,8 +11,8 @@ use Rattle.rv_decode.specs.declared.instructions.Instr.TheVariants.{Lui, Auipc, 
 use Rattle.rv_decode.specs.Table.{decode_of}
 use Rattle.flat_model.specs.declared.Ask.{Ask}
 use Rattle.flat_model.specs.declared.Ask.TheVariants.{Conditional}
-use Rattle.flat_model.specs.Hart.{HartValue, Finished, Access, Action, with_register, next_pc, Halts, Computes, Puts, Loads, Stores, Reserves, StoresIfReserved, Changes, register, access_in, aligned, load_bytes, store_bytes, offset_by, is_taken, load_found, load_at, store_found, store_at, jump, call, advanced, instr_action, decoded_action, fetched_action, action_of, ask_by, ask_of, finish_by, finish_of}
-use Rattle.flat_model.specs.Flat.{FlatHart, Stored, Change, has_reserved, conditional, change_by, unless_halted, asked_item, hart_step}
+use Rattle.flat_model.specs.Hart.{HartValue, Access, Action, with_register, next_pc, Halts, Computes, Puts, Loads, Stores, Reserves, StoresIfReserved, Changes, register, access_in, aligned, load_bytes, store_bytes, offset_by, is_taken, load_found, load_at, store_found, store_at, jump, call, advanced, instr_action, decoded_action, fetched_action, action_of, ask_by, ask_of, finish_by, finish_of}
+use Rattle.flat_model.specs.Flat.{FlatHart, Change, has_reserved, conditional, change_by, unless_halted, asked_item, hart_step}
 use Rattle.flat_model.specs.Legal.{effect_item, is_change, HasWholeWords}
 
 -- a word that begins at a multiple of 4 lies in an item as a whole
