@@ -12,7 +12,7 @@ use Rattle.flat_model.specs.declared.Ask.{Ask}
 use Rattle.flat_model.specs.declared.Ask.TheVariants.{Plain, Put, NeedsShared, NeedsExclusive, Conditional, Halt}
 use Rattle.flat_model.specs.Hart.{HartValue, Finished, ask_of, finish_of}
 use Rattle.flat_model.specs.Flat.{FlatHart, FlatMachine, FlatStepped, Stored, Change, flat_hart, item_words, has_reserved, leaving, storing_to, conditional, change_by, unless_halted, hart_step, no_flat_hart, with_stored, with_change, stepped, flat_step}
-use Rattle.flat_model.specs.Legal.{effect_item, on_item, is_change, is_sc_ok, HasWholeWords, legal_step, legal_run}
+use Rattle.flat_model.specs.Legal.{changed_item, effect_item, on_item, is_change, is_sc_ok, HasWholeWords, legal_step, legal_run}
 use Rattle.flat_model.proofs.Runs.{legal_step_is, legal_step_of}
 use Rattle.flat_model.proofs.Items.{FollowsAsk, step_follows}
 use Rattle.flat_model.proofs.Steps.{finish_failing, step_leaves}
@@ -58,7 +58,7 @@ hasnt_alike : (x : Option ℕ) (y : ℕ) (ra rb : Option ℕ) → SameReserved x
 hasnt_alike x y ra rb (inl e) h = rw e at h
 hasnt_alike x y ra rb (inr e) h = rw e.1 refl
 
-is_ok : (known c : Change) → (let r : Result Change HaltCause = Ok known in r ≡ Ok c) → known ≡ c
+pub is_ok : (known c : Change) → (let r : Result Change HaltCause = Ok known in r ≡ Ok c) → known ≡ c
 is_ok known c e = grind arith
 
 conditional_alike : (items : ItemTable) (x : Option ℕ) (y : ℕ) (finish : List ℕ → Bool → Finished) (wa wb : ℕ → List ℕ) (a b : Bool) → (a ≡ true → Some y ≢ x → b ≡ true) → (a ≡ false → b ≡ false) → ((z : ℕ) → Some z ≢ x → wa z ≡ wb z) → FailsAlike (Conditional y) finish → (c : Change) → conditional a y (finish (wa y)) ≡ c → FollowsAsk items (Conditional y) c → NotOn items x c.effect → AnswersLike x (Ok (conditional b y (finish (wb y)))) c
@@ -205,7 +205,7 @@ changes_alike h x a b g c d like below same_hart same_reserved same_stored away 
     go false e = rw (other_hart a g c k (eqb-false k g e)) (rw (other_hart b g d k (eqb-false k g e)) (rw same_stored (freed_alike x c.stored (flat_hart a k) (flat_hart b k) away (like.reserved k off))))
 
 -- a hart that steps is one of the machine's
-in_range : (code : List CodeWord) (items : ItemTable) (m : FlatMachine) (g : ℕ) (words : ℕ → List ℕ) (sc_ok : Bool) (c : Change) → hart_step code items (flat_hart m g) words sc_ok ≡ Ok c → g < length m.harts
+pub in_range : (code : List CodeWord) (items : ItemTable) (m : FlatMachine) (g : ℕ) (words : ℕ → List ℕ) (sc_ok : Bool) (c : Change) → hart_step code items (flat_hart m g) words sc_ok ≡ Ok c → g < length m.harts
 unfolding hart_step
 in_range code items m g words sc_ok c e = go (nat_lt g (length m.harts)) refl where
   go : (t : Bool) → nat_lt g (length m.harts) ≡ t → g < length m.harts
@@ -215,19 +215,19 @@ in_range code items m g words sc_ok c e = go (nat_lt g (length m.harts)) refl wh
     halted e = grind arith
 
 -- a step by its change
-change_of : (code : List CodeWord) (items : ItemTable) (m n : FlatMachine) (g : ℕ) (sc_ok : Bool) (effect : Effect) → flat_step code items m g sc_ok ≡ Ok (effect, n) → (c : Change) × (hart_step code items (flat_hart m g) (item_words m) sc_ok ≡ Ok c) × (c.effect ≡ effect) × (with_change m g c ≡ n)
+pub change_of : (code : List CodeWord) (items : ItemTable) (m n : FlatMachine) (g : ℕ) (sc_ok : Bool) (effect : Effect) → flat_step code items m g sc_ok ≡ Ok (effect, n) → (c : Change) × (hart_step code items (flat_hart m g) (item_words m) sc_ok ≡ Ok c) × (c.effect ≡ effect) × (with_change m g c ≡ n)
 unfolding flat_step
 change_of code items m n g sc_ok effect e = go (hart_step code items (flat_hart m g) (item_words m) sc_ok) refl e where
   go : (r : Result Change HaltCause) → hart_step code items (flat_hart m g) (item_words m) sc_ok ≡ r → stepped m g r ≡ Ok (effect, n) → (c : Change) × (hart_step code items (flat_hart m g) (item_words m) sc_ok ≡ Ok c) × (c.effect ≡ effect) × (with_change m g c ≡ n)
   go (Ok c) k e = (c, k, grind arith, grind arith)
   go (Err cause) k e = grind arith
 
-flat_step_is : (code : List CodeWord) (items : ItemTable) (m : FlatMachine) (g : ℕ) (sc_ok : Bool) (c : Change) → hart_step code items (flat_hart m g) (item_words m) sc_ok ≡ Ok c → flat_step code items m g sc_ok ≡ Ok (c.effect, with_change m g c)
+pub flat_step_is : (code : List CodeWord) (items : ItemTable) (m : FlatMachine) (g : ℕ) (sc_ok : Bool) (c : Change) → hart_step code items (flat_hart m g) (item_words m) sc_ok ≡ Ok c → flat_step code items m g sc_ok ≡ Ok (c.effect, with_change m g c)
 unfolding flat_step
 flat_step_is code items m g sc_ok c e = ap (stepped m g) e
 
 -- a step that is on another item stores to another item
-stored_away : (code : List CodeWord) (items : ItemTable) (x : Option ℕ) (g : FlatHart) (words : ℕ → List ℕ) (sc_ok : Bool) (c : Change) → HasWholeWords items → hart_step code items g words sc_ok ≡ Ok c → NotOn items x c.effect → (s : Stored) → c.stored ≡ Some s → Some s.item ≢ x
+pub stored_away : (code : List CodeWord) (items : ItemTable) (x : Option ℕ) (g : FlatHart) (words : ℕ → List ℕ) (sc_ok : Bool) (c : Change) → HasWholeWords items → hart_step code items g words sc_ok ≡ Ok c → NotOn items x c.effect → (s : Stored) → c.stored ≡ Some s → Some s.item ≢ x
 stored_away code items x g words sc_ok c whole e off s k at = go (step_follows code items g words sc_ok c whole e) where
   go : FollowsAsk items (ask_of code items g.hart) c → ⊥
   go (f, inl i) = off s.item (sym at) (i ∙ (step_leaves code items g words sc_ok c e).1 s k)
@@ -273,14 +273,14 @@ not_on items x effect off y at e = absurd (go (rw e at (off y at))) where
 abbrev pub RunsAlike : List CodeWord → ItemTable → ℕ → Option ℕ → FlatMachine → List Op → FlatMachine → Type 0
 RunsAlike code items h x b ops z = (z2 : FlatMachine) × (legal_run code items b ops ≡ Some z2) × Alike h x z z2 × ((flat_hart z2 h).hart ≡ (flat_hart b h).hart) × ((y : ℕ) → x ≡ Some y → item_words z2 y ≡ item_words b y)
 
-legal_first : (code : List CodeWord) (items : ItemTable) (a : FlatMachine) (op : Op) (ops : List Op) (z : FlatMachine) → legal_run code items a (op ∷ ops) ≡ Some z → (n : FlatMachine) × (legal_step code items a op ≡ Some n) × (legal_run code items n ops ≡ Some z)
+pub legal_first : (code : List CodeWord) (items : ItemTable) (a : FlatMachine) (op : Op) (ops : List Op) (z : FlatMachine) → legal_run code items a (op ∷ ops) ≡ Some z → (n : FlatMachine) × (legal_step code items a op ≡ Some n) × (legal_run code items n ops ≡ Some z)
 unfolding legal_run
 legal_first code items a op ops z e = go (legal_step code items a op) refl e where
   go : (o : Option FlatMachine) → legal_step code items a op ≡ o → option_and_then (λ n. legal_run code items n ops) o ≡ Some z → (n : FlatMachine) × (legal_step code items a op ≡ Some n) × (legal_run code items n ops ≡ Some z)
   go None k e = grind arith
   go (Some n) k e = (n, k, e)
 
-legal_more : (code : List CodeWord) (items : ItemTable) (b n : FlatMachine) (op : Op) (ops : List Op) → legal_step code items b op ≡ Some n → legal_run code items b (op ∷ ops) ≡ legal_run code items n ops
+pub legal_more : (code : List CodeWord) (items : ItemTable) (b n : FlatMachine) (op : Op) (ops : List Op) → legal_step code items b op ≡ Some n → legal_run code items b (op ∷ ops) ≡ legal_run code items n ops
 unfolding legal_run
 legal_more code items b n op ops e = ap (option_and_then (λ m. legal_run code items m ops)) e
 
@@ -300,11 +300,7 @@ runs_alike code items h x a b (op ∷ ops) z whole like off e = go (legal_first 
       joined : RunsAlike code items h x b2 ops z → RunsAlike code items h x b (op ∷ ops) z
       joined (z2, run_b, like_z, own_z, words_z) = (z2, legal_more code items b b2 op ops legal_b ∙ run_b, like_z, own_z ∙ own, λ y at. words_z y at ∙ words y at)
 
--- the item that an effect stores to
-abbrev pub changed_item : ItemTable → Effect → Option ℕ
-changed_item items effect = if is_change effect then effect_item items effect else None
-
-changed_is : (code : List CodeWord) (items : ItemTable) (g : FlatHart) (words : ℕ → List ℕ) (sc_ok : Bool) (c : Change) → HasWholeWords items → hart_step code items g words sc_ok ≡ Ok c → changed_item items c.effect ≡ stored_item c.stored
+pub changed_is : (code : List CodeWord) (items : ItemTable) (g : FlatHart) (words : ℕ → List ℕ) (sc_ok : Bool) (c : Change) → HasWholeWords items → hart_step code items g words sc_ok ≡ Ok c → changed_item items c.effect ≡ stored_item c.stored
 changed_is code items g words sc_ok c whole e = go (step_follows code items g words sc_ok c whole e) where
   by_stored : (o : Option Stored) → is_change c.effect ≡ is_some o → ((s : Stored) → o ≡ Some s → effect_item items c.effect ≡ Some s.item) → changed_item items c.effect ≡ stored_item o
   by_stored None i k = rw i refl
