@@ -3,6 +3,8 @@
 
 ghost use Rattle.rv_decode.specs.Examples.{InstructionVectors, OutsideVectors, ProgramWords, JumpWords, MemoryWords, ImmediateWords, RegisterWords, AtomicWords};
 
+mod decoding;
+mod fields;
 mod instructions;
 
 pub use instructions::{AmoOp, BranchOp, ImmOp, Instr, LoadOp, Reg, RegOp, StoreOp};
