@@ -1,1 +1,3 @@
 pub mod Vectors
+mod Rows
+mod Grouped

@@ -1,5 +1,5 @@
 -- What the fields beside an opcode select, and the instruction that they make with it.
-use Rattle.std.specs.Prelude.{ℕ, nat_eq, Option, Some, None, if◌then◌else◌}
+use Rattle.std.specs.Prelude.{ℕ, nat_eq, ◌&&◌, Option, Some, None, if◌then◌else◌}
 use Rattle.std.specs.Option.{option_map}
 use Rattle.rv_decode.specs.declared.instructions.BranchOp.{BranchOp}
 use Rattle.rv_decode.specs.declared.instructions.BranchOp.TheVariants.{Beq, Bne, Blt, Bge, Bltu, Bgeu}
@@ -55,33 +55,30 @@ immediate_op f3 =
 -- the shifts by a fixed amount, from funct7 and funct3
 unfoldable pub shift_op : ℕ → ℕ → Option ImmOp
 shift_op f7 f3 =
-    if nat_eq f7 0b0000000 then (
-    if nat_eq f3 0b001 then Some Slli else (
-    if nat_eq f3 0b101 then Some Srli else None)) else (
-    if nat_eq f7 0b0100000 then (if nat_eq f3 0b101 then Some Srai else None) else None)
+    if nat_eq f7 0b0000000 && nat_eq f3 0b001 then Some Slli else (
+    if nat_eq f7 0b0000000 && nat_eq f3 0b101 then Some Srli else (
+    if nat_eq f7 0b0100000 && nat_eq f3 0b101 then Some Srai else None))
 
 unfoldable pub register_op : ℕ → ℕ → Option RegOp
 register_op f7 f3 =
-    if nat_eq f7 0b0000000 then (
-    if nat_eq f3 0b000 then Some Add else (
-    if nat_eq f3 0b001 then Some Sll else (
-    if nat_eq f3 0b010 then Some Slt else (
-    if nat_eq f3 0b011 then Some Sltu else (
-    if nat_eq f3 0b100 then Some Xor else (
-    if nat_eq f3 0b101 then Some Srl else (
-    if nat_eq f3 0b110 then Some Or else (
-    if nat_eq f3 0b111 then Some And else None)))))))) else (
-    if nat_eq f7 0b0100000 then (
-    if nat_eq f3 0b000 then Some Sub else (
-    if nat_eq f3 0b101 then Some Sra else None)) else None)
+    if nat_eq f7 0b0000000 && nat_eq f3 0b000 then Some Add else (
+    if nat_eq f7 0b0100000 && nat_eq f3 0b000 then Some Sub else (
+    if nat_eq f7 0b0000000 && nat_eq f3 0b001 then Some Sll else (
+    if nat_eq f7 0b0000000 && nat_eq f3 0b010 then Some Slt else (
+    if nat_eq f7 0b0000000 && nat_eq f3 0b011 then Some Sltu else (
+    if nat_eq f7 0b0000000 && nat_eq f3 0b100 then Some Xor else (
+    if nat_eq f7 0b0000000 && nat_eq f3 0b101 then Some Srl else (
+    if nat_eq f7 0b0100000 && nat_eq f3 0b101 then Some Sra else (
+    if nat_eq f7 0b0000000 && nat_eq f3 0b110 then Some Or else (
+    if nat_eq f7 0b0000000 && nat_eq f3 0b111 then Some And else None)))))))))
 
 unfoldable pub amo_op : ℕ → Option AmoOp
 amo_op f5 =
-    if nat_eq f5 0b00000 then Some AmoAdd else (
     if nat_eq f5 0b00001 then Some AmoSwap else (
+    if nat_eq f5 0b00000 then Some AmoAdd else (
     if nat_eq f5 0b00100 then Some AmoXor else (
-    if nat_eq f5 0b01000 then Some AmoOr else (
     if nat_eq f5 0b01100 then Some AmoAnd else (
+    if nat_eq f5 0b01000 then Some AmoOr else (
     if nat_eq f5 0b10000 then Some AmoMin else (
     if nat_eq f5 0b10100 then Some AmoMax else (
     if nat_eq f5 0b11000 then Some AmoMinu else (
@@ -104,13 +101,14 @@ store_of w = option_map (λ op. Store op (rs1_of w) (rs2_of w) (s_immediate w)) 
 unfoldable pub shift_of : ℕ → Option Instr
 shift_of w = option_map (λ op. Immediate op (rd_of w) (rs1_of w) (shift_amount w)) (shift_op (field 25 7 w) (field 12 3 w))
 
--- with an immediate or by a shift
-abbrev pub immediate_or : Option ImmOp → ℕ → Option Instr
-immediate_or None w = shift_of w
-immediate_or (Some op) w = Some (Immediate op (rd_of w) (rs1_of w) (i_immediate w))
+-- what is made of the operation, or the rest where there is none
+abbrev pub made_or : {A B : Type 0} → (A → B) → Option A → Option B → Option B
+made_or make None rest = rest
+made_or make (Some op) rest = Some (make op)
 
+-- with an immediate of 12 bits, or by a shift
 unfoldable pub immediate_of : ℕ → Option Instr
-immediate_of w = immediate_or (immediate_op (field 12 3 w)) w
+immediate_of w = made_or (λ op. Immediate op (rd_of w) (rs1_of w) (i_immediate w)) (immediate_op (field 12 3 w)) (shift_of w)
 
 unfoldable pub register_of : ℕ → Option Instr
 register_of w = option_map (λ op. Register op (rd_of w) (rs1_of w) (rs2_of w)) (register_op (field 25 7 w) (field 12 3 w))

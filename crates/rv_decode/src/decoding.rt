@@ -284,3 +284,34 @@ fn decode_atomic(word: u32) -> Option<Instr>
         _ => decode_amo(word),
     }
 }
+
+/// The instruction of a word, or `None` where the table has no row that the word fits.
+#[tactic(auto, using(crate::proofs::Grouped::decoded_by_opcode), unfolding(crate::specs::Selectors::by_opcode))]
+pub fn decode(word: u32) -> Option<Instr>
+    ensures { result ≡ decode_of word }
+{
+    match opcode(word) {
+        0b011_0111 => Some(Instr::Lui {
+            rd: rd(word),
+            imm: u_immediate(word),
+        }),
+        0b001_0111 => Some(Instr::Auipc {
+            rd: rd(word),
+            imm: u_immediate(word),
+        }),
+        0b110_1111 => Some(Instr::Jal {
+            rd: rd(word),
+            offset: j_immediate(word),
+        }),
+        0b110_0111 => decode_jump(word),
+        0b110_0011 => decode_branch(word),
+        0b000_0011 => decode_load(word),
+        0b010_0011 => decode_store(word),
+        0b001_0011 => decode_immediate(word),
+        0b011_0011 => decode_register(word),
+        0b000_1111 => decode_fence(word),
+        0b111_0011 => decode_system(word),
+        0b010_1111 => decode_atomic(word),
+        _ => None,
+    }
+}

@@ -7,6 +7,7 @@ mod decoding;
 mod fields;
 mod instructions;
 
+pub use decoding::decode;
 pub use instructions::{AmoOp, BranchOp, ImmOp, Instr, LoadOp, Reg, RegOp, StoreOp};
 
 /// The table gives the published vectors: words that are instructions, and words outside the table.
