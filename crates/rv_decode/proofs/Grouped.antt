@@ -1,5 +1,5 @@
 -- The table by opcode.
-use Rattle.std.proofs.Common.{◌≡◌, ℕ, ◌+◌, ◌*◌, ◌/◌, ◌%◌, ◌^◌, ◌<◌, nat_eq, Bool, true, false, List, [], ◌∷◌, Option, Some, None, refl, sym, ◌∙◌, ap, arith, ◌&&◌, cond, if◌then◌else◌}
+use Rattle.std.proofs.Common.{◌≡◌, ◌≢◌, ℕ, ◌+◌, ◌*◌, ◌/◌, ◌%◌, ◌^◌, ◌<◌, nat_eq, Bool, true, false, List, [], ◌∷◌, Option, Some, None, refl, sym, ◌∙◌, ap, arith, ◌&&◌, cond, if◌then◌else◌}
 use Rattle.rv_decode.specs.declared.instructions.ImmOp.{ImmOp}
 use Rattle.rv_decode.specs.declared.instructions.BranchOp.{BranchOp}
 use Rattle.rv_decode.specs.declared.instructions.BranchOp.TheVariants.{Beq, Bne, Blt, Bge, Bltu, Bgeu}
@@ -17,7 +17,7 @@ use Rattle.rv_decode.specs.declared.instructions.Instr.TheVariants.{Lui, Auipc, 
 use Rattle.std.specs.Option.{option_map}
 use Rattle.std.specs.List.{list_any}
 use Rattle.std.proofs.Math.Bool.{and-false}
-use Rattle.std.proofs.lemmas.Bool.{true≢false, eqb-true, cond_both}
+use Rattle.std.proofs.lemmas.Bool.{true≢false, eqb-true, ne_eqb, cond_both}
 use Rattle.rv_decode.specs.Table.{field, table, decode_by, decode_of, rd_of, rs1_of, rs2_of, aq_of, rl_of, i_immediate, s_immediate, b_immediate, u_immediate, j_immediate, shift_amount}
 use Rattle.rv_decode.specs.Selectors.{made_or, branch_op, load_op, store_op, immediate_op, shift_op, register_op, amo_op, jump_of, branch_of, load_of, store_of, shift_of, immediate_of, register_of, fence_of, system_of, load_reserved_of, amo_of, atomic_of, by_opcode}
 use Rattle.rv_decode.proofs.Rows.{decode_by-rows_of, decode_by_none}
@@ -144,7 +144,7 @@ pub atomic_rows : {A : Type 0} (lr sc : A) (make : AmoOp → A) (f5 r2 : ℕ) (w
     if nat_eq f5 24 && (word && true) then Some (make AmoMinu) else (
     if nat_eq f5 28 && (word && true) then Some (make AmoMaxu) else (
     None))))))))))))
-  ≡ (if word then by_funct5 lr sc make f5 r2 else None)
+    ≡ (if word then by_funct5 lr sc make f5 r2 else None)
 atomic_rows lr sc make f5 r2 true = rw (amo_rows make f5) (lr_or_sc (nat_eq f5 2) (nat_eq f5 3) (nat_eq r2 0) lr sc (option_map make (amo_op f5)) (not_sc f5) (no_amo make f5))
 atomic_rows lr sc make f5 r2 false = simp and-false
 
@@ -161,19 +161,19 @@ only false x = refl
 -- ---- the instruction of a word with this opcode
 
 pub jump : (w : ℕ) → field 0 7 w ≡ 0b1100111 → decode_of w ≡ jump_of w
-unfolding decode_of decode_by table jump_of 
+unfolding decode_of decode_by table jump_of
 jump w opcode = decode_by-rows_of w 0b1100111 opcode table ∙ rw opcode (only _ _)
 
 pub branch : (w : ℕ) → field 0 7 w ≡ 0b1100011 → decode_of w ≡ branch_of w
-unfolding decode_of decode_by table branch_of 
+unfolding decode_of decode_by table branch_of
 branch w opcode = decode_by-rows_of w 0b1100011 opcode table ∙ rw opcode (branch_rows (λ op. Branch op (rs1_of w) (rs2_of w) (b_immediate w)) (field 12 3 w))
 
 pub load : (w : ℕ) → field 0 7 w ≡ 0b0000011 → decode_of w ≡ load_of w
-unfolding decode_of decode_by table load_of 
+unfolding decode_of decode_by table load_of
 load w opcode = decode_by-rows_of w 0b0000011 opcode table ∙ rw opcode (load_rows (λ op. Load op (rd_of w) (rs1_of w) (i_immediate w)) (field 12 3 w))
 
 pub store : (w : ℕ) → field 0 7 w ≡ 0b0100011 → decode_of w ≡ store_of w
-unfolding decode_of decode_by table store_of 
+unfolding decode_of decode_by table store_of
 store w opcode = decode_by-rows_of w 0b0100011 opcode table ∙ rw opcode (store_rows (λ op. Store op (rs1_of w) (rs2_of w) (s_immediate w)) (field 12 3 w))
 
 pub immediate : (w : ℕ) → field 0 7 w ≡ 0b0010011 → decode_of w ≡ immediate_of w
@@ -181,17 +181,16 @@ unfolding decode_of decode_by table immediate_of shift_of
 immediate w opcode = decode_by-rows_of w 0b0010011 opcode table ∙ rw opcode (immediate_rows (λ op. Immediate op (rd_of w) (rs1_of w) (i_immediate w)) (field 12 3 w) _ _ (shift_rows (λ op. Immediate op (rd_of w) (rs1_of w) (shift_amount w)) (field 25 7 w) (field 12 3 w)))
 
 pub register : (w : ℕ) → field 0 7 w ≡ 0b0110011 → decode_of w ≡ register_of w
-unfolding decode_of decode_by table register_of 
+unfolding decode_of decode_by table register_of
 register w opcode = decode_by-rows_of w 0b0110011 opcode table ∙ rw opcode (register_rows (λ op. Register op (rd_of w) (rs1_of w) (rs2_of w)) (field 25 7 w) (field 12 3 w))
 
 pub fence : (w : ℕ) → field 0 7 w ≡ 0b0001111 → decode_of w ≡ fence_of w
-unfolding decode_of decode_by table fence_of 
+unfolding decode_of decode_by table fence_of
 fence w opcode = decode_by-rows_of w 0b0001111 opcode table ∙ rw opcode (only _ _)
 
 pub atomic : (w : ℕ) → field 0 7 w ≡ 0b0101111 → decode_of w ≡ atomic_of w
 unfolding decode_of decode_by table atomic_of load_reserved_of amo_of
 atomic w opcode = decode_by-rows_of w 0b0101111 opcode table ∙ rw opcode (atomic_rows _ _ (λ op. Amo op (rd_of w) (rs1_of w) (rs2_of w) (aq_of w) (rl_of w)) (field 27 5 w) (rs2_of w) (nat_eq (field 12 3 w) 2))
-
 
 pub low_word : (w : ℕ) → w < 2 ^ 32 → field 0 32 w ≡ w
 low_word w h = omega arith
@@ -234,3 +233,12 @@ decoded_by_opcode w h =
     if_opcode (field 0 7 w) 0b1110011 (decode_of w) _ _ (system w h) (λ n10.
     if_opcode (field 0 7 w) 0b0101111 (decode_of w) _ _ (atomic w) (λ n11.
     other w (rw (n0, n1, n2, n3, n4, n5, n6, n7, n8, n9, n10, n11) refl)))))))))))))
+
+-- no row has another opcode than these
+pub outside_opcodes : (op w : ℕ) → op ≡ field 0 7 w →
+    op ≢ 0b0110111 → op ≢ 0b0010111 → op ≢ 0b1101111 → op ≢ 0b1100111 → op ≢ 0b1100011 → op ≢ 0b0000011 →
+    op ≢ 0b0100011 → op ≢ 0b0010011 → op ≢ 0b0110011 → op ≢ 0b0001111 → op ≢ 0b1110011 → op ≢ 0b0101111 → decode_of w ≡ None
+outside_opcodes op w e n0 n1 n2 n3 n4 n5 n6 n7 n8 n9 n10 n11 =
+    let none : list_any (nat_eq op) opcodes ≡ false =
+    rw (ne_eqb op 0b0110111 n0, ne_eqb op 0b0010111 n1, ne_eqb op 0b1101111 n2, ne_eqb op 0b1100111 n3, ne_eqb op 0b1100011 n4, ne_eqb op 0b0000011 n5, ne_eqb op 0b0100011 n6, ne_eqb op 0b0010011 n7, ne_eqb op 0b0110011 n8, ne_eqb op 0b0001111 n9, ne_eqb op 0b1110011 n10, ne_eqb op 0b0101111 n11) refl in
+    other w (rw (← e) none)

@@ -8,8 +8,8 @@ use Rattle.rv_decode.specs.Table.{field, Fixed, Row, has_field, fits, decode_by}
 abbrev pub field_opcode : Fixed → Option ℕ
 field_opcode f =
     if nat_eq f.low 0 then (
-      if nat_eq f.bits 7 then Some f.value else (
-      if nat_eq f.bits 32 then Some (f.value % 128) else None)) else None
+    if nat_eq f.bits 7 then Some f.value else (
+    if nat_eq f.bits 32 then Some (f.value % 128) else None)) else None
 
 abbrev pub first : Option ℕ → Option ℕ → Option ℕ
 first None rest = rest
