@@ -1,3 +1,4 @@
 pub mod Vectors
 mod Rows
 mod Grouped
+mod Signed
