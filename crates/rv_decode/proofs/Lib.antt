@@ -1,3 +1,6 @@
 pub mod Vectors
 pub mod OneRow
 pub mod Known
+mod Rows
+mod Grouped
+mod Signed
