@@ -1,13 +1,12 @@
 -- The texts of a run: from a machine and its turns to the bytes that are printed.
-use Rattle.std.specs.Prelude.{ℕ, ◌+◌, List, [], ◌∷◌, ◌++◌, map, length, Option, Some, None, if◌then◌else◌}
+use Rattle.std.specs.Prelude.{ℕ, ◌+◌, List, [], ◌∷◌, ◌++◌, map, length, Option, Some, None}
 use Rattle.ddm_types.specs.declared.answers.TurnAnswer.{TurnAnswer}
-use Rattle.ddm_types.specs.declared.operations.Op.{Op}
 use Rattle.ddm_types.specs.declared.turns.Turn.{Turn}
 use Rattle.ddm_types.specs.ItemTable.{ItemRow, ItemTable}
-use Rattle.ddm_types.specs.Keys.{key_less}
 use Rattle.tree_model.specs.declared.CopyPlace.{CopyPlace}
 use Rattle.tree_model.specs.Values.{LeafValue, MachineValue}
 use Rattle.tree_model.specs.Machine.{Ran, run_of, machine_leaves}
+use Rattle.tree_model.specs.Ops.{sorted_ops}
 use Rattle.tree_model.specs.Found.{FoundValue, found_copy, states_of}
 use Rattle.text_model.specs.declared.RunCounts.{RunCounts}
 use Rattle.text_model.specs.Report.{CopyPlaceView, leaf_way, leaf_buffer, parked_copy, down_copy, HartView, ItemView, ReportView, report_of, summary_of}
@@ -31,14 +30,6 @@ counts_of [] = no_counts
 counts_of (a ∷ rest) = counted_answer a (counts_of rest)
 
 -- ---- the view of a machine
-
-abbrev pub op_inserted : Op → List Op → List Op
-op_inserted op [] = op ∷ []
-op_inserted op (o ∷ os) = if key_less op.key o.key then op ∷ o ∷ os else o ∷ op_inserted op os
-
-unfoldable pub ops_by_key : List Op → List Op
-ops_by_key [] = []
-ops_by_key (op ∷ ops) = op_inserted op (ops_by_key ops)
 
 abbrev hart_view : LeafValue → HartView
 hart_view v = record { number = v.number; hart = v.hart; done = v.done }
@@ -68,7 +59,7 @@ view_of depth counts m = record {
   traffic = m.traffic;
   items = item_views m 0 m.items.rows;
   completed = m.ops;
-  ops = ops_by_key m.ops;
+  ops = sorted_ops m.ops;
 }
 
 -- ---- texts

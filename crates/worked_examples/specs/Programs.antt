@@ -7,12 +7,13 @@ use Rattle.ddm_types.specs.ItemTable.{row_at}
 use Rattle.tree_model.specs.Values.{MachineValue}
 use Rattle.tree_model.specs.Machine.{Ran, run_of}
 use Rattle.tree_model.specs.Start.{SegmentValue, ImageValue, TreeValue, leaf_count, bus_widths, start_machine}
+use Rattle.tree_model.specs.Ops.{sorted_ops}
 use Rattle.tree_model.specs.Found.{states_of}
 use Rattle.text_model.specs.declared.ScheduleRefusal.{ScheduleRefusal}
 use Rattle.text_model.specs.Schedule.{ShapeView, schedule_of}
 use Rattle.text_model.specs.Trace.{trace_text}
 use Rattle.text_model.specs.Report.{bus_lines, turns_line, item_line, key_text, letter_texts, op_lines, hart_line_of, regs_line, out_line, put_texts}
-use Rattle.text_model.specs.Run.{counts_of, ops_by_key, item_view, report_text_of, trace_and_report_of}
+use Rattle.text_model.specs.Run.{counts_of, item_view, report_text_of, trace_and_report_of}
 
 -- ---- programs
 
@@ -104,14 +105,14 @@ letters_in x tree image schedule = letter_texts (states_of x (run_in tree image 
 
 -- the operations in the order of their keys
 unfoldable pub operations_in : TreeValue → ImageValue → List ℕ → List ℕ
-operations_in tree image schedule = op_lines (depth_of tree) (ops_by_key (run_in tree image schedule).machine.ops)
+operations_in tree image schedule = op_lines (depth_of tree) (sorted_ops (run_in tree image schedule).machine.ops)
 
 abbrev key_line : ℕ → Op → List ℕ
 key_line depth op = key_text depth op.key ++ codes "\n"
 
 -- their keys alone
 unfoldable pub keys_in : TreeValue → ImageValue → List ℕ → List ℕ
-keys_in tree image schedule = flat_map (key_line (depth_of tree)) (ops_by_key (run_in tree image schedule).machine.ops)
+keys_in tree image schedule = flat_map (key_line (depth_of tree)) (sorted_ops (run_in tree image schedule).machine.ops)
 
 -- the keys in the order of completion
 unfoldable pub completed_keys_in : TreeValue → ImageValue → List ℕ → List ℕ
