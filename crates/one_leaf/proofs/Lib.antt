@@ -4,3 +4,4 @@ pub mod Runs
 pub mod Order
 pub mod Placement
 pub mod Start
+pub mod View

@@ -1,3 +1,4 @@
 pub mod OneLeaf
 pub mod Run
 pub mod Start
+pub mod Witness
