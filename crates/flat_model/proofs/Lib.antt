@@ -7,3 +7,4 @@ pub mod Frames
 pub mod Items
 pub mod Insert
 pub mod Reserving
+pub mod Storing

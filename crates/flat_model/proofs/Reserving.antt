@@ -1,15 +1,15 @@
 -- The reservations of the flat machine are those that the effects say.
-use Rattle.std.proofs.Common.{◌≡◌, ◌≢◌, ℕ, zero, suc, map, slice_index_or, ◌<◌, Bool, true, false, ◌&&◌, nat_eq, ◌⊎◌, inl, inr, List, [], ◌∷◌, Option, Some, None, Ok, Err, refl, sym, ap, subst, ◌∙◌, arith}
+use Rattle.std.proofs.Common.{◌≡◌, ◌≢◌, ℕ, zero, suc, map, slice_index_or, Bool, true, false, ◌&&◌, nat_eq, List, [], ◌∷◌, Option, Some, None, Ok, refl, sym, ap, subst, ◌∙◌, arith}
 use Rattle.std.proofs.lemmas.Bool.{eqb-true, eqb-false}
-use Rattle.std.specs.Prelude.{Result, fold, if◌then◌else◌}
+use Rattle.std.specs.Prelude.{fold, if◌then◌else◌}
 use Rattle.ddm_types.specs.declared.operations.HaltCause.{HaltCause}
 use Rattle.ddm_types.specs.declared.operations.Op.{Op}
 use Rattle.std.specs.List.{range_with_len}
 use Rattle.ddm_types.specs.declared.sizes.Start.{Start}
 use Rattle.ddm_types.specs.CodeMap.{CodeWord}
 use Rattle.ddm_types.specs.ItemTable.{ItemTable}
-use Rattle.flat_model.specs.Hart.{HartValue, Finished, Action, Halts, Computes, Puts, Loads, Stores, Reserves, StoresIfReserved, Changes, action_of, ask_by, ask_of, finish_by, finish_of}
-use Rattle.flat_model.specs.Flat.{FlatHart, FlatMachine, Stored, Change, flat_hart_start, no_flat_hart, flat_start, flat_hart, item_words, has_reserved, leaving, storing_to, conditional, change_by, unless_halted, hart_step, with_change}
+use Rattle.flat_model.specs.Hart.{HartValue, Action, Halts, Computes, Puts, Loads, Stores, Reserves, StoresIfReserved, Changes, action_of, ask_by, ask_of, finish_by, finish_of}
+use Rattle.flat_model.specs.Flat.{FlatHart, FlatMachine, Stored, Change, flat_hart_start, no_flat_hart, flat_start, flat_hart, item_words, has_reserved, leaving, conditional, change_by, unless_halted, hart_step, with_change}
 use Rattle.flat_model.specs.Legal.{changed_item, reserved_by_own, reserved_by_other, reserved_by, reservation, is_sc_ok, HasWholeWords, legal_step, legal_run}
 use Rattle.flat_model.proofs.Items.{IsInItem, action_in_item, item_at_word}
 use Rattle.flat_model.proofs.Frames.{freed, other_hart, own_hart}
@@ -24,7 +24,7 @@ change_reserves items (Loads op rd a) h r words sc_ok c whole at e = grind arith
 change_reserves items (Stores op v a) h r words sc_ok c whole at e = grind arith
 change_reserves items (Reserves rd a) h r words sc_ok c whole at e =
     let P : Change → Type 0 = λ k. k.after.reserved ≡ reserved_by_own items r k.effect in
-    subst P (is_ok (leaving (finish_by (Reserves rd a) h (words a.item) false) (Some a.item)) c e) (sym (item_at_word items a.address whole ∙ at a refl))
+    subst P (is_ok (leaving (finish_by (Reserves rd a) h (words a.item) false) (Some a.item)) c e) (sym (item_at_word items a.address whole ∙ (at a refl).0))
 change_reserves items (StoresIfReserved rd v a) h r words sc_ok c whole at e = go (sc_ok && has_reserved r a.item) (is_ok (conditional (sc_ok && has_reserved r a.item) a.item (finish_by (StoresIfReserved rd v a) h (words a.item))) c e) where
   go : (b : Bool) → conditional b a.item (finish_by (StoresIfReserved rd v a) h (words a.item)) ≡ c → c.after.reserved ≡ reserved_by_own items r c.effect
   go true k = grind arith
