@@ -5,4 +5,5 @@ pub mod Refused
 pub mod StaleLoad
 pub mod OrderRulesHold
 pub mod OrderTestsTell
+pub mod ExampleFacts
 pub mod Lag

@@ -1,6 +1,5 @@
 -- The shape of a machine, which no turn changes: its levels, and the numbers of its buses and leaves.
-use Rattle.std.specs.Prelude.{◌≡◌, ℕ, ◌+◌, Bool, true, ◌&&◌, nat_eq, List, [], ◌∷◌, map, length, IsTrue}
-use Rattle.std.specs.List.{range_with_len}
+use Rattle.std.specs.Prelude.{ℕ, ◌+◌, Bool, true, ◌&&◌, nat_eq, List, [], ◌∷◌, map, IsTrue}
 use Rattle.tree_model.specs.Values.{LeafValue, Node, Nodes, leaf_node, dir_node, no_nodes, more_nodes, MachineValue}
 use Rattle.tree_model.specs.Machine.{root_of, machine_leaves}
 use Rattle.tree_model.specs.OwnRules.{are_distinct}
@@ -29,6 +28,11 @@ abbrev mutual
 abbrev leaf_number : LeafValue → ℕ
 leaf_number v = v.number
 
+-- each number is one more than the one before it, and the first is n
+abbrev pub count_from : ℕ → List ℕ → Bool
+count_from n [] = true
+count_from n (k ∷ ks) = nat_eq k n && count_from (n + 1) ks
+
 abbrev pub leaf_numbers : MachineValue → List ℕ
 leaf_numbers m = map leaf_number (machine_leaves m)
 
@@ -38,4 +42,4 @@ pub record IsShaped (m : MachineValue) : Type 0 where
   -- no two buses have one number
   pub buses : IsTrue (are_distinct (buses_in (root_of m) []))
   -- leaves are numbered from left to right
-  pub leaves : leaf_numbers m ≡ range_with_len 0 (length (leaf_numbers m))
+  pub leaves : IsTrue (count_from 0 (leaf_numbers m))
