@@ -2,3 +2,4 @@ pub mod Vectors
 mod Rows
 mod Grouped
 mod Signed
+mod Words
