@@ -3,3 +3,4 @@ mod Rows
 mod Grouped
 mod Signed
 mod Words
+mod Selected
