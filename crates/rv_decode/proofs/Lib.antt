@@ -4,3 +4,4 @@ mod Grouped
 mod Signed
 mod Words
 mod Selected
+mod Decoded
