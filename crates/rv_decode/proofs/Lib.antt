@@ -5,3 +5,4 @@ mod Signed
 mod Words
 mod Selected
 mod Decoded
+mod Encoded

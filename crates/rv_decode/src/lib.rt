@@ -4,6 +4,7 @@
 ghost use Rattle.rv_decode.specs.Examples.{InstructionVectors, OutsideVectors, ProgramWords, JumpWords, MemoryWords, ImmediateWords, RegisterWords, AtomicWords};
 
 mod decoding;
+mod encoding;
 mod fields;
 mod instructions;
 
