@@ -1,29 +1,17 @@
 -- A word that is decoded is encoded again to itself.
 use Rattle.std.specs.Prelude.{IfSome}
 use Rattle.std.specs.Option.{option_map}
-use Rattle.std.proofs.Common.{◌≡◌, ℕ, ◌+◌, ◌-◌, ◌*◌, ◌/◌, ◌%◌, ◌^◌, ◌<◌, nat_eq, Bool, true, false, Option, Some, None, refl, sym, subst, ◌∙◌, arith, if◌then◌else◌, ℤ, pos, negsuc}
+use Rattle.std.proofs.Common.{◌≡◌, ℕ, ◌+◌, ◌*◌, ◌^◌, ◌<◌, nat_eq, Option, Some, None, refl, sym, subst, arith, if◌then◌else◌}
 use Rattle.std.proofs.lemmas.Bool.{eqb-true, cond_both}
-use Rattle.rv_decode.specs.declared.instructions.ImmOp.{ImmOp}
-use Rattle.rv_decode.specs.declared.instructions.BranchOp.{BranchOp}
-use Rattle.rv_decode.specs.declared.instructions.BranchOp.TheVariants.{Beq, Bne, Blt, Bge, Bltu, Bgeu}
-use Rattle.rv_decode.specs.declared.instructions.LoadOp.{LoadOp}
-use Rattle.rv_decode.specs.declared.instructions.LoadOp.TheVariants.{Lb, Lh, Lw, Lbu, Lhu}
-use Rattle.rv_decode.specs.declared.instructions.StoreOp.{StoreOp}
-use Rattle.rv_decode.specs.declared.instructions.StoreOp.TheVariants.{Sb, Sh, Sw}
-use Rattle.rv_decode.specs.declared.instructions.ImmOp.TheVariants.{Addi, Slti, Sltiu, Xori, Ori, Andi, Slli, Srli, Srai}
-use Rattle.rv_decode.specs.declared.instructions.RegOp.{RegOp}
-use Rattle.rv_decode.specs.declared.instructions.RegOp.TheVariants.{Add, Sub, Sll, Slt, Sltu, Xor, Srl, Sra, Or, And}
-use Rattle.rv_decode.specs.declared.instructions.AmoOp.{AmoOp}
-use Rattle.rv_decode.specs.declared.instructions.AmoOp.TheVariants.{Add as AmoAdd, Swap as AmoSwap, Xor as AmoXor, Or as AmoOr, And as AmoAnd, Min as AmoMin, Max as AmoMax, Minu as AmoMinu, Maxu as AmoMaxu}
 use Rattle.rv_decode.specs.declared.instructions.Instr.{Instr}
-use Rattle.rv_decode.specs.declared.instructions.Instr.TheVariants.{Lui, Auipc, Jal, Jalr, Branch, Load, Store, Immediate, Register, Fence, Ecall, Ebreak, Lr, Sc, Amo}
-use Rattle.rv_decode.specs.Table.{field, signed, decode_of, rd_of, rs1_of, rs2_of, aq_of, rl_of, i_immediate, s_immediate, b_immediate, u_immediate, j_immediate, shift_amount}
+use Rattle.rv_decode.specs.declared.instructions.Instr.TheVariants.{Lui, Auipc, Jal}
+use Rattle.rv_decode.specs.Table.{field, decode_of, rd_of, rs2_of, i_immediate, u_immediate, j_immediate, shift_amount}
 use Rattle.rv_decode.specs.Selectors.{made_or, branch_op, load_op, store_op, immediate_op, shift_op, register_op, amo_op, jump_of, branch_of, load_of, store_of, shift_of, immediate_of, register_of, fence_of, system_of, load_reserved_of, amo_of, atomic_of, by_opcode}
-use Rattle.rv_decode.specs.Valid.{IsValid, FitsBits, IsEven}
-use Rattle.rv_decode.specs.Encode.{encode_of, bits_of, branch_funct3, load_funct3, store_funct3, immediate_funct3, immediate_funct7, register_funct3, register_funct7, amo_funct5}
+use Rattle.rv_decode.specs.Valid.{IsValid}
+use Rattle.rv_decode.specs.Encode.{encode_of, bits_of}
 use Rattle.rv_decode.proofs.Signed.{FitsBits-signed, bits_of-signed, IsEven-signed}
 use Rattle.rv_decode.proofs.Words.{r_again, i_again, s_again, b_again, u_again, j_again, atomic_again}
-use Rattle.rv_decode.proofs.Selected.{branch_selected, load_selected, store_selected, immediate_selected, shift_selected, register_selected, amo_selected, IsImmediate, IsShift}
+use Rattle.rv_decode.proofs.Selected.{branch_selected, load_selected, store_selected, immediate_selected, shift_selected, register_selected, amo_selected}
 use Rattle.rv_decode.proofs.Grouped.{decoded_by_opcode}
 
 -- ---- what is so of an option's value
@@ -160,11 +148,11 @@ pub atomic_stands : (w : ℕ) → w < 2 ^ 32 → field 0 7 w ≡ 0b0101111 → I
 unfolding encode_of atomic_of
 atomic_stands w h opcode =
     IfSome-if (Stands w) (field 12 3 w) 2 _ None (λ f3.
-      IfSome-if (Stands w) (field 27 5 w) 2 _ _ (λ f5. load_reserved_stands w h opcode f3 f5)
-      (IfSome-if (Stands w) (field 27 5 w) 3 _ _ (λ f5. record {
-        valid = (omega arith, omega arith, omega arith);
-        word = atomic_again w _ _ h (sym f5) refl f3 opcode;
-      }) (amo_stands w h opcode f3))) tt
+    IfSome-if (Stands w) (field 27 5 w) 2 _ _ (λ f5. load_reserved_stands w h opcode f3 f5)
+    (IfSome-if (Stands w) (field 27 5 w) 3 _ _ (λ f5. record {
+      valid = (omega arith, omega arith, omega arith);
+      word = atomic_again w _ _ h (sym f5) refl f3 opcode;
+    }) (amo_stands w h opcode f3))) tt
 
 -- ---- any word
 
@@ -187,3 +175,16 @@ by_opcode_stands w h =
 
 pub decoded_stands : (w : ℕ) → w < 2 ^ 32 → IfSome (decode_of w) (Stands w)
 decoded_stands w h = rw (decoded_by_opcode w h) (by_opcode_stands w h)
+
+pub one_word : (w : ℕ) (i : Instr) → w < 2 ^ 32 → decode_of w ≡ Some i → IsValid i × (encode_of i ≡ w)
+one_word w i h e =
+    let stands : IfSome (Some i) (Stands w) = subst (λ o. IfSome o (Stands w)) e (decoded_stands w h) in
+    let this : StandsFor i w = stands in
+    (this.valid, this.word)
+
+pub IfSome-imp : {A : Type 0} (P Q : A → Type 0) (o : Option A) → IfSome o P → ((x : A) → P x → Q x) → IfSome o Q
+IfSome-imp P Q None p h = tt
+IfSome-imp P Q (Some x) p h = h x p
+
+pub decoded_valid : (w : ℕ) → w < 2 ^ 32 → (o : Option Instr) → o ≡ by_opcode (field 0 7 w) w → IfSome o IsValid
+decoded_valid w h o e = rw e (IfSome-imp (Stands w) IsValid (by_opcode (field 0 7 w) w) (by_opcode_stands w h) (λ i s. s.valid))

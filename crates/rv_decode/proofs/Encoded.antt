@@ -1,29 +1,24 @@
 -- The word of a valid instruction is decoded to it.
-use Rattle.std.specs.Option.{option_map}
-use Rattle.std.proofs.Common.{◌≡◌, ℕ, ◌+◌, ◌-◌, ◌*◌, ◌/◌, ◌%◌, ◌^◌, ◌<◌, ◌⊎◌, inl, inr, nat_eq, Bool, true, false, Option, Some, None, refl, sym, ap, ◌∙◌, arith, if◌then◌else◌, ℤ, pos, negsuc}
+use Rattle.std.proofs.Common.{◌≡◌, ℕ, ◌+◌, ◌*◌, ◌/◌, ◌%◌, ◌^◌, ◌<◌, inl, inr, nat_eq, Bool, Some, refl, ap, ◌∙◌, arith, if◌then◌else◌, ℤ, pos, negsuc}
 use Rattle.rv_decode.specs.declared.instructions.ImmOp.{ImmOp}
 use Rattle.rv_decode.specs.declared.instructions.BranchOp.{BranchOp}
-use Rattle.rv_decode.specs.declared.instructions.BranchOp.TheVariants.{Beq, Bne, Blt, Bge, Bltu, Bgeu}
 use Rattle.rv_decode.specs.declared.instructions.LoadOp.{LoadOp}
-use Rattle.rv_decode.specs.declared.instructions.LoadOp.TheVariants.{Lb, Lh, Lw, Lbu, Lhu}
 use Rattle.rv_decode.specs.declared.instructions.StoreOp.{StoreOp}
-use Rattle.rv_decode.specs.declared.instructions.StoreOp.TheVariants.{Sb, Sh, Sw}
 use Rattle.rv_decode.specs.declared.instructions.ImmOp.TheVariants.{Addi, Slti, Sltiu, Xori, Ori, Andi, Slli, Srli, Srai}
 use Rattle.rv_decode.specs.declared.instructions.RegOp.{RegOp}
-use Rattle.rv_decode.specs.declared.instructions.RegOp.TheVariants.{Add, Sub, Sll, Slt, Sltu, Xor, Srl, Sra, Or, And}
 use Rattle.rv_decode.specs.declared.instructions.AmoOp.{AmoOp}
 use Rattle.rv_decode.specs.declared.instructions.AmoOp.TheVariants.{Add as AmoAdd, Swap as AmoSwap, Xor as AmoXor, Or as AmoOr, And as AmoAnd, Min as AmoMin, Max as AmoMax, Minu as AmoMinu, Maxu as AmoMaxu}
 use Rattle.rv_decode.specs.declared.instructions.Instr.{Instr}
 use Rattle.rv_decode.specs.declared.instructions.Instr.TheVariants.{Lui, Auipc, Jal, Jalr, Branch, Load, Store, Immediate, Register, Fence, Ecall, Ebreak, Lr, Sc, Amo}
-use Rattle.rv_decode.specs.Table.{field, signed, decode_of, rd_of, rs1_of, rs2_of, aq_of, rl_of, i_immediate, s_immediate, b_immediate, u_immediate, j_immediate, shift_amount}
+use Rattle.rv_decode.specs.Table.{field, signed, decode_of, aq_of, rl_of, i_immediate, s_immediate, b_immediate, j_immediate}
 use Rattle.rv_decode.specs.Computing.{decode_computes}
-use Rattle.rv_decode.specs.Selectors.{made_or, branch_op, load_op, store_op, immediate_op, shift_op, register_op, amo_op, jump_of, branch_of, load_of, store_of, shift_of, immediate_of, register_of, fence_of, system_of, load_reserved_of, amo_of, atomic_of}
-use Rattle.rv_decode.specs.Valid.{IsValid, FitsBits, IsEven, IsShiftAmount, FitsOperation, IsUpper, IsRegister}
-use Rattle.rv_decode.specs.Encode.{encode_of, bits_of, bit_of, r_word, i_word, s_word, b_word, u_word, j_word, atomic_word, branch_funct3, load_funct3, store_funct3, immediate_funct3, immediate_funct7, register_funct3, register_funct7, amo_funct5}
+use Rattle.rv_decode.specs.Selectors.{jump_of, branch_of, load_of, store_of, shift_of, immediate_of, register_of, fence_of, load_reserved_of, amo_of, atomic_of}
+use Rattle.rv_decode.specs.Valid.{IsValid, FitsBits, IsEven, FitsOperation, IsRegister}
+use Rattle.rv_decode.specs.Encode.{encode_of, bits_of, bit_of, s_word, b_word, atomic_word, branch_funct3, load_funct3, store_funct3, immediate_funct3, immediate_funct7, register_funct3, register_funct7, amo_funct5}
 use Rattle.rv_decode.proofs.Signed.{signed-bits_of, bits_of_below, bits_of_even}
 use Rattle.rv_decode.proofs.Words.{HasFields, HasUpper, scattered, r_fields, i_fields, u_fields, j_fields, i_number, s_number, b_number, j_number, nat_eq-bit_of, bit_of_below}
 use Rattle.rv_decode.proofs.Selected.{branch_selects, branch_funct3_below, load_selects, load_funct3_below, store_selects, store_funct3_below, immediate_selects, immediate_funct3_below, immediate_funct7_below, SelectsImmediate, SelectsShift, register_selects, register_funct3_below, register_funct7_below, amo_selects, amo_funct5_below}
-use Rattle.rv_decode.proofs.Grouped.{lui, auipc, jal, jump, branch, load, store, immediate, register, fence, system, atomic}
+use Rattle.rv_decode.proofs.Grouped.{lui, auipc, jal, jump, branch, load, store, immediate, register, fence, atomic}
 
 -- ---- a word with these fields
 
@@ -37,7 +32,7 @@ pub jal_read : (w rd : ℕ) (offset : ℤ) → FitsBits 21 offset → IsEven off
 jal_read w rd offset fits even h =
     let n : ℕ = bits_of 21 offset in
     let number : field 31 1 w * 2 ^ 20 + field 12 8 w * 2 ^ 12 + field 20 1 w * 2 ^ 11 + field 21 10 w * 2 ^ 1 ≡ n =
-      j_number w n rd 0b1101111 (bits_of_below 21 offset refl fits) (bits_of_even 21 offset refl fits even) h in
+    j_number w n rd 0b1101111 (bits_of_below 21 offset refl fits) (bits_of_even 21 offset refl fits even) h in
     let immediate : j_immediate w ≡ offset = ap (signed 21) number ∙ signed-bits_of 21 offset refl fits in
     jal w h.opcode ∙ rw (h.rd, immediate) refl
 
@@ -56,7 +51,7 @@ pub branch_read : (w : ℕ) (op : BranchOp) (rs1 rs2 : ℕ) (offset : ℤ) → F
 unfolding branch_of
 branch_read w op rs1 rs2 offset fits even h =
     let number : field 31 1 w * 2 ^ 12 + field 7 1 w * 2 ^ 11 + field 25 6 w * 2 ^ 5 + field 8 4 w * 2 ^ 1 ≡ bits_of 13 offset =
-      b_number w (bits_of 13 offset) rs2 rs1 (branch_funct3 op) 0b1100011 (bits_of_below 13 offset refl fits) (bits_of_even 13 offset refl fits even) h in
+    b_number w (bits_of 13 offset) rs2 rs1 (branch_funct3 op) 0b1100011 (bits_of_below 13 offset refl fits) (bits_of_even 13 offset refl fits even) h in
     let immediate : b_immediate w ≡ offset = ap (signed 13) number ∙ signed-bits_of 13 offset refl fits in
     branch w h.opcode ∙ rw (h.funct3, branch_selects op, h.rs1, h.rs2, immediate) refl
 
@@ -71,7 +66,7 @@ pub store_read : (w : ℕ) (op : StoreOp) (rs1 rs2 : ℕ) (offset : ℤ) → Fit
 unfolding store_of
 store_read w op rs1 rs2 offset fits h =
     let number : field 25 7 w * 2 ^ 5 + field 7 5 w ≡ bits_of 12 offset =
-      s_number w (bits_of 12 offset) rs2 rs1 (store_funct3 op) 0b0100011 (bits_of_below 12 offset refl fits) h in
+    s_number w (bits_of 12 offset) rs2 rs1 (store_funct3 op) 0b0100011 (bits_of_below 12 offset refl fits) h in
     let immediate : s_immediate w ≡ offset = ap (signed 12) number ∙ signed-bits_of 12 offset refl fits in
     store w h.opcode ∙ rw (h.funct3, store_selects op, h.rs1, h.rs2, immediate) refl
 
@@ -145,6 +140,26 @@ amo_read w op rd rs1 rs2 aq rl h =
     let a : HasAtomic w (amo_funct5 op) aq rl = atomic_fields w (amo_funct5 op) aq rl rs2 rs1 rd h in
     atomic w h.opcode ∙ rw (h.funct3, a.funct5, by_amo op, amo_selects op, h.rs2, h.rd, h.rs1, a.aq, a.rl) refl
 
+-- an immediate of 12 bits, and a shift's funct7 above its amount, have 12 bits together
+pub operation_below : (op : ImmOp) (z : ℤ) → FitsOperation op z → immediate_funct7 op * 2 ^ 5 + bits_of 12 z < 4096
+unfolding immediate_funct7
+operation_below Addi z fits = let below : bits_of 12 z < 2 ^ 12 = bits_of_below 12 z refl fits in omega arith
+operation_below Slti z fits = let below : bits_of 12 z < 2 ^ 12 = bits_of_below 12 z refl fits in omega arith
+operation_below Sltiu z fits = let below : bits_of 12 z < 2 ^ 12 = bits_of_below 12 z refl fits in omega arith
+operation_below Xori z fits = let below : bits_of 12 z < 2 ^ 12 = bits_of_below 12 z refl fits in omega arith
+operation_below Ori z fits = let below : bits_of 12 z < 2 ^ 12 = bits_of_below 12 z refl fits in omega arith
+operation_below Andi z fits = let below : bits_of 12 z < 2 ^ 12 = bits_of_below 12 z refl fits in omega arith
+operation_below Slli (pos n) fits = omega arith
+operation_below Slli (negsuc n) fits = absurd fits
+operation_below Srli (pos n) fits = omega arith
+operation_below Srli (negsuc n) fits = absurd fits
+operation_below Srai (pos n) fits = omega arith
+operation_below Srai (negsuc n) fits = absurd fits
+
+-- that number as the code has it
+pub operation_number : (op : ImmOp) (z : ℤ) (f7 n : ℕ) → f7 ≡ immediate_funct7 op → n ≡ bits_of 12 z → FitsOperation op z → f7 * 2 ^ 5 % 2 ^ 32 + n ≡ immediate_funct7 op * 2 ^ 5 + bits_of 12 z
+operation_number op z f7 n e7 en fits = let below : immediate_funct7 op * 2 ^ 5 + bits_of 12 z < 4096 = operation_below op z fits in omega arith
+
 -- ---- the word of an instruction
 
 pub ecall_read : decode_of 0x00000073 ≡ Some Ecall
@@ -173,7 +188,7 @@ shift_encoded op rd rs1 (pos n) bd b1 selects =
     let f7 : immediate_funct7 op < 128 = immediate_funct7_below op in
     let below : n < 32 = selects.2 in
     shift_read _ op rd rs1 n below selects
-      (shift_fields _ (immediate_funct7 op) n rs1 _ rd _ below (i_fields (immediate_funct7 op * 2 ^ 5 + n) rs1 (immediate_funct3 op) rd 0b0010011 (omega arith) b1 (immediate_funct3_below op) bd (omega arith)))
+    (shift_fields _ (immediate_funct7 op) n rs1 _ rd _ below (i_fields (immediate_funct7 op * 2 ^ 5 + n) rs1 (immediate_funct3 op) rd 0b0010011 (omega arith) b1 (immediate_funct3_below op) bd (omega arith)))
 shift_encoded op rd rs1 (negsuc n) bd b1 selects = absurd selects.2
 
 pub immediate_encoded : (op : ImmOp) (rd rs1 : ℕ) (imm : ℤ) → IsRegister rd → IsRegister rs1 → SelectsImmediate op imm → decode_of (encode_of (Immediate op rd rs1 imm)) ≡ Some (Immediate op rd rs1 imm)
@@ -199,17 +214,17 @@ encoded (Jalr rd rs1 offset) v =
     jump_read _ rd rs1 offset v.2 (i_fields (bits_of 12 offset) rs1 0 rd 0b1100111 (bits_of_below 12 offset refl v.2) v.1 (omega arith) v.0 (omega arith))
 encoded (Branch op rs1 rs2 offset) v =
     branch_read _ op rs1 rs2 offset v.2 v.3
-      (r_fields _ rs2 rs1 (branch_funct3 op) _ 0b1100011 (omega arith) v.1 v.0 (branch_funct3_below op) (omega arith) (omega arith))
+    (r_fields _ rs2 rs1 (branch_funct3 op) _ 0b1100011 (omega arith) v.1 v.0 (branch_funct3_below op) (omega arith) (omega arith))
 encoded (Load op rd rs1 offset) v =
     load_read _ op rd rs1 offset v.2 (i_fields (bits_of 12 offset) rs1 (load_funct3 op) rd 0b0000011 (bits_of_below 12 offset refl v.2) v.1 (load_funct3_below op) v.0 (omega arith))
 encoded (Store op rs1 rs2 offset) v =
     store_read _ op rs1 rs2 offset v.2
-      (r_fields _ rs2 rs1 (store_funct3 op) _ 0b0100011 (omega arith) v.1 v.0 (store_funct3_below op) (omega arith) (omega arith))
+    (r_fields _ rs2 rs1 (store_funct3 op) _ 0b0100011 (omega arith) v.1 v.0 (store_funct3_below op) (omega arith) (omega arith))
 encoded (Immediate op rd rs1 imm) v =
     elim (immediate_selects op imm v.2) [ inl selects ↦ immediate_encoded op rd rs1 imm v.0 v.1 selects | inr selects ↦ shift_encoded op rd rs1 imm v.0 v.1 selects ]
 encoded (Register op rd rs1 rs2) v =
     register_read _ op rd rs1 rs2
-      (r_fields (register_funct7 op) rs2 rs1 (register_funct3 op) rd 0b0110011 (register_funct7_below op) v.2 v.1 (register_funct3_below op) v.0 (omega arith))
+    (r_fields (register_funct7 op) rs2 rs1 (register_funct3 op) rd 0b0110011 (register_funct7_below op) v.2 v.1 (register_funct3_below op) v.0 (omega arith))
 encoded (Fence rd rs1 imm) v = fence_read _ rd rs1 imm v.2 (i_fields imm rs1 0 rd 0b0001111 v.2 v.1 (omega arith) v.0 (omega arith))
 encoded Ecall v = ecall_read
 encoded Ebreak v = ebreak_read

@@ -1,5 +1,5 @@
 -- The fields of a word that is put together, and a word put together again from its fields.
-use Rattle.std.proofs.Common.{◌≡◌, ℕ, zero, suc, ◌+◌, ◌-◌, ◌*◌, ◌/◌, ◌%◌, ◌^◌, ◌<◌, ◌≤◌, Bool, true, false, nat_eq, refl, ap, arith, if◌then◌else◌}
+use Rattle.std.proofs.Common.{◌≡◌, ℕ, zero, suc, ◌+◌, ◌*◌, ◌/◌, ◌%◌, ◌^◌, ◌<◌, Bool, true, false, nat_eq, refl, arith}
 use Rattle.rv_decode.specs.Table.{field, aq_of, rl_of}
 use Rattle.rv_decode.specs.Encode.{bit_of, r_word, i_word, s_word, b_word, u_word, j_word, atomic_word}
 

@@ -1,7 +1,7 @@
 //! The word of an instruction.
 ghost use Rattle.std.specs.Prelude.{◌≡◌, ◌+◌, ◌*◌, ◌^◌, ◌<◌, ◌≤◌, ℕ, Some};
 ghost use Rattle.rv_decode.specs.Table.{field, decode_of};
-ghost use Rattle.rv_decode.specs.Valid.{FitsBits, IsValid, IsRegister, IsUpper};
+ghost use Rattle.rv_decode.specs.Valid.{FitsBits, FitsOperation, IsValid, IsRegister, IsUpper};
 ghost use Rattle.rv_decode.specs.Encode.{encode_of, bits_of, bit_of, r_word, i_word, s_word, b_word, u_word, j_word, atomic_word, branch_funct3, load_funct3, store_funct3, immediate_funct3, immediate_funct7, register_funct3, register_funct7, amo_funct5};
 
 use crate::fields::bits;
@@ -172,7 +172,14 @@ fn s_word(imm: u32, rs2: Reg, rs1: Reg, funct3: u32, opcode: u32) -> u32
     requires opcode { opcode < 128 }
     ensures { result ≡ s_word imm rs2 rs1 funct3 opcode }
 {
-    r_word(bits(imm, 5, 7), rs2, rs1, funct3, Reg(bits(imm, 0, 5) as u8), opcode)
+    r_word(
+        bits(imm, 5, 7),
+        rs2,
+        rs1,
+        funct3,
+        Reg(bits(imm, 0, 5) as u8),
+        opcode,
+    )
 }
 
 #[tactic(auto, unfolding(crate::specs::Encode::b_word))]
@@ -220,4 +227,78 @@ fn atomic_word(funct5: u32, aq: bool, rl: bool, rs2: Reg, rs1: Reg, rd: Reg) -> 
 {
     let funct7 = (funct5 << 2) + (u32::from(aq) << 1) + u32::from(rl);
     r_word(funct7, rs2, rs1, 0b010, rd, 0b010_1111)
+}
+
+/// The word of an operation with an immediate: of 12 bits, or the amount of a shift below its funct7.
+fn immediate_word(op: ImmOp, rd: Reg, rs1: Reg, imm: i32) -> u32
+    requires rd { IsRegister rd }
+    requires rs1 { IsRegister rs1 }
+    requires imm { FitsOperation op imm }
+    ensures { result ≡ i_word (immediate_funct7 op * 2 ^ 5 + bits_of 12 imm) rs1 (immediate_funct3 op) rd 0b0010011 }
+{
+    let number = (immediate_funct7(op) << 5) + bits_of(imm, 12);
+    i_word(number, rs1, immediate_funct3(op), rd, 0b001_0011)
+}
+
+/// The word of a valid instruction, which `decode` takes back to it.
+#[tactic(auto, using(crate::proofs::Encoded::encoded), unfolding(crate::specs::Encode::encode_of))]
+pub fn encode(instr: &Instr) -> u32
+    requires { IsValid instr.now }
+    ensures word { result ≡ encode_of instr.now }
+    ensures decoded { decode_of result ≡ Some instr.now }
+{
+    match *instr {
+        Instr::Lui { rd, imm } => u_word(imm, rd, 0b011_0111),
+        Instr::Auipc { rd, imm } => u_word(imm, rd, 0b001_0111),
+        Instr::Jal { rd, offset } => j_word(bits_of(offset, 21), rd, 0b110_1111),
+        Instr::Jalr { rd, rs1, offset } => i_word(bits_of(offset, 12), rs1, 0b000, rd, 0b110_0111),
+        Instr::Branch {
+            op,
+            rs1,
+            rs2,
+            offset,
+        } => { b_word(bits_of(offset, 13), rs2, rs1, branch_funct3(op), 0b110_0011) }
+        Instr::Load {
+            op,
+            rd,
+            rs1,
+            offset,
+        } => { i_word(bits_of(offset, 12), rs1, load_funct3(op), rd, 0b000_0011) }
+        Instr::Store {
+            op,
+            rs1,
+            rs2,
+            offset,
+        } => { s_word(bits_of(offset, 12), rs2, rs1, store_funct3(op), 0b010_0011) }
+        Instr::Immediate { op, rd, rs1, imm } => immediate_word(op, rd, rs1, imm),
+        Instr::Register { op, rd, rs1, rs2 } => {
+            r_word(
+                register_funct7(op),
+                rs2,
+                rs1,
+                register_funct3(op),
+                rd,
+                0b011_0011,
+            )
+        }
+        Instr::Fence { rd, rs1, imm } => i_word(imm, rs1, 0b000, rd, 0b000_1111),
+        Instr::Ecall => 0x0000_0073,
+        Instr::Ebreak => 0x0010_0073,
+        Instr::Lr { rd, rs1, aq, rl } => atomic_word(0b00010, aq, rl, Reg(0), rs1, rd),
+        Instr::Sc {
+            rd,
+            rs1,
+            rs2,
+            aq,
+            rl,
+        } => atomic_word(0b00011, aq, rl, rs2, rs1, rd),
+        Instr::Amo {
+            op,
+            rd,
+            rs1,
+            rs2,
+            aq,
+            rl,
+        } => atomic_word(amo_funct5(op), aq, rl, rs2, rs1, rd),
+    }
 }
