@@ -4,3 +4,7 @@ pub mod Known
 mod Rows
 mod Grouped
 mod Signed
+mod Words
+mod Selected
+mod Decoded
+mod Encoded

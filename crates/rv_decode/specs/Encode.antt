@@ -1,5 +1,5 @@
 -- The word of an instruction, by the formats of RV32I ("Base Instruction Formats", "Immediate Encoding Variants").
-use Rattle.std.specs.Prelude.{ℕ, ◌+◌, ◌*◌, ◌/◌, ◌%◌, ◌^◌, ◌-◌, Bool, true, false, ℤ, pos, negsuc, if◌then◌else◌}
+use Rattle.std.specs.Prelude.{ℕ, ◌+◌, ◌*◌, ◌^◌, ◌-◌, Bool, true, false, ℤ, pos, negsuc}
 use Rattle.rv_decode.specs.declared.instructions.BranchOp.{BranchOp}
 use Rattle.rv_decode.specs.declared.instructions.BranchOp.TheVariants.{Beq, Bne, Blt, Bge, Bltu, Bgeu}
 use Rattle.rv_decode.specs.declared.instructions.LoadOp.{LoadOp}
