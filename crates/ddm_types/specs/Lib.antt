@@ -1,3 +1,5 @@
 pub mod ItemTable
+pub mod ItemRuns
+pub mod ItemRows
 pub mod CodeMap
 pub mod Keys

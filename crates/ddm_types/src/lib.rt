@@ -3,6 +3,8 @@
 #![tactic(auto)]
 
 mod answers;
+mod code_map;
+mod item_table;
 mod keys;
 mod numbers;
 mod operations;
@@ -10,6 +12,8 @@ mod sizes;
 mod turns;
 
 pub use answers::{BusyCause, LogEntry, PendingWhy, Place, QueueName, TurnAnswer, TxKind};
+pub use code_map::{Code, CodePart};
+pub use item_table::{Items, MOST_ITEMS, count_items};
 pub use keys::{Key, LEVELS, Stamp};
 pub use numbers::{BusNo, ChildNo, HartNo, ItemId, LeafNo, NoMemory, Words};
 pub use operations::{Effect, HaltCause, Op};

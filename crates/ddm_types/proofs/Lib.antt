@@ -1,0 +1,7 @@
+pub mod Ascending
+pub mod Entries
+mod Examples
+pub mod Parts
+pub mod Permuted
+pub mod Rows
+pub mod Runs

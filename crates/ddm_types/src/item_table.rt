@@ -1,0 +1,295 @@
+ghost use Rattle.std.specs.Prelude.{◌≡◌, ◌+◌, ◌*◌, ◌^◌, ◌<◌, ◌≤◌, ◌++◌, All, IfOk, OnOk, length, map};
+ghost use Rattle.std.specs.List.{flat_map, list_any};
+ghost use Rattle.ddm_types.specs.ItemTable.{IsItemSize, item_at, item_count, item_numbers, item_row, items_of, row_at, span_end, writes};
+ghost use Rattle.ddm_types.specs.ItemRuns.{AreRunsFrom, run_numbers, run_of, swept};
+ghost use Rattle.ddm_types.specs.ItemRows.{row_of};
+
+use crate::numbers::{ItemId, NoMemory};
+use crate::sizes::Span;
+use std::alloc::Global;
+use std::marker::Model;
+
+/// Items that lie one behind the other: those from number `first` on and below number `end`.
+#[derive(Clone, Copy)]
+struct Run {
+    first: u32,
+    end: u32,
+}
+
+/// The items that a span overlaps.
+fn run_of(span: &Span, item_bytes: u32) -> Run
+    requires size { IsItemSize item_bytes }
+    requires ends { span_end span.now ≤ 2 ^ 32 }
+    ensures run { result ≡ run_of item_bytes span.now }
+    ensures bound { result.end * item_bytes ≤ 2 ^ 32 }
+{
+    let first = span.start / item_bytes;
+    if span.bytes == 0 {
+        return Run { first, end: first };
+    }
+    let last = (u64::from(span.start) + span.bytes - 1) / u64::from(item_bytes);
+    Run {
+        first,
+        end: last as u32 + 1,
+    }
+}
+
+/// The items that some span overlaps, as runs in order that have no item twice.
+fn runs_of(alloc: Global, spans: &[Span], item_bytes: u32) -> Result<Vec<Run>, NoMemory>
+    requires size { IsItemSize item_bytes }
+    requires ends { All (λ span. span_end span ≤ 2 ^ 32) spans.now }
+    ensures numbers { IfOk result (λ runs. flat_map run_numbers runs.items ≡ item_numbers item_bytes spans.now) }
+    ensures in_order { IfOk result (λ runs. AreRunsFrom 0 runs.items) }
+    ensures bound { IfOk result (λ runs. All (λ run. run.end * item_bytes ≤ 2 ^ 32) runs.items) }
+{
+    let mut overlapped = Vec::new(alloc);
+    for span in spans {
+        overlapped.push(run_of(span, item_bytes))?;
+    }
+    overlapped.sort_by_key(|run| run.first)?;
+    new_in_each(alloc, &overlapped)
+}
+
+/// What is new in each of the runs, which stand in order of their first items.
+fn new_in_each(alloc: Global, overlapped: &[Run]) -> Result<Vec<Run>, NoMemory>
+    ensures { IfOk result (λ runs. runs.items ≡ swept 0 overlapped.now) }
+{
+    let mut runs = Vec::new(alloc);
+    let mut next = 0;
+    for run in overlapped {
+        let first = run.first.max(next);
+        if first < run.end {
+            runs.push(Run {
+                first,
+                end: run.end,
+            })?;
+            next = run.end;
+        }
+    }
+    Ok(runs)
+}
+
+/// How many items of this many bytes the spans overlap.
+pub fn count_items(alloc: Global, spans: &[Span], item_bytes: u32) -> Result<u64, NoMemory>
+    requires size { IsItemSize item_bytes }
+    requires ends { All (λ span. span_end span ≤ 2 ^ 32) spans.now }
+    ensures { IfOk result (λ count. count ≡ item_count (items_of item_bytes spans.now)) }
+{
+    let runs = runs_of(alloc, spans, item_bytes)?;
+    let mut count = 0;
+    for run in &runs {
+        count += u64::from(run.end - run.first);
+    }
+    Ok(count)
+}
+
+/// The most items that a table holds.
+pub const MOST_ITEMS: u32 = 65_536;
+
+/// An item.
+#[derive(Clone, Copy)]
+struct Row {
+    address: u32,
+    writable: bool,
+}
+
+/// The table of items. A contract sees it as the size of an item and the items in order of address, each
+/// with its address and whether it is writable.
+#[derive(Drop)]
+pub struct Items {
+    item_bytes: u32,
+    rows: Vec<Row>,
+}
+
+impl Model for Items {
+    ghost use Rattle.std.specs.Prelude.{map};
+    ghost use Rattle.ddm_types.specs.ItemTable.{ItemTable};
+    ghost use Rattle.ddm_types.specs.ItemRows.{row_of, AreRows};
+
+    ghost Value = { ItemTable };
+
+    ghost view = { λ table. record { size = table.item_bytes; rows = map row_of table.rows.items } };
+
+    ghost invariant = { λ table. AreRows table.item_bytes table.rows.items };
+}
+
+/// Whether the span is writable and overlaps the item at this address.
+fn lets_write(span: &Span, item_bytes: u32, address: u32) -> bool
+    requires { span_end span.now ≤ 2 ^ 32 }
+    ensures { result ≡ writes item_bytes address span.now }
+{
+    let start = u64::from(span.start);
+    let address = u64::from(address);
+    span.writable
+        && span.bytes > 0
+        && start < address + u64::from(item_bytes)
+        && address < start + span.bytes
+}
+
+/// Whether a writable span overlaps the item at this address.
+fn is_writable(spans: &[Span], item_bytes: u32, address: u32) -> bool
+    requires { All (λ span. span_end span ≤ 2 ^ 32) spans.now }
+    ensures { result ≡ list_any (writes item_bytes address) spans.now }
+{
+    for span in spans {
+        if lets_write(span, item_bytes, address) {
+            return true;
+        }
+    }
+    false
+}
+
+/// Adds the items of a run.
+fn push_items(
+    rows: &mut Vec<Row>,
+    run: Run,
+    spans: &[Span],
+    item_bytes: u32,
+) -> Result<(), NoMemory>
+    requires ends { All (λ span. span_end span ≤ 2 ^ 32) spans.now }
+    requires size { IsItemSize item_bytes }
+    requires bound { run.end * item_bytes ≤ 2 ^ 32 }
+    ensures { OnOk result (map row_of rows.new.items ≡ map row_of rows.old.items ++ map (item_row item_bytes spans.now) (run_numbers run)) }
+{
+    for number in run.first..run.end {
+        let address = number * item_bytes;
+        let writable = is_writable(spans, item_bytes, address);
+        rows.push(Row { address, writable })?;
+    }
+    Ok(())
+}
+
+impl Items {
+    /// The items of this many bytes that the spans overlap.
+    pub fn from_spans(alloc: Global, spans: &[Span], item_bytes: u32) -> Result<Items, NoMemory>
+        requires size { IsItemSize item_bytes }
+        requires ends { All (λ span. span_end span ≤ 2 ^ 32) spans.now }
+        requires few { item_count (items_of item_bytes spans.now) ≤ MOST_ITEMS }
+        ensures { IfOk result (λ items. items ≡ items_of item_bytes spans.now) }
+    {
+        let runs = runs_of(alloc, spans, item_bytes)?;
+        let mut rows = Vec::new(alloc);
+        for run in &runs {
+            push_items(&mut rows, *run, spans, item_bytes)?;
+        }
+        Ok(Items { item_bytes, rows })
+    }
+
+    /// The number of items.
+    pub fn len(&self) -> u32
+        ensures { result ≡ item_count self.now }
+    {
+        self.rows.len() as u32
+    }
+
+    /// The item that has the byte at this address.
+    pub fn find(&self, address: u32) -> Option<ItemId>
+        ensures { result ≡ item_at self.now address }
+    {
+        let after = self.rows.partition_point(|row| row.address <= address);
+        if after == 0 {
+            return None;
+        }
+        let row = &self.rows[after - 1];
+        if address - row.address < self.item_bytes {
+            Some(ItemId((after - 1) as u32))
+        } else {
+            None
+        }
+    }
+
+    /// The address of the item's first byte.
+    pub fn address(&self, item: ItemId) -> u32
+        requires { item < item_count self.now }
+        ensures { result ≡ (row_at self.now item).address }
+    {
+        self.rows[item.0 as usize].address
+    }
+
+    /// Whether the item may be written.
+    pub fn writable(&self, item: ItemId) -> bool
+        requires { item < item_count self.now }
+        ensures { result ≡ (row_at self.now item).writable }
+    {
+        self.rows[item.0 as usize].writable
+    }
+}
+
+#[cfg(test)]
+mod tests {
+    use super::*;
+    use std::test::Fail;
+
+    const CODE: Span = Span {
+        start: 0x10000,
+        bytes: 28,
+        writable: false,
+    };
+
+    const DATA: Span = Span {
+        start: 0x20000,
+        bytes: 16,
+        writable: true,
+    };
+
+    const STACK: Span = Span {
+        start: 0x30000,
+        bytes: 16,
+        writable: true,
+    };
+
+    fn made(alloc: Global, spans: &[Span], item_bytes: u32) -> Result<Items, NoMemory>
+        requires size { IsItemSize item_bytes }
+        requires ends { All (λ span. span_end span ≤ 2 ^ 32) spans.now }
+    {
+        let count = count_items(alloc, spans, item_bytes)?;
+        if count > u64::from(MOST_ITEMS) {
+            return Err(NoMemory);
+        }
+        Items::from_spans(alloc, spans, item_bytes)
+    }
+
+    #[test]
+    fn narrow_items(rt: HostRuntime) -> Result<(), Fail> {
+        let spans = [STACK, CODE, DATA];
+        assert_eq!(rt; count_items(rt.alloc(), &spans, 16)?, 4);
+        let items = made(rt.alloc(), &spans, 16)?;
+        assert_eq!(rt; items.len(), 4);
+        assert_eq!(rt; items.address(ItemId(1)), 0x10010);
+        assert!(rt; !items.writable(ItemId(1)));
+        assert_eq!(rt; items.address(ItemId(2)), 0x20000);
+        assert!(rt; items.writable(ItemId(2)));
+        assert_eq!(rt; items.find(0x1001f), Some(ItemId(1)));
+        assert_eq!(rt; items.find(0x10020), None);
+        Ok(())
+    }
+
+    #[test]
+    fn wide_items(rt: HostRuntime) -> Result<(), Fail> {
+        let spans = [STACK, CODE, DATA];
+        assert_eq!(rt; count_items(rt.alloc(), &spans, 64)?, 3);
+        let items = made(rt.alloc(), &spans, 64)?;
+        assert_eq!(rt; items.len(), 3);
+        assert_eq!(rt; items.find(0x2003f), Some(ItemId(1)));
+        Ok(())
+    }
+
+    #[test]
+    fn shared_item(rt: HostRuntime) -> Result<(), Fail> {
+        let first = Span {
+            start: 0x20000,
+            bytes: 4,
+            writable: true,
+        };
+        let second = Span {
+            start: 0x20008,
+            bytes: 4,
+            writable: false,
+        };
+        let items = made(rt.alloc(), &[first, second], 16)?;
+        assert_eq!(rt; items.len(), 1);
+        assert_eq!(rt; items.address(ItemId(0)), 0x20000);
+        assert!(rt; items.writable(ItemId(0)));
+        Ok(())
+    }
+}
