@@ -9,6 +9,8 @@ use Rattle.ddm_types.specs.ItemTable.{ItemTable, ItemRow, row_at, row_has, item_
 use Rattle.rv_decode.specs.declared.instructions.Instr.{Instr}
 use Rattle.rv_decode.specs.declared.instructions.Instr.TheVariants.{Lui, Auipc, Jal, Jalr, Branch, Load, Store, Immediate, Register, Fence, Ecall, Ebreak, Lr, Sc, Amo}
 use Rattle.rv_decode.specs.Table.{decode_of}
+use Rattle.flat_model.specs.declared.Ask.{Ask}
+use Rattle.flat_model.specs.declared.Ask.TheVariants.{Conditional}
 use Rattle.flat_model.specs.Hart.{HartValue, Finished, Access, Action, with_register, next_pc, Halts, Computes, Puts, Loads, Stores, Reserves, StoresIfReserved, Changes, register, access_in, aligned, load_bytes, store_bytes, offset_by, is_taken, load_found, load_at, store_found, store_at, jump, call, advanced, instr_action, decoded_action, fetched_action, action_of, ask_by, ask_of, finish_by, finish_of}
 use Rattle.flat_model.specs.Flat.{FlatHart, Stored, Change, has_reserved, conditional, change_by, unless_halted, asked_item, hart_step}
 use Rattle.flat_model.specs.Legal.{effect_item, is_change, HasWholeWords}
@@ -124,16 +126,18 @@ action_in_item code items h = fetched (word_at code h.pc) where
 -- ---- effects and steps
 
 -- An effect that stores is that of a step that does. Its item is the one that was asked for, but that a failed SC has none.
-abbrev pub FollowsAsk : ItemTable → Option ℕ → Change → Type 0
-FollowsAsk items asked c = (is_change c.effect ≡ is_some c.stored) × ((effect_item items c.effect ≡ asked) ⊎ ((effect_item items c.effect ≡ None) × (c.stored ≡ None)))
+abbrev pub FollowsAsk : ItemTable → Ask → Change → Type 0
+FollowsAsk items ask c =
+    (is_change c.effect ≡ is_some c.stored)
+    × ((effect_item items c.effect ≡ asked_item ask) ⊎ ((x : ℕ) × (ask ≡ Conditional x) × (effect_item items c.effect ≡ None) × (c.stored ≡ None)))
 
-follows : (items : ItemTable) (asked : Option ℕ) (known c : Change) → (let r : Result Change HaltCause = Ok known in r ≡ Ok c) → FollowsAsk items asked known → FollowsAsk items asked c
-follows items asked known c e f = subst (FollowsAsk items asked) (ap (change_or known) e) f where
+follows : (items : ItemTable) (ask : Ask) (known c : Change) → (let r : Result Change HaltCause = Ok known in r ≡ Ok c) → FollowsAsk items ask known → FollowsAsk items ask c
+follows items ask known c e f = subst (FollowsAsk items ask) (ap (change_or known) e) f where
   change_or : Change → Result Change HaltCause → Change
   change_or d (Ok k) = k
   change_or d (Err cause) = d
 
-change_follows : (items : ItemTable) (act : Action) (h : HartValue) (reserved : Option ℕ) (words : ℕ → List ℕ) (sc_ok : Bool) (c : Change) → HasWholeWords items → IsInItem items act → change_by (ask_by act) reserved (finish_by act h) words sc_ok ≡ Ok c → FollowsAsk items (asked_item (ask_by act)) c
+change_follows : (items : ItemTable) (act : Action) (h : HartValue) (reserved : Option ℕ) (words : ℕ → List ℕ) (sc_ok : Bool) (c : Change) → HasWholeWords items → IsInItem items act → change_by (ask_by act) reserved (finish_by act h) words sc_ok ≡ Ok c → FollowsAsk items (ask_by act) c
 change_follows items (Halts cause) h reserved words sc_ok c whole at e = grind arith
 change_follows items (Computes after) h reserved words sc_ok c whole at e = follows items _ _ c e (refl, inl refl)
 change_follows items (Puts byte after) h reserved words sc_ok c whole at e = follows items _ _ c e (refl, inl refl)
@@ -141,14 +145,14 @@ change_follows items (Loads op rd a) h reserved words sc_ok c whole at e = follo
 change_follows items (Stores op v a) h reserved words sc_ok c whole at e = follows items _ _ c e (refl, inl (item_at_word items a.address whole ∙ at a refl))
 change_follows items (Reserves rd a) h reserved words sc_ok c whole at e = follows items _ _ c e (refl, inl (item_at_word items a.address whole ∙ at a refl))
 change_follows items (StoresIfReserved rd v a) h reserved words sc_ok c whole at e = go (sc_ok && has_reserved reserved a.item) e where
-  go : (b : Bool) → (let r : Result Change HaltCause = Ok (conditional b a.item (finish_by (StoresIfReserved rd v a) h (words a.item))) in r ≡ Ok c) → FollowsAsk items (Some a.item) c
+  go : (b : Bool) → (let r : Result Change HaltCause = Ok (conditional b a.item (finish_by (StoresIfReserved rd v a) h (words a.item))) in r ≡ Ok c) → FollowsAsk items (Conditional a.item) c
   go true e = follows items _ _ c e (refl, inl (item_at_word items a.address whole ∙ at a refl))
-  go false e = follows items _ _ c e (refl, inr (refl, refl))
+  go false e = follows items _ _ c e (refl, inr (a.item, refl, refl, refl))
 change_follows items (Changes op rd v a) h reserved words sc_ok c whole at e = follows items _ _ c e (refl, inl (item_at_word items a.address whole ∙ at a refl))
 
-pub step_follows : (code : List CodeWord) (items : ItemTable) (g : FlatHart) (words : ℕ → List ℕ) (sc_ok : Bool) (c : Change) → HasWholeWords items → hart_step code items g words sc_ok ≡ Ok c → FollowsAsk items (asked_item (ask_of code items g.hart)) c
+pub step_follows : (code : List CodeWord) (items : ItemTable) (g : FlatHart) (words : ℕ → List ℕ) (sc_ok : Bool) (c : Change) → HasWholeWords items → hart_step code items g words sc_ok ≡ Ok c → FollowsAsk items (ask_of code items g.hart) c
 unfolding hart_step ask_of finish_of
 step_follows code items g words sc_ok c whole e = go g.hart.halt e where
-  go : (halt : Option HaltCause) → unless_halted halt (change_by (ask_of code items g.hart) g.reserved (finish_of code items g.hart) words sc_ok) ≡ Ok c → FollowsAsk items (asked_item (ask_of code items g.hart)) c
+  go : (halt : Option HaltCause) → unless_halted halt (change_by (ask_of code items g.hart) g.reserved (finish_of code items g.hart) words sc_ok) ≡ Ok c → FollowsAsk items (ask_of code items g.hart) c
   go None e = change_follows items (action_of code items g.hart) g.hart g.reserved words sc_ok c whole (action_in_item code items g.hart) e
   go (Some cause) e = grind arith

@@ -5,3 +5,4 @@ pub mod Runs
 pub mod Steps
 pub mod Frames
 pub mod Items
+pub mod Insert

@@ -1,6 +1,9 @@
 //! The instructions of RV32IA without compressed forms, and the table that says which word is which.
 #![tactic(auto)]
 
+ghost use Rattle.std.specs.Prelude.{◌≡◌, ◌↔◌, ℕ};
+ghost use Rattle.rv_decode.specs.Table.{decode_of, Decodes};
+ghost use Rattle.rv_decode.specs.declared.instructions.Instr.{Instr};
 ghost use Rattle.rv_decode.specs.Examples.{InstructionVectors, OutsideVectors, ProgramWords, JumpWords, MemoryWords, ImmediateWords, RegisterWords, AtomicWords};
 
 mod instructions;
@@ -23,4 +26,9 @@ pub fn assembler_words()
     ensures immediates { ImmediateWords }
     ensures registers { RegisterWords }
     ensures atomics { AtomicWords }
+{}
+
+/// A word fits at most one row of the table, and the decoder's answer is what that row makes.
+pub fn one_row_for_a_word()
+    ensures { (word : ℕ) (i : Instr) → Decodes word i ↔ (decode_of word ≡ Some i) }
 {}
