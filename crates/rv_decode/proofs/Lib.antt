@@ -1,3 +1,5 @@
 pub mod Vectors
 pub mod OneRow
 pub mod Known
+mod Rows
+mod Grouped

@@ -1,3 +1,4 @@
 pub mod Table
 pub mod Computing
 pub mod Examples
+pub mod Selectors

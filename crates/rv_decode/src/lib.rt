@@ -6,8 +6,11 @@ ghost use Rattle.rv_decode.specs.Table.{decode_of, Decodes};
 ghost use Rattle.rv_decode.specs.declared.instructions.Instr.{Instr};
 ghost use Rattle.rv_decode.specs.Examples.{InstructionVectors, OutsideVectors, ProgramWords, JumpWords, MemoryWords, ImmediateWords, RegisterWords, AtomicWords};
 
+mod decoding;
+mod fields;
 mod instructions;
 
+pub use decoding::decode;
 pub use instructions::{AmoOp, BranchOp, ImmOp, Instr, LoadOp, Reg, RegOp, StoreOp};
 
 /// The table gives the published vectors: words that are instructions, and words outside the table.
