@@ -1,1 +1,2 @@
 pub mod HartState
+pub mod Steps

@@ -3,6 +3,9 @@
 #![tactic(auto)]
 
 mod bytes;
+mod hart;
 mod results;
+mod steps;
 
 pub use flat_model::Ask;
+pub use hart::Hart;
