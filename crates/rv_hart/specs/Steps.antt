@@ -98,6 +98,11 @@ HasNoAccess _ = Unit {0}
 
 -- ---- its end
 
+-- the action isn't a halt
+abbrev pub GoesOn : Action → Type 0
+GoesOn (Halts cause) = ⊥
+GoesOn _ = Unit {0}
+
 -- what is asked isn't a halt
 abbrev pub IsReady : Ask → Type 0
 IsReady Plain = Unit {0}

@@ -1,7 +1,7 @@
 //! What an instruction does, as far as that is known before the words of its item are.
 ghost use Rattle.std.specs.Prelude.{◌≡◌, ◌*◌, ◌<◌, IfOk, IsSome};
 ghost use Rattle.ddm_types.specs.ItemTable.{item_at};
-ghost use Rattle.flat_model.specs.Hart.{access_in, aligned, load_at, store_at, load_bytes, store_bytes, Loads, Stores, Reserves, StoresIfReserved, Changes, HartValue};
+ghost use Rattle.flat_model.specs.Hart.{access_in, aligned, byte_place, word_address, load_at, store_at, load_bytes, store_bytes, Loads, Stores, Reserves, StoresIfReserved, Changes, HartValue};
 ghost use Rattle.rv_hart.specs.Steps.{load_item, store_item, access_value, action_by, IsInside};
 
 use crate::bytes::{load_bytes, store_bytes};
@@ -14,6 +14,22 @@ pub struct Access {
     pub address: u32,
     pub item: ItemId,
     pub place: usize,
+}
+
+impl Access {
+    /// The address of the aligned word.
+    pub fn word_address(&self) -> u32
+        ensures { result ≡ word_address (access_value self.now) }
+    {
+        self.address / 4 * 4
+    }
+
+    /// The place of the byte in its word.
+    pub fn byte_place(&self) -> usize
+        ensures { result ≡ byte_place (access_value self.now) }
+    {
+        (self.address % 4) as usize
+    }
 }
 
 /// The hart halts, goes on, writes a register and goes on, jumps, jumps and puts the pc behind the
