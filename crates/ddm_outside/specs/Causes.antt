@@ -1,10 +1,10 @@
 use Rattle.std.specs.Prelude.{ℕ, ◌+◌, ◌-◌, ◌^◌, ◌≤◌, min, Result, OnErr}
 
--- a count one higher; at its last value it stays
+-- a count of 64 bits one higher; at its last value it stays
 abbrev pub raised : ℕ → ℕ
 raised count = min (count + 1) (2 ^ 64 - 1)
 
--- a count is greater now than before, or has its last value
+-- such a count is greater now than before, or has its last value
 abbrev pub Rose : ℕ → ℕ → Type 0
 Rose before now = raised before ≤ now
 

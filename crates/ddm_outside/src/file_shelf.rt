@@ -1,4 +1,4 @@
-ghost use Rattle.std.specs.Prelude.{◌≡◌, ℕ, ◌<◌, ◌≤◌, List, None, IfOk, OnOk, OnErr, length};
+ghost use Rattle.std.specs.Prelude.{◌≡◌, ◌<◌, ◌≤◌, None, IfOk, OnOk, OnErr, length};
 ghost use Rattle.ddm_outside.specs.Causes.{raised, HasCause};
 ghost use Rattle.ddm_outside.specs.Telling.{ReadsTold};
 
@@ -7,7 +7,8 @@ use std::fs;
 use std::io::{Read, Seek, SeekFrom};
 use std::rt::Files;
 
-/// The files of the system, by their paths. It tells nothing of them.
+/// The files of the system, by their paths. It tells nothing of them, and all names share one count of
+/// the reads that failed. The count stays at its last value.
 #[derive(Drop)]
 pub struct FileShelf<'a, R: Files> {
     rt: &'a R,
@@ -46,7 +47,7 @@ impl<'a, R: Files> Shelf for FileShelf<'a, R> {
         ensures bound { IfOk result (λ n. n ≤ length into.new) }
         ensures told { ReadsTold None at result into.new }
         ensures cause { HasCause (count_of self.old) (count_of self.new) result }
-        ensures later { (other : List ℕ) → count_of self.old ≤ count_of self.new }
+        ensures later { count_of self.old ≤ count_of self.new }
 
         // What is counted.
         ensures sound { OnOk result (count_of self.new ≡ count_of self.old) }

@@ -8,7 +8,8 @@ use crate::named_files::{copy_part, place_named};
 use crate::{Failed, NamedFile, Shelf};
 
 /// A shelf in memory, which tells its files and fails where it is told to. Of two files with one name
-/// only the first is read.
+/// only the first is read and counted. The names that it doesn't have share one count. A count, and the
+/// number of the next read, stay at their last value.
 #[derive(Drop)]
 pub struct MemoryShelf {
     files: Vec<NamedFile>,
@@ -38,7 +39,8 @@ impl MemoryShelf {
 }
 
 impl Shelf for MemoryShelf {
-    ghost use Rattle.ddm_outside.specs.MemoryShelf.{told_of, count_of, next_read, failing_reads, FailsNext, RaisesCount};
+    ghost use Rattle.ddm_outside.specs.MemoryShelf.{told_of, count_of, next_read, failing_reads};
+    ghost use Rattle.ddm_outside.specs.MemoryShelf.{FailsNext, RaisesCount};
 
     ghost told = { told_of };
 
@@ -54,7 +56,8 @@ impl Shelf for MemoryShelf {
 
         // Which reads fail, and how many bytes the others give.
         ensures fails { IsErr result ↔ FailsNext self.old name.now }
-        ensures amount { IfOk result (λ n. IfSome (told_of self.old name.now) (λ file. n ≡ min (length into.old) (length file - at))) }
+        ensures amount { IfOk result (λ n. IfSome (told_of self.old name.now)
+            (λ file. n ≡ min (length into.old) (length file - at))) }
 
         // What is counted.
         ensures sound { OnOk result (count_of self.new ≡ count_of self.old) }

@@ -8,7 +8,7 @@ use ddm_types::NoMemory;
 use std::alloc::Global;
 
 /// A sink in memory, which tells what it holds and fails where it is told to. It takes at most so many
-/// bytes in a write.
+/// bytes in a write. Its count, and the number of the next write, stay at their last value.
 #[derive(Drop)]
 pub struct MemorySink {
     held: Vec<u8>,
@@ -23,7 +23,8 @@ pub struct MemorySink {
 }
 
 impl MemorySink {
-    ghost use Rattle.ddm_outside.specs.MemorySink.{held_bytes, room_of, take_of, count_of, next_write, failing_writes};
+    ghost use Rattle.ddm_outside.specs.MemorySink.{held_bytes, room_of, take_of, count_of};
+    ghost use Rattle.ddm_outside.specs.MemorySink.{next_write, failing_writes};
 
     /// A sink that holds nothing yet. It takes memory for its room here, and none later. The writes are
     /// numbered from 0, and those whose numbers are listed fail.
@@ -51,6 +52,7 @@ impl MemorySink {
         })
     }
 
+    /// All bytes that it has taken.
     pub fn bytes(&self) -> &[u8]
         ensures { result.now ≡ held_bytes self.now }
     {
@@ -67,7 +69,8 @@ impl Sink for MemorySink {
 
     fn write(&mut self, bytes: &[u8]) -> Result<usize, Failed>
         requires { 0 < length bytes.now }
-        ensures took { WritesTold (Some (held_bytes self.old)) (Some (held_bytes self.new)) bytes.now result }
+        ensures took { WritesTold (Some (held_bytes self.old)) (Some (held_bytes self.new))
+            bytes.now result }
         ensures cause { HasCause (count_of self.old) (count_of self.new) result }
 
         // Which writes fail, and how many bytes the others take.

@@ -2,7 +2,7 @@ ghost use Rattle.std.specs.Prelude.{◌≡◌, ℕ, ◌<◌, ◌≤◌, List, Op
 ghost use Rattle.ddm_outside.specs.Causes.{HasCause};
 ghost use Rattle.ddm_outside.specs.Telling.{ReadsTold, WritesTold};
 
-/// A read or a write failed, and a count of faults rose.
+/// A read or a write failed, and a count of faults rose or has its last value.
 #[derive(Clone, Copy, Debug, PartialEq, Eq)]
 pub struct Failed;
 
@@ -14,7 +14,8 @@ pub trait Shelf {
     /// How often a read of that name has failed.
     ghost faults: { Self → List ℕ → ℕ };
 
-    /// Fills the front of `into` with bytes of a file from an offset on. None come at the file's end.
+    /// Fills the front of `into` with bytes of a file from an offset on, and answers how many. That is 0
+    /// at the file's end alone. Elsewhere fewer may come than fit.
     fn read(&mut self, name: &str, at: u64, into: &mut [u8]) -> Result<usize, Failed>
         requires { 0 < length into.old }
         ensures bound { IfOk result (λ n. n ≤ length into.new) }

@@ -37,7 +37,8 @@ impl Shelf for SoundShelf {
         ensures same { told_of self.new ≡ told_of self.old }
 
         // No read fails, and each gives what is there and fits.
-        ensures amount { result ≡ Ok (min (length into.old) (length (bytes_or_none (files_of self.old) name.now) - at)) }
+        ensures amount { result ≡ Ok (min (length into.old)
+            (length (bytes_or_none (files_of self.old) name.now) - at)) }
     {
         let Some(place) = place_named(&self.files, name) else {
             return Ok(0);

@@ -11,6 +11,7 @@ pub struct SoundSink {
 impl SoundSink {
     ghost use Rattle.ddm_outside.specs.SoundSink.{taken_by};
 
+    /// A sink that has taken no bytes.
     pub fn new() -> SoundSink
         ensures { taken_by result ≡ 0 }
     {

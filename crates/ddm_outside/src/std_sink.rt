@@ -11,7 +11,8 @@ enum Stream {
     Faults(Stderr),
 }
 
-/// Standard output or standard error. It doesn't tell what it took.
+/// Standard output or standard error. It doesn't tell what it took. A write that takes none of the bytes
+/// fails too. The count of the writes that failed stays at its last value.
 #[derive(Drop)]
 pub struct StdSink {
     stream: Stream,

@@ -1,0 +1,2 @@
+pub mod HartState
+pub mod Steps
