@@ -131,3 +131,12 @@ spelled-answer bytes most (Err refusal) small e = tt
 -- the spelling of a number up to the limit has that answer
 pub answer-spelled : (bytes : List ℕ) (most n : ℕ) (answer : Result ℕ NumberRefusal) → most < 2 ^ 64 → answer ≡ number_of bytes most → n ≤ most → bytes ≡ decimal n → answer ≡ Ok n
 answer-spelled bytes most n answer small e within spelled = e ∙ ap (λ b. number_of b most) spelled ∙ number_of-decimal n most within small
+
+within_limit : (stop : Option ℕ) (value most n : ℕ) → unless_stopped stop (at_most most value) ≡ Ok n → n ≤ most
+within_limit (Some place) value most n e = absurd (cc e)
+within_limit None value most n e = let within = within_by (nat_le value most) value most n refl e in omega (arith, within.0, within.1)
+
+-- a number that is read is not above the limit
+pub number_of-within : (bytes : List ℕ) (most n : ℕ) → number_of bytes most ≡ Ok n → n ≤ most
+unfolding number_of
+number_of-within bytes most n e = within_limit (number_stop bytes) (value_of bytes) most n e

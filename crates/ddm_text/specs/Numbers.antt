@@ -28,6 +28,7 @@ with_digit n byte = n * 10 + (byte - 48)
 abbrev pub value_from : ℕ → List ℕ → ℕ
 value_from n bytes = fold with_digit n bytes
 
+-- the value of digits
 abbrev pub value_of : List ℕ → ℕ
 value_of bytes = value_from 0 bytes
 
@@ -35,6 +36,7 @@ value_of bytes = value_from 0 bytes
 abbrev pub at_most : ℕ → ℕ → Result ℕ NumberRefusal
 at_most most n = if nat_le n most then Ok n else Err TooLarge
 
+-- a number, or the place at which the bytes stop being one
 abbrev pub unless_stopped : Option ℕ → Result ℕ NumberRefusal → Result ℕ NumberRefusal
 unless_stopped None number = number
 unless_stopped (Some place) number = Err (NotANumber place)

@@ -4,5 +4,7 @@ pub mod ReadBack
 pub mod Parts
 pub mod Resumed
 pub mod Numbered
+pub mod OneSpelling
+pub mod Given
 pub mod Schedules
 pub mod Reports

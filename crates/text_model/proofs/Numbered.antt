@@ -1,8 +1,9 @@
 -- Lines with a number that counts up, for loops that print them: a further line stands at the end.
-use Rattle.std.proofs.Common.{◌≡◌, ℕ, suc, ◌+◌, ◌<◌, List, [], ◌∷◌, ◌++◌, length, take, get_or, sym, ap, ◌∙◌, append_assoc, add-zero, add-one, arith}
+use Rattle.std.proofs.Common.{◌≡◌, ℕ, suc, ◌+◌, ◌<◌, List, [], ◌∷◌, ◌++◌, length, take, get_or, sym, ap, ◌∙◌, subst, append_assoc, add-zero, add-one, zero-add, arith}
 use Rattle.ddm_types.specs.declared.turns.Turn.{Turn}
 use Rattle.ddm_types.specs.declared.answers.TurnAnswer.{TurnAnswer}
 use Rattle.tree_model.specs.declared.Traffic.{Traffic}
+use Rattle.ddm_text.specs.Adds.{Adds, ◌▸◌}
 use Rattle.text_model.specs.Trace.{trace_line, trace_from}
 use Rattle.text_model.specs.Report.{bus_line, bus_lines_from}
 use Rattle.std.proofs.lemmas.List.{append-nil, length-take-le}
@@ -54,5 +55,22 @@ trace_from-take n i turns answers t a inside inside' =
     ∙ ap (λ (m : ℕ). first ++ trace_from m (turn ∷ []) (answer ∷ [])) number
     ∙ ap (λ t. first ++ t) (append-nil (trace_line (n + i) turn answer))
 
--- for `using` on a function that prints such lines
-pub ruleset numbered = (bus_lines_from-take, trace_from-take)
+-- a loop over buses, with one line more
+pub bus_lines-next : {old now new : List ℕ} (i : ℕ) (xs : List Traffic) (d : Traffic) → i < length xs → Adds old now (bus_lines_from 0 (take i xs)) → Adds now new (bus_line i (get_or xs i d)) → Adds old new (bus_lines_from 0 (take (i + 1) xs))
+bus_lines-next {old} {now} {new} i xs d inside first next =
+    let P : List ℕ → Type 0 = λ text. Adds old new text in
+    let whole : bus_lines_from 0 (take (i + 1) xs) ≡ bus_lines_from 0 (take i xs) ++ bus_line i (get_or xs i d) =
+    bus_lines_from-take 0 i xs d inside ∙ ap (λ (m : ℕ). bus_lines_from 0 (take i xs) ++ bus_line m (get_or xs i d)) (zero-add i) in
+    subst P (sym whole) (first ▸ next)
+
+-- a loop over turns and answers, with one line more
+pub trace-next : {old now new : List ℕ} (i : ℕ) (turns : List Turn) (answers : List TurnAnswer) (turn : Turn) (answer : TurnAnswer) → i < length turns → i < length answers → turn ≡ get_or turns i turn → answer ≡ get_or answers i answer → Adds old now (trace_from 0 (take i turns) (take i answers)) → Adds now new (trace_line i turn answer) → Adds old new (trace_from 0 (take (i + 1) turns) (take (i + 1) answers))
+trace-next {old} {now} {new} i turns answers turn answer inside inside' at at' first next =
+    let P : List ℕ → Type 0 = λ text. Adds old new text in
+    let before = trace_from 0 (take i turns) (take i answers) in
+    let whole : trace_from 0 (take (i + 1) turns) (take (i + 1) answers) ≡ before ++ trace_line i turn answer =
+    trace_from-take 0 i turns answers turn answer inside inside'
+    ∙ ap (λ (m : ℕ). before ++ trace_line m (get_or turns i turn) (get_or answers i answer)) (zero-add i)
+    ∙ ap (λ t. before ++ trace_line i t (get_or answers i answer)) (sym at)
+    ∙ ap (λ a. before ++ trace_line i turn a) (sym at') in
+    subst P (sym whole) (first ▸ next)

@@ -13,6 +13,7 @@ both : (a b : Bool) → (a && b) ≡ true → (a ≡ true) × (b ≡ true)
 both true b e = (refl, e)
 both false b e = absurd (cc e)
 
+-- a text before the first piece
 abbrev pub in_front : List ℕ → List (List ℕ) → List (List ℕ)
 in_front text [] = text ∷ []
 in_front text (piece ∷ pieces) = (text ++ piece) ∷ pieces

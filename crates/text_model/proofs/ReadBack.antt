@@ -43,6 +43,7 @@ abbrev line_behind : ℕ → List Turn → ℕ
 line_behind line [] = line + 1
 line_behind line (turn ∷ turns) = line_behind (line + 1) turns
 
+-- the reading of a whole schedule that begins in a line
 abbrev whole : ℕ → List Turn → Reading
 whole line turns = record { turns = turns; standing = at_end (line_behind line turns) }
 

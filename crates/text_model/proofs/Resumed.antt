@@ -11,6 +11,7 @@ use Rattle.text_model.proofs.Parts.{in_front, in_front_nothing, pieces_at-front,
 
 -- ---- the pieces of two texts
 
+-- pieces, and further ones that go on with the last of them
 abbrev paste : List (List ℕ) → List (List ℕ) → List (List ℕ)
 paste [] qs = qs
 paste (p ∷ []) qs = in_front p qs
@@ -47,6 +48,7 @@ resumed_pieces shape made held qs turns (in_line line) = with_turns turns (readi
 resumed_pieces shape made held qs turns (at_end line) = record { turns = turns; standing = (behind_end line qs).standing }
 resumed_pieces shape made held qs turns (refused_at line refusal) = record { turns = turns; standing = refused_at line refusal }
 
+-- the same, of a reading
 abbrev on_reading : ShapeView → ℕ → List ℕ → List (List ℕ) → Reading → Reading
 on_reading shape made held qs reading = resumed_pieces shape made held qs reading.turns reading.standing
 

@@ -66,6 +66,7 @@ pub eight_turns_written : schedule_text eight_turns ≡ eight_turns_text
 unfolding texts_compute
 eight_turns_written = refl
 
+-- what a text gives
 abbrev Outcome : Type 0
 Outcome = Result (List Turn) (ℕ × ScheduleRefusal)
 
@@ -73,6 +74,7 @@ Outcome = Result (List Turn) (ℕ × ScheduleRefusal)
 abbrev cut_at : ℕ → Outcome
 cut_at n = schedule_of one_leaf 0 (take n eight_turns_text)
 
+-- what it must give
 abbrev unended : ℕ → Outcome
 unended n = Err (n / 6 + 1, NoEnd)
 

@@ -59,7 +59,8 @@ child_words kind bus text lacks small =
     ∙ ap (λ ps. (103 ∷ []) ∷ ps) (number_words bus (kind ∷ 32 ∷ text) small)
     ∙ ap (λ ps. (103 ∷ []) ∷ decimal bus ∷ ps) (letter_words kind text lacks)
 
-abbrev words_of : Turn → List (List ℕ)
+-- the words of a turn
+abbrev pub words_of : Turn → List (List ℕ)
 words_of (Hart hart victim) = codes "h" ∷ decimal hart ∷ decimal victim ∷ []
 words_of (Down bus) = codes "g" ∷ decimal bus ∷ codes "d" ∷ []
 words_of (Request bus child) = codes "g" ∷ decimal bus ∷ codes "q" ∷ decimal child ∷ []

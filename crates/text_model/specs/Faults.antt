@@ -5,6 +5,7 @@ use Rattle.text_model.specs.declared.ScheduleRefusal.TheVariants.{BadTurn, TooMa
 
 -- ---- the words of a refusal's name
 
+-- a capital letter
 abbrev pub is_capital : ℕ → Bool
 is_capital letter = nat_le 65 letter && nat_le letter 90
 
@@ -37,6 +38,7 @@ key_refusal_text name key = name_words name ++ codes " " ++ key
 abbrev pub shown_byte : ℕ → ℕ
 shown_byte byte = if nat_le 33 byte && nat_le byte 126 then byte else 63
 
+-- an unknown key as it is printed
 abbrev pub shown_key : List ℕ → List ℕ
 shown_key key = map shown_byte key
 
@@ -50,6 +52,7 @@ usage_fault place = codes "ddm: usage: word " ++ decimal place ++ codes "\n"
 unfoldable pub image_fault : List ℕ → List ℕ → List ℕ
 image_fault name numbers = codes "ddm: image: " ++ refusal_text name numbers ++ codes "\n"
 
+-- a tree file that is refused
 unfoldable pub tree_fault : List ℕ → List ℕ → List ℕ
 tree_fault name numbers = codes "ddm: tree: " ++ refusal_text name numbers ++ codes "\n"
 
@@ -71,6 +74,7 @@ schedule_refusal_name NoSuchChild = codes "NoSuchChild"
 schedule_refusal_name NoEnd = codes "NoEnd"
 schedule_refusal_name AfterEnd = codes "AfterEnd"
 
+-- a schedule that is refused in a line
 unfoldable pub schedule_fault : ℕ → ScheduleRefusal → List ℕ
 schedule_fault line refusal = codes "ddm: schedule line " ++ decimal line ++ codes ": " ++ name_words (schedule_refusal_name refusal) ++ codes "\n"
 
@@ -82,9 +86,11 @@ read_fault file = codes "ddm: cannot read the " ++ file ++ codes "\n"
 unfoldable pub unbuilt_fault : List ℕ → List ℕ
 unbuilt_fault file = codes "ddm: unbuilt: " ++ file ++ codes "\n"
 
+-- the text can't be written
 abbrev pub write_fault : List ℕ
 write_fault = codes "ddm: cannot write\n"
 
+-- no memory was there
 abbrev pub memory_fault : List ℕ
 memory_fault = codes "ddm: no memory\n"
 
@@ -96,6 +102,7 @@ witness_line_fault line name = codes "ddm: witness line " ++ decimal line ++ cod
 unfoldable pub witness_fault : List ℕ → List ℕ
 witness_fault name = codes "ddm: witness: " ++ name_words name ++ codes "\n"
 
+-- a checkpoint that is refused
 unfoldable pub checkpoint_fault : List ℕ → List ℕ → List ℕ
 checkpoint_fault name numbers = codes "ddm: checkpoint: " ++ refusal_text name numbers ++ codes "\n"
 

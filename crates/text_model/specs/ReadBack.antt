@@ -1,5 +1,5 @@
 -- Which turns a schedule may have, so that its text is read back.
-use Rattle.std.specs.Prelude.{◌≡◌, ℕ, ◌<◌, ◌≤◌, List, length, All, None, Ok}
+use Rattle.std.specs.Prelude.{◌≡◌, ℕ, ◌+◌, ◌<◌, ◌≤◌, List, length, All, None, Ok}
 use Rattle.ddm_types.specs.declared.turns.Turn.{Turn}
 use Rattle.ddm_types.specs.declared.turns.Turn.TheVariants.{Hart, Down, Request, Reply, Leave}
 use Rattle.text_model.specs.Schedule.{ShapeView, turn_fault, schedule_of, schedule_text}
@@ -26,3 +26,8 @@ pub record IsSmallShape (shape : ShapeView) : Type 0 where
 -- The text of turns is read back, where `made` turns are there before it.
 abbrev pub IsReadBack : ShapeView → ℕ → List Turn → Type 0
 IsReadBack shape made turns = schedule_of shape made (schedule_text turns) ≡ Ok turns
+
+-- turns of this tree, and with those made before not too many
+pub record GivesTurnsOf (shape : ShapeView) (made : ℕ) (turns : List Turn) : Type 0 where
+  pub each : All (IsTurnOf shape) turns
+  pub room : made + length turns ≤ 1048576

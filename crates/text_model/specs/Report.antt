@@ -61,6 +61,7 @@ abbrev pub or_dash : List ℕ → List ℕ
 or_dash [] = codes "-"
 or_dash (byte ∷ bytes) = byte ∷ bytes
 
+-- what it has put
 unfoldable pub out_line : ℕ → List Op → List ℕ
 out_line number ops = codes "out " ++ decimal number ++ codes " " ++ or_dash (put_texts number ops) ++ codes "\n"
 
@@ -92,6 +93,7 @@ unfoldable pub bus_lines_from : ℕ → List Traffic → List ℕ
 bus_lines_from bus [] = []
 bus_lines_from bus (traffic ∷ more) = bus_line bus traffic ++ bus_lines_from (bus + 1) more
 
+-- the lines of all buses
 abbrev pub bus_lines : List Traffic → List ℕ
 bus_lines traffic = bus_lines_from 0 traffic
 
@@ -105,6 +107,7 @@ pub data CopyPlaceView : Type 0 where
   parked_copy : ℕ → ℕ → CopyPlaceView
   down_copy : ℕ → ℕ → CopyPlaceView
 
+-- where a copy is
 unfoldable pub copy_place_text : CopyPlaceView → List ℕ
 copy_place_text (leaf_way leaf way) = codes "leaf " ++ decimal leaf ++ codes " way " ++ decimal way
 copy_place_text (leaf_buffer leaf place) = codes "leaf " ++ decimal leaf ++ codes " buffer " ++ decimal place
@@ -132,11 +135,13 @@ pub record ItemView : Type 0 where
   pub place : CopyPlaceView
   pub states : List (Option LeafState)
 
+-- the line of an item
 unfoldable pub item_line : ItemView → List ℕ
 item_line item =
     codes "item " ++ decimal item.number ++ codes " " ++ hex8 item.address ++ word_texts item.words ++ codes " "
     ++ copy_place_text item.place ++ codes " " ++ letter_texts item.states ++ codes "\n"
 
+-- the lines of all items
 unfoldable pub item_lines : List ItemView → List ℕ
 item_lines items = flat_map item_line items
 
@@ -154,9 +159,11 @@ number_stops numbers = flat_map (λ number. decimal number ++ codes ".") numbers
 unfoldable pub key_text : ℕ → Key → List ℕ
 key_text depth key = number_stops (take (2 * depth) (key_numbers key)) ++ decimal key.i
 
+-- the line of an operation
 unfoldable pub op_line : ℕ → Op → List ℕ
 op_line depth op = codes "op " ++ decimal op.hart ++ codes " " ++ key_text depth op.key ++ codes " " ++ hex8 op.pc ++ codes " " ++ effect_text op.effect ++ codes "\n"
 
+-- the lines of operations
 unfoldable pub op_lines : ℕ → List Op → List ℕ
 op_lines depth ops = flat_map (op_line depth) ops
 
@@ -175,6 +182,7 @@ pub record ReportView : Type 0 where
   pub completed : List Op
   pub ops : List Op
 
+-- the whole report
 unfoldable pub report_of : ReportView → List ℕ
 report_of view =
     head_lines view.counts ++ flat_map (hart_lines view.completed) view.harts ++ bus_lines view.traffic

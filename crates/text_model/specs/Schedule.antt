@@ -54,25 +54,30 @@ place_in word = number_in 4294967295 word
 abbrev pub choice_in : List ℕ → Option ℕ
 choice_in word = number_in 255 word
 
+-- a hart's turn, of its two numbers
 abbrev pub hart_turn_of : Option ℕ → Option ℕ → Option Turn
 hart_turn_of (Some hart) (Some victim) = Some (Hart hart victim)
 hart_turn_of (Some hart) None = None
 hart_turn_of None victim = None
 
+-- a turn that takes the first entry of a down list
 abbrev pub down_turn_of : Option ℕ → Option Turn
 down_turn_of (Some bus) = Some (Down bus)
 down_turn_of None = None
 
+-- a turn that grants a request
 abbrev pub request_turn_of : Option ℕ → Option ℕ → Option Turn
 request_turn_of (Some bus) (Some child) = Some (Request bus child)
 request_turn_of (Some bus) None = None
 request_turn_of None child = None
 
+-- a turn that grants a reply
 abbrev pub reply_turn_of : Option ℕ → Option ℕ → Option Turn
 reply_turn_of (Some bus) (Some child) = Some (Reply bus child)
 reply_turn_of (Some bus) None = None
 reply_turn_of None child = None
 
+-- a turn that lets a copy leave
 abbrev pub leave_turn_of : Option ℕ → Option ℕ → Option ℕ → Option Turn
 leave_turn_of (Some bus) (Some child) (Some choice) = Some (Leave bus child choice)
 leave_turn_of (Some bus) (Some child) None = None
@@ -109,10 +114,11 @@ turn_of_words (a ∷ b ∷ c ∷ d ∷ []) = turn_of_four a b c d
 turn_of_words (a ∷ b ∷ c ∷ d ∷ e ∷ []) = turn_of_five a b c d e
 turn_of_words (a ∷ b ∷ c ∷ d ∷ e ∷ f ∷ words) = None
 
--- the most bytes of a line, and the most turns
+-- the most bytes of a line
 abbrev pub line_limit : ℕ
 line_limit = 24
 
+-- the most turns of a schedule
 abbrev pub turn_limit : ℕ
 turn_limit = 1048576
 
@@ -122,6 +128,7 @@ pub data LineMeaning : Type 0 where
   end_line : LineMeaning
   no_line : LineMeaning
 
+-- a line of words that may be a turn
 abbrev pub line_of_turn : Option Turn → LineMeaning
 line_of_turn (Some turn) = turn_line_of turn
 line_of_turn None = no_line
@@ -135,16 +142,18 @@ meaning_of line =
 
 -- ---- the tree that the turns are for
 
+-- what a schedule is judged by
 pub record ShapeView : Type 0 where
   pub harts : ℕ
   -- for each bus the number of its children
   pub buses : List ℕ
 
--- why a turn isn't one of this tree
+-- why a tree doesn't have this child of a bus that has this many, or no such bus
 abbrev pub child_fault : ℕ → Option ℕ → Option ScheduleRefusal
 child_fault child None = Some NoSuchBus
 child_fault child (Some children) = if nat_lt child children then None else Some NoSuchChild
 
+-- what a turn names that the tree doesn't have
 unfoldable pub turn_fault : ShapeView → Turn → Option ScheduleRefusal
 turn_fault shape (Hart hart victim) = if nat_lt hart shape.harts then None else Some NoSuchHart
 turn_fault shape (Down bus) = if nat_lt bus (length shape.buses) then None else Some NoSuchBus
@@ -170,9 +179,11 @@ pub record Reading : Type 0 where
   pub turns : List Turn
   pub standing : Standing
 
+-- no turns
 abbrev pub nothing_but : Standing → Reading
 nothing_but standing = record { turns = []; standing = standing }
 
+-- a turn before those of a reading
 abbrev pub with_turn : Turn → Reading → Reading
 with_turn turn more = record { turns = turn ∷ more.turns; standing = more.standing }
 
@@ -218,6 +229,7 @@ schedule_of shape made text = let reading = reading_of shape made text in finish
 
 -- ---- a text in parts
 
+-- the last of some pieces
 abbrev pub last_piece : List (List ℕ) → List ℕ
 last_piece [] = []
 last_piece (piece ∷ []) = piece
@@ -231,6 +243,7 @@ held_of text = last_piece (pieces_at 10 text)
 abbrev pub reading_on : ShapeView → ℕ → ℕ → List ℕ → Reading
 reading_on shape line made text = reading_from shape line made (pieces_at 10 text)
 
+-- turns before those of a reading
 abbrev pub with_turns : List Turn → Reading → Reading
 with_turns turns more = record { turns = turns ++ more.turns; standing = more.standing }
 

@@ -15,5 +15,6 @@ trace_from number [] answers = []
 trace_from number (turn ∷ turns) [] = []
 trace_from number (turn ∷ turns) (answer ∷ answers) = trace_line number turn answer ++ trace_from (number + 1) turns answers
 
+-- the whole trace
 unfoldable pub trace_text : List Turn → List TurnAnswer → List ℕ
 trace_text turns answers = trace_from 0 turns answers
