@@ -5,3 +5,5 @@ pub mod Order
 pub mod Placement
 pub mod Start
 pub mod View
+pub mod Steps
+pub mod Answered

@@ -35,7 +35,7 @@ sharing_keeps (Stores op v a) x lr h words ok e = grind arith
 sharing_keeps (StoresIfReserved rd v a) x lr h words ok e = grind arith
 sharing_keeps (Changes op rd v a) x lr h words ok e = grind arith
 
-finish_keeps : (code : List CodeWord) (items : ItemTable) (x : ℕ) (lr : Bool) (h : HartValue) (words : List ℕ) (ok : Bool) → ask_of code items h ≡ NeedsShared x lr → (finish_of code items h words ok).words ≡ words
+pub finish_keeps : (code : List CodeWord) (items : ItemTable) (x : ℕ) (lr : Bool) (h : HartValue) (words : List ℕ) (ok : Bool) → ask_of code items h ≡ NeedsShared x lr → (finish_of code items h words ok).words ≡ words
 unfolding ask_of finish_of
 finish_keeps code items x lr h words ok e = sharing_keeps (action_of code items h) x lr h words ok e
 

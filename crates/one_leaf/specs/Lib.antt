@@ -2,3 +2,5 @@ pub mod OneLeaf
 pub mod Run
 pub mod Start
 pub mod Witness
+pub mod Made
+pub mod Step

@@ -1,17 +1,15 @@
 -- The value of a one-leaf machine by its parts.
-use Rattle.std.specs.Prelude.{◌≡◌, ℕ, ◌*◌, Bool, true, false, List, [], ◌∷◌, ◌++◌, length, Option, Ok}
+use Rattle.std.specs.Prelude.{◌≡◌, ℕ, ◌*◌, ◌^◌, ◌<◌, Bool, true, false, List, [], length, Option}
 use Rattle.ddm_types.specs.declared.sizes.TreeSizes.{TreeSizes}
-use Rattle.ddm_types.specs.declared.operations.Op.{Op}
 use Rattle.ddm_types.specs.declared.operations.Effect.{Effect}
-use Rattle.ddm_types.specs.declared.answers.TurnAnswer.{TurnAnswer}
+use Rattle.ddm_types.specs.declared.operations.Op.{Op}
 use Rattle.ddm_types.specs.Keys.{key_zero, key_counted}
 use Rattle.flat_model.specs.declared.Ask.{Ask}
-use Rattle.flat_model.specs.Flat.{Change}
 use Rattle.ddm_types.specs.ItemTable.{ItemTable, item_count}
 use Rattle.ddm_types.specs.CodeMap.{CodeWord}
 use Rattle.rv_hart.specs.HartState.{HartState}
 use Rattle.tree_model.specs.Start.{TreeValue}
-use Rattle.one_leaf.specs.OneLeaf.{OneLeafValue, answer_by, after_by}
+use Rattle.one_leaf.specs.OneLeaf.{OneLeafValue}
 
 -- the machine doesn't keep the sizes of its tree, on which none of its turns depends
 abbrev pub no_tree : TreeValue
@@ -37,6 +35,7 @@ in_tree tree v = record v { tree = tree }
 pub record IsMade (width : ℕ) (items : ItemTable) (words : List (List ℕ)) : Type 0 where
   pub each : item_count items ≡ length words
   pub size : 4 * width ≡ items.size
+  pub small : width < 2 ^ 32
 
 -- the instruction is on no item
 abbrev pub needs_no_words : Ask → Bool
@@ -47,16 +46,6 @@ needs_no_words (Ask.NeedsExclusive x) = false
 needs_no_words (Ask.Conditional x) = false
 needs_no_words (Ask.Halt cause) = false
 
--- the operation of a hart that has completed an instruction with this number at this pc
+-- the operation of the hart that has completed an instruction with this number at this pc
 abbrev pub op_made : ℕ → ℕ → Effect → Op
 op_made number pc effect = record { key = key_counted key_zero number; hart = 0; pc = pc; effect = effect }
-
--- the machine has one operation more, which is answered
-pub record IsCompleted (number pc : ℕ) (effect : Effect) (before after : OneLeafValue) (answer : TurnAnswer) : Type 0 where
-  pub answers : answer ≡ TurnAnswer.Retired (op_made number pc effect)
-  pub leaves : after ≡ record before { ops = before.ops ++ op_made number pc effect ∷ [] }
-
--- a turn did this, and answered that an instruction completed
-pub record IsTurned (before : OneLeafValue) (c : Change) (after : OneLeafValue) (answer : TurnAnswer) : Type 0 where
-  pub answers : answer ≡ answer_by before (Ok c)
-  pub leaves : after ≡ after_by before (Ok c)

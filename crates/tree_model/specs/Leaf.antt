@@ -16,8 +16,6 @@ blank width = replicate width 0
 
 -- ---- requests and copies
 
-
-
 abbrev pub requests_item : TxKind → ℕ → RequestValue → Bool
 requests_item kind x r = is_kind kind r.kind && nat_eq x r.item
 
