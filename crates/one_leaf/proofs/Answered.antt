@@ -34,9 +34,10 @@ module _ (code : List CodeWord) (items : ItemTable) (h h' : HartState) (r r' : O
       → (TurnAnswer.Retired (op_made h.done h.hart.pc effect) ≡ answer_of before) × (made_of code items h' r' ws' (ops ++ op_made h.done h.hart.pc effect ∷ []) ≡ after_of before)
   completed effect s =
       let k = known_ok (step_by code items h r ws) effect s.effect in
-      let is = step_same ∙ k.1 in
-      (ap (λ e. TurnAnswer.Retired (op_made h.done h.hart.pc e)) k.2 ∙ sym (ap (answer_by before) is),
-       parts k.0 k.1 k.2 ∙ sym (ap (after_by before) is)) where
+      let is = step_same ∙ k.1 in (
+        ap (λ e. TurnAnswer.Retired (op_made h.done h.hart.pc e)) k.2 ∙ sym (ap (answer_by before) is),
+        parts k.0 k.1 k.2 ∙ sym (ap (after_by before) is),
+      ) where
         parts : (c : Change) → step_by code items h r ws ≡ Ok c → effect ≡ c.effect → made_of code items h' r' ws' (ops ++ op_made h.done h.hart.pc effect ∷ []) ≡ after_by before (Ok c)
         parts c is e = rw (s.hart, s.reserved, s.words, is, e) refl
 

@@ -1,0 +1,7 @@
+use Rattle.std.proofs.Common.{take}
+use Rattle.ddm_text.specs.Adds.{Adds}
+use Rattle.text_model.specs.Report.{letter_texts}
+use Rattle.report.proofs.items.push_letters.Given as goal
+
+abbrev pub invariant-loop-state : goal.invariant-loop-state
+invariant-loop-state l = Adds l.initial.out.items l.out.items (letter_texts (take l.state-index l.states))

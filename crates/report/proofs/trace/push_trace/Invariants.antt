@@ -1,0 +1,7 @@
+use Rattle.std.proofs.Common.{take}
+use Rattle.ddm_text.specs.Adds.{Adds}
+use Rattle.text_model.specs.Trace.{trace_text}
+use Rattle.report.proofs.trace.push_trace.Given as goal
+
+abbrev pub invariant-loop-number : goal.invariant-loop-number
+invariant-loop-number l = Adds l.initial.out.items l.out.items (trace_text (take l.number l.turns) (take l.number l.answers))

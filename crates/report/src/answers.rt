@@ -1,0 +1,167 @@
+ghost use Rattle.std.specs.Prelude.{OnOk};
+ghost use Rattle.ddm_text.specs.Adds.{Adds};
+ghost use Rattle.text_model.specs.Words.{answer_text, busy_text, entry_text, kind_text, place_text, queue_text, why_text};
+
+use crate::effects::{push_effect, push_halt};
+use crate::numbers::{push_bus, push_child, push_item, push_named_leaf};
+use crate::pieces::push_bytes;
+use ddm_types::{BusyCause, LogEntry, NoMemory, PendingWhy, Place, QueueName, TurnAnswer, TxKind};
+
+/// Puts a kind of transaction at the end.
+#[tactic(auto, unfolding(text_model::specs::Words::kind_text))]
+pub fn push_kind(out: &mut Vec<u8>, kind: TxKind) -> Result<(), NoMemory>
+    ensures { OnOk result (Adds out.old.items out.new.items (kind_text kind)) }
+{
+    match kind {
+        TxKind::ReadTx => push_bytes(out, b"read"),
+        TxKind::DataTx => push_bytes(out, b"data"),
+        TxKind::EraseTx => push_bytes(out, b"erase"),
+        TxKind::ExclusiveTx => push_bytes(out, b"exclusive"),
+        TxKind::InjectTx => push_bytes(out, b"inject"),
+        TxKind::OutTx => push_bytes(out, b"out"),
+    }
+}
+
+/// Puts at the end where a granted transaction came from or went to.
+#[tactic(auto, unfolding(text_model::specs::Words::place_text))]
+pub fn push_place(out: &mut Vec<u8>, place: Place) -> Result<(), NoMemory>
+    ensures { OnOk result (Adds out.old.items out.new.items (place_text place)) }
+{
+    match place {
+        Place::Parent => push_bytes(out, b"parent"),
+        Place::Child(child) => {
+            push_bytes(out, b"child ")?;
+            push_child(out, child)
+        }
+        Place::Parking => push_bytes(out, b"parking"),
+        Place::All => push_bytes(out, b"all"),
+        Place::Gone => push_bytes(out, b"gone"),
+        Place::Joined => push_bytes(out, b"joined"),
+        Place::Readers => push_bytes(out, b"readers"),
+    }
+}
+
+/// Puts at the end why an item is pending.
+#[tactic(auto, unfolding(text_model::specs::Words::why_text))]
+pub fn push_why(out: &mut Vec<u8>, why: PendingWhy) -> Result<(), NoMemory>
+    ensures { OnOk result (Adds out.old.items out.new.items (why_text why)) }
+{
+    match why {
+        PendingWhy::Local(child) => {
+            push_bytes(out, b"local ")?;
+            push_child(out, child)
+        }
+        PendingWhy::UpRead(child) => {
+            push_bytes(out, b"upread ")?;
+            push_child(out, child)
+        }
+        PendingWhy::UpErase(child) => {
+            push_bytes(out, b"uperase ")?;
+            push_child(out, child)
+        }
+        PendingWhy::Answering => push_bytes(out, b"answering"),
+        PendingWhy::InDown => push_bytes(out, b"down"),
+    }
+}
+
+/// Puts the name of a list of transactions at the end.
+#[tactic(auto, unfolding(text_model::specs::Words::queue_text))]
+pub fn push_queue_name(out: &mut Vec<u8>, name: QueueName) -> Result<(), NoMemory>
+    ensures { OnOk result (Adds out.old.items out.new.items (queue_text name)) }
+{
+    match name {
+        QueueName::Down(bus) => {
+            push_bytes(out, b"down ")?;
+            push_bus(out, bus)
+        }
+        QueueName::Requests(bus) => {
+            push_bytes(out, b"requests ")?;
+            push_bus(out, bus)
+        }
+        QueueName::Replies(bus) => {
+            push_bytes(out, b"replies ")?;
+            push_bus(out, bus)
+        }
+        QueueName::LeafReplies(leaf) => push_named_leaf(out, b"leafreplies ", leaf),
+    }
+}
+
+/// Puts at the end why a turn changed nothing.
+#[tactic(auto, unfolding(text_model::specs::Words::busy_text))]
+pub fn push_busy(out: &mut Vec<u8>, cause: BusyCause) -> Result<(), NoMemory>
+    ensures { OnOk result (Adds out.old.items out.new.items (busy_text cause)) }
+{
+    match cause {
+        BusyCause::ItemPending { bus, item, why } => {
+            push_bytes(out, b"item ")?;
+            push_bus(out, bus)?;
+            push_bytes(out, b" ")?;
+            push_item(out, item)?;
+            push_bytes(out, b" ")?;
+            push_why(out, why)
+        }
+        BusyCause::QueueFull(name) => {
+            push_bytes(out, b"queue ")?;
+            push_queue_name(out, name)
+        }
+        BusyCause::BufferFull(leaf) => push_named_leaf(out, b"buffer ", leaf),
+        BusyCause::ParkingFull(bus) => {
+            push_bytes(out, b"parking ")?;
+            push_bus(out, bus)
+        }
+        BusyCause::NoRoom(item) => {
+            push_bytes(out, b"room ")?;
+            push_item(out, item)
+        }
+    }
+}
+
+/// Puts a granted transaction at the end.
+pub fn push_entry(out: &mut Vec<u8>, entry: LogEntry) -> Result<(), NoMemory>
+    ensures { OnOk result (Adds out.old.items out.new.items (entry_text entry)) }
+{
+    push_kind(out, entry.kind)?;
+    push_bytes(out, b" ")?;
+    push_item(out, entry.item)?;
+    push_bytes(out, b" from ")?;
+    push_place(out, entry.source)?;
+    push_bytes(out, b" to ")?;
+    push_place(out, entry.taker)?;
+    Ok(())
+}
+
+/// Puts at the end what a turn answered.
+#[tactic(auto, unfolding(text_model::specs::Words::answer_text))]
+pub fn push_answer(out: &mut Vec<u8>, answer: TurnAnswer) -> Result<(), NoMemory>
+    ensures { OnOk result (Adds out.old.items out.new.items (answer_text answer)) }
+{
+    match answer {
+        TurnAnswer::Retired(op) => {
+            push_bytes(out, b"retired ")?;
+            push_effect(out, op.effect)
+        }
+        TurnAnswer::Issued(kind, item) => {
+            push_bytes(out, b"issued ")?;
+            push_kind(out, kind)?;
+            push_bytes(out, b" ")?;
+            push_item(out, item)
+        }
+        TurnAnswer::Waiting(item) => {
+            push_bytes(out, b"waiting ")?;
+            push_item(out, item)
+        }
+        TurnAnswer::Halted(cause) => {
+            push_bytes(out, b"halted ")?;
+            push_halt(out, cause)
+        }
+        TurnAnswer::Granted(entry) => {
+            push_bytes(out, b"granted ")?;
+            push_entry(out, entry)
+        }
+        TurnAnswer::Empty => push_bytes(out, b"empty"),
+        TurnAnswer::Busy(cause) => {
+            push_bytes(out, b"busy ")?;
+            push_busy(out, cause)
+        }
+    }
+}

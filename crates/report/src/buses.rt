@@ -1,0 +1,30 @@
+ghost use Rattle.std.specs.Prelude.{OnOk};
+ghost use Rattle.ddm_text.specs.Adds.{Adds};
+ghost use Rattle.text_model.specs.Report.{bus_line};
+
+use crate::numbers::push_bus;
+use crate::pieces::{push_bytes, push_number};
+use ddm_types::{BusNo, NoMemory};
+use tree_model::Traffic;
+
+/// Puts at the end the line of the transactions that a bus has granted.
+pub fn push_bus_line(out: &mut Vec<u8>, bus: BusNo, traffic: &Traffic) -> Result<(), NoMemory>
+    ensures { OnOk result (Adds out.old.items out.new.items (bus_line bus traffic.now)) }
+{
+    push_bytes(out, b"bus ")?;
+    push_bus(out, bus)?;
+    push_bytes(out, b" read ")?;
+    push_number(out, traffic.reads)?;
+    push_bytes(out, b" data ")?;
+    push_number(out, traffic.copies)?;
+    push_bytes(out, b" erase ")?;
+    push_number(out, traffic.erases)?;
+    push_bytes(out, b" exclusive ")?;
+    push_number(out, traffic.exclusives)?;
+    push_bytes(out, b" out ")?;
+    push_number(out, traffic.outs)?;
+    push_bytes(out, b" inject ")?;
+    push_number(out, traffic.injects)?;
+    push_bytes(out, b"\n")?;
+    Ok(())
+}

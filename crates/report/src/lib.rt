@@ -1,0 +1,35 @@
+//! What is printed: the lines of reports and traces, their writing to a sink, and the lines of faults.
+//! Each is proved to be what the definitions of the texts say.
+#![tactic(auto)]
+
+mod answers;
+mod buses;
+mod effects;
+mod fault_line;
+mod faults;
+mod harts;
+mod items;
+mod numbers;
+mod operations;
+mod pieces;
+mod roles;
+mod trace;
+mod writing;
+
+pub use answers::{
+    push_answer, push_busy, push_entry, push_kind, push_place, push_queue_name, push_why,
+};
+pub use buses::push_bus_line;
+pub use effects::{push_effect, push_halt, push_state};
+pub use fault_line::{FaultLine, LINE_BYTES};
+pub use faults::{memory_line, read_line, unbuilt_line, usage_line, write_line};
+pub use harts::{push_hart_line, push_head, push_out_line, push_regs_line, push_turns_line};
+pub use items::{push_copy_place, push_item_line, push_letters};
+pub use operations::{push_key, push_op_line, push_op_lines};
+pub use pieces::{push_bytes, push_number, push_words};
+pub use roles::FileRole;
+pub use trace::{push_trace, push_trace_line, push_turn, trace_text};
+pub use writing::{MOST_OFFERED, write_all};
+
+#[cfg(test)]
+mod tests;

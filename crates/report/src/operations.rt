@@ -1,0 +1,63 @@
+ghost use Rattle.std.specs.Prelude.{◌≤◌, OnOk};
+ghost use Rattle.ddm_text.specs.Adds.{Adds};
+ghost use Rattle.text_model.specs.Report.{key_text, number_stops, op_line, op_lines};
+
+use crate::effects::push_effect;
+use crate::numbers::push_hart;
+use crate::pieces::{push_bytes, push_number};
+use ddm_text::push_hex8;
+use ddm_types::{Key, LEVELS, NoMemory, Op};
+
+// Each number with a full stop behind it.
+#[tactic(auto, unfolding(text_model::specs::Report::number_stops))]
+fn push_stops(out: &mut Vec<u8>, numbers: &[u32]) -> Result<(), NoMemory>
+    ensures { OnOk result (Adds out.old.items out.new.items (number_stops numbers.now)) }
+{
+    for number in numbers {
+        push_number(out, *number)?;
+        push_bytes(out, b".")?;
+    }
+    Ok(())
+}
+
+/// Puts at the end the numbers of a key that a tree of this depth has.
+#[tactic(auto, unfolding(text_model::specs::Report::key_text))]
+pub fn push_key(out: &mut Vec<u8>, depth: u32, key: Key) -> Result<(), NoMemory>
+    requires { depth ≤ LEVELS }
+    ensures { OnOk result (Adds out.old.items out.new.items (key_text depth key)) }
+{
+    let numbers = [
+        key.s0, key.c0, key.s1, key.c1, key.s2, key.c2, key.s3, key.c3,
+    ];
+    push_stops(out, &numbers[..2 * depth as usize])?;
+    push_number(out, key.i)
+}
+
+/// Puts at the end the line of an operation in a tree of this depth.
+pub fn push_op_line(out: &mut Vec<u8>, depth: u32, op: Op) -> Result<(), NoMemory>
+    requires { depth ≤ LEVELS }
+    ensures { OnOk result (Adds out.old.items out.new.items (op_line depth op)) }
+{
+    push_bytes(out, b"op ")?;
+    push_hart(out, op.hart)?;
+    push_bytes(out, b" ")?;
+    push_key(out, depth, op.key)?;
+    push_bytes(out, b" ")?;
+    push_hex8(out, op.pc)?;
+    push_bytes(out, b" ")?;
+    push_effect(out, op.effect)?;
+    push_bytes(out, b"\n")?;
+    Ok(())
+}
+
+/// Puts at the end a line for each operation, in the order of the list.
+#[tactic(auto, unfolding(text_model::specs::Report::op_lines))]
+pub fn push_op_lines(out: &mut Vec<u8>, depth: u32, ops: &[Op]) -> Result<(), NoMemory>
+    requires { depth ≤ LEVELS }
+    ensures { OnOk result (Adds out.old.items out.new.items (op_lines depth ops.now)) }
+{
+    for op in ops {
+        push_op_line(out, depth, *op)?;
+    }
+    Ok(())
+}
