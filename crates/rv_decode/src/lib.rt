@@ -41,3 +41,6 @@ pub fn assembler_words()
 pub fn one_word()
     ensures { (w : ℕ) (i : InstrValue) → w < 2 ^ 32 → decode_of w ≡ Some i → IsValid i × (encode_of i ≡ w) }
 {}
+
+#[cfg(test)]
+mod tests;
