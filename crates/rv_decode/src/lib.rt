@@ -1,4 +1,5 @@
-//! The instructions of RV32IA without compressed forms, and the table that says which word is which.
+//! The instructions of RV32IA without compressed forms, the table that says which word is which, and the decoder and
+//! the encoder that are proved against it.
 #![tactic(auto)]
 
 ghost use Rattle.std.specs.Prelude.{◌≡◌, ℕ, ◌^◌, ◌<◌, Some};
