@@ -1,4 +1,4 @@
-//! The word of an instruction.
+//! The word of an instruction, by the formats of RV32I ("Base Instruction Formats", "Immediate Encoding Variants").
 ghost use Rattle.std.specs.Prelude.{◌≡◌, ◌+◌, ◌*◌, ◌^◌, ◌<◌, ◌≤◌, ℕ, Some};
 ghost use Rattle.rv_decode.specs.Table.{field, decode_of};
 ghost use Rattle.rv_decode.specs.Valid.{FitsBits, FitsOperation, IsValid, IsRegister, IsUpper};

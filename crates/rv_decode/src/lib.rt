@@ -1,4 +1,5 @@
-//! The instructions of RV32IA without compressed forms, and the table that says which word is which.
+//! The instructions of RV32IA without compressed forms, the table that says which word is which, and the decoder and
+//! the encoder that are proved against it.
 #![tactic(auto)]
 
 ghost use Rattle.std.specs.Prelude.{◌≡◌, ◌↔◌, ℕ, ◌^◌, ◌<◌, Some};
@@ -46,3 +47,6 @@ pub fn one_row_for_a_word()
 pub fn one_word()
     ensures { (w : ℕ) (i : InstrValue) → w < 2 ^ 32 → decode_of w ≡ Some i → IsValid i × (encode_of i ≡ w) }
 {}
+
+#[cfg(test)]
+mod tests;
