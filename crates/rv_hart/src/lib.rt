@@ -9,3 +9,6 @@ mod steps;
 
 pub use flat_model::Ask;
 pub use hart::Hart;
+
+#[cfg(test)]
+mod tests;
