@@ -1,9 +1,9 @@
 -- Entries of code in order of address: look-ups, and that the look-ups determine the list.
-use Rattle.std.proofs.Common.{◌≡◌, ◌≢◌, ℕ, ◌+◌, ◌<◌, ◌≤◌, eqb, ltb, List, [], ◌∷◌, ◌++◌, Option, Some, None, refl, sym, ◌∙◌, ap, inl, inr, arith}
+use Rattle.std.proofs.Common.{◌≡◌, ◌≢◌, ℕ, ◌+◌, ◌<◌, ◌≤◌, eqb, ltb, List, [], ◌∷◌, ◌++◌, Option, Some, None, refl, sym, ◌∙◌, ap, inl, inr, arith, get_or, zero, suc, length}
 use Rattle.std.specs.Option.{option_or}
 use Rattle.std.specs.List.{fold}
 use Rattle.std.proofs.lemmas.Bool.{cases_order, cases_eq, cond-true, cond-false, eq-eqb, ne_eqb, lt-ltb, le-ltb}
-use Rattle.ddm_types.specs.CodeMap.{CodeWord, word_at, with_word, code_of}
+use Rattle.ddm_types.specs.CodeMap.{CodeWord, word_at, with_word, code_of, IsCodeOf}
 
 -- each address is n or above
 abbrev pub AreFrom : ℕ → List CodeWord → Type 0
@@ -217,3 +217,26 @@ word_at-code_of ws pc = fold-lookup [] ws pc tt ∙ rw word_at-nil refl
 -- an ascending list with the look-ups of some entries is their code
 pub code_of-unique : (es ws : List CodeWord) → IsAscending es → ((pc : ℕ) → word_at es pc ≡ word_at ws pc) → es ≡ code_of ws
 code_of-unique es ws a same = same_from_lookups es (code_of ws) a (code_of-ascending ws) (λ pc. same pc ∙ sym (word_at-code_of ws pc))
+
+-- ---- the rule of the code
+
+from-at : (m : ℕ) (es : List CodeWord) (k : ℕ) (d : CodeWord) → AreFrom m es → k < length es → m ≤ (get_or es k d).address
+from-at m [] k d f l = absurd (omega arith)
+from-at m (e ∷ es) zero d f l = f.0
+from-at m (e ∷ es) (suc k) d f l = from-at m es k d f.1 (omega arith)
+
+ascending-pairs : (es : List CodeWord) → IsAscending es → (i j : ℕ) (d : CodeWord) → i < j → j < length es → (get_or es i d).address + 1 ≤ (get_or es j d).address
+ascending-pairs [] a i j d h l = absurd (omega arith)
+ascending-pairs (e ∷ es) a zero zero d h l = absurd (omega arith)
+ascending-pairs (e ∷ es) a zero (suc j) d h l = from-at (e.address + 1) es j d a.0 (omega arith)
+ascending-pairs (e ∷ es) a (suc i) zero d h l = absurd (omega arith)
+ascending-pairs (e ∷ es) a (suc i) (suc j) d h l = ascending-pairs es a.1 i j d (omega arith) (omega arith)
+
+-- the code that the definition computes from entries keeps the rule
+pub code_of-rule : (ws : List CodeWord) → IsCodeOf ws (code_of ws)
+code_of-rule ws = record {
+  words = word_at-code_of ws;
+  in_order = λ i j d h l.
+      let up = ascending-pairs (code_of ws) (code_of-ascending ws) i j d h l in
+      omega (arith, up);
+}

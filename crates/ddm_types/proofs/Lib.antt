@@ -4,4 +4,5 @@ mod Examples
 pub mod Parts
 pub mod Permuted
 pub mod Rows
+pub mod Rule
 pub mod Runs

@@ -108,7 +108,7 @@ from-at m [] j f l = absurd (omega arith)
 from-at m (k ∷ ks) zero f l = f.0
 from-at m (k ∷ ks) (suc j) f l = from-at m ks j f.1 (omega arith)
 
-ascending-pairs : (ns : List ℕ) → IsAscending ns → (i j : ℕ) → i < j → j < length ns → get_or ns i 0 + 1 ≤ get_or ns j 0
+pub ascending-pairs : (ns : List ℕ) → IsAscending ns → (i j : ℕ) → i < j → j < length ns → get_or ns i 0 + 1 ≤ get_or ns j 0
 ascending-pairs [] a i j h l = absurd (omega arith)
 ascending-pairs (n ∷ ns) a zero zero h l = absurd (omega arith)
 ascending-pairs (n ∷ ns) a zero (suc j) h l = from-at (n + 1) ns j a.0 (omega arith)

@@ -1,5 +1,5 @@
 -- The code: a finite map from word address to word, as the list of its entries in order of address.
-use Rattle.std.specs.Prelude.{ℕ, ◌+◌, ◌*◌, ◌<◌, ◌≤◌, nat_eq, nat_lt, List, [], ◌∷◌, length, Option, Some, None, if◌then◌else◌, AllPairs}
+use Rattle.std.specs.Prelude.{◌≡◌, ℕ, ◌+◌, ◌*◌, ◌<◌, ◌≤◌, nat_eq, nat_lt, List, [], ◌∷◌, length, Option, Some, None, if◌then◌else◌, AllPairs}
 use Rattle.std.specs.List.{fold}
 use Rattle.ddm_types.specs.declared.code_map.CodePart.{CodePart}
 
@@ -27,6 +27,11 @@ with_word (x ∷ xs) e =
 -- the entries in order of address; where two have one address, the first of them
 unfoldable pub code_of : List CodeWord → List CodeWord
 code_of entries = fold with_word [] entries
+
+-- The rule of the code: it has at each address the word that the entries have there first, and its entries are in order of address.
+pub record IsCodeOf (entries code : List CodeWord) : Type 0 where
+  pub words : (pc : ℕ) → word_at code pc ≡ word_at entries pc
+  pub in_order : AllPairs (λ e next. e.address < next.address) code
 
 -- ---- the parts that code is made of
 

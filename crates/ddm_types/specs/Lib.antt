@@ -1,4 +1,5 @@
 pub mod ItemTable
+pub mod ItemRule
 pub mod ItemRuns
 pub mod ItemRows
 pub mod CodeMap

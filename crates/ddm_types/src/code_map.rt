@@ -1,6 +1,6 @@
 ghost use Rattle.std.specs.Prelude.{◌≡◌, ◌%◌, ◌^◌, ◌≤◌, All, AllPairs, IfOk};
 ghost use Rattle.std.specs.List.{flat_map};
-ghost use Rattle.ddm_types.specs.CodeMap.{AreDisjoint, code_of, part_end, part_words, word_at};
+ghost use Rattle.ddm_types.specs.CodeMap.{AreDisjoint, IsCodeOf, code_of, part_end, part_words, word_at};
 
 use crate::numbers::NoMemory;
 use std::alloc::Global;
@@ -34,12 +34,13 @@ impl Model for Code {
 }
 
 impl Code {
-    /// The code that has the words of these parts.
+    /// The code that has the words of these parts, which it keeps.
     pub fn from_parts(_alloc: Global, mut parts: Vec<CodePart>) -> Result<Code, NoMemory>
         requires aligned { All (λ part. part.start % 4 ≡ 0) parts.items }
         requires ends { All (λ part. part_end part ≤ 2 ^ 32) parts.items }
         requires disjoint { AllPairs AreDisjoint parts.items }
-        ensures { IfOk result (λ code. code ≡ code_of (flat_map part_words parts.items)) }
+        ensures code { IfOk result (λ code. code ≡ code_of (flat_map part_words parts.items)) }
+        ensures rule { IfOk result (IsCodeOf (flat_map part_words parts.items)) }
     {
         parts.retain(|part| !part.words.is_empty());
         parts.sort_by_key(|part| part.start)?;

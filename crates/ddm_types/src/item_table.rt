@@ -1,6 +1,7 @@
 ghost use Rattle.std.specs.Prelude.{◌≡◌, ◌+◌, ◌*◌, ◌^◌, ◌<◌, ◌≤◌, ◌++◌, All, IfOk, OnOk, length, map};
 ghost use Rattle.std.specs.List.{flat_map, list_any};
 ghost use Rattle.ddm_types.specs.ItemTable.{IsItemSize, item_at, item_count, item_numbers, item_row, items_of, row_at, span_end, writes};
+ghost use Rattle.ddm_types.specs.ItemRule.{AreItemsOf};
 ghost use Rattle.ddm_types.specs.ItemRuns.{AreRunsFrom, run_numbers, run_of, swept};
 ghost use Rattle.ddm_types.specs.ItemRows.{row_of};
 
@@ -69,7 +70,7 @@ fn new_in_each(alloc: Global, overlapped: &[Run]) -> Result<Vec<Run>, NoMemory>
     Ok(runs)
 }
 
-/// How many items of this many bytes the spans overlap.
+/// How many items of this many bytes the spans overlap. Takes memory for as many runs as there are spans.
 pub fn count_items(alloc: Global, spans: &[Span], item_bytes: u32) -> Result<u64, NoMemory>
     requires size { IsItemSize item_bytes }
     requires ends { All (λ span. span_end span ≤ 2 ^ 32) spans.now }
@@ -149,7 +150,8 @@ fn push_items(
     requires ends { All (λ span. span_end span ≤ 2 ^ 32) spans.now }
     requires size { IsItemSize item_bytes }
     requires bound { run.end * item_bytes ≤ 2 ^ 32 }
-    ensures { OnOk result (map row_of rows.new.items ≡ map row_of rows.old.items ++ map (item_row item_bytes spans.now) (run_numbers run)) }
+    ensures { let pushed = map (item_row item_bytes spans.now) (run_numbers run) in
+        OnOk result (map row_of rows.new.items ≡ map row_of rows.old.items ++ pushed) }
 {
     for number in run.first..run.end {
         let address = number * item_bytes;
@@ -160,12 +162,14 @@ fn push_items(
 }
 
 impl Items {
-    /// The items of this many bytes that the spans overlap.
+    /// The items of this many bytes that the spans overlap. Takes memory for the items, and for as many
+    /// runs as there are spans.
     pub fn from_spans(alloc: Global, spans: &[Span], item_bytes: u32) -> Result<Items, NoMemory>
         requires size { IsItemSize item_bytes }
         requires ends { All (λ span. span_end span ≤ 2 ^ 32) spans.now }
         requires few { item_count (items_of item_bytes spans.now) ≤ MOST_ITEMS }
-        ensures { IfOk result (λ items. items ≡ items_of item_bytes spans.now) }
+        ensures table { IfOk result (λ items. items ≡ items_of item_bytes spans.now) }
+        ensures rule { IfOk result (AreItemsOf item_bytes spans.now) }
     {
         let runs = runs_of(alloc, spans, item_bytes)?;
         let mut rows = Vec::new(alloc);
@@ -206,7 +210,7 @@ impl Items {
         self.rows[item.0 as usize].address
     }
 
-    /// Whether the item may be written.
+    /// Whether the item may be written to.
     pub fn writable(&self, item: ItemId) -> bool
         requires { item < item_count self.now }
         ensures { result ≡ (row_at self.now item).writable }

@@ -1,8 +1,8 @@
 -- What a step leaves as it was: the other harts but for their reservations on the item that it stores to, and the words of the other items.
-use Rattle.std.proofs.Common.{◌≡◌, ◌≢◌, ℕ, ◌<◌, Bool, true, false, List, [], ◌∷◌, length, Option, Some, None, Ok, Err, refl, sym, ap, ◌∙◌, arith, map, slice_index_or, slice_set}
+use Rattle.std.proofs.Common.{◌≡◌, ◌≢◌, ℕ, ◌<◌, [], length, Option, Some, None, refl, ◌∙◌}
 use Rattle.std.proofs.Math.ListN.{get_or-map, length-set, length-map}
 use Rattle.std.proofs.lemmas.List.{get_or-set_same, get_or-set_other}
-use Rattle.flat_model.specs.Flat.{FlatHart, FlatMachine, Stored, Change, flat_hart, no_flat_hart, item_words, without_reserved, with_stored, with_hart, with_change}
+use Rattle.flat_model.specs.Flat.{FlatHart, FlatMachine, Stored, Change, flat_hart, no_flat_hart, item_words, without_reserved, with_stored, with_change}
 
 -- a hart of the machine after an item was stored to
 abbrev pub freed : Option Stored → FlatHart → FlatHart

@@ -2,7 +2,7 @@
 use Rattle.std.proofs.Common.{◌≡◌, ◌≢◌, ℕ, zero, suc, ◌<◌, Bool, true, false, ◌&&◌, nat_eq, nat_lt, ◌⊎◌, inl, inr, List, [], ◌∷◌, length, slice_index_or, slice_set, Option, Some, None, Ok, Err, refl, sym, ap, subst, ◌∙◌, arith}
 use Rattle.std.proofs.lemmas.Bool.{eqb-true, eqb-false, ltb-true, ltb-false}
 use Rattle.std.proofs.Math.ListN.{get_or-eq_default}
-use Rattle.std.specs.Prelude.{Result, if◌then◌else◌}
+use Rattle.std.specs.Prelude.{Result, option_and_then, is_some, if◌then◌else◌}
 use Rattle.ddm_types.specs.declared.operations.HaltCause.{HaltCause}
 use Rattle.ddm_types.specs.declared.operations.Effect.{Effect}
 use Rattle.ddm_types.specs.declared.operations.Op.{Op}
@@ -11,11 +11,12 @@ use Rattle.ddm_types.specs.ItemTable.{ItemTable}
 use Rattle.flat_model.specs.declared.Ask.{Ask}
 use Rattle.flat_model.specs.declared.Ask.TheVariants.{Plain, Put, NeedsShared, NeedsExclusive, Conditional, Halt}
 use Rattle.flat_model.specs.Hart.{HartValue, Finished, ask_of, finish_of}
-use Rattle.flat_model.specs.Flat.{FlatHart, FlatMachine, FlatStepped, Stored, Change, flat_hart, item_words, has_reserved, leaving, storing_to, conditional, change_by, unless_halted, asked_item, hart_step, no_flat_hart, with_stored, with_change, stepped, flat_step}
-use Rattle.flat_model.specs.Legal.{effect_item, on_item, is_change, is_sc_ok, HasWholeWords, legal_step, legal_run}
+use Rattle.flat_model.specs.Flat.{FlatHart, FlatMachine, FlatStepped, Stored, Change, flat_hart, item_words, has_reserved, leaving, storing_to, conditional, change_by, unless_halted, hart_step, no_flat_hart, with_stored, with_change, stepped, flat_step}
+use Rattle.flat_model.specs.Legal.{changed_item, effect_item, on_item, is_change, is_sc_ok, HasWholeWords, legal_step, legal_run}
+use Rattle.flat_model.proofs.Runs.{legal_step_is, legal_step_of}
 use Rattle.flat_model.proofs.Items.{FollowsAsk, step_follows}
-use Rattle.flat_model.proofs.Steps.{finish_failing}
-use Rattle.flat_model.proofs.Frames.{freed, other_hart, own_hart, other_words, own_words, same_counts}
+use Rattle.flat_model.proofs.Steps.{finish_failing, step_leaves}
+use Rattle.flat_model.proofs.Frames.{freed, other_hart, own_hart, other_words, same_counts}
 
 -- an effect that isn't on the item, if there is one
 abbrev pub NotOn : ItemTable → Option ℕ → Effect → Type 0
@@ -57,7 +58,7 @@ hasnt_alike : (x : Option ℕ) (y : ℕ) (ra rb : Option ℕ) → SameReserved x
 hasnt_alike x y ra rb (inl e) h = rw e at h
 hasnt_alike x y ra rb (inr e) h = rw e.1 refl
 
-is_ok : (known c : Change) → (let r : Result Change HaltCause = Ok known in r ≡ Ok c) → known ≡ c
+pub is_ok : (known c : Change) → (let r : Result Change HaltCause = Ok known in r ≡ Ok c) → known ≡ c
 is_ok known c e = grind arith
 
 conditional_alike : (items : ItemTable) (x : Option ℕ) (y : ℕ) (finish : List ℕ → Bool → Finished) (wa wb : ℕ → List ℕ) (a b : Bool) → (a ≡ true → Some y ≢ x → b ≡ true) → (a ≡ false → b ≡ false) → ((z : ℕ) → Some z ≢ x → wa z ≡ wb z) → FailsAlike (Conditional y) finish → (c : Change) → conditional a y (finish (wa y)) ≡ c → FollowsAsk items (Conditional y) c → NotOn items x c.effect → AnswersLike x (Ok (conditional b y (finish (wb y)))) c
@@ -204,7 +205,7 @@ changes_alike h x a b g c d like below same_hart same_reserved same_stored away 
     go false e = rw (other_hart a g c k (eqb-false k g e)) (rw (other_hart b g d k (eqb-false k g e)) (rw same_stored (freed_alike x c.stored (flat_hart a k) (flat_hart b k) away (like.reserved k off))))
 
 -- a hart that steps is one of the machine's
-in_range : (code : List CodeWord) (items : ItemTable) (m : FlatMachine) (g : ℕ) (words : ℕ → List ℕ) (sc_ok : Bool) (c : Change) → hart_step code items (flat_hart m g) words sc_ok ≡ Ok c → g < length m.harts
+pub in_range : (code : List CodeWord) (items : ItemTable) (m : FlatMachine) (g : ℕ) (words : ℕ → List ℕ) (sc_ok : Bool) (c : Change) → hart_step code items (flat_hart m g) words sc_ok ≡ Ok c → g < length m.harts
 unfolding hart_step
 in_range code items m g words sc_ok c e = go (nat_lt g (length m.harts)) refl where
   go : (t : Bool) → nat_lt g (length m.harts) ≡ t → g < length m.harts
@@ -212,3 +213,118 @@ in_range code items m g words sc_ok c e = go (nat_lt g (length m.harts)) refl wh
   go false k = absurd (halted (rw (get_or-eq_default m.harts no_flat_hart (ltb-false g (length m.harts) k)) at e)) where
     halted : hart_step code items no_flat_hart words sc_ok ≡ Ok c → ⊥
     halted e = grind arith
+
+-- a step by its change
+pub change_of : (code : List CodeWord) (items : ItemTable) (m n : FlatMachine) (g : ℕ) (sc_ok : Bool) (effect : Effect) → flat_step code items m g sc_ok ≡ Ok (effect, n) → (c : Change) × (hart_step code items (flat_hart m g) (item_words m) sc_ok ≡ Ok c) × (c.effect ≡ effect) × (with_change m g c ≡ n)
+unfolding flat_step
+change_of code items m n g sc_ok effect e = go (hart_step code items (flat_hart m g) (item_words m) sc_ok) refl e where
+  go : (r : Result Change HaltCause) → hart_step code items (flat_hart m g) (item_words m) sc_ok ≡ r → stepped m g r ≡ Ok (effect, n) → (c : Change) × (hart_step code items (flat_hart m g) (item_words m) sc_ok ≡ Ok c) × (c.effect ≡ effect) × (with_change m g c ≡ n)
+  go (Ok c) k e = (c, k, grind arith, grind arith)
+  go (Err cause) k e = grind arith
+
+pub flat_step_is : (code : List CodeWord) (items : ItemTable) (m : FlatMachine) (g : ℕ) (sc_ok : Bool) (c : Change) → hart_step code items (flat_hart m g) (item_words m) sc_ok ≡ Ok c → flat_step code items m g sc_ok ≡ Ok (c.effect, with_change m g c)
+unfolding flat_step
+flat_step_is code items m g sc_ok c e = ap (stepped m g) e
+
+-- a step that is on another item stores to another item
+pub stored_away : (code : List CodeWord) (items : ItemTable) (x : Option ℕ) (g : FlatHart) (words : ℕ → List ℕ) (sc_ok : Bool) (c : Change) → HasWholeWords items → hart_step code items g words sc_ok ≡ Ok c → NotOn items x c.effect → (s : Stored) → c.stored ≡ Some s → Some s.item ≢ x
+stored_away code items x g words sc_ok c whole e off s k at = go (step_follows code items g words sc_ok c whole e) where
+  go : FollowsAsk items (ask_of code items g.hart) c → ⊥
+  go (f, inl i) = off s.item (sym at) (i ∙ (step_leaves code items g words sc_ok c e).1 s k)
+  go (f, inr i) = grind arith
+
+-- the step of another hart that isn't on the item is a step of both machines, with the same effect, and leaves them alike
+pub flat_step_alike : (code : List CodeWord) (items : ItemTable) (h : ℕ) (x : Option ℕ) (a b : FlatMachine) (g : ℕ) (sc_ok : Bool) (effect : Effect) (a2 : FlatMachine) → HasWholeWords items → Alike h x a b → g ≢ h → flat_step code items a g sc_ok ≡ Ok (effect, a2) → NotOn items x effect → (b2 : FlatMachine) × (flat_step code items b g sc_ok ≡ Ok (effect, b2)) × Alike h x a2 b2 × ((flat_hart b2 h).hart ≡ (flat_hart b h).hart) × ((y : ℕ) → x ≡ Some y → item_words b2 y ≡ item_words b y)
+flat_step_alike code items h x a b g sc_ok effect a2 whole like other e off = go (change_of code items a a2 g sc_ok effect e) where
+  go : ((c : Change) × (hart_step code items (flat_hart a g) (item_words a) sc_ok ≡ Ok c) × (c.effect ≡ effect) × (with_change a g c ≡ a2)) → (b2 : FlatMachine) × (flat_step code items b g sc_ok ≡ Ok (effect, b2)) × Alike h x a2 b2 × ((flat_hart b2 h).hart ≡ (flat_hart b h).hart) × ((y : ℕ) → x ≡ Some y → item_words b2 y ≡ item_words b y)
+  go (c, step, is_effect, after) = answer like_b where
+    off_c : NotOn items x c.effect
+    off_c y i k = off y i (ap (effect_item items) (sym is_effect) ∙ k)
+
+    away : (s : Stored) → c.stored ≡ Some s → Some s.item ≢ x
+    away s k = stored_away code items x (flat_hart a g) (item_words a) sc_ok c whole step off_c s k
+
+    with_hart_b : HartValue → Type 0
+    with_hart_b k = AnswersLike x (hart_step code items (record { hart = k; reserved = (flat_hart b g).reserved }) (item_words b) sc_ok) c
+
+    like_b : AnswersLike x (hart_step code items (flat_hart b g) (item_words b) sc_ok) c
+    like_b = subst with_hart_b (like.hart g other) (step_alike code items x (flat_hart a g).hart (flat_hart a g).reserved (flat_hart b g).reserved (item_words a) (item_words b) sc_ok whole (like.reserved g other) like.words c step off_c)
+
+    answer : AnswersLike x (hart_step code items (flat_hart b g) (item_words b) sc_ok) c → (b2 : FlatMachine) × (flat_step code items b g sc_ok ≡ Ok (effect, b2)) × Alike h x a2 b2 × ((flat_hart b2 h).hart ≡ (flat_hart b h).hart) × ((y : ℕ) → x ≡ Some y → item_words b2 y ≡ item_words b y)
+    answer (d, step_b, same_effect, same_hart, same_reserved, same_stored) =
+        let answers : Effect → FlatStepped = λ k. Ok (k, with_change b g d) in
+        (with_change b g d, flat_step_is code items b g sc_ok d step_b ∙ ap answers (same_effect ∙ is_effect), subst (λ m. Alike h x m (with_change b g d)) after (changes_alike h x a b g c d like (in_range code items a g (item_words a) sc_ok c step) same_hart same_reserved same_stored away), ap (λ (k : FlatHart). k.hart) (other_hart b g d h (λ i. other (sym i))) ∙ freed_hart d.stored (flat_hart b h), λ y i. other_words b g d y (λ s k at. away s (sym same_stored ∙ k) (ap Some (sym at) ∙ sym i)))
+
+-- ---- lists
+
+-- no record is of this hart, and none is on the item
+abbrev pub Elsewhere : ItemTable → ℕ → Option ℕ → List Op → Type 0
+Elsewhere items h x [] = Unit {0}
+Elsewhere items h x (op ∷ ops) = (op.hart ≢ h) × NotOn items x op.effect × Elsewhere items h x ops
+
+-- what the test says of an item
+pub not_on : (items : ItemTable) (x : Option ℕ) (effect : Effect) → ((y : ℕ) → x ≡ Some y → on_item items y effect ≡ false) → NotOn items x effect
+unfolding on_item
+not_on items x effect off y at e = absurd (go (rw e at (off y at))) where
+  go : nat_eq y y ≡ false → ⊥
+  go h = eqb-false y y h refl
+
+-- a legal list is legal, and with the same effects, from a machine that is alike, if none of it is of that hart or on that item
+abbrev pub RunsAlike : List CodeWord → ItemTable → ℕ → Option ℕ → FlatMachine → List Op → FlatMachine → Type 0
+RunsAlike code items h x b ops z = (z2 : FlatMachine) × (legal_run code items b ops ≡ Some z2) × Alike h x z z2 × ((flat_hart z2 h).hart ≡ (flat_hart b h).hart) × ((y : ℕ) → x ≡ Some y → item_words z2 y ≡ item_words b y)
+
+pub legal_first : (code : List CodeWord) (items : ItemTable) (a : FlatMachine) (op : Op) (ops : List Op) (z : FlatMachine) → legal_run code items a (op ∷ ops) ≡ Some z → (n : FlatMachine) × (legal_step code items a op ≡ Some n) × (legal_run code items n ops ≡ Some z)
+unfolding legal_run
+legal_first code items a op ops z e = go (legal_step code items a op) refl e where
+  go : (o : Option FlatMachine) → legal_step code items a op ≡ o → option_and_then (λ n. legal_run code items n ops) o ≡ Some z → (n : FlatMachine) × (legal_step code items a op ≡ Some n) × (legal_run code items n ops ≡ Some z)
+  go None k e = grind arith
+  go (Some n) k e = (n, k, e)
+
+pub legal_more : (code : List CodeWord) (items : ItemTable) (b n : FlatMachine) (op : Op) (ops : List Op) → legal_step code items b op ≡ Some n → legal_run code items b (op ∷ ops) ≡ legal_run code items n ops
+unfolding legal_run
+legal_more code items b n op ops e = ap (option_and_then (λ m. legal_run code items m ops)) e
+
+pub runs_alike : (code : List CodeWord) (items : ItemTable) (h : ℕ) (x : Option ℕ) (a b : FlatMachine) (ops : List Op) (z : FlatMachine) → HasWholeWords items → Alike h x a b → Elsewhere items h x ops → legal_run code items a ops ≡ Some z → RunsAlike code items h x b ops z
+unfolding legal_run
+runs_alike code items h x a b [] z whole like off e = (b, refl, subst (λ m. Alike h x m b) (some_is a z e) like, refl, λ y at. refl) where
+  some_is : (m n : FlatMachine) → (let o : Option FlatMachine = Some m in o ≡ Some n) → m ≡ n
+  some_is m n e = grind arith
+runs_alike code items h x a b (op ∷ ops) z whole like off e = go (legal_first code items a op ops z e) (λ n b2 like2 run. runs_alike code items h x n b2 ops z whole like2 off.2 run) where
+  go : ((n : FlatMachine) × (legal_step code items a op ≡ Some n) × (legal_run code items n ops ≡ Some z)) → ((n b2 : FlatMachine) → Alike h x n b2 → legal_run code items n ops ≡ Some z → RunsAlike code items h x b2 ops z) → RunsAlike code items h x b (op ∷ ops) z
+  go (n, step, run) rest = stepped_b (flat_step_alike code items h x a b op.hart (is_sc_ok op.effect) op.effect n whole like off.0 (legal_step_is code items a n op step).1 off.1) where
+    stepped_b : ((b2 : FlatMachine) × (flat_step code items b op.hart (is_sc_ok op.effect) ≡ Ok (op.effect, b2)) × Alike h x n b2 × ((flat_hart b2 h).hart ≡ (flat_hart b h).hart) × ((y : ℕ) → x ≡ Some y → item_words b2 y ≡ item_words b y)) → RunsAlike code items h x b (op ∷ ops) z
+    stepped_b (b2, step_b, like2, own, words) = joined (rest n b2 like2 run) where
+      legal_b : legal_step code items b op ≡ Some b2
+      legal_b = legal_step_of code items b b2 op (ap (λ (k : HartValue). k.pc) (sym (like.hart op.hart off.0)) ∙ (legal_step_is code items a n op step).0) step_b
+
+      joined : RunsAlike code items h x b2 ops z → RunsAlike code items h x b (op ∷ ops) z
+      joined (z2, run_b, like_z, own_z, words_z) = (z2, legal_more code items b b2 op ops legal_b ∙ run_b, like_z, own_z ∙ own, λ y at. words_z y at ∙ words y at)
+
+pub changed_is : (code : List CodeWord) (items : ItemTable) (g : FlatHart) (words : ℕ → List ℕ) (sc_ok : Bool) (c : Change) → HasWholeWords items → hart_step code items g words sc_ok ≡ Ok c → changed_item items c.effect ≡ stored_item c.stored
+changed_is code items g words sc_ok c whole e = go (step_follows code items g words sc_ok c whole e) where
+  by_stored : (o : Option Stored) → is_change c.effect ≡ is_some o → ((s : Stored) → o ≡ Some s → effect_item items c.effect ≡ Some s.item) → changed_item items c.effect ≡ stored_item o
+  by_stored None i k = rw i refl
+  by_stored (Some s) i k = rw i (k s refl)
+
+  go : FollowsAsk items (ask_of code items g.hart) c → changed_item items c.effect ≡ stored_item c.stored
+  go (f, inl i) = by_stored c.stored f (λ s k. i ∙ (step_leaves code items g words sc_ok c e).1 s k)
+  go (f, inr i) = by_stored c.stored f (λ s k. absurd (none_some s (sym i.3 ∙ k))) where
+    none_some : (s : Stored) → (let o : Option Stored = None in o ≡ Some s) → ⊥
+    none_some s k = grind arith
+
+-- Insertion: a legal record stands before a legal list of other harts' records, none of them on the item that it changes.
+-- The list stays legal. At its end the record's hart is as it was after the record, and so are the words of the item that
+-- it changed; all else is as it was without the record, but for other harts' reservations of that item.
+pub insert : (code : List CodeWord) (items : ItemTable) (a a2 : FlatMachine) (o : Op) (ops : List Op) (z : FlatMachine) → HasWholeWords items → legal_step code items a o ≡ Some a2 → Elsewhere items o.hart (changed_item items o.effect) ops → legal_run code items a ops ≡ Some z → (z2 : FlatMachine) × (legal_run code items a (o ∷ ops) ≡ Some z2) × Alike o.hart (changed_item items o.effect) z z2 × ((flat_hart z2 o.hart).hart ≡ (flat_hart a2 o.hart).hart) × ((y : ℕ) → changed_item items o.effect ≡ Some y → item_words z2 y ≡ item_words a2 y)
+insert code items a a2 o ops z whole step off run = go (runs_alike code items o.hart (changed_item items o.effect) a a2 ops z whole like off run) where
+  known : (c : Change) × (hart_step code items (flat_hart a o.hart) (item_words a) (is_sc_ok o.effect) ≡ Ok c) × (c.effect ≡ o.effect) × (with_change a o.hart c ≡ a2)
+  known = change_of code items a a2 o.hart (is_sc_ok o.effect) o.effect (legal_step_is code items a a2 o step).1
+
+  item_is : changed_item items o.effect ≡ stored_item known.0.stored
+  item_is = ap (changed_item items) (sym known.2) ∙ changed_is code items (flat_hart a o.hart) (item_words a) (is_sc_ok o.effect) known.0 whole known.1
+
+  like : Alike o.hart (changed_item items o.effect) a a2
+  like = subst (λ m. Alike o.hart (changed_item items o.effect) a m) known.3 (subst (λ x. Alike o.hart x a (with_change a o.hart known.0)) (sym item_is) (change_leaves_alike a o.hart known.0))
+
+  go : RunsAlike code items o.hart (changed_item items o.effect) a2 ops z → (z2 : FlatMachine) × (legal_run code items a (o ∷ ops) ≡ Some z2) × Alike o.hart (changed_item items o.effect) z z2 × ((flat_hart z2 o.hart).hart ≡ (flat_hart a2 o.hart).hart) × ((y : ℕ) → changed_item items o.effect ≡ Some y → item_words z2 y ≡ item_words a2 y)
+  go (z2, run2, like2, own, words) = (z2, legal_more code items a a2 o ops step ∙ run2, like2, own, words)

@@ -1,7 +1,7 @@
 -- The item of an effect is the item that its instruction asked for, and the effects that store are those of steps that do.
-use Rattle.std.proofs.Common.{◌≡◌, ℕ, suc, ◌+◌, ◌*◌, ◌/◌, ◌%◌, ◌<◌, Bool, true, false, not, ◌&&◌, nat_eq, nat_lt, cond, ◌⊎◌, inl, inr, List, [], ◌∷◌, length, slice_index_or, Option, Some, None, Ok, Err, refl, sym, ap, subst, ◌∙◌, arith}
-use Rattle.std.specs.Prelude.{All, Result, position, if◌then◌else◌, is_some}
-use Rattle.std.specs.List.{position_or_len, prefix_len}
+use Rattle.std.proofs.Common.{◌≡◌, ℕ, suc, ◌+◌, ◌-◌, ◌*◌, ◌/◌, ◌%◌, Bool, true, false, not, ◌&&◌, nat_eq, nat_lt, cond, ◌⊎◌, inl, inr, List, [], ◌∷◌, length, slice_index_or, Option, Some, None, Ok, Err, refl, sym, ap, subst, ◌∙◌, arith}
+use Rattle.std.specs.Prelude.{All, Result, if◌then◌else◌, is_some}
+use Rattle.std.specs.List.{position_or_len}
 use Rattle.ddm_types.specs.declared.operations.HaltCause.{HaltCause}
 use Rattle.ddm_types.specs.declared.operations.HaltCause.TheVariants.{MisalignedAccess, MisalignedTarget, LoadOutside, StoreOutside, Exit, UnknownCall}
 use Rattle.ddm_types.specs.CodeMap.{CodeWord, word_at}
@@ -11,8 +11,8 @@ use Rattle.rv_decode.specs.declared.instructions.Instr.TheVariants.{Lui, Auipc, 
 use Rattle.rv_decode.specs.Table.{decode_of}
 use Rattle.flat_model.specs.declared.Ask.{Ask}
 use Rattle.flat_model.specs.declared.Ask.TheVariants.{Conditional}
-use Rattle.flat_model.specs.Hart.{HartValue, Finished, Access, Action, with_register, next_pc, Halts, Computes, Puts, Loads, Stores, Reserves, StoresIfReserved, Changes, register, access_in, aligned, load_bytes, store_bytes, offset_by, is_taken, load_found, load_at, store_found, store_at, jump, call, advanced, instr_action, decoded_action, fetched_action, action_of, ask_by, ask_of, finish_by, finish_of}
-use Rattle.flat_model.specs.Flat.{FlatHart, Stored, Change, has_reserved, conditional, change_by, unless_halted, asked_item, hart_step}
+use Rattle.flat_model.specs.Hart.{HartValue, Access, Action, with_register, next_pc, Halts, Computes, Puts, Loads, Stores, Reserves, StoresIfReserved, Changes, register, access_in, aligned, load_bytes, store_bytes, offset_by, is_taken, load_found, load_at, store_found, store_at, jump, call, advanced, instr_action, decoded_action, fetched_action, action_of, ask_by, ask_of, finish_by, finish_of}
+use Rattle.flat_model.specs.Flat.{FlatHart, Change, has_reserved, conditional, change_by, unless_halted, asked_item, hart_step}
 use Rattle.flat_model.specs.Legal.{effect_item, is_change, HasWholeWords}
 
 -- a word that begins at a multiple of 4 lies in an item as a whole
@@ -39,9 +39,9 @@ access_of (Reserves rd a) = Some a
 access_of (StoresIfReserved rd v a) = Some a
 access_of (Changes op rd v a) = Some a
 
--- its item is the one that has its address
+-- its item is the one that has its address, and its place is that of its word
 abbrev pub IsInItem : ItemTable → Action → Type 0
-IsInItem items act = (a : Access) → access_of act ≡ Some a → item_at items a.address ≡ Some a.item
+IsInItem items act = (a : Access) → access_of act ≡ Some a → (item_at items a.address ≡ Some a.item) × (a.place ≡ (a.address - (row_at items a.item).address) / 4)
 
 -- an action of an access is on that access
 abbrev pub TakesAccess : (Access → Action) → Type 0
@@ -51,7 +51,12 @@ halts_in_item : (items : ItemTable) (cause : HaltCause) → IsInItem items (Halt
 halts_in_item items cause a e = grind arith
 
 access_in_item : (items : ItemTable) (action : Access → Action) (a x : ℕ) → TakesAccess action → item_at items a ≡ Some x → IsInItem items (action (access_in items a x))
-access_in_item items action a x takes at b e = grind (arith, takes (access_in items a x))
+access_in_item items action a x takes at b e = subst P (some_is (access_in items a x) b (sym (takes (access_in items a x)) ∙ e)) (at, refl) where
+  P : Access → Type 0
+  P b = (item_at items b.address ≡ Some b.item) × (b.place ≡ (b.address - (row_at items b.item).address) / 4)
+
+  some_is : (k b : Access) → (let o : Option Access = Some k in o ≡ Some b) → k ≡ b
+  some_is k b e = grind arith
 
 load_in_item : (items : ItemTable) (action : Access → Action) (a : ℕ) → TakesAccess action → IsInItem items (load_at items action a)
 load_in_item items action a takes = go (item_at items a) refl where
@@ -141,14 +146,14 @@ change_follows : (items : ItemTable) (act : Action) (h : HartValue) (reserved : 
 change_follows items (Halts cause) h reserved words sc_ok c whole at e = grind arith
 change_follows items (Computes after) h reserved words sc_ok c whole at e = follows items _ _ c e (refl, inl refl)
 change_follows items (Puts byte after) h reserved words sc_ok c whole at e = follows items _ _ c e (refl, inl refl)
-change_follows items (Loads op rd a) h reserved words sc_ok c whole at e = follows items _ _ c e (refl, inl (item_at_word items a.address whole ∙ at a refl))
-change_follows items (Stores op v a) h reserved words sc_ok c whole at e = follows items _ _ c e (refl, inl (item_at_word items a.address whole ∙ at a refl))
-change_follows items (Reserves rd a) h reserved words sc_ok c whole at e = follows items _ _ c e (refl, inl (item_at_word items a.address whole ∙ at a refl))
+change_follows items (Loads op rd a) h reserved words sc_ok c whole at e = follows items _ _ c e (refl, inl (item_at_word items a.address whole ∙ (at a refl).0))
+change_follows items (Stores op v a) h reserved words sc_ok c whole at e = follows items _ _ c e (refl, inl (item_at_word items a.address whole ∙ (at a refl).0))
+change_follows items (Reserves rd a) h reserved words sc_ok c whole at e = follows items _ _ c e (refl, inl (item_at_word items a.address whole ∙ (at a refl).0))
 change_follows items (StoresIfReserved rd v a) h reserved words sc_ok c whole at e = go (sc_ok && has_reserved reserved a.item) e where
   go : (b : Bool) → (let r : Result Change HaltCause = Ok (conditional b a.item (finish_by (StoresIfReserved rd v a) h (words a.item))) in r ≡ Ok c) → FollowsAsk items (Conditional a.item) c
-  go true e = follows items _ _ c e (refl, inl (item_at_word items a.address whole ∙ at a refl))
+  go true e = follows items _ _ c e (refl, inl (item_at_word items a.address whole ∙ (at a refl).0))
   go false e = follows items _ _ c e (refl, inr (a.item, refl, refl, refl))
-change_follows items (Changes op rd v a) h reserved words sc_ok c whole at e = follows items _ _ c e (refl, inl (item_at_word items a.address whole ∙ at a refl))
+change_follows items (Changes op rd v a) h reserved words sc_ok c whole at e = follows items _ _ c e (refl, inl (item_at_word items a.address whole ∙ (at a refl).0))
 
 pub step_follows : (code : List CodeWord) (items : ItemTable) (g : FlatHart) (words : ℕ → List ℕ) (sc_ok : Bool) (c : Change) → HasWholeWords items → hart_step code items g words sc_ok ≡ Ok c → FollowsAsk items (ask_of code items g.hart) c
 unfolding hart_step ask_of finish_of

@@ -6,3 +6,5 @@ pub mod Steps
 pub mod Frames
 pub mod Items
 pub mod Insert
+pub mod Reserving
+pub mod Storing

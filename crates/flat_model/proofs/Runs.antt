@@ -1,14 +1,14 @@
 -- Legal lists: what a record says of its step, and one list behind another.
-use Rattle.std.proofs.Common.{◌≡◌, ℕ, Bool, true, false, nat_eq, List, [], ◌∷◌, ◌++◌, Option, Some, None, Ok, Err, refl, ap, sym, ◌∙◌, arith}
+use Rattle.std.proofs.Common.{◌≡◌, Bool, true, false, nat_eq, List, [], ◌∷◌, ◌++◌, Option, Some, None, Ok, Err, refl, arith}
 use Rattle.std.proofs.lemmas.Bool.{eqb-true, eq-eqb}
-use Rattle.std.specs.Prelude.{option_and_then, if◌then◌else◌, Result}
+use Rattle.std.specs.Prelude.{option_and_then, if◌then◌else◌}
 use Rattle.ddm_types.specs.declared.operations.Effect.{Effect}
 use Rattle.ddm_types.specs.declared.operations.Effect.TheVariants.{Plain, Put, Load, Store, Lr, ScOk, ScFail, Amo}
 use Rattle.ddm_types.specs.declared.operations.Op.{Op}
 use Rattle.ddm_types.specs.CodeMap.{CodeWord}
 use Rattle.ddm_types.specs.ItemTable.{ItemTable}
 use Rattle.flat_model.specs.Flat.{FlatMachine, FlatStepped, flat_hart, flat_step}
-use Rattle.flat_model.specs.Legal.{same_effect, is_sc_ok, if_effect, legal_step, legal_run, Legal}
+use Rattle.flat_model.specs.Legal.{same_effect, is_sc_ok, if_effect, legal_step, legal_run}
 
 -- effects that are the same by the test are equal
 pub same_effect_is : (a b : Effect) → same_effect a b ≡ true → a ≡ b

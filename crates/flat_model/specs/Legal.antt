@@ -1,10 +1,10 @@
 -- Legal lists of completed instructions.
-use Rattle.std.specs.Prelude.{◌≡◌, ℕ, ◌%◌, All, Bool, true, false, ◌&&◌, nat_eq, List, [], ◌∷◌, Option, Some, None, IsSome, unwrap_or, option_and_then, Ok, Err, if◌then◌else◌}
+use Rattle.std.specs.Prelude.{◌≡◌, ℕ, ◌-◌, ◌/◌, ◌%◌, slice_set, All, Bool, true, false, ◌&&◌, nat_eq, List, [], ◌∷◌, fold, Option, Some, None, IsSome, unwrap_or, option_and_then, Ok, Err, if◌then◌else◌}
 use Rattle.ddm_types.specs.declared.operations.Effect.{Effect}
 use Rattle.ddm_types.specs.declared.operations.Effect.TheVariants.{Plain, Put, Load, Store, Lr, ScOk, ScFail, Amo}
 use Rattle.ddm_types.specs.declared.operations.Op.{Op}
 use Rattle.ddm_types.specs.CodeMap.{CodeWord}
-use Rattle.ddm_types.specs.ItemTable.{ItemTable, ItemRow, item_at}
+use Rattle.ddm_types.specs.ItemTable.{ItemTable, ItemRow, item_at, row_at}
 use Rattle.flat_model.specs.Flat.{FlatMachine, FlatStepped, flat_hart, flat_step, has_reserved}
 
 -- ---- what an effect is on
@@ -41,6 +41,51 @@ on_item items x effect = has_reserved (effect_item items effect) x
 -- the effect writes a word of this item
 unfoldable pub changes_item : ItemTable → ℕ → Effect → Bool
 changes_item items x effect = is_change effect && on_item items x effect
+
+-- the item that an effect stores to
+abbrev pub changed_item : ItemTable → Effect → Option ℕ
+changed_item items effect = if is_change effect then effect_item items effect else None
+
+-- a hart's reservation after an instruction of its own: LR makes one, an SC of either outcome ends it
+abbrev pub reserved_by_own : ItemTable → Option ℕ → Effect → Option ℕ
+reserved_by_own items r Plain = r
+reserved_by_own items r (Put byte) = r
+reserved_by_own items r (Load address word) = r
+reserved_by_own items r (Store address before after) = r
+reserved_by_own items r (Lr address word) = item_at items address
+reserved_by_own items r (ScOk address before after) = None
+reserved_by_own items r (ScFail address) = None
+reserved_by_own items r (Amo address before after) = r
+
+-- and after another hart's, which ends it where it stores to that item
+abbrev pub reserved_by_other : Option ℕ → Option ℕ → Option ℕ
+reserved_by_other r None = r
+reserved_by_other r (Some x) = if has_reserved r x then None else r
+
+abbrev pub reserved_by : ItemTable → ℕ → Option ℕ → Op → Option ℕ
+reserved_by items g r op = if nat_eq g op.hart then reserved_by_own items r op.effect else reserved_by_other r (changed_item items op.effect)
+
+-- hart g's reservation after a list of records, by their effects alone
+unfoldable pub reservation : ItemTable → ℕ → List Op → Option ℕ
+reservation items g ops = fold (reserved_by items g) None ops
+
+-- an item's words after an effect on it: the word at its address is the one that it stores
+abbrev pub stored_by : ItemTable → ℕ → List ℕ → Effect → List ℕ
+stored_by items x words Plain = words
+stored_by items x words (Put byte) = words
+stored_by items x words (Load address word) = words
+stored_by items x words (Store address before after) = slice_set words ((address - (row_at items x).address) / 4) after
+stored_by items x words (Lr address word) = words
+stored_by items x words (ScOk address before after) = slice_set words ((address - (row_at items x).address) / 4) after
+stored_by items x words (ScFail address) = words
+stored_by items x words (Amo address before after) = slice_set words ((address - (row_at items x).address) / 4) after
+
+abbrev pub words_by : ItemTable → ℕ → List ℕ → Op → List ℕ
+words_by items x words op = if changes_item items x op.effect then stored_by items x words op.effect else words
+
+-- item x's words after a list of records, by their effects alone
+unfoldable pub words_after : ItemTable → ℕ → List ℕ → List Op → List ℕ
+words_after items x words ops = fold (words_by items x) words ops
 
 -- items begin and end at whole words
 abbrev pub HasWholeWords : ItemTable → Type 0

@@ -11,7 +11,7 @@ use Rattle.tree_model.specs.Leaf.{EntryValue, entry_at, with_entry, waiting_item
 use Rattle.one_leaf.specs.OneLeaf.{OneLeafValue, ways_from, leaf_of}
 
 -- the way of an item: those from k on, x behind the first
-ways-index : (sets k : ℕ) (ws : List (List ℕ)) (x : ℕ) → x < length ws → slice_index_or (ways_from sets k ws) x None ≡ Some (record { way = (k + x) / sets; state = LeafState.Exclusive; words = slice_index_or ws x [] })
+pub ways-index : (sets k : ℕ) (ws : List (List ℕ)) (x : ℕ) → x < length ws → slice_index_or (ways_from sets k ws) x None ≡ Some (record { way = (k + x) / sets; state = LeafState.Exclusive; words = slice_index_or ws x [] })
 unfolding ways_from
 ways-index sets k [] x h = absurd (omega (arith, h))
 ways-index sets k (w ∷ ws) zero h = grind arith

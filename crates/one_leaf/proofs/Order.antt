@@ -165,7 +165,7 @@ module _ (code : List CodeWord) (items : ItemTable) (g : FlatHart) (words : ℕ 
 running_is : (v : OneLeafValue) → v.hart.halt ≡ None → running v ≡ v
 running_is v is = ap (λ o. record v { hart = record v.hart { halt = o } }) (sym is)
 
-step_is : (v : OneLeafValue) → v.hart.halt ≡ None → step_of v ≡ change_by (ask_of v.code v.items v.hart) v.reservation (finish_of v.code v.items v.hart) (item_words (flat_of v)) true
+pub step_is : (v : OneLeafValue) → v.hart.halt ≡ None → step_of v ≡ change_by (ask_of v.code v.items v.hart) v.reservation (finish_of v.code v.items v.hart) (item_words (flat_of v)) true
 unfolding step_of hart_step
 step_is v is = ap (λ o. unless_halted o (change_by (ask_of v.code v.items v.hart) v.reservation (finish_of v.code v.items v.hart) (item_words (flat_of v)) true)) is
 
@@ -173,7 +173,7 @@ halted_step : (v : OneLeafValue) (cause : HaltCause) → v.hart.halt ≡ Some ca
 unfolding step_of hart_step
 halted_step v cause is = ap (λ o. unless_halted o (change_by (ask_of v.code v.items v.hart) v.reservation (finish_of v.code v.items v.hart) (item_words (flat_of v)) true)) is
 
-hart_step_is : (v : OneLeafValue) (ok : Bool) → v.hart.halt ≡ None → hart_step v.code v.items (flat_hart_of v) (item_words (flat_of v)) ok ≡ change_by (ask_of v.code v.items v.hart) v.reservation (finish_of v.code v.items v.hart) (item_words (flat_of v)) ok
+pub hart_step_is : (v : OneLeafValue) (ok : Bool) → v.hart.halt ≡ None → hart_step v.code v.items (flat_hart_of v) (item_words (flat_of v)) ok ≡ change_by (ask_of v.code v.items v.hart) v.reservation (finish_of v.code v.items v.hart) (item_words (flat_of v)) ok
 unfolding hart_step
 hart_step_is v ok is = ap (λ o. unless_halted o (change_by (ask_of v.code v.items v.hart) v.reservation (finish_of v.code v.items v.hart) (item_words (flat_of v)) ok)) is
 

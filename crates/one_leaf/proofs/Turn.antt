@@ -102,7 +102,7 @@ pub asks_inside : (code : List CodeWord) (items : ItemTable) (h : HartValue) (x 
 unfolding ask_of
 asks_inside code items h x e =
     let found = asks_access (action_of code items h) x e in
-    subst (λ y. y < item_count items) found.2 (item_at_inside items found.0.address found.0.item (action_in_item code items h found.0 found.1))
+    subst (λ y. y < item_count items) found.2 (item_at_inside items found.0.address found.0.item (action_in_item code items h found.0 found.1).0)
 
 -- ---- the turn
 

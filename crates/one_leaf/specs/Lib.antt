@@ -1,2 +1,4 @@
 pub mod OneLeaf
 pub mod Run
+pub mod Start
+pub mod Witness

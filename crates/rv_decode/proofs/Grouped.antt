@@ -1,5 +1,5 @@
 -- The table by opcode.
-use Rattle.std.proofs.Common.{◌≡◌, ◌≢◌, ℕ, ◌+◌, ◌*◌, ◌/◌, ◌%◌, ◌^◌, ◌<◌, nat_eq, Bool, true, false, List, [], ◌∷◌, Option, Some, None, refl, sym, ◌∙◌, ap, arith, ◌&&◌, cond, if◌then◌else◌}
+use Rattle.std.proofs.Common.{◌≡◌, ℕ, ◌^◌, ◌<◌, nat_eq, Bool, true, false, List, [], ◌∷◌, Option, Some, None, refl, ◌∙◌, arith, ◌&&◌, if◌then◌else◌}
 use Rattle.rv_decode.specs.declared.instructions.ImmOp.{ImmOp}
 use Rattle.rv_decode.specs.declared.instructions.BranchOp.{BranchOp}
 use Rattle.rv_decode.specs.declared.instructions.BranchOp.TheVariants.{Beq, Bne, Blt, Bge, Bltu, Bgeu}
@@ -12,12 +12,11 @@ use Rattle.rv_decode.specs.declared.instructions.RegOp.{RegOp}
 use Rattle.rv_decode.specs.declared.instructions.RegOp.TheVariants.{Add, Sub, Sll, Slt, Sltu, Xor, Srl, Sra, Or, And}
 use Rattle.rv_decode.specs.declared.instructions.AmoOp.{AmoOp}
 use Rattle.rv_decode.specs.declared.instructions.AmoOp.TheVariants.{Add as AmoAdd, Swap as AmoSwap, Xor as AmoXor, Or as AmoOr, And as AmoAnd, Min as AmoMin, Max as AmoMax, Minu as AmoMinu, Maxu as AmoMaxu}
-use Rattle.rv_decode.specs.declared.instructions.Instr.{Instr}
-use Rattle.rv_decode.specs.declared.instructions.Instr.TheVariants.{Lui, Auipc, Jal, Jalr, Branch, Load, Store, Immediate, Register, Fence, Ecall, Ebreak, Lr, Sc, Amo}
+use Rattle.rv_decode.specs.declared.instructions.Instr.TheVariants.{Lui, Auipc, Jal, Branch, Load, Store, Immediate, Register, Ecall, Ebreak, Amo}
 use Rattle.std.specs.Option.{option_map}
 use Rattle.std.specs.List.{list_any}
 use Rattle.std.proofs.Math.Bool.{and-false}
-use Rattle.std.proofs.lemmas.Bool.{true≢false, eqb-true, ne_eqb, cond_both}
+use Rattle.std.proofs.lemmas.Bool.{true≢false, eqb-true, cond_both}
 use Rattle.rv_decode.specs.Table.{field, table, decode_by, decode_of, rd_of, rs1_of, rs2_of, aq_of, rl_of, i_immediate, s_immediate, b_immediate, u_immediate, j_immediate, shift_amount}
 use Rattle.rv_decode.specs.Selectors.{made_or, branch_op, load_op, store_op, immediate_op, shift_op, register_op, amo_op, jump_of, branch_of, load_of, store_of, shift_of, immediate_of, register_of, fence_of, system_of, load_reserved_of, amo_of, atomic_of, by_opcode}
 use Rattle.rv_decode.proofs.Rows.{decode_by-rows_of, decode_by_none}
@@ -233,12 +232,3 @@ decoded_by_opcode w h =
     if_opcode (field 0 7 w) 0b1110011 (decode_of w) _ _ (system w h) (λ n10.
     if_opcode (field 0 7 w) 0b0101111 (decode_of w) _ _ (atomic w) (λ n11.
     other w (rw (n0, n1, n2, n3, n4, n5, n6, n7, n8, n9, n10, n11) refl)))))))))))))
-
--- no row has another opcode than these
-pub outside_opcodes : (op w : ℕ) → op ≡ field 0 7 w →
-    op ≢ 0b0110111 → op ≢ 0b0010111 → op ≢ 0b1101111 → op ≢ 0b1100111 → op ≢ 0b1100011 → op ≢ 0b0000011 →
-    op ≢ 0b0100011 → op ≢ 0b0010011 → op ≢ 0b0110011 → op ≢ 0b0001111 → op ≢ 0b1110011 → op ≢ 0b0101111 → decode_of w ≡ None
-outside_opcodes op w e n0 n1 n2 n3 n4 n5 n6 n7 n8 n9 n10 n11 =
-    let none : list_any (nat_eq op) opcodes ≡ false =
-    rw (ne_eqb op 0b0110111 n0, ne_eqb op 0b0010111 n1, ne_eqb op 0b1101111 n2, ne_eqb op 0b1100111 n3, ne_eqb op 0b1100011 n4, ne_eqb op 0b0000011 n5, ne_eqb op 0b0100011 n6, ne_eqb op 0b0010011 n7, ne_eqb op 0b0110011 n8, ne_eqb op 0b0001111 n9, ne_eqb op 0b1110011 n10, ne_eqb op 0b0101111 n11) refl in
-    other w (rw (← e) none)

@@ -3,3 +3,8 @@ pub mod OneRow
 pub mod Known
 mod Rows
 mod Grouped
+mod Signed
+mod Words
+mod Selected
+mod Decoded
+mod Encoded

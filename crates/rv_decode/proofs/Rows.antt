@@ -1,7 +1,7 @@
 -- The rows that a word can fit whose opcode is known.
-use Rattle.std.proofs.Common.{◌≡◌, ◌≢◌, ℕ, ◌+◌, ◌*◌, ◌/◌, ◌%◌, ◌^◌, nat_eq, Bool, true, false, List, [], ◌∷◌, Option, Some, None, subst, refl, sym, ◌∙◌, ap, arith, ◌&&◌, cond, if◌then◌else◌}
+use Rattle.std.proofs.Common.{◌≡◌, ℕ, ◌%◌, ◌^◌, nat_eq, Bool, true, false, List, [], ◌∷◌, Option, Some, None, subst, refl, sym, ◌∙◌, ap, arith, if◌then◌else◌}
 use Rattle.std.specs.List.{list_all, list_any}
-use Rattle.std.proofs.lemmas.Bool.{and_parts, true≢false, ne_eqb, eqb-true, eqb-false, false_from_ne_true, cases_Bool}
+use Rattle.std.proofs.lemmas.Bool.{and_parts, true≢false, ne_eqb, eqb-false, false_from_ne_true}
 use Rattle.rv_decode.specs.Table.{field, Fixed, Row, has_field, fits, decode_by}
 
 -- the opcode that a fixed field demands, as a field of its own or in a whole word

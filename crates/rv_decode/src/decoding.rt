@@ -1,7 +1,8 @@
 //! The instruction of a word.
-ghost use Rattle.std.specs.Prelude.{◌≡◌};
+ghost use Rattle.std.specs.Prelude.{◌≡◌, IfSome};
 ghost use Rattle.rv_decode.specs.Table.{field, decode_of};
-ghost use Rattle.rv_decode.specs.Selectors.{branch_op, load_op, store_op, immediate_op, shift_op, register_op, amo_op, jump_of, branch_of, load_of, store_of, shift_of, immediate_of, register_of, fence_of, system_of, load_reserved_of, amo_of, atomic_of};
+ghost use Rattle.rv_decode.specs.Valid.{IsValid};
+ghost use Rattle.rv_decode.specs.Selectors.{branch_op, load_op, store_op, immediate_op, shift_op, register_op, amo_op, jump_of, branch_of, load_of, store_of, shift_of, immediate_of, register_of, fence_of, system_of, load_reserved_of, amo_of, atomic_of, by_opcode};
 
 use crate::fields::{
     aq, b_immediate, fence_immediate, funct3, funct5, funct7, i_immediate, j_immediate, opcode, rd,
@@ -285,10 +286,9 @@ fn decode_atomic(word: u32) -> Option<Instr>
     }
 }
 
-/// The instruction of a word, or `None` where the table has no row that the word fits.
-#[tactic(auto, using(crate::proofs::Grouped::decoded_by_opcode), unfolding(crate::specs::Selectors::by_opcode))]
-pub fn decode(word: u32) -> Option<Instr>
-    ensures { result ≡ decode_of word }
+#[tactic(auto, unfolding(crate::specs::Selectors::by_opcode))]
+fn decode_opcode(word: u32) -> Option<Instr>
+    ensures { result ≡ by_opcode (field 0 7 word) word }
 {
     match opcode(word) {
         0b011_0111 => Some(Instr::Lui {
@@ -314,4 +314,13 @@ pub fn decode(word: u32) -> Option<Instr>
         0b010_1111 => decode_atomic(word),
         _ => None,
     }
+}
+
+/// The instruction of a word, or `None` where the table has no row that the word fits.
+#[tactic(auto, using(crate::proofs::Grouped::decoded_by_opcode))]
+pub fn decode(word: u32) -> Option<Instr>
+    ensures decoded { result ≡ decode_of word }
+    ensures valid { IfSome result IsValid }
+{
+    decode_opcode(word)
 }

@@ -1,5 +1,5 @@
 -- Maps, tests and searches over a list that see each element's index.
-use Rattle.std.specs.Prelude.{ℕ, zero, suc, ◌+◌, Bool, false, ◌||◌, List, [], ◌∷◌, Option, Some, None, if◌then◌else◌}
+use Rattle.std.specs.Prelude.{ℕ, zero, suc, ◌+◌, Bool, true, false, ◌&&◌, ◌||◌, List, [], ◌∷◌, Option, Some, None, if◌then◌else◌}
 
 module _ {X : Type 0} where
   -- g of each index and element, where the first element has the index i
@@ -11,6 +11,11 @@ module _ {X : Type 0} where
   abbrev pub any_from : (ℕ → X → Bool) → ℕ → List X → Bool
   any_from t i [] = false
   any_from t i (x ∷ xs) = t i x || any_from t (i + 1) xs
+
+  -- each element passes
+  abbrev pub all_from : (ℕ → X → Bool) → ℕ → List X → Bool
+  all_from t i [] = true
+  all_from t i (x ∷ xs) = t i x && all_from t (i + 1) xs
 
   -- the index of the first element that passes
   abbrev pub find_from : (ℕ → X → Bool) → ℕ → List X → Option ℕ

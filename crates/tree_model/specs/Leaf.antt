@@ -80,7 +80,7 @@ without_entry x v = record v { ways = slice_set v.ways x None; buffer = filter (
 
 -- ---- sets and ways: the set of an item is its number modulo the number of sets
 
-abbrev stands_in : LeafValue → ℕ → ℕ → ℕ → Option WayValue → Bool
+abbrev pub stands_in : LeafValue → ℕ → ℕ → ℕ → Option WayValue → Bool
 stands_in v x way y None = false
 stands_in v x way y (Some e) = nat_eq (y % v.sets) (x % v.sets) && nat_eq e.way way
 

@@ -11,4 +11,16 @@ pub mod Route
 pub mod Machine
 pub mod Start
 pub mod Found
+pub mod Faces
+pub mod OwnRules
+pub mod BusRules
+pub mod BusTests
+pub mod Moments
+pub mod Copies
+pub mod Claims
+pub mod Places
+pub mod Ops
+pub mod OrderRules
+pub mod OrderTests
+pub mod Shape
 pub mod Computing

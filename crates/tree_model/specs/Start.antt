@@ -124,7 +124,7 @@ start_code i = flat_map segment_code (fold put_segment [] i.segments)
 
 -- ---- the tree
 
-abbrev new_leaf : TreeValue → ImageValue → ℕ → ℕ → LeafValue
+abbrev pub new_leaf : TreeValue → ImageValue → ℕ → ℕ → LeafValue
 new_leaf t i items number = record {
   number = number;
   hart = hart_start (start_of_harts t i) number;
@@ -170,27 +170,27 @@ new_top t items = record (new_dir t items 0 0) { items = replicate items held_ex
 
 -- ---- placement: item i goes to leaf i mod leaves, or to the next one in cyclic order with a free way in its set
 
-abbrev has_way : List LeafValue → ℕ → ℕ → Bool
+abbrev pub has_way : List LeafValue → ℕ → ℕ → Bool
 has_way ls x leaf = is_some (free_way x (slice_index_or ls leaf no_leaf))
 
 -- the leaves in cyclic order from one
-abbrev cyclic_from : ℕ → ℕ → List ℕ
+abbrev pub cyclic_from : ℕ → ℕ → List ℕ
 cyclic_from first count = map (λ k. (first + k) % count) (range_with_len 0 count)
 
 unfoldable pub leaf_for : List LeafValue → ℕ → Option ℕ
 leaf_for ls x = find (has_way ls x) (cyclic_from (x % length ls) (length ls))
 
-abbrev way_or_zero : Option ℕ → ℕ
+abbrev pub way_or_zero : Option ℕ → ℕ
 way_or_zero None = 0
 way_or_zero (Some w) = w
 
-abbrev put_item : ℕ → List ℕ → LeafValue → LeafValue
+abbrev pub put_item : ℕ → List ℕ → LeafValue → LeafValue
 put_item x words v = with_way x (way_or_zero (free_way x v)) LeafState.Exclusive words v
 
-abbrev put_at : ℕ → ℕ → List ℕ → ℕ → LeafValue → LeafValue
+abbrev pub put_at : ℕ → ℕ → List ℕ → ℕ → LeafValue → LeafValue
 put_at leaf x words i v = if nat_eq i leaf then put_item x words v else v
 
-abbrev placed_or_not : List LeafValue → ℕ → List ℕ → Option ℕ → List LeafValue
+abbrev pub placed_or_not : List LeafValue → ℕ → List ℕ → Option ℕ → List LeafValue
 placed_or_not ls x words None = ls
 placed_or_not ls x words (Some leaf) = map_from (put_at leaf x words) 0 ls
 
@@ -241,7 +241,7 @@ abbrev pub under_levels : TreeValue → ℕ → ℕ → ℕ → List (List ℕ) 
 under_levels t items level bus [] leaves = leaves
 under_levels t items level bus (l ∷ ls) leaves = dirs_over t items level bus (cut_in l (under_levels t items (level + 1) (bus + length l) ls leaves))
 
-abbrev start_leaves : TreeValue → ImageValue → List LeafValue
+abbrev pub start_leaves : TreeValue → ImageValue → List LeafValue
 start_leaves t i = placed_items 0 (start_words t i) (map (new_leaf t i (item_count (start_items t i))) (range_with_len 0 (leaf_count t)))
 
 -- the machine of a tree and an image

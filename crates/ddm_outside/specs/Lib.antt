@@ -1,0 +1,9 @@
+pub mod Causes
+pub mod Telling
+pub mod NamedFiles
+pub mod MemoryShelf
+pub mod MemorySink
+pub mod SoundShelf
+pub mod SoundSink
+pub mod StdSink
+pub mod FileShelf

@@ -1,0 +1,4 @@
+pub mod Adds
+pub mod Hex
+pub mod Numbers
+pub mod Lines

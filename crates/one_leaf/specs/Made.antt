@@ -1,0 +1,62 @@
+-- The value of a one-leaf machine by its parts.
+use Rattle.std.specs.Prelude.{◌≡◌, ℕ, ◌*◌, Bool, true, false, List, [], ◌∷◌, ◌++◌, length, Option, Ok}
+use Rattle.ddm_types.specs.declared.sizes.TreeSizes.{TreeSizes}
+use Rattle.ddm_types.specs.declared.operations.Op.{Op}
+use Rattle.ddm_types.specs.declared.operations.Effect.{Effect}
+use Rattle.ddm_types.specs.declared.answers.TurnAnswer.{TurnAnswer}
+use Rattle.ddm_types.specs.Keys.{key_zero, key_counted}
+use Rattle.flat_model.specs.declared.Ask.{Ask}
+use Rattle.flat_model.specs.Flat.{Change}
+use Rattle.ddm_types.specs.ItemTable.{ItemTable, item_count}
+use Rattle.ddm_types.specs.CodeMap.{CodeWord}
+use Rattle.rv_hart.specs.HartState.{HartState}
+use Rattle.tree_model.specs.Start.{TreeValue}
+use Rattle.one_leaf.specs.OneLeaf.{OneLeafValue, answer_by, after_by}
+
+-- the machine doesn't keep the sizes of its tree, on which none of its turns depends
+abbrev pub no_tree : TreeValue
+no_tree = record { levels = []; way_count = 0; sizes = record { sets = 0; buffer = 0; parking = 0; down = 0; requests = 0; replies = 0 }; stack_base = 0; stack_bytes = 0; item_bytes = 0 }
+
+abbrev pub made_of : List CodeWord → ItemTable → HartState → Option ℕ → List (List ℕ) → List Op → OneLeafValue
+made_of code items hart reservation words ops = record {
+  code = code;
+  items = items;
+  tree = no_tree;
+  hart = hart.hart;
+  done = hart.done;
+  reservation = reservation;
+  words = words;
+  ops = ops;
+}
+
+-- the same machine as one of this tree
+abbrev pub in_tree : TreeValue → OneLeafValue → OneLeafValue
+in_tree tree v = record v { tree = tree }
+
+-- each item has its words, as many as an item has
+pub record IsMade (width : ℕ) (items : ItemTable) (words : List (List ℕ)) : Type 0 where
+  pub each : item_count items ≡ length words
+  pub size : 4 * width ≡ items.size
+
+-- the instruction is on no item
+abbrev pub needs_no_words : Ask → Bool
+needs_no_words Ask.Plain = true
+needs_no_words (Ask.Put byte) = true
+needs_no_words (Ask.NeedsShared x lr) = false
+needs_no_words (Ask.NeedsExclusive x) = false
+needs_no_words (Ask.Conditional x) = false
+needs_no_words (Ask.Halt cause) = false
+
+-- the operation of a hart that has completed an instruction with this number at this pc
+abbrev pub op_made : ℕ → ℕ → Effect → Op
+op_made number pc effect = record { key = key_counted key_zero number; hart = 0; pc = pc; effect = effect }
+
+-- the machine has one operation more, which is answered
+pub record IsCompleted (number pc : ℕ) (effect : Effect) (before after : OneLeafValue) (answer : TurnAnswer) : Type 0 where
+  pub answers : answer ≡ TurnAnswer.Retired (op_made number pc effect)
+  pub leaves : after ≡ record before { ops = before.ops ++ op_made number pc effect ∷ [] }
+
+-- a turn did this, and answered that an instruction completed
+pub record IsTurned (before : OneLeafValue) (c : Change) (after : OneLeafValue) (answer : TurnAnswer) : Type 0 where
+  pub answers : answer ≡ answer_by before (Ok c)
+  pub leaves : after ≡ after_by before (Ok c)

@@ -1,0 +1,10 @@
+pub mod Pieces
+pub mod TurnTexts
+pub mod ReadBack
+pub mod Parts
+pub mod Resumed
+pub mod Numbered
+pub mod OneSpelling
+pub mod Given
+pub mod Schedules
+pub mod Reports

@@ -1,0 +1,12 @@
+pub mod Schedule
+pub mod Words
+pub mod Trace
+pub mod Report
+pub mod Faults
+pub mod Compute
+pub mod Lines
+pub mod ReadBack
+pub mod Examples
+pub mod Seeded
+pub mod Run
+pub mod Computing

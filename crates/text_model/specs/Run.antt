@@ -1,0 +1,79 @@
+-- The texts of a run: from a machine and its turns to the bytes that are printed.
+use Rattle.std.specs.Prelude.{ℕ, ◌+◌, List, [], ◌∷◌, ◌++◌, map, length, Option, Some, None}
+use Rattle.ddm_types.specs.declared.answers.TurnAnswer.{TurnAnswer}
+use Rattle.ddm_types.specs.declared.turns.Turn.{Turn}
+use Rattle.ddm_types.specs.ItemTable.{ItemRow, ItemTable}
+use Rattle.tree_model.specs.declared.CopyPlace.{CopyPlace}
+use Rattle.tree_model.specs.Values.{LeafValue, MachineValue}
+use Rattle.tree_model.specs.Machine.{Ran, run_of, machine_leaves}
+use Rattle.tree_model.specs.Ops.{sorted_ops}
+use Rattle.tree_model.specs.Found.{FoundValue, found_copy, states_of}
+use Rattle.text_model.specs.declared.RunCounts.{RunCounts}
+use Rattle.text_model.specs.Report.{CopyPlaceView, leaf_way, leaf_buffer, parked_copy, down_copy, HartView, ItemView, ReportView, report_of, summary_of}
+use Rattle.text_model.specs.Trace.{trace_text}
+
+-- ---- counts
+
+abbrev pub no_counts : RunCounts
+no_counts = record { turns = 0; retired = 0; granted = 0; busy = 0 }
+
+-- one answer more
+abbrev pub counted_answer : TurnAnswer → RunCounts → RunCounts
+counted_answer (TurnAnswer.Retired op) c = record c { turns = c.turns + 1; retired = c.retired + 1 }
+counted_answer (TurnAnswer.Granted e) c = record c { turns = c.turns + 1; granted = c.granted + 1 }
+counted_answer (TurnAnswer.Busy cause) c = record c { turns = c.turns + 1; busy = c.busy + 1 }
+counted_answer _ c = record c { turns = c.turns + 1 }
+
+-- the number of turns, and among their answers of those that retired, were granted and were busy
+unfoldable pub counts_of : List TurnAnswer → RunCounts
+counts_of [] = no_counts
+counts_of (a ∷ rest) = counted_answer a (counts_of rest)
+
+-- ---- the view of a machine
+
+abbrev hart_view : LeafValue → HartView
+hart_view v = record { number = v.number; hart = v.hart; done = v.done }
+
+abbrev place_view : CopyPlace → CopyPlaceView
+place_view (CopyPlace.LeafWay leaf way) = leaf_way leaf way
+place_view (CopyPlace.LeafBuffer leaf place) = leaf_buffer leaf place
+place_view (CopyPlace.Parking bus place) = parked_copy bus place
+place_view (CopyPlace.DownList bus place) = down_copy bus place
+
+abbrev found_or : Option FoundValue → FoundValue
+found_or None = record { place = CopyPlace.Parking 0 0; words = [] }
+found_or (Some f) = f
+
+abbrev pub item_view : MachineValue → ℕ → ItemRow → ItemView
+item_view m x row = let f = found_or (found_copy x m) in record { number = x; address = row.address; words = f.words; place = place_view f.place; states = states_of x m }
+
+abbrev item_views : MachineValue → ℕ → List ItemRow → List ItemView
+item_views m x [] = []
+item_views m x (row ∷ rows) = item_view m x row ∷ item_views m (x + 1) rows
+
+unfoldable pub view_of : ℕ → RunCounts → MachineValue → ReportView
+view_of depth counts m = record {
+  counts = counts;
+  depth = depth;
+  harts = map hart_view (machine_leaves m);
+  traffic = m.traffic;
+  items = item_views m 0 m.items.rows;
+  completed = m.ops;
+  ops = sorted_ops m.ops;
+}
+
+-- ---- texts
+
+-- the report of a run from a machine
+unfoldable pub report_text_of : ℕ → List Turn → MachineValue → List ℕ
+report_text_of depth turns m = let r = run_of turns m in report_of (view_of depth (counts_of r.answers) r.machine)
+
+-- its summary
+unfoldable pub summary_text_of : ℕ → List Turn → MachineValue → List ℕ
+summary_text_of depth turns m = let r = run_of turns m in summary_of (view_of depth (counts_of r.answers) r.machine)
+
+-- its trace, then its report
+unfoldable pub trace_and_report_of : ℕ → List Turn → MachineValue → List ℕ
+trace_and_report_of depth turns m =
+    let r = run_of turns m in
+    trace_text turns r.answers ++ report_of (view_of depth (counts_of r.answers) r.machine)

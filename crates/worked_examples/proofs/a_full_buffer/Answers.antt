@@ -1,0 +1,12 @@
+use Rattle.std.proofs.Common.{refl}
+use Rattle.worked_examples.specs.AFullBuffer.{AFullBuffer}
+use Rattle.worked_examples.specs.Computing.{examples_compute}
+use Rattle.worked_examples.proofs.a_full_buffer.Goals as goal
+
+pub returns : goal.returns
+unfolding examples_compute
+returns c = record {
+  trace = refl;
+  keys = refl;
+  no_room_trace = refl;
+}

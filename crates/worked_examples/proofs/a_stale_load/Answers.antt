@@ -1,0 +1,14 @@
+use Rattle.std.proofs.Common.{refl}
+use Rattle.worked_examples.specs.AStaleLoad.{AStaleLoad}
+use Rattle.worked_examples.specs.Computing.{examples_compute}
+use Rattle.worked_examples.proofs.a_stale_load.Goals as goal
+
+pub returns : goal.returns
+unfolding examples_compute
+returns c = record {
+  trace = refl;
+  keys = refl;
+  longer_trace = refl;
+  longer_keys = refl;
+  short_trace = refl;
+}

@@ -1,0 +1,14 @@
+use Rattle.std.proofs.Common.{refl}
+use Rattle.worked_examples.specs.OneRead.{OneRead}
+use Rattle.worked_examples.specs.Computing.{examples_compute}
+use Rattle.worked_examples.proofs.one_read.Goals as goal
+
+pub returns : goal.returns
+unfolding examples_compute
+returns c = record {
+  trace = refl;
+  counts = refl;
+  traffic = refl;
+  item = refl;
+  operations = refl;
+}

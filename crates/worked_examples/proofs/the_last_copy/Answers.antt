@@ -1,0 +1,15 @@
+use Rattle.std.proofs.Common.{refl}
+use Rattle.worked_examples.specs.TheLastCopy.{TheLastCopy}
+use Rattle.worked_examples.specs.Computing.{examples_compute}
+use Rattle.worked_examples.proofs.the_last_copy.Goals as goal
+
+pub returns : goal.returns
+unfolding examples_compute
+returns c = record {
+  trace = refl;
+  counts = refl;
+  traffic = refl;
+  first_item = refl;
+  second_item = refl;
+  keys = refl;
+}

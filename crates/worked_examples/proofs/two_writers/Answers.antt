@@ -1,0 +1,16 @@
+use Rattle.std.proofs.Common.{refl}
+use Rattle.worked_examples.specs.TwoWriters.{TwoWriters}
+use Rattle.worked_examples.specs.Computing.{examples_compute}
+use Rattle.worked_examples.proofs.two_writers.Goals as goal
+
+pub returns : goal.returns
+unfolding examples_compute
+returns c = record {
+  trace = refl;
+  counts = refl;
+  traffic = refl;
+  reading_and_waiting = refl;
+  waiting = refl;
+  item = refl;
+  keys = refl;
+}

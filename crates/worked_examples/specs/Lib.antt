@@ -1,0 +1,14 @@
+pub mod Programs
+pub mod Computing
+pub mod StoreAndLoadBack
+pub mod OneRead
+pub mod AJoinedRead
+pub mod TwoWriters
+pub mod Reservations
+pub mod AStaleLoad
+pub mod AFullBuffer
+pub mod TheLastCopy
+pub mod AnInjectForSeveralReaders
+pub mod OneByteOfOutput
+pub mod BuildRefusals
+pub mod SeededSchedule
