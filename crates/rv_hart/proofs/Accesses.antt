@@ -1,13 +1,7 @@
 -- The item that has a byte.
-use Rattle.std.proofs.Common.{◌≡◌, ℕ, ◌+◌, ◌*◌, ◌%◌, ◌<◌, ◌≤◌, Bool, true, false, ◌&&◌, nat_lt, Option, Some, None, refl, arith}
-use Rattle.std.specs.Prelude.{nat_le}
+use Rattle.std.proofs.Common.{◌≡◌, ℕ, ◌+◌, ◌<◌, ◌≤◌, true, Some, arith}
 use Rattle.std.proofs.lemmas.List.Quantifiers.{position-Some}
 use Rattle.ddm_types.specs.ItemTable.{ItemTable, ItemRow, item_at, item_count, row_at, row_has, no_row}
-use Rattle.rv_decode.specs.declared.instructions.LoadOp.{LoadOp}
-use Rattle.rv_decode.specs.declared.instructions.LoadOp.TheVariants.{Lb, Lh, Lw, Lbu, Lhu}
-use Rattle.rv_decode.specs.declared.instructions.StoreOp.{StoreOp}
-use Rattle.rv_decode.specs.declared.instructions.StoreOp.TheVariants.{Sb, Sh, Sw}
-use Rattle.flat_model.specs.Hart.{load_bytes, store_bytes}
 
 pub item_at_inside : (items : ItemTable) (a x : ℕ) → item_at items a ≡ Some x → x < item_count items
 unfolding item_at
@@ -23,16 +17,3 @@ item_at_from items a x e = (row_from items.size a (row_at items x) (position-Som
 pub item_at_below : (items : ItemTable) (a x : ℕ) → item_at items a ≡ Some x → a < (row_at items x).address + items.size
 unfolding item_at
 item_at_below items a x e = (row_from items.size a (row_at items x) (position-Some (row_has items.size a) items.rows x no_row e).1).1
-
--- the bytes of an aligned access are in one word
-pub load_in_word : (op : LoadOp) (a : ℕ) → a % load_bytes op ≡ 0 → a % 4 + load_bytes op ≤ 4
-load_in_word Lb a e = omega arith
-load_in_word Lh a e = omega arith
-load_in_word Lw a e = omega arith
-load_in_word Lbu a e = omega arith
-load_in_word Lhu a e = omega arith
-
-pub store_in_word : (op : StoreOp) (a : ℕ) → a % store_bytes op ≡ 0 → a % 4 + store_bytes op ≤ 4
-store_in_word Sb a e = omega arith
-store_in_word Sh a e = omega arith
-store_in_word Sw a e = omega arith

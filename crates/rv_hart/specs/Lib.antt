@@ -1,2 +1,3 @@
 pub mod HartState
 pub mod Steps
+pub mod FlatStep

@@ -1,13 +1,14 @@
 ghost use Rattle.std.specs.Prelude.{◌≡◌, ◌+◌, ◌*◌, ◌<◌, ◌≤◌, ℕ, None, Some, slice_index};
 ghost use Rattle.ddm_types.specs.ItemTable.{ItemTable};
-ghost use Rattle.flat_model.specs.Hart.{HartValue, action_of, advanced, ask_of, call, changing, finish_by, finish_of, hart_start, instr_action, is_taken, jump, load_bytes, loading, next_pc, offset_by, register, reserving, store_bytes, storing, storing_if, with_register, written};
+ghost use Rattle.flat_model.specs.Hart.{action_of, advanced, ask_of, call, changing, finish_by, finish_of, hart_start, instr_action, is_taken, load_bytes, loading, next_pc, offset_by, register, reserving, store_bytes, storing, storing_if, with_register, written};
 ghost use Rattle.rv_hart.specs.HartState.{with_hart};
 ghost use Rattle.rv_hart.specs.Steps.{HasNoAccess, IsFinished, IsInWord, IsInside, IsReady, access_value, action_by, fetched, GoesOn};
 
 use crate::bytes::{loaded_value, stored_word};
 use crate::results::{amo_result, immediate_result, is_taken, offset_by, register_result};
 use crate::steps::{
-    Access, Step, change_step, load_step, reserve_step, store_if_reserved_step, store_step,
+    Access, Step, change_step, jump_step, link_step, load_step, reserve_step,
+    store_if_reserved_step, store_step,
 };
 use ddm_types::{Code, Effect, HaltCause, HartNo, Items, Start, Words};
 use flat_model::Ask;
@@ -157,7 +158,7 @@ impl Hart {
                 register_result(op, self.register(rs1), self.register(rs2)),
             ),
             Instr::Jal { rd, offset } => link_step(rd, offset_by(self.pc, offset)),
-            Instr::Jalr { rd, rs1, offset } => { link_step(rd, self.address(rs1, offset) / 2 * 2) }
+            Instr::Jalr { rd, rs1, offset } => link_step(rd, self.address(rs1, offset) / 2 * 2),
             Instr::Branch {
                 op,
                 rs1,
@@ -437,27 +438,5 @@ impl Hart {
         ensures { self.new ≡ with_hart self.old (record self.old.hart { halt = Some cause }) }
     {
         self.halt = Some(cause);
-    }
-}
-
-fn jump_step(target: u32) -> Step
-    ensures value { (h : HartValue) → action_by h result ≡ jump h target }
-    ensures inside { (size : ℕ) → IsInside size result }
-{
-    if target % 4 == 0 {
-        Step::Jump(target)
-    } else {
-        Step::Halt(HaltCause::MisalignedTarget(target))
-    }
-}
-
-fn link_step(rd: Reg, target: u32) -> Step
-    ensures value { (h : HartValue) → action_by h result ≡ jump (with_register h rd (next_pc h)) target }
-    ensures inside { (size : ℕ) → IsInside size result }
-{
-    if target % 4 == 0 {
-        Step::Link(rd, target)
-    } else {
-        Step::Halt(HaltCause::MisalignedTarget(target))
     }
 }

@@ -2,6 +2,8 @@
 //! words of one item.
 #![tactic(auto)]
 
+ghost use Rattle.rv_hart.specs.FlatStep.{FinishesAsFlat, HaltsAsFlat};
+
 mod bytes;
 mod hart;
 mod results;
@@ -9,3 +11,14 @@ mod steps;
 
 pub use flat_model::Ask;
 pub use hart::Hart;
+
+/// What an instruction leaves on the words of its item is what the flat machine's step of its hart leaves
+/// there, and a halt that is asked for is that step's halt.
+#[tactic(auto, using(crate::proofs::FlatStep::finishes_as_flat, crate::proofs::FlatStep::halts_as_flat))]
+pub fn steps_as_flat()
+    ensures finishes { FinishesAsFlat }
+    ensures halts { HaltsAsFlat }
+{}
+
+#[cfg(test)]
+mod tests;

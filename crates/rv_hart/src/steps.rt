@@ -1,7 +1,7 @@
 //! What an instruction does, as far as that is known before the words of its item are.
-ghost use Rattle.std.specs.Prelude.{◌≡◌, ◌*◌, ◌<◌, IfOk, IsSome};
+ghost use Rattle.std.specs.Prelude.{◌≡◌, ℕ, ◌*◌, ◌<◌, Some};
 ghost use Rattle.ddm_types.specs.ItemTable.{item_at};
-ghost use Rattle.flat_model.specs.Hart.{access_in, aligned, byte_place, word_address, load_at, store_at, load_bytes, store_bytes, Loads, Stores, Reserves, StoresIfReserved, Changes, HartValue};
+ghost use Rattle.flat_model.specs.Hart.{access_in, aligned, jump, next_pc, with_register, byte_place, word_address, load_at, store_at, load_bytes, store_bytes, Loads, Stores, Reserves, StoresIfReserved, Changes, HartValue};
 ghost use Rattle.rv_hart.specs.Steps.{load_item, store_item, access_value, action_by, IsInside};
 
 use crate::bytes::{load_bytes, store_bytes};
@@ -86,6 +86,29 @@ fn locate(items: &Items, item: ItemId, address: u32) -> Access
         address,
         item,
         place,
+    }
+}
+
+pub fn jump_step(target: u32) -> Step
+    ensures value { (h : HartValue) → action_by h result ≡ jump h target }
+    ensures inside { (size : ℕ) → IsInside size result }
+{
+    if target % 4 == 0 {
+        Step::Jump(target)
+    } else {
+        Step::Halt(HaltCause::MisalignedTarget(target))
+    }
+}
+
+/// A jump that puts the pc behind the instruction into a register.
+pub fn link_step(rd: Reg, target: u32) -> Step
+    ensures value { (h : HartValue) → action_by h result ≡ jump (with_register h rd (next_pc h)) target }
+    ensures inside { (size : ℕ) → IsInside size result }
+{
+    if target % 4 == 0 {
+        Step::Link(rd, target)
+    } else {
+        Step::Halt(HaltCause::MisalignedTarget(target))
     }
 }
 
