@@ -1,0 +1,6 @@
+pub mod Code
+pub mod Words
+pub mod Reads
+pub mod TreeForm
+pub mod ImageForm
+pub mod ScheduleForm

@@ -1,0 +1,13 @@
+//! The command line as a library: from the words of a command and the files that they name to what is printed.
+#![tactic(auto)]
+
+mod image_file;
+mod limits;
+mod reading;
+mod schedule_file;
+mod status;
+mod tree_file;
+mod words;
+
+pub use report::FileRole;
+pub use status::{Status, code};

@@ -1,0 +1,41 @@
+ghost use Rattle.std.specs.Prelude.{◌≡◌};
+ghost use Rattle.ddm_cli.specs.Code.{code_of};
+ghost use Rattle.ddm_cli.specs.declared.status.Status.TheVariants.{NoMemory};
+
+use ddm_types::NoMemory;
+use report::FileRole;
+
+/// How a command ended.
+#[derive(Clone, Copy, Debug, PartialEq, Eq)]
+pub enum Status {
+    Done,
+    /// The index of the first word at fault, or the number of words where one is missing.
+    Usage(u32),
+    /// What the file says isn't built yet.
+    Unbuilt(FileRole),
+    ReadFault(FileRole),
+    WriteFault,
+    NoMemory,
+}
+
+/// The number that the process ends with.
+pub fn code(status: &Status) -> u8
+    ensures { result ≡ code_of status.now }
+{
+    match status {
+        Status::Done => 0,
+        Status::Usage(_) => 2,
+        Status::ReadFault(_) => 6,
+        Status::WriteFault => 7,
+        Status::NoMemory => 8,
+        Status::Unbuilt(_) => 9,
+    }
+}
+
+impl From<NoMemory> for Status {
+    ghost from_gives = { λ _ s. s ≡ NoMemory };
+
+    fn from(_: NoMemory) -> Self {
+        Status::NoMemory
+    }
+}
