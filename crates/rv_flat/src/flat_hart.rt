@@ -1,12 +1,15 @@
-ghost use Rattle.std.specs.Prelude.{◌≡◌, ◌+◌, ◌*◌, ◌<◌, ◌≤◌, None, Some, map};
+ghost use Rattle.std.specs.Prelude.{◌≡◌, ◌+◌, ◌*◌, ◌<◌, ◌≤◌, None, Some, IfOk, map};
+ghost use Rattle.std.specs.List.{range_with_len};
 ghost use Rattle.flat_model.specs.Hart.{ask_of, finish_of, register};
-ghost use Rattle.flat_model.specs.Flat.{flat_hart_start, without_reserved};
+ghost use Rattle.flat_model.specs.Flat.{flat_hart_start, has_reserved, without_reserved};
 ghost use Rattle.rv_hart.specs.Steps.{IsReady};
+ghost use Rattle.rv_flat.specs.Asks.{next_ask};
 ghost use Rattle.rv_flat.specs.Registers.{IsHart};
 
-use ddm_types::{Code, Effect, HaltCause, HartNo, ItemId, Items, Start, Words};
+use ddm_types::{Code, Effect, HaltCause, HartNo, ItemId, Items, NoMemory, Start, Words};
 use rv_decode::Reg;
 use rv_hart::{Ask, Hart};
+use std::alloc::Global;
 use std::marker::Model;
 
 /// A hart, and the item that it has reserved.
@@ -38,6 +41,17 @@ fn with_count_anew(hart: &Hart) -> Hart
         registers[number as usize] = hart.register(Reg(number));
     }
     Hart::restore(registers, hart.pc(), 0, hart.halted())
+}
+
+/// Begins the count of a hart's instructions anew where it can't go on.
+fn make_room_to_count(hart: &mut Hart)
+    requires { IsHart hart.old.hart }
+    ensures hart { hart.new.hart ≡ hart.old.hart }
+    ensures done { hart.new.done < 4294967295 }
+{
+    if hart.done() == u32::MAX {
+        *hart = with_count_anew(hart);
+    }
 }
 
 impl FlatHart {
@@ -78,11 +92,23 @@ impl FlatHart {
         self.reserved
     }
 
-    /// What the hart's next instruction needs.
-    pub fn ask(&self, code: &Code, items: &Items) -> Ask
-        ensures { result ≡ ask_of code.now items.now self.now.hart }
+    pub fn has_reserved(&self, item: ItemId) -> bool
+        ensures { result ≡ has_reserved self.now.reserved item }
     {
-        self.hart.ask(code, items)
+        match self.reserved {
+            Some(reserved) => reserved.0 == item.0,
+            None => false,
+        }
+    }
+
+    /// What the hart's next instruction needs. A halted hart needs nothing but its halt.
+    pub fn next_ask(&self, code: &Code, items: &Items) -> Ask
+        ensures { result ≡ next_ask code.now items.now self.now }
+    {
+        match self.hart.halted() {
+            Some(cause) => Ask::Halt(cause),
+            None => self.hart.ask(code, items),
+        }
     }
 
     /// Stops the hart. Nothing else changes.
@@ -96,7 +122,7 @@ impl FlatHart {
     pub fn free(&mut self, item: ItemId)
         ensures { self.new ≡ without_reserved item self.old }
     {
-        if self.reserved == Some(item) {
+        if self.has_reserved(item) {
             self.reserved = None;
         }
     }
@@ -118,9 +144,7 @@ impl FlatHart {
         ensures hart { self.new ≡ record { hart = (finish_of code.now items.now self.old.hart words.old sc_ok).hart; reserved = reserved } }
         ensures words { words.new ≡ (finish_of code.now items.now self.old.hart words.old sc_ok).words }
     {
-        if self.hart.done() == u32::MAX {
-            self.hart = with_count_anew(&self.hart);
-        }
+        make_room_to_count(&mut self.hart);
         self.reserved = reserved;
         self.hart.finish(code, items, words, sc_ok)
     }
@@ -133,4 +157,17 @@ pub fn free_all(harts: &mut [FlatHart], item: ItemId)
     for hart in harts {
         hart.free(item);
     }
+}
+
+/// All harts at their start.
+pub fn harts_at_start(alloc: Global, start: Start) -> Result<Vec<FlatHart>, NoMemory>
+    requires harts { start.harts ≤ 64 }
+    requires stacks { start.stack_base + start.harts * start.stack_bytes ≤ 4294967280 }
+    ensures { IfOk result (λ harts. harts.items ≡ map (flat_hart_start start) (range_with_len 0 start.harts)) }
+{
+    let mut harts = Vec::new(alloc);
+    for hart in 0..start.harts {
+        harts.push(FlatHart::new(HartNo(hart), start))?;
+    }
+    Ok(harts)
 }

@@ -1,12 +1,12 @@
-ghost use Rattle.std.specs.Prelude.{◌≡◌, ◌+◌, ◌*◌, ◌/◌, ◌<◌, ◌≤◌, None, IfOk, length};
+ghost use Rattle.std.specs.Prelude.{◌≡◌, ◌+◌, ◌*◌, ◌/◌, ◌<◌, ◌≤◌, ◌&&◌, false, None, Some, IfOk, [], length, if◌then◌else◌};
 ghost use Rattle.ddm_types.specs.ItemTable.{IsItemSize, item_count};
-ghost use Rattle.flat_model.specs.Hart.{ask_of, finish_of, register};
-ghost use Rattle.flat_model.specs.Flat.{flat_hart, flat_start, flat_step, item_words, leaving, machine_after, storing_to, with_change};
-ghost use Rattle.rv_flat.specs.Asks.{IsOfItem};
+ghost use Rattle.flat_model.specs.Hart.{finish_of, register};
+ghost use Rattle.flat_model.specs.Flat.{flat_halted, flat_hart, flat_start, flat_step, has_reserved, item_words, leaving, machine_after, storing_to, with_change};
+ghost use Rattle.rv_flat.specs.Asks.{IsOfItem, IsOfNoItem, next_ask};
 ghost use Rattle.rv_flat.specs.FlatState.{HasItems, outcome_of, with_machine, word_at};
 ghost use Rattle.rv_flat.specs.ItemWords.{words_by_item};
 
-use crate::flat_hart::{FlatHart, free_all};
+use crate::flat_hart::{FlatHart, free_all, harts_at_start};
 use crate::memory::Memory;
 use ddm_types::{Code, Effect, HaltCause, HartNo, ItemId, Items, NoMemory, Start};
 use rv_decode::Reg;
@@ -33,6 +33,7 @@ impl Model for FlatMachine {
 
 impl FlatMachine {
     /// The machine at its start. `words` has the words of all items, in order of address.
+    #[tactic(auto, unfolding(flat_model::specs::Flat::flat_start))]
     pub fn new(
         alloc: Global,
         items: &Items,
@@ -49,11 +50,58 @@ impl FlatMachine {
         ensures size { IfOk result (λ made. made.size ≡ item_bytes) }
     {
         let memory = Memory::new(alloc, &words, items.len(), item_bytes)?;
-        let mut harts = Vec::new(alloc);
-        for hart in 0..start.harts {
-            harts.push(FlatHart::new(HartNo(hart), start))?;
-        }
+        let harts = harts_at_start(alloc, start)?;
         Ok(FlatMachine { harts, memory })
+    }
+
+    /// What a hart's next instruction needs. A halted hart needs nothing but its halt.
+    fn next_ask(&self, code: &Code, items: &Items, hart: HartNo) -> Ask
+        requires { hart < length self.now.machine.harts }
+        ensures { result ≡ next_ask code.now items.now (flat_hart self.now.machine hart) }
+    {
+        self.harts[hart.0 as usize].next_ask(code, items)
+    }
+
+    /// The hart's reservation after a load, or after an LR, of this item.
+    fn reserved_after(&self, hart: HartNo, item: ItemId, lr: bool) -> Option<ItemId>
+        requires { hart < length self.now.machine.harts }
+        ensures { result ≡ (if lr then Some item else (flat_hart self.now.machine hart).reserved) }
+    {
+        if lr {
+            Some(item)
+        } else {
+            self.harts[hart.0 as usize].reserved()
+        }
+    }
+
+    /// Whether an SC to this item stores.
+    fn lets_store(&self, hart: HartNo, item: ItemId, sc_ok: bool) -> bool
+        requires { hart < length self.now.machine.harts }
+        ensures { result ≡ (sc_ok && has_reserved (flat_hart self.now.machine hart).reserved item) }
+    {
+        sc_ok && self.harts[hart.0 as usize].has_reserved(item)
+    }
+
+    #[tactic(auto, unfolding(flat_model::specs::Flat::flat_halted))]
+    fn halt(&mut self, hart: HartNo, cause: HaltCause)
+        requires { hart < length self.old.machine.harts }
+        ensures { self.new ≡ with_machine self.old (flat_halted self.old.machine hart cause) }
+    {
+        self.harts[hart.0 as usize].halt(cause);
+    }
+
+    /// Carries out a hart's next instruction, which needs no item.
+    fn compute(&mut self, code: &Code, items: &Items, hart: HartNo) -> Effect
+        requires hart { hart < length self.old.machine.harts }
+        requires items { HasItems self.old items.now }
+        requires ask { IsOfNoItem (next_ask code.now items.now (flat_hart self.old.machine hart)) }
+        ensures effect { result ≡ (finish_of code.now items.now (flat_hart self.old.machine hart).hart [] false).effect }
+        ensures machine { let done = finish_of code.now items.now (flat_hart self.old.machine hart).hart [] false in
+            let reserved = (flat_hart self.old.machine hart).reserved in
+            self.new ≡ with_machine self.old (with_change self.old.machine hart (leaving done reserved)) }
+    {
+        let own = &mut self.harts[hart.0 as usize];
+        self.memory.finish_without(own, code, items)
     }
 
     /// Carries out a hart's next instruction on an item that it doesn't store to.
@@ -67,8 +115,7 @@ impl FlatMachine {
     ) -> Effect
         requires hart { hart < length self.old.machine.harts }
         requires items { HasItems self.old items.now }
-        requires running { (flat_hart self.old.machine hart).hart.halt ≡ None }
-        requires ask { IsOfItem item (ask_of code.now items.now (flat_hart self.old.machine hart).hart) }
+        requires ask { IsOfItem item (next_ask code.now items.now (flat_hart self.old.machine hart)) }
         requires keeps { let done = finish_of code.now items.now (flat_hart self.old.machine hart).hart (item_words self.old.machine item) false in
             done.words ≡ item_words self.old.machine item }
         ensures effect { let done = finish_of code.now items.now (flat_hart self.old.machine hart).hart (item_words self.old.machine item) false in
@@ -93,8 +140,7 @@ impl FlatMachine {
     ) -> Effect
         requires hart { hart < length self.old.machine.harts }
         requires items { HasItems self.old items.now }
-        requires running { (flat_hart self.old.machine hart).hart.halt ≡ None }
-        requires ask { IsOfItem item (ask_of code.now items.now (flat_hart self.old.machine hart).hart) }
+        requires ask { IsOfItem item (next_ask code.now items.now (flat_hart self.old.machine hart)) }
         ensures effect { let done = finish_of code.now items.now (flat_hart self.old.machine hart).hart (item_words self.old.machine item) sc_ok in
             result ≡ done.effect }
         ensures machine { let done = finish_of code.now items.now (flat_hart self.old.machine hart).hart (item_words self.old.machine item) sc_ok in
@@ -107,6 +153,7 @@ impl FlatMachine {
 
     /// Carries out a hart's next instruction, and answers what it did or why the hart halts. Where `sc_ok`
     /// is false an SC fails, also where the hart still has its reservation.
+    #[tactic(auto, using(crate::proofs::Outcomes::step_halts, crate::proofs::Outcomes::step_plain, crate::proofs::Outcomes::step_puts, crate::proofs::Outcomes::step_shares, crate::proofs::Outcomes::step_stores, crate::proofs::Outcomes::step_keeps, crate::proofs::Outcomes::step_loses, crate::proofs::Outcomes::shared_words, crate::proofs::Outcomes::failing_words))]
     pub fn step(
         &mut self,
         code: &Code,
@@ -120,26 +167,22 @@ impl FlatMachine {
         ensures machine { let after = machine_after self.old.machine hart (flat_step code.now items.now self.old.machine hart sc_ok) in
             self.new ≡ with_machine self.old after }
     {
-        let own = &mut self.harts[hart.0 as usize];
-        if let Some(cause) = own.halted() {
-            return Err(cause);
-        }
-        let reserved = own.reserved();
-        match own.ask(code, items) {
+        match self.next_ask(code, items, hart) {
             Ask::Halt(cause) => {
-                own.halt(cause);
+                self.halt(hart, cause);
                 Err(cause)
             }
-            Ask::Plain | Ask::Put(_) => Ok(self.memory.finish_without(own, code, items)),
+            Ask::Plain | Ask::Put(_) => Ok(self.compute(code, items, hart)),
             Ask::NeedsShared { item, lr } => {
-                let reserved = if lr { Some(item) } else { reserved };
+                let reserved = self.reserved_after(hart, item, lr);
                 Ok(self.leave(code, items, hart, item, reserved))
             }
             Ask::NeedsExclusive { item } => {
+                let reserved = self.reserved_after(hart, item, false);
                 Ok(self.store(code, items, hart, item, false, reserved))
             }
             Ask::Conditional { item } => {
-                if sc_ok && reserved == Some(item) {
+                if self.lets_store(hart, item, sc_ok) {
                     Ok(self.store(code, items, hart, item, true, None))
                 } else {
                     Ok(self.leave(code, items, hart, item, None))

@@ -1,4 +1,4 @@
-ghost use Rattle.std.specs.Prelude.{◌≡◌, ◌⊎◌, ◌*◌, ◌/◌, ◌<◌, ◌≤◌, None, Some, IfOk, length, slice_index, slice_index_or, slice_set, []};
+ghost use Rattle.std.specs.Prelude.{◌≡◌, ◌⊎◌, ◌*◌, ◌/◌, ◌<◌, ◌≤◌, false, None, Some, IfOk, length, slice_index, slice_index_or, slice_set, []};
 ghost use Rattle.flat_model.specs.Hart.{ask_of, finish_of};
 ghost use Rattle.ddm_types.specs.ItemTable.{IsItemSize};
 ghost use Rattle.rv_hart.specs.Steps.{IsReady};
@@ -118,6 +118,7 @@ impl Memory {
     }
 
     /// Carries out a hart's next instruction, which needs no words. Its reservation stays.
+    #[tactic(auto, using(crate::proofs::Asked::plain_effect, crate::proofs::Asked::plain_hart))]
     pub fn finish_without(&self, hart: &mut FlatHart, code: &Code, items: &Items) -> Effect
         requires plain { IsOfNoItem (ask_of code.now items.now hart.old.hart) }
         requires running { hart.old.hart.halt ≡ None }
