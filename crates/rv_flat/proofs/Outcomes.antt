@@ -1,13 +1,19 @@
 -- The step of a hart, by what its next instruction asks for.
-use Rattle.std.proofs.Common.{◌≡◌, ℕ, ◌<◌, Bool, true, false, ◌&&◌, List, [], Option, Some, None, Ok, Err, refl, ap, ◌∙◌, arith}
+use Rattle.std.proofs.Common.{◌≡◌, ℕ, ◌<◌, Bool, true, false, ◌&&◌, List, [], map, length, Option, Some, None, Ok, Err, refl, ap, ◌∙◌, arith}
 use Rattle.std.specs.Prelude.{Result, if◌then◌else◌}
+use Rattle.std.specs.List.{range_with_len}
+use Rattle.std.proofs.Math.ListN.{length-set}
+use Rattle.std.proofs.lemmas.List.FromFn.{length-map-range_with_len}
+use Rattle.ddm_types.specs.declared.sizes.Start.{Start}
+use Rattle.flat_model.proofs.Frames.{same_counts}
+use Rattle.rv_flat.specs.ItemWords.{words_by_item, words_of_item}
 use Rattle.ddm_types.specs.declared.operations.HaltCause.{HaltCause}
 use Rattle.ddm_types.specs.CodeMap.{CodeWord}
 use Rattle.ddm_types.specs.ItemTable.{ItemTable, item_count}
 use Rattle.flat_model.specs.declared.Ask.{Ask}
 use Rattle.flat_model.specs.declared.Ask.TheVariants.{Plain, Put, NeedsShared, NeedsExclusive, Conditional, Halt}
 use Rattle.flat_model.specs.Hart.{Finished, ask_of, finish_of}
-use Rattle.flat_model.specs.Flat.{FlatHart, FlatMachine, FlatStepped, Change, change_by, conditional, flat_hart, flat_step, has_reserved, hart_step, item_words, leaving, storing_to, stepped, unless_halted, with_change}
+use Rattle.flat_model.specs.Flat.{FlatHart, FlatMachine, FlatStepped, Change, change_by, conditional, flat_halted, flat_hart, flat_hart_start, flat_step, machine_after, has_reserved, hart_step, item_words, leaving, storing_to, stepped, unless_halted, with_change}
 use Rattle.rv_hart.specs.Steps.{IsReady}
 use Rattle.rv_flat.specs.Asks.{IsOfItem, IsOfNoItem, ask_unless_halted, next_ask}
 use Rattle.rv_flat.proofs.Asked.{asked_inside, shared_kept, failing_kept}
@@ -105,3 +111,24 @@ step_keeps code items m h sc_ok x e t = conditional_by code items m h sc_ok x tr
 
 pub step_loses : (code : List CodeWord) (items : ItemTable) (m : FlatMachine) (h : ℕ) (sc_ok : Bool) (x : ℕ) → next_ask code items (flat_hart m h) ≡ Conditional x → (sc_ok && has_reserved (flat_hart m h).reserved x) ≡ false → flat_step code items m h sc_ok ≡ left m h (done_by code items m h (item_words m x) false) None
 step_loses code items m h sc_ok x e t = conditional_by code items m h sc_ok x false e t
+
+-- ---- numbers of harts and items
+
+counts : (code : List CodeWord) (items : ItemTable) (m : FlatMachine) (h : ℕ) (sc_ok : Bool) → (length (machine_after m h (flat_step code items m h sc_ok)).harts ≡ length m.harts) × (length (machine_after m h (flat_step code items m h sc_ok)).words ≡ length m.words)
+unfolding flat_step flat_halted
+counts code items m h sc_ok = go (hart_step code items (flat_hart m h) (item_words m) sc_ok) where
+  go : (r : Result Change HaltCause) → (length (machine_after m h (stepped m h r)).harts ≡ length m.harts) × (length (machine_after m h (stepped m h r)).words ≡ length m.words)
+  go (Ok c) = same_counts m h c
+  go (Err cause) = (length-set m.harts h _, refl)
+
+pub same_harts : (code : List CodeWord) (items : ItemTable) (m : FlatMachine) (h : ℕ) (sc_ok : Bool) → length (machine_after m h (flat_step code items m h sc_ok)).harts ≡ length m.harts
+same_harts code items m h sc_ok = (counts code items m h sc_ok).0
+
+pub same_items : (code : List CodeWord) (items : ItemTable) (m : FlatMachine) (h : ℕ) (sc_ok : Bool) → length (machine_after m h (flat_step code items m h sc_ok)).words ≡ length m.words
+same_items code items m h sc_ok = (counts code items m h sc_ok).1
+
+pub start_harts : (start : Start) (n : ℕ) → length (map (flat_hart_start start) (range_with_len 0 n)) ≡ n
+start_harts start n = length-map-range_with_len (flat_hart_start start) 0 n
+
+pub start_items : (width n : ℕ) (words : List ℕ) → length (words_by_item width n words) ≡ n
+start_items width n words = length-map-range_with_len (words_of_item width words) 0 n

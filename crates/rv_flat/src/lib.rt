@@ -4,5 +4,7 @@
 mod flat_hart;
 mod machine;
 mod memory;
+#[cfg(test)]
+mod tests;
 
 pub use machine::FlatMachine;

@@ -33,7 +33,7 @@ impl Model for FlatMachine {
 
 impl FlatMachine {
     /// The machine at its start. `words` has the words of all items, in order of address.
-    #[tactic(auto, unfolding(flat_model::specs::Flat::flat_start))]
+    #[tactic(auto, using(crate::proofs::Outcomes::start_harts, crate::proofs::Outcomes::start_items), unfolding(flat_model::specs::Flat::flat_start))]
     pub fn new(
         alloc: Global,
         items: &Items,
@@ -42,12 +42,15 @@ impl FlatMachine {
         start: Start,
     ) -> Result<FlatMachine, NoMemory>
         requires item_size { IsItemSize item_bytes }
+        requires items { items.now.size ≡ item_bytes }
         requires words { item_count items.now * (item_bytes / 4) ≡ length words.items }
         requires harts { start.harts ≤ 64 }
         requires stacks { start.stack_base + start.harts * start.stack_bytes ≤ 4294967280 }
         ensures machine { let words = words_by_item (item_bytes / 4) (item_count items.now) words.items in
             IfOk result (λ made. made.machine ≡ flat_start start words) }
         ensures size { IfOk result (λ made. made.size ≡ item_bytes) }
+        ensures items { IfOk result (λ made. HasItems made items.now) }
+        ensures harts { IfOk result (λ made. length made.machine.harts ≡ start.harts) }
     {
         let memory = Memory::new(alloc, &words, items.len(), item_bytes)?;
         let harts = harts_at_start(alloc, start)?;
@@ -124,7 +127,8 @@ impl FlatMachine {
             self.new ≡ with_machine self.old (with_change self.old.machine hart (leaving done reserved)) }
     {
         let own = &mut self.harts[hart.0 as usize];
-        self.memory.finish_on(item, own, code, items, false, reserved)
+        self.memory
+            .finish_on(item, own, code, items, false, reserved)
     }
 
     /// Carries out a hart's next instruction, which stores to this item. Each other hart's reservation on
@@ -148,12 +152,13 @@ impl FlatMachine {
     {
         free_all(&mut self.harts, item);
         let own = &mut self.harts[hart.0 as usize];
-        self.memory.finish_on(item, own, code, items, sc_ok, reserved)
+        self.memory
+            .finish_on(item, own, code, items, sc_ok, reserved)
     }
 
     /// Carries out a hart's next instruction, and answers what it did or why the hart halts. Where `sc_ok`
     /// is false an SC fails, also where the hart still has its reservation.
-    #[tactic(auto, using(crate::proofs::Outcomes::step_halts, crate::proofs::Outcomes::step_plain, crate::proofs::Outcomes::step_puts, crate::proofs::Outcomes::step_shares, crate::proofs::Outcomes::step_stores, crate::proofs::Outcomes::step_keeps, crate::proofs::Outcomes::step_loses, crate::proofs::Outcomes::shared_words, crate::proofs::Outcomes::failing_words))]
+    #[tactic(auto, using(crate::proofs::Outcomes::step_halts, crate::proofs::Outcomes::step_plain, crate::proofs::Outcomes::step_puts, crate::proofs::Outcomes::step_shares, crate::proofs::Outcomes::step_stores, crate::proofs::Outcomes::step_keeps, crate::proofs::Outcomes::step_loses, crate::proofs::Outcomes::shared_words, crate::proofs::Outcomes::failing_words, crate::proofs::Outcomes::same_harts, crate::proofs::Outcomes::same_items))]
     pub fn step(
         &mut self,
         code: &Code,
@@ -166,6 +171,8 @@ impl FlatMachine {
         ensures outcome { result ≡ outcome_of (flat_step code.now items.now self.old.machine hart sc_ok) }
         ensures machine { let after = machine_after self.old.machine hart (flat_step code.now items.now self.old.machine hart sc_ok) in
             self.new ≡ with_machine self.old after }
+        ensures items { HasItems self.new items.now }
+        ensures harts { length self.new.machine.harts ≡ length self.old.machine.harts }
     {
         match self.next_ask(code, items, hart) {
             Ask::Halt(cause) => {

@@ -62,7 +62,12 @@ fn finish_on<const WORDS: usize>(
 
 impl Memory {
     /// The memory that has these words, all of one item behind those of another.
-    pub fn new(alloc: Global, words: &[u32], count: u32, item_bytes: u32) -> Result<Memory, NoMemory>
+    pub fn new(
+        alloc: Global,
+        words: &[u32],
+        count: u32,
+        item_bytes: u32,
+    ) -> Result<Memory, NoMemory>
         requires size { IsItemSize item_bytes }
         requires whole { count * (item_bytes / 4) ≡ length words.now }
         ensures words { IfOk result (λ memory. memory_words memory ≡ words_by_item (item_bytes / 4) count words.now) }
