@@ -132,3 +132,11 @@ start_harts start n = length-map-range_with_len (flat_hart_start start) 0 n
 
 pub start_items : (width n : ℕ) (words : List ℕ) → length (words_by_item width n words) ≡ n
 start_items width n words = length-map-range_with_len (words_of_item width words) 0 n
+
+pub halted_harts : (m : FlatMachine) (h : ℕ) (cause : HaltCause) → length (flat_halted m h cause).harts ≡ length m.harts
+unfolding flat_halted
+halted_harts m h cause = length-set m.harts h _
+
+pub halted_items : (m : FlatMachine) (h : ℕ) (cause : HaltCause) → length (flat_halted m h cause).words ≡ length m.words
+unfolding flat_halted
+halted_items m h cause = refl

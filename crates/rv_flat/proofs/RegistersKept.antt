@@ -1,10 +1,10 @@
 -- An instruction keeps the number of registers, and 0 in the first of them.
-use Rattle.std.proofs.Common.{◌≡◌, ℕ, ◌+◌, ◌*◌, ◌/◌, ◌%◌, Bool, true, false, nat_eq, List, length, Option, Some, None, refl, sym, ◌∙◌, arith}
+use Rattle.std.proofs.Common.{◌≡◌, ℕ, ◌*◌, ◌/◌, ◌%◌, Bool, true, false, nat_eq, List, Option, Some, None, refl, sym, ◌∙◌}
 use Rattle.std.proofs.Math.ListN.{length-set}
 use Rattle.std.proofs.lemmas.Bool.{eqb-false}
 use Rattle.std.proofs.lemmas.List.{get_or-set_other}
 use Rattle.std.specs.Prelude.{slice_set, if◌then◌else◌}
-use Rattle.ddm_types.specs.declared.operations.HaltCause.TheVariants.{MisalignedAccess, MisalignedTarget, LoadOutside, StoreOutside, Exit, UnknownCall}
+use Rattle.ddm_types.specs.declared.operations.HaltCause.TheVariants.{MisalignedAccess, MisalignedTarget, StoreOutside, Exit, UnknownCall}
 use Rattle.ddm_types.specs.CodeMap.{CodeWord, word_at}
 use Rattle.ddm_types.specs.ItemTable.{ItemTable, row_at, item_at}
 use Rattle.rv_decode.specs.declared.instructions.Reg.{Reg}

@@ -158,7 +158,7 @@ impl FlatMachine {
 
     /// Carries out a hart's next instruction, and answers what it did or why the hart halts. Where `sc_ok`
     /// is false an SC fails, also where the hart still has its reservation.
-    #[tactic(auto, using(crate::proofs::Outcomes::step_halts, crate::proofs::Outcomes::step_plain, crate::proofs::Outcomes::step_puts, crate::proofs::Outcomes::step_shares, crate::proofs::Outcomes::step_stores, crate::proofs::Outcomes::step_keeps, crate::proofs::Outcomes::step_loses, crate::proofs::Outcomes::shared_words, crate::proofs::Outcomes::failing_words, crate::proofs::Outcomes::same_harts, crate::proofs::Outcomes::same_items))]
+    #[tactic(auto, using(crate::proofs::Outcomes::step_halts, crate::proofs::Outcomes::step_plain, crate::proofs::Outcomes::step_puts, crate::proofs::Outcomes::step_shares, crate::proofs::Outcomes::step_stores, crate::proofs::Outcomes::step_keeps, crate::proofs::Outcomes::step_loses, crate::proofs::Outcomes::shared_words, crate::proofs::Outcomes::failing_words, crate::proofs::Outcomes::same_harts, crate::proofs::Outcomes::same_items, crate::proofs::Outcomes::halted_harts, crate::proofs::Outcomes::halted_items))]
     pub fn step(
         &mut self,
         code: &Code,

@@ -1,4 +1,4 @@
-use Rattle.std.proofs.Common.{◌≡◌, ◌<◌, ℕ, length, take}
+use Rattle.std.proofs.Common.{◌≡◌, length, take}
 use Rattle.rv_flat.proofs.flat_hart.with_count_anew.Given as goal
 
 abbrev pub invariant-loop-number : goal.invariant-loop-number
