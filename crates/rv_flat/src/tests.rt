@@ -144,6 +144,20 @@ fn store_outside(rt: HostRuntime) -> Result<(), Fail> {
     Ok(())
 }
 
+/// Steps the first hart this often, or until it halts, and answers how often it was.
+fn steps_made(machine: &mut FlatMachine, code: &Code, items: &Items, most: u32) -> u32
+    requires items { HasItems machine.old items.now }
+    requires harts { 0 < length machine.old.machine.harts }
+    ensures { HasItems machine.new items.now }
+{
+    for number in 0..most {
+        if machine.step(code, items, HartNo(0), true).is_err() {
+            return number;
+        }
+    }
+    most
+}
+
 #[test]
 fn many_steps(rt: HostRuntime) -> Result<(), Fail> {
     let code = code_of(
@@ -152,9 +166,7 @@ fn many_steps(rt: HostRuntime) -> Result<(), Fail> {
     )?;
     let items = data_item(rt.alloc())?;
     let mut machine = machine_of(rt.alloc(), &items)?;
-    for _ in 0..100_000 {
-        let _ = machine.step(&code, &items, HartNo(0), true);
-    }
+    assert_eq!(rt; steps_made(&mut machine, &code, &items, 100_000), 100_000);
     assert_eq!(rt; machine.word(&items, DATA), Some(33_333));
     Ok(())
 }
