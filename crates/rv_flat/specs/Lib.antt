@@ -1,0 +1,4 @@
+pub mod Registers
+pub mod FlatState
+pub mod ItemWords
+pub mod Asks

@@ -1,0 +1,10 @@
+//! The flat machine as code: all harts over one memory, where each instruction completes at once.
+#![tactic(auto)]
+
+mod flat_hart;
+mod machine;
+mod memory;
+#[cfg(test)]
+mod tests;
+
+pub use machine::FlatMachine;
