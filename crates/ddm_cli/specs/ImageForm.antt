@@ -54,8 +54,11 @@ said_form file =
     if nat_eq (said_segments file) 2 then record { code = take (said_code file) (drop 116 file); written = Some (drop (said_code file) (drop 116 file)) }
     else record { code = drop 84 file; written = None }
 
+abbrev pub is_sized : ImageForm → Bool
+is_sized f = is_code_size (length f.code) && is_data_size f.written
+
 abbrev pub is_formed : List ℕ → ImageForm → Bool
-is_formed file f = is_code_size (length f.code) && (is_data_size f.written && bytes_eq file (image_bytes f))
+is_formed file f = is_sized f && bytes_eq file (image_bytes f)
 
 -- the file is what `write_image` writes of what it says
 unfoldable pub image_form : List ℕ → Option ImageForm

@@ -3,6 +3,7 @@
 
 mod image_file;
 mod limits;
+mod memory;
 mod reading;
 mod schedule_file;
 mod status;
