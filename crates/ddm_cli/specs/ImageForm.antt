@@ -1,7 +1,8 @@
 -- The images that are built today: the bytes that `write_image` writes for code of one to eight words at 0x10000, where the
 -- harts begin, and perhaps an item at 0x20000 of which the file has none to four words. Source: ELF, 32 bits, little-endian.
-use Rattle.std.specs.Prelude.{◌≡◌, ℕ, ◌+◌, ◌*◌, ◌/◌, ◌%◌, ◌<◌, ◌≤◌, Bool, true, ◌&&◌, nat_eq, nat_le, List, [], ◌∷◌, ◌++◌, length, take, drop, Option, Some, None, if◌then◌else◌, bytes_eq, slice_index_or}
-use Rattle.tree_model.specs.Start.{SegmentValue, ImageValue}
+use Rattle.std.specs.Prelude.{◌≡◌, ℕ, ◌+◌, ◌*◌, ◌/◌, ◌%◌, ◌<◌, ◌≤◌, Bool, true, ◌&&◌, nat_eq, nat_le, List, [], ◌∷◌, ◌++◌, length, take, drop, map, Option, Some, None, if◌then◌else◌, bytes_eq, slice_index_or}
+use Rattle.std.specs.List.{range_with_len}
+use Rattle.tree_model.specs.Start.{SegmentValue, ImageValue, memory_word}
 
 -- the bytes of the code, and those of the item if there is a second segment
 pub record ImageForm : Type 0 where
@@ -75,3 +76,7 @@ data_segments (Some words) = record { header = 1; vaddr = 0x20000; flags = 6; by
 
 abbrev pub image_of : ImageForm → ImageValue
 image_of f = record { entry = 0x10000; segments = code_segment f.code ∷ data_segments f.written }
+
+-- the words of its code
+abbrev pub code_words : ImageForm → List ℕ
+code_words f = map (λ n. memory_word (code_segment f.code ∷ []) (4 * n)) (range_with_len 16384 (length f.code / 4))

@@ -6,6 +6,7 @@ mod limits;
 mod memory;
 mod reading;
 mod schedule_file;
+mod start;
 mod status;
 mod tree_file;
 mod words;
