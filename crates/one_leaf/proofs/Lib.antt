@@ -7,3 +7,4 @@ pub mod Start
 pub mod View
 pub mod Steps
 pub mod Answered
+pub mod Counting

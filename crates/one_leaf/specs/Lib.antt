@@ -4,3 +4,4 @@ pub mod Start
 pub mod Witness
 pub mod Made
 pub mod Step
+pub mod Counts

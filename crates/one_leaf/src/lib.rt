@@ -4,5 +4,7 @@
 
 mod machine;
 mod step;
+mod turns;
 
 pub use machine::OneLeaf;
+pub use turns::run;

@@ -40,8 +40,10 @@ fn operation(number: u32, pc: u32, effect: Effect) -> Op
 }
 
 impl<const WORDS: usize> OneLeaf<WORDS> {
+    ghost use Rattle.ddm_types.specs.ItemTable.{item_count};
     ghost use Rattle.one_leaf.specs.OneLeaf.{answer_of, after_of};
     ghost use Rattle.one_leaf.specs.Made.{made_of, IsMade};
+    ghost use Rattle.one_leaf.specs.Step.{words_in};
 
     /// The machine with this hart and these words, before its first turn.
     pub fn new(code: Code, items: Items, hart: Hart, words: Vec<Words<WORDS>>, ops: Vec<Op>) -> Self
@@ -56,6 +58,33 @@ impl<const WORDS: usize> OneLeaf<WORDS> {
             words,
             ops,
         }
+    }
+
+    pub fn hart(&self) -> &Hart
+        ensures { result.now ≡ record { hart = self.now.hart; done = self.now.done } }
+    {
+        &self.hart
+    }
+
+    pub fn items(&self) -> &Items
+        ensures { result.now ≡ self.now.items }
+    {
+        &self.items
+    }
+
+    /// The current words of an item.
+    pub fn words(&self, item: ItemId) -> Words<WORDS>
+        requires { item < item_count self.now.items }
+        ensures { result ≡ words_in self.now.words item }
+    {
+        self.words[item.0 as usize]
+    }
+
+    /// The operations, in order of completion.
+    pub fn ops(&self) -> &[Op]
+        ensures { result.now ≡ self.now.ops }
+    {
+        &self.ops
     }
 
     /// One try of the hart's next instruction.

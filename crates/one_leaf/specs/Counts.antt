@@ -1,0 +1,14 @@
+-- Counts of a run of turns of the one hart.
+use Rattle.std.specs.Prelude.{ℕ, ◌<◌, List, replicate}
+use Rattle.ddm_types.specs.declared.turns.Turn.{Turn}
+use Rattle.text_model.specs.declared.RunCounts.{RunCounts}
+
+-- every count is below a bound
+pub record AreBelow (most : ℕ) (counts : RunCounts) : Type 0 where
+  pub turns : counts.turns < most
+  pub retired : counts.retired < most
+  pub granted : counts.granted < most
+  pub busy : counts.busy < most
+
+abbrev pub hart_turns : ℕ → List Turn
+hart_turns n = replicate n (Turn.Hart 0 0)
