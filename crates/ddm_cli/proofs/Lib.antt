@@ -1,3 +1,4 @@
 pub mod Lines
 pub mod StartWords
 pub mod StartCode
+pub mod ItemLines

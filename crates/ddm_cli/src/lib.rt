@@ -5,6 +5,7 @@ mod image_file;
 mod limits;
 mod memory;
 mod reading;
+mod report_lines;
 mod schedule_file;
 mod start;
 mod status;
