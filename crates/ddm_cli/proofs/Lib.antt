@@ -1,3 +1,5 @@
 pub mod Lines
 pub mod StartWords
 pub mod StartCode
+pub mod Long
+pub mod Completeness

@@ -4,3 +4,4 @@ pub mod Reads
 pub mod TreeForm
 pub mod ImageForm
 pub mod ScheduleForm
+pub mod Top
