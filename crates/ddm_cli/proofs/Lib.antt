@@ -2,3 +2,5 @@ pub mod Lines
 pub mod StartWords
 pub mod StartCode
 pub mod ItemLines
+pub mod Long
+pub mod Completeness

@@ -5,3 +5,4 @@ pub mod TreeForm
 pub mod ImageForm
 pub mod ScheduleForm
 pub mod LeafView
+pub mod Top

@@ -1,4 +1,4 @@
-ghost use Rattle.std.specs.Prelude.{◌≡◌, ◌≤◌, OnOk, IfOk, MatchOption, None, Some, true, length, take, drop, slice_index_or};
+ghost use Rattle.std.specs.Prelude.{◌≡◌, ◌≤◌, OnOk, IfOk, IfSome, MatchOption, None, Some, true, length, take, drop, slice_index_or};
 ghost use Rattle.ddm_text.specs.Adds.{Adds};
 ghost use Rattle.ddm_cli.specs.ImageForm.{file_header, image_bytes, image_form, is_code_size, is_data_size, is_sized, program_header, said_form};
 
@@ -138,7 +138,8 @@ fn push_image(out: &mut Vec<u8>, image: &Image<'_>) -> Result<(), NoMemory>
 /// The image of a file, where the file is of the form that is built. Takes memory for the file once more.
 #[tactic(auto, unfolding(crate::specs::ImageForm::image_form))]
 pub fn read_image(alloc: Global, file: &[u8]) -> Result<Option<Image<'_>>, NoMemory>
-    ensures { IfOk result (λ o. MatchOption o (image_form file.now ≡ None) (λ i. image_form file.now ≡ Some i)) }
+    ensures form { IfOk result (λ o. MatchOption o (image_form file.now ≡ None) (λ i. image_form file.now ≡ Some i)) }
+    ensures sized { IfOk result (λ o. IfSome o (λ i. is_sized i ≡ true)) }
 {
     let image = said_image(file);
     if !is_sized(&image) {
