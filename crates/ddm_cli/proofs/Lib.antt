@@ -7,3 +7,4 @@ pub mod Completeness
 pub mod HartKept
 pub mod LeafViews
 pub mod AnswerText
+pub mod InOrder
