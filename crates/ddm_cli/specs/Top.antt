@@ -61,6 +61,12 @@ FileCause judge told before now Fault = Rose before now
 FileCause judge told before now Refusal = Refuses judge told
 FileCause judge told before now Memory = Unit {0}
 
+-- the status for a file that wasn't taken
+abbrev pub status_of : FileError → FileRole → Status
+status_of Fault role = ReadFault role
+status_of Refusal role = Unbuilt role
+status_of Memory role = NoMemory
+
 -- ---- the three files
 
 -- where all three are told, this is their text
@@ -153,9 +159,3 @@ fault_line NoMemory = memory_fault
 pub record Offers {K : Type 0} (held : K → Option (List ℕ)) (failures : K → ℕ) (out out' : K) (line : List ℕ) : Type 0 where
   pub part : AppendsPart (held out) (held out') line
   pub whole : (Rose (failures out) (failures out') → ⊥) → Appends (held out) (held out') line
-
--- the status for a file that wasn't taken
-abbrev pub status_of : FileError → FileRole → Status
-status_of Fault role = ReadFault role
-status_of Refusal role = Unbuilt role
-status_of Memory role = NoMemory

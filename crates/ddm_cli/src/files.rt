@@ -2,13 +2,15 @@ ghost use Rattle.std.specs.Prelude.{◌≡◌, ◌⊎◌, ◌<◌, ◌≤◌, �
 ghost use Rattle.ddm_cli.specs.ImageForm.{image_form};
 ghost use Rattle.ddm_cli.specs.ScheduleForm.{count_of};
 ghost use Rattle.ddm_cli.specs.TreeForm.{stack_of};
-ghost use Rattle.ddm_cli.specs.Top.{FileCause, TakenAs};
+ghost use Rattle.ddm_cli.specs.Top.{FileCause, TakenAs, status_of};
 
 use crate::limits::{MOST_IMAGE, MOST_SCHEDULE, MOST_TREE};
 use crate::reading::{ReadError, read_whole};
 use crate::schedule_file::count_turns;
+use crate::status::Status;
 use crate::tree_file::stack_bytes;
 use ddm_outside::Shelf;
+use report::FileRole;
 use std::alloc::Global;
 
 /// Why a file wasn't taken.
@@ -17,6 +19,19 @@ pub enum FileError {
     Fault,
     Refusal,
     Memory,
+}
+
+impl FileError {
+    /// The status that this gives for a file.
+    pub fn at(self, role: FileRole) -> Status
+        ensures { result ≡ status_of self role }
+    {
+        match self {
+            FileError::Fault => Status::ReadFault(role),
+            FileError::Refusal => Status::Unbuilt(role),
+            FileError::Memory => Status::NoMemory,
+        }
+    }
 }
 
 /// How many bytes the stack has that a tree file asks for.
