@@ -5,3 +5,6 @@ mod memory;
 mod places;
 
 pub use memory::{AttractionMem, SetFull};
+
+#[cfg(test)]
+mod tests;

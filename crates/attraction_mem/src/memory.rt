@@ -122,9 +122,9 @@ impl<const WAYS: usize, const WORDS: usize> AttractionMem<WAYS, WORDS> {
         requires free { IsFree self.old (item % self.old.sets) way }
         ensures { self.new ≡ with_entry self.old item way state words.entry }
     {
-        let place = first_place::<WAYS>(self.sets, item) + way as usize;
-        self.tags[place] = Some((item, state));
-        self.words[place] = words;
+        let free = first_place::<WAYS>(self.sets, item) + way as usize;
+        self.tags[free] = Some((item, state));
+        self.words[free] = words;
     }
 
     /// Takes the item out, where it stands here.
