@@ -1,0 +1,6 @@
+pub mod Holding
+pub mod Changing
+pub mod Sizes
+pub mod Standing
+pub mod Reading
+pub mod Writing

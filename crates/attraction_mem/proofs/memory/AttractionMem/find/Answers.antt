@@ -1,0 +1,17 @@
+use Rattle.std.proofs.Common.{rules, ◌≡◌, None, Some, sym, ◌∙◌, ap}
+use Rattle.attraction_mem.specs.Memory.{entry_of}
+use Rattle.attraction_mem.specs.Places.{entry_at}
+use Rattle.attraction_mem.proofs.Standing.{entry_of_absent, entry_of_found}
+use Rattle.attraction_mem.proofs.memory.AttractionMem.find.Goals as goal
+
+pub returns-in_err-place-clause-value : goal.returns-in_err-place-clause-value
+returns-in_err-place-clause-value g c =
+    let none = rw c.deref.ensures.value at c.in_err-place.ensures.absent in
+    let absent : entry_of c.args.self.now c.args.item ≡ None = ap (λ m. entry_of m c.args.item) (sym c.self.view_is) ∙ entry_of_absent c.self.invariant c.args.item none in
+    rw absent (search rules)
+
+pub returns-clause-value : goal.returns-clause-value
+returns-clause-value g c =
+    let tag = rw c.deref.ensures.value at c.in_ok-place.ensures.found in
+    let found : entry_of c.args.self.now c.args.item ≡ Some (entry_at g.row.WAYS c.self.inside.words.items c.in_ok-place.place c.in_ok-place.state) = ap (λ m. entry_of m c.args.item) (sym c.self.view_is) ∙ entry_of_found c.self.invariant c.in_ok-place.place c.args.item c.in_ok-place.state tag in
+    rw found (search rules)

@@ -1,0 +1,10 @@
+//! The memory of a leaf: items in the ways of their sets, each with a state and its words.
+#![tactic(auto)]
+
+mod memory;
+mod places;
+
+pub use memory::{AttractionMem, SetFull};
+
+#[cfg(test)]
+mod tests;

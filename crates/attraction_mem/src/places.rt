@@ -1,0 +1,58 @@
+ghost use Rattle.std.specs.Prelude.{◌≡◌, ◌+◌, ◌*◌, ◌%◌, ◌<◌, ◌≤◌, length, None, IfSome, IfNone, slice_index_or};
+ghost use Rattle.attraction_mem.specs.Places.{IsSized, HasTag, HasNoTag, AreTaken};
+
+use ddm_types::{ItemId, LeafState};
+
+/// The place of way 0 of the item's set.
+#[tactic(auto, using(crate::proofs::Sizes::row_fits, crate::proofs::Sizes::small_product))]
+pub fn first_place<const WAYS: usize>(sets: u32, item: ItemId) -> usize
+    requires { IsSized WAYS sets (sets * WAYS) }
+    ensures place { result ≡ item % sets * WAYS }
+    ensures fits { result + WAYS ≤ sets * WAYS }
+    ensures few { sets * WAYS ≤ 16384 }
+{
+    (item.0 % sets) as usize * WAYS
+}
+
+/// The place of the item's tag, and its state.
+pub fn find_tag<const WAYS: usize>(
+    sets: u32,
+    tags: &[Option<(ItemId, LeafState)>],
+    item: ItemId,
+) -> Option<(usize, LeafState)>
+    requires { IsSized WAYS sets (length tags.now) }
+    ensures found { IfSome result (λ at. HasTag tags.now at.0 item at.1) }
+    ensures exists { IfSome result (λ at. at.0 < length tags.now) }
+    ensures absent { IfNone result (HasNoTag tags.now (item % sets * WAYS) WAYS item) }
+{
+    let first = first_place::<WAYS>(sets, item);
+    for place in first..first + WAYS {
+        if let Some((held, state)) = tags[place] {
+            if held == item {
+                return Some((place, state));
+            }
+        }
+    }
+    None
+}
+
+/// The lowest free way of the item's set.
+pub fn find_free<const WAYS: usize>(
+    sets: u32,
+    tags: &[Option<(ItemId, LeafState)>],
+    item: ItemId,
+) -> Option<usize>
+    requires { IsSized WAYS sets (length tags.now) }
+    ensures exists { IfSome result (λ way. way < WAYS) }
+    ensures free { IfSome result (λ way. slice_index_or tags.now (item % sets * WAYS + way) None ≡ None) }
+    ensures lower { IfSome result (AreTaken tags.now (item % sets * WAYS)) }
+    ensures full { IfNone result (AreTaken tags.now (item % sets * WAYS) WAYS) }
+{
+    let first = first_place::<WAYS>(sets, item);
+    for way in 0..WAYS {
+        if tags[first + way].is_none() {
+            return Some(way);
+        }
+    }
+    None
+}
