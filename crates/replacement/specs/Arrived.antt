@@ -1,8 +1,9 @@
 -- Lists in order of arrival: what a buffer and a parking are seen as, and what their calls give.
-use Rattle.std.specs.Prelude.{ℕ, ◌%◌, ◌^◌, ◌<◌, ◌≤◌, Bool, nat_eq, List, [], ◌∷◌, length, Option, None, option_map, slice_get, if◌then◌else◌}
+use Rattle.std.specs.Prelude.{◌≡◌, ℕ, ◌%◌, ◌^◌, ◌<◌, ◌≤◌, Bool, true, nat_eq, List, [], ◌∷◌, length, Option, None, option_map, slice_get, if◌then◌else◌}
 use Rattle.ddm_types.specs.declared.sizes.LeafState.{LeafState}
 use Rattle.tree_model.specs.Values.{BufferValue, CopyValue}
 use Rattle.tree_model.specs.Leaf.{buffers_item}
+use Rattle.tree_model.specs.OwnRules.{are_distinct}
 
 -- the entries of a buffer in order of arrival, and how many there may be
 pub record BufferList : Type 0 where
@@ -23,8 +24,9 @@ with_state x state e = if buffers_item x e then record e { state = state } else 
 abbrev pub with_words : ℕ → List ℕ → BufferValue → BufferValue
 with_words x words e = if buffers_item x e then record e { words = words } else e
 
--- so many places are taken or reserved: no more than there may be, and each has memory
-pub record IsHeld (words taken capacity memory : ℕ) : Type 0 where
+-- No item stands twice. So many places are taken or reserved: no more than there may be, and each has memory.
+pub record IsHeld (words : ℕ) (items : List ℕ) (taken capacity memory : ℕ) : Type 0 where
+  pub once : are_distinct items ≡ true
   pub within : taken ≤ capacity
   pub has_memory : capacity ≤ memory
   pub small : capacity < 2 ^ 32

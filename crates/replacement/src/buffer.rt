@@ -1,5 +1,6 @@
-ghost use Rattle.std.specs.Prelude.{◌≡◌, ◌<◌, ◌↔◌, ◌^◌, None, if◌then◌else◌, ◌++◌, ◌∷◌, [], length, filter, find, map, not, nat_le, position, option_map, slice_get, IfOk, IsErr, IsSome, OnErr, OnOk, is_err};
+ghost use Rattle.std.specs.Prelude.{◌≡◌, ◌<◌, ◌↔◌, ◌^◌, None, true, if◌then◌else◌, ◌++◌, ◌∷◌, [], length, filter, find, map, not, nat_le, position, option_map, slice_get, IfOk, IsErr, IsSome, OnErr, OnOk, is_err};
 ghost use Rattle.tree_model.specs.Leaf.{buffers_item};
+ghost use Rattle.tree_model.specs.OwnRules.{are_distinct, buffer_item};
 ghost use Rattle.tree_model.specs.States.{may_leave};
 ghost use Rattle.replacement.specs.Arrived.{chosen, with_state, with_words};
 
@@ -18,14 +19,15 @@ pub struct Buffer<const WORDS: usize> {
 }
 
 impl<const WORDS: usize> Model for Buffer<WORDS> {
-    ghost use Rattle.std.specs.Prelude.{length, vec_capacity};
+    ghost use Rattle.std.specs.Prelude.{length, map, vec_capacity};
+    ghost use Rattle.tree_model.specs.OwnRules.{buffer_item};
     ghost use Rattle.replacement.specs.Arrived.{BufferList, IsHeld};
 
     ghost Value = { BufferList };
 
     ghost view = { λ b. record { list = b.entries.items; capacity = b.capacity } };
 
-    ghost invariant = { λ b. IsHeld WORDS (length b.entries.items) b.capacity (vec_capacity b.entries) };
+    ghost invariant = { λ b. IsHeld WORDS (map buffer_item b.entries.items) (length b.entries.items) b.capacity (vec_capacity b.entries) };
 }
 
 /// 1 for an entry that may leave its leaf, else 0.
@@ -125,6 +127,7 @@ impl<const WORDS: usize> Buffer<WORDS> {
     pub fn find(&self, item: ItemId) -> Option<(u32, LeafState)>
         ensures place { option_map (λ p. p.0) result ≡ position (buffers_item item) self.now.list }
         ensures state { option_map (λ p. p.1) result ≡ option_map (λ e. e.state) (find (buffers_item item) self.now.list) }
+        ensures once { are_distinct (map buffer_item self.now.list) ≡ true }
     {
         match found(&self.entries, item) {
             Some((place, entry)) => Some((place as u32, entry.state)),

@@ -1,5 +1,6 @@
-ghost use Rattle.std.specs.Prelude.{◌≡◌, ◌+◌, ◌-◌, ◌^◌, ◌<◌, ◌≤◌, ◌↔◌, ◌++◌, ◌∷◌, [], None, length, filter, find, not, nat_le, position, option_map, slice_get, IfOk, IsErr, OnErr, OnOk, is_err};
+ghost use Rattle.std.specs.Prelude.{◌≡◌, ◌+◌, ◌-◌, ◌^◌, ◌<◌, ◌≤◌, ◌↔◌, ◌++◌, ◌∷◌, [], None, true, length, map, filter, find, not, nat_le, position, option_map, slice_get, IfOk, IsErr, OnErr, OnOk, is_err};
 ghost use Rattle.tree_model.specs.Leaf.{copies_item};
+ghost use Rattle.tree_model.specs.OwnRules.{are_distinct, copy_item};
 ghost use Rattle.replacement.specs.Arrived.{chosen};
 
 use crate::Full;
@@ -19,14 +20,15 @@ pub struct Parking<const WORDS: usize> {
 }
 
 impl<const WORDS: usize> Model for Parking<WORDS> {
-    ghost use Rattle.std.specs.Prelude.{◌+◌, length, vec_capacity};
+    ghost use Rattle.std.specs.Prelude.{◌+◌, length, map, vec_capacity};
+    ghost use Rattle.tree_model.specs.OwnRules.{copy_item};
     ghost use Rattle.replacement.specs.Arrived.{IsHeld, ParkingList};
 
     ghost Value = { ParkingList };
 
     ghost view = { λ p. record { list = p.entries.items; capacity = p.capacity; reserved = p.reserved } };
 
-    ghost invariant = { λ p. IsHeld WORDS (length p.entries.items + p.reserved) p.capacity (vec_capacity p.entries) };
+    ghost invariant = { λ p. IsHeld WORDS (map copy_item p.entries.items) (length p.entries.items + p.reserved) p.capacity (vec_capacity p.entries) };
 }
 
 impl<const WORDS: usize> Parking<WORDS> {
@@ -120,7 +122,8 @@ impl<const WORDS: usize> Parking<WORDS> {
 
     /// The place of the item's copy.
     pub fn find(&self, item: ItemId) -> Option<u32>
-        ensures { result ≡ position (copies_item item) self.now.list }
+        ensures place { result ≡ position (copies_item item) self.now.list }
+        ensures once { are_distinct (map copy_item self.now.list) ≡ true }
     {
         match found(&self.entries, item) {
             Some((place, _)) => Some(place as u32),
