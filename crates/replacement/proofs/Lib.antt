@@ -1,0 +1,4 @@
+pub mod Changed
+pub mod Chosen
+pub mod Finds
+pub mod Once

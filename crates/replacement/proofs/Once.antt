@@ -1,0 +1,117 @@
+-- No item stands twice in a list, as entries come, go and change.
+use Rattle.std.proofs.Common.{◌≡◌, ◌∙◌, ap, sym, refl, ℕ, Bool, true, false, cond, not, ◌&&◌, ◌||◌, nat_eq, List, [], ◌∷◌, ◌++◌, map, length, take, drop, append-nil, subst, Some, None, arith}
+use Rattle.std.specs.List.{find, filter, list_any}
+use Rattle.std.proofs.lemmas.List.{drop_all, take_all}
+use Rattle.std.proofs.lemmas.Bool.Decides.{nat_tests}
+use Rattle.tree_model.specs.OwnRules.{are_distinct, buffer_item}
+use Rattle.ddm_types.specs.declared.sizes.LeafState.{LeafState}
+use Rattle.tree_model.specs.Leaf.{buffers_item}
+use Rattle.tree_model.specs.Values.{BufferValue}
+use Rattle.replacement.specs.Arrived.{names_item, with_state, with_words, IsHeld}
+
+swapped : (a b : ℕ) → nat_eq a b ≡ false → nat_eq b a ≡ false
+swapped a b e = grind (arith, nat_tests)
+
+-- two tests in a row, taken apart and put together
+left : (a b : Bool) → (not a && b) ≡ true → a ≡ false
+left true b e = cc
+left false b e = refl
+
+right : (a b : Bool) → (not a && b) ≡ true → b ≡ true
+right true b e = cc
+right false b e = e
+
+joined : (a b : Bool) → a ≡ false → b ≡ true → (not a && b) ≡ true
+joined a b e h = rw (e, h) refl
+
+neither : (a b : Bool) → a ≡ false → b ≡ false → (a || b) ≡ false
+neither a b e h = rw (e, h) refl
+
+first_fails : (a b : Bool) → (a || b) ≡ false → a ≡ false
+first_fails true b e = cc
+first_fails false b e = refl
+
+rest_fails : (a b : Bool) → (a || b) ≡ false → b ≡ false
+rest_fails true b e = cc
+rest_fails false b e = e
+
+module _ {X : Type 0} (named : X → ℕ) where
+  other : (x : ℕ) (b : Bool) (y : X) (ys : List X) → cond b (Some y) (find (names_item named x) ys) ≡ None → b ≡ false
+  other x true y ys e = cc
+  other x false y ys e = refl
+
+  later : (x : ℕ) (b : Bool) (y : X) (ys : List X) → cond b (Some y) (find (names_item named x) ys) ≡ None → find (names_item named x) ys ≡ None
+  later x true y ys e = cc
+  later x false y ys e = e
+
+  any-append : (t : ℕ → Bool) (xs : List X) (e : X) → list_any t (map named xs) ≡ false → t (named e) ≡ false → list_any t (map named (xs ++ e ∷ [])) ≡ false
+  any-append t [] e none fails = neither (t (named e)) false fails refl
+  any-append t (y ∷ ys) e none fails =
+      neither (t (named y)) (list_any t (map named (ys ++ e ∷ []))) (first_fails (t (named y)) (list_any t (map named ys)) none)
+      (any-append t ys e (rest_fails (t (named y)) (list_any t (map named ys)) none) fails)
+
+  any-filter : (t : ℕ → Bool) (p : X → Bool) (xs : List X) → list_any t (map named xs) ≡ false → list_any t (map named (filter p xs)) ≡ false
+  any-filter t p [] none = refl
+  any-filter t p (y ∷ ys) none = by_test (p y) (first_fails (t (named y)) _ none) (any-filter t p ys (rest_fails (t (named y)) _ none))
+    where
+      by_test : (b : Bool) → t (named y) ≡ false → list_any t (map named (filter p ys)) ≡ false → list_any t (map named (cond b (y ∷ filter p ys) (filter p ys))) ≡ false
+      by_test true here rest = neither (t (named y)) _ here rest
+      by_test false here rest = rest
+
+  -- an entry of another item comes
+  pub once-append : (xs : List X) (e : X) → are_distinct (map named xs) ≡ true → find (names_item named (named e)) xs ≡ None → are_distinct (map named (xs ++ e ∷ [])) ≡ true
+  once-append [] e once fresh = refl
+  once-append (y ∷ ys) e once fresh =
+      let here = other (named e) (nat_eq (named e) (named y)) y ys fresh in
+      let rest = later (named e) (nat_eq (named e) (named y)) y ys fresh in
+      joined _ _
+      (any-append (nat_eq (named y)) ys e (left _ (are_distinct (map named ys)) once) (swapped (named e) (named y) here))
+      (once-append ys e (right (list_any (nat_eq (named y)) (map named ys)) _ once) rest)
+
+  -- entries go
+  pub once-filter : (p : X → Bool) (xs : List X) → are_distinct (map named xs) ≡ true → are_distinct (map named (filter p xs)) ≡ true
+  once-filter p [] once = refl
+  once-filter p (y ∷ ys) once =
+      by_test (p y) (any-filter (nat_eq (named y)) p ys (left _ (are_distinct (map named ys)) once)) (once-filter p ys (right (list_any (nat_eq (named y)) (map named ys)) _ once))
+    where
+      by_test : (b : Bool) → list_any (nat_eq (named y)) (map named (filter p ys)) ≡ false → are_distinct (map named (filter p ys)) ≡ true → are_distinct (map named (cond b (y ∷ filter p ys) (filter p ys))) ≡ true
+      by_test true here rest = joined _ _ here rest
+      by_test false here rest = rest
+
+  -- entries change, each of the same item as before
+  pub named-map : (f : X → X) → ((e : X) → named (f e) ≡ named e) → (xs : List X) → map named (map f xs) ≡ map named xs
+  named-map f same [] = refl
+  named-map f same (y ∷ ys) = ap (λ n. n ∷ map named (map f ys)) (same y) ∙ ap (λ ns. named y ∷ ns) (named-map f same ys)
+
+written_back : {X : Type 0} (n : ℕ) (xs ys : List X) → length xs ≡ length ys → n ≡ length ys → xs ≡ take n (xs ++ drop (length xs) ys)
+written_back n xs ys same full =
+    let gone : drop (length xs) ys ≡ [] = drop_all (length xs) ys (omega arith) in
+    let whole : take n (xs ++ []) ≡ xs = rw append-nil (take_all n xs (omega arith)) in
+    rw gone (sym whole)
+
+-- each entry changes and stays of its item
+pub held_changed : {X : Type 0} (named : X → ℕ) (f : X → X) → ((e : X) → named (f e) ≡ named e) → (words n capacity memory : ℕ) (xs ys : List X) → length xs ≡ length ys → n ≡ length ys → xs ≡ map f ys → IsHeld words (map named ys) (length ys) capacity memory → IsHeld words (map named (take n (xs ++ drop (length xs) ys))) (length (take n (xs ++ drop (length xs) ys))) capacity memory
+held_changed named f same words n capacity memory xs ys long full is was =
+    let items : map named xs ≡ map named ys = ap (map named) is ∙ named-map named f same ys in
+    subst (λ zs. IsHeld words (map named zs) (length zs) capacity memory) (written_back n xs ys long full)
+    (record {
+      once = rw items was.once;
+      within = rw long was.within;
+      has_memory = was.has_memory;
+      small = was.small;
+      words_fit = was.words_fit;
+    })
+
+pub state_item : (x : ℕ) (state : LeafState) (e : BufferValue) → buffer_item (with_state x state e) ≡ buffer_item e
+state_item x state e = by_test (buffers_item x e)
+  where
+    by_test : (b : Bool) → buffer_item (cond b (record e { state = state }) e) ≡ buffer_item e
+    by_test true = refl
+    by_test false = refl
+
+pub words_item : (x : ℕ) (words : List ℕ) (e : BufferValue) → buffer_item (with_words x words e) ≡ buffer_item e
+words_item x words e = by_test (buffers_item x e)
+  where
+    by_test : (b : Bool) → buffer_item (cond b (record e { words = words }) e) ≡ buffer_item e
+    by_test true = refl
+    by_test false = refl

@@ -1,0 +1,17 @@
+use Rattle.std.proofs.Common.{◌≡◌, ◌∙◌, ap, arith, find, None}
+use Rattle.std.proofs.lemmas.Grind.{common_steps}
+use Rattle.tree_model.specs.Leaf.{copies_item}
+use Rattle.tree_model.specs.OwnRules.{copy_item}
+use Rattle.replacement.proofs.Once.{once-append}
+use Rattle.replacement.proofs.parking.Parking.put.Goals as goal
+
+pub invariant_of-self : goal.invariant_of-self
+invariant_of-self g c =
+    let fresh : find (copies_item c.args.item) c.self.inside.entries.items ≡ None = ap (λ b. find (copies_item c.args.item) b.list) c.self.view_is ∙ c.requires.fresh in
+    record {
+      once = rw c.add.ensures.items (once-append copy_item c.self.inside.entries.items _ c.self.invariant.once fresh);
+      within = grind (arith, common_steps);
+      has_memory = grind (arith, common_steps);
+      small = c.self.invariant.small;
+      words_fit = c.self.invariant.words_fit;
+    }

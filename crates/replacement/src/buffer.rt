@@ -1,0 +1,194 @@
+ghost use Rattle.std.specs.Prelude.{◌≡◌, ◌<◌, ◌↔◌, ◌^◌, None, true, if◌then◌else◌, ◌++◌, ◌∷◌, [], length, filter, find, map, not, nat_le, position, option_map, slice_get, IfOk, IsErr, IsSome, OnErr, OnOk, is_err};
+ghost use Rattle.tree_model.specs.Leaf.{buffers_item};
+ghost use Rattle.tree_model.specs.OwnRules.{are_distinct, buffer_item};
+ghost use Rattle.tree_model.specs.States.{may_leave};
+ghost use Rattle.replacement.specs.Arrived.{chosen, with_state, with_words};
+
+use crate::Full;
+use crate::arrivals::{add, found, take_out};
+use crate::entries::BufferEntry;
+use ddm_types::{ItemId, LeafState, NoMemory, Words};
+use std::alloc::Global;
+use std::marker::Model;
+
+/// The entries of a leaf that had to leave their ways, in order of arrival.
+#[derive(Drop)]
+pub struct Buffer<const WORDS: usize> {
+    entries: Vec<BufferEntry<WORDS>>,
+    capacity: u32,
+}
+
+impl<const WORDS: usize> Model for Buffer<WORDS> {
+    ghost use Rattle.std.specs.Prelude.{length, map, vec_capacity};
+    ghost use Rattle.tree_model.specs.OwnRules.{buffer_item};
+    ghost use Rattle.replacement.specs.Arrived.{BufferList, IsHeld};
+
+    ghost Value = { BufferList };
+
+    ghost view = { λ b. record { list = b.entries.items; capacity = b.capacity } };
+
+    ghost invariant = { λ b. IsHeld WORDS (map buffer_item b.entries.items) (length b.entries.items) b.capacity (vec_capacity b.entries) };
+}
+
+/// 1 for an entry that may leave its leaf, else 0.
+fn leavers(state: LeafState) -> usize
+    ensures { result ≡ (if may_leave state then 1 else 0) }
+{
+    match state {
+        LeafState::Shared | LeafState::Exclusive => 1,
+        LeafState::Waiting | LeafState::Reading | LeafState::ReadingWaiting => 0,
+    }
+}
+
+/// How many entries may leave.
+fn count_free<const WORDS: usize>(entries: &[BufferEntry<WORDS>]) -> usize
+    ensures { result ≡ length (filter (λ e. may_leave e.state) entries.now) }
+{
+    let mut count = 0;
+    for place in 0..entries.len() {
+        let entry = entries[place];
+        count += leavers(entry.state);
+    }
+    count
+}
+
+/// The item of the entry that may leave and has this many such entries before it.
+fn nth_free<const WORDS: usize>(entries: &[BufferEntry<WORDS>], before: usize) -> Option<ItemId>
+    ensures { result ≡ option_map (λ e. e.item) (slice_get (filter (λ e. may_leave e.state) entries.now) before) }
+{
+    let mut left = before;
+    for place in 0..entries.len() {
+        let entry = entries[place];
+        let free = leavers(entry.state);
+        if left < free {
+            return Some(entry.item);
+        }
+        left -= free;
+    }
+    None
+}
+
+/// Puts the item's entry in another state.
+fn set_states<const WORDS: usize>(
+    entries: &mut [BufferEntry<WORDS>],
+    item: ItemId,
+    state: LeafState,
+)
+    ensures { entries.new ≡ map (with_state item state) entries.old }
+{
+    for place in 0..entries.len() {
+        let entry = entries[place];
+        entries[place] = entry.in_state(item, state);
+    }
+}
+
+/// Gives the item's entry other words.
+fn set_all_words<const WORDS: usize>(
+    entries: &mut [BufferEntry<WORDS>],
+    item: ItemId,
+    words: &Words<WORDS>,
+)
+    ensures { entries.new ≡ map (with_words item words.now) entries.old }
+{
+    for place in 0..entries.len() {
+        let entry = entries[place];
+        entries[place] = entry.with_words(item, words);
+    }
+}
+
+impl<const WORDS: usize> Buffer<WORDS> {
+    /// An empty buffer. No later call takes memory.
+    pub fn new(alloc: Global, capacity: u32) -> Result<Self, NoMemory>
+        requires { WORDS < 2 ^ 32 }
+        ensures { IfOk result (λ b. b ≡ record { list = []; capacity = capacity }) }
+    {
+        Ok(Buffer {
+            entries: Vec::with_capacity(alloc, capacity as usize)?,
+            capacity,
+        })
+    }
+
+    /// Puts an entry behind the others.
+    pub fn put(&mut self, item: ItemId, state: LeafState, words: Words<WORDS>) -> Result<(), Full>
+        requires fresh { find (buffers_item item) self.old.list ≡ None }
+        ensures full { IsErr result ↔ (length self.old.list ≡ self.old.capacity) }
+        ensures test { is_err result ≡ nat_le self.old.capacity (length self.old.list) }
+        ensures ok { OnOk result (self.new ≡ record self.old { list = self.old.list ++ record { item = item; state = state; words = words.entry } ∷ [] }) }
+        ensures err { OnErr result (self.new ≡ self.old) }
+    {
+        if self.entries.len() >= self.capacity as usize {
+            return Err(Full);
+        }
+        add(&mut self.entries, BufferEntry { item, state, words });
+        Ok(())
+    }
+
+    /// The place of the item's entry, and its state.
+    pub fn find(&self, item: ItemId) -> Option<(u32, LeafState)>
+        ensures place { option_map (λ p. p.0) result ≡ position (buffers_item item) self.now.list }
+        ensures state { option_map (λ p. p.1) result ≡ option_map (λ e. e.state) (find (buffers_item item) self.now.list) }
+        ensures once { are_distinct (map buffer_item self.now.list) ≡ true }
+    {
+        match found(&self.entries, item) {
+            Some((place, entry)) => Some((place as u32, entry.state)),
+            None => None,
+        }
+    }
+
+    pub fn words(&self, item: ItemId) -> Option<Words<WORDS>>
+        ensures { result ≡ option_map (λ e. e.words) (find (buffers_item item) self.now.list) }
+    {
+        match found(&self.entries, item) {
+            Some((_, entry)) => Some(entry.words),
+            None => None,
+        }
+    }
+
+    /// Takes the item's entry out. The others stay in their order.
+    pub fn remove(&mut self, item: ItemId) -> Option<(LeafState, Words<WORDS>)>
+        ensures value { result ≡ option_map (λ e. (e.state, e.words)) (find (buffers_item item) self.old.list) }
+        ensures rest { self.new ≡ record self.old { list = filter (λ e. not (buffers_item item e)) self.old.list } }
+    {
+        match take_out(&mut self.entries, item) {
+            Some(entry) => Some((entry.state, entry.words)),
+            None => None,
+        }
+    }
+
+    pub fn get(&self, place: u32) -> Option<(ItemId, LeafState, Words<WORDS>)>
+        ensures { result ≡ option_map (λ e. (e.item, e.state, e.words)) (slice_get self.now.list place) }
+    {
+        match self.entries.as_slice().get(place as usize) {
+            Some(entry) => Some((entry.item, entry.state, entry.words)),
+            None => None,
+        }
+    }
+
+    /// The item of entry `choice mod m` of the m entries that may leave. None: there is none.
+    #[tactic(auto, using(crate::proofs::Chosen::chosen_some, crate::proofs::Chosen::chosen_none))]
+    pub fn ready(&self, choice: u8) -> Option<ItemId>
+        ensures { result ≡ chosen (λ e. e.item) choice (filter (λ e. may_leave e.state) self.now.list) }
+    {
+        let free = count_free(&self.entries);
+        if free == 0 {
+            return None;
+        }
+        nth_free(&self.entries, choice as usize % free)
+    }
+
+    /// Puts the item's entry in another state.
+    pub fn set_state(&mut self, item: ItemId, state: LeafState)
+        requires { IsSome (find (buffers_item item) self.old.list) }
+        ensures { self.new ≡ record self.old { list = map (with_state item state) self.old.list } }
+    {
+        set_states(&mut self.entries, item, state);
+    }
+
+    /// Gives the item's entry other words.
+    pub fn set_words(&mut self, item: ItemId, words: Words<WORDS>)
+        requires { IsSome (find (buffers_item item) self.old.list) }
+        ensures { self.new ≡ record self.old { list = map (with_words item words.entry) self.old.list } }
+    {
+        set_all_words(&mut self.entries, item, &words);
+    }
+}

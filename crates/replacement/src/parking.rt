@@ -1,0 +1,155 @@
+ghost use Rattle.std.specs.Prelude.{◌≡◌, ◌+◌, ◌-◌, ◌^◌, ◌<◌, ◌≤◌, ◌↔◌, ◌++◌, ◌∷◌, [], None, true, length, map, filter, find, not, nat_le, position, option_map, slice_get, IfOk, IsErr, OnErr, OnOk, is_err};
+ghost use Rattle.tree_model.specs.Leaf.{copies_item};
+ghost use Rattle.tree_model.specs.OwnRules.{are_distinct, copy_item};
+ghost use Rattle.replacement.specs.Arrived.{chosen};
+
+use crate::Full;
+use crate::arrivals::{add, found, take_out};
+use crate::entries::ParkedCopy;
+use ddm_types::{ItemId, NoMemory, Words};
+use std::alloc::Global;
+use std::marker::Model;
+
+/// The copies of which no child of a directory has room, in order of arrival. Places are reserved for copies that are
+/// under way.
+#[derive(Drop)]
+pub struct Parking<const WORDS: usize> {
+    entries: Vec<ParkedCopy<WORDS>>,
+    capacity: u32,
+    reserved: u32,
+}
+
+impl<const WORDS: usize> Model for Parking<WORDS> {
+    ghost use Rattle.std.specs.Prelude.{◌+◌, length, map, vec_capacity};
+    ghost use Rattle.tree_model.specs.OwnRules.{copy_item};
+    ghost use Rattle.replacement.specs.Arrived.{IsHeld, ParkingList};
+
+    ghost Value = { ParkingList };
+
+    ghost view = { λ p. record { list = p.entries.items; capacity = p.capacity; reserved = p.reserved } };
+
+    ghost invariant = { λ p. IsHeld WORDS (map copy_item p.entries.items) (length p.entries.items + p.reserved) p.capacity (vec_capacity p.entries) };
+}
+
+impl<const WORDS: usize> Parking<WORDS> {
+    /// An empty parking with no reserved place. No later call takes memory.
+    pub fn new(alloc: Global, capacity: u32) -> Result<Self, NoMemory>
+        requires { WORDS < 2 ^ 32 }
+        ensures { IfOk result (λ p. p ≡ record { list = []; capacity = capacity; reserved = 0 }) }
+    {
+        Ok(Parking {
+            entries: Vec::with_capacity(alloc, capacity as usize)?,
+            capacity,
+            reserved: 0,
+        })
+    }
+
+    /// Whether each place is taken or reserved.
+    fn is_full(&self) -> bool
+        ensures full { result ≡ nat_le self.now.capacity (length self.now.list + self.now.reserved) }
+        ensures within { length self.now.list + self.now.reserved ≤ self.now.capacity }
+    {
+        (self.capacity - self.reserved) as usize <= self.entries.len()
+    }
+
+    /// Puts a copy behind the others, in a place that is not reserved.
+    pub fn put(&mut self, item: ItemId, words: Words<WORDS>) -> Result<(), Full>
+        requires fresh { find (copies_item item) self.old.list ≡ None }
+        ensures full { IsErr result ↔ (length self.old.list + self.old.reserved ≡ self.old.capacity) }
+        ensures test { is_err result ≡ nat_le self.old.capacity (length self.old.list + self.old.reserved) }
+        ensures ok { OnOk result (self.new ≡ record self.old { list = self.old.list ++ record { item = item; words = words.entry } ∷ [] }) }
+        ensures err { OnErr result (self.new ≡ self.old) }
+    {
+        if self.is_full() {
+            return Err(Full);
+        }
+        add(&mut self.entries, ParkedCopy { item, words });
+        Ok(())
+    }
+
+    /// Reserves one more place.
+    pub fn reserve(&mut self) -> Result<(), Full>
+        ensures full { IsErr result ↔ (length self.old.list + self.old.reserved ≡ self.old.capacity) }
+        ensures test { is_err result ≡ nat_le self.old.capacity (length self.old.list + self.old.reserved) }
+        ensures ok { OnOk result (self.new ≡ record self.old { reserved = self.old.reserved + 1 }) }
+        ensures err { OnErr result (self.new ≡ self.old) }
+    {
+        if self.is_full() {
+            return Err(Full);
+        }
+        self.reserved += 1;
+        Ok(())
+    }
+
+    /// Puts a copy behind the others, in a reserved place.
+    pub fn put_reserved(&mut self, item: ItemId, words: Words<WORDS>)
+        requires fresh { find (copies_item item) self.old.list ≡ None }
+        requires kept { 0 < self.old.reserved }
+        ensures { self.new ≡ record self.old { list = self.old.list ++ record { item = item; words = words.entry } ∷ []; reserved = self.old.reserved - 1 } }
+    {
+        let kept = self.reserved - 1;
+        add(&mut self.entries, ParkedCopy { item, words });
+        self.reserved = kept;
+    }
+
+    /// Gives a reserved place back.
+    pub fn release(&mut self)
+        requires { 0 < self.old.reserved }
+        ensures { self.new ≡ record self.old { reserved = self.old.reserved - 1 } }
+    {
+        self.reserved -= 1;
+    }
+
+    pub fn words(&self, item: ItemId) -> Option<Words<WORDS>>
+        ensures { result ≡ option_map (λ e. e.words) (find (copies_item item) self.now.list) }
+    {
+        match found(&self.entries, item) {
+            Some((_, entry)) => Some(entry.words),
+            None => None,
+        }
+    }
+
+    /// Takes the item's copy out. The others stay in their order.
+    pub fn remove(&mut self, item: ItemId) -> Option<Words<WORDS>>
+        ensures value { result ≡ option_map (λ e. e.words) (find (copies_item item) self.old.list) }
+        ensures rest { self.new ≡ record self.old { list = filter (λ e. not (copies_item item e)) self.old.list } }
+    {
+        match take_out(&mut self.entries, item) {
+            Some(entry) => Some(entry.words),
+            None => None,
+        }
+    }
+
+    /// The place of the item's copy.
+    pub fn find(&self, item: ItemId) -> Option<u32>
+        ensures place { result ≡ position (copies_item item) self.now.list }
+        ensures once { are_distinct (map copy_item self.now.list) ≡ true }
+    {
+        match found(&self.entries, item) {
+            Some((place, _)) => Some(place as u32),
+            None => None,
+        }
+    }
+
+    pub fn get(&self, place: u32) -> Option<(ItemId, Words<WORDS>)>
+        ensures { result ≡ option_map (λ e. (e.item, e.words)) (slice_get self.now.list place) }
+    {
+        match self.entries.as_slice().get(place as usize) {
+            Some(entry) => Some((entry.item, entry.words)),
+            None => None,
+        }
+    }
+
+    /// The item of copy `choice mod m` of the m copies. None: there is none.
+    #[tactic(auto, using(crate::proofs::Chosen::chosen_at, crate::proofs::Chosen::chosen_none))]
+    pub fn ready(&self, choice: u8) -> Option<ItemId>
+        ensures { result ≡ chosen (λ e. e.item) choice self.now.list }
+    {
+        let copies = self.entries.len();
+        if copies == 0 {
+            return None;
+        }
+        let entry = &self.entries[choice as usize % copies];
+        Some(entry.item)
+    }
+}
