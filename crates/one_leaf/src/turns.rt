@@ -33,7 +33,10 @@ fn count(counts: &mut RunCounts, answer: TurnAnswer)
 }
 
 // One turn more.
-fn counted_turn<const WORDS: usize>(machine: &mut OneLeaf<WORDS>, counts: &mut RunCounts) -> Result<(), NoMemory>
+fn counted_turn<const WORDS: usize>(
+    machine: &mut OneLeaf<WORDS>,
+    counts: &mut RunCounts,
+) -> Result<(), NoMemory>
     requires done { machine.old.done < 4294967295 }
     requires counts { AreBelow 4294967295 counts.old }
     ensures counts { OnOk result (counts.new ≡ counted_answer (answer_of machine.old) counts.old) }
@@ -45,7 +48,10 @@ fn counted_turn<const WORDS: usize>(machine: &mut OneLeaf<WORDS>, counts: &mut R
 
 #[tactic(auto, using(crate::proofs::Counting::after_more, crate::proofs::Counting::counts_more, crate::proofs::Counting::counts_none, crate::proofs::Counting::after_none, crate::proofs::Counting::done_more, crate::proofs::Counting::counted_below))]
 /// Runs turns of the hart of a machine that has completed nothing yet.
-pub fn run<const WORDS: usize>(machine: &mut OneLeaf<WORDS>, turns: u64) -> Result<RunCounts, NoMemory>
+pub fn run<const WORDS: usize>(
+    machine: &mut OneLeaf<WORDS>,
+    turns: u64,
+) -> Result<RunCounts, NoMemory>
     requires few { turns ≤ 1048576 }
     requires fresh { machine.old.done ≡ 0 }
     ensures counts { IfOk result (λ counts. counts ≡ counts_of (answers_of (hart_turns turns) machine.old)) }
