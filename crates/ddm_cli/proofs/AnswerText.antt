@@ -1,5 +1,5 @@
 -- The report of the machine that was run is the text that the definitions give.
-use Rattle.std.proofs.Common.{◌≡◌, ◌⊎◌, ℕ, true, refl, ap, ◌∙◌}
+use Rattle.std.proofs.Common.{◌≡◌, ◌⊎◌, ℕ, true, refl, ap}
 use Rattle.tree_model.specs.Start.{start_of_harts}
 use Rattle.text_model.specs.declared.RunCounts.{RunCounts}
 use Rattle.text_model.specs.Report.{report_of}

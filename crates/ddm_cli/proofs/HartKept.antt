@@ -1,12 +1,11 @@
 -- The one leaf's hart keeps its 32 registers.
-use Rattle.std.proofs.Common.{◌≡◌, ℕ, zero, suc, Bool, true, false, ◌&&◌, List, [], ◌∷◌, Option, Some, None, Ok, Err, refl}
+use Rattle.std.proofs.Common.{◌≡◌, ℕ, zero, suc, Bool, true, false, List, [], Option, Some, None, Ok, Err, refl}
 use Rattle.std.specs.Prelude.{Result}
 use Rattle.ddm_types.specs.declared.operations.HaltCause.{HaltCause}
 use Rattle.ddm_types.specs.declared.sizes.Start.{Start}
-use Rattle.ddm_types.specs.declared.turns.Turn.{Turn}
 use Rattle.flat_model.specs.declared.Ask.{Ask}
 use Rattle.flat_model.specs.declared.Ask.TheVariants.{Plain, Put, NeedsShared, NeedsExclusive, Conditional, Halt}
-use Rattle.flat_model.specs.Hart.{HartValue, Finished, ask_of, finish_of, hart_start}
+use Rattle.flat_model.specs.Hart.{Finished, ask_of, finish_of, hart_start}
 use Rattle.flat_model.specs.Flat.{Change, change_by, conditional, has_reserved, hart_step, item_words, unless_halted}
 use Rattle.rv_flat.specs.Registers.{IsHart}
 use Rattle.rv_flat.proofs.RegistersKept.{finish_hart}

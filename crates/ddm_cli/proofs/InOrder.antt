@@ -2,7 +2,7 @@
 use Rattle.std.proofs.Common.{◌≡◌, ◌⊎◌, ℕ, Bool, true, false, ◌&&◌, List, Option, Some, None, Ok, Err, refl, sym, inl, inr, cond}
 use Rattle.std.specs.Prelude.{bytes_eq, IfSome, IfOk, Result}
 use Rattle.one_leaf.proofs.View.{start_witnessed}
-use Rattle.ddm_cli.specs.ImageForm.{ImageForm, image_form, image_bytes, image_of, is_formed, is_sized, said_form}
+use Rattle.ddm_cli.specs.ImageForm.{ImageForm, image_form, image_bytes, image_of, is_sized, said_form}
 use Rattle.ddm_cli.specs.ScheduleForm.{count_of, hart_turns}
 use Rattle.ddm_cli.specs.Top.{RunsInOrder, IsInOrder}
 use Rattle.ddm_cli.specs.TreeForm.{bare_text, stack_text, stack_of, tree_with}

@@ -1,24 +1,17 @@
 -- What is seen of the one-leaf machine by the tables is its hart, its items in their ways and its operations.
-use Rattle.std.proofs.Common.{◌≡◌, Bool, true, false, nat_eq, Ok, Err, ℕ, zero, suc, ◌+◌, ◌/◌, ◌<◌, ◌≤◌, List, [], ◌∷◌, length, Option, Some, None, refl, sym, ap, subst, ◌∙◌, arith}
-use Rattle.std.specs.Prelude.{map, slice_index_or, Result}
+use Rattle.std.proofs.Common.{◌≡◌, Bool, true, false, nat_eq, Ok, Err, ℕ, ◌+◌, ◌/◌, ◌<◌, ◌≤◌, List, [], ◌∷◌, length, refl, sym, ap, ◌∙◌, arith}
+use Rattle.std.specs.Prelude.{Result}
 use Rattle.ddm_types.specs.declared.operations.HaltCause.{HaltCause}
 use Rattle.flat_model.specs.Flat.{Change}
-use Rattle.ddm_types.specs.declared.operations.Op.{Op}
 use Rattle.ddm_types.specs.declared.turns.Turn.{Turn}
-use Rattle.ddm_types.specs.declared.sizes.LeafState.{LeafState}
-use Rattle.ddm_types.specs.ItemTable.{ItemRow, item_count}
-use Rattle.tree_model.specs.declared.CopyPlace.{CopyPlace}
-use Rattle.tree_model.specs.Values.{MachineValue}
-use Rattle.tree_model.specs.Machine.{Ran, run_of, machine_leaves}
-use Rattle.tree_model.specs.Found.{FoundValue, found_copy, states_of}
-use Rattle.tree_model.specs.Ops.{sorted_ops}
+use Rattle.ddm_types.specs.ItemTable.{ItemRow}
 use Rattle.tree_model.specs.Start.{TreeValue, ImageValue, start_machine}
 use Rattle.text_model.specs.declared.RunCounts.{RunCounts}
-use Rattle.text_model.specs.Report.{ItemView, ReportView, report_of}
+use Rattle.text_model.specs.Report.{report_of}
 use Rattle.text_model.specs.Run.{counts_of, item_view, item_views, view_of, report_text_of}
-use Rattle.one_leaf.specs.OneLeaf.{OneLeafValue, machine_of, leaf_of, step_of, after_by, answer_by, HasWords}
+use Rattle.one_leaf.specs.OneLeaf.{OneLeafValue, machine_of, step_of, after_by, answer_by, HasWords}
 use Rattle.one_leaf.specs.Made.{in_tree}
-use Rattle.one_leaf.specs.Run.{AreCounted, IsInOrder, after_all, answers_of, turn_after_of, turn_answer_of, after_if, answer_if}
+use Rattle.one_leaf.specs.Run.{AreCounted, after_all, answers_of, turn_after_of, turn_answer_of, after_if, answer_if}
 use Rattle.one_leaf.specs.Start.{FitsOneLeaf, one_leaf_start, flat_start_of}
 use Rattle.one_leaf.specs.Step.{words_in}
 use Rattle.one_leaf.proofs.Order.{run_in_order}

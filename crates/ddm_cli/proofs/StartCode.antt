@@ -1,17 +1,16 @@
 -- The code of the machine at its start is the words of the image's code, one behind the other.
-use Rattle.std.proofs.Common.{◌≡◌, ℕ, ◌+◌, ◌-◌, ◌*◌, ◌/◌, ◌<◌, ◌≤◌, Bool, true, List, [], ◌∷◌, ◌++◌, length, map, Option, Some, None, refl, sym, ap, ◌∙◌, arith}
-use Rattle.std.specs.List.{range_with_len, fold, flat_map}
-use Rattle.std.specs.Prelude.{All, IfOk, Result}
-use Rattle.std.proofs.lemmas.Result.{IfOk-weaker}
+use Rattle.std.proofs.Common.{◌≡◌, ℕ, ◌+◌, ◌-◌, ◌*◌, ◌/◌, ◌≤◌, true, List, [], ◌∷◌, ◌++◌, length, map, Option, Some, None, refl, sym, ap, ◌∙◌, arith}
+use Rattle.std.specs.List.{range_with_len, flat_map}
+use Rattle.std.specs.Prelude.{All}
 use Rattle.std.proofs.lemmas.List.{append-nil, length-map}
 use Rattle.std.proofs.lemmas.List.Elements.{All-push}
 use Rattle.std.proofs.lemmas.List.FromFn.{length-map-range_with_len}
 use Rattle.std.proofs.lemmas.Bool.Decides.{nat_tests}
 use Rattle.ddm_types.specs.declared.code_map.CodePart.{CodePart}
 use Rattle.ddm_types.specs.ItemTable.{ItemRow, ItemTable, items_of}
-use Rattle.ddm_types.specs.CodeMap.{CodeWord, words_from, code_of, part_end, part_words}
-use Rattle.ddm_types.proofs.Entries.{AreFrom, IsAscending, code_of-unique, from-weaker}
-use Rattle.tree_model.specs.Start.{SegmentValue, memory_word, item_words, start_code, start_items}
+use Rattle.ddm_types.specs.CodeMap.{words_from, code_of, part_end, part_words}
+use Rattle.ddm_types.proofs.Entries.{AreFrom, IsAscending, code_of-unique}
+use Rattle.tree_model.specs.Start.{memory_word, item_words, start_code, start_items}
 use Rattle.one_leaf.specs.Made.{IsMade}
 use Rattle.ddm_cli.specs.TreeForm.{tree_with}
 use Rattle.ddm_cli.specs.ImageForm.{ImageForm, code_segment, image_of, is_sized, code_words}

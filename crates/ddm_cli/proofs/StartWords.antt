@@ -1,14 +1,14 @@
 -- The words of memory at the start, one more at a time, and how many items there are.
-use Rattle.std.proofs.Common.{◌≡◌, ◌⊎◌, ℕ, zero, suc, ◌+◌, ◌*◌, ◌/◌, ◌<◌, ◌≤◌, leb, Bool, true, false, ◌&&◌, List, [], ◌∷◌, ◌++◌, map, length, take, slice_index_or, Option, Some, None, refl, sym, ap, subst, ◌∙◌, arith, add-one, inl, inr}
+use Rattle.std.proofs.Common.{◌≡◌, ◌⊎◌, ℕ, zero, suc, ◌+◌, ◌*◌, ◌<◌, ◌≤◌, Bool, true, false, ◌&&◌, List, [], ◌∷◌, ◌++◌, map, length, take, slice_index_or, Option, Some, None, refl, ap, ◌∙◌, arith, add-one, inl, inr}
 use Rattle.std.specs.Prelude.{nat_le}
 use Rattle.std.specs.List.{range_with_len}
 use Rattle.std.proofs.Math.Seq.{take-suc}
 use Rattle.std.proofs.lemmas.Bool.{leb-true, cases_order}
 use Rattle.std.proofs.lemmas.Bool.Decides.{nat_tests}
-use Rattle.std.proofs.lemmas.List.{map-append, length-map}
+use Rattle.std.proofs.lemmas.List.{map-append}
 use Rattle.std.proofs.lemmas.List.FromFn.{map-range_with_len_more}
 use Rattle.ddm_types.specs.declared.sizes.Span.{Span}
-use Rattle.ddm_types.specs.ItemTable.{ItemRow, items_of, item_count, item_numbers, item_row, span_numbers, with_number}
+use Rattle.ddm_types.specs.ItemTable.{ItemRow, items_of, item_count, item_numbers, span_numbers, with_number}
 use Rattle.one_leaf.specs.Start.{FitsOneLeaf}
 use Rattle.tree_model.specs.Start.{start_items, SegmentValue, memory_word, item_words, segment_span, stack_spans}
 use Rattle.ddm_cli.specs.ImageForm.{ImageForm, code_segment, image_of, is_sized}

@@ -1,6 +1,6 @@
 -- The images that are built today: the bytes that `write_image` writes for code of one to eight words at 0x10000, where the
 -- harts begin, and perhaps an item at 0x20000 of which the file has none to four words. Source: ELF, 32 bits, little-endian.
-use Rattle.std.specs.Prelude.{◌≡◌, ℕ, ◌+◌, ◌*◌, ◌/◌, ◌%◌, ◌<◌, ◌≤◌, Bool, true, ◌&&◌, nat_eq, nat_le, List, [], ◌∷◌, ◌++◌, length, take, drop, map, Option, Some, None, if◌then◌else◌, bytes_eq, slice_index_or}
+use Rattle.std.specs.Prelude.{ℕ, ◌+◌, ◌*◌, ◌/◌, ◌%◌, Bool, true, ◌&&◌, nat_eq, nat_le, List, [], ◌∷◌, ◌++◌, length, take, drop, map, Option, Some, None, if◌then◌else◌, bytes_eq, slice_index_or}
 use Rattle.std.specs.List.{range_with_len}
 use Rattle.tree_model.specs.Start.{SegmentValue, ImageValue, memory_word}
 

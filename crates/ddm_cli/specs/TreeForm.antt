@@ -1,5 +1,5 @@
 -- The tree texts that are built today: one leaf of four ways, without stacks or with one of 16 bytes.
-use Rattle.std.specs.Prelude.{ℕ, List, [], ◌∷◌, ◌++◌, Option, Some, None, if◌then◌else◌, bytes_eq, codes}
+use Rattle.std.specs.Prelude.{ℕ, List, [], ◌∷◌, Option, Some, None, if◌then◌else◌, bytes_eq, codes}
 use Rattle.tree_model.specs.Start.{TreeValue}
 
 -- all lines but the last

@@ -1,5 +1,5 @@
 -- A turn of a one-leaf machine by its step.
-use Rattle.std.proofs.Common.{◌≡◌, ℕ, ◌+◌, List, [], ◌∷◌, ◌++◌, Option, Some, Ok, Err, refl, sym, ap, ◌∙◌}
+use Rattle.std.proofs.Common.{◌≡◌, ℕ, List, [], ◌∷◌, ◌++◌, Option, Ok, Err, refl, sym, ap, ◌∙◌}
 use Rattle.std.specs.Prelude.{Result}
 use Rattle.ddm_types.specs.declared.operations.Effect.{Effect}
 use Rattle.ddm_types.specs.declared.operations.HaltCause.{HaltCause}
@@ -7,7 +7,7 @@ use Rattle.ddm_types.specs.declared.operations.Op.{Op}
 use Rattle.ddm_types.specs.declared.answers.TurnAnswer.{TurnAnswer}
 use Rattle.ddm_types.specs.ItemTable.{ItemTable}
 use Rattle.ddm_types.specs.CodeMap.{CodeWord}
-use Rattle.flat_model.specs.Flat.{Change, hart_step}
+use Rattle.flat_model.specs.Flat.{Change}
 use Rattle.rv_hart.specs.HartState.{HartState}
 use Rattle.one_leaf.specs.OneLeaf.{OneLeafValue, answer_by, after_by, answer_of, after_of, step_of}
 use Rattle.one_leaf.specs.Made.{made_of, op_made}

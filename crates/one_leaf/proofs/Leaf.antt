@@ -1,13 +1,9 @@
 -- The leaf of a one-leaf machine: its entries, and its turn.
-use Rattle.std.proofs.Common.{◌≡◌, ℕ, zero, suc, ◌+◌, ◌<◌, ◌≤◌, ◌/◌, Bool, true, false, ◌&&◌, List, [], ◌∷◌, ◌++◌, length, Option, Some, None, Ok, Err, refl, sym, ap, subst, ◌∙◌, arith, cond}
-use Rattle.std.specs.Prelude.{slice_index_or, slice_set, Result, option_map, nat_eq}
+use Rattle.std.proofs.Common.{◌≡◌, ℕ, zero, suc, ◌+◌, ◌<◌, ◌/◌, List, [], ◌∷◌, length, Some, None, refl, ap, arith}
+use Rattle.std.specs.Prelude.{slice_index_or, slice_set}
 use Rattle.ddm_types.specs.declared.sizes.LeafState.{LeafState}
-use Rattle.ddm_types.specs.declared.operations.HaltCause.{HaltCause}
-use Rattle.ddm_types.specs.declared.keys.Key.{Key}
-use Rattle.tree_model.specs.Values.{WayValue, BufferValue, LeafValue}
-use Rattle.tree_model.specs.States.{is_waiting}
-use Rattle.tree_model.specs.Each.{find_from, first_some}
-use Rattle.tree_model.specs.Leaf.{EntryValue, entry_at, with_entry, waiting_item, way_at, way_waits}
+use Rattle.tree_model.specs.Each.{find_from}
+use Rattle.tree_model.specs.Leaf.{entry_at, with_entry, waiting_item, way_waits}
 use Rattle.one_leaf.specs.OneLeaf.{OneLeafValue, ways_from, leaf_of}
 
 -- the way of an item: those from k on, x behind the first

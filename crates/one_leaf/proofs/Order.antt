@@ -1,6 +1,6 @@
 -- The operations of a one-leaf machine are a legal run of the flat machine.
-use Rattle.std.proofs.Common.{◌≡◌, ℕ, zero, suc, ◌+◌, ◌*◌, ◌/◌, ◌%◌, ◌<◌, Bool, true, false, ◌&&◌, List, [], ◌∷◌, ◌++◌, length, Option, Some, None, Ok, Err, refl, sym, ap, subst, ◌∙◌, arith}
-use Rattle.std.specs.Prelude.{nat_eq, Result, slice_index_or, option_and_then, if◌then◌else◌}
+use Rattle.std.proofs.Common.{◌≡◌, ℕ, ◌+◌, ◌*◌, ◌/◌, ◌%◌, Bool, true, false, ◌&&◌, List, [], ◌∷◌, ◌++◌, length, Option, Some, None, Ok, Err, refl, sym, ap, subst, ◌∙◌, arith}
+use Rattle.std.specs.Prelude.{nat_eq, Result, option_and_then, if◌then◌else◌}
 use Rattle.ddm_types.specs.declared.operations.HaltCause.{HaltCause}
 use Rattle.ddm_types.specs.declared.operations.Op.{Op}
 use Rattle.ddm_types.specs.ItemTable.{ItemTable}
@@ -17,7 +17,7 @@ use Rattle.ddm_types.specs.declared.turns.Turn.{Turn}
 use Rattle.flat_model.specs.Flat.{FlatHart, FlatMachine, Stored, Change, has_reserved, conditional, change_by, unless_halted, hart_step, FlatStepped, stepped, with_change as flat_with_change, flat_step, item_words}
 use Rattle.flat_model.specs.Legal.{legal_run, legal_step, is_sc_ok}
 use Rattle.flat_model.proofs.Runs.{legal_run_append, legal_step_of}
-use Rattle.one_leaf.specs.OneLeaf.{OneLeafValue, flat_hart_of, flat_of, op_of, key_of, step_of, answer_by, after_by, after_of}
+use Rattle.one_leaf.specs.OneLeaf.{OneLeafValue, flat_hart_of, flat_of, op_of, step_of, after_by, after_of}
 use Rattle.one_leaf.specs.Run.{after_if, turn_after_of, after_all, running, AreCounted, IsInOrder}
 
 -- ---- an instruction leaves the halt cause as it is

@@ -1,14 +1,13 @@
 -- Placement at start in one leaf: the items of a set take its ways in order.
-use Rattle.std.proofs.Common.{◌≡◌, ℕ, zero, suc, ◌+◌, ◌*◌, ◌-◌, ◌/◌, ◌%◌, ◌<◌, ◌≤◌, Bool, true, false, ◌&&◌, not, List, [], ◌∷◌, ◌++◌, length, replicate, map, Option, Some, None, refl, sym, ap, subst, ◌∙◌, arith}
-use Rattle.std.specs.Prelude.{nat_eq, find, is_none, is_some, slice_set, slice_index_or, if◌then◌else◌}
+use Rattle.std.proofs.Common.{◌≡◌, ℕ, zero, suc, ◌+◌, ◌*◌, ◌/◌, ◌%◌, ◌<◌, ◌≤◌, Bool, true, false, ◌&&◌, List, [], ◌∷◌, ◌++◌, length, replicate, Option, Some, None, refl, sym, ap, ◌∙◌, arith}
+use Rattle.std.specs.Prelude.{nat_eq, find, is_none, if◌then◌else◌}
 use Rattle.std.specs.List.{range_with_len}
-use Rattle.std.proofs.Math.Nat.{div-add-mod, mod-lt, mul-add-mod_self_right, mod-mod, div-lt_iff_lt-mul}
+use Rattle.std.proofs.Math.Nat.{div-add-mod, mod-lt, mul-add-mod_self_right, mod-mod}
 use Rattle.std.proofs.lemmas.Nat.{div-mul-add, div-add-mod'}
 use Rattle.std.proofs.lemmas.Bool.Decides.{nat_tests}
-use Rattle.ddm_types.specs.declared.sizes.LeafState.{LeafState}
 use Rattle.tree_model.specs.Values.{WayValue, LeafValue}
 use Rattle.tree_model.specs.Each.{find_from}
-use Rattle.tree_model.specs.Leaf.{stands_in, in_way_of, free_way, with_way}
+use Rattle.tree_model.specs.Leaf.{stands_in, in_way_of, free_way}
 use Rattle.one_leaf.specs.OneLeaf.{ways_from}
 
 -- the ways of the items placed so far, and of those that aren't yet

@@ -1,18 +1,12 @@
 -- Runs of a one-leaf machine: they are the tables' runs, and their operations are in order.
-use Rattle.std.proofs.Common.{◌≡◌, ℕ, zero, suc, ◌+◌, ◌<◌, Bool, true, false, ◌&&◌, List, [], ◌∷◌, ◌++◌, length, Option, Some, None, Ok, Err, refl, sym, ap, subst, ◌∙◌, arith}
-use Rattle.std.specs.Prelude.{nat_eq, Result, slice_index_or}
-use Rattle.ddm_types.specs.declared.operations.HaltCause.{HaltCause}
-use Rattle.ddm_types.specs.declared.operations.Op.{Op}
+use Rattle.std.proofs.Common.{◌≡◌, ℕ, zero, suc, false, List, [], ◌∷◌, refl, ◌∙◌, arith}
+use Rattle.std.specs.Prelude.{nat_eq}
 use Rattle.ddm_types.specs.declared.answers.TurnAnswer.{TurnAnswer}
 use Rattle.ddm_types.specs.declared.turns.Turn.{Turn}
-use Rattle.ddm_types.specs.Keys.{stamp_zero, key_zero}
-use Rattle.tree_model.specs.declared.BusTurn.{BusTurn}
-use Rattle.tree_model.specs.Values.{Node, Nodes, DirValue, MachineValue, leaf_node, dir_node, no_nodes, more_nodes}
 use Rattle.tree_model.specs.Leaf.{leaf_leaving}
 use Rattle.tree_model.specs.Bus.{bus_step}
-use Rattle.tree_model.specs.Route.{bus_answer, bus_after, hart_answer, hart_after}
-use Rattle.tree_model.specs.Machine.{Turned, turn_of, Ran, run_of, root_of}
-use Rattle.one_leaf.specs.OneLeaf.{OneLeafValue, leaf_of, machine_of, answer_of, after_of, HasWords}
+use Rattle.tree_model.specs.Machine.{Turned, turn_of, run_of}
+use Rattle.one_leaf.specs.OneLeaf.{OneLeafValue, machine_of, HasWords}
 use Rattle.one_leaf.specs.Run.{turn_answer_of, turn_after_of, answers_of, after_all}
 use Rattle.one_leaf.proofs.Turn.{turn_same, words_kept}
 

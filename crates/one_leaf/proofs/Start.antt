@@ -1,20 +1,18 @@
 -- The start of the tables on a tree of one leaf is the one-leaf machine's start, and it is in order.
-use Rattle.std.proofs.Common.{◌≡◌, ℕ, zero, suc, ◌+◌, ◌*◌, ◌-◌, ◌/◌, ◌%◌, ◌<◌, ◌≤◌, Bool, true, false, List, [], ◌∷◌, ◌++◌, length, replicate, map, drop, Option, Some, None, refl, sym, ap, subst, ◌∙◌, arith, zero-add, append_assoc}
-use Rattle.std.specs.Prelude.{nat_eq, find, is_some, slice_set, slice_index_or, sum, Result, Ok, Err, if◌then◌else◌}
-use Rattle.std.specs.List.{range_with_len}
+use Rattle.std.proofs.Common.{◌≡◌, ℕ, suc, ◌+◌, ◌*◌, ◌/◌, ◌%◌, ◌<◌, ◌≤◌, List, [], ◌∷◌, ◌++◌, length, replicate, Option, Some, None, refl, sym, ap, subst, ◌∙◌, arith, zero-add, append_assoc}
+use Rattle.std.specs.Prelude.{slice_set}
 use Rattle.std.proofs.Math.Nat.{div-lt_iff_lt-mul, mod-one}
 use Rattle.std.proofs.lemmas.List.{length-map, append-nil, length-append}
 use Rattle.ddm_types.specs.declared.sizes.LeafState.{LeafState}
 use Rattle.ddm_types.specs.declared.operations.HaltCause.{HaltCause}
-use Rattle.ddm_types.specs.ItemTable.{ItemRow, item_count}
-use Rattle.flat_model.specs.Hart.{HartValue, hart_start}
-use Rattle.flat_model.specs.Flat.{FlatMachine, FlatHart, flat_hart_start, flat_start}
+use Rattle.ddm_types.specs.ItemTable.{item_count}
+use Rattle.flat_model.specs.Hart.{hart_start}
+use Rattle.flat_model.specs.Flat.{FlatMachine, flat_start}
 use Rattle.flat_model.specs.Legal.{legal_run}
-use Rattle.tree_model.specs.Values.{WayValue, LeafValue, Node, Nodes, leaf_node, no_nodes, more_nodes, nodes, MachineValue}
-use Rattle.tree_model.specs.Leaf.{free_way, with_way}
-use Rattle.tree_model.specs.Machine.{no_traffic}
-use Rattle.tree_model.specs.Start.{TreeValue, ImageValue, start_of_harts, start_items, start_words, start_code, new_leaf, start_leaves, leaf_count, placed_items, placed_or_not, leaf_for, has_way, start_machine, new_top, bus_widths, under_levels}
-use Rattle.one_leaf.specs.OneLeaf.{OneLeafValue, ways_from, leaf_of, machine_of, flat_of, HasWords}
+use Rattle.tree_model.specs.Values.{WayValue, LeafValue}
+use Rattle.tree_model.specs.Leaf.{free_way}
+use Rattle.tree_model.specs.Start.{TreeValue, ImageValue, start_items, start_words, new_leaf, placed_items, placed_or_not, leaf_for, start_machine, new_top}
+use Rattle.one_leaf.specs.OneLeaf.{ways_from, leaf_of, machine_of, flat_of, HasWords}
 use Rattle.one_leaf.specs.Run.{running, AreCounted, IsInOrder}
 use Rattle.one_leaf.specs.Start.{one_leaf_start, flat_start_of, FitsOneLeaf}
 use Rattle.one_leaf.proofs.Placement.{placing, placed_free}

@@ -1,6 +1,6 @@
 -- A step of the hart by what its instruction asks for.
-use Rattle.std.proofs.Common.{◌≡◌, ℕ, ◌+◌, ◌<◌, Bool, true, false, ◌&&◌, List, [], ◌∷◌, length, Option, Some, None, Ok, Err, refl, sym, ap, subst, ◌∙◌, arith}
-use Rattle.std.specs.Prelude.{Result, slice_index_or, slice_set, if◌then◌else◌}
+use Rattle.std.proofs.Common.{◌≡◌, ℕ, ◌+◌, Bool, true, false, ◌&&◌, List, [], Option, Some, None, Ok, Err, refl, sym, ap, ◌∙◌, arith}
+use Rattle.std.specs.Prelude.{Result, slice_set, if◌then◌else◌}
 use Rattle.std.proofs.lemmas.List.{set-get_or}
 use Rattle.ddm_types.specs.declared.operations.Effect.{Effect}
 use Rattle.ddm_types.specs.declared.operations.HaltCause.{HaltCause}
@@ -9,10 +9,10 @@ use Rattle.ddm_types.specs.CodeMap.{CodeWord}
 use Rattle.flat_model.specs.declared.Ask.{Ask}
 use Rattle.flat_model.specs.declared.Ask.TheVariants.{Plain, Put, NeedsShared, NeedsExclusive, Conditional, Halt}
 use Rattle.flat_model.specs.Hart.{HartValue, Finished, Action, Halts, Computes, Puts, Loads, Stores, Reserves, StoresIfReserved, Changes, action_of, ask_by, ask_of, finish_by, finish_of}
-use Rattle.flat_model.specs.Flat.{FlatHart, Change, has_reserved, conditional, leaving, storing_to, change_by, unless_halted, hart_step}
+use Rattle.flat_model.specs.Flat.{Change, has_reserved, conditional, leaving, storing_to, change_by, unless_halted, hart_step}
 use Rattle.rv_hart.specs.HartState.{HartState, with_hart}
 use Rattle.one_leaf.specs.Made.{needs_no_words}
-use Rattle.one_leaf.specs.Step.{hart_with, words_in, step_by, effect_by, hart_by, reserved_by, words_by, IsStepped}
+use Rattle.one_leaf.specs.Step.{words_in, step_by, words_by, IsStepped}
 use Rattle.one_leaf.proofs.Turn.{finish_keeps}
 
 -- ---- an instruction that needs no words

@@ -1,27 +1,26 @@
 -- A turn of the one hart: the tree's tables do what the flat machine's step does.
-use Rattle.std.proofs.Common.{◌≡◌, ℕ, zero, suc, ◌+◌, ◌<◌, Bool, true, false, ◌&&◌, List, [], ◌∷◌, ◌++◌, length, Option, Some, None, Ok, Err, refl, sym, ap, subst, ◌∙◌, arith}
+use Rattle.std.proofs.Common.{◌≡◌, ℕ, ◌<◌, Bool, true, false, List, [], length, Option, Some, None, Ok, Err, refl, sym, ap, subst, ◌∙◌, arith}
 use Rattle.std.specs.Prelude.{slice_index_or, slice_set, Result}
 use Rattle.std.proofs.lemmas.List.{set-get_or, length-set}
 use Rattle.std.proofs.lemmas.List.Quantifiers.{position-Some}
 use Rattle.ddm_types.specs.declared.operations.HaltCause.{HaltCause}
-use Rattle.ddm_types.specs.declared.keys.Key.{Key}
 use Rattle.ddm_types.specs.declared.turns.Turn.{Turn}
 use Rattle.ddm_types.specs.declared.sizes.LeafState.{LeafState}
-use Rattle.ddm_types.specs.ItemTable.{ItemTable, ItemRow, item_at, item_count, row_has, no_row}
+use Rattle.ddm_types.specs.ItemTable.{ItemTable, item_at, item_count, row_has, no_row}
 use Rattle.ddm_types.specs.CodeMap.{CodeWord}
 use Rattle.flat_model.specs.declared.Ask.{Ask}
 use Rattle.flat_model.specs.declared.Ask.TheVariants.{Plain, Put, NeedsShared, NeedsExclusive, Conditional, Halt}
 use Rattle.flat_model.specs.Hart.{HartValue, Finished, Action, Halts, Computes, Puts, Loads, Stores, Reserves, StoresIfReserved, Changes, Access, action_of, ask_by, ask_of, finish_by, finish_of}
-use Rattle.flat_model.specs.Flat.{FlatHart, Stored, Change, has_reserved, conditional, change_by, unless_halted, asked_item, hart_step, item_words}
+use Rattle.flat_model.specs.Flat.{Stored, Change, has_reserved, conditional, change_by, unless_halted, asked_item, hart_step, item_words}
 use Rattle.flat_model.proofs.Steps.{finish_failing}
 use Rattle.flat_model.proofs.Items.{action_in_item, access_of}
 use Rattle.tree_model.specs.Values.{LeafValue, MachineValue, leaf_node, dir_node, no_nodes, more_nodes}
-use Rattle.tree_model.specs.Leaf.{EntryValue, entry_at, waiting_item, with_entry}
+use Rattle.tree_model.specs.Leaf.{with_entry}
 use Rattle.tree_model.specs.HartTurn.{LeafOutcome, by_ask, leaf_step}
 use Rattle.tree_model.specs.HartTurn as turn
 use Rattle.tree_model.specs.Machine.{Turned, turn_of, recorded, with_root}
 use Rattle.tree_model.specs.Start.{new_top}
-use Rattle.one_leaf.specs.OneLeaf.{OneLeafValue, leaf_of, machine_of, flat_hart_of, flat_of, key_of, op_of, step_of, answer_by, after_by, answer_of, after_of, words_with, HasWords}
+use Rattle.one_leaf.specs.OneLeaf.{OneLeafValue, leaf_of, machine_of, flat_of, key_of, step_of, answer_by, after_by, answer_of, after_of, words_with, HasWords}
 use Rattle.one_leaf.proofs.Leaf.{nothing_waits, entry_of, entry_set}
 
 -- a load and an LR leave the words as they are

@@ -1,15 +1,13 @@
 -- What is seen of a one-leaf machine: its operations in order of keys, its items' found copies, its leaves.
-use Rattle.std.proofs.Common.{◌≡◌, ℕ, zero, suc, ◌+◌, ◌<◌, ◌/◌, Bool, true, false, ◌&&◌, ◌||◌, List, [], ◌∷◌, ◌++◌, length, Option, Some, None, Ok, Err, refl, sym, ap, subst, ◌∙◌, arith, zero-add, add-one, add_comm, cond}
-use Rattle.std.specs.Prelude.{nat_eq, nat_lt, Result, slice_index_or, take, drop, count_by, unwrap_or, IsSome, IfSome, All, if◌then◌else◌}
+use Rattle.std.proofs.Common.{◌≡◌, ℕ, zero, suc, ◌+◌, ◌<◌, ◌/◌, Bool, true, List, [], ◌∷◌, length, Option, Some, None, Err, refl, sym, ap, subst, ◌∙◌, arith, zero-add, add-one, add_comm, cond}
+use Rattle.std.specs.Prelude.{nat_eq, slice_index_or, take, count_by, unwrap_or, IsSome, IfSome, All}
 use Rattle.std.proofs.lemmas.Bool.Decides.{nat_tests}
 use Rattle.std.proofs.lemmas.List.Sums.{sum_by-cons}
-use Rattle.ddm_types.specs.declared.keys.Key.{Key}
 use Rattle.ddm_types.specs.declared.operations.HaltCause.{HaltCause}
 use Rattle.ddm_types.specs.declared.operations.Op.{Op}
 use Rattle.ddm_types.specs.declared.turns.Turn.{Turn}
 use Rattle.ddm_types.specs.declared.sizes.LeafState.{LeafState}
 use Rattle.ddm_types.specs.Keys.{key_zero, key_counted, key_less}
-use Rattle.ddm_types.specs.ItemTable.{item_count}
 use Rattle.tree_model.specs.declared.CopyPlace.{CopyPlace}
 use Rattle.flat_model.specs.declared.Ask.{Ask}
 use Rattle.flat_model.specs.declared.Ask.TheVariants.{Plain, Put, NeedsShared, NeedsExclusive, Conditional, Halt}
@@ -18,19 +16,19 @@ use Rattle.flat_model.specs.Flat.{FlatMachine, flat_hart, item_words, flat_step,
 use Rattle.one_leaf.proofs.Order.{step_is, hart_step_is, run_in_order}
 use Rattle.one_leaf.proofs.Runs.{run_is, turn_words_kept}
 use Rattle.one_leaf.proofs.Start.{start_is, start_in_order, start_has_words}
-use Rattle.flat_model.specs.Legal.{legal_run, Legal, flat_after}
+use Rattle.flat_model.specs.Legal.{legal_run}
 use Rattle.tree_model.specs.Values.{LeafValue, MachineValue}
-use Rattle.tree_model.specs.Machine.{Ran, run_of, machine_leaves}
+use Rattle.tree_model.specs.Machine.{Ran, run_of}
 use Rattle.tree_model.specs.Start.{TreeValue, ImageValue, start_machine}
 use Rattle.tree_model.specs.Found.{FoundValue, found_copy, states_of}
 use Rattle.tree_model.specs.Leaf.{leaf_hold, entry_at}
 use Rattle.tree_model.specs.Ops.{sorted_ops, with_op}
-use Rattle.tree_model.specs.OrderRules.{flat_now, IsHartOf, op_count}
+use Rattle.tree_model.specs.OrderRules.{flat_now, IsHartOf}
 use Rattle.text_model.specs.Report.{put_texts}
-use Rattle.one_leaf.specs.OneLeaf.{OneLeafValue, leaf_of, machine_of, flat_of, flat_hart_of, step_of, HasWords}
+use Rattle.one_leaf.specs.OneLeaf.{OneLeafValue, leaf_of, machine_of, flat_of, step_of, HasWords}
 use Rattle.one_leaf.specs.Run.{running, AreCounted, IsInOrder, after_all, turn_after_of}
 use Rattle.one_leaf.specs.Start.{one_leaf_start, flat_start_of, FitsOneLeaf}
-use Rattle.one_leaf.specs.Witness.{HasCurrentCopy, IsWitnessed, EachTurnWitnessed}
+use Rattle.one_leaf.specs.Witness.{IsWitnessed, EachTurnWitnessed}
 use Rattle.one_leaf.proofs.Leaf.{ways-index}
 
 -- a key with a lesser count is less

@@ -1,6 +1,5 @@
 -- The value of a one-leaf machine by its parts.
 use Rattle.std.specs.Prelude.{◌≡◌, ℕ, ◌*◌, ◌^◌, ◌<◌, Bool, true, false, List, [], length, Option}
-use Rattle.ddm_types.specs.declared.sizes.TreeSizes.{TreeSizes}
 use Rattle.ddm_types.specs.declared.operations.Effect.{Effect}
 use Rattle.ddm_types.specs.declared.operations.Op.{Op}
 use Rattle.ddm_types.specs.Keys.{key_zero, key_counted}

@@ -1,5 +1,5 @@
 -- A machine of one leaf in which every item has its place: a hart, and the words of each item, which the leaf holds Exclusive.
-use Rattle.std.specs.Prelude.{◌≡◌, ℕ, ◌+◌, ◌/◌, ◌%◌, true, List, [], ◌∷◌, ◌++◌, length, Option, Some, None, Result, Ok, Err, slice_set, slice_index_or}
+use Rattle.std.specs.Prelude.{◌≡◌, ℕ, ◌+◌, ◌/◌, true, List, [], ◌∷◌, ◌++◌, length, Option, Some, None, Result, Ok, Err, slice_set}
 use Rattle.ddm_types.specs.declared.sizes.LeafState.{LeafState}
 use Rattle.ddm_types.specs.declared.operations.HaltCause.{HaltCause}
 use Rattle.ddm_types.specs.declared.operations.Op.{Op}
@@ -10,7 +10,7 @@ use Rattle.ddm_types.specs.ItemTable.{ItemTable, item_count}
 use Rattle.ddm_types.specs.CodeMap.{CodeWord}
 use Rattle.flat_model.specs.Hart.{HartValue}
 use Rattle.flat_model.specs.Flat.{FlatHart, FlatMachine, Stored, Change, hart_step, item_words}
-use Rattle.tree_model.specs.Values.{WayValue, LeafValue, Node, Nodes, leaf_node, no_nodes, more_nodes, MachineValue}
+use Rattle.tree_model.specs.Values.{WayValue, LeafValue, leaf_node, no_nodes, more_nodes, MachineValue}
 use Rattle.tree_model.specs.Machine.{no_traffic}
 use Rattle.tree_model.specs.Start.{TreeValue, new_top}
 

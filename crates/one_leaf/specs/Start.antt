@@ -1,5 +1,5 @@
 -- The one-leaf machine of a tree and an image, before its first turn.
-use Rattle.std.specs.Prelude.{◌≡◌, ℕ, ◌*◌, ◌<◌, ◌≤◌, List, [], ◌∷◌, None}
+use Rattle.std.specs.Prelude.{◌≡◌, ◌*◌, ◌<◌, ◌≤◌, [], ◌∷◌, None}
 use Rattle.ddm_types.specs.ItemTable.{item_count}
 use Rattle.flat_model.specs.Hart.{hart_start}
 use Rattle.flat_model.specs.Flat.{FlatMachine, flat_start}

@@ -4,7 +4,6 @@ use Rattle.ddm_types.specs.declared.operations.Effect.{Effect}
 use Rattle.ddm_types.specs.declared.operations.HaltCause.{HaltCause}
 use Rattle.ddm_types.specs.ItemTable.{ItemTable}
 use Rattle.ddm_types.specs.CodeMap.{CodeWord}
-use Rattle.flat_model.specs.Hart.{HartValue}
 use Rattle.flat_model.specs.Flat.{FlatHart, Change, hart_step}
 use Rattle.rv_hart.specs.HartState.{HartState}
 use Rattle.one_leaf.specs.OneLeaf.{words_with}

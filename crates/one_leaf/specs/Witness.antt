@@ -1,5 +1,5 @@
 -- What a run's machine has in common with the flat machine, after the operations in the order of their keys.
-use Rattle.std.specs.Prelude.{◌≡◌, ℕ, ◌<◌, List, take, All, Option, Some}
+use Rattle.std.specs.Prelude.{◌≡◌, ℕ, ◌<◌, List, take, All, Some}
 use Rattle.ddm_types.specs.declared.turns.Turn.{Turn}
 use Rattle.ddm_types.specs.ItemTable.{item_count}
 use Rattle.flat_model.specs.Flat.{FlatMachine, item_words}

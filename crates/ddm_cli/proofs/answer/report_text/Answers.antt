@@ -1,4 +1,4 @@
-use Rattle.std.proofs.Common.{◌≡◌, ◌∙◌}
+use Rattle.std.proofs.Common.{◌∙◌}
 use Rattle.std.proofs.lemmas.Result.{IfOk-weaker}
 use Rattle.ddm_cli.proofs.AnswerText.{hart_after, text_is}
 use Rattle.ddm_cli.proofs.answer.report_text.Goals as goal

@@ -1,6 +1,6 @@
-use Rattle.std.proofs.Common.{◌≡◌, ◌<◌, length, sym}
+use Rattle.std.proofs.Common.{◌<◌, length, sym}
 use Rattle.std.proofs.lemmas.List.{append-nil}
-use Rattle.ddm_text.specs.Adds.{Adds, ◌▸◌}
+use Rattle.ddm_text.specs.Adds.{◌▸◌}
 use Rattle.ddm_types.specs.ItemTable.{no_row}
 use Rattle.text_model.specs.Report.{item_lines}
 use Rattle.ddm_cli.proofs.ItemLines.{more_item_lines}

@@ -1,4 +1,4 @@
-use Rattle.std.proofs.Common.{◌≡◌, refl, ◌∙◌}
+use Rattle.std.proofs.Common.{refl, ◌∙◌}
 use Rattle.std.proofs.lemmas.Result.{IfOk-weaker}
 use Rattle.ddm_cli.proofs.StartCode.{one_part_ends, one_part_code}
 use Rattle.ddm_cli.proofs.start.code.Goals as goal

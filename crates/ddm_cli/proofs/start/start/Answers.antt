@@ -1,4 +1,4 @@
-use Rattle.std.proofs.Common.{◌≡◌, arith}
+use Rattle.std.proofs.Common.{arith}
 use Rattle.ddm_cli.proofs.StartCode.{is_made}
 use Rattle.ddm_cli.proofs.start.start.Goals as goal
 

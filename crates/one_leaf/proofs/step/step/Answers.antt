@@ -1,5 +1,4 @@
-use Rattle.std.proofs.Common.{rules, sym, subst, ap, ◌∙◌, ◌<◌, refl, arith, length}
-use Rattle.ddm_types.specs.ItemTable.{item_count}
+use Rattle.std.proofs.Common.{rules, sym, subst, ap, ◌∙◌, ◌<◌, refl}
 use Rattle.flat_model.specs.Flat.{asked_item}
 use Rattle.rv_hart.specs.Steps.{IsReady}
 use Rattle.one_leaf.proofs.Turn.{asks_inside}

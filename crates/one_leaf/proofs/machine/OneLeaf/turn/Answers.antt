@@ -1,7 +1,6 @@
-use Rattle.std.proofs.Common.{ap, sym, ◌∙◌}
-use Rattle.ddm_types.specs.declared.answers.TurnAnswer.{TurnAnswer}
+use Rattle.std.proofs.Common.{ap, ◌∙◌}
 use Rattle.one_leaf.specs.OneLeaf.{answer_of, after_of}
-use Rattle.one_leaf.specs.Made.{op_made, made_of}
+use Rattle.one_leaf.specs.Made.{made_of}
 use Rattle.one_leaf.proofs.Answered.{completed, halted}
 use Rattle.one_leaf.proofs.machine.OneLeaf.turn.Goals as goal
 
