@@ -26,8 +26,8 @@ unfolding item_lines
 more_item_lines words rows k d inside =
     let size : length (take k rows) ≡ k = length-take-le k rows (omega arith) in
     rw (add-one, take-suc rows k d inside, views_push words 0 (take k rows) (slice_index_or rows k d), size, zero-add k)
-      (flat_map-append item_line (leaf_item_views words 0 (take k rows)) (leaf_item_view k (slice_index_or rows k d) (words_in words k) ∷ [])
-      ∙ ap (λ t. flat_map item_line (leaf_item_views words 0 (take k rows)) ++ t) (append-nil (item_line (leaf_item_view k (slice_index_or rows k d) (words_in words k)))))
+    (flat_map-append item_line (leaf_item_views words 0 (take k rows)) (leaf_item_view k (slice_index_or rows k d) (words_in words k) ∷ [])
+    ∙ ap (λ t. flat_map item_line (leaf_item_views words 0 (take k rows)) ++ t) (append-nil (item_line (leaf_item_view k (slice_index_or rows k d) (words_in words k)))))
 
 -- a text and nothing behind it
 pub padded : {old new text : List ℕ} → Adds old new text → Adds old new (text ++ [])

@@ -3,9 +3,7 @@ ghost use Rattle.ddm_cli.specs.Top.{fault_line, Offers};
 
 use crate::status::Status;
 use ddm_outside::Sink;
-use report::{
-    FaultLine, memory_line, read_line, unbuilt_line, usage_line, write_all, write_line,
-};
+use report::{FaultLine, memory_line, read_line, unbuilt_line, usage_line, write_all, write_line};
 
 #[tactic(auto, unfolding(crate::specs::Top::fault_line))]
 fn fault_text(status: Status) -> FaultLine

@@ -46,8 +46,8 @@ fn push_program_header(
     ensures { OnOk result (Adds out.old.items out.new.items (program_header offset vaddr filesz memsz flags)) }
 {
     out.extend_from_slice(&[
-        1, 0, 0, 0, offset, 0, 0, 0, 0, 0, vaddr, 0, 0, 0, vaddr, 0, filesz, 0, 0, 0, memsz, 0, 0, 0,
-        flags, 0, 0, 0, 1, 0, 0, 0,
+        1, 0, 0, 0, offset, 0, 0, 0, 0, 0, vaddr, 0, 0, 0, vaddr, 0, filesz, 0, 0, 0, memsz, 0, 0,
+        0, flags, 0, 0, 0, 1, 0, 0, 0,
     ])?;
     Ok(())
 }

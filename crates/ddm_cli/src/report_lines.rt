@@ -56,11 +56,7 @@ fn push_hart(out: &mut Vec<u8>, machine: &OneLeaf<ITEM_WORDS>) -> Result<(), NoM
 }
 
 // The line of an item, which lies in the way of its own number.
-fn push_item(
-    out: &mut Vec<u8>,
-    machine: &OneLeaf<ITEM_WORDS>,
-    item: ItemId,
-) -> Result<(), NoMemory>
+fn push_item(out: &mut Vec<u8>, machine: &OneLeaf<ITEM_WORDS>, item: ItemId) -> Result<(), NoMemory>
     requires { item < item_count machine.now.items }
     ensures { OnOk result (Adds out.old.items out.new.items (item_line (leaf_item_view item (row_at machine.now.items item) (words_in machine.now.words item)))) }
 {

@@ -93,7 +93,11 @@ fn item_words(image: &Image<'_>, address: u32) -> Words<ITEM_WORDS>
 }
 
 #[tactic(auto, using(crate::proofs::StartWords::more_item_words))]
-fn words(alloc: Global, image: &Image<'_>, items: &Items) -> Result<Vec<Words<ITEM_WORDS>>, NoMemory>
+fn words(
+    alloc: Global,
+    image: &Image<'_>,
+    items: &Items,
+) -> Result<Vec<Words<ITEM_WORDS>>, NoMemory>
     requires { is_sized image.now ≡ true }
     ensures { IfOk result (λ words. words.items ≡ map (λ row. item_words 4 (image_of image.now).segments row.address) items.now.rows) }
 {

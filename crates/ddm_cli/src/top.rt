@@ -74,12 +74,7 @@ fn text<F: Shelf>(alloc: Global, words: &[String], files: &mut F) -> Result<Vec<
     }
 }
 
-fn answer<F: Shelf, K: Sink>(
-    alloc: Global,
-    words: &[String],
-    files: &mut F,
-    out: &mut K,
-) -> Status
+fn answer<F: Shelf, K: Sink>(alloc: Global, words: &[String], files: &mut F, out: &mut K) -> Status
     ensures { Came F.told F.faults K.held K.faults (map string_bytes words.now) files.old files.new out.old out.new result }
 {
     match text(alloc, words, files) {
