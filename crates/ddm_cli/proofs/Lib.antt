@@ -4,3 +4,7 @@ pub mod StartCode
 pub mod ItemLines
 pub mod Long
 pub mod Completeness
+pub mod HartKept
+pub mod LeafViews
+pub mod AnswerText
+pub mod InOrder

@@ -9,7 +9,8 @@ use Rattle.std.proofs.lemmas.List.{map-append, length-map}
 use Rattle.std.proofs.lemmas.List.FromFn.{map-range_with_len_more}
 use Rattle.ddm_types.specs.declared.sizes.Span.{Span}
 use Rattle.ddm_types.specs.ItemTable.{ItemRow, items_of, item_count, item_numbers, item_row, span_numbers, with_number}
-use Rattle.tree_model.specs.Start.{SegmentValue, memory_word, item_words, segment_span, stack_spans}
+use Rattle.one_leaf.specs.Start.{FitsOneLeaf}
+use Rattle.tree_model.specs.Start.{start_items, SegmentValue, memory_word, item_words, segment_span, stack_spans}
 use Rattle.ddm_cli.specs.ImageForm.{ImageForm, code_segment, image_of, is_sized}
 use Rattle.ddm_cli.specs.TreeForm.{tree_with}
 
@@ -45,7 +46,7 @@ abbrev last_span : ℕ → Span
 last_span bytes = record { start = 196608; bytes = bytes; writable = true }
 
 abbrev are_few : List Span → Bool
-are_few spans = nat_le (item_count (items_of 16 spans)) 65536
+are_few spans = nat_le (item_count (items_of 16 spans)) 4
 
 abbrev all_below : (ℕ → Bool) → ℕ → Bool
 all_below test zero = true
@@ -91,12 +92,20 @@ data_stack_few = refl
 code_fits : (f : ImageForm) → is_sized f ≡ true → length f.code < 33
 code_fits f sized = grind (arith, nat_tests)
 
--- there are few items
+-- there is a way for each item
+pub four_items : (f : ImageForm) (stack : ℕ) → is_sized f ≡ true → (stack ≡ 0) ⊎ (stack ≡ 16)
+    → item_count (items_of 16 (map segment_span (image_of f).segments ++ stack_spans (tree_with stack))) ≤ 4
+four_items f stack sized is = by_form f.written refl is where
+  by_form : (o : Option (List ℕ)) → f.written ≡ o → (stack ≡ 0) ⊎ (stack ≡ 16) → item_count (items_of 16 (map segment_span (image_of f).segments ++ stack_spans (tree_with stack))) ≤ 4
+  by_form None q (inl e) = rw (q, e) (leb-true _ 4 (each_below (bare_test 0) 33 (length f.code) bare_few (code_fits f sized)))
+  by_form None q (inr e) = rw (q, e) (leb-true _ 4 (each_below (bare_test 16) 33 (length f.code) bare_stack_few (code_fits f sized)))
+  by_form (Some w) q (inl e) = rw (q, e) (leb-true _ 4 (each_below (data_test 0) 33 (length f.code) data_few (code_fits f sized)))
+  by_form (Some w) q (inr e) = rw (q, e) (leb-true _ 4 (each_below (data_test 16) 33 (length f.code) data_stack_few (code_fits f sized)))
+
 pub few_items : (f : ImageForm) (stack : ℕ) → is_sized f ≡ true → (stack ≡ 0) ⊎ (stack ≡ 16)
     → item_count (items_of 16 (map segment_span (image_of f).segments ++ stack_spans (tree_with stack))) ≤ 65536
-few_items f stack sized is = by_form f.written refl is where
-  by_form : (o : Option (List ℕ)) → f.written ≡ o → (stack ≡ 0) ⊎ (stack ≡ 16) → item_count (items_of 16 (map segment_span (image_of f).segments ++ stack_spans (tree_with stack))) ≤ 65536
-  by_form None q (inl e) = rw (q, e) (leb-true _ 65536 (each_below (bare_test 0) 33 (length f.code) bare_few (code_fits f sized)))
-  by_form None q (inr e) = rw (q, e) (leb-true _ 65536 (each_below (bare_test 16) 33 (length f.code) bare_stack_few (code_fits f sized)))
-  by_form (Some w) q (inl e) = rw (q, e) (leb-true _ 65536 (each_below (data_test 0) 33 (length f.code) data_few (code_fits f sized)))
-  by_form (Some w) q (inr e) = rw (q, e) (leb-true _ 65536 (each_below (data_test 16) 33 (length f.code) data_stack_few (code_fits f sized)))
+few_items f stack sized is = omega (arith, four_items f stack sized is)
+
+pub one_leaf_fits : (f : ImageForm) (stack : ℕ) → is_sized f ≡ true → (stack ≡ 0) ⊎ (stack ≡ 16) → FitsOneLeaf (tree_with stack) (image_of f)
+unfolding start_items
+one_leaf_fits f stack sized is = record { shape = refl; sets = omega arith; places = four_items f stack sized is }

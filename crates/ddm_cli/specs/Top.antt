@@ -1,5 +1,5 @@
 -- What a command answers, and why.
-use Rattle.std.specs.Prelude.{◌≡◌, ◌⊎◌, ℕ, List, [], Option, Some, None, IsSome, IfSome, Ok, Err, IsOk, IsOkAnd}
+use Rattle.std.specs.Prelude.{◌≡◌, ◌⊎◌, ℕ, List, [], Option, Some, None, IsSome, IfSome, IfOk, Ok, Err, IsOk, IsOkAnd}
 use Rattle.tree_model.specs.Start.{start_machine}
 use Rattle.text_model.specs.Faults.{usage_fault, unbuilt_fault, read_fault, write_fault, memory_fault}
 use Rattle.text_model.specs.Run.{report_text_of}
@@ -7,6 +7,8 @@ use Rattle.report.specs.Appends.{Appends, AppendsPart}
 use Rattle.report.specs.Roles.{role_text}
 use Rattle.report.specs.declared.roles.FileRole.{FileRole}
 use Rattle.report.specs.declared.roles.FileRole.TheVariants.{ImageFile, TreeFile, ScheduleFile, WitnessFile, CheckpointFile}
+use Rattle.one_leaf.specs.Start.{flat_start_of}
+use Rattle.one_leaf.specs.Witness.{EachTurnWitnessed}
 use Rattle.ddm_outside.specs.Causes.{Rose}
 use Rattle.ddm_cli.specs.ImageForm.{ImageForm, image_form, image_of}
 use Rattle.ddm_cli.specs.ScheduleForm.{count_of, hart_turns}
@@ -30,6 +32,14 @@ text_by _ _ _ = None
 -- what a tree, an image and a schedule make the command print
 abbrev pub text_of : List ℕ → List ℕ → List ℕ → Option (List ℕ)
 text_of tree image schedule = text_by (stack_of tree) (image_form image) (count_of schedule)
+
+-- ---- order
+
+-- after each turn of hart 0 the operations, in the order of their keys, are one legal run of the flat machine from its start,
+-- and the hart, its output and the found copy of every item are that run's
+abbrev pub RunsInOrder : Option ℕ → Option ImageForm → Option ℕ → Type 0
+RunsInOrder (Some stack) (Some f) (Some n) = EachTurnWitnessed (flat_start_of (tree_with stack) (image_of f)) (hart_turns n) (start_machine (tree_with stack) (image_of f))
+RunsInOrder _ _ _ = Unit {0}
 
 -- ---- one file
 
@@ -66,6 +76,10 @@ module _ {F : Type 0} (told : F → List ℕ → Option (List ℕ)) where
   -- the words are in the grammar, and this is the text of the files that they name
   abbrev pub Accepted : List (List ℕ) → F → List ℕ → Type 0
   Accepted words files text = IsOkAnd (names_of words) (AllTaken files text)
+
+  -- where all three files are told and accepted, their run is in order
+  abbrev pub IsInOrder : List (List ℕ) → F → Type 0
+  IsInOrder words files = IfOk (names_of words) (λ n. IfSome (told files n.tree) (λ t. IfSome (told files n.image) (λ i. IfSome (told files n.schedule) (λ s. RunsInOrder (stack_of t) (image_form i) (count_of s)))))
 
   module _ (faults : F → List ℕ → ℕ) (files files' : F) where
     -- the count of failed reads of this file rose in the call

@@ -2,7 +2,7 @@ ghost use Rattle.std.specs.Prelude.{◌≡◌, ◌<◌, ◌⊎◌, ◌≤◌, ve
 ghost use Rattle.std.specs.String.{string_bytes};
 ghost use Rattle.ddm_cli.specs.ImageForm.{image_form};
 ghost use Rattle.ddm_cli.specs.ScheduleForm.{count_of};
-ghost use Rattle.ddm_cli.specs.Top.{Accepted, Came, Completes, HasText, Offers, Refused, Takes, TakenAs, fault_line};
+ghost use Rattle.ddm_cli.specs.Top.{Accepted, Came, Completes, HasText, IsInOrder, Offers, Refused, Takes, TakenAs, fault_line};
 ghost use Rattle.ddm_cli.specs.Words.{names_of};
 
 use crate::answer::report_text;
@@ -95,6 +95,7 @@ pub fn ddm_main<F: Shelf, K: Sink>(
     faults_out: &mut K,
 ) -> Status
     ensures came { Came F.told F.faults K.held K.faults (map string_bytes words.now) files.old files.new out.old out.new result }
+    ensures order { IsInOrder F.told (map string_bytes words.now) files.old }
     ensures complete { Completes F.told F.faults K.held K.faults (map string_bytes words.now) files.old files.new out.old out.new result }
     ensures told { Offers K.held K.faults faults_out.old faults_out.new (fault_line result) }
 {

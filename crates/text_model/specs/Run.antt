@@ -47,7 +47,7 @@ found_or (Some f) = f
 abbrev pub item_view : MachineValue → ℕ → ItemRow → ItemView
 item_view m x row = let f = found_or (found_copy x m) in record { number = x; address = row.address; words = f.words; place = place_view f.place; states = states_of x m }
 
-abbrev item_views : MachineValue → ℕ → List ItemRow → List ItemView
+abbrev pub item_views : MachineValue → ℕ → List ItemRow → List ItemView
 item_views m x [] = []
 item_views m x (row ∷ rows) = item_view m x row ∷ item_views m (x + 1) rows
 
