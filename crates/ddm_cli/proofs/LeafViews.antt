@@ -117,7 +117,7 @@ report_seen t i ts one fits =
     let has = start_has_words t i in
     let order = run_in_order (flat_start_of t i) ts v (start_in_order t i fits) in
     rw (start_is t i fits, run_is ts v has)
-      (ap report_of (seen (counts_of (answers_of ts v)) (after_all ts v) (ap (λ (u : TreeValue). u.sizes.sets) (tree_kept t ts v refl) ∙ one) (words_kept_all ts v has) order.keys))
+    (ap report_of (seen (counts_of (answers_of ts v)) (after_all ts v) (ap (λ (u : TreeValue). u.sizes.sets) (tree_kept t ts v refl) ∙ one) (words_kept_all ts v has) order.keys))
 
 -- the same of a machine that is that start but for its tree, of which a report shows nothing
 pub report_is : (t : TreeValue) (i : ImageValue) (ts : List Turn) (v : OneLeafValue) → t.sizes.sets ≡ 1 → FitsOneLeaf t i → in_tree t v ≡ one_leaf_start t i

@@ -9,5 +9,5 @@ report-requires c = hart_after c.args.image.now c.args.stack_bytes c.args.turns 
 pub returns : goal.returns
 returns c =
     IfOk-weaker c.report.result _ _
-      (λ text is. is ∙ text_is c.args.image.now c.args.stack_bytes c.args.turns c.in_ok-machine.machine c.run.new.machine c.in_ok-counts.counts c.requires.sized c.requires.stack c.in_ok-machine.ensures c.in_ok-counts.ensures.counts c.in_ok-counts.ensures.after)
-      c.report.ensures
+    (λ text is. is ∙ text_is c.args.image.now c.args.stack_bytes c.args.turns c.in_ok-machine.machine c.run.new.machine c.in_ok-counts.counts c.requires.sized c.requires.stack c.in_ok-machine.ensures c.in_ok-counts.ensures.counts c.in_ok-counts.ensures.after)
+    c.report.ensures
