@@ -12,6 +12,8 @@ mod report_lines;
 mod schedule_file;
 mod start;
 mod status;
+#[cfg(test)]
+mod tests;
 mod top;
 mod tree_file;
 mod words;

@@ -1,0 +1,241 @@
+use crate::{FileRole, Status, code, ddm_main};
+use ddm_outside::{MemoryShelf, MemorySink, NamedFile};
+use ddm_text::Text;
+use std::alloc::Global;
+use std::test::Fail;
+
+const TREE: &[u8] =
+    b"shape = \"(L)\"\nways = 4\nsets = 1\nbuffer = 1\nparking = 1\ndown = 16\nrequests = 16\nreplies = 16\nstack_base = 196608\nstack_bytes = 16\n";
+
+// Stores 7 at 0x20000, loads it back and exits with it.
+const IMAGE: &[u8] = &[
+    0x7f, 0x45, 0x4c, 0x46, 1, 1, 1, 0, 0, 0, 0, 0, 0, 0, 0, 0, 2, 0, 0xf3, 0, 1, 0, 0, 0, 0, 0, 1,
+    0, 0x34, 0, 0, 0, 0, 0, 0, 0, 0, 0, 0, 0, 0x34, 0, 0x20, 0, 2, 0, 0, 0, 0, 0, 0, 0, 1, 0, 0, 0,
+    0x74, 0, 0, 0, 0, 0, 1, 0, 0, 0, 1, 0, 0x1c, 0, 0, 0, 0x1c, 0, 0, 0, 5, 0, 0, 0, 1, 0, 0, 0, 1,
+    0, 0, 0, 0x90, 0, 0, 0, 0, 0, 2, 0, 0, 0, 2, 0, 0, 0, 0, 0, 0x10, 0, 0, 0, 6, 0, 0, 0, 1, 0, 0,
+    0, 0xb7, 2, 2, 0, 0x13, 3, 0x70, 0, 0x23, 0xa0, 0x62, 0, 0x83, 0xa3, 2, 0, 0x93, 8, 0xd0, 5,
+    0x13, 0x85, 3, 0, 0x73, 0, 0, 0,
+];
+
+const SCHEDULE: &[u8] = b"h 0 0\nh 0 0\nh 0 0\nh 0 0\nh 0 0\nh 0 0\nh 0 0\nh 0 0\nend\n";
+
+const REPORT: &[u8] =
+    b"ddm 1\nturns 8 retired 6 granted 0 busy 0\nhart 0 exit 7 pc 00010018 done 6\nregs 0 00000000 00030010 00000000 00000000 00020000 00000007 00000007 00000000 00000000 00000007 00000001 00000000 00000000 00000000 00000000 00000000 0000005d 00000000 00000000 00000000 00000000 00000000 00000000 00000000 00000000 00000000 00000000 00000000 00000000 00000000 00000000\nout 0 -\nbus 0 read 0 data 0 erase 0 exclusive 0 out 0 inject 0\nitem 0 00010000 000202b7 00700313 0062a023 0002a383 leaf 0 way 0 E\nitem 1 00010010 05d00893 00038513 00000073 00000000 leaf 0 way 1 E\nitem 2 00020000 00000007 00000000 00000000 00000000 leaf 0 way 2 E\nitem 3 00030000 00000000 00000000 00000000 00000000 leaf 0 way 3 E\nop 0 0.0.0 00010000 plain\nop 0 0.0.1 00010004 plain\nop 0 0.0.2 00010008 store 00020000 00000000 00000007\nop 0 0.0.3 0001000c load 00020000 00000007\nop 0 0.0.4 00010010 plain\nop 0 0.0.5 00010014 plain\nend\n";
+
+const NO_TURNS: &[u8] =
+    b"ddm 1\nturns 0 retired 0 granted 0 busy 0\nhart 0 running pc 00010000 done 0\nregs 0 00000000 00030010 00000000 00000000 00000000 00000000 00000000 00000000 00000000 00000000 00000001 00000000 00000000 00000000 00000000 00000000 00000000 00000000 00000000 00000000 00000000 00000000 00000000 00000000 00000000 00000000 00000000 00000000 00000000 00000000 00000000\nout 0 -\nbus 0 read 0 data 0 erase 0 exclusive 0 out 0 inject 0\nitem 0 00010000 000202b7 00700313 0062a023 0002a383 leaf 0 way 0 E\nitem 1 00010010 05d00893 00038513 00000073 00000000 leaf 0 way 1 E\nitem 2 00020000 00000000 00000000 00000000 00000000 leaf 0 way 2 E\nitem 3 00030000 00000000 00000000 00000000 00000000 leaf 0 way 3 E\nend\n";
+
+const WORDS: &[&str] = &["run", "image", "tree", "schedule"];
+
+// What came of a command.
+#[derive(Drop)]
+struct Answer {
+    status: Status,
+    out: MemorySink,
+    faults_out: MemorySink,
+}
+
+fn shelf(alloc: Global, texts: [&[u8]; 3], fail: Vec<u64>) -> Result<MemoryShelf, Fail> {
+    let mut files = Vec::new(alloc);
+    files.push(NamedFile {
+        name: Text::of(alloc, "tree")?,
+        bytes: texts[0].to_vec(alloc)?,
+        faults: 0,
+    })?;
+    files.push(NamedFile {
+        name: Text::of(alloc, "image")?,
+        bytes: texts[1].to_vec(alloc)?,
+        faults: 0,
+    })?;
+    files.push(NamedFile {
+        name: Text::of(alloc, "schedule")?,
+        bytes: texts[2].to_vec(alloc)?,
+        faults: 0,
+    })?;
+    Ok(MemoryShelf::new(files, fail))
+}
+
+// A sink that takes ten bytes at a time.
+fn sink(alloc: Global, fail: Vec<u64>) -> Result<MemorySink, Fail> {
+    Ok(MemorySink::new(alloc, 1 << 16, 10, fail)?)
+}
+
+fn answer_of(
+    alloc: Global,
+    words: &[&str],
+    mut files: MemoryShelf,
+    mut out: MemorySink,
+    mut faults_out: MemorySink,
+) -> Result<Answer, Fail> {
+    let mut all = Vec::new(alloc);
+    for word in words {
+        all.push(String::from_str(alloc, word)?)?;
+    }
+    let status = ddm_main(alloc, &all, &mut files, &mut out, &mut faults_out);
+    Ok(Answer {
+        status,
+        out,
+        faults_out,
+    })
+}
+
+// Where reads of these numbers fail.
+fn answer_with_reads(alloc: Global, texts: [&[u8]; 3], fail: Vec<u64>) -> Result<Answer, Fail> {
+    answer_of(
+        alloc,
+        WORDS,
+        shelf(alloc, texts, fail)?,
+        sink(alloc, Vec::new(alloc))?,
+        sink(alloc, Vec::new(alloc))?,
+    )
+}
+
+#[test]
+fn store_and_load_back(rt: HostRuntime) -> Result<(), Fail> {
+    let alloc = rt.alloc();
+    let answer = answer_with_reads(alloc, [TREE, IMAGE, SCHEDULE], Vec::new(alloc))?;
+    assert_eq!(rt; answer.status, Status::Done);
+    assert_eq!(rt; answer.out.bytes(), REPORT);
+    assert_eq!(rt; answer.faults_out.bytes(), b"".as_slice());
+    Ok(())
+}
+
+#[test]
+fn no_turns(rt: HostRuntime) -> Result<(), Fail> {
+    let alloc = rt.alloc();
+    let answer = answer_with_reads(alloc, [TREE, IMAGE, b"end\n"], Vec::new(alloc))?;
+    assert_eq!(rt; answer.status, Status::Done);
+    assert_eq!(rt; answer.out.bytes(), NO_TURNS);
+    assert_eq!(rt; answer.faults_out.bytes(), b"".as_slice());
+    Ok(())
+}
+
+// Each file is read twice: all of its bytes, and then none behind them.
+#[test]
+fn a_read_fails(rt: HostRuntime) -> Result<(), Fail> {
+    let alloc = rt.alloc();
+    let reads = [
+        (0, FileRole::TreeFile, "ddm: cannot read the tree\n"),
+        (1, FileRole::TreeFile, "ddm: cannot read the tree\n"),
+        (2, FileRole::ImageFile, "ddm: cannot read the image\n"),
+        (4, FileRole::ScheduleFile, "ddm: cannot read the schedule\n"),
+    ];
+    for (number, role, line) in reads {
+        let answer = answer_with_reads(alloc, [TREE, IMAGE, SCHEDULE], vec![in alloc; number]?)?;
+        assert_eq!(rt; answer.status, Status::ReadFault(role));
+        assert_eq!(rt; answer.out.bytes(), b"".as_slice());
+        assert_eq!(rt; answer.faults_out.bytes(), line.as_bytes());
+    }
+    Ok(())
+}
+
+#[test]
+fn a_write_fails_in_mid_stream(rt: HostRuntime) -> Result<(), Fail> {
+    let alloc = rt.alloc();
+    let answer = answer_of(
+        alloc,
+        WORDS,
+        shelf(alloc, [TREE, IMAGE, SCHEDULE], Vec::new(alloc))?,
+        sink(alloc, vec![in alloc; 2]?)?,
+        sink(alloc, Vec::new(alloc))?,
+    )?;
+    assert_eq!(rt; answer.status, Status::WriteFault);
+    assert_eq!(rt; answer.out.bytes(), b"ddm 1\nturns 8 retire".as_slice());
+    assert_eq!(rt;
+        answer.faults_out.bytes(),
+        b"ddm: cannot write\n".as_slice()
+    );
+    Ok(())
+}
+
+#[test]
+fn a_fault_line_fails(rt: HostRuntime) -> Result<(), Fail> {
+    let alloc = rt.alloc();
+    let answer = answer_of(
+        alloc,
+        WORDS,
+        shelf(alloc, [TREE, IMAGE, SCHEDULE], vec![in alloc; 0]?)?,
+        sink(alloc, Vec::new(alloc))?,
+        sink(alloc, vec![in alloc; 1]?)?,
+    )?;
+    assert_eq!(rt; answer.status, Status::ReadFault(FileRole::TreeFile));
+    assert_eq!(rt; answer.out.bytes(), b"".as_slice());
+    assert_eq!(rt; answer.faults_out.bytes(), b"ddm: canno".as_slice());
+    Ok(())
+}
+
+#[test]
+fn words_at_fault(rt: HostRuntime) -> Result<(), Fail> {
+    let alloc = rt.alloc();
+    let commands: [(&[&str], u32, &str); 4] = [
+        (&[], 0, "ddm: usage: word 0\n"),
+        (
+            &["walk", "image", "tree", "schedule"],
+            0,
+            "ddm: usage: word 0\n",
+        ),
+        (&["run", "image", "tree"], 3, "ddm: usage: word 3\n"),
+        (
+            &["run", "image", "tree", "schedule", "more"],
+            4,
+            "ddm: usage: word 4\n",
+        ),
+    ];
+    for (words, place, line) in commands {
+        let answer = answer_of(
+            alloc,
+            words,
+            shelf(alloc, [TREE, IMAGE, SCHEDULE], Vec::new(alloc))?,
+            sink(alloc, Vec::new(alloc))?,
+            sink(alloc, Vec::new(alloc))?,
+        )?;
+        assert_eq!(rt; answer.status, Status::Usage(place));
+        assert_eq!(rt; answer.out.bytes(), b"".as_slice());
+        assert_eq!(rt; answer.faults_out.bytes(), line.as_bytes());
+    }
+    Ok(())
+}
+
+#[test]
+fn files_that_are_not_built(rt: HostRuntime) -> Result<(), Fail> {
+    let alloc = rt.alloc();
+    let cases: [([&[u8]; 3], FileRole, &str); 4] = [
+        (
+            [b"shape = \"(LL)\"\n", IMAGE, SCHEDULE],
+            FileRole::TreeFile,
+            "ddm: unbuilt: tree\n",
+        ),
+        (
+            [TREE, b"\x7fELF", SCHEDULE],
+            FileRole::ImageFile,
+            "ddm: unbuilt: image\n",
+        ),
+        (
+            [TREE, IMAGE, b"h 1 0\nend\n"],
+            FileRole::ScheduleFile,
+            "ddm: unbuilt: schedule\n",
+        ),
+        (
+            [TREE, IMAGE, b"h 0 0\n"],
+            FileRole::ScheduleFile,
+            "ddm: unbuilt: schedule\n",
+        ),
+    ];
+    for (texts, role, line) in cases {
+        let answer = answer_with_reads(alloc, texts, Vec::new(alloc))?;
+        assert_eq!(rt; answer.status, Status::Unbuilt(role));
+        assert_eq!(rt; answer.out.bytes(), b"".as_slice());
+        assert_eq!(rt; answer.faults_out.bytes(), line.as_bytes());
+    }
+    Ok(())
+}
+
+#[test]
+fn numbers_of_the_statuses(rt: HostRuntime) {
+    assert_eq!(rt; code(&Status::Done), 0);
+    assert_eq!(rt; code(&Status::Usage(3)), 2);
+    assert_eq!(rt; code(&Status::ReadFault(FileRole::TreeFile)), 6);
+    assert_eq!(rt; code(&Status::WriteFault), 7);
+    assert_eq!(rt; code(&Status::NoMemory), 8);
+    assert_eq!(rt; code(&Status::Unbuilt(FileRole::TreeFile)), 9);
+}
