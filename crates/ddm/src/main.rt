@@ -3,14 +3,22 @@
 
 use ddm_cli::{Status, code, ddm_main};
 use ddm_outside::{FileShelf, StdSink};
-use std::env;
 use std::process::ExitCode;
+use std::{env, io};
+
+// The words can't be had: no memory, or a word that isn't text and so is no word of a command.
+fn status_without_words(error: &io::Error) -> Status {
+    match error.kind() {
+        io::ErrorKind::OutOfMemory => Status::NoMemory,
+        _ => Status::Usage(0),
+    }
+}
 
 fn main(rt: HostRuntime) -> ExitCode {
     let alloc = rt.alloc();
-    // A word that isn't text is no word of a command.
-    let Ok(all) = env::args(&rt) else {
-        return ExitCode::from(code(&Status::Usage(0)));
+    let all = match env::args(&rt) {
+        Ok(all) => all,
+        Err(error) => return ExitCode::from(code(&status_without_words(&error))),
     };
     let mut words = Vec::new(alloc);
     for word in all.skip(1) {

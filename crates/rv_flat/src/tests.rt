@@ -89,6 +89,24 @@ fn stores_and_loads_back(rt: HostRuntime) -> Result<(), Fail> {
 }
 
 #[test]
+fn one_byte_of_output(rt: HostRuntime) -> Result<(), Fail> {
+    let code = code_of(
+        rt.alloc(),
+        vec![in rt.alloc(); 0x3e80_0893, 0x0480_0513, 0x0000_0073]?,
+    )?;
+    let items = data_item(rt.alloc())?;
+    let mut machine = machine_of(rt.alloc(), &items)?;
+    let hart = HartNo(0);
+    let put = Effect::Put { byte: 0x48 };
+    let past = HaltCause::FetchOutside(ENTRY + 12);
+    assert_eq!(rt; machine.step(&code, &items, hart, true), Ok(Effect::Plain));
+    assert_eq!(rt; machine.step(&code, &items, hart, true), Ok(Effect::Plain));
+    assert_eq!(rt; machine.step(&code, &items, hart, true), Ok(put));
+    assert_eq!(rt; machine.step(&code, &items, hart, true), Err(past));
+    Ok(())
+}
+
+#[test]
 fn reservations(rt: HostRuntime) -> Result<(), Fail> {
     let code = code_of(
         rt.alloc(),
