@@ -25,6 +25,24 @@ const REPORT: &[u8] =
 const NO_TURNS: &[u8] =
     b"ddm 1\nturns 0 retired 0 granted 0 busy 0\nhart 0 running pc 00010000 done 0\nregs 0 00000000 00030010 00000000 00000000 00000000 00000000 00000000 00000000 00000000 00000000 00000001 00000000 00000000 00000000 00000000 00000000 00000000 00000000 00000000 00000000 00000000 00000000 00000000 00000000 00000000 00000000 00000000 00000000 00000000 00000000 00000000\nout 0 -\nbus 0 read 0 data 0 erase 0 exclusive 0 out 0 inject 0\nitem 0 00010000 000202b7 00700313 0062a023 0002a383 leaf 0 way 0 E\nitem 1 00010010 05d00893 00038513 00000073 00000000 leaf 0 way 1 E\nitem 2 00020000 00000000 00000000 00000000 00000000 leaf 0 way 2 E\nitem 3 00030000 00000000 00000000 00000000 00000000 leaf 0 way 3 E\nend\n";
 
+const TREE_WITHOUT_STACKS: &[u8] =
+    b"shape = \"(L)\"\nways = 4\nsets = 1\nbuffer = 1\nparking = 1\ndown = 16\nrequests = 16\nreplies = 16\nstack_base = 196608\nstack_bytes = 0\n";
+
+// Puts the low byte of x10, which is 0, and runs out of code, beside an item of four words.
+const PUT_IMAGE: &[u8] = &[
+    127, 69, 76, 70, 1, 1, 1, 0, 0, 0, 0, 0, 0, 0, 0, 0, 2, 0, 243, 0, 1, 0, 0, 0, 0, 0, 1, 0, 52,
+    0, 0, 0, 0, 0, 0, 0, 0, 0, 0, 0, 52, 0, 32, 0, 2, 0, 0, 0, 0, 0, 0, 0, 1, 0, 0, 0, 116, 0, 0,
+    0, 0, 0, 1, 0, 0, 0, 1, 0, 12, 0, 0, 0, 12, 0, 0, 0, 5, 0, 0, 0, 1, 0, 0, 0, 1, 0, 0, 0, 128,
+    0, 0, 0, 0, 0, 2, 0, 0, 0, 2, 0, 16, 0, 0, 0, 16, 0, 0, 0, 6, 0, 0, 0, 1, 0, 0, 0, 183, 2, 4,
+    0, 147, 8, 128, 62, 115, 0, 0, 0, 188, 101, 34, 54, 44, 44, 223, 169, 141, 41, 167, 191, 235,
+    74, 36, 229,
+];
+
+const PUT_SCHEDULE: &[u8] = b"h 0 0\nh 0 0\nh 0 0\nh 0 0\nh 0 0\nend\n";
+
+const PUT_REPORT: &[u8] =
+    b"ddm 1\nturns 5 retired 3 granted 0 busy 0\nhart 0 nofetch 0001000c pc 0001000c done 3\nregs 0 00000000 00030000 00000000 00000000 00040000 00000000 00000000 00000000 00000000 00000000 00000001 00000000 00000000 00000000 00000000 00000000 000003e8 00000000 00000000 00000000 00000000 00000000 00000000 00000000 00000000 00000000 00000000 00000000 00000000 00000000 00000000\nout 0 00\nbus 0 read 0 data 0 erase 0 exclusive 0 out 0 inject 0\nitem 0 00010000 000402b7 3e800893 00000073 00000000 leaf 0 way 0 E\nitem 1 00020000 362265bc a9df2c2c bfa7298d e5244aeb leaf 0 way 1 E\nop 0 0.0.0 00010000 plain\nop 0 0.0.1 00010004 plain\nop 0 0.0.2 00010008 put 00\nend\n";
+
 const WORDS: &[&str] = &["run", "image", "tree", "schedule"];
 
 // What came of a command.
@@ -96,6 +114,17 @@ fn store_and_load_back(rt: HostRuntime) -> Result<(), Fail> {
     let answer = answer_with_reads(alloc, [TREE, IMAGE, SCHEDULE], Vec::new(alloc))?;
     assert_eq!(rt; answer.status, Status::Done);
     assert_eq!(rt; answer.out.bytes(), REPORT);
+    assert_eq!(rt; answer.faults_out.bytes(), b"".as_slice());
+    Ok(())
+}
+
+#[test]
+fn one_byte_of_output(rt: HostRuntime) -> Result<(), Fail> {
+    let alloc = rt.alloc();
+    let texts = [TREE_WITHOUT_STACKS, PUT_IMAGE, PUT_SCHEDULE];
+    let answer = answer_with_reads(alloc, texts, Vec::new(alloc))?;
+    assert_eq!(rt; answer.status, Status::Done);
+    assert_eq!(rt; answer.out.bytes(), PUT_REPORT);
     assert_eq!(rt; answer.faults_out.bytes(), b"".as_slice());
     Ok(())
 }
