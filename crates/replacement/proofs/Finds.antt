@@ -1,7 +1,8 @@
 -- A search that gives the place gives the element too.
-use Rattle.std.proofs.Common.{◌≡◌, ◌∙◌, ap, ℕ, ◌<◌, Bool, true, false, cond, List, length, Option, Some, None, get_or, refl}
+use Rattle.std.proofs.Common.{◌≡◌, ◌∙◌, ap, sym, subst, ℕ, ◌+◌, ◌<◌, ◌≤◌, ◌⊎◌, inl, inr, Bool, true, false, true≢false, nat_lt, cond, List, length, Option, Some, None, get_or, refl, arith, le_trans, eq-or-lt_of_le, lt-ltb, le-ltb}
 use Rattle.std.specs.List.{find, position, position_or_len, slice_get}
 use Rattle.std.proofs.lemmas.List.Folds.{find_at}
+use Rattle.std.proofs.lemmas.List.Sums.{passes_at_first, fails_before_first}
 use Rattle.std.proofs.lemmas.Option.{slice_get_read, slice_get_past}
 use borrow.Author.Tests.{ltb-false}
 
@@ -16,7 +17,7 @@ place_of_some : (b : Bool) (n i : ℕ) → placed b n ≡ Some i → n ≡ i
 place_of_some true n i e = cc
 place_of_some false n i e = cc
 
-test_of_none : (b : Bool) (n : ℕ) → placed b n ≡ None → b ≡ false
+pub test_of_none : (b : Bool) (n : ℕ) → placed b n ≡ None → b ≡ false
 test_of_none true n e = cc
 test_of_none false n e = refl
 
@@ -29,3 +30,27 @@ pub found_none : {X : Type 0} (p : X → Bool) (xs : List X) → position p xs �
 found_none p xs e =
     let t = test_of_none _ (position_or_len p xs) e in
     find_at p xs ∙ slice_get_past xs (position_or_len p xs) (ltb-false _ _ t)
+
+-- a search that looks at one element after another: none before place i passes
+module _ {X : Type 0} (p : X → Bool) (xs : List X) (i : ℕ) (x : X) where
+  -- nor does the one there
+  pub found_later : i ≤ position_or_len p xs → i < length xs → x ≡ get_or xs i x → p x ≡ false → i + 1 ≤ position_or_len p xs
+  found_later before h is fails = by_cases (eq-or-lt_of_le before)
+    where
+      by_cases : (i ≡ position_or_len p xs) ⊎ (i < position_or_len p xs) → i + 1 ≤ position_or_len p xs
+      by_cases (inl e) =
+          let passes : p (get_or xs i x) ≡ true = subst (λ k. p (get_or xs k x) ≡ true) (sym e) (passes_at_first p xs x (subst (λ k. k < length xs) e h)) in
+          absurd (true≢false (sym passes ∙ ap p (sym is) ∙ fails))
+      by_cases (inr less) = omega (arith, less)
+
+  -- the one there does
+  pub found_here : i ≤ position_or_len p xs → i < length xs → x ≡ get_or xs i x → p x ≡ true → position p xs ≡ Some i
+  found_here before h is passes = by_cases (eq-or-lt_of_le before)
+    where
+      by_cases : (i ≡ position_or_len p xs) ⊎ (i < position_or_len p xs) → position p xs ≡ Some i
+      by_cases (inl e) = subst (λ k. cond (nat_lt k (length xs)) (Some k) None ≡ Some i) e (rw (lt-ltb i (length xs) h) refl)
+      by_cases (inr less) = absurd (true≢false (sym passes ∙ ap p is ∙ fails_before_first p xs i x less))
+
+-- no element is left
+pub found_nowhere : {X : Type 0} (p : X → Bool) (xs : List X) (i : ℕ) → i ≤ position_or_len p xs → length xs ≤ i → position p xs ≡ None
+found_nowhere p xs i before past = rw (le-ltb (position_or_len p xs) (length xs) (le_trans past before)) refl

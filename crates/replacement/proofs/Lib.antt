@@ -1,4 +1,5 @@
-pub mod Changed
 pub mod Chosen
 pub mod Finds
+pub mod First
 pub mod Once
+pub mod Placed

@@ -1,23 +1,25 @@
 -- No item stands twice in a list, as entries come, go and change.
-use Rattle.std.proofs.Common.{◌≡◌, ◌∙◌, ap, sym, refl, ℕ, Bool, true, false, cond, not, ◌&&◌, ◌||◌, nat_eq, List, [], ◌∷◌, ◌++◌, map, length, take, drop, append-nil, subst, Some, None, arith}
+use Rattle.std.proofs.Common.{◌≡◌, ◌≤◌, ◌∙◌, ap, refl, ℕ, Bool, true, false, cond, not, ◌&&◌, ◌||◌, nat_eq, List, [], ◌∷◌, ◌++◌, map, length, Some, None, arith}
 use Rattle.std.specs.List.{find, filter, list_any}
-use Rattle.std.proofs.lemmas.List.{drop_all, take_all}
+use lib.ListN.{length-map}
+use Rattle.std.proofs.lemmas.List.Sums.{length-filter, count_by-le-length}
 use Rattle.std.proofs.lemmas.Bool.Decides.{nat_tests}
 use Rattle.tree_model.specs.OwnRules.{are_distinct, buffer_item}
 use Rattle.ddm_types.specs.declared.sizes.LeafState.{LeafState}
 use Rattle.tree_model.specs.Leaf.{buffers_item}
 use Rattle.tree_model.specs.Values.{BufferValue}
 use Rattle.replacement.specs.Arrived.{names_item, with_state, with_words, IsHeld}
+use Rattle.replacement.specs.Places.{ArrivedList}
 
 swapped : (a b : ℕ) → nat_eq a b ≡ false → nat_eq b a ≡ false
 swapped a b e = grind (arith, nat_tests)
 
 -- two tests in a row, taken apart and put together
-left : (a b : Bool) → (not a && b) ≡ true → a ≡ false
+pub left : (a b : Bool) → (not a && b) ≡ true → a ≡ false
 left true b e = cc
 left false b e = refl
 
-right : (a b : Bool) → (not a && b) ≡ true → b ≡ true
+pub right : (a b : Bool) → (not a && b) ≡ true → b ≡ true
 right true b e = cc
 right false b e = e
 
@@ -27,11 +29,11 @@ joined a b e h = rw (e, h) refl
 neither : (a b : Bool) → a ≡ false → b ≡ false → (a || b) ≡ false
 neither a b e h = rw (e, h) refl
 
-first_fails : (a b : Bool) → (a || b) ≡ false → a ≡ false
+pub first_fails : (a b : Bool) → (a || b) ≡ false → a ≡ false
 first_fails true b e = cc
 first_fails false b e = refl
 
-rest_fails : (a b : Bool) → (a || b) ≡ false → b ≡ false
+pub rest_fails : (a b : Bool) → (a || b) ≡ false → b ≡ false
 rest_fails true b e = cc
 rest_fails false b e = e
 
@@ -83,24 +85,14 @@ module _ {X : Type 0} (named : X → ℕ) where
   named-map f same [] = refl
   named-map f same (y ∷ ys) = ap (λ n. n ∷ map named (map f ys)) (same y) ∙ ap (λ ns. named y ∷ ns) (named-map f same ys)
 
-written_back : {X : Type 0} (n : ℕ) (xs ys : List X) → length xs ≡ length ys → n ≡ length ys → xs ≡ take n (xs ++ drop (length xs) ys)
-written_back n xs ys same full =
-    let gone : drop (length xs) ys ≡ [] = drop_all (length xs) ys (omega arith) in
-    let whole : take n (xs ++ []) ≡ xs = rw append-nil (take_all n xs (omega arith)) in
-    rw gone (sym whole)
-
 -- each entry changes and stays of its item
-pub held_changed : {X : Type 0} (named : X → ℕ) (f : X → X) → ((e : X) → named (f e) ≡ named e) → (words n capacity memory : ℕ) (xs ys : List X) → length xs ≡ length ys → n ≡ length ys → xs ≡ map f ys → IsHeld words (map named ys) (length ys) capacity memory → IsHeld words (map named (take n (xs ++ drop (length xs) ys))) (length (take n (xs ++ drop (length xs) ys))) capacity memory
-held_changed named f same words n capacity memory xs ys long full is was =
-    let items : map named xs ≡ map named ys = ap (map named) is ∙ named-map named f same ys in
-    subst (λ zs. IsHeld words (map named zs) (length zs) capacity memory) (written_back n xs ys long full)
-    (record {
-      once = rw items was.once;
-      within = rw long was.within;
-      has_memory = was.has_memory;
-      small = was.small;
-      words_fit = was.words_fit;
-    })
+pub held_changed : {X : Type 0} (named : X → ℕ) (f : X → X) → ((e : X) → named (f e) ≡ named e) → {words : ℕ} (before after : ArrivedList X) → after ≡ record before { list = map f before.list } → IsHeld words (map named before.list) (length before.list) before.capacity → IsHeld words (map named after.list) (length after.list) after.capacity
+held_changed named f same {words} before after is was = rw is (record {
+  once = rw (named-map named f same before.list) was.once;
+  within = rw (length-map before.list f) was.within;
+  small = was.small;
+  words_fit = was.words_fit;
+})
 
 pub state_item : (x : ℕ) (state : LeafState) (e : BufferValue) → buffer_item (with_state x state e) ≡ buffer_item e
 state_item x state e = by_test (buffers_item x e)
@@ -115,3 +107,12 @@ words_item x words e = by_test (buffers_item x e)
     by_test : (b : Bool) → buffer_item (cond b (record e { words = words }) e) ≡ buffer_item e
     by_test true = refl
     by_test false = refl
+
+pub state_same : (x : ℕ) (state : LeafState) (e : BufferValue) → buffers_item x e ≡ false → with_state x state e ≡ e
+state_same x state e other = rw other refl
+
+pub words_same : (x : ℕ) (words : List ℕ) (e : BufferValue) → buffers_item x e ≡ false → with_words x words e ≡ e
+words_same x words e other = rw other refl
+
+pub fewer : {X : Type 0} (p : X → Bool) (xs : List X) → length (filter p xs) ≤ length xs
+fewer p xs = omega (arith, length-filter p xs, count_by-le-length p xs)

@@ -24,11 +24,10 @@ with_state x state e = if buffers_item x e then record e { state = state } else 
 abbrev pub with_words : ℕ → List ℕ → BufferValue → BufferValue
 with_words x words e = if buffers_item x e then record e { words = words } else e
 
--- No item stands twice. So many places are taken or reserved: no more than there may be, and each has memory.
-pub record IsHeld (words : ℕ) (items : List ℕ) (taken capacity memory : ℕ) : Type 0 where
+-- No item stands twice. So many places are taken or reserved: no more than there may be.
+pub record IsHeld (words : ℕ) (items : List ℕ) (taken capacity : ℕ) : Type 0 where
   pub once : are_distinct items ≡ true
   pub within : taken ≤ capacity
-  pub has_memory : capacity ≤ memory
   pub small : capacity < 2 ^ 32
   pub words_fit : words < 2 ^ 32
 

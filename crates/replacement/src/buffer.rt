@@ -5,7 +5,7 @@ ghost use Rattle.tree_model.specs.States.{may_leave};
 ghost use Rattle.replacement.specs.Arrived.{chosen, with_state, with_words};
 
 use crate::Full;
-use crate::arrivals::{add, found, take_out};
+use crate::arrivals::Arrivals;
 use crate::entries::BufferEntry;
 use ddm_types::{ItemId, LeafState, NoMemory, Words};
 use std::alloc::Global;
@@ -14,20 +14,19 @@ use std::marker::Model;
 /// The entries of a leaf that had to leave their ways, in order of arrival.
 #[derive(Drop)]
 pub struct Buffer<const WORDS: usize> {
-    entries: Vec<BufferEntry<WORDS>>,
-    capacity: u32,
+    entries: Arrivals<BufferEntry<WORDS>>,
 }
 
 impl<const WORDS: usize> Model for Buffer<WORDS> {
-    ghost use Rattle.std.specs.Prelude.{length, map, vec_capacity};
+    ghost use Rattle.std.specs.Prelude.{length, map};
     ghost use Rattle.tree_model.specs.OwnRules.{buffer_item};
     ghost use Rattle.replacement.specs.Arrived.{BufferList, IsHeld};
 
     ghost Value = { BufferList };
 
-    ghost view = { λ b. record { list = b.entries.items; capacity = b.capacity } };
+    ghost view = { λ b. record { list = b.entries.list; capacity = b.entries.capacity } };
 
-    ghost invariant = { λ b. IsHeld WORDS (map buffer_item b.entries.items) (length b.entries.items) b.capacity (vec_capacity b.entries) };
+    ghost invariant = { λ b. IsHeld WORDS (map buffer_item b.entries.list) (length b.entries.list) b.entries.capacity };
 }
 
 /// 1 for an entry that may leave its leaf, else 0.
@@ -41,24 +40,27 @@ fn leavers(state: LeafState) -> usize
 }
 
 /// How many entries may leave.
-fn count_free<const WORDS: usize>(entries: &[BufferEntry<WORDS>]) -> usize
-    ensures { result ≡ length (filter (λ e. may_leave e.state) entries.now) }
+fn count_free<const WORDS: usize>(entries: &Arrivals<BufferEntry<WORDS>>) -> usize
+    ensures { result ≡ length (filter (λ e. may_leave e.state) entries.now.list) }
 {
     let mut count = 0;
-    for place in 0..entries.len() {
-        let entry = entries[place];
+    for index in 0..entries.len() {
+        let entry = entries.at(index);
         count += leavers(entry.state);
     }
     count
 }
 
 /// The item of the entry that may leave and has this many such entries before it.
-fn nth_free<const WORDS: usize>(entries: &[BufferEntry<WORDS>], before: usize) -> Option<ItemId>
-    ensures { result ≡ option_map (λ e. e.item) (slice_get (filter (λ e. may_leave e.state) entries.now) before) }
+fn nth_free<const WORDS: usize>(
+    entries: &Arrivals<BufferEntry<WORDS>>,
+    before: usize,
+) -> Option<ItemId>
+    ensures { result ≡ option_map (λ e. e.item) (slice_get (filter (λ e. may_leave e.state) entries.now.list) before) }
 {
     let mut left = before;
-    for place in 0..entries.len() {
-        let entry = entries[place];
+    for index in 0..entries.len() {
+        let entry = entries.at(index);
         let free = leavers(entry.state);
         if left < free {
             return Some(entry.item);
@@ -70,29 +72,31 @@ fn nth_free<const WORDS: usize>(entries: &[BufferEntry<WORDS>], before: usize) -
 
 /// Puts the item's entry in another state.
 fn set_states<const WORDS: usize>(
-    entries: &mut [BufferEntry<WORDS>],
+    entries: &mut Arrivals<BufferEntry<WORDS>>,
     item: ItemId,
     state: LeafState,
 )
-    ensures { entries.new ≡ map (with_state item state) entries.old }
+    requires { are_distinct (map buffer_item entries.old.list) ≡ true }
+    ensures { entries.new ≡ record entries.old { list = map (with_state item state) entries.old.list } }
 {
-    for place in 0..entries.len() {
-        let entry = entries[place];
-        entries[place] = entry.in_state(item, state);
+    if let Some(index) = entries.index_of(item) {
+        let entry = entries.at(index);
+        entries.set(index, entry.in_state(item, state));
     }
 }
 
 /// Gives the item's entry other words.
 fn set_all_words<const WORDS: usize>(
-    entries: &mut [BufferEntry<WORDS>],
+    entries: &mut Arrivals<BufferEntry<WORDS>>,
     item: ItemId,
     words: &Words<WORDS>,
 )
-    ensures { entries.new ≡ map (with_words item words.now) entries.old }
+    requires { are_distinct (map buffer_item entries.old.list) ≡ true }
+    ensures { entries.new ≡ record entries.old { list = map (with_words item words.now) entries.old.list } }
 {
-    for place in 0..entries.len() {
-        let entry = entries[place];
-        entries[place] = entry.with_words(item, words);
+    if let Some(index) = entries.index_of(item) {
+        let entry = entries.at(index);
+        entries.set(index, entry.with_words(item, words));
     }
 }
 
@@ -102,10 +106,8 @@ impl<const WORDS: usize> Buffer<WORDS> {
         requires { WORDS < 2 ^ 32 }
         ensures { IfOk result (λ b. b ≡ record { list = []; capacity = capacity }) }
     {
-        Ok(Buffer {
-            entries: Vec::with_capacity(alloc, capacity as usize)?,
-            capacity,
-        })
+        let entries = Arrivals::new(alloc, capacity as usize, BufferEntry::blank())?;
+        Ok(Buffer { entries })
     }
 
     /// Puts an entry behind the others.
@@ -116,10 +118,10 @@ impl<const WORDS: usize> Buffer<WORDS> {
         ensures ok { OnOk result (self.new ≡ record self.old { list = self.old.list ++ record { item = item; state = state; words = words.entry } ∷ [] }) }
         ensures err { OnErr result (self.new ≡ self.old) }
     {
-        if self.entries.len() >= self.capacity as usize {
+        if self.entries.len() >= self.entries.capacity() {
             return Err(Full);
         }
-        add(&mut self.entries, BufferEntry { item, state, words });
+        self.entries.put(BufferEntry { item, state, words });
         Ok(())
     }
 
@@ -129,7 +131,7 @@ impl<const WORDS: usize> Buffer<WORDS> {
         ensures state { option_map (λ p. p.1) result ≡ option_map (λ e. e.state) (find (buffers_item item) self.now.list) }
         ensures once { are_distinct (map buffer_item self.now.list) ≡ true }
     {
-        match found(&self.entries, item) {
+        match self.entries.found(item) {
             Some((place, entry)) => Some((place as u32, entry.state)),
             None => None,
         }
@@ -138,7 +140,7 @@ impl<const WORDS: usize> Buffer<WORDS> {
     pub fn words(&self, item: ItemId) -> Option<Words<WORDS>>
         ensures { result ≡ option_map (λ e. e.words) (find (buffers_item item) self.now.list) }
     {
-        match found(&self.entries, item) {
+        match self.entries.found(item) {
             Some((_, entry)) => Some(entry.words),
             None => None,
         }
@@ -149,7 +151,7 @@ impl<const WORDS: usize> Buffer<WORDS> {
         ensures value { result ≡ option_map (λ e. (e.state, e.words)) (find (buffers_item item) self.old.list) }
         ensures rest { self.new ≡ record self.old { list = filter (λ e. not (buffers_item item e)) self.old.list } }
     {
-        match take_out(&mut self.entries, item) {
+        match self.entries.take_out(item) {
             Some(entry) => Some((entry.state, entry.words)),
             None => None,
         }
@@ -158,7 +160,7 @@ impl<const WORDS: usize> Buffer<WORDS> {
     pub fn get(&self, place: u32) -> Option<(ItemId, LeafState, Words<WORDS>)>
         ensures { result ≡ option_map (λ e. (e.item, e.state, e.words)) (slice_get self.now.list place) }
     {
-        match self.entries.as_slice().get(place as usize) {
+        match self.entries.get(place as usize) {
             Some(entry) => Some((entry.item, entry.state, entry.words)),
             None => None,
         }

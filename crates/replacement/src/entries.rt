@@ -32,6 +32,15 @@ impl<const WORDS: usize> Named for BufferEntry<WORDS> {
 }
 
 impl<const WORDS: usize> BufferEntry<WORDS> {
+    /// What fills a place until an entry comes.
+    pub fn blank() -> Self {
+        BufferEntry {
+            item: ItemId(0),
+            state: LeafState::Shared,
+            words: Words { w: [0; WORDS] },
+        }
+    }
+
     /// The entry in this state, if it is of the item.
     pub fn in_state(&self, item: ItemId, state: LeafState) -> Self
         ensures { result ≡ with_state item state self.now }
@@ -85,5 +94,15 @@ impl<const WORDS: usize> Named for ParkedCopy<WORDS> {
 
     fn item(&self) -> ItemId {
         self.item
+    }
+}
+
+impl<const WORDS: usize> ParkedCopy<WORDS> {
+    /// What fills a place until a copy comes.
+    pub fn blank() -> Self {
+        ParkedCopy {
+            item: ItemId(0),
+            words: Words { w: [0; WORDS] },
+        }
     }
 }

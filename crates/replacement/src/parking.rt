@@ -4,7 +4,7 @@ ghost use Rattle.tree_model.specs.OwnRules.{are_distinct, copy_item};
 ghost use Rattle.replacement.specs.Arrived.{chosen};
 
 use crate::Full;
-use crate::arrivals::{add, found, take_out};
+use crate::arrivals::Arrivals;
 use crate::entries::ParkedCopy;
 use ddm_types::{ItemId, NoMemory, Words};
 use std::alloc::Global;
@@ -14,21 +14,20 @@ use std::marker::Model;
 /// under way.
 #[derive(Drop)]
 pub struct Parking<const WORDS: usize> {
-    entries: Vec<ParkedCopy<WORDS>>,
-    capacity: u32,
+    entries: Arrivals<ParkedCopy<WORDS>>,
     reserved: u32,
 }
 
 impl<const WORDS: usize> Model for Parking<WORDS> {
-    ghost use Rattle.std.specs.Prelude.{◌+◌, length, map, vec_capacity};
+    ghost use Rattle.std.specs.Prelude.{◌+◌, length, map};
     ghost use Rattle.tree_model.specs.OwnRules.{copy_item};
     ghost use Rattle.replacement.specs.Arrived.{IsHeld, ParkingList};
 
     ghost Value = { ParkingList };
 
-    ghost view = { λ p. record { list = p.entries.items; capacity = p.capacity; reserved = p.reserved } };
+    ghost view = { λ p. record { list = p.entries.list; capacity = p.entries.capacity; reserved = p.reserved } };
 
-    ghost invariant = { λ p. IsHeld WORDS (map copy_item p.entries.items) (length p.entries.items + p.reserved) p.capacity (vec_capacity p.entries) };
+    ghost invariant = { λ p. IsHeld WORDS (map copy_item p.entries.list) (length p.entries.list + p.reserved) p.entries.capacity };
 }
 
 impl<const WORDS: usize> Parking<WORDS> {
@@ -37,9 +36,9 @@ impl<const WORDS: usize> Parking<WORDS> {
         requires { WORDS < 2 ^ 32 }
         ensures { IfOk result (λ p. p ≡ record { list = []; capacity = capacity; reserved = 0 }) }
     {
+        let entries = Arrivals::new(alloc, capacity as usize, ParkedCopy::blank())?;
         Ok(Parking {
-            entries: Vec::with_capacity(alloc, capacity as usize)?,
-            capacity,
+            entries,
             reserved: 0,
         })
     }
@@ -49,7 +48,7 @@ impl<const WORDS: usize> Parking<WORDS> {
         ensures full { result ≡ nat_le self.now.capacity (length self.now.list + self.now.reserved) }
         ensures within { length self.now.list + self.now.reserved ≤ self.now.capacity }
     {
-        (self.capacity - self.reserved) as usize <= self.entries.len()
+        self.entries.capacity() - self.reserved as usize <= self.entries.len()
     }
 
     /// Puts a copy behind the others, in a place that is not reserved.
@@ -63,7 +62,7 @@ impl<const WORDS: usize> Parking<WORDS> {
         if self.is_full() {
             return Err(Full);
         }
-        add(&mut self.entries, ParkedCopy { item, words });
+        self.entries.put(ParkedCopy { item, words });
         Ok(())
     }
 
@@ -88,7 +87,7 @@ impl<const WORDS: usize> Parking<WORDS> {
         ensures { self.new ≡ record self.old { list = self.old.list ++ record { item = item; words = words.entry } ∷ []; reserved = self.old.reserved - 1 } }
     {
         let kept = self.reserved - 1;
-        add(&mut self.entries, ParkedCopy { item, words });
+        self.entries.put(ParkedCopy { item, words });
         self.reserved = kept;
     }
 
@@ -103,7 +102,7 @@ impl<const WORDS: usize> Parking<WORDS> {
     pub fn words(&self, item: ItemId) -> Option<Words<WORDS>>
         ensures { result ≡ option_map (λ e. e.words) (find (copies_item item) self.now.list) }
     {
-        match found(&self.entries, item) {
+        match self.entries.found(item) {
             Some((_, entry)) => Some(entry.words),
             None => None,
         }
@@ -114,7 +113,7 @@ impl<const WORDS: usize> Parking<WORDS> {
         ensures value { result ≡ option_map (λ e. e.words) (find (copies_item item) self.old.list) }
         ensures rest { self.new ≡ record self.old { list = filter (λ e. not (copies_item item e)) self.old.list } }
     {
-        match take_out(&mut self.entries, item) {
+        match self.entries.take_out(item) {
             Some(entry) => Some(entry.words),
             None => None,
         }
@@ -125,7 +124,7 @@ impl<const WORDS: usize> Parking<WORDS> {
         ensures place { result ≡ position (copies_item item) self.now.list }
         ensures once { are_distinct (map copy_item self.now.list) ≡ true }
     {
-        match found(&self.entries, item) {
+        match self.entries.found(item) {
             Some((place, _)) => Some(place as u32),
             None => None,
         }
@@ -134,7 +133,7 @@ impl<const WORDS: usize> Parking<WORDS> {
     pub fn get(&self, place: u32) -> Option<(ItemId, Words<WORDS>)>
         ensures { result ≡ option_map (λ e. (e.item, e.words)) (slice_get self.now.list place) }
     {
-        match self.entries.as_slice().get(place as usize) {
+        match self.entries.get(place as usize) {
             Some(entry) => Some((entry.item, entry.words)),
             None => None,
         }
@@ -149,7 +148,7 @@ impl<const WORDS: usize> Parking<WORDS> {
         if copies == 0 {
             return None;
         }
-        let entry = &self.entries[choice as usize % copies];
+        let entry = self.entries.at(choice as usize % copies);
         Some(entry.item)
     }
 }

@@ -3,5 +3,5 @@ use Rattle.tree_model.specs.States.{may_leave}
 use Rattle.tree_model.specs.Values.{BufferValue}
 use Rattle.replacement.proofs.buffer.count_free.Given as goal
 
-abbrev pub invariant-loop-place : goal.invariant-loop-place
-invariant-loop-place g l = (l.count ≡ length (filter (λ (e : BufferValue). may_leave e.state) (take l.place l.entries))) × (l.count ≤ l.place)
+abbrev pub invariant-loop-index : goal.invariant-loop-index
+invariant-loop-index g l = (l.count ≡ length (filter (λ (e : BufferValue). may_leave e.state) (take l.index l.entries.list))) × (l.count ≤ l.index)

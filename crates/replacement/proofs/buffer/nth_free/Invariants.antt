@@ -4,7 +4,7 @@ use Rattle.tree_model.specs.States.{may_leave}
 use Rattle.tree_model.specs.Values.{BufferValue}
 use Rattle.replacement.proofs.buffer.nth_free.Given as goal
 
-abbrev pub invariant-loop-place : goal.invariant-loop-place
-invariant-loop-place g l =
+abbrev pub invariant-loop-index : goal.invariant-loop-index
+invariant-loop-index g l =
     let p = λ (e : BufferValue). may_leave e.state in
-    slice_get (filter p l.entries) l.fn.before ≡ slice_get (filter p (drop l.place l.entries)) l.left
+    slice_get (filter p l.entries.list) l.fn.before ≡ slice_get (filter p (drop l.index l.entries.list)) l.left

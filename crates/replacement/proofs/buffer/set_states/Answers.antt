@@ -1,14 +1,20 @@
-use Rattle.std.proofs.Common.{◌∙◌, arith}
+use Rattle.std.proofs.Common.{◌∙◌, ap, sym, set}
+use Rattle.tree_model.specs.OwnRules.{buffer_item}
 use Rattle.replacement.specs.Arrived.{with_state}
-use Rattle.replacement.proofs.Changed.{first_none, first_all, changed_more}
+use Rattle.replacement.proofs.First.{first_changed, none_changed}
+use Rattle.replacement.proofs.Once.{state_same}
+use Rattle.replacement.proofs.Placed.{arrived}
 use Rattle.replacement.proofs.buffer.set_states.Goals as goal
 
-pub loop-place-init : goal.loop-place-init
-loop-place-init g c = first_none (with_state c.args.item c.args.state) c.args.entries.now
+pub returns-in-Some : goal.returns-in-Some
+returns-in-Some g c =
+    let entries = c.args.entries.now in
+    let written = ap (set entries.list c.in-Some.index) c.in_state.ensures in
+    let changed = first_changed buffer_item (with_state c.args.item c.args.state) c.args.item (state_same c.args.item c.args.state) c.in-Some.index entries.list c.at-entry.result c.requires (sym c.in-Some.ensures.index) c.at-entry.ensures in
+    c.set.ensures ∙ ap (λ l. arrived l entries.capacity) (written ∙ changed)
 
-pub loop-place-preserved : goal.loop-place-preserved
-loop-place-preserved g c =
-    changed_more (with_state c.args.item c.args.state) _ _ _ _ _ c.loop-place.invariant (omega arith) c.index-entries-place.is c.in_state.ensures
-
-pub returns : goal.returns
-returns g c = c.loop-place.invariant ∙ first_all (with_state c.args.item c.args.state) _ _ (omega arith)
+pub returns-in_default : goal.returns-in_default
+returns-in_default g c =
+    let entries = c.args.entries.now in
+    let same = none_changed buffer_item (with_state c.args.item c.args.state) c.args.item (state_same c.args.item c.args.state) entries.list (sym c.in_default.ensures.index) in
+    ap (λ l. arrived l entries.capacity) (sym same)

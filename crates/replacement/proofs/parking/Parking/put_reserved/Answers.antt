@@ -7,11 +7,10 @@ use Rattle.replacement.proofs.parking.Parking.put_reserved.Goals as goal
 
 pub invariant_of-self : goal.invariant_of-self
 invariant_of-self g c =
-    let fresh : find (copies_item c.args.item) c.self.inside.entries.items ≡ None = ap (λ b. find (copies_item c.args.item) b.list) c.self.view_is ∙ c.requires.fresh in
-    record {
-      once = rw c.add.ensures.items (once-append copy_item c.self.inside.entries.items _ c.self.invariant.once fresh);
+    let fresh : find (copies_item c.args.item) c.self.inside.entries.list ≡ None = ap (λ b. find (copies_item c.args.item) b.list) c.self.view_is ∙ c.requires.fresh in
+    rw c.put.ensures (record {
+      once = once-append copy_item c.self.inside.entries.list _ c.self.invariant.once fresh;
       within = grind (arith, common_steps);
-      has_memory = grind (arith, common_steps);
       small = c.self.invariant.small;
       words_fit = c.self.invariant.words_fit;
-    }
+    })
