@@ -105,3 +105,89 @@ fn standing(rt: HostRuntime) -> Result<(), Fail> {
     assert_eq!(rt; memory.at(0, 0), None);
     Ok(())
 }
+
+#[derive(Clone, Copy)]
+enum Call {
+    Put(u32),
+    Remove(u32),
+}
+
+/// The lowest way of the item's set that no entry of the list stands in. An entry is an item and its way.
+fn plain_way(list: &[(u32, u32)], item: u32) -> Option<u32> {
+    for way in 0..2 {
+        if !list
+            .iter()
+            .any(|entry| entry.0 % 2 == item % 2 && entry.1 == way)
+        {
+            return Some(way);
+        }
+    }
+    None
+}
+
+fn plain_find(list: &[(u32, u32)], item: u32) -> Option<u32> {
+    let (_, way) = list.iter().find(|entry| entry.0 == item)?;
+    Some(*way)
+}
+
+fn found_way(memory: &Small, item: u32) -> Option<u32> {
+    let (way, _) = memory.find(ItemId(item))?;
+    Some(way)
+}
+
+#[test]
+fn mixed_calls_beside_a_plain_list(rt: HostRuntime) -> Result<(), Fail> {
+    let mut memory = Small::new(rt.alloc(), 2)?;
+    let mut list = Vec::<(u32, u32)>::new(rt.alloc());
+    let calls = [
+        Call::Put(5),
+        Call::Put(2),
+        Call::Put(3),
+        Call::Put(1),
+        Call::Put(3),
+        Call::Remove(5),
+        Call::Put(1),
+        Call::Remove(0),
+        Call::Put(0),
+        Call::Put(4),
+        Call::Remove(2),
+        Call::Put(4),
+        Call::Remove(3),
+        Call::Remove(1),
+        Call::Put(3),
+    ];
+    for (turn, call) in calls.into_iter().enumerate() {
+        match call {
+            Call::Put(item) => {
+                let _ = put(&mut memory, item);
+                if plain_find(&list, item).is_none() {
+                    if let Some(way) = plain_way(&list, item) {
+                        list.push((item, way))?;
+                    }
+                }
+            }
+            Call::Remove(item) => {
+                let _ = memory.remove(ItemId(item));
+                list.retain(|entry| entry.0 != item);
+            }
+        }
+        for item in 0..6 {
+            let way = plain_find(&list, item);
+            assert_eq!(rt;
+                found_way(&memory, item),
+                way,
+                "item {item} after call {turn}"
+            );
+            let word = match way {
+                Some(_) => Some(item),
+                None => None,
+            };
+            assert_eq!(rt;
+                first_word(&memory, item),
+                word,
+                "word of {item} after call {turn}"
+            );
+        }
+    }
+    Ok(())
+}

@@ -1,5 +1,5 @@
 -- A search that gives the place gives the element too.
-use Rattle.std.proofs.Common.{◌≡◌, ◌∙◌, ap, sym, subst, ℕ, ◌+◌, ◌<◌, ◌≤◌, ◌⊎◌, inl, inr, Bool, true, false, true≢false, nat_lt, cond, List, length, Option, Some, None, get_or, refl, arith, le_trans, eq-or-lt_of_le, lt-ltb, le-ltb}
+use Rattle.std.proofs.Common.{◌≡◌, ◌∙◌, ap, sym, subst, ℕ, ◌+◌, ◌<◌, ◌≤◌, ◌⊎◌, inl, inr, Bool, true, false, true≢false, nat_lt, cond, List, length, Option, Some, None, get_or, refl, arith, eq-or-lt_of_le, lt-ltb}
 use Rattle.std.specs.List.{find, position, position_or_len, slice_get}
 use Rattle.std.proofs.lemmas.List.Folds.{find_at}
 use Rattle.std.proofs.lemmas.List.Sums.{passes_at_first, fails_before_first}
@@ -50,7 +50,3 @@ module _ {X : Type 0} (p : X → Bool) (xs : List X) (i : ℕ) (x : X) where
       by_cases : (i ≡ position_or_len p xs) ⊎ (i < position_or_len p xs) → position p xs ≡ Some i
       by_cases (inl e) = subst (λ k. cond (nat_lt k (length xs)) (Some k) None ≡ Some i) e (rw (lt-ltb i (length xs) h) refl)
       by_cases (inr less) = absurd (true≢false (sym passes ∙ ap p is ∙ fails_before_first p xs i x less))
-
--- no element is left
-pub found_nowhere : {X : Type 0} (p : X → Bool) (xs : List X) (i : ℕ) → i ≤ position_or_len p xs → length xs ≤ i → position p xs ≡ None
-found_nowhere p xs i before past = rw (le-ltb (position_or_len p xs) (length xs) (le_trans past before)) refl

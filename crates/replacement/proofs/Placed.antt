@@ -1,10 +1,9 @@
 -- What the list of the taken places and the entries in them give when a place is taken, freed or written.
-use Rattle.std.proofs.Common.{◌≡◌, ◌∙◌, ap, ap₂, sym, refl, subst, ℕ, zero, suc, ◌+◌, ◌<◌, ◌≤◌, Bool, true, false, cond, nat_eq, nat_lt, List, [], ◌∷◌, ◌++◌, length, get_or, set, remove, slice_get, arith, length-set, length-append, get_or-set_same, get_or-set_other, eq-eqb, ltb-true, lt-ltb}
+use Rattle.std.proofs.Common.{◌≡◌, ◌∙◌, ap, ap₂, sym, refl, subst, ℕ, zero, suc, ◌+◌, ◌<◌, ◌≤◌, Bool, true, false, cond, nat_eq, nat_lt, List, [], ◌∷◌, ◌++◌, length, get_or, set, remove, slice_get, arith, length-set, get_or-set_same, get_or-set_other, eq-eqb, ltb-true, lt-ltb}
 use Rattle.std.specs.List.{cons_option}
 use Rattle.std.proofs.lemmas.Bool.Decides.{nat_tests}
-use Rattle.std.proofs.lemmas.List.Edits.{length-remove}
 use Rattle.std.proofs.lemmas.List.Elements.{filter_map-append}
-use Rattle.std.proofs.lemmas.List.Sums.{sum_by-cons, sum_by_push, sum_by-remove, get_or-le-sum_by}
+use Rattle.std.proofs.lemmas.List.Sums.{sum_by-cons, sum_by_push, get_or-le-sum_by}
 use Rattle.std.proofs.lemmas.Option.{slice_get-get_or}
 use Rattle.std.proofs.lemmas.List.{get_or_default}
 use Rattle.replacement.specs.Places.{ArrivedList, in_order, times, IsPlaced}
@@ -144,33 +143,6 @@ module _ {X : Type 0} where
   remove_in_order xs [] i below h = absurd (omega arith)
   remove_in_order [] (q ∷ qs) i below h = absurd (omega (arith, below.0))
   remove_in_order (x ∷ xs) (q ∷ qs) i below h = remove_with (x ∷ xs) x (q ∷ qs) i below h
-
--- the last free place is taken
-pub placed_put : {n : ℕ} {order : List ℕ} {order_memory free_memory : ℕ} (free : List ℕ) (p memory : ℕ) → IsPlaced n order (free ++ p ∷ []) order_memory free_memory → order_memory ≤ memory → IsPlaced n (order ++ p ∷ []) free memory free_memory
-placed_put {n} {order} free p memory placed more = record {
-  once = λ q. omega (arith, placed.once q, sum_by_push (λ k. one_if (nat_eq q k)) order p, sum_by_push (λ k. one_if (nat_eq q k)) free p);
-  each = omega (arith, placed.each, length-append order (p ∷ []), length-append free (p ∷ []));
-  order_fits = omega (arith, placed.order_fits);
-  free_fits = placed.free_fits;
-}
-
--- a place is free again
-pub placed_removed : {n : ℕ} {order free : List ℕ} {order_memory free_memory : ℕ} (i p memory : ℕ) → IsPlaced n order free order_memory free_memory → i < length order → p ≡ get_or order i 0 → free_memory ≤ memory → IsPlaced n (remove order i) (free ++ p ∷ []) order_memory memory
-placed_removed {n} {order} {free} i p memory placed h is more = record {
-  once = λ q. omega (arith, placed.once q, sum_by-remove (λ k. one_if (nat_eq q k)) order i 0 h, ap {B = ℕ} (λ j. one_if (nat_eq q j)) is, sum_by_push (λ k. one_if (nat_eq q k)) free p);
-  each = omega (arith, placed.each, length-remove order i h, length-append free (p ∷ []));
-  order_fits = placed.order_fits;
-  free_fits = omega (arith, placed.free_fits);
-}
-
--- no place is taken yet
-pub all_free : {n order_memory free_memory : ℕ} (free : List ℕ) → ((p : ℕ) → times p free ≡ one_if (nat_lt p n)) → length free ≡ n → n ≤ order_memory → n ≤ free_memory → IsPlaced n [] free order_memory free_memory
-all_free free once each order_fits free_fits = record {
-  once = λ p. omega (arith, once p);
-  each = omega (arith, each);
-  order_fits = order_fits;
-  free_fits = free_fits;
-}
 
 test_more : (p n : ℕ) → one_if (nat_lt p n) + one_if (nat_eq p n) ≡ one_if (nat_lt p (n + 1))
 test_more p n = grind (arith, nat_tests)
