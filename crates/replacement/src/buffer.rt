@@ -71,7 +71,7 @@ fn nth_free<const WORDS: usize>(
 }
 
 /// Puts the item's entry in another state.
-fn set_states<const WORDS: usize>(
+fn set_state_of<const WORDS: usize>(
     entries: &mut Arrivals<BufferEntry<WORDS>>,
     item: ItemId,
     state: LeafState,
@@ -86,7 +86,7 @@ fn set_states<const WORDS: usize>(
 }
 
 /// Gives the item's entry other words.
-fn set_all_words<const WORDS: usize>(
+fn set_words_of<const WORDS: usize>(
     entries: &mut Arrivals<BufferEntry<WORDS>>,
     item: ItemId,
     words: &Words<WORDS>,
@@ -183,7 +183,7 @@ impl<const WORDS: usize> Buffer<WORDS> {
         requires { IsSome (find (buffers_item item) self.old.list) }
         ensures { self.new ≡ record self.old { list = map (with_state item state) self.old.list } }
     {
-        set_states(&mut self.entries, item, state);
+        set_state_of(&mut self.entries, item, state);
     }
 
     /// Gives the item's entry other words.
@@ -191,6 +191,6 @@ impl<const WORDS: usize> Buffer<WORDS> {
         requires { IsSome (find (buffers_item item) self.old.list) }
         ensures { self.new ≡ record self.old { list = map (with_words item words.entry) self.old.list } }
     {
-        set_all_words(&mut self.entries, item, &words);
+        set_words_of(&mut self.entries, item, &words);
     }
 }

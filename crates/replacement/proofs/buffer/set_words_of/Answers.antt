@@ -4,7 +4,7 @@ use Rattle.replacement.specs.Arrived.{with_words}
 use Rattle.replacement.proofs.First.{first_changed, none_changed}
 use Rattle.replacement.proofs.Once.{words_same}
 use Rattle.replacement.proofs.Placed.{arrived}
-use Rattle.replacement.proofs.buffer.set_all_words.Goals as goal
+use Rattle.replacement.proofs.buffer.set_words_of.Goals as goal
 
 pub returns-in-Some : goal.returns-in-Some
 returns-in-Some g c =
