@@ -179,3 +179,27 @@ fn mixed_calls_beside_a_plain_list(rt: HostRuntime) -> Result<(), Fail> {
     }
     Ok(())
 }
+
+/// Reserves two places, gives one of them back, and puts the copy in the other.
+fn put_in_reserved(parking: &mut Parking<4>, item: u32) -> bool {
+    if parking.reserve().is_err() || parking.reserve().is_err() {
+        return false;
+    }
+    parking.release();
+    if parking.words(ItemId(item)).is_some() {
+        return false;
+    }
+    parking.put_reserved(ItemId(item), words(item));
+    true
+}
+
+#[test]
+fn parking_uses_reserved_places(rt: HostRuntime) -> Result<(), Fail> {
+    let mut parking = Parking::<4>::new(rt.alloc(), 3)?;
+    assert!(rt; put_in_reserved(&mut parking, 3));
+    assert!(rt; put_in_reserved(&mut parking, 5));
+    assert!(rt; !put_in_reserved(&mut parking, 7));
+    assert_eq!(rt; parking.ready(3), Some(ItemId(5)));
+    assert_eq!(rt; parking.reserve(), Err(Full));
+    Ok(())
+}
