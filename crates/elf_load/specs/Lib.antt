@@ -1,0 +1,3 @@
+pub mod ImageRule
+pub mod ElfFile
+pub mod Written

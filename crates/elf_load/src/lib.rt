@@ -1,0 +1,14 @@
+//! ELF images from the outside: 32 bits, little-endian, RISC-V, executable. `load` reads a file's bytes as an image or says
+//! what it is refused for; `write_image` writes one plain form.
+#![tactic(auto)]
+
+mod headers;
+mod image;
+mod loading;
+mod refusal;
+mod writing;
+
+pub use image::{Image, Segment};
+pub use loading::load;
+pub use refusal::ImageRefusal;
+pub use writing::write_image;
