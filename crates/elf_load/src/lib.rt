@@ -2,12 +2,14 @@
 //! what it is refused for; `write_image` writes one plain form.
 #![tactic(auto)]
 
+mod examples;
 mod headers;
 mod image;
 mod loading;
 mod refusal;
 mod writing;
 
+pub use examples::{contradictory_images, cut_images, segment_edges};
 pub use image::{Image, Segment};
 pub use loading::load;
 pub use refusal::ImageRefusal;
