@@ -1,5 +1,5 @@
 -- The image of an ELF file's bytes, or the first refusal: 32 bits, little-endian, executable, RISC-V.
-use Rattle.std.specs.Prelude.{ℕ, ◌+◌, ◌*◌, Bool, true, false, not, ◌&&◌, ◌||◌, nat_eq, nat_lt, List, [], ◌∷◌, ◌++◌, map, length, take, drop, sum_by, find, Option, Some, None, is_none, Result, Ok, Err, slice_index, bit_and, if◌then◌else◌}
+use Rattle.std.specs.Prelude.{ℕ, ◌+◌, ◌*◌, Bool, true, false, not, ◌&&◌, ◌||◌, nat_eq, nat_lt, List, [], ◌∷◌, ◌++◌, map, length, take, drop, filter, sum_by, find, Option, Some, None, is_none, Result, Ok, Err, slice_index, bit_and, if◌then◌else◌}
 use Rattle.std.specs.List.{flat_map, range_with_len}
 use Rattle.byteorder.specs.Endian.{little_number}
 use Rattle.ddm_types.specs.ItemTable.{item_count, items_of}
@@ -129,9 +129,16 @@ bytes_outside file_length h = nat_lt h.memsz h.filesz || (nat_lt 0 h.filesz && n
 abbrev pub wraps : ProgramHeader → Bool
 wraps h = nat_lt 0x100000000 (h.vaddr + h.memsz)
 
+-- the memory of its segment, without the file's bytes of it
+abbrev pub memory_of : ProgramHeader → SegmentValue
+memory_of h = record { header = h.number; vaddr = h.vaddr; flags = h.flags; bytes = []; memsz = h.memsz }
+
+abbrev pub header_span : ProgramHeader → Span
+header_span h = segment_span (memory_of h)
+
 -- both are segments, and a byte of memory is in both
 abbrev pub meets : ProgramHeader → ProgramHeader → Bool
-meets h a = is_load a && (is_load h && (nat_lt 0 a.memsz && (nat_lt 0 h.memsz && (nat_lt a.vaddr (h.vaddr + h.memsz) && nat_lt h.vaddr (a.vaddr + a.memsz)))))
+meets h a = is_load a && (is_load h && spans_meet (header_span a) (header_span h))
 
 abbrev pub overlap_with : ProgramHeader → Option ProgramHeader → Option ImageRefusal
 overlap_with h None = None
@@ -153,70 +160,70 @@ headers_refusal file_length earlier (h ∷ hs) = first_some (header_refusal file
 
 -- ---- the image
 
--- the segment of a program header, unless it has no memory
-abbrev pub segment_of : List ℕ → ProgramHeader → List SegmentValue
-segment_of file h =
-    if is_load h && nat_lt 0 h.memsz
-    then record { header = h.number; vaddr = h.vaddr; flags = h.flags; bytes = take h.filesz (drop h.offset file); memsz = h.memsz } ∷ []
-    else []
+abbrev pub has_memory : ProgramHeader → Bool
+has_memory h = is_load h && nat_lt 0 h.memsz
+
+-- the headers of the image's segments: those of no memory are left out
+unfoldable pub loaded_headers : List ℕ → List ProgramHeader
+loaded_headers file = filter has_memory (headers_of file)
+
+-- the segment of a program header: its memory begins with these bytes of the file
+abbrev pub segment_of : List ℕ → ProgramHeader → SegmentValue
+segment_of file h = record (memory_of h) { bytes = take h.filesz (drop h.offset file) }
 
 unfoldable pub segments_of : List ℕ → List ProgramHeader → List SegmentValue
-segments_of file headers = flat_map (segment_of file) headers
+segments_of file loaded = map (segment_of file) loaded
 
 unfoldable pub image_in : List ℕ → ImageValue
-image_in file = record { entry = entry_of file; segments = segments_of file (headers_of file) }
+image_in file = record { entry = entry_of file; segments = segments_of file (loaded_headers file) }
 
 -- ---- what the segments are refused for
 
-abbrev pub code_bytes_of : SegmentValue → ℕ
-code_bytes_of s = if is_executable s then s.memsz else 0
+abbrev pub code_bytes_of : ProgramHeader → ℕ
+code_bytes_of h = if is_executable (memory_of h) then h.memsz else 0
 
 -- the memory of executable segments
-unfoldable pub code_bytes : List SegmentValue → ℕ
-code_bytes segments = sum_by code_bytes_of segments
+unfoldable pub code_bytes : List ProgramHeader → ℕ
+code_bytes loaded = sum_by code_bytes_of loaded
 
 -- how many items of this many bytes the segments overlap
-unfoldable pub items_met : ℕ → List SegmentValue → ℕ
-items_met item_bytes segments = item_count (items_of item_bytes (map segment_span segments))
+unfoldable pub items_met : ℕ → List ProgramHeader → ℕ
+items_met item_bytes loaded = item_count (items_of item_bytes (map header_span loaded))
 
-abbrev is_empty : List SegmentValue → Bool
-is_empty [] = true
-is_empty (s ∷ ss) = false
-
--- no more than 1 MiB of code
-unfoldable pub code_refusal : List SegmentValue → Option ImageRefusal
-code_refusal segments = first_refusal (
-    refused_if (is_empty segments) ImageRefusal.NoSegments ∷
-    refused_if (nat_lt 0x100000 (code_bytes segments)) (ImageRefusal.TooMuchCode (code_bytes segments)) ∷
+-- at least one segment, and no more than 1 MiB of code
+unfoldable pub code_refusal : List ProgramHeader → Option ImageRefusal
+code_refusal loaded = first_refusal (
+    refused_if (nat_eq (length loaded) 0) ImageRefusal.NoSegments ∷
+    refused_if (nat_lt 0x100000 (code_bytes loaded)) (ImageRefusal.TooMuchCode (code_bytes loaded)) ∷
     [])
 
-unfoldable pub items_refusal : ℕ → List SegmentValue → Option ImageRefusal
-items_refusal item_bytes segments = refused_if (nat_lt 65536 (items_met item_bytes segments)) (ImageRefusal.TooManyItems (items_met item_bytes segments))
+unfoldable pub items_refusal : ℕ → List ProgramHeader → Option ImageRefusal
+items_refusal item_bytes loaded = refused_if (nat_lt 65536 (items_met item_bytes loaded)) (ImageRefusal.TooManyItems (items_met item_bytes loaded))
 
 unfoldable pub entry_refusal : ImageValue → Option ImageRefusal
 entry_refusal image = refused_if (is_none (word_at (start_code image) image.entry)) (ImageRefusal.BadEntry image.entry)
 
 -- ---- all in order: the file, then each program header, then what the segments make together
 
-abbrev by_entry : Option ImageRefusal → ImageValue → Result ImageValue ImageRefusal
-by_entry (Some r) image = Err r
-by_entry None image = Ok image
+abbrev pub by_entry : Option ImageRefusal → List ℕ → Result ImageValue ImageRefusal
+by_entry (Some r) file = Err r
+by_entry None file = Ok (image_in file)
 
-abbrev by_items : Option ImageRefusal → ImageValue → Result ImageValue ImageRefusal
-by_items (Some r) image = Err r
-by_items None image = by_entry (entry_refusal image) image
+abbrev pub by_items : Option ImageRefusal → List ℕ → Result ImageValue ImageRefusal
+by_items (Some r) file = Err r
+by_items None file = by_entry (entry_refusal (image_in file)) file
 
-abbrev by_code : Option ImageRefusal → ℕ → ImageValue → Result ImageValue ImageRefusal
-by_code (Some r) item_bytes image = Err r
-by_code None item_bytes image = by_items (items_refusal item_bytes image.segments) image
+abbrev pub by_code : Option ImageRefusal → ℕ → List ℕ → Result ImageValue ImageRefusal
+by_code (Some r) item_bytes file = Err r
+by_code None item_bytes file = by_items (items_refusal item_bytes (loaded_headers file)) file
 
-abbrev by_headers : Option ImageRefusal → ℕ → ImageValue → Result ImageValue ImageRefusal
-by_headers (Some r) item_bytes image = Err r
-by_headers None item_bytes image = by_code (code_refusal image.segments) item_bytes image
+abbrev pub by_headers : Option ImageRefusal → ℕ → List ℕ → Result ImageValue ImageRefusal
+by_headers (Some r) item_bytes file = Err r
+by_headers None item_bytes file = by_code (code_refusal (loaded_headers file)) item_bytes file
 
-abbrev by_file : Option ImageRefusal → ℕ → List ℕ → Result ImageValue ImageRefusal
+abbrev pub by_file : Option ImageRefusal → ℕ → List ℕ → Result ImageValue ImageRefusal
 by_file (Some r) item_bytes file = Err r
-by_file None item_bytes file = by_headers (headers_refusal (length file) [] (headers_of file)) item_bytes (image_in file)
+by_file None item_bytes file = by_headers (headers_refusal (length file) [] (headers_of file)) item_bytes file
 
 -- the image of a file for items of this many bytes, or the first refusal
 unfoldable pub image_of : ℕ → List ℕ → Result ImageValue ImageRefusal

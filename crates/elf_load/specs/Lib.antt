@@ -6,3 +6,4 @@ pub mod SmallFile
 pub mod SegmentEdges
 pub mod CutImages
 pub mod ContradictoryImages
+pub mod LinkedImage

@@ -1,6 +1,7 @@
 ghost use Rattle.elf_load.specs.SegmentEdges.{SegmentEdges};
 ghost use Rattle.elf_load.specs.CutImages.{CutImages};
 ghost use Rattle.elf_load.specs.ContradictoryImages.{ContradictoryImages};
+ghost use Rattle.elf_load.specs.LinkedImage.{LinkedImage};
 
 /// Segments at the edges of memory and of each other.
 pub fn segment_edges()
@@ -15,4 +16,9 @@ pub fn cut_images()
 /// Files whose fields contradict each other or the limits.
 pub fn contradictory_images()
     ensures { ContradictoryImages }
+{}
+
+/// An image as linkers make it.
+pub fn linked_image()
+    ensures { LinkedImage }
 {}

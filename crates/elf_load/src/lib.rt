@@ -9,7 +9,7 @@ mod loading;
 mod refusal;
 mod writing;
 
-pub use examples::{contradictory_images, cut_images, segment_edges};
+pub use examples::{contradictory_images, cut_images, linked_image, segment_edges};
 pub use image::{Image, Segment};
 pub use loading::load;
 pub use refusal::ImageRefusal;
