@@ -21,9 +21,6 @@ abbrev pub word_in : List ℕ → ℕ → ℕ
 word_in file place = little_number 4 (drop place file)
 
 -- the fields of the ELF header, by their places
-abbrev pub machine_of : List ℕ → ℕ
-machine_of file = half_at file 18
-
 abbrev pub entry_of : List ℕ → ℕ
 entry_of file = word_in file 24
 
@@ -75,14 +72,12 @@ is_elf file = not (nat_lt (length file) 52) && (nat_eq (slice_index file 0) 0x7f
 abbrev pub is_right_class : List ℕ → Bool
 is_right_class file = nat_eq (slice_index file 4) 1 && nat_eq (slice_index file 5) 1
 
--- what the first bytes are refused for
-unfoldable pub identity_refusal : List ℕ → Option ImageRefusal
-identity_refusal file = first_refusal (
-    refused_if (nat_lt 0x400000 (length file)) ImageRefusal.TooLong ∷
-    refused_if (not (is_elf file)) ImageRefusal.NotElf ∷
+-- what the fields that say what kind of file it is are refused for
+unfoldable pub kind_refusal : List ℕ → Option ImageRefusal
+kind_refusal file = first_refusal (
     refused_if (not (is_right_class file)) ImageRefusal.WrongClass ∷
     refused_if (not (nat_eq (half_at file 16) 2)) ImageRefusal.NotExecutable ∷
-    refused_if (not (nat_eq (machine_of file) 243)) ImageRefusal.WrongMachine ∷
+    refused_if (not (nat_eq (half_at file 18) 243)) ImageRefusal.WrongMachine ∷
     [])
 
 -- what the flags are refused for
@@ -110,7 +105,13 @@ table_refusal file = first_refusal (
     [])
 
 unfoldable pub file_refusal : List ℕ → Option ImageRefusal
-file_refusal file = first_refusal (identity_refusal file ∷ flags_refusal file ∷ table_refusal file ∷ [])
+file_refusal file = first_refusal (
+    refused_if (nat_lt 0x400000 (length file)) ImageRefusal.TooLong ∷
+    refused_if (not (is_elf file)) ImageRefusal.NotElf ∷
+    kind_refusal file ∷
+    flags_refusal file ∷
+    table_refusal file ∷
+    [])
 
 -- ---- what a program header is refused for
 

@@ -1,5 +1,6 @@
 pub mod ImageRule
 pub mod ElfFile
+pub mod HeaderRule
 pub mod Written
 pub mod Computing
 pub mod SmallFile

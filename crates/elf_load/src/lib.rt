@@ -3,10 +3,14 @@
 #![tactic(auto)]
 
 mod examples;
+mod fields;
+mod file_rules;
+mod header_rules;
 mod headers;
 mod image;
 mod loading;
 mod refusal;
+mod sizes;
 mod writing;
 
 pub use examples::{contradictory_images, cut_images, linked_image, segment_edges};

@@ -1,5 +1,6 @@
 ghost use Rattle.std.specs.Prelude.{◌≡◌};
 ghost use Rattle.elf_load.specs.declared.refusal.ImageRefusal.TheVariants.{NoMemory};
+ghost use Rattle.elf_load.specs.ElfFile.{first_refusal, refused_if};
 
 use thiserror::Error;
 
@@ -62,4 +63,24 @@ impl From<ddm_types::NoMemory> for ImageRefusal {
     fn from(_: ddm_types::NoMemory) -> Self {
         ImageRefusal::NoMemory
     }
+}
+
+/// The refusal, where there is a cause for it.
+
+pub fn refused_if(refused: bool, refusal: ImageRefusal) -> Option<ImageRefusal>
+    ensures { result ≡ refused_if refused refusal }
+{
+    if refused { Some(refusal) } else { None }
+}
+
+/// The first of several.
+pub fn first_refusal(refusals: &[Option<ImageRefusal>]) -> Option<ImageRefusal>
+    ensures { result ≡ first_refusal refusals.now }
+{
+    for refusal in refusals {
+        if let Some(refusal) = refusal {
+            return Some(*refusal);
+        }
+    }
+    None
 }
