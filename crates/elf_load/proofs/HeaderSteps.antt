@@ -12,7 +12,7 @@ use Rattle.elf_load.specs.declared.refusal.ImageRefusal.{ImageRefusal}
 use Rattle.ddm_types.specs.declared.sizes.Span.{Span}
 use Rattle.ddm_types.specs.ItemTable.{span_end}
 use Rattle.elf_load.specs.declared.headers.ProgramHeader.{ProgramHeader}
-use Rattle.elf_load.specs.ElfFile.{header_at, header_span, code_bytes_of, header_refusal, headers_refusal}
+use Rattle.elf_load.specs.ElfFile.{segment_of, header_at, header_span, code_bytes_of, header_refusal, headers_refusal}
 
 pub more_headers : (file : List ℕ) (k : ℕ) → map (header_at file) (range_with_len 0 (k + 1)) ≡ map (header_at file) (range_with_len 0 k) ++ header_at file k ∷ []
 more_headers file k = map-range_with_len_more (header_at file) 0 k k (omega arith)
@@ -50,3 +50,6 @@ find_in_next p hs k d inside fails = rw (add-one, drop-cons hs k d, fails) refl
 
 pub find_in_here : (p : ProgramHeader → Bool) (hs : List ProgramHeader) (k : ℕ) (d : ProgramHeader) → k < length hs → p (get_or hs k d) ≡ true → find p (drop k hs) ≡ Some (get_or hs k d)
 find_in_here p hs k d inside holds = rw (drop-cons hs k d, holds) refl
+
+pub more_segments : (file : List ℕ) (hs : List ProgramHeader) (k : ℕ) (d : ProgramHeader) → k < length hs → map (segment_of file) (take (k + 1) hs) ≡ map (segment_of file) (take k hs) ++ segment_of file (get_or hs k d) ∷ []
+more_segments file hs k d inside = rw add-one (ap (λ (l : List ProgramHeader). map (segment_of file) l) (take-suc hs k d inside) ∙ map-append (segment_of file) (take k hs) (get_or hs k d ∷ []))

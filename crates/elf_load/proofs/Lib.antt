@@ -1,2 +1,5 @@
 pub mod Finds
 pub mod HeaderSteps
+pub mod SegmentBytes
+pub mod CodeParts
+pub mod CodeOrder

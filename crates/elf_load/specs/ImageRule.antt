@@ -1,5 +1,5 @@
 -- What holds of every image.
-use Rattle.std.specs.Prelude.{◌≡◌, ◌+◌, ◌^◌, ◌≤◌, Bool, true, false, is_some, List, length, All, AllPairs}
+use Rattle.std.specs.Prelude.{◌≡◌, ◌+◌, ◌^◌, ◌<◌, ◌≤◌, Bool, true, false, is_some, List, length, All, AllPairs}
 use Rattle.ddm_types.specs.CodeMap.{CodeWord, word_at}
 use Rattle.tree_model.specs.Start.{SegmentValue, ImageValue, segment_span, spans_meet, start_code}
 
@@ -10,6 +10,10 @@ FitsMemory s = length s.bytes ≤ s.memsz
 -- the segment's memory ends at the last address or before
 abbrev pub EndsInside : SegmentValue → Type 0
 EndsInside s = s.vaddr + s.memsz ≤ 2 ^ 32
+
+-- the segment has memory
+abbrev pub HasMemory : SegmentValue → Type 0
+HasMemory s = 0 < s.memsz
 
 -- no byte of memory is in both segments
 abbrev pub AreApart : SegmentValue → SegmentValue → Type 0

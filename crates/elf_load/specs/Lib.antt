@@ -1,6 +1,7 @@
 pub mod ImageRule
 pub mod ElfFile
 pub mod HeaderRule
+pub mod CodeOf
 pub mod Written
 pub mod Computing
 pub mod SmallFile

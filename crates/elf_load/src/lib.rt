@@ -2,6 +2,7 @@
 //! what it is refused for; `write_image` writes one plain form.
 #![tactic(auto)]
 
+mod code;
 mod examples;
 mod fields;
 mod file_rules;
@@ -10,6 +11,7 @@ mod headers;
 mod image;
 mod loading;
 mod refusal;
+mod segments;
 mod sizes;
 mod writing;
 
