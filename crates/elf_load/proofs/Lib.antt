@@ -3,3 +3,4 @@ pub mod HeaderSteps
 pub mod SegmentBytes
 pub mod CodeParts
 pub mod CodeOrder
+pub mod Judged

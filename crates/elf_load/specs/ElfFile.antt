@@ -201,26 +201,33 @@ code_refusal loaded = first_refusal (
 unfoldable pub items_refusal : ℕ → List ProgramHeader → Option ImageRefusal
 items_refusal item_bytes loaded = refused_if (nat_lt 65536 (items_met item_bytes loaded)) (ImageRefusal.TooManyItems (items_met item_bytes loaded))
 
+abbrev pub code_then_items : Option ImageRefusal → ℕ → List ProgramHeader → Option ImageRefusal
+code_then_items (Some r) item_bytes loaded = Some r
+code_then_items None item_bytes loaded = items_refusal item_bytes loaded
+
+-- what the segments are refused for together
+unfoldable pub sizes_refusal : ℕ → List ProgramHeader → Option ImageRefusal
+sizes_refusal item_bytes loaded = code_then_items (code_refusal loaded) item_bytes loaded
+
 unfoldable pub entry_refusal : ImageValue → Option ImageRefusal
 entry_refusal image = refused_if (is_none (word_at (start_code image) image.entry)) (ImageRefusal.BadEntry image.entry)
 
 -- ---- all in order: the file, then each program header, then what the segments make together
 
-abbrev pub by_entry : Option ImageRefusal → List ℕ → Result ImageValue ImageRefusal
-by_entry (Some r) file = Err r
-by_entry None file = Ok (image_in file)
+abbrev pub by_entry : Option ImageRefusal → ImageValue → Result ImageValue ImageRefusal
+by_entry (Some r) image = Err r
+by_entry None image = Ok image
 
-abbrev pub by_items : Option ImageRefusal → List ℕ → Result ImageValue ImageRefusal
-by_items (Some r) file = Err r
-by_items None file = by_entry (entry_refusal (image_in file)) file
+unfoldable pub judged_entry : ImageValue → Result ImageValue ImageRefusal
+judged_entry image = by_entry (entry_refusal image) image
 
-abbrev pub by_code : Option ImageRefusal → ℕ → List ℕ → Result ImageValue ImageRefusal
-by_code (Some r) item_bytes file = Err r
-by_code None item_bytes file = by_items (items_refusal item_bytes (loaded_headers file)) file
+abbrev pub by_sizes : Option ImageRefusal → List ℕ → Result ImageValue ImageRefusal
+by_sizes (Some r) file = Err r
+by_sizes None file = judged_entry (image_in file)
 
 abbrev pub by_headers : Option ImageRefusal → ℕ → List ℕ → Result ImageValue ImageRefusal
 by_headers (Some r) item_bytes file = Err r
-by_headers None item_bytes file = by_code (code_refusal (loaded_headers file)) item_bytes file
+by_headers None item_bytes file = by_sizes (sizes_refusal item_bytes (loaded_headers file)) file
 
 abbrev pub by_file : Option ImageRefusal → ℕ → List ℕ → Result ImageValue ImageRefusal
 by_file (Some r) item_bytes file = Err r

@@ -1,6 +1,6 @@
 ghost use Rattle.std.specs.Prelude.{◌≡◌, ◌⊎◌, ◌+◌, ◌^◌, ◌<◌, ◌≤◌, All, IfOk, IfErr, length, None, Some, map};
 ghost use Rattle.ddm_types.specs.ItemTable.{IsItemSize};
-ghost use Rattle.elf_load.specs.ElfFile.{code_bytes, code_bytes_of, code_refusal, header_span, items_met, items_refusal};
+ghost use Rattle.elf_load.specs.ElfFile.{code_bytes, code_bytes_of, code_refusal, header_span, items_met, sizes_refusal};
 
 use crate::headers::ProgramHeader;
 use crate::refusal::{ImageRefusal, first_refusal, refused_if};
@@ -39,7 +39,7 @@ fn code_bytes(loaded: &[ProgramHeader]) -> u64
 
 /// What the number of segments and their code are refused for.
 #[tactic(auto, unfolding(crate::specs::ElfFile::code_refusal))]
-pub fn code_refusal(loaded: &[ProgramHeader]) -> Option<ImageRefusal>
+fn code_refusal(loaded: &[ProgramHeader]) -> Option<ImageRefusal>
     requires { length loaded.now ≤ 64 }
     ensures { result ≡ code_refusal loaded.now }
 {
@@ -82,17 +82,21 @@ fn items_met(alloc: Global, loaded: &[ProgramHeader], item_bytes: u32) -> Result
     count_items(alloc, &spans, item_bytes)
 }
 
-/// What the number of items is refused for.
-#[tactic(auto, unfolding(crate::specs::ElfFile::items_refusal))]
-pub fn items_refusal(
+/// What the segments are refused for together.
+#[tactic(auto, unfolding(crate::specs::ElfFile::sizes_refusal, crate::specs::ElfFile::items_refusal))]
+pub fn sizes_refusal(
     alloc: Global,
     loaded: &[ProgramHeader],
     item_bytes: u32,
 ) -> Result<Option<ImageRefusal>, NoMemory>
     requires size { IsItemSize item_bytes }
+    requires few { length loaded.now ≤ 64 }
     requires ends { All (λ h. h.vaddr + h.memsz ≤ 2 ^ 32) loaded.now }
-    ensures { IfOk result (λ refusal. refusal ≡ items_refusal item_bytes loaded.now) }
+    ensures { IfOk result (λ refusal. refusal ≡ sizes_refusal item_bytes loaded.now) }
 {
+    if let Some(refusal) = code_refusal(loaded) {
+        return Ok(Some(refusal));
+    }
     let count = items_met(alloc, loaded, item_bytes)?;
     Ok(refused_if(count > MOST_ITEMS, ImageRefusal::TooManyItems(count)))
 }
