@@ -4,3 +4,4 @@ pub mod SegmentBytes
 pub mod CodeParts
 pub mod CodeOrder
 pub mod Judged
+pub mod Pushes
