@@ -5,3 +5,4 @@ pub mod CodeParts
 pub mod CodeOrder
 pub mod Judged
 pub mod Pushes
+pub mod ReadBack

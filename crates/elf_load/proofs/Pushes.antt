@@ -72,7 +72,7 @@ length-halves (n ∷ ns) =
     let rest = length-halves ns in
     rw (length-append (little_bytes 2 n) (halves ns), rest) (omega arith)
 
-length-program_header : (offset : ℕ) (s : SegmentValue) → length (program_header offset s) ≡ 32
+pub length-program_header : (offset : ℕ) (s : SegmentValue) → length (program_header offset s) ≡ 32
 unfolding program_header
 length-program_header offset s = length-words (1 ∷ offset ∷ s.vaddr ∷ s.vaddr ∷ length s.bytes ∷ s.memsz ∷ s.flags ∷ 1 ∷ [])
 

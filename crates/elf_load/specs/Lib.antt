@@ -3,6 +3,7 @@ pub mod ElfFile
 pub mod HeaderRule
 pub mod CodeOf
 pub mod Written
+pub mod LoadsBack
 pub mod Computing
 pub mod SmallFile
 pub mod SegmentEdges

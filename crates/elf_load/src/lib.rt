@@ -11,6 +11,7 @@ mod headers;
 mod image;
 mod loading;
 mod refusal;
+mod round_trip;
 mod segments;
 mod sizes;
 mod writing;
@@ -19,4 +20,8 @@ pub use examples::{contradictory_images, cut_images, linked_image, segment_edges
 pub use image::{Image, Segment};
 pub use loading::load;
 pub use refusal::ImageRefusal;
+pub use round_trip::written_loads_back;
 pub use writing::write_image;
+
+#[cfg(test)]
+mod tests;
