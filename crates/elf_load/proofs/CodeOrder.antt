@@ -1,8 +1,8 @@
 -- The code of disjoint segments, in whatever order they stand, is their code in order of address.
-use Rattle.std.proofs.Common.{◌≡◌, ℕ, ◌+◌, ◌*◌, ◌<◌, ◌≤◌, suc, Bool, true, false, List, [], ◌∷◌, ◌++◌, length, Option, Some, None, refl, sym, ap, ◌∙◌, arith, inl, inr, ◌⊎◌, ◌≢◌, All, AllPairs, fold}
+use Rattle.std.proofs.Common.{◌≡◌, ℕ, ◌+◌, ◌*◌, ◌<◌, ◌≤◌, suc, true, false, List, [], ◌∷◌, ◌++◌, length, Option, None, refl, sym, ap, ◌∙◌, arith, inl, inr, ◌⊎◌, ◌≢◌, All, AllPairs, fold}
 use Rattle.std.specs.Prelude.{nat_lt}
 use Rattle.std.specs.Option.{option_or}
-use Rattle.std.specs.List.{flat_map, range_with_len}
+use Rattle.std.specs.List.{flat_map}
 use Rattle.std.proofs.lemmas.Bool.{cases_lt, cases_Bool}
 use Rattle.std.proofs.lemmas.Bool.Decides.{nat_tests}
 use Rattle.std.proofs.lemmas.List.Elements.{All-head, All-tail}
@@ -11,7 +11,7 @@ use Rattle.ddm_types.specs.CodeMap.{CodeWord, word_at, words_from, code_of}
 use Rattle.ddm_types.proofs.Entries.{AreFrom, IsAscending, from-weaker, from-append, word_at-nil, word_at-other, word_at-append, word_at_below, option_or-none, code_of-unique}
 use Rattle.tree_model.specs.Start.{SegmentValue, ImageValue, is_executable, start_code}
 use Rattle.elf_load.specs.ImageRule.{HasMemory, AreApart}
-use Rattle.elf_load.specs.CodeOf.{first_word, past_word, word_count, numbered_word, segment_words, segment_code, put_segment, IsInSegment}
+use Rattle.elf_load.specs.CodeOf.{first_word, word_count, numbered_word, segment_words, segment_code, put_segment, IsInSegment}
 use Rattle.elf_load.proofs.CodeParts.{apart-bytes}
 
 pub start_code-is : (i : ImageValue) → start_code i ≡ flat_map segment_code (fold put_segment [] i.segments)

@@ -1,12 +1,12 @@
 -- The parts of code, one for each segment.
-use Rattle.std.proofs.Common.{◌≡◌, ℕ, zero, suc, ◌+◌, ◌-◌, ◌*◌, ◌%◌, ◌^◌, ◌<◌, ◌≤◌, Bool, true, false, List, [], ◌∷◌, ◌++◌, map, length, take, get_or, refl, sym, ap, ◌∙◌, arith, add-one, All, AllPairs}
+use Rattle.std.proofs.Common.{◌≡◌, ℕ, zero, suc, ◌+◌, ◌*◌, ◌%◌, ◌^◌, ◌<◌, ◌≤◌, Bool, true, false, List, [], ◌∷◌, ◌++◌, length, take, get_or, refl, sym, ap, arith, add-one, All, AllPairs}
 use Rattle.std.specs.Prelude.{◌&&◌, nat_lt}
-use Rattle.std.specs.List.{flat_map, range_with_len}
+use Rattle.std.specs.List.{flat_map}
 use Rattle.std.proofs.Math.Seq.{take-suc}
 use Rattle.std.proofs.lemmas.Bool.Decides.{nat_tests}
 use Rattle.std.proofs.lemmas.List.FromFn.{length-map-range_with_len}
 use Rattle.ddm_types.specs.declared.code_map.CodePart.{CodePart}
-use Rattle.ddm_types.specs.CodeMap.{CodeWord, words_from, part_words, part_end, IsInPart, AreDisjoint}
+use Rattle.ddm_types.specs.CodeMap.{words_from, part_words, part_end, IsInPart, AreDisjoint}
 use Rattle.tree_model.specs.Start.{SegmentValue, is_executable}
 use Rattle.elf_load.specs.ImageRule.{EndsInside, AreApart}
 use Rattle.elf_load.specs.CodeOf.{first_word, word_count, segment_words, numbered_word, segment_code, IsInSegment, IsPartOf, ArePartsOf}

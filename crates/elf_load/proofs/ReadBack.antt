@@ -1,20 +1,20 @@
 -- Reading what was written.
-use Rattle.std.proofs.Common.{◌≡◌, ℕ, zero, suc, ◌+◌, ◌*◌, ◌^◌, ◌<◌, ◌≤◌, Bool, true, false, List, [], ◌∷◌, ◌++◌, map, length, take, drop, get_or, Option, Some, None, Result, Ok, Err, refl, sym, ap, subst, ◌∙◌, arith, All, append_assoc, length-append, inl, inr}
+use Rattle.std.proofs.Common.{◌≡◌, ℕ, zero, suc, ◌+◌, ◌*◌, ◌^◌, ◌<◌, List, [], ◌∷◌, ◌++◌, map, length, take, drop, get_or, Option, Some, None, Ok, refl, sym, ap, ◌∙◌, arith, All, append_assoc, length-append, inl, inr}
 use Rattle.std.specs.Prelude.{filter, nat_lt}
-use Rattle.std.specs.List.{flat_map, range_with_len}
+use Rattle.std.specs.List.{range_with_len}
 use Rattle.std.proofs.lemmas.Bool.{cases_Bool}
 use Rattle.std.proofs.lemmas.List.{drop-drop}
 use Rattle.std.proofs.Math.Seq.{drop-append_seam, take-append_seam}
 use Rattle.std.proofs.lemmas.List.Elements.{All-head, All-tail}
-use Rattle.byteorder.specs.Endian.{little_bytes, little_number}
+use Rattle.byteorder.specs.Endian.{little_number}
 use Rattle.byteorder.specs.Numbers.{little_number-reads_back}
 use Rattle.tree_model.specs.Start.{SegmentValue, ImageValue}
 use Rattle.elf_load.specs.declared.headers.ProgramHeader.{ProgramHeader}
 use Rattle.elf_load.specs.declared.refusal.ImageRefusal.{ImageRefusal}
-use Rattle.elf_load.specs.ElfFile.{word_in, half_at, entry_of, table_of, header_count, header_place, header_at, headers_of, has_memory, loaded_headers, segment_of, segments_of, image_in, image_of, by_file, by_headers, by_sizes, by_entry, judged_entry, entry_refusal, file_refusal, headers_refusal, sizes_refusal}
+use Rattle.elf_load.specs.ElfFile.{word_in, entry_of, table_of, header_count, header_place, header_at, headers_of, has_memory, loaded_headers, segment_of, segments_of, image_in, image_of, by_file, by_headers, by_sizes, by_entry, judged_entry, entry_refusal, file_refusal, headers_refusal, sizes_refusal}
 use Rattle.elf_load.specs.ImageRule.{image_value}
-use Rattle.elf_load.specs.Written.{halves, words, identity, file_header, program_header, program_headers, segment_bytes, written_image}
-use Rattle.elf_load.specs.LoadsBack.{HasWords, IsWritable, numbered_from, has_size, loaded_back, LoadsBack}
+use Rattle.elf_load.specs.Written.{halves, words, file_header, program_header, program_headers, segment_bytes, written_image}
+use Rattle.elf_load.specs.LoadsBack.{HasWords, numbered_from, has_size, loaded_back, LoadsBack}
 use Rattle.elf_load.proofs.Pushes.{length-file_header, length-program_headers, length-program_header, room_for_bytes}
 
 -- ---- only the file's own image is accepted

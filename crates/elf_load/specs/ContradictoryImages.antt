@@ -1,5 +1,5 @@
 -- Files whose fields contradict each other or the limits.
-use Rattle.std.specs.Prelude.{◌≡◌, ℕ, List, [], ◌∷◌, Err}
+use Rattle.std.specs.Prelude.{◌≡◌, [], ◌∷◌, Err}
 use Rattle.elf_load.specs.declared.refusal.ImageRefusal.TheVariants.{WrongClass, TooManyHeaders, HeaderOutside, Dynamic, SegmentsOverlap, NoSegments, BadEntry}
 use Rattle.elf_load.specs.SmallFile.{small_file, changed_at, read_small}
 

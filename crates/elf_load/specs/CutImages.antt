@@ -1,5 +1,5 @@
 -- Files that are cut short.
-use Rattle.std.specs.Prelude.{◌≡◌, ℕ, List, [], ◌++◌, map, length, take, replicate, Result, Err}
+use Rattle.std.specs.Prelude.{◌≡◌, ℕ, List, ◌++◌, map, length, take, replicate, Result, Err}
 use Rattle.std.specs.List.{range_with_len}
 use Rattle.tree_model.specs.Start.{ImageValue}
 use Rattle.elf_load.specs.declared.refusal.ImageRefusal.{ImageRefusal}

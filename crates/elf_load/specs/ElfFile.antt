@@ -1,6 +1,6 @@
 -- The image of an ELF file's bytes, or the first refusal: 32 bits, little-endian, executable, RISC-V.
 use Rattle.std.specs.Prelude.{ℕ, ◌+◌, ◌*◌, Bool, true, false, not, ◌&&◌, ◌||◌, nat_eq, nat_lt, List, [], ◌∷◌, ◌++◌, map, length, take, drop, filter, sum_by, find, Option, Some, None, is_none, Result, Ok, Err, slice_index, bit_and, if◌then◌else◌}
-use Rattle.std.specs.List.{flat_map, range_with_len}
+use Rattle.std.specs.List.{range_with_len}
 use Rattle.byteorder.specs.Endian.{little_number}
 use Rattle.ddm_types.specs.ItemTable.{item_count, items_of}
 use Rattle.ddm_types.specs.CodeMap.{word_at}

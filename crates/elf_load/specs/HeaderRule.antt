@@ -1,5 +1,5 @@
 -- What holds of a file's program headers once they were judged.
-use Rattle.std.specs.Prelude.{◌≡◌, ℕ, ◌+◌, ◌<◌, ◌≤◌, ◌^◌, List, [], length, None, Bool, true, false, All, AllPairs}
+use Rattle.std.specs.Prelude.{◌≡◌, ℕ, ◌+◌, ◌<◌, ◌≤◌, ◌^◌, List, [], length, None, true, false, All, AllPairs}
 use Rattle.elf_load.specs.declared.headers.ProgramHeader.{ProgramHeader}
 use Rattle.elf_load.specs.ElfFile.{header_count, header_place, headers_of, has_memory, meets, file_refusal, headers_refusal, loaded_headers}
 

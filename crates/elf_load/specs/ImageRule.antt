@@ -1,5 +1,5 @@
 -- What holds of every image.
-use Rattle.std.specs.Prelude.{◌≡◌, ℕ, ◌+◌, ◌^◌, ◌<◌, ◌≤◌, Bool, true, false, is_some, List, length, All, AllPairs}
+use Rattle.std.specs.Prelude.{◌≡◌, ℕ, ◌+◌, ◌^◌, ◌<◌, ◌≤◌, true, false, is_some, List, length, All, AllPairs}
 use Rattle.ddm_types.specs.CodeMap.{CodeWord, word_at}
 use Rattle.tree_model.specs.Start.{SegmentValue, ImageValue, segment_span, spans_meet, start_code}
 

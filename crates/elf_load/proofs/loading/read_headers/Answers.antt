@@ -1,7 +1,7 @@
 use Rattle.std.proofs.Common.{◌≡◌, List, [], length, None, ap, subst, sym, ◌∙◌, inr}
 use Rattle.std.specs.Prelude.{filter}
 use Rattle.elf_load.specs.declared.headers.ProgramHeader.{ProgramHeader}
-use Rattle.elf_load.specs.ElfFile.{file_refusal, has_memory, headers_of, headers_refusal, loaded_headers}
+use Rattle.elf_load.specs.ElfFile.{has_memory, headers_of, headers_refusal, loaded_headers}
 use Rattle.elf_load.specs.HeaderRule.{IsRead}
 use Rattle.elf_load.proofs.Judged.{headers_refused, is_read}
 use Rattle.elf_load.proofs.loading.read_headers.Goals as goal
