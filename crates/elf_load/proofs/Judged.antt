@@ -1,6 +1,6 @@
 -- What is known of a file and its program headers once nothing of them was refused.
 use Rattle.std.proofs.Common.{◌≡◌, ℕ, zero, suc, ◌+◌, ◌<◌, ◌≤◌, Bool, true, false, not, List, [], ◌∷◌, ◌++◌, map, length, take, drop, get_or, Option, Some, None, Ok, Err, refl, sym, ap, subst, ◌∙◌, arith, All, AllPairs, append_assoc, inl, inr}
-use Rattle.std.specs.Prelude.{◌&&◌, nat_lt, find, filter}
+use Rattle.std.specs.Prelude.{nat_eq, ◌&&◌, nat_lt, find, filter}
 use Rattle.std.specs.List.{range_with_len}
 use Rattle.std.proofs.lemmas.Bool.{cases_Bool}
 use Rattle.std.proofs.lemmas.Bool.Decides.{nat_tests}
@@ -14,7 +14,7 @@ use Rattle.tree_model.specs.Start.{SegmentValue, start_code}
 use Rattle.ddm_types.specs.CodeMap.{CodeWord, word_at}
 use Rattle.elf_load.specs.declared.headers.ProgramHeader.{ProgramHeader}
 use Rattle.elf_load.specs.declared.refusal.ImageRefusal.{ImageRefusal}
-use Rattle.elf_load.specs.ElfFile.{refused_if, outside_at, is_elf, is_outside, header_count, header_place, kind_refusal, flags_refusal, table_refusal, file_refusal, header_at, is_load, has_memory, bytes_outside, wraps, meets, overlap_with, header_refusal, headers_refusal, headers_of, loaded_headers, segment_of, segments_of, image_in, image_of, sizes_refusal, entry_refusal, judged_entry, is_dynamic}
+use Rattle.elf_load.specs.ElfFile.{refused_if, outside_at, is_elf, is_outside, header_size, header_count, header_place, kind_refusal, flags_refusal, table_refusal, file_refusal, header_at, is_load, has_memory, bytes_outside, wraps, meets, overlap_with, header_refusal, headers_refusal, headers_of, loaded_headers, segment_of, segments_of, image_in, image_of, sizes_refusal, entry_refusal, judged_entry, is_dynamic}
 use Rattle.elf_load.specs.HeaderRule.{HasTable, IsLoadable, AreLoaded, IsRead}
 use Rattle.elf_load.specs.ImageRule.{image_value, FitsMemory, EndsInside, HasMemory, AreApart}
 
@@ -66,17 +66,21 @@ after_length file none = rest_none _ _ none
 is_long : (file : List ℕ) → not (is_elf file) ≡ false → 52 ≤ length file
 is_long file h = grind (arith, nat_tests)
 
+at_most : (n m : ℕ) → nat_lt n m ≡ false → m ≤ n
+at_most n m h = grind (arith, nat_tests)
+
 pub has_table : (file : List ℕ) → file_refusal file ≡ None → HasTable file
 unfolding table_refusal
 has_table file none =
     let elf = after_length file none in
     let table = first_none (table_refusal file) None (rest_none (flags_refusal file) _ (rest_none (kind_refusal file) _ (rest_none (refused_if (not (is_elf file)) ImageRefusal.NotElf) _ elf))) in
-    let few : nat_lt 64 (header_count file) ≡ false = not_refused _ (ImageRefusal.TooManyHeaders (header_count file)) (first_none _ _ table) in
-    let places = none_outside _ (first_none _ None (rest_none _ _ (rest_none _ _ table))) in
+    let counted = refused_if (nat_lt 64 (header_count file)) (ImageRefusal.TooManyHeaders (header_count file)) in
+    let sized = refused_if (nat_lt 0 (header_count file) && not (nat_eq (header_size file) 32)) (ImageRefusal.HeaderOutside 0) in
+    let found = find (is_outside file) (range_with_len 0 (header_count file)) in
     record {
       long = is_long file (not_refused (not (is_elf file)) ImageRefusal.NotElf (first_none _ _ elf));
-      few = grind (arith, nat_tests);
-      headers = λ k inside. in_file k inside places;
+      few = at_most 64 (header_count file) (not_refused (nat_lt 64 (header_count file)) (ImageRefusal.TooManyHeaders (header_count file)) (first_none counted _ table));
+      headers = λ k inside. in_file k inside (none_outside found (first_none (outside_at found) None (rest_none sized _ (rest_none counted _ table))));
     } where
       in_file : (k : ℕ) → k < header_count file → find (is_outside file) (range_with_len 0 (header_count file)) ≡ None → header_place file k + 32 ≤ length file
       in_file k inside places =
@@ -101,13 +105,17 @@ judged_at n earlier (h ∷ hs) (suc k) d none inside =
 loadable : (n : ℕ) (earlier : List ProgramHeader) (h : ProgramHeader) → header_refusal n earlier h ≡ None → is_load h ≡ true → IsLoadable n h
 unfolding header_refusal
 loadable n earlier h none load =
-    let sized : (is_load h && bytes_outside n h) ≡ false = not_refused _ _ (first_none _ _ (rest_none _ _ none)) in
-    let inside : (is_load h && wraps h) ≡ false = not_refused _ _ (first_none _ _ (rest_none _ _ (rest_none _ _ none))) in
-    record {
-      fits = grind (arith, nat_tests);
-      inside = λ some. grind (arith, nat_tests);
-      ends = grind (arith, nat_tests);
-    }
+    let moves = rest_none (refused_if (is_dynamic h) (ImageRefusal.Dynamic h.number)) _ none in
+    let sizes = rest_none (refused_if (is_load h && bytes_outside n h) (ImageRefusal.SegmentOutside h.number)) _ moves in
+    judged
+    (not_refused (is_load h && bytes_outside n h) (ImageRefusal.SegmentOutside h.number) (first_none _ _ moves))
+    (not_refused (is_load h && wraps h) (ImageRefusal.AddressWraps h.number) (first_none _ _ sizes)) where
+      judged : (is_load h && bytes_outside n h) ≡ false → (is_load h && wraps h) ≡ false → IsLoadable n h
+      judged sized ended = record {
+        fits = grind (arith, nat_tests);
+        inside = λ some. grind (arith, nat_tests);
+        ends = grind (arith, nat_tests);
+      }
 
 meets_none : (n : ℕ) (earlier : List ProgramHeader) (h : ProgramHeader) (k : ℕ) (d : ProgramHeader) → header_refusal n earlier h ≡ None → k < length earlier → meets h (get_or earlier k d) ≡ false
 unfolding header_refusal
