@@ -1,4 +1,5 @@
--- The code of segments, part by part.
+-- The code of segments, part by part. The parts of the definition `start_code` have no public names: first_word, past_word,
+-- segment_code and put_segment are these parts again, and proofs/CodeOrder.antt proves by computation that they are the same.
 use Rattle.std.specs.Prelude.{◌≡◌, ℕ, ◌+◌, ◌-◌, ◌*◌, ◌/◌, ◌%◌, ◌^◌, ◌<◌, ◌≤◌, List, [], ◌∷◌, map, nat_lt, if◌then◌else◌}
 use Rattle.std.specs.List.{range_with_len, AllZip}
 use Rattle.ddm_types.specs.declared.code_map.CodePart.{CodePart}
