@@ -1,0 +1,12 @@
+pub mod ImageRule
+pub mod ElfFile
+pub mod HeaderRule
+pub mod CodeOf
+pub mod Written
+pub mod LoadsBack
+pub mod Computing
+pub mod SmallFile
+pub mod SegmentEdges
+pub mod CutImages
+pub mod ContradictoryImages
+pub mod LinkedImage
