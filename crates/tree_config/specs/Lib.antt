@@ -1,0 +1,5 @@
+pub mod ShapeText
+pub mod Levels
+pub mod Ranges
+pub mod Config
+pub mod TreeFile

@@ -1,0 +1,12 @@
+//! Tree files: the shape of a tree of buses and leaves, its sizes, its stacks, and the reading of them from TOML.
+#![tactic(auto)]
+
+mod config;
+mod reading;
+mod refusal;
+mod shape;
+
+pub use config::TreeConfig;
+pub use reading::{MOST_BYTES, read_tree};
+pub use refusal::{TreeKey, TreeRefusal};
+pub use shape::Shape;
