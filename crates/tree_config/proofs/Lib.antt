@@ -1,2 +1,4 @@
 pub mod Widths
 pub mod Counts
+pub mod OnLiterals
+mod Examples
