@@ -8,7 +8,7 @@ use Rattle.std.proofs.lemmas.Bool.Decides.{nat_tests}
 use Rattle.std.proofs.lemmas.List.Folds.{list_all-append}
 use Rattle.std.proofs.lemmas.List.Sums.{sum_by-cons}
 use Rattle.std.proofs.Math.Nat.{mul-le-mul_right}
-use Rattle.tree_config.proofs.Widths.{items_of}
+use Rattle.tree_config.specs.Lists.{lists_of}
 use Rattle.tree_config.specs.Levels.{leaves_of, widths_of, is_width, AreUnder, IsShape}
 
 pub width_some : (n : ℕ) → is_width n ≡ true → 1 ≤ n
@@ -44,7 +44,7 @@ IsShape-buses [] s = omega arith
 IsShape-buses (l ∷ ls) s = bounded (length (l ∷ ls)) (leaves_of (l ∷ ls)) _ (buses_at_most 1 l ls s.under s.widths).1 s.depth s.leaves
 
 -- the children of the last level are the leaves
-pub leaves_of-last : (levels : List (Vec ℕ Global)) (n : ℕ) (level : Vec ℕ Global) → n + 1 ≡ length levels → Some level ≡ slice_get levels n → leaves_of (items_of levels) ≡ sum level.items
+pub leaves_of-last : (levels : List (Vec ℕ Global)) (n : ℕ) (level : Vec ℕ Global) → n + 1 ≡ length levels → Some level ≡ slice_get levels n → leaves_of (lists_of levels) ≡ sum level.items
 leaves_of-last [] n level last h = absurd (omega (arith, last))
 leaves_of-last (l ∷ []) zero level last h = ap (λ (o : Option (Vec ℕ Global)). option_map_or (λ (v : Vec ℕ Global). sum v.items) o 0) (sym h)
 leaves_of-last (l ∷ []) (suc n) level last h = absurd (omega (arith, last))

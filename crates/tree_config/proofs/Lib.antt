@@ -1,4 +1,9 @@
 pub mod Widths
 pub mod Counts
+pub mod Scans
+pub mod Grammar
+pub mod TreeScans
+pub mod Even
+pub mod ShapeReading
 pub mod OnLiterals
 mod Examples

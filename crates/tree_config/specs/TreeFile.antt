@@ -4,7 +4,7 @@ use Rattle.std.specs.List.{list_any}
 use Rattle.std.specs.Ordering.{nat_cmp, match_ordering}
 use Rattle.std.specs.Cmp.Lexicographic.{slice_cmp}
 use Rattle.std.specs.Str.{is_utf8}
-use Rattle.toml.specs.Data.{Data, string, integer, Members, no_members, member, get_member}
+use Rattle.toml.specs.Data.{Data, as_integer, as_str, Members, no_members, member, get_member}
 use Rattle.toml.specs.Parse.{parse_document}
 use Rattle.ddm_types.specs.declared.sizes.TreeSizes.{TreeSizes}
 use Rattle.tree_model.specs.Start.{TreeValue}
@@ -70,9 +70,12 @@ abbrev pub in_range : TreeKey → ℤ → Result ℕ TreeRefusal
 in_range k (pos n) = ok_if (is_allowed k n) n (refusal.OutOfRange k)
 in_range k (negsuc n) = Err (refusal.OutOfRange k)
 
+abbrev pub whole_number : TreeKey → Option ℤ → Result ℕ TreeRefusal
+whole_number k None = Err (refusal.WrongType k)
+whole_number k (Some z) = in_range k z
+
 abbrev pub number : TreeKey → Data → Result ℕ TreeRefusal
-number k (integer z) = in_range k z
-number k _ = Err (refusal.WrongType k)
+number k d = whole_number k (as_integer d)
 
 unfoldable pub number_at : TreeKey → Members → Result ℕ TreeRefusal
 number_at k ms = value_at k ms >>= number k
@@ -121,9 +124,12 @@ judged_reading (Ok t) = judged_tree t
 unfoldable pub levels_in : List ℕ → Result (List (List ℕ)) TreeRefusal
 levels_in text = judged_reading (shape_of text)
 
+abbrev pub shape_text : Option (List ℕ) → Result (List (List ℕ)) TreeRefusal
+shape_text None = Err (refusal.WrongType key.Shape)
+shape_text (Some text) = levels_in text
+
 abbrev pub shape_in : Data → Result (List (List ℕ)) TreeRefusal
-shape_in (string text) = levels_in text
-shape_in _ = Err (refusal.WrongType key.Shape)
+shape_in d = shape_text (as_str d)
 
 unfoldable pub shape_at : Members → Result (List (List ℕ)) TreeRefusal
 shape_at ms = value_at key.Shape ms >>= shape_in

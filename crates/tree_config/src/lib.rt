@@ -2,9 +2,13 @@
 #![tactic(auto)]
 
 mod config;
+mod keys;
+mod numbers;
 mod reading;
 mod refusal;
 mod shape;
+mod shape_reading;
+mod shape_text;
 
 pub use config::TreeConfig;
 pub use reading::{MOST_BYTES, read_tree};

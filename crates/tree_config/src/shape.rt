@@ -12,15 +12,15 @@ pub struct Shape {
 }
 
 impl Model for Shape {
-    ghost use Rattle.std.specs.Prelude.{ℕ, List, map, Vec};
-    ghost use Rattle.std.specs.declared.alloc.Global.{Global};
+    ghost use Rattle.std.specs.Prelude.{ℕ, List};
     ghost use Rattle.tree_config.specs.Levels.{IsShape};
+    ghost use Rattle.tree_config.specs.Lists.{lists_of};
 
     ghost Value = { List (List ℕ) };
 
-    ghost view = { λ s. map (λ (level : Vec ℕ Global). level.items) s.levels.items };
+    ghost view = { λ s. lists_of s.levels.items };
 
-    ghost invariant = { λ s. IsShape (map (λ (level : Vec ℕ Global). level.items) s.levels.items) };
+    ghost invariant = { λ s. IsShape (lists_of s.levels.items) };
 }
 
 fn total(widths: &[u32]) -> u32
