@@ -5,5 +5,7 @@ pub mod Grammar
 pub mod TreeScans
 pub mod Even
 pub mod ShapeReading
+pub mod UnknownKeys
+pub mod Files
 pub mod OnLiterals
 mod Examples

@@ -1,5 +1,6 @@
 -- The ranges of a tree's numbers.
 use Rattle.std.specs.Prelude.{ℕ, ◌+◌, ◌*◌, ◌%◌, ◌≡◌, ◌≤◌, Bool, false, ◌&&◌, ◌||◌, nat_eq, nat_le, IsTrue}
+use Rattle.ddm_types.specs.declared.sizes.TreeSizes.{TreeSizes}
 use Rattle.tree_model.specs.Start.{TreeValue, leaf_count}
 use Rattle.tree_config.specs.declared.refusal.TreeKey.{TreeKey}
 use Rattle.tree_config.specs.declared.refusal.TreeKey.TheVariants as key
@@ -29,15 +30,19 @@ highest_end = 4294967280
 abbrev pub stacks_end : ℕ → ℕ → ℕ → ℕ
 stacks_end base harts bytes = base + harts * bytes
 
+-- each size is in its range
+pub record AreSizes (s : TreeSizes) : Type 0 where
+  pub sets : IsTrue (is_allowed key.Sets s.sets)
+  pub buffer : IsTrue (is_allowed key.Buffer s.buffer)
+  pub parking : IsTrue (is_allowed key.Parking s.parking)
+  pub down : IsTrue (is_allowed key.Down s.down)
+  pub requests : IsTrue (is_allowed key.Requests s.requests)
+  pub replies : IsTrue (is_allowed key.Replies s.replies)
+
 -- each number is in its range
 pub record IsInRange (t : TreeValue) : Type 0 where
   pub ways : IsTrue (is_allowed key.Ways t.way_count)
-  pub sets : IsTrue (is_allowed key.Sets t.sizes.sets)
-  pub buffer : IsTrue (is_allowed key.Buffer t.sizes.buffer)
-  pub parking : IsTrue (is_allowed key.Parking t.sizes.parking)
-  pub down : IsTrue (is_allowed key.Down t.sizes.down)
-  pub requests : IsTrue (is_allowed key.Requests t.sizes.requests)
-  pub replies : IsTrue (is_allowed key.Replies t.sizes.replies)
+  pub sizes : AreSizes t.sizes
   pub stack_base : IsTrue (is_allowed key.StackBase t.stack_base)
   pub stack_bytes : IsTrue (is_allowed key.StackBytes t.stack_bytes)
   pub item_bytes : IsTrue (is_allowed key.ItemBytes t.item_bytes)
