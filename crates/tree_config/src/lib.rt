@@ -14,3 +14,6 @@ pub use config::TreeConfig;
 pub use reading::{MOST_BYTES, read_tree};
 pub use refusal::{TreeKey, TreeRefusal};
 pub use shape::Shape;
+
+#[cfg(test)]
+mod tests;
