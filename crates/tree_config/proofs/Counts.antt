@@ -1,5 +1,5 @@
 -- How many buses the levels of a shape have at most.
-use Rattle.std.proofs.Common.{ℕ, zero, suc, Vec, Global, Option, Some, ◌≡◌, ◌+◌, ◌*◌, ◌<◌, ◌≤◌, Bool, true, ◌&&◌, List, [], ◌∷◌, ◌++◌, length, sum, refl, ap, sym, ◌∙◌, arith, rules, length-append}
+use Rattle.std.proofs.Common.{ℕ, zero, suc, Vec, Global, Option, Some, None, ◌≡◌, ◌+◌, ◌*◌, ◌≤◌, true, List, [], ◌∷◌, ◌++◌, length, sum, ap, sym, ◌∙◌, arith, length-append}
 use Rattle.std.specs.Prelude.{slice_get}
 use Rattle.std.specs.Option.{option_map_or}
 use Rattle.std.specs.List.{list_all}
@@ -50,3 +50,22 @@ leaves_of-last (l ∷ []) zero level last h = ap (λ (o : Option (Vec ℕ Global
 leaves_of-last (l ∷ []) (suc n) level last h = absurd (omega (arith, last))
 leaves_of-last (l ∷ m ∷ ls) zero level last h = absurd (omega (arith, last))
 leaves_of-last (l ∷ m ∷ ls) (suc n) level last h = leaves_of-last (m ∷ ls) n level (omega (arith, last)) h
+
+pub IsShape-leaves : (levels : List (List ℕ)) → IsShape levels → 1 ≤ leaves_of levels
+IsShape-leaves [] s = absurd (omega (arith, s.some))
+IsShape-leaves (l ∷ ls) s = (buses_at_most 1 l ls s.under s.widths).0
+
+pub IsShape-bus : (levels : List (List ℕ)) → IsShape levels → 1 ≤ length (widths_of levels)
+IsShape-bus [] s = absurd (omega (arith, s.some))
+IsShape-bus (l ∷ ls) s = omega (arith, s.under.0, length-append l (widths_of ls))
+
+-- a width that a bus has
+pub width_at : (ws : List ℕ) (i n : ℕ) → list_all is_width ws ≡ true → slice_get ws i ≡ Some n → is_width n ≡ true
+width_at [] i n all here = cc
+width_at (w ∷ ws) zero n all here = let (first, more) = and_parts (is_width w) (list_all is_width ws) all in ap (λ (o : Option ℕ). option_map_or is_width o true) (sym here) ∙ first
+width_at (w ∷ ws) (suc i) n all here = let (first, more) = and_parts (is_width w) (list_all is_width ws) all in width_at ws i n more here
+
+pub slice_get-none : (ws : List ℕ) (i : ℕ) → slice_get ws i ≡ None → length ws ≤ i
+slice_get-none [] i h = omega arith
+slice_get-none (w ∷ ws) zero h = cc
+slice_get-none (w ∷ ws) (suc i) h = omega (arith, slice_get-none ws i h)

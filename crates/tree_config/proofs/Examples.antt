@@ -1,10 +1,8 @@
 -- The definition computed on files.
-use Rattle.std.proofs.Common.{◌≡◌, ℕ, List, [], ◌∷◌, ◌++◌, Result, Ok, Err, refl}
+use Rattle.std.proofs.Common.{◌≡◌, ℕ, List, [], ◌∷◌, ◌++◌, Ok, Err, refl}
 use Rattle.std.specs.Prelude.{codes}
 use Rattle.tree_model.specs.Start.{TreeValue}
-use Rattle.tree_config.specs.declared.refusal.TreeKey.{TreeKey}
 use Rattle.tree_config.specs.declared.refusal.TreeKey.TheVariants as key
-use Rattle.tree_config.specs.declared.refusal.TreeRefusal.{TreeRefusal}
 use Rattle.tree_config.specs.declared.refusal.TreeRefusal.TheVariants as refusal
 use Rattle.tree_config.specs.ShapeText.{read_from}
 use Rattle.tree_config.proofs.OnLiterals.{tree_file_on_literals}

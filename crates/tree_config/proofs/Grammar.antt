@@ -1,13 +1,13 @@
 -- What a text reads as is a shape of that text, and what the scans find in it.
-use Rattle.std.proofs.Common.{ℕ, zero, suc, ◌≡◌, ◌+◌, ◌-◌, ◌<◌, ◌≤◌, ◌∙◌, cond, Bool, true, false, List, [], ◌∷◌, ◌++◌, length, Option, Some, None, Result, Ok, Err, ap, sym, refl, inl, inr, option_map, is_some, is_ok, add-one, append_assoc, arith, rules}
+use Rattle.std.proofs.Common.{ℕ, ◌≡◌, ◌+◌, ◌∙◌, cond, Bool, true, false, List, [], ◌∷◌, length, Option, Some, None, Result, Ok, Err, ap, sym, refl, inl, inr, option_map, is_some, is_ok, add-one, arith}
 use Rattle.std.specs.Option.{option_map_or}
 use Rattle.std.specs.Prelude.{nat_eq}
 use Rattle.std.proofs.lemmas.Bool.{cases_Bool, false≢true}
 use Rattle.std.proofs.lemmas.Bool.Decides.{nat_tests}
 use Rattle.tree_config.specs.declared.shape_text.Progress.{Progress}
 use Rattle.tree_config.specs.declared.shape_text.Progress.TheVariants as progress
-use Rattle.tree_config.specs.ShapeText.{Tree, Trees, leaf_tree, group_tree, no_trees, more_trees, leaf_byte, open_byte, close_byte, node_text, nodes_text, push_tree, Reading, nothing_read, open_groups, whole_shape, with_group, after_close, after_byte, at_end, read_from, shape_of}
-use Rattle.tree_config.specs.ShapeScan.{closed, depth_after, depths_in, is_whole, place_from, progress_after, widths_in, with_if}
+use Rattle.tree_config.specs.ShapeText.{Tree, Trees, leaf_tree, group_tree, no_trees, more_trees, leaf_byte, open_byte, close_byte, node_text, nodes_text, push_tree, Reading, nothing_read, open_groups, whole_shape, after_close, after_byte, at_end, read_from, shape_of}
+use Rattle.tree_config.specs.ShapeScan.{closed, is_whole, place_from, progress_after}
 
 none_some : {A : Type 0} {x : A} → None ≡ Some x → ⊥
 none_some h = false≢true (ap is_some h)

@@ -1,5 +1,5 @@
 -- One byte more of a scan over the text of a shape.
-use Rattle.std.proofs.Common.{ℕ, zero, suc, ◌≡◌, ◌+◌, ◌-◌, ◌<◌, ◌≤◌, ◌∙◌, cond, Bool, true, false, List, [], ◌∷◌, ◌++◌, length, get_or, drop, Option, Some, None, ◌&&◌, ◌||◌, ap, sym, append_assoc, append-nil, inl, inr, refl, arith, rules}
+use Rattle.std.proofs.Common.{ℕ, ◌≡◌, ◌+◌, ◌<◌, ◌≤◌, ◌∙◌, cond, Bool, true, false, List, [], ◌∷◌, ◌++◌, length, get_or, drop, Some, None, ◌&&◌, ◌||◌, ap, sym, append_assoc, append-nil, inl, inr, refl}
 use Rattle.std.specs.Option.{option_map_or}
 use Rattle.std.specs.Prelude.{nat_eq}
 use Rattle.std.specs.List.{list_any}
@@ -8,7 +8,7 @@ use Rattle.std.proofs.lemmas.Bool.{cases_Bool}
 use Rattle.tree_config.specs.declared.shape_text.Progress.{Progress}
 use Rattle.tree_config.specs.declared.shape_text.Progress.TheVariants as progress
 use Rattle.tree_config.specs.ShapeText.{leaf_byte}
-use Rattle.tree_config.specs.ShapeScan.{count_after, depth_after, depths_in, ends_group, is_whole, open_count, place_from, progress_after, widths_in, with_if}
+use Rattle.tree_config.specs.ShapeScan.{count_after, depth_after, depths_in, ends_group, is_whole, place_from, progress_after, widths_in, with_if}
 
 pub place_from-more : (p : Progress) (at : ℕ) (text : List ℕ) (d : ℕ) → at < length text → place_from p at (drop at text) ≡ option_map_or (λ next. place_from next (at + 1) (drop (at + 1) text)) (progress_after p (get_or text at d)) (Some at)
 unfolding place_from

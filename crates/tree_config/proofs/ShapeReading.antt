@@ -1,16 +1,15 @@
 -- The judgement of a text by its scans is that of the shape that it reads as.
-use Rattle.std.proofs.Common.{ℕ, zero, suc, ◌≡◌, ◌+◌, ◌<◌, ◌≤◌, ◌∙◌, cond, Bool, true, false, not, List, [], ◌∷◌, ◌++◌, map, length, Option, Some, None, Result, Ok, Err, ap, sym, refl, inl, inr, is_some, append-nil, arith, rules}
+use Rattle.std.proofs.Common.{ℕ, ◌≡◌, ◌<◌, ◌≤◌, ◌∙◌, true, false, not, List, [], ◌∷◌, map, Option, Some, None, Result, Ok, Err, ap, sym, refl, is_some, append-nil, arith}
 use Rattle.std.specs.Prelude.{nat_eq, nat_lt, slice_index}
 use Rattle.std.specs.List.{list_any, range_with_len}
 use Rattle.std.proofs.lemmas.Bool.{false≢true}
 use Rattle.std.proofs.lemmas.Bool.Decides.{nat_tests}
-use Rattle.tree_config.specs.declared.refusal.TreeRefusal.{TreeRefusal}
 use Rattle.tree_config.specs.declared.refusal.TreeRefusal.TheVariants as refusal
 use Rattle.tree_config.specs.declared.shape_text.Progress.TheVariants as progress
 use Rattle.tree_config.specs.ShapeText.{Tree, leaf_tree, group_tree, node_text, nothing_read, read_from, shape_of}
 use Rattle.tree_config.specs.ShapeScan.{depths_in, place_from, widths_in}
 use Rattle.tree_config.specs.ShapeJudged.{text_depth, text_levels, judged_levels, judged_text}
-use Rattle.tree_config.specs.Levels.{depth_of, leaf_depths, is_uneven, leaves_of, levels_of, widths_at, widths_of, IsShape}
+use Rattle.tree_config.specs.Levels.{depth_of, leaf_depths, leaves_of, levels_of, widths_at, widths_of, IsShape}
 use Rattle.tree_config.specs.TreeFile.{judged_tree, judged_reading, levels_in}
 use Rattle.tree_config.proofs.Even.{IsShape-levels_of, depth_of-group}
 use Rattle.tree_config.proofs.Grammar.{err_ok, place_from-of, place_of, shape_of-text}

@@ -1,7 +1,6 @@
 -- What the scans find in the text of a tree.
-use Rattle.std.proofs.Common.{ℕ, zero, suc, ◌≡◌, ◌+◌, ◌-◌, ◌<◌, ◌≤◌, ◌∙◌, cond, Bool, true, false, List, [], ◌∷◌, ◌++◌, ap, sym, refl, inl, inr, add-zero, append_assoc, arith, rules}
+use Rattle.std.proofs.Common.{ℕ, zero, suc, ◌≡◌, ◌+◌, ◌-◌, ◌<◌, ◌∙◌, true, false, List, ◌∷◌, ◌++◌, ap, sym, refl, add-zero, append_assoc, arith}
 use Rattle.std.specs.Prelude.{nat_eq}
-use Rattle.std.proofs.lemmas.Bool.{cases_Bool}
 use Rattle.std.proofs.lemmas.Bool.Decides.{nat_tests}
 use Rattle.tree_config.specs.ShapeText.{Tree, Trees, leaf_tree, group_tree, no_trees, more_trees, leaf_byte, open_byte, close_byte, node_text, nodes_text}
 use Rattle.tree_config.specs.ShapeScan.{depths_in, widths_in}

@@ -1,12 +1,10 @@
 -- The first unknown key of a table is the least one.
-use Rattle.std.proofs.Common.{ℕ, ◌≡◌, ◌∙◌, Bool, true, false, not, cond, List, [], ◌∷◌, map, Option, Some, None, String, Global, Less, string_bytes, ap, refl, inl, inr}
-use Rattle.std.specs.Prelude.{find}
+use Rattle.std.proofs.Common.{ℕ, ◌≡◌, ◌∙◌, false, cond, List, [], ◌∷◌, Option, Some, None, String, Global, Less, string_bytes, ap, refl, inl, inr}
 use Rattle.std.specs.List.{AllByRecursion}
 use Rattle.std.specs.List.Sorted.{IsStrictlySortedBy}
 use Rattle.std.specs.Map.{keys_of}
 use Rattle.std.specs.String.{string_cmp}
 use Rattle.std.proofs.lemmas.Bool.{cases_Bool}
-use Rattle.toml.specs.Data.{Members}
 use Rattle.toml.specs.View.{members_view}
 use Rattle.toml.specs.declared.value.Value.{Value}
 use Rattle.tree_config.specs.TreeFile.{is_known, least_unknown, lesser}

@@ -1,5 +1,5 @@
 -- The widths of the buses of the levels that a loop hasn't reached.
-use Rattle.std.proofs.Common.{ℕ, Bool, sum, ◌||◌, zero, suc, ◌∙◌, ap, sym, zero-add, vec_len, ◌≡◌, ◌+◌, ◌-◌, ◌<◌, ◌≤◌, List, [], ◌∷◌, ◌++◌, length, length-append, get_or, drop, map, Vec, Global, Some, refl, arith, rules}
+use Rattle.std.proofs.Common.{ℕ, Bool, sum, ◌||◌, zero, suc, ◌∙◌, ap, sym, zero-add, vec_len, ◌≡◌, ◌+◌, ◌-◌, ◌<◌, ◌≤◌, List, [], ◌∷◌, ◌++◌, length, length-append, get_or, drop, Vec, Global, Some, refl, arith}
 use Rattle.std.specs.Prelude.{slice_get}
 use Rattle.std.specs.List.{list_any}
 use Rattle.std.proofs.lemmas.List.Folds.{list_any-append}

@@ -1,5 +1,5 @@
 -- The judgement of a text that is a shape, from what the scans find in it.
-use Rattle.std.specs.Prelude.{ℕ, Bool, not, nat_eq, nat_lt, List, [], map, slice_index, Result, Ok, Err, if◌then◌else◌}
+use Rattle.std.specs.Prelude.{ℕ, not, nat_eq, nat_lt, List, map, slice_index, Result, Ok, Err, if◌then◌else◌}
 use Rattle.std.specs.List.{list_any, range_with_len}
 use Rattle.tree_config.specs.declared.refusal.TreeRefusal.{TreeRefusal}
 use Rattle.tree_config.specs.declared.refusal.TreeRefusal.TheVariants as refusal

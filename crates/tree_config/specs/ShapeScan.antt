@@ -1,5 +1,5 @@
 -- What one pass over the text of a shape finds, byte by byte and with a small state.
-use Rattle.std.specs.Prelude.{ℕ, zero, suc, ◌+◌, ◌-◌, Bool, true, false, ◌&&◌, nat_eq, List, [], ◌∷◌, ◌++◌, Option, Some, None, if◌then◌else◌}
+use Rattle.std.specs.Prelude.{ℕ, zero, suc, ◌+◌, ◌-◌, Bool, true, false, ◌&&◌, nat_eq, List, [], ◌∷◌, Option, Some, None, if◌then◌else◌}
 use Rattle.std.specs.Option.{option_map_or}
 use Rattle.tree_config.specs.declared.shape_text.Progress.{Progress}
 use Rattle.tree_config.specs.declared.shape_text.Progress.TheVariants as progress

@@ -1,4 +1,5 @@
 ghost use Rattle.std.specs.Prelude.{◌≡◌};
+ghost use Rattle.tree_config.specs.Ranges.{IsInRange};
 
 use crate::shape::Shape;
 use ddm_types::TreeSizes;
@@ -43,7 +44,8 @@ impl Model for TreeConfig {
 impl TreeConfig {
     /// The sizes of each leaf and of the lists.
     pub fn sizes(&self) -> TreeSizes
-        ensures { result ≡ self.now.sizes }
+        ensures sizes { result ≡ self.now.sizes }
+        ensures range { IsInRange self.now }
     {
         TreeSizes {
             sets: self.sets,

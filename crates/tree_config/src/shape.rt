@@ -1,5 +1,5 @@
-ghost use Rattle.std.specs.Prelude.{◌≡◌, ◌<◌, ◌^◌, length, slice_get, sum};
-ghost use Rattle.tree_config.specs.Levels.{leaves_of, widths_of};
+ghost use Rattle.std.specs.Prelude.{◌≡◌, ◌≤◌, ◌<◌, ◌^◌, ◌↔◌, IfSome, IsNone, IsTrue, length, slice_get, sum};
+ghost use Rattle.tree_config.specs.Levels.{IsShape, is_width, leaves_of, widths_of};
 
 use ddm_types::BusNo;
 use std::marker::Model;
@@ -33,7 +33,9 @@ fn total(widths: &[u32]) -> u32
 impl Shape {
     /// The number of leaves, which is that of harts.
     pub fn harts(&self) -> u32
-        ensures { result ≡ leaves_of self.now }
+        ensures leaves { result ≡ leaves_of self.now }
+        ensures some { 1 ≤ result }
+        ensures few { result ≤ 64 }
     {
         match self.levels.last() {
             Some(level) => total(level),
@@ -43,7 +45,9 @@ impl Shape {
 
     /// The number of buses.
     pub fn buses(&self) -> u32
-        ensures { result ≡ length (widths_of self.now) }
+        ensures buses { result ≡ length (widths_of self.now) }
+        ensures some { 1 ≤ result }
+        ensures few { result ≤ 256 }
     {
         let mut buses = 0;
         for level in &self.levels {
@@ -54,14 +58,17 @@ impl Shape {
 
     /// The number of levels of buses, which is that of buses over each leaf.
     pub fn depth(&self) -> u32
-        ensures { result ≡ length self.now }
+        ensures levels { result ≡ length self.now }
+        ensures shape { IsShape self.now }
     {
         self.levels.len() as u32
     }
 
     /// The number of children of a bus, where there is such a bus.
     pub fn children(&self, bus: BusNo) -> Option<u32>
-        ensures { result ≡ slice_get (widths_of self.now) bus }
+        ensures children { result ≡ slice_get (widths_of self.now) bus }
+        ensures none { IsNone result ↔ (length (widths_of self.now) ≤ bus) }
+        ensures width { IfSome result (λ n. IsTrue (is_width n)) }
     {
         let mut index = bus.0 as usize;
         for level in &self.levels {

@@ -176,7 +176,7 @@ pub(crate) fn level_lists(
     depth: usize,
 ) -> Result<Vec<Vec<u32>>, NoMemory>
     requires text { length text.now < 2 ^ 32 }
-    requires depth { depth ≤ 4 }
+    requires depth { depth < 2 ^ 32 }
     ensures { IfOk result (λ levels. lists_of levels.items ≡ map (λ level. widths_in level 0 0 text.now) (range_with_len 0 depth)) }
 {
     let mut levels = Vec::new(alloc);

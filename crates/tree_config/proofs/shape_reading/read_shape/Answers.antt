@@ -1,4 +1,4 @@
-use Rattle.std.proofs.Common.{◌∙◌, sym, inr}
+use Rattle.std.proofs.Common.{sym, inr}
 use Rattle.tree_config.proofs.ShapeReading.{levels_in-bad}
 use Rattle.tree_config.proofs.shape_reading.read_shape.Goals as goal
 

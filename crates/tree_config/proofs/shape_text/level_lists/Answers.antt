@@ -1,4 +1,4 @@
-use Rattle.std.proofs.Common.{◌≡◌, ◌∷◌, ◌++◌, [], ℕ, List, Vec, Global, ap, refl, arith, map}
+use Rattle.std.proofs.Common.{◌≡◌, ◌∷◌, ◌++◌, [], ℕ, List, Vec, Global, ap, refl, arith}
 use Rattle.std.proofs.lemmas.List.FromFn.{map-range_with_len_more}
 use Rattle.tree_config.specs.Lists.{lists_of}
 use Rattle.tree_config.specs.ShapeScan.{widths_in}
