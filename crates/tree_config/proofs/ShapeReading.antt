@@ -12,7 +12,7 @@ use Rattle.tree_config.specs.ShapeJudged.{text_depth, text_levels, judged_levels
 use Rattle.tree_config.specs.Levels.{depth_of, leaf_depths, leaves_of, levels_of, widths_at, widths_of, IsShape}
 use Rattle.tree_config.specs.TreeFile.{judged_tree, judged_reading, levels_in}
 use Rattle.tree_config.proofs.Even.{IsShape-levels_of, depth_of-group}
-use Rattle.tree_config.proofs.Grammar.{err_ok, place_from-of, place_of, shape_of-text}
+use Rattle.tree_config.proofs.GrammarScans.{err_ok, place_from-of, place_of, shape_of-text}
 use Rattle.tree_config.proofs.TreeScans.{depths_in-node, widths_in-group}
 
 -- ---- the scans of a tree's text

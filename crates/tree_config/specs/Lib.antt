@@ -1,4 +1,5 @@
 pub mod ShapeText
+pub mod ShapeGrammar
 pub mod ShapeScan
 pub mod Lists
 pub mod Levels

@@ -2,6 +2,7 @@
 #![tactic(auto)]
 
 mod config;
+mod grammar;
 mod keys;
 mod numbers;
 mod reading;
@@ -11,6 +12,7 @@ mod shape_reading;
 mod shape_text;
 
 pub use config::TreeConfig;
+pub use grammar::shapes_by_grammar;
 pub use reading::{MOST_BYTES, read_tree};
 pub use refusal::{TreeKey, TreeRefusal};
 pub use shape::Shape;
