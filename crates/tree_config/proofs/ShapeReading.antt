@@ -8,7 +8,7 @@ use Rattle.tree_config.specs.declared.refusal.TreeRefusal.TheVariants as refusal
 use Rattle.tree_config.specs.declared.shape_text.Progress.TheVariants as progress
 use Rattle.tree_config.specs.ShapeText.{Tree, leaf_tree, group_tree, node_text, nothing_read, read_from, shape_of}
 use Rattle.tree_config.specs.ShapeScan.{depths_in, place_from, widths_in}
-use Rattle.tree_config.specs.ShapeJudged.{text_depth, text_levels, judged_levels, judged_text}
+use Rattle.tree_config.specs.ShapeJudged.{text_depth, judged_levels, judged_text}
 use Rattle.tree_config.specs.Levels.{depth_of, leaf_depths, leaves_of, levels_of, widths_at, widths_of, IsShape}
 use Rattle.tree_config.specs.TreeFile.{judged_tree, judged_reading, levels_in}
 use Rattle.tree_config.proofs.Even.{IsShape-levels_of, depth_of-group}
@@ -28,9 +28,6 @@ widths_in-text t level = widths_in-group level 0 level t [] (omega arith) ∙ ap
 map-text : (t : Tree) (ns : List ℕ) → map (λ level. widths_in level 0 0 (node_text t [])) ns ≡ map (λ level. widths_at level t) ns
 map-text t [] = refl
 map-text t (n ∷ ns) = rw (widths_in-text t n, map-text t ns)
-
-text_levels-text : (t : Tree) → text_levels (node_text t []) ≡ levels_of t
-text_levels-text t = rw (depths_in-text t) (map-text t (range_with_len 0 (depth_of t)))
 
 judged_text-text : (t : Tree) → judged_text (node_text t []) ≡ judged_tree t
 judged_text-text t = rw (depths_in-text t, map-text t (range_with_len 0 (depth_of t)))

@@ -1,9 +1,6 @@
 -- The widths of the buses of the levels that a loop hasn't reached.
-use Rattle.std.proofs.Common.{ℕ, Bool, sum, ◌||◌, zero, suc, ◌∙◌, ap, sym, zero-add, vec_len, ◌≡◌, ◌+◌, ◌-◌, ◌<◌, ◌≤◌, List, [], ◌∷◌, ◌++◌, length, length-append, get_or, drop, Vec, Global, Some, refl, arith}
+use Rattle.std.proofs.Common.{ℕ, zero, suc, ◌∙◌, ap, sym, zero-add, vec_len, ◌≡◌, ◌+◌, ◌-◌, ◌<◌, ◌≤◌, List, [], ◌∷◌, ◌++◌, length, length-append, get_or, drop, Vec, Global, Some, refl, arith}
 use Rattle.std.specs.Prelude.{slice_get}
-use Rattle.std.specs.List.{list_any}
-use Rattle.std.proofs.lemmas.List.Folds.{list_any-append}
-use Rattle.std.proofs.lemmas.List.Sums.{sum_by-cons}
 use Rattle.std.proofs.lemmas.List.{drop_more, drop_all}
 use Rattle.tree_config.specs.Lists.{lists_of}
 use Rattle.tree_config.specs.Levels.{widths_of}
@@ -45,18 +42,6 @@ module _ (levels : List (Vec ℕ Global)) (i : ℕ) (level : Vec ℕ Global) (wi
       let all : length (level.items ++ widths_from levels (i + 1)) ≡ length level.items + length (widths_from levels (i + 1)) = length-append level.items _ in
       ap length widths_from-level ∙ omega (arith, all, level.ok.0)
 
--- a test of each width
-pub any_width-more : (test : ℕ → Bool) (levels : List (Vec ℕ Global)) (i : ℕ) (level : Vec ℕ Global) → i < length levels → level ≡ get_or levels i level
-    → list_any test (widths_from levels i) ≡ (list_any test level.items || list_any test (widths_from levels (i + 1)))
-any_width-more test levels i level within is =
-    ap (list_any test) (widths_from-level levels i level within is) ∙ list_any-append test level.items (widths_from levels (i + 1))
-
+-- behind the last level there is none
 pub widths_from-end : (levels : List (Vec ℕ Global)) (i : ℕ) → length levels ≤ i → widths_from levels i ≡ []
 widths_from-end levels i past = rw (drop_all i levels past)
-
--- a sum, one element more
-pub sum-drop : (xs : List ℕ) (i : ℕ) → i < length xs → sum (drop i xs) ≡ get_or xs i 0 + sum (drop (i + 1) xs)
-sum-drop xs i within = rw (drop_more xs i 0 within) (sum_by-cons (λ x. x) (get_or xs i 0) (drop (i + 1) xs))
-
-pub sum-drop_end : (xs : List ℕ) (i : ℕ) → length xs ≤ i → sum (drop i xs) ≡ 0
-sum-drop_end xs i past = rw (drop_all i xs past)
