@@ -27,6 +27,7 @@ pub record IsImage (image : ImageValue) (kept : List CodeWord) : Type 0 where
   pub code : kept ≡ start_code image
   pub fits : All FitsMemory image.segments
   pub ends : All EndsInside image.segments
+  pub full : All HasMemory image.segments
   pub apart : AllPairs AreApart image.segments
   pub entry : is_some (word_at kept image.entry) ≡ true
 
@@ -35,4 +36,5 @@ pub record IsCoded (entry : ℕ) (segments : List SegmentValue) (kept : List Cod
   pub code : kept ≡ start_code (image_value entry segments)
   pub fits : All FitsMemory segments
   pub ends : All EndsInside segments
+  pub full : All HasMemory segments
   pub apart : AllPairs AreApart segments

@@ -3,6 +3,7 @@
 #![tactic(auto)]
 
 mod code;
+mod copying;
 mod examples;
 mod fields;
 mod file_rules;
@@ -16,6 +17,7 @@ mod segments;
 mod sizes;
 mod writing;
 
+pub use copying::copied_code;
 pub use examples::{contradictory_images, cut_images, linked_image, segment_edges};
 pub use image::{Image, Segment};
 pub use loading::load;

@@ -66,7 +66,6 @@ impl From<ddm_types::NoMemory> for ImageRefusal {
 }
 
 /// The refusal, where there is a cause for it.
-
 pub fn refused_if(refused: bool, refusal: ImageRefusal) -> Option<ImageRefusal>
     ensures { result ≡ refused_if refused refusal }
 {

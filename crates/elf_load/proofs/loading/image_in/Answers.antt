@@ -30,11 +30,13 @@ image_with-requires c =
     let loaded = c.args.loaded.now in
     let Fits : List SegmentValue → Type 0 = λ segments. All FitsMemory segments in
     let Ends : List SegmentValue → Type 0 = λ segments. All EndsInside segments in
+    let Full : List SegmentValue → Type 0 = λ segments. All HasMemory segments in
     let Apart : List SegmentValue → Type 0 = λ segments. AllPairs AreApart segments in
     record {
       code = c.in_ok-code.ensures c.word_in.result ∙ ap (λ (segments : List SegmentValue). start_code (image_value c.word_in.result segments)) c.deref.ensures.value;
       fits = subst Fits (sym c.in_ok-segments.ensures) (segments_fit file loaded c.requires.rule);
       ends = subst Ends (sym c.in_ok-segments.ensures) (segments_end file loaded c.requires.rule);
+      full = subst Full (sym c.in_ok-segments.ensures) (segments_full file loaded c.requires.rule);
       apart = subst Apart (sym c.in_ok-segments.ensures) (segments_apart file loaded c.requires.rule);
     }
 
