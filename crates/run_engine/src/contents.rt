@@ -1,0 +1,85 @@
+ghost use Rattle.std.specs.Prelude.{◌≡◌, ◌⊎◌, ◌≤◌, ◌*◌, ◌++◌, [], ◌∷◌, map, None, Some, All, IfOk, IfErr, OnOk};
+ghost use Rattle.ddm_types.specs.ItemTable.{item_count, span_end};
+ghost use Rattle.tree_model.specs.Start.{item_words, segment_span, stack_spans, start_items, start_refusal, width_of};
+ghost use Rattle.elf_load.specs.ImageRule.{EndsInside};
+ghost use Rattle.run_engine.specs.Build.{build_refusal};
+ghost use Rattle.run_engine.specs.declared.refusal.BuildRefusal.TheVariants as refusal;
+
+use crate::memory::item_words;
+use crate::refusal::BuildRefusal;
+use crate::stacks::{header_met, segment_span, stack_span};
+use crate::tree::{harts, item_bytes, place_count};
+use ddm_types::{ItemId, Items, NoMemory, Span, Words, count_items};
+use elf_load::{Image, Segment};
+use std::alloc::Global;
+use tree_config::TreeConfig;
+
+const MOST_ITEMS: u64 = 65_536;
+
+// The memory of segments and stacks.
+fn spans(alloc: Global, tree: &TreeConfig, segments: &[Segment]) -> Result<Vec<Span>, NoMemory>
+    requires { All EndsInside segments.now }
+    ensures spans { IfOk result (λ spans. spans.items ≡ map segment_span segments.now ++ stack_spans tree.now) }
+    ensures ends { IfOk result (λ spans. All (λ span. span_end span ≤ 4294967296) spans.items) }
+{
+    let mut spans = Vec::new(alloc);
+    for segment in segments {
+        spans.push(segment_span(segment))?;
+    }
+    for hart in 0..harts(tree) {
+        spans.push(stack_span(tree, hart))?;
+    }
+    Ok(spans)
+}
+
+// Whether the machine has a start, with this many items.
+#[tactic(auto, unfolding(tree_model::specs::Start::start_refusal))]
+fn judge(tree: &TreeConfig, image: &Image, count: u64) -> Result<(), BuildRefusal>
+    requires leaf { tree.now.levels ≡ (1 ∷ []) ∷ [] }
+    requires counted { count ≡ item_count (start_items tree.now image.now) }
+    ensures none { OnOk result (start_refusal tree.now image.now ≡ None) }
+    ensures refused { IfErr result (λ r. build_refusal tree.now image.now ≡ Some r) }
+{
+    if count > MOST_ITEMS {
+        return Err(BuildRefusal::TooManyItems(count));
+    }
+    if let Some(header) = header_met(&stack_span(tree, 0), &image.segments) {
+        return Err(BuildRefusal::StackOverlap { hart: 0, header });
+    }
+    let places = place_count(tree);
+    if count > u64::from(places) {
+        return Err(BuildRefusal::NoPlace(ItemId(places)));
+    }
+    Ok(())
+}
+
+/// The items of a machine that has a start.
+#[tactic(auto, unfolding(tree_model::specs::Start::start_items))]
+pub fn items(alloc: Global, tree: &TreeConfig, image: &Image) -> Result<Items, BuildRefusal>
+    requires leaf { tree.now.levels ≡ (1 ∷ []) ∷ [] }
+    ensures items { IfOk result (λ items. items ≡ start_items tree.now image.now) }
+    ensures none { IfOk result (λ items. start_refusal tree.now image.now ≡ None) }
+    ensures refused { IfErr result (λ r. (r ≡ refusal.NoMemory) ⊎ (build_refusal tree.now image.now ≡ Some r)) }
+{
+    let spans = spans(alloc, tree, &image.segments)?;
+    let count = count_items(alloc, &spans, item_bytes(tree))?;
+    judge(tree, image, count)?;
+    Ok(Items::from_spans(alloc, &spans, item_bytes(tree))?)
+}
+
+/// The words of each item.
+#[tactic(auto, using(crate::proofs::ItemWords::more_item_words))]
+pub fn words<const WORDS: usize>(
+    alloc: Global,
+    segments: &[Segment],
+    items: &Items,
+) -> Result<Vec<Words<WORDS>>, NoMemory>
+    requires { WORDS ≤ 16 }
+    ensures { IfOk result (λ words. words.items ≡ map (λ row. item_words WORDS segments.now row.address) items.now.rows) }
+{
+    let mut words = Vec::new(alloc);
+    for item in 0..items.len() {
+        words.push(item_words(segments, items.address(ItemId(item))))?;
+    }
+    Ok(words)
+}

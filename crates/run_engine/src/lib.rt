@@ -1,0 +1,14 @@
+//! Makes the machine of a tree and an image.
+#![tactic(auto)]
+
+mod contents;
+mod machine;
+mod making;
+mod memory;
+mod refusal;
+mod stacks;
+mod tree;
+
+pub use machine::AnyMachine;
+pub use making::build;
+pub use refusal::BuildRefusal;

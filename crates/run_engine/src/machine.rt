@@ -1,0 +1,8 @@
+use one_leaf::OneLeaf;
+
+/// A machine, with items of four or of sixteen words.
+#[derive(Drop)]
+pub enum AnyMachine {
+    Narrow(OneLeaf<4>),
+    Wide(OneLeaf<16>),
+}

@@ -1,0 +1,28 @@
+ghost use Rattle.std.specs.Prelude.{◌≡◌, ◌⊎◌, ◌≤◌, ◌+◌, ◌*◌};
+ghost use Rattle.tree_model.specs.Start.{leaf_count, place_count};
+
+use tree_config::TreeConfig;
+
+/// How many harts the tree has, each with a stack.
+pub fn harts(tree: &TreeConfig) -> u32
+    ensures number { result ≡ leaf_count tree.now }
+    ensures few { result ≤ 64 }
+    ensures stacks { tree.now.stack_base + leaf_count tree.now * tree.now.stack_bytes ≤ 4294967280 }
+{
+    tree.nodes.harts()
+}
+
+/// How many bytes an item has.
+pub fn item_bytes(tree: &TreeConfig) -> u32
+    ensures bytes { result ≡ tree.now.item_bytes }
+    ensures known { (result ≡ 16) ⊎ (result ≡ 64) }
+{
+    tree.item_bytes
+}
+
+/// How many items the leaves have places for.
+pub fn place_count(tree: &TreeConfig) -> u32
+    ensures { result ≡ place_count tree.now }
+{
+    harts(tree) * tree.ways * tree.sets
+}
