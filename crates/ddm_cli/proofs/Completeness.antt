@@ -1,34 +1,85 @@
 -- What follows from the causes.
-use Rattle.std.proofs.Common.{◌≡◌, ℕ, List, Option, Some, None, inl, inr, refl, sym, ◌∙◌}
+use Rattle.std.proofs.Common.{◌≡◌, ℕ, false, List, Option, Some, None, Result, Ok, Err, inl, inr, refl, sym, ◌∙◌}
+use Rattle.std.specs.Prelude.{IfSome, IsOkAnd, is_none, option_and_then}
+use Rattle.std.specs.Option.{option_map}
 use Rattle.report.specs.declared.roles.FileRole.{FileRole}
 use Rattle.report.specs.declared.roles.FileRole.TheVariants.{ImageFile, TreeFile, ScheduleFile, WitnessFile, CheckpointFile}
-use Rattle.ddm_cli.specs.ImageForm.{ImageForm, image_form}
+use Rattle.tree_model.specs.Start.{TreeValue, ImageValue, StartRefusal, start_refusal}
+use Rattle.elf_load.specs.ElfFile.{image_of}
+use Rattle.elf_load.specs.declared.refusal.ImageRefusal.{ImageRefusal}
+use Rattle.tree_config.specs.TreeFile.{tree_of}
+use Rattle.tree_config.specs.declared.refusal.TreeRefusal.{TreeRefusal}
+use Rattle.run_engine.specs.Build.{build_refusal, refusal_of}
+use Rattle.run_engine.specs.declared.refusal.BuildRefusal.{BuildRefusal}
+use Rattle.ddm_cli.specs.Causes.{IsUnbuiltTree, IsUnloaded, IsUnstarted}
+use Rattle.ddm_cli.specs.Parts.{Parts, if_built, if_started, is_one_leaf, parts_in, parts_of, tree_at}
 use Rattle.ddm_cli.specs.ScheduleForm.{count_of}
-use Rattle.ddm_cli.specs.TreeForm.{stack_of}
-use Rattle.ddm_cli.specs.Top.{text_by, text_of, Came, Completes, IsUnbuilt}
+use Rattle.ddm_cli.specs.Top.{text_by, text_of, Came, Completes, RefusesImage, IsUnbuilt}
 use Rattle.ddm_cli.specs.Words.{Names}
 use Rattle.ddm_cli.specs.declared.status.Status.{Status}
-use Rattle.ddm_cli.specs.declared.status.Status.TheVariants.{Done, Usage, Unbuilt, ReadFault, WriteFault, NoMemory}
+use Rattle.ddm_cli.specs.declared.status.Status.TheVariants.{Done, Usage, ImageLoad, ImageBuild, Tree, Unbuilt, ReadFault, WriteFault, NoMemory}
+
+-- ---- a file that gives no part gives no text
 
 no_text : {text : List ℕ} → None ≡ Some text → ⊥
 no_text q = cc
 
-no_image : (stack turns : Option ℕ) → text_by stack None turns ≡ None
-no_image None turns = refl
-no_image (Some stack) turns = refl
+no_turns : (p : Option Parts) → text_by p None ≡ None
+no_turns None = refl
+no_turns (Some p) = refl
 
-no_turns : (stack : Option ℕ) (f : Option ImageForm) → text_by stack f None ≡ None
-no_turns None f = refl
-no_turns (Some stack) None = refl
-no_turns (Some stack) (Some f) = refl
+refused_tree : (file : List ℕ) (r : TreeRefusal) → tree_of file ≡ Err r → tree_at file ≡ None
+unfolding tree_at
+refused_tree file r is = rw is refl
+
+unbuilt_tree : (file : List ℕ) → IsUnbuiltTree file → tree_at file ≡ None
+unfolding tree_at
+unbuilt_tree file = by_result (tree_of file) where
+  by_result : (r : Result TreeValue TreeRefusal) → IsOkAnd r (λ t. is_one_leaf t ≡ false) → if_built r ≡ None
+  by_result (Ok t) other = rw other refl
+  by_result (Err r) other = absurd other
+
+no_parts : (tree image : List ℕ) → tree_at tree ≡ None → parts_of tree image ≡ None
+unfolding parts_of
+no_parts tree image none = rw none refl
+
+-- an image that gives no part for the tree
+refused_parts : (tree image : List ℕ) (P : TreeValue → List ℕ → Type 0) → ((t : TreeValue) → P t image → parts_in t image ≡ None) → IfSome (tree_at tree) (λ t. P t image) → parts_of tree image ≡ None
+unfolding parts_of
+refused_parts tree image P none = by_tree (tree_at tree) where
+  by_tree : (o : Option TreeValue) → IfSome o (λ t. P t image) → option_and_then (λ t. parts_in t image) o ≡ None
+  by_tree None p = refl
+  by_tree (Some t) p = none t p
+
+unloaded : (r : ImageRefusal) (t : TreeValue) (image : List ℕ) → IsUnloaded t r image → parts_in t image ≡ None
+unfolding parts_in
+unloaded r t image is = rw is refl
+
+unstarted : (r : BuildRefusal) (t : TreeValue) (image : List ℕ) → IsUnstarted t r image → parts_in t image ≡ None
+unfolding parts_in
+unstarted r t image = by_result (image_of t.item_bytes image) where
+  by_refusal : (o : Option StartRefusal) → option_map refusal_of o ≡ Some r → is_none o ≡ false
+  by_refusal None e = cc
+  by_refusal (Some q) e = refl
+
+  by_result : (x : Result ImageValue ImageRefusal) → IsOkAnd x (λ i. build_refusal t i ≡ Some r) → if_started t x ≡ None
+  by_result (Ok i) given = rw (by_refusal (start_refusal t i) given) refl
+  by_result (Err q) given = absurd given
 
 module _ {F K : Type 0} (told : F → List ℕ → Option (List ℕ)) (faults : F → List ℕ → ℕ) (held : K → Option (List ℕ)) (failures : K → ℕ) where
+  no_image : (files : F) (n : Names) (tree image schedule text : List ℕ) (P : TreeValue → List ℕ → Type 0) → ((t : TreeValue) → P t image → parts_in t image ≡ None)
+      → told files n.tree ≡ Some tree → told files n.image ≡ Some image → text_of tree image schedule ≡ Some text → RefusesImage P (told files n.tree) (told files n.image) → ⊥
+  no_image files n tree image schedule text P none t i has refused =
+      let here : IfSome (tree_at tree) (λ u. P u image) = rw (t, i) at refused.1 in
+      let nothing = refused_parts tree image P none here in
+      no_text (sym (rw nothing refl) ∙ has)
+
   all_built : (files files' : F) (role : FileRole) (n : Names) (tree image schedule text : List ℕ)
       → told files n.tree ≡ Some tree → told files n.image ≡ Some image → told files n.schedule ≡ Some schedule
       → text_of tree image schedule ≡ Some text → IsUnbuilt told faults files files' role n → ⊥
-  all_built files files' TreeFile n tree image schedule text t i s has un = let no : stack_of tree ≡ None = rw t at un in no_text (sym (rw no refl) ∙ has)
-  all_built files files' ImageFile n tree image schedule text t i s has un = let no : image_form image ≡ None = rw i at un.1 in no_text (sym (rw no (no_image (stack_of tree) (count_of schedule))) ∙ has)
-  all_built files files' ScheduleFile n tree image schedule text t i s has un = let no : count_of schedule ≡ None = rw s at un.2 in no_text (sym (rw no (no_turns (stack_of tree) (image_form image))) ∙ has)
+  all_built files files' TreeFile n tree image schedule text t i s has un = let nothing = no_parts tree image (unbuilt_tree tree (rw t at un)) in no_text (sym (rw nothing refl) ∙ has)
+  all_built files files' ScheduleFile n tree image schedule text t i s has un = let none : count_of schedule ≡ None = rw s at un.1 in no_text (sym (rw none (no_turns (parts_of tree image))) ∙ has)
+  all_built files files' ImageFile n tree image schedule text t i s has un = un
   all_built files files' WitnessFile n tree image schedule text t i s has un = un
   all_built files files' CheckpointFile n tree image schedule text t i s has un = un
 
@@ -37,6 +88,14 @@ module _ {F K : Type 0} (told : F → List ℕ → Option (List ℕ)) (faults : 
   completes words files files' out out' NoMemory came n tree image schedule text named t i s has calm quiet = inr refl
   completes words files files' out out' (Usage k) came n tree image schedule text named t i s has calm quiet = cc
   completes words files files' out out' WriteFault came n tree image schedule text named t i s has calm quiet = absurd (quiet came.3)
+  completes words files files' out out' (Tree r) came n tree image schedule text named t i s has calm quiet =
+      let refused : tree_of tree ≡ Err r = rw (named, t) at came.0 in
+      let nothing = no_parts tree image (refused_tree tree r refused) in
+      absurd (no_text (sym (rw nothing refl) ∙ has))
+  completes words files files' out out' (ImageLoad r) came n tree image schedule text named t i s has calm quiet =
+      absurd (no_image files n tree image schedule text (λ u. IsUnloaded u r) (λ u. unloaded r u image) t i has (rw named at came.0))
+  completes words files files' out out' (ImageBuild r) came n tree image schedule text named t i s has calm quiet =
+      absurd (no_image files n tree image schedule text (λ u. IsUnstarted u r) (λ u. unstarted r u image) t i has (rw named at came.0))
   completes words files files' out out' (ReadFault TreeFile) came n tree image schedule text named t i s has calm quiet = absurd (calm.0 (rw named at came.0))
   completes words files files' out out' (ReadFault ImageFile) came n tree image schedule text named t i s has calm quiet = absurd (calm.1 (rw named at came.0).0)
   completes words files files' out out' (ReadFault ScheduleFile) came n tree image schedule text named t i s has calm quiet = absurd (calm.2 (rw named at came.0).0)

@@ -1,5 +1,5 @@
 -- The one leaf's hart keeps its 32 registers.
-use Rattle.std.proofs.Common.{◌≡◌, ℕ, zero, suc, Bool, true, false, List, [], Option, Some, None, Ok, Err, refl}
+use Rattle.std.proofs.Common.{ℕ, zero, suc, Bool, true, false, List, [], Option, Some, None, Ok, Err, refl}
 use Rattle.std.specs.Prelude.{Result}
 use Rattle.ddm_types.specs.declared.operations.HaltCause.{HaltCause}
 use Rattle.ddm_types.specs.declared.sizes.Start.{Start}
@@ -42,15 +42,11 @@ after_keeps v good = by_step (step_of v) (step_keeps v good) where
   by_step (Ok c) keeps = keeps
   by_step (Err cause) keeps = record { count = good.count; zero = good.zero }
 
-run_keeps : (k : ℕ) (v : OneLeafValue) → IsHart v.hart → IsHart (after_all (hart_turns k) v).hart
+pub run_keeps : (k : ℕ) (v : OneLeafValue) → IsHart v.hart → IsHart (after_all (hart_turns k) v).hart
 unfolding after_all
 run_keeps zero v good = good
 run_keeps (suc k) v good = run_keeps k (after_of v) (after_keeps v good)
 
-start_is_hart : (start : Start) (hart : ℕ) → IsHart (hart_start start hart)
+pub start_is_hart : (start : Start) (hart : ℕ) → IsHart (hart_start start hart)
 unfolding hart_start
 start_is_hart start hart = record { count = refl; zero = refl }
-
--- the hart of a run from a hart's start
-pub ran_hart : (k : ℕ) (v : OneLeafValue) (start : Start) (hart : ℕ) → v.hart ≡ hart_start start hart → IsHart (after_all (hart_turns k) v).hart
-ran_hart k v start hart is = run_keeps k v (rw is (start_is_hart start hart))

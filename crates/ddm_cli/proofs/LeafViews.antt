@@ -1,5 +1,5 @@
 -- What is seen of the one-leaf machine by the tables is its hart, its items in their ways and its operations.
-use Rattle.std.proofs.Common.{◌≡◌, Bool, true, false, nat_eq, Ok, Err, ℕ, ◌+◌, ◌/◌, ◌<◌, ◌≤◌, List, [], ◌∷◌, length, refl, sym, ap, ◌∙◌, arith}
+use Rattle.std.proofs.Common.{◌≡◌, Bool, true, false, nat_eq, Ok, Err, ℕ, ◌+◌, ◌<◌, ◌≤◌, List, [], ◌∷◌, length, refl, sym, ap, ◌∙◌, arith}
 use Rattle.std.specs.Prelude.{Result}
 use Rattle.ddm_types.specs.declared.operations.HaltCause.{HaltCause}
 use Rattle.flat_model.specs.Flat.{Change}
@@ -68,24 +68,22 @@ answers_in_tree t (u ∷ ts) v =
 
 -- ---- items
 
-item_seen : (v : OneLeafValue) (x : ℕ) (row : ItemRow) → v.tree.sizes.sets ≡ 1 → x < length v.words → item_view (machine_of v) x row ≡ leaf_item_view x row (words_in v.words x)
-item_seen v x row one inside =
-    let way : x / v.tree.sizes.sets ≡ x = rw one (omega arith) in
-    rw (found_is v x inside, states_are v x inside, way) refl
+item_seen : (v : OneLeafValue) (x : ℕ) (row : ItemRow) → x < length v.words → item_view (machine_of v) x row ≡ leaf_item_view v.tree.sizes.sets x row (words_in v.words x)
+item_seen v x row inside = rw (found_is v x inside, states_are v x inside) refl
 
-items_seen : (v : OneLeafValue) (x : ℕ) (rows : List ItemRow) → v.tree.sizes.sets ≡ 1 → x + length rows ≤ length v.words → item_views (machine_of v) x rows ≡ leaf_item_views v.words x rows
-items_seen v x [] one fits = refl
-items_seen v x (row ∷ rows) one fits =
-    let here = item_seen v x row one (omega (arith, fits)) in
-    let rest = items_seen v (x + 1) rows one (omega (arith, fits)) in
+items_seen : (v : OneLeafValue) (x : ℕ) (rows : List ItemRow) → x + length rows ≤ length v.words → item_views (machine_of v) x rows ≡ leaf_item_views v.tree.sizes.sets v.words x rows
+items_seen v x [] fits = refl
+items_seen v x (row ∷ rows) fits =
+    let here = item_seen v x row (omega (arith, fits)) in
+    let rest = items_seen v (x + 1) rows (omega (arith, fits)) in
     cc
 
 -- ---- the whole view
 
-seen : (counts : RunCounts) (v : OneLeafValue) → v.tree.sizes.sets ≡ 1 → HasWords v → AreCounted 0 v.ops → view_of 1 counts (machine_of v) ≡ leaf_view counts v
+seen : (counts : RunCounts) (v : OneLeafValue) → HasWords v → AreCounted 0 v.ops → view_of 1 counts (machine_of v) ≡ leaf_view v.tree.sizes.sets counts v
 unfolding view_of
-seen counts v one has counted =
-    let items = items_seen v 0 v.items.rows one (omega (arith, has.each)) in
+seen counts v has counted =
+    let items = items_seen v 0 v.items.rows (omega (arith, has.each)) in
     let ops = sorted_counted 0 v.ops counted in
     rw (items, ops) refl
 
@@ -102,20 +100,22 @@ tree_kept t ts v is = ap (λ (w : OneLeafValue). (after_all ts w).tree) (own v i
   own v is = rw (sym is) refl
 
 -- the report of a run of the tables from the start of a tree and an image
-pub report_seen : (t : TreeValue) (i : ImageValue) (ts : List Turn) → t.sizes.sets ≡ 1 → FitsOneLeaf t i
-    → report_text_of 1 ts (start_machine t i) ≡ report_of (leaf_view (counts_of (answers_of ts (one_leaf_start t i))) (after_all ts (one_leaf_start t i)))
+report_seen : (t : TreeValue) (i : ImageValue) (ts : List Turn) → FitsOneLeaf t i
+    → report_text_of 1 ts (start_machine t i) ≡ report_of (leaf_view t.sizes.sets (counts_of (answers_of ts (one_leaf_start t i))) (after_all ts (one_leaf_start t i)))
 unfolding report_text_of
-report_seen t i ts one fits =
+report_seen t i ts fits =
     let v = one_leaf_start t i in
     let has = start_has_words t i in
     let order = run_in_order (flat_start_of t i) ts v (start_in_order t i fits) in
+    let sets = ap (λ (u : TreeValue). u.sizes.sets) (tree_kept t ts v refl) in
     rw (start_is t i fits, run_is ts v has)
-    (ap report_of (seen (counts_of (answers_of ts v)) (after_all ts v) (ap (λ (u : TreeValue). u.sizes.sets) (tree_kept t ts v refl) ∙ one) (words_kept_all ts v has) order.keys))
+    (ap report_of (seen (counts_of (answers_of ts v)) (after_all ts v) (words_kept_all ts v has) order.keys ∙ ap (λ n. leaf_view n (counts_of (answers_of ts v)) (after_all ts v)) sets))
 
 -- the same of a machine that is that start but for its tree, of which a report shows nothing
-pub report_is : (t : TreeValue) (i : ImageValue) (ts : List Turn) (v : OneLeafValue) → t.sizes.sets ≡ 1 → FitsOneLeaf t i → in_tree t v ≡ one_leaf_start t i
-    → report_of (leaf_view (counts_of (answers_of ts v)) (after_all ts v)) ≡ report_text_of 1 ts (start_machine t i)
-report_is t i ts v one fits is =
+pub report_is : (t : TreeValue) (i : ImageValue) (ts : List Turn) (v : OneLeafValue) → FitsOneLeaf t i → in_tree t v ≡ one_leaf_start t i
+    → report_of (leaf_view t.sizes.sets (counts_of (answers_of ts v)) (after_all ts v)) ≡ report_text_of 1 ts (start_machine t i)
+report_is t i ts v fits is =
+    let sets = t.sizes.sets in
     let answers : answers_of ts (one_leaf_start t i) ≡ answers_of ts v = ap (answers_of ts) (sym is) ∙ answers_in_tree t ts v in
     let after : after_all ts (one_leaf_start t i) ≡ in_tree t (after_all ts v) = ap (after_all ts) (sym is) ∙ kept_in_tree t ts v in
-    sym (report_seen t i ts one fits ∙ ap (λ given. report_of (leaf_view (counts_of given) (after_all ts (one_leaf_start t i)))) answers ∙ ap (λ (w : OneLeafValue). report_of (leaf_view (counts_of (answers_of ts v)) w)) after)
+    sym (report_seen t i ts fits ∙ ap (λ given. report_of (leaf_view sets (counts_of given) (after_all ts (one_leaf_start t i)))) answers ∙ ap (λ (w : OneLeafValue). report_of (leaf_view sets (counts_of (answers_of ts v)) w)) after)

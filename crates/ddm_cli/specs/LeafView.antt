@@ -1,5 +1,5 @@
--- What a report shows of a machine of one leaf with one set: item x lies in way x.
-use Rattle.std.specs.Prelude.{ℕ, ◌+◌, List, [], ◌∷◌, Some}
+-- What a report shows of a machine of one leaf: the items lie in its sets in turn, the first item of a set in way 0.
+use Rattle.std.specs.Prelude.{ℕ, ◌+◌, ◌/◌, List, [], ◌∷◌, Some}
 use Rattle.ddm_types.specs.declared.sizes.LeafState.{LeafState}
 use Rattle.ddm_types.specs.ItemTable.{ItemRow}
 use Rattle.tree_model.specs.Machine.{no_traffic}
@@ -11,21 +11,22 @@ use Rattle.one_leaf.specs.Step.{words_in}
 abbrev pub leaf_hart_view : OneLeafValue → HartView
 leaf_hart_view v = record { number = 0; hart = v.hart; done = v.done }
 
-abbrev pub leaf_item_view : ℕ → ItemRow → List ℕ → ItemView
-leaf_item_view x row words = record { number = x; address = row.address; words = words; place = leaf_way 0 x; states = Some LeafState.Exclusive ∷ [] }
+-- of an item of a leaf with this many sets
+abbrev pub leaf_item_view : ℕ → ℕ → ItemRow → List ℕ → ItemView
+leaf_item_view sets x row words = record { number = x; address = row.address; words = words; place = leaf_way 0 (x / sets); states = Some LeafState.Exclusive ∷ [] }
 
 -- of these rows of the table, which begin with item x
-abbrev pub leaf_item_views : List (List ℕ) → ℕ → List ItemRow → List ItemView
-leaf_item_views words x [] = []
-leaf_item_views words x (row ∷ rows) = leaf_item_view x row (words_in words x) ∷ leaf_item_views words (x + 1) rows
+abbrev pub leaf_item_views : ℕ → List (List ℕ) → ℕ → List ItemRow → List ItemView
+leaf_item_views sets words x [] = []
+leaf_item_views sets words x (row ∷ rows) = leaf_item_view sets x row (words_in words x) ∷ leaf_item_views sets words (x + 1) rows
 
-abbrev pub leaf_view : RunCounts → OneLeafValue → ReportView
-leaf_view counts v = record {
+abbrev pub leaf_view : ℕ → RunCounts → OneLeafValue → ReportView
+leaf_view sets counts v = record {
   counts = counts;
   depth = 1;
   harts = leaf_hart_view v ∷ [];
   traffic = no_traffic ∷ [];
-  items = leaf_item_views v.words 0 v.items.rows;
+  items = leaf_item_views sets v.words 0 v.items.rows;
   completed = v.ops;
   ops = v.ops;
 }

@@ -1,8 +1,9 @@
 pub mod Code
 pub mod Words
 pub mod Reads
-pub mod TreeForm
-pub mod ImageForm
+pub mod Parts
 pub mod ScheduleForm
 pub mod LeafView
+pub mod Causes
+pub mod Refusals
 pub mod Top

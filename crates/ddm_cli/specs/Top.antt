@@ -1,6 +1,6 @@
 -- What a command answers, and why.
-use Rattle.std.specs.Prelude.{◌≡◌, ◌⊎◌, ℕ, List, [], Option, Some, None, IsSome, IfSome, IfOk, Ok, Err, IsOk, IsOkAnd}
-use Rattle.tree_model.specs.Start.{start_machine}
+use Rattle.std.specs.Prelude.{◌≡◌, ◌⊎◌, ℕ, List, [], Option, Some, None, IsSome, IfSome, IfOk, Ok, Err, IsOkAnd}
+use Rattle.tree_model.specs.Start.{TreeValue, start_machine}
 use Rattle.text_model.specs.Faults.{usage_fault, unbuilt_fault, read_fault, write_fault, memory_fault}
 use Rattle.text_model.specs.Run.{report_text_of}
 use Rattle.report.specs.Appends.{Appends, AppendsPart}
@@ -10,73 +10,59 @@ use Rattle.report.specs.declared.roles.FileRole.TheVariants.{ImageFile, TreeFile
 use Rattle.one_leaf.specs.Start.{flat_start_of}
 use Rattle.one_leaf.specs.Witness.{EachTurnWitnessed}
 use Rattle.ddm_outside.specs.Causes.{Rose}
-use Rattle.ddm_cli.specs.ImageForm.{ImageForm, image_form, image_of}
+use Rattle.tree_config.specs.TreeFile.{tree_of}
+use Rattle.ddm_cli.specs.Parts.{Parts, parts_of, tree_at}
 use Rattle.ddm_cli.specs.ScheduleForm.{count_of, hart_turns}
-use Rattle.ddm_cli.specs.TreeForm.{stack_of, tree_with}
+use Rattle.ddm_cli.specs.Causes.{Takes, IsUnbuiltTree, IsUnloaded, IsUnstarted}
+use Rattle.ddm_cli.specs.Refusals.{build_line, image_line, tree_line, tree_line_head, tree_line_rest}
 use Rattle.ddm_cli.specs.Words.{Names, names_of}
-use Rattle.ddm_cli.specs.declared.files.FileError.{FileError}
-use Rattle.ddm_cli.specs.declared.files.FileError.TheVariants.{Fault, Refusal, Memory}
 use Rattle.ddm_cli.specs.declared.status.Status.{Status}
-use Rattle.ddm_cli.specs.declared.status.Status.TheVariants.{Done, Usage, Unbuilt, ReadFault, WriteFault, NoMemory}
+use Rattle.ddm_cli.specs.declared.status.Status.TheVariants.{Done, Usage, ImageLoad, ImageBuild, Tree, Unbuilt, ReadFault, WriteFault, NoMemory}
 
 -- ---- the text
 
--- the report of an image under a stack of so many bytes, after so many turns
-unfoldable pub text_at : ImageForm → ℕ → ℕ → List ℕ
-text_at f stack n = report_text_of 1 (hart_turns n) (start_machine (tree_with stack) (image_of f))
+-- the report of a machine after so many turns
+unfoldable pub text_at : Parts → ℕ → List ℕ
+text_at p n = report_text_of 1 (hart_turns n) (start_machine p.tree p.image)
 
-abbrev pub text_by : Option ℕ → Option ImageForm → Option ℕ → Option (List ℕ)
-text_by (Some stack) (Some f) (Some n) = Some (text_at f stack n)
-text_by _ _ _ = None
+abbrev pub text_by : Option Parts → Option ℕ → Option (List ℕ)
+text_by (Some p) (Some n) = Some (text_at p n)
+text_by _ _ = None
 
 -- what a tree, an image and a schedule make the command print
 abbrev pub text_of : List ℕ → List ℕ → List ℕ → Option (List ℕ)
-text_of tree image schedule = text_by (stack_of tree) (image_form image) (count_of schedule)
+text_of tree image schedule = text_by (parts_of tree image) (count_of schedule)
 
 -- ---- order
 
 -- after each turn of hart 0 the operations, in the order of their keys, are one legal run of the flat machine from its start,
 -- and the hart, its output and the found copy of every item are that run's
-abbrev pub RunsInOrder : Option ℕ → Option ImageForm → Option ℕ → Type 0
-RunsInOrder (Some stack) (Some f) (Some n) = EachTurnWitnessed (flat_start_of (tree_with stack) (image_of f)) (hart_turns n) (start_machine (tree_with stack) (image_of f))
-RunsInOrder _ _ _ = Unit {0}
+abbrev pub RunsInOrder : Option Parts → Option ℕ → Type 0
+RunsInOrder (Some p) (Some n) = EachTurnWitnessed (flat_start_of p.tree p.image) (hart_turns n) (start_machine p.tree p.image)
+RunsInOrder _ _ = Unit {0}
 
--- ---- one file
+-- ---- the files
 
--- where the file is told, it is accepted
-abbrev pub Takes : {A : Type 0} → (List ℕ → Option A) → Option (List ℕ) → Type 0
-Takes judge told = IfSome told (λ file. IsSome (judge file))
+-- what holds of a tree and an image, where both are told
+abbrev pub Both : Option (List ℕ) → Option (List ℕ) → (List ℕ → List ℕ → Type 0) → Type 0
+Both tree image P = IfSome tree (λ t. IfSome image (P t))
 
--- where it is told, it is refused
-abbrev pub Refuses : {A : Type 0} → (List ℕ → Option A) → Option (List ℕ) → Type 0
-Refuses judge told = IfSome told (λ file. judge file ≡ None)
+-- the tree is accepted, and with it the image, from which the machine has a start
+abbrev pub TakesParts : Option (List ℕ) → Option (List ℕ) → Type 0
+TakesParts tree image = Takes tree_at tree × Both tree image (λ t i. IsSome (parts_of t i))
 
--- where it is told, it is accepted as this
-abbrev pub TakenAs : {A : Type 0} → (List ℕ → Option A) → Option (List ℕ) → A → Type 0
-TakenAs judge told a = IfSome told (λ file. judge file ≡ Some a)
-
--- why a file wasn't taken
-abbrev pub FileCause : {A : Type 0} → (List ℕ → Option A) → Option (List ℕ) → ℕ → ℕ → FileError → Type 0
-FileCause judge told before now Fault = Rose before now
-FileCause judge told before now Refusal = Refuses judge told
-FileCause judge told before now Memory = Unit {0}
-
--- the status for a file that wasn't taken
-abbrev pub status_of : FileError → FileRole → Status
-status_of Fault role = ReadFault role
-status_of Refusal role = Unbuilt role
-status_of Memory role = NoMemory
-
--- ---- the three files
+-- the image is refused for the tree, which is accepted
+abbrev pub RefusesImage : (TreeValue → List ℕ → Type 0) → Option (List ℕ) → Option (List ℕ) → Type 0
+RefusesImage refused tree image = Takes tree_at tree × Both tree image (λ t i. IfSome (tree_at t) (λ value. refused value i))
 
 -- where all three are told, this is their text
 abbrev pub HasText : Option (List ℕ) → Option (List ℕ) → Option (List ℕ) → List ℕ → Type 0
-HasText tree image schedule text = IfSome tree (λ t. IfSome image (λ i. IfSome schedule (λ s. text_of t i s ≡ Some text)))
+HasText tree image schedule text = Both tree image (λ t i. IfSome schedule (λ s. text_of t i s ≡ Some text))
 
 module _ {F : Type 0} (told : F → List ℕ → Option (List ℕ)) where
   -- the files that were read are accepted, and this is their text
   abbrev pub AllTaken : F → List ℕ → Names → Type 0
-  AllTaken files text n = Takes stack_of (told files n.tree) × Takes image_form (told files n.image) × Takes count_of (told files n.schedule)
+  AllTaken files text n = TakesParts (told files n.tree) (told files n.image) × Takes count_of (told files n.schedule)
       × HasText (told files n.tree) (told files n.image) (told files n.schedule) text
 
   -- the words are in the grammar, and this is the text of the files that they name
@@ -85,7 +71,7 @@ module _ {F : Type 0} (told : F → List ℕ → Option (List ℕ)) where
 
   -- where all three files are told and accepted, their run is in order
   abbrev pub IsInOrder : List (List ℕ) → F → Type 0
-  IsInOrder words files = IfOk (names_of words) (λ n. IfSome (told files n.tree) (λ t. IfSome (told files n.image) (λ i. IfSome (told files n.schedule) (λ s. RunsInOrder (stack_of t) (image_form i) (count_of s)))))
+  IsInOrder words files = IfOk (names_of words) (λ n. Both (told files n.tree) (told files n.image) (λ t i. IfSome (told files n.schedule) (λ s. RunsInOrder (parts_of t i) (count_of s))))
 
   module _ (faults : F → List ℕ → ℕ) (files files' : F) where
     -- the count of failed reads of this file rose in the call
@@ -95,27 +81,33 @@ module _ {F : Type 0} (told : F → List ℕ → Option (List ℕ)) where
     -- a file can't be read: the tree is read first, then the image, then the schedule
     abbrev pub CantRead : FileRole → Names → Type 0
     CantRead TreeFile n = Failed n.tree
-    CantRead ImageFile n = Failed n.image × Takes stack_of (told files n.tree)
-    CantRead ScheduleFile n = Failed n.schedule × Takes stack_of (told files n.tree) × Takes image_form (told files n.image)
+    CantRead ImageFile n = Failed n.image × Takes tree_at (told files n.tree)
+    CantRead ScheduleFile n = Failed n.schedule × TakesParts (told files n.tree) (told files n.image)
     CantRead WitnessFile n = ⊥
     CantRead CheckpointFile n = ⊥
 
     -- a file is of a form that isn't built
     abbrev pub IsUnbuilt : FileRole → Names → Type 0
-    IsUnbuilt TreeFile n = Refuses stack_of (told files n.tree)
-    IsUnbuilt ImageFile n = Takes stack_of (told files n.tree) × Refuses image_form (told files n.image)
-    IsUnbuilt ScheduleFile n = Takes stack_of (told files n.tree) × Takes image_form (told files n.image) × Refuses count_of (told files n.schedule)
+    IsUnbuilt TreeFile n = IfSome (told files n.tree) IsUnbuiltTree
+    IsUnbuilt ScheduleFile n = TakesParts (told files n.tree) (told files n.image) × IfSome (told files n.schedule) (λ file. count_of file ≡ None)
+    IsUnbuilt ImageFile n = ⊥
     IsUnbuilt WitnessFile n = ⊥
     IsUnbuilt CheckpointFile n = ⊥
 
-    -- why there is no text; the last two are no such answers
+    -- why the files give no text; the other statuses are no such answers
+    abbrev pub NotTaken : Status → Names → Type 0
+    NotTaken (Tree r) n = IfSome (told files n.tree) (λ file. tree_of file ≡ Err r)
+    NotTaken (ImageLoad r) n = RefusesImage (λ t. IsUnloaded t r) (told files n.tree) (told files n.image)
+    NotTaken (ImageBuild r) n = RefusesImage (λ t. IsUnstarted t r) (told files n.tree) (told files n.image)
+    NotTaken (ReadFault role) n = CantRead role n
+    NotTaken (Unbuilt role) n = IsUnbuilt role n
+    NotTaken NoMemory n = Unit {0}
+    NotTaken _ n = ⊥
+
+    -- why there is no text
     abbrev pub Refused : List (List ℕ) → Status → Type 0
     Refused words (Usage k) = names_of words ≡ Err k
-    Refused words (ReadFault role) = IsOkAnd (names_of words) (CantRead role)
-    Refused words (Unbuilt role) = IsOkAnd (names_of words) (IsUnbuilt role)
-    Refused words NoMemory = IsOk (names_of words)
-    Refused words Done = ⊥
-    Refused words WriteFault = ⊥
+    Refused words s = IsOkAnd (names_of words) (NotTaken s)
 
 -- ---- the command
 
@@ -128,6 +120,9 @@ module _ {F K : Type 0} (told : F → List ℕ → Option (List ℕ)) (faults : 
   Came words files files' out out' WriteFault = (text : List ℕ) × Accepted told words files text × AppendsPart (held out) (held out') text × Rose (failures out) (failures out')
   -- there is no text, and nothing was written
   Came words files files' out out' (Usage k) = Refused told faults files files' words (Usage k) × (held out' ≡ held out)
+  Came words files files' out out' (Tree r) = Refused told faults files files' words (Tree r) × (held out' ≡ held out)
+  Came words files files' out out' (ImageLoad r) = Refused told faults files files' words (ImageLoad r) × (held out' ≡ held out)
+  Came words files files' out out' (ImageBuild r) = Refused told faults files files' words (ImageBuild r) × (held out' ≡ held out)
   Came words files files' out out' (ReadFault role) = Refused told faults files files' words (ReadFault role) × (held out' ≡ held out)
   Came words files files' out out' (Unbuilt role) = Refused told faults files files' words (Unbuilt role) × (held out' ≡ held out)
   Came words files files' out out' NoMemory = Refused told faults files files' words NoMemory × (held out' ≡ held out)
@@ -150,10 +145,22 @@ module _ {F K : Type 0} (told : F → List ℕ → Option (List ℕ)) (faults : 
 unfoldable pub fault_line : Status → List ℕ
 fault_line Done = []
 fault_line (Usage place) = usage_fault place
+fault_line (Tree r) = tree_line r
+fault_line (ImageLoad r) = image_line r
+fault_line (ImageBuild r) = build_line r
 fault_line (Unbuilt role) = unbuilt_fault (role_text role)
 fault_line (ReadFault role) = read_fault (role_text role)
 fault_line WriteFault = write_fault
 fault_line NoMemory = memory_fault
+
+-- the line in two parts: of an unknown key what stands before it, and the key
+abbrev pub line_head : Status → List ℕ
+line_head (Tree r) = tree_line_head r
+line_head s = fault_line s
+
+abbrev pub line_rest : Status → List ℕ
+line_rest (Tree r) = tree_line_rest r
+line_rest s = []
 
 -- The line was offered: all of it was taken, or a first part where the count rose.
 pub record Offers {K : Type 0} (held : K → Option (List ℕ)) (failures : K → ℕ) (out out' : K) (line : List ℕ) : Type 0 where

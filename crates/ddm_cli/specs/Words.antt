@@ -6,6 +6,9 @@ pub record Names : Type 0 where
   pub tree : List ℕ
   pub schedule : List ℕ
 
+abbrev pub names_value : List ℕ → List ℕ → List ℕ → Names
+names_value image tree schedule = record { image = image; tree = tree; schedule = schedule }
+
 -- behind `run`: an image, a tree and a schedule; or the index of the first word at fault, or of the first that is missing
 abbrev pub arguments_of : List (List ℕ) → Result Names ℕ
 arguments_of [] = Err 1

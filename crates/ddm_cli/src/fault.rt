@@ -1,28 +1,39 @@
 ghost use Rattle.std.specs.Prelude.{◌≡◌};
-ghost use Rattle.ddm_cli.specs.Top.{fault_line, Offers};
+ghost use Rattle.ddm_cli.specs.Top.{fault_line, line_head, Offers};
 
+use crate::refusal_lines::{build_line, image_line, tree_line_head};
 use crate::status::Status;
+use crate::unknown_key::tell_rest;
 use ddm_outside::Sink;
 use report::{FaultLine, memory_line, read_line, unbuilt_line, usage_line, write_all, write_line};
 
+// The line of a status; for an unknown key what stands before it.
 #[tactic(auto, unfolding(crate::specs::Top::fault_line))]
-fn fault_text(status: Status) -> FaultLine
-    ensures { result ≡ fault_line status }
+fn line_head(status: &Status) -> FaultLine
+    ensures { result ≡ line_head status.now }
 {
     match status {
         Status::Done => FaultLine::new(),
-        Status::Usage(place) => usage_line(place),
-        Status::Unbuilt(role) => unbuilt_line(role),
-        Status::ReadFault(role) => read_line(role),
+        Status::Usage(place) => usage_line(*place),
+        Status::ImageLoad(refusal) => image_line(refusal),
+        Status::ImageBuild(refusal) => build_line(refusal),
+        Status::Tree(refusal) => tree_line_head(refusal),
+        Status::Unbuilt(role) => unbuilt_line(*role),
+        Status::ReadFault(role) => read_line(*role),
         Status::WriteFault => write_line(),
         Status::NoMemory => memory_line(),
     }
 }
 
 /// Offers the line of a status. A fault of this sink changes no status.
-pub fn tell<K: Sink>(faults_out: &mut K, status: Status)
-    ensures { Offers K.held K.faults faults_out.old faults_out.new (fault_line status) }
+pub fn tell<K: Sink>(faults_out: &mut K, status: &Status)
+    ensures { Offers K.held K.faults faults_out.old faults_out.new (fault_line status.now) }
 {
-    let line = fault_text(status);
-    let _ = write_all(faults_out, line.as_slice());
+    let head = line_head(status);
+    match write_all(faults_out, head.as_slice()) {
+        Ok(()) => {
+            let _ = tell_rest(faults_out, status);
+        }
+        Err(_) => {}
+    }
 }

@@ -4,18 +4,15 @@
 mod answer;
 mod fault;
 mod files;
-mod image_file;
+mod judging;
 mod limits;
-mod memory;
 mod reading;
+mod refusal_lines;
 mod report_lines;
 mod schedule_file;
-mod start;
 mod status;
-#[cfg(test)]
-mod tests;
 mod top;
-mod tree_file;
+mod unknown_key;
 mod words;
 
 pub use report::FileRole;

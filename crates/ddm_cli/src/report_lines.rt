@@ -1,4 +1,4 @@
-ghost use Rattle.std.specs.Prelude.{◌≡◌, ◌<◌, IfOk, OnOk};
+ghost use Rattle.std.specs.Prelude.{◌≡◌, ◌<◌, ◌≤◌, IfOk, OnOk};
 ghost use Rattle.ddm_types.specs.ItemTable.{item_count, row_at};
 ghost use Rattle.ddm_text.specs.Adds.{Adds};
 ghost use Rattle.rv_flat.specs.Registers.{IsHart};
@@ -7,7 +7,6 @@ ghost use Rattle.text_model.specs.Report.{hart_lines, item_line, item_lines, rep
 ghost use Rattle.one_leaf.specs.Step.{words_in};
 ghost use Rattle.ddm_cli.specs.LeafView.{leaf_hart_view, leaf_item_view, leaf_item_views, leaf_view};
 
-use crate::memory::ITEM_WORDS;
 use ddm_types::{BusNo, HartNo, ItemId, LeafNo, LeafState, NoMemory};
 use one_leaf::OneLeaf;
 use report::{
@@ -44,8 +43,12 @@ fn registers(hart: &Hart) -> [u32; 32]
     registers
 }
 
-fn push_hart(out: &mut Vec<u8>, machine: &OneLeaf<ITEM_WORDS>) -> Result<(), NoMemory>
-    requires { IsHart machine.now.hart }
+fn push_hart<const WORDS: usize>(
+    out: &mut Vec<u8>,
+    machine: &OneLeaf<WORDS>,
+) -> Result<(), NoMemory>
+    requires small { WORDS ≤ 16 }
+    requires hart { IsHart machine.now.hart }
     ensures { OnOk result (Adds out.old.items out.new.items (hart_lines machine.now.ops (leaf_hart_view machine.now))) }
 {
     let hart = machine.hart();
@@ -55,14 +58,21 @@ fn push_hart(out: &mut Vec<u8>, machine: &OneLeaf<ITEM_WORDS>) -> Result<(), NoM
     Ok(())
 }
 
-// The line of an item, which lies in the way of its own number.
-fn push_item(out: &mut Vec<u8>, machine: &OneLeaf<ITEM_WORDS>, item: ItemId) -> Result<(), NoMemory>
-    requires { item < item_count machine.now.items }
-    ensures { OnOk result (Adds out.old.items out.new.items (item_line (leaf_item_view item (row_at machine.now.items item) (words_in machine.now.words item)))) }
+// The line of an item of a leaf with this many sets.
+fn push_item<const WORDS: usize>(
+    out: &mut Vec<u8>,
+    machine: &OneLeaf<WORDS>,
+    sets: u32,
+    item: ItemId,
+) -> Result<(), NoMemory>
+    requires small { WORDS ≤ 16 }
+    requires sets { 0 < sets }
+    requires inside { item < item_count machine.now.items }
+    ensures { OnOk result (Adds out.old.items out.new.items (item_line (leaf_item_view sets item (row_at machine.now.items item) (words_in machine.now.words item)))) }
 {
     let place = CopyPlace::LeafWay {
         leaf: LeafNo(0),
-        way: item.0,
+        way: item.0 / sets,
     };
     push_item_line(
         out,
@@ -75,29 +85,38 @@ fn push_item(out: &mut Vec<u8>, machine: &OneLeaf<ITEM_WORDS>, item: ItemId) -> 
 }
 
 #[tactic(auto, using(crate::proofs::ItemLines::more_item_lines))]
-fn push_items(out: &mut Vec<u8>, machine: &OneLeaf<ITEM_WORDS>) -> Result<(), NoMemory>
-    ensures { OnOk result (Adds out.old.items out.new.items (item_lines (leaf_item_views machine.now.words 0 machine.now.items.rows))) }
+fn push_items<const WORDS: usize>(
+    out: &mut Vec<u8>,
+    machine: &OneLeaf<WORDS>,
+    sets: u32,
+) -> Result<(), NoMemory>
+    requires small { WORDS ≤ 16 }
+    requires sets { 0 < sets }
+    ensures { OnOk result (Adds out.old.items out.new.items (item_lines (leaf_item_views sets machine.now.words 0 machine.now.items.rows))) }
 {
     for number in 0..machine.items().len() {
-        push_item(out, machine, ItemId(number))?;
+        push_item(out, machine, sets, ItemId(number))?;
     }
     Ok(())
 }
 
-/// The report of a machine that has one set.
-pub fn report(
+/// The report of a machine whose leaf has this many sets.
+pub fn report<const WORDS: usize>(
     alloc: Global,
     counts: RunCounts,
-    machine: &OneLeaf<ITEM_WORDS>,
+    machine: &OneLeaf<WORDS>,
+    sets: u32,
 ) -> Result<Vec<u8>, NoMemory>
-    requires { IsHart machine.now.hart }
-    ensures { IfOk result (λ text. text.items ≡ report_of (leaf_view counts machine.now)) }
+    requires small { WORDS ≤ 16 }
+    requires sets { 0 < sets }
+    requires hart { IsHart machine.now.hart }
+    ensures { IfOk result (λ text. text.items ≡ report_of (leaf_view sets counts machine.now)) }
 {
     let mut text = Vec::new(alloc);
     push_head(&mut text, counts)?;
     push_hart(&mut text, machine)?;
     push_bus_line(&mut text, BusNo(0), &no_traffic())?;
-    push_items(&mut text, machine)?;
+    push_items(&mut text, machine, sets)?;
     push_op_lines(&mut text, 1, machine.ops())?;
     push_bytes(&mut text, b"end\n")?;
     Ok(text)

@@ -3,14 +3,23 @@ ghost use Rattle.ddm_cli.specs.Code.{code_of};
 ghost use Rattle.ddm_cli.specs.declared.status.Status.TheVariants.{NoMemory};
 
 use ddm_types::NoMemory;
+use elf_load::ImageRefusal;
 use report::FileRole;
+use run_engine::BuildRefusal;
+use tree_config::TreeRefusal;
 
 /// How a command ended.
-#[derive(Clone, Copy, Debug, PartialEq, Eq)]
+#[derive(Debug, Drop)]
 pub enum Status {
     Done,
     /// The index of the first word at fault, or the number of words where one is missing.
     Usage(u32),
+    /// Why the image isn't accepted.
+    ImageLoad(ImageRefusal),
+    /// Why the image and the tree make no machine.
+    ImageBuild(BuildRefusal),
+    /// Why the tree file isn't accepted.
+    Tree(TreeRefusal),
     /// What the file says isn't built yet.
     Unbuilt(FileRole),
     ReadFault(FileRole),
@@ -25,6 +34,8 @@ pub fn code(status: &Status) -> u8
     match status {
         Status::Done => 0,
         Status::Usage(_) => 2,
+        Status::ImageLoad(_) | Status::ImageBuild(_) => 3,
+        Status::Tree(_) => 4,
         Status::ReadFault(_) => 6,
         Status::WriteFault => 7,
         Status::NoMemory => 8,

@@ -1,16 +1,16 @@
 ghost use Rattle.std.specs.Prelude.{◌<◌, vec_len, map, IfOk, IfErr};
 ghost use Rattle.std.specs.String.{string_bytes};
-ghost use Rattle.ddm_cli.specs.Top.{Accepted, Came, Completes, IsInOrder, Offers, Refused, fault_line};
+ghost use Rattle.ddm_cli.specs.Top.{Accepted, AllTaken, Came, Completes, IsInOrder, NotTaken, Offers, Refused, fault_line};
+ghost use Rattle.ddm_cli.specs.Words.{names_value};
 
 use crate::answer::report_text;
 use crate::fault::tell;
-use crate::files::{image_bytes, schedule_file, tree_file};
-use crate::image_file::read_image;
+use crate::files::{image_file, schedule_file, tree_file};
 use crate::status::Status;
-use crate::words::file_names;
+use crate::words::{FileNames, file_names};
 use ddm_outside::{Shelf, Sink};
 use ddm_types::NoMemory;
-use report::{FileRole, write_all};
+use report::write_all;
 use std::alloc::Global;
 
 const READ_BYTES: usize = 65_536;
@@ -22,23 +22,32 @@ fn read_buffer(alloc: Global) -> Result<Vec<u8>, NoMemory>
     Ok(Vec::from_elem(alloc, 0, READ_BYTES)?)
 }
 
+// The text of the named files, or the status without one.
+#[tactic(auto, using(crate::proofs::Causes::takes_parts))]
+fn files_text<F: Shelf>(
+    alloc: Global,
+    names: FileNames<'_>,
+    files: &mut F,
+) -> Result<Vec<u8>, Status>
+    ensures taken { IfOk result (λ text. AllTaken F.told files.old text.items (names_value names.entry.image.now names.entry.tree.now names.entry.schedule.now)) }
+    ensures refused { IfErr result (λ status. NotTaken F.told F.faults files.old files.new status (names_value names.entry.image.now names.entry.tree.now names.entry.schedule.now)) }
+{
+    let mut buffer = read_buffer(alloc)?;
+    let tree = tree_file(alloc, files, names.tree, &mut buffer)?;
+    let machine = image_file(alloc, files, names.image, &mut buffer, &tree)?;
+    let turns = schedule_file(alloc, files, names.schedule, &mut buffer)?;
+    Ok(report_text(alloc, machine, tree.sets, turns)?)
+}
+
 // The text of a command, or the status without one.
 fn text<F: Shelf>(alloc: Global, words: &[String], files: &mut F) -> Result<Vec<u8>, Status>
     ensures accepted { IfOk result (λ text. Accepted F.told (map string_bytes words.now) files.old text.items) }
     ensures refused { IfErr result (Refused F.told F.faults files.old files.new (map string_bytes words.now)) }
 {
-    let names = file_names(words).map_err(Status::Usage)?;
-    let mut buffer = read_buffer(alloc)?;
-    let stack = tree_file(alloc, files, names.tree, &mut buffer);
-    let stack = stack.map_err(|error| error.at(FileRole::TreeFile))?;
-    let bytes = image_bytes(alloc, files, names.image, &mut buffer);
-    let bytes = bytes.map_err(|error| error.at(FileRole::ImageFile))?;
-    let Some(image) = read_image(alloc, &bytes)? else {
-        return Err(Status::Unbuilt(FileRole::ImageFile));
-    };
-    let turns = schedule_file(alloc, files, names.schedule, &mut buffer);
-    let turns = turns.map_err(|error| error.at(FileRole::ScheduleFile))?;
-    Ok(report_text(alloc, &image, stack, turns)?)
+    match file_names(words) {
+        Ok(names) => files_text(alloc, names, files),
+        Err(place) => Err(Status::Usage(place)),
+    }
 }
 
 fn answer<F: Shelf, K: Sink>(alloc: Global, words: &[String], files: &mut F, out: &mut K) -> Status
@@ -68,6 +77,6 @@ pub fn ddm_main<F: Shelf, K: Sink>(
     ensures told { Offers K.held K.faults faults_out.old faults_out.new (fault_line result) }
 {
     let status = answer(alloc, words, files, out);
-    tell(faults_out, status);
+    tell(faults_out, &status);
     status
 }

@@ -1,6 +1,6 @@
 use Rattle.std.proofs.lemmas.Option.{IfSome_then}
-use Rattle.ddm_cli.proofs.Long.{stack_of-long}
+use Rattle.ddm_cli.proofs.Judged.{tree_of-long}
 use Rattle.ddm_cli.proofs.files.tree_file.Goals as goal
 
 pub returns-in-Err-TooLong-clause-cause : goal.returns-in-Err-TooLong-clause-cause
-returns-in-Err-TooLong-clause-cause g c = IfSome_then _ (rw c.in-Err-TooLong.field-0-is at c.in-Err-TooLong.ensures.cause) stack_of-long
+returns-in-Err-TooLong-clause-cause g c = IfSome_then _ (rw c.in-Err-TooLong.field-0-is at c.in-Err-TooLong.ensures.cause) tree_of-long

@@ -8,9 +8,9 @@ use Rattle.ddm_cli.proofs.report_lines.push_items.Goals as goal
 
 pub loop-number-init : goal.loop-number-init
 unfolding item_lines
-loop-number-init c = record { is = sym (append-nil c.args.out.now.items) }
+loop-number-init g c = record { is = sym (append-nil c.args.out.now.items) }
 
 pub loop-number-preserved : goal.loop-number-preserved
-loop-number-preserved c =
+loop-number-preserved g c =
     let inside : c.loop-number.number < length c.args.machine.now.items.rows = rw c.items.ensures at (rw c.len-number-end.ensures at c.loop-number-test.true) in
-    rw (more_item_lines c.args.machine.now.words c.args.machine.now.items.rows c.loop-number.number no_row inside) (c.loop-number.invariant ▸ c.in_ok-push_item.ensures)
+    rw (more_item_lines c.args.sets c.args.machine.now.words c.args.machine.now.items.rows c.loop-number.number no_row inside) (c.loop-number.invariant ▸ c.in_ok-push_item.ensures)

@@ -1,0 +1,46 @@
+-- What was judged of a tree, an image and a schedule, as the parts of a machine.
+use Rattle.std.proofs.Common.{◌≡◌, ℕ, ◌<◌, true, List, [], ◌∷◌, length, Some, None, Ok, Err, refl, arith}
+use Rattle.std.specs.Prelude.{nat_lt, IsSome}
+use Rattle.std.proofs.lemmas.Bool.Decides.{nat_tests}
+use Rattle.tree_model.specs.Start.{TreeValue, ImageValue, start_refusal}
+use Rattle.elf_load.specs.ElfFile.{file_refusal, image_of}
+use Rattle.elf_load.specs.declared.refusal.ImageRefusal.TheVariants as image
+use Rattle.tree_config.specs.TreeFile.{tree_of}
+use Rattle.tree_config.specs.declared.refusal.TreeRefusal.TheVariants as tree
+use Rattle.ddm_cli.specs.Parts.{is_one_leaf, parts_in, parts_of, tree_at}
+
+past : (n m : ℕ) → n < m → nat_lt n m ≡ true
+past n m long = grind (arith, nat_tests)
+
+pub tree_of-long : (file : List ℕ) → 65536 < length file → tree_of file ≡ Err tree.TooLong
+unfolding tree_of
+tree_of-long file long = rw (past 65536 (length file) long) refl
+
+pub image_of-long : (item_bytes : ℕ) (file : List ℕ) → 4194304 < length file → image_of item_bytes file ≡ Err image.TooLong
+unfolding image_of file_refusal
+image_of-long item_bytes file long = rw (past 4194304 (length file) long) refl
+
+-- a tree of one leaf has one bus
+pub one_leaf_levels : (t : TreeValue) → is_one_leaf t ≡ true → t.levels ≡ (1 ∷ []) ∷ []
+one_leaf_levels t one = by_levels t.levels one where
+  by_levels : (levels : List (List ℕ)) → is_one_leaf (record t { levels = levels }) ≡ true → levels ≡ (1 ∷ []) ∷ []
+  by_levels [] one = cc
+  by_levels ([] ∷ []) one = cc
+  by_levels ((n ∷ []) ∷ []) one = let same : n ≡ 1 = grind (arith, nat_tests) in rw same refl
+  by_levels ((n ∷ m ∷ ns) ∷ []) one = absurd (grind (arith, nat_tests))
+  by_levels (l ∷ k ∷ ls) one = absurd (grind (arith, nat_tests))
+
+pub tree_taken : (file : List ℕ) (t : TreeValue) → tree_of file ≡ Ok t → is_one_leaf t ≡ true → tree_at file ≡ Some t
+unfolding tree_at
+tree_taken file t is one = rw (is, one) refl
+
+pub parts_taken : (file : List ℕ) (t : TreeValue) (i : ImageValue) → image_of t.item_bytes file ≡ Ok i → start_refusal t i ≡ None → parts_in t file ≡ Some (record { tree = t; image = i })
+unfolding parts_in
+parts_taken file t i is start = rw (is, start) refl
+
+pub both_taken : (tree image : List ℕ) (t : TreeValue) (i : ImageValue) → tree_at tree ≡ Some t → image_of t.item_bytes image ≡ Ok i → start_refusal t i ≡ None → parts_of tree image ≡ Some (record { tree = t; image = i })
+unfolding parts_of
+both_taken tree image t i is loaded start = rw is (parts_taken image t i loaded start)
+
+pub some_parts : (file : List ℕ) (t : TreeValue) (i : ImageValue) → image_of t.item_bytes file ≡ Ok i → start_refusal t i ≡ None → IsSome (parts_in t file)
+some_parts file t i is start = rw (parts_taken file t i is start) refl

@@ -1,0 +1,65 @@
+-- Why a file gave nothing, by the status that says so. A file of which nothing is told may be of any kind.
+use Rattle.std.specs.Prelude.{◌≡◌, ℕ, false, List, Option, None, Some, IsSome, IfSome, IsOkAnd, Err}
+use Rattle.ddm_outside.specs.Causes.{Rose}
+use Rattle.report.specs.declared.roles.FileRole.TheVariants.{ImageFile, TreeFile, ScheduleFile}
+use Rattle.tree_model.specs.Start.{TreeValue, ImageValue}
+use Rattle.elf_load.specs.ElfFile.{image_of}
+use Rattle.elf_load.specs.declared.refusal.ImageRefusal.{ImageRefusal}
+use Rattle.tree_config.specs.TreeFile.{tree_of}
+use Rattle.run_engine.specs.Build.{build_refusal}
+use Rattle.run_engine.specs.declared.refusal.BuildRefusal.{BuildRefusal}
+use Rattle.ddm_cli.specs.Parts.{is_one_leaf}
+use Rattle.ddm_cli.specs.ScheduleForm.{count_of}
+use Rattle.ddm_cli.specs.declared.status.Status.{Status}
+use Rattle.ddm_cli.specs.declared.status.Status.TheVariants.{ImageLoad, ImageBuild, Tree, Unbuilt, ReadFault, NoMemory}
+
+-- where the file is told, it is accepted
+abbrev pub Takes : {A : Type 0} → (List ℕ → Option A) → Option (List ℕ) → Type 0
+Takes judge told = IfSome told (λ file. IsSome (judge file))
+
+-- where it is told, it is accepted as this
+abbrev pub TakenAs : {A : Type 0} → (List ℕ → Option A) → Option (List ℕ) → A → Type 0
+TakenAs judge told a = IfSome told (λ file. judge file ≡ Some a)
+
+-- ---- the tree
+
+-- the tree is accepted, and isn't one of one leaf
+abbrev pub IsUnbuiltTree : List ℕ → Type 0
+IsUnbuiltTree file = IsOkAnd (tree_of file) (λ t. is_one_leaf t ≡ false)
+
+abbrev pub TreeCause : Option (List ℕ) → ℕ → ℕ → Status → Type 0
+TreeCause told before now (Tree r) = IfSome told (λ file. tree_of file ≡ Err r)
+TreeCause told before now (Unbuilt TreeFile) = IfSome told IsUnbuiltTree
+TreeCause told before now (ReadFault TreeFile) = Rose before now
+TreeCause told before now NoMemory = Unit {0}
+TreeCause told before now _ = ⊥
+
+-- ---- the image, for a tree
+
+abbrev pub IsUnloaded : TreeValue → ImageRefusal → List ℕ → Type 0
+IsUnloaded t r file = image_of t.item_bytes file ≡ Err r
+
+-- why there is no machine of a tree and an image
+abbrev pub BuildCause : TreeValue → ImageValue → Status → Type 0
+BuildCause t i (ImageBuild r) = build_refusal t i ≡ Some r
+BuildCause t i NoMemory = Unit {0}
+BuildCause t i _ = ⊥
+
+-- the image is accepted, and the machine has no start
+abbrev pub IsUnstarted : TreeValue → BuildRefusal → List ℕ → Type 0
+IsUnstarted t r file = IsOkAnd (image_of t.item_bytes file) (λ i. build_refusal t i ≡ Some r)
+
+abbrev pub ImageCause : TreeValue → Option (List ℕ) → ℕ → ℕ → Status → Type 0
+ImageCause t told before now (ImageLoad r) = IfSome told (IsUnloaded t r)
+ImageCause t told before now (ImageBuild r) = IfSome told (IsUnstarted t r)
+ImageCause t told before now (ReadFault ImageFile) = Rose before now
+ImageCause t told before now NoMemory = Unit {0}
+ImageCause t told before now _ = ⊥
+
+-- ---- the schedule
+
+abbrev pub ScheduleCause : Option (List ℕ) → ℕ → ℕ → Status → Type 0
+ScheduleCause told before now (Unbuilt ScheduleFile) = IfSome told (λ file. count_of file ≡ None)
+ScheduleCause told before now (ReadFault ScheduleFile) = Rose before now
+ScheduleCause told before now NoMemory = Unit {0}
+ScheduleCause told before now _ = ⊥

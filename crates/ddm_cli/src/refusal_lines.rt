@@ -1,0 +1,153 @@
+ghost use Rattle.std.specs.Prelude.{◌≡◌, ◌+◌, ◌++◌, ◌≤◌, length, codes};
+ghost use Rattle.text_model.specs.Faults.{name_words, number_texts};
+ghost use Rattle.tree_config.specs.TreeFile.{key_name};
+ghost use Rattle.ddm_cli.specs.Refusals.{build_line, image_line, tree_line_head};
+
+use elf_load::ImageRefusal;
+use report::FaultLine;
+use run_engine::BuildRefusal;
+use tree_config::{TreeKey, TreeRefusal};
+
+// Puts numbers at the end, each behind a space.
+fn push_numbers(line: &mut FaultLine, numbers: &[u64])
+    requires line { length line.old ≤ 32 }
+    requires numbers { length numbers.now ≤ 2 }
+    ensures text { line.new ≡ line.old ++ number_texts numbers.now }
+    ensures short { length line.new ≤ length line.old + 42 }
+{
+    for number in numbers {
+        line.push(b" ");
+        line.push_number(*number);
+    }
+}
+
+// A line that ends with numbers.
+fn numbered(head: &[u8], name: &[u8], numbers: &[u64]) -> FaultLine
+    requires head { length head.now ≤ 12 }
+    requires name { length name.now ≤ 20 }
+    requires numbers { length numbers.now ≤ 2 }
+    ensures { result ≡ head.now ++ (name.now ++ number_texts numbers.now) ++ codes "\n" }
+{
+    let mut line = FaultLine::new();
+    line.push(head);
+    line.push(name);
+    push_numbers(&mut line, numbers);
+    line.push(b"\n");
+    line
+}
+
+// The line for an image, by the words of a refusal's name and its numbers.
+fn image(name: &[u8], numbers: &[u64]) -> FaultLine
+    requires name { length name.now ≤ 20 }
+    requires numbers { length numbers.now ≤ 2 }
+    ensures { result ≡ codes "ddm: image: " ++ (name.now ++ number_texts numbers.now) ++ codes "\n" }
+{
+    numbered(b"ddm: image: ", name, numbers)
+}
+
+/// The line for an image that isn't accepted.
+#[tactic(auto, unfolding(text_model::specs::Faults::image_fault, text_model::specs::Faults::refusal_text, text_model::specs::Faults::name_words))]
+pub fn image_line(refusal: &ImageRefusal) -> FaultLine
+    ensures { result ≡ image_line refusal.now }
+{
+    match *refusal {
+        ImageRefusal::TooLong => image(b"too long", &[]),
+        ImageRefusal::NotElf => image(b"not elf", &[]),
+        ImageRefusal::WrongClass => image(b"wrong class", &[]),
+        ImageRefusal::NotExecutable => image(b"not executable", &[]),
+        ImageRefusal::WrongMachine => image(b"wrong machine", &[]),
+        ImageRefusal::Compressed => image(b"compressed", &[]),
+        ImageRefusal::HardFloat => image(b"hard float", &[]),
+        ImageRefusal::Embedded => image(b"embedded", &[]),
+        ImageRefusal::TooManyHeaders(n) => image(b"too many headers", &[u64::from(n)]),
+        ImageRefusal::HeaderOutside(n) => image(b"header outside", &[u64::from(n)]),
+        ImageRefusal::Dynamic(n) => image(b"dynamic", &[u64::from(n)]),
+        ImageRefusal::SegmentOutside(n) => image(b"segment outside", &[u64::from(n)]),
+        ImageRefusal::AddressWraps(n) => image(b"address wraps", &[u64::from(n)]),
+        ImageRefusal::SegmentsOverlap(a, b) => {
+            image(b"segments overlap", &[u64::from(a), u64::from(b)])
+        }
+        ImageRefusal::NoSegments => image(b"no segments", &[]),
+        ImageRefusal::TooMuchCode(n) => image(b"too much code", &[n]),
+        ImageRefusal::TooManyItems(n) => image(b"too many items", &[n]),
+        ImageRefusal::BadEntry(n) => image(b"bad entry", &[u64::from(n)]),
+        ImageRefusal::NoMemory => image(b"no memory", &[]),
+    }
+}
+
+/// The line for an image of which a tree makes no machine.
+#[tactic(auto, unfolding(text_model::specs::Faults::image_fault, text_model::specs::Faults::refusal_text, text_model::specs::Faults::name_words))]
+pub fn build_line(refusal: &BuildRefusal) -> FaultLine
+    ensures { result ≡ build_line refusal.now }
+{
+    match *refusal {
+        BuildRefusal::TooManyItems(n) => image(b"too many items", &[n]),
+        BuildRefusal::StackOverlap { hart, header } => {
+            image(b"stack overlap", &[u64::from(hart), u64::from(header)])
+        }
+        BuildRefusal::NoPlace(item) => image(b"no place", &[u64::from(item.0)]),
+        BuildRefusal::NoMemory => image(b"no memory", &[]),
+    }
+}
+
+// The line for a tree file, by the words of a refusal's name and its numbers.
+fn tree(name: &[u8], numbers: &[u64]) -> FaultLine
+    requires name { length name.now ≤ 20 }
+    requires numbers { length numbers.now ≤ 2 }
+    ensures { result ≡ codes "ddm: tree: " ++ (name.now ++ number_texts numbers.now) ++ codes "\n" }
+{
+    numbered(b"ddm: tree: ", name, numbers)
+}
+
+// A key as a tree file spells it.
+#[tactic(auto, using(crate::proofs::Keys::key_short))]
+fn key_name(key: TreeKey) -> &'static [u8]
+    ensures name { result.now ≡ key_name key }
+    ensures short { length result.now ≤ 11 }
+{
+    key.name().as_bytes()
+}
+
+// The line for a key of a tree file.
+fn keyed(name: &[u8], key: TreeKey) -> FaultLine
+    requires name { length name.now ≤ 20 }
+    ensures { result ≡ codes "ddm: tree: " ++ (name.now ++ codes " " ++ key_name key) ++ codes "\n" }
+{
+    let mut line = FaultLine::new();
+    line.push(b"ddm: tree: ");
+    line.push(name);
+    line.push(b" ");
+    line.push(key_name(key));
+    line.push(b"\n");
+    line
+}
+
+// What stands before an unknown key.
+fn before_key() -> FaultLine
+    ensures { result ≡ codes "ddm: tree: unknown key " }
+{
+    let mut line = FaultLine::new();
+    line.push(b"ddm: tree: unknown key ");
+    line
+}
+
+/// The line for a tree file that isn't accepted; for an unknown key what stands before the key.
+#[tactic(auto, unfolding(text_model::specs::Faults::tree_fault, text_model::specs::Faults::tree_key_fault, text_model::specs::Faults::key_refusal_text, text_model::specs::Faults::refusal_text, text_model::specs::Faults::name_words))]
+pub fn tree_line_head(refusal: &TreeRefusal) -> FaultLine
+    ensures { result ≡ tree_line_head refusal.now }
+{
+    match refusal {
+        TreeRefusal::TooLong => tree(b"too long", &[]),
+        TreeRefusal::NotToml => tree(b"not toml", &[]),
+        TreeRefusal::UnknownKey(_) => before_key(),
+        TreeRefusal::MissingKey(key) => keyed(b"missing key", *key),
+        TreeRefusal::WrongType(key) => keyed(b"wrong type", *key),
+        TreeRefusal::BadShape(place) => tree(b"bad shape", &[u64::from(*place)]),
+        TreeRefusal::Uneven => tree(b"uneven", &[]),
+        TreeRefusal::TooDeep => tree(b"too deep", &[]),
+        TreeRefusal::TooWide => tree(b"too wide", &[]),
+        TreeRefusal::TooManyLeaves => tree(b"too many leaves", &[]),
+        TreeRefusal::OutOfRange(key) => keyed(b"out of range", *key),
+        TreeRefusal::NoMemory => tree(b"no memory", &[]),
+    }
+}
