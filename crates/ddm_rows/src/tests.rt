@@ -1,0 +1,349 @@
+ghost use Rattle.std.specs.Prelude.{◌≡◌};
+
+use ddm_cli::{FileRole, Status, code, ddm_main};
+use ddm_outside::{MemoryShelf, MemorySink, NamedFile};
+use ddm_text::Text;
+use ddm_types::{Span, count_items};
+use std::alloc::Global;
+use std::test::Fail;
+
+const TREE: &[u8] =
+    b"shape = \"(L)\"\nways = 4\nsets = 1\nbuffer = 1\nparking = 1\ndown = 16\nrequests = 16\nreplies = 16\nstack_base = 196608\nstack_bytes = 16\n";
+
+// Stores 7 at 0x20000, loads it back and exits with it.
+const IMAGE: &[u8] = &[
+    0x7f, 0x45, 0x4c, 0x46, 1, 1, 1, 0, 0, 0, 0, 0, 0, 0, 0, 0, 2, 0, 0xf3, 0, 1, 0, 0, 0, 0, 0, 1,
+    0, 0x34, 0, 0, 0, 0, 0, 0, 0, 0, 0, 0, 0, 0x34, 0, 0x20, 0, 2, 0, 0, 0, 0, 0, 0, 0, 1, 0, 0, 0,
+    0x74, 0, 0, 0, 0, 0, 1, 0, 0, 0, 1, 0, 0x1c, 0, 0, 0, 0x1c, 0, 0, 0, 5, 0, 0, 0, 1, 0, 0, 0, 1,
+    0, 0, 0, 0x90, 0, 0, 0, 0, 0, 2, 0, 0, 0, 2, 0, 0, 0, 0, 0, 0x10, 0, 0, 0, 6, 0, 0, 0, 1, 0, 0,
+    0, 0xb7, 2, 2, 0, 0x13, 3, 0x70, 0, 0x23, 0xa0, 0x62, 0, 0x83, 0xa3, 2, 0, 0x93, 8, 0xd0, 5,
+    0x13, 0x85, 3, 0, 0x73, 0, 0, 0,
+];
+
+const SCHEDULE: &[u8] = b"h 0 0\nh 0 0\nh 0 0\nh 0 0\nh 0 0\nh 0 0\nh 0 0\nh 0 0\nend\n";
+
+const REPORT: &[u8] =
+    b"ddm 1\nturns 8 retired 6 granted 0 busy 0\nhart 0 exit 7 pc 00010018 done 6\nregs 0 00000000 00030010 00000000 00000000 00020000 00000007 00000007 00000000 00000000 00000007 00000001 00000000 00000000 00000000 00000000 00000000 0000005d 00000000 00000000 00000000 00000000 00000000 00000000 00000000 00000000 00000000 00000000 00000000 00000000 00000000 00000000\nout 0 -\nbus 0 read 0 data 0 erase 0 exclusive 0 out 0 inject 0\nitem 0 00010000 000202b7 00700313 0062a023 0002a383 leaf 0 way 0 E\nitem 1 00010010 05d00893 00038513 00000073 00000000 leaf 0 way 1 E\nitem 2 00020000 00000007 00000000 00000000 00000000 leaf 0 way 2 E\nitem 3 00030000 00000000 00000000 00000000 00000000 leaf 0 way 3 E\nop 0 0.0.0 00010000 plain\nop 0 0.0.1 00010004 plain\nop 0 0.0.2 00010008 store 00020000 00000000 00000007\nop 0 0.0.3 0001000c load 00020000 00000007\nop 0 0.0.4 00010010 plain\nop 0 0.0.5 00010014 plain\nend\n";
+
+const NO_TURNS: &[u8] =
+    b"ddm 1\nturns 0 retired 0 granted 0 busy 0\nhart 0 running pc 00010000 done 0\nregs 0 00000000 00030010 00000000 00000000 00000000 00000000 00000000 00000000 00000000 00000000 00000001 00000000 00000000 00000000 00000000 00000000 00000000 00000000 00000000 00000000 00000000 00000000 00000000 00000000 00000000 00000000 00000000 00000000 00000000 00000000 00000000\nout 0 -\nbus 0 read 0 data 0 erase 0 exclusive 0 out 0 inject 0\nitem 0 00010000 000202b7 00700313 0062a023 0002a383 leaf 0 way 0 E\nitem 1 00010010 05d00893 00038513 00000073 00000000 leaf 0 way 1 E\nitem 2 00020000 00000000 00000000 00000000 00000000 leaf 0 way 2 E\nitem 3 00030000 00000000 00000000 00000000 00000000 leaf 0 way 3 E\nend\n";
+
+const TREE_WITHOUT_STACKS: &[u8] =
+    b"shape = \"(L)\"\nways = 4\nsets = 1\nbuffer = 1\nparking = 1\ndown = 16\nrequests = 16\nreplies = 16\nstack_base = 196608\nstack_bytes = 0\n";
+
+// Puts the low byte of x10, which is 0, and runs out of code, beside an item of four words.
+const PUT_IMAGE: &[u8] = &[
+    127, 69, 76, 70, 1, 1, 1, 0, 0, 0, 0, 0, 0, 0, 0, 0, 2, 0, 243, 0, 1, 0, 0, 0, 0, 0, 1, 0, 52,
+    0, 0, 0, 0, 0, 0, 0, 0, 0, 0, 0, 52, 0, 32, 0, 2, 0, 0, 0, 0, 0, 0, 0, 1, 0, 0, 0, 116, 0, 0,
+    0, 0, 0, 1, 0, 0, 0, 1, 0, 12, 0, 0, 0, 12, 0, 0, 0, 5, 0, 0, 0, 1, 0, 0, 0, 1, 0, 0, 0, 128,
+    0, 0, 0, 0, 0, 2, 0, 0, 0, 2, 0, 16, 0, 0, 0, 16, 0, 0, 0, 6, 0, 0, 0, 1, 0, 0, 0, 183, 2, 4,
+    0, 147, 8, 128, 62, 115, 0, 0, 0, 188, 101, 34, 54, 44, 44, 223, 169, 141, 41, 167, 191, 235,
+    74, 36, 229,
+];
+
+const PUT_SCHEDULE: &[u8] = b"h 0 0\nh 0 0\nh 0 0\nh 0 0\nh 0 0\nend\n";
+
+const PUT_REPORT: &[u8] =
+    b"ddm 1\nturns 5 retired 3 granted 0 busy 0\nhart 0 nofetch 0001000c pc 0001000c done 3\nregs 0 00000000 00030000 00000000 00000000 00040000 00000000 00000000 00000000 00000000 00000000 00000001 00000000 00000000 00000000 00000000 00000000 000003e8 00000000 00000000 00000000 00000000 00000000 00000000 00000000 00000000 00000000 00000000 00000000 00000000 00000000 00000000\nout 0 00\nbus 0 read 0 data 0 erase 0 exclusive 0 out 0 inject 0\nitem 0 00010000 000402b7 3e800893 00000073 00000000 leaf 0 way 0 E\nitem 1 00020000 362265bc a9df2c2c bfa7298d e5244aeb leaf 0 way 1 E\nop 0 0.0.0 00010000 plain\nop 0 0.0.1 00010004 plain\nop 0 0.0.2 00010008 put 00\nend\n";
+
+const WIDE_TREE: &[u8] =
+    b"shape = \"(L)\"\nways = 4\nsets = 1\nbuffer = 1\nparking = 1\ndown = 16\nrequests = 16\nreplies = 16\nstack_base = 196608\nstack_bytes = 16\nitem_bytes = 64\n";
+
+const WIDE_REPORT: &[u8] =
+    b"ddm 1\nturns 8 retired 6 granted 0 busy 0\nhart 0 exit 7 pc 00010018 done 6\nregs 0 00000000 00030010 00000000 00000000 00020000 00000007 00000007 00000000 00000000 00000007 00000001 00000000 00000000 00000000 00000000 00000000 0000005d 00000000 00000000 00000000 00000000 00000000 00000000 00000000 00000000 00000000 00000000 00000000 00000000 00000000 00000000\nout 0 -\nbus 0 read 0 data 0 erase 0 exclusive 0 out 0 inject 0\nitem 0 00010000 000202b7 00700313 0062a023 0002a383 05d00893 00038513 00000073 00000000 00000000 00000000 00000000 00000000 00000000 00000000 00000000 00000000 leaf 0 way 0 E\nitem 1 00020000 00000007 00000000 00000000 00000000 00000000 00000000 00000000 00000000 00000000 00000000 00000000 00000000 00000000 00000000 00000000 00000000 leaf 0 way 1 E\nitem 2 00030000 00000000 00000000 00000000 00000000 00000000 00000000 00000000 00000000 00000000 00000000 00000000 00000000 00000000 00000000 00000000 00000000 leaf 0 way 2 E\nop 0 0.0.0 00010000 plain\nop 0 0.0.1 00010004 plain\nop 0 0.0.2 00010008 store 00020000 00000000 00000007\nop 0 0.0.3 0001000c load 00020000 00000007\nop 0 0.0.4 00010010 plain\nop 0 0.0.5 00010014 plain\nend\n";
+
+const TWO_LEAVES: &[u8] =
+    b"shape = \"(LL)\"\nways = 4\nsets = 1\nbuffer = 1\nparking = 1\ndown = 16\nrequests = 16\nreplies = 16\nstack_base = 196608\nstack_bytes = 16\n";
+
+const STACK_ON_CODE: &[u8] =
+    b"shape = \"(L)\"\nways = 4\nsets = 1\nbuffer = 1\nparking = 1\ndown = 16\nrequests = 16\nreplies = 16\nstack_base = 65536\nstack_bytes = 16\n";
+
+const ONE_PLACE: &[u8] =
+    b"shape = \"(L)\"\nways = 1\nsets = 1\nbuffer = 1\nparking = 1\ndown = 16\nrequests = 16\nreplies = 16\nstack_base = 196608\nstack_bytes = 0\n";
+
+const WORDS: &[&str] = &["run", "image", "tree", "schedule"];
+
+// What came of a command.
+#[derive(Drop)]
+struct Answer {
+    status: Status,
+    out: MemorySink,
+    faults_out: MemorySink,
+}
+
+fn shelf(alloc: Global, texts: [&[u8]; 3], fail: Vec<u64>) -> Result<MemoryShelf, Fail> {
+    let mut files = Vec::new(alloc);
+    files.push(NamedFile {
+        name: Text::of(alloc, "tree")?,
+        bytes: texts[0].to_vec(alloc)?,
+        faults: 0,
+    })?;
+    files.push(NamedFile {
+        name: Text::of(alloc, "image")?,
+        bytes: texts[1].to_vec(alloc)?,
+        faults: 0,
+    })?;
+    files.push(NamedFile {
+        name: Text::of(alloc, "schedule")?,
+        bytes: texts[2].to_vec(alloc)?,
+        faults: 0,
+    })?;
+    Ok(MemoryShelf::new(files, fail))
+}
+
+// A sink that takes ten bytes at a time.
+fn sink(alloc: Global, fail: Vec<u64>) -> Result<MemorySink, Fail> {
+    Ok(MemorySink::new(alloc, 1 << 16, 10, fail)?)
+}
+
+fn answer_of(
+    alloc: Global,
+    words: &[&str],
+    mut files: MemoryShelf,
+    mut out: MemorySink,
+    mut faults_out: MemorySink,
+) -> Result<Answer, Fail> {
+    let mut all = Vec::new(alloc);
+    for word in words {
+        all.push(String::from_str(alloc, word)?)?;
+    }
+    let status = ddm_main(alloc, &all, &mut files, &mut out, &mut faults_out);
+    Ok(Answer {
+        status,
+        out,
+        faults_out,
+    })
+}
+
+// Where reads of these numbers fail.
+fn answer_with_reads(alloc: Global, texts: [&[u8]; 3], fail: Vec<u64>) -> Result<Answer, Fail> {
+    answer_of(
+        alloc,
+        WORDS,
+        shelf(alloc, texts, fail)?,
+        sink(alloc, Vec::new(alloc))?,
+        sink(alloc, Vec::new(alloc))?,
+    )
+}
+
+fn span(start: u32, bytes: u64, writable: bool) -> Span
+    ensures { result ≡ record { start = start; bytes = bytes; writable = writable } }
+{
+    Span {
+        start,
+        bytes,
+        writable,
+    }
+}
+
+#[test]
+fn store_and_load_back(rt: HostRuntime) -> Result<(), Fail> {
+    let alloc = rt.alloc();
+    let answer = answer_with_reads(alloc, [TREE, IMAGE, SCHEDULE], Vec::new(alloc))?;
+    assert_eq!(rt; code(&answer.status), 0);
+    assert_eq!(rt; answer.out.bytes(), REPORT);
+    assert_eq!(rt; answer.faults_out.bytes(), b"".as_slice());
+    Ok(())
+}
+
+#[test]
+fn one_byte_of_output(rt: HostRuntime) -> Result<(), Fail> {
+    let alloc = rt.alloc();
+    let texts = [TREE_WITHOUT_STACKS, PUT_IMAGE, PUT_SCHEDULE];
+    let answer = answer_with_reads(alloc, texts, Vec::new(alloc))?;
+    assert_eq!(rt; code(&answer.status), 0);
+    assert_eq!(rt; answer.out.bytes(), PUT_REPORT);
+    assert_eq!(rt; answer.faults_out.bytes(), b"".as_slice());
+    Ok(())
+}
+
+#[test]
+fn no_turns(rt: HostRuntime) -> Result<(), Fail> {
+    let alloc = rt.alloc();
+    let answer = answer_with_reads(alloc, [TREE, IMAGE, b"end\n"], Vec::new(alloc))?;
+    assert_eq!(rt; code(&answer.status), 0);
+    assert_eq!(rt; answer.out.bytes(), NO_TURNS);
+    assert_eq!(rt; answer.faults_out.bytes(), b"".as_slice());
+    Ok(())
+}
+
+// Each file is read twice: all of its bytes, and then none behind them.
+#[test]
+fn a_read_fails(rt: HostRuntime) -> Result<(), Fail> {
+    let alloc = rt.alloc();
+    let reads = [
+        (0, "ddm: cannot read the tree\n"),
+        (1, "ddm: cannot read the tree\n"),
+        (2, "ddm: cannot read the image\n"),
+        (4, "ddm: cannot read the schedule\n"),
+    ];
+    for (number, line) in reads {
+        let answer = answer_with_reads(alloc, [TREE, IMAGE, SCHEDULE], vec![in alloc; number]?)?;
+        assert_eq!(rt; code(&answer.status), 6);
+        assert_eq!(rt; answer.out.bytes(), b"".as_slice());
+        assert_eq!(rt; answer.faults_out.bytes(), line.as_bytes());
+    }
+    Ok(())
+}
+
+#[test]
+fn a_write_fails_in_mid_stream(rt: HostRuntime) -> Result<(), Fail> {
+    let alloc = rt.alloc();
+    let answer = answer_of(
+        alloc,
+        WORDS,
+        shelf(alloc, [TREE, IMAGE, SCHEDULE], Vec::new(alloc))?,
+        sink(alloc, vec![in alloc; 2]?)?,
+        sink(alloc, Vec::new(alloc))?,
+    )?;
+    assert_eq!(rt; code(&answer.status), 7);
+    assert_eq!(rt; answer.out.bytes(), b"ddm 1\nturns 8 retire".as_slice());
+    assert_eq!(rt;
+        answer.faults_out.bytes(),
+        b"ddm: cannot write\n".as_slice()
+    );
+    Ok(())
+}
+
+#[test]
+fn a_fault_line_fails(rt: HostRuntime) -> Result<(), Fail> {
+    let alloc = rt.alloc();
+    let answer = answer_of(
+        alloc,
+        WORDS,
+        shelf(alloc, [TREE, IMAGE, SCHEDULE], vec![in alloc; 0]?)?,
+        sink(alloc, Vec::new(alloc))?,
+        sink(alloc, vec![in alloc; 1]?)?,
+    )?;
+    assert_eq!(rt; code(&answer.status), 6);
+    assert_eq!(rt; answer.out.bytes(), b"".as_slice());
+    assert_eq!(rt; answer.faults_out.bytes(), b"ddm: canno".as_slice());
+    Ok(())
+}
+
+#[test]
+fn words_at_fault(rt: HostRuntime) -> Result<(), Fail> {
+    let alloc = rt.alloc();
+    let commands: [(&[&str], &str); 4] = [
+        (&[], "ddm: usage: word 0\n"),
+        (
+            &["walk", "image", "tree", "schedule"],
+            "ddm: usage: word 0\n",
+        ),
+        (&["run", "image", "tree"], "ddm: usage: word 3\n"),
+        (
+            &["run", "image", "tree", "schedule", "more"],
+            "ddm: usage: word 4\n",
+        ),
+    ];
+    for (words, line) in commands {
+        let answer = answer_of(
+            alloc,
+            words,
+            shelf(alloc, [TREE, IMAGE, SCHEDULE], Vec::new(alloc))?,
+            sink(alloc, Vec::new(alloc))?,
+            sink(alloc, Vec::new(alloc))?,
+        )?;
+        assert_eq!(rt; code(&answer.status), 2);
+        assert_eq!(rt; answer.out.bytes(), b"".as_slice());
+        assert_eq!(rt; answer.faults_out.bytes(), line.as_bytes());
+    }
+    Ok(())
+}
+
+// The same machine with items of 64 bytes has three of them.
+#[test]
+fn items_of_64_bytes(rt: HostRuntime) -> Result<(), Fail> {
+    let alloc = rt.alloc();
+    let answer = answer_with_reads(alloc, [WIDE_TREE, IMAGE, SCHEDULE], Vec::new(alloc))?;
+    assert_eq!(rt; code(&answer.status), 0);
+    assert_eq!(rt; answer.out.bytes(), WIDE_REPORT);
+    Ok(())
+}
+
+// Whether these files are answered with this number of a status and this line, and nothing on `out`.
+fn is_refused(alloc: Global, texts: [&[u8]; 3], number: u8, line: &[u8]) -> Result<bool, Fail> {
+    let answer = answer_with_reads(alloc, texts, Vec::new(alloc))?;
+    Ok(
+        code(&answer.status) == number
+            && answer.out.bytes().is_empty()
+            && answer.faults_out.bytes() == line,
+    )
+}
+
+#[test]
+fn trees_that_are_refused(rt: HostRuntime) -> Result<(), Fail> {
+    let alloc = rt.alloc();
+    let cases: [(&[u8], u8, &[u8]); 8] = [
+        (b"shape = \"()\"\n", 4, b"ddm: tree: bad shape 1\n"),
+        (b"shape = \"((L)L)\"\n", 4, b"ddm: tree: uneven\n"),
+        (
+            b"shape = \"(L)\"\nways = 3\n",
+            4,
+            b"ddm: tree: out of range ways\n",
+        ),
+        (b"shape = \"(L)\"\n", 4, b"ddm: tree: missing key ways\n"),
+        (b"shape = ", 4, b"ddm: tree: not toml\n"),
+        (b"\"a key\" = 1\n", 4, b"ddm: tree: unknown key a?key\n"),
+        (
+            b"a_key_of_more_bytes_than_are_written_at_one_time_so_that_its_line_has_pieces = 1\n",
+            4,
+            b"ddm: tree: unknown key a_key_of_more_bytes_than_are_written_at_one_time_so_that_its_line_has_pieces\n",
+        ),
+        (TWO_LEAVES, 9, b"ddm: unbuilt: tree\n"),
+    ];
+    for (tree, number, line) in cases {
+        assert!(rt; is_refused(alloc, [tree, IMAGE, SCHEDULE], number, line)?);
+    }
+    Ok(())
+}
+
+#[test]
+fn images_that_are_refused(rt: HostRuntime) -> Result<(), Fail> {
+    let alloc = rt.alloc();
+    let cases: [(&[u8], &[u8], &[u8]); 3] = [
+        (TREE, b"\x7fELF", b"ddm: image: not elf\n"),
+        (STACK_ON_CODE, IMAGE, b"ddm: image: stack overlap 0 0\n"),
+        (ONE_PLACE, IMAGE, b"ddm: image: no place 1\n"),
+    ];
+    for (tree, image, line) in cases {
+        assert!(rt; is_refused(alloc, [tree, image, SCHEDULE], 3, line)?);
+    }
+    Ok(())
+}
+
+#[test]
+fn schedules_that_are_not_built(rt: HostRuntime) -> Result<(), Fail> {
+    let alloc = rt.alloc();
+    let schedules: [&[u8]; 2] = [b"h 1 0\nend\n", b"h 0 0\n"];
+    for schedule in schedules {
+        let line = b"ddm: unbuilt: schedule\n";
+        assert!(rt; is_refused(alloc, [TREE, IMAGE, schedule], 9, line)?);
+    }
+    Ok(())
+}
+
+// A linker's two segments, and the stacks of two harts.
+#[test]
+fn items_of_a_linkers_image(rt: HostRuntime) -> Result<(), Fail> {
+    let alloc = rt.alloc();
+    let spans = [
+        span(0x0001_0000, 0x400, false),
+        span(0x0001_1400, 0x120, true),
+        span(0x8000_0000, 4096, true),
+        span(0x8000_1000, 4096, true),
+    ];
+    assert_eq!(rt; count_items(alloc, &spans[..2], 16)?, 82);
+    assert_eq!(rt; count_items(alloc, &spans, 16)?, 594);
+    Ok(())
+}
+
+#[test]
+fn numbers_of_the_statuses(rt: HostRuntime) {
+    assert_eq!(rt; code(&Status::Done), 0);
+    assert_eq!(rt; code(&Status::Usage(3)), 2);
+    assert_eq!(rt; code(&Status::ReadFault(FileRole::TreeFile)), 6);
+    assert_eq!(rt; code(&Status::WriteFault), 7);
+    assert_eq!(rt; code(&Status::NoMemory), 8);
+    assert_eq!(rt; code(&Status::Unbuilt(FileRole::TreeFile)), 9);
+}
