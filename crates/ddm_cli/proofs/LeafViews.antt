@@ -15,9 +15,9 @@ use Rattle.one_leaf.specs.Run.{AreCounted, after_all, answers_of, turn_after_of,
 use Rattle.one_leaf.specs.Start.{FitsOneLeaf, one_leaf_start, flat_start_of}
 use Rattle.one_leaf.specs.Step.{words_in}
 use Rattle.one_leaf.proofs.Order.{run_in_order}
-use Rattle.one_leaf.proofs.Runs.{run_is, turn_words_kept}
+use Rattle.one_leaf.proofs.Runs.{run_is}
 use Rattle.one_leaf.proofs.Start.{start_is, start_in_order, start_has_words}
-use Rattle.one_leaf.proofs.View.{found_is, states_are, sorted_counted}
+use Rattle.one_leaf.proofs.View.{found_is, states_are, sorted_counted, words_kept_all}
 use Rattle.ddm_cli.specs.LeafView.{leaf_item_view, leaf_item_views, leaf_view}
 
 -- ---- a machine's tree tells nothing
@@ -88,11 +88,6 @@ seen counts v has counted =
     rw (items, ops) refl
 
 -- ---- a run
-
-words_kept_all : (ts : List Turn) (v : OneLeafValue) → HasWords v → HasWords (after_all ts v)
-unfolding after_all
-words_kept_all [] v has = has
-words_kept_all (t ∷ ts) v has = words_kept_all ts (turn_after_of t v) (turn_words_kept t v has)
 
 tree_kept : (t : TreeValue) (ts : List Turn) (v : OneLeafValue) → v.tree ≡ t → (after_all ts v).tree ≡ t
 tree_kept t ts v is = ap (λ (w : OneLeafValue). (after_all ts w).tree) (own v is) ∙ ap (λ (w : OneLeafValue). w.tree) (kept_in_tree t ts v) where

@@ -116,7 +116,7 @@ module _ (s : FlatMachine) (v : OneLeafValue) (order : IsInOrder s v) (has : Has
 
 -- ---- whole runs
 
-words_kept_all : (ts : List Turn) (v : OneLeafValue) → HasWords v → HasWords (after_all ts v)
+pub words_kept_all : (ts : List Turn) (v : OneLeafValue) → HasWords v → HasWords (after_all ts v)
 unfolding after_all
 words_kept_all [] v has = has
 words_kept_all (t ∷ ts) v has = words_kept_all ts (turn_after_of t v) (turn_words_kept t v has)
