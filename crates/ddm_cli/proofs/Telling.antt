@@ -1,8 +1,8 @@
 -- A line that is written in pieces.
 use Rattle.std.proofs.Common.{◌≡◌, ℕ, ◌+◌, ◌-◌, ◌≤◌, List, ◌++◌, length, map, take, drop, Option, Some, None, Result, Ok, Err, refl, sym, ap, subst, ◌∙◌, arith, append_assoc}
 use Rattle.std.specs.Prelude.{IfSome, OnOk, OnErr, codes}
-use Rattle.std.proofs.Math.Seq.{take-append-add, take-length}
-use Rattle.std.proofs.lemmas.List.{append-nil, map-append, take-append-drop, take-append-le, take-take, drop-take, length-append}
+use Rattle.std.proofs.Math.Seq.{take-add, take-append-add, take-length}
+use Rattle.std.proofs.lemmas.List.{append-nil, map-append, take-append-drop, take-append-le, length-append}
 use Rattle.ddm_outside.specs.Causes.{HasCause, Rose}
 use Rattle.report.specs.Appends.{Appends, AppendsPart}
 use Rattle.text_model.specs.Faults.{key_refusal_text, name_words, shown_byte, shown_key, tree_key_fault}
@@ -83,18 +83,12 @@ on_err_weaker : {T E : Type 0} (r : Result T E) (P Q : Type 0) → (P → Q) →
 on_err_weaker (Ok a) P Q f p = tt
 on_err_weaker (Err e) P Q f p = f p
 
-take_two : (n m : ℕ) (xs : List ℕ) → take (n + m) xs ≡ take n xs ++ take m (drop n xs)
-take_two n m xs =
-    sym (take-append-drop n (take (n + m) xs))
-    ∙ ap (λ t. t ++ drop n (take (n + m) xs)) (take-take n (n + m) xs (omega arith))
-    ∙ ap (λ t. take n xs ++ t) (drop-take n m xs)
-
 -- the pieces up to here are the first bytes
 piece_joins : (bytes : List ℕ) (at end : ℕ) → at ≤ end → map shown_byte (take at bytes) ++ map shown_byte (take (end - at) (drop at bytes)) ≡ map shown_byte (take end bytes)
 piece_joins bytes at end up =
     let reach : at + (end - at) ≡ end = omega (arith, up) in
     sym (map-append shown_byte (take at bytes) (take (end - at) (drop at bytes)))
-    ∙ ap (map shown_byte) (sym (take_two at (end - at) bytes) ∙ ap (λ n. take n bytes) reach)
+    ∙ ap (map shown_byte) (sym (take-add at (end - at) bytes) ∙ ap (λ n. take n bytes) reach)
 
 pub piece_written : (old mid new : Option (List ℕ)) (bytes piece : List ℕ) (at end : ℕ) → at ≤ end → piece ≡ map shown_byte (take (end - at) (drop at bytes))
     → Appends old mid (map shown_byte (take at bytes)) → Appends mid new piece → Appends old new (map shown_byte (take end bytes))

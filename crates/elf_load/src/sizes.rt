@@ -4,14 +4,11 @@ ghost use Rattle.elf_load.specs.ElfFile.{code_bytes, code_bytes_of, code_refusal
 
 use crate::headers::ProgramHeader;
 use crate::refusal::{ImageRefusal, first_refusal, refused_if};
-use ddm_types::{NoMemory, Span, count_items};
+use ddm_types::{MOST_ITEMS, NoMemory, Span, count_items};
 use std::alloc::Global;
 
 /// The most bytes of executable segments.
 const MOST_CODE: u64 = 0x10_0000;
-
-/// The most items that segments overlap.
-const MOST_ITEMS: u64 = 65_536;
 
 fn code_bytes_of(header: &ProgramHeader) -> u64
     ensures bytes { result ≡ code_bytes_of header.now }
@@ -98,5 +95,8 @@ pub fn sizes_refusal(
         return Ok(Some(refusal));
     }
     let count = items_met(alloc, loaded, item_bytes)?;
-    Ok(refused_if(count > MOST_ITEMS, ImageRefusal::TooManyItems(count)))
+    Ok(refused_if(
+        count > u64::from(MOST_ITEMS),
+        ImageRefusal::TooManyItems(count),
+    ))
 }

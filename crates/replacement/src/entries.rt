@@ -1,4 +1,5 @@
-ghost use Rattle.std.specs.Prelude.{◌≡◌};
+ghost use Rattle.std.specs.Prelude.{◌≡◌, replicate};
+ghost use Rattle.ddm_types.specs.declared.sizes.LeafState.{LeafState};
 ghost use Rattle.replacement.specs.Arrived.{with_state, with_words};
 
 use ddm_types::{ItemId, LeafState, Words};
@@ -33,7 +34,9 @@ impl<const WORDS: usize> Named for BufferEntry<WORDS> {
 
 impl<const WORDS: usize> BufferEntry<WORDS> {
     /// What fills a place until an entry comes.
-    pub fn blank() -> Self {
+    pub fn blank() -> Self
+        ensures { result ≡ record { item = 0; state = LeafState.Shared; words = replicate WORDS 0 } }
+    {
         BufferEntry {
             item: ItemId(0),
             state: LeafState::Shared,
@@ -99,7 +102,9 @@ impl<const WORDS: usize> Named for ParkedCopy<WORDS> {
 
 impl<const WORDS: usize> ParkedCopy<WORDS> {
     /// What fills a place until a copy comes.
-    pub fn blank() -> Self {
+    pub fn blank() -> Self
+        ensures { result ≡ record { item = 0; words = replicate WORDS 0 } }
+    {
         ParkedCopy {
             item: ItemId(0),
             words: Words { w: [0; WORDS] },

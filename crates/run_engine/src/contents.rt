@@ -9,12 +9,10 @@ use crate::memory::item_words;
 use crate::refusal::BuildRefusal;
 use crate::stacks::{header_met, segment_span, stack_span};
 use crate::tree::{harts, item_bytes, place_count};
-use ddm_types::{ItemId, Items, NoMemory, Span, Words, count_items};
+use ddm_types::{ItemId, Items, MOST_ITEMS, NoMemory, Span, Words, count_items};
 use elf_load::{Image, Segment};
 use std::alloc::Global;
 use tree_config::TreeConfig;
-
-const MOST_ITEMS: u64 = 65_536;
 
 // The memory of segments and stacks.
 fn spans(alloc: Global, tree: &TreeConfig, segments: &[Segment]) -> Result<Vec<Span>, NoMemory>
@@ -40,7 +38,7 @@ fn judge(tree: &TreeConfig, image: &Image, count: u64) -> Result<(), BuildRefusa
     ensures none { OnOk result (start_refusal tree.now image.now ≡ None) }
     ensures refused { IfErr result (λ r. build_refusal tree.now image.now ≡ Some r) }
 {
-    if count > MOST_ITEMS {
+    if count > u64::from(MOST_ITEMS) {
         return Err(BuildRefusal::TooManyItems(count));
     }
     if let Some(header) = header_met(&stack_span(tree, 0), &image.segments) {
