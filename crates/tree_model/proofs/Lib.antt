@@ -1,9 +1,0 @@
-pub mod Examples
-pub mod BusRulesHold
-pub mod BusTestsTell
-pub mod Refused
-pub mod StaleLoad
-pub mod OrderRulesHold
-pub mod OrderTestsTell
-pub mod ExampleFacts
-pub mod Lag

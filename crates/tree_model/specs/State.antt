@@ -1,0 +1,11 @@
+pub mod Lists
+pub mod Kinds
+pub mod States
+pub mod Values
+pub mod Leaf
+pub mod Directory
+pub mod Child
+pub mod Blank
+pub mod Place
+pub mod Shape
+pub mod Rooms

@@ -1,0 +1,12 @@
+pub mod Grant
+pub mod Children
+pub mod RequestRead
+pub mod RequestErase
+pub mod Reply
+pub mod Down
+pub mod Leave
+pub mod Bus
+pub mod HartTurn
+pub mod Tree
+pub mod Machine
+pub mod Found
