@@ -1,0 +1,4 @@
+pub mod Faces
+pub mod Own
+pub mod Item
+pub mod Rules

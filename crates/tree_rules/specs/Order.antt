@@ -1,0 +1,9 @@
+pub mod Moments
+pub mod Places
+pub mod Copies
+pub mod Claims
+pub mod Ops
+pub mod Time
+pub mod Core
+pub mod Written
+pub mod Rules
