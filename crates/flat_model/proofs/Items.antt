@@ -1,11 +1,13 @@
 -- The item of an effect is the item that its instruction asked for, and the effects that store are those of steps that do.
-use Rattle.std.proofs.Common.{◌≡◌, ℕ, suc, ◌+◌, ◌-◌, ◌*◌, ◌/◌, ◌%◌, Bool, true, false, not, ◌&&◌, nat_eq, nat_lt, cond, ◌⊎◌, inl, inr, List, [], ◌∷◌, length, slice_index_or, Option, Some, None, Ok, Err, refl, sym, ap, subst, ◌∙◌, arith}
+use Rattle.std.proofs.Common.{◌≡◌, ℕ, suc, ◌+◌, ◌-◌, ◌*◌, ◌/◌, ◌%◌, ◌<◌, Bool, true, false, not, ◌&&◌, nat_eq, nat_lt, cond, ◌⊎◌, inl, inr, List, [], ◌∷◌, length, slice_index_or, Option, Some, None, Ok, Err, refl, sym, ap, subst, ◌∙◌, arith}
 use Rattle.std.specs.Prelude.{All, Result, if◌then◌else◌, is_some}
 use Rattle.std.specs.List.{position_or_len}
+use Rattle.std.proofs.lemmas.List.Quantifiers.{position-Some}
+use Rattle.std.proofs.lemmas.Option.{same_Some}
 use Rattle.ddm_types.specs.declared.operations.HaltCause.{HaltCause}
 use Rattle.ddm_types.specs.declared.operations.HaltCause.TheVariants.{MisalignedAccess, MisalignedTarget, LoadOutside, StoreOutside, Exit, UnknownCall}
 use Rattle.ddm_types.specs.CodeMap.{CodeWord, word_at}
-use Rattle.ddm_types.specs.ItemTable.{ItemTable, ItemRow, row_at, row_has, item_at}
+use Rattle.ddm_types.specs.ItemTable.{ItemTable, ItemRow, no_row, row_at, row_has, item_at, item_count}
 use Rattle.rv_decode.specs.declared.instructions.Instr.{Instr}
 use Rattle.rv_decode.specs.declared.instructions.Instr.TheVariants.{Lui, Auipc, Jal, Jalr, Branch, Load, Store, Immediate, Register, Fence, Ecall, Ebreak, Lr, Sc, Amo}
 use Rattle.rv_decode.specs.Table.{decode_of}
@@ -14,6 +16,7 @@ use Rattle.flat_model.specs.declared.Ask.TheVariants.{Conditional}
 use Rattle.flat_model.specs.Hart.{HartValue, Access, Action, with_register, next_pc, Halts, Computes, Puts, Loads, Stores, Reserves, StoresIfReserved, Changes, register, access_in, aligned, load_bytes, store_bytes, offset_by, is_taken, load_found, load_at, store_found, store_at, jump, call, advanced, instr_action, decoded_action, fetched_action, action_of, ask_by, ask_of, finish_by, finish_of}
 use Rattle.flat_model.specs.Flat.{FlatHart, Change, has_reserved, conditional, change_by, unless_halted, asked_item, hart_step}
 use Rattle.flat_model.specs.Legal.{effect_item, is_change, HasWholeWords}
+use Rattle.flat_model.proofs.Steps.{same_change}
 
 -- a word that begins at a multiple of 4 lies in an item as a whole
 row_has_word : (size a : ℕ) (row : ItemRow) → size % 4 ≡ 0 → row.address % 4 ≡ 0 → row_has size (a / 4 * 4) row ≡ row_has size a row
@@ -51,12 +54,9 @@ halts_in_item : (items : ItemTable) (cause : HaltCause) → IsInItem items (Halt
 halts_in_item items cause a e = grind arith
 
 access_in_item : (items : ItemTable) (action : Access → Action) (a x : ℕ) → TakesAccess action → item_at items a ≡ Some x → IsInItem items (action (access_in items a x))
-access_in_item items action a x takes at b e = subst P (some_is (access_in items a x) b (sym (takes (access_in items a x)) ∙ e)) (at, refl) where
+access_in_item items action a x takes at b e = subst P (same_Some (access_in items a x) b (sym (takes (access_in items a x)) ∙ e)) (at, refl) where
   P : Access → Type 0
   P b = (item_at items b.address ≡ Some b.item) × (b.place ≡ (b.address - (row_at items b.item).address) / 4)
-
-  some_is : (k b : Access) → (let o : Option Access = Some k in o ≡ Some b) → k ≡ b
-  some_is k b e = grind arith
 
 load_in_item : (items : ItemTable) (action : Access → Action) (a : ℕ) → TakesAccess action → IsInItem items (load_at items action a)
 load_in_item items action a takes = go (item_at items a) refl where
@@ -128,6 +128,28 @@ action_in_item code items h = fetched (word_at code h.pc) where
   fetched None = λ a e. grind arith
   fetched (Some word) = decoded word (decode_of word)
 
+-- ---- the item that an instruction asks for is one of the table
+
+asks_access : (act : Action) (x : ℕ) → asked_item (ask_by act) ≡ Some x → (a : Access) × (access_of act ≡ Some a) × (a.item ≡ x)
+asks_access (Halts cause) x e = grind arith
+asks_access (Computes after) x e = grind arith
+asks_access (Puts byte after) x e = grind arith
+asks_access (Loads op rd a) x e = (a, refl, grind arith)
+asks_access (Stores op v a) x e = (a, refl, grind arith)
+asks_access (Reserves rd a) x e = (a, refl, grind arith)
+asks_access (StoresIfReserved rd v a) x e = (a, refl, grind arith)
+asks_access (Changes op rd v a) x e = (a, refl, grind arith)
+
+item_at_inside : (items : ItemTable) (a x : ℕ) → item_at items a ≡ Some x → x < item_count items
+unfolding item_at
+item_at_inside items a x e = (position-Some (row_has items.size a) items.rows x no_row e).0
+
+pub asks_inside : (code : List CodeWord) (items : ItemTable) (h : HartValue) (x : ℕ) → asked_item (ask_of code items h) ≡ Some x → x < item_count items
+unfolding ask_of
+asks_inside code items h x e =
+    let found = asks_access (action_of code items h) x e in
+    subst (λ y. y < item_count items) found.2 (item_at_inside items found.0.address found.0.item (action_in_item code items h found.0 found.1).0)
+
 -- ---- effects and steps
 
 -- An effect that stores is that of a step that does. Its item is the one that was asked for, but that a failed SC has none.
@@ -137,10 +159,7 @@ FollowsAsk items ask c =
     × ((effect_item items c.effect ≡ asked_item ask) ⊎ ((x : ℕ) × (ask ≡ Conditional x) × (effect_item items c.effect ≡ None) × (c.stored ≡ None)))
 
 follows : (items : ItemTable) (ask : Ask) (known c : Change) → (let r : Result Change HaltCause = Ok known in r ≡ Ok c) → FollowsAsk items ask known → FollowsAsk items ask c
-follows items ask known c e f = subst (FollowsAsk items ask) (ap (change_or known) e) f where
-  change_or : Change → Result Change HaltCause → Change
-  change_or d (Ok k) = k
-  change_or d (Err cause) = d
+follows items ask known c e f = subst (FollowsAsk items ask) (same_change known c e) f
 
 change_follows : (items : ItemTable) (act : Action) (h : HartValue) (reserved : Option ℕ) (words : ℕ → List ℕ) (sc_ok : Bool) (c : Change) → HasWholeWords items → IsInItem items act → change_by (ask_by act) reserved (finish_by act h) words sc_ok ≡ Ok c → FollowsAsk items (ask_by act) c
 change_follows items (Halts cause) h reserved words sc_ok c whole at e = grind arith

@@ -8,3 +8,4 @@ pub mod Items
 pub mod Insert
 pub mod Reserving
 pub mod Storing
+pub mod Completing
