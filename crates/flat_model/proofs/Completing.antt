@@ -14,100 +14,24 @@ use Rattle.flat_model.specs.Hart.{HartValue, Finished, Action, Halts, Computes, 
 use Rattle.flat_model.specs.Flat.{FlatHart, Change, has_reserved, conditional, leaving, storing_to, change_by, unless_halted, hart_step}
 use Rattle.flat_model.specs.Legal.{is_sc_ok}
 use Rattle.flat_model.proofs.Steps.{same_change}
+use Rattle.flat_model.proofs.Actions.{IsActionOf, action_is}
 
 -- ---- an instruction leaves the halt cause as it is
 
-abbrev KeepsHalt : HartValue → Action → Type 0
-KeepsHalt h (Halts cause) = Unit {0}
-KeepsHalt h (Computes after) = after.halt ≡ h.halt
-KeepsHalt h (Puts byte after) = after.halt ≡ h.halt
-KeepsHalt h (Loads op rd a) = Unit {0}
-KeepsHalt h (Stores op v a) = Unit {0}
-KeepsHalt h (Reserves rd a) = Unit {0}
-KeepsHalt h (StoresIfReserved rd v a) = Unit {0}
-KeepsHalt h (Changes op rd v a) = Unit {0}
-
-finish_by-halt : (act : Action) (h : HartValue) (words : List ℕ) (sc_ok : Bool) → KeepsHalt h act → (finish_by act h words sc_ok).hart.halt ≡ h.halt
-finish_by-halt (Halts cause) h words sc_ok k = refl
-finish_by-halt (Computes after) h words sc_ok k = k
-finish_by-halt (Puts byte after) h words sc_ok k = k
-finish_by-halt (Loads op rd a) h words sc_ok k = refl
-finish_by-halt (Stores op v a) h words sc_ok k = refl
-finish_by-halt (Reserves rd a) h words sc_ok k = refl
-finish_by-halt (StoresIfReserved rd v a) h words true k = refl
-finish_by-halt (StoresIfReserved rd v a) h words false k = refl
-finish_by-halt (Changes op rd v a) h words sc_ok k = refl
-
-aligned_keeps : (h : HartValue) (bytes a : ℕ) (action : ℕ → Action) → KeepsHalt h (action a) → KeepsHalt h (aligned bytes a action)
-aligned_keeps h bytes a action k = go (nat_eq (a % bytes) 0) where
-  go : (b : Bool) → KeepsHalt h (if b then action a else Halts (MisalignedAccess a))
-  go true = k
-  go false = tt
-
-load_keeps : (items : ItemTable) (h : HartValue) (action : Access → Action) (a : ℕ) → ((x : Access) → KeepsHalt h (action x)) → KeepsHalt h (load_at items action a)
-load_keeps items h action a k = go (item_at items a) where
-  go : (o : Option ℕ) → KeepsHalt h (load_found items action a o)
-  go None = tt
-  go (Some x) = k (access_in items a x)
-
-store_keeps : (items : ItemTable) (h : HartValue) (action : Access → Action) (a : ℕ) → ((x : Access) → KeepsHalt h (action x)) → KeepsHalt h (store_at items action a)
-store_keeps items h action a k = go (item_at items a) where
-  found : (x : ℕ) (b : Bool) → KeepsHalt h (if b then action (access_in items a x) else Halts (StoreOutside a))
-  found x true = k (access_in items a x)
-  found x false = tt
-
-  go : (o : Option ℕ) → KeepsHalt h (store_found items action a o)
-  go None = tt
-  go (Some x) = found x (row_at items x).writable
-
-jump_keeps : (h g : HartValue) (target : ℕ) → g.halt ≡ h.halt → KeepsHalt h (jump g target)
-jump_keeps h g target same = go (nat_eq (target % 4) 0) where
-  go : (b : Bool) → KeepsHalt h (if b then Computes (record g { pc = target }) else Halts (MisalignedTarget target))
-  go true = same
-  go false = tt
-
-call_keeps : (h : HartValue) → KeepsHalt h (call h)
-call_keeps h = go (nat_eq (register h 17) 93) (nat_eq (register h 17) 1000) where
-  go : (exit put : Bool) → KeepsHalt h (if exit then Halts (Exit (register h 10)) else (if put then Puts (register h 10 % 256) (advanced h) else Halts (UnknownCall (register h 17))))
-  go true put = tt
-  go false true = refl
-  go false false = tt
-
-instr_keeps : (items : ItemTable) (h : HartValue) (i : Instr) → KeepsHalt h (instr_action items h i)
-unfolding instr_action
-instr_keeps items h (Lui rd imm) = refl
-instr_keeps items h (Auipc rd imm) = refl
-instr_keeps items h (Immediate op rd rs1 imm) = refl
-instr_keeps items h (Register op rd rs1 rs2) = refl
-instr_keeps items h (Jal rd offset) = jump_keeps h (with_register h rd (next_pc h)) (offset_by h.pc offset) refl
-instr_keeps items h (Jalr rd rs1 offset) = jump_keeps h (with_register h rd (next_pc h)) (offset_by (register h rs1) offset / 2 * 2) refl
-instr_keeps items h (Branch op rs1 rs2 offset) = go (is_taken op (register h rs1) (register h rs2)) where
-  go : (b : Bool) → KeepsHalt h (if b then jump h (offset_by h.pc offset) else Computes (advanced h))
-  go true = jump_keeps h h (offset_by h.pc offset) refl
-  go false = refl
-instr_keeps items h (Load op rd rs1 offset) = aligned_keeps h (load_bytes op) (offset_by (register h rs1) offset) (load_at items (Loads op rd)) (load_keeps items h (Loads op rd) (offset_by (register h rs1) offset) (λ a. tt))
-instr_keeps items h (Store op rs1 rs2 offset) = aligned_keeps h (store_bytes op) (offset_by (register h rs1) offset) (store_at items (Stores op (register h rs2))) (store_keeps items h (Stores op (register h rs2)) (offset_by (register h rs1) offset) (λ a. tt))
-instr_keeps items h (Fence rd rs1 imm) = refl
-instr_keeps items h Ecall = call_keeps h
-instr_keeps items h Ebreak = tt
-instr_keeps items h (Lr rd rs1 aq rl) = aligned_keeps h 4 (register h rs1) (load_at items (Reserves rd)) (load_keeps items h (Reserves rd) (register h rs1) (λ a. tt))
-instr_keeps items h (Sc rd rs1 rs2 aq rl) = aligned_keeps h 4 (register h rs1) (store_at items (StoresIfReserved rd (register h rs2))) (store_keeps items h (StoresIfReserved rd (register h rs2)) (register h rs1) (λ a. tt))
-instr_keeps items h (Amo op rd rs1 rs2 aq rl) = aligned_keeps h 4 (register h rs1) (store_at items (Changes op rd (register h rs2))) (store_keeps items h (Changes op rd (register h rs2)) (register h rs1) (λ a. tt))
-
-action_keeps : (code : List CodeWord) (items : ItemTable) (h : HartValue) → KeepsHalt h (action_of code items h)
-unfolding action_of
-action_keeps code items h = fetched (word_at code h.pc) where
-  decoded : (word : ℕ) (i : Option Instr) → KeepsHalt h (decoded_action items h word i)
-  decoded word None = tt
-  decoded word (Some i) = instr_keeps items h i
-
-  fetched : (word : Option ℕ) → KeepsHalt h (fetched_action items h word)
-  fetched None = tt
-  fetched (Some word) = decoded word (decode_of word)
+finish_by-halt : (items : ItemTable) (act : Action) (h : HartValue) (words : List ℕ) (sc_ok : Bool) → IsActionOf items h act → (finish_by act h words sc_ok).hart.halt ≡ h.halt
+finish_by-halt items (Halts cause) h words sc_ok is = refl
+finish_by-halt items (Computes after) h words sc_ok is = ap (λ (k : HartValue). k.halt) is.is
+finish_by-halt items (Puts byte after) h words sc_ok is = ap (λ (k : HartValue). k.halt) is.is
+finish_by-halt items (Loads op rd a) h words sc_ok is = refl
+finish_by-halt items (Stores op v a) h words sc_ok is = refl
+finish_by-halt items (Reserves rd a) h words sc_ok is = refl
+finish_by-halt items (StoresIfReserved rd v a) h words true is = refl
+finish_by-halt items (StoresIfReserved rd v a) h words false is = refl
+finish_by-halt items (Changes op rd v a) h words sc_ok is = refl
 
 pub finish-halt : (code : List CodeWord) (items : ItemTable) (h : HartValue) (words : List ℕ) (sc_ok : Bool) → (finish_of code items h words sc_ok).hart.halt ≡ h.halt
 unfolding finish_of
-finish-halt code items h words sc_ok = finish_by-halt (action_of code items h) h words sc_ok (action_keeps code items h)
+finish-halt code items h words sc_ok = finish_by-halt items (action_of code items h) h words sc_ok (action_is code items h)
 
 -- ---- a step that completes
 

@@ -4,6 +4,7 @@ pub mod Halts
 pub mod Runs
 pub mod Steps
 pub mod Frames
+pub mod Actions
 pub mod Items
 pub mod Insert
 pub mod Reserving

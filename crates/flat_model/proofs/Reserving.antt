@@ -12,12 +12,13 @@ use Rattle.ddm_types.specs.ItemTable.{ItemTable}
 use Rattle.flat_model.specs.Hart.{HartValue, Action, Halts, Computes, Puts, Loads, Stores, Reserves, StoresIfReserved, Changes, action_of, ask_by, ask_of, finish_by, finish_of}
 use Rattle.flat_model.specs.Flat.{FlatHart, FlatMachine, Stored, Change, flat_hart_start, no_flat_hart, flat_start, flat_hart, item_words, has_reserved, leaving, conditional, change_by, unless_halted, hart_step, with_change}
 use Rattle.flat_model.specs.Legal.{is_of, changed_item, reserved_by_own, reserved_by_other, reserved_by, reservation, is_sc_ok, HasWholeWords, legal_step, legal_run}
-use Rattle.flat_model.proofs.Items.{IsInItem, action_in_item, item_at_word}
+use Rattle.flat_model.proofs.Actions.{IsActionOf, action_is}
+use Rattle.flat_model.proofs.Items.{item_at_word}
 use Rattle.flat_model.proofs.Frames.{freed, other_hart, own_hart}
 use Rattle.flat_model.proofs.Steps.{same_change}
 use Rattle.flat_model.proofs.Insert.{stored_item, StepChange, record_change, changed_is, in_range, LegalFirst, legal_first}
 
-change_reserves : (items : ItemTable) (act : Action) (h : HartValue) (r : Option ℕ) (words : ℕ → List ℕ) (sc_ok : Bool) (c : Change) → HasWholeWords items → IsInItem items act → change_by (ask_by act) r (finish_by act h) words sc_ok ≡ Ok c → c.after.reserved ≡ reserved_by_own items r c.effect
+change_reserves : (items : ItemTable) (act : Action) (h : HartValue) (r : Option ℕ) (words : ℕ → List ℕ) (sc_ok : Bool) (c : Change) → HasWholeWords items → IsActionOf items h act → change_by (ask_by act) r (finish_by act h) words sc_ok ≡ Ok c → c.after.reserved ≡ reserved_by_own items r c.effect
 change_reserves items (Halts cause) h r words sc_ok c whole at e = grind arith
 change_reserves items (Computes after) h r words sc_ok c whole at e = grind arith
 change_reserves items (Puts byte after) h r words sc_ok c whole at e = grind arith
@@ -25,7 +26,7 @@ change_reserves items (Loads op rd a) h r words sc_ok c whole at e = grind arith
 change_reserves items (Stores op v a) h r words sc_ok c whole at e = grind arith
 change_reserves items (Reserves rd a) h r words sc_ok c whole at e =
     let P : Change → Type 0 = λ k. k.after.reserved ≡ reserved_by_own items r k.effect in
-    subst P (same_change (leaving (finish_by (Reserves rd a) h (words a.item) false) (Some a.item)) c e) (sym (item_at_word items a.address whole ∙ (at a refl).0))
+    subst P (same_change (leaving (finish_by (Reserves rd a) h (words a.item) false) (Some a.item)) c e) (sym (item_at_word items a.address whole ∙ at.item))
 change_reserves items (StoresIfReserved rd v a) h r words sc_ok c whole at e = go (sc_ok && has_reserved r a.item) (same_change (conditional (sc_ok && has_reserved r a.item) a.item (finish_by (StoresIfReserved rd v a) h (words a.item))) c e) where
   go : (b : Bool) → conditional b a.item (finish_by (StoresIfReserved rd v a) h (words a.item)) ≡ c → c.after.reserved ≡ reserved_by_own items r c.effect
   go true k = grind arith
@@ -36,7 +37,7 @@ pub step_reserves : (code : List CodeWord) (items : ItemTable) (g : FlatHart) (w
 unfolding hart_step ask_of finish_of
 step_reserves code items g words sc_ok c whole e = go g.hart.halt e where
   go : (halt : Option HaltCause) → unless_halted halt (change_by (ask_of code items g.hart) g.reserved (finish_of code items g.hart) words sc_ok) ≡ Ok c → c.after.reserved ≡ reserved_by_own items g.reserved c.effect
-  go None k = change_reserves items (action_of code items g.hart) g.hart g.reserved words sc_ok c whole (action_in_item code items g.hart) k
+  go None k = change_reserves items (action_of code items g.hart) g.hart g.reserved words sc_ok c whole (action_is code items g.hart) k
   go (Some cause) k = grind arith
 
 freed_is : (stored : Option Stored) (g : FlatHart) → (freed stored g).reserved ≡ reserved_by_other g.reserved (stored_item stored)

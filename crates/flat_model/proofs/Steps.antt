@@ -101,3 +101,18 @@ sharing_keeps (Changes op rd v a) x lr h words sc_ok e = grind arith
 pub finish_keeps : (code : List CodeWord) (items : ItemTable) (x : ℕ) (lr : Bool) (h : HartValue) (words : List ℕ) (sc_ok : Bool) → ask_of code items h ≡ NeedsShared x lr → (finish_of code items h words sc_ok).words ≡ words
 unfolding ask_of finish_of
 finish_keeps code items x lr h words sc_ok e = sharing_keeps (action_of code items h) x lr h words sc_ok e
+
+-- and so does an SC that fails
+failing_keeps : (act : Action) (x : ℕ) (h : HartValue) (words : List ℕ) → ask_by act ≡ Conditional x → (finish_by act h words false).words ≡ words
+failing_keeps (Halts cause) x h words e = refl
+failing_keeps (Computes after) x h words e = refl
+failing_keeps (Puts byte after) x h words e = refl
+failing_keeps (Loads op rd a) x h words e = refl
+failing_keeps (Stores op v a) x h words e = grind arith
+failing_keeps (Reserves rd a) x h words e = refl
+failing_keeps (StoresIfReserved rd v a) x h words e = refl
+failing_keeps (Changes op rd v a) x h words e = grind arith
+
+pub finish_failing_keeps : (code : List CodeWord) (items : ItemTable) (h : HartValue) (x : ℕ) (words : List ℕ) → ask_of code items h ≡ Conditional x → (finish_of code items h words false).words ≡ words
+unfolding ask_of finish_of
+finish_failing_keeps code items h x words e = failing_keeps (action_of code items h) x h words e

@@ -13,7 +13,7 @@ use Rattle.ddm_types.specs.ItemTable.{ItemTable, no_row, row_at}
 use Rattle.flat_model.specs.Hart.{HartValue, Finished, Action, Halts, Computes, Puts, Loads, Stores, Reserves, StoresIfReserved, Changes, action_of, ask_by, ask_of, finish_by, finish_of}
 use Rattle.flat_model.specs.Flat.{FlatHart, FlatMachine, Stored, Change, flat_hart, item_words, has_reserved, storing_to, conditional, change_by, unless_halted, hart_step, with_change}
 use Rattle.flat_model.specs.Legal.{effect_item, is_change, on_item, changes_item, changed_item, stored_by, words_by, words_after, is_sc_ok, HasWholeWords, legal_step, legal_run}
-use Rattle.flat_model.proofs.Items.{IsInItem, action_in_item}
+use Rattle.flat_model.proofs.Actions.{IsActionOf, action_is}
 use Rattle.flat_model.proofs.Frames.{other_words, own_words, same_counts}
 use Rattle.flat_model.proofs.Steps.{same_change}
 use Rattle.flat_model.proofs.Insert.{stored_item, StepChange, record_change, changed_is, LegalFirst, legal_first}
@@ -36,7 +36,7 @@ stored_is items words x f r c e is = subst (StoresBy items words) e (λ s k. one
   one : (s : Stored) → (let o : Option Stored = Some (record { item = x; words = f.words }) in o ≡ Some s) → s.words ≡ stored_by items s.item (words s.item) f.effect
   one s k = subst (λ (s : Stored). s.words ≡ stored_by items s.item (words s.item) f.effect) (same_Some (record { item = x; words = f.words }) s k) is
 
-change_stores : (items : ItemTable) (act : Action) (h : HartValue) (r : Option ℕ) (words : ℕ → List ℕ) (sc_ok : Bool) (c : Change) → HasWholeWords items → IsInItem items act → change_by (ask_by act) r (finish_by act h) words sc_ok ≡ Ok c → StoresBy items words c
+change_stores : (items : ItemTable) (act : Action) (h : HartValue) (r : Option ℕ) (words : ℕ → List ℕ) (sc_ok : Bool) (c : Change) → HasWholeWords items → IsActionOf items h act → change_by (ask_by act) r (finish_by act h) words sc_ok ≡ Ok c → StoresBy items words c
 change_stores items (Halts cause) h r words sc_ok c whole at e = grind arith
 change_stores items (Computes after) h r words sc_ok c whole at e = grind arith
 change_stores items (Puts byte after) h r words sc_ok c whole at e = grind arith
@@ -44,20 +44,20 @@ change_stores items (Loads op rd a) h r words sc_ok c whole at e = grind arith
 change_stores items (Reserves rd a) h r words sc_ok c whole at e = grind arith
 change_stores items (Stores op v a) h r words sc_ok c whole at e =
     let f : Finished = finish_by (Stores op v a) h (words a.item) false in
-    stored_is items words a.item f r c (same_change (storing_to a.item f r) c e) (rw ((at a refl).1 ∙ same_place a.address (row_at items a.item).address (row_whole items a.item whole)) refl)
+    stored_is items words a.item f r c (same_change (storing_to a.item f r) c e) (rw (at.place ∙ same_place a.address (row_at items a.item).address (row_whole items a.item whole)) refl)
 change_stores items (StoresIfReserved rd v a) h r words sc_ok c whole at e = go (sc_ok && has_reserved r a.item) (same_change (conditional (sc_ok && has_reserved r a.item) a.item (finish_by (StoresIfReserved rd v a) h (words a.item))) c e) where
   go : (b : Bool) → conditional b a.item (finish_by (StoresIfReserved rd v a) h (words a.item)) ≡ c → StoresBy items words c
-  go true k = stored_is items words a.item (finish_by (StoresIfReserved rd v a) h (words a.item) true) None c k (rw ((at a refl).1 ∙ same_place a.address (row_at items a.item).address (row_whole items a.item whole)) refl)
+  go true k = stored_is items words a.item (finish_by (StoresIfReserved rd v a) h (words a.item) true) None c k (rw (at.place ∙ same_place a.address (row_at items a.item).address (row_whole items a.item whole)) refl)
   go false k = grind arith
 change_stores items (Changes op rd v a) h r words sc_ok c whole at e =
     let f : Finished = finish_by (Changes op rd v a) h (words a.item) false in
-    stored_is items words a.item f r c (same_change (storing_to a.item f r) c e) (rw ((at a refl).1 ∙ same_place a.address (row_at items a.item).address (row_whole items a.item whole)) refl)
+    stored_is items words a.item f r c (same_change (storing_to a.item f r) c e) (rw (at.place ∙ same_place a.address (row_at items a.item).address (row_whole items a.item whole)) refl)
 
 pub step_stores : (code : List CodeWord) (items : ItemTable) (g : FlatHart) (words : ℕ → List ℕ) (sc_ok : Bool) (c : Change) → HasWholeWords items → hart_step code items g words sc_ok ≡ Ok c → StoresBy items words c
 unfolding hart_step ask_of finish_of
 step_stores code items g words sc_ok c whole e = go g.hart.halt e where
   go : (halt : Option HaltCause) → unless_halted halt (change_by (ask_of code items g.hart) g.reserved (finish_of code items g.hart) words sc_ok) ≡ Ok c → StoresBy items words c
-  go None k = change_stores items (action_of code items g.hart) g.hart g.reserved words sc_ok c whole (action_in_item code items g.hart) k
+  go None k = change_stores items (action_of code items g.hart) g.hart g.reserved words sc_ok c whole (action_is code items g.hart) k
   go (Some cause) k = grind arith
 
 stored_in_none : (items : ItemTable) (x : ℕ) (effect : Effect) → stored_by items x [] effect ≡ []
