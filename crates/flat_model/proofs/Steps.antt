@@ -42,6 +42,21 @@ pub finish_failing : (code : List CodeWord) (items : ItemTable) (h : HartValue) 
 unfolding ask_of finish_of
 finish_failing code items h x e words words' = failing_reads (action_of code items h) x e h words words'
 
+-- an instruction that asks for no item reads no word
+plain_reads : (act : Action) (h : HartValue) (words words' : List ℕ) (sc_ok : Bool) → asked_item (ask_by act) ≡ None → ((finish_by act h words sc_ok).effect ≡ (finish_by act h words' sc_ok).effect) × ((finish_by act h words sc_ok).hart ≡ (finish_by act h words' sc_ok).hart)
+plain_reads (Halts cause) h words words' sc_ok e = (refl, refl)
+plain_reads (Computes after) h words words' sc_ok e = (refl, refl)
+plain_reads (Puts byte after) h words words' sc_ok e = (refl, refl)
+plain_reads (Loads op rd a) h words words' sc_ok e = grind arith
+plain_reads (Stores op v a) h words words' sc_ok e = grind arith
+plain_reads (Reserves rd a) h words words' sc_ok e = grind arith
+plain_reads (StoresIfReserved rd v a) h words words' sc_ok e = grind arith
+plain_reads (Changes op rd v a) h words words' sc_ok e = grind arith
+
+pub finish_plain : (code : List CodeWord) (items : ItemTable) (h : HartValue) (words words' : List ℕ) (sc_ok : Bool) → asked_item (ask_of code items h) ≡ None → ((finish_of code items h words sc_ok).effect ≡ (finish_of code items h words' sc_ok).effect) × ((finish_of code items h words sc_ok).hart ≡ (finish_of code items h words' sc_ok).hart)
+unfolding ask_of finish_of
+finish_plain code items h words words' sc_ok e = plain_reads (action_of code items h) h words words' sc_ok e
+
 -- what a step does but for the reservation
 abbrev pub Unreserved : Type 0
 Unreserved = Result (Effect × HartValue × Option Stored) HaltCause
