@@ -4,7 +4,7 @@ use Rattle.ddm_types.specs.declared.sizes.Span.{Span}
 use Rattle.ddm_types.specs.declared.keys.Key.{Key}
 use Rattle.ddm_types.specs.ItemTable.{ItemRow, ItemTable, items_of, item_numbers, span_numbers, with_number, item_at}
 use Rattle.ddm_types.specs.CodeMap.{CodeWord, code_of, with_word, word_at, words_from}
-use Rattle.ddm_types.specs.Keys.{stamp_zero, stamp_at, key_zero, key_at, key_counted, key_numbers, key_less}
+use Rattle.ddm_types.specs.Keys.{stamp_zero, stamp_at, key_zero, key_at, key_counted, key_on, key_numbers, key_less}
 
 abbrev span : ℕ → ℕ → Bool → Span
 span a n w = record { start = a; bytes = n; writable = w }
@@ -89,3 +89,7 @@ fourth_after = refl
 
 pub fourth_not_before : key_less fourth key_zero ≡ false
 fourth_not_before = refl
+
+-- the same key by its stamp and path
+pub fourth_on_path : key_on (stamp_at (stamp_at stamp_zero 0 2) 1 1) (5 ∷ 9 ∷ []) 3 ≡ fourth
+fourth_on_path = refl

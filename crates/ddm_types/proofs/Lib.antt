@@ -1,6 +1,7 @@
 pub mod Ascending
 pub mod Entries
 mod Examples
+pub mod KeyOrder
 pub mod Parts
 pub mod Permuted
 pub mod Rows

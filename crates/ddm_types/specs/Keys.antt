@@ -13,23 +13,40 @@ key_zero = record { s0 = 0; c0 = 0; s1 = 0; c1 = 0; s2 = 0; c2 = 0; s3 = 0; c3 =
 
 -- the stamp with n as the number of this level
 abbrev pub stamp_at : Stamp → ℕ → ℕ → Stamp
-stamp_at stamp level n =
-    if nat_eq level 0 then record stamp { s0 = n }
-    else (if nat_eq level 1 then record stamp { s1 = n }
-    else (if nat_eq level 2 then record stamp { s2 = n }
-    else record stamp { s3 = n }))
-
--- the key with the numbers of this stamp
-abbrev pub key_stamped : Key → Stamp → Key
-key_stamped key stamp = record key { s0 = stamp.s0; s1 = stamp.s1; s2 = stamp.s2; s3 = stamp.s3 }
+stamp_at stamp level n = record {
+  s0 = if nat_eq level 0 then n else stamp.s0;
+  s1 = if nat_eq level 1 then n else stamp.s1;
+  s2 = if nat_eq level 2 then n else stamp.s2;
+  s3 = if nat_lt level 3 then stamp.s3 else n;
+}
 
 -- the key with the numbers of this stamp, and the child as the child number of this level
 abbrev pub key_at : Key → ℕ → Stamp → ℕ → Key
-key_at key level stamp child =
-    if nat_eq level 0 then record (key_stamped key stamp) { c0 = child }
-    else (if nat_eq level 1 then record (key_stamped key stamp) { c1 = child }
-    else (if nat_eq level 2 then record (key_stamped key stamp) { c2 = child }
-    else record (key_stamped key stamp) { c3 = child }))
+key_at key level stamp child = record {
+  s0 = stamp.s0;
+  c0 = if nat_eq level 0 then child else key.c0;
+  s1 = stamp.s1;
+  c1 = if nat_eq level 1 then child else key.c1;
+  s2 = stamp.s2;
+  c2 = if nat_eq level 2 then child else key.c2;
+  s3 = stamp.s3;
+  c3 = if nat_lt level 3 then key.c3 else child;
+  i = key.i;
+}
+
+-- the key with the numbers of a stamp, the child numbers of a path (0 where the path has none), and this last number
+abbrev pub key_on : Stamp → List ℕ → ℕ → Key
+key_on stamp path n = record {
+  s0 = stamp.s0;
+  c0 = slice_index path 0;
+  s1 = stamp.s1;
+  c1 = slice_index path 1;
+  s2 = stamp.s2;
+  c2 = slice_index path 2;
+  s3 = stamp.s3;
+  c3 = slice_index path 3;
+  i = n;
+}
 
 -- the key with this last number
 abbrev pub key_counted : Key → ℕ → Key

@@ -1,6 +1,8 @@
 -- A hart's step put before steps of other harts: they stay steps with the same effects, where none of them is on the item that it stores to.
 use Rattle.std.proofs.Common.{◌≡◌, ◌≢◌, ℕ, zero, suc, ◌<◌, Bool, true, false, ◌&&◌, nat_eq, nat_lt, ◌⊎◌, inl, inr, List, [], ◌∷◌, length, slice_index_or, slice_set, Option, Some, None, Ok, Err, refl, sym, ap, subst, ◌∙◌, arith}
 use Rattle.std.proofs.lemmas.Bool.{eqb-true, eqb-false, ltb-true, ltb-false}
+use Rattle.std.proofs.lemmas.Option.{none-some, same_Some, option_and_then_some}
+use Rattle.std.specs.List.{AllByRecursion}
 use Rattle.std.proofs.Math.ListN.{get_or-eq_default}
 use Rattle.std.specs.Prelude.{Result, option_and_then, is_some, if◌then◌else◌}
 use Rattle.ddm_types.specs.declared.operations.HaltCause.{HaltCause}
@@ -12,10 +14,10 @@ use Rattle.flat_model.specs.declared.Ask.{Ask}
 use Rattle.flat_model.specs.declared.Ask.TheVariants.{Plain, Put, NeedsShared, NeedsExclusive, Conditional, Halt}
 use Rattle.flat_model.specs.Hart.{HartValue, Finished, ask_of, finish_of}
 use Rattle.flat_model.specs.Flat.{FlatHart, FlatMachine, FlatStepped, Stored, Change, flat_hart, item_words, has_reserved, leaving, storing_to, conditional, change_by, unless_halted, hart_step, no_flat_hart, with_stored, with_change, stepped, flat_step}
-use Rattle.flat_model.specs.Legal.{changed_item, effect_item, on_item, is_change, is_sc_ok, HasWholeWords, legal_step, legal_run}
+use Rattle.flat_model.specs.Legal.{is_of, changed_item, effect_item, on_item, is_change, is_sc_ok, HasWholeWords, legal_step, legal_run}
 use Rattle.flat_model.proofs.Runs.{legal_step_is, legal_step_of}
 use Rattle.flat_model.proofs.Items.{FollowsAsk, step_follows}
-use Rattle.flat_model.proofs.Steps.{finish_failing, step_leaves}
+use Rattle.flat_model.proofs.Steps.{same_change, finish_failing, step_leaves}
 use Rattle.flat_model.proofs.Frames.{freed, other_hart, own_hart, other_words, same_counts}
 
 -- an effect that isn't on the item, if there is one
@@ -27,8 +29,17 @@ abbrev pub SameReserved : Option ℕ → Option ℕ → Option ℕ → Type 0
 SameReserved x ra rb = (ra ≡ rb) ⊎ ((ra ≡ x) × (rb ≡ None))
 
 -- an answer that is like this change
-abbrev pub AnswersLike : Option ℕ → Result Change HaltCause → Change → Type 0
-AnswersLike x r c = (d : Change) × (r ≡ Ok d) × (d.effect ≡ c.effect) × (d.after.hart ≡ c.after.hart) × SameReserved x c.after.reserved d.after.reserved × (d.stored ≡ c.stored)
+pub record AnswersLike (x : Option ℕ) (r : Result Change HaltCause) (c : Change) : Type 0 where
+  pub change : Change
+  pub answer : r ≡ Ok change
+  pub effect : change.effect ≡ c.effect
+  pub hart : change.after.hart ≡ c.after.hart
+  pub reserved : SameReserved x c.after.reserved change.after.reserved
+  pub stored : change.stored ≡ c.stored
+
+-- an answer whose change differs in its reservation alone
+like_but_reserved : (x : Option ℕ) (d c : Change) → d.effect ≡ c.effect → d.after.hart ≡ c.after.hart → SameReserved x c.after.reserved d.after.reserved → d.stored ≡ c.stored → AnswersLike x (Ok d) c
+like_but_reserved x d c effect hart reserved stored = record { change = d; answer = refl; effect = effect; hart = hart; reserved = reserved; stored = stored }
 
 abbrev FailsAlike : Ask → (List ℕ → Bool → Finished) → Type 0
 FailsAlike ask finish = (y : ℕ) → ask ≡ Conditional y → (ws ws' : List ℕ) → ((finish ws false).effect ≡ (finish ws' false).effect) × ((finish ws false).hart ≡ (finish ws' false).hart)
@@ -58,34 +69,31 @@ hasnt_alike : (x : Option ℕ) (y : ℕ) (ra rb : Option ℕ) → SameReserved x
 hasnt_alike x y ra rb (inl e) h = rw e at h
 hasnt_alike x y ra rb (inr e) h = rw e.1 refl
 
-pub is_ok : (known c : Change) → (let r : Result Change HaltCause = Ok known in r ≡ Ok c) → known ≡ c
-is_ok known c e = grind arith
-
 conditional_alike : (items : ItemTable) (x : Option ℕ) (y : ℕ) (finish : List ℕ → Bool → Finished) (wa wb : ℕ → List ℕ) (a b : Bool) → (a ≡ true → Some y ≢ x → b ≡ true) → (a ≡ false → b ≡ false) → ((z : ℕ) → Some z ≢ x → wa z ≡ wb z) → FailsAlike (Conditional y) finish → (c : Change) → conditional a y (finish (wa y)) ≡ c → FollowsAsk items (Conditional y) c → NotOn items x c.effect → AnswersLike x (Ok (conditional b y (finish (wb y)))) c
 conditional_alike items x y finish wa wb true b holds lapses words fails c e f off =
     let away : Some y ≢ x = stored_elsewhere items x y c (record { item = y; words = (finish (wa y) true).words }) (sym (ap (λ (k : Change). k.stored) e)) f off in
     let P : Change → Type 0 = AnswersLike x (Ok (conditional b y (finish (wb y)))) in
-    subst P e (rw (holds refl away) (rw (words y away) (storing_to y (finish (wb y) true) None, refl, refl, refl, inl refl, refl)))
+    subst P e (rw (holds refl away) (rw (words y away) (like_but_reserved x (storing_to y (finish (wb y) true) None) _ refl refl (inl refl) refl)))
 conditional_alike items x y finish wa wb false b holds lapses words fails c e f off =
     let P : Change → Type 0 = AnswersLike x (Ok (conditional b y (finish (wb y)))) in
     let same = fails y refl (wb y) (wa y) in
-    subst P e (rw (lapses refl) (leaving (finish (wb y) false) None, refl, same.0, same.1, inl refl, refl))
+    subst P e (rw (lapses refl) (like_but_reserved x (leaving (finish (wb y) false) None) _ same.0 same.1 (inl refl) refl))
 
 change_alike : (items : ItemTable) (x : Option ℕ) (ask : Ask) (ra rb : Option ℕ) (finish : List ℕ → Bool → Finished) (wa wb : ℕ → List ℕ) (sc_ok : Bool) → SameReserved x ra rb → ((z : ℕ) → Some z ≢ x → wa z ≡ wb z) → FailsAlike ask finish → (c : Change) → change_by ask ra finish wa sc_ok ≡ Ok c → FollowsAsk items ask c → NotOn items x c.effect → AnswersLike x (change_by ask rb finish wb sc_ok) c
 change_alike items x Plain ra rb finish wa wb sc_ok same words fails c e f off =
     let P : Change → Type 0 = AnswersLike x (change_by Plain rb finish wb sc_ok) in
-    subst P (is_ok (leaving (finish [] false) ra) c e) (leaving (finish [] false) rb, refl, refl, refl, same, refl)
+    subst P (same_change (leaving (finish [] false) ra) c e) (like_but_reserved x (leaving (finish [] false) rb) _ refl refl same refl)
 change_alike items x (Put byte) ra rb finish wa wb sc_ok same words fails c e f off =
     let P : Change → Type 0 = AnswersLike x (change_by (Put byte) rb finish wb sc_ok) in
-    subst P (is_ok (leaving (finish [] false) ra) c e) (leaving (finish [] false) rb, refl, refl, refl, same, refl)
+    subst P (same_change (leaving (finish [] false) ra) c e) (like_but_reserved x (leaving (finish [] false) rb) _ refl refl same refl)
 change_alike items x (NeedsShared y lr) ra rb finish wa wb sc_ok same words fails c e f off =
     let P : Change → Type 0 = AnswersLike x (change_by (NeedsShared y lr) rb finish wb sc_ok) in
-    subst P (is_ok (leaving (finish (wa y) false) (if lr then Some y else ra)) c e) (rw (words y (shared_elsewhere items x y lr c f off)) (leaving (finish (wb y) false) (if lr then Some y else rb), refl, refl, refl, same_reserved_if x y lr ra rb same, refl))
+    subst P (same_change (leaving (finish (wa y) false) (if lr then Some y else ra)) c e) (rw (words y (shared_elsewhere items x y lr c f off)) (like_but_reserved x (leaving (finish (wb y) false) (if lr then Some y else rb)) _ refl refl (same_reserved_if x y lr ra rb same) refl))
 change_alike items x (NeedsExclusive y) ra rb finish wa wb sc_ok same words fails c e f off =
     let P : Change → Type 0 = AnswersLike x (change_by (NeedsExclusive y) rb finish wb sc_ok) in
-    subst P (is_ok (storing_to y (finish (wa y) false) ra) c e) (rw (words y (exclusive_elsewhere items x y c f off)) (storing_to y (finish (wb y) false) rb, refl, refl, refl, same, refl))
+    subst P (same_change (storing_to y (finish (wa y) false) ra) c e) (rw (words y (exclusive_elsewhere items x y c f off)) (like_but_reserved x (storing_to y (finish (wb y) false) rb) _ refl refl same refl))
 change_alike items x (Conditional y) ra rb finish wa wb sc_ok same words fails c e f off =
-    conditional_alike items x y finish wa wb (sc_ok && has_reserved ra y) (sc_ok && has_reserved rb y) (holds sc_ok) (lapses sc_ok) words fails c (is_ok (conditional (sc_ok && has_reserved ra y) y (finish (wa y))) c e) f off where
+    conditional_alike items x y finish wa wb (sc_ok && has_reserved ra y) (sc_ok && has_reserved rb y) (holds sc_ok) (lapses sc_ok) words fails c (same_change (conditional (sc_ok && has_reserved ra y) y (finish (wa y))) c e) f off where
       holds : (sc : Bool) → (sc && has_reserved ra y) ≡ true → Some y ≢ x → (sc && has_reserved rb y) ≡ true
       holds true h away = has_alike x y ra rb same away h
       holds false h away = h
@@ -214,13 +222,23 @@ in_range code items m g words sc_ok c e = go (nat_lt g (length m.harts)) refl wh
     halted : hart_step code items no_flat_hart words sc_ok ≡ Ok c → ⊥
     halted e = grind arith
 
--- a step by its change
-pub change_of : (code : List CodeWord) (items : ItemTable) (m n : FlatMachine) (g : ℕ) (sc_ok : Bool) (effect : Effect) → flat_step code items m g sc_ok ≡ Ok (effect, n) → (c : Change) × (hart_step code items (flat_hart m g) (item_words m) sc_ok ≡ Ok c) × (c.effect ≡ effect) × (with_change m g c ≡ n)
+-- what stands behind a completed step: what its hart does, which has this effect and leaves this machine
+pub record StepChange (code : List CodeWord) (items : ItemTable) (m n : FlatMachine) (g : ℕ) (sc_ok : Bool) (effect : Effect) : Type 0 where
+  pub change : Change
+  pub step : hart_step code items (flat_hart m g) (item_words m) sc_ok ≡ Ok change
+  pub made : change.effect ≡ effect
+  pub after : with_change m g change ≡ n
+
+pub change_of : (code : List CodeWord) (items : ItemTable) (m n : FlatMachine) (g : ℕ) (sc_ok : Bool) (effect : Effect) → flat_step code items m g sc_ok ≡ Ok (effect, n) → StepChange code items m n g sc_ok effect
 unfolding flat_step
 change_of code items m n g sc_ok effect e = go (hart_step code items (flat_hart m g) (item_words m) sc_ok) refl e where
-  go : (r : Result Change HaltCause) → hart_step code items (flat_hart m g) (item_words m) sc_ok ≡ r → stepped m g r ≡ Ok (effect, n) → (c : Change) × (hart_step code items (flat_hart m g) (item_words m) sc_ok ≡ Ok c) × (c.effect ≡ effect) × (with_change m g c ≡ n)
-  go (Ok c) k e = (c, k, grind arith, grind arith)
+  go : (r : Result Change HaltCause) → hart_step code items (flat_hart m g) (item_words m) sc_ok ≡ r → stepped m g r ≡ Ok (effect, n) → StepChange code items m n g sc_ok effect
+  go (Ok c) k e = record { change = c; step = k; made = grind arith; after = grind arith }
   go (Err cause) k e = grind arith
+
+-- and behind a legal record
+pub record_change : (code : List CodeWord) (items : ItemTable) (m n : FlatMachine) (op : Op) → legal_step code items m op ≡ Some n → StepChange code items m n op.hart (is_sc_ok op.effect) op.effect
+record_change code items m n op e = change_of code items m n op.hart (is_sc_ok op.effect) op.effect (legal_step_is code items m n op e).1
 
 pub flat_step_is : (code : List CodeWord) (items : ItemTable) (m : FlatMachine) (g : ℕ) (sc_ok : Bool) (c : Change) → hart_step code items (flat_hart m g) (item_words m) sc_ok ≡ Ok c → flat_step code items m g sc_ok ≡ Ok (c.effect, with_change m g c)
 unfolding flat_step
@@ -233,34 +251,57 @@ stored_away code items x g words sc_ok c whole e off s k at = go (step_follows c
   go (f, inl i) = off s.item (sym at) (i ∙ (step_leaves code items g words sc_ok c e).1 s k)
   go (f, inr i) = grind arith
 
+-- A machine that is like z but for hart h and item x, of which it has what b has.
+pub record IsJoined (h : ℕ) (x : Option ℕ) (z b m : FlatMachine) : Type 0 where
+  pub alike : Alike h x z m
+  pub hart : (flat_hart m h).hart ≡ (flat_hart b h).hart
+  pub words : (y : ℕ) → x ≡ Some y → item_words m y ≡ item_words b y
+
 -- the step of another hart that isn't on the item is a step of both machines, with the same effect, and leaves them alike
-pub flat_step_alike : (code : List CodeWord) (items : ItemTable) (h : ℕ) (x : Option ℕ) (a b : FlatMachine) (g : ℕ) (sc_ok : Bool) (effect : Effect) (a2 : FlatMachine) → HasWholeWords items → Alike h x a b → g ≢ h → flat_step code items a g sc_ok ≡ Ok (effect, a2) → NotOn items x effect → (b2 : FlatMachine) × (flat_step code items b g sc_ok ≡ Ok (effect, b2)) × Alike h x a2 b2 × ((flat_hart b2 h).hart ≡ (flat_hart b h).hart) × ((y : ℕ) → x ≡ Some y → item_words b2 y ≡ item_words b y)
-flat_step_alike code items h x a b g sc_ok effect a2 whole like other e off = go (change_of code items a a2 g sc_ok effect e) where
-  go : ((c : Change) × (hart_step code items (flat_hart a g) (item_words a) sc_ok ≡ Ok c) × (c.effect ≡ effect) × (with_change a g c ≡ a2)) → (b2 : FlatMachine) × (flat_step code items b g sc_ok ≡ Ok (effect, b2)) × Alike h x a2 b2 × ((flat_hart b2 h).hart ≡ (flat_hart b h).hart) × ((y : ℕ) → x ≡ Some y → item_words b2 y ≡ item_words b y)
-  go (c, step, is_effect, after) = answer like_b where
-    off_c : NotOn items x c.effect
-    off_c y i k = off y i (ap (effect_item items) (sym is_effect) ∙ k)
+pub flat_step_alike : (code : List CodeWord) (items : ItemTable) (h : ℕ) (x : Option ℕ) (a b : FlatMachine) (g : ℕ) (sc_ok : Bool) (effect : Effect) (a2 : FlatMachine) → HasWholeWords items → Alike h x a b → g ≢ h → flat_step code items a g sc_ok ≡ Ok (effect, a2) → NotOn items x effect → (b2 : FlatMachine) × (flat_step code items b g sc_ok ≡ Ok (effect, b2)) × IsJoined h x a2 b b2
+flat_step_alike code items h x a b g sc_ok effect a2 whole like other e off = (with_change b g d, step_d, record { alike = like_d; hart = hart_d; words = words_d }) where
+  s : StepChange code items a a2 g sc_ok effect
+  s = change_of code items a a2 g sc_ok effect e
 
-    away : (s : Stored) → c.stored ≡ Some s → Some s.item ≢ x
-    away s k = stored_away code items x (flat_hart a g) (item_words a) sc_ok c whole step off_c s k
+  off_s : NotOn items x s.change.effect
+  off_s y i k = off y i (ap (effect_item items) (sym s.made) ∙ k)
 
-    with_hart_b : HartValue → Type 0
-    with_hart_b k = AnswersLike x (hart_step code items (record { hart = k; reserved = (flat_hart b g).reserved }) (item_words b) sc_ok) c
+  away : (to : Stored) → s.change.stored ≡ Some to → Some to.item ≢ x
+  away to k = stored_away code items x (flat_hart a g) (item_words a) sc_ok s.change whole s.step off_s to k
 
-    like_b : AnswersLike x (hart_step code items (flat_hart b g) (item_words b) sc_ok) c
-    like_b = subst with_hart_b (like.hart g other) (step_alike code items x (flat_hart a g).hart (flat_hart a g).reserved (flat_hart b g).reserved (item_words a) (item_words b) sc_ok whole (like.reserved g other) like.words c step off_c)
+  with_hart_b : HartValue → Type 0
+  with_hart_b k = AnswersLike x (hart_step code items (record { hart = k; reserved = (flat_hart b g).reserved }) (item_words b) sc_ok) s.change
 
-    answer : AnswersLike x (hart_step code items (flat_hart b g) (item_words b) sc_ok) c → (b2 : FlatMachine) × (flat_step code items b g sc_ok ≡ Ok (effect, b2)) × Alike h x a2 b2 × ((flat_hart b2 h).hart ≡ (flat_hart b h).hart) × ((y : ℕ) → x ≡ Some y → item_words b2 y ≡ item_words b y)
-    answer (d, step_b, same_effect, same_hart, same_reserved, same_stored) =
-        let answers : Effect → FlatStepped = λ k. Ok (k, with_change b g d) in
-        (with_change b g d, flat_step_is code items b g sc_ok d step_b ∙ ap answers (same_effect ∙ is_effect), subst (λ m. Alike h x m (with_change b g d)) after (changes_alike h x a b g c d like (in_range code items a g (item_words a) sc_ok c step) same_hart same_reserved same_stored away), ap (λ (k : FlatHart). k.hart) (other_hart b g d h (λ i. other (sym i))) ∙ freed_hart d.stored (flat_hart b h), λ y i. other_words b g d y (λ s k at. away s (sym same_stored ∙ k) (ap Some (sym at) ∙ sym i)))
+  like_b : AnswersLike x (hart_step code items (flat_hart b g) (item_words b) sc_ok) s.change
+  like_b = subst with_hart_b (like.hart g other) (step_alike code items x (flat_hart a g).hart (flat_hart a g).reserved (flat_hart b g).reserved (item_words a) (item_words b) sc_ok whole (like.reserved g other) like.words s.change s.step off_s)
+
+  d : Change
+  d = like_b.change
+
+  step_d : flat_step code items b g sc_ok ≡ Ok (effect, with_change b g d)
+  step_d =
+      let answers : Effect → FlatStepped = λ k. Ok (k, with_change b g d) in
+      flat_step_is code items b g sc_ok d like_b.answer ∙ ap answers (like_b.effect ∙ s.made)
+
+  like_d : Alike h x a2 (with_change b g d)
+  like_d = subst (λ m. Alike h x m (with_change b g d)) s.after (changes_alike h x a b g s.change d like (in_range code items a g (item_words a) sc_ok s.change s.step) like_b.hart like_b.reserved like_b.stored away)
+
+  hart_d : (flat_hart (with_change b g d) h).hart ≡ (flat_hart b h).hart
+  hart_d = ap (λ (k : FlatHart). k.hart) (other_hart b g d h (λ i. other (sym i))) ∙ freed_hart d.stored (flat_hart b h)
+
+  words_d : (y : ℕ) → x ≡ Some y → item_words (with_change b g d) y ≡ item_words b y
+  words_d y i = other_words b g d y (λ to k at. away to (sym like_b.stored ∙ k) (ap Some (sym at) ∙ sym i))
 
 -- ---- lists
 
+-- a record of another hart, and not on the item
+pub record IsElsewhere (items : ItemTable) (h : ℕ) (x : Option ℕ) (op : Op) : Type 0 where
+  pub hart : is_of h op ≡ false
+  pub item : NotOn items x op.effect
+
 -- no record is of this hart, and none is on the item
 abbrev pub Elsewhere : ItemTable → ℕ → Option ℕ → List Op → Type 0
-Elsewhere items h x [] = Unit {0}
-Elsewhere items h x (op ∷ ops) = (op.hart ≢ h) × NotOn items x op.effect × Elsewhere items h x ops
+Elsewhere items h x ops = AllByRecursion (IsElsewhere items h x) ops
 
 -- what the test says of an item
 pub not_on : (items : ItemTable) (x : Option ℕ) (effect : Effect) → ((y : ℕ) → x ≡ Some y → on_item items y effect ≡ false) → NotOn items x effect
@@ -269,36 +310,47 @@ not_on items x effect off y at e = absurd (go (rw e at (off y at))) where
   go : nat_eq y y ≡ false → ⊥
   go h = eqb-false y y h refl
 
--- a legal list is legal, and with the same effects, from a machine that is alike, if none of it is of that hart or on that item
-abbrev pub RunsAlike : List CodeWord → ItemTable → ℕ → Option ℕ → FlatMachine → List Op → FlatMachine → Type 0
-RunsAlike code items h x b ops z = (z2 : FlatMachine) × (legal_run code items b ops ≡ Some z2) × Alike h x z z2 × ((flat_hart z2 h).hart ≡ (flat_hart b h).hart) × ((y : ℕ) → x ≡ Some y → item_words z2 y ≡ item_words b y)
+-- what a legal list's first record leaves, from where the others are legal
+pub record LegalFirst (code : List CodeWord) (items : ItemTable) (a : FlatMachine) (op : Op) (ops : List Op) (z : FlatMachine) : Type 0 where
+  pub next : FlatMachine
+  pub step : legal_step code items a op ≡ Some next
+  pub rest : legal_run code items next ops ≡ Some z
 
-pub legal_first : (code : List CodeWord) (items : ItemTable) (a : FlatMachine) (op : Op) (ops : List Op) (z : FlatMachine) → legal_run code items a (op ∷ ops) ≡ Some z → (n : FlatMachine) × (legal_step code items a op ≡ Some n) × (legal_run code items n ops ≡ Some z)
+pub legal_first : (code : List CodeWord) (items : ItemTable) (a : FlatMachine) (op : Op) (ops : List Op) (z : FlatMachine) → legal_run code items a (op ∷ ops) ≡ Some z → LegalFirst code items a op ops z
 unfolding legal_run
-legal_first code items a op ops z e = go (legal_step code items a op) refl e where
-  go : (o : Option FlatMachine) → legal_step code items a op ≡ o → option_and_then (λ n. legal_run code items n ops) o ≡ Some z → (n : FlatMachine) × (legal_step code items a op ≡ Some n) × (legal_run code items n ops ≡ Some z)
-  go None k e = grind arith
-  go (Some n) k e = (n, k, e)
+legal_first code items a op ops z e = option_and_then_some (λ n. legal_run code items n ops) (legal_step code items a op) z e (λ n step rest. record { next = n; step = step; rest = rest })
 
 pub legal_more : (code : List CodeWord) (items : ItemTable) (b n : FlatMachine) (op : Op) (ops : List Op) → legal_step code items b op ≡ Some n → legal_run code items b (op ∷ ops) ≡ legal_run code items n ops
 unfolding legal_run
 legal_more code items b n op ops e = ap (option_and_then (λ m. legal_run code items m ops)) e
 
-pub runs_alike : (code : List CodeWord) (items : ItemTable) (h : ℕ) (x : Option ℕ) (a b : FlatMachine) (ops : List Op) (z : FlatMachine) → HasWholeWords items → Alike h x a b → Elsewhere items h x ops → legal_run code items a ops ≡ Some z → RunsAlike code items h x b ops z
-unfolding legal_run
-runs_alike code items h x a b [] z whole like off e = (b, refl, subst (λ m. Alike h x m b) (some_is a z e) like, refl, λ y at. refl) where
-  some_is : (m n : FlatMachine) → (let o : Option FlatMachine = Some m in o ≡ Some n) → m ≡ n
-  some_is m n e = grind arith
-runs_alike code items h x a b (op ∷ ops) z whole like off e = go (legal_first code items a op ops z e) (λ n b2 like2 run. runs_alike code items h x n b2 ops z whole like2 off.2 run) where
-  go : ((n : FlatMachine) × (legal_step code items a op ≡ Some n) × (legal_run code items n ops ≡ Some z)) → ((n b2 : FlatMachine) → Alike h x n b2 → legal_run code items n ops ≡ Some z → RunsAlike code items h x b2 ops z) → RunsAlike code items h x b (op ∷ ops) z
-  go (n, step, run) rest = stepped_b (flat_step_alike code items h x a b op.hart (is_sc_ok op.effect) op.effect n whole like off.0 (legal_step_is code items a n op step).1 off.1) where
-    stepped_b : ((b2 : FlatMachine) × (flat_step code items b op.hart (is_sc_ok op.effect) ≡ Ok (op.effect, b2)) × Alike h x n b2 × ((flat_hart b2 h).hart ≡ (flat_hart b h).hart) × ((y : ℕ) → x ≡ Some y → item_words b2 y ≡ item_words b y)) → RunsAlike code items h x b (op ∷ ops) z
-    stepped_b (b2, step_b, like2, own, words) = joined (rest n b2 like2 run) where
-      legal_b : legal_step code items b op ≡ Some b2
-      legal_b = legal_step_of code items b b2 op (ap (λ (k : HartValue). k.pc) (sym (like.hart op.hart off.0)) ∙ (legal_step_is code items a n op step).0) step_b
+-- A list that is legal from `start`, and ends in a machine that is like z but for hart h and item x, of which it has what b has.
+pub record EndsAlike (code : List CodeWord) (items : ItemTable) (h : ℕ) (x : Option ℕ) (z b start : FlatMachine) (ops : List Op) : Type 0 where
+  pub end : FlatMachine
+  pub legal : legal_run code items start ops ≡ Some end
+  pub joined : IsJoined h x z b end
 
-      joined : RunsAlike code items h x b2 ops z → RunsAlike code items h x b (op ∷ ops) z
-      joined (z2, run_b, like_z, own_z, words_z) = (z2, legal_more code items b b2 op ops legal_b ∙ run_b, like_z, own_z ∙ own, λ y at. words_z y at ∙ words y at)
+-- a legal list is legal, and with the same effects, from a machine that is alike, if none of it is of that hart or on that item
+pub runs_alike : (code : List CodeWord) (items : ItemTable) (h : ℕ) (x : Option ℕ) (a b : FlatMachine) (ops : List Op) (z : FlatMachine) → HasWholeWords items → Alike h x a b → Elsewhere items h x ops → legal_run code items a ops ≡ Some z → EndsAlike code items h x z b b ops
+unfolding legal_run
+runs_alike code items h x a b [] z whole like off e = record { end = b; legal = refl; joined = record { alike = subst (λ m. Alike h x m b) (same_Some a z e) like; hart = refl; words = λ y at. refl } }
+runs_alike code items h x a b (op ∷ ops) z whole like off e = go (legal_first code items a op ops z e) (λ n b2 like2 run. runs_alike code items h x n b2 ops z whole like2 off.1 run) where
+  other : op.hart ≢ h
+  other = eqb-false op.hart h off.0.hart
+
+  go : LegalFirst code items a op ops z → ((n b2 : FlatMachine) → Alike h x n b2 → legal_run code items n ops ≡ Some z → EndsAlike code items h x z b2 b2 ops) → EndsAlike code items h x z b b (op ∷ ops)
+  go f rest = stepped_b (flat_step_alike code items h x a b op.hart (is_sc_ok op.effect) op.effect f.next whole like other (legal_step_is code items a f.next op f.step).1 off.0.item) where
+    stepped_b : ((b2 : FlatMachine) × (flat_step code items b op.hart (is_sc_ok op.effect) ≡ Ok (op.effect, b2)) × IsJoined h x f.next b b2) → EndsAlike code items h x z b b (op ∷ ops)
+    stepped_b (b2, step_b, joined) = with_first (rest f.next b2 joined.alike f.rest) where
+      legal_b : legal_step code items b op ≡ Some b2
+      legal_b = legal_step_of code items b b2 op (ap (λ (k : HartValue). k.pc) (sym (like.hart op.hart other)) ∙ (legal_step_is code items a f.next op f.step).0) step_b
+
+      with_first : EndsAlike code items h x z b2 b2 ops → EndsAlike code items h x z b b (op ∷ ops)
+      with_first r = record {
+        end = r.end;
+        legal = legal_more code items b b2 op ops legal_b ∙ r.legal;
+        joined = record { alike = r.joined.alike; hart = r.joined.hart ∙ joined.hart; words = λ y at. r.joined.words y at ∙ joined.words y at };
+      }
 
 pub changed_is : (code : List CodeWord) (items : ItemTable) (g : FlatHart) (words : ℕ → List ℕ) (sc_ok : Bool) (c : Change) → HasWholeWords items → hart_step code items g words sc_ok ≡ Ok c → changed_item items c.effect ≡ stored_item c.stored
 changed_is code items g words sc_ok c whole e = go (step_follows code items g words sc_ok c whole e) where
@@ -308,23 +360,21 @@ changed_is code items g words sc_ok c whole e = go (step_follows code items g wo
 
   go : FollowsAsk items (ask_of code items g.hart) c → changed_item items c.effect ≡ stored_item c.stored
   go (f, inl i) = by_stored c.stored f (λ s k. i ∙ (step_leaves code items g words sc_ok c e).1 s k)
-  go (f, inr i) = by_stored c.stored f (λ s k. absurd (none_some s (sym i.3 ∙ k))) where
-    none_some : (s : Stored) → (let o : Option Stored = None in o ≡ Some s) → ⊥
-    none_some s k = grind arith
+  go (f, inr i) = by_stored c.stored f (λ s k. absurd (none-some s (sym i.3 ∙ k)))
 
 -- Insertion: a legal record stands before a legal list of other harts' records, none of them on the item that it changes.
 -- The list stays legal. At its end the record's hart is as it was after the record, and so are the words of the item that
 -- it changed; all else is as it was without the record, but for other harts' reservations of that item.
-pub insert : (code : List CodeWord) (items : ItemTable) (a a2 : FlatMachine) (o : Op) (ops : List Op) (z : FlatMachine) → HasWholeWords items → legal_step code items a o ≡ Some a2 → Elsewhere items o.hart (changed_item items o.effect) ops → legal_run code items a ops ≡ Some z → (z2 : FlatMachine) × (legal_run code items a (o ∷ ops) ≡ Some z2) × Alike o.hart (changed_item items o.effect) z z2 × ((flat_hart z2 o.hart).hart ≡ (flat_hart a2 o.hart).hart) × ((y : ℕ) → changed_item items o.effect ≡ Some y → item_words z2 y ≡ item_words a2 y)
+pub insert : (code : List CodeWord) (items : ItemTable) (a a2 : FlatMachine) (o : Op) (ops : List Op) (z : FlatMachine) → HasWholeWords items → legal_step code items a o ≡ Some a2 → Elsewhere items o.hart (changed_item items o.effect) ops → legal_run code items a ops ≡ Some z → EndsAlike code items o.hart (changed_item items o.effect) z a2 a (o ∷ ops)
 insert code items a a2 o ops z whole step off run = go (runs_alike code items o.hart (changed_item items o.effect) a a2 ops z whole like off run) where
-  known : (c : Change) × (hart_step code items (flat_hart a o.hart) (item_words a) (is_sc_ok o.effect) ≡ Ok c) × (c.effect ≡ o.effect) × (with_change a o.hart c ≡ a2)
-  known = change_of code items a a2 o.hart (is_sc_ok o.effect) o.effect (legal_step_is code items a a2 o step).1
+  s : StepChange code items a a2 o.hart (is_sc_ok o.effect) o.effect
+  s = record_change code items a a2 o step
 
-  item_is : changed_item items o.effect ≡ stored_item known.0.stored
-  item_is = ap (changed_item items) (sym known.2) ∙ changed_is code items (flat_hart a o.hart) (item_words a) (is_sc_ok o.effect) known.0 whole known.1
+  item_is : changed_item items o.effect ≡ stored_item s.change.stored
+  item_is = ap (changed_item items) (sym s.made) ∙ changed_is code items (flat_hart a o.hart) (item_words a) (is_sc_ok o.effect) s.change whole s.step
 
   like : Alike o.hart (changed_item items o.effect) a a2
-  like = subst (λ m. Alike o.hart (changed_item items o.effect) a m) known.3 (subst (λ x. Alike o.hart x a (with_change a o.hart known.0)) (sym item_is) (change_leaves_alike a o.hart known.0))
+  like = subst (λ m. Alike o.hart (changed_item items o.effect) a m) s.after (subst (λ x. Alike o.hart x a (with_change a o.hart s.change)) (sym item_is) (change_leaves_alike a o.hart s.change))
 
-  go : RunsAlike code items o.hart (changed_item items o.effect) a2 ops z → (z2 : FlatMachine) × (legal_run code items a (o ∷ ops) ≡ Some z2) × Alike o.hart (changed_item items o.effect) z z2 × ((flat_hart z2 o.hart).hart ≡ (flat_hart a2 o.hart).hart) × ((y : ℕ) → changed_item items o.effect ≡ Some y → item_words z2 y ≡ item_words a2 y)
-  go (z2, run2, like2, own, words) = (z2, legal_more code items a a2 o ops step ∙ run2, like2, own, words)
+  go : EndsAlike code items o.hart (changed_item items o.effect) z a2 a2 ops → EndsAlike code items o.hart (changed_item items o.effect) z a2 a (o ∷ ops)
+  go r = record { end = r.end; legal = legal_more code items a a2 o ops step ∙ r.legal; joined = r.joined }

@@ -4,7 +4,9 @@ pub mod Halts
 pub mod Runs
 pub mod Steps
 pub mod Frames
+pub mod Actions
 pub mod Items
 pub mod Insert
 pub mod Reserving
 pub mod Storing
+pub mod Completing

@@ -86,14 +86,14 @@ asked_item (NeedsExclusive x) = Some x
 asked_item (Conditional x) = Some x
 asked_item (Halt cause) = None
 
--- the hart's reservation after an instruction
-abbrev pub reserved_after : Ask → Option ℕ → Option ℕ
-reserved_after Plain reserved = reserved
-reserved_after (Put byte) reserved = reserved
-reserved_after (NeedsShared x lr) reserved = if lr then Some x else reserved
-reserved_after (NeedsExclusive x) reserved = reserved
-reserved_after (Conditional x) reserved = None
-reserved_after (Halt cause) reserved = reserved
+-- the hart's reservation after an instruction, by what it asks for
+abbrev pub reserved_by_ask : Ask → Option ℕ → Option ℕ
+reserved_by_ask Plain reserved = reserved
+reserved_by_ask (Put byte) reserved = reserved
+reserved_by_ask (NeedsShared x lr) reserved = if lr then Some x else reserved
+reserved_by_ask (NeedsExclusive x) reserved = reserved
+reserved_by_ask (Conditional x) reserved = None
+reserved_by_ask (Halt cause) reserved = reserved
 
 -- a halted hart answers its cause again
 abbrev pub unless_halted : Option HaltCause → Result Change HaltCause → Result Change HaltCause

@@ -7,6 +7,10 @@ use Rattle.ddm_types.specs.CodeMap.{CodeWord}
 use Rattle.ddm_types.specs.ItemTable.{ItemTable, ItemRow, item_at, row_at}
 use Rattle.flat_model.specs.Flat.{FlatMachine, FlatStepped, flat_hart, flat_step, has_reserved}
 
+-- an operation of this hart
+abbrev pub is_of : ℕ → Op → Bool
+is_of h op = nat_eq op.hart h
+
 -- ---- what an effect is on
 
 -- the word that an effect reads or writes; a failed SC does neither
@@ -62,12 +66,13 @@ abbrev pub reserved_by_other : Option ℕ → Option ℕ → Option ℕ
 reserved_by_other r None = r
 reserved_by_other r (Some x) = if has_reserved r x then None else r
 
+-- hart g's reservation after an instruction of any hart
 abbrev pub reserved_by : ItemTable → ℕ → Option ℕ → Op → Option ℕ
-reserved_by items g r op = if nat_eq g op.hart then reserved_by_own items r op.effect else reserved_by_other r (changed_item items op.effect)
+reserved_by items g r op = if is_of g op then reserved_by_own items r op.effect else reserved_by_other r (changed_item items op.effect)
 
--- hart g's reservation after a list of records, by their effects alone
-unfoldable pub reservation : ItemTable → ℕ → List Op → Option ℕ
-reservation items g ops = fold (reserved_by items g) None ops
+-- hart g's reservation after a list of records, by their effects alone, where it was r before
+unfoldable pub reservation : ItemTable → ℕ → Option ℕ → List Op → Option ℕ
+reservation items g r ops = fold (reserved_by items g) r ops
 
 -- an item's words after an effect on it: the word at its address is the one that it stores
 abbrev pub stored_by : ItemTable → ℕ → List ℕ → Effect → List ℕ

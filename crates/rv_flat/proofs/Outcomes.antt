@@ -6,6 +6,7 @@ use Rattle.std.proofs.Math.ListN.{length-set}
 use Rattle.std.proofs.lemmas.List.FromFn.{length-map-range_with_len}
 use Rattle.ddm_types.specs.declared.sizes.Start.{Start}
 use Rattle.flat_model.proofs.Frames.{same_counts}
+use Rattle.flat_model.proofs.Steps.{finish_keeps, finish_failing_keeps}
 use Rattle.rv_flat.specs.ItemWords.{words_by_item, words_of_item}
 use Rattle.ddm_types.specs.declared.operations.HaltCause.{HaltCause}
 use Rattle.ddm_types.specs.CodeMap.{CodeWord}
@@ -16,7 +17,7 @@ use Rattle.flat_model.specs.Hart.{Finished, ask_of, finish_of}
 use Rattle.flat_model.specs.Flat.{FlatHart, FlatMachine, FlatStepped, Change, change_by, conditional, flat_halted, flat_hart, flat_hart_start, flat_step, machine_after, has_reserved, hart_step, item_words, leaving, storing_to, stepped, unless_halted, with_change}
 use Rattle.rv_hart.specs.Steps.{IsReady}
 use Rattle.rv_flat.specs.Asks.{IsOfItem, IsOfNoItem, ask_unless_halted, next_ask}
-use Rattle.rv_flat.proofs.Asked.{asked_inside, shared_kept, failing_kept}
+use Rattle.rv_flat.proofs.Asked.{asked_inside}
 
 -- ---- a hart that isn't halted
 
@@ -56,13 +57,13 @@ no_item_asked code items g of = (of_no_item g.hart.halt (ask_of code items g.har
 pub shared_words : (code : List CodeWord) (items : ItemTable) (g : FlatHart) (words : List ℕ) (x : ℕ) (lr : Bool) → next_ask code items g ≡ NeedsShared x lr → (finish_of code items g.hart words false).words ≡ words
 shared_words code items g words x lr e = go g.hart.halt e where
   go : (halt : Option HaltCause) → ask_unless_halted halt (ask_of code items g.hart) ≡ NeedsShared x lr → (finish_of code items g.hart words false).words ≡ words
-  go None e = shared_kept code items g.hart words x lr e
+  go None e = finish_keeps code items x lr g.hart words false e
   go (Some cause) e = grind arith
 
 pub failing_words : (code : List CodeWord) (items : ItemTable) (g : FlatHart) (words : List ℕ) (x : ℕ) → next_ask code items g ≡ Conditional x → (finish_of code items g.hart words false).words ≡ words
 failing_words code items g words x e = go g.hart.halt e where
   go : (halt : Option HaltCause) → ask_unless_halted halt (ask_of code items g.hart) ≡ Conditional x → (finish_of code items g.hart words false).words ≡ words
-  go None e = failing_kept code items g.hart words x e
+  go None e = finish_failing_keeps code items g.hart x words e
   go (Some cause) e = grind arith
 
 -- ---- the step

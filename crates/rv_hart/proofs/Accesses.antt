@@ -1,11 +1,7 @@
 -- The item that has a byte.
 use Rattle.std.proofs.Common.{◌≡◌, ℕ, ◌+◌, ◌<◌, ◌≤◌, true, Some, arith}
 use Rattle.std.proofs.lemmas.List.Quantifiers.{position-Some}
-use Rattle.ddm_types.specs.ItemTable.{ItemTable, ItemRow, item_at, item_count, row_at, row_has, no_row}
-
-pub item_at_inside : (items : ItemTable) (a x : ℕ) → item_at items a ≡ Some x → x < item_count items
-unfolding item_at
-item_at_inside items a x e = (position-Some (row_has items.size a) items.rows x no_row e).0
+use Rattle.ddm_types.specs.ItemTable.{ItemTable, ItemRow, item_at, row_at, row_has, no_row}
 
 row_from : (size a : ℕ) (row : ItemRow) → row_has size a row ≡ true → (row.address ≤ a) × (a < row.address + size)
 row_from size a row h = grind arith

@@ -7,7 +7,7 @@ use Rattle.ddm_types.specs.ItemTable.{ItemTable}
 use Rattle.flat_model.specs.declared.Ask.{Ask}
 use Rattle.flat_model.specs.declared.Ask.TheVariants.{Conditional, Halt}
 use Rattle.flat_model.specs.Hart.{Finished, ask_of, finish_of}
-use Rattle.flat_model.specs.Flat.{FlatHart, Stored, Change, has_reserved, asked_item, reserved_after, hart_step}
+use Rattle.flat_model.specs.Flat.{FlatHart, Stored, Change, has_reserved, asked_item, reserved_by_ask, hart_step}
 use Rattle.rv_hart.specs.Steps.{IsReady}
 
 -- the words are those of the item that is asked for, if one is
@@ -28,7 +28,7 @@ words_after (Some stored) words = stored.words
 pub record IsChangeBy (ask : Ask) (reserved : Option ℕ) (f : Finished) (before : List ℕ) (c : Change) : Type 0 where
   pub effect : c.effect ≡ f.effect
   pub hart : c.after.hart ≡ f.hart
-  pub reserves : c.after.reserved ≡ reserved_after ask reserved
+  pub reserves : c.after.reserved ≡ reserved_by_ask ask reserved
   pub words : words_after c.stored before ≡ f.words
   pub item : IfSome c.stored (λ stored. asked_item ask ≡ Some stored.item)
 

@@ -61,7 +61,7 @@ fn load_item(items: &Items, bytes: u32, address: u32) -> Result<ItemId, HaltCaus
 }
 
 /// The item that a store of so many bytes at this address writes.
-#[tactic(auto, using(crate::proofs::Accesses::item_at_inside))]
+#[tactic(auto, using(flat_model::proofs::Items::item_at_inside))]
 fn store_item(items: &Items, bytes: u32, address: u32) -> Result<ItemId, HaltCause>
     requires { 0 < bytes }
     ensures { result ≡ store_item items.now bytes address }
@@ -75,7 +75,7 @@ fn store_item(items: &Items, bytes: u32, address: u32) -> Result<ItemId, HaltCau
     }
 }
 
-#[tactic(auto, using(crate::proofs::Accesses::item_at_inside, crate::proofs::Accesses::item_at_from, crate::proofs::Accesses::item_at_below))]
+#[tactic(auto, using(flat_model::proofs::Items::item_at_inside, crate::proofs::Accesses::item_at_from, crate::proofs::Accesses::item_at_below))]
 fn locate(items: &Items, item: ItemId, address: u32) -> Access
     requires { item_at items.now address ≡ Some item }
     ensures value { access_value result ≡ access_in items.now address item }
