@@ -74,17 +74,3 @@ stamp_less a b = numbers_less (stamp_numbers 3 a) (stamp_numbers 3 b)
 -- the first key is less than the second one, compared from the left
 abbrev pub key_less : Key → Key → Bool
 key_less a b = numbers_less (key_numbers 4 a) (key_numbers 4 b)
-
--- the key with the numbers of a stamp, the child numbers of a path (0 where the path has none), and this last number
-abbrev pub key_on : Stamp → List ℕ → ℕ → Key
-key_on stamp path n = record {
-  s0 = stamp.s0;
-  c0 = slice_index path 0;
-  s1 = stamp.s1;
-  c1 = slice_index path 1;
-  s2 = stamp.s2;
-  c2 = slice_index path 2;
-  s3 = stamp.s3;
-  c3 = slice_index path 3;
-  i = n;
-}
