@@ -1,0 +1,4 @@
+pub mod Lists
+pub mod Statements
+pub mod BusTests
+pub mod OrderTests

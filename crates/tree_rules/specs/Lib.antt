@@ -3,3 +3,8 @@ pub mod Bus
 pub mod Order
 pub mod Witness
 pub mod Computing
+pub mod Examples
+pub mod CopiesOfAWord
+pub mod Small
+pub mod Refused
+pub mod Lag

@@ -76,16 +76,6 @@ abbrev mutual
   widths_fit_among no_bones = true
   widths_fit_among (more_bones b bs) = widths_fit b && widths_fit_among bs
 
--- each leaf has a set with a way
-abbrev mutual
-  pub ways_fit : Skeleton → Bool
-  ways_fit (leaf_bone number sizes) = nat_lt 0 sizes.sets && nat_lt 0 sizes.way_count
-  ways_fit (dir_bone bus level sizes bones) = ways_fit_among bones
-
-  pub ways_fit_among : Skeletons → Bool
-  ways_fit_among no_bones = true
-  ways_fit_among (more_bones b bs) = ways_fit b && ways_fit_among bs
-
 -- ---- numbers
 
 abbrev mutual
@@ -132,8 +122,6 @@ pub data ShapeRule : Type 0 where
   levels_known : ShapeRule
   -- each bus has 1 to 16 children
   widths_bounded : ShapeRule
-  -- each leaf has a set with a way
-  ways_there : ShapeRule
   -- no two buses have one number
   buses_differ : ShapeRule
   -- traffic is counted for each bus: their numbers are below how many there are
@@ -146,14 +134,13 @@ pub data ShapeRule : Type 0 where
 abbrev pub shape_test : ShapeRule → Frame → Bool
 shape_test levels_known f = levels_fit (levels_of f.bones) 0 f.bones
 shape_test widths_bounded f = widths_fit f.bones
-shape_test ways_there f = ways_fit f.bones
 shape_test buses_differ f = are_distinct (buses_of f.bones [])
 shape_test traffic_counted f = nat_eq (length (buses_of f.bones [])) f.counted && are_below f.counted (buses_of f.bones [])
 shape_test leaves_numbered f = count_from 0 (leaf_numbers_of f.bones [])
 shape_test items_of_words f = nat_eq (f.items.size % 4) 0 && list_all is_whole_word f.items.rows
 
 abbrev pub shape_rules : List ShapeRule
-shape_rules = levels_known ∷ widths_bounded ∷ ways_there ∷ buses_differ ∷ traffic_counted ∷ leaves_numbered ∷ items_of_words ∷ []
+shape_rules = levels_known ∷ widths_bounded ∷ buses_differ ∷ traffic_counted ∷ leaves_numbered ∷ items_of_words ∷ []
 
 pub record IsShaped (m : MachineValue) : Type 0 where
   pub each : (r : ShapeRule) → IsTrue (shape_test r (frame_of m))
