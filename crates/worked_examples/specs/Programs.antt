@@ -61,6 +61,10 @@ with_lists places tree = record tree { sizes = record tree.sizes { down = places
 abbrev pub with_down : ℕ → TreeValue → TreeValue
 with_down places tree = record tree { sizes = record tree.sizes { down = places } }
 
+-- the same with items of 64 bytes
+abbrev pub with_wide_items : TreeValue → TreeValue
+with_wide_items tree = record tree { item_bytes = 64 }
+
 abbrev pub shape_of : TreeValue → ShapeView
 shape_of tree = record { harts = leaf_count tree; buses = bus_widths tree }
 
@@ -87,6 +91,9 @@ trace_in tree image schedule = trace_text (turns_in tree schedule) (run_in tree 
 
 unfoldable pub report_in : TreeValue → ImageValue → List ℕ → List ℕ
 report_in tree image schedule = report_text_of (depth_of tree) (turns_in tree schedule) (start_machine tree image)
+
+unfoldable pub trace_and_report_in : TreeValue → ImageValue → List ℕ → List ℕ
+trace_and_report_in tree image schedule = trace_and_report_of (depth_of tree) (turns_in tree schedule) (start_machine tree image)
 
 -- the line with the counts of its answers
 unfoldable pub counts_in : TreeValue → ImageValue → List ℕ → List ℕ
