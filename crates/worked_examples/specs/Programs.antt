@@ -1,10 +1,9 @@
 -- How an example is told: a program, a tree, a schedule as text, and what is printed.
-use Rattle.std.specs.Prelude.{ℕ, ◌+◌, ◌*◌, ◌/◌, ◌%◌, List, [], ◌∷◌, ◌++◌, codes, length, map, drop, Option, Some, None, Result, Ok, Err, slice_index_or}
+use Rattle.std.specs.Prelude.{ℕ, ◌*◌, ◌/◌, ◌%◌, List, [], ◌∷◌, ◌++◌, codes, length, Result, Ok, Err}
 use Rattle.std.specs.List.{flat_map}
 use Rattle.ddm_types.specs.declared.turns.Turn.{Turn}
 use Rattle.ddm_types.specs.declared.operations.Op.{Op}
 use Rattle.ddm_types.specs.ItemTable.{row_at}
-use Rattle.tree_model.specs.Values.{MachineValue}
 use Rattle.tree_model.specs.Machine.{Ran, run_of}
 use Rattle.tree_model.specs.Start.{SegmentValue, ImageValue, TreeValue, leaf_count, bus_widths, start_machine}
 use Rattle.tree_model.specs.Ops.{sorted_ops}
@@ -12,7 +11,7 @@ use Rattle.tree_model.specs.Found.{states_of}
 use Rattle.text_model.specs.declared.ScheduleRefusal.{ScheduleRefusal}
 use Rattle.text_model.specs.Schedule.{ShapeView, schedule_of}
 use Rattle.text_model.specs.Trace.{trace_text}
-use Rattle.text_model.specs.Report.{bus_lines, turns_line, item_line, key_text, letter_texts, op_lines, hart_line_of, regs_line, out_line, put_texts}
+use Rattle.text_model.specs.Report.{bus_lines, turns_line, item_line, key_text, letter_texts, op_lines, out_line}
 use Rattle.text_model.specs.Run.{counts_of, item_view, report_text_of, trace_and_report_of}
 
 -- ---- programs

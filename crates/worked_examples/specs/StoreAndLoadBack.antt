@@ -1,7 +1,7 @@
 -- One leaf stores 7, loads it back and exits with it.
 use Rattle.std.specs.Prelude.{◌≡◌, ℕ, List, [], ◌∷◌, codes}
 use Rattle.tree_model.specs.Start.{ImageValue, TreeValue}
-use Rattle.worked_examples.specs.Programs.{program, code_alone, tree_of, with_stacks, with_lists, with_down, with_wide_items, trace_in, report_in, counts_in, traffic_in, item_in, letters_in, operations_in, keys_in, completed_keys_in, output_in}
+use Rattle.worked_examples.specs.Programs.{program, tree_of, with_stacks, with_wide_items, trace_in, report_in}
 
 abbrev pub tree : TreeValue
 tree = with_stacks (tree_of ((1 ∷ []) ∷ []) 4 1 1 1)
