@@ -72,6 +72,10 @@ depth_of tree = length tree.levels
 
 -- ---- a run of the turns of a text; a text that is refused has none
 
+-- the text of a schedule, of the lines of its turns
+abbrev pub ended : List ℕ → List ℕ
+ended lines = lines ++ codes "end\n"
+
 abbrev turns_or_none : Result (List Turn) (ℕ × ScheduleRefusal) → List Turn
 turns_or_none (Ok turns) = turns
 turns_or_none (Err refusal) = []
