@@ -22,3 +22,12 @@ mod Stored020
 mod Stored021
 mod Stored022
 mod Stored023
+mod Stored024
+mod Stored025
+mod Stored026
+mod Stored027
+mod Stored028
+mod Stored029
+mod Stored030
+mod Stored031
+mod Stored032

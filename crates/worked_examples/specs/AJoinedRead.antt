@@ -1,13 +1,11 @@
 -- A read joins a read that is under way, and the data goes to both.
 use Rattle.std.specs.Prelude.{◌≡◌, ℕ, List, [], ◌∷◌, codes}
-use Rattle.tree_model.specs.Start.{ImageValue, TreeValue}
-use Rattle.worked_examples.specs.Programs.{program, code_alone, tree_of, with_stacks, with_lists, with_down, trace_in, report_in, counts_in, traffic_in, item_in, letters_in, operations_in, keys_in, completed_keys_in, output_in}
+use Rattle.tree_model.specs.Start.{TreeValue}
+use Rattle.worked_examples.specs.Programs.{tree_of, trace_in, letters_in, completed_keys_in}
+use Rattle.worked_examples.specs.OneRead.{image}
 
 abbrev pub tree : TreeValue
 tree = tree_of ((3 ∷ []) ∷ []) 4 1 1 1
-
-abbrev pub image : ImageValue
-image = program (0x000202b7 ∷ 0x0002a383 ∷ 0x05d00893 ∷ 0x00000073 ∷ []) (0x00000005 ∷ []) 16
 
 -- eleven turns
 abbrev pub turns : List ℕ

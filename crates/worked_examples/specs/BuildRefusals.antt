@@ -1,8 +1,8 @@
 -- Where a machine can't be built, and which items segments and stacks make.
-use Rattle.std.specs.Prelude.{◌≡◌, ℕ, true, false, List, [], ◌∷◌, Option, Some, None}
+use Rattle.std.specs.Prelude.{◌≡◌, true, false, List, [], ◌∷◌, Some, None}
 use Rattle.ddm_types.specs.declared.sizes.Span.{Span}
-use Rattle.ddm_types.specs.ItemTable.{ItemRow, ItemTable, items_of, item_count}
-use Rattle.tree_model.specs.Start.{ImageValue, SegmentValue, TreeValue, StartRefusal, no_place, stack_overlap, start_refusal, start_items}
+use Rattle.ddm_types.specs.ItemTable.{items_of, item_count}
+use Rattle.tree_model.specs.Start.{ImageValue, TreeValue, no_place, stack_overlap, start_refusal, start_items}
 use Rattle.worked_examples.specs.Programs.{tree_of}
 use Rattle.worked_examples.specs.OneRead as read
 use Rattle.worked_examples.specs.StoreAndLoadBack as store

@@ -12,3 +12,4 @@ pub mod AnInjectForSeveralReaders
 pub mod OneByteOfOutput
 pub mod BuildRefusals
 pub mod SeededSchedule
+pub mod StoredTraces

@@ -1,10 +1,9 @@
 -- How an example is told: a program, a tree, a schedule as text, and what is printed.
-use Rattle.std.specs.Prelude.{ℕ, ◌+◌, ◌*◌, ◌/◌, ◌%◌, List, [], ◌∷◌, ◌++◌, codes, length, map, drop, Option, Some, None, Result, Ok, Err, slice_index_or}
+use Rattle.std.specs.Prelude.{ℕ, ◌*◌, ◌/◌, ◌%◌, List, [], ◌∷◌, ◌++◌, codes, length, Result, Ok, Err}
 use Rattle.std.specs.List.{flat_map}
 use Rattle.ddm_types.specs.declared.turns.Turn.{Turn}
 use Rattle.ddm_types.specs.declared.operations.Op.{Op}
 use Rattle.ddm_types.specs.ItemTable.{row_at}
-use Rattle.tree_model.specs.Values.{MachineValue}
 use Rattle.tree_model.specs.Machine.{Ran, run_of}
 use Rattle.tree_model.specs.Start.{SegmentValue, ImageValue, TreeValue, leaf_count, bus_widths, start_machine}
 use Rattle.tree_model.specs.Ops.{sorted_ops}
@@ -12,7 +11,7 @@ use Rattle.tree_model.specs.Found.{states_of}
 use Rattle.text_model.specs.declared.ScheduleRefusal.{ScheduleRefusal}
 use Rattle.text_model.specs.Schedule.{ShapeView, schedule_of}
 use Rattle.text_model.specs.Trace.{trace_text}
-use Rattle.text_model.specs.Report.{bus_lines, turns_line, item_line, key_text, letter_texts, op_lines, hart_line_of, regs_line, out_line, put_texts}
+use Rattle.text_model.specs.Report.{bus_lines, turns_line, item_line, key_text, letter_texts, op_lines, out_line}
 use Rattle.text_model.specs.Run.{counts_of, item_view, report_text_of, trace_and_report_of}
 
 -- ---- programs
@@ -61,6 +60,10 @@ with_lists places tree = record tree { sizes = record tree.sizes { down = places
 abbrev pub with_down : ℕ → TreeValue → TreeValue
 with_down places tree = record tree { sizes = record tree.sizes { down = places } }
 
+-- the same with items of 64 bytes
+abbrev pub with_wide_items : TreeValue → TreeValue
+with_wide_items tree = record tree { item_bytes = 64 }
+
 abbrev pub shape_of : TreeValue → ShapeView
 shape_of tree = record { harts = leaf_count tree; buses = bus_widths tree }
 
@@ -68,6 +71,10 @@ abbrev pub depth_of : TreeValue → ℕ
 depth_of tree = length tree.levels
 
 -- ---- a run of the turns of a text; a text that is refused has none
+
+-- the text of a schedule, of the lines of its turns
+abbrev pub ended : List ℕ → List ℕ
+ended lines = lines ++ codes "end\n"
 
 abbrev turns_or_none : Result (List Turn) (ℕ × ScheduleRefusal) → List Turn
 turns_or_none (Ok turns) = turns
@@ -87,6 +94,9 @@ trace_in tree image schedule = trace_text (turns_in tree schedule) (run_in tree 
 
 unfoldable pub report_in : TreeValue → ImageValue → List ℕ → List ℕ
 report_in tree image schedule = report_text_of (depth_of tree) (turns_in tree schedule) (start_machine tree image)
+
+unfoldable pub trace_and_report_in : TreeValue → ImageValue → List ℕ → List ℕ
+trace_and_report_in tree image schedule = trace_and_report_of (depth_of tree) (turns_in tree schedule) (start_machine tree image)
 
 -- the line with the counts of its answers
 unfoldable pub counts_in : TreeValue → ImageValue → List ℕ → List ℕ

@@ -1,7 +1,7 @@
 -- An LR and an SC: the reservation is kept, or lost to another hart.
 use Rattle.std.specs.Prelude.{◌≡◌, ℕ, List, [], ◌∷◌, codes}
 use Rattle.tree_model.specs.Start.{ImageValue, TreeValue}
-use Rattle.worked_examples.specs.Programs.{program, code_alone, tree_of, with_stacks, with_lists, with_down, trace_in, report_in, counts_in, traffic_in, item_in, letters_in, operations_in, keys_in, completed_keys_in, output_in}
+use Rattle.worked_examples.specs.Programs.{program, tree_of, trace_in, completed_keys_in}
 
 abbrev pub tree : TreeValue
 tree = tree_of ((2 ∷ []) ∷ []) 4 1 1 1

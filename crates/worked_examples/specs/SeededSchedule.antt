@@ -1,5 +1,5 @@
 -- The schedule of seed 42 on a tree of two leaves. The words are the check outputs that the generator's author has published.
-use Rattle.std.specs.Prelude.{◌≡◌, ℕ, List, [], ◌∷◌, codes}
+use Rattle.std.specs.Prelude.{◌≡◌, [], ◌∷◌, codes}
 use Rattle.text_model.specs.Schedule.{ShapeView, schedule_text}
 use Rattle.text_model.specs.Seeded.{seeded_generator, words_of, seeded_turns}
 use Rattle.worked_examples.specs.Programs.{tree_of, shape_of}

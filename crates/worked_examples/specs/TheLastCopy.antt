@@ -1,7 +1,7 @@
 -- Copies that find no room are parked; an out of a copy that isn't the last is dropped, and the last copy becomes an inject.
 use Rattle.std.specs.Prelude.{◌≡◌, ℕ, List, [], ◌∷◌, codes}
 use Rattle.tree_model.specs.Start.{ImageValue, TreeValue}
-use Rattle.worked_examples.specs.Programs.{program, code_alone, tree_of, with_stacks, with_lists, with_down, trace_in, report_in, counts_in, traffic_in, item_in, letters_in, operations_in, keys_in, completed_keys_in, output_in}
+use Rattle.worked_examples.specs.Programs.{program, tree_of, with_lists, trace_in, counts_in, traffic_in, item_in, keys_in}
 
 abbrev pub tree : TreeValue
 tree = with_lists 2 (tree_of ((2 ∷ []) ∷ (1 ∷ 1 ∷ []) ∷ []) 1 1 1 1)

@@ -1,5 +1,4 @@
 use Rattle.std.proofs.Common.{refl}
-use Rattle.worked_examples.specs.AnInjectForSeveralReaders.{AnInjectForSeveralReaders}
 use Rattle.worked_examples.specs.Computing.{examples_compute}
 use Rattle.worked_examples.proofs.an_inject_for_several_readers.Goals as goal
 

@@ -1,5 +1,4 @@
 use Rattle.std.proofs.Common.{refl}
-use Rattle.worked_examples.specs.OneByteOfOutput.{OneByteOfOutput}
 use Rattle.worked_examples.specs.Computing.{examples_compute}
 use Rattle.worked_examples.proofs.one_byte_of_output.Goals as goal
 

@@ -1,5 +1,4 @@
 use Rattle.std.proofs.Common.{refl}
-use Rattle.worked_examples.specs.OneRead.{OneRead}
 use Rattle.worked_examples.specs.Computing.{examples_compute}
 use Rattle.worked_examples.proofs.one_read.Goals as goal
 

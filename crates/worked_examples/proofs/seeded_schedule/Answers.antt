@@ -1,5 +1,4 @@
 use Rattle.std.proofs.Common.{refl}
-use Rattle.worked_examples.specs.SeededSchedule.{SeededSchedule}
 use Rattle.worked_examples.specs.Computing.{examples_compute}
 use Rattle.worked_examples.proofs.seeded_schedule.Goals as goal
 

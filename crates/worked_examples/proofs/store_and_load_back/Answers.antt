@@ -1,5 +1,4 @@
 use Rattle.std.proofs.Common.{refl}
-use Rattle.worked_examples.specs.StoreAndLoadBack.{StoreAndLoadBack}
 use Rattle.worked_examples.specs.Computing.{examples_compute}
 use Rattle.worked_examples.proofs.store_and_load_back.Goals as goal
 

@@ -1,5 +1,4 @@
 use Rattle.std.proofs.Common.{refl}
-use Rattle.worked_examples.specs.TheLastCopy.{TheLastCopy}
 use Rattle.worked_examples.specs.Computing.{examples_compute}
 use Rattle.worked_examples.proofs.the_last_copy.Goals as goal
 
