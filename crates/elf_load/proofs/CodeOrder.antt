@@ -9,9 +9,11 @@ use Rattle.std.proofs.lemmas.List.Elements.{All-head, All-tail}
 use Rattle.std.proofs.lemmas.List.FromFn.{length-map-range_with_len}
 use Rattle.ddm_types.specs.CodeMap.{CodeWord, word_at, words_from, code_of}
 use Rattle.ddm_types.proofs.Entries.{AreFrom, IsAscending, from-weaker, from-append, word_at-nil, word_at-other, word_at-append, word_at_below, option_or-none, code_of-unique}
-use Rattle.tree_model.specs.Start.{SegmentValue, ImageValue, is_executable, start_code}
+use Rattle.tree_model.specs.Start.Sources.{SegmentValue, ImageValue, is_executable}
+use Rattle.tree_model.specs.Start.Memory.{start_code}
 use Rattle.elf_load.specs.ImageRule.{HasMemory, AreApart}
-use Rattle.elf_load.specs.CodeOf.{first_word, word_count, numbered_word, segment_words, segment_code, put_segment, IsInSegment}
+use Rattle.tree_model.specs.Start.Memory.{first_word, segment_code, put_segment}
+use Rattle.elf_load.specs.CodeOf.{word_count, numbered_word, segment_words, IsInSegment}
 use Rattle.elf_load.proofs.CodeParts.{apart-bytes}
 
 pub start_code-is : (i : ImageValue) → start_code i ≡ flat_map segment_code (fold put_segment [] i.segments)

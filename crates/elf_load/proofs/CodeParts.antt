@@ -7,9 +7,10 @@ use Rattle.std.proofs.lemmas.Bool.Decides.{nat_tests}
 use Rattle.std.proofs.lemmas.List.FromFn.{length-map-range_with_len}
 use Rattle.ddm_types.specs.declared.code_map.CodePart.{CodePart}
 use Rattle.ddm_types.specs.CodeMap.{words_from, part_words, part_end, IsInPart, AreDisjoint}
-use Rattle.tree_model.specs.Start.{SegmentValue, is_executable}
+use Rattle.tree_model.specs.Start.Sources.{SegmentValue, is_executable}
 use Rattle.elf_load.specs.ImageRule.{EndsInside, AreApart}
-use Rattle.elf_load.specs.CodeOf.{first_word, word_count, segment_words, numbered_word, segment_code, IsInSegment, IsPartOf, ArePartsOf}
+use Rattle.tree_model.specs.Start.Memory.{first_word, segment_code}
+use Rattle.elf_load.specs.CodeOf.{word_count, segment_words, numbered_word, IsInSegment, IsPartOf, ArePartsOf}
 
 -- ---- one part
 

@@ -9,8 +9,9 @@ use Rattle.std.proofs.lemmas.List.Elements.{All-filter, All-map, filter_passes}
 use Rattle.std.proofs.lemmas.List.Sums.{length-filter, count_by-le-length}
 use Rattle.std.proofs.lemmas.List.Kept.{AllPairs-filter}
 use Rattle.std.proofs.lemmas.List.FromFn.{length-range_with_len, get_or-range_with_len, length-map-range_with_len}
-use Rattle.tree_model.specs.Each.{first_some}
-use Rattle.tree_model.specs.Start.{SegmentValue, start_code}
+use Rattle.tree_model.specs.State.Lists.{first_some}
+use Rattle.tree_model.specs.Start.Sources.{SegmentValue}
+use Rattle.tree_model.specs.Start.Memory.{start_code}
 use Rattle.ddm_types.specs.CodeMap.{CodeWord, word_at}
 use Rattle.elf_load.specs.declared.headers.ProgramHeader.{ProgramHeader}
 use Rattle.elf_load.specs.declared.refusal.ImageRefusal.{ImageRefusal}

@@ -5,7 +5,7 @@ use Rattle.std.proofs.Math.Seq.{drop-cons}
 use Rattle.std.proofs.Math.ListN.{drop_of_length-le}
 use Rattle.std.proofs.lemmas.List.{append-nil}
 use Rattle.byteorder.specs.Endian.{little_bytes}
-use Rattle.tree_model.specs.Start.{SegmentValue}
+use Rattle.tree_model.specs.Start.Sources.{SegmentValue}
 use Rattle.elf_load.specs.Written.{halves, words, identity, file_header, program_header, program_headers, segment_bytes, written_image}
 
 pub halves_next : (old ns : List ℕ) (k d : ℕ) → k < length ns → old ++ halves (drop k ns) ≡ (old ++ little_bytes 2 (get_or ns k d)) ++ halves (drop (k + 1) ns)

@@ -8,10 +8,10 @@ use Rattle.std.proofs.Math.Seq.{drop-append_seam, take-append_seam}
 use Rattle.std.proofs.lemmas.List.Elements.{All-head, All-tail}
 use Rattle.byteorder.specs.Endian.{little_number}
 use Rattle.byteorder.specs.Numbers.{little_number-reads_back}
-use Rattle.tree_model.specs.Start.{SegmentValue, ImageValue}
+use Rattle.tree_model.specs.Start.Sources.{SegmentValue, ImageValue}
 use Rattle.elf_load.specs.declared.headers.ProgramHeader.{ProgramHeader}
 use Rattle.elf_load.specs.declared.refusal.ImageRefusal.{ImageRefusal}
-use Rattle.elf_load.specs.ElfFile.{word_in, entry_of, table_of, header_count, header_place, header_at, headers_of, has_memory, loaded_headers, segment_of, segments_of, image_in, image_of, by_file, by_headers, by_sizes, by_entry, judged_entry, entry_refusal, file_refusal, headers_refusal, sizes_refusal}
+use Rattle.elf_load.specs.ElfFile.{word_in, entry_of, table_of, header_count, header_place, header_at, headers_of, has_memory, loaded_headers, segment_of, segments_of, image_in, image_of, by_file, by_headers, unless_too_large, by_entry, judged_entry, entry_refusal, file_refusal, headers_refusal, sizes_refusal}
 use Rattle.elf_load.specs.ImageRule.{image_value}
 use Rattle.elf_load.specs.Written.{halves, words, file_header, program_header, program_headers, segment_bytes, written_image}
 use Rattle.elf_load.specs.LoadsBack.{HasWords, numbered_from, has_size, loaded_back, LoadsBack}
@@ -26,7 +26,7 @@ accepted item_bytes file image e = by_first (file_refusal file) refl where
   of_entry None h = cc
   of_entry (Some r) h = cc
 
-  of_sizes : (o : Option ImageRefusal) → by_sizes o file ≡ Ok image → image ≡ image_in file
+  of_sizes : (o : Option ImageRefusal) → unless_too_large o file ≡ Ok image → image ≡ image_in file
   of_sizes None h = of_entry (entry_refusal (image_in file)) h
   of_sizes (Some r) h = cc
 

@@ -4,8 +4,10 @@ use Rattle.std.specs.Prelude.{slice_index_or, nat_le, nat_lt, ◌&&◌}
 use Rattle.std.specs.List.{range_with_len}
 use Rattle.std.proofs.lemmas.Bool.Decides.{nat_tests}
 use Rattle.std.proofs.lemmas.List.FromFn.{map-range_with_len_more}
-use Rattle.tree_model.specs.Start.{SegmentValue, byte_at}
-use Rattle.elf_load.specs.CodeOf.{first_word, numbered_word}
+use Rattle.tree_model.specs.Start.Sources.{SegmentValue}
+use Rattle.tree_model.specs.Start.Memory.{byte_at}
+use Rattle.tree_model.specs.Start.Memory.{first_word}
+use Rattle.elf_load.specs.CodeOf.{numbered_word}
 
 -- a byte of the segment's memory is the file's byte, or 0 behind these
 pub own_byte : (s : SegmentValue) (a : ℕ) → s.vaddr ≤ a → a < s.vaddr + s.memsz → byte_at (s ∷ []) a ≡ slice_index_or s.bytes (a - s.vaddr) 0

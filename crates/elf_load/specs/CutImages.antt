@@ -1,7 +1,7 @@
 -- Files that are cut short.
 use Rattle.std.specs.Prelude.{◌≡◌, ℕ, List, ◌++◌, map, length, take, replicate, Result, Err}
 use Rattle.std.specs.List.{range_with_len}
-use Rattle.tree_model.specs.Start.{ImageValue}
+use Rattle.tree_model.specs.Start.Sources.{ImageValue}
 use Rattle.elf_load.specs.declared.refusal.ImageRefusal.{ImageRefusal}
 use Rattle.elf_load.specs.declared.refusal.ImageRefusal.TheVariants.{NotElf, HeaderOutside, SegmentOutside}
 use Rattle.elf_load.specs.SmallFile.{small_file, read_small}

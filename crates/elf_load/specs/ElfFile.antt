@@ -5,8 +5,10 @@ use Rattle.byteorder.specs.Endian.{little_number}
 use Rattle.ddm_types.specs.ItemTable.{item_count, items_of}
 use Rattle.ddm_types.specs.CodeMap.{word_at}
 use Rattle.ddm_types.specs.declared.sizes.Span.{Span}
-use Rattle.tree_model.specs.Each.{first_some}
-use Rattle.tree_model.specs.Start.{SegmentValue, ImageValue, is_executable, segment_span, spans_meet, start_code}
+use Rattle.tree_model.specs.State.Lists.{first_some}
+use Rattle.tree_model.specs.Start.Sources.{SegmentValue, ImageValue, is_executable, segment_span}
+use Rattle.tree_model.specs.Start.Machine.{spans_meet}
+use Rattle.tree_model.specs.Start.Memory.{start_code}
 use Rattle.elf_load.specs.declared.headers.ProgramHeader.{ProgramHeader}
 use Rattle.elf_load.specs.declared.refusal.ImageRefusal.{ImageRefusal}
 
@@ -221,13 +223,13 @@ by_entry None image = Ok image
 unfoldable pub judged_entry : ImageValue → Result ImageValue ImageRefusal
 judged_entry image = by_entry (entry_refusal image) image
 
-abbrev pub by_sizes : Option ImageRefusal → List ℕ → Result ImageValue ImageRefusal
-by_sizes (Some r) file = Err r
-by_sizes None file = judged_entry (image_in file)
+abbrev pub unless_too_large : Option ImageRefusal → List ℕ → Result ImageValue ImageRefusal
+unless_too_large (Some r) file = Err r
+unless_too_large None file = judged_entry (image_in file)
 
 abbrev pub by_headers : Option ImageRefusal → ℕ → List ℕ → Result ImageValue ImageRefusal
 by_headers (Some r) item_bytes file = Err r
-by_headers None item_bytes file = by_sizes (sizes_refusal item_bytes (loaded_headers file)) file
+by_headers None item_bytes file = unless_too_large (sizes_refusal item_bytes (loaded_headers file)) file
 
 abbrev pub by_file : Option ImageRefusal → ℕ → List ℕ → Result ImageValue ImageRefusal
 by_file (Some r) item_bytes file = Err r

@@ -1,7 +1,9 @@
 -- What holds of every image.
 use Rattle.std.specs.Prelude.{◌≡◌, ℕ, ◌+◌, ◌^◌, ◌<◌, ◌≤◌, true, false, is_some, List, length, All, AllPairs}
 use Rattle.ddm_types.specs.CodeMap.{CodeWord, word_at}
-use Rattle.tree_model.specs.Start.{SegmentValue, ImageValue, segment_span, spans_meet, start_code}
+use Rattle.tree_model.specs.Start.Sources.{SegmentValue, ImageValue, segment_span}
+use Rattle.tree_model.specs.Start.Machine.{spans_meet}
+use Rattle.tree_model.specs.Start.Memory.{start_code}
 
 -- the segment has no more bytes than memory
 abbrev pub FitsMemory : SegmentValue → Type 0

@@ -1,6 +1,7 @@
 -- A file as linkers make it: headers of other types, the code with the ELF header and the program headers before it, data.
 use Rattle.std.specs.Prelude.{◌≡◌, ℕ, List, [], ◌∷◌, ◌++◌, take, replicate, Ok}
-use Rattle.tree_model.specs.Start.{SegmentValue, memory_word}
+use Rattle.tree_model.specs.Start.Sources.{SegmentValue}
+use Rattle.tree_model.specs.Start.Memory.{memory_word}
 use Rattle.elf_load.specs.ElfFile.{loaded_headers, items_met}
 use Rattle.elf_load.specs.Written.{words, file_header}
 use Rattle.elf_load.specs.SmallFile.{read_small}

@@ -1,6 +1,6 @@
 -- What is read of an image that was written.
 use Rattle.std.specs.Prelude.{◌≡◌, ℕ, ◌+◌, ◌^◌, ◌<◌, ◌≤◌, List, [], ◌∷◌, All, filter, length, nat_lt, Bool, Ok}
-use Rattle.tree_model.specs.Start.{SegmentValue, ImageValue}
+use Rattle.tree_model.specs.Start.Sources.{SegmentValue, ImageValue}
 use Rattle.elf_load.specs.ElfFile.{image_of}
 use Rattle.elf_load.specs.ImageRule.{image_value}
 use Rattle.elf_load.specs.Written.{written_image}

@@ -1,6 +1,6 @@
 -- A small program as a file, and files that differ from it in some bytes.
 use Rattle.std.specs.Prelude.{ℕ, ◌+◌, List, [], ◌∷◌, ◌++◌, take, drop, length, Result}
-use Rattle.tree_model.specs.Start.{SegmentValue, ImageValue}
+use Rattle.tree_model.specs.Start.Sources.{SegmentValue, ImageValue}
 use Rattle.elf_load.specs.declared.refusal.ImageRefusal.{ImageRefusal}
 use Rattle.elf_load.specs.ElfFile.{image_of}
 use Rattle.elf_load.specs.Written.{written_image}

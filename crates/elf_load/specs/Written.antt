@@ -2,7 +2,7 @@
 use Rattle.std.specs.Prelude.{ℕ, ◌+◌, ◌*◌, List, [], ◌∷◌, ◌++◌, length}
 use Rattle.std.specs.List.{flat_map}
 use Rattle.byteorder.specs.Endian.{little_bytes}
-use Rattle.tree_model.specs.Start.{SegmentValue}
+use Rattle.tree_model.specs.Start.Sources.{SegmentValue}
 
 -- half words, and words, each with its lowest byte first
 unfoldable pub halves : List ℕ → List ℕ

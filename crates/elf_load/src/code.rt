@@ -1,7 +1,9 @@
 ghost use Rattle.std.specs.Prelude.{◌≡◌, ◌&&◌, nat_lt, ◌+◌, ◌*◌, ◌<◌, ◌≤◌, ℕ, All, AllPairs, IfOk, [], ◌∷◌, slice_index_or};
-ghost use Rattle.tree_model.specs.Start.{byte_at, is_executable, memory_word, start_code};
+ghost use Rattle.tree_model.specs.Start.Memory.{byte_at, memory_word, start_code};
+ghost use Rattle.tree_model.specs.Start.Sources.{is_executable};
 ghost use Rattle.elf_load.specs.ImageRule.{AreApart, EndsInside, HasMemory};
-ghost use Rattle.elf_load.specs.CodeOf.{ArePartsOf, IsPartOf, first_word, segment_words, word_count};
+ghost use Rattle.tree_model.specs.Start.Memory.{first_word};
+ghost use Rattle.elf_load.specs.CodeOf.{ArePartsOf, IsPartOf, segment_words, word_count};
 
 use crate::image::Segment;
 use ddm_types::{Code, CodePart, NoMemory};
@@ -25,7 +27,7 @@ fn byte_at(segment: &Segment, address: u64) -> u8
 }
 
 /// A word of the segment's memory.
-#[tactic(auto, unfolding(tree_model::specs::Start::memory_word))]
+#[tactic(auto, unfolding(tree_model::specs::Start::Memory::memory_word))]
 fn memory_word(segment: &Segment, address: u64) -> u32
     requires ends { EndsInside segment.now }
     requires above { segment.now.vaddr ≤ address }

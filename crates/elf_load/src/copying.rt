@@ -1,5 +1,5 @@
 ghost use Rattle.std.specs.Prelude.{◌≡◌, IfOk};
-ghost use Rattle.tree_model.specs.Start.{start_code};
+ghost use Rattle.tree_model.specs.Start.Memory.{start_code};
 
 use crate::code::code_of;
 use crate::image::Image;

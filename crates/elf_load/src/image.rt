@@ -15,7 +15,7 @@ pub struct Segment {
 }
 
 impl Model for Segment {
-    ghost use Rattle.tree_model.specs.Start.{SegmentValue};
+    ghost use Rattle.tree_model.specs.Start.Sources.{SegmentValue};
 
     ghost Value = { SegmentValue };
 
@@ -31,7 +31,7 @@ pub struct Image {
 }
 
 impl Model for Image {
-    ghost use Rattle.tree_model.specs.Start.{ImageValue};
+    ghost use Rattle.tree_model.specs.Start.Sources.{ImageValue};
     ghost use Rattle.elf_load.specs.ImageRule.{IsImage};
 
     ghost Value = { ImageValue };

@@ -12,7 +12,7 @@ pub struct DownEntry<const WORDS: usize> {
 }
 
 impl<const WORDS: usize> Model for DownEntry<WORDS> {
-    ghost use Rattle.tree_model.specs.Values.{DownValue};
+    ghost use Rattle.tree_model.specs.State.Values.{DownValue};
 
     ghost Value = { DownValue };
 

@@ -1,5 +1,5 @@
 ghost use Rattle.std.specs.Prelude.{◌≡◌};
-ghost use Rattle.tree_model.specs.States.{entry_hold, state_answered, state_lost, state_with_data};
+ghost use Rattle.tree_model.specs.State.States.{entry_hold, state_answered, state_lost, state_with_data};
 
 use ddm_types::{Hold, LeafState};
 

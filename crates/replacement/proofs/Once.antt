@@ -4,11 +4,13 @@ use Rattle.std.specs.List.{find, filter, list_any}
 use lib.ListN.{length-map}
 use Rattle.std.proofs.lemmas.List.Sums.{length-filter, count_by-le-length}
 use Rattle.std.proofs.lemmas.Bool.Decides.{nat_tests}
-use Rattle.tree_model.specs.OwnRules.{are_distinct, buffer_item}
+use Rattle.tree_model.specs.State.Shape.{are_distinct}
+use Rattle.tree_model.specs.State.Leaf.{buffer_item}
 use Rattle.ddm_types.specs.declared.sizes.LeafState.{LeafState}
-use Rattle.tree_model.specs.Leaf.{buffers_item}
-use Rattle.tree_model.specs.Values.{BufferValue}
-use Rattle.replacement.specs.Arrived.{names_item, with_state, with_words, IsHeld}
+use Rattle.tree_model.specs.State.Leaf.{is_buffered}
+use Rattle.tree_model.specs.State.Values.{BufferValue}
+use Rattle.tree_model.specs.State.Lists.{names_item}
+use Rattle.replacement.specs.Arrived.{with_state, with_words, IsHeld}
 use Rattle.replacement.specs.Places.{ArrivedList}
 
 swapped : (a b : ℕ) → nat_eq a b ≡ false → nat_eq b a ≡ false
@@ -95,23 +97,23 @@ held_changed named f same {words} before after is was = rw is (record {
 })
 
 pub state_item : (x : ℕ) (state : LeafState) (e : BufferValue) → buffer_item (with_state x state e) ≡ buffer_item e
-state_item x state e = by_test (buffers_item x e)
+state_item x state e = by_test (is_buffered x e)
   where
     by_test : (b : Bool) → buffer_item (cond b (record e { state = state }) e) ≡ buffer_item e
     by_test true = refl
     by_test false = refl
 
 pub words_item : (x : ℕ) (words : List ℕ) (e : BufferValue) → buffer_item (with_words x words e) ≡ buffer_item e
-words_item x words e = by_test (buffers_item x e)
+words_item x words e = by_test (is_buffered x e)
   where
     by_test : (b : Bool) → buffer_item (cond b (record e { words = words }) e) ≡ buffer_item e
     by_test true = refl
     by_test false = refl
 
-pub state_same : (x : ℕ) (state : LeafState) (e : BufferValue) → buffers_item x e ≡ false → with_state x state e ≡ e
+pub state_same : (x : ℕ) (state : LeafState) (e : BufferValue) → is_buffered x e ≡ false → with_state x state e ≡ e
 state_same x state e other = rw other refl
 
-pub words_same : (x : ℕ) (words : List ℕ) (e : BufferValue) → buffers_item x e ≡ false → with_words x words e ≡ e
+pub words_same : (x : ℕ) (words : List ℕ) (e : BufferValue) → is_buffered x e ≡ false → with_words x words e ≡ e
 words_same x words e other = rw other refl
 
 pub fewer : {X : Type 0} (p : X → Bool) (xs : List X) → length (filter p xs) ≤ length xs

@@ -1,9 +1,9 @@
 -- Lists in order of arrival: what a buffer and a parking are seen as, and what their calls give.
-use Rattle.std.specs.Prelude.{◌≡◌, ℕ, ◌%◌, ◌^◌, ◌<◌, ◌≤◌, Bool, true, nat_eq, List, [], ◌∷◌, length, Option, None, option_map, slice_get, if◌then◌else◌}
+use Rattle.std.specs.Prelude.{◌≡◌, ℕ, ◌^◌, ◌<◌, ◌≤◌, Bool, true, nat_eq, List, [], ◌∷◌, length, Option, None, if◌then◌else◌}
 use Rattle.ddm_types.specs.declared.sizes.LeafState.{LeafState}
-use Rattle.tree_model.specs.Values.{BufferValue, CopyValue}
-use Rattle.tree_model.specs.Leaf.{buffers_item}
-use Rattle.tree_model.specs.OwnRules.{are_distinct}
+use Rattle.tree_model.specs.State.Values.{BufferValue, CopyValue}
+use Rattle.tree_model.specs.State.Leaf.{is_buffered}
+use Rattle.tree_model.specs.State.Shape.{are_distinct}
 
 -- the entries of a buffer in order of arrival, and how many there may be
 pub record BufferList : Type 0 where
@@ -18,11 +18,11 @@ pub record ParkingList : Type 0 where
 
 -- the entry in this state, if it is of the item
 abbrev pub with_state : ℕ → LeafState → BufferValue → BufferValue
-with_state x state e = if buffers_item x e then record e { state = state } else e
+with_state x state e = if is_buffered x e then record e { state = state } else e
 
 -- the entry with these words, if it is of the item
 abbrev pub with_words : ℕ → List ℕ → BufferValue → BufferValue
-with_words x words e = if buffers_item x e then record e { words = words } else e
+with_words x words e = if is_buffered x e then record e { words = words } else e
 
 -- No item stands twice. So many places are taken or reserved: no more than there may be.
 pub record IsHeld (words : ℕ) (items : List ℕ) (taken capacity : ℕ) : Type 0 where
@@ -30,13 +30,3 @@ pub record IsHeld (words : ℕ) (items : List ℕ) (taken capacity : ℕ) : Type
   pub within : taken ≤ capacity
   pub small : capacity < 2 ^ 32
   pub words_fit : words < 2 ^ 32
-
-module _ {X : Type 0} where
-  -- the entry names this item
-  abbrev pub names_item : (X → ℕ) → ℕ → X → Bool
-  names_item named x e = nat_eq x (named e)
-
-  -- the item of entry `choice mod m` of the m entries
-  abbrev pub chosen : (X → ℕ) → ℕ → List X → Option ℕ
-  chosen named choice [] = None
-  chosen named choice (e ∷ es) = option_map named (slice_get (e ∷ es) (choice % length (e ∷ es)))

@@ -1,6 +1,6 @@
 ghost use Rattle.std.specs.Prelude.{◌≡◌, ℕ, ◌<◌, ◌≤◌, ◌++◌, ◌∷◌, [], true, not, length, map, filter, find, position, remove, option_map, nat_le, nat_lt, slice_get, slice_index_or, slice_set, if◌then◌else◌, IfOk, IfSome, vec_capacity, vec_len};
-ghost use Rattle.tree_model.specs.OwnRules.{are_distinct};
-ghost use Rattle.replacement.specs.Arrived.{names_item};
+ghost use Rattle.tree_model.specs.State.Shape.{are_distinct};
+ghost use Rattle.tree_model.specs.State.Lists.{names_item};
 ghost use Rattle.replacement.specs.Places.{times};
 
 use ddm_types::{ItemId, NoMemory};

@@ -1,8 +1,10 @@
 ghost use Rattle.std.specs.Prelude.{◌≡◌, ◌<◌, ◌↔◌, ◌^◌, None, true, if◌then◌else◌, ◌++◌, ◌∷◌, [], length, filter, find, map, not, nat_le, position, option_map, slice_get, IfOk, IsErr, IsSome, OnErr, OnOk, is_err};
-ghost use Rattle.tree_model.specs.Leaf.{buffers_item};
-ghost use Rattle.tree_model.specs.OwnRules.{are_distinct, buffer_item};
-ghost use Rattle.tree_model.specs.States.{may_leave};
-ghost use Rattle.replacement.specs.Arrived.{chosen, with_state, with_words};
+ghost use Rattle.tree_model.specs.State.Leaf.{is_buffered};
+ghost use Rattle.tree_model.specs.State.Shape.{are_distinct};
+ghost use Rattle.tree_model.specs.State.Leaf.{buffer_item};
+ghost use Rattle.tree_model.specs.State.States.{may_leave};
+ghost use Rattle.tree_model.specs.State.Lists.{chosen};
+ghost use Rattle.replacement.specs.Arrived.{with_state, with_words};
 
 use crate::Full;
 use crate::arrivals::Arrivals;
@@ -19,7 +21,7 @@ pub struct Buffer<const WORDS: usize> {
 
 impl<const WORDS: usize> Model for Buffer<WORDS> {
     ghost use Rattle.std.specs.Prelude.{length, map};
-    ghost use Rattle.tree_model.specs.OwnRules.{buffer_item};
+    ghost use Rattle.tree_model.specs.State.Leaf.{buffer_item};
     ghost use Rattle.replacement.specs.Arrived.{BufferList, IsHeld};
 
     ghost Value = { BufferList };
@@ -30,7 +32,7 @@ impl<const WORDS: usize> Model for Buffer<WORDS> {
 }
 
 /// 1 for an entry that may leave its leaf, else 0.
-fn leavers(state: LeafState) -> usize
+fn leaving_one(state: LeafState) -> usize
     ensures { result ≡ (if may_leave state then 1 else 0) }
 {
     match state {
@@ -46,7 +48,7 @@ fn count_free<const WORDS: usize>(entries: &Arrivals<BufferEntry<WORDS>>) -> usi
     let mut count = 0;
     for index in 0..entries.len() {
         let entry = entries.at(index);
-        count += leavers(entry.state);
+        count += leaving_one(entry.state);
     }
     count
 }
@@ -61,7 +63,7 @@ fn nth_free<const WORDS: usize>(
     let mut left = before;
     for index in 0..entries.len() {
         let entry = entries.at(index);
-        let free = leavers(entry.state);
+        let free = leaving_one(entry.state);
         if left < free {
             return Some(entry.item);
         }
@@ -112,7 +114,7 @@ impl<const WORDS: usize> Buffer<WORDS> {
 
     /// Puts an entry behind the others.
     pub fn put(&mut self, item: ItemId, state: LeafState, words: Words<WORDS>) -> Result<(), Full>
-        requires fresh { find (buffers_item item) self.old.list ≡ None }
+        requires fresh { find (is_buffered item) self.old.list ≡ None }
         ensures full { IsErr result ↔ (length self.old.list ≡ self.old.capacity) }
         ensures test { is_err result ≡ nat_le self.old.capacity (length self.old.list) }
         ensures ok { OnOk result (self.new ≡ record self.old { list = self.old.list ++ record { item = item; state = state; words = words.entry } ∷ [] }) }
@@ -127,8 +129,8 @@ impl<const WORDS: usize> Buffer<WORDS> {
 
     /// The place of the item's entry, and its state.
     pub fn find(&self, item: ItemId) -> Option<(u32, LeafState)>
-        ensures place { option_map (λ p. p.0) result ≡ position (buffers_item item) self.now.list }
-        ensures state { option_map (λ p. p.1) result ≡ option_map (λ e. e.state) (find (buffers_item item) self.now.list) }
+        ensures place { option_map (λ p. p.0) result ≡ position (is_buffered item) self.now.list }
+        ensures state { option_map (λ p. p.1) result ≡ option_map (λ e. e.state) (find (is_buffered item) self.now.list) }
         ensures once { are_distinct (map buffer_item self.now.list) ≡ true }
     {
         match self.entries.found(item) {
@@ -138,7 +140,7 @@ impl<const WORDS: usize> Buffer<WORDS> {
     }
 
     pub fn words(&self, item: ItemId) -> Option<Words<WORDS>>
-        ensures { result ≡ option_map (λ e. e.words) (find (buffers_item item) self.now.list) }
+        ensures { result ≡ option_map (λ e. e.words) (find (is_buffered item) self.now.list) }
     {
         match self.entries.found(item) {
             Some((_, entry)) => Some(entry.words),
@@ -148,8 +150,8 @@ impl<const WORDS: usize> Buffer<WORDS> {
 
     /// Takes the item's entry out. The others stay in their order.
     pub fn remove(&mut self, item: ItemId) -> Option<(LeafState, Words<WORDS>)>
-        ensures value { result ≡ option_map (λ e. (e.state, e.words)) (find (buffers_item item) self.old.list) }
-        ensures rest { self.new ≡ record self.old { list = filter (λ e. not (buffers_item item e)) self.old.list } }
+        ensures value { result ≡ option_map (λ e. (e.state, e.words)) (find (is_buffered item) self.old.list) }
+        ensures rest { self.new ≡ record self.old { list = filter (λ e. not (is_buffered item e)) self.old.list } }
     {
         match self.entries.take_out(item) {
             Some(entry) => Some((entry.state, entry.words)),
@@ -180,7 +182,7 @@ impl<const WORDS: usize> Buffer<WORDS> {
 
     /// Puts the item's entry in another state.
     pub fn set_state(&mut self, item: ItemId, state: LeafState)
-        requires { IsSome (find (buffers_item item) self.old.list) }
+        requires { IsSome (find (is_buffered item) self.old.list) }
         ensures { self.new ≡ record self.old { list = map (with_state item state) self.old.list } }
     {
         set_state_of(&mut self.entries, item, state);
@@ -188,7 +190,7 @@ impl<const WORDS: usize> Buffer<WORDS> {
 
     /// Gives the item's entry other words.
     pub fn set_words(&mut self, item: ItemId, words: Words<WORDS>)
-        requires { IsSome (find (buffers_item item) self.old.list) }
+        requires { IsSome (find (is_buffered item) self.old.list) }
         ensures { self.new ≡ record self.old { list = map (with_words item words.entry) self.old.list } }
     {
         set_words_of(&mut self.entries, item, &words);

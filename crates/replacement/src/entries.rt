@@ -15,7 +15,7 @@ pub(crate) struct BufferEntry<const WORDS: usize> {
 }
 
 impl<const WORDS: usize> Model for BufferEntry<WORDS> {
-    ghost use Rattle.tree_model.specs.Values.{BufferValue};
+    ghost use Rattle.tree_model.specs.State.Values.{BufferValue};
 
     ghost Value = { BufferValue };
 
@@ -83,7 +83,7 @@ pub(crate) struct ParkedCopy<const WORDS: usize> {
 }
 
 impl<const WORDS: usize> Model for ParkedCopy<WORDS> {
-    ghost use Rattle.tree_model.specs.Values.{CopyValue};
+    ghost use Rattle.tree_model.specs.State.Values.{CopyValue};
 
     ghost Value = { CopyValue };
 

@@ -1,7 +1,8 @@
 ghost use Rattle.std.specs.Prelude.{◌≡◌, ◌+◌, ◌-◌, ◌^◌, ◌<◌, ◌≤◌, ◌↔◌, ◌++◌, ◌∷◌, [], None, true, length, map, filter, find, not, nat_le, position, option_map, slice_get, IfOk, IsErr, OnErr, OnOk, is_err};
-ghost use Rattle.tree_model.specs.Leaf.{copies_item};
-ghost use Rattle.tree_model.specs.OwnRules.{are_distinct, copy_item};
-ghost use Rattle.replacement.specs.Arrived.{chosen};
+ghost use Rattle.tree_model.specs.State.Leaf.{is_copy};
+ghost use Rattle.tree_model.specs.State.Shape.{are_distinct};
+ghost use Rattle.tree_model.specs.State.Leaf.{copy_item};
+ghost use Rattle.tree_model.specs.State.Lists.{chosen};
 
 use crate::Full;
 use crate::arrivals::Arrivals;
@@ -20,7 +21,7 @@ pub struct Parking<const WORDS: usize> {
 
 impl<const WORDS: usize> Model for Parking<WORDS> {
     ghost use Rattle.std.specs.Prelude.{◌+◌, length, map};
-    ghost use Rattle.tree_model.specs.OwnRules.{copy_item};
+    ghost use Rattle.tree_model.specs.State.Leaf.{copy_item};
     ghost use Rattle.replacement.specs.Arrived.{IsHeld, ParkingList};
 
     ghost Value = { ParkingList };
@@ -53,7 +54,7 @@ impl<const WORDS: usize> Parking<WORDS> {
 
     /// Puts a copy behind the others, in a place that is not reserved.
     pub fn put(&mut self, item: ItemId, words: Words<WORDS>) -> Result<(), Full>
-        requires fresh { find (copies_item item) self.old.list ≡ None }
+        requires fresh { find (is_copy item) self.old.list ≡ None }
         ensures full { IsErr result ↔ (length self.old.list + self.old.reserved ≡ self.old.capacity) }
         ensures test { is_err result ≡ nat_le self.old.capacity (length self.old.list + self.old.reserved) }
         ensures ok { OnOk result (self.new ≡ record self.old { list = self.old.list ++ record { item = item; words = words.entry } ∷ [] }) }
@@ -82,7 +83,7 @@ impl<const WORDS: usize> Parking<WORDS> {
 
     /// Puts a copy behind the others, in a reserved place.
     pub fn put_reserved(&mut self, item: ItemId, words: Words<WORDS>)
-        requires fresh { find (copies_item item) self.old.list ≡ None }
+        requires fresh { find (is_copy item) self.old.list ≡ None }
         requires kept { 0 < self.old.reserved }
         ensures { self.new ≡ record self.old { list = self.old.list ++ record { item = item; words = words.entry } ∷ []; reserved = self.old.reserved - 1 } }
     {
@@ -100,7 +101,7 @@ impl<const WORDS: usize> Parking<WORDS> {
     }
 
     pub fn words(&self, item: ItemId) -> Option<Words<WORDS>>
-        ensures { result ≡ option_map (λ e. e.words) (find (copies_item item) self.now.list) }
+        ensures { result ≡ option_map (λ e. e.words) (find (is_copy item) self.now.list) }
     {
         match self.entries.found(item) {
             Some((_, entry)) => Some(entry.words),
@@ -110,8 +111,8 @@ impl<const WORDS: usize> Parking<WORDS> {
 
     /// Takes the item's copy out. The others stay in their order.
     pub fn remove(&mut self, item: ItemId) -> Option<Words<WORDS>>
-        ensures value { result ≡ option_map (λ e. e.words) (find (copies_item item) self.old.list) }
-        ensures rest { self.new ≡ record self.old { list = filter (λ e. not (copies_item item e)) self.old.list } }
+        ensures value { result ≡ option_map (λ e. e.words) (find (is_copy item) self.old.list) }
+        ensures rest { self.new ≡ record self.old { list = filter (λ e. not (is_copy item e)) self.old.list } }
     {
         match self.entries.take_out(item) {
             Some(entry) => Some(entry.words),
@@ -121,7 +122,7 @@ impl<const WORDS: usize> Parking<WORDS> {
 
     /// The place of the item's copy.
     pub fn find(&self, item: ItemId) -> Option<u32>
-        ensures place { result ≡ position (copies_item item) self.now.list }
+        ensures place { result ≡ position (is_copy item) self.now.list }
         ensures once { are_distinct (map copy_item self.now.list) ≡ true }
     {
         match self.entries.found(item) {

@@ -7,8 +7,10 @@ use Rattle.ddm_types.specs.declared.sizes.Span.{Span}
 use Rattle.ddm_types.specs.CodeMap.{CodeWord}
 use Rattle.ddm_types.specs.ItemTable.{ItemRow, ItemTable, items_of, item_count}
 use Rattle.flat_model.specs.Hart.{hart_start}
-use Rattle.tree_model.specs.Each.{first_some}
-use Rattle.tree_model.specs.Start.{TreeValue, ImageValue, StartRefusal, item_words, place_count, segment_span, stack_spans, start_code, start_items, start_of, start_of_harts, start_refusal, start_words}
+use Rattle.tree_model.specs.State.Lists.{first_some}
+use Rattle.tree_model.specs.Start.Sources.{TreeValue, ImageValue, place_count, segment_span, stack_spans, start_of_harts}
+use Rattle.tree_model.specs.Start.Machine.{StartRefusal, start_of, start_refusal}
+use Rattle.tree_model.specs.Start.Memory.{item_words, start_code, start_items, start_words}
 use Rattle.rv_hart.specs.HartState.{HartState}
 use Rattle.one_leaf.specs.OneLeaf.{OneLeafValue, machine_of}
 use Rattle.one_leaf.specs.Made.{IsMade, in_tree, made_of}

@@ -5,7 +5,8 @@ use Rattle.std.proofs.Math.Seq.{take-length, take-suc}
 use Rattle.std.proofs.lemmas.List.{map-append, take_more_set}
 use Rattle.std.proofs.lemmas.List.FromFn.{map-range_with_len_more}
 use Rattle.ddm_types.specs.ItemTable.{ItemRow}
-use Rattle.tree_model.specs.Start.{SegmentValue, item_words, memory_word}
+use Rattle.tree_model.specs.Start.Sources.{SegmentValue}
+use Rattle.tree_model.specs.Start.Memory.{item_words, memory_word}
 
 -- the first words of an item
 abbrev pub first_words : List SegmentValue → ℕ → ℕ → List ℕ

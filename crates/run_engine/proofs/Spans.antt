@@ -7,7 +7,7 @@ use Rattle.std.proofs.lemmas.List.Elements.{All-nil, All-cons, All-head, All-tai
 use Rattle.std.proofs.lemmas.List.FromFn.{map-range_with_len_more}
 use Rattle.ddm_types.specs.declared.sizes.Span.{Span}
 use Rattle.ddm_types.specs.ItemTable.{span_end}
-use Rattle.tree_model.specs.Start.{TreeValue, SegmentValue, leaf_count, segment_span, stack_span, stack_spans}
+use Rattle.tree_model.specs.Start.Sources.{TreeValue, SegmentValue, leaf_count, segment_span, stack_span, stack_spans}
 use Rattle.elf_load.specs.ImageRule.{EndsInside}
 use Rattle.run_engine.proofs.Sizes.{stack_inside}
 

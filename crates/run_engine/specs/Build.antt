@@ -1,7 +1,8 @@
 -- What is made of a tree and an image.
 use Rattle.std.specs.Prelude.{◌≡◌, Option, None}
 use Rattle.std.specs.Option.{option_map}
-use Rattle.tree_model.specs.Start.{TreeValue, ImageValue, StartRefusal, too_many_items, stack_overlap, no_place, start_refusal}
+use Rattle.tree_model.specs.Start.Sources.{TreeValue, ImageValue}
+use Rattle.tree_model.specs.Start.Machine.{StartRefusal, too_many_items, stack_overlap, no_place, start_refusal}
 use Rattle.one_leaf.specs.OneLeaf.{OneLeafValue}
 use Rattle.one_leaf.specs.Made.{in_tree}
 use Rattle.one_leaf.specs.Start.{one_leaf_start}

@@ -1,6 +1,8 @@
 ghost use Rattle.std.specs.Prelude.{◌≡◌, ◌⊎◌, ◌≤◌, ◌*◌, ◌++◌, [], ◌∷◌, map, None, Some, All, IfOk, IfErr, OnOk};
 ghost use Rattle.ddm_types.specs.ItemTable.{item_count, span_end};
-ghost use Rattle.tree_model.specs.Start.{item_words, segment_span, stack_spans, start_items, start_refusal, width_of};
+ghost use Rattle.tree_model.specs.Start.Memory.{item_words, start_items};
+ghost use Rattle.tree_model.specs.Start.Sources.{segment_span, stack_spans, width_of};
+ghost use Rattle.tree_model.specs.Start.Machine.{start_refusal};
 ghost use Rattle.elf_load.specs.ImageRule.{EndsInside};
 ghost use Rattle.run_engine.specs.Build.{build_refusal};
 ghost use Rattle.run_engine.specs.declared.refusal.BuildRefusal.TheVariants as refusal;
@@ -31,7 +33,7 @@ fn spans(alloc: Global, tree: &TreeConfig, segments: &[Segment]) -> Result<Vec<S
 }
 
 // Whether the machine has a start, with this many items.
-#[tactic(auto, unfolding(tree_model::specs::Start::start_refusal))]
+#[tactic(auto, unfolding(tree_model::specs::Start::Machine::start_refusal))]
 fn judge(tree: &TreeConfig, image: &Image, count: u64) -> Result<(), BuildRefusal>
     requires leaf { tree.now.levels ≡ (1 ∷ []) ∷ [] }
     requires counted { count ≡ item_count (start_items tree.now image.now) }
@@ -52,7 +54,7 @@ fn judge(tree: &TreeConfig, image: &Image, count: u64) -> Result<(), BuildRefusa
 }
 
 /// The items of a machine that has a start.
-#[tactic(auto, unfolding(tree_model::specs::Start::start_items))]
+#[tactic(auto, unfolding(tree_model::specs::Start::Memory::start_items))]
 pub fn items(alloc: Global, tree: &TreeConfig, image: &Image) -> Result<Items, BuildRefusal>
     requires leaf { tree.now.levels ≡ (1 ∷ []) ∷ [] }
     ensures items { IfOk result (λ items. items ≡ start_items tree.now image.now) }

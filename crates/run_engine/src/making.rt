@@ -1,5 +1,6 @@
 ghost use Rattle.std.specs.Prelude.{◌≡◌, ◌⊎◌, ◌≤◌, ◌+◌, ◌*◌, Some, Ok, IfOk, IfErr, [], ◌∷◌};
-ghost use Rattle.tree_model.specs.Start.{start_of, start_of_harts};
+ghost use Rattle.tree_model.specs.Start.Machine.{start_of};
+ghost use Rattle.tree_model.specs.Start.Sources.{start_of_harts};
 ghost use Rattle.one_leaf.specs.OneLeaf.{machine_of};
 ghost use Rattle.one_leaf.specs.Made.{in_tree};
 ghost use Rattle.run_engine.specs.Build.{build_refusal, machine_value, IsBuilt};

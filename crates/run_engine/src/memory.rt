@@ -1,5 +1,5 @@
 ghost use Rattle.std.specs.Prelude.{◌≡◌, ◌≤◌, ◌^◌, ◌&&◌, ◌+◌, ◌-◌, nat_le, nat_lt, slice_index_or};
-ghost use Rattle.tree_model.specs.Start.{byte_at, item_words, memory_word};
+ghost use Rattle.tree_model.specs.Start.Memory.{byte_at, item_words, memory_word};
 
 use ddm_types::Words;
 use elf_load::Segment;
@@ -37,7 +37,7 @@ fn byte_at(segments: &[Segment], a: u64) -> u8
 }
 
 // A word of memory at the start.
-#[tactic(auto, unfolding(tree_model::specs::Start::memory_word))]
+#[tactic(auto, unfolding(tree_model::specs::Start::Memory::memory_word))]
 fn memory_word(segments: &[Segment], a: u64) -> u32
     requires { a ≤ 2 ^ 33 }
     ensures { result ≡ memory_word segments.now a }

@@ -1,5 +1,6 @@
 ghost use Rattle.std.specs.Prelude.{◌≡◌, ◌≤◌, ◌<◌, ◌+◌, ◌*◌, ◌^◌};
-ghost use Rattle.tree_model.specs.Start.{header_met, leaf_count, segment_span, spans_meet, stack_span};
+ghost use Rattle.tree_model.specs.Start.Machine.{header_met, spans_meet};
+ghost use Rattle.tree_model.specs.Start.Sources.{leaf_count, segment_span, stack_span};
 
 use ddm_types::Span;
 use elf_load::Segment;

@@ -1,7 +1,7 @@
 -- The definition computed on files.
 use Rattle.std.proofs.Common.{◌≡◌, ℕ, List, [], ◌∷◌, ◌++◌, Ok, Err, refl}
 use Rattle.std.specs.Prelude.{codes}
-use Rattle.tree_model.specs.Start.{TreeValue}
+use Rattle.tree_model.specs.Start.Sources.{TreeValue}
 use Rattle.tree_config.specs.declared.refusal.TreeKey.TheVariants as key
 use Rattle.tree_config.specs.declared.refusal.TreeRefusal.TheVariants as refusal
 use Rattle.tree_config.specs.ShapeText.{read_from}

@@ -1,5 +1,5 @@
 -- A tree's value, from the fields of a `TreeConfig`.
-use Rattle.tree_model.specs.Start.{TreeValue}
+use Rattle.tree_model.specs.Start.Sources.{TreeValue}
 use Rattle.tree_config.specs.declared.config.TreeConfig.TheInside.{Inside}
 
 abbrev pub value_of : Inside → TreeValue

@@ -29,7 +29,7 @@ pub struct TreeConfig {
 }
 
 impl Model for TreeConfig {
-    ghost use Rattle.tree_model.specs.Start.{TreeValue};
+    ghost use Rattle.tree_model.specs.Start.Sources.{TreeValue};
     ghost use Rattle.tree_config.specs.Ranges.{IsInRange};
 
     ghost Value = { TreeValue };

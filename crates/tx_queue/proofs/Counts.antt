@@ -6,8 +6,9 @@ use Rattle.std.proofs.lemmas.Bool.{eqb-true, eqb-false, lt-ltb}
 use Rattle.std.proofs.lemmas.Grind.{get_or-set_at}
 use Rattle.std.proofs.lemmas.List.Sums.{sum_by-cons, sum_by-append}
 use Rattle.std.proofs.lemmas.List.{get_or-set_other}
-use Rattle.tx_queue.specs.QueueList.{names_item, count_of, AllBelow, IsCounted}
-use Rattle.tx_queue.specs.Requests.{without_first}
+use Rattle.tree_model.specs.State.Lists.{names_item}
+use Rattle.tx_queue.specs.QueueList.{count_naming, AllBelow, IsCounted}
+use Rattle.tree_model.specs.State.Lists.{without_first}
 
 count-cons : {X : Type 0} (p : X → Bool) (x : X) (xs : List X) → count_by p (x ∷ xs) ≡ cond (p x) 1 0 + count_by p xs
 count-cons p x xs = sum_by-cons (λ y. cond (p y) 1 0) x xs
@@ -71,7 +72,7 @@ counted_first named counts [] capacity e was is = cc
 counted_first named counts (y ∷ ys) capacity e was is =
     let same : y ≡ e = cc in
     let below : named y < length counts = was.below.0 in
-    let here : get_or counts (named y) 0 ≡ cond (nat_eq (named y) (named y)) 1 0 + count_of named (named y) ys = was.counted (named y) below ∙ count-cons (names_item named (named y)) y ys in
+    let here : get_or counts (named y) 0 ≡ cond (nat_eq (named y) (named y)) 1 0 + count_naming named (named y) ys = was.counted (named y) below ∙ count-cons (names_item named (named y)) y ys in
     let one = same_one (named y) in
     let some : 0 < get_or counts (named y) 0 = omega arith in
     subst (λ x. (named x < length counts) × (0 < get_or counts (named x) 0)) same (below, some)
@@ -83,8 +84,8 @@ popped named counts y ys capacity was = record {
   below = rw length-set was.below.1;
   counted = λ x h.
       let lt : x < length counts = rw length-set at h in
-      let here : get_or counts x 0 ≡ cond (nat_eq x (named y)) 1 0 + count_of named x ys = was.counted x lt ∙ count-cons (names_item named x) y ys in
-      let less : get_or counts x 0 - cond (nat_eq x (named y)) 1 0 ≡ count_of named x ys = omega arith in
+      let here : get_or counts x 0 ≡ cond (nat_eq x (named y)) 1 0 + count_naming named x ys = was.counted x lt ∙ count-cons (names_item named x) y ys in
+      let less : get_or counts x 0 - cond (nat_eq x (named y)) 1 0 ≡ count_naming named x ys = omega arith in
       lowered counts (named y) x (nat_eq x (named y)) refl was.below.0 ∙ less;
 }
 
@@ -123,13 +124,13 @@ below-without named n p (x ∷ xs) h = by_test (p x) (below-without named n p xs
     by_test false k = (h.0, k)
 
 -- what is taken out counts for its own item alone
-count-without : {X : Type 0} (named : X → ℕ) (p : X → Bool) (item : ℕ) → ((e : X) → p e ≡ true → named e ≡ item) → (x : ℕ) (xs : List X) → list_any p xs ≡ true → cond (nat_eq x item) 1 0 + count_of named x (without_first p xs) ≡ count_of named x xs
+count-without : {X : Type 0} (named : X → ℕ) (p : X → Bool) (item : ℕ) → ((e : X) → p e ≡ true → named e ≡ item) → (x : ℕ) (xs : List X) → list_any p xs ≡ true → cond (nat_eq x item) 1 0 + count_naming named x (without_first p xs) ≡ count_naming named x xs
 count-without named p item names x [] any = cc
 count-without named p item names x (y ∷ ys) any =
     by_test (p y) refl any (λ some. count-without named p item names x ys some) ∙ sym (count-cons (names_item named x) y ys)
   where
-    by_test : (b : Bool) → p y ≡ b → (b || list_any p ys) ≡ true → (list_any p ys ≡ true → cond (nat_eq x item) 1 0 + count_of named x (without_first p ys) ≡ count_of named x ys) → cond (nat_eq x item) 1 0 + count_of named x (cond b ys (y ∷ without_first p ys)) ≡ cond (nat_eq x (named y)) 1 0 + count_of named x ys
-    by_test true is some rest = ap (λ k. cond (nat_eq x k) 1 0 + count_of named x ys) (sym (names y is))
+    by_test : (b : Bool) → p y ≡ b → (b || list_any p ys) ≡ true → (list_any p ys ≡ true → cond (nat_eq x item) 1 0 + count_naming named x (without_first p ys) ≡ count_naming named x ys) → cond (nat_eq x item) 1 0 + count_naming named x (cond b ys (y ∷ without_first p ys)) ≡ cond (nat_eq x (named y)) 1 0 + count_naming named x ys
+    by_test true is some rest = ap (λ k. cond (nat_eq x k) 1 0 + count_naming named x ys) (sym (names y is))
     by_test false is some rest =
         let here = count-cons (names_item named x) y (without_first p ys) in
         let there = rest some in
@@ -152,7 +153,7 @@ counted_without named counts list capacity p item names was below some = record 
       let lt : x < length counts = rw length-set at h in
       let here = was.counted x lt in
       let split = count-without named p item names x list some in
-      let less : get_or counts x 0 - cond (nat_eq x item) 1 0 ≡ count_of named x (without_first p list) = omega (arith, here, split) in
+      let less : get_or counts x 0 - cond (nat_eq x item) 1 0 ≡ count_naming named x (without_first p list) = omega (arith, here, split) in
       lowered counts item x (nat_eq x item) refl below ∙ less;
 }
 

@@ -3,7 +3,8 @@ use Rattle.std.proofs.Common.{◌≡◌, ◌∙◌, ap, sym, refl, ℕ, zero, su
 use Rattle.std.specs.List.{list_any}
 use Rattle.std.proofs.lemmas.List.Folds.{list_any_more}
 use Rattle.std.proofs.lemmas.List.{take_more, length-take}
-use Rattle.tx_queue.specs.Requests.{without_first, moved_round, found_round}
+use Rattle.tree_model.specs.State.Lists.{without_first}
+use Rattle.tx_queue.specs.Requests.{rotated, found_so_far}
 
 module _ {X : Type 0} (p : X → Bool) where
   inside : (b : Bool) (y : X) (u v : List X) → y ∷ cond b u v ≡ cond b (y ∷ u) (y ∷ v)
@@ -33,18 +34,18 @@ module _ {X : Type 0} (p : X → Bool) where
   more xs i x h is = take_more xs i x h ∙ ap (λ y. take i xs ++ y ∷ []) (sym is)
 
   -- one step, where x is the element at i
-  turn : (fs ys : List X) (x : X) → moved_round p (list_any p fs) ((x ∷ ys) ++ without_first p fs) ≡ ys ++ without_first p (fs ++ x ∷ [])
+  turn : (fs ys : List X) (x : X) → rotated p (list_any p fs) ((x ∷ ys) ++ without_first p fs) ≡ ys ++ without_first p (fs ++ x ∷ [])
   turn fs ys x = outside (not (list_any p fs) && p x) ys (without_first p fs) x ∙ ap (λ zs. ys ++ zs) (sym (without-append fs x))
 
-  turned_more_at : (xs : List X) (i : ℕ) (x : X) → i < length xs → x ≡ get_or xs i x → moved_round p (list_any p (take i xs)) (turned i xs) ≡ turned (i + 1) xs
+  turned_more_at : (xs : List X) (i : ℕ) (x : X) → i < length xs → x ≡ get_or xs i x → rotated p (list_any p (take i xs)) (turned i xs) ≡ turned (i + 1) xs
   turned_more_at xs i x h is =
-      ap (λ zs. moved_round p (list_any p (take i xs)) (zs ++ without_first p (take i xs))) (split xs i x h is)
+      ap (λ zs. rotated p (list_any p (take i xs)) (zs ++ without_first p (take i xs))) (split xs i x h is)
       ∙ turn (take i xs) (drop (i + 1) xs) x
       ∙ ap (λ fs. drop (i + 1) xs ++ without_first p fs) (sym (more xs i x h is))
 
-  found_more_at : (xs : List X) (i : ℕ) (x : X) → i < length xs → x ≡ get_or xs i x → found_round p (list_any p (take i xs)) (turned i xs) ≡ list_any p (take (i + 1) xs)
+  found_more_at : (xs : List X) (i : ℕ) (x : X) → i < length xs → x ≡ get_or xs i x → found_so_far p (list_any p (take i xs)) (turned i xs) ≡ list_any p (take (i + 1) xs)
   found_more_at xs i x h is =
-      ap (λ zs. found_round p (list_any p (take i xs)) (zs ++ without_first p (take i xs))) (split xs i x h is)
+      ap (λ zs. found_so_far p (list_any p (take i xs)) (zs ++ without_first p (take i xs))) (split xs i x h is)
       ∙ ap (λ y. list_any p (take i xs) || p y) is
       ∙ sym (list_any_more p xs i x h)
 
@@ -54,10 +55,10 @@ at [] i h = absurd (omega arith)
 at (x ∷ xs) zero h = (x, refl)
 at (x ∷ xs) (suc i) h = at xs i (omega arith)
 
-pub turned_more : {X : Type 0} (p : X → Bool) (xs : List X) (i : ℕ) → i < length xs → moved_round p (list_any p (take i xs)) (turned p i xs) ≡ turned p (i + 1) xs
+pub turned_more : {X : Type 0} (p : X → Bool) (xs : List X) (i : ℕ) → i < length xs → rotated p (list_any p (take i xs)) (turned p i xs) ≡ turned p (i + 1) xs
 turned_more p xs i h = let e = at xs i h in turned_more_at p xs i e.0 h e.1
 
-pub found_more : {X : Type 0} (p : X → Bool) (xs : List X) (i : ℕ) → i < length xs → found_round p (list_any p (take i xs)) (turned p i xs) ≡ list_any p (take (i + 1) xs)
+pub found_more : {X : Type 0} (p : X → Bool) (xs : List X) (i : ℕ) → i < length xs → found_so_far p (list_any p (take i xs)) (turned p i xs) ≡ list_any p (take (i + 1) xs)
 found_more p xs i h = let e = at xs i h in found_more_at p xs i e.0 h e.1
 
 length-without : {X : Type 0} (p : X → Bool) (xs : List X) → length (without_first p xs) ≤ length xs

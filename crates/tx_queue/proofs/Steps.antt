@@ -5,9 +5,11 @@ use Rattle.std.specs.List.{slice_get, list_any}
 use Rattle.std.proofs.lemmas.Bool.{eqb-true}
 use Rattle.std.proofs.lemmas.List.Sums.{count_by-le-length}
 use Rattle.ddm_types.specs.declared.answers.TxKind.{TxKind}
-use Rattle.tree_model.specs.States.{is_kind}
-use Rattle.tx_queue.specs.QueueList.{names_item, count_of, IsCounted}
-use Rattle.tx_queue.specs.Requests.{is_request, without_first}
+use Rattle.tree_model.specs.State.Kinds.{is_kind}
+use Rattle.tree_model.specs.State.Lists.{names_item}
+use Rattle.tx_queue.specs.QueueList.{count_naming, IsCounted}
+use Rattle.tree_model.specs.State.Lists.{without_first}
+use Rattle.tx_queue.specs.Requests.{is_request}
 use Rattle.tx_queue.proofs.Counts.{counted_push, counted_first, counted_pop, counted_some, counted_without, any_of_count}
 
 -- inside the list the default makes no difference
@@ -20,8 +22,8 @@ module _ {X : Type 0} (named : X → ℕ) (counts : List ℕ) (list : List X) (c
   pub push_fits : (e : X) (n v : ℕ) → IsCounted named counts list capacity → n ≡ named e → named e < length counts → v ≡ get_or counts n v → length list < capacity → v + 1 < 2 ^ 32
   push_fits e n v was same below is room =
       let lt : n < length counts = omega arith in
-      let read : v ≡ count_of named n list = is ∙ any_default counts n v 0 lt ∙ was.counted n lt in
-      let few : count_of named n list ≤ length list = count_by-le-length (names_item named n) list in
+      let read : v ≡ count_naming named n list = is ∙ any_default counts n v 0 lt ∙ was.counted n lt in
+      let few : count_naming named n list ≤ length list = count_by-le-length (names_item named n) list in
       let small : capacity < 2 ^ 32 = was.small in
       omega arith
 
@@ -47,7 +49,7 @@ module _ {X : Type 0} (named : X → ℕ) (counts : List ℕ) (list : List X) (c
 
   pub some_named : (item n v : ℕ) → IsCounted named counts list capacity → n ≡ item → n < length counts → v ≡ get_or counts n v → nat_lt 0 v ≡ list_any (names_item named item) list
   some_named item n v was same lt is =
-      let read : v ≡ count_of named item list = is ∙ any_default counts n v 0 lt ∙ was.counted n lt ∙ ap (λ k. count_of named k list) same in
+      let read : v ≡ count_naming named item list = is ∙ any_default counts n v 0 lt ∙ was.counted n lt ∙ ap (λ k. count_naming named k list) same in
       ap (λ k. nat_lt 0 k) read ∙ any_of_count (names_item named item) list
 
 both : (a b : Bool) → (a && b) ≡ true → b ≡ true

@@ -1,5 +1,6 @@
 -- What a list of transactions is seen as, and what its table of counts says.
-use Rattle.std.specs.Prelude.{◌≡◌, ℕ, ◌<◌, ◌≤◌, ◌^◌, Bool, nat_eq, List, [], ◌∷◌, length, count_by, slice_index_or, refl}
+use Rattle.std.specs.Prelude.{◌≡◌, ℕ, ◌<◌, ◌≤◌, ◌^◌, Bool, List, [], ◌∷◌, length, count_by, slice_index_or, refl}
+use Rattle.tree_model.specs.State.Lists.{names_item}
 use Rattle.std.specs.Coded.{Coded, code_by, coded×, coded_list, coded_ℕ}
 
 -- the entries from the first to the last, how many there may be, and the items that they may name: those below `items`
@@ -13,13 +14,9 @@ module _ {X : Type 0} where
   queue_code c =
       code_by (List X × (ℕ × ℕ)) (coded× (coded_list c) (coded× coded_ℕ coded_ℕ)) (λ q. (q.list, (q.capacity, q.items))) (λ p. record { list = p.0; capacity = p.1.0; items = p.1.1 }) (λ _. refl)
 
-  -- the entry names this item
-  abbrev pub names_item : (X → ℕ) → ℕ → X → Bool
-  names_item named x e = nat_eq x (named e)
-
   -- how many entries name the item
-  abbrev pub count_of : (X → ℕ) → ℕ → List X → ℕ
-  count_of named x list = count_by (names_item named x) list
+  abbrev pub count_naming : (X → ℕ) → ℕ → List X → ℕ
+  count_naming named x list = count_by (names_item named x) list
 
   -- each entry names an item below n
   abbrev pub AllBelow : (X → ℕ) → ℕ → List X → Type 0
@@ -31,4 +28,4 @@ pub record IsCounted {X : Type 0} (named : X → ℕ) (counts : List ℕ) (list 
   pub small : capacity < 2 ^ 32
   pub within : length list ≤ capacity
   pub below : AllBelow named (length counts) list
-  pub counted : (x : ℕ) → x < length counts → slice_index_or counts x 0 ≡ count_of named x list
+  pub counted : (x : ℕ) → x < length counts → slice_index_or counts x 0 ≡ count_naming named x list

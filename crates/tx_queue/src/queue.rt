@@ -1,7 +1,8 @@
 ghost use Rattle.std.specs.Prelude.{◌≡◌, ℕ, ◌<◌, ◌↔◌, ◌++◌, ◌∷◌, [], drop, length, nat_le, option_copied, slice_get, slice_index, IfErr, IfOk, IsErr, IsTrue, OnOk, is_err};
 ghost use Rattle.std.specs.List.{list_any};
 ghost use Rattle.circular_buffer.specs.Buffer.{buffer};
-ghost use Rattle.tx_queue.specs.QueueList.{count_of, names_item};
+ghost use Rattle.tree_model.specs.State.Lists.{names_item};
+ghost use Rattle.tx_queue.specs.QueueList.{count_naming};
 
 use circular_buffer::HeapCircularBuffer;
 use ddm_types::{ItemId, NoMemory};
@@ -118,7 +119,7 @@ impl<T: Named> Queue<T> {
     /// For each item the number of entries that name it.
     pub fn counts(&self) -> &[u32]
         ensures items { length result.now ≡ self.now.items }
-        ensures counts { (x : ℕ) → x < self.now.items → slice_index result.now x ≡ count_of T.named x self.now.list }
+        ensures counts { (x : ℕ) → x < self.now.items → slice_index result.now x ≡ count_naming T.named x self.now.list }
     {
         self.counts.as_slice()
     }

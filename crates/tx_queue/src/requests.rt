@@ -1,7 +1,8 @@
 ghost use Rattle.std.specs.Prelude.{◌≡◌, ◌<◌, ◌≤◌, ◌&&◌, not, length};
 ghost use Rattle.std.specs.List.{list_any};
 ghost use Rattle.circular_buffer.specs.Buffer.{buffer};
-ghost use Rattle.tx_queue.specs.Requests.{found_round, is_request, moved_round, without_first};
+ghost use Rattle.tree_model.specs.State.Lists.{without_first};
+ghost use Rattle.tx_queue.specs.Requests.{found_so_far, is_request, rotated};
 
 use crate::Queue;
 use circular_buffer::HeapCircularBuffer;
@@ -22,8 +23,8 @@ fn move_round(
     found: bool,
 ) -> bool
     requires { length ring.old.items ≤ ring.old.capacity }
-    ensures found { result ≡ found_round (is_request kind item) found ring.old.items }
-    ensures rest { ring.new ≡ buffer (moved_round (is_request kind item) found ring.old.items) ring.old.capacity }
+    ensures found { result ≡ found_so_far (is_request kind item) found ring.old.items }
+    ensures rest { ring.new ≡ buffer (rotated (is_request kind item) found ring.old.items) ring.old.capacity }
 {
     match ring.pop_front() {
         Some(request) => {

@@ -2,7 +2,9 @@
 use Rattle.std.specs.Prelude.{◌≡◌, true, false, List, [], ◌∷◌, Some, None}
 use Rattle.ddm_types.specs.declared.sizes.Span.{Span}
 use Rattle.ddm_types.specs.ItemTable.{items_of, item_count}
-use Rattle.tree_model.specs.Start.{ImageValue, TreeValue, no_place, stack_overlap, start_refusal, start_items}
+use Rattle.tree_model.specs.Start.Sources.{ImageValue, TreeValue}
+use Rattle.tree_model.specs.Start.Machine.{no_place, stack_overlap, start_refusal}
+use Rattle.tree_model.specs.Start.Memory.{start_items}
 use Rattle.worked_examples.specs.Programs.{tree_of}
 use Rattle.worked_examples.specs.OneRead as read
 use Rattle.worked_examples.specs.StoreAndLoadBack as store

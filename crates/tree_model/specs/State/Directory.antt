@@ -7,11 +7,11 @@ use Rattle.ddm_types.specs.declared.answers.PendingWhy.{PendingWhy}
 use Rattle.ddm_types.specs.declared.sizes.Hold.{Hold}
 use Rattle.ddm_types.specs.declared.keys.Stamp.{Stamp}
 use Rattle.ddm_types.specs.Keys.{stamp_at}
-use Rattle.tree_model.specs.State.Lists.{first_of, has_some, without_first}
+use Rattle.tree_model.specs.State.Lists.{first_of, has_some, without_first, names_item, chosen}
 use Rattle.tree_model.specs.State.Kinds.{is_kind, has_kind}
 use Rattle.tree_model.specs.State.States.{is_held}
 use Rattle.tree_model.specs.State.Values.{RequestValue, CopyValue, DownValue, Note, no_note, local, up_read, up_erase, DirItem, absent_item, DirValue}
-use Rattle.tree_model.specs.State.Leaf.{blank, is_request, is_copy, copy_item, words_of_item, chosen}
+use Rattle.tree_model.specs.State.Leaf.{blank, is_request, is_copy, copy_item, words_of_item}
 
 -- the directory with no bus above
 abbrev pub is_top : DirValue → Bool
@@ -114,12 +114,12 @@ replies_full d = nat_le d.sizes.reply_room (length d.replies)
 abbrev pub parking_full : DirValue → Bool
 parking_full d = nat_le d.sizes.parking_room (length d.parked + d.reserved)
 
-abbrev pub names_item : ℕ → DownValue → Bool
-names_item x e = nat_eq x e.item
+abbrev pub entry_item : DownValue → ℕ
+entry_item e = e.item
 
 -- the entries of the item in a down list, in their order, and their kinds
 unfoldable pub queue_of : ℕ → List DownValue → List DownValue
-queue_of x down = filter (names_item x) down
+queue_of x down = filter (names_item entry_item x) down
 
 abbrev pub entry_kind : DownValue → TxKind
 entry_kind e = e.kind
@@ -127,15 +127,15 @@ entry_kind e = e.kind
 abbrev pub queue_kinds : ℕ → List DownValue → List TxKind
 queue_kinds x down = map entry_kind (queue_of x down)
 
-abbrev pub asks_for : ℕ → RequestValue → Bool
-asks_for x r = nat_eq x r.item
+abbrev pub request_item : RequestValue → ℕ
+request_item r = r.item
 
 abbrev pub request_kind : RequestValue → TxKind
 request_kind r = r.kind
 
 -- the kinds of the item's requests, in their order
 unfoldable pub request_kinds : ℕ → List RequestValue → List TxKind
-request_kinds x requests = map request_kind (filter (asks_for x) requests)
+request_kinds x requests = map request_kind (filter (names_item request_item x) requests)
 
 -- an entry of the item stands in the down list
 abbrev pub in_down : ℕ → DirValue → Bool
@@ -219,7 +219,7 @@ dir_room x d = not (down_full d) && inject_has_place x d
 
 -- the item of parked copy `choice mod m` of the m in order of arrival
 unfoldable pub dir_leaving : ℕ → List CopyValue → Option ℕ
-dir_leaving choice parked = option_map copy_item (chosen choice parked)
+dir_leaving choice parked = chosen copy_item choice parked
 
 -- ---- what the bus above tells it; s is the stamp of that bus
 

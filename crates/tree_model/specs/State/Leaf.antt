@@ -6,7 +6,7 @@ use Rattle.ddm_types.specs.declared.answers.TxKind.TheVariants.{ReadTx}
 use Rattle.ddm_types.specs.declared.sizes.Hold.{Hold}
 use Rattle.ddm_types.specs.declared.sizes.LeafState.{LeafState}
 use Rattle.flat_model.specs.Flat.{has_reserved}
-use Rattle.tree_model.specs.State.Lists.{find_from, first_of, first_some, has_some}
+use Rattle.tree_model.specs.State.Lists.{find_from, first_some, names_item, chosen}
 use Rattle.tree_model.specs.State.Kinds.{is_kind}
 use Rattle.tree_model.specs.State.States.{entry_hold, state_lost, asked_when_lost, state_with_data, asked_with_data, state_with_exclusive, state_with_inject, state_answered, is_waiting, is_reading, may_leave}
 use Rattle.tree_model.specs.State.Values.{RequestValue, CopyValue, WayValue, BufferValue, LeafSizes, LeafValue}
@@ -25,11 +25,11 @@ abbrev pub slot_has : TxKind → ℕ → Option RequestValue → Bool
 slot_has kind x None = false
 slot_has kind x (Some r) = is_request kind x r
 
-abbrev pub is_copy : ℕ → CopyValue → Bool
-is_copy x c = nat_eq x c.item
-
 abbrev pub copy_item : CopyValue → ℕ
 copy_item c = c.item
+
+abbrev pub is_copy : ℕ → CopyValue → Bool
+is_copy x c = names_item copy_item x c
 
 abbrev pub copy_words : CopyValue → List ℕ
 copy_words c = c.words
@@ -47,11 +47,11 @@ pub record LeafEntry : Type 0 where
 abbrev pub way_at : ℕ → List (Option WayValue) → Option WayValue
 way_at x ways = slice_index_or ways x None
 
-abbrev pub is_buffered : ℕ → BufferValue → Bool
-is_buffered x e = nat_eq x e.item
-
 abbrev pub buffer_item : BufferValue → ℕ
 buffer_item e = e.item
+
+abbrev pub is_buffered : ℕ → BufferValue → Bool
+is_buffered x e = names_item buffer_item x e
 
 abbrev pub buffered : ℕ → List BufferValue → Option BufferValue
 buffered x buffer = find (is_buffered x) buffer
@@ -155,14 +155,9 @@ buffer_full v = nat_le v.sizes.buffer_room (length v.buffer)
 abbrev pub may_leave_buffer : BufferValue → Bool
 may_leave_buffer e = may_leave e.state
 
--- entry `choice mod m` of the m entries of a list
-abbrev pub chosen : {X : Type 0} → ℕ → List X → Option X
-chosen choice [] = None
-chosen choice (x ∷ xs) = slice_get (x ∷ xs) (choice % length (x ∷ xs))
-
 -- the item of entry `choice mod m` of the m entries of the buffer in S or E
 unfoldable pub leaf_leaving : ℕ → List BufferValue → Option ℕ
-leaf_leaving choice buffer = option_map buffer_item (chosen choice (filter may_leave_buffer buffer))
+leaf_leaving choice buffer = chosen buffer_item choice (filter may_leave_buffer buffer)
 
 -- ---- an entry that waits for a transaction
 

@@ -1,5 +1,5 @@
 -- Maps, tests and searches over a list that see each element's index, and the first element of a list.
-use Rattle.std.specs.Prelude.{ℕ, ◌+◌, Bool, true, false, ◌&&◌, List, [], ◌∷◌, Option, Some, None, if◌then◌else◌}
+use Rattle.std.specs.Prelude.{ℕ, ◌+◌, ◌%◌, Bool, true, false, ◌&&◌, nat_eq, List, [], ◌∷◌, length, Option, Some, None, option_map, slice_get, if◌then◌else◌}
 use Rattle.std.specs.List.{list_all}
 
 module _ {X : Type 0} where
@@ -48,6 +48,16 @@ module _ {X : Type 0} where
 
   abbrev pub some_if : Bool → X → Option X
   some_if b x = if b then Some x else None
+
+  -- ---- lists of entries that each name an item
+
+  abbrev pub names_item : (X → ℕ) → ℕ → X → Bool
+  names_item item x e = nat_eq x (item e)
+
+  -- the item of entry `choice mod m` of the m entries
+  abbrev pub chosen : (X → ℕ) → ℕ → List X → Option ℕ
+  chosen item choice [] = None
+  chosen item choice (e ∷ es) = option_map item (slice_get (e ∷ es) (choice % length (e ∷ es)))
 
 module _ {X Y : Type 0} where
   -- what the first element that gives something gives

@@ -1,6 +1,6 @@
 use Rattle.std.proofs.Common.{◌≡◌, map}
 use Rattle.std.specs.List.{range_with_len}
-use Rattle.elf_load.specs.CodeOf.{first_word}
+use Rattle.tree_model.specs.Start.Memory.{first_word}
 use Rattle.elf_load.specs.CodeOf.{numbered_word}
 use Rattle.elf_load.proofs.code.segment_words.Given as goal
 

@@ -1,6 +1,7 @@
 use Rattle.std.proofs.Common.{List, ap, ◌∙◌}
 use Rattle.std.proofs.lemmas.Result.{IfOk-weaker}
-use Rattle.tree_model.specs.Start.{ImageValue, SegmentValue, start_code}
+use Rattle.tree_model.specs.Start.Sources.{ImageValue, SegmentValue}
+use Rattle.tree_model.specs.Start.Memory.{start_code}
 use Rattle.elf_load.specs.ImageRule.{image_value}
 use Rattle.elf_load.proofs.copying.copied_code.Goals as goal
 

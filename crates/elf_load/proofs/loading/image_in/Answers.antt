@@ -1,7 +1,8 @@
 use Rattle.std.proofs.Common.{◌≡◌, ℕ, List, Ok, Err, ap, subst, sym, ◌∙◌, inr, All, AllPairs, refl, ◌⊎◌}
 use Rattle.std.specs.Prelude.{IfOk}
 use Rattle.std.proofs.lemmas.Result.{IfErr-weaker}
-use Rattle.tree_model.specs.Start.{SegmentValue, ImageValue, start_code}
+use Rattle.tree_model.specs.Start.Sources.{SegmentValue, ImageValue}
+use Rattle.tree_model.specs.Start.Memory.{start_code}
 use Rattle.elf_load.specs.declared.headers.ProgramHeader.{ProgramHeader}
 use Rattle.elf_load.specs.declared.refusal.ImageRefusal.{ImageRefusal}
 use Rattle.elf_load.specs.ElfFile.{entry_of, image_in, judged_entry, loaded_headers, segments_of}

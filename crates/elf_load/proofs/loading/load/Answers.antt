@@ -1,6 +1,6 @@
 use Rattle.std.proofs.Common.{◌≡◌, Ok, Err, None, ap, sym, ◌∙◌, inl, inr, ◌⊎◌}
 use Rattle.std.proofs.lemmas.Result.{IfOk-weaker, IfErr-weaker}
-use Rattle.tree_model.specs.Start.{ImageValue}
+use Rattle.tree_model.specs.Start.Sources.{ImageValue}
 use Rattle.elf_load.specs.declared.refusal.ImageRefusal.{ImageRefusal}
 use Rattle.elf_load.specs.ElfFile.{image_in, image_of, judged_entry, loaded_headers, sizes_refusal}
 use Rattle.elf_load.proofs.Judged.{image_passes, sizes_refused}

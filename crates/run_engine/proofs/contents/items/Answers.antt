@@ -1,5 +1,5 @@
 use Rattle.std.proofs.Common.{List, ◌++◌, map, ◌∙◌, ap}
-use Rattle.tree_model.specs.Start.{ImageValue, SegmentValue, segment_span, stack_spans}
+use Rattle.tree_model.specs.Start.Sources.{ImageValue, SegmentValue, segment_span, stack_spans}
 use Rattle.run_engine.proofs.Built.{few_from}
 use Rattle.run_engine.proofs.contents.items.Goals as goal
 

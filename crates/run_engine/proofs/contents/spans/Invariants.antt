@@ -1,6 +1,6 @@
 use Rattle.std.proofs.Common.{◌≡◌, ◌++◌, map, take}
 use Rattle.std.specs.List.{range_with_len}
-use Rattle.tree_model.specs.Start.{segment_span, stack_span}
+use Rattle.tree_model.specs.Start.Sources.{segment_span, stack_span}
 use Rattle.run_engine.proofs.contents.spans.Given as goal
 
 abbrev pub invariant-loop-segment : goal.invariant-loop-segment

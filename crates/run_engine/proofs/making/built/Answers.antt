@@ -3,7 +3,8 @@ use Rattle.ddm_types.specs.declared.operations.Op.{Op}
 use Rattle.ddm_types.specs.declared.sizes.Start.{Start}
 use Rattle.ddm_types.specs.ItemTable.{ItemRow}
 use Rattle.flat_model.specs.Hart.{hart_start}
-use Rattle.tree_model.specs.Start.{ImageValue, SegmentValue, item_words}
+use Rattle.tree_model.specs.Start.Sources.{ImageValue, SegmentValue}
+use Rattle.tree_model.specs.Start.Memory.{item_words}
 use Rattle.one_leaf.specs.Made.{made_of}
 use Rattle.run_engine.specs.Build.{IsBuilt}
 use Rattle.run_engine.proofs.Built.{made_for, built_is}

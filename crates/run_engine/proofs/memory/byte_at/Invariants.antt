@@ -1,5 +1,5 @@
 use Rattle.std.proofs.Common.{◌≡◌, drop}
-use Rattle.tree_model.specs.Start.{byte_at}
+use Rattle.tree_model.specs.Start.Memory.{byte_at}
 use Rattle.run_engine.proofs.memory.byte_at.Given as goal
 
 abbrev pub invariant-loop-segment : goal.invariant-loop-segment

@@ -1,5 +1,5 @@
 use Rattle.std.proofs.Common.{rules, ◌+◌, ◌*◌, ◌∙◌, ap}
-use Rattle.tree_model.specs.Start.{memory_word}
+use Rattle.tree_model.specs.Start.Memory.{memory_word}
 use Rattle.run_engine.proofs.ItemWords.{all_words, one_word_more}
 use Rattle.run_engine.proofs.memory.item_words.Goals as goal
 

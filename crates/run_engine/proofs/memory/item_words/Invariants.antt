@@ -1,6 +1,6 @@
 use Rattle.std.proofs.Common.{◌≡◌, ◌+◌, ◌*◌, map, take, length}
 use Rattle.std.specs.List.{range_with_len}
-use Rattle.tree_model.specs.Start.{memory_word}
+use Rattle.tree_model.specs.Start.Memory.{memory_word}
 use Rattle.run_engine.proofs.memory.item_words.Given as goal
 
 abbrev pub invariant-loop-number : goal.invariant-loop-number

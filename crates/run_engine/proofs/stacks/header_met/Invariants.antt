@@ -1,5 +1,5 @@
 use Rattle.std.proofs.Common.{◌≡◌, drop}
-use Rattle.tree_model.specs.Start.{header_met}
+use Rattle.tree_model.specs.Start.Machine.{header_met}
 use Rattle.run_engine.proofs.stacks.header_met.Given as goal
 
 abbrev pub invariant-loop-segment : goal.invariant-loop-segment

@@ -1,13 +1,13 @@
 use Rattle.std.proofs.Common.{arith, not}
-use Rattle.tree_model.specs.Leaf.{buffers_item}
-use Rattle.tree_model.specs.OwnRules.{buffer_item}
+use Rattle.tree_model.specs.State.Leaf.{is_buffered}
+use Rattle.tree_model.specs.State.Leaf.{buffer_item}
 use Rattle.replacement.proofs.Once.{once-filter, fewer}
 use Rattle.replacement.proofs.buffer.Buffer.remove.Goals as goal
 
 pub invariant_of-self : goal.invariant_of-self
 invariant_of-self g c = rw c.take_out.ensures.rest (record {
-  once = once-filter buffer_item (λ e. not (buffers_item c.args.item e)) c.self.inside.entries.list c.self.invariant.once;
-  within = omega (arith, c.self.invariant.within, fewer (λ e. not (buffers_item c.args.item e)) c.self.inside.entries.list);
+  once = once-filter buffer_item (λ e. not (is_buffered c.args.item e)) c.self.inside.entries.list c.self.invariant.once;
+  within = omega (arith, c.self.invariant.within, fewer (λ e. not (is_buffered c.args.item e)) c.self.inside.entries.list);
   small = c.self.invariant.small;
   words_fit = c.self.invariant.words_fit;
 })
