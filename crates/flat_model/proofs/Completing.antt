@@ -1,17 +1,13 @@
 -- An instruction that completes, and one that halts.
-use Rattle.std.proofs.Common.{◌≡◌, ℕ, ◌*◌, ◌/◌, ◌%◌, Bool, true, false, ◌&&◌, nat_eq, List, [], Option, Some, None, Ok, Err, refl, ap, subst, arith}
-use Rattle.std.specs.Prelude.{Result, if◌then◌else◌}
+use Rattle.std.proofs.Common.{◌≡◌, ℕ, Bool, true, false, ◌&&◌, List, [], Option, Ok, Err, refl, ap, subst, arith}
+use Rattle.std.specs.Prelude.{Result}
 use Rattle.ddm_types.specs.declared.operations.HaltCause.{HaltCause}
-use Rattle.ddm_types.specs.declared.operations.HaltCause.TheVariants.{MisalignedAccess, MisalignedTarget, StoreOutside, Exit, UnknownCall}
-use Rattle.ddm_types.specs.CodeMap.{CodeWord, word_at}
-use Rattle.ddm_types.specs.ItemTable.{ItemTable, row_at, item_at}
-use Rattle.rv_decode.specs.declared.instructions.Instr.{Instr}
-use Rattle.rv_decode.specs.declared.instructions.Instr.TheVariants.{Lui, Auipc, Jal, Jalr, Branch, Load, Store, Immediate, Register, Fence, Ecall, Ebreak, Lr, Sc, Amo}
-use Rattle.rv_decode.specs.Table.{decode_of}
+use Rattle.ddm_types.specs.CodeMap.{CodeWord}
+use Rattle.ddm_types.specs.ItemTable.{ItemTable}
 use Rattle.flat_model.specs.declared.Ask.{Ask}
 use Rattle.flat_model.specs.declared.Ask.TheVariants.{Plain, Put, NeedsShared, NeedsExclusive, Conditional, Halt}
-use Rattle.flat_model.specs.Hart.{HartValue, Finished, Action, Halts, Computes, Puts, Loads, Stores, Reserves, StoresIfReserved, Changes, Access, instr_action, action_of, ask_by, ask_of, finish_by, finish_of, aligned, load_at, load_found, store_at, store_found, jump, call, register, advanced, is_taken, offset_by, with_register, next_pc, load_bytes, store_bytes, decoded_action, fetched_action, access_in}
-use Rattle.flat_model.specs.Flat.{FlatHart, Change, has_reserved, conditional, leaving, storing_to, change_by, unless_halted, hart_step}
+use Rattle.flat_model.specs.Hart.{HartValue, Finished, Action, Halts, Computes, Puts, Loads, Stores, Reserves, StoresIfReserved, Changes, action_of, ask_by, ask_of, finish_by, finish_of}
+use Rattle.flat_model.specs.Flat.{FlatHart, Change, has_reserved, conditional, change_by}
 use Rattle.flat_model.specs.Legal.{is_sc_ok}
 use Rattle.flat_model.proofs.Steps.{same_change}
 use Rattle.flat_model.proofs.Actions.{IsActionOf, action_is}

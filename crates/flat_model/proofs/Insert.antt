@@ -37,9 +37,9 @@ pub record AnswersLike (x : Option ℕ) (r : Result Change HaltCause) (c : Chang
   pub reserved : SameReserved x c.after.reserved change.after.reserved
   pub stored : change.stored ≡ c.stored
 
--- an answer whose change differs in its reservation alone
-like_but_reserved : (x : Option ℕ) (d c : Change) → d.effect ≡ c.effect → d.after.hart ≡ c.after.hart → SameReserved x c.after.reserved d.after.reserved → d.stored ≡ c.stored → AnswersLike x (Ok d) c
-like_but_reserved x d c effect hart reserved stored = record { change = d; answer = refl; effect = effect; hart = hart; reserved = reserved; stored = stored }
+-- an answer by its change
+answered_like : (x : Option ℕ) (d c : Change) → d.effect ≡ c.effect → d.after.hart ≡ c.after.hart → SameReserved x c.after.reserved d.after.reserved → d.stored ≡ c.stored → AnswersLike x (Ok d) c
+answered_like x d c effect hart reserved stored = record { change = d; answer = refl; effect = effect; hart = hart; reserved = reserved; stored = stored }
 
 abbrev FailsAlike : Ask → (List ℕ → Bool → Finished) → Type 0
 FailsAlike ask finish = (y : ℕ) → ask ≡ Conditional y → (ws ws' : List ℕ) → ((finish ws false).effect ≡ (finish ws' false).effect) × ((finish ws false).hart ≡ (finish ws' false).hart)
@@ -73,25 +73,25 @@ conditional_alike : (items : ItemTable) (x : Option ℕ) (y : ℕ) (finish : Lis
 conditional_alike items x y finish wa wb true b holds lapses words fails c e f off =
     let away : Some y ≢ x = stored_elsewhere items x y c (record { item = y; words = (finish (wa y) true).words }) (sym (ap (λ (k : Change). k.stored) e)) f off in
     let P : Change → Type 0 = AnswersLike x (Ok (conditional b y (finish (wb y)))) in
-    subst P e (rw (holds refl away) (rw (words y away) (like_but_reserved x (storing_to y (finish (wb y) true) None) _ refl refl (inl refl) refl)))
+    subst P e (rw (holds refl away) (rw (words y away) (answered_like x (storing_to y (finish (wb y) true) None) _ refl refl (inl refl) refl)))
 conditional_alike items x y finish wa wb false b holds lapses words fails c e f off =
     let P : Change → Type 0 = AnswersLike x (Ok (conditional b y (finish (wb y)))) in
     let same = fails y refl (wb y) (wa y) in
-    subst P e (rw (lapses refl) (like_but_reserved x (leaving (finish (wb y) false) None) _ same.0 same.1 (inl refl) refl))
+    subst P e (rw (lapses refl) (answered_like x (leaving (finish (wb y) false) None) _ same.0 same.1 (inl refl) refl))
 
 change_alike : (items : ItemTable) (x : Option ℕ) (ask : Ask) (ra rb : Option ℕ) (finish : List ℕ → Bool → Finished) (wa wb : ℕ → List ℕ) (sc_ok : Bool) → SameReserved x ra rb → ((z : ℕ) → Some z ≢ x → wa z ≡ wb z) → FailsAlike ask finish → (c : Change) → change_by ask ra finish wa sc_ok ≡ Ok c → FollowsAsk items ask c → NotOn items x c.effect → AnswersLike x (change_by ask rb finish wb sc_ok) c
 change_alike items x Plain ra rb finish wa wb sc_ok same words fails c e f off =
     let P : Change → Type 0 = AnswersLike x (change_by Plain rb finish wb sc_ok) in
-    subst P (same_change (leaving (finish [] false) ra) c e) (like_but_reserved x (leaving (finish [] false) rb) _ refl refl same refl)
+    subst P (same_change (leaving (finish [] false) ra) c e) (answered_like x (leaving (finish [] false) rb) _ refl refl same refl)
 change_alike items x (Put byte) ra rb finish wa wb sc_ok same words fails c e f off =
     let P : Change → Type 0 = AnswersLike x (change_by (Put byte) rb finish wb sc_ok) in
-    subst P (same_change (leaving (finish [] false) ra) c e) (like_but_reserved x (leaving (finish [] false) rb) _ refl refl same refl)
+    subst P (same_change (leaving (finish [] false) ra) c e) (answered_like x (leaving (finish [] false) rb) _ refl refl same refl)
 change_alike items x (NeedsShared y lr) ra rb finish wa wb sc_ok same words fails c e f off =
     let P : Change → Type 0 = AnswersLike x (change_by (NeedsShared y lr) rb finish wb sc_ok) in
-    subst P (same_change (leaving (finish (wa y) false) (if lr then Some y else ra)) c e) (rw (words y (shared_elsewhere items x y lr c f off)) (like_but_reserved x (leaving (finish (wb y) false) (if lr then Some y else rb)) _ refl refl (same_reserved_if x y lr ra rb same) refl))
+    subst P (same_change (leaving (finish (wa y) false) (if lr then Some y else ra)) c e) (rw (words y (shared_elsewhere items x y lr c f off)) (answered_like x (leaving (finish (wb y) false) (if lr then Some y else rb)) _ refl refl (same_reserved_if x y lr ra rb same) refl))
 change_alike items x (NeedsExclusive y) ra rb finish wa wb sc_ok same words fails c e f off =
     let P : Change → Type 0 = AnswersLike x (change_by (NeedsExclusive y) rb finish wb sc_ok) in
-    subst P (same_change (storing_to y (finish (wa y) false) ra) c e) (rw (words y (exclusive_elsewhere items x y c f off)) (like_but_reserved x (storing_to y (finish (wb y) false) rb) _ refl refl same refl))
+    subst P (same_change (storing_to y (finish (wa y) false) ra) c e) (rw (words y (exclusive_elsewhere items x y c f off)) (answered_like x (storing_to y (finish (wb y) false) rb) _ refl refl same refl))
 change_alike items x (Conditional y) ra rb finish wa wb sc_ok same words fails c e f off =
     conditional_alike items x y finish wa wb (sc_ok && has_reserved ra y) (sc_ok && has_reserved rb y) (holds sc_ok) (lapses sc_ok) words fails c (same_change (conditional (sc_ok && has_reserved ra y) y (finish (wa y))) c e) f off where
       holds : (sc : Bool) → (sc && has_reserved ra y) ≡ true → Some y ≢ x → (sc && has_reserved rb y) ≡ true

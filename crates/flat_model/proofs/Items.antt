@@ -1,19 +1,15 @@
 -- The item of an effect is the item that its instruction asked for, and the effects that store are those of steps that do.
-use Rattle.std.proofs.Common.{◌≡◌, ℕ, suc, ◌+◌, ◌-◌, ◌*◌, ◌/◌, ◌%◌, ◌<◌, Bool, true, false, not, ◌&&◌, nat_eq, nat_lt, cond, ◌⊎◌, inl, inr, List, [], ◌∷◌, length, slice_index_or, Option, Some, None, Ok, Err, refl, sym, ap, subst, ◌∙◌, arith}
-use Rattle.std.specs.Prelude.{All, Result, if◌then◌else◌, is_some}
+use Rattle.std.proofs.Common.{◌≡◌, ℕ, suc, ◌+◌, ◌*◌, ◌/◌, ◌%◌, ◌<◌, Bool, true, false, not, ◌&&◌, nat_lt, cond, ◌⊎◌, inl, inr, List, [], ◌∷◌, length, slice_index_or, Option, Some, None, Ok, refl, ap, subst, ◌∙◌, arith}
+use Rattle.std.specs.Prelude.{All, Result, is_some}
 use Rattle.std.specs.List.{position_or_len}
 use Rattle.std.proofs.lemmas.List.Quantifiers.{position-Some}
 use Rattle.std.proofs.lemmas.Option.{none-some, same_Some}
 use Rattle.ddm_types.specs.declared.operations.HaltCause.{HaltCause}
-use Rattle.ddm_types.specs.declared.operations.HaltCause.TheVariants.{MisalignedAccess, MisalignedTarget, LoadOutside, StoreOutside, Exit, UnknownCall}
-use Rattle.ddm_types.specs.CodeMap.{CodeWord, word_at}
-use Rattle.ddm_types.specs.ItemTable.{ItemTable, ItemRow, no_row, row_at, row_has, item_at, item_count}
-use Rattle.rv_decode.specs.declared.instructions.Instr.{Instr}
-use Rattle.rv_decode.specs.declared.instructions.Instr.TheVariants.{Lui, Auipc, Jal, Jalr, Branch, Load, Store, Immediate, Register, Fence, Ecall, Ebreak, Lr, Sc, Amo}
-use Rattle.rv_decode.specs.Table.{decode_of}
+use Rattle.ddm_types.specs.CodeMap.{CodeWord}
+use Rattle.ddm_types.specs.ItemTable.{ItemTable, ItemRow, no_row, row_has, item_at, item_count}
 use Rattle.flat_model.specs.declared.Ask.{Ask}
 use Rattle.flat_model.specs.declared.Ask.TheVariants.{Conditional}
-use Rattle.flat_model.specs.Hart.{HartValue, Access, Action, with_register, next_pc, Halts, Computes, Puts, Loads, Stores, Reserves, StoresIfReserved, Changes, register, access_in, aligned, load_bytes, store_bytes, offset_by, is_taken, load_found, load_at, store_found, store_at, jump, call, advanced, instr_action, decoded_action, fetched_action, action_of, ask_by, ask_of, finish_by, finish_of}
+use Rattle.flat_model.specs.Hart.{HartValue, Access, Action, Halts, Computes, Puts, Loads, Stores, Reserves, StoresIfReserved, Changes, action_of, ask_by, ask_of, finish_by, finish_of}
 use Rattle.flat_model.specs.Flat.{FlatHart, Change, has_reserved, conditional, change_by, unless_halted, asked_item, hart_step}
 use Rattle.flat_model.specs.Legal.{effect_item, is_change, HasWholeWords}
 use Rattle.flat_model.proofs.Steps.{same_change}

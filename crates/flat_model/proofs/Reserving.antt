@@ -1,8 +1,8 @@
 -- The reservations of the flat machine are those that the effects say.
-use Rattle.std.proofs.Common.{◌≡◌, ◌≢◌, ℕ, zero, suc, map, slice_index_or, Bool, true, false, ◌&&◌, nat_eq, List, [], ◌∷◌, Option, Some, None, Ok, refl, sym, ap, subst, ◌∙◌, arith}
+use Rattle.std.proofs.Common.{◌≡◌, ◌≢◌, ℕ, zero, suc, map, slice_index_or, Bool, true, false, ◌&&◌, List, [], ◌∷◌, Option, Some, None, Ok, refl, sym, ap, subst, ◌∙◌, arith}
 use Rattle.std.proofs.lemmas.Bool.{eqb-true, eqb-false}
 use Rattle.std.proofs.lemmas.Option.{same_Some}
-use Rattle.std.specs.Prelude.{fold, if◌then◌else◌}
+use Rattle.std.specs.Prelude.{if◌then◌else◌}
 use Rattle.ddm_types.specs.declared.operations.HaltCause.{HaltCause}
 use Rattle.ddm_types.specs.declared.operations.Op.{Op}
 use Rattle.std.specs.List.{range_with_len}
@@ -10,7 +10,7 @@ use Rattle.ddm_types.specs.declared.sizes.Start.{Start}
 use Rattle.ddm_types.specs.CodeMap.{CodeWord}
 use Rattle.ddm_types.specs.ItemTable.{ItemTable}
 use Rattle.flat_model.specs.Hart.{HartValue, Action, Halts, Computes, Puts, Loads, Stores, Reserves, StoresIfReserved, Changes, action_of, ask_by, ask_of, finish_by, finish_of}
-use Rattle.flat_model.specs.Flat.{FlatHart, FlatMachine, Stored, Change, flat_hart_start, no_flat_hart, flat_start, flat_hart, item_words, has_reserved, leaving, conditional, change_by, unless_halted, hart_step, with_change}
+use Rattle.flat_model.specs.Flat.{FlatHart, FlatMachine, Stored, Change, flat_hart_start, no_flat_hart, flat_start, flat_hart, item_words, has_reserved, leaving, conditional, change_by, unless_halted, hart_step}
 use Rattle.flat_model.specs.Legal.{is_of, changed_item, reserved_by_own, reserved_by_other, reserved_by, reservation, is_sc_ok, HasWholeWords, legal_step, legal_run}
 use Rattle.flat_model.proofs.Actions.{IsActionOf, action_is}
 use Rattle.flat_model.proofs.Items.{item_at_word}

@@ -1,4 +1,4 @@
--- What a hart's step reads: the hart, its reservation where an SC is to store, and the words of the item that its instruction asks for.
+-- What a hart's step reads: the hart, its reservation where an SC is to store, and the words of the item that its instruction asks for. What it leaves of these.
 use Rattle.std.proofs.Common.{◌≡◌, ℕ, Bool, true, false, ◌&&◌, List, Option, Some, None, Ok, Err, refl, ap, arith}
 use Rattle.std.specs.Prelude.{Result}
 use Rattle.ddm_types.specs.declared.operations.HaltCause.{HaltCause}
@@ -10,7 +10,7 @@ use Rattle.flat_model.specs.declared.Ask.TheVariants.{Plain, Put, NeedsShared, N
 use Rattle.flat_model.specs.Hart.{HartValue, Finished, Action, Halts, Computes, Puts, Loads, Stores, Reserves, StoresIfReserved, Changes, action_of, ask_by, ask_of, finish_by, finish_of}
 use Rattle.flat_model.specs.Flat.{FlatHart, Stored, Change, has_reserved, conditional, change_by, unless_halted, asked_item, reserved_by_ask, hart_step}
 
--- an answer is of one change
+-- an answer has one change
 pub same_change : (known c : Change) → (let r : Result Change HaltCause = Ok known in r ≡ Ok c) → known ≡ c
 same_change known c e = grind arith
 
