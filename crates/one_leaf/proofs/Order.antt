@@ -18,7 +18,7 @@ use Rattle.flat_model.specs.Flat.{FlatHart, FlatMachine, Stored, Change, has_res
 use Rattle.flat_model.specs.Legal.{legal_run, legal_step, is_sc_ok}
 use Rattle.flat_model.proofs.Runs.{legal_run_append, legal_step_of}
 use Rattle.one_leaf.specs.OneLeaf.{OneLeafValue, flat_hart_of, flat_of, op_of, step_of, after_by, after_of}
-use Rattle.one_leaf.specs.Run.{after_if, turn_after_of, after_all, running, AreCounted, IsInOrder}
+use Rattle.one_leaf.specs.Run.{after_if, turn_after_of, after_all, running, AreCounted, RunsInStep}
 
 -- ---- an instruction leaves the halt cause as it is
 
@@ -202,7 +202,7 @@ length-push : (ops : List Op) (op : Op) → length (ops ++ op ∷ []) ≡ length
 length-push [] op = refl
 length-push (o ∷ ops) op = grind (arith, length-push ops op)
 
-completed_in_order : (start : FlatMachine) (v : OneLeafValue) (c : Change) → v.hart.halt ≡ None → step_of v ≡ Ok c → IsInOrder start v → IsInOrder start (after_by v (Ok c))
+completed_in_order : (start : FlatMachine) (v : OneLeafValue) (c : Change) → v.hart.halt ≡ None → step_of v ≡ Ok c → RunsInStep start v → RunsInStep start (after_by v (Ok c))
 unfolding legal_run
 completed_in_order start v c is e order = record {
   legal = legal_run_append v.code v.items start v.ops (op_of v c ∷ [])
@@ -216,7 +216,7 @@ completed_in_order start v c is e order = record {
   none_some : {cause : HaltCause} → (let n : Option HaltCause = None in n ≡ Some cause) → ⊥
   none_some e = cc
 
-halted_in_order : (start : FlatMachine) (v : OneLeafValue) (cause : HaltCause) → step_of (running v) ≡ Err cause → IsInOrder start v → IsInOrder start (after_by v (Err cause))
+halted_in_order : (start : FlatMachine) (v : OneLeafValue) (cause : HaltCause) → step_of (running v) ≡ Err cause → RunsInStep start v → RunsInStep start (after_by v (Err cause))
 halted_in_order start v cause next order = record {
   legal = order.legal;
   halts = λ other h. next ∙ ap (λ c. Err c) (some_inj h);
@@ -227,19 +227,19 @@ halted_in_order start v cause next order = record {
   some_inj e = cc
 
 -- a turn of the hart
-pub after_in_order : (start : FlatMachine) (v : OneLeafValue) → IsInOrder start v → IsInOrder start (after_of v)
+pub after_in_order : (start : FlatMachine) (v : OneLeafValue) → RunsInStep start v → RunsInStep start (after_of v)
 after_in_order start v order = by_halt v.hart.halt refl where
-  by_step : (r : Result Change HaltCause) → v.hart.halt ≡ None → step_of v ≡ r → IsInOrder start (after_by v r)
+  by_step : (r : Result Change HaltCause) → v.hart.halt ≡ None → step_of v ≡ r → RunsInStep start (after_by v r)
   by_step (Ok c) is e = completed_in_order start v c is e order
   by_step (Err cause) is e = halted_in_order start v cause (ap step_of (running_is v is) ∙ e) order
 
-  by_halt : (o : Option HaltCause) → v.hart.halt ≡ o → IsInOrder start (after_of v)
+  by_halt : (o : Option HaltCause) → v.hart.halt ≡ o → RunsInStep start (after_of v)
   by_halt None is = by_step (step_of v) is refl
-  by_halt (Some cause) is = subst (λ r. IsInOrder start (after_by v r)) (sym (halted_step v cause is)) (halted_in_order start v cause (order.halts cause is) order)
+  by_halt (Some cause) is = subst (λ r. RunsInStep start (after_by v r)) (sym (halted_step v cause is)) (halted_in_order start v cause (order.halts cause is) order)
 
-pub turn_in_order : (start : FlatMachine) (t : Turn) (v : OneLeafValue) → IsInOrder start v → IsInOrder start (turn_after_of t v)
+pub turn_in_order : (start : FlatMachine) (t : Turn) (v : OneLeafValue) → RunsInStep start v → RunsInStep start (turn_after_of t v)
 turn_in_order start (Turn.Hart hart victim) v order = own (nat_eq 0 hart) where
-  own : (b : Bool) → IsInOrder start (after_if b v)
+  own : (b : Bool) → RunsInStep start (after_if b v)
   own true = after_in_order start v order
   own false = order
 turn_in_order start (Turn.Down bus) v order = order
@@ -248,7 +248,7 @@ turn_in_order start (Turn.Reply bus child) v order = order
 turn_in_order start (Turn.Leave bus child choice) v order = order
 
 -- a run keeps the order
-pub run_in_order : (start : FlatMachine) (ts : List Turn) (v : OneLeafValue) → IsInOrder start v → IsInOrder start (after_all ts v)
+pub run_in_order : (start : FlatMachine) (ts : List Turn) (v : OneLeafValue) → RunsInStep start v → RunsInStep start (after_all ts v)
 unfolding after_all
 run_in_order start [] v order = order
 run_in_order start (t ∷ ts) v order = run_in_order start ts (turn_after_of t v) (turn_in_order start t v order)

@@ -12,8 +12,7 @@ use Rattle.flat_model.specs.Hart.{HartValue, Finished, Action, Halts, Computes, 
 use Rattle.flat_model.specs.Flat.{Change, has_reserved, conditional, leaving, storing_to, change_by, unless_halted, hart_step}
 use Rattle.rv_hart.specs.HartState.{HartState, with_hart}
 use Rattle.one_leaf.specs.Made.{needs_no_words}
-use Rattle.one_leaf.specs.Step.{words_in, step_by, words_by, IsStepped}
-use Rattle.one_leaf.proofs.Turn.{finish_keeps}
+use Rattle.one_leaf.specs.Step.{words_in, step_by, words_after_step, IsStepped}
 
 -- ---- an instruction that needs no words
 
@@ -46,6 +45,22 @@ finish_failing_keeps : (code : List CodeWord) (items : ItemTable) (h : HartValue
 unfolding ask_of finish_of
 finish_failing_keeps code items h x words e = failing_keeps (action_of code items h) x h words e
 
+-- ---- a load and an LR leave the words as they are
+
+sharing_keeps : (act : Action) (x : ℕ) (lr : Bool) (h : HartValue) (words : List ℕ) (ok : Bool) → ask_by act ≡ NeedsShared x lr → (finish_by act h words ok).words ≡ words
+sharing_keeps (Halts cause) x lr h words ok e = refl
+sharing_keeps (Computes after) x lr h words ok e = refl
+sharing_keeps (Puts byte after) x lr h words ok e = refl
+sharing_keeps (Loads op rd a) x lr h words ok e = refl
+sharing_keeps (Reserves rd a) x lr h words ok e = refl
+sharing_keeps (Stores op v a) x lr h words ok e = grind arith
+sharing_keeps (StoresIfReserved rd v a) x lr h words ok e = grind arith
+sharing_keeps (Changes op rd v a) x lr h words ok e = grind arith
+
+finish_keeps : (code : List CodeWord) (items : ItemTable) (x : ℕ) (lr : Bool) (h : HartValue) (words : List ℕ) (ok : Bool) → ask_of code items h ≡ NeedsShared x lr → (finish_of code items h words ok).words ≡ words
+unfolding ask_of finish_of
+finish_keeps code items x lr h words ok e = sharing_keeps (action_of code items h) x lr h words ok e
+
 -- ---- steps
 
 module _ (code : List CodeWord) (items : ItemTable) (h h' : HartState) (r : Option ℕ) (ws : List (List ℕ)) where
@@ -70,7 +85,7 @@ module _ (code : List CodeWord) (items : ItemTable) (h h' : HartState) (r : Opti
   hart_done : (f : Finished) → h'.hart ≡ f.hart → h'.done ≡ h.done + 1 → h' ≡ record { hart = f.hart; done = h.done + 1 }
   hart_done f hart done = λ i. record { hart = hart i; done = done i }
 
-  by_change : (c : Change) (r' : Option ℕ) (ws' : List (List ℕ)) (effect : Effect) → step_by code items h r ws ≡ Ok c → effect ≡ c.effect → h'.hart ≡ c.after.hart → h'.done ≡ h.done + 1 → r' ≡ c.after.reserved → ws' ≡ words_by ws (Ok c) → Stepped r' ws' (Ok effect)
+  by_change : (c : Change) (r' : Option ℕ) (ws' : List (List ℕ)) (effect : Effect) → step_by code items h r ws ≡ Ok c → effect ≡ c.effect → h'.hart ≡ c.after.hart → h'.done ≡ h.done + 1 → r' ≡ c.after.reserved → ws' ≡ words_after_step ws (Ok c) → Stepped r' ws' (Ok effect)
   by_change c r' ws' effect step is hart done reserved words = rw step (record {
     effect = ap (λ e. Ok e) is;
     hart = λ i. record { hart = hart i; done = done i };

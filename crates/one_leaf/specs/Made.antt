@@ -7,7 +7,7 @@ use Rattle.flat_model.specs.declared.Ask.{Ask}
 use Rattle.ddm_types.specs.ItemTable.{ItemTable, item_count}
 use Rattle.ddm_types.specs.CodeMap.{CodeWord}
 use Rattle.rv_hart.specs.HartState.{HartState}
-use Rattle.tree_model.specs.Start.{TreeValue}
+use Rattle.tree_model.specs.Start.Sources.{TreeValue}
 use Rattle.one_leaf.specs.OneLeaf.{OneLeafValue}
 
 -- the machine doesn't keep the sizes of its tree, on which none of its turns depends
