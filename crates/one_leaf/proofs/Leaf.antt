@@ -5,7 +5,7 @@ use Rattle.ddm_types.specs.declared.sizes.LeafState.{LeafState}
 use Rattle.flat_model.specs.Flat.{Stored, item_words}
 use Rattle.tree_model.specs.State.Values.{WayValue, BufferValue}
 use Rattle.tree_model.specs.State.Lists.{find_from, first_some}
-use Rattle.tree_model.specs.State.Leaf.{LeafEntry, entry_at, leaf_entry, entry_words, way_entry, way_at, way_with, waiting_item, way_waits}
+use Rattle.tree_model.specs.State.Leaf.{entry_at, leaf_entry, entry_words, way_entry, way_at, way_with, waiting_item, way_waits}
 use Rattle.tree_model.specs.Turns.HartTurn.{words_here, ways_stored, buffer_stored}
 use Rattle.one_leaf.specs.OneLeaf.{OneLeafValue, ways_from, leaf_of, flat_of, words_with}
 

@@ -73,6 +73,11 @@ turn_words_kept (Turn.Request bus child) v has = has
 turn_words_kept (Turn.Reply bus child) v has = has
 turn_words_kept (Turn.Leave bus child choice) v has = has
 
+pub words_kept_all : (ts : List Turn) (v : OneLeafValue) → HasWords v → HasWords (after_all ts v)
+unfolding after_all
+words_kept_all [] v has = has
+words_kept_all (t ∷ ts) v has = words_kept_all ts (turn_after_of t v) (turn_words_kept t v has)
+
 -- a run of the tables is that of the one leaf
 pub run_is : (ts : List Turn) (v : OneLeafValue) → HasWords v → run_of ts (machine_of v) ≡ record { answers = answers_of ts v; machine = machine_of (after_all ts v) }
 unfolding run_of answers_of after_all

@@ -1,47 +1,21 @@
 -- A turn of the one hart: the tree's tables do what the flat machine's step does.
-use Rattle.std.proofs.Common.{◌≡◌, ℕ, ◌+◌, ◌<◌, Bool, true, false, List, [], length, Option, Some, None, Ok, Err, refl, sym, ap, subst, ◌∙◌, arith}
+use Rattle.std.proofs.Common.{◌≡◌, ℕ, ◌+◌, ◌<◌, Bool, true, false, List, length, Option, Some, None, Ok, Err, refl, sym, ap, subst, ◌∙◌}
 use Rattle.std.specs.Prelude.{Result, if◌then◌else◌}
 use Rattle.std.proofs.lemmas.List.{length-set}
-use Rattle.std.proofs.lemmas.List.Quantifiers.{position-Some}
 use Rattle.ddm_types.specs.declared.operations.HaltCause.{HaltCause}
 use Rattle.ddm_types.specs.declared.turns.Turn.{Turn}
-use Rattle.ddm_types.specs.declared.sizes.LeafState.{LeafState}
-use Rattle.ddm_types.specs.ItemTable.{ItemTable, item_at, item_count, row_has, no_row}
-use Rattle.ddm_types.specs.CodeMap.{CodeWord}
 use Rattle.flat_model.specs.declared.Ask.{Ask}
 use Rattle.flat_model.specs.declared.Ask.TheVariants.{Plain, Put, NeedsShared, NeedsExclusive, Conditional, Halt}
-use Rattle.flat_model.specs.Hart.{HartValue, Action, Halts, Computes, Puts, Loads, Stores, Reserves, StoresIfReserved, Changes, Access, action_of, ask_by, ask_of, finish_of}
+use Rattle.flat_model.specs.Hart.{ask_of, finish_of}
 use Rattle.flat_model.specs.Flat.{Stored, Change, has_reserved, change_by, unless_halted, asked_item, hart_step, item_words}
-use Rattle.flat_model.proofs.Items.{action_in_item, access_of}
+use Rattle.flat_model.proofs.Items.{asks_inside}
 use Rattle.tree_model.specs.State.Values.{LeafValue, MachineValue, leaf_node, dir_node, no_nodes, more_nodes}
 use Rattle.tree_model.specs.State.Leaf.{leaf_entry}
-use Rattle.tree_model.specs.Turns.HartTurn.{LeafOutcome, Deed, Need, no_need, need_of, need_to_write, change_here, deed_by_need, deed_of_change, deed_unless_halted, deed_of, answer_of_deed, leaf_after_deed, leaf_step}
+use Rattle.tree_model.specs.Turns.HartTurn.{LeafOutcome, Deed, no_need, need_of, need_to_write, change_here, deed_by_need, deed_of_change, deed_unless_halted, deed_of, answer_of_deed, leaf_after_deed, leaf_step}
 use Rattle.tree_model.specs.Turns.Machine.{Turned, turn_of, recorded, with_root}
 use Rattle.tree_model.specs.Start.Nodes.{new_top}
 use Rattle.one_leaf.specs.OneLeaf.{OneLeafValue, leaf_of, machine_of, flat_of, key_of, step_of, answer_by, after_by, answer_of, after_of, words_with, HasWords}
 use Rattle.one_leaf.proofs.Leaf.{entry_of, words_here-is, nothing_waits, leaf-stored}
-
--- ---- the item of an instruction is one of the table
-
-asks_access : (act : Action) (x : ℕ) → asked_item (ask_by act) ≡ Some x → (a : Access) × (access_of act ≡ Some a) × (a.item ≡ x)
-asks_access (Halts cause) x e = grind arith
-asks_access (Computes after) x e = grind arith
-asks_access (Puts byte after) x e = grind arith
-asks_access (Loads op rd a) x e = (a, refl, grind arith)
-asks_access (Stores op v a) x e = (a, refl, grind arith)
-asks_access (Reserves rd a) x e = (a, refl, grind arith)
-asks_access (StoresIfReserved rd v a) x e = (a, refl, grind arith)
-asks_access (Changes op rd v a) x e = (a, refl, grind arith)
-
-item_at_inside : (items : ItemTable) (a x : ℕ) → item_at items a ≡ Some x → x < item_count items
-unfolding item_at
-item_at_inside items a x e = (position-Some (row_has items.size a) items.rows x no_row e).0
-
-pub asks_inside : (code : List CodeWord) (items : ItemTable) (h : HartValue) (x : ℕ) → asked_item (ask_of code items h) ≡ Some x → x < item_count items
-unfolding ask_of
-asks_inside code items h x e =
-    let found = asks_access (action_of code items h) x e in
-    subst (λ y. y < item_count items) found.2 (item_at_inside items found.0.address found.0.item (action_in_item code items h found.0 found.1).0)
 
 -- ---- what an instruction needs, and what its turn comes to
 

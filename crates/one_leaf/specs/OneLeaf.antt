@@ -10,7 +10,7 @@ use Rattle.ddm_types.specs.ItemTable.{ItemTable, item_count}
 use Rattle.ddm_types.specs.CodeMap.{CodeWord}
 use Rattle.flat_model.specs.Hart.{HartValue}
 use Rattle.flat_model.specs.Flat.{FlatHart, FlatMachine, Stored, Change, hart_step, item_words}
-use Rattle.tree_model.specs.State.Values.{WayValue, LeafValue, Nodes, leaf_node, no_nodes, more_nodes, MachineValue}
+use Rattle.tree_model.specs.State.Values.{WayValue, LeafValue, leaf_node, no_nodes, more_nodes, MachineValue}
 use Rattle.tree_model.specs.Turns.Machine.{no_traffic}
 use Rattle.tree_model.specs.Start.Sources.{TreeValue, width_of}
 use Rattle.tree_model.specs.Start.Nodes.{leaf_sizes, top_sizes, new_top}
