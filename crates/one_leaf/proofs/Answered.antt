@@ -11,7 +11,7 @@ use Rattle.flat_model.specs.Flat.{Change}
 use Rattle.rv_hart.specs.HartState.{HartState}
 use Rattle.one_leaf.specs.OneLeaf.{OneLeafValue, answer_by, after_by, answer_of, after_of, step_of}
 use Rattle.one_leaf.specs.Made.{made_of, op_made}
-use Rattle.one_leaf.specs.Step.{step_by, effect_by, IsStepped}
+use Rattle.one_leaf.specs.Step.{step_by, step_answer, IsStepped}
 
 module _ (code : List CodeWord) (items : ItemTable) (h h' : HartState) (r r' : Option ℕ) (ws ws' : List (List ℕ)) (ops : List Op) where
   abbrev before : OneLeafValue
@@ -21,11 +21,11 @@ module _ (code : List CodeWord) (items : ItemTable) (h h' : HartState) (r r' : O
   unfolding step_of
   step_same = refl
 
-  known_ok : (s : Result Change HaltCause) (effect : Effect) → (let o : Result Effect HaltCause = Ok effect in o ≡ effect_by s) → (c : Change) × (s ≡ Ok c) × (effect ≡ c.effect)
+  known_ok : (s : Result Change HaltCause) (effect : Effect) → (let o : Result Effect HaltCause = Ok effect in o ≡ step_answer s) → (c : Change) × (s ≡ Ok c) × (effect ≡ c.effect)
   known_ok (Ok c) effect e = (c, refl, cc)
   known_ok (Err cause) effect e = cc
 
-  known_err : (s : Result Change HaltCause) (cause : HaltCause) → (let o : Result Effect HaltCause = Err cause in o ≡ effect_by s) → s ≡ Err cause
+  known_err : (s : Result Change HaltCause) (cause : HaltCause) → (let o : Result Effect HaltCause = Err cause in o ≡ step_answer s) → s ≡ Err cause
   known_err (Ok c) cause e = cc
   known_err (Err other) cause e = cc
 

@@ -2,9 +2,10 @@ pub mod Leaf
 pub mod Turn
 pub mod Runs
 pub mod Order
-pub mod Placement
-pub mod Start
-pub mod View
 pub mod Steps
 pub mod Answered
 pub mod Counting
+pub mod Placement
+pub mod Start
+pub mod View
+pub mod Witness

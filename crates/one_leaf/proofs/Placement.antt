@@ -5,9 +5,9 @@ use Rattle.std.specs.List.{range_with_len}
 use Rattle.std.proofs.Math.Nat.{div-add-mod, mod-lt, mul-add-mod_self_right, mod-mod}
 use Rattle.std.proofs.lemmas.Nat.{div-mul-add, div-add-mod'}
 use Rattle.std.proofs.lemmas.Bool.Decides.{nat_tests}
-use Rattle.tree_model.specs.Values.{WayValue, LeafValue}
-use Rattle.tree_model.specs.Each.{find_from}
-use Rattle.tree_model.specs.Leaf.{stands_in, in_way_of, free_way}
+use Rattle.tree_model.specs.State.Values.{WayValue, LeafSizes}
+use Rattle.tree_model.specs.State.Lists.{find_from}
+use Rattle.tree_model.specs.State.Leaf.{stands_in, item_in_way, free_way}
 use Rattle.one_leaf.specs.OneLeaf.{ways_from}
 
 -- the ways of the items placed so far, and of those that aren't yet
@@ -18,25 +18,25 @@ placing sets words rest = ways_from sets 0 words ++ replicate rest None
 abbrev stands : ℕ → ℕ → ℕ → ℕ → Bool
 stands sets x way y = nat_eq (y % sets) (x % sets) && nat_eq (y / sets) way
 
-none_free : (v : LeafValue) (x way i rest : ℕ) → find_from (stands_in v x way) i (replicate rest None) ≡ None
-none_free v x way i zero = refl
-none_free v x way i (suc rest) = none_free v x way (i + 1) rest
+none_free : (sets x way i rest : ℕ) → find_from (stands_in sets x way) i (replicate rest None) ≡ None
+none_free sets x way i zero = refl
+none_free sets x way i (suc rest) = none_free sets x way (i + 1) rest
 
 -- nobody stands there
-nobody : (v : LeafValue) (x way k : ℕ) (ws : List (List ℕ)) (rest : ℕ) → ((y : ℕ) → k ≤ y → y < k + length ws → stands v.sets x way y ≡ false) → find_from (stands_in v x way) k (ways_from v.sets k ws ++ replicate rest None) ≡ None
+nobody : (sets x way k : ℕ) (ws : List (List ℕ)) (rest : ℕ) → ((y : ℕ) → k ≤ y → y < k + length ws → stands sets x way y ≡ false) → find_from (stands_in sets x way) k (ways_from sets k ws ++ replicate rest None) ≡ None
 unfolding ways_from
-nobody v x way k [] rest free = none_free v x way k rest
-nobody v x way k (w ∷ ws) rest free = rw (free k (omega arith) (omega arith)) (nobody v x way (k + 1) ws rest (λ y a b. free y (omega (arith, a)) (omega (arith, b))))
+nobody sets x way k [] rest free = none_free sets x way k rest
+nobody sets x way k (w ∷ ws) rest free = rw (free k (omega arith) (omega arith)) (nobody sets x way (k + 1) ws rest (λ y a b. free y (omega (arith, a)) (omega (arith, b))))
 
 -- somebody stands there
-somebody : (v : LeafValue) (x way k : ℕ) (ws : List (List ℕ)) (rest y : ℕ) → k ≤ y → y < k + length ws → stands v.sets x way y ≡ true → is_none (find_from (stands_in v x way) k (ways_from v.sets k ws ++ replicate rest None)) ≡ false
+somebody : (sets x way k : ℕ) (ws : List (List ℕ)) (rest y : ℕ) → k ≤ y → y < k + length ws → stands sets x way y ≡ true → is_none (find_from (stands_in sets x way) k (ways_from sets k ws ++ replicate rest None)) ≡ false
 unfolding ways_from
-somebody v x way k [] rest y a b there = absurd (omega (arith, a, b))
-somebody v x way k (w ∷ ws) rest y a b there = go (stands v.sets x way k) refl (λ c. somebody v x way (k + 1) ws rest y c (omega (arith, b)) there) where
-  go : (s : Bool) → stands v.sets x way k ≡ s → (k + 1 ≤ y → is_none (find_from (stands_in v x way) (k + 1) (ways_from v.sets (k + 1) ws ++ replicate rest None)) ≡ false) → is_none (if s then Some k else find_from (stands_in v x way) (k + 1) (ways_from v.sets (k + 1) ws ++ replicate rest None)) ≡ false
+somebody sets x way k [] rest y a b there = absurd (omega (arith, a, b))
+somebody sets x way k (w ∷ ws) rest y a b there = go (stands sets x way k) refl (λ c. somebody sets x way (k + 1) ws rest y c (omega (arith, b)) there) where
+  go : (s : Bool) → stands sets x way k ≡ s → (k + 1 ≤ y → is_none (find_from (stands_in sets x way) (k + 1) (ways_from sets (k + 1) ws ++ replicate rest None)) ≡ false) → is_none (if s then Some k else find_from (stands_in sets x way) (k + 1) (ways_from sets (k + 1) ws ++ replicate rest None)) ≡ false
   go true e later = refl
   go false e later = later (after e) where
-    after : stands v.sets x way k ≡ false → k + 1 ≤ y
+    after : stands sets x way k ≡ false → k + 1 ≤ y
     after none = grind (arith, a, b, there, none)
 
 -- the lowest number that passes
@@ -72,16 +72,15 @@ seat_before sets x way h below =
       mul_le_right : {a b : ℕ} → a ≤ b → a * sets ≤ b * sets
       mul_le_right {a} {b} le = grind (arith, le)
 
-pub placed_free : (v : LeafValue) (words : List (List ℕ)) (rest : ℕ) → 0 < v.sets → v.ways ≡ placing v.sets words rest → length words / v.sets < v.way_count → free_way (length words) v ≡ Some (length words / v.sets)
-unfolding free_way in_way_of
-placed_free v words rest sets is inside = find-lowest _ 0 v.way_count (length words / v.sets) (omega arith) (omega (arith, inside)) taken free where
-  taken : (i : ℕ) → 0 ≤ i → i < length words / v.sets → is_none (find_from (stands_in v (length words) i) 0 v.ways) ≡ false
-  taken i a b = ap (λ ways. is_none (find_from (stands_in v (length words) i) 0 ways)) is ∙ somebody v (length words) i 0 words rest (seat v.sets (length words) i) (omega arith) (omega (arith, seat_before v.sets (length words) i sets b)) (seat_stands v.sets (length words) i sets)
+pub placed_free : (v : LeafSizes) (words : List (List ℕ)) (rest : ℕ) → 0 < v.sets → length words / v.sets < v.way_count → free_way v (length words) (placing v.sets words rest) ≡ Some (length words / v.sets)
+unfolding free_way item_in_way
+placed_free v words rest sets inside = find-lowest _ 0 v.way_count (length words / v.sets) (omega arith) (omega (arith, inside)) taken free where
+  taken : (i : ℕ) → 0 ≤ i → i < length words / v.sets → is_none (find_from (stands_in v.sets (length words) i) 0 (placing v.sets words rest)) ≡ false
+  taken i a b = somebody v.sets (length words) i 0 words rest (seat v.sets (length words) i) (omega arith) (omega (arith, seat_before v.sets (length words) i sets b)) (seat_stands v.sets (length words) i sets)
 
   alone : (y : ℕ) (b : Bool) → y < length words → stands v.sets (length words) (length words / v.sets) y ≡ b → b ≡ false
   alone y true below e = absurd (omega (arith, below, same_place v.sets (length words) y e))
   alone y false below e = refl
 
-  free : is_none (find_from (stands_in v (length words) (length words / v.sets)) 0 v.ways) ≡ true
-  free = ap (λ ways. is_none (find_from (stands_in v (length words) (length words / v.sets)) 0 ways)) is
-      ∙ ap is_none (nobody v (length words) (length words / v.sets) 0 words rest (λ y a below. alone y _ (omega (arith, below)) refl))
+  free : is_none (find_from (stands_in v.sets (length words) (length words / v.sets)) 0 (placing v.sets words rest)) ≡ true
+  free = ap is_none (nobody v.sets (length words) (length words / v.sets) 0 words rest (λ y a below. alone y _ (omega (arith, below)) refl))

@@ -1,5 +1,5 @@
 -- A step of the hart by what its instruction asks for.
-use Rattle.std.proofs.Common.{◌≡◌, ℕ, ◌+◌, Bool, true, false, ◌&&◌, List, [], Option, Some, None, Ok, Err, refl, sym, ap, ◌∙◌, arith}
+use Rattle.std.proofs.Common.{◌≡◌, ℕ, ◌+◌, Bool, true, false, ◌&&◌, List, [], Option, Some, None, Ok, Err, refl, sym, ap, ◌∙◌}
 use Rattle.std.specs.Prelude.{Result, slice_set, if◌then◌else◌}
 use Rattle.std.proofs.lemmas.List.{set-get_or}
 use Rattle.ddm_types.specs.declared.operations.Effect.{Effect}
@@ -8,45 +8,11 @@ use Rattle.ddm_types.specs.ItemTable.{ItemTable}
 use Rattle.ddm_types.specs.CodeMap.{CodeWord}
 use Rattle.flat_model.specs.declared.Ask.{Ask}
 use Rattle.flat_model.specs.declared.Ask.TheVariants.{Plain, Put, NeedsShared, NeedsExclusive, Conditional, Halt}
-use Rattle.flat_model.specs.Hart.{HartValue, Finished, Action, Halts, Computes, Puts, Loads, Stores, Reserves, StoresIfReserved, Changes, action_of, ask_by, ask_of, finish_by, finish_of}
+use Rattle.flat_model.specs.Hart.{Finished, ask_of, finish_of}
 use Rattle.flat_model.specs.Flat.{Change, has_reserved, conditional, leaving, storing_to, change_by, unless_halted, hart_step}
 use Rattle.rv_hart.specs.HartState.{HartState, with_hart}
-use Rattle.one_leaf.specs.Made.{needs_no_words}
-use Rattle.one_leaf.specs.Step.{words_in, step_by, words_by, IsStepped}
-use Rattle.one_leaf.proofs.Turn.{finish_keeps}
-
--- ---- an instruction that needs no words
-
-plain_reads : (act : Action) (h : HartValue) (words : List ℕ) → needs_no_words (ask_by act) ≡ true → ((finish_by act h words false).effect ≡ (finish_by act h [] false).effect) × ((finish_by act h words false).hart ≡ (finish_by act h [] false).hart)
-plain_reads (Halts cause) h words e = (refl, refl)
-plain_reads (Computes after) h words e = (refl, refl)
-plain_reads (Puts byte after) h words e = (refl, refl)
-plain_reads (Loads op rd a) h words e = cc
-plain_reads (Stores op v a) h words e = cc
-plain_reads (Reserves rd a) h words e = cc
-plain_reads (StoresIfReserved rd v a) h words e = cc
-plain_reads (Changes op rd v a) h words e = cc
-
-pub finish_plain : (code : List CodeWord) (items : ItemTable) (h : HartValue) (words : List ℕ) → needs_no_words (ask_of code items h) ≡ true → ((finish_of code items h words false).effect ≡ (finish_of code items h [] false).effect) × ((finish_of code items h words false).hart ≡ (finish_of code items h [] false).hart)
-unfolding ask_of finish_of
-finish_plain code items h words e = plain_reads (action_of code items h) h words e
-
--- a failed SC leaves the words as they are
-failing_keeps : (act : Action) (x : ℕ) (h : HartValue) (words : List ℕ) → ask_by act ≡ Conditional x → (finish_by act h words false).words ≡ words
-failing_keeps (Halts cause) x h words e = refl
-failing_keeps (Computes after) x h words e = refl
-failing_keeps (Puts byte after) x h words e = refl
-failing_keeps (Loads op rd a) x h words e = refl
-failing_keeps (Stores op v a) x h words e = grind arith
-failing_keeps (Reserves rd a) x h words e = refl
-failing_keeps (StoresIfReserved rd v a) x h words e = refl
-failing_keeps (Changes op rd v a) x h words e = grind arith
-
-finish_failing_keeps : (code : List CodeWord) (items : ItemTable) (h : HartValue) (x : ℕ) (words : List ℕ) → ask_of code items h ≡ Conditional x → (finish_of code items h words false).words ≡ words
-unfolding ask_of finish_of
-finish_failing_keeps code items h x words e = failing_keeps (action_of code items h) x h words e
-
--- ---- steps
+use Rattle.flat_model.proofs.Steps.{finish_keeps, finish_failing_keeps}
+use Rattle.one_leaf.specs.Step.{words_in, step_by, words_after_step, IsStepped}
 
 module _ (code : List CodeWord) (items : ItemTable) (h h' : HartState) (r : Option ℕ) (ws : List (List ℕ)) where
   abbrev finish : List ℕ → Bool → Finished
@@ -70,7 +36,7 @@ module _ (code : List CodeWord) (items : ItemTable) (h h' : HartState) (r : Opti
   hart_done : (f : Finished) → h'.hart ≡ f.hart → h'.done ≡ h.done + 1 → h' ≡ record { hart = f.hart; done = h.done + 1 }
   hart_done f hart done = λ i. record { hart = hart i; done = done i }
 
-  by_change : (c : Change) (r' : Option ℕ) (ws' : List (List ℕ)) (effect : Effect) → step_by code items h r ws ≡ Ok c → effect ≡ c.effect → h'.hart ≡ c.after.hart → h'.done ≡ h.done + 1 → r' ≡ c.after.reserved → ws' ≡ words_by ws (Ok c) → Stepped r' ws' (Ok effect)
+  by_change : (c : Change) (r' : Option ℕ) (ws' : List (List ℕ)) (effect : Effect) → step_by code items h r ws ≡ Ok c → effect ≡ c.effect → h'.hart ≡ c.after.hart → h'.done ≡ h.done + 1 → r' ≡ c.after.reserved → ws' ≡ words_after_step ws (Ok c) → Stepped r' ws' (Ok effect)
   by_change c r' ws' effect step is hart done reserved words = rw step (record {
     effect = ap (λ e. Ok e) is;
     hart = λ i. record { hart = hart i; done = done i };

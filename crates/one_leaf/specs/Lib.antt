@@ -1,7 +1,6 @@
 pub mod OneLeaf
 pub mod Run
 pub mod Start
-pub mod Witness
 pub mod Made
 pub mod Step
 pub mod Counts

@@ -1,13 +1,12 @@
 -- The value of a one-leaf machine by its parts.
-use Rattle.std.specs.Prelude.{◌≡◌, ℕ, ◌*◌, ◌^◌, ◌<◌, Bool, true, false, List, [], length, Option}
+use Rattle.std.specs.Prelude.{◌≡◌, ℕ, ◌*◌, ◌^◌, ◌<◌, List, [], length, Option}
 use Rattle.ddm_types.specs.declared.operations.Effect.{Effect}
 use Rattle.ddm_types.specs.declared.operations.Op.{Op}
 use Rattle.ddm_types.specs.Keys.{key_zero, key_counted}
-use Rattle.flat_model.specs.declared.Ask.{Ask}
 use Rattle.ddm_types.specs.ItemTable.{ItemTable, item_count}
 use Rattle.ddm_types.specs.CodeMap.{CodeWord}
 use Rattle.rv_hart.specs.HartState.{HartState}
-use Rattle.tree_model.specs.Start.{TreeValue}
+use Rattle.tree_model.specs.Start.Sources.{TreeValue}
 use Rattle.one_leaf.specs.OneLeaf.{OneLeafValue}
 
 -- the machine doesn't keep the sizes of its tree, on which none of its turns depends
@@ -35,15 +34,6 @@ pub record IsMade (width : ℕ) (items : ItemTable) (words : List (List ℕ)) : 
   pub each : item_count items ≡ length words
   pub size : 4 * width ≡ items.size
   pub small : width < 2 ^ 32
-
--- the instruction is on no item
-abbrev pub needs_no_words : Ask → Bool
-needs_no_words Ask.Plain = true
-needs_no_words (Ask.Put byte) = true
-needs_no_words (Ask.NeedsShared x lr) = false
-needs_no_words (Ask.NeedsExclusive x) = false
-needs_no_words (Ask.Conditional x) = false
-needs_no_words (Ask.Halt cause) = false
 
 -- the operation of the hart that has completed an instruction with this number at this pc
 abbrev pub op_made : ℕ → ℕ → Effect → Op

@@ -10,9 +10,10 @@ use Rattle.ddm_types.specs.ItemTable.{ItemTable, item_count}
 use Rattle.ddm_types.specs.CodeMap.{CodeWord}
 use Rattle.flat_model.specs.Hart.{HartValue}
 use Rattle.flat_model.specs.Flat.{FlatHart, FlatMachine, Stored, Change, hart_step, item_words}
-use Rattle.tree_model.specs.Values.{WayValue, LeafValue, leaf_node, no_nodes, more_nodes, MachineValue}
-use Rattle.tree_model.specs.Machine.{no_traffic}
-use Rattle.tree_model.specs.Start.{TreeValue, new_top}
+use Rattle.tree_model.specs.State.Values.{WayValue, LeafValue, leaf_node, no_nodes, more_nodes, MachineValue}
+use Rattle.tree_model.specs.Turns.Machine.{no_traffic}
+use Rattle.tree_model.specs.Start.Sources.{TreeValue, width_of}
+use Rattle.tree_model.specs.Start.Nodes.{leaf_sizes, top_sizes, new_top}
 
 pub record OneLeafValue : Type 0 where
   pub code : List CodeWord
@@ -35,6 +36,7 @@ ways_from sets x (words ∷ rest) = Some (record { way = x / sets; state = LeafS
 abbrev pub leaf_of : OneLeafValue → LeafValue
 leaf_of v = record {
   number = 0;
+  sizes = leaf_sizes v.tree.sizes v.tree.way_count (width_of v.tree);
   hart = v.hart;
   done = v.done;
   ways = ways_from v.tree.sizes.sets 0 v.words;
@@ -42,22 +44,16 @@ leaf_of v = record {
   slot = None;
   replies = [];
   reservation = v.reservation;
-  sets = v.tree.sizes.sets;
-  way_count = v.tree.way_count;
-  buffer_room = v.tree.sizes.buffer;
-  reply_room = v.tree.sizes.replies;
-  width = v.tree.item_bytes / 4;
 }
 
 abbrev pub machine_of : OneLeafValue → MachineValue
 machine_of v = record {
   code = v.code;
   items = v.items;
-  top = new_top v.tree (length v.words);
+  top = new_top (top_sizes v.tree.sizes.down (width_of v.tree)) (length v.words);
   kids = more_nodes (leaf_node (leaf_of v)) no_nodes;
   ops = v.ops;
   traffic = no_traffic ∷ [];
-  spare = 0;
 }
 
 -- ---- as a flat machine

@@ -50,8 +50,8 @@ unfoldable pub AreCounted : ℕ → List Op → Type 0
 AreCounted n [] = Unit {0}
 AreCounted n (op ∷ ops) = (op.key ≡ key_counted key_zero n) × (op.hart ≡ 0) × AreCounted (n + 1) ops
 
--- What holds of a start, a machine and its operations after every turn.
-pub record IsInOrder (start : FlatMachine) (v : OneLeafValue) : Type 0 where
+-- The machine runs in step with the flat machine: what holds of a start, a machine and its operations after every turn.
+pub record RunsInStep (start : FlatMachine) (v : OneLeafValue) : Type 0 where
   -- the operations are a legal run of the flat machine from the start, which ends with the machine's hart and words
   pub legal : legal_run v.code v.items start v.ops ≡ Some (flat_of (running v))
   -- a hart that halted did so because that is its next step there

@@ -2,8 +2,8 @@
 use Rattle.std.specs.Prelude.{◌≡◌, ◌*◌, ◌<◌, ◌≤◌, [], ◌∷◌, None}
 use Rattle.ddm_types.specs.ItemTable.{item_count}
 use Rattle.flat_model.specs.Hart.{hart_start}
-use Rattle.flat_model.specs.Flat.{FlatMachine, flat_start}
-use Rattle.tree_model.specs.Start.{TreeValue, ImageValue, start_of_harts, start_items, start_words, start_code}
+use Rattle.tree_model.specs.Start.Sources.{TreeValue, ImageValue, start_of_harts}
+use Rattle.tree_model.specs.Start.Memory.{start_items, start_words, start_code}
 use Rattle.one_leaf.specs.OneLeaf.{OneLeafValue}
 
 abbrev pub one_leaf_start : TreeValue → ImageValue → OneLeafValue
@@ -17,10 +17,6 @@ one_leaf_start t i = record {
   words = start_words t i;
   ops = [];
 }
-
--- the flat machine of a tree and an image, before its first step
-abbrev pub flat_start_of : TreeValue → ImageValue → FlatMachine
-flat_start_of t i = flat_start (start_of_harts t i) (start_words t i)
 
 -- a tree of one leaf, which has a place for every item
 pub record FitsOneLeaf (t : TreeValue) (i : ImageValue) : Type 0 where

@@ -18,28 +18,28 @@ abbrev pub step_by : List CodeWord → ItemTable → HartState → Option ℕ �
 step_by code items h reserved words = hart_step code items (hart_with h reserved) (words_in words) true
 
 -- what the step answers
-abbrev pub effect_by : Result Change HaltCause → Result Effect HaltCause
-effect_by (Ok c) = Ok c.effect
-effect_by (Err cause) = Err cause
+abbrev pub step_answer : Result Change HaltCause → Result Effect HaltCause
+step_answer (Ok c) = Ok c.effect
+step_answer (Err cause) = Err cause
 
 -- the hart after it
-abbrev pub hart_by : HartState → Result Change HaltCause → HartState
-hart_by h (Ok c) = record { hart = c.after.hart; done = h.done + 1 }
-hart_by h (Err cause) = record h { hart = record h.hart { halt = Some cause } }
+abbrev pub hart_after_step : HartState → Result Change HaltCause → HartState
+hart_after_step h (Ok c) = record { hart = c.after.hart; done = h.done + 1 }
+hart_after_step h (Err cause) = record h { hart = record h.hart { halt = Some cause } }
 
 -- the reservation after it
-abbrev pub reserved_by : Option ℕ → Result Change HaltCause → Option ℕ
-reserved_by reserved (Ok c) = c.after.reserved
-reserved_by reserved (Err cause) = reserved
+abbrev pub reservation_after_step : Option ℕ → Result Change HaltCause → Option ℕ
+reservation_after_step reserved (Ok c) = c.after.reserved
+reservation_after_step reserved (Err cause) = reserved
 
 -- the words after it
-abbrev pub words_by : List (List ℕ) → Result Change HaltCause → List (List ℕ)
-words_by words (Ok c) = words_with c.stored words
-words_by words (Err cause) = words
+abbrev pub words_after_step : List (List ℕ) → Result Change HaltCause → List (List ℕ)
+words_after_step words (Ok c) = words_with c.stored words
+words_after_step words (Err cause) = words
 
 -- a step was made: of the hart, the reservation and the words, before and after
 pub record IsStepped (step : Result Change HaltCause) (h h' : HartState) (r r' : Option ℕ) (ws ws' : List (List ℕ)) (made : Result Effect HaltCause) : Type 0 where
-  pub effect : made ≡ effect_by step
-  pub hart : h' ≡ hart_by h step
-  pub reserved : r' ≡ reserved_by r step
-  pub words : ws' ≡ words_by ws step
+  pub effect : made ≡ step_answer step
+  pub hart : h' ≡ hart_after_step h step
+  pub reserved : r' ≡ reservation_after_step r step
+  pub words : ws' ≡ words_after_step ws step

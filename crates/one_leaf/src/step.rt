@@ -1,8 +1,8 @@
 ghost use Rattle.std.specs.Prelude.{◌≡◌, ℕ, ◌<◌, ◌+◌, ◌*◌, ◌^◌, length, slice_set, [], false, true, None, Some, if◌then◌else◌};
 ghost use Rattle.flat_model.specs.Hart.{ask_of, finish_of};
-ghost use Rattle.flat_model.specs.Flat.{hart_step, has_reserved};
+ghost use Rattle.flat_model.specs.Flat.{asked_item, has_reserved};
 ghost use Rattle.rv_hart.specs.Steps.{IsReady};
-ghost use Rattle.one_leaf.specs.Made.{IsMade, needs_no_words};
+ghost use Rattle.one_leaf.specs.Made.{IsMade};
 ghost use Rattle.one_leaf.specs.Step.{words_in, step_by, IsStepped};
 
 use ddm_types::{Code, Effect, HaltCause, ItemId, Items, Words};
@@ -13,7 +13,8 @@ fn compute<const WORDS: usize>(hart: &mut Hart, code: &Code, items: &Items) -> E
     requires fits { 4 * WORDS ≡ items.now.size }
     requires small { WORDS < 2 ^ 32 }
     requires running { hart.old.hart.halt ≡ None }
-    requires asked { needs_no_words (ask_of code.now items.now hart.old.hart) ≡ true }
+    requires ready { IsReady (ask_of code.now items.now hart.old.hart) }
+    requires asked { asked_item (ask_of code.now items.now hart.old.hart) ≡ None }
     requires count { hart.old.done < 4294967295 }
     ensures effect { result ≡ (finish_of code.now items.now hart.old.hart [] false).effect }
     ensures hart { hart.new.hart ≡ (finish_of code.now items.now hart.old.hart [] false).hart }

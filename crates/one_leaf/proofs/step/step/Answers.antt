@@ -1,7 +1,7 @@
 use Rattle.std.proofs.Common.{rules, sym, subst, ap, ◌∙◌, ◌<◌, refl}
 use Rattle.flat_model.specs.Flat.{asked_item}
 use Rattle.rv_hart.specs.Steps.{IsReady}
-use Rattle.one_leaf.proofs.Turn.{asks_inside}
+use Rattle.flat_model.proofs.Items.{asks_inside}
 use Rattle.one_leaf.proofs.Steps.{halted_before, halts_now, computes_plain, computes_put, shares, writes, writes_if}
 use Rattle.one_leaf.proofs.step.step.Goals as goal
 
