@@ -1,3 +1,4 @@
 pub mod Tests
 pub mod NamedNode
 pub mod Changed
+pub mod Rows

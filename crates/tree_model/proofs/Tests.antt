@@ -1,6 +1,7 @@
--- What `||` and `&&` of two tests say of each.
-use Rattle.std.proofs.Common.{◌≡◌, Bool, true, false, refl}
+-- What `||` and `&&` of two tests, and the first of two values, say of each.
+use Rattle.std.proofs.Common.{◌≡◌, Bool, true, false, Option, Some, None, refl}
 use Rattle.std.specs.Prelude.{◌&&◌, ◌||◌}
+use Rattle.tree_model.specs.State.Lists.{first_some}
 
 pub or-false_first : (a b : Bool) → (a || b) ≡ false → a ≡ false
 or-false_first true b e = e
@@ -20,3 +21,11 @@ and-second false b e = cc
 
 pub and-both : (a b : Bool) → a ≡ true → b ≡ true → (a && b) ≡ true
 and-both a b first second = rw (first, second) refl
+
+pub first_some-none_first : {X : Type 0} (a b : Option X) → first_some a b ≡ None → a ≡ None
+first_some-none_first None b e = refl
+first_some-none_first (Some x) b e = e
+
+pub first_some-none_second : {X : Type 0} (a b : Option X) → first_some a b ≡ None → b ≡ None
+first_some-none_second None b e = e
+first_some-none_second (Some x) b e = cc
