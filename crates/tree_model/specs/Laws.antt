@@ -1,12 +1,15 @@
 -- Laws of every turn, in the words of the contracts of src/laws.rt: no premise says that a machine is well-formed or reached.
-use Rattle.std.specs.Prelude.{◌≡◌, ℕ, Bool, true, List, Option, Some, None}
+use Rattle.std.specs.Prelude.{◌≡◌, ℕ, Bool, true, List, map, Option, Some, None}
 use Rattle.ddm_types.specs.declared.answers.TurnAnswer.{TurnAnswer}
 use Rattle.ddm_types.specs.declared.turns.Turn.{Turn}
+use Rattle.ddm_types.specs.declared.keys.Stamp.{Stamp}
 use Rattle.ddm_types.specs.ItemTable.{ItemTable}
 use Rattle.ddm_types.specs.CodeMap.{CodeWord}
-use Rattle.tree_model.specs.State.Values.{Node, MachineValue, root_of}
+use Rattle.flat_model.specs.Hart.{HartValue}
+use Rattle.tree_model.specs.State.Values.{LeafSizes, DirSizes, LeafValue, DirValue, Node, Nodes, leaf_node, dir_node, MachineValue, root_of}
 use Rattle.tree_model.specs.State.Place.{Where, at_top}
 use Rattle.tree_model.specs.Turns.Tree.{Name, is_named, ChangedAt}
+use Rattle.tree_model.specs.Turns.Grant.{Outcome}
 use Rattle.tree_model.specs.Turns.Machine.{named_by, answer_here, node_after, turn_answer, turn_of}
 
 -- this node has the name; this is what is read of it where it stands, and the other node is what it becomes
@@ -14,3 +17,27 @@ pub record ReadAndChanged {A : Type 0} (name : Name) (read : Where → Node → 
   pub named : is_named name n ≡ true
   pub reads : read w n ≡ a
   pub becomes : m ≡ change w n
+
+-- ---- what a turn of a bus keeps
+
+-- what no turn of its bus changes of a child: of a leaf its number, its sizes, its hart and how many instructions completed;
+-- of a directory its bus, its level, its sizes, the time of its bus and all below it
+pub data Kept : Type 0 where
+  leaf_kept : ℕ → LeafSizes → HartValue → ℕ → Kept
+  dir_kept : ℕ → ℕ → DirSizes → ℕ → Stamp → Nodes → Kept
+
+abbrev pub kept_of : Node → Kept
+kept_of (leaf_node v) = leaf_kept v.number v.sizes v.hart v.done
+kept_of (dir_node d ns) = dir_kept d.bus d.level d.sizes d.count d.epoch ns
+
+-- after a turn of a bus its parent has the same bus, level and sizes, and of each child is kept what no turn of its bus changes
+pub record KeepsParts (p : DirValue) (ns : List Node) (o : Outcome) : Type 0 where
+  pub bus : o.parent.bus ≡ p.bus
+  pub level : o.parent.level ≡ p.level
+  pub sizes : o.parent.sizes ≡ p.sizes
+  pub kids : map kept_of o.kids ≡ map kept_of ns
+
+-- a leaf's number and sizes stay in its hart's turn
+pub record KeepsLeaf (v w : LeafValue) : Type 0 where
+  pub number : w.number ≡ v.number
+  pub sizes : w.sizes ≡ v.sizes
