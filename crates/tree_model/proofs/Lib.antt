@@ -5,3 +5,5 @@ pub mod Rows
 pub mod Children
 pub mod Sets
 pub mod Granted
+pub mod Kept
+pub mod BusKeeps
