@@ -7,3 +7,5 @@ pub mod Sets
 pub mod Granted
 pub mod Kept
 pub mod BusKeeps
+pub mod HartKeeps
+pub mod TurnChanges

@@ -8,6 +8,7 @@ use Rattle.ddm_types.specs.CodeMap.{CodeWord}
 use Rattle.flat_model.specs.Hart.{HartValue}
 use Rattle.tree_model.specs.State.Values.{LeafSizes, DirSizes, LeafValue, DirValue, Node, Nodes, leaf_node, dir_node, MachineValue, root_of}
 use Rattle.tree_model.specs.State.Place.{Where, at_top}
+use Rattle.tree_model.specs.State.Rooms.{all_within}
 use Rattle.tree_model.specs.Turns.Tree.{Name, is_named, ChangedAt}
 use Rattle.tree_model.specs.Turns.Grant.{Outcome}
 use Rattle.tree_model.specs.Turns.Machine.{named_by, answer_here, node_after, turn_answer, turn_of}
@@ -41,3 +42,21 @@ pub record KeepsParts (p : DirValue) (ns : List Node) (o : Outcome) : Type 0 whe
 pub record KeepsLeaf (v w : LeafValue) : Type 0 where
   pub number : w.number ≡ v.number
   pub sizes : w.sizes ≡ v.sizes
+
+-- ---- a turn of the machine
+
+-- the node that a turn names: this is its answer, and the other node is what it becomes
+abbrev pub TurnsHere : Turn → MachineValue → TurnAnswer → Where → Node → Node → Type 0
+TurnsHere t m a = ReadAndChanged (named_by t) (answer_here m.code m.items t) (node_after m.code m.items t) a
+
+-- a turn changes one node of the tree, which answers
+abbrev pub ChangesOneNode : Turn → MachineValue → Type 0
+ChangesOneNode t m = (path : List ℕ) × ChangedAt (TurnsHere t m (turn_of t m).answer) at_top path (root_of m) (root_of (turn_of t m).machine)
+
+-- a machine without the node that the turn names stays as it is
+abbrev pub ChangesNothing : Turn → MachineValue → Type 0
+ChangesNothing t m = turn_of t m ≡ record { answer = TurnAnswer.Empty; machine = m }
+
+-- each list within its room, and a place for each of n items
+pub record IsWithin (n : ℕ) (m : MachineValue) : Type 0 where
+  pub rooms : all_within n (root_of m) ≡ true
