@@ -9,3 +9,4 @@ pub mod Kept
 pub mod BusKeeps
 pub mod HartKeeps
 pub mod TurnChanges
+pub mod FrameKept
