@@ -10,3 +10,5 @@ pub mod BusKeeps
 pub mod HartKeeps
 pub mod TurnChanges
 pub mod FrameKept
+pub mod LeafRooms
+pub mod DirRooms

@@ -1,6 +1,6 @@
 -- What `||` and `&&` of two tests, and the first of two values, say of each.
 use Rattle.std.proofs.Common.{◌≡◌, Bool, true, false, Option, Some, None, refl}
-use Rattle.std.specs.Prelude.{◌&&◌, ◌||◌}
+use Rattle.std.specs.Prelude.{not, ◌&&◌, ◌||◌}
 use Rattle.tree_model.specs.State.Lists.{first_some}
 
 pub or-false_first : (a b : Bool) → (a || b) ≡ false → a ≡ false
@@ -29,3 +29,7 @@ first_some-none_first (Some x) b e = e
 pub first_some-none_second : {X : Type 0} (a b : Option X) → first_some a b ≡ None → b ≡ None
 first_some-none_second None b e = e
 first_some-none_second (Some x) b e = cc
+
+pub not-true : (b : Bool) → not b ≡ true → b ≡ false
+not-true true e = cc
+not-true false e = refl
