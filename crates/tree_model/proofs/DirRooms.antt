@@ -13,7 +13,7 @@ use Rattle.tree_model.specs.State.Leaf.{is_request, is_copy}
 use Rattle.tree_model.specs.State.Directory.{dir_hold, with_item, down_full, requests_full, replies_full, parking_full, open_read, struck, inject_has_place, dir_lose, dir_take_data, dir_take_exclusive, dir_answer, dir_take_inject, dir_give_up}
 use Rattle.tree_model.specs.State.Rooms.{dir_within}
 use Rattle.tree_model.proofs.Tests.{and-first, and-second, and-both, not-true}
-use Rattle.tree_model.proofs.LeafRooms.{filter-length}
+use Rattle.tree_model.proofs.LeafRooms.{filter-length, rest_of-length}
 
 -- the same as facts
 pub record DirWithin (n : ℕ) (d : DirValue) : Type 0 where
@@ -43,10 +43,6 @@ dir_within-test n d w = and-both _ _ (eq-eqb _ _ w.items) (and-both _ _ (le-leb 
 
 pub pushed-fits : {X : Type 0} (xs : List X) (x : X) (room : ℕ) → length xs < room → length (xs ++ x ∷ []) ≤ room
 pushed-fits xs x room place = omega (arith, length-append xs (x ∷ []))
-
-pub rest_of-length : {X : Type 0} (xs : List X) → length (rest_of xs) ≤ length xs
-rest_of-length [] = omega arith
-rest_of-length (x ∷ xs) = omega arith
 
 without_first-length : {X : Type 0} (t : X → Bool) (xs : List X) → length (without_first t xs) ≤ length xs
 without_first-length t [] = omega arith
@@ -138,3 +134,11 @@ dir_take_inject-within n x words s d room kept w =
 
 pub dir_give_up-within : (n x : ℕ) (d : DirValue) → DirWithin n d → DirWithin n (dir_give_up x d)
 dir_give_up-within n x d w = record { items = length-set d.items x _ ∙ w.items; down = w.down; requests = w.requests; replies = w.replies; parked = omega (arith, without_copy-length x d.parked, w.parked) }
+
+-- ---- what the bus above takes from it
+
+pub dir_request_taken-within : (n : ℕ) (d : DirValue) → DirWithin n d → DirWithin n (record d { requests = rest_of d.requests })
+dir_request_taken-within n d w = record { items = w.items; down = w.down; requests = omega (arith, rest_of-length d.requests, w.requests); replies = w.replies; parked = w.parked }
+
+pub dir_reply_taken-within : (n : ℕ) (d : DirValue) → DirWithin n d → DirWithin n (record d { replies = rest_of d.replies })
+dir_reply_taken-within n d w = record { items = w.items; down = w.down; requests = w.requests; replies = omega (arith, rest_of-length d.replies, w.replies); parked = w.parked }

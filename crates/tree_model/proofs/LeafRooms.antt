@@ -4,6 +4,7 @@ use Rattle.std.specs.Prelude.{not, ◌&&◌, nat_eq, nat_le, is_some, filter, sl
 use Rattle.std.proofs.lemmas.Bool.{eqb-true, eq-eqb, leb-true, le-leb, leb-false}
 use Rattle.std.proofs.lemmas.List.{length-set, length-map}
 use Rattle.ddm_types.specs.declared.sizes.LeafState.{LeafState}
+use Rattle.tree_model.specs.State.Lists.{rest_of}
 use Rattle.tree_model.specs.State.Values.{WayValue, BufferValue, CopyValue, LeafValue, leaf_node, Node}
 use Rattle.tree_model.specs.State.Leaf.{Fate, stays, ends, becomes, enters, way_at, is_buffered, way_with, buffer_with, ways_after, buffer_after, with_fate, leaf_entry, LeafEntry, fate_when_lost, fate_with_data, fate_with_exclusive, fate_answering, fate_with_inject, leaf_replies_full, reply_by, reply_of, leaf_lose, leaf_take_data, leaf_take_exclusive, leaf_answer, leaf_take_inject, leaf_give_up}
 use Rattle.tree_model.specs.State.States.{state_answered}
@@ -31,6 +32,10 @@ filter-length t [] = omega arith
 filter-length t (x ∷ xs) =
     let rest = filter-length t xs in
     elim (t x) as (λ b. t x ≡ b → length (filter t (x ∷ xs)) ≤ length (x ∷ xs)) [ true ↦ λ e. rw e (omega arith) | false ↦ λ e. rw e (omega arith) ] refl
+
+pub rest_of-length : {X : Type 0} (xs : List X) → length (rest_of xs) ≤ length xs
+rest_of-length [] = omega arith
+rest_of-length (x ∷ xs) = omega arith
 
 pub ways_after-length : (x : ℕ) (f : Fate) (ways : List (Option WayValue)) → length (ways_after x f ways) ≡ length ways
 ways_after-length x stays ways = refl
@@ -95,3 +100,6 @@ pub leaf_give_up-within : (n x : ℕ) (v : LeafValue) → LeafWithin n v → Lea
 leaf_give_up-within n x v w =
     let k = with_fate-within n x ends v w in
     record { ways = k.ways; buffer = k.buffer; replies = k.replies }
+
+pub leaf_reply_taken-within : (n : ℕ) (v : LeafValue) → LeafWithin n v → LeafWithin n (record v { replies = rest_of v.replies })
+leaf_reply_taken-within n v w = record { ways = w.ways; buffer = w.buffer; replies = omega (arith, rest_of-length v.replies, w.replies) }

@@ -12,3 +12,5 @@ pub mod TurnChanges
 pub mod FrameKept
 pub mod LeafRooms
 pub mod DirRooms
+pub mod ChildRooms
+pub mod BusRooms

@@ -1,7 +1,7 @@
 -- What `||` and `&&` of two tests, and the first of two values, say of each.
 use Rattle.std.proofs.Common.{◌≡◌, Bool, true, false, Option, Some, None, refl}
 use Rattle.std.specs.Prelude.{not, ◌&&◌, ◌||◌}
-use Rattle.tree_model.specs.State.Lists.{first_some}
+use Rattle.tree_model.specs.State.Lists.{first_some, some_if}
 
 pub or-false_first : (a b : Bool) → (a || b) ≡ false → a ≡ false
 or-false_first true b e = e
@@ -33,3 +33,12 @@ first_some-none_second (Some x) b e = cc
 pub not-true : (b : Bool) → not b ≡ true → b ≡ false
 not-true true e = cc
 not-true false e = refl
+
+pub some_if-none : {X : Type 0} (b : Bool) (x : X) → some_if b x ≡ None → b ≡ false
+some_if-none true x e = cc
+some_if-none false x e = refl
+
+-- a fact of both is one of the first that is there
+pub first_some-either : {X : Type 0} (P : X → Type 0) (a b : Option X) → ((x : X) → a ≡ Some x → P x) → ((x : X) → b ≡ Some x → P x) → (x : X) → first_some a b ≡ Some x → P x
+first_some-either P None b first second x e = second x e
+first_some-either P (Some y) b first second x e = first x e
