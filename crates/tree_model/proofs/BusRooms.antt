@@ -1,5 +1,5 @@
 -- One turn of a bus keeps its parent and all children within their rooms, whatever the state. By rows.
-use Rattle.std.proofs.Common.{◌≡◌, ℕ, suc, zero, ◌+◌, ◌-◌, ◌<◌, ◌≤◌, Bool, true, false, List, [], ◌∷◌, ◌++◌, length, Option, Some, None, refl, sym, ap, subst, ◌∙◌, arith}
+use Rattle.std.proofs.Common.{◌≡◌, ◌≢◌, ℕ, suc, zero, ◌+◌, ◌-◌, ◌<◌, ◌≤◌, Bool, true, false, List, [], ◌∷◌, ◌++◌, length, Option, Some, None, refl, sym, ap, subst, ◌∙◌, arith, length-append}
 use Rattle.std.specs.Prelude.{◌&&◌, not, nat_eq, nat_lt, if◌then◌else◌}
 use Rattle.std.proofs.lemmas.Bool.{eqb-true, eqb-false}
 use Rattle.std.proofs.lemmas.List.{length-set}
@@ -110,3 +110,145 @@ module _ (n : ℕ) where
     passed_on-kids : (c k x : ℕ) (words : List ℕ) (s : Stamp) → child_room x (child_at k ns) ≡ true → all_within_among n (nodes (map_from (passed_on c k x words s) 0 ns)) ≡ true
     passed_on-kids c k x words s room =
         mapped (passed_on c k x words s) (λ j below here. either-within (nat_eq j c) _ _ (λ e. child_give_up-within n x _ here) (λ e. either-within (nat_eq j k) _ _ (λ same. child_take_inject-with_room n x words s _ (at-number (λ m. child_room x m ≡ true) k j same room) here) (λ other. here)))
+
+-- ---- the rows
+
+-- one more parked copy, in a free place or in one that was kept
+parked-fits : (parked : List CopyValue) (c : CopyValue) (reserved room : ℕ) → length parked + reserved < room → length (parked ++ c ∷ []) + reserved ≤ room
+parked-fits parked c reserved room place = omega (arith, length-append parked (c ∷ []))
+
+released-fits : (parked : List CopyValue) (c : CopyValue) (reserved room : ℕ) → reserved ≢ 0 → length parked + reserved ≤ room → length (parked ++ c ∷ []) + (reserved - 1) ≤ room
+released-fits parked c reserved room some fits = omega (arith, length-append parked (c ∷ []), some)
+
+record GrantWithin (n : ℕ) (g : Grant) : Type 0 where
+  parent : DirWithin n g.parent
+  kids : all_within_among n (nodes g.kids) ≡ true
+
+module _ (n : ℕ) (above : Stamp) (p : DirValue) (ns : List Node) (w : DirWithin n p) (within : all_within_among n (nodes ns) ≡ true) where
+  -- the parent without the first entry of its down list
+  taken-within : (e : DownValue) (rest : List DownValue) → p.down ≡ e ∷ rest → DirWithin n (front_taken e.stamp rest p)
+  taken-within e rest front = record { items = w.items; down = omega (arith, w.down, ap length front); requests = w.requests; replies = w.replies; parked = w.parked }
+
+  erase_noted-within : (c x : ℕ) (exclusive : Bool) → erase_list_full above c x p ns exclusive ≡ None → DirWithin n (erase_noted above c x p ns exclusive)
+  erase_noted-within c x true room = record { items = length-set p.items x _ ∙ w.items; down = pushed-fits p.down _ _ (down-place p (some_if-none (down_full p) _ room)); requests = w.requests; replies = w.replies; parked = w.parked }
+  erase_noted-within c x false room = record { items = length-set p.items x _ ∙ w.items; down = w.down; requests = pushed-fits p.requests _ _ (requests-place p (some_if-none (requests_full p) _ room)); replies = w.replies; parked = w.parked }
+
+  row-within : (t : BusTurn) (g : Grant) → Row above p ns t g → GrantWithin n g
+  unfolding joins read_of_child read_of_parked read_of_parent erase_of_all reply_to_readers reply_to_parent exclusive_to erase_of_children read_by_child read_by_parked data_to_readers inject_to_reader inject_to_readers inject_to_child inject_parked out_gone leave_parked leave_to
+  row-within t g (row_joins c x _ _) = record {
+    parent = record { items = length-set p.items x _ ∙ w.items; down = w.down; requests = w.requests; replies = w.replies; parked = w.parked };
+    kids = one n ns within c child_request_taken (child_request_taken-within n _);
+  }
+  row-within t g (row_read_of_child c x k _ _ _ _ room) = record {
+    parent = record { items = length-set p.items x _ ∙ w.items; down = w.down; requests = w.requests; replies = w.replies; parked = w.parked };
+    kids = read_from-kids n ns within c k x (stamp_of (counted p)) room;
+  }
+  row-within t g (row_read_of_parked c x words _ _ _ _ _ room) = record {
+    parent = record { items = length-set p.items x _ ∙ w.items; down = pushed-fits p.down _ _ (down-place p (some_if-none (down_full p) _ room)); requests = w.requests; replies = w.replies; parked = omega (arith, without_copy-length x p.parked, w.parked) };
+    kids = one n ns within c child_request_taken (child_request_taken-within n _);
+  }
+  row-within t g (row_read_of_parent c x _ _ _ room) = record {
+    parent = record { items = length-set p.items x _ ∙ w.items; down = w.down; requests = pushed-fits p.requests _ _ (requests-place p (some_if-none (requests_full p) _ room)); replies = w.replies; parked = w.parked };
+    kids = one n ns within c child_request_taken (child_request_taken-within n _);
+  }
+  row-within t g (row_erase_of_all c x _ _ room own) = record {
+    parent = erase_noted-within c x (is_exclusive (dir_hold x p)) own;
+    kids = erased_by-kids n ns within c x (stamp_of (counted p)) room;
+  }
+  row-within t g (row_reply_to_readers c x words first joined _ _ room) = record {
+    parent = record { items = length-set p.items x _ ∙ w.items; down = w.down; requests = w.requests; replies = w.replies; parked = w.parked };
+    kids = replied_by-kids n ns within c (local first joined) x words (stamp_of (counted p)) room;
+  }
+  row-within t g (row_reply_to_parent c x words _ _ _ room) = record {
+    parent = record { items = length-set _ x _ ∙ (length-set p.items x _ ∙ w.items); down = w.down; requests = w.requests; replies = pushed-fits p.replies _ _ (replies-place p (some_if-none (replies_full p) _ room)); parked = w.parked };
+    kids = one n ns within c child_reply_taken (child_reply_taken-within n _);
+  }
+  row-within t g (row_exclusive_to e rest d front _ _ room) =
+      let q = taken-within e rest front in
+      record {
+        parent = record { items = length-set p.items e.item _ ∙ w.items; down = q.down; requests = w.requests; replies = w.replies; parked = w.parked };
+        kids = one n ns within d _ (child_take_exclusive-within n e.item (stamp_of (front_taken e.stamp rest p)) _ room);
+      }
+  row-within t g (row_erase_of_children e rest front _ _ room) =
+      let q = taken-within e rest front in
+      record {
+        parent = record { items = length-set p.items e.item _ ∙ w.items; down = q.down; requests = w.requests; replies = w.replies; parked = omega (arith, without_copy-length e.item p.parked, w.parked) };
+        kids = loses-kids n ns within e.item (stamp_of (front_taken e.stamp rest p)) room;
+      }
+  row-within t g (row_read_by_child e rest k front _ _ _ room) = record {
+    parent = taken-within e rest front;
+    kids = one n ns within k _ (child_answer-within n e.item (stamp_of (front_taken e.stamp rest p)) _ room);
+  }
+  row-within t g (row_read_by_parked e rest words front _ _ _ _ room) =
+      let q = taken-within e rest front in
+      record {
+        parent = record { items = length-set _ e.item _ ∙ (length-set p.items e.item _ ∙ w.items); down = q.down; requests = w.requests; replies = pushed-fits p.replies _ _ (replies-place p (some_if-none (replies_full p) _ room)); parked = w.parked };
+        kids = within;
+      }
+  row-within t g (row_data_to_readers e rest first joined front _ _ room) =
+      let q = taken-within e rest front in
+      record {
+        parent = record { items = length-set p.items e.item _ ∙ w.items; down = q.down; requests = w.requests; replies = w.replies; parked = w.parked };
+        kids = reader_takes-kids n ns within (up_read first joined) e.item e.words (stamp_of (front_taken e.stamp rest p)) room;
+      }
+  row-within t g (row_inject_to_reader e rest d joined front _ _ _ place room) =
+      let q = taken-within e rest front in
+      record {
+        parent = record { items = length-set p.items e.item _ ∙ w.items; down = q.down; requests = w.requests; replies = w.replies; parked = w.parked };
+        kids = one n ns within d _ (child_take_inject-within n e.item e.words (stamp_of (front_taken e.stamp rest p)) _ room place);
+      }
+  row-within t g (row_inject_to_readers e rest first joined front _ _ _ room) =
+      let q = taken-within e rest front in
+      record {
+        parent = record { items = length-set p.items e.item _ ∙ w.items; down = q.down; requests = w.requests; replies = w.replies; parked = w.parked };
+        kids = reader_takes-kids n ns within (up_read first joined) e.item e.words (stamp_of (front_taken e.stamp rest p)) room;
+      }
+  row-within t g (row_inject_to_child e rest k front _ _ _ found) =
+      let q = taken-within e rest front in
+      let room = inject_taker-room e.item (front_taken e.stamp rest p) ns e.words k found in
+      record {
+        parent = record { items = w.items; down = q.down; requests = w.requests; replies = w.replies; parked = omega (arith, w.parked) };
+        kids = one n ns within k _ (child_take_inject-with_room n e.item e.words (stamp_of (front_taken e.stamp rest p)) _ room);
+      }
+  row-within t g (row_inject_parked e rest front _ _ _ _ kept) =
+      let q = taken-within e rest front in
+      let some : p.reserved ≢ 0 = eqb-false p.reserved 0 kept in
+      record {
+        parent = record { items = w.items; down = q.down; requests = w.requests; replies = w.replies; parked = released-fits p.parked _ p.reserved _ some w.parked };
+        kids = within;
+      }
+  row-within t g (row_out_gone c choice x _ _ _ _ _) = record {
+    parent = record { items = w.items; down = w.down; requests = w.requests; replies = w.replies; parked = w.parked };
+    kids = one n ns within c _ (child_give_up-within n x _);
+  }
+  row-within t g (row_out_parked c choice x _ _ _ _ _ _ room) = record {
+    parent = record { items = w.items; down = w.down; requests = w.requests; replies = w.replies; parked = parked-fits p.parked _ p.reserved _ (parking-place p room) };
+    kids = one n ns within c _ (child_give_up-within n x _);
+  }
+  row-within t g (row_leave_to c choice x k _ _ _ _ found) = record {
+    parent = record { items = w.items; down = w.down; requests = w.requests; replies = w.replies; parked = w.parked };
+    kids = passed_on-kids n ns within c k x (child_given x (child_at c ns)) (stamp_of (counted p)) (leave_taker-room c x p ns k found);
+  }
+  row-within t g (row_inject_up c choice x _ _ _ _ _ _ room) = record {
+    parent = record { items = w.items; down = w.down; requests = w.requests; replies = w.replies; parked = parked-fits p.parked _ p.reserved _ (parking-place p room) };
+    kids = one n ns within c _ (child_give_up-within n x _);
+  }
+
+-- ---- an outcome
+
+pub record OutcomeWithin (n : ℕ) (o : Outcome) : Type 0 where
+  pub parent : dir_within n o.parent ≡ true
+  pub kids : all_within_among n (nodes o.kids) ≡ true
+
+outcome-within : (n : ℕ) (p : DirValue) (ns : List Node) (j : Judged) → ((g : Grant) → j ≡ granted g → GrantWithin n g) → DirWithin n p → all_within_among n (nodes ns) ≡ true → OutcomeWithin n (outcome_of p ns j)
+outcome-within n p ns nothing_there kept w within = record { parent = dir_within-test n p w; kids = within }
+outcome-within n p ns (refused cause) kept w within = record { parent = dir_within-test n p w; kids = within }
+outcome-within n p ns (granted g) kept w within =
+    let k = kept g refl in
+    record { parent = dir_within-test n g.parent k.parent; kids = k.kids }
+
+pub bus_step-within : (n : ℕ) (above : Stamp) (t : BusTurn) (p : DirValue) (ns : List Node) → dir_within n p ≡ true → all_within_among n (nodes ns) ≡ true → OutcomeWithin n (bus_step above t p ns)
+unfolding bus_step
+bus_step-within n above t p ns parent within =
+    let w = dir_within-facts n p parent in
+    outcome-within n p ns (bus_judged above p ns t) (λ g e. row-within n above p ns w within t g (row-of above p ns t g e)) w within
