@@ -14,3 +14,5 @@ pub mod LeafRooms
 pub mod DirRooms
 pub mod ChildRooms
 pub mod BusRooms
+pub mod HartRooms
+pub mod RoomsKept
