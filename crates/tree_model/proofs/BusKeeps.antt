@@ -7,9 +7,9 @@ use Rattle.tree_model.specs.State.Lists.{map_from}
 use Rattle.tree_model.specs.State.States.{is_exclusive}
 use Rattle.tree_model.specs.State.Values.{local, up_read, DirSizes, DirValue, Node}
 use Rattle.tree_model.specs.State.Directory.{dir_hold, stamp_of, counted, front_taken}
-use Rattle.tree_model.specs.State.Child.{child_take_exclusive, child_answer, child_take_inject, child_request_taken, child_reply_taken, child_given, child_give_up}
-use Rattle.tree_model.specs.Turns.Grant.{Grant, Judged, nothing_there, refused, granted, Outcome, outcome_of}
-use Rattle.tree_model.specs.Turns.Children.{child_at, only, read_from, erased_by, loses, reader_takes, replied_by, passed_on}
+use Rattle.tree_model.specs.State.Child.{child_request_taken, child_reply_taken, child_given}
+use Rattle.tree_model.specs.Turns.Grant.{Grant, Judged, nothing_there, refused, granted, outcome_of}
+use Rattle.tree_model.specs.Turns.Children.{child_at, only}
 use Rattle.tree_model.specs.Turns.RequestRead.{joins, read_of_child, read_of_parked, read_of_parent}
 use Rattle.tree_model.specs.Turns.RequestErase.{erase_noted, erase_of_all}
 use Rattle.tree_model.specs.Turns.Reply.{reply_to_readers, reply_to_parent}

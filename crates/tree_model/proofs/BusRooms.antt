@@ -1,19 +1,19 @@
 -- One turn of a bus keeps its parent and all children within their rooms, whatever the state. By rows.
-use Rattle.std.proofs.Common.{◌≡◌, ◌≢◌, ℕ, suc, zero, ◌+◌, ◌-◌, ◌<◌, ◌≤◌, Bool, true, false, List, [], ◌∷◌, ◌++◌, length, Option, Some, None, refl, sym, ap, subst, ◌∙◌, arith, length-append}
-use Rattle.std.specs.Prelude.{◌&&◌, not, nat_eq, nat_lt, if◌then◌else◌}
+use Rattle.std.proofs.Common.{◌≡◌, ◌≢◌, ℕ, suc, zero, ◌+◌, ◌-◌, ◌<◌, ◌≤◌, Bool, true, false, List, [], ◌∷◌, ◌++◌, length, Some, None, refl, sym, ap, subst, ◌∙◌, arith, length-append}
+use Rattle.std.specs.Prelude.{not, nat_eq, nat_lt, if◌then◌else◌}
 use Rattle.std.proofs.lemmas.Bool.{eqb-true, eqb-false}
 use Rattle.std.proofs.lemmas.List.{length-set}
-use Rattle.ddm_types.specs.declared.answers.TxKind.TheVariants.{ReadTx, DataTx, EraseTx, ExclusiveTx, InjectTx}
+use Rattle.ddm_types.specs.declared.answers.TxKind.TheVariants.{ReadTx, DataTx}
 use Rattle.ddm_types.specs.declared.keys.Stamp.{Stamp}
 use Rattle.tree_model.specs.declared.BusTurn.{BusTurn}
 use Rattle.tree_model.specs.State.Lists.{map_from, find_from, first_given, first_some}
 use Rattle.tree_model.specs.State.States.{is_exclusive}
-use Rattle.tree_model.specs.State.Values.{DownValue, CopyValue, Note, local, up_read, DirValue, Node, Nodes, no_nodes, more_nodes, nodes}
+use Rattle.tree_model.specs.State.Values.{DownValue, CopyValue, Note, local, up_read, DirValue, Node, nodes}
 use Rattle.tree_model.specs.State.Directory.{is_top, dir_hold, is_reader, down_full, requests_full, replies_full, stamp_of, counted, front_taken}
-use Rattle.tree_model.specs.State.Child.{child_room, child_waits, reader_has_place, child_full_for, child_lose, child_take_data, child_take_exclusive, child_answer, child_take_inject, child_request_taken, child_reply_taken, child_given, child_give_up}
+use Rattle.tree_model.specs.State.Child.{child_room, child_waits, child_full_for, child_request_taken, child_reply_taken, child_given}
 use Rattle.tree_model.specs.State.Blank.{no_node}
 use Rattle.tree_model.specs.State.Rooms.{dir_within, all_within, all_within_among}
-use Rattle.tree_model.specs.Turns.Grant.{Grant, Judged, nothing_there, refused, granted, Outcome, outcome_of, own_down_full}
+use Rattle.tree_model.specs.Turns.Grant.{Grant, Judged, nothing_there, refused, granted, Outcome, outcome_of}
 use Rattle.tree_model.specs.Turns.Children.{child_at, waits_with_room, has_room, other_waits, room_after, room_before, other_full, full_to_lose, reader_full, only, read_from, erased_by, loses, reader_takes, replied_by, passed_on}
 use Rattle.tree_model.specs.Turns.RequestRead.{joins, read_of_child, read_of_parked, read_of_parent}
 use Rattle.tree_model.specs.Turns.RequestErase.{erase_noted, erase_list_full, erase_of_all}

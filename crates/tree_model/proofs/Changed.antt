@@ -1,7 +1,7 @@
 -- Induction over a tree in which one node was changed.
-use Rattle.std.proofs.Common.{◌≡◌, ℕ, ◌+◌, List, [], ◌∷◌}
+use Rattle.std.proofs.Common.{ℕ, ◌+◌, List, [], ◌∷◌}
 use Rattle.tree_model.specs.State.Values.{DirValue, Node, Nodes, dir_node, more_nodes}
-use Rattle.tree_model.specs.State.Place.{Spot, Where, at_child, where_path, spot_in}
+use Rattle.tree_model.specs.State.Place.{Where, at_child, where_path, spot_in}
 use Rattle.tree_model.specs.Turns.Tree.{ChangedAt, ChangedAmong, changed_here, changed_below, changed_first, changed_later}
 
 -- a fact P of each part of the tree that has the changed node, and Q of each run of children that has it, with their places

@@ -1,17 +1,15 @@
 -- What a bus tells a child, or takes from it, keeps all below within their rooms, where the list that it needs has a place.
-use Rattle.std.proofs.Common.{◌≡◌, ℕ, ◌+◌, ◌<◌, ◌≤◌, Bool, true, false, List, [], ◌∷◌, length, Option, Some, None, refl, ap, ◌∙◌, arith}
-use Rattle.std.specs.Prelude.{◌&&◌, not, nat_eq, if◌then◌else◌}
-use Rattle.ddm_types.specs.declared.answers.QueueName.{QueueName}
+use Rattle.std.proofs.Common.{◌≡◌, ℕ, true, false, List, None, refl}
+use Rattle.std.specs.Prelude.{◌&&◌, not}
 use Rattle.ddm_types.specs.declared.answers.TxKind.TheVariants.{ReadTx, DataTx, EraseTx, ExclusiveTx, InjectTx}
 use Rattle.ddm_types.specs.declared.keys.Stamp.{Stamp}
 use Rattle.tree_model.specs.State.Lists.{rest_of}
 use Rattle.tree_model.specs.State.States.{is_held}
-use Rattle.tree_model.specs.State.Values.{LeafValue, DirValue, Node, Nodes, leaf_node, dir_node, no_nodes, more_nodes, nodes, children}
+use Rattle.tree_model.specs.State.Values.{LeafValue, DirValue, Node, Nodes, leaf_node, dir_node}
 use Rattle.tree_model.specs.State.Leaf.{leaf_replies_full}
 use Rattle.tree_model.specs.State.Directory.{dir_hold, down_full, inject_has_place, dir_room}
 use Rattle.tree_model.specs.State.Child.{child_room, reader_has_place, child_full_for, child_lose, child_take_data, child_take_exclusive, child_answer, child_take_inject, child_request_taken, child_reply_taken, child_give_up}
-use Rattle.tree_model.specs.State.Rooms.{dir_within, all_within, all_within_among}
-use Rattle.tree_model.specs.Turns.Children.{child_at}
+use Rattle.tree_model.specs.State.Rooms.{dir_within, all_within}
 use Rattle.tree_model.proofs.Tests.{and-first, and-second, and-both, not-true, some_if-none}
 use Rattle.tree_model.proofs.LeafRooms.{LeafWithin, leaf_within-facts, leaf_within-test, leaf_lose-within, leaf_take_data-within, leaf_take_exclusive-within, leaf_answer-within, leaf_take_inject-within, leaf_give_up-within, leaf_reply_taken-within}
 use Rattle.tree_model.proofs.DirRooms.{DirWithin, dir_within-facts, dir_within-test, dir_request_taken-within, dir_reply_taken-within, dir_lose-within, dir_take_data-within, dir_take_exclusive-within, dir_answer-within, dir_take_inject-within, dir_give_up-within}

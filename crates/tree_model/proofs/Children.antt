@@ -1,9 +1,9 @@
 -- The children of a bus as a list: what maps and searches over them give at each number.
-use Rattle.std.proofs.Common.{◌≡◌, ◌≢◌, ℕ, zero, suc, ◌+◌, ◌<◌, ◌≤◌, Bool, true, false, List, [], ◌∷◌, map, length, Option, Some, None, refl, sym, ap, subst, ◌∙◌, arith}
-use Rattle.std.specs.Prelude.{nat_eq, slice_index_or, slice_set, if◌then◌else◌}
+use Rattle.std.proofs.Common.{◌≡◌, ℕ, zero, suc, ◌+◌, ◌<◌, ◌≤◌, Bool, true, false, List, [], ◌∷◌, map, length, Option, Some, None, refl, ap, subst, ◌∙◌, arith}
+use Rattle.std.specs.Prelude.{nat_eq, slice_index_or, slice_set}
 use Rattle.std.proofs.lemmas.Bool.{eq-eqb, ne_eqb}
 use Rattle.std.proofs.lemmas.List.{set_past}
-use Rattle.tree_model.specs.State.Lists.{map_from, all_from, find_from, first_given, first_some}
+use Rattle.tree_model.specs.State.Lists.{map_from, find_from, first_given}
 use Rattle.tree_model.specs.State.Values.{Node, Nodes, no_nodes, more_nodes, nodes, children}
 use Rattle.tree_model.specs.State.Blank.{no_node}
 use Rattle.tree_model.specs.Turns.Children.{child_at, only}

@@ -1,6 +1,6 @@
 -- The lists of a directory stay within their rooms.
-use Rattle.std.proofs.Common.{◌≡◌, ℕ, zero, suc, ◌+◌, ◌-◌, ◌<◌, ◌≤◌, Bool, true, false, List, [], ◌∷◌, ◌++◌, length, Option, Some, None, refl, ap, ◌∙◌, arith, length-append}
-use Rattle.std.specs.Prelude.{not, ◌&&◌, ◌||◌, nat_eq, nat_le, if◌then◌else◌, filter}
+use Rattle.std.proofs.Common.{◌≡◌, ℕ, ◌+◌, ◌<◌, ◌≤◌, Bool, true, false, List, [], ◌∷◌, ◌++◌, length, refl, ◌∙◌, arith, length-append}
+use Rattle.std.specs.Prelude.{not, ◌&&◌, nat_eq, nat_le, filter}
 use Rattle.std.proofs.lemmas.Bool.{eqb-true, eq-eqb, leb-true, le-leb, leb-false}
 use Rattle.std.proofs.lemmas.List.{length-set}
 use Rattle.ddm_types.specs.declared.answers.TxKind.{TxKind}
@@ -8,9 +8,9 @@ use Rattle.ddm_types.specs.declared.answers.TxKind.TheVariants.{ReadTx, EraseTx}
 use Rattle.ddm_types.specs.declared.keys.Stamp.{Stamp}
 use Rattle.tree_model.specs.State.Lists.{without_first, rest_of}
 use Rattle.tree_model.specs.State.States.{is_held}
-use Rattle.tree_model.specs.State.Values.{RequestValue, CopyValue, DirItem, DirValue}
+use Rattle.tree_model.specs.State.Values.{RequestValue, CopyValue, DirValue}
 use Rattle.tree_model.specs.State.Leaf.{is_request, is_copy}
-use Rattle.tree_model.specs.State.Directory.{dir_hold, with_item, down_full, requests_full, replies_full, parking_full, open_read, struck, inject_has_place, dir_lose, dir_take_data, dir_take_exclusive, dir_answer, dir_take_inject, dir_give_up}
+use Rattle.tree_model.specs.State.Directory.{dir_hold, down_full, requests_full, replies_full, parking_full, open_read, struck, inject_has_place, dir_lose, dir_take_data, dir_take_exclusive, dir_answer, dir_take_inject, dir_give_up}
 use Rattle.tree_model.specs.State.Rooms.{dir_within}
 use Rattle.tree_model.proofs.Tests.{and-first, and-second, and-both, not-true}
 use Rattle.tree_model.proofs.LeafRooms.{filter-length, rest_of-length}

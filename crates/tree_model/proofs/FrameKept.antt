@@ -1,17 +1,17 @@
 -- Every turn keeps the frame of a machine, and so its shape.
-use Rattle.std.proofs.Common.{◌≡◌, ℕ, Bool, true, false, List, [], ◌∷◌, map, length, Option, Some, None, refl, sym, ap, subst, ◌∙◌}
+use Rattle.std.proofs.Common.{◌≡◌, ℕ, List, [], ◌∷◌, map, length, Some, None, refl, sym, ap, subst, ◌∙◌}
 use Rattle.std.specs.Prelude.{IsTrue, slice_index_or}
 use Rattle.std.proofs.lemmas.List.{length-set}
 use Rattle.ddm_types.specs.declared.answers.TurnAnswer.{TurnAnswer}
 use Rattle.ddm_types.specs.declared.turns.Turn.{Turn}
 use Rattle.ddm_types.specs.ItemTable.{ItemTable}
 use Rattle.ddm_types.specs.CodeMap.{CodeWord}
-use Rattle.tree_model.specs.State.Values.{LeafSizes, DirSizes, DirValue, Node, Nodes, leaf_node, dir_node, nodes, children, MachineValue, root_of}
+use Rattle.tree_model.specs.State.Values.{DirSizes, Node, leaf_node, dir_node, nodes, children, MachineValue, root_of}
 use Rattle.tree_model.specs.State.Place.{Where, stamp_above, key_at_leaf, at_top}
 use Rattle.tree_model.specs.State.Shape.{Skeleton, Skeletons, leaf_bone, dir_bone, no_bones, more_bones, skeleton, skeletons, Frame, frame_of, shape_test, IsShaped}
 use Rattle.tree_model.specs.Turns.Bus.{bus_step}
-use Rattle.tree_model.specs.Turns.Machine.{named_by, answer_here, node_after, bus_turn_of, victim_of, turn_answer, turn_root, with_root, recorded, no_traffic, one_more, traffic_with, turn_of, run_of}
-use Rattle.tree_model.specs.Laws.{ReadAndChanged, TurnsHere, Kept, leaf_kept, dir_kept, kept_of}
+use Rattle.tree_model.specs.Turns.Machine.{named_by, answer_here, node_after, bus_turn_of, victim_of, turn_answer, turn_root, with_root, recorded, no_traffic, one_more, turn_of, run_of}
+use Rattle.tree_model.specs.Laws.{TurnsHere, Kept, leaf_kept, dir_kept, kept_of}
 use Rattle.tree_model.proofs.Changed.{changed-keeps}
 use Rattle.tree_model.proofs.Children.{nodes-children}
 use Rattle.tree_model.proofs.BusKeeps.{bus_step-keeps}

@@ -1,6 +1,6 @@
 -- A hart's turn keeps the lists of its leaf within their rooms.
-use Rattle.std.proofs.Common.{◌≡◌, ℕ, ◌+◌, ◌%◌, ◌<◌, ◌≤◌, Bool, true, false, List, [], ◌∷◌, ◌++◌, length, Option, Some, None, Result, Ok, Err, refl, ap, subst, ◌∙◌, arith, length-append}
-use Rattle.std.specs.Prelude.{is_none, find, slice_set, if◌then◌else◌}
+use Rattle.std.proofs.Common.{◌≡◌, ℕ, ◌+◌, ◌%◌, ◌<◌, ◌≤◌, Bool, true, false, List, [], ◌∷◌, length, Option, Some, None, Result, Ok, Err, refl, subst, ◌∙◌, arith, length-append}
+use Rattle.std.specs.Prelude.{is_none, find}
 use Rattle.std.specs.List.{range_with_len}
 use Rattle.std.proofs.lemmas.Bool.{leb-false}
 use Rattle.std.proofs.lemmas.List.{length-set}
@@ -12,7 +12,7 @@ use Rattle.ddm_types.specs.CodeMap.{CodeWord}
 use Rattle.flat_model.specs.Hart.{ask_of}
 use Rattle.flat_model.specs.Flat.{Change, Stored}
 use Rattle.tree_model.specs.State.Values.{WayValue, BufferValue, LeafSizes, LeafValue}
-use Rattle.tree_model.specs.State.Leaf.{way_at, item_in_way, free_way, becomes, enters, ways_after, blank, buffer_full, waiting_item}
+use Rattle.tree_model.specs.State.Leaf.{way_at, item_in_way, free_way, becomes, enters, blank, buffer_full, waiting_item}
 use Rattle.tree_model.specs.State.Rooms.{leaf_within}
 use Rattle.tree_model.specs.Turns.HartTurn.{Deed, has_halted, waits_for, halts, completes, fetches, upgrades, finds_buffer_full, Need, no_need, a_copy, no_other_copy, time, need_of, change_here, deed_of_change, replaces, deed_to_fetch, deed_by_need, deed_unless_waiting, deed_unless_halted, deed_of, ways_stored, buffer_stored, moved_entry, ways_without, moved_to_buffer, leaf_after_deed, leaf_step}
 use Rattle.tree_model.proofs.LeafRooms.{LeafWithin, leaf_within-facts, leaf_within-test, ways_after-length, buffer_after-length}

@@ -1,11 +1,11 @@
 -- The lists of a leaf stay within their rooms.
-use Rattle.std.proofs.Common.{◌≡◌, ℕ, zero, suc, ◌+◌, ◌<◌, ◌≤◌, Bool, true, false, List, [], ◌∷◌, ◌++◌, map, length, Option, Some, None, refl, ap, ◌∙◌, arith, length-append}
-use Rattle.std.specs.Prelude.{not, ◌&&◌, nat_eq, nat_le, is_some, filter, slice_set, option_map, if◌then◌else◌}
+use Rattle.std.proofs.Common.{◌≡◌, ℕ, ◌<◌, ◌≤◌, Bool, true, false, List, [], ◌∷◌, length, Option, Some, None, refl, ◌∙◌, arith, length-append}
+use Rattle.std.specs.Prelude.{not, nat_eq, is_some, filter, option_map}
 use Rattle.std.proofs.lemmas.Bool.{eqb-true, eq-eqb, leb-true, le-leb, leb-false}
 use Rattle.std.proofs.lemmas.List.{length-set, length-map}
 use Rattle.ddm_types.specs.declared.sizes.LeafState.{LeafState}
 use Rattle.tree_model.specs.State.Lists.{rest_of}
-use Rattle.tree_model.specs.State.Values.{WayValue, BufferValue, CopyValue, LeafValue, leaf_node, Node}
+use Rattle.tree_model.specs.State.Values.{WayValue, BufferValue, LeafValue}
 use Rattle.tree_model.specs.State.Leaf.{Fate, stays, ends, becomes, enters, way_at, is_buffered, way_with, buffer_with, ways_after, buffer_after, with_fate, leaf_entry, LeafEntry, fate_when_lost, fate_with_data, fate_with_exclusive, fate_answering, fate_with_inject, leaf_replies_full, reply_by, reply_of, leaf_lose, leaf_take_data, leaf_take_exclusive, leaf_answer, leaf_take_inject, leaf_give_up}
 use Rattle.tree_model.specs.State.States.{state_answered}
 use Rattle.tree_model.specs.State.Rooms.{leaf_within}

@@ -1,6 +1,6 @@
 -- The node that a name names: where it is in a part of the tree, it is read and changed there; elsewhere nothing is.
-use Rattle.std.proofs.Common.{◌≡◌, ℕ, ◌+◌, Bool, true, false, List, [], ◌∷◌, Option, Some, None, refl, ap, ◌∙◌}
-use Rattle.std.specs.Prelude.{◌||◌, is_some}
+use Rattle.std.proofs.Common.{◌≡◌, ℕ, ◌+◌, true, false, List, [], ◌∷◌, Some, None, refl, ap, ◌∙◌}
+use Rattle.std.specs.Prelude.{is_some}
 use Rattle.tree_model.specs.State.Values.{DirValue, Node, Nodes, leaf_node, dir_node, no_nodes, more_nodes}
 use Rattle.tree_model.specs.State.Place.{Where, at_child, where_path, spot_in}
 use Rattle.tree_model.specs.Turns.Tree.{Name, is_named, has_node, has_among, read_in, read_among, changed_in, changed_among, ChangedAt, ChangedAmong, changed_here, changed_below, changed_first, changed_later}

@@ -1,6 +1,6 @@
 -- The rows of a bus's turn: each grant, with all that was found before it was granted.
-use Rattle.std.proofs.Common.{◌≡◌, ℕ, Bool, true, false, List, [], ◌∷◌, Option, Some, None, refl, sym, ap, subst}
-use Rattle.std.specs.Prelude.{nat_eq, ◌||◌, ◌&&◌, if◌then◌else◌}
+use Rattle.std.proofs.Common.{◌≡◌, ℕ, Bool, true, false, List, [], ◌∷◌, Option, Some, None, refl, ap, subst}
+use Rattle.std.specs.Prelude.{nat_eq, ◌||◌, ◌&&◌}
 use Rattle.std.proofs.Math.Bool.{and-false}
 use Rattle.ddm_types.specs.declared.answers.PendingWhy.{PendingWhy}
 use Rattle.ddm_types.specs.declared.answers.QueueName.{QueueName}
@@ -21,8 +21,8 @@ use Rattle.tree_model.specs.Turns.Children.{child_at, holds_item, other_holds, o
 use Rattle.tree_model.specs.Turns.RequestRead.{joins, read_of_child, read_of_parked, read_of_parent, read_held, read_granted, read_unless_pending, request_read}
 use Rattle.tree_model.specs.Turns.RequestErase.{erase_list_full, erase_of_all, request_erase}
 use Rattle.tree_model.specs.Turns.Reply.{reply_to_readers, reply_to_parent, reply_answering, reply_by_note}
-use Rattle.tree_model.specs.Turns.Down.{exclusive_to, down_exclusive, erase_of_children, down_erase, read_by_child, read_by_parked, down_read, data_to_readers, down_data, inject_to_reader, inject_to_readers, inject_to_child, inject_parked, inject_to_parking, inject_to_taker, inject_to_only_reader, inject_to_read, inject_taker, down_inject, down_by_kind, down_by_note, down_turn}
-use Rattle.tree_model.specs.Turns.Leave.{other_copy, out_gone, leave_parked, leave_to, leave_taker, parked_unless_full, leave_inject, leave_shared, leave_by_hold, leave_unless_pending, leave_of}
+use Rattle.tree_model.specs.Turns.Down.{exclusive_to, down_exclusive, erase_of_children, read_by_child, read_by_parked, down_read, data_to_readers, down_data, inject_to_reader, inject_to_readers, inject_to_child, inject_parked, inject_to_parking, inject_to_taker, inject_to_only_reader, inject_to_read, inject_taker, down_inject, down_by_kind, down_by_note, down_turn}
+use Rattle.tree_model.specs.Turns.Leave.{other_copy, out_gone, leave_parked, leave_to, leave_taker, parked_unless_full, leave_inject, leave_shared, leave_by_hold, leave_unless_pending}
 use Rattle.tree_model.proofs.Tests.{first_some-none_first, first_some-none_second}
 use Rattle.tree_model.specs.Turns.Bus.{request_by_kind, request_turn, reply_turn, leave_turn, bus_judged}
 

@@ -1,17 +1,15 @@
 -- Laws of every turn, in the words of the contracts of src/laws.rt: no premise says that a machine is well-formed or reached.
-use Rattle.std.specs.Prelude.{◌≡◌, ℕ, Bool, true, List, map, Option, Some, None}
+use Rattle.std.specs.Prelude.{◌≡◌, ℕ, true, List, map}
 use Rattle.ddm_types.specs.declared.answers.TurnAnswer.{TurnAnswer}
 use Rattle.ddm_types.specs.declared.turns.Turn.{Turn}
 use Rattle.ddm_types.specs.declared.keys.Stamp.{Stamp}
-use Rattle.ddm_types.specs.ItemTable.{ItemTable}
-use Rattle.ddm_types.specs.CodeMap.{CodeWord}
 use Rattle.flat_model.specs.Hart.{HartValue}
 use Rattle.tree_model.specs.State.Values.{LeafSizes, DirSizes, LeafValue, DirValue, Node, Nodes, leaf_node, dir_node, MachineValue, root_of}
 use Rattle.tree_model.specs.State.Place.{Where, at_top}
 use Rattle.tree_model.specs.State.Rooms.{all_within}
 use Rattle.tree_model.specs.Turns.Tree.{Name, is_named, ChangedAt}
 use Rattle.tree_model.specs.Turns.Grant.{Outcome}
-use Rattle.tree_model.specs.Turns.Machine.{named_by, answer_here, node_after, turn_answer, turn_of}
+use Rattle.tree_model.specs.Turns.Machine.{named_by, answer_here, node_after, turn_of}
 
 -- this node has the name; this is what is read of it where it stands, and the other node is what it becomes
 pub record ReadAndChanged {A : Type 0} (name : Name) (read : Where → Node → A) (change : Where → Node → Node) (a : A) (w : Where) (n m : Node) : Type 0 where
