@@ -1,6 +1,6 @@
 //! What holds of every turn, whatever the state, as theorems: each clause is one, and there is nothing to run.
 
-ghost use Rattle.std.specs.Prelude.{◌≡◌, ℕ, ◌+◌, true, false, List};
+ghost use Rattle.std.specs.Prelude.{◌≡◌, ℕ, true, false, List};
 ghost use Rattle.ddm_types.specs.declared.turns.Turn.{Turn};
 ghost use Rattle.ddm_types.specs.declared.keys.Stamp.{Stamp};
 ghost use Rattle.ddm_types.specs.declared.keys.Key.{Key};
