@@ -2,3 +2,4 @@ pub mod State
 pub mod Turns
 pub mod Start
 pub mod Computing
+pub mod Laws

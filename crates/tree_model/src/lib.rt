@@ -1,6 +1,8 @@
 //! The machine of buses as definitions: the values of a leaf, a directory and the tree, and what each turn makes of them.
 #![tactic(auto)]
 
+pub mod laws;
+
 use ddm_types::{BusNo, ChildNo, LeafNo};
 
 /// One turn of a bus, seen from it.
