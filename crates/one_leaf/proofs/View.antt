@@ -11,7 +11,7 @@ use Rattle.tree_model.specs.State.Leaf.{leaf_hold, entry_at}
 use Rattle.tree_model.specs.Turns.Found.{FoundValue, found_place, found_words, found_copy, states_of}
 use Rattle.tree_rules.specs.Statements.{Holds, each, each_pair}
 use Rattle.tree_rules.specs.Order.Time.{keys_differ}
-use Rattle.tree_rules.specs.Order.Ops.{sorted_ops, with_op}
+use Rattle.tree_model.specs.Turns.Witness.{sorted_ops, with_op}
 use Rattle.one_leaf.specs.OneLeaf.{OneLeafValue, machine_of}
 use Rattle.one_leaf.specs.Run.{AreCounted}
 use Rattle.one_leaf.proofs.Leaf.{ways-index}

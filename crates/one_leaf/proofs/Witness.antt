@@ -15,7 +15,8 @@ use Rattle.tree_model.specs.State.Values.{MachineValue}
 use Rattle.tree_model.specs.Turns.Machine.{Turned, Ran, run_of, machine_leaves}
 use Rattle.tree_model.specs.Start.Sources.{TreeValue, ImageValue}
 use Rattle.tree_model.specs.Start.Machine.{start_machine, flat_start_of}
-use Rattle.tree_rules.specs.Order.Ops.{sorted_ops, flat_now}
+use Rattle.tree_model.specs.Turns.Witness.{sorted_ops}
+use Rattle.tree_rules.specs.Order.Ops.{flat_now}
 use Rattle.tree_rules.specs.Witness.{IsHartOf, HasCurrentCopy, IsWitnessed, busy_has_cause, EachCauseHolds, op_of_answer, ops_of_answers, halts_hart, some_halts, IsHaltedByTurn, IsRunWitnessed, EachTurnWitnessed}
 use Rattle.one_leaf.specs.OneLeaf.{OneLeafValue, leaf_of, machine_of, flat_of, step_of, answer_by, after_by, answer_of, after_of, HasWords}
 use Rattle.one_leaf.specs.Run.{running, RunsInStep, answer_if, after_if, turn_answer_of, turn_after_of, answers_of, after_all}

@@ -6,7 +6,7 @@ use Rattle.ddm_types.specs.ItemTable.{ItemRow, ItemTable}
 use Rattle.tree_model.specs.declared.CopyPlace.{CopyPlace}
 use Rattle.tree_model.specs.Values.{LeafValue, MachineValue}
 use Rattle.tree_model.specs.Machine.{Ran, run_of, machine_leaves}
-use Rattle.tree_model.specs.Ops.{sorted_ops}
+use Rattle.tree_model.specs.Turns.Witness.{sorted_ops}
 use Rattle.tree_model.specs.Found.{FoundValue, found_copy, states_of}
 use Rattle.text_model.specs.declared.RunCounts.{RunCounts}
 use Rattle.text_model.specs.Report.{CopyPlaceView, leaf_way, leaf_buffer, parked_copy, down_copy, HartView, ItemView, ReportView, report_of, summary_of}

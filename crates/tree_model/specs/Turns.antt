@@ -10,3 +10,4 @@ pub mod HartTurn
 pub mod Tree
 pub mod Machine
 pub mod Found
+pub mod Witness

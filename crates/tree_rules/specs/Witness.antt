@@ -19,7 +19,8 @@ use Rattle.tree_model.specs.Turns.Machine.{turn_of, run_of, ask_leaf, ask_bus, m
 use Rattle.tree_model.specs.Turns.Found.{FoundValue, found_copy}
 use Rattle.tree_rules.specs.Statements.{Holds, each_pair}
 use Rattle.tree_rules.specs.Order.Time.{keys_differ}
-use Rattle.tree_rules.specs.Order.Ops.{sorted_ops, op_count, flat_now}
+use Rattle.tree_model.specs.Turns.Witness.{sorted_ops}
+use Rattle.tree_rules.specs.Order.Ops.{op_count, flat_now}
 
 -- ---- a machine and its operations
 

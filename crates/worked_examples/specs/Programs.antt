@@ -7,7 +7,7 @@ use Rattle.ddm_types.specs.ItemTable.{row_at}
 use Rattle.tree_model.specs.Turns.Machine.{Ran, run_of}
 use Rattle.tree_model.specs.Start.Sources.{SegmentValue, ImageValue, TreeValue, leaf_count, bus_widths}
 use Rattle.tree_model.specs.Start.Machine.{start_machine}
-use Rattle.tree_rules.specs.Order.Ops.{sorted_ops}
+use Rattle.tree_model.specs.Turns.Witness.{sorted_ops}
 use Rattle.tree_model.specs.Turns.Found.{states_of}
 use Rattle.text_model.specs.declared.ScheduleRefusal.{ScheduleRefusal}
 use Rattle.text_model.specs.Schedule.{ShapeView, schedule_of}

@@ -18,7 +18,8 @@ use Rattle.tree_rules.specs.Order.Moments.{less, less_at, moment_length, before,
 use Rattle.tree_rules.specs.Order.Places.{LeafAt, leaf_now, DirAt, taken_moment}
 use Rattle.tree_rules.specs.Order.Copies.{CopyAt}
 use Rattle.tree_rules.specs.Order.Claims.{ClaimAt}
-use Rattle.tree_rules.specs.Order.Ops.{sorted_ops, op_key, op_path, op_count, words_where}
+use Rattle.tree_model.specs.Turns.Witness.{sorted_ops}
+use Rattle.tree_rules.specs.Order.Ops.{op_key, op_path, op_count, words_where}
 use Rattle.tree_rules.specs.Order.Time.{entry_moment, comes_later}
 
 -- the end of a copy is past for a key

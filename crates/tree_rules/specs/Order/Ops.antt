@@ -1,24 +1,14 @@
--- Lists of completed instructions: in the order of their keys, and what they leave of the flat machine from a start.
-use Rattle.std.specs.Prelude.{ℕ, Bool, List, [], ◌∷◌, length, filter, if◌then◌else◌}
+-- Lists of completed instructions: their keys, and what they leave of the flat machine from a start.
+use Rattle.std.specs.Prelude.{ℕ, Bool, List, length, filter}
 use Rattle.ddm_types.specs.declared.operations.Op.{Op}
-use Rattle.ddm_types.specs.Keys.{key_less, key_numbers}
+use Rattle.ddm_types.specs.Keys.{key_numbers}
 use Rattle.ddm_types.specs.ItemTable.{ItemTable}
 use Rattle.ddm_types.specs.CodeMap.{CodeWord}
 use Rattle.flat_model.specs.Flat.{FlatMachine, flat_hart, item_words}
 use Rattle.flat_model.specs.Legal.{is_of, words_after, reservation, flat_after}
 use Rattle.tree_model.specs.State.Values.{MachineValue}
+use Rattle.tree_model.specs.Turns.Witness.{sorted_ops}
 use Rattle.tree_rules.specs.Order.Moments.{key_path}
-
--- ---- in the order of their keys
-
--- put before the first with a greater key
-abbrev pub with_op : Op → List Op → List Op
-with_op o [] = o ∷ []
-with_op o (p ∷ ps) = if key_less o.key p.key then o ∷ p ∷ ps else p ∷ with_op o ps
-
-unfoldable pub sorted_ops : List Op → List Op
-sorted_ops [] = []
-sorted_ops (o ∷ os) = with_op o (sorted_ops os)
 
 -- the numbers of an operation's key in a tree of this depth, and its leaf's path
 abbrev pub op_key : ℕ → Op → List ℕ

@@ -14,7 +14,8 @@ use Rattle.tree_rules.specs.Bus.Rules.{items_of_machine}
 use Rattle.tree_rules.specs.Order.Places.{leaves_at, dirs_at}
 use Rattle.tree_rules.specs.Order.Copies.{copies_of}
 use Rattle.tree_rules.specs.Order.Claims.{claims_of}
-use Rattle.tree_rules.specs.Order.Ops.{sorted_ops, flat_now}
+use Rattle.tree_model.specs.Turns.Witness.{sorted_ops}
+use Rattle.tree_rules.specs.Order.Ops.{flat_now}
 use Rattle.tree_rules.specs.Order.Time as time
 use Rattle.tree_rules.specs.Order.Core as core
 use Rattle.tree_rules.specs.Order.Written as written
