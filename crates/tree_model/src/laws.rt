@@ -34,7 +34,8 @@ pub fn turn_keeps_room()
     ensures runs { (n : ℕ) (ts : List Turn) (m : MachineValue) → IsWithin n m → IsWithin n (run_of ts m).machine }
 {}
 
-/// A turn of a bus changes nothing below its children, no hart, and no time but its own; a hart's turn changes its leaf alone.
+/// A turn of a bus changes nothing below its children, no hart, and no time but its own; a hart's turn keeps its leaf's number
+/// and sizes.
 pub fn turn_keeps_parts()
     ensures bus { (above : Stamp) (t : BusTurn) (p : DirValue) (ns : List Node) → KeepsParts p ns (bus_step above t p ns) }
     ensures hart { (code : List CodeWord) (items : ItemTable) (now : Key) (victim : ℕ) (v : LeafValue)
