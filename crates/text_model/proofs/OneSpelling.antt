@@ -1,9 +1,10 @@
 -- A text that gives turns is the text of those turns.
 use Rattle.std.proofs.Common.{◌≡◌, ℕ, ◌+◌, Bool, true, false, cond, ◌&&◌, nat_eq, nat_lt, List, [], ◌∷◌, ◌++◌, length, Option, Some, None, Result, Ok, Err, decimal, refl, sym, ap, ◌∙◌, subst, append_assoc, arith}
-use Rattle.std.specs.Prelude.{codes, bytes_eq, flat_map}
+use Rattle.std.specs.Prelude.{codes, bytes_eq}
 use Rattle.std.specs.List.{join_with_byte}
 use Rattle.std.specs.Result.{result_ok}
 use Rattle.std.proofs.lemmas.Bool.{eqb-true}
+use Rattle.std.proofs.lemmas.Slice.Eq.{bytes_eq-Decides}
 use Rattle.ddm_types.specs.declared.turns.Turn.{Turn}
 use Rattle.ddm_types.specs.declared.turns.Turn.TheVariants.{Hart, Down, Request, Reply, Leave}
 use Rattle.ddm_text.specs.declared.reading.NumberRefusal.{NumberRefusal}
@@ -11,9 +12,9 @@ use Rattle.ddm_text.specs.Numbers.{number_of}
 use Rattle.ddm_text.proofs.Spellings.{spelling-number_of}
 use Rattle.text_model.specs.declared.ScheduleRefusal.{ScheduleRefusal}
 use Rattle.text_model.specs.declared.ScheduleRefusal.TheVariants.{BadTurn}
-use Rattle.text_model.specs.Schedule.{ShapeView, turn_text, turn_line, turn_lines, schedule_text, with_byte_before, pieces_at, place_in, choice_in, hart_turn_of, down_turn_of, request_turn_of, reply_turn_of, leave_turn_of, turn_of_words, LineMeaning, turn_line_of, end_line, no_line, line_of_turn, meaning_of, refusal_of_turn, Standing, in_line, at_end, refused_at, Reading, with_turn, after_end, unless_refused, line_reading, reading_from, reading_of, finished, schedule_of}
-use Rattle.text_model.proofs.Pieces.{some_piece}
-use Rattle.text_model.proofs.TurnTexts.{words_of}
+use Rattle.text_model.specs.Schedule.{ShapeView, turn_text, turn_lines, schedule_text, with_byte_before, pieces_at, place_in, choice_in, hart_turn_of, down_turn_of, request_turn_of, reply_turn_of, leave_turn_of, turn_of_words, LineMeaning, turn_line_of, end_line, no_line, line_of_turn, meaning_of, refusal_of_turn, Standing, in_line, at_end, refused_at, Reading, with_turn, after_end, unless_refused, line_reading, reading_from, reading_of, finished, schedule_of}
+use Rattle.text_model.proofs.Pieces.{both, some_piece}
+use Rattle.text_model.proofs.TurnTexts.{words_of, schedule_text-turn}
 
 -- ---- pieces put together again
 
@@ -34,17 +35,8 @@ join-pieces_at separator (byte ∷ text) =
 
 -- ---- words
 
-both : (a b : Bool) → (a && b) ≡ true → (a ≡ true) × (b ≡ true)
-both true b e = (refl, e)
-both false b e = absurd (cc e)
-
 same_bytes : (xs ys : List ℕ) → bytes_eq xs ys ≡ true → xs ≡ ys
-same_bytes [] [] e = refl
-same_bytes [] (y ∷ ys) e = absurd (cc e)
-same_bytes (x ∷ xs) [] e = absurd (cc e)
-same_bytes (x ∷ xs) (y ∷ ys) e =
-    let parts = both (nat_eq x y) (bytes_eq xs ys) e in
-    ap (λ z. z ∷ xs) (eqb-true x y parts.0) ∙ ap (λ zs. y ∷ zs) (same_bytes xs ys parts.1)
+same_bytes xs ys = (bytes_eq-Decides xs ys).0
 
 pub is_ok_by : (r : Result ℕ NumberRefusal) (n : ℕ) → result_ok r ≡ Some n → r ≡ Ok n
 is_ok_by (Ok m) n e = cc e
@@ -193,12 +185,6 @@ one_piece : (d : Bool) (line behind : ℕ) → cond d (refused_at line BadTurn) 
 one_piece true line behind e = cc e
 one_piece false line behind e = cc e
 
-schedule_text-turn : (turn : Turn) (turns : List Turn) → schedule_text (turn ∷ turns) ≡ turn_text turn ++ 10 ∷ schedule_text turns
-unfolding schedule_text turn_lines turn_line
-schedule_text-turn turn turns =
-    append_assoc (turn_text turn ++ 10 ∷ []) (flat_map turn_line turns) (codes "end\n")
-    ∙ append_assoc (turn_text turn) (10 ∷ []) (flat_map turn_line turns ++ codes "end\n")
-
 spelled_turn : (line behind : ℕ) (o : Option ScheduleRefusal) (turn : Turn) (piece next : List ℕ) (pieces : List (List ℕ)) (more : Reading) → piece ≡ turn_text turn → (more.standing ≡ at_end behind → Spells (next ∷ pieces) more) → (unless_refused line o (with_turn turn more)).standing ≡ at_end behind → Spells (piece ∷ next ∷ pieces) (unless_refused line o (with_turn turn more))
 spelled_turn line behind None turn piece next pieces more is rest e =
     ap (λ p. p ++ 10 ∷ join_with_byte 10 (next ∷ pieces)) is ∙ ap (λ t. turn_text turn ++ 10 ∷ t) (rest e) ∙ sym (schedule_text-turn turn more.turns)
@@ -221,7 +207,7 @@ spelled_from shape line made behind piece [] e = absurd (one_piece (nat_lt 24 (l
 spelled_from shape line made behind piece (next ∷ pieces) e =
     spelled_line shape line made behind (meaning_of piece) piece next pieces (reading_from shape (line + 1) (made + 1) (next ∷ pieces)) refl (spelled_from shape (line + 1) (made + 1) behind next pieces) e
 
-finished_by : (reading : List Turn) (standing : Standing) (turns : List Turn) → finished reading standing ≡ Ok turns → (behind : ℕ) × (standing ≡ at_end behind) × (reading ≡ turns)
+pub finished_by : (reading : List Turn) (standing : Standing) (turns : List Turn) → finished reading standing ≡ Ok turns → (behind : ℕ) × (standing ≡ at_end behind) × (reading ≡ turns)
 finished_by reading (in_line line) turns e = absurd (cc e)
 finished_by reading (at_end line) turns e = (line, refl, cc e)
 finished_by reading (refused_at line refusal) turns e = absurd (cc e)

@@ -1,9 +1,9 @@
 -- The text of a turn is one line that says that turn.
 use Rattle.std.proofs.Common.{◌≡◌, ℕ, ◌^◌, ◌<◌, ◌≤◌, Bool, true, false, cond, nat_lt, List, [], ◌∷◌, ◌++◌, length, Option, Some, None, decimal, refl, ap, ◌∙◌, subst, append_assoc, length-append, arith}
-use Rattle.std.specs.Prelude.{codes, bytes_eq, slice_get}
+use Rattle.std.specs.Prelude.{codes, bytes_eq, flat_map, slice_get}
 use Rattle.std.specs.Result.{result_ok}
 use Rattle.std.proofs.lemmas.Fmt.{length-decimal-le}
-use Rattle.std.proofs.lemmas.Bool.{ltb-true}
+use Rattle.std.proofs.lemmas.Bool.{ltb-true, le-ltb}
 use Rattle.std.proofs.lemmas.Option.{slice_get_within, get_or_from_slice_get}
 use Rattle.text_model.specs.declared.ScheduleRefusal.{ScheduleRefusal}
 use Rattle.text_model.specs.declared.ScheduleRefusal.TheVariants.{NoSuchHart, NoSuchBus, NoSuchChild}
@@ -11,7 +11,7 @@ use Rattle.text_model.specs.ReadBack.{IsTurnOf, IsSmallShape}
 use Rattle.ddm_types.specs.declared.turns.Turn.{Turn}
 use Rattle.ddm_types.specs.declared.turns.Turn.TheVariants.{Hart, Down, Request, Reply, Leave}
 use Rattle.ddm_text.proofs.Spellings.{number_of-decimal}
-use Rattle.text_model.specs.Schedule.{ShapeView, turn_fault, child_fault, turn_text, pieces_at, number_in, place_in, choice_in, turn_of_words, meaning_of, LineMeaning, turn_line_of, end_line, no_line, hart_turn_of, down_turn_of, request_turn_of, reply_turn_of, leave_turn_of, line_of_turn}
+use Rattle.text_model.specs.Schedule.{ShapeView, turn_fault, child_fault, turn_text, turn_line, turn_lines, schedule_text, pieces_at, number_in, place_in, choice_in, turn_of_words, meaning_of, LineMeaning, turn_line_of, end_line, no_line, hart_turn_of, down_turn_of, request_turn_of, reply_turn_of, leave_turn_of, line_of_turn}
 use Rattle.text_model.specs.Lines.{Lacks}
 use Rattle.text_model.proofs.Pieces.{Lacks-append, Lacks-decimal, pieces_at-whole, pieces_at-append}
 
@@ -128,9 +128,6 @@ length-turn_text (Leave bus child choice) short =
 
 -- ---- the line
 
-not_long : (n : ℕ) → n ≤ 24 → nat_lt 24 n ≡ false
-not_long n le = grind arith
-
 not_end : (turn : Turn) → bytes_eq (turn_text turn) (codes "end") ≡ false
 unfolding turn_text
 not_end (Hart hart victim) = refl
@@ -144,7 +141,7 @@ pub meaning_of-turn_text : (turn : Turn) → IsShort turn → meaning_of (turn_t
 unfolding meaning_of
 meaning_of-turn_text turn short =
     let said : LineMeaning = line_of_turn (turn_of_words (pieces_at 32 (turn_text turn))) in
-    ap (λ d. cond d no_line (cond (bytes_eq (turn_text turn) (codes "end")) end_line said)) (not_long (length (turn_text turn)) (length-turn_text turn short))
+    ap (λ d. cond d no_line (cond (bytes_eq (turn_text turn) (codes "end")) end_line said)) (le-ltb 24 (length (turn_text turn)) (length-turn_text turn short))
     ∙ ap (λ d. cond d end_line said) (not_end turn)
     ∙ ap (λ ps. line_of_turn (turn_of_words ps)) (pieces_at-turn_text turn short)
     ∙ ap line_of_turn (turn_of_words-words_of turn short)
@@ -172,6 +169,15 @@ Lacks-turn_text (Leave bus child choice) short =
     (Lacks-append 10 (103 ∷ 32 ∷ (decimal bus ++ 32 ∷ 108 ∷ 32 ∷ [])) (decimal child) (Lacks-number 103 bus (32 ∷ 108 ∷ 32 ∷ []) refl short.0 refl) (lacks_line_feed child short.1))
     refl)
     (lacks_line_feed choice (omega (arith, short.2)))
+
+-- ---- a schedule
+
+-- the text of a first turn and more turns
+pub schedule_text-turn : (turn : Turn) (turns : List Turn) → schedule_text (turn ∷ turns) ≡ turn_text turn ++ 10 ∷ schedule_text turns
+unfolding schedule_text turn_lines turn_line
+schedule_text-turn turn turns =
+    append_assoc (turn_text turn ++ 10 ∷ []) (flat_map turn_line turns) (codes "end\n")
+    ∙ append_assoc (turn_text turn) (10 ∷ []) (flat_map turn_line turns ++ codes "end\n")
 
 -- ---- a turn of a small tree
 
