@@ -12,7 +12,7 @@ use Rattle.text_model.specs.declared.ScheduleRefusal.TheVariants.{TooManyTurns}
 use Rattle.text_model.specs.Schedule.{ShapeView, pieces_at, place_in, choice_in, hart_turn_of, leave_turn_of, turn_of_words, LineMeaning, turn_line_of, end_line, no_line, meaning_of, turn_fault, refusal_of_turn, Reading, with_turn, after_end, unless_refused, line_reading, reading_from, reading_of, reading_on, schedule_of}
 use Rattle.text_model.specs.ReadBack.{IsTurnOf, choice_of, GivesTurnsOf}
 use Rattle.text_model.proofs.Pieces.{some_piece}
-use Rattle.text_model.proofs.TurnTexts.{words_of}
+use Rattle.text_model.proofs.TurnTexts.{words_of_turn}
 use Rattle.text_model.proofs.OneSpelling.{is_ok_by, turn_words, meaning_turn, finished_by}
 
 -- ---- victims and choices
@@ -31,19 +31,19 @@ choice_given (Some a) (Some b) None bus child choice e = absurd (cc e)
 choice_given (Some a) None o'' bus child choice e = absurd (cc e)
 choice_given None o' o'' bus child choice e = absurd (cc e)
 
-choice_of-words_of : (turn : Turn) → turn_of_words (words_of turn) ≡ Some turn → choice_of turn < 256
+choice_of-words_of_turn : (turn : Turn) → turn_of_words (words_of_turn turn) ≡ Some turn → choice_of turn < 256
 unfolding turn_of_words
-choice_of-words_of (Hart hart victim) e = choice_within (decimal victim) victim (victim_given (place_in (decimal hart)) (choice_in (decimal victim)) hart victim e)
-choice_of-words_of (Down bus) e = omega arith
-choice_of-words_of (Request bus child) e = omega arith
-choice_of-words_of (Reply bus child) e = omega arith
-choice_of-words_of (Leave bus child choice) e = choice_within (decimal choice) choice (choice_given (place_in (decimal bus)) (place_in (decimal child)) (choice_in (decimal choice)) bus child choice e)
+choice_of-words_of_turn (Hart hart victim) e = choice_within (decimal victim) victim (victim_given (place_in (decimal hart)) (choice_in (decimal victim)) hart victim e)
+choice_of-words_of_turn (Down bus) e = omega arith
+choice_of-words_of_turn (Request bus child) e = omega arith
+choice_of-words_of_turn (Reply bus child) e = omega arith
+choice_of-words_of_turn (Leave bus child choice) e = choice_within (decimal choice) choice (choice_given (place_in (decimal bus)) (place_in (decimal child)) (choice_in (decimal choice)) bus child choice e)
 
 choice_of-meaning_of : (line : List ℕ) (turn : Turn) → meaning_of line ≡ turn_line_of turn → choice_of turn < 256
 unfolding meaning_of
 choice_of-meaning_of line turn e =
     let given = meaning_turn (nat_lt 24 (length line)) (bytes_eq line (codes "end")) (turn_of_words (pieces_at 32 line)) turn e in
-    choice_of-words_of turn (ap turn_of_words (sym (turn_words (pieces_at 32 line) turn given)) ∙ given)
+    choice_of-words_of_turn turn (ap turn_of_words (sym (turn_words (pieces_at 32 line) turn given)) ∙ given)
 
 -- ---- a text
 

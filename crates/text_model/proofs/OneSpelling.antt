@@ -14,7 +14,7 @@ use Rattle.text_model.specs.declared.ScheduleRefusal.{ScheduleRefusal}
 use Rattle.text_model.specs.declared.ScheduleRefusal.TheVariants.{BadTurn}
 use Rattle.text_model.specs.Schedule.{ShapeView, turn_text, turn_lines, schedule_text, with_byte_before, pieces_at, place_in, choice_in, hart_turn_of, down_turn_of, request_turn_of, reply_turn_of, leave_turn_of, turn_of_words, LineMeaning, turn_line_of, end_line, no_line, line_of_turn, meaning_of, refusal_of_turn, Standing, in_line, at_end, refused_at, Reading, with_turn, after_end, unless_refused, line_reading, reading_from, reading_of, finished, schedule_of}
 use Rattle.text_model.proofs.Pieces.{both, some_piece}
-use Rattle.text_model.proofs.TurnTexts.{words_of, schedule_text-turn}
+use Rattle.text_model.proofs.TurnTexts.{words_of_turn, schedule_text-turn}
 
 -- ---- pieces put together again
 
@@ -50,7 +50,7 @@ choice_spelled word n e = spelling-number_of word 255 n (omega arith) (is_ok_by 
 
 -- Words are those of a turn.
 abbrev AreWordsOf : List (List ℕ) → Turn → Type 0
-AreWordsOf words turn = words ≡ words_of turn
+AreWordsOf words turn = words ≡ words_of_turn turn
 
 some_turn : (a b : Turn) (words : List (List ℕ)) → Some a ≡ Some b → AreWordsOf words a → AreWordsOf words b
 some_turn a b words e are = let P : Turn → Type 0 = λ t. AreWordsOf words t in subst P (cc e) are
@@ -133,13 +133,13 @@ turn_words (a ∷ b ∷ c ∷ d ∷ f ∷ g ∷ words) turn e = absurd (cc e)
 
 -- ---- a line
 
-join-words_of : (turn : Turn) → join_with_byte 32 (words_of turn) ≡ turn_text turn
+join-words_of_turn : (turn : Turn) → join_with_byte 32 (words_of_turn turn) ≡ turn_text turn
 unfolding turn_text
-join-words_of (Hart hart victim) = ap (λ t. 104 ∷ 32 ∷ t) (sym (append_assoc (decimal hart) (32 ∷ []) (decimal victim)))
-join-words_of (Down bus) = refl
-join-words_of (Request bus child) = ap (λ t. 103 ∷ 32 ∷ t) (sym (append_assoc (decimal bus) (32 ∷ 113 ∷ 32 ∷ []) (decimal child)))
-join-words_of (Reply bus child) = ap (λ t. 103 ∷ 32 ∷ t) (sym (append_assoc (decimal bus) (32 ∷ 114 ∷ 32 ∷ []) (decimal child)))
-join-words_of (Leave bus child choice) =
+join-words_of_turn (Hart hart victim) = ap (λ t. 104 ∷ 32 ∷ t) (sym (append_assoc (decimal hart) (32 ∷ []) (decimal victim)))
+join-words_of_turn (Down bus) = refl
+join-words_of_turn (Request bus child) = ap (λ t. 103 ∷ 32 ∷ t) (sym (append_assoc (decimal bus) (32 ∷ 113 ∷ 32 ∷ []) (decimal child)))
+join-words_of_turn (Reply bus child) = ap (λ t. 103 ∷ 32 ∷ t) (sym (append_assoc (decimal bus) (32 ∷ 114 ∷ 32 ∷ []) (decimal child)))
+join-words_of_turn (Leave bus child choice) =
     ap (λ t. 103 ∷ 32 ∷ t)
     (sym (ap (λ u. (u ++ 32 ∷ []) ++ decimal choice) (append_assoc (decimal bus) (32 ∷ 108 ∷ 32 ∷ []) (decimal child))
     ∙ append_assoc (decimal bus ++ 32 ∷ 108 ∷ 32 ∷ decimal child) (32 ∷ []) (decimal choice)
@@ -168,7 +168,7 @@ pub turn_text-meaning_of : (line : List ℕ) (turn : Turn) → meaning_of line �
 unfolding meaning_of
 turn_text-meaning_of line turn e =
     let given = meaning_turn (nat_lt 24 (length line)) (bytes_eq line (codes "end")) (turn_of_words (pieces_at 32 line)) turn e in
-    sym (join-pieces_at 32 line) ∙ ap (λ ws. join_with_byte 32 ws) (turn_words (pieces_at 32 line) turn given) ∙ join-words_of turn
+    sym (join-pieces_at 32 line) ∙ ap (λ ws. join_with_byte 32 ws) (turn_words (pieces_at 32 line) turn given) ∙ join-words_of_turn turn
 
 end_text-meaning_of : (line : List ℕ) → meaning_of line ≡ end_line → line ≡ codes "end"
 unfolding meaning_of

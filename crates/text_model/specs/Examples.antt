@@ -88,12 +88,12 @@ store_and_load_hart = record {
 abbrev pub item_in_way : ℕ → ℕ → List ℕ → ItemView
 item_in_way number address words = record { number = number; address = address; words = words; place = CopyPlace.LeafWay 0 number; states = Some Exclusive ∷ [] }
 
--- the items at the end
-abbrev pub store_and_load_items : List ItemView
-store_and_load_items =
+-- the items, by the word that is stored and loaded back
+abbrev pub store_and_load_items : ℕ → List ItemView
+store_and_load_items word =
     item_in_way 0 0x00010000 (0x000202b7 ∷ 0x00700313 ∷ 0x0062a023 ∷ 0x0002a383 ∷ [])
     ∷ item_in_way 1 0x00010010 (0x05d00893 ∷ 0x00038513 ∷ 0x00000073 ∷ 0 ∷ [])
-    ∷ item_in_way 2 0x00020000 (7 ∷ 0 ∷ 0 ∷ 0 ∷ [])
+    ∷ item_in_way 2 0x00020000 (word ∷ 0 ∷ 0 ∷ 0 ∷ [])
     ∷ item_in_way 3 0x00030000 (0 ∷ 0 ∷ 0 ∷ 0 ∷ [])
     ∷ []
 
@@ -104,7 +104,7 @@ store_and_load = record {
   depth = 1;
   harts = record { number = 0; hart = store_and_load_hart; done = 6 } ∷ [];
   traffic = no_traffic ∷ [];
-  items = store_and_load_items;
+  items = store_and_load_items 7;
   completed = store_and_load_ops;
   ops = store_and_load_ops;
 }
@@ -123,15 +123,6 @@ store_and_load_summary = codes "ddm 1\nturns 8 retired 6 granted 0 busy 0\nhart 
 abbrev pub untouched_hart : HartValue
 untouched_hart = record { registers = 0 ∷ 0 ∷ 0x00030010 ∷ 0 ∷ 0 ∷ 0 ∷ 0 ∷ 0 ∷ 0 ∷ 0 ∷ 0 ∷ 1 ∷ replicate 20 0; pc = 0x00010000; halt = None }
 
--- the items at the start
-abbrev pub untouched_items : List ItemView
-untouched_items =
-    item_in_way 0 0x00010000 (0x000202b7 ∷ 0x00700313 ∷ 0x0062a023 ∷ 0x0002a383 ∷ [])
-    ∷ item_in_way 1 0x00010010 (0x05d00893 ∷ 0x00038513 ∷ 0x00000073 ∷ 0 ∷ [])
-    ∷ item_in_way 2 0x00020000 (0 ∷ 0 ∷ 0 ∷ 0 ∷ [])
-    ∷ item_in_way 3 0x00030000 (0 ∷ 0 ∷ 0 ∷ 0 ∷ [])
-    ∷ []
-
 -- the machine at the start
 abbrev pub no_turns : ReportView
 no_turns = record {
@@ -139,7 +130,7 @@ no_turns = record {
   depth = 1;
   harts = record { number = 0; hart = untouched_hart; done = 0 } ∷ [];
   traffic = no_traffic ∷ [];
-  items = untouched_items;
+  items = store_and_load_items 0;
   completed = [];
   ops = [];
 }
