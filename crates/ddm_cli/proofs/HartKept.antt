@@ -11,7 +11,7 @@ use Rattle.rv_flat.specs.Registers.{IsHart}
 use Rattle.rv_flat.proofs.RegistersKept.{finish_hart}
 use Rattle.one_leaf.specs.OneLeaf.{OneLeafValue, after_by, after_of, flat_of, step_of}
 use Rattle.one_leaf.specs.Run.{after_all}
-use Rattle.one_leaf.specs.Counts.{hart_turns}
+use Rattle.text_model.specs.Schedule.{hart_turns}
 
 -- where the step completes, its hart has them
 abbrev ChangeKeeps : Result Change HaltCause → Type 0

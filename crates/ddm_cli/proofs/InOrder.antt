@@ -2,6 +2,7 @@
 use Rattle.std.proofs.Common.{◌≡◌, ℕ, ◌<◌, Bool, true, false, List, [], ◌∷◌, Option, Some, None, Result, Ok, Err, refl, cond}
 use Rattle.std.specs.Prelude.{IfOk, IfSome, is_none, option_and_then}
 use Rattle.tree_model.specs.Start.{TreeValue, ImageValue, start_refusal}
+use Rattle.text_model.specs.Schedule.{hart_turns}
 use Rattle.one_leaf.proofs.View.{start_witnessed}
 use Rattle.elf_load.specs.ElfFile.{image_of}
 use Rattle.elf_load.specs.declared.refusal.ImageRefusal.{ImageRefusal}
@@ -9,7 +10,7 @@ use Rattle.tree_config.specs.TreeFile.{tree_of}
 use Rattle.tree_config.specs.declared.refusal.TreeRefusal.{TreeRefusal}
 use Rattle.run_engine.proofs.Built.{fits_one_leaf}
 use Rattle.ddm_cli.specs.Parts.{Parts, if_built, if_started, is_one_leaf, parts_in, parts_of, tree_at}
-use Rattle.ddm_cli.specs.ScheduleForm.{count_of, hart_turns}
+use Rattle.ddm_cli.specs.ScheduleForm.{count_of}
 use Rattle.ddm_cli.specs.Top.{Both, RunsInOrder, IsInOrder}
 use Rattle.ddm_cli.specs.Words.{Names, names_of}
 use Rattle.ddm_cli.proofs.Judged.{one_leaf_levels}

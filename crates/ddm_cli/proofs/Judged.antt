@@ -1,6 +1,7 @@
 -- What was judged of a tree, an image and a schedule, as the parts of a machine.
 use Rattle.std.proofs.Common.{◌≡◌, ℕ, ◌<◌, true, List, [], ◌∷◌, length, Some, None, Ok, Err, refl, arith}
-use Rattle.std.specs.Prelude.{nat_lt, IsSome}
+use Rattle.std.specs.Prelude.{IsSome}
+use Rattle.std.proofs.lemmas.Bool.{lt-ltb}
 use Rattle.std.proofs.lemmas.Bool.Decides.{nat_tests}
 use Rattle.tree_model.specs.Start.{TreeValue, ImageValue, start_refusal}
 use Rattle.elf_load.specs.ElfFile.{file_refusal, image_of}
@@ -9,16 +10,13 @@ use Rattle.tree_config.specs.TreeFile.{tree_of}
 use Rattle.tree_config.specs.declared.refusal.TreeRefusal.TheVariants as tree
 use Rattle.ddm_cli.specs.Parts.{is_one_leaf, parts_in, parts_of, tree_at}
 
-past : (n m : ℕ) → n < m → nat_lt n m ≡ true
-past n m long = grind (arith, nat_tests)
-
 pub tree_of-long : (file : List ℕ) → 65536 < length file → tree_of file ≡ Err tree.TooLong
 unfolding tree_of
-tree_of-long file long = rw (past 65536 (length file) long) refl
+tree_of-long file long = rw (lt-ltb 65536 (length file) long) refl
 
 pub image_of-long : (item_bytes : ℕ) (file : List ℕ) → 4194304 < length file → image_of item_bytes file ≡ Err image.TooLong
 unfolding image_of file_refusal
-image_of-long item_bytes file long = rw (past 4194304 (length file) long) refl
+image_of-long item_bytes file long = rw (lt-ltb 4194304 (length file) long) refl
 
 -- a tree of one leaf has one bus
 pub one_leaf_levels : (t : TreeValue) → is_one_leaf t ≡ true → t.levels ≡ (1 ∷ []) ∷ []

@@ -2,6 +2,7 @@ pub mod ItemLines
 pub mod LeafViews
 pub mod HartKept
 pub mod Lines
+pub mod Counted
 pub mod Judged
 pub mod Telling
 pub mod Numbers

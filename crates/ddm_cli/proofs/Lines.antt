@@ -1,47 +1,52 @@
--- A schedule with one line more.
-use Rattle.std.proofs.Common.{◌≡◌, ℕ, suc, ◌+◌, ◌*◌, ◌<◌, nat_le, Bool, true, false, cond, List, [], ◌∷◌, length, take, drop, Option, Some, None, refl, sym, ap, ◌∙◌, arith}
+-- The text of turns of hart 0, line by line.
+use Rattle.std.proofs.Common.{◌≡◌, ℕ, zero, suc, ◌+◌, true, false, List, ◌++◌, take, drop, refl, sym, ap, ◌∙◌, add-one}
 use Rattle.std.specs.Prelude.{bytes_eq, codes}
-use Rattle.std.specs.Option.{option_map}
+use Rattle.std.specs.Fmt.{digits}
+use Rattle.std.proofs.lemmas.List.{append_cancel_left, take-append-drop}
 use Rattle.std.proofs.lemmas.Slice.Eq.{bytes_eq-Decides}
-use Rattle.ddm_cli.specs.ScheduleForm.{turns_of, count_of}
-use Rattle.std.specs.Prelude.{option_and_then}
-use Rattle.std.proofs.lemmas.Bool.Decides.{nat_tests}
+use Rattle.text_model.specs.Schedule.{hart_turns, turn_text, turn_line, turn_lines, schedule_text}
 
-pub turns_of-line : (text after : List ℕ) → bytes_eq (take 6 text) (codes "h 0 0\n") ≡ true → after ≡ drop 6 text → length after + 6 ≡ length text → turns_of text ≡ option_map suc (turns_of after)
-turns_of-line (a ∷ b ∷ c ∷ d ∷ e ∷ f ∷ rest) after same is size = rw same (ap (λ t. option_map suc (turns_of t)) (sym is))
-turns_of-line text after same is size = absurd (omega arith)
+-- the line of a turn of hart 0
+abbrev pub hart_turn_line : List ℕ
+hart_turn_line = codes "h 0 0\n"
 
-pub one_line_more : (turns : ℕ) (text after : List ℕ) (all : Option ℕ) → turns_of text ≡ option_map suc (turns_of after) → option_map (λ k. turns + k) (turns_of text) ≡ all → option_map (λ k. turns + 1 + k) (turns_of after) ≡ all
-one_line_more turns text after all line was = by_cases (turns_of after) (ap (option_map (λ k. turns + k)) (sym line) ∙ was) where
-  by_cases : (o : Option ℕ) → option_map (λ k. turns + k) (option_map suc o) ≡ all → option_map (λ k. turns + 1 + k) o ≡ all
-  by_cases None h = h
-  by_cases (Some k) h = ap Some (omega arith) ∙ h
+-- a line behind lines is one before them
+line_moves : (n : ℕ) (rest : List ℕ) → turn_lines (hart_turns n) ++ (hart_turn_line ++ rest) ≡ turn_lines (hart_turns (suc n)) ++ rest
+unfolding turn_lines turn_line turn_text digits
+line_moves zero rest = refl
+line_moves (suc n) rest = ap (λ t. hart_turn_line ++ t) (line_moves n rest)
 
-last_line : (text : List ℕ) (n : ℕ) (b : Bool) → bytes_eq text (codes "end\n") ≡ b → cond b (Some 0) None ≡ Some n → length text ≡ 6 * n + 4
-last_line text n true t e =
-    let zero : 0 ≡ n = cc in
-    let whole = (bytes_eq-Decides text (codes "end\n")).0 t in
-    omega (arith, ap length whole)
-last_line text n false t e = absurd (none_some e) where
-  none_some : {k : ℕ} → None ≡ Some k → ⊥
-  none_some q = cc
+line_before : (text rest : List ℕ) → bytes_eq (take 6 text) hart_turn_line ≡ true → rest ≡ drop 6 text → text ≡ hart_turn_line ++ rest
+line_before text rest same is =
+    sym (take-append-drop 6 text) ∙ ap (λ t. t ++ drop 6 text) ((bytes_eq-Decides (take 6 text) hart_turn_line).0 same) ∙ ap (λ t. hart_turn_line ++ t) (sym is)
 
--- each line has six bytes, and the last has four
-pub length_turns : (text : List ℕ) (n : ℕ) → turns_of text ≡ Some n → length text ≡ 6 * n + 4
-length_turns (a ∷ b ∷ c ∷ d ∷ e ∷ f ∷ rest) n h = at_test (bytes_eq (a ∷ b ∷ c ∷ d ∷ e ∷ f ∷ []) (codes "h 0 0\n")) (turns_of rest) refl h (λ k. length_turns rest k) where
-  at_test : (t : Bool) (o : Option ℕ) → turns_of rest ≡ o → cond t (option_map suc o) None ≡ Some n → ((k : ℕ) → turns_of rest ≡ Some k → length rest ≡ 6 * k + 4) → length (a ∷ b ∷ c ∷ d ∷ e ∷ f ∷ rest) ≡ 6 * n + 4
-  at_test true (Some k) q r more = let next : suc k ≡ n = cc in omega (arith, more k q)
-  at_test true None q r more = cc
-  at_test false o q r more = cc
-length_turns text n h = last_line text n (bytes_eq text (codes "end\n")) refl h
+-- one line more was read
+pub one_line_more : (turns : ℕ) (text rest after : List ℕ) → text ≡ turn_lines (hart_turns turns) ++ rest → bytes_eq (take 6 rest) hart_turn_line ≡ true → after ≡ drop 6 rest → text ≡ turn_lines (hart_turns (turns + 1)) ++ after
+one_line_more turns text rest after so_far same is =
+    so_far ∙ ap (λ t. turn_lines (hart_turns turns) ++ t) (line_before rest after same is) ∙ line_moves turns after ∙ ap (λ (n : ℕ). turn_lines (hart_turns n) ++ after) (sym (add-one turns))
 
-too_many : (n : ℕ) → 1048576 < n → nat_le n 1048576 ≡ false
-too_many n many = grind (arith, nat_tests)
+-- before the first line
+pub no_line : (text : List ℕ) → text ≡ turn_lines (hart_turns 0) ++ text
+unfolding turn_lines
+no_line text = refl
 
--- a file past the limit is no schedule that is taken
-pub count_of-long : (file : List ℕ) → 33554432 < length file → count_of file ≡ None
-unfolding count_of
-count_of-long file long = by_turns (turns_of file) refl where
-  by_turns : (o : Option ℕ) → turns_of file ≡ o → option_and_then (λ n. cond (nat_le n 1048576) (Some n) None) o ≡ None
-  by_turns None q = refl
-  by_turns (Some n) q = let many : 1048576 < n = omega (arith, length_turns file n q) in rw (too_many n many) refl
+-- the last line was read
+pub last_line : (turns : ℕ) (text rest : List ℕ) → text ≡ turn_lines (hart_turns turns) ++ rest → bytes_eq rest (codes "end\n") ≡ true → text ≡ schedule_text (hart_turns turns)
+unfolding schedule_text
+last_line turns text rest so_far same = so_far ∙ ap (λ t. turn_lines (hart_turns turns) ++ t) ((bytes_eq-Decides rest (codes "end\n")).0 same)
+
+-- a line of a turn isn't the last line
+not_last : (rest : List ℕ) → hart_turn_line ++ rest ≡ codes "end\n" → ⊥
+not_last rest e = cc
+
+-- lines with no further line and no last line behind them are no schedule
+ends_nowhere : (n k : ℕ) (rest : List ℕ) → bytes_eq (take 6 rest) hart_turn_line ≡ false → bytes_eq rest (codes "end\n") ≡ false → turn_lines (hart_turns n) ++ rest ≡ schedule_text (hart_turns k) → ⊥
+unfolding schedule_text turn_lines turn_line turn_text digits
+ends_nowhere zero zero rest other unended e = cc (sym unended ∙ ap (λ t. bytes_eq t (codes "end\n")) e)
+ends_nowhere zero (suc k) rest other unended e = cc (sym other ∙ ap (λ t. bytes_eq (take 6 t) hart_turn_line) e)
+ends_nowhere (suc n) zero rest other unended e = not_last (turn_lines (hart_turns n) ++ rest) e
+ends_nowhere (suc n) (suc k) rest other unended e = ends_nowhere n k rest other unended (append_cancel_left hart_turn_line _ _ e)
+
+-- neither a line nor the last line was read
+pub no_last_line : (turns : ℕ) (text rest : List ℕ) → text ≡ turn_lines (hart_turns turns) ++ rest → bytes_eq (take 6 rest) hart_turn_line ≡ false → bytes_eq rest (codes "end\n") ≡ false → (n : ℕ) → text ≡ schedule_text (hart_turns n) → ⊥
+no_last_line turns text rest so_far other unended n is = ends_nowhere turns n rest other unended (sym so_far ∙ is)

@@ -4,6 +4,7 @@ use Rattle.std.specs.Prelude.{IfSome}
 use Rattle.tree_model.specs.Start.{TreeValue, ImageValue}
 use Rattle.text_model.specs.Report.{report_of}
 use Rattle.text_model.specs.Run.{counts_of}
+use Rattle.text_model.specs.Schedule.{hart_turns}
 use Rattle.one_leaf.specs.OneLeaf.{OneLeafValue}
 use Rattle.one_leaf.specs.Run.{after_all, answers_of}
 use Rattle.elf_load.specs.ElfFile.{image_of}
@@ -12,7 +13,7 @@ use Rattle.run_engine.proofs.Built.{fits_one_leaf}
 use Rattle.ddm_cli.specs.Causes.{TakenAs, Takes}
 use Rattle.ddm_cli.specs.LeafView.{leaf_view}
 use Rattle.ddm_cli.specs.Parts.{Parts, parts_in, tree_at}
-use Rattle.ddm_cli.specs.ScheduleForm.{count_of, hart_turns}
+use Rattle.ddm_cli.specs.ScheduleForm.{count_of}
 use Rattle.ddm_cli.specs.Top.{HasText, TakesParts, text_at}
 use Rattle.ddm_cli.proofs.Causes.{takes_parts}
 use Rattle.ddm_cli.proofs.Judged.{both_taken, parts_taken}

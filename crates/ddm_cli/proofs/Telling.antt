@@ -1,10 +1,11 @@
 -- A line that is written in pieces.
-use Rattle.std.proofs.Common.{◌≡◌, ℕ, ◌+◌, ◌-◌, ◌≤◌, List, ◌++◌, length, map, take, drop, Option, Some, None, Result, Ok, Err, refl, sym, ap, subst, ◌∙◌, arith, append_assoc}
-use Rattle.std.specs.Prelude.{IfSome, OnOk, OnErr, codes}
+use Rattle.std.proofs.Common.{◌≡◌, ℕ, ◌+◌, ◌-◌, ◌≤◌, List, ◌++◌, length, map, take, drop, Option, Result, Ok, Err, refl, sym, ap, subst, ◌∙◌, arith, append_assoc}
+use Rattle.std.specs.Prelude.{OnOk, OnErr, codes}
 use Rattle.std.proofs.Math.Seq.{take-add, take-append-add, take-length}
 use Rattle.std.proofs.lemmas.List.{append-nil, map-append, take-append-drop, take-append-le, length-append}
 use Rattle.ddm_outside.specs.Causes.{HasCause, Rose}
 use Rattle.report.specs.Appends.{Appends, AppendsPart}
+use Rattle.report.proofs.Written.{appends_more}
 use Rattle.text_model.specs.Faults.{key_refusal_text, name_words, shown_byte, shown_key, tree_key_fault}
 use Rattle.tree_config.specs.declared.refusal.TreeRefusal.{TreeRefusal}
 use Rattle.tree_config.specs.declared.refusal.TreeRefusal.TheVariants as tree
@@ -12,11 +13,6 @@ use Rattle.ddm_cli.specs.Refusals.{tree_line, tree_line_head, tree_line_rest}
 use Rattle.ddm_cli.specs.Top.{Offers, fault_line, line_head, line_rest}
 use Rattle.ddm_cli.specs.declared.status.Status.{Status}
 use Rattle.ddm_cli.specs.declared.status.Status.TheVariants.{Done, Usage, ImageLoad, ImageBuild, Tree, Unbuilt, ReadFault, WriteFault, NoMemory}
-
--- one text, and then another
-pub appends_more : (old mid new : Option (List ℕ)) (a b : List ℕ) → Appends old mid a → Appends mid new b → Appends old new (a ++ b)
-appends_more None mid new a b first more = tt
-appends_more (Some h) mid new a b first more = subst (λ (o : Option (List ℕ)). IfSome o (λ x. new ≡ Some (x ++ b))) first more ∙ ap Some (append_assoc h a b)
 
 -- one text, and then a first part of another
 pub part_more : (old mid new : Option (List ℕ)) (a b : List ℕ) → Appends old mid a → AppendsPart mid new b → AppendsPart old new (a ++ b)

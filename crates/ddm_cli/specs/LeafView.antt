@@ -2,9 +2,10 @@
 use Rattle.std.specs.Prelude.{ℕ, ◌+◌, ◌/◌, List, [], ◌∷◌, Some}
 use Rattle.ddm_types.specs.declared.sizes.LeafState.{LeafState}
 use Rattle.ddm_types.specs.ItemTable.{ItemRow}
+use Rattle.tree_model.specs.declared.CopyPlace.{CopyPlace}
 use Rattle.tree_model.specs.Machine.{no_traffic}
 use Rattle.text_model.specs.declared.RunCounts.{RunCounts}
-use Rattle.text_model.specs.Report.{leaf_way, HartView, ItemView, ReportView}
+use Rattle.text_model.specs.Report.{HartView, ItemView, ReportView}
 use Rattle.one_leaf.specs.OneLeaf.{OneLeafValue}
 use Rattle.one_leaf.specs.Step.{words_in}
 
@@ -13,7 +14,7 @@ leaf_hart_view v = record { number = 0; hart = v.hart; done = v.done }
 
 -- of an item of a leaf with this many sets
 abbrev pub leaf_item_view : ℕ → ℕ → ItemRow → List ℕ → ItemView
-leaf_item_view sets x row words = record { number = x; address = row.address; words = words; place = leaf_way 0 (x / sets); states = Some LeafState.Exclusive ∷ [] }
+leaf_item_view sets x row words = record { number = x; address = row.address; words = words; place = CopyPlace.LeafWay 0 (x / sets); states = Some LeafState.Exclusive ∷ [] }
 
 -- of these rows of the table, which begin with item x
 abbrev pub leaf_item_views : ℕ → List (List ℕ) → ℕ → List ItemRow → List ItemView

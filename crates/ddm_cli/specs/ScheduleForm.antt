@@ -1,16 +1,23 @@
--- The schedules that are built today: turns of hart 0 with the victim 0, and then `end`.
-use Rattle.std.specs.Prelude.{ℕ, suc, List, [], ◌∷◌, replicate, Option, Some, None, if◌then◌else◌, bytes_eq, codes, nat_le, option_and_then}
-use Rattle.std.specs.Option.{option_map}
+-- The schedules that are built today: those with no other turns than hart 0's with the victim 0.
+use Rattle.std.specs.Prelude.{ℕ, Bool, false, ◌&&◌, nat_eq, List, length, Option, Some, None, if◌then◌else◌, option_and_then}
+use Rattle.std.specs.List.{list_all}
+use Rattle.std.specs.Result.{result_ok}
 use Rattle.ddm_types.specs.declared.turns.Turn.{Turn}
+use Rattle.ddm_types.specs.declared.turns.Turn.TheVariants.{Hart, Down, Request, Reply, Leave}
+use Rattle.text_model.specs.Schedule.{one_leaf, schedule_of}
 
--- how many turns a text spells: so many lines of hart 0's turn, and then the last line
-abbrev pub turns_of : List ℕ → Option ℕ
-turns_of (a ∷ b ∷ c ∷ d ∷ e ∷ f ∷ rest) = if bytes_eq (a ∷ b ∷ c ∷ d ∷ e ∷ f ∷ []) (codes "h 0 0\n") then option_map suc (turns_of rest) else None
-turns_of rest = if bytes_eq rest (codes "end\n") then Some 0 else None
+-- a turn of hart 0 with the victim 0
+abbrev pub is_hart_turn : Turn → Bool
+is_hart_turn (Hart hart victim) = nat_eq hart 0 && nat_eq victim 0
+is_hart_turn (Down bus) = false
+is_hart_turn (Request bus child) = false
+is_hart_turn (Reply bus child) = false
+is_hart_turn (Leave bus child choice) = false
 
--- the number of turns of a text that hasn't too many
+-- how many turns there are, where each is such a turn
+abbrev pub count_of_turns : List Turn → Option ℕ
+count_of_turns turns = if list_all is_hart_turn turns then Some (length turns) else None
+
+-- the number of turns of a schedule that is accepted for the tree of one leaf, where each is such a turn
 unfoldable pub count_of : List ℕ → Option ℕ
-count_of file = option_and_then (λ n. if nat_le n 1048576 then Some n else None) (turns_of file)
-
-abbrev pub hart_turns : ℕ → List Turn
-hart_turns n = replicate n (Turn.Hart 0 0)
+count_of file = option_and_then count_of_turns (result_ok (schedule_of one_leaf 0 file))

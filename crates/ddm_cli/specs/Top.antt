@@ -3,6 +3,7 @@ use Rattle.std.specs.Prelude.{◌≡◌, ◌⊎◌, ℕ, List, [], Option, Some,
 use Rattle.tree_model.specs.Start.{TreeValue, start_machine}
 use Rattle.text_model.specs.Faults.{usage_fault, unbuilt_fault, read_fault, write_fault, memory_fault}
 use Rattle.text_model.specs.Run.{report_text_of}
+use Rattle.text_model.specs.Schedule.{hart_turns}
 use Rattle.report.specs.Appends.{Appends, AppendsPart}
 use Rattle.report.specs.Roles.{role_text}
 use Rattle.report.specs.declared.roles.FileRole.{FileRole}
@@ -12,7 +13,7 @@ use Rattle.one_leaf.specs.Witness.{EachTurnWitnessed}
 use Rattle.ddm_outside.specs.Causes.{Rose}
 use Rattle.tree_config.specs.TreeFile.{tree_of}
 use Rattle.ddm_cli.specs.Parts.{Parts, parts_of, tree_at}
-use Rattle.ddm_cli.specs.ScheduleForm.{count_of, hart_turns}
+use Rattle.ddm_cli.specs.ScheduleForm.{count_of}
 use Rattle.ddm_cli.specs.Causes.{Takes, IsUnbuiltTree, IsUnloaded, IsUnstarted}
 use Rattle.ddm_cli.specs.Refusals.{build_line, image_line, tree_line, tree_line_head, tree_line_rest}
 use Rattle.ddm_cli.specs.Words.{Names, names_of}

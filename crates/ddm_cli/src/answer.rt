@@ -1,11 +1,11 @@
 ghost use Rattle.std.specs.Prelude.{◌≡◌, ◌<◌, ◌≤◌, IfOk};
 ghost use Rattle.text_model.specs.Report.{report_of};
 ghost use Rattle.text_model.specs.Run.{counts_of};
+ghost use Rattle.text_model.specs.Schedule.{hart_turns};
 ghost use Rattle.rv_flat.specs.Registers.{IsHart};
 ghost use Rattle.one_leaf.specs.Run.{after_all, answers_of};
 ghost use Rattle.run_engine.specs.Build.{machine_value};
 ghost use Rattle.ddm_cli.specs.LeafView.{leaf_view};
-ghost use Rattle.ddm_cli.specs.ScheduleForm.{hart_turns};
 
 use crate::report_lines::report;
 use ddm_types::NoMemory;

@@ -1,5 +1,6 @@
-ghost use Rattle.std.specs.Prelude.{◌≡◌, ◌≤◌, IfSome};
-ghost use Rattle.ddm_cli.specs.ScheduleForm.{turns_of, count_of};
+ghost use Rattle.std.specs.Prelude.{◌≡◌, ◌≤◌, ℕ, IfSome, MatchOption};
+ghost use Rattle.text_model.specs.Schedule.{hart_turns, schedule_text};
+ghost use Rattle.ddm_cli.specs.ScheduleForm.{count_of};
 
 const LINE: &[u8] = b"h 0 0\n";
 
@@ -7,8 +8,11 @@ const LAST_LINE: &[u8] = b"end\n";
 
 const MOST_TURNS: u64 = 1_048_576;
 
+// How many turns of hart 0 a text is the text of, however many they are.
 fn count_lines(text: &[u8]) -> Option<u64>
-    ensures { result ≡ turns_of text.now }
+    ensures { MatchOption result
+        ((n : ℕ) → ¬ (text.now ≡ schedule_text (hart_turns n)))
+        (λ n. text.now ≡ schedule_text (hart_turns n)) }
 {
     let mut rest = text;
     let mut turns = 0;
@@ -20,7 +24,7 @@ fn count_lines(text: &[u8]) -> Option<u64>
 }
 
 /// How many turns of hart 0 a schedule has, where it is of the form that is built.
-#[tactic(auto, unfolding(crate::specs::ScheduleForm::count_of))]
+#[tactic(auto, using(crate::proofs::Counted::counts))]
 pub fn count_turns(text: &[u8]) -> Option<u64>
     ensures turns { result ≡ count_of text.now }
     ensures few { IfSome result (λ n. n ≤ 1048576) }

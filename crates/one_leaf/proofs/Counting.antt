@@ -5,10 +5,11 @@ use Rattle.ddm_types.specs.declared.operations.HaltCause.{HaltCause}
 use Rattle.ddm_types.specs.declared.answers.TurnAnswer.{TurnAnswer}
 use Rattle.flat_model.specs.Flat.{Change}
 use Rattle.text_model.specs.declared.RunCounts.{RunCounts}
+use Rattle.text_model.specs.Schedule.{hart_turns}
 use Rattle.text_model.specs.Run.{counted_answer, counts_of, no_counts}
 use Rattle.one_leaf.specs.OneLeaf.{OneLeafValue, answer_of, after_of, answer_by, after_by, step_of}
 use Rattle.one_leaf.specs.Run.{answers_of, after_all}
-use Rattle.one_leaf.specs.Counts.{AreBelow, hart_turns}
+use Rattle.one_leaf.specs.Counts.{AreBelow}
 
 after-suc : (k : ℕ) (v : OneLeafValue) → after_all (hart_turns (suc k)) v ≡ after_of (after_all (hart_turns k) v)
 unfolding after_all

@@ -1,6 +1,5 @@
 -- Counts of a run of turns of the one hart.
-use Rattle.std.specs.Prelude.{ℕ, ◌<◌, List, replicate}
-use Rattle.ddm_types.specs.declared.turns.Turn.{Turn}
+use Rattle.std.specs.Prelude.{ℕ, ◌<◌}
 use Rattle.text_model.specs.declared.RunCounts.{RunCounts}
 
 -- every count is below a bound
@@ -9,6 +8,3 @@ pub record AreBelow (most : ℕ) (counts : RunCounts) : Type 0 where
   pub retired : counts.retired < most
   pub granted : counts.granted < most
   pub busy : counts.busy < most
-
-abbrev pub hart_turns : ℕ → List Turn
-hart_turns n = replicate n (Turn.Hart 0 0)

@@ -1,8 +1,9 @@
 ghost use Rattle.std.specs.Prelude.{◌≡◌, ◌<◌, ◌≤◌, IfOk, OnOk};
+ghost use Rattle.text_model.specs.Schedule.{hart_turns};
 ghost use Rattle.text_model.specs.Run.{counted_answer, counts_of, no_counts};
 ghost use Rattle.one_leaf.specs.OneLeaf.{after_of, answer_of};
 ghost use Rattle.one_leaf.specs.Run.{after_all, answers_of};
-ghost use Rattle.one_leaf.specs.Counts.{AreBelow, hart_turns};
+ghost use Rattle.one_leaf.specs.Counts.{AreBelow};
 
 use crate::machine::OneLeaf;
 use ddm_types::{NoMemory, TurnAnswer};

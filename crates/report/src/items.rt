@@ -1,7 +1,6 @@
 ghost use Rattle.std.specs.Prelude.{OnOk};
 ghost use Rattle.ddm_text.specs.Adds.{Adds};
 ghost use Rattle.text_model.specs.Report.{copy_place_text, item_line, letter_text, letter_texts};
-ghost use Rattle.report.specs.CopyPlaces.{copy_place_view};
 
 use crate::numbers::{push_bus, push_item, push_named_leaf};
 use crate::pieces::{push_bytes, push_named, push_words};
@@ -12,8 +11,7 @@ use tree_model::CopyPlace;
 /// Puts at the end where an item's current copy is.
 #[tactic(auto, unfolding(text_model::specs::Report::copy_place_text))]
 pub fn push_copy_place(out: &mut Vec<u8>, place: CopyPlace) -> Result<(), NoMemory>
-    ensures { OnOk result (Adds out.old.items out.new.items
-        (copy_place_text (copy_place_view place))) }
+    ensures { OnOk result (Adds out.old.items out.new.items (copy_place_text place)) }
 {
     match place {
         CopyPlace::LeafWay { leaf, way } => {
@@ -76,7 +74,7 @@ pub fn push_item_line(
       number = item;
       address = address;
       words = words.now;
-      place = copy_place_view place;
+      place = place;
       states = states.now;
     }))) }
 {

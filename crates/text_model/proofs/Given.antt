@@ -1,5 +1,5 @@
 -- The turns that a text gives are turns of the tree, and not too many.
-use Rattle.std.proofs.Common.{◌≡◌, ℕ, ◌+◌, ◌<◌, ◌≤◌, Bool, true, false, cond, nat_lt, List, [], ◌∷◌, length, Option, Some, None, decimal, refl, sym, ap, ◌∙◌, subst, arith}
+use Rattle.std.proofs.Common.{◌≡◌, ℕ, ◌+◌, ◌<◌, ◌≤◌, Bool, true, false, cond, nat_lt, List, [], ◌∷◌, length, Option, Some, None, Ok, decimal, refl, sym, ap, ◌∙◌, subst, arith}
 use Rattle.std.specs.Prelude.{codes, bytes_eq}
 use Rattle.std.proofs.lemmas.Bool.{ltb-true}
 use Rattle.std.proofs.lemmas.List.Elements.{All-nil, All-cons}
@@ -9,11 +9,11 @@ use Rattle.ddm_text.specs.Numbers.{number_of}
 use Rattle.ddm_text.proofs.Spellings.{number_of-within}
 use Rattle.text_model.specs.declared.ScheduleRefusal.{ScheduleRefusal}
 use Rattle.text_model.specs.declared.ScheduleRefusal.TheVariants.{TooManyTurns}
-use Rattle.text_model.specs.Schedule.{ShapeView, pieces_at, place_in, choice_in, hart_turn_of, leave_turn_of, turn_of_words, LineMeaning, turn_line_of, end_line, no_line, meaning_of, turn_fault, refusal_of_turn, Reading, with_turn, after_end, unless_refused, line_reading, reading_from, reading_on}
+use Rattle.text_model.specs.Schedule.{ShapeView, pieces_at, place_in, choice_in, hart_turn_of, leave_turn_of, turn_of_words, LineMeaning, turn_line_of, end_line, no_line, meaning_of, turn_fault, refusal_of_turn, Reading, with_turn, after_end, unless_refused, line_reading, reading_from, reading_of, reading_on, schedule_of}
 use Rattle.text_model.specs.ReadBack.{IsTurnOf, choice_of, GivesTurnsOf}
 use Rattle.text_model.proofs.Pieces.{some_piece}
-use Rattle.text_model.proofs.TurnTexts.{words_of}
-use Rattle.text_model.proofs.OneSpelling.{is_ok_by, turn_words, meaning_turn}
+use Rattle.text_model.proofs.TurnTexts.{words_of_turn}
+use Rattle.text_model.proofs.OneSpelling.{is_ok_by, turn_words, meaning_turn, finished_by}
 
 -- ---- victims and choices
 
@@ -31,19 +31,19 @@ choice_given (Some a) (Some b) None bus child choice e = absurd (cc e)
 choice_given (Some a) None o'' bus child choice e = absurd (cc e)
 choice_given None o' o'' bus child choice e = absurd (cc e)
 
-choice_of-words_of : (turn : Turn) → turn_of_words (words_of turn) ≡ Some turn → choice_of turn < 256
+choice_of-words_of_turn : (turn : Turn) → turn_of_words (words_of_turn turn) ≡ Some turn → choice_of turn < 256
 unfolding turn_of_words
-choice_of-words_of (Hart hart victim) e = choice_within (decimal victim) victim (victim_given (place_in (decimal hart)) (choice_in (decimal victim)) hart victim e)
-choice_of-words_of (Down bus) e = omega arith
-choice_of-words_of (Request bus child) e = omega arith
-choice_of-words_of (Reply bus child) e = omega arith
-choice_of-words_of (Leave bus child choice) e = choice_within (decimal choice) choice (choice_given (place_in (decimal bus)) (place_in (decimal child)) (choice_in (decimal choice)) bus child choice e)
+choice_of-words_of_turn (Hart hart victim) e = choice_within (decimal victim) victim (victim_given (place_in (decimal hart)) (choice_in (decimal victim)) hart victim e)
+choice_of-words_of_turn (Down bus) e = omega arith
+choice_of-words_of_turn (Request bus child) e = omega arith
+choice_of-words_of_turn (Reply bus child) e = omega arith
+choice_of-words_of_turn (Leave bus child choice) e = choice_within (decimal choice) choice (choice_given (place_in (decimal bus)) (place_in (decimal child)) (choice_in (decimal choice)) bus child choice e)
 
 choice_of-meaning_of : (line : List ℕ) (turn : Turn) → meaning_of line ≡ turn_line_of turn → choice_of turn < 256
 unfolding meaning_of
 choice_of-meaning_of line turn e =
     let given = meaning_turn (nat_lt 24 (length line)) (bytes_eq line (codes "end")) (turn_of_words (pieces_at 32 line)) turn e in
-    choice_of-words_of turn (ap turn_of_words (sym (turn_words (pieces_at 32 line) turn given)) ∙ given)
+    choice_of-words_of_turn turn (ap turn_of_words (sym (turn_words (pieces_at 32 line) turn given)) ∙ given)
 
 -- ---- a text
 
@@ -87,3 +87,12 @@ turns-reading_on shape line made text room =
     let some = some_piece 10 text in
     let P : List (List ℕ) → Type 0 = λ ps. GivesTurnsOf shape made (reading_from shape line made ps).turns in
     subst P (sym some.2) (given_from shape line made some.0 some.1 room)
+
+-- so does an accepted text
+pub turns-schedule_of : (shape : ShapeView) (made : ℕ) (text : List ℕ) (turns : List Turn) → made ≤ 1048576 → schedule_of shape made text ≡ Ok turns → GivesTurnsOf shape made turns
+unfolding schedule_of reading_of
+turns-schedule_of shape made text turns room e =
+    let reading = reading_on shape 1 made text in
+    let given = finished_by reading.turns reading.standing turns e in
+    let P : List Turn → Type 0 = λ ts. GivesTurnsOf shape made ts in
+    subst P given.2 (turns-reading_on shape 1 made text room)

@@ -8,3 +8,4 @@ pub mod OneSpelling
 pub mod Given
 pub mod Schedules
 pub mod Reports
+pub mod Outputs

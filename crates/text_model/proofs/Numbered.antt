@@ -1,13 +1,12 @@
 -- Lines with a number that counts up, for loops that print them: a further line stands at the end.
-use Rattle.std.proofs.Common.{◌≡◌, ℕ, suc, ◌+◌, ◌<◌, List, [], ◌∷◌, ◌++◌, length, take, get_or, sym, ap, ◌∙◌, subst, append_assoc, add-zero, add-one, zero-add, arith}
+use Rattle.std.proofs.Common.{◌≡◌, ℕ, ◌+◌, ◌<◌, List, [], ◌∷◌, ◌++◌, length, take, get_or, sym, ap, ◌∙◌, subst, append_assoc, add-zero, zero-add, arith}
 use Rattle.ddm_types.specs.declared.turns.Turn.{Turn}
 use Rattle.ddm_types.specs.declared.answers.TurnAnswer.{TurnAnswer}
 use Rattle.tree_model.specs.declared.Traffic.{Traffic}
 use Rattle.ddm_text.specs.Adds.{Adds, ◌▸◌}
 use Rattle.text_model.specs.Trace.{trace_line, trace_from}
 use Rattle.text_model.specs.Report.{bus_line, bus_lines_from}
-use Rattle.std.proofs.lemmas.List.{append-nil, length-take-le}
-use Rattle.std.proofs.Math.Seq.{take-suc}
+use Rattle.std.proofs.lemmas.List.{append-nil, length-take-le, take_more}
 
 pub bus_lines_from-append : (n : ℕ) (xs ys : List Traffic) → bus_lines_from n (xs ++ ys) ≡ bus_lines_from n xs ++ bus_lines_from (n + length xs) ys
 unfolding bus_lines_from
@@ -24,8 +23,7 @@ bus_lines_from-take n i xs d inside =
     let x = get_or xs i d in
     let first = bus_lines_from n (take i xs) in
     let number : n + length (take i xs) ≡ n + i = ap (λ (m : ℕ). n + m) (length-take-le i xs (omega (arith, inside))) in
-    ap (λ (m : ℕ). bus_lines_from n (take m xs)) (add-one i)
-    ∙ ap (λ ys. bus_lines_from n ys) (take-suc xs i d inside)
+    ap (λ ys. bus_lines_from n ys) (take_more xs i d inside)
     ∙ bus_lines_from-append n (take i xs) (x ∷ [])
     ∙ ap (λ (m : ℕ). first ++ bus_lines_from m (x ∷ [])) number
     ∙ ap (λ t. first ++ t) (append-nil (bus_line (n + i) x))
@@ -48,9 +46,8 @@ trace_from-take n i turns answers t a inside inside' =
     let answer = get_or answers i a in
     let first = trace_from n (take i turns) (take i answers) in
     let number : n + length (take i turns) ≡ n + i = ap (λ (m : ℕ). n + m) (length-take-le i turns (omega (arith, inside))) in
-    ap (λ (m : ℕ). trace_from n (take m turns) (take m answers)) (add-one i)
-    ∙ ap (λ ys. trace_from n ys (take (suc i) answers)) (take-suc turns i t inside)
-    ∙ ap (λ ys. trace_from n (take i turns ++ turn ∷ []) ys) (take-suc answers i a inside')
+    ap (λ ys. trace_from n ys (take (i + 1) answers)) (take_more turns i t inside)
+    ∙ ap (λ ys. trace_from n (take i turns ++ turn ∷ []) ys) (take_more answers i a inside')
     ∙ trace_from-append n (take i turns) (turn ∷ []) (take i answers) (answer ∷ []) (length-take-le i turns (omega (arith, inside)) ∙ sym (length-take-le i answers (omega (arith, inside'))))
     ∙ ap (λ (m : ℕ). first ++ trace_from m (turn ∷ []) (answer ∷ [])) number
     ∙ ap (λ t. first ++ t) (append-nil (trace_line (n + i) turn answer))

@@ -1,9 +1,10 @@
 -- A text that gives turns is the text of those turns.
 use Rattle.std.proofs.Common.{◌≡◌, ℕ, ◌+◌, Bool, true, false, cond, ◌&&◌, nat_eq, nat_lt, List, [], ◌∷◌, ◌++◌, length, Option, Some, None, Result, Ok, Err, decimal, refl, sym, ap, ◌∙◌, subst, append_assoc, arith}
-use Rattle.std.specs.Prelude.{codes, bytes_eq, flat_map}
+use Rattle.std.specs.Prelude.{codes, bytes_eq}
 use Rattle.std.specs.List.{join_with_byte}
 use Rattle.std.specs.Result.{result_ok}
 use Rattle.std.proofs.lemmas.Bool.{eqb-true}
+use Rattle.std.proofs.lemmas.Slice.Eq.{bytes_eq-Decides}
 use Rattle.ddm_types.specs.declared.turns.Turn.{Turn}
 use Rattle.ddm_types.specs.declared.turns.Turn.TheVariants.{Hart, Down, Request, Reply, Leave}
 use Rattle.ddm_text.specs.declared.reading.NumberRefusal.{NumberRefusal}
@@ -11,9 +12,9 @@ use Rattle.ddm_text.specs.Numbers.{number_of}
 use Rattle.ddm_text.proofs.Spellings.{spelling-number_of}
 use Rattle.text_model.specs.declared.ScheduleRefusal.{ScheduleRefusal}
 use Rattle.text_model.specs.declared.ScheduleRefusal.TheVariants.{BadTurn}
-use Rattle.text_model.specs.Schedule.{ShapeView, turn_text, turn_line, turn_lines, schedule_text, with_byte_before, pieces_at, place_in, choice_in, hart_turn_of, down_turn_of, request_turn_of, reply_turn_of, leave_turn_of, turn_of_words, LineMeaning, turn_line_of, end_line, no_line, line_of_turn, meaning_of, refusal_of_turn, Standing, in_line, at_end, refused_at, Reading, with_turn, after_end, unless_refused, line_reading, reading_from, reading_of, finished, schedule_of}
-use Rattle.text_model.proofs.Pieces.{some_piece}
-use Rattle.text_model.proofs.TurnTexts.{words_of}
+use Rattle.text_model.specs.Schedule.{ShapeView, turn_text, turn_lines, schedule_text, with_byte_before, pieces_at, place_in, choice_in, hart_turn_of, down_turn_of, request_turn_of, reply_turn_of, leave_turn_of, turn_of_words, LineMeaning, turn_line_of, end_line, no_line, line_of_turn, meaning_of, refusal_of_turn, Standing, in_line, at_end, refused_at, Reading, with_turn, after_end, unless_refused, line_reading, reading_from, reading_of, finished, schedule_of}
+use Rattle.text_model.proofs.Pieces.{both, some_piece}
+use Rattle.text_model.proofs.TurnTexts.{words_of_turn, schedule_text-turn}
 
 -- ---- pieces put together again
 
@@ -34,17 +35,8 @@ join-pieces_at separator (byte ∷ text) =
 
 -- ---- words
 
-both : (a b : Bool) → (a && b) ≡ true → (a ≡ true) × (b ≡ true)
-both true b e = (refl, e)
-both false b e = absurd (cc e)
-
 same_bytes : (xs ys : List ℕ) → bytes_eq xs ys ≡ true → xs ≡ ys
-same_bytes [] [] e = refl
-same_bytes [] (y ∷ ys) e = absurd (cc e)
-same_bytes (x ∷ xs) [] e = absurd (cc e)
-same_bytes (x ∷ xs) (y ∷ ys) e =
-    let parts = both (nat_eq x y) (bytes_eq xs ys) e in
-    ap (λ z. z ∷ xs) (eqb-true x y parts.0) ∙ ap (λ zs. y ∷ zs) (same_bytes xs ys parts.1)
+same_bytes xs ys = (bytes_eq-Decides xs ys).0
 
 pub is_ok_by : (r : Result ℕ NumberRefusal) (n : ℕ) → result_ok r ≡ Some n → r ≡ Ok n
 is_ok_by (Ok m) n e = cc e
@@ -58,7 +50,7 @@ choice_spelled word n e = spelling-number_of word 255 n (omega arith) (is_ok_by 
 
 -- Words are those of a turn.
 abbrev AreWordsOf : List (List ℕ) → Turn → Type 0
-AreWordsOf words turn = words ≡ words_of turn
+AreWordsOf words turn = words ≡ words_of_turn turn
 
 some_turn : (a b : Turn) (words : List (List ℕ)) → Some a ≡ Some b → AreWordsOf words a → AreWordsOf words b
 some_turn a b words e are = let P : Turn → Type 0 = λ t. AreWordsOf words t in subst P (cc e) are
@@ -141,13 +133,13 @@ turn_words (a ∷ b ∷ c ∷ d ∷ f ∷ g ∷ words) turn e = absurd (cc e)
 
 -- ---- a line
 
-join-words_of : (turn : Turn) → join_with_byte 32 (words_of turn) ≡ turn_text turn
+join-words_of_turn : (turn : Turn) → join_with_byte 32 (words_of_turn turn) ≡ turn_text turn
 unfolding turn_text
-join-words_of (Hart hart victim) = ap (λ t. 104 ∷ 32 ∷ t) (sym (append_assoc (decimal hart) (32 ∷ []) (decimal victim)))
-join-words_of (Down bus) = refl
-join-words_of (Request bus child) = ap (λ t. 103 ∷ 32 ∷ t) (sym (append_assoc (decimal bus) (32 ∷ 113 ∷ 32 ∷ []) (decimal child)))
-join-words_of (Reply bus child) = ap (λ t. 103 ∷ 32 ∷ t) (sym (append_assoc (decimal bus) (32 ∷ 114 ∷ 32 ∷ []) (decimal child)))
-join-words_of (Leave bus child choice) =
+join-words_of_turn (Hart hart victim) = ap (λ t. 104 ∷ 32 ∷ t) (sym (append_assoc (decimal hart) (32 ∷ []) (decimal victim)))
+join-words_of_turn (Down bus) = refl
+join-words_of_turn (Request bus child) = ap (λ t. 103 ∷ 32 ∷ t) (sym (append_assoc (decimal bus) (32 ∷ 113 ∷ 32 ∷ []) (decimal child)))
+join-words_of_turn (Reply bus child) = ap (λ t. 103 ∷ 32 ∷ t) (sym (append_assoc (decimal bus) (32 ∷ 114 ∷ 32 ∷ []) (decimal child)))
+join-words_of_turn (Leave bus child choice) =
     ap (λ t. 103 ∷ 32 ∷ t)
     (sym (ap (λ u. (u ++ 32 ∷ []) ++ decimal choice) (append_assoc (decimal bus) (32 ∷ 108 ∷ 32 ∷ []) (decimal child))
     ∙ append_assoc (decimal bus ++ 32 ∷ 108 ∷ 32 ∷ decimal child) (32 ∷ []) (decimal choice)
@@ -176,7 +168,7 @@ pub turn_text-meaning_of : (line : List ℕ) (turn : Turn) → meaning_of line �
 unfolding meaning_of
 turn_text-meaning_of line turn e =
     let given = meaning_turn (nat_lt 24 (length line)) (bytes_eq line (codes "end")) (turn_of_words (pieces_at 32 line)) turn e in
-    sym (join-pieces_at 32 line) ∙ ap (λ ws. join_with_byte 32 ws) (turn_words (pieces_at 32 line) turn given) ∙ join-words_of turn
+    sym (join-pieces_at 32 line) ∙ ap (λ ws. join_with_byte 32 ws) (turn_words (pieces_at 32 line) turn given) ∙ join-words_of_turn turn
 
 end_text-meaning_of : (line : List ℕ) → meaning_of line ≡ end_line → line ≡ codes "end"
 unfolding meaning_of
@@ -192,12 +184,6 @@ Spells pieces reading = join_with_byte 10 pieces ≡ schedule_text reading.turns
 one_piece : (d : Bool) (line behind : ℕ) → cond d (refused_at line BadTurn) (in_line line) ≡ at_end behind → ⊥
 one_piece true line behind e = cc e
 one_piece false line behind e = cc e
-
-schedule_text-turn : (turn : Turn) (turns : List Turn) → schedule_text (turn ∷ turns) ≡ turn_text turn ++ 10 ∷ schedule_text turns
-unfolding schedule_text turn_lines turn_line
-schedule_text-turn turn turns =
-    append_assoc (turn_text turn ++ 10 ∷ []) (flat_map turn_line turns) (codes "end\n")
-    ∙ append_assoc (turn_text turn) (10 ∷ []) (flat_map turn_line turns ++ codes "end\n")
 
 spelled_turn : (line behind : ℕ) (o : Option ScheduleRefusal) (turn : Turn) (piece next : List ℕ) (pieces : List (List ℕ)) (more : Reading) → piece ≡ turn_text turn → (more.standing ≡ at_end behind → Spells (next ∷ pieces) more) → (unless_refused line o (with_turn turn more)).standing ≡ at_end behind → Spells (piece ∷ next ∷ pieces) (unless_refused line o (with_turn turn more))
 spelled_turn line behind None turn piece next pieces more is rest e =
@@ -221,7 +207,7 @@ spelled_from shape line made behind piece [] e = absurd (one_piece (nat_lt 24 (l
 spelled_from shape line made behind piece (next ∷ pieces) e =
     spelled_line shape line made behind (meaning_of piece) piece next pieces (reading_from shape (line + 1) (made + 1) (next ∷ pieces)) refl (spelled_from shape (line + 1) (made + 1) behind next pieces) e
 
-finished_by : (reading : List Turn) (standing : Standing) (turns : List Turn) → finished reading standing ≡ Ok turns → (behind : ℕ) × (standing ≡ at_end behind) × (reading ≡ turns)
+pub finished_by : (reading : List Turn) (standing : Standing) (turns : List Turn) → finished reading standing ≡ Ok turns → (behind : ℕ) × (standing ≡ at_end behind) × (reading ≡ turns)
 finished_by reading (in_line line) turns e = absurd (cc e)
 finished_by reading (at_end line) turns e = (line, refl, cc e)
 finished_by reading (refused_at line refusal) turns e = absurd (cc e)

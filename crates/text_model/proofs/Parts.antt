@@ -1,26 +1,19 @@
 -- A text that is read line by line, or part by part.
-use Rattle.std.proofs.Common.{◌≡◌, ℕ, ◌+◌, ◌<◌, ◌≤◌, Bool, true, false, not, cond, ◌&&◌, nat_eq, nat_lt, List, [], ◌∷◌, ◌++◌, length, refl, sym, ap, ◌∙◌, length-append, arith}
+use Rattle.std.proofs.Common.{◌≡◌, ℕ, ◌+◌, ◌<◌, ◌≤◌, Bool, true, false, not, cond, nat_eq, List, [], ◌∷◌, ◌++◌, length, refl, sym, ap, ◌∙◌, length-append, arith}
 use Rattle.std.specs.List.{list_all}
 use Rattle.std.specs.Prelude.{bytes_eq, codes}
+use Rattle.std.proofs.lemmas.Bool.{lt-ltb, le-ltb}
 use Rattle.text_model.specs.declared.ScheduleRefusal.TheVariants.{BadTurn, AfterEnd}
 use Rattle.text_model.specs.Schedule.{ShapeView, with_byte_before, pieces_at, turn_of_words, line_of_turn, meaning_of, LineMeaning, turn_line_of, end_line, no_line, refusal_of_turn, in_line, at_end, refused_at, Reading, nothing_but, with_turn, after_end, unless_refused, line_reading, reading_from, reading_on, end_with, reading_of_line}
 use Rattle.text_model.specs.Lines.{Lacks}
-use Rattle.text_model.proofs.Pieces.{some_piece, pieces_at-whole, pieces_at-append}
+use Rattle.text_model.proofs.Pieces.{both, goes_on, some_piece, pieces_at-whole, pieces_at-append}
 
 -- ---- the front of a text that lacks line feeds
-
-both : (a b : Bool) → (a && b) ≡ true → (a ≡ true) × (b ≡ true)
-both true b e = (refl, e)
-both false b e = absurd (cc e)
 
 -- a text before the first piece
 abbrev pub in_front : List ℕ → List (List ℕ) → List (List ℕ)
 in_front text [] = text ∷ []
 in_front text (piece ∷ pieces) = (text ++ piece) ∷ pieces
-
-goes_on : (d : Bool) (byte : ℕ) (piece : List ℕ) (pieces : List (List ℕ)) → not d ≡ true → cond d ([] ∷ piece ∷ pieces) ((byte ∷ piece) ∷ pieces) ≡ (byte ∷ piece) ∷ pieces
-goes_on true byte piece pieces e = absurd (cc e)
-goes_on false byte piece pieces e = refl
 
 in_front_byte : (separator byte : ℕ) (text : List ℕ) (pieces : List (List ℕ)) → not (nat_eq byte separator) ≡ true → with_byte_before separator byte (in_front text pieces) ≡ in_front (byte ∷ text) pieces
 in_front_byte separator byte text [] other = goes_on (nat_eq byte separator) byte text [] other
@@ -40,20 +33,14 @@ pieces_at-front separator (byte ∷ text) more lacks =
 
 -- ---- a line
 
-long : (n : ℕ) → 24 < n → nat_lt 24 n ≡ true
-long n more = grind arith
-
-not_long : (n : ℕ) → n ≤ 24 → nat_lt 24 n ≡ false
-not_long n le = grind arith
-
 meaning_of-long : (text : List ℕ) → 24 < length text → meaning_of text ≡ no_line
 unfolding meaning_of
 meaning_of-long text more =
-    ap (λ d. cond d no_line (cond (bytes_eq text (codes "end")) end_line (line_of_turn (turn_of_words (pieces_at 32 text))))) (long (length text) more)
+    ap (λ d. cond d no_line (cond (bytes_eq text (codes "end")) end_line (line_of_turn (turn_of_words (pieces_at 32 text))))) (lt-ltb 24 (length text) more)
 
 pub reading_from-long : (shape : ShapeView) (line made : ℕ) (piece : List ℕ) (pieces : List (List ℕ)) → 24 < length piece → reading_from shape line made (piece ∷ pieces) ≡ nothing_but (refused_at line BadTurn)
 unfolding reading_from
-reading_from-long shape line made piece [] more = ap (λ d. nothing_but (cond d (refused_at line BadTurn) (in_line line))) (long (length piece) more)
+reading_from-long shape line made piece [] more = ap (λ d. nothing_but (cond d (refused_at line BadTurn) (in_line line))) (lt-ltb 24 (length piece) more)
 reading_from-long shape line made piece (next ∷ pieces) more =
     ap (λ m. line_reading shape line made m next pieces (reading_from shape (line + 1) (made + 1) (next ∷ pieces))) (meaning_of-long piece more)
 
@@ -62,7 +49,7 @@ pub reading_on-open : (shape : ShapeView) (line made : ℕ) (text : List ℕ) �
 unfolding reading_from
 reading_on-open shape line made text lacks few =
     ap (λ ps. reading_from shape line made ps) (pieces_at-whole 10 text lacks)
-    ∙ ap (λ d. nothing_but (cond d (refused_at line BadTurn) (in_line line))) (not_long (length text) few)
+    ∙ ap (λ d. nothing_but (cond d (refused_at line BadTurn) (in_line line))) (le-ltb 24 (length text) few)
 
 -- a line that is too long, whatever follows
 pub reading_on-long : (shape : ShapeView) (line made : ℕ) (text more : List ℕ) → Lacks 10 text → 24 < length text → reading_on shape line made (text ++ more) ≡ nothing_but (refused_at line BadTurn)

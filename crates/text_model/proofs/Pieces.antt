@@ -8,7 +8,7 @@ use Rattle.ddm_text.proofs.Spellings.{AreDigits, AreDigits-decimal}
 use Rattle.text_model.specs.Schedule.{with_byte_before, pieces_at}
 use Rattle.text_model.specs.Lines.{Lacks}
 
-both : (a b : Bool) → (a && b) ≡ true → (a ≡ true) × (b ≡ true)
+pub both : (a b : Bool) → (a && b) ≡ true → (a ≡ true) × (b ≡ true)
 both true b e = (refl, e)
 both false b e = absurd (cc e)
 
@@ -46,7 +46,7 @@ some_piece separator [] = ([], [], refl)
 some_piece separator (byte ∷ text) = first_piece separator byte (pieces_at separator text)
 
 -- a byte that doesn't separate
-goes_on : (d : Bool) (byte : ℕ) (piece : List ℕ) (pieces : List (List ℕ)) → not d ≡ true → cond d ([] ∷ piece ∷ pieces) ((byte ∷ piece) ∷ pieces) ≡ (byte ∷ piece) ∷ pieces
+pub goes_on : (d : Bool) (byte : ℕ) (piece : List ℕ) (pieces : List (List ℕ)) → not d ≡ true → cond d ([] ∷ piece ∷ pieces) ((byte ∷ piece) ∷ pieces) ≡ (byte ∷ piece) ∷ pieces
 goes_on true byte piece pieces e = absurd (cc e)
 goes_on false byte piece pieces e = refl
 

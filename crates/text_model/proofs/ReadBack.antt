@@ -1,14 +1,14 @@
 -- The text of turns is read back.
-use Rattle.std.proofs.Common.{◌≡◌, ℕ, ◌+◌, ◌<◌, ◌≤◌, cond, List, [], ◌∷◌, ◌++◌, length, Some, None, refl, ap, ◌∙◌, append_assoc, arith}
-use Rattle.std.specs.Prelude.{codes, All, flat_map}
+use Rattle.std.proofs.Common.{◌≡◌, ℕ, ◌+◌, ◌<◌, ◌≤◌, cond, List, [], ◌∷◌, length, Some, None, refl, ap, ◌∙◌, arith}
+use Rattle.std.specs.Prelude.{codes, All}
 use Rattle.std.proofs.lemmas.Bool.{lt-ltb}
 use Rattle.std.proofs.lemmas.List.Elements.{All-tail}
 use Rattle.ddm_types.specs.declared.turns.Turn.{Turn}
 use Rattle.text_model.specs.declared.ScheduleRefusal.TheVariants.{TooManyTurns}
-use Rattle.text_model.specs.Schedule.{ShapeView, turn_text, turn_line, turn_lines, schedule_text, pieces_at, meaning_of, turn_fault, refusal_of_turn, Reading, at_end, with_turn, unless_refused, line_reading, reading_from, reading_of, finished, schedule_of}
+use Rattle.text_model.specs.Schedule.{ShapeView, turn_text, turn_lines, schedule_text, pieces_at, meaning_of, turn_fault, refusal_of_turn, Reading, at_end, with_turn, unless_refused, line_reading, reading_from, reading_of, finished, schedule_of}
 use Rattle.text_model.specs.ReadBack.{IsTurnOf, IsSmallShape, IsReadBack}
 use Rattle.text_model.proofs.Pieces.{pieces_at-append}
-use Rattle.text_model.proofs.TurnTexts.{IsShort-IsTurnOf, meaning_of-turn_text, Lacks-turn_text}
+use Rattle.text_model.proofs.TurnTexts.{IsShort-IsTurnOf, meaning_of-turn_text, Lacks-turn_text, schedule_text-turn}
 
 -- the lines of a schedule, and the empty piece behind them
 abbrev all_lines : List Turn → List (List ℕ)
@@ -19,13 +19,11 @@ first_of : (shape : ShapeView) (turn : Turn) (turns : List Turn) → All (IsTurn
 first_of shape turn turns all = all 0 turn (omega arith)
 
 pieces_at-schedule_text : (shape : ShapeView) (turns : List Turn) → IsSmallShape shape → All (IsTurnOf shape) turns → pieces_at 10 (schedule_text turns) ≡ all_lines turns
-unfolding schedule_text turn_lines turn_line pieces_at
+unfolding schedule_text turn_lines pieces_at
 pieces_at-schedule_text shape [] small all = refl
 pieces_at-schedule_text shape (turn ∷ turns) small all =
     let short = IsShort-IsTurnOf shape turn small (first_of shape turn turns all) in
-    ap (λ t. pieces_at 10 t)
-    (append_assoc (turn_text turn ++ 10 ∷ []) (flat_map turn_line turns) (codes "end\n")
-    ∙ append_assoc (turn_text turn) (10 ∷ []) (flat_map turn_line turns ++ codes "end\n"))
+    ap (λ t. pieces_at 10 t) (schedule_text-turn turn turns)
     ∙ pieces_at-append 10 (turn_text turn) (schedule_text turns) refl (Lacks-turn_text turn short)
     ∙ ap (λ ps. turn_text turn ∷ ps) (pieces_at-schedule_text shape turns small (All-tail (IsTurnOf shape) turn turns all))
 

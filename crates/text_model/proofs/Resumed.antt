@@ -117,10 +117,6 @@ reading_from-paste shape line made p (r ∷ ps) q qs =
 
 -- ---- the last line
 
-both : (a b : Bool) → (a && b) ≡ true → (a ≡ true) × (b ≡ true)
-both true b e = (refl, e)
-both false b e = absurd (cc e)
-
 Lacks-last_by : (d : Bool) (separator byte : ℕ) (piece : List ℕ) (pieces : List (List ℕ)) → nat_eq byte separator ≡ d → Lacks separator (last_piece (piece ∷ pieces)) → Lacks separator (last_piece (cond d ([] ∷ piece ∷ pieces) ((byte ∷ piece) ∷ pieces)))
 Lacks-last_by true separator byte piece pieces same lacks = lacks
 Lacks-last_by false separator byte piece [] other lacks = ap (λ d. not d && list_all (λ b. not (nat_eq b separator)) piece) other ∙ lacks

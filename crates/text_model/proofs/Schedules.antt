@@ -6,9 +6,9 @@ use Rattle.std.proofs.lemmas.List.FromFn.{get_or-map-range_with_len}
 use Rattle.ddm_types.specs.declared.turns.Turn.{Turn}
 use Rattle.text_model.specs.declared.ScheduleRefusal.{ScheduleRefusal}
 use Rattle.text_model.specs.declared.ScheduleRefusal.TheVariants.{BadTurn, TooManyTurns, NoSuchHart, NoSuchBus, NoSuchChild, NoEnd, AfterEnd}
-use Rattle.text_model.specs.Schedule.{schedule_of, schedule_text}
+use Rattle.text_model.specs.Schedule.{one_leaf, schedule_of, schedule_text}
 use Rattle.text_model.specs.Compute.{texts_compute}
-use Rattle.text_model.specs.Examples.{one_leaf, IsRefused, IsRefusedAfter, IsRefusedWhereCut, Gives, eight_turns, eight_turns_text}
+use Rattle.text_model.specs.Examples.{IsRefused, IsRefusedAfter, IsRefusedWhereCut, Gives, eight_turns, eight_turns_text}
 
 pub unfinished : IsRefused (codes "h 0 0\n") 2 NoEnd
 unfolding texts_compute

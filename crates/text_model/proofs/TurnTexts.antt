@@ -1,9 +1,9 @@
 -- The text of a turn is one line that says that turn.
 use Rattle.std.proofs.Common.{◌≡◌, ℕ, ◌^◌, ◌<◌, ◌≤◌, Bool, true, false, cond, nat_lt, List, [], ◌∷◌, ◌++◌, length, Option, Some, None, decimal, refl, ap, ◌∙◌, subst, append_assoc, length-append, arith}
-use Rattle.std.specs.Prelude.{codes, bytes_eq, slice_get}
+use Rattle.std.specs.Prelude.{codes, bytes_eq, flat_map, slice_get}
 use Rattle.std.specs.Result.{result_ok}
 use Rattle.std.proofs.lemmas.Fmt.{length-decimal-le}
-use Rattle.std.proofs.lemmas.Bool.{ltb-true}
+use Rattle.std.proofs.lemmas.Bool.{ltb-true, le-ltb}
 use Rattle.std.proofs.lemmas.Option.{slice_get_within, get_or_from_slice_get}
 use Rattle.text_model.specs.declared.ScheduleRefusal.{ScheduleRefusal}
 use Rattle.text_model.specs.declared.ScheduleRefusal.TheVariants.{NoSuchHart, NoSuchBus, NoSuchChild}
@@ -11,7 +11,7 @@ use Rattle.text_model.specs.ReadBack.{IsTurnOf, IsSmallShape}
 use Rattle.ddm_types.specs.declared.turns.Turn.{Turn}
 use Rattle.ddm_types.specs.declared.turns.Turn.TheVariants.{Hart, Down, Request, Reply, Leave}
 use Rattle.ddm_text.proofs.Spellings.{number_of-decimal}
-use Rattle.text_model.specs.Schedule.{ShapeView, turn_fault, child_fault, turn_text, pieces_at, number_in, place_in, choice_in, turn_of_words, meaning_of, LineMeaning, turn_line_of, end_line, no_line, hart_turn_of, down_turn_of, request_turn_of, reply_turn_of, leave_turn_of, line_of_turn}
+use Rattle.text_model.specs.Schedule.{ShapeView, turn_fault, child_fault, turn_text, turn_line, turn_lines, schedule_text, pieces_at, number_in, place_in, choice_in, turn_of_words, meaning_of, LineMeaning, turn_line_of, end_line, no_line, hart_turn_of, down_turn_of, request_turn_of, reply_turn_of, leave_turn_of, line_of_turn}
 use Rattle.text_model.specs.Lines.{Lacks}
 use Rattle.text_model.proofs.Pieces.{Lacks-append, Lacks-decimal, pieces_at-whole, pieces_at-append}
 
@@ -60,14 +60,14 @@ child_words kind bus text lacks small =
     ∙ ap (λ ps. (103 ∷ []) ∷ decimal bus ∷ ps) (letter_words kind text lacks)
 
 -- the words of a turn
-abbrev pub words_of : Turn → List (List ℕ)
-words_of (Hart hart victim) = codes "h" ∷ decimal hart ∷ decimal victim ∷ []
-words_of (Down bus) = codes "g" ∷ decimal bus ∷ codes "d" ∷ []
-words_of (Request bus child) = codes "g" ∷ decimal bus ∷ codes "q" ∷ decimal child ∷ []
-words_of (Reply bus child) = codes "g" ∷ decimal bus ∷ codes "r" ∷ decimal child ∷ []
-words_of (Leave bus child choice) = codes "g" ∷ decimal bus ∷ codes "l" ∷ decimal child ∷ decimal choice ∷ []
+abbrev pub words_of_turn : Turn → List (List ℕ)
+words_of_turn (Hart hart victim) = codes "h" ∷ decimal hart ∷ decimal victim ∷ []
+words_of_turn (Down bus) = codes "g" ∷ decimal bus ∷ codes "d" ∷ []
+words_of_turn (Request bus child) = codes "g" ∷ decimal bus ∷ codes "q" ∷ decimal child ∷ []
+words_of_turn (Reply bus child) = codes "g" ∷ decimal bus ∷ codes "r" ∷ decimal child ∷ []
+words_of_turn (Leave bus child choice) = codes "g" ∷ decimal bus ∷ codes "l" ∷ decimal child ∷ decimal choice ∷ []
 
-pieces_at-turn_text : (turn : Turn) → IsShort turn → pieces_at 32 (turn_text turn) ≡ words_of turn
+pieces_at-turn_text : (turn : Turn) → IsShort turn → pieces_at 32 (turn_text turn) ≡ words_of_turn turn
 unfolding turn_text
 pieces_at-turn_text (Hart hart victim) short =
     ap (λ t. pieces_at 32 (104 ∷ 32 ∷ t)) (append_assoc (decimal hart) (32 ∷ []) (decimal victim))
@@ -92,19 +92,19 @@ pieces_at-turn_text (Leave bus child choice) short =
     ∙ child_words 108 bus (decimal child ++ 32 ∷ decimal choice) refl short.0
     ∙ ap (λ ps. (103 ∷ []) ∷ decimal bus ∷ (108 ∷ []) ∷ ps) (two_numbers child choice short.1 (omega (arith, short.2)))
 
-turn_of_words-words_of : (turn : Turn) → IsShort turn → turn_of_words (words_of turn) ≡ Some turn
+turn_of_words-words_of_turn : (turn : Turn) → IsShort turn → turn_of_words (words_of_turn turn) ≡ Some turn
 unfolding turn_of_words
-turn_of_words-words_of (Hart hart victim) short =
+turn_of_words-words_of_turn (Hart hart victim) short =
     ap (λ o. hart_turn_of o (choice_in (decimal victim))) (place_in-decimal hart short.0)
     ∙ ap (λ o. hart_turn_of (Some hart) o) (choice_in-decimal victim short.1)
-turn_of_words-words_of (Down bus) short = ap down_turn_of (place_in-decimal bus short)
-turn_of_words-words_of (Request bus child) short =
+turn_of_words-words_of_turn (Down bus) short = ap down_turn_of (place_in-decimal bus short)
+turn_of_words-words_of_turn (Request bus child) short =
     ap (λ o. request_turn_of o (place_in (decimal child))) (place_in-decimal bus short.0)
     ∙ ap (λ o. request_turn_of (Some bus) o) (place_in-decimal child short.1)
-turn_of_words-words_of (Reply bus child) short =
+turn_of_words-words_of_turn (Reply bus child) short =
     ap (λ o. reply_turn_of o (place_in (decimal child))) (place_in-decimal bus short.0)
     ∙ ap (λ o. reply_turn_of (Some bus) o) (place_in-decimal child short.1)
-turn_of_words-words_of (Leave bus child choice) short =
+turn_of_words-words_of_turn (Leave bus child choice) short =
     ap (λ o. leave_turn_of o (place_in (decimal child)) (choice_in (decimal choice))) (place_in-decimal bus short.0)
     ∙ ap (λ o. leave_turn_of (Some bus) o (choice_in (decimal choice))) (place_in-decimal child short.1)
     ∙ ap (λ o. leave_turn_of (Some bus) (Some child) o) (choice_in-decimal choice short.2)
@@ -128,9 +128,6 @@ length-turn_text (Leave bus child choice) short =
 
 -- ---- the line
 
-not_long : (n : ℕ) → n ≤ 24 → nat_lt 24 n ≡ false
-not_long n le = grind arith
-
 not_end : (turn : Turn) → bytes_eq (turn_text turn) (codes "end") ≡ false
 unfolding turn_text
 not_end (Hart hart victim) = refl
@@ -144,10 +141,10 @@ pub meaning_of-turn_text : (turn : Turn) → IsShort turn → meaning_of (turn_t
 unfolding meaning_of
 meaning_of-turn_text turn short =
     let said : LineMeaning = line_of_turn (turn_of_words (pieces_at 32 (turn_text turn))) in
-    ap (λ d. cond d no_line (cond (bytes_eq (turn_text turn) (codes "end")) end_line said)) (not_long (length (turn_text turn)) (length-turn_text turn short))
+    ap (λ d. cond d no_line (cond (bytes_eq (turn_text turn) (codes "end")) end_line said)) (le-ltb 24 (length (turn_text turn)) (length-turn_text turn short))
     ∙ ap (λ d. cond d end_line said) (not_end turn)
     ∙ ap (λ ps. line_of_turn (turn_of_words ps)) (pieces_at-turn_text turn short)
-    ∙ ap line_of_turn (turn_of_words-words_of turn short)
+    ∙ ap line_of_turn (turn_of_words-words_of_turn turn short)
 
 lacks_line_feed : (n : ℕ) → n < 1000 → Lacks 10 (decimal n)
 lacks_line_feed n small = Lacks-decimal 10 n refl (omega arith)
@@ -172,6 +169,15 @@ Lacks-turn_text (Leave bus child choice) short =
     (Lacks-append 10 (103 ∷ 32 ∷ (decimal bus ++ 32 ∷ 108 ∷ 32 ∷ [])) (decimal child) (Lacks-number 103 bus (32 ∷ 108 ∷ 32 ∷ []) refl short.0 refl) (lacks_line_feed child short.1))
     refl)
     (lacks_line_feed choice (omega (arith, short.2)))
+
+-- ---- a schedule
+
+-- the text of a first turn and more turns
+pub schedule_text-turn : (turn : Turn) (turns : List Turn) → schedule_text (turn ∷ turns) ≡ turn_text turn ++ 10 ∷ schedule_text turns
+unfolding schedule_text turn_lines turn_line
+schedule_text-turn turn turns =
+    append_assoc (turn_text turn ++ 10 ∷ []) (flat_map turn_line turns) (codes "end\n")
+    ∙ append_assoc (turn_text turn) (10 ∷ []) (flat_map turn_line turns ++ codes "end\n")
 
 -- ---- a turn of a small tree
 

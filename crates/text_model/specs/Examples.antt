@@ -18,18 +18,16 @@ use Rattle.ddm_types.specs.declared.answers.TurnAnswer.{TurnAnswer}
 use Rattle.ddm_types.specs.declared.answers.TurnAnswer.TheVariants.{Retired, Issued, Waiting, Halted, Granted, Empty, Busy}
 use Rattle.ddm_types.specs.declared.sizes.LeafState.TheVariants.{Shared, Exclusive}
 use Rattle.flat_model.specs.Hart.{HartValue}
+use Rattle.tree_model.specs.declared.CopyPlace.{CopyPlace}
 use Rattle.tree_model.specs.declared.Traffic.{Traffic}
+use Rattle.tree_model.specs.Machine.{no_traffic}
 use Rattle.text_model.specs.declared.ScheduleRefusal.{ScheduleRefusal}
 use Rattle.text_model.specs.declared.ScheduleRefusal.TheVariants.{NoEnd}
 use Rattle.text_model.specs.declared.RunCounts.{RunCounts}
-use Rattle.text_model.specs.Schedule.{ShapeView, schedule_of}
-use Rattle.text_model.specs.Report.{ItemView, leaf_way, parked_copy, ReportView}
+use Rattle.text_model.specs.Schedule.{one_leaf, hart_turns, schedule_of}
+use Rattle.text_model.specs.Report.{ItemView, ReportView}
 
 -- ---- schedules
-
--- the tree `(L)`
-abbrev pub one_leaf : ShapeView
-one_leaf = record { harts = 1; buses = 1 ∷ [] }
 
 -- A text is refused in a line, for the tree of one leaf.
 abbrev pub IsRefused : List ℕ → ℕ → ScheduleRefusal → Type 0
@@ -45,7 +43,7 @@ Gives text turns = schedule_of one_leaf 0 text ≡ Ok turns
 
 -- eight turns of hart 0
 abbrev pub eight_turns : List Turn
-eight_turns = replicate 8 (Hart 0 0)
+eight_turns = hart_turns 8
 
 -- their text
 abbrev pub eight_turns_text : List ℕ
@@ -66,10 +64,6 @@ abbrev pub op_at : Key → ℕ → ℕ → Effect → Op
 op_at key hart pc effect = record { key = key; hart = hart; pc = pc; effect = effect }
 
 -- ---- a store and a load back: one leaf stores 7 in a word, loads it and ends
-
--- a bus that has granted nothing
-abbrev pub no_traffic : Traffic
-no_traffic = record { reads = 0; copies = 0; erases = 0; exclusives = 0; outs = 0; injects = 0 }
 
 -- its operations
 abbrev pub store_and_load_ops : List Op
@@ -92,14 +86,14 @@ store_and_load_hart = record {
 
 -- an item that only leaf 0 has
 abbrev pub item_in_way : ℕ → ℕ → List ℕ → ItemView
-item_in_way number address words = record { number = number; address = address; words = words; place = leaf_way 0 number; states = Some Exclusive ∷ [] }
+item_in_way number address words = record { number = number; address = address; words = words; place = CopyPlace.LeafWay 0 number; states = Some Exclusive ∷ [] }
 
--- the items at the end
-abbrev pub store_and_load_items : List ItemView
-store_and_load_items =
+-- the items, by the word that is stored and loaded back
+abbrev pub store_and_load_items : ℕ → List ItemView
+store_and_load_items word =
     item_in_way 0 0x00010000 (0x000202b7 ∷ 0x00700313 ∷ 0x0062a023 ∷ 0x0002a383 ∷ [])
     ∷ item_in_way 1 0x00010010 (0x05d00893 ∷ 0x00038513 ∷ 0x00000073 ∷ 0 ∷ [])
-    ∷ item_in_way 2 0x00020000 (7 ∷ 0 ∷ 0 ∷ 0 ∷ [])
+    ∷ item_in_way 2 0x00020000 (word ∷ 0 ∷ 0 ∷ 0 ∷ [])
     ∷ item_in_way 3 0x00030000 (0 ∷ 0 ∷ 0 ∷ 0 ∷ [])
     ∷ []
 
@@ -110,7 +104,7 @@ store_and_load = record {
   depth = 1;
   harts = record { number = 0; hart = store_and_load_hart; done = 6 } ∷ [];
   traffic = no_traffic ∷ [];
-  items = store_and_load_items;
+  items = store_and_load_items 7;
   completed = store_and_load_ops;
   ops = store_and_load_ops;
 }
@@ -129,15 +123,6 @@ store_and_load_summary = codes "ddm 1\nturns 8 retired 6 granted 0 busy 0\nhart 
 abbrev pub untouched_hart : HartValue
 untouched_hart = record { registers = 0 ∷ 0 ∷ 0x00030010 ∷ 0 ∷ 0 ∷ 0 ∷ 0 ∷ 0 ∷ 0 ∷ 0 ∷ 0 ∷ 1 ∷ replicate 20 0; pc = 0x00010000; halt = None }
 
--- the items at the start
-abbrev pub untouched_items : List ItemView
-untouched_items =
-    item_in_way 0 0x00010000 (0x000202b7 ∷ 0x00700313 ∷ 0x0062a023 ∷ 0x0002a383 ∷ [])
-    ∷ item_in_way 1 0x00010010 (0x05d00893 ∷ 0x00038513 ∷ 0x00000073 ∷ 0 ∷ [])
-    ∷ item_in_way 2 0x00020000 (0 ∷ 0 ∷ 0 ∷ 0 ∷ [])
-    ∷ item_in_way 3 0x00030000 (0 ∷ 0 ∷ 0 ∷ 0 ∷ [])
-    ∷ []
-
 -- the machine at the start
 abbrev pub no_turns : ReportView
 no_turns = record {
@@ -145,7 +130,7 @@ no_turns = record {
   depth = 1;
   harts = record { number = 0; hart = untouched_hart; done = 0 } ∷ [];
   traffic = no_traffic ∷ [];
-  items = untouched_items;
+  items = store_and_load_items 0;
   completed = [];
   ops = [];
 }
@@ -203,7 +188,7 @@ one_read_traffic = record { reads = 1; copies = 1; erases = 0; exclusives = 0; o
 
 -- the item at the end
 abbrev pub one_read_item : ItemView
-one_read_item = record { number = 1; address = 0x00020000; words = 5 ∷ 0 ∷ 0 ∷ 0 ∷ []; place = leaf_way 0 1; states = Some Shared ∷ Some Shared ∷ [] }
+one_read_item = record { number = 1; address = 0x00020000; words = 5 ∷ 0 ∷ 0 ∷ 0 ∷ []; place = CopyPlace.LeafWay 0 1; states = Some Shared ∷ Some Shared ∷ [] }
 
 -- ---- answers of other runs
 
@@ -243,4 +228,4 @@ deep_op = op_at (record { s0 = 1; c0 = 2; s1 = 3; c1 = 4; s2 = 5; c2 = 6; s3 = 7
 
 -- an item whose only copy is parked
 abbrev pub parked_item : ItemView
-parked_item = record { number = 1; address = 0x00020000; words = 5 ∷ 0 ∷ 0 ∷ 0 ∷ []; place = parked_copy 1 0; states = None ∷ None ∷ [] }
+parked_item = record { number = 1; address = 0x00020000; words = 5 ∷ 0 ∷ 0 ∷ 0 ∷ []; place = CopyPlace.Parking 1 0; states = None ∷ None ∷ [] }

@@ -22,9 +22,13 @@ unfoldable pub name_words : List ℕ → List ℕ
 name_words [] = []
 name_words (letter ∷ letters) = first_letter letter ∷ flat_map letter_words letters
 
--- a space and a number, for each
+-- a space and a number
+abbrev pub number_text : ℕ → List ℕ
+number_text number = codes " " ++ decimal number
+
+-- the same for each of several numbers
 unfoldable pub number_texts : List ℕ → List ℕ
-number_texts numbers = flat_map (λ number. codes " " ++ decimal number) numbers
+number_texts numbers = flat_map number_text numbers
 
 -- a refusal by its name, with its numbers
 unfoldable pub refusal_text : List ℕ → List ℕ → List ℕ

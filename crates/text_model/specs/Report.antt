@@ -9,6 +9,8 @@ use Rattle.ddm_types.specs.declared.keys.Key.{Key}
 use Rattle.ddm_types.specs.declared.sizes.LeafState.{LeafState}
 use Rattle.ddm_types.specs.declared.sizes.LeafState.TheVariants.{Shared, Exclusive, Waiting, Reading, ReadingWaiting}
 use Rattle.flat_model.specs.Hart.{HartValue}
+use Rattle.tree_model.specs.declared.CopyPlace.{CopyPlace}
+use Rattle.tree_model.specs.declared.CopyPlace.TheVariants.{LeafWay, LeafBuffer, Parking, DownList}
 use Rattle.tree_model.specs.declared.Traffic.{Traffic}
 use Rattle.text_model.specs.declared.RunCounts.{RunCounts}
 use Rattle.text_model.specs.Words.{effect_text, state_text}
@@ -101,18 +103,11 @@ bus_lines traffic = bus_lines_from 0 traffic
 
 -- where an item's current copy is: in a way or the buffer of a leaf, or in the parking or the down list of the directory
 -- over a bus
-pub data CopyPlaceView : Type 0 where
-  leaf_way : ℕ → ℕ → CopyPlaceView
-  leaf_buffer : ℕ → ℕ → CopyPlaceView
-  parked_copy : ℕ → ℕ → CopyPlaceView
-  down_copy : ℕ → ℕ → CopyPlaceView
-
--- where a copy is
-unfoldable pub copy_place_text : CopyPlaceView → List ℕ
-copy_place_text (leaf_way leaf way) = codes "leaf " ++ decimal leaf ++ codes " way " ++ decimal way
-copy_place_text (leaf_buffer leaf place) = codes "leaf " ++ decimal leaf ++ codes " buffer " ++ decimal place
-copy_place_text (parked_copy bus place) = codes "bus " ++ decimal bus ++ codes " parking " ++ decimal place
-copy_place_text (down_copy bus place) = codes "bus " ++ decimal bus ++ codes " down " ++ decimal place
+unfoldable pub copy_place_text : CopyPlace → List ℕ
+copy_place_text (LeafWay leaf way) = codes "leaf " ++ decimal leaf ++ codes " way " ++ decimal way
+copy_place_text (LeafBuffer leaf place) = codes "leaf " ++ decimal leaf ++ codes " buffer " ++ decimal place
+copy_place_text (Parking bus place) = codes "bus " ++ decimal bus ++ codes " parking " ++ decimal place
+copy_place_text (DownList bus place) = codes "bus " ++ decimal bus ++ codes " down " ++ decimal place
 
 -- a leaf's entry of an item
 unfoldable pub letter_text : Option LeafState → List ℕ
@@ -132,7 +127,7 @@ pub record ItemView : Type 0 where
   pub number : ℕ
   pub address : ℕ
   pub words : List ℕ
-  pub place : CopyPlaceView
+  pub place : CopyPlace
   pub states : List (Option LeafState)
 
 -- the line of an item

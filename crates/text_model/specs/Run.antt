@@ -1,15 +1,15 @@
 -- The texts of a run: from a machine and its turns to the bytes that are printed.
-use Rattle.std.specs.Prelude.{ℕ, ◌+◌, List, [], ◌∷◌, ◌++◌, map, length, Option, Some, None}
+use Rattle.std.specs.Prelude.{ℕ, ◌+◌, List, [], ◌∷◌, ◌++◌, map, Option, Some, None}
 use Rattle.ddm_types.specs.declared.answers.TurnAnswer.{TurnAnswer}
 use Rattle.ddm_types.specs.declared.turns.Turn.{Turn}
-use Rattle.ddm_types.specs.ItemTable.{ItemRow, ItemTable}
+use Rattle.ddm_types.specs.ItemTable.{ItemRow}
 use Rattle.tree_model.specs.declared.CopyPlace.{CopyPlace}
 use Rattle.tree_model.specs.Values.{LeafValue, MachineValue}
-use Rattle.tree_model.specs.Machine.{Ran, run_of, machine_leaves}
-use Rattle.tree_model.specs.Turns.Witness.{sorted_ops}
+use Rattle.tree_model.specs.Machine.{run_of, machine_leaves}
+use Rattle.tree_model.specs.Ops.{sorted_ops}
 use Rattle.tree_model.specs.Found.{FoundValue, found_copy, states_of}
 use Rattle.text_model.specs.declared.RunCounts.{RunCounts}
-use Rattle.text_model.specs.Report.{CopyPlaceView, leaf_way, leaf_buffer, parked_copy, down_copy, HartView, ItemView, ReportView, report_of, summary_of}
+use Rattle.text_model.specs.Report.{HartView, ItemView, ReportView, report_of, summary_of}
 use Rattle.text_model.specs.Trace.{trace_text}
 
 -- ---- counts
@@ -34,18 +34,12 @@ counts_of (a ∷ rest) = counted_answer a (counts_of rest)
 abbrev hart_view : LeafValue → HartView
 hart_view v = record { number = v.number; hart = v.hart; done = v.done }
 
-abbrev place_view : CopyPlace → CopyPlaceView
-place_view (CopyPlace.LeafWay leaf way) = leaf_way leaf way
-place_view (CopyPlace.LeafBuffer leaf place) = leaf_buffer leaf place
-place_view (CopyPlace.Parking bus place) = parked_copy bus place
-place_view (CopyPlace.DownList bus place) = down_copy bus place
-
 abbrev found_or : Option FoundValue → FoundValue
 found_or None = record { place = CopyPlace.Parking 0 0; words = [] }
 found_or (Some f) = f
 
 abbrev pub item_view : MachineValue → ℕ → ItemRow → ItemView
-item_view m x row = let f = found_or (found_copy x m) in record { number = x; address = row.address; words = f.words; place = place_view f.place; states = states_of x m }
+item_view m x row = let f = found_or (found_copy x m) in record { number = x; address = row.address; words = f.words; place = f.place; states = states_of x m }
 
 abbrev pub item_views : MachineValue → ℕ → List ItemRow → List ItemView
 item_views m x [] = []

@@ -1,5 +1,5 @@
 -- The text of a schedule: a line for each turn, then the line `end`. Each line ends with a line feed.
-use Rattle.std.specs.Prelude.{ℕ, ◌+◌, ◌&&◌, nat_eq, nat_lt, bytes_eq, List, [], ◌∷◌, ◌++◌, length, Option, Some, None, Result, Ok, Err, codes, decimal, flat_map, slice_get, if◌then◌else◌}
+use Rattle.std.specs.Prelude.{ℕ, ◌+◌, ◌&&◌, nat_eq, nat_lt, bytes_eq, List, [], ◌∷◌, ◌++◌, length, Option, Some, None, Result, Ok, Err, codes, decimal, flat_map, replicate, slice_get, if◌then◌else◌}
 use Rattle.std.specs.Result.{result_ok}
 use Rattle.ddm_types.specs.declared.turns.Turn.{Turn}
 use Rattle.ddm_types.specs.declared.turns.Turn.TheVariants.{Hart, Down, Request, Reply, Leave}
@@ -147,6 +147,14 @@ pub record ShapeView : Type 0 where
   pub harts : ℕ
   -- for each bus the number of its children
   pub buses : List ℕ
+
+-- the tree `(L)`: one bus with one leaf
+abbrev pub one_leaf : ShapeView
+one_leaf = record { harts = 1; buses = 1 ∷ [] }
+
+-- so many turns of hart 0, each with the victim 0
+abbrev pub hart_turns : ℕ → List Turn
+hart_turns n = replicate n (Hart 0 0)
 
 -- why a tree doesn't have this child of a bus that has this many, or no such bus
 abbrev pub child_fault : ℕ → Option ℕ → Option ScheduleRefusal

@@ -1,5 +1,5 @@
 use Rattle.std.proofs.lemmas.Option.{IfSome_then}
-use Rattle.ddm_cli.proofs.Lines.{count_of-long}
+use Rattle.ddm_cli.proofs.Counted.{count_of-long}
 use Rattle.ddm_cli.proofs.files.schedule_file.Goals as goal
 
 pub returns-in-Err-TooLong-clause-cause : goal.returns-in-Err-TooLong-clause-cause

@@ -2,11 +2,11 @@ use Rattle.std.proofs.Common.{ap, ◌∙◌}
 use Rattle.tree_model.specs.Start.{TreeValue}
 use Rattle.text_model.specs.Report.{report_of}
 use Rattle.text_model.specs.Run.{counts_of}
+use Rattle.text_model.specs.Schedule.{hart_turns}
 use Rattle.one_leaf.specs.Run.{after_all, answers_of}
 use Rattle.run_engine.specs.Build.{machine_value}
 use Rattle.run_engine.proofs.Sizes.{some_set}
 use Rattle.ddm_cli.specs.LeafView.{leaf_view}
-use Rattle.ddm_cli.specs.ScheduleForm.{hart_turns}
 use Rattle.ddm_cli.proofs.Taken.{all_taken}
 use Rattle.ddm_cli.proofs.top.files_text.Goals as goal
 

@@ -1,7 +1,8 @@
 use Rattle.std.proofs.Common.{◌≡◌, ◌≤◌, ◌+◌}
 use Rattle.text_model.specs.Run.{counts_of}
 use Rattle.one_leaf.specs.Run.{answers_of, after_all}
-use Rattle.one_leaf.specs.Counts.{AreBelow, hart_turns}
+use Rattle.text_model.specs.Schedule.{hart_turns}
+use Rattle.one_leaf.specs.Counts.{AreBelow}
 use Rattle.one_leaf.proofs.turns.run.Given as goal
 
 abbrev pub invariant-loop-number : goal.invariant-loop-number
