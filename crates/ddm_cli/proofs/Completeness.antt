@@ -4,7 +4,8 @@ use Rattle.std.specs.Prelude.{IfSome, IsOkAnd, is_none, option_and_then}
 use Rattle.std.specs.Option.{option_map}
 use Rattle.report.specs.declared.roles.FileRole.{FileRole}
 use Rattle.report.specs.declared.roles.FileRole.TheVariants.{ImageFile, TreeFile, ScheduleFile, WitnessFile, CheckpointFile}
-use Rattle.tree_model.specs.Start.{TreeValue, ImageValue, StartRefusal, start_refusal}
+use Rattle.tree_model.specs.Start.Sources.{TreeValue, ImageValue}
+use Rattle.tree_model.specs.Start.Machine.{StartRefusal, start_refusal}
 use Rattle.elf_load.specs.ElfFile.{image_of}
 use Rattle.elf_load.specs.declared.refusal.ImageRefusal.{ImageRefusal}
 use Rattle.tree_config.specs.TreeFile.{tree_of}
@@ -13,8 +14,8 @@ use Rattle.run_engine.specs.Build.{build_refusal, refusal_of}
 use Rattle.run_engine.specs.declared.refusal.BuildRefusal.{BuildRefusal}
 use Rattle.ddm_cli.specs.Causes.{IsUnbuiltTree, IsUnloaded, IsUnstarted}
 use Rattle.ddm_cli.specs.Parts.{Parts, if_built, if_started, is_one_leaf, parts_in, parts_of, tree_at}
-use Rattle.ddm_cli.specs.ScheduleForm.{count_of}
-use Rattle.ddm_cli.specs.Top.{text_by, text_of, Came, Completes, RefusesImage, IsUnbuilt}
+use Rattle.ddm_cli.specs.ScheduleForm.{turn_count}
+use Rattle.ddm_cli.specs.Top.{text_by, text_of, StatusHasCause, Completes, RefusesImage, IsUnbuilt}
 use Rattle.ddm_cli.specs.Words.{Names}
 use Rattle.ddm_cli.specs.declared.status.Status.{Status}
 use Rattle.ddm_cli.specs.declared.status.Status.TheVariants.{Done, Usage, ImageLoad, ImageBuild, Tree, Unbuilt, ReadFault, WriteFault, NoMemory}
@@ -78,12 +79,12 @@ module _ {F K : Type 0} (told : F → List ℕ → Option (List ℕ)) (faults : 
       → told files n.tree ≡ Some tree → told files n.image ≡ Some image → told files n.schedule ≡ Some schedule
       → text_of tree image schedule ≡ Some text → IsUnbuilt told faults files files' role n → ⊥
   all_built files files' TreeFile n tree image schedule text t i s has un = let nothing = no_parts tree image (unbuilt_tree tree (rw t at un)) in no_text (sym (rw nothing refl) ∙ has)
-  all_built files files' ScheduleFile n tree image schedule text t i s has un = let none : count_of schedule ≡ None = rw s at un.1 in no_text (sym (rw none (no_turns (parts_of tree image))) ∙ has)
+  all_built files files' ScheduleFile n tree image schedule text t i s has un = let none : turn_count schedule ≡ None = rw s at un.1 in no_text (sym (rw none (no_turns (parts_of tree image))) ∙ has)
   all_built files files' ImageFile n tree image schedule text t i s has un = un
   all_built files files' WitnessFile n tree image schedule text t i s has un = un
   all_built files files' CheckpointFile n tree image schedule text t i s has un = un
 
-  pub completes : (words : List (List ℕ)) (files files' : F) (out out' : K) (status : Status) → Came told faults held failures words files files' out out' status → Completes told faults held failures words files files' out out' status
+  pub completes : (words : List (List ℕ)) (files files' : F) (out out' : K) (status : Status) → StatusHasCause told faults held failures words files files' out out' status → Completes told faults held failures words files files' out out' status
   completes words files files' out out' Done came n tree image schedule text named t i s has calm quiet = inl refl
   completes words files files' out out' NoMemory came n tree image schedule text named t i s has calm quiet = inr refl
   completes words files files' out out' (Usage k) came n tree image schedule text named t i s has calm quiet = cc

@@ -16,7 +16,7 @@ use Rattle.text_model.proofs.Given.{turns-schedule_of}
 use Rattle.text_model.proofs.OneSpelling.{schedule_text-schedule_of}
 use Rattle.text_model.proofs.Pieces.{both}
 use Rattle.text_model.proofs.ReadBack.{schedule_of-schedule_text}
-use Rattle.ddm_cli.specs.ScheduleForm.{is_hart_turn, count_of_turns, count_of}
+use Rattle.ddm_cli.specs.ScheduleForm.{is_hart_turn, count_of_turns, turn_count}
 
 -- ---- turns of hart 0
 
@@ -61,8 +61,8 @@ length_of_text zero = refl
 length_of_text (suc n) = omega (arith, length_of_text n)
 
 -- the text of no more turns than a schedule may have
-pub count_of-few : (n : ℕ) → n ≤ 1048576 → count_of (schedule_text (hart_turns n)) ≡ Some n
-unfolding count_of
+pub count_of-few : (n : ℕ) → n ≤ 1048576 → turn_count (schedule_text (hart_turns n)) ≡ Some n
+unfolding turn_count
 count_of-few n few =
     let room : 0 + length (hart_turns n) ≤ 1048576 = omega (arith, length-replicate n (Hart 0 0), few) in
     let read = schedule_of-schedule_text one_leaf 0 (hart_turns n) one_leaf_small (All-replicate (IsTurnOf one_leaf) n (Hart 0 0) hart_turn_of_leaf) room in
@@ -74,8 +74,8 @@ record IsCounted (file : List ℕ) (n : ℕ) : Type 0 where
   text : file ≡ schedule_text (hart_turns n)
   few : n ≤ 1048576
 
-counted : (file : List ℕ) (n : ℕ) → count_of file ≡ Some n → IsCounted file n
-unfolding count_of
+counted : (file : List ℕ) (n : ℕ) → turn_count file ≡ Some n → IsCounted file n
+unfolding turn_count
 counted file n = by_result (schedule_of one_leaf 0 file) refl where
   by_test : (turns : List Turn) (b : Bool) → schedule_of one_leaf 0 file ≡ Ok turns → list_all is_hart_turn turns ≡ b → cond b (Some (length turns)) None ≡ Some n → IsCounted file n
   by_test turns true read are e =
@@ -92,23 +92,23 @@ counted file n = by_result (schedule_of one_leaf 0 file) refl where
   by_result (Err refusal) read e = cc
 
 -- a file that is no such text gives none
-none_by : (file : List ℕ) → ((n : ℕ) → IsCounted file n → ⊥) → count_of file ≡ None
-none_by file none = by_count (count_of file) refl where
-  by_count : (o : Option ℕ) → count_of file ≡ o → o ≡ None
+none_by : (file : List ℕ) → ((n : ℕ) → IsCounted file n → ⊥) → turn_count file ≡ None
+none_by file none = by_count (turn_count file) refl where
+  by_count : (o : Option ℕ) → turn_count file ≡ o → o ≡ None
   by_count None e = refl
   by_count (Some n) e = absurd (none n (counted file n e))
 
 -- the text of no number of turns
-pub count_of-other : (file : List ℕ) → ((n : ℕ) → file ≡ schedule_text (hart_turns n) → ⊥) → count_of file ≡ None
+pub count_of-other : (file : List ℕ) → ((n : ℕ) → file ≡ schedule_text (hart_turns n) → ⊥) → turn_count file ≡ None
 count_of-other file other = none_by file (λ n is. other n is.text)
 
 -- the text of too many turns
-pub count_of-many : (n : ℕ) → 1048576 < n → count_of (schedule_text (hart_turns n)) ≡ None
+pub count_of-many : (n : ℕ) → 1048576 < n → turn_count (schedule_text (hart_turns n)) ≡ None
 count_of-many n many =
     none_by (schedule_text (hart_turns n)) (λ m counts. omega (arith, many, counts.few, length_of_text n, length_of_text m, ap length counts.text))
 
 -- a file past the limit of bytes
-pub count_of-long : (file : List ℕ) → 33554432 < length file → count_of file ≡ None
+pub count_of-long : (file : List ℕ) → 33554432 < length file → turn_count file ≡ None
 count_of-long file long = none_by file (λ n counts. omega (arith, long, counts.few, length_of_text n, ap length counts.text))
 
 -- what the text of so many turns gives, for a reader that counts them

@@ -1,17 +1,18 @@
 -- The run of accepted files is in order.
 use Rattle.std.proofs.Common.{◌≡◌, ℕ, ◌<◌, Bool, true, false, List, [], ◌∷◌, Option, Some, None, Result, Ok, Err, refl, cond}
 use Rattle.std.specs.Prelude.{IfOk, IfSome, is_none, option_and_then}
-use Rattle.tree_model.specs.Start.{TreeValue, ImageValue, start_refusal}
+use Rattle.tree_model.specs.Start.Sources.{TreeValue, ImageValue}
+use Rattle.tree_model.specs.Start.Machine.{start_refusal}
 use Rattle.text_model.specs.Schedule.{hart_turns}
-use Rattle.one_leaf.proofs.View.{start_witnessed}
+use Rattle.one_leaf.proofs.Witness.{start_witnessed}
 use Rattle.elf_load.specs.ElfFile.{image_of}
 use Rattle.elf_load.specs.declared.refusal.ImageRefusal.{ImageRefusal}
 use Rattle.tree_config.specs.TreeFile.{tree_of}
 use Rattle.tree_config.specs.declared.refusal.TreeRefusal.{TreeRefusal}
 use Rattle.run_engine.proofs.Built.{fits_one_leaf}
 use Rattle.ddm_cli.specs.Parts.{Parts, if_built, if_started, is_one_leaf, parts_in, parts_of, tree_at}
-use Rattle.ddm_cli.specs.ScheduleForm.{count_of}
-use Rattle.ddm_cli.specs.Top.{Both, RunsInOrder, IsInOrder}
+use Rattle.ddm_cli.specs.ScheduleForm.{turn_count}
+use Rattle.ddm_cli.specs.Top.{Both, RunsInOrder, RunIsWitnessed}
 use Rattle.ddm_cli.specs.Words.{Names, names_of}
 use Rattle.ddm_cli.proofs.Judged.{one_leaf_levels}
 use Rattle.ddm_cli.proofs.TreeSets.{tree_sets}
@@ -55,8 +56,8 @@ both_taken tree image p = by_tree (tree_at tree) refl where
   by_tree None is e = cc
   by_tree (Some t) is e = parts_taken image t p (tree_taken tree t is) e
 
-files_in_order : (tree image schedule : List ℕ) → RunsInOrder (parts_of tree image) (count_of schedule)
-files_in_order tree image schedule = by_forms (parts_of tree image) (count_of schedule) refl where
+files_in_order : (tree image schedule : List ℕ) → RunsInOrder (parts_of tree image) (turn_count schedule)
+files_in_order tree image schedule = by_forms (parts_of tree image) (turn_count schedule) refl where
   by_forms : (a : Option Parts) (b : Option ℕ) → parts_of tree image ≡ a → RunsInOrder a b
   by_forms None b is = tt
   by_forms (Some p) None is = tt
@@ -64,14 +65,14 @@ files_in_order tree image schedule = by_forms (parts_of tree image) (count_of sc
       let taken = both_taken tree image p is in
       start_witnessed p.tree p.image (hart_turns n) (fits_one_leaf p.tree p.image taken.leaf taken.sets taken.accepted)
 
-told_in_order : (tree image schedule : Option (List ℕ)) → Both tree image (λ t i. IfSome schedule (λ s. RunsInOrder (parts_of t i) (count_of s)))
+told_in_order : (tree image schedule : Option (List ℕ)) → Both tree image (λ t i. IfSome schedule (λ s. RunsInOrder (parts_of t i) (turn_count s)))
 told_in_order None image schedule = tt
 told_in_order (Some t) None schedule = tt
 told_in_order (Some t) (Some i) None = tt
 told_in_order (Some t) (Some i) (Some s) = files_in_order t i s
 
-pub in_order : {F : Type 0} (told : F → List ℕ → Option (List ℕ)) (words : List (List ℕ)) (files : F) → IsInOrder told words files
+pub in_order : {F : Type 0} (told : F → List ℕ → Option (List ℕ)) (words : List (List ℕ)) (files : F) → RunIsWitnessed told words files
 in_order {F} told words files = by_names (names_of words) where
-  by_names : (r : Result Names ℕ) → IfOk r (λ n. Both (told files n.tree) (told files n.image) (λ t i. IfSome (told files n.schedule) (λ s. RunsInOrder (parts_of t i) (count_of s))))
+  by_names : (r : Result Names ℕ) → IfOk r (λ n. Both (told files n.tree) (told files n.image) (λ t i. IfSome (told files n.schedule) (λ s. RunsInOrder (parts_of t i) (turn_count s))))
   by_names (Ok n) = told_in_order (told files n.tree) (told files n.image) (told files n.schedule)
   by_names (Err k) = tt

@@ -3,7 +3,8 @@ use Rattle.std.proofs.Common.{◌≡◌, ℕ, ◌<◌, true, List, [], ◌∷◌
 use Rattle.std.specs.Prelude.{IsSome}
 use Rattle.std.proofs.lemmas.Bool.{lt-ltb}
 use Rattle.std.proofs.lemmas.Bool.Decides.{nat_tests}
-use Rattle.tree_model.specs.Start.{TreeValue, ImageValue, start_refusal}
+use Rattle.tree_model.specs.Start.Sources.{TreeValue, ImageValue}
+use Rattle.tree_model.specs.Start.Machine.{start_refusal}
 use Rattle.elf_load.specs.ElfFile.{file_refusal, image_of}
 use Rattle.elf_load.specs.declared.refusal.ImageRefusal.TheVariants as image
 use Rattle.tree_config.specs.TreeFile.{tree_of}

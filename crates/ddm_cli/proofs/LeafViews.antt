@@ -5,19 +5,22 @@ use Rattle.ddm_types.specs.declared.operations.HaltCause.{HaltCause}
 use Rattle.flat_model.specs.Flat.{Change}
 use Rattle.ddm_types.specs.declared.turns.Turn.{Turn}
 use Rattle.ddm_types.specs.ItemTable.{ItemRow}
-use Rattle.tree_model.specs.Start.{TreeValue, ImageValue, start_machine}
+use Rattle.tree_model.specs.Start.Sources.{TreeValue, ImageValue}
+use Rattle.tree_model.specs.Start.Machine.{start_machine}
 use Rattle.text_model.specs.declared.RunCounts.{RunCounts}
 use Rattle.text_model.specs.Report.{report_of}
 use Rattle.text_model.specs.Run.{counts_of, item_view, item_views, view_of, report_text_of}
 use Rattle.one_leaf.specs.OneLeaf.{OneLeafValue, machine_of, step_of, after_by, answer_by, HasWords}
 use Rattle.one_leaf.specs.Made.{in_tree}
 use Rattle.one_leaf.specs.Run.{AreCounted, after_all, answers_of, turn_after_of, turn_answer_of, after_if, answer_if}
-use Rattle.one_leaf.specs.Start.{FitsOneLeaf, one_leaf_start, flat_start_of}
+use Rattle.one_leaf.specs.Start.{FitsOneLeaf, one_leaf_start}
+use Rattle.tree_model.specs.Start.Machine.{flat_start_of}
 use Rattle.one_leaf.specs.Step.{words_in}
 use Rattle.one_leaf.proofs.Order.{run_in_order}
 use Rattle.one_leaf.proofs.Runs.{run_is}
 use Rattle.one_leaf.proofs.Start.{start_is, start_in_order, start_has_words}
-use Rattle.one_leaf.proofs.View.{found_is, states_are, sorted_counted, words_kept_all}
+use Rattle.one_leaf.proofs.View.{found_is, states_are, sorted_counted}
+use Rattle.one_leaf.proofs.Runs.{words_kept_all}
 use Rattle.ddm_cli.specs.LeafView.{leaf_item_view, leaf_item_views, leaf_view}
 
 -- ---- a machine's tree tells nothing

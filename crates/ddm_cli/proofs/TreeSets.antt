@@ -5,7 +5,7 @@ use Rattle.std.specs.Str.{is_utf8}
 use Rattle.toml.specs.Parse.{parse_document}
 use Rattle.tree_config.specs.declared.refusal.TreeRefusal.TheVariants.{NotToml, TooLong}
 use Rattle.toml.specs.Data.{Members, as_integer}
-use Rattle.tree_model.specs.Start.{TreeValue}
+use Rattle.tree_model.specs.Start.Sources.{TreeValue}
 use Rattle.ddm_types.specs.declared.sizes.TreeSizes.{TreeSizes}
 use Rattle.run_engine.proofs.Sizes.{some_set}
 use Rattle.tree_config.specs.Levels.{leaves_of}

@@ -2,24 +2,24 @@
 use Rattle.std.specs.Prelude.{◌≡◌, ℕ, false, List, Option, None, Some, IsSome, IfSome, IsOkAnd, Err}
 use Rattle.ddm_outside.specs.Causes.{Rose}
 use Rattle.report.specs.declared.roles.FileRole.TheVariants.{ImageFile, TreeFile, ScheduleFile}
-use Rattle.tree_model.specs.Start.{TreeValue, ImageValue}
+use Rattle.tree_model.specs.Start.Sources.{TreeValue, ImageValue}
 use Rattle.elf_load.specs.ElfFile.{image_of}
 use Rattle.elf_load.specs.declared.refusal.ImageRefusal.{ImageRefusal}
 use Rattle.tree_config.specs.TreeFile.{tree_of}
 use Rattle.run_engine.specs.Build.{build_refusal}
 use Rattle.run_engine.specs.declared.refusal.BuildRefusal.{BuildRefusal}
 use Rattle.ddm_cli.specs.Parts.{is_one_leaf}
-use Rattle.ddm_cli.specs.ScheduleForm.{count_of}
+use Rattle.ddm_cli.specs.ScheduleForm.{turn_count}
 use Rattle.ddm_cli.specs.declared.status.Status.{Status}
 use Rattle.ddm_cli.specs.declared.status.Status.TheVariants.{ImageLoad, ImageBuild, Tree, Unbuilt, ReadFault, NoMemory}
 
 -- where the file is told, it is accepted
-abbrev pub Takes : {A : Type 0} → (List ℕ → Option A) → Option (List ℕ) → Type 0
-Takes judge told = IfSome told (λ file. IsSome (judge file))
+abbrev pub Accepts : {A : Type 0} → (List ℕ → Option A) → Option (List ℕ) → Type 0
+Accepts judge told = IfSome told (λ file. IsSome (judge file))
 
 -- where it is told, it is accepted as this
-abbrev pub TakenAs : {A : Type 0} → (List ℕ → Option A) → Option (List ℕ) → A → Type 0
-TakenAs judge told a = IfSome told (λ file. judge file ≡ Some a)
+abbrev pub AcceptedAs : {A : Type 0} → (List ℕ → Option A) → Option (List ℕ) → A → Type 0
+AcceptedAs judge told a = IfSome told (λ file. judge file ≡ Some a)
 
 -- ---- the tree
 
@@ -59,7 +59,7 @@ ImageCause t told before now _ = ⊥
 -- ---- the schedule
 
 abbrev pub ScheduleCause : Option (List ℕ) → ℕ → ℕ → Status → Type 0
-ScheduleCause told before now (Unbuilt ScheduleFile) = IfSome told (λ file. count_of file ≡ None)
+ScheduleCause told before now (Unbuilt ScheduleFile) = IfSome told (λ file. turn_count file ≡ None)
 ScheduleCause told before now (ReadFault ScheduleFile) = Rose before now
 ScheduleCause told before now NoMemory = Unit {0}
 ScheduleCause told before now _ = ⊥

@@ -1,6 +1,7 @@
 -- What a machine is made from: the tree and the image of two files.
 use Rattle.std.specs.Prelude.{ℕ, Bool, ◌&&◌, nat_eq, List, length, Option, Some, None, is_none, Result, Ok, Err, if◌then◌else◌, option_and_then}
-use Rattle.tree_model.specs.Start.{TreeValue, ImageValue, bus_widths, leaf_count, start_refusal}
+use Rattle.tree_model.specs.Start.Sources.{TreeValue, ImageValue, bus_widths, leaf_count}
+use Rattle.tree_model.specs.Start.Machine.{start_refusal}
 use Rattle.elf_load.specs.ElfFile.{image_of}
 use Rattle.elf_load.specs.declared.refusal.ImageRefusal.{ImageRefusal}
 use Rattle.tree_config.specs.TreeFile.{tree_of}

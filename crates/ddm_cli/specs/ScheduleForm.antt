@@ -19,5 +19,5 @@ abbrev pub count_of_turns : List Turn → Option ℕ
 count_of_turns turns = if list_all is_hart_turn turns then Some (length turns) else None
 
 -- the number of turns of a schedule that is accepted for the tree of one leaf, where each is such a turn
-unfoldable pub count_of : List ℕ → Option ℕ
-count_of file = option_and_then count_of_turns (result_ok (schedule_of one_leaf 0 file))
+unfoldable pub turn_count : List ℕ → Option ℕ
+turn_count file = option_and_then count_of_turns (result_ok (schedule_of one_leaf 0 file))

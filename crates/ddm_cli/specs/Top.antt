@@ -1,6 +1,7 @@
 -- What a command answers, and why.
 use Rattle.std.specs.Prelude.{◌≡◌, ◌⊎◌, ℕ, List, [], Option, Some, None, IsSome, IfSome, IfOk, Ok, Err, IsOkAnd}
-use Rattle.tree_model.specs.Start.{TreeValue, start_machine}
+use Rattle.tree_model.specs.Start.Sources.{TreeValue}
+use Rattle.tree_model.specs.Start.Machine.{start_machine}
 use Rattle.text_model.specs.Faults.{usage_fault, unbuilt_fault, read_fault, write_fault, memory_fault}
 use Rattle.text_model.specs.Run.{report_text_of}
 use Rattle.text_model.specs.Schedule.{hart_turns}
@@ -8,13 +9,13 @@ use Rattle.report.specs.Appends.{Appends, AppendsPart}
 use Rattle.report.specs.Roles.{role_text}
 use Rattle.report.specs.declared.roles.FileRole.{FileRole}
 use Rattle.report.specs.declared.roles.FileRole.TheVariants.{ImageFile, TreeFile, ScheduleFile, WitnessFile, CheckpointFile}
-use Rattle.one_leaf.specs.Start.{flat_start_of}
-use Rattle.one_leaf.specs.Witness.{EachTurnWitnessed}
+use Rattle.tree_model.specs.Start.Machine.{flat_start_of}
+use Rattle.tree_rules.specs.Witness.{EachTurnWitnessed}
 use Rattle.ddm_outside.specs.Causes.{Rose}
 use Rattle.tree_config.specs.TreeFile.{tree_of}
 use Rattle.ddm_cli.specs.Parts.{Parts, parts_of, tree_at}
-use Rattle.ddm_cli.specs.ScheduleForm.{count_of}
-use Rattle.ddm_cli.specs.Causes.{Takes, IsUnbuiltTree, IsUnloaded, IsUnstarted}
+use Rattle.ddm_cli.specs.ScheduleForm.{turn_count}
+use Rattle.ddm_cli.specs.Causes.{Accepts, IsUnbuiltTree, IsUnloaded, IsUnstarted}
 use Rattle.ddm_cli.specs.Refusals.{build_line, image_line, tree_line, tree_line_head, tree_line_rest}
 use Rattle.ddm_cli.specs.Words.{Names, names_of}
 use Rattle.ddm_cli.specs.declared.status.Status.{Status}
@@ -32,7 +33,7 @@ text_by _ _ = None
 
 -- what a tree, an image and a schedule make the command print
 abbrev pub text_of : List ℕ → List ℕ → List ℕ → Option (List ℕ)
-text_of tree image schedule = text_by (parts_of tree image) (count_of schedule)
+text_of tree image schedule = text_by (parts_of tree image) (turn_count schedule)
 
 -- ---- order
 
@@ -49,12 +50,12 @@ abbrev pub Both : Option (List ℕ) → Option (List ℕ) → (List ℕ → List
 Both tree image P = IfSome tree (λ t. IfSome image (P t))
 
 -- the tree is accepted, and with it the image, from which the machine has a start
-abbrev pub TakesParts : Option (List ℕ) → Option (List ℕ) → Type 0
-TakesParts tree image = Takes tree_at tree × Both tree image (λ t i. IsSome (parts_of t i))
+abbrev pub AcceptsParts : Option (List ℕ) → Option (List ℕ) → Type 0
+AcceptsParts tree image = Accepts tree_at tree × Both tree image (λ t i. IsSome (parts_of t i))
 
 -- the image is refused for the tree, which is accepted
 abbrev pub RefusesImage : (TreeValue → List ℕ → Type 0) → Option (List ℕ) → Option (List ℕ) → Type 0
-RefusesImage refused tree image = Takes tree_at tree × Both tree image (λ t i. IfSome (tree_at t) (λ value. refused value i))
+RefusesImage refused tree image = Accepts tree_at tree × Both tree image (λ t i. IfSome (tree_at t) (λ value. refused value i))
 
 -- where all three are told, this is their text
 abbrev pub HasText : Option (List ℕ) → Option (List ℕ) → Option (List ℕ) → List ℕ → Type 0
@@ -62,17 +63,17 @@ HasText tree image schedule text = Both tree image (λ t i. IfSome schedule (λ 
 
 module _ {F : Type 0} (told : F → List ℕ → Option (List ℕ)) where
   -- the files that were read are accepted, and this is their text
-  abbrev pub AllTaken : F → List ℕ → Names → Type 0
-  AllTaken files text n = TakesParts (told files n.tree) (told files n.image) × Takes count_of (told files n.schedule)
+  abbrev pub FilesAccepted : F → List ℕ → Names → Type 0
+  FilesAccepted files text n = AcceptsParts (told files n.tree) (told files n.image) × Accepts turn_count (told files n.schedule)
       × HasText (told files n.tree) (told files n.image) (told files n.schedule) text
 
   -- the words are in the grammar, and this is the text of the files that they name
   abbrev pub Accepted : List (List ℕ) → F → List ℕ → Type 0
-  Accepted words files text = IsOkAnd (names_of words) (AllTaken files text)
+  Accepted words files text = IsOkAnd (names_of words) (FilesAccepted files text)
 
   -- where all three files are told and accepted, their run is in order
-  abbrev pub IsInOrder : List (List ℕ) → F → Type 0
-  IsInOrder words files = IfOk (names_of words) (λ n. Both (told files n.tree) (told files n.image) (λ t i. IfSome (told files n.schedule) (λ s. RunsInOrder (parts_of t i) (count_of s))))
+  abbrev pub RunIsWitnessed : List (List ℕ) → F → Type 0
+  RunIsWitnessed words files = IfOk (names_of words) (λ n. Both (told files n.tree) (told files n.image) (λ t i. IfSome (told files n.schedule) (λ s. RunsInOrder (parts_of t i) (turn_count s))))
 
   module _ (faults : F → List ℕ → ℕ) (files files' : F) where
     -- the count of failed reads of this file rose in the call
@@ -82,62 +83,62 @@ module _ {F : Type 0} (told : F → List ℕ → Option (List ℕ)) where
     -- a file can't be read: the tree is read first, then the image, then the schedule
     abbrev pub CantRead : FileRole → Names → Type 0
     CantRead TreeFile n = Failed n.tree
-    CantRead ImageFile n = Failed n.image × Takes tree_at (told files n.tree)
-    CantRead ScheduleFile n = Failed n.schedule × TakesParts (told files n.tree) (told files n.image)
+    CantRead ImageFile n = Failed n.image × Accepts tree_at (told files n.tree)
+    CantRead ScheduleFile n = Failed n.schedule × AcceptsParts (told files n.tree) (told files n.image)
     CantRead WitnessFile n = ⊥
     CantRead CheckpointFile n = ⊥
 
     -- a file is of a form that isn't built
     abbrev pub IsUnbuilt : FileRole → Names → Type 0
     IsUnbuilt TreeFile n = IfSome (told files n.tree) IsUnbuiltTree
-    IsUnbuilt ScheduleFile n = TakesParts (told files n.tree) (told files n.image) × IfSome (told files n.schedule) (λ file. count_of file ≡ None)
+    IsUnbuilt ScheduleFile n = AcceptsParts (told files n.tree) (told files n.image) × IfSome (told files n.schedule) (λ file. turn_count file ≡ None)
     IsUnbuilt ImageFile n = ⊥
     IsUnbuilt WitnessFile n = ⊥
     IsUnbuilt CheckpointFile n = ⊥
 
     -- why the files give no text; the other statuses are no such answers
-    abbrev pub NotTaken : Status → Names → Type 0
-    NotTaken (Tree r) n = IfSome (told files n.tree) (λ file. tree_of file ≡ Err r)
-    NotTaken (ImageLoad r) n = RefusesImage (λ t. IsUnloaded t r) (told files n.tree) (told files n.image)
-    NotTaken (ImageBuild r) n = RefusesImage (λ t. IsUnstarted t r) (told files n.tree) (told files n.image)
-    NotTaken (ReadFault role) n = CantRead role n
-    NotTaken (Unbuilt role) n = IsUnbuilt role n
-    NotTaken NoMemory n = Unit {0}
-    NotTaken _ n = ⊥
+    abbrev pub NotAccepted : Status → Names → Type 0
+    NotAccepted (Tree r) n = IfSome (told files n.tree) (λ file. tree_of file ≡ Err r)
+    NotAccepted (ImageLoad r) n = RefusesImage (λ t. IsUnloaded t r) (told files n.tree) (told files n.image)
+    NotAccepted (ImageBuild r) n = RefusesImage (λ t. IsUnstarted t r) (told files n.tree) (told files n.image)
+    NotAccepted (ReadFault role) n = CantRead role n
+    NotAccepted (Unbuilt role) n = IsUnbuilt role n
+    NotAccepted NoMemory n = Unit {0}
+    NotAccepted _ n = ⊥
 
     -- why there is no text
     abbrev pub Refused : List (List ℕ) → Status → Type 0
     Refused words (Usage k) = names_of words ≡ Err k
-    Refused words s = IsOkAnd (names_of words) (NotTaken s)
+    Refused words s = IsOkAnd (names_of words) (NotAccepted s)
 
 -- ---- the command
 
 module _ {F K : Type 0} (told : F → List ℕ → Option (List ℕ)) (faults : F → List ℕ → ℕ) (held : K → Option (List ℕ)) (failures : K → ℕ) where
   -- the cause of each status, from what was there before the call and after it
-  abbrev pub Came : List (List ℕ) → F → F → K → K → Status → Type 0
+  abbrev pub StatusHasCause : List (List ℕ) → F → F → K → K → Status → Type 0
   -- the text stands behind what was there
-  Came words files files' out out' Done = (text : List ℕ) × Accepted told words files text × Appends (held out) (held out') text
+  StatusHasCause words files files' out out' Done = (text : List ℕ) × Accepted told words files text × Appends (held out) (held out') text
   -- a first part of the text does
-  Came words files files' out out' WriteFault = (text : List ℕ) × Accepted told words files text × AppendsPart (held out) (held out') text × Rose (failures out) (failures out')
+  StatusHasCause words files files' out out' WriteFault = (text : List ℕ) × Accepted told words files text × AppendsPart (held out) (held out') text × Rose (failures out) (failures out')
   -- there is no text, and nothing was written
-  Came words files files' out out' (Usage k) = Refused told faults files files' words (Usage k) × (held out' ≡ held out)
-  Came words files files' out out' (Tree r) = Refused told faults files files' words (Tree r) × (held out' ≡ held out)
-  Came words files files' out out' (ImageLoad r) = Refused told faults files files' words (ImageLoad r) × (held out' ≡ held out)
-  Came words files files' out out' (ImageBuild r) = Refused told faults files files' words (ImageBuild r) × (held out' ≡ held out)
-  Came words files files' out out' (ReadFault role) = Refused told faults files files' words (ReadFault role) × (held out' ≡ held out)
-  Came words files files' out out' (Unbuilt role) = Refused told faults files files' words (Unbuilt role) × (held out' ≡ held out)
-  Came words files files' out out' NoMemory = Refused told faults files files' words NoMemory × (held out' ≡ held out)
+  StatusHasCause words files files' out out' (Usage k) = Refused told faults files files' words (Usage k) × (held out' ≡ held out)
+  StatusHasCause words files files' out out' (Tree r) = Refused told faults files files' words (Tree r) × (held out' ≡ held out)
+  StatusHasCause words files files' out out' (ImageLoad r) = Refused told faults files files' words (ImageLoad r) × (held out' ≡ held out)
+  StatusHasCause words files files' out out' (ImageBuild r) = Refused told faults files files' words (ImageBuild r) × (held out' ≡ held out)
+  StatusHasCause words files files' out out' (ReadFault role) = Refused told faults files files' words (ReadFault role) × (held out' ≡ held out)
+  StatusHasCause words files files' out out' (Unbuilt role) = Refused told faults files files' words (Unbuilt role) × (held out' ≡ held out)
+  StatusHasCause words files files' out out' NoMemory = Refused told faults files files' words NoMemory × (held out' ≡ held out)
 
   -- no count of the three files rose
-  abbrev pub Calm : F → F → Names → Type 0
-  Calm files files' n = (¬ Failed told faults files files' n.tree) × (¬ Failed told faults files files' n.image) × (¬ Failed told faults files files' n.schedule)
+  abbrev pub NothingFailed : F → F → Names → Type 0
+  NothingFailed files files' n = (¬ Failed told faults files files' n.tree) × (¬ Failed told faults files files' n.image) × (¬ Failed told faults files files' n.schedule)
 
   -- Where the words are in the grammar, the told files are accepted and nothing failed, all was done, or memory ran out.
   abbrev pub Completes : List (List ℕ) → F → F → K → K → Status → Type 0
   Completes words files files' out out' status =
       (n : Names) (tree image schedule text : List ℕ) → names_of words ≡ Ok n
       → told files n.tree ≡ Some tree → told files n.image ≡ Some image → told files n.schedule ≡ Some schedule
-      → text_of tree image schedule ≡ Some text → Calm files files' n → ¬ Rose (failures out) (failures out')
+      → text_of tree image schedule ≡ Some text → NothingFailed files files' n → ¬ Rose (failures out) (failures out')
       → (status ≡ Done) ⊎ (status ≡ NoMemory)
 
 -- ---- the line of a fault

@@ -1,10 +1,10 @@
 ghost use Rattle.std.specs.Prelude.{◌≡◌, ◌<◌, ◌≤◌, ◌∷◌, [], ℕ, List, Ok, length, IfOk, IfErr, IfSome};
-ghost use Rattle.tree_model.specs.Start.{ImageValue};
+ghost use Rattle.tree_model.specs.Start.Sources.{ImageValue};
 ghost use Rattle.elf_load.specs.ElfFile.{image_of};
 ghost use Rattle.run_engine.specs.Build.{machine_value, IsBuilt};
-ghost use Rattle.ddm_cli.specs.Causes.{ImageCause, ScheduleCause, TakenAs, Takes, TreeCause};
+ghost use Rattle.ddm_cli.specs.Causes.{ImageCause, ScheduleCause, AcceptedAs, Accepts, TreeCause};
 ghost use Rattle.ddm_cli.specs.Parts.{parts_in, tree_at};
-ghost use Rattle.ddm_cli.specs.ScheduleForm.{count_of};
+ghost use Rattle.ddm_cli.specs.ScheduleForm.{turn_count};
 
 use crate::judging::{judged_image, judged_tree};
 use crate::limits::{MOST_IMAGE, MOST_SCHEDULE, MOST_TREE};
@@ -26,7 +26,7 @@ pub fn tree_file<F: Shelf>(
     buffer: &mut [u8],
 ) -> Result<TreeConfig, Status>
     requires { 0 < length buffer.old }
-    ensures found { IfOk result (TakenAs tree_at (F.told files.old name.now)) }
+    ensures found { IfOk result (AcceptedAs tree_at (F.told files.old name.now)) }
     ensures leaf { IfOk result (λ t. t.levels ≡ (1 ∷ []) ∷ []) }
     ensures cause { IfErr result (TreeCause (F.told files.old name.now) (F.faults files.old name.now) (F.faults files.new name.now)) }
     ensures same { F.told files.new ≡ F.told files.old }
@@ -51,7 +51,7 @@ pub fn image_file<F: Shelf>(
     requires room { 0 < length buffer.old }
     requires leaf { tree.now.levels ≡ (1 ∷ []) ∷ [] }
     ensures found { IfOk result (λ m. (i : ImageValue) × IsBuilt tree.now i (machine_value m) × IfSome (F.told files.old name.now) (λ file. image_of tree.now.item_bytes file ≡ Ok i)) }
-    ensures taken { IfOk result (λ m. Takes (parts_in tree.now) (F.told files.old name.now)) }
+    ensures taken { IfOk result (λ m. Accepts (parts_in tree.now) (F.told files.old name.now)) }
     ensures cause { IfErr result (ImageCause tree.now (F.told files.old name.now) (F.faults files.old name.now) (F.faults files.new name.now)) }
     ensures same { F.told files.new ≡ F.told files.old }
     ensures later { (other : List ℕ) → F.faults files.old other ≤ F.faults files.new other }
@@ -72,7 +72,7 @@ pub fn schedule_file<F: Shelf>(
     buffer: &mut [u8],
 ) -> Result<u64, Status>
     requires { 0 < length buffer.old }
-    ensures found { IfOk result (TakenAs count_of (F.told files.old name.now)) }
+    ensures found { IfOk result (AcceptedAs turn_count (F.told files.old name.now)) }
     ensures few { IfOk result (λ n. n ≤ 1048576) }
     ensures cause { IfErr result (ScheduleCause (F.told files.old name.now) (F.faults files.old name.now) (F.faults files.new name.now)) }
     ensures same { F.told files.new ≡ F.told files.old }

@@ -1,5 +1,5 @@
 ghost use Rattle.std.specs.Prelude.{◌≡◌, ◌∷◌, [], Ok, Some, IsSome, IfOk, IfErr};
-ghost use Rattle.tree_model.specs.Start.{ImageValue};
+ghost use Rattle.tree_model.specs.Start.Sources.{ImageValue};
 ghost use Rattle.elf_load.specs.ElfFile.{image_of};
 ghost use Rattle.run_engine.specs.Build.{machine_value, IsBuilt};
 ghost use Rattle.ddm_cli.specs.Causes.{BuildCause, ImageCause, TreeCause};

@@ -2,7 +2,7 @@ ghost use Rattle.std.specs.Prelude.{◌≡◌, ◌<◌, ◌≤◌, IfOk, OnOk};
 ghost use Rattle.ddm_types.specs.ItemTable.{item_count, row_at};
 ghost use Rattle.ddm_text.specs.Adds.{Adds};
 ghost use Rattle.rv_flat.specs.Registers.{IsHart};
-ghost use Rattle.tree_model.specs.Machine.{no_traffic};
+ghost use Rattle.tree_model.specs.Turns.Machine.{no_traffic};
 ghost use Rattle.text_model.specs.Report.{hart_lines, item_line, item_lines, report_of};
 ghost use Rattle.one_leaf.specs.Step.{words_in};
 ghost use Rattle.ddm_cli.specs.LeafView.{leaf_hart_view, leaf_item_view, leaf_item_views, leaf_view};

@@ -1,6 +1,6 @@
 ghost use Rattle.std.specs.Prelude.{◌≡◌, ◌≤◌, ℕ, IfSome, MatchOption};
 ghost use Rattle.text_model.specs.Schedule.{hart_turns, schedule_text};
-ghost use Rattle.ddm_cli.specs.ScheduleForm.{count_of};
+ghost use Rattle.ddm_cli.specs.ScheduleForm.{turn_count};
 
 const LINE: &[u8] = b"h 0 0\n";
 
@@ -26,7 +26,7 @@ fn count_lines(text: &[u8]) -> Option<u64>
 /// How many turns of hart 0 a schedule has, where it is of the form that is built.
 #[tactic(auto, using(crate::proofs::Counted::counts))]
 pub fn count_turns(text: &[u8]) -> Option<u64>
-    ensures turns { result ≡ count_of text.now }
+    ensures turns { result ≡ turn_count text.now }
     ensures few { IfSome result (λ n. n ≤ 1048576) }
 {
     match count_lines(text) {

@@ -1,5 +1,5 @@
 ghost use Rattle.std.specs.Prelude.{◌≡◌};
-ghost use Rattle.ddm_cli.specs.Code.{code_of};
+ghost use Rattle.ddm_cli.specs.Code.{exit_code};
 ghost use Rattle.ddm_cli.specs.declared.status.Status.TheVariants.{NoMemory};
 
 use ddm_types::NoMemory;
@@ -29,7 +29,7 @@ pub enum Status {
 
 /// The number that the process ends with.
 pub fn code(status: &Status) -> u8
-    ensures { result ≡ code_of status.now }
+    ensures { result ≡ exit_code status.now }
 {
     match status {
         Status::Done => 0,

@@ -1,6 +1,6 @@
 ghost use Rattle.std.specs.Prelude.{◌<◌, vec_len, map, IfOk, IfErr};
 ghost use Rattle.std.specs.String.{string_bytes};
-ghost use Rattle.ddm_cli.specs.Top.{Accepted, AllTaken, Came, Completes, IsInOrder, NotTaken, Offers, Refused, fault_line};
+ghost use Rattle.ddm_cli.specs.Top.{Accepted, FilesAccepted, StatusHasCause, Completes, RunIsWitnessed, NotAccepted, Offers, Refused, fault_line};
 ghost use Rattle.ddm_cli.specs.Words.{names_value};
 
 use crate::answer::report_text;
@@ -29,8 +29,8 @@ fn files_text<F: Shelf>(
     names: FileNames<'_>,
     files: &mut F,
 ) -> Result<Vec<u8>, Status>
-    ensures taken { IfOk result (λ text. AllTaken F.told files.old text.items (names_value names.entry.image.now names.entry.tree.now names.entry.schedule.now)) }
-    ensures refused { IfErr result (λ status. NotTaken F.told F.faults files.old files.new status (names_value names.entry.image.now names.entry.tree.now names.entry.schedule.now)) }
+    ensures taken { IfOk result (λ text. FilesAccepted F.told files.old text.items (names_value names.entry.image.now names.entry.tree.now names.entry.schedule.now)) }
+    ensures refused { IfErr result (λ status. NotAccepted F.told F.faults files.old files.new status (names_value names.entry.image.now names.entry.tree.now names.entry.schedule.now)) }
 {
     let mut buffer = read_buffer(alloc)?;
     let tree = tree_file(alloc, files, names.tree, &mut buffer)?;
@@ -51,7 +51,7 @@ fn text<F: Shelf>(alloc: Global, words: &[String], files: &mut F) -> Result<Vec<
 }
 
 fn answer<F: Shelf, K: Sink>(alloc: Global, words: &[String], files: &mut F, out: &mut K) -> Status
-    ensures { Came F.told F.faults K.held K.faults (map string_bytes words.now) files.old files.new out.old out.new result }
+    ensures { StatusHasCause F.told F.faults K.held K.faults (map string_bytes words.now) files.old files.new out.old out.new result }
 {
     match text(alloc, words, files) {
         Ok(text) => match write_all(out, &text) {
@@ -71,8 +71,8 @@ pub fn ddm_main<F: Shelf, K: Sink>(
     out: &mut K,
     faults_out: &mut K,
 ) -> Status
-    ensures came { Came F.told F.faults K.held K.faults (map string_bytes words.now) files.old files.new out.old out.new result }
-    ensures order { IsInOrder F.told (map string_bytes words.now) files.old }
+    ensures came { StatusHasCause F.told F.faults K.held K.faults (map string_bytes words.now) files.old files.new out.old out.new result }
+    ensures order { RunIsWitnessed F.told (map string_bytes words.now) files.old }
     ensures complete { Completes F.told F.faults K.held K.faults (map string_bytes words.now) files.old files.new out.old out.new result }
     ensures told { Offers K.held K.faults faults_out.old faults_out.new (fault_line result) }
 {

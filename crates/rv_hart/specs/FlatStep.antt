@@ -20,16 +20,16 @@ may_store (Conditional x) reserved sc_ok = sc_ok && has_reserved reserved x
 may_store _ reserved sc_ok = sc_ok
 
 -- the words of the item after a step
-abbrev pub words_after : Option Stored → List ℕ → List ℕ
-words_after None words = words
-words_after (Some stored) words = stored.words
+abbrev pub words_left : Option Stored → List ℕ → List ℕ
+words_left None words = words
+words_left (Some stored) words = stored.words
 
 -- a step of the flat machine does what the instruction does on these words, and stores to no other item
 pub record IsChangeBy (ask : Ask) (reserved : Option ℕ) (f : Finished) (before : List ℕ) (c : Change) : Type 0 where
   pub effect : c.effect ≡ f.effect
   pub hart : c.after.hart ≡ f.hart
   pub reserves : c.after.reserved ≡ reserved_by_ask ask reserved
-  pub words : words_after c.stored before ≡ f.words
+  pub words : words_left c.stored before ≡ f.words
   pub item : IfSome c.stored (λ stored. asked_item ask ≡ Some stored.item)
 
 -- an instruction that is ready, finished on the words of its item, is the flat machine's step of its hart

@@ -20,7 +20,7 @@ use Rattle.ddm_types.specs.declared.sizes.LeafState.TheVariants.{Shared, Exclusi
 use Rattle.flat_model.specs.Hart.{HartValue}
 use Rattle.tree_model.specs.declared.CopyPlace.{CopyPlace}
 use Rattle.tree_model.specs.declared.Traffic.{Traffic}
-use Rattle.tree_model.specs.Machine.{no_traffic}
+use Rattle.tree_model.specs.Turns.Machine.{no_traffic}
 use Rattle.text_model.specs.declared.ScheduleRefusal.{ScheduleRefusal}
 use Rattle.text_model.specs.declared.ScheduleRefusal.TheVariants.{NoEnd}
 use Rattle.text_model.specs.declared.RunCounts.{RunCounts}

@@ -143,8 +143,8 @@ item_lines items = flat_map item_line items
 -- ---- operations
 
 -- the numbers of a key but the last, from the top bus down
-abbrev pub key_numbers : Key → List ℕ
-key_numbers key = key.s0 ∷ key.c0 ∷ key.s1 ∷ key.c1 ∷ key.s2 ∷ key.c2 ∷ key.s3 ∷ key.c3 ∷ []
+abbrev pub level_numbers : Key → List ℕ
+level_numbers key = key.s0 ∷ key.c0 ∷ key.s1 ∷ key.c1 ∷ key.s2 ∷ key.c2 ∷ key.s3 ∷ key.c3 ∷ []
 
 -- numbers, each with a full stop behind it
 unfoldable pub number_stops : List ℕ → List ℕ
@@ -152,7 +152,7 @@ number_stops numbers = flat_map (λ number. decimal number ++ codes ".") numbers
 
 -- the numbers of a key that a tree of this depth has, two for each level and the last one
 unfoldable pub key_text : ℕ → Key → List ℕ
-key_text depth key = number_stops (take (2 * depth) (key_numbers key)) ++ decimal key.i
+key_text depth key = number_stops (take (2 * depth) (level_numbers key)) ++ decimal key.i
 
 -- the line of an operation
 unfoldable pub op_line : ℕ → Op → List ℕ

@@ -4,10 +4,10 @@ use Rattle.ddm_types.specs.declared.answers.TurnAnswer.{TurnAnswer}
 use Rattle.ddm_types.specs.declared.turns.Turn.{Turn}
 use Rattle.ddm_types.specs.ItemTable.{ItemRow}
 use Rattle.tree_model.specs.declared.CopyPlace.{CopyPlace}
-use Rattle.tree_model.specs.Values.{LeafValue, MachineValue}
-use Rattle.tree_model.specs.Machine.{run_of, machine_leaves}
-use Rattle.tree_model.specs.Ops.{sorted_ops}
-use Rattle.tree_model.specs.Found.{FoundValue, found_copy, states_of}
+use Rattle.tree_model.specs.State.Values.{LeafValue, MachineValue}
+use Rattle.tree_model.specs.Turns.Machine.{run_of, machine_leaves}
+use Rattle.tree_model.specs.Turns.Witness.{sorted_ops}
+use Rattle.tree_model.specs.Turns.Found.{FoundValue, found_copy, states_of}
 use Rattle.text_model.specs.declared.RunCounts.{RunCounts}
 use Rattle.text_model.specs.Report.{HartView, ItemView, ReportView, report_of, summary_of}
 use Rattle.text_model.specs.Trace.{trace_text}

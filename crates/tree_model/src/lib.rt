@@ -14,6 +14,20 @@ pub enum BusTurn {
     Leave(ChildNo, u8),
 }
 
+/// A child of a bus: a leaf, or a directory, which is named by the bus below it.
+#[derive(Clone, Copy, Debug, PartialEq, Eq)]
+pub enum TreeChild {
+    LeafChild(LeafNo),
+    BusChild(BusNo),
+}
+
+/// Where a leaf has its entry of an item: in a way of the item's set, or at a place of the buffer, counted from 0.
+#[derive(Clone, Copy, Debug, PartialEq, Eq)]
+pub enum LeafSpot {
+    Way(u32),
+    Buffer(u32),
+}
+
 /// Where a copy of an item stands. Places of a list are counted from 0.
 #[derive(Clone, Copy, Debug, PartialEq, Eq)]
 pub enum CopyPlace {

@@ -11,7 +11,7 @@ use Rattle.ddm_types.specs.declared.turns.Turn.{Turn}
 use Rattle.flat_model.specs.Flat.{FlatMachine}
 use Rattle.tree_model.specs.State.Values.{DownValue, Note, no_note, up_erase, DirValue, Node, leaf_node, dir_node, nodes, MachineValue}
 use Rattle.tree_model.specs.Turns.Machine.{turn_of}
-use Rattle.tree_rules.specs.Statements.{holds}
+use Rattle.tree_rules.specs.Statements.{test_of}
 use Rattle.tree_rules.specs.Bus.Rules.{machine_holds}
 use Rattle.tree_rules.specs.Order.Rules.{is_timed, core_rule, core_rules, copy_rule, copy_rules, written_rule, written_rules, is_core, is_written}
 use Rattle.tree_rules.specs.Small.{all_but, entry, leaf_value, dir_value, machine, flat}
@@ -30,13 +30,13 @@ abbrev pub told : TxKind → Stamp → List DownValue
 told kind s = record { kind = kind; item = 0; words = 0 ∷ []; stamp = s } ∷ []
 
 abbrev pub core_tests : FlatMachine → MachineValue → List Bool
-core_tests s m = map (λ r. holds (core_rule r s m)) core_rules
+core_tests s m = map (λ r. test_of (core_rule r s m)) core_rules
 
 abbrev pub copy_tests : FlatMachine → MachineValue → List Bool
-copy_tests s m = map (λ r. holds (copy_rule r s m 0)) copy_rules
+copy_tests s m = map (λ r. test_of (copy_rule r s m 0)) copy_rules
 
 abbrev pub written_tests : MachineValue → List Bool
-written_tests m = map (λ r. holds (written_rule r m 0)) written_rules
+written_tests m = map (λ r. test_of (written_rule r m 0)) written_rules
 
 -- ---- claims: an exclusive that is older than the end of a copy elsewhere
 

@@ -5,5 +5,6 @@ pub mod Claims
 pub mod Ops
 pub mod Time
 pub mod Core
+pub mod Directories
 pub mod Written
 pub mod Rules

@@ -13,7 +13,7 @@ use Rattle.tree_model.specs.State.Lists.{has_some}
 use Rattle.tree_model.specs.State.Values.{Note, no_note, local, up_read, up_erase, LeafValue, DirValue, Node, leaf_node, dir_node, nodes, MachineValue}
 use Rattle.tree_model.specs.State.Shape.{shape_test, shape_rules, frame_of}
 use Rattle.tree_model.specs.Turns.Machine.{no_traffic, turn_of}
-use Rattle.tree_rules.specs.Statements.{holds}
+use Rattle.tree_rules.specs.Statements.{test_of}
 use Rattle.tree_rules.specs.Bus.Faces.{ChildFace, ParentFace, parent_face, faces_of}
 use Rattle.tree_rules.specs.Bus.Own.{leaf_test, leaf_rules, top_test, top_rules}
 use Rattle.tree_rules.specs.Bus.Item.{implies, asked_below, bits_of, item_test, item_rules}
@@ -124,7 +124,7 @@ pub record ShapesRefused : Type 0 where
 -- ---- order
 
 abbrev pub core_tests : FlatMachine → MachineValue → List Bool
-core_tests s m = map (λ r. holds (core_rule r s m)) core_rules
+core_tests s m = map (λ r. test_of (core_rule r s m)) core_rules
 
 -- after the two writers have completed their first instructions, with the operations in another order
 abbrev pub turned_round : MachineValue

@@ -24,14 +24,14 @@ Holds (where_so b s) = b ≡ true → Holds s
 Holds (where_not b s) = b ≡ false → Holds s
 
 -- as a test
-abbrev pub holds : Statement → Bool
-holds always = true
-holds (is_so b) = b
-holds (is_not b) = not b
-holds (both s t) = holds s && holds t
-holds (either s t) = holds s || holds t
-holds (where_so b s) = if b then holds s else true
-holds (where_not b s) = if b then true else holds s
+abbrev pub test_of : Statement → Bool
+test_of always = true
+test_of (is_so b) = b
+test_of (is_not b) = not b
+test_of (both s t) = test_of s && test_of t
+test_of (either s t) = test_of s || test_of t
+test_of (where_so b s) = if b then test_of s else true
+test_of (where_not b s) = if b then true else test_of s
 
 module _ {X : Type 0} where
   -- of each element

@@ -1,11 +1,12 @@
 -- A leaf: its attraction memory, buffer, slot, replies and reservation, and what the bus tells it.
-use Rattle.std.specs.Prelude.{ℕ, ◌%◌, Bool, true, false, not, ◌&&◌, ◌||◌, nat_eq, nat_le, List, [], ◌∷◌, ◌++◌, map, length, replicate, filter, find, Option, Some, None, is_some, is_none, option_map, slice_index_or, slice_set, slice_get, if◌then◌else◌}
+use Rattle.std.specs.Prelude.{ℕ, ◌%◌, Bool, true, false, not, ◌&&◌, ◌||◌, nat_eq, nat_le, List, [], ◌∷◌, ◌++◌, map, length, replicate, filter, find, position, Option, Some, None, is_some, is_none, option_map, slice_index_or, slice_set, slice_get, if◌then◌else◌}
 use Rattle.std.specs.List.{range_with_len}
 use Rattle.ddm_types.specs.declared.answers.TxKind.{TxKind}
 use Rattle.ddm_types.specs.declared.answers.TxKind.TheVariants.{ReadTx}
 use Rattle.ddm_types.specs.declared.sizes.Hold.{Hold}
 use Rattle.ddm_types.specs.declared.sizes.LeafState.{LeafState}
 use Rattle.flat_model.specs.Flat.{has_reserved}
+use Rattle.tree_model.specs.declared.LeafSpot.{LeafSpot}
 use Rattle.tree_model.specs.State.Lists.{find_from, first_some, names_item, chosen}
 use Rattle.tree_model.specs.State.Kinds.{is_kind}
 use Rattle.tree_model.specs.State.States.{entry_hold, state_lost, asked_when_lost, state_with_data, asked_with_data, state_with_exclusive, state_with_inject, state_answered, is_waiting, is_reading, may_leave}
@@ -78,6 +79,13 @@ state_at x v = option_map entry_state (leaf_entry x v)
 abbrev pub entry_words : Option LeafEntry → List ℕ
 entry_words None = []
 entry_words (Some e) = e.words
+
+abbrev pub way_spot : WayValue → LeafSpot
+way_spot e = LeafSpot.Way e.way
+
+-- where the entry stands
+abbrev pub spot_at : ℕ → List (Option WayValue) → List BufferValue → Option LeafSpot
+spot_at x ways buffer = first_some (option_map way_spot (way_at x ways)) (option_map (λ k. LeafSpot.Buffer k) (position (is_buffered x) buffer))
 
 -- ---- sets and ways: the set of an item is its number modulo the number of sets
 

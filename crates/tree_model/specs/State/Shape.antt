@@ -2,6 +2,7 @@
 -- know, all sizes, its code and its table of items. The shape is a fact of these alone.
 use Rattle.std.specs.Prelude.{ℕ, ◌+◌, ◌%◌, Bool, true, not, ◌&&◌, nat_eq, nat_lt, nat_le, List, [], ◌∷◌, length, IsTrue}
 use Rattle.std.specs.List.{list_any, list_all}
+use Rattle.ddm_types.specs.declared.sizes.TreeCounts.{TreeCounts}
 use Rattle.ddm_types.specs.ItemTable.{ItemTable, ItemRow}
 use Rattle.ddm_types.specs.CodeMap.{CodeWord}
 use Rattle.tree_model.specs.State.Values.{LeafSizes, DirSizes, LeafValue, DirValue, Node, Nodes, leaf_node, dir_node, no_nodes, more_nodes, MachineValue, root_of}
@@ -97,6 +98,14 @@ abbrev mutual
   pub leaf_numbers_among : Skeletons → List ℕ → List ℕ
   leaf_numbers_among no_bones rest = rest
   leaf_numbers_among (more_bones b bs) rest = leaf_numbers_of b (leaf_numbers_among bs rest)
+
+-- how many leaves, buses and levels of buses a machine has
+abbrev pub tree_counts : MachineValue → TreeCounts
+tree_counts m = record {
+  leaves = length (leaf_numbers_of (skeleton (root_of m)) []);
+  buses = length (buses_of (skeleton (root_of m)) []);
+  depth = depth_of m;
+}
 
 -- no number comes twice
 abbrev pub are_distinct : List ℕ → Bool

@@ -1,12 +1,13 @@
 -- The found copy of an item: from the top to the lowest child that holds it; at a directory the last data or inject of it in
 -- the down list, else the parked copy, else on to the lowest child that holds it; at a leaf its entry.
-use Rattle.std.specs.Prelude.{ℕ, ◌+◌, Bool, true, false, ◌&&◌, nat_eq, List, [], ◌∷◌, map, Option, Some, None, option_map, position, if◌then◌else◌}
+use Rattle.std.specs.Prelude.{ℕ, ◌+◌, Bool, true, false, ◌&&◌, nat_eq, List, [], ◌∷◌, map, Option, Some, None, option_map, if◌then◌else◌}
 use Rattle.ddm_types.specs.declared.sizes.LeafState.{LeafState}
 use Rattle.tree_model.specs.declared.CopyPlace.{CopyPlace}
+use Rattle.tree_model.specs.declared.LeafSpot.{LeafSpot}
 use Rattle.tree_model.specs.State.Lists.{first_some}
 use Rattle.tree_model.specs.State.Kinds.{brings_copy}
-use Rattle.tree_model.specs.State.Values.{WayValue, DownValue, LeafValue, DirValue, Node, Nodes, leaf_node, dir_node, no_nodes, more_nodes, MachineValue}
-use Rattle.tree_model.specs.State.Leaf.{LeafEntry, way_at, is_buffered, leaf_entry, state_at}
+use Rattle.tree_model.specs.State.Values.{DownValue, LeafValue, DirValue, Node, Nodes, leaf_node, dir_node, no_nodes, more_nodes, MachineValue}
+use Rattle.tree_model.specs.State.Leaf.{LeafEntry, spot_at, leaf_entry, state_at}
 use Rattle.tree_model.specs.State.Directory.{queue_of, parked_words, parked_place}
 use Rattle.tree_model.specs.State.Child.{child_holds}
 use Rattle.tree_model.specs.Turns.Machine.{machine_leaves}
@@ -16,7 +17,7 @@ use Rattle.tree_model.specs.Turns.Machine.{machine_leaves}
 abbrev pub words_of_entry : LeafEntry → List ℕ
 words_of_entry e = e.words
 
-abbrev last_words : Bool → List ℕ → Option (List ℕ) → Option (List ℕ)
+abbrev pub last_words : Bool → List ℕ → Option (List ℕ) → Option (List ℕ)
 last_words true words None = Some words
 last_words true words (Some later) = Some later
 last_words false words later = later
@@ -41,14 +42,15 @@ found_words x m = words_among x m.kids
 
 -- ---- its place
 
-abbrev pub way_place : ℕ → WayValue → CopyPlace
-way_place leaf e = CopyPlace.LeafWay leaf e.way
+abbrev pub place_at : ℕ → LeafSpot → CopyPlace
+place_at leaf (LeafSpot.Way way) = CopyPlace.LeafWay leaf way
+place_at leaf (LeafSpot.Buffer place) = CopyPlace.LeafBuffer leaf place
 
 -- a leaf's entry
 abbrev pub leaf_place : ℕ → LeafValue → Option CopyPlace
-leaf_place x v = first_some (option_map (way_place v.number) (way_at x v.ways)) (option_map (λ k. CopyPlace.LeafBuffer v.number k) (position (is_buffered x) v.buffer))
+leaf_place x v = option_map (place_at v.number) (spot_at x v.ways v.buffer)
 
-abbrev last_place : Bool → ℕ → Option ℕ → Option ℕ
+abbrev pub last_place : Bool → ℕ → Option ℕ → Option ℕ
 last_place true k None = Some k
 last_place true k (Some later) = Some later
 last_place false k later = later

@@ -1,5 +1,5 @@
 -- The machine, one turn of it, and a run over a list of turns.
-use Rattle.std.specs.Prelude.{ℕ, ◌+◌, Bool, true, false, nat_lt, List, [], ◌∷◌, ◌++◌, length, Option, Some, None, is_some, slice_set, slice_index_or}
+use Rattle.std.specs.Prelude.{ℕ, ◌+◌, Bool, true, false, nat_lt, List, [], ◌∷◌, ◌++◌, length, Option, Some, None, is_some, slice_get, slice_set, slice_index_or}
 use Rattle.ddm_types.specs.declared.answers.TxKind.{TxKind}
 use Rattle.ddm_types.specs.declared.answers.LogEntry.{LogEntry}
 use Rattle.ddm_types.specs.declared.answers.TurnAnswer.{TurnAnswer}
@@ -8,11 +8,20 @@ use Rattle.ddm_types.specs.declared.keys.Key.{Key}
 use Rattle.ddm_types.specs.Keys.{key_zero}
 use Rattle.ddm_types.specs.ItemTable.{ItemTable}
 use Rattle.ddm_types.specs.CodeMap.{CodeWord}
+use Rattle.ddm_types.specs.declared.sizes.Hold.{Hold}
+use Rattle.flat_model.specs.Hart.{HartValue}
 use Rattle.tree_model.specs.declared.BusTurn.{BusTurn}
+use Rattle.tree_model.specs.declared.LeafSpot.{LeafSpot}
+use Rattle.tree_model.specs.declared.TreeChild.{TreeChild}
 use Rattle.tree_model.specs.declared.Traffic.{Traffic}
-use Rattle.tree_model.specs.State.Values.{LeafValue, DirValue, Node, Nodes, leaf_node, dir_node, no_nodes, more_nodes, nodes, children, MachineValue, root_of}
+use Rattle.tree_model.specs.State.Values.{DownValue, LeafValue, DirValue, Node, Nodes, leaf_node, dir_node, no_nodes, more_nodes, nodes, children, MachineValue, root_of}
+use Rattle.tree_model.specs.State.Blank.{no_hart}
+use Rattle.tree_model.specs.State.Leaf.{LeafEntry, leaf_entry, spot_at}
+use Rattle.tree_model.specs.State.Directory.{parked_words, parked_place}
+use Rattle.tree_model.specs.State.Child.{child_label, child_hold}
 use Rattle.tree_model.specs.State.Place.{Where, at_top, stamp_above, key_at_leaf}
 use Rattle.tree_model.specs.Turns.Grant.{Outcome}
+use Rattle.tree_model.specs.Turns.Children.{child_at}
 use Rattle.tree_model.specs.Turns.Bus.{bus_step}
 use Rattle.tree_model.specs.Turns.HartTurn.{leaf_step}
 use Rattle.tree_model.specs.Turns.Tree.{Name, leaf_of_number, bus_of_number, read_in, changed_in, of_leaf, of_dir}
@@ -29,6 +38,14 @@ one_more TxKind.EraseTx t = record t { erases = t.erases + 1 }
 one_more TxKind.ExclusiveTx t = record t { exclusives = t.exclusives + 1 }
 one_more TxKind.InjectTx t = record t { injects = t.injects + 1 }
 one_more TxKind.OutTx t = record t { outs = t.outs + 1 }
+
+abbrev pub granted_of : TxKind → Traffic → ℕ
+granted_of TxKind.ReadTx t = t.reads
+granted_of TxKind.DataTx t = t.copies
+granted_of TxKind.EraseTx t = t.erases
+granted_of TxKind.ExclusiveTx t = t.exclusives
+granted_of TxKind.InjectTx t = t.injects
+granted_of TxKind.OutTx t = t.outs
 
 abbrev pub traffic_with : LogEntry → List Traffic → List Traffic
 traffic_with e ts = slice_set ts e.bus (one_more e.kind (slice_index_or ts e.bus no_traffic))
@@ -149,6 +166,37 @@ names_part (Turn.Down bus) m = is_some (child_count bus m)
 names_part (Turn.Request bus child) m = is_child_of child (child_count bus m)
 names_part (Turn.Reply bus child) m = is_child_of child (child_count bus m)
 names_part (Turn.Leave bus child choice) m = is_child_of child (child_count bus m)
+
+-- the hart of a leaf; its entry of an item, and where that stands
+abbrev pub hart_of : ℕ → MachineValue → Option HartValue
+hart_of leaf m = ask_leaf leaf (λ w v. v.hart) no_hart m
+
+abbrev pub entry_of : ℕ → ℕ → MachineValue → Option (Option LeafEntry)
+entry_of leaf x m = ask_leaf leaf (λ w v. leaf_entry x v) None m
+
+abbrev pub spot_of : ℕ → ℕ → MachineValue → Option (Option LeafSpot)
+spot_of leaf x m = ask_leaf leaf (λ w v. spot_at x v.ways v.buffer) None m
+
+-- a child of a bus, and what it holds of an item
+abbrev pub child_of : ℕ → ℕ → MachineValue → Option TreeChild
+child_of bus child m = ask_bus bus (λ w d ns. child_label (child_at child ns)) (TreeChild.BusChild 0) m
+
+abbrev pub child_hold_of : ℕ → ℕ → ℕ → MachineValue → Option Hold
+child_hold_of bus child x m = ask_bus bus (λ w d ns. child_hold x (child_at child ns)) Hold.Invalid m
+
+-- an entry of the down list over a bus, and the words and the place of a copy that is parked there
+abbrev pub down_entry_of : ℕ → ℕ → MachineValue → Option (Option DownValue)
+down_entry_of bus place m = ask_bus bus (λ w d ns. slice_get d.down place) None m
+
+abbrev pub parked_words_of : ℕ → ℕ → MachineValue → Option (Option (List ℕ))
+parked_words_of bus x m = ask_bus bus (λ w d ns. parked_words x d) None m
+
+abbrev pub parked_place_of : ℕ → ℕ → MachineValue → Option (Option ℕ)
+parked_place_of bus x m = ask_bus bus (λ w d ns. parked_place x d) None m
+
+-- how many transactions of a kind a bus has granted
+abbrev pub grants_of : ℕ → TxKind → MachineValue → ℕ
+grants_of bus kind m = granted_of kind (slice_index_or m.traffic bus no_traffic)
 
 abbrev mutual
   -- the leaves of a part of the tree, from left to right, before others

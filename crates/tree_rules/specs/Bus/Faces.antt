@@ -43,7 +43,7 @@ pub record ChildFace : Type 0 where
   pub replies : ℕ
   pub answers : Bool
 
-abbrev in_state : (LeafState → Bool) → Option LeafState → Bool
+abbrev pub in_state : (LeafState → Bool) → Option LeafState → Bool
 in_state test None = false
 in_state test (Some s) = test s
 

@@ -283,7 +283,7 @@ pub record ItemRules (p : ParentFace) (cs : List ChildFace) : Type 0 where
 
 -- ---- 10: places kept in parking
 
-abbrev starts_with_inject : List TxKind → Bool
+abbrev pub starts_with_inject : List TxKind → Bool
 starts_with_inject [] = false
 starts_with_inject (k ∷ ks) = is_kind InjectTx k
 

@@ -37,14 +37,14 @@ abbrev pub buffer_fits : ℕ → LeafValue → BufferValue → Bool
 buffer_fits n v e = nat_lt e.item n && (is_none (way_at e.item v.ways) && words_suit e.state e.words)
 
 -- no other item than x stands in the way of x's set that x has
-abbrev same_if_there : ℕ → ℕ → ℕ → ℕ → Option WayValue → Bool
+abbrev pub same_if_there : ℕ → ℕ → ℕ → ℕ → Option WayValue → Bool
 same_if_there sets x way y o = implies (stands_in sets x way y o) (nat_eq x y)
 
 abbrev pub has_way_alone : LeafValue → ℕ → Option WayValue → Bool
 has_way_alone v x None = true
 has_way_alone v x (Some e) = all_from (same_if_there v.sizes.sets x e.way) 0 v.ways
 
-abbrev state_waits : Option LeafState → Bool
+abbrev pub state_waits : Option LeafState → Bool
 state_waits None = false
 state_waits (Some s) = is_waiting s
 

@@ -39,7 +39,7 @@ is_in_own_order o p = where_so (is_of o.hart p) (is_so (key_less o.key p.key))
 
 -- ---- 3: words
 
-abbrev any_op : Op → Bool
+abbrev pub any_op : Op → Bool
 any_op o = true
 
 abbrev pub words_until : FlatMachine → ℕ → ItemTable → List Op → ℕ → Option (List ℕ) → List ℕ

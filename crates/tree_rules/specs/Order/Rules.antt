@@ -9,7 +9,7 @@ use Rattle.flat_model.specs.Legal.{legal_run}
 use Rattle.tree_model.specs.State.Values.{MachineValue}
 use Rattle.tree_model.specs.State.Shape.{depth_of}
 use Rattle.tree_model.specs.Turns.Machine.{turn_of}
-use Rattle.tree_rules.specs.Statements.{Statement, is_so, Holds, holds, each, each_pair}
+use Rattle.tree_rules.specs.Statements.{Statement, is_so, Holds, test_of, each, each_pair}
 use Rattle.tree_rules.specs.Bus.Rules.{items_of_machine}
 use Rattle.tree_rules.specs.Order.Places.{leaves_at, dirs_at}
 use Rattle.tree_rules.specs.Order.Copies.{copies_of}
@@ -62,7 +62,7 @@ pub record IsTimed (m : MachineValue) : Type 0 where
   pub each : (r : TimeRule) → Holds (time_rule r m)
 
 abbrev pub is_timed : MachineValue → Bool
-is_timed m = list_all (λ r. holds (time_rule r m)) time_rules
+is_timed m = list_all (λ r. test_of (time_rule r m)) time_rules
 
 -- ---- the core
 
@@ -119,7 +119,7 @@ pub record IsCore (s : FlatMachine) (m : MachineValue) : Type 0 where
   pub copies : (x : ℕ) → x < items_of_machine m → (r : CopyRule) → Holds (copy_rule r s m x)
 
 abbrev pub is_core : FlatMachine → MachineValue → Bool
-is_core s m = list_all (λ r. holds (core_rule r s m)) core_rules && list_all (λ x. list_all (λ r. holds (copy_rule r s m x)) copy_rules) (range_with_len 0 (items_of_machine m))
+is_core s m = list_all (λ r. test_of (core_rule r s m)) core_rules && list_all (λ x. list_all (λ r. test_of (copy_rule r s m x)) copy_rules) (range_with_len 0 (items_of_machine m))
 
 -- ---- what follows, of one item
 
@@ -156,7 +156,7 @@ pub record IsWritten (m : MachineValue) : Type 0 where
   pub each : (x : ℕ) → x < items_of_machine m → (r : WrittenRule) → Holds (written_rule r m x)
 
 abbrev pub is_written : MachineValue → Bool
-is_written m = list_all (λ x. list_all (λ r. holds (written_rule r m x)) written_rules) (range_with_len 0 (items_of_machine m))
+is_written m = list_all (λ x. list_all (λ r. test_of (written_rule r m x)) written_rules) (range_with_len 0 (items_of_machine m))
 
 -- ---- all of them
 

@@ -1,6 +1,6 @@
 use Rattle.std.proofs.Common.{◌≡◌, Ok, ap, subst}
 use Rattle.std.proofs.lemmas.Result.{IfOk-weaker}
-use Rattle.tree_model.specs.Start.{TreeValue}
+use Rattle.tree_model.specs.Start.Sources.{TreeValue}
 use Rattle.elf_load.specs.ElfFile.{image_of}
 use Rattle.ddm_cli.proofs.Judged.{some_parts}
 use Rattle.ddm_cli.proofs.judging.judged_image.Goals as goal

@@ -1,5 +1,5 @@
 use Rattle.std.proofs.Common.{ap, ◌∙◌}
-use Rattle.tree_model.specs.Start.{TreeValue}
+use Rattle.tree_model.specs.Start.Sources.{TreeValue}
 use Rattle.text_model.specs.Report.{report_of}
 use Rattle.text_model.specs.Run.{counts_of}
 use Rattle.text_model.specs.Schedule.{hart_turns}
