@@ -1,8 +1,11 @@
 //! What holds of all schedules, as theorems: each clause is one, and there is nothing to run.
 
-ghost use Rattle.std.specs.Prelude.{◌≡◌, ℕ, ◌+◌, ◌<◌, ◌≤◌, List, [], ◌∷◌, ◌++◌, length, All};
+ghost use Rattle.std.specs.Prelude.{◌≡◌, ℕ, ◌+◌, ◌<◌, ◌≤◌, List, [], ◌∷◌, ◌++◌, length, filter, All};
 ghost use Rattle.ddm_types.specs.declared.turns.Turn.{Turn};
 ghost use Rattle.text_model.specs.Schedule.{ShapeView, meaning_of, Reading, in_line, refused_at, nothing_but, schedule_of, schedule_text, reading_on, held_of, resumed, reading_of_line};
+ghost use Rattle.ddm_types.specs.declared.operations.Op.{Op};
+ghost use Rattle.flat_model.specs.Legal.{is_of};
+ghost use Rattle.text_model.specs.Report.{put_texts};
 ghost use Rattle.text_model.specs.ReadBack.{IsTurnOf, IsSmallShape, IsReadBack, GivesTurnsOf};
 ghost use Rattle.text_model.specs.Lines.{Lacks};
 
@@ -44,4 +47,10 @@ pub fn schedule_parts()
         → (reading_on shape line made text).standing ≡ in_line current
         → length (held_of text) ≤ 24 }
     ensures no_line_feed { (text : List ℕ) → Lacks 10 (held_of text) }
+{}
+
+/// What a hart puts out is made of its own operations, in their order, and of no others.
+pub fn same_output()
+    ensures { (hart : ℕ) (ops others : List Op) → filter (is_of hart) ops ≡ filter (is_of hart) others
+        → put_texts hart ops ≡ put_texts hart others }
 {}

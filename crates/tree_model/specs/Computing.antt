@@ -1,4 +1,5 @@
 -- One name that opens every definition of this crate, and of those that it stands on, that is shut by default.
+-- Proofs alone need it.
 use Rattle.flat_model.specs.Computing.{flat_computes}
 use Rattle.tree_model.specs.State.Leaf.{words_of_item, entry_at, item_in_way, free_way, leaf_hold, leaf_room, leaf_leaving, waiting_item, leaf_lose, leaf_take_data, leaf_take_exclusive, leaf_answer, leaf_take_inject}
 use Rattle.tree_model.specs.State.Directory.{queue_of, request_kinds, struck, pending, dir_room, dir_leaving, dir_lose, dir_take_data, dir_take_exclusive, dir_answer, dir_take_inject}

@@ -1,4 +1,5 @@
 -- Laws of every turn, in the words of the contracts of src/laws.rt: no premise says that a machine is well-formed or reached.
+-- To be believed with the laws: it is what they speak of.
 use Rattle.std.specs.Prelude.{◌≡◌, ℕ, true, List, map}
 use Rattle.ddm_types.specs.declared.answers.TurnAnswer.{TurnAnswer}
 use Rattle.ddm_types.specs.declared.turns.Turn.{Turn}

@@ -1,4 +1,5 @@
 -- One name that opens every definition of this crate, and of those that it stands on, that is shut by default.
+-- Proofs alone need it.
 use Rattle.tree_model.specs.Computing.{tree_computes}
 use Rattle.tree_rules.specs.Bus.Item.{implies}
 use Rattle.tree_rules.specs.Bus.Rules.{run_holds}

@@ -1,5 +1,6 @@
 -- Statements that are facts and tests at once: each rule of order is one of them, and both what a proof uses and what
 -- computes on an example are drawn from it.
+-- To be believed where a rule is relied on; the order of the witness needs no reader here.
 use Rattle.std.specs.Prelude.{◌≡◌, ◌⊎◌, Bool, true, false, not, ◌&&◌, ◌||◌, List, [], ◌∷◌, Option, Some, None, if◌then◌else◌, ⊤}
 
 pub data Statement : Type 0 where

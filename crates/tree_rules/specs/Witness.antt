@@ -1,5 +1,6 @@
 -- What a run has in common with the flat machine, for every tree: the witness, which is the operations in the order of their
 -- keys, is one run of it, and all that is printed is that run's.
+-- To be believed: it is what is claimed of every run.
 use Rattle.std.specs.Prelude.{◌≡◌, ℕ, ◌<◌, Bool, true, false, not, ◌&&◌, ◌||◌, nat_eq, List, [], ◌∷◌, ◌++◌, ◌+◌, length, filter, take, Option, Some, None, IfSome, IsTrue, Err, ⊤}
 use Rattle.std.specs.List.{AllByRecursion}
 use Rattle.ddm_types.specs.declared.answers.TurnAnswer.{TurnAnswer}

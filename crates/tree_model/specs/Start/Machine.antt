@@ -1,5 +1,7 @@
 -- The machine before its first turn: the tree of a shape, the items and code of an image's segments and of the stacks, and
 -- each item placed in a leaf; and why there is none.
+-- Letters: t is a tree, i an image, s a segment.
+-- To be believed: it is what the machine is.
 use Rattle.std.specs.Prelude.{ℕ, ◌+◌, Bool, ◌&&◌, nat_lt, List, [], ◌∷◌, map, drop, Option, Some, None, Result, Ok, Err, if◌then◌else◌}
 use Rattle.std.specs.List.{range_with_len}
 use Rattle.ddm_types.specs.declared.sizes.Span.{Span}

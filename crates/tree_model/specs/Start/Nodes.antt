@@ -1,5 +1,7 @@
 -- The nodes of a tree before the first turn: leaves and directories of given sizes, the items placed, and the levels of buses
 -- over the leaves.
+-- Letters: v is a leaf, ls are leaves, ks and ns nodes, x is an item, l a level.
+-- To be believed: it is what the machine is.
 use Rattle.std.specs.Prelude.{ℕ, ◌+◌, ◌%◌, Bool, true, false, ◌||◌, nat_eq, List, [], ◌∷◌, map, length, take, drop, replicate, find, Option, Some, None, is_some, slice_index_or, if◌then◌else◌}
 use Rattle.std.specs.List.{range_with_len}
 use Rattle.ddm_types.specs.declared.sizes.Start.{Start}

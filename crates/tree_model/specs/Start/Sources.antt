@@ -1,4 +1,6 @@
 -- What a machine is made from: an image's segments of memory, and a tree of buses.
+-- Letters: t is a tree, i an image, s a segment.
+-- To be believed: it is what the machine is.
 use Rattle.std.specs.Prelude.{ℕ, ◌+◌, ◌*◌, ◌/◌, ◌%◌, Bool, true, List, [], ◌∷◌, map, sum, nat_eq}
 use Rattle.std.specs.List.{flat_map, range_with_len}
 use Rattle.ddm_types.specs.declared.sizes.Span.{Span}

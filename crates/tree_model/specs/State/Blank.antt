@@ -1,4 +1,5 @@
 -- What stands where a list has no element at an index.
+-- To be believed: it is what the machine is.
 use Rattle.std.specs.Prelude.{[], None}
 use Rattle.flat_model.specs.Hart.{HartValue}
 use Rattle.tree_model.specs.State.Values.{LeafSizes, LeafValue, Node, leaf_node}

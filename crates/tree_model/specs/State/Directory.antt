@@ -1,4 +1,6 @@
 -- A directory: what it keeps of each item, its lists, what the bus above tells it, and what the bus below makes of it.
+-- Letters: d is a directory, e an entry of its down list, x an item, c and d in notes children, s a stamp.
+-- To be believed: it is what the machine is.
 use Rattle.std.specs.Prelude.{ℕ, ◌+◌, ◌-◌, ◌^◌, Bool, true, false, not, ◌&&◌, ◌||◌, nat_eq, nat_le, List, [], ◌∷◌, ◌++◌, map, length, filter, position, bit_or, Option, Some, None, option_map, slice_index_or, slice_set, if◌then◌else◌}
 use Rattle.std.specs.Int.{bit_at}
 use Rattle.ddm_types.specs.declared.answers.TxKind.{TxKind}

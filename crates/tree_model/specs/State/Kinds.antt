@@ -1,4 +1,5 @@
 -- The kinds of transactions. Source: the transactions of the DDM protocol.
+-- To be believed: it is what the machine is.
 use Rattle.std.specs.Prelude.{ℕ, Bool, true, false, List, nat_eq}
 use Rattle.std.specs.List.{list_any}
 use Rattle.ddm_types.specs.declared.answers.TxKind.{TxKind}

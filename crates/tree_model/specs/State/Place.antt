@@ -1,5 +1,7 @@
 -- Where a node stands in the tree, and the time there.
 -- A path is the list of child numbers from the top. The bus of a directory has the directory's path.
+-- Letters: c is a spot, w a place with or without a bus above, d a directory.
+-- To be believed: it is what the machine is.
 use Rattle.std.specs.Prelude.{ℕ, List, [], ◌∷◌, ◌++◌}
 use Rattle.ddm_types.specs.declared.keys.Stamp.{Stamp}
 use Rattle.ddm_types.specs.declared.keys.Key.{Key}

@@ -1,4 +1,5 @@
 -- Each list of a leaf or a directory within its room, and a place for each of n items. No turn breaks it, whatever the state.
+-- To be believed with the laws: it is what they speak of.
 use Rattle.std.specs.Prelude.{ℕ, ◌+◌, Bool, true, ◌&&◌, nat_eq, nat_le, length}
 use Rattle.tree_model.specs.State.Values.{LeafValue, DirValue, Node, Nodes, leaf_node, dir_node, no_nodes, more_nodes}
 

@@ -1,5 +1,6 @@
 -- What no turn changes of a machine: which nodes it has, the numbers of its buses and leaves, the levels that its directories
 -- know, all sizes, its code and its table of items. The shape is a fact of these alone.
+-- To be believed with the laws: it is what they speak of.
 use Rattle.std.specs.Prelude.{ℕ, ◌+◌, ◌%◌, Bool, true, not, ◌&&◌, nat_eq, nat_lt, nat_le, List, [], ◌∷◌, length, IsTrue}
 use Rattle.std.specs.List.{list_any, list_all}
 use Rattle.ddm_types.specs.declared.sizes.TreeCounts.{TreeCounts}

@@ -1,5 +1,6 @@
 -- The item states, as tables: what a leaf holds of an item by its entry, and what becomes of the entry when its bus tells it
 -- something. Source: the state tables of the DDM protocol. W is Waiting, R is Reading, B is ReadingWaiting.
+-- To be believed: it is what the machine is.
 use Rattle.std.specs.Prelude.{Bool, true, false, Option, Some, None}
 use Rattle.ddm_types.specs.declared.answers.TxKind.{TxKind}
 use Rattle.ddm_types.specs.declared.sizes.Hold.{Hold}

@@ -1,6 +1,7 @@
 -- The state of the machine as plain values. Source: the states of the Data Diffusion Machine (invalid, exclusive,
 -- shared, reading, waiting, reading-and-waiting in attraction memories; answering and the notes of transactions under
 -- way in directories).
+-- To be believed: it is what the machine is.
 use Rattle.std.specs.Prelude.{ℕ, Bool, false, List, [], ◌∷◌, Option}
 use Rattle.ddm_types.specs.declared.keys.Stamp.{Stamp}
 use Rattle.ddm_types.specs.declared.answers.TxKind.{TxKind}

@@ -3,6 +3,8 @@
 -- A turn is judged in the order: nothing there, the item pending, full places (children in order of number, then the
 -- parent's own list). A granted turn begins with the count of the bus; what it tells a child carries the stamp that the bus
 -- has then, and what it puts into the parent's own down list carries the present stamp of the bus above.
+-- Letters: p is the parent, ns are its children, c is a child number, x an item, r a request or a reply, t a turn.
+-- To be believed: it is what the machine is.
 use Rattle.std.specs.Prelude.{ℕ, List, Option, Some, None}
 use Rattle.ddm_types.specs.declared.answers.TxKind.{TxKind}
 use Rattle.ddm_types.specs.declared.answers.TxKind.TheVariants.{ReadTx, DataTx, EraseTx, ExclusiveTx, InjectTx, OutTx}

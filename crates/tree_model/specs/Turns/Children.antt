@@ -1,5 +1,7 @@
 -- The children of a bus: who of them holds an item or has room for it, which of their lists is full, and what a turn tells
 -- each of them, as one function of a child's number and value.
+-- Letters: n is child i, c, d and k are child numbers, x is an item, s a stamp.
+-- To be believed: it is what the machine is.
 use Rattle.std.specs.Prelude.{ℕ, Bool, not, ◌&&◌, nat_eq, nat_lt, List, Option, Some, None, slice_index_or, if◌then◌else◌}
 use Rattle.ddm_types.specs.declared.answers.TxKind.{TxKind}
 use Rattle.ddm_types.specs.declared.answers.TxKind.TheVariants.{DataTx, EraseTx}

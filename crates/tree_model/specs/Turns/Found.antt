@@ -1,5 +1,7 @@
 -- The found copy of an item: from the top to the lowest child that holds it; at a directory the last data or inject of it in
 -- the down list, else the parked copy, else on to the lowest child that holds it; at a leaf its entry.
+-- Letters: m is a machine, v a leaf, d a directory over the nodes ns, e an entry, x an item.
+-- To be believed: it is what the machine is.
 use Rattle.std.specs.Prelude.{ℕ, ◌+◌, Bool, true, false, ◌&&◌, nat_eq, List, [], ◌∷◌, map, Option, Some, None, option_map, if◌then◌else◌}
 use Rattle.ddm_types.specs.declared.sizes.LeafState.{LeafState}
 use Rattle.tree_model.specs.declared.CopyPlace.{CopyPlace}

@@ -1,4 +1,6 @@
 -- What a turn of a bus comes to: nothing is there, it is refused, or something is granted. Only a grant changes anything.
+-- Letters: p is the parent, ns are its children, g is a grant, j what was judged.
+-- To be believed: it is what the machine is.
 use Rattle.std.specs.Prelude.{ℕ, Bool, List, Option, Some, None, nat_eq, if◌then◌else◌}
 use Rattle.ddm_types.specs.declared.answers.TxKind.{TxKind}
 use Rattle.ddm_types.specs.declared.answers.PendingWhy.{PendingWhy}

@@ -1,5 +1,7 @@
 -- A hart's turn at its leaf: one try of its next instruction. What it comes to is one of the deeds below; a completing
 -- instruction does what the flat machine's step does over the words that the leaf has.
+-- Letters: v is a leaf, e an entry, x and y items, c a change.
+-- To be believed: it is what the machine is.
 use Rattle.std.specs.Prelude.{ℕ, ◌+◌, ◌%◌, Bool, true, false, List, [], ◌∷◌, ◌++◌, Option, Some, None, Result, Ok, Err, slice_set, if◌then◌else◌}
 use Rattle.ddm_types.specs.declared.answers.TxKind.TheVariants.{ReadTx, EraseTx}
 use Rattle.ddm_types.specs.declared.answers.BusyCause.TheVariants.{BufferFull}

@@ -1,5 +1,7 @@
 -- A copy of item x leaves child c: an out, where the item has another copy or is parked at the parent, or an inject, which
 -- passes it on. Source: the DDM protocol's out and inject.
+-- Letters: p is the parent, ns are its children, c and k child numbers, x is the item.
+-- To be believed: it is what the machine is.
 use Rattle.std.specs.Prelude.{ℕ, Bool, true, false, ◌||◌, List, Option, Some, None, is_some, if◌then◌else◌}
 use Rattle.ddm_types.specs.declared.answers.TxKind.{TxKind}
 use Rattle.ddm_types.specs.declared.answers.TxKind.TheVariants.{InjectTx, OutTx}

@@ -1,4 +1,6 @@
 -- The request of child c to erase all other copies of item x. Source: the DDM protocol's erase and exclusive.
+-- Letters: p is the parent, ns are its children, c is a child number, x the item.
+-- To be believed: it is what the machine is.
 use Rattle.std.specs.Prelude.{ℕ, Bool, true, false, List, Option, Some, None}
 use Rattle.ddm_types.specs.declared.answers.TxKind.TheVariants.{EraseTx, ExclusiveTx}
 use Rattle.ddm_types.specs.declared.answers.PendingWhy.{PendingWhy}

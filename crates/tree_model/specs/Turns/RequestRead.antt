@@ -1,4 +1,6 @@
 -- The request of child c to read item x. Source: the DDM protocol's read, with combined reads.
+-- Letters: p is the parent, ns are its children, c and k child numbers, x is the item.
+-- To be believed: it is what the machine is.
 use Rattle.std.specs.Prelude.{ℕ, Bool, true, false, List, Option, Some, None}
 use Rattle.ddm_types.specs.declared.answers.TxKind.TheVariants.{ReadTx, DataTx}
 use Rattle.ddm_types.specs.declared.answers.PendingWhy.{PendingWhy}

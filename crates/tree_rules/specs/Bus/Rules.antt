@@ -1,4 +1,5 @@
 -- The rules of a bus at one bus, at every bus of a machine, and after every turn of a run, as facts and as tests.
+-- To be believed where a rule is relied on; the order of the witness needs no reader here.
 use Rattle.std.specs.Prelude.{◌≡◌, ℕ, ◌+◌, ◌<◌, Bool, true, ◌&&◌, nat_eq, List, [], ◌∷◌, length, IsTrue, ⊤}
 use Rattle.std.specs.List.{list_all, range_with_len}
 use Rattle.ddm_types.specs.declared.turns.Turn.{Turn}

@@ -1,5 +1,6 @@
 -- The copies of an item in a machine: words of it in an entry of a leaf, in parking, in a reply list, or as data or inject in
 -- a down list; and the erases of it that stand in down lists.
+-- To be believed where a rule is relied on; the order of the witness needs no reader here.
 use Rattle.std.specs.Prelude.{ℕ, ◌+◌, List, [], ◌∷◌, ◌++◌, map, Option, Some, None, if◌then◌else◌}
 use Rattle.ddm_types.specs.declared.answers.TxKind.TheVariants.{EraseTx}
 use Rattle.tree_model.specs.State.Lists.{first_some}

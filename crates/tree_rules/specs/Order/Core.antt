@@ -1,5 +1,6 @@
 -- The rules of order that tie a machine to a start: commands of down lists, words and claims of copies, clocks, reservations,
 -- and the flat machine after the operations (rules 3, 7, 8 and 10 to 13).
+-- To be believed where a rule is relied on; the order of the witness needs no reader here.
 use Rattle.std.specs.Prelude.{ℕ, ◌-◌, Bool, true, false, not, ◌&&◌, ◌||◌, nat_eq, nat_lt, nat_le, List, length, filter, Option, Some, None, is_none, is_some, Ok, Err}
 use Rattle.ddm_types.specs.declared.operations.HaltCause.{HaltCause}
 use Rattle.ddm_types.specs.declared.operations.HaltCause.TheVariants.{Exit, Illegal, Breakpoint, UnknownCall, MisalignedTarget, FetchOutside, MisalignedAccess, LoadOutside, StoreOutside}

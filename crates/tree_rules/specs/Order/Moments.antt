@@ -1,6 +1,7 @@
 -- Lists of numbers: stamps and keys with the child numbers of a path between them.
 -- A path is the list of child numbers from the top. A bus with l buses above it has a path of l child numbers and stamps of
 -- l + 1 numbers, and a moment on it has 2 l + 1. The bus above the top, which there isn't, has moments of no number.
+-- To be believed where a rule is relied on; the order of the witness needs no reader here.
 use Rattle.std.specs.Prelude.{◌≡◌, ℕ, ◌+◌, ◌*◌, ◌≤◌, Bool, true, false, ◌&&◌, nat_eq, List, [], ◌∷◌, length, take}
 use Rattle.std.specs.List.{common_prefix_len}
 use Rattle.ddm_types.specs.declared.keys.Stamp.{Stamp}

@@ -1,4 +1,5 @@
 -- Lists of completed instructions: their keys, and what they leave of the flat machine from a start.
+-- To be believed: it is what is claimed of every run.
 use Rattle.std.specs.Prelude.{ℕ, Bool, List, length, filter}
 use Rattle.ddm_types.specs.declared.operations.Op.{Op}
 use Rattle.ddm_types.specs.Keys.{key_numbers}

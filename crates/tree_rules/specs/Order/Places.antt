@@ -1,4 +1,5 @@
 -- The leaves and directories of a machine, each with the spot at which it hangs.
+-- To be believed where a rule is relied on; the order of the witness needs no reader here.
 use Rattle.std.specs.Prelude.{ℕ, ◌+◌, List, [], ◌∷◌, ◌++◌}
 use Rattle.tree_model.specs.State.Values.{LeafValue, DirValue, Node, Nodes, leaf_node, dir_node, no_nodes, more_nodes, MachineValue}
 use Rattle.tree_model.specs.State.Place.{Spot, spot_path, spot_in}

@@ -1,6 +1,7 @@
 -- The rules of order: a relation between a start, which is the harts and words of the flat machine, and a machine with its
 -- operations. It holds between turns. With it the operations in the order of their keys are legal for the start.
 -- Three parts: time, which needs no start; the core, which one turn after the other keeps; and what follows from these.
+-- To be believed where a rule is relied on; the order of the witness needs no reader here.
 use Rattle.std.specs.Prelude.{ℕ, ◌<◌, Bool, true, ◌&&◌, List, [], ◌∷◌, is_some}
 use Rattle.std.specs.List.{list_all, range_with_len}
 use Rattle.ddm_types.specs.declared.turns.Turn.{Turn}

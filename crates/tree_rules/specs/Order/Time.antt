@@ -1,4 +1,5 @@
 -- The rules of order that need no start: the keys of operations, and the stamps of down lists (rules 1 and 2).
+-- To be believed where a rule is relied on; the order of the witness needs no reader here.
 use Rattle.std.specs.Prelude.{ℕ, ◌*◌, Bool, true, false, nat_eq, List, ◌∷◌, [], drop, length}
 use Rattle.std.specs.List.{list_any}
 use Rattle.ddm_types.specs.declared.answers.TxKind.{TxKind}
