@@ -1,5 +1,5 @@
 -- The tests of the rules of a bus tell just what the facts say.
-use Rattle.std.specs.Prelude.{◌≡◌, ℕ, ◌<◌, nat_eq, Bool, true, ◌&&◌, List, length, refl}
+use Rattle.std.specs.Prelude.{◌≡◌, ℕ, nat_eq, true, ◌&&◌, List, length, refl}
 use Rattle.std.specs.List.{list_all, range_with_len}
 use Rattle.std.proofs.lemmas.Bool.{eqb-true, eq-eqb, and_parts}
 use Rattle.std.specs.Cmp.Derive.{both_true}

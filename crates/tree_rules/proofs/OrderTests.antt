@@ -1,11 +1,11 @@
 -- The tests of the rules of order tell just what the facts say.
-use Rattle.std.specs.Prelude.{◌≡◌, ℕ, ◌<◌, Bool, true, ◌&&◌, List}
+use Rattle.std.specs.Prelude.{◌≡◌, ℕ, Bool, true, ◌&&◌}
 use Rattle.std.specs.List.{list_all, range_with_len}
 use Rattle.std.proofs.lemmas.Bool.{and_parts}
 use Rattle.std.specs.Cmp.Derive.{both_true}
 use Rattle.flat_model.specs.Flat.{FlatMachine}
 use Rattle.tree_model.specs.State.Values.{MachineValue}
-use Rattle.tree_rules.specs.Statements.{Holds, test_of}
+use Rattle.tree_rules.specs.Statements.{test_of}
 use Rattle.tree_rules.specs.Bus.Rules.{items_of_machine}
 use Rattle.tree_rules.specs.Order.Rules.{TimeRule, keys_differ, ops_of_leaves, keys_end, keys_have_paths, keys_are_past, taken_is_past, stamps_between, stamps_rise, stamps_end, epochs_end, time_rule, time_rules, IsTimed, is_timed, CoreRule, commands_past_taken, reservations_kept, legal, harts_follow, counts_follow, halts_follow, own_order, core_rule, core_rules, CopyRule, words_right, claims_after_ops, claims_after_copies, clocks_know, copy_rule, copy_rules, IsCore, is_core, WrittenRule, ends_later, writer_alone, writer_latest, ops_beside, copies_beside, leaf_knows, dirs_know, written_rule, written_rules, IsWritten, is_written, IsInOrder, order_holds}
 use Rattle.tree_rules.proofs.Statements.{Holds-from_test, test-from_Holds}

@@ -9,11 +9,11 @@ use Rattle.ddm_types.specs.declared.operations.Effect.{Effect}
 use Rattle.ddm_types.specs.declared.operations.Op.{Op}
 use Rattle.ddm_types.specs.declared.turns.Turn.{Turn}
 use Rattle.flat_model.specs.Flat.{FlatMachine}
-use Rattle.tree_model.specs.State.Values.{DownValue, Note, no_note, up_erase, DirValue, Node, leaf_node, dir_node, nodes, MachineValue}
+use Rattle.tree_model.specs.State.Values.{DownValue, Note, no_note, up_erase, Node, leaf_node, dir_node, nodes, MachineValue}
 use Rattle.tree_model.specs.Turns.Machine.{turn_of}
 use Rattle.tree_rules.specs.Statements.{test_of}
 use Rattle.tree_rules.specs.Bus.Rules.{machine_holds}
-use Rattle.tree_rules.specs.Order.Rules.{is_timed, core_rule, core_rules, copy_rule, copy_rules, written_rule, written_rules, is_core, is_written}
+use Rattle.tree_rules.specs.Order.Rules.{is_timed, core_rule, core_rules, copy_rule, copy_rules, written_rule, written_rules}
 use Rattle.tree_rules.specs.Small.{all_but, entry, leaf_value, dir_value, machine, flat}
 
 abbrev pub stamp : ℕ → ℕ → Stamp

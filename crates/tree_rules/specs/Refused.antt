@@ -10,7 +10,7 @@ use Rattle.ddm_types.specs.Keys.{stamp_zero}
 use Rattle.ddm_types.specs.declared.operations.HaltCause.{HaltCause}
 use Rattle.flat_model.specs.Flat.{FlatMachine, FlatHart}
 use Rattle.tree_model.specs.State.Lists.{has_some}
-use Rattle.tree_model.specs.State.Values.{Note, no_note, local, up_read, up_erase, LeafValue, DirValue, Node, leaf_node, dir_node, nodes, MachineValue}
+use Rattle.tree_model.specs.State.Values.{Note, no_note, local, up_read, up_erase, LeafValue, DirValue, Node, dir_node, nodes, MachineValue}
 use Rattle.tree_model.specs.State.Shape.{shape_test, shape_rules, frame_of}
 use Rattle.tree_model.specs.Turns.Machine.{no_traffic, turn_of}
 use Rattle.tree_rules.specs.Statements.{test_of}
@@ -18,7 +18,7 @@ use Rattle.tree_rules.specs.Bus.Faces.{ChildFace, ParentFace, parent_face, faces
 use Rattle.tree_rules.specs.Bus.Own.{leaf_test, leaf_rules, top_test, top_rules}
 use Rattle.tree_rules.specs.Bus.Item.{implies, asked_below, bits_of, item_test, item_rules}
 use Rattle.tree_rules.specs.Bus.Rules.{bus_holds}
-use Rattle.tree_rules.specs.Order.Rules.{core_rule, core_rules, is_timed, is_core, is_written}
+use Rattle.tree_rules.specs.Order.Rules.{core_rule, core_rules, is_timed, is_written}
 use Rattle.tree_rules.specs.Examples.{two_writers_flat, two_writers_start, two_writers_after}
 use Rattle.tree_rules.specs.Small.{all_but, entry, leaf_sizes, leaf_value, leaf_with, dir_value, dir_with, machine}
 

@@ -8,7 +8,7 @@ use Rattle.ddm_types.specs.Keys.{stamp_zero}
 use Rattle.ddm_types.specs.CodeMap.{words_from}
 use Rattle.flat_model.specs.Hart.{HartValue}
 use Rattle.flat_model.specs.Flat.{FlatMachine}
-use Rattle.tree_model.specs.State.Values.{CopyValue, DownValue, WayValue, LeafSizes, LeafValue, Note, no_note, DirSizes, DirValue, Node, leaf_node, dir_node, nodes, MachineValue}
+use Rattle.tree_model.specs.State.Values.{CopyValue, DownValue, WayValue, LeafSizes, LeafValue, Note, no_note, DirSizes, DirValue, Node, leaf_node, nodes, MachineValue}
 use Rattle.tree_model.specs.Turns.Machine.{no_traffic}
 
 -- of so many tests all pass but this one

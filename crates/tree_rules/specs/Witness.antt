@@ -1,7 +1,7 @@
 -- What a run has in common with the flat machine, for every tree: the witness, which is the operations in the order of their
 -- keys, is one run of it, and all that is printed is that run's.
 -- To be believed: it is what is claimed of every run.
-use Rattle.std.specs.Prelude.{◌≡◌, ℕ, ◌<◌, Bool, true, false, not, ◌&&◌, ◌||◌, nat_eq, List, [], ◌∷◌, ◌++◌, ◌+◌, length, filter, take, Option, Some, None, IfSome, IsTrue, Err, ⊤}
+use Rattle.std.specs.Prelude.{◌≡◌, ℕ, ◌<◌, Bool, true, false, not, ◌||◌, nat_eq, List, [], ◌∷◌, ◌++◌, ◌+◌, length, filter, take, Option, Some, None, IfSome, IsTrue, Err, ⊤}
 use Rattle.std.specs.List.{AllByRecursion}
 use Rattle.ddm_types.specs.declared.answers.TurnAnswer.{TurnAnswer}
 use Rattle.ddm_types.specs.declared.answers.PendingWhy.{PendingWhy}
@@ -13,7 +13,7 @@ use Rattle.ddm_types.specs.ItemTable.{item_count}
 use Rattle.flat_model.specs.Flat.{FlatMachine, flat_hart, item_words, flat_step}
 use Rattle.flat_model.specs.Legal.{Legal, is_of}
 use Rattle.tree_model.specs.State.Lists.{all_from}
-use Rattle.tree_model.specs.State.Values.{LeafValue, Note, no_note, local, up_read, up_erase, DirValue, MachineValue}
+use Rattle.tree_model.specs.State.Values.{LeafValue, Note, local, up_read, up_erase, DirValue, MachineValue}
 use Rattle.tree_model.specs.State.Directory.{dir_note, is_answering, in_down}
 use Rattle.tree_model.specs.State.Child.{child_room}
 use Rattle.tree_model.specs.Turns.Machine.{turn_of, run_of, ask_leaf, ask_bus, machine_leaves}

@@ -1,7 +1,7 @@
 -- Memory before the first turn: the items of an image's segments and of the stacks, their words, and the code.
 -- Letters: t is a tree, i an image, s a segment, a an address.
 -- To be believed: it is what the machine is.
-use Rattle.std.specs.Prelude.{ℕ, ◌+◌, ◌-◌, ◌*◌, ◌/◌, ◌%◌, Bool, ◌&&◌, nat_lt, nat_le, List, [], ◌∷◌, ◌++◌, map, find, Option, Some, None, slice_index_or, if◌then◌else◌}
+use Rattle.std.specs.Prelude.{ℕ, ◌+◌, ◌-◌, ◌*◌, ◌/◌, Bool, ◌&&◌, nat_lt, nat_le, List, [], ◌∷◌, ◌++◌, map, find, Option, Some, None, slice_index_or, if◌then◌else◌}
 use Rattle.std.specs.List.{flat_map, range_with_len, fold}
 use Rattle.ddm_types.specs.ItemTable.{ItemRow, ItemTable, items_of}
 use Rattle.ddm_types.specs.CodeMap.{CodeWord, words_from}

@@ -2,7 +2,7 @@
 -- over the leaves.
 -- Letters: v is a leaf, ls are leaves, ks and ns nodes, x is an item, l a level.
 -- To be believed: it is what the machine is.
-use Rattle.std.specs.Prelude.{ℕ, ◌+◌, ◌%◌, Bool, true, false, ◌||◌, nat_eq, List, [], ◌∷◌, map, length, take, drop, replicate, find, Option, Some, None, is_some, slice_index_or, if◌then◌else◌}
+use Rattle.std.specs.Prelude.{ℕ, ◌+◌, ◌%◌, Bool, ◌||◌, nat_eq, List, [], ◌∷◌, map, length, take, drop, replicate, find, Option, Some, None, is_some, slice_index_or, if◌then◌else◌}
 use Rattle.std.specs.List.{range_with_len}
 use Rattle.ddm_types.specs.declared.sizes.Start.{Start}
 use Rattle.ddm_types.specs.declared.sizes.TreeSizes.{TreeSizes}
@@ -15,7 +15,6 @@ use Rattle.tree_model.specs.State.States.{is_exclusive}
 use Rattle.tree_model.specs.State.Values.{LeafSizes, LeafValue, DirItem, absent_item, DirSizes, DirValue, Node, leaf_node, dir_node, nodes}
 use Rattle.tree_model.specs.State.Blank.{no_leaf}
 use Rattle.tree_model.specs.State.Leaf.{free_way, with_fate, enters_free}
-use Rattle.tree_model.specs.Turns.Children.{only}
 
 -- ---- a leaf and a directory with nothing in them
 

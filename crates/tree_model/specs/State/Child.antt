@@ -1,7 +1,7 @@
 -- A child's face to its bus, by cases: a leaf, or a directory with the tree below it.
 -- Letters: n is a child, v a leaf, d a directory over the children ns, x an item, s a stamp.
 -- To be believed: it is what the machine is.
-use Rattle.std.specs.Prelude.{ℕ, Bool, true, ◌&&◌, List, Option, Some, None, option_map, unwrap_or, []}
+use Rattle.std.specs.Prelude.{ℕ, Bool, true, ◌&&◌, List, Option, None, option_map, unwrap_or, []}
 use Rattle.ddm_types.specs.declared.answers.TxKind.{TxKind}
 use Rattle.ddm_types.specs.declared.answers.TxKind.TheVariants.{ReadTx, DataTx, EraseTx, ExclusiveTx, InjectTx, OutTx}
 use Rattle.ddm_types.specs.declared.answers.PendingWhy.{PendingWhy}

@@ -1,7 +1,7 @@
 -- A directory: what it keeps of each item, its lists, what the bus above tells it, and what the bus below makes of it.
 -- Letters: d is a directory, e an entry of its down list, x an item, c and d in notes children, s a stamp.
 -- To be believed: it is what the machine is.
-use Rattle.std.specs.Prelude.{ℕ, ◌+◌, ◌-◌, ◌^◌, Bool, true, false, not, ◌&&◌, ◌||◌, nat_eq, nat_le, List, [], ◌∷◌, ◌++◌, map, length, filter, position, bit_or, Option, Some, None, option_map, slice_index_or, slice_set, if◌then◌else◌}
+use Rattle.std.specs.Prelude.{ℕ, ◌+◌, ◌-◌, ◌^◌, Bool, true, false, not, ◌&&◌, ◌||◌, nat_eq, nat_le, List, [], ◌∷◌, ◌++◌, map, length, filter, position, bit_or, Option, Some, None, slice_index_or, slice_set, if◌then◌else◌}
 use Rattle.std.specs.Int.{bit_at}
 use Rattle.ddm_types.specs.declared.answers.TxKind.{TxKind}
 use Rattle.ddm_types.specs.declared.answers.TxKind.TheVariants.{ReadTx, DataTx, EraseTx, ExclusiveTx, InjectTx}
@@ -10,7 +10,7 @@ use Rattle.ddm_types.specs.declared.sizes.Hold.{Hold}
 use Rattle.ddm_types.specs.declared.keys.Stamp.{Stamp}
 use Rattle.ddm_types.specs.Keys.{stamp_at}
 use Rattle.tree_model.specs.State.Lists.{first_of, has_some, without_first, names_item, chosen}
-use Rattle.tree_model.specs.State.Kinds.{is_kind, has_kind}
+use Rattle.tree_model.specs.State.Kinds.{has_kind}
 use Rattle.tree_model.specs.State.States.{is_held}
 use Rattle.tree_model.specs.State.Values.{RequestValue, CopyValue, DownValue, Note, no_note, local, up_read, up_erase, DirItem, absent_item, DirValue}
 use Rattle.tree_model.specs.State.Leaf.{blank, is_request, is_copy, copy_item, words_of_item}

@@ -1,7 +1,7 @@
 -- A leaf: its attraction memory, buffer, slot, replies and reservation, and what the bus tells it.
 -- Letters: v is a leaf, e an entry, x and y items, r a request or a reservation.
 -- To be believed: it is what the machine is.
-use Rattle.std.specs.Prelude.{ℕ, ◌%◌, Bool, true, false, not, ◌&&◌, ◌||◌, nat_eq, nat_le, List, [], ◌∷◌, ◌++◌, map, length, replicate, filter, find, position, Option, Some, None, is_some, is_none, option_map, slice_index_or, slice_set, slice_get, if◌then◌else◌}
+use Rattle.std.specs.Prelude.{ℕ, ◌%◌, Bool, false, not, ◌&&◌, ◌||◌, nat_eq, nat_le, List, [], ◌∷◌, ◌++◌, map, length, replicate, filter, find, position, Option, Some, None, is_some, is_none, option_map, slice_index_or, slice_set, if◌then◌else◌}
 use Rattle.std.specs.List.{range_with_len}
 use Rattle.ddm_types.specs.declared.answers.TxKind.{TxKind}
 use Rattle.ddm_types.specs.declared.answers.TxKind.TheVariants.{ReadTx}

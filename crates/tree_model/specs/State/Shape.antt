@@ -6,7 +6,7 @@ use Rattle.std.specs.List.{list_any, list_all}
 use Rattle.ddm_types.specs.declared.sizes.TreeCounts.{TreeCounts}
 use Rattle.ddm_types.specs.ItemTable.{ItemTable, ItemRow}
 use Rattle.ddm_types.specs.CodeMap.{CodeWord}
-use Rattle.tree_model.specs.State.Values.{LeafSizes, DirSizes, LeafValue, DirValue, Node, Nodes, leaf_node, dir_node, no_nodes, more_nodes, MachineValue, root_of}
+use Rattle.tree_model.specs.State.Values.{LeafSizes, DirSizes, Node, Nodes, leaf_node, dir_node, no_nodes, more_nodes, MachineValue, root_of}
 
 -- ---- the skeleton of a tree
 

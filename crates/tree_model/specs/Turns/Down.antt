@@ -2,7 +2,7 @@
 -- Source: the DDM protocol's read, data, erase, exclusive and inject.
 -- Letters: p and q are the parent before and after, ns its children, d and k child numbers, x is the item.
 -- To be believed: it is what the machine is.
-use Rattle.std.specs.Prelude.{ℕ, Bool, true, false, nat_eq, List, [], ◌∷◌, Option, Some, None, if◌then◌else◌}
+use Rattle.std.specs.Prelude.{ℕ, false, nat_eq, List, [], ◌∷◌, Option, Some, None, if◌then◌else◌}
 use Rattle.ddm_types.specs.declared.answers.TxKind.{TxKind}
 use Rattle.ddm_types.specs.declared.answers.TxKind.TheVariants.{ReadTx, DataTx, EraseTx, ExclusiveTx, InjectTx, OutTx}
 use Rattle.ddm_types.specs.declared.answers.PendingWhy.{PendingWhy}

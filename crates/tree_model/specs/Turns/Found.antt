@@ -8,7 +8,7 @@ use Rattle.tree_model.specs.declared.CopyPlace.{CopyPlace}
 use Rattle.tree_model.specs.declared.LeafSpot.{LeafSpot}
 use Rattle.tree_model.specs.State.Lists.{first_some}
 use Rattle.tree_model.specs.State.Kinds.{brings_copy}
-use Rattle.tree_model.specs.State.Values.{DownValue, LeafValue, DirValue, Node, Nodes, leaf_node, dir_node, no_nodes, more_nodes, MachineValue}
+use Rattle.tree_model.specs.State.Values.{DownValue, LeafValue, Node, Nodes, leaf_node, dir_node, no_nodes, more_nodes, MachineValue}
 use Rattle.tree_model.specs.State.Leaf.{LeafEntry, spot_at, leaf_entry, state_at}
 use Rattle.tree_model.specs.State.Directory.{queue_of, parked_words, parked_place}
 use Rattle.tree_model.specs.State.Child.{child_holds}

@@ -1,7 +1,7 @@
 -- What a turn of a bus comes to: nothing is there, it is refused, or something is granted. Only a grant changes anything.
 -- Letters: p is the parent, ns are its children, g is a grant, j what was judged.
 -- To be believed: it is what the machine is.
-use Rattle.std.specs.Prelude.{ℕ, Bool, List, Option, Some, None, nat_eq, if◌then◌else◌}
+use Rattle.std.specs.Prelude.{ℕ, List, Option, Some, None, nat_eq, if◌then◌else◌}
 use Rattle.ddm_types.specs.declared.answers.TxKind.{TxKind}
 use Rattle.ddm_types.specs.declared.answers.PendingWhy.{PendingWhy}
 use Rattle.ddm_types.specs.declared.answers.QueueName.{QueueName}
@@ -12,7 +12,6 @@ use Rattle.ddm_types.specs.declared.answers.TurnAnswer.{TurnAnswer}
 use Rattle.ddm_types.specs.declared.answers.TurnAnswer.TheVariants.{Granted, Empty, Busy}
 use Rattle.tree_model.specs.State.Lists.{some_if}
 use Rattle.tree_model.specs.State.Values.{DirValue, Node}
-use Rattle.tree_model.specs.State.Blank.{no_node}
 use Rattle.tree_model.specs.State.Directory.{down_full, requests_full, replies_full}
 
 -- this kind of this item went from a source to a taker, and left the parent and the children so

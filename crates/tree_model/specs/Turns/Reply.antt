@@ -1,7 +1,7 @@
 -- The reply of child c, which carries item x with these words. Source: the DDM protocol's data.
 -- Letters: p is the parent, ns are its children, c is a child number, x the item.
 -- To be believed: it is what the machine is.
-use Rattle.std.specs.Prelude.{ℕ, Bool, true, false, List, Option, Some, None}
+use Rattle.std.specs.Prelude.{ℕ, Bool, true, false, List}
 use Rattle.ddm_types.specs.declared.answers.TxKind.TheVariants.{DataTx}
 use Rattle.ddm_types.specs.declared.answers.Place.{Place}
 use Rattle.ddm_types.specs.declared.sizes.Hold.{Hold}

@@ -2,10 +2,9 @@
 -- question to a machine, is one of these. Leaves and buses have different numbers, so there is one such node at most.
 -- Letters: n is a node, ns are nodes, w is where it stands, v a leaf, d a directory.
 -- To be believed: it is what the machine is.
-use Rattle.std.specs.Prelude.{ℕ, ◌+◌, Bool, true, false, ◌||◌, nat_eq, List, [], ◌∷◌, Option, Some, None, if◌then◌else◌}
+use Rattle.std.specs.Prelude.{ℕ, ◌+◌, Bool, false, ◌||◌, nat_eq, List, [], ◌∷◌, Option, Some, None, if◌then◌else◌}
 use Rattle.tree_model.specs.State.Values.{LeafValue, DirValue, Node, Nodes, leaf_node, dir_node, no_nodes, more_nodes, children}
-use Rattle.tree_model.specs.State.Place.{Spot, Where, at_top, at_child, where_path, spot_in}
-use Rattle.tree_model.specs.State.Lists.{first_some}
+use Rattle.tree_model.specs.State.Place.{Where, at_child, where_path, spot_in}
 
 -- the leaf, or the directory over the bus, of this number
 pub data Name : Type 0 where

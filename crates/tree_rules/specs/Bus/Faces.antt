@@ -1,6 +1,6 @@
 -- Of one item: what a bus sees of a child, and what its parent keeps. The rules of a bus look at nothing else.
 -- To be believed where a rule is relied on; the order of the witness needs no reader here.
-use Rattle.std.specs.Prelude.{ℕ, Bool, true, false, not, ◌&&◌, ◌||◌, List, map, length, Option, Some, None}
+use Rattle.std.specs.Prelude.{ℕ, Bool, false, not, ◌&&◌, List, map, length, Option, Some, None}
 use Rattle.ddm_types.specs.declared.answers.TxKind.{TxKind}
 use Rattle.ddm_types.specs.declared.answers.TxKind.TheVariants.{ReadTx, EraseTx, ExclusiveTx}
 use Rattle.ddm_types.specs.declared.sizes.Hold.{Hold}

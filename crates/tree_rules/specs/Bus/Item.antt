@@ -4,7 +4,7 @@
 -- or UpRead names: the first and those that joined. A child's number is its place in the list of faces.
 -- The rules ask eleven bits of the children; each rule is a test of these and of the parent's face.
 -- To be believed where a rule is relied on; the order of the witness needs no reader here.
-use Rattle.std.specs.Prelude.{ℕ, zero, suc, ◌+◌, Bool, true, false, not, ◌&&◌, ◌||◌, nat_eq, List, [], ◌∷◌, filter, IsTrue, if◌then◌else◌}
+use Rattle.std.specs.Prelude.{ℕ, zero, suc, Bool, true, false, not, ◌&&◌, ◌||◌, nat_eq, List, [], ◌∷◌, filter, IsTrue, if◌then◌else◌}
 use Rattle.std.specs.List.{list_any, list_all}
 use Rattle.std.specs.Bool.{beq}
 use Rattle.ddm_types.specs.declared.answers.TxKind.{TxKind}

@@ -1,7 +1,7 @@
 -- The rules of order that tie a machine to a start: commands of down lists, words and claims of copies, clocks, reservations,
 -- and the flat machine after the operations (rules 3, 7, 8 and 10 to 13).
 -- To be believed where a rule is relied on; the order of the witness needs no reader here.
-use Rattle.std.specs.Prelude.{ℕ, ◌-◌, Bool, true, false, not, ◌&&◌, ◌||◌, nat_eq, nat_lt, nat_le, List, length, filter, Option, Some, None, is_none, is_some, Ok, Err}
+use Rattle.std.specs.Prelude.{ℕ, ◌-◌, Bool, true, false, ◌&&◌, nat_eq, nat_lt, nat_le, List, length, filter, Option, Some, None, is_none, Ok, Err}
 use Rattle.ddm_types.specs.declared.operations.HaltCause.{HaltCause}
 use Rattle.ddm_types.specs.declared.operations.HaltCause.TheVariants.{Exit, Illegal, Breakpoint, UnknownCall, MisalignedTarget, FetchOutside, MisalignedAccess, LoadOutside, StoreOutside}
 use Rattle.ddm_types.specs.declared.operations.Op.{Op}
@@ -12,9 +12,9 @@ use Rattle.flat_model.specs.Hart.{HartValue}
 use Rattle.flat_model.specs.Flat.{FlatMachine, FlatStepped, flat_hart, flat_step, has_reserved}
 use Rattle.flat_model.specs.Legal.{on_item, changes_item, is_of, reservation}
 use Rattle.tree_model.specs.State.States.{is_held}
-use Rattle.tree_model.specs.State.Values.{DownValue, LeafValue}
+use Rattle.tree_model.specs.State.Values.{DownValue}
 use Rattle.tree_model.specs.State.Leaf.{leaf_hold}
-use Rattle.tree_rules.specs.Statements.{Statement, is_so, is_not, both, either, where_so, where_not, if_there, there_and}
+use Rattle.tree_rules.specs.Statements.{Statement, is_so, both, either, where_so, where_not, if_there, there_and}
 use Rattle.tree_rules.specs.Order.Moments.{less, less_at, moment_length, before, past, parted, is_under, same_numbers}
 use Rattle.tree_rules.specs.Order.Places.{LeafAt, leaf_now, DirAt, taken_moment}
 use Rattle.tree_rules.specs.Order.Copies.{CopyAt}

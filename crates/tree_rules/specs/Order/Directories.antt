@@ -1,6 +1,6 @@
 -- What the rules of order say of one directory, as facts: words that several laws need.
 -- Proofs alone need it.
-use Rattle.std.specs.Prelude.{◌≡◌, ℕ, ◌<◌, length}
+use Rattle.std.specs.Prelude.{◌≡◌, ◌<◌, length}
 use Rattle.tree_rules.specs.Statements.{Holds, each, each_pair}
 use Rattle.tree_rules.specs.Order.Places.{DirAt, dir_path}
 use Rattle.tree_rules.specs.Order.Time.{takes_past, lies_between, may_stand_behind}

@@ -4,9 +4,8 @@ use Rattle.std.specs.Prelude.{ℕ, Bool, List, length, filter}
 use Rattle.ddm_types.specs.declared.operations.Op.{Op}
 use Rattle.ddm_types.specs.Keys.{key_numbers}
 use Rattle.ddm_types.specs.ItemTable.{ItemTable}
-use Rattle.ddm_types.specs.CodeMap.{CodeWord}
-use Rattle.flat_model.specs.Flat.{FlatMachine, flat_hart, item_words}
-use Rattle.flat_model.specs.Legal.{is_of, words_after, reservation, flat_after}
+use Rattle.flat_model.specs.Flat.{FlatMachine, item_words}
+use Rattle.flat_model.specs.Legal.{is_of, words_after, flat_after}
 use Rattle.tree_model.specs.State.Values.{MachineValue}
 use Rattle.tree_model.specs.Turns.Witness.{sorted_ops}
 use Rattle.tree_rules.specs.Order.Moments.{key_path}

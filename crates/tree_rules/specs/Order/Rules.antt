@@ -2,7 +2,7 @@
 -- operations. It holds between turns. With it the operations in the order of their keys are legal for the start.
 -- Three parts: time, which needs no start; the core, which one turn after the other keeps; and what follows from these.
 -- To be believed where a rule is relied on; the order of the witness needs no reader here.
-use Rattle.std.specs.Prelude.{ℕ, ◌<◌, Bool, true, ◌&&◌, List, [], ◌∷◌, is_some}
+use Rattle.std.specs.Prelude.{ℕ, ◌<◌, Bool, ◌&&◌, List, [], ◌∷◌, is_some}
 use Rattle.std.specs.List.{list_all, range_with_len}
 use Rattle.ddm_types.specs.declared.turns.Turn.{Turn}
 use Rattle.flat_model.specs.Flat.{FlatMachine}

@@ -10,7 +10,7 @@ use Rattle.ddm_types.specs.declared.operations.Op.{Op}
 use Rattle.ddm_types.specs.Keys.{stamp_numbers, key_less}
 use Rattle.tree_model.specs.State.Values.{DownValue}
 use Rattle.tree_rules.specs.Bus.Own.{are_zero}
-use Rattle.tree_rules.specs.Statements.{Statement, is_so, is_not, both, either, where_so, each}
+use Rattle.tree_rules.specs.Statements.{Statement, is_so, is_not, both, either, where_so}
 use Rattle.tree_rules.specs.Order.Moments.{less, moment_at, same_numbers}
 use Rattle.tree_rules.specs.Order.Places.{LeafAt, leaf_path, leaf_now, DirAt, dir_path, taken_moment, present_moment}
 use Rattle.tree_rules.specs.Order.Ops.{op_key, op_path}
