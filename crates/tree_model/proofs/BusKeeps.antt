@@ -60,11 +60,11 @@ module _ (above : Stamp) (p : DirValue) (ns : List Node) where
   row-keeps t g (row_inject_to_reader e rest d joined _ _ _ _ _ _) = record { parent = refl; kids = one d _ (child_take_inject-kept e.item e.words (stamp_of (front_taken e.stamp rest p))) }
   row-keeps t g (row_inject_to_readers e rest first joined _ _ _ _ _) = record { parent = refl; kids = map_from-keeps _ kept_of (reader_takes-kept (up_read first joined) e.item e.words (stamp_of (front_taken e.stamp rest p))) 0 ns }
   row-keeps t g (row_inject_to_child e rest k _ _ _ _ _) = record { parent = refl; kids = one k _ (child_take_inject-kept e.item e.words (stamp_of (front_taken e.stamp rest p))) }
-  row-keeps t g (row_inject_parked e rest _ _ _ _ _ _) = record { parent = refl; kids = refl }
+  row-keeps t g (row_inject_parked e rest _ _ _ _ _ _ _) = record { parent = refl; kids = refl }
   row-keeps t g (row_out_gone c choice x _ _ _ _ _) = record { parent = refl; kids = one c _ (child_give_up-kept x) }
-  row-keeps t g (row_out_parked c choice x _ _ _ _ _ _ _) = record { parent = refl; kids = one c _ (child_give_up-kept x) }
+  row-keeps t g (row_out_parked c choice x _ _ _ _ _ _ _ _) = record { parent = refl; kids = one c _ (child_give_up-kept x) }
   row-keeps t g (row_leave_to c choice x k _ _ _ _ _) = record { parent = refl; kids = map_from-keeps _ kept_of (passed_on-kept c k x (child_given x (child_at c ns)) (stamp_of (counted p))) 0 ns }
-  row-keeps t g (row_inject_up c choice x _ _ _ _ _ _ _) = record { parent = refl; kids = one c _ (child_give_up-kept x) }
+  row-keeps t g (row_inject_up c choice x _ _ _ _ _ _ _ _) = record { parent = refl; kids = one c _ (child_give_up-kept x) }
 
   -- ---- an outcome
 

@@ -210,7 +210,7 @@ module _ (n : ℕ) (above : Stamp) (p : DirValue) (ns : List Node) (w : DirWithi
         parent = record { items = w.items; down = q.down; requests = w.requests; replies = w.replies; parked = omega (arith, w.parked) };
         kids = one n ns within k _ (child_take_inject-with_room n e.item e.words (stamp_of (front_taken e.stamp rest p)) _ room);
       }
-  row-within t g (row_inject_parked e rest front _ _ _ _ kept) =
+  row-within t g (row_inject_parked e rest front _ _ _ _ _ kept) =
       let q = taken-within e rest front in
       let some : p.reserved ≢ 0 = eqb-false p.reserved 0 kept in
       record {
@@ -221,7 +221,7 @@ module _ (n : ℕ) (above : Stamp) (p : DirValue) (ns : List Node) (w : DirWithi
     parent = record { items = w.items; down = w.down; requests = w.requests; replies = w.replies; parked = w.parked };
     kids = one n ns within c _ (child_give_up-within n x _);
   }
-  row-within t g (row_out_parked c choice x _ _ _ _ _ _ room) = record {
+  row-within t g (row_out_parked c choice x _ _ _ _ _ _ _ room) = record {
     parent = record { items = w.items; down = w.down; requests = w.requests; replies = w.replies; parked = parked-fits p.parked _ p.reserved _ (parking-place p room) };
     kids = one n ns within c _ (child_give_up-within n x _);
   }
@@ -229,7 +229,7 @@ module _ (n : ℕ) (above : Stamp) (p : DirValue) (ns : List Node) (w : DirWithi
     parent = record { items = w.items; down = w.down; requests = w.requests; replies = w.replies; parked = w.parked };
     kids = passed_on-kids n ns within c k x (child_given x (child_at c ns)) (stamp_of (counted p)) (leave_taker-room c x p ns k found);
   }
-  row-within t g (row_inject_up c choice x _ _ _ _ _ _ room) = record {
+  row-within t g (row_inject_up c choice x _ _ _ _ _ _ _ room) = record {
     parent = record { items = w.items; down = w.down; requests = w.requests; replies = w.replies; parked = parked-fits p.parked _ p.reserved _ (parking-place p room) };
     kids = one n ns within c _ (child_give_up-within n x _);
   }

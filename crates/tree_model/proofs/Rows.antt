@@ -1,5 +1,5 @@
 -- The rows of a bus's turn: each grant, with all that was found before it was granted.
-use Rattle.std.proofs.Common.{◌≡◌, ℕ, Bool, true, false, List, [], ◌∷◌, Option, Some, None, refl, ap, subst}
+use Rattle.std.proofs.Common.{◌≡◌, ℕ, Bool, true, false, List, [], ◌∷◌, Option, Some, None, refl, ap, subst, cond}
 use Rattle.std.specs.Prelude.{nat_eq, ◌||◌, ◌&&◌}
 use Rattle.std.proofs.Math.Bool.{and-false}
 use Rattle.ddm_types.specs.declared.answers.PendingWhy.{PendingWhy}
@@ -14,7 +14,7 @@ use Rattle.tree_model.specs.declared.BusTurn.{BusTurn}
 use Rattle.tree_model.specs.State.Lists.{find_from, first_given, first_some}
 use Rattle.tree_model.specs.State.States.{is_held, is_exclusive, is_shared}
 use Rattle.tree_model.specs.State.Values.{RequestValue, CopyValue, DownValue, Note, no_note, local, up_read, up_erase, DirValue, Node}
-use Rattle.tree_model.specs.State.Directory.{is_top, dir_hold, dir_note, is_answering, is_local, is_up_read, parking_full, parked_words, pending, front_taken}
+use Rattle.tree_model.specs.State.Directory.{is_top, dir_hold, dir_note, is_answering, is_local, is_up_read, parking_full, parked_words, is_parked, pending, front_taken}
 use Rattle.tree_model.specs.State.Child.{child_request, child_reply, child_leaving, child_hold, child_full_for, pending_below, reader_has_place}
 use Rattle.tree_model.specs.Turns.Grant.{Grant, Judged, nothing_there, refused, granted, unless_full, own_down_full, own_requests_full, own_replies_full}
 use Rattle.tree_model.specs.Turns.Children.{child_at, holds_item, other_holds, other_full, full_to_lose, reader_full}
@@ -51,12 +51,12 @@ module _ (above : Stamp) (p : DirValue) (ns : List Node) where
     row_inject_to_reader : (e : DownValue) (rest : List DownValue) (d joined : ℕ) → p.down ≡ e ∷ rest → e.kind ≡ InjectTx → dir_note e.item p ≡ up_read d joined → nat_eq joined 0 ≡ true → reader_has_place e.item (child_at d ns) ≡ true → child_full_for InjectTx e.item (child_at d ns) ≡ None → Row BusTurn.Down (inject_to_reader e.item (front_taken e.stamp rest p) ns e.words d)
     row_inject_to_readers : (e : DownValue) (rest : List DownValue) (first joined : ℕ) → p.down ≡ e ∷ rest → e.kind ≡ InjectTx → dir_note e.item p ≡ up_read first joined → nat_eq joined 0 ≡ false → first_given (reader_full (up_read first joined) e.item) 0 ns ≡ None → Row BusTurn.Down (inject_to_readers e.item (front_taken e.stamp rest p) ns e.words first joined)
     row_inject_to_child : (e : DownValue) (rest : List DownValue) (k : ℕ) → p.down ≡ e ∷ rest → e.kind ≡ InjectTx → is_local (dir_note e.item p) ≡ false → is_up_read (dir_note e.item p) ≡ false → inject_taker e.item (front_taken e.stamp rest p) ns e.words ≡ Some k → Row BusTurn.Down (inject_to_child e.item (front_taken e.stamp rest p) ns e.words k)
-    row_inject_parked : (e : DownValue) (rest : List DownValue) → p.down ≡ e ∷ rest → e.kind ≡ InjectTx → is_local (dir_note e.item p) ≡ false → is_up_read (dir_note e.item p) ≡ false → inject_taker e.item (front_taken e.stamp rest p) ns e.words ≡ None → nat_eq p.reserved 0 ≡ false → Row BusTurn.Down (inject_parked e.item (front_taken e.stamp rest p) ns e.words)
+    row_inject_parked : (e : DownValue) (rest : List DownValue) → p.down ≡ e ∷ rest → e.kind ≡ InjectTx → is_local (dir_note e.item p) ≡ false → is_up_read (dir_note e.item p) ≡ false → inject_taker e.item (front_taken e.stamp rest p) ns e.words ≡ None → is_parked e.item p ≡ false → nat_eq p.reserved 0 ≡ false → Row BusTurn.Down (inject_parked e.item (front_taken e.stamp rest p) ns e.words)
     -- a copy that leaves
     row_out_gone : (c choice x : ℕ) → child_leaving choice (child_at c ns) ≡ Some x → pending x p ≡ None → pending_below x (child_at c ns) ≡ None → child_hold x (child_at c ns) ≡ Hold.Shared → other_copy c x p ns ≡ true → Row (BusTurn.Leave c choice) (out_gone c x p ns)
-    row_out_parked : (c choice x : ℕ) → child_leaving choice (child_at c ns) ≡ Some x → pending x p ≡ None → pending_below x (child_at c ns) ≡ None → child_hold x (child_at c ns) ≡ Hold.Shared → other_copy c x p ns ≡ false → is_shared (dir_hold x p) ≡ true → parking_full p ≡ false → Row (BusTurn.Leave c choice) (leave_parked c x p ns OutTx)
+    row_out_parked : (c choice x : ℕ) → child_leaving choice (child_at c ns) ≡ Some x → pending x p ≡ None → pending_below x (child_at c ns) ≡ None → child_hold x (child_at c ns) ≡ Hold.Shared → other_copy c x p ns ≡ false → is_shared (dir_hold x p) ≡ true → is_parked x p ≡ false → parking_full p ≡ false → Row (BusTurn.Leave c choice) (leave_parked c x p ns OutTx)
     row_leave_to : (c choice x k : ℕ) → child_leaving choice (child_at c ns) ≡ Some x → pending x p ≡ None → pending_below x (child_at c ns) ≡ None → (is_shared (child_hold x (child_at c ns)) && (other_copy c x p ns || is_shared (dir_hold x p))) ≡ false → leave_taker c x p ns ≡ Some k → Row (BusTurn.Leave c choice) (leave_to c x p ns k)
-    row_inject_up : (c choice x : ℕ) → child_leaving choice (child_at c ns) ≡ Some x → pending x p ≡ None → pending_below x (child_at c ns) ≡ None → (is_shared (child_hold x (child_at c ns)) && (other_copy c x p ns || is_shared (dir_hold x p))) ≡ false → leave_taker c x p ns ≡ None → is_top p ≡ false → parking_full p ≡ false → Row (BusTurn.Leave c choice) (leave_parked c x p ns InjectTx)
+    row_inject_up : (c choice x : ℕ) → child_leaving choice (child_at c ns) ≡ Some x → pending x p ≡ None → pending_below x (child_at c ns) ≡ None → (is_shared (child_hold x (child_at c ns)) && (other_copy c x p ns || is_shared (dir_hold x p))) ≡ false → leave_taker c x p ns ≡ None → is_top p ≡ false → is_parked x p ≡ false → parking_full p ≡ false → Row (BusTurn.Leave c choice) (leave_parked c x p ns InjectTx)
 
 -- ---- what isn't granted
 
@@ -180,9 +180,13 @@ module _ (above : Stamp) (p : DirValue) (ns : List Node) where
       module _ (not_local : is_local (dir_note e.item p) ≡ false) (not_read : is_up_read (dir_note e.item p) ≡ false) where
         inject_to_parking-rows : inject_taker e.item (front_taken e.stamp rest p) ns e.words ≡ None → EachGrant (Row above p ns BusTurn.Down) (inject_to_parking e.item (front_taken e.stamp rest p) ns e.words)
         inject_to_parking-rows nobody =
-            elim (nat_eq p.reserved 0) as (λ b. nat_eq p.reserved 0 ≡ b → EachGrant (Row above p ns BusTurn.Down) (inject_to_parking e.item (front_taken e.stamp rest p) ns e.words)) [
-              | true ↦ λ none. rw none (nothing-each _)
-              | false ↦ λ some. rw some (granted-each _ (inject_parked e.item (front_taken e.stamp rest p) ns e.words) (row_inject_parked e rest front kind not_local not_read nobody some))
+            elim (is_parked e.item p) as (λ b. is_parked e.item p ≡ b → EachGrant (Row above p ns BusTurn.Down) (inject_to_parking e.item (front_taken e.stamp rest p) ns e.words)) [
+              | true ↦ λ there. rw there (nothing-each _)
+              | false ↦ λ once. rw once (
+                  elim (nat_eq p.reserved 0) as (λ b. nat_eq p.reserved 0 ≡ b → EachGrant (Row above p ns BusTurn.Down) (cond (nat_eq p.reserved 0) nothing_there (granted (inject_parked e.item (front_taken e.stamp rest p) ns e.words)))) [
+                    | true ↦ λ none. rw none (nothing-each _)
+                    | false ↦ λ some. rw some (granted-each _ (inject_parked e.item (front_taken e.stamp rest p) ns e.words) (row_inject_parked e rest front kind not_local not_read nobody once some))
+                  ] refl)
             ] refl
 
         inject_to_taker-rows : (k : Option ℕ) → inject_taker e.item (front_taken e.stamp rest p) ns e.words ≡ k → EachGrant (Row above p ns BusTurn.Down) (inject_to_taker e.item (front_taken e.stamp rest p) ns e.words k)
@@ -216,25 +220,30 @@ module _ (above : Stamp) (p : DirValue) (ns : List Node) where
   -- ---- a copy that leaves
 
   module _ (c choice x : ℕ) (leaves : child_leaving choice (child_at c ns) ≡ Some x) (free : pending x p ≡ None) (free_below : pending_below x (child_at c ns) ≡ None) where
+    parked-rows : (kind : TxKind) → (is_parked x p ≡ false → parking_full p ≡ false → Row above p ns (BusTurn.Leave c choice) (leave_parked c x p ns kind)) → EachGrant (Row above p ns (BusTurn.Leave c choice)) (parked_unless_full c x p ns kind)
+    parked-rows kind row =
+        elim (is_parked x p) as (λ b. is_parked x p ≡ b → EachGrant (Row above p ns (BusTurn.Leave c choice)) (parked_unless_full c x p ns kind)) [
+          | true ↦ λ there. rw there (nothing-each _)
+          | false ↦ λ once. rw once (
+              elim (parking_full p) as (λ b. parking_full p ≡ b → EachGrant (Row above p ns (BusTurn.Leave c choice)) (cond (parking_full p) (refused (ParkingFull p.bus)) (granted (leave_parked c x p ns kind)))) [
+                | true ↦ λ full. rw full (refused-each _ (ParkingFull p.bus))
+                | false ↦ λ room. rw room (granted-each _ (leave_parked c x p ns kind) (row once room))
+              ] refl)
+        ] refl
+
     leave_inject-rows : (k : Option ℕ) → (is_shared (child_hold x (child_at c ns)) && (other_copy c x p ns || is_shared (dir_hold x p))) ≡ false → leave_taker c x p ns ≡ k → EachGrant (Row above p ns (BusTurn.Leave c choice)) (leave_inject c x p ns k)
     leave_inject-rows (Some k) last is = granted-each _ (leave_to c x p ns k) (row_leave_to c choice x k leaves free free_below last is)
     leave_inject-rows None last is =
         elim (is_top p) as (λ b. is_top p ≡ b → EachGrant (Row above p ns (BusTurn.Leave c choice)) (leave_inject c x p ns None)) [
           | true ↦ λ top. rw top (refused-each _ (NoRoom x))
           | false ↦ λ below. rw below (
-              elim (parking_full p) as (λ b. parking_full p ≡ b → EachGrant (Row above p ns (BusTurn.Leave c choice)) (parked_unless_full c x p ns InjectTx)) [
-                | true ↦ λ full. rw full (refused-each _ (ParkingFull p.bus))
-                | false ↦ λ room. rw room (granted-each _ (leave_parked c x p ns InjectTx) (row_inject_up c choice x leaves free free_below last is below room))
-              ] refl)
+              parked-rows InjectTx (λ once room. row_inject_up c choice x leaves free free_below last is below once room))
         ] refl
 
     leave_shared-rows : (other shared : Bool) → child_hold x (child_at c ns) ≡ Hold.Shared → other_copy c x p ns ≡ other → is_shared (dir_hold x p) ≡ shared → EachGrant (Row above p ns (BusTurn.Leave c choice)) (leave_shared c x p ns other shared)
     leave_shared-rows true shared held other is = granted-each _ (out_gone c x p ns) (row_out_gone c choice x leaves free free_below held other)
     leave_shared-rows false true held other is =
-        elim (parking_full p) as (λ b. parking_full p ≡ b → EachGrant (Row above p ns (BusTurn.Leave c choice)) (parked_unless_full c x p ns OutTx)) [
-          | true ↦ λ full. rw full (refused-each _ (ParkingFull p.bus))
-          | false ↦ λ room. rw room (granted-each _ (leave_parked c x p ns OutTx) (row_out_parked c choice x leaves free free_below held other is room))
-        ] refl
+        parked-rows OutTx (λ once room. row_out_parked c choice x leaves free free_below held other is once room)
     leave_shared-rows false false held other is = leave_inject-rows (leave_taker c x p ns) (rw (other, is) (and-false (is_shared (child_hold x (child_at c ns))))) refl
 
     leave_by_hold-rows : (h : Hold) → child_hold x (child_at c ns) ≡ h → EachGrant (Row above p ns (BusTurn.Leave c choice)) (leave_by_hold c x p ns h)

@@ -10,7 +10,7 @@ use Rattle.ddm_types.specs.declared.answers.Place.{Place}
 use Rattle.ddm_types.specs.declared.sizes.Hold.{Hold}
 use Rattle.tree_model.specs.State.Lists.{map_from, find_from, first_given, first_some}
 use Rattle.tree_model.specs.State.Values.{DownValue, Note, no_note, local, up_read, up_erase, DirValue, Node}
-use Rattle.tree_model.specs.State.Directory.{dir_note, with_hold, with_note, with_answering, parked_words, pushed_reply, with_parked, without_parked, place_released, stamp_of, front_taken}
+use Rattle.tree_model.specs.State.Directory.{dir_note, with_hold, with_note, with_answering, parked_words, is_parked, pushed_reply, with_parked, without_parked, place_released, stamp_of, front_taken}
 use Rattle.tree_model.specs.State.Child.{child_full_for, reader_has_place, child_take_exclusive, child_answer, child_take_inject}
 use Rattle.tree_model.specs.Turns.Grant.{Grant, Judged, nothing_there, granted, is_pending, unless_full, own_replies_full, data_taker}
 use Rattle.tree_model.specs.Turns.Children.{child_at, holds_item, waits_with_room, has_room, full_to_lose, reader_full, only, loses, reader_takes}
@@ -148,9 +148,9 @@ module _ (x : ℕ) (q : DirValue) (ns : List Node) where
       kids = ns;
     }
 
-    -- where no place was kept, which doesn't arise, nothing is there
+    -- where no place was kept, or a copy is parked already, which doesn't arise, nothing is there
     abbrev pub inject_to_parking : Judged
-    inject_to_parking = if nat_eq q.reserved 0 then nothing_there else granted inject_parked
+    inject_to_parking = if is_parked x q then nothing_there else (if nat_eq q.reserved 0 then nothing_there else granted inject_parked)
 
     abbrev pub inject_to_taker : Option ℕ → Judged
     inject_to_taker (Some k) = granted (inject_to_child k)

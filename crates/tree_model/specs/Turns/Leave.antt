@@ -14,7 +14,7 @@ use Rattle.tree_model.specs.State.States.{is_shared}
 use Rattle.tree_model.specs.State.Values.{DirValue, Node}
 use Rattle.tree_model.specs.State.Directory.{is_top, dir_hold, parking_full, is_parked, with_parked, pending, stamp_of, counted}
 use Rattle.tree_model.specs.State.Child.{child_hold, pending_below, child_given, child_give_up}
-use Rattle.tree_model.specs.Turns.Grant.{Grant, Judged, refused, granted, is_pending}
+use Rattle.tree_model.specs.Turns.Grant.{Grant, Judged, nothing_there, refused, granted, is_pending}
 use Rattle.tree_model.specs.Turns.Children.{child_at, other_holds, other_waits, room_after, room_before, only, passed_on}
 
 module _ (c x : ℕ) (p : DirValue) (ns : List Node) where
@@ -60,8 +60,9 @@ module _ (c x : ℕ) (p : DirValue) (ns : List Node) where
   abbrev pub leave_taker : Option ℕ
   leave_taker = first_some (find_from (other_waits c x) 0 ns) (first_some (find_from (room_after c x) 0 ns) (find_from (room_before (is_top p) c x) 0 ns))
 
+  -- where a copy is parked already, which doesn't arise, nothing is there
   abbrev pub parked_unless_full : TxKind → Judged
-  parked_unless_full kind = if parking_full p then refused (ParkingFull p.bus) else granted (leave_parked kind)
+  parked_unless_full kind = if is_parked x p then nothing_there else (if parking_full p then refused (ParkingFull p.bus) else granted (leave_parked kind))
 
   -- an inject; where nobody takes it, it is parked, and on the top's bus refused
   abbrev pub leave_inject : Option ℕ → Judged
