@@ -4,6 +4,9 @@ use Rattle.std.specs.Prelude.{IfOk, IfSome, is_none, option_and_then}
 use Rattle.tree_model.specs.Start.Sources.{TreeValue, ImageValue}
 use Rattle.tree_model.specs.Start.Machine.{start_refusal}
 use Rattle.text_model.specs.Schedule.{hart_turns}
+use Rattle.text_model.proofs.Outputs.{put_texts-same}
+use Rattle.tree_model.specs.Start.Machine.{flat_start_of, start_machine}
+use Rattle.tree_rules.specs.Witness.{EachTurnWitnessed}
 use Rattle.one_leaf.proofs.Witness.{start_witnessed}
 use Rattle.elf_load.specs.ElfFile.{image_of}
 use Rattle.elf_load.specs.declared.refusal.ImageRefusal.{ImageRefusal}
@@ -63,7 +66,8 @@ files_in_order tree image schedule = by_forms (parts_of tree image) (turn_count 
   by_forms (Some p) None is = tt
   by_forms (Some p) (Some n) is =
       let taken = both_taken tree image p is in
-      start_witnessed p.tree p.image (hart_turns n) (fits_one_leaf p.tree p.image taken.leaf taken.sets taken.accepted)
+      let runs : EachTurnWitnessed (flat_start_of p.tree p.image) (hart_turns n) (start_machine p.tree p.image) = start_witnessed p.tree p.image (hart_turns n) (fits_one_leaf p.tree p.image taken.leaf taken.sets taken.accepted) in
+      (runs, λ k h. put_texts-same h _ _ ((runs k).machine.own_order h))
 
 told_in_order : (tree image schedule : Option (List ℕ)) → Both tree image (λ t i. IfSome schedule (λ s. RunsInOrder (parts_of t i) (turn_count s)))
 told_in_order None image schedule = tt

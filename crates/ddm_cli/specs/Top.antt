@@ -3,7 +3,7 @@ use Rattle.std.specs.Prelude.{◌≡◌, ◌⊎◌, ℕ, List, [], Option, Some,
 use Rattle.tree_model.specs.Start.Sources.{TreeValue}
 use Rattle.tree_model.specs.Start.Machine.{start_machine}
 use Rattle.text_model.specs.Faults.{usage_fault, unbuilt_fault, read_fault, write_fault, memory_fault}
-use Rattle.text_model.specs.Run.{report_text_of}
+use Rattle.text_model.specs.Run.{report_text_of, EachOutputWitnessed}
 use Rattle.text_model.specs.Schedule.{hart_turns}
 use Rattle.report.specs.Appends.{Appends, AppendsPart}
 use Rattle.report.specs.Roles.{role_text}
@@ -38,9 +38,9 @@ text_of tree image schedule = text_by (parts_of tree image) (turn_count schedule
 -- ---- order
 
 -- after each turn of hart 0 the operations, in the order of their keys, are one legal run of the flat machine from its start,
--- and the hart, its output and the found copy of every item are that run's
+-- the hart and the found copy of every item are that run's, and so is what the hart has put out
 abbrev pub RunsInOrder : Option Parts → Option ℕ → Type 0
-RunsInOrder (Some p) (Some n) = EachTurnWitnessed (flat_start_of p.tree p.image) (hart_turns n) (start_machine p.tree p.image)
+RunsInOrder (Some p) (Some n) = EachTurnWitnessed (flat_start_of p.tree p.image) (hart_turns n) (start_machine p.tree p.image) × EachOutputWitnessed (hart_turns n) (start_machine p.tree p.image)
 RunsInOrder _ _ = Unit {0}
 
 -- ---- the files

@@ -1,5 +1,5 @@
 -- The texts of a run: from a machine and its turns to the bytes that are printed.
-use Rattle.std.specs.Prelude.{ℕ, ◌+◌, List, [], ◌∷◌, ◌++◌, map, Option, Some, None}
+use Rattle.std.specs.Prelude.{◌≡◌, ℕ, ◌+◌, List, [], ◌∷◌, ◌++◌, map, take, Option, Some, None}
 use Rattle.ddm_types.specs.declared.answers.TurnAnswer.{TurnAnswer}
 use Rattle.ddm_types.specs.declared.turns.Turn.{Turn}
 use Rattle.ddm_types.specs.ItemTable.{ItemRow}
@@ -9,7 +9,7 @@ use Rattle.tree_model.specs.Turns.Machine.{run_of, machine_leaves}
 use Rattle.tree_model.specs.Turns.Witness.{sorted_ops}
 use Rattle.tree_model.specs.Turns.Found.{FoundValue, found_copy, states_of}
 use Rattle.text_model.specs.declared.RunCounts.{RunCounts}
-use Rattle.text_model.specs.Report.{HartView, ItemView, ReportView, report_of, summary_of}
+use Rattle.text_model.specs.Report.{put_texts, HartView, ItemView, ReportView, report_of, summary_of}
 use Rattle.text_model.specs.Trace.{trace_text}
 
 -- ---- counts
@@ -71,3 +71,13 @@ unfoldable pub trace_and_report_of : ℕ → List Turn → MachineValue → List
 trace_and_report_of depth turns m =
     let r = run_of turns m in
     trace_text turns r.answers ++ report_of (view_of depth (counts_of r.answers) r.machine)
+
+-- ---- output
+
+-- what each hart has put out, in the order of completion, is what it puts out in the witness
+abbrev pub HasWitnessedOutput : MachineValue → Type 0
+HasWitnessedOutput m = (hart : ℕ) → put_texts hart (sorted_ops m.ops) ≡ put_texts hart m.ops
+
+-- after each of the turns
+abbrev pub EachOutputWitnessed : List Turn → MachineValue → Type 0
+EachOutputWitnessed turns m = (k : ℕ) → HasWitnessedOutput (run_of (take k turns) m).machine

@@ -13,7 +13,8 @@ use Rattle.tree_model.specs.State.Values.{DownValue, Note, no_note, up_erase, No
 use Rattle.tree_model.specs.Turns.Machine.{turn_of}
 use Rattle.tree_rules.specs.Statements.{test_of}
 use Rattle.tree_rules.specs.Bus.Rules.{machine_holds}
-use Rattle.tree_rules.specs.Order.Rules.{is_timed, core_rule, core_rules, copy_rule, copy_rules, written_rule, written_rules}
+use Rattle.tree_rules.specs.Order.Rules.{is_timed, copy_rule, copy_rules, written_rule, written_rules}
+use Rattle.tree_rules.specs.Refused.{core_tests}
 use Rattle.tree_rules.specs.Small.{all_but, entry, leaf_value, dir_value, machine, flat}
 
 abbrev pub stamp : ℕ → ℕ → Stamp
@@ -28,9 +29,6 @@ bus_over bus level hold note down epoch count below = dir_node (dir_value bus le
 
 abbrev pub told : TxKind → Stamp → List DownValue
 told kind s = record { kind = kind; item = 0; words = 0 ∷ []; stamp = s } ∷ []
-
-abbrev pub core_tests : FlatMachine → MachineValue → List Bool
-core_tests s m = map (λ r. test_of (core_rule r s m)) core_rules
 
 abbrev pub copy_tests : FlatMachine → MachineValue → List Bool
 copy_tests s m = map (λ r. test_of (copy_rule r s m 0)) copy_rules
