@@ -38,7 +38,7 @@ struck-pass n kind x requests h = pass-without_first (request_fits n) (is_reques
 -- ---- the faces after, and what is computed of them
 
 -- q keeps the rules over the bits k of the same children, keeps as many places more as are reserved, and is seen so
-abbrev follows : ParentFace → ParentFace → Bits → ℕ → Hold → Bool → Bool → Bool → Bool
+abbrev pub follows : ParentFace → ParentFace → Bits → ℕ → Hold → Bool → Bool → Bool → Bool
 follows p q k places hold reads erases answers =
     item_holds q k && (nat_eq (kept_place q) (places + kept_place p) && is_seen q hold reads erases answers)
 
@@ -113,12 +113,12 @@ each-may_take_inject (up_erase d) = refl
 
 -- ---- what was computed, as facts
 
-record Follows (p q : ParentFace) (cs : List ChildFace) (places : ℕ) (hold : Hold) (reads erases answers : Bool) : Type 0 where
-  rules : ItemRules q cs
-  kept : kept_place q ≡ places + kept_place p
-  seen : is_seen q hold reads erases answers ≡ true
+pub record Follows (p q : ParentFace) (cs : List ChildFace) (places : ℕ) (hold : Hold) (reads erases answers : Bool) : Type 0 where
+  pub rules : ItemRules q cs
+  pub kept : kept_place q ≡ places + kept_place p
+  pub seen : is_seen q hold reads erases answers ≡ true
 
-followed : (p q : ParentFace) (cs : List ChildFace) (places : ℕ) (hold : Hold) (reads erases answers : Bool) → bits_of q cs ≡ bits_of p cs → follows p q (bits_of p cs) places hold reads erases answers ≡ true → Follows p q cs places hold reads erases answers
+pub followed : (p q : ParentFace) (cs : List ChildFace) (places : ℕ) (hold : Hold) (reads erases answers : Bool) → bits_of q cs ≡ bits_of p cs → follows p q (bits_of p cs) places hold reads erases answers ≡ true → Follows p q cs places hold reads erases answers
 followed p q cs places hold reads erases answers same h =
     let a = and_parts (item_holds q (bits_of p cs)) _ h in
     let b = and_parts (nat_eq (kept_place q) (places + kept_place p)) _ a.1 in

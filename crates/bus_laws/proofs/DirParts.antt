@@ -9,11 +9,11 @@ use Rattle.std.proofs.lemmas.Bool.Decides.{nat_tests}
 use Rattle.ddm_types.specs.declared.sizes.Hold.{Hold}
 use Rattle.ddm_types.specs.declared.answers.TxKind.{TxKind}
 use Rattle.ddm_types.specs.declared.keys.Stamp.{Stamp}
-use Rattle.tree_model.specs.State.Kinds.{brings_copy}
+use Rattle.tree_model.specs.State.Kinds.{brings_copy, is_kind}
 use Rattle.tree_model.proofs.Tests.{not-true}
 use Rattle.tree_rules.proofs.Implying.{implies-by}
 use Rattle.tree_model.specs.State.States.{is_held, is_exclusive, is_shared}
-use Rattle.tree_model.specs.State.Values.{DirItem, absent_item, DirValue}
+use Rattle.tree_model.specs.State.Values.{Note, no_note, local, up_read, up_erase, DirItem, absent_item, DirValue}
 use Rattle.tree_model.specs.State.Leaf.{blank, copy_item}
 use Rattle.tree_model.specs.State.Directory.{dir_item, dir_note, with_item}
 use Rattle.tree_model.specs.State.Shape.{are_distinct}
@@ -128,3 +128,15 @@ note-at n kids x d p = pass-at (item_fits kids) d.items x absent_item p.notes re
 -- an entry that comes down, with words only where it brings a copy
 pub entry-fits : (n x : ℕ) (kind : TxKind) (words : List ℕ) (s : Stamp) → x < n → (brings_copy kind ≡ false → are_zero words ≡ true) → down_fits n (record { kind = kind; item = x; words = words; stamp = s }) ≡ true
 entry-fits n x kind words s within bare = both_true (lt-test x n within) (implies-by (not (brings_copy kind)) (are_zero words) (λ e. bare (not-true (brings_copy kind) e)))
+
+-- ---- tests of a face
+
+abbrev pub is_no_note : Note → Bool
+is_no_note no_note = true
+is_no_note (local first joined) = false
+is_no_note (up_read first joined) = false
+is_no_note (up_erase d) = false
+
+abbrev pub starts_with : TxKind → List TxKind → Bool
+starts_with kind [] = false
+starts_with kind (k ∷ ks) = is_kind kind k

@@ -6,3 +6,4 @@ pub mod BusChanged
 pub mod DirParts
 pub mod Told
 pub mod DirCalls
+pub mod DirGives

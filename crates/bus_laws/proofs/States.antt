@@ -20,9 +20,9 @@ use Rattle.bus_laws.proofs.Every.{when, when-at, every_bool, every_bool-at, ever
 
 -- ---- what is true of the bits of any children
 
-abbrev bits_agree : Note → Bits → Bool
-bits_agree note k =
-    implies k.sole k.held && (implies k.exclusive k.held && (not (k.one_gift && k.no_gift) && (implies (not (is_local note || is_up_read note)) k.readers && implies (not (is_up_erase note)) k.eraser)))
+abbrev bits_agree : Note → Bool → Bits → Bool
+bits_agree note parked k =
+    implies (parked && k.sole) (not k.exclusive) && (implies k.sole k.held && (implies k.exclusive k.held && (not (k.one_gift && k.no_gift) && (implies (not (is_local note || is_up_read note)) k.readers && implies (not (is_up_erase note)) k.eraser))))
 
 -- ---- each state, from the parent's part inward
 
@@ -53,7 +53,7 @@ module _ (f : ParentFace → Bits → Bool) where
     -- the bits one by one: the last, the last two, ..
     abbrev at_eraser : Bool → Bool → Bool → Bool → Bool → Bool → Bool → Bool
     at_eraser held sole exclusive one none readers eraser =
-        when (passes noted_rules p (bits held sole exclusive one none readers eraser) && bits_agree p.note (bits held sole exclusive one none readers eraser)) (λ yes. f p (bits held sole exclusive one none readers eraser))
+        when (passes noted_rules p (bits held sole exclusive one none readers eraser) && bits_agree p.note p.parked (bits held sole exclusive one none readers eraser)) (λ yes. f p (bits held sole exclusive one none readers eraser))
 
     abbrev at_readers : Bool → Bool → Bool → Bool → Bool → Bool → Bool
     at_readers held sole exclusive one none readers = every_bool (at_eraser held sole exclusive one none readers)
@@ -96,11 +96,11 @@ module _ (f : ParentFace → Bits → Bool) where
 
 -- ---- at a state
 
-module _ (f : ParentFace → Bits → Bool) (p : ParentFace) (k : Bits) (r : (r : ItemRule) → item_test r p k ≡ true) (agree : bits_agree p.note k ≡ true) where
+module _ (f : ParentFace → Bits → Bool) (p : ParentFace) (k : Bits) (r : (r : ItemRule) → item_test r p k ≡ true) (agree : bits_agree p.note p.parked k ≡ true) where
   abbrev whole : Bits
   whole = bits k.held k.sole k.exclusive k.one_gift k.no_gift k.readers k.eraser
 
-  noted-pass : (passes noted_rules p whole && bits_agree p.note whole) ≡ true
+  noted-pass : (passes noted_rules p whole && bits_agree p.note p.parked whole) ≡ true
   noted-pass = both_true (both_true (r local_noted) (both_true (r up_read_noted) (both_true (r up_erase_noted) (both_true (r giver) refl)))) agree
 
   holders-pass : passes holder_rules p (record no_bits { held = k.held; sole = k.sole; exclusive = k.exclusive }) ≡ true
@@ -119,7 +119,7 @@ module _ (f : ParentFace → Bits → Bool) (p : ParentFace) (k : Bits) (r : (r 
       let at6 = every_bool-at (at_no_gift f p k.held k.sole k.exclusive k.one_gift) at5 k.no_gift in
       let at7 = every_bool-at (at_readers f p k.held k.sole k.exclusive k.one_gift k.no_gift) at6 k.readers in
       let at8 = every_bool-at (at_eraser f p k.held k.sole k.exclusive k.one_gift k.no_gift k.readers) at7 k.eraser in
-      when-at (passes noted_rules p whole && bits_agree p.note whole) (λ yes. f p whole) at8 noted-pass
+      when-at (passes noted_rules p whole && bits_agree p.note p.parked whole) (λ yes. f p whole) at8 noted-pass
 
   pub state-passed : each_state f p.note ≡ true → f p whole ≡ true
   state-passed h =
@@ -164,6 +164,17 @@ exclusive-held_parked : (parked : Bool) (cs : List ChildFace) → implies (list_
 exclusive-held_parked true cs = right-true (list_any holds_exclusive cs)
 exclusive-held_parked false cs = exclusive-held cs
 
+parked-step : (any e : Bool) → implies e any ≡ true → implies (not any) (not e) ≡ true
+unfolding implies
+parked-step true e i = refl
+parked-step false true i = cc
+parked-step false false i = refl
+
+parked-alone : (parked : Bool) (cs : List ChildFace) → implies (parked && (if parked then not (list_any holds_it cs) else one_holds cs)) (not (list_any holds_exclusive cs)) ≡ true
+unfolding implies
+parked-alone true cs = parked-step (list_any holds_it cs) (list_any holds_exclusive cs) (exclusive-held cs)
+parked-alone false cs = refl
+
 gift-step : (n g one all : Bool) → not (one && all) ≡ true → not ((if n then one else (g && all)) && (n && all)) ≡ true
 gift-step true g one all e = e
 gift-step false g one all e = ap not (and-false (g && all))
@@ -190,9 +201,9 @@ eraser-agrees (local first joined) cs = refl
 eraser-agrees (up_read first joined) cs = refl
 eraser-agrees (up_erase d) cs = refl
 
-bits-agree : (p : ParentFace) (cs : List ChildFace) → bits_agree p.note (bits_of p cs) ≡ true
+bits-agree : (p : ParentFace) (cs : List ChildFace) → bits_agree p.note p.parked (bits_of p cs) ≡ true
 bits-agree p cs =
-    both_true (sole-held_parked p.parked cs) (both_true (exclusive-held_parked p.parked cs) (both_true (one_gift-alone cs) (both_true (readers-agree p.note cs) (eraser-agrees p.note cs))))
+    both_true (parked-alone p.parked cs) (both_true (sole-held_parked p.parked cs) (both_true (exclusive-held_parked p.parked cs) (both_true (one_gift-alone cs) (both_true (readers-agree p.note cs) (eraser-agrees p.note cs)))))
 
 whole-is : (k : Bits) → k.givers ≡ true → k.granted ≡ true → k.reads ≡ true → k.erases ≡ true → bits k.held k.sole k.exclusive k.one_gift k.no_gift k.readers k.eraser ≡ k
 whole-is k givers granted reads erases =
