@@ -1,0 +1,3 @@
+pub mod HartFacts
+pub mod HartChanges
+pub mod HartTurns
