@@ -1,3 +1,4 @@
 pub mod HartFacts
 pub mod HartChanges
 pub mod HartTurns
+pub mod TreeSeen
