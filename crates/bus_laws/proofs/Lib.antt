@@ -2,3 +2,4 @@ pub mod HartFacts
 pub mod HartChanges
 pub mod HartTurns
 pub mod TreeSeen
+pub mod FoundExists
