@@ -3,3 +3,4 @@ pub mod HartChanges
 pub mod HartTurns
 pub mod TreeSeen
 pub mod FoundExists
+pub mod TreeKept
