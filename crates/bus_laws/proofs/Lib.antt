@@ -7,3 +7,9 @@ pub mod DirParts
 pub mod Told
 pub mod DirCalls
 pub mod DirGives
+pub mod HartFacts
+pub mod HartChanges
+pub mod HartTurns
+pub mod TreeSeen
+pub mod FoundExists
+pub mod TreeKept
