@@ -10,6 +10,8 @@ pub mod DirGives
 pub mod HartFacts
 pub mod HartChanges
 pub mod HartTurns
+pub mod LeafEnds
+pub mod LeafTold
 pub mod TreeSeen
 pub mod FoundExists
 pub mod TreeKept
