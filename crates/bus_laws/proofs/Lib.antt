@@ -12,6 +12,7 @@ pub mod HartChanges
 pub mod HartTurns
 pub mod LeafEnds
 pub mod LeafTold
+pub mod LeafCalls
 pub mod TreeSeen
 pub mod FoundExists
 pub mod TreeKept
