@@ -31,7 +31,7 @@ use Rattle.bus_laws.proofs.Told.{IsTold}
 
 -- ---- words, reservations, requests
 
-words-suit : (s : LeafState) (width : ℕ) (words : List ℕ) → words_suit s (words_in s width words) ≡ true
+pub words-suit : (s : LeafState) (width : ℕ) (words : List ℕ) → words_suit s (words_in s width words) ≡ true
 unfolding implies
 words-suit LeafState.Shared width words = refl
 words-suit LeafState.Exclusive width words = refl
@@ -47,7 +47,7 @@ unreserved-below n x (Some y) h = at (nat_eq y x) where
   at false = h
 
 -- who is asked for waits
-suits-waits : (k : TxKind) (o : Option LeafState) → request_suits k o ≡ true → state_waits o ≡ true
+pub suits-waits : (k : TxKind) (o : Option LeafState) → request_suits k o ≡ true → state_waits o ≡ true
 suits-waits TxKind.ReadTx None h = cc
 suits-waits TxKind.ReadTx (Some LeafState.Shared) h = cc
 suits-waits TxKind.ReadTx (Some LeafState.Exclusive) h = cc
@@ -65,7 +65,7 @@ suits-waits TxKind.ExclusiveTx o h = cc
 suits-waits TxKind.InjectTx o h = cc
 suits-waits TxKind.OutTx o h = cc
 
-asked-other : (kind k : TxKind) (x y : ℕ) → y ≢ x → slot_has kind y (Some (record { kind = k; item = x })) ≡ false
+pub asked-other : (kind k : TxKind) (x y : ℕ) → y ≢ x → slot_has kind y (Some (record { kind = k; item = x })) ≡ false
 asked-other kind k x y ne = rw (ne_eqb y x ne) (and-false (is_kind kind k))
 
 module _ (n x : ℕ) (v : LeafValue) (ok : IsLeafOk n v) where
@@ -85,7 +85,7 @@ module _ (n x : ℕ) (v : LeafValue) (ok : IsLeafOk n v) where
         rw other (and-false (is_kind kind r.kind))
 
   -- the request stays, where it isn't of the item or suits it still
-  slot-stays : (o : Option LeafState) → ((kind : TxKind) → v.slot ≡ Some (record { kind = kind; item = x }) → request_suits kind (state_at x v) ≡ true → request_suits kind o ≡ true) → SlotSuits x o v v.slot
+  pub slot-stays : (o : Option LeafState) → ((kind : TxKind) → v.slot ≡ Some (record { kind = kind; item = x }) → request_suits kind (state_at x v) ≡ true → request_suits kind o ≡ true) → SlotSuits x o v v.slot
   slot-stays o still r is = at (ℕ_discrete r.item x) where
     suits : request_suits r.kind (state_at r.item v) ≡ true
     suits = subst (λ o. slot_suits v o ≡ true) is (ok.each slot_fits)
@@ -102,7 +102,7 @@ module _ (n x : ℕ) (v : LeafValue) (ok : IsLeafOk n v) where
       let same : (let q : RequestValue = record { kind = kind; item = x } in q) ≡ r = cc in
       subst (λ (q : RequestValue). request_suits q.kind (if nat_eq q.item x then o else state_at q.item v) ≡ true) same (rw (nat_eq-same x) suits)
 
-  slot-none : (o : Option LeafState) → SlotSuits x o v None
+  pub slot-none : (o : Option LeafState) → SlotSuits x o v None
   slot-none o r is = cc
 
   abbrev copies : ℕ
@@ -112,22 +112,22 @@ module _ (n x : ℕ) (v : LeafValue) (ok : IsLeafOk n v) where
   abbrev within : LeafWithin n v
   within = leaf_within-facts n v (ok.each leaf_lists)
 
-  change : (o : Option LeafState) (slot : Option RequestValue) (reservation : Option ℕ) → (state_waits o ≡ true → state_waits (state_at x v) ≡ true) → SlotSuits x o v slot → ((y : ℕ) (kind : TxKind) → y ≢ x → slot_has kind y slot ≡ slot_has kind y v.slot) → reserves_below n reservation ≡ true → LeafChange n x v o slot v.replies reservation
+  pub change : (o : Option LeafState) (slot : Option RequestValue) (reservation : Option ℕ) → (state_waits o ≡ true → state_waits (state_at x v) ≡ true) → SlotSuits x o v slot → ((y : ℕ) (kind : TxKind) → y ≢ x → slot_has kind y slot ≡ slot_has kind y v.slot) → reserves_below n reservation ≡ true → LeafChange n x v o slot v.replies reservation
   change o slot reservation waits suits asks reserves = record { waits = waits; suits = suits; asks = asks; copies = ok.each leaf_replies; room = within.replies; copies_of = λ y ne. refl; reserves = reserves }
 
-  still-reserves : reserves_below n (unreserved x v.reservation) ≡ true
+  pub still-reserves : reserves_below n (unreserved x v.reservation) ≡ true
   still-reserves = unreserved-below n x v.reservation (ok.each reservation_fits)
 
-  told-by : (w after : LeafValue) (seen seen_so : ChildFace) → w ≡ after → IsTold n x (leaf_node v) (leaf_node after) seen → seen ≡ seen_so → IsTold n x (leaf_node v) (leaf_node w) seen_so
+  pub told-by : (w after : LeafValue) (seen seen_so : ChildFace) → w ≡ after → IsTold n x (leaf_node v) (leaf_node after) seen → seen ≡ seen_so → IsTold n x (leaf_node v) (leaf_node w) seen_so
   told-by w after seen seen_so is told same = subst (λ f. IsTold n x (leaf_node v) (leaf_node w) f) same (subst (λ u. IsTold n x (leaf_node v) (leaf_node u) seen) (sym is) told)
 
-  face-known : (o : Option LeafState) → state_at x v ≡ o → leaf_face x v ≡ state_face x o v.slot copies
+  pub face-known : (o : Option LeafState) → state_at x v ≡ o → leaf_face x v ≡ state_face x o v.slot copies
   face-known o is = leaf_face-is x v ∙ ap (λ o. state_face x o v.slot copies) is
 
-  state-known : (e : LeafEntry) (s : LeafState) → leaf_entry x v ≡ Some e → e.state ≡ s → state_at x v ≡ Some s
-  state-known e s is st = ap (option_map entry_state) is ∙ ap Some st
+  pub state-of : (e : LeafEntry) (s : LeafState) → leaf_entry x v ≡ Some e → e.state ≡ s → state_at x v ≡ Some s
+  state-of e s is st = ap (option_map entry_state) is ∙ ap Some st
 
-  same-slot : (y : ℕ) (kind : TxKind) → y ≢ x → slot_has kind y v.slot ≡ slot_has kind y v.slot
+  pub same-slot : (y : ℕ) (kind : TxKind) → y ≢ x → slot_has kind y v.slot ≡ slot_has kind y v.slot
   same-slot y kind ne = refl
 
   -- the slot asks for the item instead, which waited before
@@ -135,14 +135,14 @@ module _ (n x : ℕ) (v : LeafValue) (ok : IsLeafOk n v) where
   asks-now waits k y kind ne = asked-other kind k x y ne ∙ sym (asks-none waits y kind ne)
 
   -- what was asked for isn't any more
-  unasked : (k : TxKind) → v.slot ≡ Some (record { kind = k; item = x }) → (y : ℕ) (kind : TxKind) → y ≢ x → slot_has kind y None ≡ slot_has kind y v.slot
+  pub unasked : (k : TxKind) → v.slot ≡ Some (record { kind = k; item = x }) → (y : ℕ) (kind : TxKind) → y ≢ x → slot_has kind y None ≡ slot_has kind y v.slot
   unasked k is y kind ne = sym (ap (slot_has kind y) is ∙ asked-other kind k x y ne)
 
   -- an entry that doesn't wait isn't asked for
-  not-asked : (o : Option LeafState) → state_at x v ≡ o → state_waits o ≡ false → (p : Option LeafState) → SlotSuits x p v v.slot
+  pub not-asked : (o : Option LeafState) → state_at x v ≡ o → state_waits o ≡ false → (p : Option LeafState) → SlotSuits x p v v.slot
   not-asked o is quiet p = slot-stays p (λ kind asks suits. let waits : state_waits o ≡ true = subst (λ o. state_waits o ≡ true) is (suits-waits kind (state_at x v) suits) in cc)
 
-  fated-as : (s old : LeafState) (words : List ℕ) → state_at x v ≡ Some old → IsFated n x v (becomes s (words_in s v.sizes.width words)) (Some s)
+  pub fated-as : (s old : LeafState) (words : List ℕ) → state_at x v ≡ Some old → IsFated n x v (becomes s (words_in s v.sizes.width words)) (Some s)
   fated-as s old words is = fated-becomes n x v ok s (words_in s v.sizes.width words) old is (words-suit s v.sizes.width words)
 
   -- ---- told to lose the item
@@ -163,29 +163,29 @@ module _ (n x : ℕ) (v : LeafValue) (ok : IsLeafOk n v) where
 
   lost-from : (e : LeafEntry) (s : LeafState) → leaf_entry x v ≡ Some e → e.state ≡ s → IsLost
   lost-from e LeafState.Shared is st =
-      let state = state-known e LeafState.Shared is st in
+      let state = state-of e LeafState.Shared is st in
       lost-as (Some LeafState.Shared) _ _ state (lose-some e LeafState.Shared is st)
       (leaf-told n x v ends None v.slot v.replies (unreserved x v.reservation) ok (fated-ends n x v ok) (change None v.slot (unreserved x v.reservation) (λ w. cc) (not-asked (Some LeafState.Shared) state refl None) same-slot still-reserves))
       refl
   lost-from e LeafState.Exclusive is st =
-      let state = state-known e LeafState.Exclusive is st in
+      let state = state-of e LeafState.Exclusive is st in
       lost-as (Some LeafState.Exclusive) _ _ state (lose-some e LeafState.Exclusive is st)
       (leaf-told n x v ends None v.slot v.replies (unreserved x v.reservation) ok (fated-ends n x v ok) (change None v.slot (unreserved x v.reservation) (λ w. cc) (not-asked (Some LeafState.Exclusive) state refl None) same-slot still-reserves))
       refl
   lost-from e LeafState.Waiting is st =
-      let state = state-known e LeafState.Waiting is st in
+      let state = state-of e LeafState.Waiting is st in
       let waits : state_waits (state_at x v) ≡ true = ap state_waits state in
       let asks : Option RequestValue = Some (record { kind = ReadTx; item = x }) in
       lost-as (Some LeafState.Waiting) _ _ state (lose-some e LeafState.Waiting is st)
       (leaf-told n x v (becomes LeafState.ReadingWaiting (blank v.sizes.width)) (Some LeafState.ReadingWaiting) asks v.replies (unreserved x v.reservation) ok (fated-as LeafState.ReadingWaiting LeafState.Waiting e.words state) (change (Some LeafState.ReadingWaiting) asks (unreserved x v.reservation) (λ w. waits) (slot-asks (Some LeafState.ReadingWaiting) ReadTx refl) (asks-now waits ReadTx) still-reserves))
       (rw (nat_eq-same x) refl)
   lost-from e LeafState.Reading is st =
-      let state = state-known e LeafState.Reading is st in
+      let state = state-of e LeafState.Reading is st in
       lost-as (Some LeafState.Reading) _ _ state (lose-some e LeafState.Reading is st)
       (leaf-told n x v (becomes LeafState.Reading (blank v.sizes.width)) (Some LeafState.Reading) v.slot v.replies (unreserved x v.reservation) ok (fated-as LeafState.Reading LeafState.Reading e.words state) (change (Some LeafState.Reading) v.slot (unreserved x v.reservation) (λ w. ap state_waits state) (slot-stays (Some LeafState.Reading) (λ kind asks suits. subst (λ o. request_suits kind o ≡ true) state suits)) same-slot still-reserves))
       refl
   lost-from e LeafState.ReadingWaiting is st =
-      let state = state-known e LeafState.ReadingWaiting is st in
+      let state = state-of e LeafState.ReadingWaiting is st in
       lost-as (Some LeafState.ReadingWaiting) _ _ state (lose-some e LeafState.ReadingWaiting is st)
       (leaf-told n x v (becomes LeafState.ReadingWaiting (blank v.sizes.width)) (Some LeafState.ReadingWaiting) v.slot v.replies (unreserved x v.reservation) ok (fated-as LeafState.ReadingWaiting LeafState.ReadingWaiting e.words state) (change (Some LeafState.ReadingWaiting) v.slot (unreserved x v.reservation) (λ w. ap state_waits state) (slot-stays (Some LeafState.ReadingWaiting) (λ kind asks suits. subst (λ o. request_suits kind o ≡ true) state suits)) same-slot still-reserves))
       refl
@@ -207,7 +207,7 @@ module _ (n x : ℕ) (v : LeafValue) (ok : IsLeafOk n v) where
   take_data-some words e s is st = rw is (rw st refl)
 
   -- by the state of its entry, it waits for data, and a read isn't asked for any more
-  reads-by : (s : LeafState) → state_at x v ≡ Some s → (leaf_face x v).reads ≡ true → (is_reading s ≡ true) × (slot_has ReadTx x v.slot ≡ false)
+  pub reads-by : (s : LeafState) → state_at x v ≡ Some s → (leaf_face x v).reads ≡ true → (is_reading s ≡ true) × (slot_has ReadTx x v.slot ≡ false)
   reads-by s is reads =
       let h : (is_reading s && not (slot_has ReadTx x v.slot)) ≡ true = ap (λ (f : ChildFace). f.reads) (sym (face-known (Some s) is)) ∙ reads in
       let parts = and_parts (is_reading s) (not (slot_has ReadTx x v.slot)) h in
@@ -220,7 +220,7 @@ module _ (n x : ℕ) (v : LeafValue) (ok : IsLeafOk n v) where
       (parts.0, not-true (slot_has EraseTx x v.slot) parts.1)
 
   -- a request of the item suits no state that reads, where a read isn't asked for
-  read-asked : (s : LeafState) → is_reading s ≡ true → slot_has ReadTx x v.slot ≡ false → (kind : TxKind) → v.slot ≡ Some (record { kind = kind; item = x }) → request_suits kind (Some s) ≡ true → ⊥
+  pub read-asked : (s : LeafState) → is_reading s ≡ true → slot_has ReadTx x v.slot ≡ false → (kind : TxKind) → v.slot ≡ Some (record { kind = kind; item = x }) → request_suits kind (Some s) ≡ true → ⊥
   read-asked s reading free TxKind.ReadTx is suits =
       let asked : slot_has ReadTx x v.slot ≡ true = ap (slot_has ReadTx x) is ∙ nat_eq-same x in
       cc
@@ -248,17 +248,17 @@ module _ (n x : ℕ) (v : LeafValue) (ok : IsLeafOk n v) where
   TakesData words = IsTold n x (leaf_node v) (leaf_node (leaf_take_data x words v)) (child_seen Hold.Shared false false copies false)
 
   data-from : (words : List ℕ) (e : LeafEntry) (s : LeafState) → leaf_entry x v ≡ Some e → e.state ≡ s → (leaf_face x v).reads ≡ true → TakesData words
-  data-from words e LeafState.Shared is st reads = let r = reads-by LeafState.Shared (state-known e LeafState.Shared is st) reads in let no : false ≡ true = r.0 in cc
-  data-from words e LeafState.Exclusive is st reads = let r = reads-by LeafState.Exclusive (state-known e LeafState.Exclusive is st) reads in let no : false ≡ true = r.0 in cc
-  data-from words e LeafState.Waiting is st reads = let r = reads-by LeafState.Waiting (state-known e LeafState.Waiting is st) reads in let no : false ≡ true = r.0 in cc
+  data-from words e LeafState.Shared is st reads = let r = reads-by LeafState.Shared (state-of e LeafState.Shared is st) reads in let no : false ≡ true = r.0 in cc
+  data-from words e LeafState.Exclusive is st reads = let r = reads-by LeafState.Exclusive (state-of e LeafState.Exclusive is st) reads in let no : false ≡ true = r.0 in cc
+  data-from words e LeafState.Waiting is st reads = let r = reads-by LeafState.Waiting (state-of e LeafState.Waiting is st) reads in let no : false ≡ true = r.0 in cc
   data-from words e LeafState.Reading is st reads =
-      let state = state-known e LeafState.Reading is st in
+      let state = state-of e LeafState.Reading is st in
       let free = reads-by LeafState.Reading state reads in
       told-by (leaf_take_data x words v) _ _ _ (take_data-some words e LeafState.Reading is st)
       (leaf-told n x v (becomes LeafState.Shared words) (Some LeafState.Shared) v.slot v.replies v.reservation ok (fated-as LeafState.Shared LeafState.Reading words state) (change (Some LeafState.Shared) v.slot v.reservation (λ w. cc) (slot-stays (Some LeafState.Shared) (λ kind asks suits. absurd (read-asked LeafState.Reading refl free.1 kind asks (subst (λ o. request_suits kind o ≡ true) state suits)))) same-slot (ok.each reservation_fits)))
       refl
   data-from words e LeafState.ReadingWaiting is st reads =
-      let state = state-known e LeafState.ReadingWaiting is st in
+      let state = state-of e LeafState.ReadingWaiting is st in
       let waits : state_waits (state_at x v) ≡ true = ap state_waits state in
       let asks : Option RequestValue = Some (record { kind = EraseTx; item = x }) in
       told-by (leaf_take_data x words v) _ _ _ (take_data-some words e LeafState.ReadingWaiting is st)
@@ -266,7 +266,7 @@ module _ (n x : ℕ) (v : LeafValue) (ok : IsLeafOk n v) where
       (rw (nat_eq-same x) refl)
 
   -- an item without an entry has nothing granted
-  nothing-granted : leaf_entry x v ≡ None → leaf_face x v ≡ child_seen Hold.Invalid false false copies false
+  pub nothing-granted : leaf_entry x v ≡ None → leaf_face x v ≡ child_seen Hold.Invalid false false copies false
   nothing-granted none = face-known None (ap (option_map entry_state) none)
 
   pub leaf_take_data-told : (words : List ℕ) → (leaf_face x v).reads ≡ true → TakesData words
@@ -285,12 +285,12 @@ module _ (n x : ℕ) (v : LeafValue) (ok : IsLeafOk n v) where
   TakesExclusive = IsTold n x (leaf_node v) (leaf_node (leaf_take_exclusive x v)) (child_seen Hold.Exclusive false false copies false)
 
   exclusive-from : (e : LeafEntry) (s : LeafState) → leaf_entry x v ≡ Some e → e.state ≡ s → (leaf_face x v).erases ≡ true → TakesExclusive
-  exclusive-from e LeafState.Shared is st erases = let r = erases-by LeafState.Shared (state-known e LeafState.Shared is st) erases in let no : false ≡ true = r.0 in cc
-  exclusive-from e LeafState.Exclusive is st erases = let r = erases-by LeafState.Exclusive (state-known e LeafState.Exclusive is st) erases in let no : false ≡ true = r.0 in cc
-  exclusive-from e LeafState.Reading is st erases = let r = erases-by LeafState.Reading (state-known e LeafState.Reading is st) erases in let no : false ≡ true = r.0 in cc
-  exclusive-from e LeafState.ReadingWaiting is st erases = let r = erases-by LeafState.ReadingWaiting (state-known e LeafState.ReadingWaiting is st) erases in let no : false ≡ true = r.0 in cc
+  exclusive-from e LeafState.Shared is st erases = let r = erases-by LeafState.Shared (state-of e LeafState.Shared is st) erases in let no : false ≡ true = r.0 in cc
+  exclusive-from e LeafState.Exclusive is st erases = let r = erases-by LeafState.Exclusive (state-of e LeafState.Exclusive is st) erases in let no : false ≡ true = r.0 in cc
+  exclusive-from e LeafState.Reading is st erases = let r = erases-by LeafState.Reading (state-of e LeafState.Reading is st) erases in let no : false ≡ true = r.0 in cc
+  exclusive-from e LeafState.ReadingWaiting is st erases = let r = erases-by LeafState.ReadingWaiting (state-of e LeafState.ReadingWaiting is st) erases in let no : false ≡ true = r.0 in cc
   exclusive-from e LeafState.Waiting is st erases =
-      let state = state-known e LeafState.Waiting is st in
+      let state = state-of e LeafState.Waiting is st in
       let free = erases-by LeafState.Waiting state erases in
       told-by (leaf_take_exclusive x v) _ _ _ (take_exclusive-some e LeafState.Waiting is st)
       (leaf-told n x v (becomes LeafState.Exclusive e.words) (Some LeafState.Exclusive) v.slot v.replies v.reservation ok (fated-as LeafState.Exclusive LeafState.Waiting e.words state) (change (Some LeafState.Exclusive) v.slot v.reservation (λ w. cc) (slot-stays (Some LeafState.Exclusive) (λ kind asks suits. absurd (erase-asked free.1 kind asks (subst (λ o. request_suits kind o ≡ true) state suits)))) same-slot (ok.each reservation_fits)))
@@ -330,7 +330,7 @@ module _ (n x : ℕ) (v : LeafValue) (ok : IsLeafOk n v) where
 
   answered-as : (e : LeafEntry) (s t : LeafState) → leaf_entry x v ≡ Some e → e.state ≡ s → state_answered s ≡ Some t → x < n → leaf_replies_full v ≡ false → (state_waits (Some t) ≡ true → state_waits (Some s) ≡ true) → ((kind : TxKind) → request_suits kind (Some s) ≡ true → request_suits kind (Some t) ≡ true) → ((k : ℕ) → state_face x (Some t) v.slot k ≡ record (state_face x (Some s) v.slot copies) { hold = Hold.Shared; replies = k }) → Answers
   answered-as e s t is st to known room waits suits seen =
-      let state = state-known e s is st in
+      let state = state-of e s is st in
       told-by (leaf_answer x v) _ _ _ (answer-some e s t is st to)
       (leaf-told n x v (becomes t (words_in t v.sizes.width e.words)) (Some t) v.slot (v.replies ++ record { item = x; words = e.words } ∷ []) v.reservation ok (fated-as t s e.words state) (replied (Some t) e.words known room (λ w. ap state_waits state ∙ waits w) (slot-stays (Some t) (λ kind asks suit. suits kind (subst (λ o. request_suits kind o ≡ true) state suit)))))
       (ap (state_face x (Some t) v.slot) (one-more e.words) ∙ (seen (copies + 1) ∙ ap (λ (f : ChildFace). (let g : ChildFace = record f { hold = Hold.Shared; replies = copies + 1 } in g)) (sym (face-known (Some s) state))))
@@ -339,8 +339,8 @@ module _ (n x : ℕ) (v : LeafValue) (ok : IsLeafOk n v) where
   answered-from e LeafState.Shared is st known held room = answered-as e LeafState.Shared LeafState.Shared is st refl known room (λ w. w) (λ kind suits. suits) (λ k. refl)
   answered-from e LeafState.Exclusive is st known held room = answered-as e LeafState.Exclusive LeafState.Shared is st refl known room (λ w. w) (λ kind suits. let w = suits-waits kind (Some LeafState.Exclusive) suits in cc) (λ k. refl)
   answered-from e LeafState.Waiting is st known held room = answered-as e LeafState.Waiting LeafState.Waiting is st refl known room (λ w. w) (λ kind suits. suits) (λ k. refl)
-  answered-from e LeafState.Reading is st known held room = let no : false ≡ true = ap (λ (f : ChildFace). is_held f.hold) (sym (face-known (Some LeafState.Reading) (state-known e LeafState.Reading is st))) ∙ held in cc
-  answered-from e LeafState.ReadingWaiting is st known held room = let no : false ≡ true = ap (λ (f : ChildFace). is_held f.hold) (sym (face-known (Some LeafState.ReadingWaiting) (state-known e LeafState.ReadingWaiting is st))) ∙ held in cc
+  answered-from e LeafState.Reading is st known held room = let no : false ≡ true = ap (λ (f : ChildFace). is_held f.hold) (sym (face-known (Some LeafState.Reading) (state-of e LeafState.Reading is st))) ∙ held in cc
+  answered-from e LeafState.ReadingWaiting is st known held room = let no : false ≡ true = ap (λ (f : ChildFace). is_held f.hold) (sym (face-known (Some LeafState.ReadingWaiting) (state-of e LeafState.ReadingWaiting is st))) ∙ held in cc
 
   pub leaf_answer-told : x < n → is_held (leaf_face x v).hold ≡ true → leaf_replies_full v ≡ false → Answers
   leaf_answer-told known held room = at (leaf_entry x v) refl where

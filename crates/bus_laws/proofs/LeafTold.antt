@@ -1,23 +1,26 @@
 -- A leaf of which one item's entry, its request, its replies and its reservation change: it keeps its rules, and is seen so.
-use Rattle.std.proofs.Common.{◌≡◌, ◌≢◌, ℕ, zero, suc, ◌<◌, ◌≤◌, Bool, true, false, List, [], ◌∷◌, length, Option, Some, None, refl, sym, ap, subst, ◌∙◌, inl, inr, arith}
-use Rattle.std.specs.Prelude.{not, ◌&&◌, nat_eq, option_map, if◌then◌else◌}
-use Rattle.std.specs.List.{list_all}
+use Rattle.std.proofs.Common.{◌≡◌, ◌≢◌, ℕ, zero, suc, ◌%◌, ◌<◌, ◌≤◌, Bool, true, false, List, [], ◌∷◌, length, Option, Some, None, refl, sym, ap, subst, ◌∙◌, inl, inr, arith}
+use Rattle.std.specs.Prelude.{not, ◌&&◌, nat_eq, option_map, is_none, if◌then◌else◌}
+use Rattle.std.specs.List.{list_all, range_with_len}
+use Rattle.std.specs.Cmp.Derive.{both_true}
 use native.Mathlib.Decide.{ℕ_discrete}
 use Rattle.std.proofs.Math.Bool.{and-false}
-use Rattle.std.proofs.lemmas.Bool.{ne_eqb, eqb-true}
+use Rattle.std.proofs.lemmas.Bool.{ne_eqb, eq-eqb}
 use Rattle.ddm_types.specs.declared.answers.TxKind.{TxKind}
 use Rattle.ddm_types.specs.declared.answers.TxKind.TheVariants.{ReadTx, EraseTx}
 use Rattle.ddm_types.specs.declared.sizes.Hold.{Hold}
 use Rattle.ddm_types.specs.declared.sizes.LeafState.{LeafState}
-use Rattle.tree_model.specs.State.Kinds.{is_kind}
+use Rattle.tree_model.specs.State.Lists.{find_from}
+use Rattle.tree_model.proofs.Children.{none-passes}
 use Rattle.tree_model.specs.State.States.{entry_hold, is_reading, is_upgrading}
-use Rattle.tree_model.specs.State.Values.{RequestValue, CopyValue, LeafValue, Node, leaf_node}
-use Rattle.tree_model.specs.State.Leaf.{Fate, stays, ends, becomes, enters, slot_has, words_of_item, leaf_entry, entry_at, entry_state, state_at, ways_after, buffer_after, leaf_hold}
+use Rattle.tree_model.specs.State.Values.{WayValue, LeafSizes, RequestValue, CopyValue, LeafValue, Node, leaf_node}
+use Rattle.tree_model.specs.State.Leaf.{Fate, stays, ends, becomes, enters, slot_has, words_of_item, leaf_entry, entry_at, entry_state, state_at, ways_after, buffer_after, leaf_hold, way_at, stands_in, item_in_way, free_way}
 use Rattle.tree_model.proofs.LeafRooms.{LeafWithin, leaf_within-facts, leaf_within-test, ways_after-length, buffer_after-length}
 use Rattle.tree_rules.specs.Bus.Faces.{ChildFace, in_state, leaf_face, child_face}
 use Rattle.tree_rules.specs.Bus.Own.{has_ways, leaf_lists, slot_fits, leaf_replies, reservation_fits, IsLeafOk, words_suit, state_waits, request_suits, slot_suits, copy_fits, reserves_below}
-use Rattle.bus_laws.proofs.HartFacts.{HasEntries, entries-from_rules, state_in, LeafRest, rules-from_entries, one-waits}
+use Rattle.bus_laws.proofs.HartFacts.{find-holds, way-within, HasEntries, entries-from_rules, state_in, LeafRest, rules-from_entries, one-waits}
 use Rattle.bus_laws.proofs.HartChanges.{entry_with, entry-becomes, entry-becomes_other, entries-become_suited, entry-enters, entry-enters_other, entries-enter}
+use Rattle.bus_laws.proofs.HartTurns.{free_way-inside}
 use Rattle.bus_laws.proofs.LeafEnds.{entry-ends, entry-ends_other, entries-end}
 use Rattle.bus_laws.proofs.ItemLists.{nat_eq-same}
 use Rattle.bus_laws.proofs.Told.{IsTold}
@@ -53,6 +56,29 @@ module _ (n x : ℕ) (v : LeafValue) (ok : IsLeafOk n v) where
     with-state : (o : Option _) → option_map entry_state o ≡ Some old → option_map entry_state (option_map (entry_with s w) o) ≡ Some s
     with-state None e = cc
     with-state (Some e) is = refl
+
+is_none-fact : {X : Type 0} (o : Option X) → is_none o ≡ true → o ≡ None
+is_none-fact None h = refl
+is_none-fact (Some x) h = cc
+
+-- a free way: nobody stands in it
+way-free : (sizes : LeafSizes) (x way : ℕ) (ways : List (Option WayValue)) → free_way sizes x ways ≡ Some way → (y : ℕ) (e : WayValue) → way_at y ways ≡ Some e → y % sizes.sets ≡ x % sizes.sets → e.way ≢ way
+unfolding free_way item_in_way
+way-free sizes x way ways found y e there set same =
+    let none : is_none (find_from (stands_in sizes.sets x way) 0 ways) ≡ true = (find-holds (λ (k : ℕ). Unit {0}) (λ way. is_none (item_in_way sizes.sets x way ways)) (range_with_len 0 sizes.way_count) way (λ k d l. tt) found).1 in
+    let fails : stands_in sizes.sets x way y (way_at y ways) ≡ false = none-passes (stands_in sizes.sets x way) y ways None (is_none-fact _ none) (way-within y ways e there) in
+    let stands : stands_in sizes.sets x way y (way_at y ways) ≡ true = rw there (both_true (eq-eqb _ _ set) (eq-eqb _ _ same)) in
+    cc
+
+pub fated-enters : (n x : ℕ) (v : LeafValue) (ok : IsLeafOk n v) (s : LeafState) (w : List ℕ) (way : ℕ) → x < n → leaf_entry x v ≡ None → free_way v.sizes x v.ways ≡ Some way → words_suit s w ≡ true → IsFated n x v (enters way s w) (Some s)
+fated-enters n x v ok s w way known absent found suits =
+    let before = entries-from_rules n v ok in
+    let inside : x < length v.ways = subst (λ k. x < k) (sym before.count) known in
+    record {
+      entries = entries-enter x way s w n v.sizes v.ways v.buffer before known absent (free_way-inside v.sizes x way v.ways found) suits (way-free v.sizes x way v.ways found);
+      here = ap (option_map entry_state) (entry-enters x way s w v.ways v.buffer inside);
+      others = λ y ne. ap (option_map entry_state) (entry-enters_other x way s w v.ways v.buffer y ne);
+    }
 
 -- ---- the rules after
 

@@ -13,6 +13,7 @@ pub mod HartTurns
 pub mod LeafEnds
 pub mod LeafTold
 pub mod LeafCalls
+pub mod LeafGives
 pub mod TreeSeen
 pub mod FoundExists
 pub mod TreeKept
