@@ -11,6 +11,7 @@ use Rattle.ddm_types.specs.declared.answers.PendingWhy.{PendingWhy}
 use Rattle.ddm_types.specs.declared.sizes.Hold.{Hold}
 use Rattle.tree_model.specs.State.Lists.{first_of, rest_of, has_some}
 use Rattle.tree_model.specs.State.Kinds.{is_kind}
+use Rattle.tree_model.specs.State.States.{is_held}
 use Rattle.tree_model.specs.State.Values.{RequestValue, CopyValue, Note, no_note, local, up_read, up_erase, DirValue, Nodes, dir_node, children}
 use Rattle.tree_model.specs.State.Leaf.{is_copy, copy_item, words_of_item}
 use Rattle.tree_model.specs.State.Directory.{dir_item, dir_hold, dir_note, is_answering, note_why, in_down, pending_by, pending, queue_kinds, request_kinds, is_parked, dir_give_up}
@@ -69,7 +70,7 @@ given_up p = record p { hold = Hold.Invalid; parked = false }
 
 -- the parked copy is the only holder
 abbrev may_give_up : ParentFace → Bits → Bool
-may_give_up p k = implies (p.parked && (not (has_some p.queue) && (not p.answering && is_no_note p.note))) (k.sole && every_bool (λ s. item_holds (given_up p) (record k { held = false; sole = s }) && (nat_eq (kept_place (given_up p)) (kept_place p) && is_seen (given_up p) Hold.Invalid false false false)))
+may_give_up p k = implies (p.parked && (not (has_some p.queue) && (not p.answering && is_no_note p.note))) (k.sole && (every_bool (λ s. item_holds (given_up p) (record k { held = false; sole = s }) && (nat_eq (kept_place (given_up p)) (kept_place p) && is_seen (given_up p) Hold.Invalid false false false)) && is_held p.hold))
 
 each-may_take_read : (note : Note) → each_state may_take_read note ≡ true
 unfolding implies
@@ -172,6 +173,13 @@ module _ (n x : ℕ) (d : DirValue) (ns : Nodes) (within : x < n) (bus : IsBusOk
 
   -- ---- the parked copy leaves
 
+  pub dir_parked-held : is_parked x d ≡ true → pending x d ≡ None → is_held (dir_hold x d) ≡ true
+  dir_parked-held parked free =
+      let q = quiet-from_pending x d free in
+      let h = implies-use (before.parked && (not (has_some before.queue) && (not before.answering && is_no_note before.note))) _ (state-at may_give_up each-may_give_up before cs (bus.rules x within)) (both_true parked (both_true (ap not q.queue) (both_true (ap not q.answering) (ap is_no_note q.note)))) in
+      let both = and_parts (bits_of before cs).sole _ h in
+      (and_parts (every_bool (λ s. item_holds (given_up before) (record (bits_of before cs) { held = false; sole = s }) && (nat_eq (kept_place (given_up before)) (kept_place before) && is_seen (given_up before) Hold.Invalid false false false))) (is_held before.hold) both.1).1
+
   pub dir_give_up-told : is_parked x d ≡ true → pending x d ≡ None → IsTold n x (dir_node d ns) (dir_node (dir_give_up x d) ns) (child_seen Hold.Invalid false false copies false)
   dir_give_up-told parked free =
       let q = quiet-from_pending x d free in
@@ -180,7 +188,8 @@ module _ (n x : ℕ) (d : DirValue) (ns : Nodes) (within : x < n) (bus : IsBusOk
       let alone : not (list_any holds_it cs) ≡ true = subst (λ b. if◌then◌else◌ b (not (list_any holds_it cs)) (one_holds cs) ≡ true) parked both.0 in
       let none : list_any holds_it cs ≡ false = not-true _ alone in
       let k : Bits = record (bits_of before cs) { held = false; sole = one_holds cs } in
-      let now = every_bool-at (λ s. item_holds (given_up before) (record (bits_of before cs) { held = false; sole = s }) && (nat_eq (kept_place (given_up before)) (kept_place before) && is_seen (given_up before) Hold.Invalid false false false)) both.1 (one_holds cs) in
+      let more = and_parts (every_bool (λ s. item_holds (given_up before) (record (bits_of before cs) { held = false; sole = s }) && (nat_eq (kept_place (given_up before)) (kept_place before) && is_seen (given_up before) Hold.Invalid false false false))) (is_held before.hold) both.1 in
+      let now = every_bool-at (λ s. item_holds (given_up before) (record (bits_of before cs) { held = false; sole = s }) && (nat_eq (kept_place (given_up before)) (kept_place before) && is_seen (given_up before) Hold.Invalid false false false)) more.0 (one_holds cs) in
       let parts3 = and_parts (item_holds (given_up before) k) _ now in
       let parts2 = and_parts (nat_eq (kept_place (given_up before)) (kept_place before)) _ parts3.1 in
       let bits : bits_of (given_up before) cs ≡ k = ap (λ any. record (bits_of before cs) { held = any; sole = one_holds cs }) none in

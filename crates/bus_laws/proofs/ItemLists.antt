@@ -1,6 +1,6 @@
 -- What a list has of one item: after an element is added or taken, and of another item.
-use Rattle.std.proofs.Common.{◌≡◌, ◌≢◌, ℕ, Bool, true, false, List, [], ◌∷◌, ◌++◌, map, Option, Some, None, refl, sym, ap, ◌∙◌}
-use Rattle.std.specs.Prelude.{not, ◌&&◌, nat_eq, filter, if◌then◌else◌}
+use Rattle.std.proofs.Common.{◌≡◌, ◌≢◌, ℕ, zero, suc, Bool, true, false, List, [], ◌∷◌, ◌++◌, map, Option, Some, None, refl, sym, ap, subst, ◌∙◌}
+use Rattle.std.specs.Prelude.{not, ◌&&◌, nat_eq, filter, slice_get, if◌then◌else◌}
 use Rattle.std.specs.List.{list_all}
 use Rattle.std.specs.Cmp.Derive.{both_true}
 use Rattle.std.proofs.lemmas.Bool.{eqb-true, eq-eqb, ne_eqb}
@@ -161,3 +161,16 @@ words-absent x [] none = refl
 words-absent x (c ∷ cs) none =
     let step = absent-step x c cs (nat_eq x c.item) refl none in
     both_true step.0 (words-absent x cs step.1)
+
+-- a copy of a list is one of its item
+got-step : (c e : CopyValue) (cs : List CopyValue) (b : Bool) → nat_eq e.item c.item ≡ b → has_some (map copy_words (filter (names_item copy_item e.item) cs)) ≡ true → has_some (map copy_words (filter (names_item copy_item e.item) (c ∷ cs))) ≡ true
+got-step c e cs true is rest = rw is refl
+got-step c e cs false is rest = rw is rest
+
+pub words-got : (cs : List CopyValue) (k : ℕ) (e : CopyValue) → slice_get cs k ≡ Some e → has_some (words_of_item e.item cs) ≡ true
+unfolding words_of_item
+words-got [] k e got = cc
+words-got (c ∷ cs) zero e got =
+    let same : c ≡ e = cc in
+    subst (λ (f : CopyValue). has_some (map copy_words (filter (names_item copy_item f.item) (c ∷ cs))) ≡ true) same (rw (nat_eq-same c.item) refl)
+words-got (c ∷ cs) (suc k) e got = got-step c e cs (nat_eq e.item c.item) refl (words-got cs k e got)

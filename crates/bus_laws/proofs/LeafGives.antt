@@ -21,7 +21,7 @@ use Rattle.tree_rules.specs.Bus.Faces.{ChildFace, in_state, leaf_face}
 use Rattle.tree_rules.specs.Bus.Item.{implies}
 use Rattle.tree_rules.specs.Bus.Own.{leaf_lists, slot_fits, leaf_replies, reservation_fits, IsLeafOk, words_suit, state_waits, request_suits, slot_suits, copy_fits, reserves_below}
 use Rattle.bus_laws.proofs.HartFacts.{HasEntries, StandsAside, entries-from_rules, state-known}
-use Rattle.bus_laws.proofs.Lists.{pass-rest}
+use Rattle.bus_laws.proofs.Lists.{pass-rest, chosen-get}
 use Rattle.bus_laws.proofs.ItemLists.{nat_eq-same, words-first, words-first_other}
 use Rattle.bus_laws.proofs.DirParts.{child_seen}
 use Rattle.bus_laws.proofs.LeafTold.{IsFated, fated-stays, fated-ends, fated-enters, SlotSuits, LeafChange, state_face, leaf_face-is, leaf-told}
@@ -72,13 +72,6 @@ record MayLeave (x : ℕ) (v : LeafValue) : Type 0 where
   state : LeafState
   is : state_at x v ≡ Some state
   may : may_leave state ≡ true
-
-chosen-get : {X : Type 0} (item : X → ℕ) (choice x : ℕ) (xs : List X) → chosen item choice xs ≡ Some x → (e : X) × ((k : ℕ) × (slice_get xs k ≡ Some e)) × (item e ≡ x)
-chosen-get item choice x [] h = cc
-chosen-get item choice x (e ∷ es) h = at (slice_get (e ∷ es) (choice % length (e ∷ es))) refl h where
-  at : (o : Option _) → slice_get (e ∷ es) (choice % length (e ∷ es)) ≡ o → option_map item o ≡ Some x → (f : _) × ((k : ℕ) × (slice_get (e ∷ es) k ≡ Some f)) × (item f ≡ x)
-  at None is h = cc
-  at (Some f) is h = (f, (choice % length (e ∷ es), is), (let same : item f ≡ x = cc in same))
 
 may-leave : (n choice x : ℕ) (v : LeafValue) → IsLeafOk n v → leaf_leaving choice v.buffer ≡ Some x → MayLeave x v
 unfolding leaf_leaving entry_at

@@ -14,6 +14,7 @@ pub mod LeafEnds
 pub mod LeafTold
 pub mod LeafCalls
 pub mod LeafGives
+pub mod Calls
 pub mod TreeSeen
 pub mod FoundExists
 pub mod TreeKept

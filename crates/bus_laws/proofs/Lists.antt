@@ -1,11 +1,11 @@
 -- What passes for each element of a list passes after a change of it; and lists of distinct numbers.
-use Rattle.std.proofs.Common.{◌≡◌, ◌≢◌, ℕ, zero, suc, Bool, true, false, List, [], ◌∷◌, ◌++◌, map, refl, sym, ap, ◌∙◌}
-use Rattle.std.specs.Prelude.{not, ◌&&◌, ◌||◌, nat_eq, filter, slice_set, if◌then◌else◌}
+use Rattle.std.proofs.Common.{◌≡◌, ◌≢◌, ℕ, zero, suc, Bool, true, false, ◌%◌, List, [], ◌∷◌, ◌++◌, length, map, Option, Some, None, refl, sym, ap, subst, ◌∙◌}
+use Rattle.std.specs.Prelude.{not, ◌&&◌, ◌||◌, nat_eq, filter, option_map, slice_get, slice_set, if◌then◌else◌}
 use Rattle.std.specs.List.{list_any, list_all}
 use Rattle.std.specs.Cmp.Derive.{both_true}
 use Rattle.std.proofs.lemmas.Bool.{and_parts, ne_eqb, eq-eqb}
 use Rattle.std.proofs.lemmas.List.Elements.{filter-append}
-use Rattle.tree_model.specs.State.Lists.{rest_of, without_first}
+use Rattle.tree_model.specs.State.Lists.{rest_of, without_first, chosen}
 use Rattle.tree_model.specs.State.Shape.{are_distinct}
 use Rattle.tree_model.proofs.Tests.{not-true}
 
@@ -89,3 +89,19 @@ module _ {X : Type 0} (item : X → ℕ) where
       both_true (ap not (absent-pushed (item x) xs v (not-true _ before.0) (λ e. other e news.0))) (distinct-pushed xs v before.1 news.1) where
         other : item x ≡ item v → not (nat_eq (item v) (item x)) ≡ true → ⊥
         other e n = let y : nat_eq (item v) (item x) ≡ true = eq-eqb (item v) (item x) (sym e) in cc
+
+-- ---- an element by its index
+
+pub pass-got : {X : Type 0} (t : X → Bool) (xs : List X) (k : ℕ) (e : X) → list_all t xs ≡ true → slice_get xs k ≡ Some e → t e ≡ true
+pass-got t [] k e h got = cc
+pass-got t (x ∷ xs) zero e h got =
+    let same : x ≡ e = cc in
+    subst (λ y. t y ≡ true) same (and_parts (t x) (list_all t xs) h).0
+pass-got t (x ∷ xs) (suc k) e h got = pass-got t xs k e (and_parts (t x) (list_all t xs) h).1 got
+
+pub chosen-get : {X : Type 0} (item : X → ℕ) (choice x : ℕ) (xs : List X) → chosen item choice xs ≡ Some x → (e : X) × ((k : ℕ) × (slice_get xs k ≡ Some e)) × (item e ≡ x)
+chosen-get item choice x [] h = cc
+chosen-get item choice x (e ∷ es) h = at (slice_get (e ∷ es) (choice % length (e ∷ es))) refl h where
+  at : (o : Option _) → slice_get (e ∷ es) (choice % length (e ∷ es)) ≡ o → option_map item o ≡ Some x → (f : _) × ((k : ℕ) × (slice_get (e ∷ es) k ≡ Some f)) × (item f ≡ x)
+  at None is h = cc
+  at (Some f) is h = (f, (choice % length (e ∷ es), is), (let same : item f ≡ x = cc in same))
