@@ -15,6 +15,7 @@ pub mod LeafTold
 pub mod LeafCalls
 pub mod LeafGives
 pub mod Calls
+pub mod Parents
 pub mod TreeSeen
 pub mod FoundExists
 pub mod TreeKept
