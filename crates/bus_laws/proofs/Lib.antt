@@ -16,6 +16,8 @@ pub mod LeafCalls
 pub mod LeafGives
 pub mod Calls
 pub mod Parents
+pub mod TopParent
+pub mod BitsOf
 pub mod TreeSeen
 pub mod FoundExists
 pub mod TreeKept
