@@ -18,6 +18,7 @@ pub mod Calls
 pub mod Parents
 pub mod TopParent
 pub mod BitsOf
+pub mod RowFrame
 pub mod TreeSeen
 pub mod FoundExists
 pub mod TreeKept

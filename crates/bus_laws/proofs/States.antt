@@ -45,7 +45,7 @@ abbrev face : Note → List TxKind → Hold → Bool → List TxKind → Bool �
 face note q h a rq parked = record { hold = h; note = note; answering = a; queue = q; requests = rq; parked = parked }
 
 -- what each of the rules of granted requests and givers tells is true
-abbrev bits : Bool → Bool → Bool → Bool → Bool → Bool → Bool → Bits
+abbrev pub bits : Bool → Bool → Bool → Bool → Bool → Bool → Bool → Bits
 bits held sole exclusive one_gift no_gift readers eraser = record { held = held; sole = sole; exclusive = exclusive; one_gift = one_gift; no_gift = no_gift; givers = true; granted = true; readers = readers; eraser = eraser; reads = true; erases = true }
 
 module _ (f : ParentFace → Bits → Bool) where
