@@ -19,6 +19,7 @@ pub mod Parents
 pub mod TopParent
 pub mod BitsOf
 pub mod RowFrame
+pub mod Before
 pub mod TreeSeen
 pub mod FoundExists
 pub mod TreeKept
