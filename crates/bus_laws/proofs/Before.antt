@@ -15,12 +15,14 @@ use Rattle.tree_rules.specs.Bus.Faces.{ChildFace, ParentFace, parent_face, child
 use Rattle.tree_rules.specs.Bus.Own.{down_fits}
 use Rattle.tree_rules.specs.Bus.Item.{implies, holds_it, holds_exclusive, one_holds, gives_none, gives_one, one_gives, has_reply, giver_holds, granted_fits, reader_is_granted, reader_is_noted, eraser_is_noted, may_erase, eraser_is_granted, Bits, bits_of, reads_noted, erases_noted, granted_held, givers_held, ItemRules}
 use Rattle.tree_rules.specs.Bus.Rules.{IsBusOk, IsChildOk}
-use Rattle.tree_rules.proofs.Implying.{implies-use}
+use Rattle.tree_rules.proofs.Implying.{implies-use, implies-by}
 use Rattle.bus_laws.proofs.Lists.{pass-first}
 use Rattle.bus_laws.proofs.ItemLists.{queue-front}
-use Rattle.bus_laws.proofs.BitsOf.{any-none, any-some, all-at, each-at, one-at, passes-at}
+use Rattle.bus_laws.proofs.States.{bits}
+use Rattle.bus_laws.proofs.BitsOf.{any-none, any-false, all-at, all-true, each-at, each-true, one-none, gift-none}
+use Rattle.bus_laws.proofs.DirCalls.{face_lost}
 use Rattle.bus_laws.proofs.DirParts.{DirParts, dir-parts, lt-fact, child_seen, starts_with}
-use Rattle.bus_laws.proofs.RowFrame.{all-kids_at}
+use Rattle.bus_laws.proofs.RowFrame.{all-kids_at, fits, rules-after}
 
 -- ---- faces
 
@@ -135,3 +137,53 @@ module _ (n x : ℕ) (p : DirValue) (ns : List Node) (bus : IsBusOk n p ns) (e :
 
   pub entry-starts : (kind : TxKind) → e.kind ≡ kind → is_kind kind kind ≡ true → starts_with kind (queue_kinds e.item p.down) ≡ true
   entry-starts kind is self = ap (starts_with kind) (ap (queue_kinds e.item) front ∙ queue-front e rest) ∙ (ap (is_kind kind) is ∙ self)
+
+-- a child that is told to lose the item and gives nothing does nothing with it then
+lost-by : (h : Hold) (e : Bool) → (is_shared h ≡ false → e ≡ false) → face_lost (child_seen h false e 0 false) ≡ idle_of Hold.Invalid
+lost-by Hold.Invalid e free = ap (λ b. child_seen Hold.Invalid false b 0 false) (free refl)
+lost-by Hold.Shared e free = refl
+lost-by Hold.Exclusive e free = refl
+
+pub lost-idle : (c : ChildFace) → granted_fits c ≡ true → c.reads ≡ false → c.answers ≡ false → c.replies ≡ 0 → face_lost c ≡ idle_of Hold.Invalid
+lost-idle c fits reads answers replies =
+    let parts = and_parts (implies c.reads (not (holds_it c))) (implies c.erases (is_shared c.hold)) fits in
+    ap face_lost (seen-as c false c.erases 0 false reads refl replies answers) ∙ lost-by c.hold c.erases (λ other. no-erase c.erases refl parts.1 other) where
+      no-erase : (b : Bool) → c.erases ≡ b → implies c.erases (is_shared c.hold) ≡ true → is_shared c.hold ≡ false → c.erases ≡ false
+      no-erase true is fit other = let shared = implies-use c.erases (is_shared c.hold) fit is in cc
+      no-erase false is fit other = is
+
+-- ---- children of which none does anything with the item
+
+module _ (x : ℕ) (f : ParentFace) (ms : List Node) (all : (i : ℕ) → i < length ms → child_face x (child_at i ms) ≡ idle_of Hold.Invalid) (unnoted : (i : ℕ) → is_reader f.note i ≡ false) (no_eraser : is_up_erase f.note ≡ false) where
+  test-at : (t : ChildFace → Bool) (b : Bool) → t (idle_of Hold.Invalid) ≡ b → (i : ℕ) → i < length ms → t (child_face x (child_at i ms)) ≡ b
+  test-at t b e i l = ap t (all i l) ∙ e
+
+  nobody : list_any holds_it (faces_of x ms) ≡ false
+  nobody = any-false (child_face x) no_node holds_it ms (test-at holds_it false refl)
+
+  idle-fits : (note : Note) (i : ℕ) → fits note i (idle_of Hold.Invalid) ≡ true
+  unfolding implies
+  idle-fits note i = refl
+
+  no-reader : (i : ℕ) (c : ChildFace) → reader_is_granted f.note i c ≡ true
+  no-reader i c = implies-by (is_reader f.note i) c.reads (λ is. let no = unnoted i in cc)
+
+  eraser-none : (note : Note) → is_up_erase note ≡ false → eraser_is_granted note (faces_of x ms) ≡ true
+  eraser-none no_note e = refl
+  eraser-none (local first joined) e = refl
+  eraser-none (up_read first joined) e = refl
+  eraser-none (up_erase d) e = cc
+
+  sole-by : (b : Bool) → (if◌then◌else◌ b (not (list_any holds_it (faces_of x ms))) (one_holds (faces_of x ms))) ≡ b
+  sole-by true = ap not nobody
+  sole-by false = one-none (faces_of x ms) nobody
+
+  held-by : (b : Bool) → (b || list_any holds_it (faces_of x ms)) ≡ b
+  held-by true = refl
+  held-by false = nobody
+
+  -- the bits then: a parked copy is the only holder
+  pub idle-bits : bits_of f (faces_of x ms) ≡ bits f.parked f.parked false false true true true
+  idle-bits =
+      let none = all-true (child_face x) no_node gives_none ms (test-at gives_none true refl) in
+      rules-after x f ms (bits f.parked f.parked false false true true true) (λ i l. ap (fits f.note i) (all i l) ∙ idle-fits f.note i) (held-by f.parked) (sole-by f.parked) (any-false (child_face x) no_node holds_exclusive ms (test-at holds_exclusive false refl)) (gift-none (faces_of x ms) none) none (each-true (child_face x) no_node (reader_is_granted f.note) ms (λ i l. no-reader i (child_face x (child_at i ms)))) (eraser-none f.note no_eraser)

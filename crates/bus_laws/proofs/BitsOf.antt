@@ -166,3 +166,16 @@ module _ {X : Type 0} (φ : X → ChildFace) (d : X) where
       let rest = one-same xs ys (omega (arith, e)) (λ k l. h (suc k) (omega arith)) in
       let any = any-same holds_it xs ys (omega (arith, e)) (λ k l. h (suc k) (omega arith)) in
       rw (first, rest, any) refl
+
+-- no child holds it, so there isn't one that does alone; none gives, so there isn't one gift
+pub one-none : (cs : List ChildFace) → list_any holds_it cs ≡ false → one_holds cs ≡ false
+one-none [] none = refl
+one-none (c ∷ cs) none =
+    let parts = or_parts (holds_it c) (list_any holds_it cs) none in
+    rw parts.0 (one-none cs parts.1)
+
+pub gift-none : (cs : List ChildFace) → list_all gives_none cs ≡ true → one_gives cs ≡ false
+gift-none [] none = refl
+gift-none (c ∷ cs) none =
+    let parts = and_parts (gives_none c) (list_all gives_none cs) none in
+    rw parts.0 (gift-none cs parts.1)

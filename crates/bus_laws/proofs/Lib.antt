@@ -20,6 +20,8 @@ pub mod TopParent
 pub mod BitsOf
 pub mod RowFrame
 pub mod Before
+pub mod RowChecks
+pub mod DownErase
 pub mod TreeSeen
 pub mod FoundExists
 pub mod TreeKept

@@ -83,7 +83,7 @@ same-seen x p q f face replies seen =
 
 module _ (n x : ℕ) (above : Stamp) (p q : DirValue) (ns ms : List Node) (f : ParentFace) where
   -- what becomes of the top
-  abbrev TopAfter : Type 0
+  abbrev pub TopAfter : Type 0
   TopAfter = above ≡ stamp_zero → IsTopOk p → top_like (parent_face x p) (bits_of (parent_face x p) (faces_of x ns)) ≡ true → IsTopOk q × (top_holds f (bits_of f (faces_of x ms)) ≡ true)
 
   pub record RowFacts : Type 0 where
