@@ -21,7 +21,10 @@ pub mod BitsOf
 pub mod RowFrame
 pub mod Before
 pub mod RowChecks
+pub mod OneChild
+pub mod Shapes
 pub mod DownErase
+pub mod RequestErase
 pub mod TreeSeen
 pub mod FoundExists
 pub mod TreeKept
