@@ -6,7 +6,8 @@ use Rattle.std.specs.Cmp.Derive.{both_true}
 use Rattle.std.proofs.lemmas.Bool.{and_parts, or_parts, not-true}
 use Rattle.tree_model.specs.State.Lists.{all_from}
 use Rattle.tree_rules.specs.Bus.Faces.{ChildFace}
-use Rattle.tree_rules.specs.Bus.Item.{holds_it, one_holds, gives_none, gives_one, one_gives, child_passes}
+use Rattle.tree_model.specs.State.Values.{Note, no_note, local, up_read, up_erase}
+use Rattle.tree_rules.specs.Bus.Item.{holds_it, one_holds, gives_none, gives_one, one_gives, may_erase, eraser_is_granted, child_passes}
 
 module _ {X : Type 0} (φ : X → ChildFace) (d : X) where
   abbrev at : ℕ → List X → ChildFace
@@ -179,3 +180,31 @@ gift-none [] none = refl
 gift-none (c ∷ cs) none =
     let parts = and_parts (gives_none c) (list_all gives_none cs) none in
     rw parts.0 (gift-none cs parts.1)
+
+module _ {X : Type 0} (φ : X → ChildFace) (d : X) where
+  pub from-same : (t : ℕ → ChildFace → Bool) (i : ℕ) (xs ys : List X) → length ys ≡ length xs → ((k j : ℕ) → k < length xs → t j (φ (slice_index_or ys k d)) ≡ t j (φ (slice_index_or xs k d))) → all_from t i (map φ ys) ≡ all_from t i (map φ xs)
+  from-same t i [] [] e h = refl
+  from-same t i [] (y ∷ ys) e h = absurd (omega (arith, e))
+  from-same t i (x ∷ xs) [] e h = absurd (omega (arith, e))
+  from-same t i (x ∷ xs) (y ∷ ys) e h =
+      let first : t i (φ y) ≡ t i (φ x) = h 0 i (omega arith) in
+      let rest = from-same t (i + 1) xs ys (omega (arith, e)) (λ k j l. h (suc k) j (omega arith)) in
+      rw (first, rest) refl
+
+  pub passes-same : (t : ChildFace → Bool) (c : ℕ) (xs ys : List X) → length ys ≡ length xs → ((k : ℕ) → k < length xs → t (φ (slice_index_or ys k d)) ≡ t (φ (slice_index_or xs k d))) → child_passes t c (map φ ys) ≡ child_passes t c (map φ xs)
+  passes-same t c [] [] e h = refl
+  passes-same t c [] (y ∷ ys) e h = absurd (omega (arith, e))
+  passes-same t c (x ∷ xs) [] e h = absurd (omega (arith, e))
+  passes-same t zero (x ∷ xs) (y ∷ ys) e h = h 0 (omega arith)
+  passes-same t (suc c) (x ∷ xs) (y ∷ ys) e h = passes-same t c xs ys (omega (arith, e)) (λ k l. h (suc k) (omega arith))
+
+  pub eraser-same : (note : Note) (xs ys : List X) → length ys ≡ length xs → ((k : ℕ) → k < length xs → may_erase (φ (slice_index_or ys k d)) ≡ may_erase (φ (slice_index_or xs k d))) → eraser_is_granted note (map φ ys) ≡ eraser_is_granted note (map φ xs)
+  eraser-same no_note xs ys e h = refl
+  eraser-same (local first joined) xs ys e h = refl
+  eraser-same (up_read first joined) xs ys e h = refl
+  eraser-same (up_erase c) xs ys e h = passes-same may_erase c xs ys e h
+
+  -- what is held and granted stays, so those bits do
+  pub sole-same : (parked : Bool) (xs ys : List X) → length ys ≡ length xs → ((k : ℕ) → k < length xs → holds_it (φ (slice_index_or ys k d)) ≡ holds_it (φ (slice_index_or xs k d))) → (if◌then◌else◌ parked (not (list_any holds_it (map φ ys))) (one_holds (map φ ys))) ≡ (if◌then◌else◌ parked (not (list_any holds_it (map φ xs))) (one_holds (map φ xs)))
+  sole-same true xs ys e h = ap not (any-same φ d holds_it xs ys e h)
+  sole-same false xs ys e h = one-same φ d xs ys e h

@@ -25,6 +25,7 @@ pub mod OneChild
 pub mod Shapes
 pub mod DownErase
 pub mod RequestErase
+pub mod Reply
 pub mod TreeSeen
 pub mod FoundExists
 pub mod TreeKept

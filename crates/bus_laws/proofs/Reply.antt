@@ -1,0 +1,249 @@
+-- A reply is granted: every reader is told data, or it goes up from a parent that is answering.
+use Rattle.std.proofs.Common.{◌≡◌, ◌≢◌, ℕ, zero, suc, ◌+◌, ◌-◌, ◌<◌, ◌≤◌, Bool, true, false, List, [], ◌∷◌, length, Some, None, refl, sym, ap, subst, ◌∙◌, arith, length-append}
+use Rattle.std.specs.Prelude.{not, ◌&&◌, ◌||◌, nat_eq, if◌then◌else◌}
+use Rattle.std.specs.List.{AllByRecursion}
+use native.Mathlib.Decide.{ℕ_discrete}
+use Rattle.std.specs.Cmp.Derive.{both_true}
+use Rattle.std.proofs.lemmas.Bool.{and_parts, eqb-true, eq-eqb, ne_eqb, not-true}
+use Rattle.ddm_types.specs.declared.answers.TxKind.TheVariants.{ReadTx, DataTx}
+use Rattle.ddm_types.specs.declared.answers.TurnAnswer.{TurnAnswer}
+use Rattle.ddm_types.specs.declared.sizes.Hold.{Hold}
+use Rattle.ddm_types.specs.declared.keys.Stamp.{Stamp}
+use Rattle.tree_model.specs.State.Lists.{map_from, first_given, has_some}
+use Rattle.tree_model.specs.State.States.{is_held, is_exclusive, is_shared}
+use Rattle.tree_model.specs.State.Values.{Note, no_note, local, up_read, up_erase, DirValue, Node}
+use Rattle.tree_model.specs.State.Leaf.{words_of_item}
+use Rattle.tree_model.specs.State.Directory.{dir_hold, dir_note, is_answering, is_reader, is_eraser, is_local, stamp_of, with_note, with_hold, with_answering, pushed_reply, counted, replies_full}
+use Rattle.tree_model.specs.State.Child.{child_reply, child_reply_taken, child_take_data, child_full_for}
+use Rattle.tree_model.specs.State.Blank.{no_node}
+use Rattle.tree_model.specs.Turns.Children.{child_at, only, reader_full, reader_takes, replied_by}
+use Rattle.tree_model.specs.Turns.Grant.{own_replies_full}
+use Rattle.tree_model.proofs.Children.{map_from-length, child_at-map_from, none-given}
+use Rattle.tree_model.proofs.Tests.{some_if-none}
+use Rattle.tree_rules.specs.Bus.Faces.{ChildFace, ParentFace, parent_face, face_reads, face_erases, child_face, faces_of}
+use Rattle.tree_rules.specs.Bus.Item.{implies, holds_it, gives_none, gives_one, has_reply, giver_holds, granted_fits, reader_is_granted, reader_is_noted, eraser_is_noted, may_erase, Bits, bits_of, item_holds, kept_place}
+use Rattle.tree_rules.specs.Bus.Rules.{IsBusOk, IsChildOk}
+use Rattle.tree_rules.proofs.Implying.{implies-use, implies-false, implies-by}
+use Rattle.bus_laws.specs.KeepsBus.{KeepsBus, having_answered, dir_face}
+use Rattle.bus_laws.proofs.Every.{every_bool, every_bool-at}
+use Rattle.bus_laws.proofs.States.{bits, each_state, state-at}
+use Rattle.bus_laws.proofs.BitsOf.{any-same, sole-same, from-same, eraser-same, all-true, gift-none, gift-at, gift-others}
+use Rattle.bus_laws.proofs.ItemLists.{nat_eq-same}
+use Rattle.bus_laws.proofs.DirParts.{dir-parts, child_seen, is_seen, seen-is}
+use Rattle.bus_laws.proofs.Calls.{child-take_data, IsReplied, child-reply-taken}
+use Rattle.bus_laws.proofs.Parents.{IsModified, as-it-was, takes_count, noted, held, answers, pushes_reply}
+use Rattle.bus_laws.proofs.TopParent.{top-counted, top-noted}
+use Rattle.bus_laws.proofs.Before.{idle_of, gives-nothing, seen-as, shared-is, kid-ok, granted-at, giver-at, not-reads, not-erases, reader-at, reads-absent, none-exclusive, gives-at}
+use Rattle.bus_laws.proofs.OneChild.{replies-there, somebody, not-parked, shared-all, one_after, one-told, one-many, one-here, one-other}
+use Rattle.bus_laws.proofs.RowFrame.{all-kids_at, fits, rules-after, RowFacts, row-keeps}
+use Rattle.bus_laws.proofs.RowChecks.{done_top, never_top, RowFound, keeps-top, rules-by, never-top}
+use Rattle.bus_laws.proofs.Shapes.{quiet-bits}
+use Rattle.bus_laws.proofs.Told.{IsTold}
+
+-- ---- what is computed
+
+-- quiet children of which some hold it
+abbrev quiet : Bool → Bits
+quiet sole = bits true sole false false true true true
+
+abbrev served : ParentFace → ParentFace
+served p = record p { note = no_note }
+
+abbrev may_serve : ParentFace → Bits → Bool
+may_serve p k = implies (is_local p.note && (not k.exclusive && not p.parked)) (k.one_gift && (k.readers && every_bool (λ sole. done_top p (served p) k (quiet sole))))
+
+each-may_serve : (note : Note) → each_state may_serve note ≡ true
+unfolding implies
+each-may_serve no_note = refl
+each-may_serve (local first joined) = refl
+each-may_serve (up_read first joined) = refl
+each-may_serve (up_erase d) = refl
+
+abbrev answered : ParentFace → ParentFace
+answered p = record p { hold = Hold.Shared; answering = false }
+
+abbrev ungiving : Bits → Bits
+ungiving k = bits k.held k.sole k.exclusive false true k.readers k.eraser
+
+abbrev may_pass_up : ParentFace → Bits → Bool
+may_pass_up p k =
+    implies (p.answering && (not (is_local p.note) && (not k.no_gift && not k.exclusive)))
+    (k.one_gift && (is_held p.hold && (nat_eq (kept_place (answered p)) (kept_place p) && (never_top p k && (item_holds (answered p) (ungiving k) && is_seen (answered p) Hold.Shared (face_reads p) (face_erases p) false)))))
+
+each-may_pass_up : (note : Note) → each_state may_pass_up note ≡ true
+unfolding implies
+each-may_pass_up no_note = refl
+each-may_pass_up (local first joined) = refl
+each-may_pass_up (up_read first joined) = refl
+each-may_pass_up (up_erase d) = refl
+
+-- ---- the child that replies
+
+module _ (n c x : ℕ) (words : List ℕ) (above : Stamp) (p : DirValue) (ns : List Node) (bus : IsBusOk n p ns) (kids : AllByRecursion (IsChildOk n) ns) (has : child_reply (child_at c ns) ≡ Some (record { item = x; words = words })) where
+  there : c < length ns
+  there = replies-there c ns _ has
+
+  replied : IsReplied n x (child_at c ns)
+  replied = child-reply-taken n x words (child_at c ns) (all-kids_at (IsChildOk n) no_node ns c kids there) has
+
+  within : x < n
+  within = replied.known
+
+  abbrev before : ParentFace
+  before = parent_face x p
+
+  abbrev k : Bits
+  k = bits_of before (faces_of x ns)
+
+  abbrev giver : ChildFace
+  giver = child_face x (child_at c ns)
+
+  reply-there : (r : ℕ) → 1 ≤ r → nat_eq r 0 ≡ false
+  reply-there r l = ne_eqb r 0 (λ e. omega (arith, e))
+
+  and-false-right : (b : Bool) → (b && false) ≡ false
+  and-false-right true = refl
+  and-false-right false = refl
+
+  gives : gives_none giver ≡ false
+  gives = ap (λ b. not giver.answers && b) (reply-there giver.replies replied.some) ∙ and-false-right (not giver.answers)
+
+  shared : giver.hold ≡ Hold.Shared
+  shared =
+      let parts = and_parts (implies giver.answers (holds_it giver)) (implies (has_reply giver) (is_shared giver.hold)) (giver-at n x p ns bus kids within c there) in
+      shared-is giver.hold (implies-use (has_reply giver) (is_shared giver.hold) parts.1 (ap not (reply-there giver.replies replied.some)))
+
+  holds : is_held giver.hold ≡ true
+  holds = ap is_held shared
+
+  no_exclusive : k.exclusive ≡ false
+  no_exclusive = shared-all n x p ns bus kids within c there holds (ap is_exclusive shared)
+
+  gives-some : k.no_gift ≡ false
+  gives-some = at k.no_gift refl where
+    at : (b : Bool) → k.no_gift ≡ b → b ≡ false
+    at true none = let g = gives-at n x p ns bus kids within none c there in let some = replied.some in absurd (omega (arith, g.1, some))
+    at false none = refl
+
+  module _ (one : k.one_gift ≡ true) where
+    once-by : (a : Bool) (r : ℕ) → 1 ≤ r → (if◌then◌else◌ a (nat_eq r 0) (nat_eq r 1)) ≡ true → (a ≡ false) × (r ≡ 1)
+    once-by true r l e = let no = reply-there r l in cc
+    once-by false r l e = (refl, eqb-true r 1 e)
+
+    once : (giver.answers ≡ false) × (giver.replies ≡ 1)
+    once = once-by giver.answers giver.replies replied.some (gift-at (child_face x) no_node ns c one there gives)
+
+    others-give : (i : ℕ) → i < length ns → i ≢ c → ((child_face x (child_at i ns)).answers ≡ false) × ((child_face x (child_at i ns)).replies ≡ 0)
+    others-give i l ne = gives-nothing (child_face x (child_at i ns)) (gift-others (child_face x) no_node ns c i one there gives l ne)
+
+  -- ---- for the readers
+
+  module _ (first joined : ℕ) (note : dir_note x p ≡ local first joined) (room : first_given (reader_full (local first joined) x) 0 ns ≡ None) (answer : TurnAnswer) where
+    abbrev l : Note
+    l = local first joined
+
+    abbrev s : Stamp
+    s = stamp_of (counted p)
+
+    abbrev f : ℕ → Node → Node
+    f = replied_by c l x words s
+
+    abbrev ms : List Node
+    ms = map_from f 0 ns
+
+    checked : (k.one_gift && (k.readers && every_bool (λ sole. done_top before (served before) k (quiet sole)))) ≡ true
+    checked = implies-use (is_local before.note && (not k.exclusive && not before.parked)) _ (state-at may_serve each-may_serve before (faces_of x ns) (bus.rules x within)) (both_true (ap is_local note) (both_true (ap not no_exclusive) (ap not (not-parked n x p ns bus kids within c there holds))))
+
+    one : k.one_gift ≡ true
+    one = (and_parts k.one_gift _ checked).0
+
+    readers : k.readers ≡ true
+    readers = (and_parts k.readers _ (and_parts k.one_gift _ checked).1).0
+
+    is-reader : (i : ℕ) → is_reader l i ≡ is_reader before.note i
+    is-reader i = ap (λ m. is_reader m i) (sym note)
+
+    is-eraser : (i : ℕ) → is_eraser before.note i ≡ false
+    is-eraser i = ap (λ m. is_eraser m i) note
+
+    abbrev hold_after : ℕ → Hold
+    hold_after i = if is_reader l i then Hold.Shared else (child_face x (child_at i ns)).hold
+
+    -- the one that replies reads nothing
+    giver-not_reader : is_reader l c ≡ false
+    giver-not_reader = at (is_reader l c) refl where
+      at : (b : Bool) → is_reader l c ≡ b → b ≡ false
+      at true is =
+          let reads = reader-at n x p ns bus kids within readers c there (sym (is-reader c) ∙ is) in
+          let absent = reads-absent n x p ns bus kids within c there reads in
+          let no : Hold.Invalid ≡ Hold.Shared = sym absent ∙ shared in
+          cc
+      at false is = refl
+
+    giver-told : IsTold n x (child_at c ns) (child_reply_taken (child_at c ns)) (idle_of Hold.Shared)
+    giver-told =
+        let o = once one in
+        let reads = not-reads n x p ns bus kids within c there (sym (is-reader c) ∙ giver-not_reader) in
+        let erases = not-erases n x p ns bus kids within c there (is-eraser c) in
+        let fewer : giver.replies - 1 ≡ 0 = omega (arith, o.1) in
+        let same : (let g : ChildFace = record giver { replies = giver.replies - 1 } in g) ≡ idle_of Hold.Shared = rw (shared, reads, erases, o.0, fewer) refl in
+        subst (λ g. IsTold n x (child_at c ns) (child_reply_taken (child_at c ns)) g) same replied.told
+
+    told-at : (i : ℕ) → i < length ns → Dec (i ≡ c) → (b : Bool) → is_reader l i ≡ b → IsTold n x (child_at i ns) (f i (child_at i ns)) (idle_of (hold_after i))
+    told-at i li (yes same) true is = let no : is_reader l i ≡ false = subst (λ j. is_reader l j ≡ false) (sym same) giver-not_reader in cc
+    told-at i li (yes same) false is =
+        let here : nat_eq i c ≡ true = eq-eqb i c same in
+        rw (is, here) (subst (λ j. IsTold n x (child_at j ns) (child_reply_taken (child_at j ns)) (idle_of (child_face x (child_at j ns)).hold)) (sym same) (subst (λ h. IsTold n x (child_at c ns) (child_reply_taken (child_at c ns)) (idle_of h)) (sym shared) giver-told))
+    told-at i li (no other) true is =
+        let away : nat_eq i c ≡ false = ne_eqb i c other in
+        let o = others-give one i li other in
+        let reads = reader-at n x p ns bus kids within readers i li (sym (is-reader i) ∙ is) in
+        let full : child_full_for DataTx x (child_at i ns) ≡ None = rw is at (none-given (reader_full l x) i ns no_node room li) in
+        let t = child-take_data n x within words s (child_at i ns) (kid-ok n x p ns bus kids within i li) reads full in
+        let same : child_seen Hold.Shared false false (child_face x (child_at i ns)).replies (child_face x (child_at i ns)).answers ≡ idle_of Hold.Shared = rw (o.0, o.1) refl in
+        rw (is, away) (subst (λ g. IsTold n x (child_at i ns) (child_take_data x words s (child_at i ns)) g) same t)
+    told-at i li (no other) false is =
+        let away : nat_eq i c ≡ false = ne_eqb i c other in
+        let o = others-give one i li other in
+        let reads = not-reads n x p ns bus kids within i li (sym (is-reader i) ∙ is) in
+        let erases = not-erases n x p ns bus kids within i li (is-eraser i) in
+        let same : child_face x (child_at i ns) ≡ idle_of (child_face x (child_at i ns)).hold = seen-as (child_face x (child_at i ns)) false false 0 false reads erases o.1 o.0 in
+        rw (is, away) (record { ok = kid-ok n x p ns bus kids within i li; here = same; others = λ y ne. refl })
+
+    told : (i : ℕ) → i < length ns → IsTold n x (child_at i ns) (child_at i ms) (idle_of (hold_after i))
+    told i li = subst (λ m. IsTold n x (child_at i ns) m (idle_of (hold_after i))) (sym (child_at-map_from f i ns li)) (told-at i li (ℕ_discrete i c) (is_reader l i) refl)
+
+    as_many : length ms ≡ length ns
+    as_many = map_from-length f 0 ns
+
+    shared-after : (i : ℕ) → i < length ms → is_exclusive (hold_after i) ≡ false
+    shared-after i li = at (is_reader l i) where
+      at : (b : Bool) → is_exclusive (if◌then◌else◌ b Hold.Shared (child_face x (child_at i ns)).hold) ≡ false
+      at true = refl
+      at false = none-exclusive n x p ns bus kids within no_exclusive i (omega (arith, li, as_many))
+
+    held-after : is_held (hold_after c) ≡ true
+    held-after = ap (λ b. is_held (if◌then◌else◌ b Hold.Shared giver.hold)) giver-not_reader ∙ holds
+
+    bits-after : bits_of (served before) (faces_of x ms) ≡ quiet (bits_of (served before) (faces_of x ms)).sole
+    bits-after = quiet-bits x (served before) ms hold_after (λ i li. (told i (omega (arith, li, as_many))).here) shared-after refl c (omega (arith, there, as_many)) held-after
+
+    pub reply_to_readers-keeps : KeepsBus n above p ns (record { answer = answer; parent = with_note x no_note (counted p); kids = ms })
+    reply_to_readers-keeps =
+        let sole = (bits_of (served before) (faces_of x ms)).sole in
+        let more = and_parts k.readers _ (and_parts k.one_gift _ checked).1 in
+        keeps-top n x above p (with_note x no_note (counted p)) ns ms (served before) (quiet sole)
+        (record {
+          bus = bus;
+          known = within;
+          as_many = as_many;
+          after = λ i. idle_of (hold_after i);
+          told = told;
+          parent = noted n (length ns) x within p _ _ (takes_count n (length ns) x within p p before (as-it-was n (length ns) x within p (dir-parts n (length ns) p bus.own))) no_note refl;
+          bits = bits-after;
+          reserved = refl;
+          replies = refl;
+        })
+        (every_bool-at (λ sole. done_top before (served before) k (quiet sole)) more.1 sole)
+        (λ zero top exclusive quiet. top-noted (counted p) (top-counted p top) x no_note exclusive quiet)
+        answer
