@@ -20,20 +20,20 @@ use Rattle.tree_model.specs.Turns.Children.{child_at, only, reader_full, reader_
 use Rattle.tree_model.specs.Turns.Grant.{own_replies_full}
 use Rattle.tree_model.proofs.Children.{map_from-length, child_at-map_from, none-given}
 use Rattle.tree_model.proofs.Tests.{some_if-none}
-use Rattle.tree_rules.specs.Bus.Faces.{ChildFace, ParentFace, parent_face, face_reads, face_erases, child_face, faces_of}
-use Rattle.tree_rules.specs.Bus.Item.{implies, holds_it, gives_none, gives_one, has_reply, giver_holds, granted_fits, reader_is_granted, reader_is_noted, eraser_is_noted, may_erase, Bits, bits_of, item_holds, kept_place}
+use Rattle.tree_rules.specs.Bus.Faces.{ChildFace, ParentFace, parent_face, face_reads, face_erases, face_above, child_face, faces_of}
+use Rattle.tree_rules.specs.Bus.Item.{implies, holds_it, holds_exclusive, gives_none, gives_one, has_reply, giver_holds, granted_fits, reader_is_granted, reader_is_noted, eraser_is_noted, may_erase, Bits, bits_of, item_holds, kept_place}
 use Rattle.tree_rules.specs.Bus.Rules.{IsBusOk, IsChildOk}
 use Rattle.tree_rules.proofs.Implying.{implies-use, implies-false, implies-by}
 use Rattle.bus_laws.specs.KeepsBus.{KeepsBus, having_answered, dir_face}
 use Rattle.bus_laws.proofs.Every.{every_bool, every_bool-at}
 use Rattle.bus_laws.proofs.States.{bits, each_state, state-at}
 use Rattle.bus_laws.proofs.BitsOf.{any-same, sole-same, from-same, eraser-same, all-true, gift-none, gift-at, gift-others}
-use Rattle.bus_laws.proofs.ItemLists.{nat_eq-same}
+use Rattle.bus_laws.proofs.ItemLists.{words-pushed}
 use Rattle.bus_laws.proofs.DirParts.{dir-parts, child_seen, is_seen, seen-is}
 use Rattle.bus_laws.proofs.Calls.{child-take_data, IsReplied, child-reply-taken}
 use Rattle.bus_laws.proofs.Parents.{IsModified, as-it-was, takes_count, noted, held, answers, pushes_reply}
 use Rattle.bus_laws.proofs.TopParent.{top-counted, top-noted}
-use Rattle.bus_laws.proofs.Before.{idle_of, gives-nothing, seen-as, shared-is, kid-ok, granted-at, giver-at, not-reads, not-erases, reader-at, reads-absent, none-exclusive, gives-at}
+use Rattle.bus_laws.proofs.Before.{idle_of, gives-nothing, seen-as, shared-is, kid-ok, granted-at, giver-at, not-reads, not-erases, reader-at, reads-absent, none-exclusive, gives-at, reads-at, erases-at}
 use Rattle.bus_laws.proofs.OneChild.{replies-there, somebody, not-parked, shared-all, one_after, one-told, one-many, one-here, one-other}
 use Rattle.bus_laws.proofs.RowFrame.{all-kids_at, fits, rules-after, RowFacts, row-keeps}
 use Rattle.bus_laws.proofs.RowChecks.{done_top, never_top, RowFound, keeps-top, rules-by, never-top}
@@ -247,3 +247,113 @@ module _ (n c x : ℕ) (words : List ℕ) (above : Stamp) (p : DirValue) (ns : L
         (every_bool-at (λ sole. done_top before (served before) k (quiet sole)) more.1 sole)
         (λ zero top exclusive quiet. top-noted (counted p) (top-counted p top) x no_note exclusive quiet)
         answer
+
+  -- ---- for the parent, which was answering
+
+  module _ (other : is_local (dir_note x p) ≡ false) (asked : is_answering x p ≡ true) (room : own_replies_full p ≡ None) (answer : TurnAnswer) where
+    abbrev q : DirValue
+    q = pushed_reply x words (with_answering x false (with_hold x Hold.Shared (counted p)))
+
+    abbrev qs : List Node
+    qs = map_from (only c child_reply_taken) 0 ns
+
+    abbrev said : ChildFace
+    said = record giver { replies = giver.replies - 1 }
+
+    record Known : Type 0 where
+      one_gives : k.one_gift ≡ true
+      parent_holds : is_held before.hold ≡ true
+      kept : kept_place (answered before) ≡ kept_place before
+      never : never_top before k ≡ true
+      after_rules : item_holds (answered before) (ungiving k) ≡ true
+      same : is_seen (answered before) Hold.Shared (face_reads before) (face_erases before) false ≡ true
+
+    known : Known
+    known =
+        let h = implies-use (before.answering && (not (is_local before.note) && (not k.no_gift && not k.exclusive))) _ (state-at may_pass_up each-may_pass_up before (faces_of x ns) (bus.rules x within)) (both_true asked (both_true (ap not other) (both_true (ap not gives-some) (ap not no_exclusive)))) in
+        let a = and_parts k.one_gift _ h in
+        let b = and_parts (is_held before.hold) _ a.1 in
+        let d = and_parts (nat_eq (kept_place (answered before)) (kept_place before)) _ b.1 in
+        let e = and_parts (never_top before k) _ d.1 in
+        let f = and_parts (item_holds (answered before) (ungiving k)) _ e.1 in
+        record { one_gives = a.0; parent_holds = b.0; kept = eqb-true _ _ d.0; never = e.0; after_rules = f.0; same = f.1 }
+
+    tells : (i : ℕ) → i < length ns → IsTold n x (child_at i ns) (child_at i qs) (one_after n x p ns bus kids within c child_reply_taken said replied.told i)
+    tells = one-told n x p ns bus kids within c child_reply_taken said replied.told
+
+    many : length qs ≡ length ns
+    many = one-many n x p ns bus kids within c child_reply_taken said replied.told
+
+    -- only how much it gives differs
+    face-at : (i : ℕ) → i < length ns → Dec (i ≡ c) → (child_face x (child_at i qs) ≡ record (child_face x (child_at i ns)) { replies = 0; answers = false })
+    face-at i l (yes same) = subst (λ j. child_face x (child_at j qs) ≡ record (child_face x (child_at j ns)) { replies = 0; answers = false }) (sym same) (one-here n x p ns bus kids within c child_reply_taken said replied.told there ∙ said-is) where
+      said-is : said ≡ record giver { replies = 0; answers = false }
+      said-is =
+          let o = once known.one_gives in
+          let fewer : giver.replies - 1 ≡ 0 = omega (arith, o.1) in
+          rw (fewer, o.0) refl
+    face-at i l (no ne) =
+        let o = others-give known.one_gives i l ne in
+        one-other n x p ns bus kids within c child_reply_taken said replied.told i l ne ∙ other-is (child_face x (child_at i ns)) o.0 o.1 where
+          other-is : (g : ChildFace) → g.answers ≡ false → g.replies ≡ 0 → g ≡ record g { replies = 0; answers = false }
+          other-is g a r = seen-as g g.reads g.erases 0 false refl refl r a
+
+    face-after : (i : ℕ) → i < length ns → child_face x (child_at i qs) ≡ record (child_face x (child_at i ns)) { replies = 0; answers = false }
+    face-after i l = face-at i l (ℕ_discrete i c)
+
+    none-after : (i : ℕ) → i < length qs → gives_none (child_face x (child_at i qs)) ≡ true
+    none-after i l = ap gives_none (face-after i (omega (arith, l, many)))
+
+    ungiving-fits : (note : Note) (i : ℕ) (g : ChildFace) → granted_fits g ≡ true → reader_is_noted note i g ≡ true → eraser_is_noted note i g ≡ true → fits note i (record g { replies = 0; answers = false }) ≡ true
+    unfolding implies
+    ungiving-fits note i g granted reads erases = both_true granted (both_true refl (both_true reads erases))
+
+    after-bits : bits_of (answered before) (faces_of x qs) ≡ ungiving k
+    after-bits =
+        let gives = all-true (child_face x) no_node gives_none qs none-after in
+        rules-after x (answered before) qs (ungiving k)
+        (λ i l.
+        let li : i < length ns = omega (arith, l, many) in
+        ap (fits before.note i) (face-after i li) ∙ ungiving-fits before.note i (child_face x (child_at i ns)) (granted-at n x p ns bus kids within i li) (reads-at n x p ns bus kids within i li) (erases-at n x p ns bus kids within i li))
+        (ap (λ b. before.parked || b) (any-same (child_face x) no_node holds_it ns qs many (λ i l. ap holds_it (face-after i l))))
+        (sole-same (child_face x) no_node before.parked ns qs many (λ i l. ap holds_it (face-after i l)))
+        (any-same (child_face x) no_node holds_exclusive ns qs many (λ i l. ap holds_exclusive (face-after i l)))
+        (gift-none (faces_of x qs) gives) gives
+        (from-same (child_face x) no_node (reader_is_granted before.note) 0 ns qs many (λ i j l. ap (reader_is_granted before.note j) (face-after i l)))
+        (eraser-same (child_face x) no_node before.note ns qs many (λ i l. ap may_erase (face-after i l)))
+
+    modified : IsModified n (length ns) x p q (answered before)
+    modified =
+        let m1 = takes_count n (length ns) x within p p before (as-it-was n (length ns) x within p (dir-parts n (length ns) p bus.own)) in
+        let m2 = held n (length ns) x within p _ _ m1 Hold.Shared in
+        let m3 = answers n (length ns) x within p _ _ m2 false in
+        pushes_reply n (length ns) x within p _ _ m3 words (some_if-none (replies_full p) _ room)
+
+    one-more : length (words_of_item x q.replies) ≡ length (words_of_item x p.replies) + 1
+    one-more = omega (arith, ap length (words-pushed x p.replies (record { item = x; words = words }) refl), length-append (words_of_item x p.replies) (words ∷ []))
+
+    seen-after : dir_face x q ≡ child_seen Hold.Shared (face_reads before) (face_erases before) (length (words_of_item x q.replies)) false
+    seen-after = ap (λ g. face_above g (length (words_of_item x q.replies))) modified.face ∙ seen-is (answered before) Hold.Shared (face_reads before) (face_erases before) false (length (words_of_item x q.replies)) known.same
+
+    pub reply_to_parent-keeps : KeepsBus n above p ns (record { answer = answer; parent = q; kids = qs })
+    reply_to_parent-keeps =
+        row-keeps n x above p q ns qs (answered before) answer bus
+        (record {
+          known = within;
+          as_many = many;
+          after = one_after n x p ns bus kids within c child_reply_taken said replied.told;
+          told = tells;
+          parent = modified;
+          rules = rules-by (answered before) x qs (ungiving k) after-bits known.after_rules;
+          reserved = ap (λ k. p.reserved + k) (sym known.kept);
+          seen = having_answered (record {
+            was_answering = asked;
+            held = known.parent_holds;
+            answers_no_more = ap (λ (g : ChildFace). g.answers) seen-after;
+            replies = ap (λ (g : ChildFace). g.replies) seen-after ∙ one-more;
+            holds_shared = ap (λ (g : ChildFace). g.hold) seen-after;
+            reads = ap (λ (g : ChildFace). g.reads) seen-after;
+            erases = ap (λ (g : ChildFace). g.erases) seen-after;
+          });
+          top = never-top n x above p q ns qs (answered before) known.never;
+        })
