@@ -26,6 +26,7 @@ pub mod Shapes
 pub mod DownErase
 pub mod RequestErase
 pub mod Reply
+pub mod Answering
 pub mod TreeSeen
 pub mod FoundExists
 pub mod TreeKept
