@@ -27,6 +27,7 @@ pub mod DownErase
 pub mod RequestErase
 pub mod Reply
 pub mod Answering
+pub mod RequestRead
 pub mod TreeSeen
 pub mod FoundExists
 pub mod TreeKept
