@@ -208,3 +208,23 @@ module _ {X : Type 0} (φ : X → ChildFace) (d : X) where
   pub sole-same : (parked : Bool) (xs ys : List X) → length ys ≡ length xs → ((k : ℕ) → k < length xs → holds_it (φ (slice_index_or ys k d)) ≡ holds_it (φ (slice_index_or xs k d))) → (if◌then◌else◌ parked (not (list_any holds_it (map φ ys))) (one_holds (map φ ys))) ≡ (if◌then◌else◌ parked (not (list_any holds_it (map φ xs))) (one_holds (map φ xs)))
   sole-same true xs ys e h = ap not (any-same φ d holds_it xs ys e h)
   sole-same false xs ys e h = one-same φ d xs ys e h
+
+pub all-same : {X : Type 0} (φ : X → ChildFace) (d : X) (t : ChildFace → Bool) (xs ys : List X) → length ys ≡ length xs → ((k : ℕ) → k < length xs → t (φ (slice_index_or ys k d)) ≡ t (φ (slice_index_or xs k d))) → list_all t (map φ ys) ≡ list_all t (map φ xs)
+all-same φ d t [] [] e h = refl
+all-same φ d t [] (y ∷ ys) e h = absurd (omega (arith, e))
+all-same φ d t (x ∷ xs) [] e h = absurd (omega (arith, e))
+all-same φ d t (x ∷ xs) (y ∷ ys) e h =
+    let first : t (φ y) ≡ t (φ x) = h 0 (omega arith) in
+    let rest = all-same φ d t xs ys (omega (arith, e)) (λ k l. h (suc k) (omega arith)) in
+    rw (first, rest) refl
+
+pub gift-same : {X : Type 0} (φ : X → ChildFace) (d : X) (xs ys : List X) → length ys ≡ length xs → ((k : ℕ) → k < length xs → gives_none (φ (slice_index_or ys k d)) ≡ gives_none (φ (slice_index_or xs k d))) → ((k : ℕ) → k < length xs → gives_one (φ (slice_index_or ys k d)) ≡ gives_one (φ (slice_index_or xs k d))) → one_gives (map φ ys) ≡ one_gives (map φ xs)
+gift-same φ d [] [] e g h = refl
+gift-same φ d [] (y ∷ ys) e g h = absurd (omega (arith, e))
+gift-same φ d (x ∷ xs) [] e g h = absurd (omega (arith, e))
+gift-same φ d (x ∷ xs) (y ∷ ys) e g h =
+    let none : gives_none (φ y) ≡ gives_none (φ x) = g 0 (omega arith) in
+    let one : gives_one (φ y) ≡ gives_one (φ x) = h 0 (omega arith) in
+    let rest = gift-same φ d xs ys (omega (arith, e)) (λ k l. g (suc k) (omega arith)) (λ k l. h (suc k) (omega arith)) in
+    let all = all-same φ d gives_none xs ys (omega (arith, e)) (λ k l. g (suc k) (omega arith)) in
+    rw (none, one, rest, all) refl

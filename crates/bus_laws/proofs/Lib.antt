@@ -28,6 +28,7 @@ pub mod RequestErase
 pub mod Reply
 pub mod Answering
 pub mod RequestRead
+pub mod Joins
 pub mod TreeSeen
 pub mod FoundExists
 pub mod TreeKept
