@@ -29,6 +29,7 @@ pub mod Reply
 pub mod Answering
 pub mod RequestRead
 pub mod Joins
+pub mod DownExclusive
 pub mod TreeSeen
 pub mod FoundExists
 pub mod TreeKept
