@@ -30,6 +30,7 @@ pub mod Answering
 pub mod RequestRead
 pub mod Joins
 pub mod DownExclusive
+pub mod DownData
 pub mod TreeSeen
 pub mod FoundExists
 pub mod TreeKept
