@@ -31,6 +31,7 @@ pub mod RequestRead
 pub mod Joins
 pub mod DownExclusive
 pub mod DownData
+pub mod DownInject
 pub mod TreeSeen
 pub mod FoundExists
 pub mod TreeKept
