@@ -32,6 +32,7 @@ pub mod Joins
 pub mod DownExclusive
 pub mod DownData
 pub mod DownInject
+pub mod DownRead
 pub mod TreeSeen
 pub mod FoundExists
 pub mod TreeKept
