@@ -33,6 +33,7 @@ pub mod DownExclusive
 pub mod DownData
 pub mod DownInject
 pub mod DownRead
+pub mod Leave
 pub mod TreeSeen
 pub mod FoundExists
 pub mod TreeKept

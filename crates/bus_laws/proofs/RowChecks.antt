@@ -66,7 +66,7 @@ module _ (n x : ℕ) (above : Stamp) (p q : DirValue) (ns ms : List Node) (f : P
     pub reserved : q.reserved ≡ p.reserved
     pub replies : q.replies ≡ p.replies
 
-  keeps-by : RowFound → kept_place f ≡ kept_place before → item_holds f j ≡ true → is_seen f before.hold (face_reads before) (face_erases before) before.answering ≡ true → TopAfter n x above p q ns ms f → (answer : TurnAnswer) → KeepsBus n above p ns (record { answer = answer; parent = q; kids = ms })
+  pub keeps-by : RowFound → kept_place f ≡ kept_place before → item_holds f j ≡ true → is_seen f before.hold (face_reads before) (face_erases before) before.answering ≡ true → TopAfter n x above p q ns ms f → (answer : TurnAnswer) → KeepsBus n above p ns (record { answer = answer; parent = q; kids = ms })
   keeps-by r kept holds same top answer =
       row-keeps n x above p q ns ms f answer r.bus
       (record {
