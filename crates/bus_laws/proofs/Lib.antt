@@ -34,6 +34,7 @@ pub mod DownData
 pub mod DownInject
 pub mod DownRead
 pub mod Leave
+pub mod BusKept
 pub mod TreeSeen
 pub mod FoundExists
 pub mod TreeKept
