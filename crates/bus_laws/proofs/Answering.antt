@@ -1,19 +1,18 @@
 -- A child that was told to answer: what is seen of it, and the bits then.
-use Rattle.std.proofs.Common.{◌≡◌, ◌≢◌, ℕ, zero, suc, ◌+◌, ◌<◌, Bool, true, false, List, [], ◌∷◌, length, Option, Some, None, refl, sym, ap, subst, ◌∙◌, arith}
-use Rattle.std.specs.Prelude.{not, ◌&&◌, ◌||◌, nat_eq, if◌then◌else◌}
-use Rattle.std.specs.List.{AllByRecursion, list_any}
-use native.Mathlib.Decide.{ℕ_discrete}
+use Rattle.std.proofs.Common.{◌≡◌, ℕ, ◌+◌, ◌<◌, true, false, List, length, refl, sym, subst, arith}
+use Rattle.std.specs.Prelude.{not, ◌&&◌, nat_eq}
+use Rattle.std.specs.List.{list_any}
 use Rattle.std.specs.Cmp.Derive.{both_true}
-use Rattle.std.proofs.lemmas.Bool.{and_parts, eqb-true, not-true}
+use Rattle.std.proofs.lemmas.Bool.{and_parts}
 use Rattle.ddm_types.specs.declared.sizes.Hold.{Hold}
 use Rattle.tree_model.specs.State.States.{is_held, is_exclusive, is_shared}
-use Rattle.tree_model.specs.State.Values.{Note, DirValue, Node, leaf_node, dir_node}
+use Rattle.tree_model.specs.State.Values.{Node, leaf_node, dir_node}
 use Rattle.tree_model.specs.State.Child.{child_hold}
 use Rattle.tree_model.specs.State.Blank.{no_node}
 use Rattle.tree_model.specs.Turns.Children.{child_at}
 use Rattle.tree_rules.specs.Bus.Faces.{ChildFace, child_face, faces_of}
-use Rattle.tree_rules.specs.Bus.Item.{implies, holds_it, holds_exclusive, gives_none, gives_one, has_reply, giver_holds, granted_fits}
-use Rattle.tree_rules.proofs.Implying.{implies-use, implies-by}
+use Rattle.tree_rules.specs.Bus.Item.{implies, holds_it, holds_exclusive, gives_none, gives_one, giver_holds, granted_fits}
+use Rattle.tree_rules.proofs.Implying.{implies-by}
 use Rattle.bus_laws.proofs.BitsOf.{any-true, any-some}
 use Rattle.bus_laws.proofs.Calls.{face_answers}
 

@@ -1,6 +1,6 @@
 -- What the rules of an item say of each child before a turn.
-use Rattle.std.proofs.Common.{◌≡◌, ◌≢◌, ℕ, zero, suc, ◌+◌, ◌<◌, Bool, true, false, List, [], ◌∷◌, length, Option, Some, None, refl, sym, ap, subst, ◌∙◌, arith}
-use Rattle.std.specs.Prelude.{not, ◌&&◌, ◌||◌, nat_eq, if◌then◌else◌}
+use Rattle.std.proofs.Common.{◌≡◌, ℕ, ◌<◌, Bool, true, false, List, ◌∷◌, length, refl, ap, subst, ◌∙◌}
+use Rattle.std.specs.Prelude.{not, ◌||◌, nat_eq, if◌then◌else◌}
 use Rattle.std.specs.List.{list_any, list_all, AllByRecursion}
 use Rattle.std.proofs.lemmas.Bool.{and_parts, not-true, eqb-true}
 use Rattle.ddm_types.specs.declared.answers.TxKind.{TxKind}
@@ -8,12 +8,12 @@ use Rattle.ddm_types.specs.declared.sizes.Hold.{Hold}
 use Rattle.tree_model.specs.State.Kinds.{is_kind}
 use Rattle.tree_model.specs.State.States.{is_held, is_exclusive, is_shared}
 use Rattle.tree_model.specs.State.Values.{Note, no_note, local, up_read, up_erase, DownValue, DirValue, Node}
-use Rattle.tree_model.specs.State.Directory.{dir_note, is_reader, is_eraser, is_local, is_up_read, is_up_erase, queue_kinds}
+use Rattle.tree_model.specs.State.Directory.{is_reader, is_eraser, is_up_erase, queue_kinds}
 use Rattle.tree_model.specs.State.Blank.{no_node}
 use Rattle.tree_model.specs.Turns.Children.{child_at}
 use Rattle.tree_rules.specs.Bus.Faces.{ChildFace, ParentFace, parent_face, child_face, faces_of}
 use Rattle.tree_rules.specs.Bus.Own.{down_fits}
-use Rattle.tree_rules.specs.Bus.Item.{implies, holds_it, holds_exclusive, one_holds, gives_none, gives_one, one_gives, has_reply, giver_holds, granted_fits, reader_is_granted, reader_is_noted, eraser_is_noted, may_erase, eraser_is_granted, Bits, bits_of, reads_noted, erases_noted, granted_held, givers_held, ItemRules}
+use Rattle.tree_rules.specs.Bus.Item.{implies, holds_it, holds_exclusive, one_holds, gives_none, giver_holds, granted_fits, reader_is_granted, reader_is_noted, eraser_is_noted, eraser_is_granted, Bits, bits_of, reads_noted, erases_noted, granted_held, givers_held, ItemRules}
 use Rattle.tree_rules.specs.Bus.Rules.{IsBusOk, IsChildOk}
 use Rattle.tree_rules.proofs.Implying.{implies-use, implies-by}
 use Rattle.bus_laws.proofs.Lists.{pass-first}
@@ -21,7 +21,7 @@ use Rattle.bus_laws.proofs.ItemLists.{queue-front}
 use Rattle.bus_laws.proofs.States.{bits}
 use Rattle.bus_laws.proofs.BitsOf.{any-none, any-false, all-at, all-true, each-at, each-true, one-none, gift-none}
 use Rattle.bus_laws.proofs.DirCalls.{face_lost}
-use Rattle.bus_laws.proofs.DirParts.{DirParts, dir-parts, lt-fact, child_seen, starts_with}
+use Rattle.bus_laws.proofs.DirParts.{dir-parts, lt-fact, child_seen, starts_with}
 use Rattle.bus_laws.proofs.RowFrame.{all-kids_at, fits, rules-after}
 
 -- ---- faces

@@ -1,15 +1,13 @@
 -- A change of one item at a bus: what is seen of every other item stays, and the rules of the bus are those of that item.
-use Rattle.std.proofs.Common.{◌≡◌, ◌≢◌, ℕ, zero, suc, ◌+◌, ◌<◌, ◌≤◌, Bool, true, false, List, [], ◌∷◌, length, refl, sym, ap, subst, ◌∙◌, arith, inl, inr}
-use Rattle.std.specs.Prelude.{nat_eq}
+use Rattle.std.proofs.Common.{◌≡◌, ◌≢◌, ℕ, zero, suc, ◌+◌, ◌<◌, ◌≤◌, Bool, List, length, refl, sym, ap, subst, ◌∙◌, arith}
 use Rattle.std.specs.List.{range_with_len}
 use native.Mathlib.Decide.{ℕ_discrete}
 use Rattle.ddm_types.specs.declared.answers.TxKind.{TxKind}
-use Rattle.ddm_types.specs.declared.sizes.Hold.{Hold}
 use Rattle.tree_model.specs.State.Lists.{has_some}
-use Rattle.tree_model.specs.State.Values.{Note, DirItem, DirValue, Node}
+use Rattle.tree_model.specs.State.Values.{DirItem, DirValue, Node}
 use Rattle.tree_model.specs.State.Leaf.{words_of_item}
 use Rattle.tree_model.specs.State.Directory.{dir_item, queue_kinds, request_kinds}
-use Rattle.tree_rules.specs.Bus.Faces.{ChildFace, ParentFace, parent_face, face_above, faces_of}
+use Rattle.tree_rules.specs.Bus.Faces.{ParentFace, parent_face, face_above, faces_of}
 use Rattle.tree_rules.specs.Bus.Own.{IsDirOk}
 use Rattle.tree_rules.specs.Bus.Item.{ItemRules, kept_place}
 use Rattle.tree_rules.specs.Bus.Rules.{IsBusOk, kept_places}

@@ -1,5 +1,5 @@
 -- One turn of a bus keeps its rules, those of each child, and what the bus above sees of the parent. By rows.
-use Rattle.std.proofs.Common.{◌≡◌, ℕ, Bool, true, false, List, length, refl}
+use Rattle.std.proofs.Common.{◌≡◌, ℕ, List, refl}
 use Rattle.std.specs.List.{AllByRecursion}
 use Rattle.ddm_types.specs.declared.answers.TurnAnswer.{TurnAnswer}
 use Rattle.ddm_types.specs.declared.keys.Stamp.{Stamp}

@@ -1,26 +1,24 @@
 -- What a bus tells a child, and what it takes from it: the child keeps its rules, and is seen so then. Leaf or directory.
-use Rattle.std.proofs.Common.{◌≡◌, ◌≢◌, ℕ, zero, suc, ◌+◌, ◌-◌, ◌<◌, ◌≤◌, Bool, true, false, List, [], ◌∷◌, length, Option, Some, None, refl, sym, ap, subst, ◌∙◌, arith, ◌⊎◌, inl, inr}
+use Rattle.std.proofs.Common.{◌≡◌, ℕ, ◌+◌, ◌-◌, ◌<◌, ◌≤◌, Bool, true, false, List, [], ◌∷◌, length, Option, Some, None, refl, ap, subst, arith, ◌⊎◌, inl, inr}
 use Rattle.std.specs.Prelude.{not, ◌&&◌, option_map}
 use Rattle.std.specs.List.{list_all}
 use Rattle.std.proofs.lemmas.Bool.{and_parts}
 use Rattle.ddm_types.specs.declared.answers.TxKind.TheVariants.{ReadTx, DataTx, EraseTx, ExclusiveTx, InjectTx}
-use Rattle.ddm_types.specs.declared.answers.PendingWhy.{PendingWhy}
 use Rattle.ddm_types.specs.declared.sizes.Hold.{Hold}
 use Rattle.ddm_types.specs.declared.keys.Stamp.{Stamp}
-use Rattle.tree_model.specs.State.Lists.{first_of, rest_of, has_some}
+use Rattle.tree_model.specs.State.Lists.{first_of}
 use Rattle.tree_model.specs.State.States.{is_held, is_exclusive}
 use Rattle.tree_model.specs.State.Values.{RequestValue, CopyValue, LeafValue, DirValue, Node, Nodes, leaf_node, dir_node, children}
-use Rattle.tree_model.specs.State.Leaf.{copy_item, words_of_item, leaf_replies_full}
-use Rattle.tree_model.specs.State.Directory.{dir_hold, is_answering, is_parked, down_full, inject_has_place, dir_room, dir_leaving, pending}
+use Rattle.tree_model.specs.State.Leaf.{copy_item, leaf_replies_full}
+use Rattle.tree_model.specs.State.Directory.{dir_hold, is_parked, down_full, inject_has_place, dir_room, dir_leaving, pending}
 use Rattle.tree_model.specs.State.Child.{child_full_for, child_room, reader_has_place, child_request, child_reply, child_leaving, pending_below, child_lose, child_take_data, child_take_exclusive, child_answer, child_take_inject, child_request_taken, child_reply_taken, child_give_up}
 use Rattle.tree_model.proofs.Tests.{some_if-none, not-true}
-use Rattle.tree_rules.specs.Bus.Faces.{ChildFace, parent_face, face_reads, child_face}
+use Rattle.tree_rules.specs.Bus.Faces.{ChildFace, child_face}
 use Rattle.tree_rules.specs.Bus.Own.{request_fits, copy_fits, leaf_replies}
 use Rattle.tree_rules.specs.Bus.Rules.{IsBusOk, IsChildOk}
-use Rattle.bus_laws.specs.KeepsBus.{dir_face}
 use Rattle.bus_laws.proofs.Lists.{pass-got, chosen-get}
 use Rattle.bus_laws.proofs.ItemLists.{words-first, words-got}
-use Rattle.bus_laws.proofs.DirParts.{DirParts, dir-parts, lt-fact, child_seen}
+use Rattle.bus_laws.proofs.DirParts.{dir-parts, lt-fact, child_seen}
 use Rattle.bus_laws.proofs.DirCalls.{face_lost, dir_lose-told, dir_take_data-told, dir_take_exclusive-told, dir_answer-told, dir_take_inject-told}
 use Rattle.bus_laws.proofs.DirGives.{dir_read-taken, dir_erase-taken, dir_reply-taken, dir_parked-held, dir_give_up-told}
 use Rattle.bus_laws.proofs.LeafCalls.{leaf_lose-told, leaf_take_data-told, leaf_take_exclusive-told, leaf_answer-told}

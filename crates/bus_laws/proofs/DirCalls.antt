@@ -1,7 +1,7 @@
 -- What the bus above tells a directory keeps the rules of the directory's own bus, and what is seen of it then. Which states
 -- allow it is computed.
-use Rattle.std.proofs.Common.{◌≡◌, ◌≢◌, ℕ, zero, suc, ◌+◌, ◌<◌, ◌≤◌, Bool, true, false, List, [], ◌∷◌, ◌++◌, length, refl, sym, ap, subst, ◌∙◌, arith}
-use Rattle.std.specs.Prelude.{not, ◌&&◌, ◌||◌, nat_eq, nat_lt, if◌then◌else◌}
+use Rattle.std.proofs.Common.{◌≡◌, ◌≢◌, ℕ, ◌+◌, ◌<◌, Bool, true, false, List, [], ◌∷◌, ◌++◌, length, refl, sym, ap, subst, ◌∙◌, arith}
+use Rattle.std.specs.Prelude.{not, ◌&&◌, ◌||◌, nat_eq, if◌then◌else◌}
 use Rattle.std.specs.List.{list_all}
 use Rattle.std.specs.Cmp.Derive.{both_true}
 use Rattle.std.proofs.lemmas.Bool.{and_parts, eqb-true}
@@ -9,26 +9,26 @@ use Rattle.ddm_types.specs.declared.answers.TxKind.{TxKind}
 use Rattle.ddm_types.specs.declared.answers.TxKind.TheVariants.{ReadTx, DataTx, EraseTx, ExclusiveTx, InjectTx}
 use Rattle.ddm_types.specs.declared.sizes.Hold.{Hold}
 use Rattle.ddm_types.specs.declared.keys.Stamp.{Stamp}
-use Rattle.tree_model.specs.State.Lists.{without_first, rest_of, has_some}
+use Rattle.tree_model.specs.State.Lists.{without_first, has_some}
 use Rattle.tree_model.specs.State.Kinds.{is_kind}
 use Rattle.tree_model.specs.State.States.{is_held, is_exclusive}
-use Rattle.tree_model.specs.State.Values.{RequestValue, Note, no_note, local, up_read, up_erase, DownValue, DirValue, Nodes, dir_node, children}
+use Rattle.tree_model.specs.State.Values.{RequestValue, Note, no_note, local, up_read, up_erase, DirValue, Nodes, dir_node, children}
 use Rattle.tree_model.specs.State.Leaf.{blank, is_request, words_of_item}
-use Rattle.tree_model.specs.State.Directory.{dir_item, dir_hold, dir_note, is_answering, queue_kinds, request_kinds, is_up_read, is_parked, struck, down_full, open_read, inject_has_place, dir_lost, dir_lose, dir_take_data, dir_take_exclusive, dir_answer, dir_take_inject, dir_give_up}
-use Rattle.tree_model.proofs.DirRooms.{DirWithin, dir_lose-within, dir_take_data-within, dir_take_exclusive-within, dir_answer-within, dir_take_inject-within, dir_give_up-within, dir_request_taken-within, dir_reply_taken-within}
+use Rattle.tree_model.specs.State.Directory.{dir_item, dir_hold, is_answering, is_up_read, struck, down_full, open_read, inject_has_place, dir_lost, dir_lose, dir_take_data, dir_take_exclusive, dir_answer, dir_take_inject}
+use Rattle.tree_model.proofs.DirRooms.{DirWithin, dir_lose-within, dir_take_data-within, dir_take_exclusive-within, dir_answer-within, dir_take_inject-within}
 use Rattle.bus_laws.specs.KeepsBus.{dir_face}
 use Rattle.tree_model.proofs.Tests.{not-true}
-use Rattle.tree_rules.specs.Bus.Faces.{ChildFace, ParentFace, parent_face, face_reads, face_erases, face_above, child_face, faces_of}
-use Rattle.tree_rules.specs.Bus.Own.{item_fits, down_fits, request_fits, copy_fits}
+use Rattle.tree_rules.specs.Bus.Faces.{ChildFace, ParentFace, parent_face, face_reads, face_erases, face_above, faces_of}
+use Rattle.tree_rules.specs.Bus.Own.{item_fits, down_fits, request_fits}
 use Rattle.tree_rules.specs.Bus.Item.{implies, Bits, bits_of, item_holds, ItemRules, kept_place}
 use Rattle.tree_rules.specs.Bus.Rules.{IsBusOk}
 use Rattle.tree_rules.proofs.BusTests.{ItemRules-from_test}
 use Rattle.tree_rules.proofs.Implying.{implies-use}
 use Rattle.bus_laws.proofs.States.{each_state, state-at}
-use Rattle.bus_laws.proofs.Lists.{pass-set, pass-pushed, pass-rest, pass-without_first}
+use Rattle.bus_laws.proofs.Lists.{pass-set, pass-pushed, pass-without_first}
 use Rattle.bus_laws.proofs.ItemLists.{queue-pushed, queue-pushed_other, kinds-struck, kinds-struck_other}
 use Rattle.bus_laws.proofs.BusChanged.{IsSameOf, parent-is}
-use Rattle.bus_laws.proofs.DirParts.{DirParts, dir-parts, note-at, entry-fits, item-same, item-other, lt-test, blank-zero, is_seen, seen-is, child_seen}
+use Rattle.bus_laws.proofs.DirParts.{DirParts, dir-parts, note-at, entry-fits, item-same, item-other, blank-zero, is_seen, seen-is, child_seen}
 use Rattle.bus_laws.proofs.Told.{IsTold, dir-told}
 
 struck-pass : (n : ℕ) (kind : TxKind) (x : ℕ) (requests : List RequestValue) → list_all (request_fits n) requests ≡ true → list_all (request_fits n) (struck kind x requests) ≡ true

@@ -1,25 +1,24 @@
 -- What a bus takes from a directory keeps the rules of the directory's own bus, and what is seen of it then: a request is
 -- granted, a reply is taken, the parked copy leaves.
-use Rattle.std.proofs.Common.{◌≡◌, ◌≢◌, ℕ, zero, suc, ◌+◌, ◌-◌, ◌<◌, ◌≤◌, Bool, true, false, List, [], ◌∷◌, ◌++◌, length, Option, Some, None, refl, sym, ap, subst, ◌∙◌, arith}
-use Rattle.std.specs.Prelude.{not, ◌&&◌, ◌||◌, nat_eq, if◌then◌else◌}
-use Rattle.std.specs.List.{list_any, list_all}
+use Rattle.std.proofs.Common.{◌≡◌, ◌≢◌, ℕ, ◌+◌, ◌-◌, ◌<◌, Bool, true, false, List, length, Some, None, refl, sym, ap, subst, ◌∙◌, arith}
+use Rattle.std.specs.Prelude.{not, ◌&&◌, nat_eq, if◌then◌else◌}
+use Rattle.std.specs.List.{list_any}
 use Rattle.std.specs.Cmp.Derive.{both_true}
 use Rattle.std.proofs.lemmas.Bool.{and_parts, eqb-true}
 use Rattle.ddm_types.specs.declared.answers.TxKind.{TxKind}
-use Rattle.ddm_types.specs.declared.answers.TxKind.TheVariants.{ReadTx, DataTx, EraseTx, ExclusiveTx, InjectTx}
-use Rattle.ddm_types.specs.declared.answers.PendingWhy.{PendingWhy}
+use Rattle.ddm_types.specs.declared.answers.TxKind.TheVariants.{ReadTx, EraseTx}
 use Rattle.ddm_types.specs.declared.sizes.Hold.{Hold}
 use Rattle.tree_model.specs.State.Lists.{first_of, rest_of, has_some}
 use Rattle.tree_model.specs.State.Kinds.{is_kind}
 use Rattle.tree_model.specs.State.States.{is_held}
-use Rattle.tree_model.specs.State.Values.{RequestValue, CopyValue, Note, no_note, local, up_read, up_erase, DirValue, Nodes, dir_node, children}
+use Rattle.tree_model.specs.State.Values.{Note, no_note, local, up_read, up_erase, DirValue, Nodes, dir_node, children}
 use Rattle.tree_model.specs.State.Leaf.{is_copy, copy_item, words_of_item}
-use Rattle.tree_model.specs.State.Directory.{dir_item, dir_hold, dir_note, is_answering, note_why, in_down, pending_by, pending, queue_kinds, request_kinds, is_parked, dir_give_up}
+use Rattle.tree_model.specs.State.Directory.{dir_item, dir_hold, dir_note, is_answering, note_why, in_down, pending_by, pending, queue_kinds, is_parked, dir_give_up}
 use Rattle.tree_model.proofs.Tests.{not-true}
-use Rattle.tree_model.proofs.DirRooms.{DirWithin, dir_give_up-within, dir_request_taken-within, dir_reply_taken-within}
-use Rattle.tree_rules.specs.Bus.Faces.{ChildFace, ParentFace, parent_face, face_above, child_face, faces_of}
+use Rattle.tree_model.proofs.DirRooms.{dir_give_up-within, dir_request_taken-within, dir_reply_taken-within}
+use Rattle.tree_rules.specs.Bus.Faces.{ChildFace, ParentFace, parent_face, face_above, faces_of}
 use Rattle.tree_rules.specs.Bus.Own.{item_fits, request_fits, copy_fits}
-use Rattle.tree_rules.specs.Bus.Item.{implies, holds_it, one_holds, Bits, bits_of, item_holds, ItemRules, kept_place}
+use Rattle.tree_rules.specs.Bus.Item.{implies, holds_it, one_holds, Bits, bits_of, item_holds, kept_place}
 use Rattle.tree_rules.specs.Bus.Rules.{IsBusOk}
 use Rattle.tree_rules.proofs.BusTests.{ItemRules-from_test}
 use Rattle.tree_rules.proofs.Implying.{implies-use}
@@ -30,7 +29,7 @@ use Rattle.bus_laws.proofs.Lists.{pass-set, pass-rest, pass-filter, distinct-fil
 use Rattle.bus_laws.proofs.ItemLists.{kinds-first, kinds-first_other, words-first, words-first_other, words-without, words-without_other}
 use Rattle.bus_laws.proofs.BusChanged.{IsSameOf, parent-is}
 use Rattle.bus_laws.proofs.DirParts.{DirParts, dir-parts, note-at, item-same, item-other, is_seen, seen-is, child_seen, is_no_note, starts_with}
-use Rattle.bus_laws.proofs.DirCalls.{follows, Follows, followed}
+use Rattle.bus_laws.proofs.DirCalls.{follows, followed}
 use Rattle.bus_laws.proofs.Told.{IsTold, dir-told}
 
 -- ---- an item that isn't pending

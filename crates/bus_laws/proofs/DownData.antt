@@ -1,6 +1,6 @@
 -- Data comes down, or an inject that several children read: every reader is told data.
-use Rattle.std.proofs.Common.{◌≡◌, ◌≢◌, ℕ, zero, suc, ◌+◌, ◌<◌, Bool, true, false, List, [], ◌∷◌, length, None, refl, sym, ap, subst, ◌∙◌, arith}
-use Rattle.std.specs.Prelude.{not, ◌&&◌, ◌||◌, nat_eq, nat_lt, if◌then◌else◌}
+use Rattle.std.proofs.Common.{◌≡◌, ℕ, ◌<◌, Bool, true, false, List, ◌∷◌, length, None, refl, sym, ap, subst, ◌∙◌, arith}
+use Rattle.std.specs.Prelude.{not, ◌&&◌, nat_lt, if◌then◌else◌}
 use Rattle.std.specs.List.{AllByRecursion, list_any}
 use Rattle.std.specs.Cmp.Derive.{both_true}
 use Rattle.std.proofs.lemmas.Bool.{and_parts, or_parts, not-true}
@@ -18,7 +18,7 @@ use Rattle.tree_model.specs.State.Child.{child_take_data, child_full_for}
 use Rattle.tree_model.specs.State.Blank.{no_node}
 use Rattle.tree_model.specs.Turns.Children.{child_at, reader_full, reader_takes}
 use Rattle.tree_model.proofs.Children.{map_from-length, child_at-map_from, none-given}
-use Rattle.tree_rules.specs.Bus.Faces.{ChildFace, ParentFace, parent_face, child_face, faces_of}
+use Rattle.tree_rules.specs.Bus.Faces.{ParentFace, parent_face, child_face, faces_of}
 use Rattle.tree_rules.specs.Bus.Own.{note_fits}
 use Rattle.tree_rules.specs.Bus.Item.{implies, holds_it, Bits, bits_of}
 use Rattle.tree_rules.specs.Bus.Rules.{IsBusOk, IsChildOk}
@@ -31,7 +31,7 @@ use Rattle.bus_laws.proofs.DirParts.{dir-parts, note-at, lt-fact, child_seen, st
 use Rattle.bus_laws.proofs.Calls.{child-take_data}
 use Rattle.bus_laws.proofs.Parents.{as-it-was, takes_front, noted}
 use Rattle.bus_laws.proofs.Before.{idle_of, not-held, kid-ok, idle-at, gives-at, none-held, reader-at, entry-known, entry-starts}
-use Rattle.bus_laws.proofs.RowChecks.{done_never, RowFound, keeps-never}
+use Rattle.bus_laws.proofs.RowChecks.{done_never, keeps-never}
 use Rattle.bus_laws.proofs.Shapes.{quiet-bits}
 use Rattle.bus_laws.proofs.Told.{IsTold}
 

@@ -1,6 +1,6 @@
 -- An erase comes down: every child is told to lose the item, and the parked copy ends.
-use Rattle.std.proofs.Common.{◌≡◌, ℕ, zero, suc, ◌+◌, ◌<◌, Bool, true, false, List, [], ◌∷◌, length, None, refl, sym, ap, subst, ◌∙◌, arith}
-use Rattle.std.specs.Prelude.{not, ◌&&◌, ◌||◌, nat_eq}
+use Rattle.std.proofs.Common.{◌≡◌, ℕ, ◌+◌, ◌<◌, Bool, true, false, List, ◌∷◌, length, None, refl, sym, ap, subst, arith}
+use Rattle.std.specs.Prelude.{not, ◌&&◌, nat_eq}
 use Rattle.std.specs.List.{AllByRecursion}
 use Rattle.std.specs.Cmp.Derive.{both_true}
 use Rattle.std.proofs.lemmas.Bool.{and_parts, eqb-true, not-true}
@@ -9,28 +9,26 @@ use Rattle.ddm_types.specs.declared.answers.TurnAnswer.{TurnAnswer}
 use Rattle.ddm_types.specs.declared.sizes.Hold.{Hold}
 use Rattle.ddm_types.specs.declared.keys.Stamp.{Stamp}
 use Rattle.tree_model.specs.State.Lists.{map_from, first_given, rest_of}
-use Rattle.tree_model.specs.State.States.{is_held, is_shared}
 use Rattle.tree_model.specs.State.Values.{DownValue, Note, no_note, local, up_read, up_erase, DirValue, Node}
-use Rattle.tree_model.specs.State.Directory.{dir_note, is_local, is_up_read, is_up_erase, is_reader, is_eraser, stamp_of, without_parked, with_note, front_taken}
+use Rattle.tree_model.specs.State.Directory.{dir_note, is_local, is_up_read, is_up_erase, is_reader, stamp_of, without_parked, with_note, front_taken}
 use Rattle.tree_model.specs.State.Child.{child_lose}
 use Rattle.tree_model.specs.State.Blank.{no_node}
 use Rattle.tree_model.specs.Turns.Children.{child_at, full_to_lose, loses}
-use Rattle.tree_model.specs.Turns.Down.{without_up_erase, erase_of_children}
+use Rattle.tree_model.specs.Turns.Down.{without_up_erase}
 use Rattle.tree_model.proofs.Children.{map_from-length, child_at-map_from, none-given}
-use Rattle.tree_rules.specs.Bus.Faces.{ChildFace, ParentFace, parent_face, face_reads, face_erases, child_face, faces_of}
+use Rattle.tree_rules.specs.Bus.Faces.{ParentFace, parent_face, face_reads, face_erases, child_face, faces_of}
 use Rattle.tree_rules.specs.Bus.Own.{note_fits}
-use Rattle.tree_rules.specs.Bus.Item.{implies, holds_it, holds_exclusive, gives_none, granted_fits, Bits, bits_of, item_holds, kept_place}
+use Rattle.tree_rules.specs.Bus.Item.{implies, Bits, bits_of, item_holds, kept_place}
 use Rattle.tree_rules.specs.Bus.Rules.{IsBusOk, IsChildOk}
 use Rattle.tree_rules.proofs.Implying.{implies-use}
 use Rattle.bus_laws.specs.KeepsBus.{KeepsBus}
 use Rattle.bus_laws.proofs.States.{bits, each_state, state-at}
-use Rattle.bus_laws.proofs.BitsOf.{any-false, all-true, each-true}
-use Rattle.bus_laws.proofs.DirParts.{is_seen, dir-parts, note-at, child_seen, starts_with}
+use Rattle.bus_laws.proofs.DirParts.{is_seen, dir-parts, note-at, starts_with}
 use Rattle.bus_laws.proofs.DirCalls.{face_lost}
 use Rattle.bus_laws.proofs.Calls.{child-lose}
 use Rattle.bus_laws.proofs.Parents.{as-it-was, takes_front, unparks, noted}
-use Rattle.bus_laws.proofs.Before.{idle_of, lost-idle, idle-bits, face, seen, child, rules, kid-ok, granted-at, not-reads, gives-at, none-exclusive, entry-known, entry-starts}
-use Rattle.bus_laws.proofs.RowFrame.{top_like, same-seen, RowFacts, row-keeps, fits, rules-after}
+use Rattle.bus_laws.proofs.Before.{idle_of, lost-idle, idle-bits, kid-ok, granted-at, not-reads, gives-at, none-exclusive, entry-known, entry-starts}
+use Rattle.bus_laws.proofs.RowFrame.{same-seen, RowFacts, row-keeps}
 use Rattle.bus_laws.proofs.RowChecks.{stays_seen, never_top, rules-by, never-top}
 use Rattle.bus_laws.proofs.Told.{IsTold}
 

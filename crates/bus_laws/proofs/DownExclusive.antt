@@ -1,21 +1,21 @@
 -- An exclusive comes down: the child that erases is told exclusive.
-use Rattle.std.proofs.Common.{◌≡◌, ◌≢◌, ℕ, zero, suc, ◌+◌, ◌<◌, Bool, true, false, List, [], ◌∷◌, length, None, refl, sym, ap, subst, ◌∙◌, arith}
-use Rattle.std.specs.Prelude.{not, ◌&&◌, ◌||◌, nat_eq}
+use Rattle.std.proofs.Common.{◌≡◌, ◌≢◌, ℕ, ◌<◌, Bool, true, false, List, ◌∷◌, length, None, refl, ap, subst, ◌∙◌, arith}
+use Rattle.std.specs.Prelude.{not, ◌&&◌}
 use Rattle.std.specs.List.{AllByRecursion}
 use Rattle.std.specs.Cmp.Derive.{both_true}
-use Rattle.std.proofs.lemmas.Bool.{and_parts, ne_eqb, not-true}
+use Rattle.std.proofs.lemmas.Bool.{and_parts, ne_eqb}
 use Rattle.ddm_types.specs.declared.answers.TxKind.TheVariants.{ExclusiveTx}
 use Rattle.ddm_types.specs.declared.answers.TurnAnswer.{TurnAnswer}
 use Rattle.ddm_types.specs.declared.sizes.Hold.{Hold}
 use Rattle.ddm_types.specs.declared.keys.Stamp.{Stamp}
 use Rattle.tree_model.specs.State.Lists.{map_from, rest_of}
-use Rattle.tree_model.specs.State.States.{is_held, is_exclusive}
+use Rattle.tree_model.specs.State.States.{is_held}
 use Rattle.tree_model.specs.State.Values.{DownValue, Note, no_note, local, up_read, up_erase, DirValue, Node}
 use Rattle.tree_model.specs.State.Directory.{dir_note, is_reader, is_eraser, is_up_erase, stamp_of, with_note, front_taken}
 use Rattle.tree_model.specs.State.Child.{child_take_exclusive, child_full_for}
 use Rattle.tree_model.specs.State.Blank.{no_node}
 use Rattle.tree_model.specs.Turns.Children.{child_at, only}
-use Rattle.tree_rules.specs.Bus.Faces.{ChildFace, ParentFace, parent_face, child_face, faces_of}
+use Rattle.tree_rules.specs.Bus.Faces.{ParentFace, parent_face, child_face, faces_of}
 use Rattle.tree_rules.specs.Bus.Item.{implies, holds_it, may_erase, eraser_is_granted, up_erase_noted, Bits, bits_of}
 use Rattle.tree_rules.specs.Bus.Rules.{IsBusOk, IsChildOk}
 use Rattle.tree_rules.proofs.Implying.{implies-use}
@@ -29,7 +29,7 @@ use Rattle.bus_laws.proofs.TopParent.{top-front, top-noted}
 use Rattle.bus_laws.proofs.Before.{idle_of, not-held, kid-ok, idle-at, gives-at, entry-known, entry-starts}
 use Rattle.bus_laws.proofs.OneChild.{not-parked, others-absent, one_after, one-told, one-many, one-here, one-other}
 use Rattle.bus_laws.proofs.RowFrame.{fits}
-use Rattle.bus_laws.proofs.RowChecks.{done_top, RowFound, keeps-top}
+use Rattle.bus_laws.proofs.RowChecks.{done_top, keeps-top}
 use Rattle.bus_laws.proofs.Shapes.{no-readers, lone-bits}
 use Rattle.bus_laws.proofs.Told.{IsTold}
 

@@ -1,20 +1,18 @@
 -- An inject comes down: the only reader takes it, else a child with room, else it is parked in the place that was kept.
-use Rattle.std.proofs.Common.{◌≡◌, ◌≢◌, ℕ, zero, suc, ◌+◌, ◌-◌, ◌<◌, ◌≤◌, Bool, true, false, List, [], ◌∷◌, length, Some, None, refl, sym, ap, subst, ◌∙◌, arith}
-use Rattle.std.specs.Prelude.{not, ◌&&◌, ◌||◌, nat_eq, nat_lt, if◌then◌else◌}
+use Rattle.std.proofs.Common.{◌≡◌, ◌≢◌, ℕ, zero, suc, ◌+◌, ◌-◌, ◌<◌, ◌≤◌, Bool, true, false, List, ◌∷◌, length, Some, None, refl, sym, ap, subst, ◌∙◌, arith}
+use Rattle.std.specs.Prelude.{not, ◌&&◌, nat_eq, nat_lt}
 use Rattle.std.specs.List.{AllByRecursion, list_any, range_with_len}
 use native.Mathlib.Decide.{ℕ_discrete}
 use Rattle.std.specs.Cmp.Derive.{both_true}
 use Rattle.std.proofs.lemmas.Bool.{and_parts, or_parts, eqb-true, eqb-false, ne_eqb, not-true}
-use Rattle.ddm_types.specs.declared.answers.TxKind.{TxKind}
 use Rattle.ddm_types.specs.declared.answers.TxKind.TheVariants.{InjectTx}
 use Rattle.ddm_types.specs.declared.answers.TurnAnswer.{TurnAnswer}
 use Rattle.ddm_types.specs.declared.sizes.Hold.{Hold}
 use Rattle.ddm_types.specs.declared.keys.Stamp.{Stamp}
-use Rattle.tree_model.specs.State.Lists.{map_from, all_from, find_from, first_some, rest_of}
-use Rattle.tree_model.specs.State.States.{is_held, is_exclusive}
+use Rattle.tree_model.specs.State.Lists.{map_from, all_from, find_from, rest_of}
 use Rattle.tree_model.specs.State.Values.{DownValue, Note, no_note, local, up_read, up_erase, DirValue, Node}
-use Rattle.tree_model.specs.State.Directory.{dir_note, is_reader, is_eraser, is_local, is_up_read, is_up_erase, in_set, is_parked, stamp_of, with_note, with_parked, place_released, front_taken}
-use Rattle.tree_model.specs.State.Child.{child_take_inject, child_full_for, child_room, reader_has_place}
+use Rattle.tree_model.specs.State.Directory.{dir_note, is_reader, is_eraser, is_local, is_up_read, is_up_erase, in_set, stamp_of, with_note, with_parked, place_released, front_taken}
+use Rattle.tree_model.specs.State.Child.{child_take_inject, child_full_for, reader_has_place}
 use Rattle.tree_model.specs.State.Blank.{no_node}
 use Rattle.tree_model.specs.Turns.Children.{child_at, only, waits_with_room, has_room}
 use Rattle.tree_model.specs.Turns.Down.{inject_taker}
@@ -22,7 +20,7 @@ use Rattle.tree_model.proofs.Children.{found-within}
 use Rattle.tree_model.proofs.Sets.{in_set-empty}
 use Rattle.tree_model.proofs.Tests.{first_some-either}
 use Rattle.tree_model.proofs.BusRooms.{inject_taker-room}
-use Rattle.tree_rules.specs.Bus.Faces.{ChildFace, ParentFace, parent_face, face_reads, face_erases, child_face, faces_of}
+use Rattle.tree_rules.specs.Bus.Faces.{ChildFace, ParentFace, parent_face, child_face, faces_of}
 use Rattle.tree_rules.specs.Bus.Own.{note_fits}
 use Rattle.tree_rules.specs.Bus.Item.{implies, holds_it, reader_is_granted, eraser_is_granted, Bits, bits_of, item_holds, kept_place}
 use Rattle.tree_rules.specs.Bus.Rules.{IsBusOk, IsChildOk, kept_places}
@@ -30,13 +28,13 @@ use Rattle.tree_rules.proofs.Implying.{implies-use}
 use Rattle.bus_laws.specs.KeepsBus.{KeepsBus}
 use Rattle.bus_laws.proofs.States.{bits, each_state, state-at}
 use Rattle.bus_laws.proofs.ItemLists.{nat_eq-same}
-use Rattle.bus_laws.proofs.DirParts.{dir-parts, note-at, lt-fact, child_seen, is_seen, starts_with, is_no_note}
+use Rattle.bus_laws.proofs.DirParts.{dir-parts, note-at, lt-fact, child_seen, starts_with, is_no_note}
 use Rattle.bus_laws.proofs.Calls.{Takes, as_reader, with_room, child-take_inject}
 use Rattle.bus_laws.proofs.Parents.{IsModified, as-it-was, takes_front, noted, parks, releases}
 use Rattle.bus_laws.proofs.Before.{idle_of, not-held, kid-ok, idle-at, idle-bits, gives-at, none-held, reader-at, entry-known, entry-starts}
 use Rattle.bus_laws.proofs.OneChild.{untouched, one_after, one-told, one-many, one-here, one-other}
-use Rattle.bus_laws.proofs.RowFrame.{top_like, fits, same-seen, RowFacts, row-keeps}
-use Rattle.bus_laws.proofs.RowChecks.{done_never, never_top, stays_seen, rules-by, never-top, RowFound, keeps-never}
+use Rattle.bus_laws.proofs.RowFrame.{fits, same-seen, row-keeps}
+use Rattle.bus_laws.proofs.RowChecks.{done_never, never_top, stays_seen, rules-by, never-top, keeps-never}
 use Rattle.bus_laws.proofs.Shapes.{no-readers, lone-bits}
 use Rattle.bus_laws.proofs.Told.{IsTold}
 

@@ -1,10 +1,10 @@
 -- A read comes down: the lowest child that holds the item is told to answer, or the parked copy answers.
-use Rattle.std.proofs.Common.{◌≡◌, ◌≢◌, ℕ, zero, suc, ◌+◌, ◌<◌, Bool, true, false, List, [], ◌∷◌, length, Some, None, refl, sym, ap, subst, ◌∙◌, arith, length-append}
-use Rattle.std.specs.Prelude.{not, ◌&&◌, ◌||◌, nat_eq, if◌then◌else◌}
+use Rattle.std.proofs.Common.{◌≡◌, ◌≢◌, ℕ, ◌+◌, ◌<◌, Bool, true, false, List, [], ◌∷◌, length, Some, None, refl, sym, ap, subst, ◌∙◌, arith, length-append}
+use Rattle.std.specs.Prelude.{not, ◌&&◌, ◌||◌, nat_eq}
 use Rattle.std.specs.List.{AllByRecursion, list_any, list_all}
 use native.Mathlib.Decide.{ℕ_discrete}
 use Rattle.std.specs.Cmp.Derive.{both_true}
-use Rattle.std.proofs.lemmas.Bool.{and_parts, eqb-true, not-true}
+use Rattle.std.proofs.lemmas.Bool.{and_parts, eqb-true}
 use Rattle.ddm_types.specs.declared.answers.TxKind.TheVariants.{ReadTx}
 use Rattle.ddm_types.specs.declared.answers.TurnAnswer.{TurnAnswer}
 use Rattle.ddm_types.specs.declared.sizes.Hold.{Hold}
@@ -13,7 +13,7 @@ use Rattle.tree_model.specs.State.Lists.{map_from, find_from, first_of, has_some
 use Rattle.tree_model.specs.State.States.{is_held, is_exclusive}
 use Rattle.tree_model.specs.State.Values.{DownValue, Note, no_note, local, up_read, up_erase, DirValue, Node}
 use Rattle.tree_model.specs.State.Leaf.{words_of_item}
-use Rattle.tree_model.specs.State.Directory.{dir_note, is_reader, is_eraser, is_local, is_answering, parked_words, replies_full, stamp_of, with_hold, with_answering, pushed_reply, front_taken}
+use Rattle.tree_model.specs.State.Directory.{dir_note, is_reader, is_eraser, is_local, parked_words, replies_full, stamp_of, with_hold, with_answering, pushed_reply, front_taken}
 use Rattle.tree_model.specs.State.Child.{child_answer, child_full_for}
 use Rattle.tree_model.specs.State.Blank.{no_node}
 use Rattle.tree_model.specs.Turns.Children.{child_at, holds_item, only}
@@ -21,7 +21,7 @@ use Rattle.tree_model.specs.Turns.Grant.{own_replies_full}
 use Rattle.tree_model.proofs.Children.{found-within, found-passes}
 use Rattle.tree_model.proofs.Tests.{some_if-none}
 use Rattle.tree_rules.specs.Bus.Faces.{ChildFace, ParentFace, parent_face, face_reads, face_erases, face_above, child_face, faces_of}
-use Rattle.tree_rules.specs.Bus.Item.{implies, holds_it, holds_exclusive, gives_none, gives_one, one_gives, reader_is_granted, reader_is_noted, eraser_is_noted, may_erase, Bits, bits_of, item_holds, kept_place}
+use Rattle.tree_rules.specs.Bus.Item.{implies, holds_it, holds_exclusive, gives_none, gives_one, one_gives, reader_is_granted, may_erase, Bits, bits_of, item_holds, kept_place}
 use Rattle.tree_rules.specs.Bus.Rules.{IsBusOk, IsChildOk}
 use Rattle.tree_rules.proofs.Implying.{implies-use}
 use Rattle.bus_laws.specs.KeepsBus.{KeepsBus, having_answered, dir_face}
@@ -32,11 +32,11 @@ use Rattle.bus_laws.proofs.ItemLists.{words-pushed}
 use Rattle.bus_laws.proofs.DirParts.{dir-parts, child_seen, is_seen, seen-is, starts_with}
 use Rattle.bus_laws.proofs.Calls.{child-answer, face_answers}
 use Rattle.bus_laws.proofs.Parents.{IsModified, as-it-was, takes_front, held, answers, pushes_reply}
-use Rattle.bus_laws.proofs.Before.{idle_of, kid-ok, granted-at, giver-at, reads-at, erases-at, gives-at, entry-known, entry-starts}
+use Rattle.bus_laws.proofs.Before.{kid-ok, granted-at, giver-at, reads-at, erases-at, gives-at, entry-known, entry-starts}
 use Rattle.bus_laws.proofs.OneChild.{untouched, one_after, one-told, one-many, one-here, one-other}
 use Rattle.bus_laws.proofs.Answering.{child-hold, IsAnswer, is-answer, exclusive-before}
-use Rattle.bus_laws.proofs.RowFrame.{fits, rules-after, RowFacts, row-keeps}
-use Rattle.bus_laws.proofs.RowChecks.{done_never, never_top, rules-by, never-top, RowFound, keeps-never}
+use Rattle.bus_laws.proofs.RowFrame.{fits, rules-after, row-keeps}
+use Rattle.bus_laws.proofs.RowChecks.{done_never, never_top, rules-by, never-top, keeps-never}
 use Rattle.bus_laws.proofs.Told.{IsTold}
 
 -- ---- what is computed

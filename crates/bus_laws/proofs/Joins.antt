@@ -1,17 +1,17 @@
 -- A request to read joins a read that is under way.
-use Rattle.std.proofs.Common.{◌≡◌, ◌≢◌, ℕ, zero, suc, ◌+◌, ◌^◌, ◌<◌, Bool, true, false, List, [], ◌∷◌, length, Option, Some, None, refl, sym, ap, subst, ◌∙◌, arith}
-use Rattle.std.specs.Prelude.{not, ◌&&◌, ◌||◌, nat_eq, nat_lt, if◌then◌else◌}
-use Rattle.std.specs.List.{AllByRecursion, list_any}
+use Rattle.std.proofs.Common.{◌≡◌, ◌≢◌, ℕ, ◌^◌, ◌<◌, Bool, true, false, List, length, Some, refl, sym, ap, subst, ◌∙◌, arith}
+use Rattle.std.specs.Prelude.{not, ◌&&◌, ◌||◌, nat_eq, nat_lt}
+use Rattle.std.specs.List.{AllByRecursion}
 use native.Mathlib.Decide.{ℕ_discrete}
 use Rattle.std.specs.Cmp.Derive.{both_true}
-use Rattle.std.proofs.lemmas.Bool.{and_parts, or_parts, eqb-true, eqb-false, eq-eqb, ne_eqb, not-true}
+use Rattle.std.proofs.lemmas.Bool.{and_parts, or_parts, eqb-false}
 use Rattle.std.proofs.lemmas.Nat.{or_lt, pow_below}
 use Rattle.ddm_types.specs.declared.answers.TxKind.TheVariants.{ReadTx}
 use Rattle.ddm_types.specs.declared.answers.TurnAnswer.{TurnAnswer}
 use Rattle.ddm_types.specs.declared.sizes.Hold.{Hold}
 use Rattle.ddm_types.specs.declared.keys.Stamp.{Stamp}
 use Rattle.tree_model.specs.State.Lists.{map_from}
-use Rattle.tree_model.specs.State.States.{is_held, is_exclusive, is_shared}
+use Rattle.tree_model.specs.State.States.{is_held, is_shared}
 use Rattle.tree_model.specs.State.Values.{Note, no_note, local, up_read, up_erase, DirValue, Node}
 use Rattle.tree_model.specs.State.Directory.{dir_note, is_reader, is_eraser, is_local, is_up_read, in_set, set_with, joined_by, with_note, counted}
 use Rattle.tree_model.specs.State.Child.{child_request, child_request_taken}
@@ -20,13 +20,12 @@ use Rattle.tree_model.specs.Turns.Children.{child_at, only}
 use Rattle.tree_model.proofs.Sets.{in_set-with, in_set-others}
 use Rattle.tree_rules.specs.Bus.Faces.{ChildFace, ParentFace, parent_face, child_face, faces_of}
 use Rattle.tree_rules.specs.Bus.Own.{note_fits, readers_fit}
-use Rattle.tree_rules.specs.Bus.Item.{implies, holds_it, holds_exclusive, gives_none, gives_one, giver_holds, granted_fits, has_reply, reader_is_granted, eraser_is_granted, reader_is_noted, eraser_is_noted, Bits, bits_of}
+use Rattle.tree_rules.specs.Bus.Item.{implies, holds_it, holds_exclusive, gives_none, gives_one, giver_holds, granted_fits, has_reply, reader_is_granted, eraser_is_granted, Bits, bits_of}
 use Rattle.tree_rules.specs.Bus.Rules.{IsBusOk, IsChildOk}
 use Rattle.tree_rules.proofs.Implying.{implies-use, implies-by}
 use Rattle.bus_laws.specs.KeepsBus.{KeepsBus}
 use Rattle.bus_laws.proofs.States.{bits, each_state, state-at}
 use Rattle.bus_laws.proofs.BitsOf.{any-same, all-same, sole-same, gift-same, each-true}
-use Rattle.bus_laws.proofs.ItemLists.{nat_eq-same}
 use Rattle.bus_laws.proofs.DirParts.{dir-parts, note-at, child_seen, lt-test, lt-fact}
 use Rattle.bus_laws.proofs.Calls.{IsGranted, child-read-taken}
 use Rattle.bus_laws.proofs.Parents.{as-it-was, takes_count, noted}
@@ -34,8 +33,7 @@ use Rattle.bus_laws.proofs.TopParent.{top-counted, top-noted}
 use Rattle.bus_laws.proofs.Before.{granted-at, giver-at, reads-at, erases-at, reader-at}
 use Rattle.bus_laws.proofs.OneChild.{asks-there, one_after, one-told, one-many, one-here, one-other}
 use Rattle.bus_laws.proofs.RowFrame.{all-kids_at, fits, rules-after}
-use Rattle.bus_laws.proofs.RowChecks.{done_top, RowFound, keeps-top}
-use Rattle.bus_laws.proofs.Told.{IsTold}
+use Rattle.bus_laws.proofs.RowChecks.{done_top, keeps-top}
 
 -- ---- what is computed
 

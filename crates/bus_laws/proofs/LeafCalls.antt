@@ -1,29 +1,25 @@
 -- What a bus tells a leaf, or takes from it, keeps the leaf's rules, and what is seen of it then.
-use Rattle.std.proofs.Common.{◌≡◌, ◌≢◌, ℕ, zero, suc, ◌+◌, ◌-◌, ◌<◌, ◌≤◌, Bool, true, false, List, [], ◌∷◌, ◌++◌, length, Option, Some, None, refl, sym, ap, subst, ◌∙◌, arith, length-append, ◌⊎◌, inl, inr}
-use Rattle.std.specs.Prelude.{not, ◌&&◌, ◌||◌, nat_eq, option_map, is_none, is_some, if◌then◌else◌}
-use Rattle.std.specs.List.{list_all}
+use Rattle.std.proofs.Common.{◌≡◌, ◌≢◌, ℕ, ◌+◌, ◌<◌, Bool, true, false, List, [], ◌∷◌, ◌++◌, length, Option, Some, None, refl, sym, ap, subst, ◌∙◌, arith, length-append}
+use Rattle.std.specs.Prelude.{not, ◌&&◌, nat_eq, option_map, if◌then◌else◌}
 use native.Mathlib.Decide.{ℕ_discrete}
-use Rattle.std.specs.Cmp.Derive.{both_true}
 use Rattle.std.proofs.Math.Bool.{and-false}
-use Rattle.std.proofs.lemmas.Bool.{ne_eqb, eqb-true, eq-eqb, and_parts, leb-false}
+use Rattle.std.proofs.lemmas.Bool.{ne_eqb, eq-eqb, and_parts, leb-false}
 use Rattle.ddm_types.specs.declared.answers.TxKind.{TxKind}
 use Rattle.ddm_types.specs.declared.answers.TxKind.TheVariants.{ReadTx, EraseTx}
 use Rattle.ddm_types.specs.declared.sizes.Hold.{Hold}
 use Rattle.ddm_types.specs.declared.sizes.LeafState.{LeafState}
-use Rattle.flat_model.specs.Flat.{has_reserved}
 use Rattle.tree_model.specs.State.Kinds.{is_kind}
-use Rattle.tree_model.specs.State.Lists.{rest_of, first_of}
-use Rattle.tree_model.specs.State.States.{entry_hold, is_held, is_reading, is_upgrading, state_lost, asked_when_lost, state_with_data, asked_with_data, state_with_exclusive, state_with_inject, state_answered}
-use Rattle.tree_model.specs.State.Values.{RequestValue, CopyValue, LeafValue, leaf_node}
-use Rattle.tree_model.specs.State.Leaf.{blank, Fate, stays, ends, becomes, enters, with_fate, words_in, slot_has, is_request, words_of_item, LeafEntry, leaf_entry, entry_at, entry_state, state_at, ways_after, buffer_after, leaf_hold, slot_asking, slot_struck, unreserved, fate_by_loss, fate_by, reply_by, leaf_lose, leaf_take_data, leaf_take_exclusive, leaf_answer, leaf_take_inject, leaf_give_up, leaf_replies_full, leaf_room, leaf_waits, free_way}
+use Rattle.tree_model.specs.State.States.{is_held, is_reading, is_upgrading, state_lost, asked_when_lost, state_with_data, asked_with_data, state_with_exclusive, state_answered}
+use Rattle.tree_model.specs.State.Values.{RequestValue, LeafValue, leaf_node}
+use Rattle.tree_model.specs.State.Leaf.{blank, stays, ends, becomes, with_fate, words_in, slot_has, words_of_item, LeafEntry, leaf_entry, entry_state, state_at, slot_asking, unreserved, fate_by_loss, fate_by, leaf_lose, leaf_take_data, leaf_take_exclusive, leaf_answer, leaf_replies_full}
 use Rattle.tree_model.proofs.LeafRooms.{LeafWithin, leaf_within-facts}
 use Rattle.tree_model.proofs.Tests.{not-true}
-use Rattle.tree_rules.specs.Bus.Faces.{ChildFace, in_state, leaf_face}
+use Rattle.tree_rules.specs.Bus.Faces.{ChildFace, leaf_face}
 use Rattle.tree_rules.specs.Bus.Item.{implies}
-use Rattle.tree_rules.specs.Bus.Own.{leaf_lists, slot_fits, leaf_replies, reservation_fits, IsLeafOk, are_zero, words_suit, state_waits, request_suits, slot_suits, copy_fits, reserves_below}
-use Rattle.bus_laws.proofs.HartFacts.{HasEntries, entries-from_rules, one-waits}
-use Rattle.bus_laws.proofs.Lists.{pass-rest, pass-pushed}
-use Rattle.bus_laws.proofs.ItemLists.{nat_eq-same, words-pushed, words-pushed_other, words-first, words-first_other}
+use Rattle.tree_rules.specs.Bus.Own.{leaf_lists, slot_fits, leaf_replies, reservation_fits, IsLeafOk, words_suit, state_waits, request_suits, slot_suits, copy_fits, reserves_below}
+use Rattle.bus_laws.proofs.HartFacts.{one-waits}
+use Rattle.bus_laws.proofs.Lists.{pass-pushed}
+use Rattle.bus_laws.proofs.ItemLists.{nat_eq-same, words-pushed, words-pushed_other}
 use Rattle.bus_laws.proofs.DirParts.{blank-zero, child_seen, lt-test}
 use Rattle.bus_laws.proofs.DirCalls.{face_lost}
 use Rattle.bus_laws.proofs.LeafTold.{IsFated, fated-stays, fated-ends, fated-becomes, SlotSuits, LeafChange, state_face, leaf_face-is, leaf-told}

@@ -1,16 +1,14 @@
 -- What stands where after an entry ended.
-use Rattle.std.proofs.Common.{◌≡◌, ◌≢◌, ℕ, Bool, true, false, List, [], ◌∷◌, map, length, Option, Some, None, refl, sym, ap, subst, ◌∙◌, inl, inr}
-use Rattle.std.specs.Prelude.{not, nat_eq, filter, find, option_map, slice_index_or, slice_set}
-use Rattle.std.specs.List.{All}
-use Rattle.std.proofs.lemmas.Bool.{eqb-true, ne_eqb}
+use Rattle.std.proofs.Common.{◌≡◌, ◌≢◌, ℕ, Bool, true, false, List, [], ◌∷◌, Option, Some, None, refl, sym, subst, ◌∙◌, inl, inr}
+use Rattle.std.specs.Prelude.{not, filter, find, slice_set}
+use Rattle.std.proofs.lemmas.Bool.{eqb-true}
 use Rattle.std.proofs.lemmas.Bool.Decides.{eqb_tells}
 use Rattle.std.proofs.lemmas.List.{length-set}
 use Rattle.std.proofs.lemmas.List.Elements.{All-filter, All-weaker}
-use Rattle.tree_model.specs.State.Shape.{are_distinct}
 use Rattle.tree_model.specs.State.Values.{WayValue, BufferValue, LeafSizes}
-use Rattle.tree_model.specs.State.Leaf.{way_at, buffer_item, is_buffered, buffered, buffer_entry, entry_at, ends, ways_after, buffer_after}
+use Rattle.tree_model.specs.State.Leaf.{way_at, buffer_item, is_buffered, entry_at, ends, ways_after, buffer_after}
 use Rattle.bus_laws.proofs.Lists.{distinct-filter}
-use Rattle.bus_laws.proofs.HartFacts.{find-holds, StandsAside, HasEntries}
+use Rattle.bus_laws.proofs.HartFacts.{StandsAside, HasEntries}
 use Rattle.bus_laws.proofs.HartChanges.{way-set_other, way-set_none}
 
 gone-step : (x : ℕ) (e : BufferValue) (es : List BufferValue) (b : Bool) → is_buffered x e ≡ b → find (is_buffered x) (filter (λ e. not (is_buffered x e)) es) ≡ None → find (is_buffered x) (filter (λ e. not (is_buffered x e)) (e ∷ es)) ≡ None

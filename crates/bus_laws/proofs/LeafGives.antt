@@ -1,31 +1,30 @@
 -- What a bus takes from a leaf, and an inject that it tells a leaf, keep the leaf's rules, and what is seen of it then.
-use Rattle.std.proofs.Common.{◌≡◌, ◌≢◌, ℕ, zero, suc, ◌+◌, ◌-◌, ◌%◌, ◌<◌, ◌≤◌, Bool, true, false, List, [], ◌∷◌, length, map, Option, Some, None, refl, sym, ap, subst, ◌∙◌, arith, ◌⊎◌, inl, inr}
-use Rattle.std.specs.Prelude.{not, ◌&&◌, ◌||◌, nat_eq, filter, find, option_map, is_none, is_some, slice_get, slice_index_or, if◌then◌else◌}
-use Rattle.std.specs.List.{All, list_all, list_any}
+use Rattle.std.proofs.Common.{◌≡◌, ◌≢◌, ℕ, zero, suc, ◌-◌, ◌<◌, Bool, true, false, List, [], ◌∷◌, length, map, Option, Some, None, refl, sym, ap, subst, ◌∙◌, arith, ◌⊎◌, inl, inr}
+use Rattle.std.specs.Prelude.{not, ◌&&◌, ◌||◌, nat_eq, filter, option_map, is_none, is_some, slice_get, slice_index_or, if◌then◌else◌}
+use Rattle.std.specs.List.{All, list_any}
 use Rattle.std.proofs.Math.Bool.{and-false}
-use Rattle.std.proofs.lemmas.Bool.{ne_eqb, eqb-true, eqb-false, eq-eqb, and_parts, or_parts}
+use Rattle.std.proofs.lemmas.Bool.{ne_eqb, eqb-true, eqb-false, and_parts, or_parts}
 use Rattle.std.proofs.lemmas.List.Elements.{All-nil, All-cons, All-head, All-tail}
 use Rattle.ddm_types.specs.declared.answers.TxKind.{TxKind}
 use Rattle.ddm_types.specs.declared.answers.TxKind.TheVariants.{ReadTx, EraseTx}
 use Rattle.ddm_types.specs.declared.sizes.Hold.{Hold}
 use Rattle.ddm_types.specs.declared.sizes.LeafState.{LeafState}
 use Rattle.tree_model.specs.State.Kinds.{is_kind}
-use Rattle.tree_model.specs.State.Lists.{rest_of, first_of, chosen, first_some}
+use Rattle.tree_model.specs.State.Lists.{rest_of, first_of}
 use Rattle.tree_model.specs.State.Shape.{are_distinct}
 use Rattle.tree_model.specs.State.States.{is_held, is_reading, state_with_inject, may_leave}
 use Rattle.tree_model.specs.State.Values.{RequestValue, CopyValue, BufferValue, LeafValue, leaf_node}
-use Rattle.tree_model.specs.State.Leaf.{blank, stays, ends, becomes, enters, with_fate, words_in, slot_has, is_request, words_of_item, LeafEntry, leaf_entry, entry_at, buffered, buffer_item, is_buffered, entry_state, state_at, ways_after, buffer_after, slot_struck, unreserved, fate_by, enters_free, leaf_take_inject, leaf_give_up, leaf_room, leaf_waits, free_way, way_at, may_leave_buffer, leaf_leaving}
-use Rattle.tree_model.proofs.LeafRooms.{LeafWithin, leaf_within-facts, rest_of-length}
+use Rattle.tree_model.specs.State.Leaf.{stays, ends, becomes, enters, with_fate, slot_has, is_request, words_of_item, LeafEntry, leaf_entry, entry_at, buffered, buffer_item, entry_state, state_at, slot_struck, unreserved, fate_by, leaf_take_inject, leaf_give_up, leaf_room, free_way, way_at, may_leave_buffer, leaf_leaving}
+use Rattle.tree_model.proofs.LeafRooms.{leaf_within-facts, rest_of-length}
 use Rattle.tree_model.proofs.Tests.{not-true}
-use Rattle.tree_rules.specs.Bus.Faces.{ChildFace, in_state, leaf_face}
-use Rattle.tree_rules.specs.Bus.Item.{implies}
-use Rattle.tree_rules.specs.Bus.Own.{leaf_lists, slot_fits, leaf_replies, reservation_fits, IsLeafOk, words_suit, state_waits, request_suits, slot_suits, copy_fits, reserves_below}
-use Rattle.bus_laws.proofs.HartFacts.{HasEntries, StandsAside, entries-from_rules, state-known}
+use Rattle.tree_rules.specs.Bus.Faces.{ChildFace, leaf_face}
+use Rattle.tree_rules.specs.Bus.Own.{leaf_lists, slot_fits, leaf_replies, reservation_fits, IsLeafOk, state_waits, request_suits, slot_suits, copy_fits}
+use Rattle.bus_laws.proofs.HartFacts.{entries-from_rules, state-known}
 use Rattle.bus_laws.proofs.Lists.{pass-rest, chosen-get}
 use Rattle.bus_laws.proofs.ItemLists.{nat_eq-same, words-first, words-first_other}
 use Rattle.bus_laws.proofs.DirParts.{child_seen}
-use Rattle.bus_laws.proofs.LeafTold.{IsFated, fated-stays, fated-ends, fated-enters, SlotSuits, LeafChange, state_face, leaf_face-is, leaf-told}
-use Rattle.bus_laws.proofs.LeafCalls.{words-suit, suits-waits, asked-other, slot-stays, slot-none, change, still-reserves, told-by, face-known, state-of, same-slot, unasked, not-asked, fated-as, reads-by, read-asked, nothing-granted}
+use Rattle.bus_laws.proofs.LeafTold.{fated-stays, fated-ends, fated-enters, SlotSuits, LeafChange, state_face, leaf_face-is, leaf-told}
+use Rattle.bus_laws.proofs.LeafCalls.{words-suit, suits-waits, slot-stays, slot-none, change, still-reserves, told-by, face-known, state-of, same-slot, unasked, not-asked, fated-as, reads-by, read-asked, nothing-granted}
 use Rattle.bus_laws.proofs.Told.{IsTold}
 
 read-kind : (kind : TxKind) → is_kind ReadTx kind ≡ true → kind ≡ ReadTx

@@ -1,18 +1,17 @@
 -- A copy leaves a child: it is dropped, passed on to another child, or parked at the parent.
-use Rattle.std.proofs.Common.{◌≡◌, ◌≢◌, ℕ, zero, suc, ◌+◌, ◌<◌, Bool, true, false, List, [], ◌∷◌, length, Option, Some, None, refl, sym, ap, subst, ◌∙◌, arith}
+use Rattle.std.proofs.Common.{◌≡◌, ◌≢◌, ℕ, ◌<◌, Bool, true, false, List, length, Option, Some, None, refl, sym, ap, subst, ◌∙◌, arith}
 use Rattle.std.specs.Prelude.{not, ◌&&◌, ◌||◌, nat_eq, nat_lt, is_some, if◌then◌else◌}
-use Rattle.std.specs.List.{AllByRecursion, list_any}
+use Rattle.std.specs.List.{AllByRecursion}
 use native.Mathlib.Decide.{ℕ_discrete}
 use Rattle.std.specs.Cmp.Derive.{both_true}
 use Rattle.std.proofs.lemmas.Bool.{and_parts, or_parts, eqb-true, eqb-false, eq-eqb, ne_eqb, not-true}
-use Rattle.ddm_types.specs.declared.answers.TxKind.{TxKind}
 use Rattle.ddm_types.specs.declared.answers.TurnAnswer.{TurnAnswer}
 use Rattle.ddm_types.specs.declared.sizes.Hold.{Hold}
 use Rattle.ddm_types.specs.declared.keys.Stamp.{Stamp}
 use Rattle.tree_model.specs.State.Lists.{map_from, find_from, first_some, has_some, all_from}
 use Rattle.tree_model.specs.State.States.{is_held, is_exclusive, is_shared}
 use Rattle.tree_model.specs.State.Values.{Note, no_note, local, up_read, up_erase, DirValue, Node}
-use Rattle.tree_model.specs.State.Directory.{is_top, dir_hold, dir_note, is_answering, is_reader, is_eraser, is_up_erase, is_parked, stamp_of, with_parked, counted, pending, parking_full}
+use Rattle.tree_model.specs.State.Directory.{is_top, dir_hold, is_reader, is_eraser, is_up_erase, is_parked, stamp_of, with_parked, counted, pending, parking_full}
 use Rattle.tree_model.specs.State.Child.{child_leaving, pending_below, child_hold, child_holds, child_given, child_give_up, child_take_inject}
 use Rattle.tree_model.specs.State.Blank.{no_node}
 use Rattle.tree_model.specs.Turns.Children.{child_at, only, other_holds, other_waits, room_after, room_before, passed_on}
@@ -21,9 +20,9 @@ use Rattle.tree_model.proofs.Children.{map_from-length, child_at-map_from, found
 use Rattle.tree_model.proofs.Tests.{first_some-either}
 use Rattle.tree_model.proofs.DirRooms.{parking-place}
 use Rattle.tree_model.proofs.BusRooms.{leave_taker-room}
-use Rattle.tree_rules.specs.Bus.Faces.{ChildFace, ParentFace, parent_face, face_reads, face_erases, child_face, faces_of}
+use Rattle.tree_rules.specs.Bus.Faces.{ChildFace, ParentFace, parent_face, child_face, faces_of}
 use Rattle.tree_rules.specs.Bus.Own.{top_level, IsTopOk}
-use Rattle.tree_rules.specs.Bus.Item.{implies, holds_it, holds_exclusive, reader_is_granted, eraser_is_granted, exclusive_alone, exclusive_covered, Bits, bits_of, item_holds, kept_place, top_holds}
+use Rattle.tree_rules.specs.Bus.Item.{implies, holds_exclusive, reader_is_granted, eraser_is_granted, exclusive_alone, exclusive_covered, Bits, bits_of, item_holds, kept_place, top_holds}
 use Rattle.tree_rules.specs.Bus.Rules.{IsBusOk, IsChildOk}
 use Rattle.tree_rules.proofs.Implying.{implies-use}
 use Rattle.bus_laws.specs.KeepsBus.{KeepsBus}
@@ -33,14 +32,14 @@ use Rattle.bus_laws.proofs.BitsOf.{any-true}
 use Rattle.bus_laws.proofs.ItemLists.{nat_eq-same}
 use Rattle.bus_laws.proofs.DirParts.{dir-parts, lt-fact, child_seen, is_no_note}
 use Rattle.bus_laws.proofs.DirGives.{IsQuiet, quiet-from_pending}
-use Rattle.bus_laws.proofs.Calls.{HasLeft, child-give_up, Takes, with_room, child-take_inject}
+use Rattle.bus_laws.proofs.Calls.{HasLeft, child-give_up, with_room, child-take_inject}
 use Rattle.bus_laws.proofs.Parents.{IsModified, as-it-was, takes_count, parks}
 use Rattle.bus_laws.proofs.TopParent.{top-counted}
 use Rattle.bus_laws.proofs.Before.{idle_of, not-held, kid-ok, idle-at, idle-bits, gives-at, none-exclusive}
 use Rattle.bus_laws.proofs.OneChild.{leaves-there, untouched, one_after, one-told, one-many, one-here, one-other, somebody, not-parked, others-absent, shared-all}
 use Rattle.bus_laws.proofs.Answering.{child-hold}
 use Rattle.bus_laws.proofs.RowFrame.{all-kids_at, fits, top_like}
-use Rattle.bus_laws.proofs.RowChecks.{done_never, done_top, stays_seen, RowFound, keeps-never, keeps-top, keeps-by}
+use Rattle.bus_laws.proofs.RowChecks.{done_top, stays_seen, keeps-top, keeps-by}
 use Rattle.bus_laws.proofs.Shapes.{no-readers, lone-bits, quiet-bits}
 use Rattle.bus_laws.proofs.Told.{IsTold}
 

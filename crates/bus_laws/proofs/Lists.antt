@@ -1,6 +1,6 @@
 -- What passes for each element of a list passes after a change of it; and lists of distinct numbers.
 use Rattle.std.proofs.Common.{◌≡◌, ◌≢◌, ℕ, zero, suc, Bool, true, false, ◌%◌, List, [], ◌∷◌, ◌++◌, length, map, Option, Some, None, refl, sym, ap, subst, ◌∙◌}
-use Rattle.std.specs.Prelude.{not, ◌&&◌, ◌||◌, nat_eq, filter, option_map, slice_get, slice_set, if◌then◌else◌}
+use Rattle.std.specs.Prelude.{not, ◌||◌, nat_eq, filter, option_map, slice_get, slice_set, if◌then◌else◌}
 use Rattle.std.specs.List.{list_any, list_all}
 use Rattle.std.specs.Cmp.Derive.{both_true}
 use Rattle.std.proofs.lemmas.Bool.{and_parts, ne_eqb, eq-eqb}

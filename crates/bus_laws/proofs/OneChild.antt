@@ -1,5 +1,5 @@
 -- A turn that changes one child alone, and the child that asks, replies or leaves.
-use Rattle.std.proofs.Common.{◌≡◌, ◌≢◌, ℕ, zero, suc, ◌+◌, ◌<◌, Bool, true, false, List, [], ◌∷◌, length, Option, Some, None, refl, sym, ap, subst, ◌∙◌, arith}
+use Rattle.std.proofs.Common.{◌≡◌, ◌≢◌, ℕ, zero, suc, ◌<◌, Bool, true, false, List, [], ◌∷◌, length, Option, Some, None, refl, sym, ap, subst, ◌∙◌, arith}
 use Rattle.std.specs.Prelude.{nat_eq, not, if◌then◌else◌}
 use Rattle.std.specs.List.{AllByRecursion, list_any}
 use native.Mathlib.Decide.{ℕ_discrete}
@@ -13,12 +13,12 @@ use Rattle.tree_model.specs.State.Leaf.{leaf_leaving}
 use Rattle.tree_model.specs.State.Blank.{no_node}
 use Rattle.tree_model.specs.Turns.Children.{child_at, only}
 use Rattle.tree_model.proofs.Children.{map_from-length, child_at-map_from}
-use Rattle.tree_rules.specs.Bus.Faces.{ChildFace, ParentFace, parent_face, child_face, faces_of}
-use Rattle.tree_rules.specs.Bus.Item.{implies, holds_it, holds_exclusive, one_holds, bits_of, exclusive_alone, parked_alone}
+use Rattle.tree_rules.specs.Bus.Faces.{ChildFace, parent_face, child_face, faces_of}
+use Rattle.tree_rules.specs.Bus.Item.{holds_it, holds_exclusive, one_holds, bits_of, exclusive_alone, parked_alone}
 use Rattle.tree_rules.specs.Bus.Rules.{IsBusOk, IsChildOk}
 use Rattle.tree_rules.proofs.Implying.{implies-use}
 use Rattle.bus_laws.proofs.BitsOf.{any-true, any-some, one-at}
-use Rattle.bus_laws.proofs.Before.{face, seen, child, rules, kid-ok}
+use Rattle.bus_laws.proofs.Before.{kid-ok}
 use Rattle.bus_laws.proofs.Told.{IsTold}
 
 -- ---- a child that has something is there

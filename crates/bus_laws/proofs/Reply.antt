@@ -1,29 +1,29 @@
 -- A reply is granted: every reader is told data, or it goes up from a parent that is answering.
-use Rattle.std.proofs.Common.{◌≡◌, ◌≢◌, ℕ, zero, suc, ◌+◌, ◌-◌, ◌<◌, ◌≤◌, Bool, true, false, List, [], ◌∷◌, length, Some, None, refl, sym, ap, subst, ◌∙◌, arith, length-append}
+use Rattle.std.proofs.Common.{◌≡◌, ◌≢◌, ℕ, ◌+◌, ◌-◌, ◌<◌, ◌≤◌, Bool, true, false, List, [], ◌∷◌, length, Some, None, refl, sym, ap, subst, ◌∙◌, arith, length-append}
 use Rattle.std.specs.Prelude.{not, ◌&&◌, ◌||◌, nat_eq, if◌then◌else◌}
 use Rattle.std.specs.List.{AllByRecursion}
 use native.Mathlib.Decide.{ℕ_discrete}
 use Rattle.std.specs.Cmp.Derive.{both_true}
-use Rattle.std.proofs.lemmas.Bool.{and_parts, eqb-true, eq-eqb, ne_eqb, not-true}
-use Rattle.ddm_types.specs.declared.answers.TxKind.TheVariants.{ReadTx, DataTx}
+use Rattle.std.proofs.lemmas.Bool.{and_parts, eqb-true, eq-eqb, ne_eqb}
+use Rattle.ddm_types.specs.declared.answers.TxKind.TheVariants.{DataTx}
 use Rattle.ddm_types.specs.declared.answers.TurnAnswer.{TurnAnswer}
 use Rattle.ddm_types.specs.declared.sizes.Hold.{Hold}
 use Rattle.ddm_types.specs.declared.keys.Stamp.{Stamp}
-use Rattle.tree_model.specs.State.Lists.{map_from, first_given, has_some}
+use Rattle.tree_model.specs.State.Lists.{map_from, first_given}
 use Rattle.tree_model.specs.State.States.{is_held, is_exclusive, is_shared}
 use Rattle.tree_model.specs.State.Values.{Note, no_note, local, up_read, up_erase, DirValue, Node}
 use Rattle.tree_model.specs.State.Leaf.{words_of_item}
-use Rattle.tree_model.specs.State.Directory.{dir_hold, dir_note, is_answering, is_reader, is_eraser, is_local, stamp_of, with_note, with_hold, with_answering, pushed_reply, counted, replies_full}
+use Rattle.tree_model.specs.State.Directory.{dir_note, is_answering, is_reader, is_eraser, is_local, stamp_of, with_note, with_hold, with_answering, pushed_reply, counted, replies_full}
 use Rattle.tree_model.specs.State.Child.{child_reply, child_reply_taken, child_take_data, child_full_for}
 use Rattle.tree_model.specs.State.Blank.{no_node}
-use Rattle.tree_model.specs.Turns.Children.{child_at, only, reader_full, reader_takes, replied_by}
+use Rattle.tree_model.specs.Turns.Children.{child_at, only, reader_full, replied_by}
 use Rattle.tree_model.specs.Turns.Grant.{own_replies_full}
 use Rattle.tree_model.proofs.Children.{map_from-length, child_at-map_from, none-given}
 use Rattle.tree_model.proofs.Tests.{some_if-none}
 use Rattle.tree_rules.specs.Bus.Faces.{ChildFace, ParentFace, parent_face, face_reads, face_erases, face_above, child_face, faces_of}
-use Rattle.tree_rules.specs.Bus.Item.{implies, holds_it, holds_exclusive, gives_none, gives_one, has_reply, giver_holds, granted_fits, reader_is_granted, reader_is_noted, eraser_is_noted, may_erase, Bits, bits_of, item_holds, kept_place}
+use Rattle.tree_rules.specs.Bus.Item.{implies, holds_it, holds_exclusive, gives_none, has_reply, granted_fits, reader_is_granted, reader_is_noted, eraser_is_noted, may_erase, Bits, bits_of, item_holds, kept_place}
 use Rattle.tree_rules.specs.Bus.Rules.{IsBusOk, IsChildOk}
-use Rattle.tree_rules.proofs.Implying.{implies-use, implies-false, implies-by}
+use Rattle.tree_rules.proofs.Implying.{implies-use}
 use Rattle.bus_laws.specs.KeepsBus.{KeepsBus, having_answered, dir_face}
 use Rattle.bus_laws.proofs.Every.{every_bool, every_bool-at}
 use Rattle.bus_laws.proofs.States.{bits, each_state, state-at}
@@ -34,9 +34,9 @@ use Rattle.bus_laws.proofs.Calls.{child-take_data, IsReplied, child-reply-taken}
 use Rattle.bus_laws.proofs.Parents.{IsModified, as-it-was, takes_count, noted, held, answers, pushes_reply}
 use Rattle.bus_laws.proofs.TopParent.{top-counted, top-noted}
 use Rattle.bus_laws.proofs.Before.{idle_of, gives-nothing, seen-as, shared-is, kid-ok, granted-at, giver-at, not-reads, not-erases, reader-at, reads-absent, none-exclusive, gives-at, reads-at, erases-at}
-use Rattle.bus_laws.proofs.OneChild.{replies-there, somebody, not-parked, shared-all, one_after, one-told, one-many, one-here, one-other}
-use Rattle.bus_laws.proofs.RowFrame.{all-kids_at, fits, rules-after, RowFacts, row-keeps}
-use Rattle.bus_laws.proofs.RowChecks.{done_top, never_top, RowFound, keeps-top, rules-by, never-top}
+use Rattle.bus_laws.proofs.OneChild.{replies-there, not-parked, shared-all, one_after, one-told, one-many, one-here, one-other}
+use Rattle.bus_laws.proofs.RowFrame.{all-kids_at, fits, rules-after, row-keeps}
+use Rattle.bus_laws.proofs.RowChecks.{done_top, never_top, keeps-top, rules-by, never-top}
 use Rattle.bus_laws.proofs.Shapes.{quiet-bits}
 use Rattle.bus_laws.proofs.Told.{IsTold}
 

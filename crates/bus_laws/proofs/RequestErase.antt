@@ -1,20 +1,19 @@
 -- A request to erase is granted: every other child is told to lose the item.
-use Rattle.std.proofs.Common.{◌≡◌, ◌≢◌, ℕ, zero, suc, ◌+◌, ◌<◌, Bool, true, false, List, [], ◌∷◌, ◌++◌, length, Some, None, refl, sym, ap, subst, ◌∙◌, arith}
+use Rattle.std.proofs.Common.{◌≡◌, ◌≢◌, ℕ, ◌<◌, Bool, true, false, List, [], ◌∷◌, ◌++◌, length, Some, None, refl, sym, ap, subst, ◌∙◌, arith}
 use Rattle.std.specs.Prelude.{not, ◌&&◌, ◌||◌, nat_eq, if◌then◌else◌}
 use Rattle.std.specs.List.{AllByRecursion}
 use native.Mathlib.Decide.{ℕ_discrete}
 use Rattle.std.specs.Cmp.Derive.{both_true}
-use Rattle.std.proofs.lemmas.Bool.{and_parts, eqb-true, eq-eqb, ne_eqb, not-true}
+use Rattle.std.proofs.lemmas.Bool.{and_parts, eq-eqb, ne_eqb}
 use Rattle.ddm_types.specs.declared.answers.TxKind.TheVariants.{EraseTx, ExclusiveTx}
 use Rattle.ddm_types.specs.declared.answers.TurnAnswer.{TurnAnswer}
-use Rattle.ddm_types.specs.declared.answers.QueueName.{QueueName}
 use Rattle.ddm_types.specs.declared.sizes.Hold.{Hold}
 use Rattle.ddm_types.specs.declared.keys.Stamp.{Stamp}
 use Rattle.tree_model.specs.State.Lists.{map_from, first_given, has_some}
 use Rattle.tree_model.specs.State.States.{is_held, is_exclusive}
 use Rattle.tree_model.specs.State.Values.{Note, no_note, local, up_read, up_erase, DirValue, Node}
 use Rattle.tree_model.specs.State.Leaf.{blank}
-use Rattle.tree_model.specs.State.Directory.{dir_hold, dir_note, is_answering, is_reader, is_eraser, stamp_of, with_note, counted, pending, down_full, requests_full}
+use Rattle.tree_model.specs.State.Directory.{dir_hold, is_reader, stamp_of, with_note, counted, pending, down_full, requests_full}
 use Rattle.tree_model.specs.State.Child.{child_request, child_request_taken, child_lose, child_full_for}
 use Rattle.tree_model.specs.State.Blank.{no_node}
 use Rattle.tree_model.specs.Turns.Children.{child_at, other_full, erased_by}
@@ -22,7 +21,6 @@ use Rattle.tree_model.specs.Turns.RequestErase.{erase_noted, erase_list_full}
 use Rattle.tree_model.proofs.Children.{map_from-length, child_at-map_from, none-given}
 use Rattle.tree_model.proofs.Tests.{some_if-none}
 use Rattle.tree_rules.specs.Bus.Faces.{ChildFace, ParentFace, parent_face, child_face, faces_of}
-use Rattle.tree_rules.specs.Bus.Own.{IsTopOk}
 use Rattle.tree_rules.specs.Bus.Item.{implies, may_erase, eraser_is_granted, Bits, bits_of}
 use Rattle.tree_rules.specs.Bus.Rules.{IsBusOk, IsChildOk}
 use Rattle.tree_rules.proofs.Implying.{implies-use}
@@ -31,15 +29,14 @@ use Rattle.bus_laws.proofs.States.{bits, each_state, state-at}
 use Rattle.bus_laws.proofs.BitsOf.{passes-true}
 use Rattle.bus_laws.proofs.ItemLists.{nat_eq-same}
 use Rattle.bus_laws.proofs.DirParts.{dir-parts, child_seen, is_no_note, lt-test, blank-zero}
-use Rattle.bus_laws.proofs.DirCalls.{face_lost}
 use Rattle.bus_laws.proofs.DirGives.{IsQuiet, quiet-from_pending}
 use Rattle.bus_laws.proofs.Calls.{child-lose, IsGranted, child-erase-taken}
 use Rattle.bus_laws.proofs.Parents.{IsModified, as-it-was, takes_count, noted, pushes_down, pushes_request}
 use Rattle.bus_laws.proofs.TopParent.{top-counted, top-noted, top-pushed}
-use Rattle.bus_laws.proofs.Before.{idle_of, lost-idle, kid-ok, granted-at, not-reads, not-erases, gives-at, none-exclusive}
+use Rattle.bus_laws.proofs.Before.{idle_of, lost-idle, kid-ok, granted-at, not-reads, gives-at, none-exclusive}
 use Rattle.bus_laws.proofs.OneChild.{asks-there, somebody, not-parked, shared-all}
 use Rattle.bus_laws.proofs.RowFrame.{all-kids_at, fits}
-use Rattle.bus_laws.proofs.RowChecks.{done_never, done_top, RowFound, keeps-never, keeps-top}
+use Rattle.bus_laws.proofs.RowChecks.{done_never, done_top, keeps-never, keeps-top}
 use Rattle.bus_laws.proofs.Shapes.{no-readers, lone-bits}
 use Rattle.bus_laws.proofs.Told.{IsTold}
 

@@ -1,20 +1,20 @@
 -- A request to read is granted: it joins a read that is under way, another child or the parked copy answers it, or it goes up.
-use Rattle.std.proofs.Common.{◌≡◌, ◌≢◌, ℕ, zero, suc, ◌+◌, ◌^◌, ◌<◌, Bool, true, false, List, [], ◌∷◌, ◌++◌, length, Option, Some, None, refl, sym, ap, subst, ◌∙◌, arith}
+use Rattle.std.proofs.Common.{◌≡◌, ◌≢◌, ℕ, ◌^◌, ◌<◌, Bool, true, false, List, [], ◌∷◌, ◌++◌, length, Some, None, refl, sym, ap, subst, ◌∙◌, arith}
 use Rattle.std.specs.Prelude.{not, ◌&&◌, ◌||◌, nat_eq, if◌then◌else◌}
 use Rattle.std.specs.List.{AllByRecursion, list_any, list_all}
 use native.Mathlib.Decide.{ℕ_discrete}
 use Rattle.std.specs.Cmp.Derive.{both_true}
 use Rattle.std.proofs.lemmas.Bool.{and_parts, or_parts, eqb-true, eq-eqb, ne_eqb, not-true}
-use Rattle.std.proofs.lemmas.Nat.{pow_pos, or_lt, pow_below}
+use Rattle.std.proofs.lemmas.Nat.{pow_pos}
 use Rattle.ddm_types.specs.declared.answers.TxKind.TheVariants.{ReadTx, DataTx}
 use Rattle.ddm_types.specs.declared.answers.TurnAnswer.{TurnAnswer}
 use Rattle.ddm_types.specs.declared.sizes.Hold.{Hold}
 use Rattle.ddm_types.specs.declared.keys.Stamp.{Stamp}
 use Rattle.tree_model.specs.State.Lists.{map_from, find_from, first_of, has_some, all_from}
-use Rattle.tree_model.specs.State.States.{is_held, is_exclusive, is_shared}
+use Rattle.tree_model.specs.State.States.{is_held, is_exclusive}
 use Rattle.tree_model.specs.State.Values.{Note, no_note, local, up_read, up_erase, DirValue, Node}
 use Rattle.tree_model.specs.State.Leaf.{words_of_item}
-use Rattle.tree_model.specs.State.Directory.{dir_hold, dir_note, is_answering, is_reader, is_eraser, is_local, is_up_read, in_set, stamp_of, with_note, counted, pending, down_full, requests_full, parked_words, pushed_down, pushed_request, without_parked}
+use Rattle.tree_model.specs.State.Directory.{dir_hold, is_reader, is_eraser, in_set, stamp_of, with_note, counted, pending, down_full, requests_full, parked_words, pushed_down, pushed_request, without_parked}
 use Rattle.tree_model.specs.State.Child.{child_request, child_request_taken, child_answer, child_full_for, child_holds}
 use Rattle.tree_model.specs.State.Blank.{no_node}
 use Rattle.tree_model.specs.Turns.Children.{child_at, other_holds, only, read_from}
@@ -24,7 +24,7 @@ use Rattle.tree_model.proofs.Sets.{in_set-empty}
 use Rattle.tree_model.proofs.Tests.{some_if-none}
 use Rattle.tree_rules.specs.Bus.Faces.{ChildFace, ParentFace, parent_face, child_face, faces_of}
 use Rattle.tree_rules.specs.Bus.Own.{note_fits, readers_fit}
-use Rattle.tree_rules.specs.Bus.Item.{implies, holds_it, holds_exclusive, one_holds, gives_none, gives_one, one_gives, reader_is_granted, eraser_is_granted, Bits, bits_of, held_after}
+use Rattle.tree_rules.specs.Bus.Item.{implies, holds_it, holds_exclusive, gives_none, gives_one, one_gives, reader_is_granted, eraser_is_granted, Bits, bits_of}
 use Rattle.tree_rules.specs.Bus.Rules.{IsBusOk, IsChildOk}
 use Rattle.tree_rules.proofs.Implying.{implies-use, implies-by}
 use Rattle.bus_laws.specs.KeepsBus.{KeepsBus}
@@ -32,7 +32,7 @@ use Rattle.bus_laws.proofs.Every.{every_bool, every_bool-at}
 use Rattle.bus_laws.proofs.States.{bits, each_state, state-at}
 use Rattle.bus_laws.proofs.BitsOf.{any-same, sole-same, any-false, all-at, each-true, gift-true}
 use Rattle.bus_laws.proofs.ItemLists.{nat_eq-same}
-use Rattle.bus_laws.proofs.DirParts.{DirParts, dir-parts, child_seen, is_no_note, lt-test, blank-zero}
+use Rattle.bus_laws.proofs.DirParts.{dir-parts, child_seen, is_no_note, lt-test}
 use Rattle.bus_laws.proofs.DirGives.{IsQuiet, quiet-from_pending}
 use Rattle.bus_laws.proofs.Calls.{child-answer, face_answers, IsGranted, child-read-taken}
 use Rattle.bus_laws.proofs.Parents.{IsModified, as-it-was, takes_count, noted, unparks, pushes_down, pushes_request}

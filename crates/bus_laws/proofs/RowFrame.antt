@@ -1,34 +1,30 @@
 -- What a row of a bus's turn comes to: with the children told so and the parent changed so, the turn keeps the rules, where
 -- the rules of its item hold after it.
-use Rattle.std.proofs.Common.{◌≡◌, ◌≢◌, ℕ, zero, suc, ◌+◌, ◌<◌, Bool, true, false, List, [], ◌∷◌, length, map, refl, sym, ap, subst, ◌∙◌, arith}
+use Rattle.std.proofs.Common.{◌≡◌, ◌≢◌, ℕ, zero, suc, ◌+◌, ◌<◌, Bool, true, List, [], ◌∷◌, length, map, refl, sym, ap, subst, ◌∙◌, arith}
 use Rattle.std.specs.Prelude.{not, ◌&&◌, slice_index_or, IsTrue}
 use Rattle.std.specs.List.{list_all, AllByRecursion}
 use Rattle.std.specs.Cmp.Derive.{both_true}
 use native.Mathlib.Decide.{ℕ_discrete}
-use Rattle.std.proofs.lemmas.Bool.{and_parts, not-true}
-use Rattle.ddm_types.specs.declared.sizes.Hold.{Hold}
+use Rattle.std.proofs.lemmas.Bool.{and_parts}
 use Rattle.ddm_types.specs.declared.answers.TurnAnswer.{TurnAnswer}
 use Rattle.ddm_types.specs.declared.keys.Stamp.{Stamp}
 use Rattle.ddm_types.specs.Keys.{stamp_zero}
-use Rattle.tree_model.specs.State.Lists.{has_some, map_from}
+use Rattle.tree_model.specs.State.Lists.{has_some}
 use Rattle.tree_model.specs.State.States.{is_exclusive}
-use Rattle.tree_model.specs.State.Values.{Note, RequestValue, DirItem, absent_item, DirValue, Node}
+use Rattle.tree_model.specs.State.Values.{Note, RequestValue, absent_item, DirValue, Node}
 use Rattle.tree_model.specs.State.Leaf.{words_of_item}
-use Rattle.tree_model.specs.State.Directory.{dir_item, dir_hold, is_answering, request_kinds}
+use Rattle.tree_model.specs.State.Directory.{dir_hold, is_answering, request_kinds}
 use Rattle.tree_model.specs.State.Blank.{no_node}
 use Rattle.tree_model.specs.Turns.Children.{child_at}
-use Rattle.tree_model.specs.Turns.Grant.{Outcome}
-use Rattle.tree_model.proofs.Children.{map_from-length, child_at-map_from}
 use Rattle.tree_rules.specs.Bus.Faces.{ChildFace, ParentFace, parent_face, face_reads, face_erases, face_above, child_face, faces_of}
 use Rattle.tree_rules.specs.Bus.Own.{top_item, top_items, no_requests, IsTopOk, IsDirOk}
-use Rattle.tree_rules.specs.Bus.Item.{granted_fits, giver_holds, reader_is_noted, eraser_is_noted, Bits, bits_of, item_holds, ItemRules, kept_place, top_holds}
+use Rattle.tree_rules.specs.Bus.Item.{granted_fits, giver_holds, reader_is_noted, eraser_is_noted, Bits, bits_of, ItemRules, kept_place, top_holds}
 use Rattle.tree_rules.specs.Bus.Rules.{IsBusOk, IsChildOk}
-use Rattle.tree_rules.proofs.BusTests.{ItemRules-from_test}
 use Rattle.bus_laws.specs.KeepsBus.{dir_face, IsSeenAbove, as_before, IsTopBusOk, KeepsBus}
 use Rattle.bus_laws.proofs.States.{bits}
 use Rattle.bus_laws.proofs.BitsOf.{all-true, each-true}
-use Rattle.bus_laws.proofs.BusChanged.{IsSameOf, parent-same, dir_face-same, bus-changed}
-use Rattle.bus_laws.proofs.DirParts.{DirParts, dir-ok, dir-parts, is_seen, seen-is}
+use Rattle.bus_laws.proofs.BusChanged.{parent-same, dir_face-same, bus-changed}
+use Rattle.bus_laws.proofs.DirParts.{dir-ok, dir-parts, is_seen, seen-is}
 use Rattle.bus_laws.proofs.Parents.{IsModified}
 use Rattle.bus_laws.proofs.Told.{IsTold}
 

@@ -1,21 +1,20 @@
 -- Bits of children that are left so by a turn: one alone does something with the item, or all are quiet.
-use Rattle.std.proofs.Common.{◌≡◌, ◌≢◌, ℕ, zero, suc, ◌+◌, ◌<◌, Bool, true, false, List, [], ◌∷◌, length, refl, sym, ap, subst, ◌∙◌}
-use Rattle.std.specs.Prelude.{not, ◌&&◌, ◌||◌, nat_eq, if◌then◌else◌}
-use Rattle.std.specs.List.{list_any, list_all}
+use Rattle.std.proofs.Common.{◌≡◌, ◌≢◌, ℕ, ◌<◌, Bool, true, false, List, length, refl, sym, ap, subst, ◌∙◌}
+use Rattle.std.specs.Prelude.{not, ◌||◌, if◌then◌else◌}
+use Rattle.std.specs.List.{list_any}
 use native.Mathlib.Decide.{ℕ_discrete}
 use Rattle.ddm_types.specs.declared.sizes.Hold.{Hold}
 use Rattle.tree_model.specs.State.Lists.{all_from}
 use Rattle.tree_model.specs.State.States.{is_held, is_exclusive}
-use Rattle.tree_model.specs.State.Values.{Note, no_note, local, up_read, up_erase, Node}
-use Rattle.tree_model.specs.State.Directory.{is_reader, is_eraser, is_up_erase}
+use Rattle.tree_model.specs.State.Values.{Note, no_note, Node}
+use Rattle.tree_model.specs.State.Directory.{is_reader}
 use Rattle.tree_model.specs.State.Blank.{no_node}
 use Rattle.tree_model.specs.Turns.Children.{child_at}
 use Rattle.tree_rules.specs.Bus.Faces.{ChildFace, ParentFace, child_face, faces_of}
-use Rattle.tree_rules.specs.Bus.Item.{implies, holds_it, holds_exclusive, one_holds, gives_none, reader_is_granted, eraser_is_granted, may_erase, Bits, bits_of}
+use Rattle.tree_rules.specs.Bus.Item.{implies, holds_it, holds_exclusive, one_holds, gives_none, reader_is_granted, eraser_is_granted, bits_of}
 use Rattle.tree_rules.proofs.Implying.{implies-by}
 use Rattle.bus_laws.proofs.States.{bits}
-use Rattle.bus_laws.proofs.BitsOf.{any-true, any-false, all-true, each-true, passes-true, one-true, one-none, gift-none}
-use Rattle.bus_laws.proofs.DirParts.{child_seen, is_no_note}
+use Rattle.bus_laws.proofs.BitsOf.{any-true, any-false, all-true, each-true, one-true, one-none, gift-none}
 use Rattle.bus_laws.proofs.Before.{idle_of}
 use Rattle.bus_laws.proofs.RowFrame.{fits, rules-after}
 
