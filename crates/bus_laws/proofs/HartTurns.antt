@@ -106,7 +106,7 @@ range-below : (a k n : ℕ) → a + k ≤ n → All (λ w. w < n) (range_with_le
 range-below a zero n h = All-nil (λ w. w < n)
 range-below a (suc k) n h = All-cons (λ w. w < n) a (range_with_len (a + 1) k) (omega arith) (range-below (a + 1) k n (omega arith))
 
-free_way-inside : (sizes : LeafSizes) (x way : ℕ) (ways : List (Option WayValue)) → free_way sizes x ways ≡ Some way → way < sizes.way_count
+pub free_way-inside : (sizes : LeafSizes) (x way : ℕ) (ways : List (Option WayValue)) → free_way sizes x ways ≡ Some way → way < sizes.way_count
 unfolding free_way
 free_way-inside sizes x way ways found = (find-holds (λ w. w < sizes.way_count) (λ way. is_none (item_in_way sizes.sets x way ways)) (range_with_len 0 sizes.way_count) way (range-below 0 sizes.way_count sizes.way_count (omega arith)) found).0
 

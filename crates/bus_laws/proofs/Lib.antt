@@ -4,3 +4,5 @@ pub mod HartTurns
 pub mod TreeSeen
 pub mod FoundExists
 pub mod TreeKept
+pub mod StartSums
+pub mod StartLeaves
