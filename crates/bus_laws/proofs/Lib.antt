@@ -6,3 +6,5 @@ pub mod FoundExists
 pub mod TreeKept
 pub mod StartSums
 pub mod StartLeaves
+pub mod StartNodes
+pub mod StartLevels

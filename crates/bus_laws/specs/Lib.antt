@@ -1,1 +1,2 @@
 pub mod KeepsBus
+pub mod IsTree
