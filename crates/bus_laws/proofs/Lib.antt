@@ -8,3 +8,4 @@ pub mod StartSums
 pub mod StartLeaves
 pub mod StartNodes
 pub mod StartLevels
+pub mod StartKept

@@ -370,7 +370,7 @@ module _ (n : ℕ) (sizes : LeafSizes) where
 
   -- ---- what each leaf keeps, and what its bus sees of it
 
-  leaf-rules : 0 < sizes.sets → 0 < sizes.way_count → (v : LeafValue) → IsPlacedLeaf n n sizes v → IsLeafOk n v
+  pub leaf-rules : 0 < sizes.sets → 0 < sizes.way_count → (v : LeafValue) → IsPlacedLeaf n n sizes v → IsLeafOk n v
   unfolding entry_at
   leaf-rules sets ways v h = rules-from_entries n v (record {
     sets = both_true (lt-ltb _ _ (subst (λ (s : LeafSizes). 0 < s.sets) (sym h.sizes_are) sets)) (lt-ltb _ _ (subst (λ (s : LeafSizes). 0 < s.way_count) (sym h.sizes_are) ways));
@@ -393,7 +393,7 @@ module _ (n : ℕ) (sizes : LeafSizes) where
               cc
         ] refl
 
-  leaf-idle : (k : ℕ) (v : LeafValue) → IsPlacedLeaf n k sizes v → (x : ℕ) → leaf_face x v ≡ idle_face (has_item x v)
+  pub leaf-idle : (k : ℕ) (v : LeafValue) → IsPlacedLeaf n k sizes v → (x : ℕ) → leaf_face x v ≡ idle_face (has_item x v)
   unfolding leaf_hold entry_at words_of_item
   leaf-idle k v h x =
       elim (way_at x v.ways) as (λ o. way_at x v.ways ≡ o → leaf_face x v ≡ idle_face (has_item x v)) [

@@ -42,10 +42,10 @@ drop-length zero m xs h = omega arith
 drop-length (suc k) m [] h = absurd (omega arith)
 drop-length (suc k) m (x ∷ xs) h = drop-length k m xs (omega arith)
 
-sum-more : (k : ℕ) (ks : List ℕ) → sum (k ∷ ks) ≡ k + sum ks
+pub sum-more : (k : ℕ) (ks : List ℕ) → sum (k ∷ ks) ≡ k + sum ks
 sum-more k ks = sum_by-cons (λ x. x) k ks
 
-width-parts : (k : ℕ) → is_width k ≡ true → (1 ≤ k) × (k ≤ 16)
+pub width-parts : (k : ℕ) → is_width k ≡ true → (1 ≤ k) × (k ≤ 16)
 width-parts k h =
     let parts = and_parts (nat_le 1 k) (nat_le k 16) h in
     (leb-true _ _ parts.0, leb-true _ _ parts.1)
@@ -69,7 +69,7 @@ mutual
       let below = weights-buses f bs rest in
       omega arith
 
-  weights-buses : (f : ℕ → ℕ) (bs : Skeletons) (rest : List ℕ) → among f (buses_among bs rest) ≡ weights f bs + among f rest
+  pub weights-buses : (f : ℕ → ℕ) (bs : Skeletons) (rest : List ℕ) → among f (buses_among bs rest) ≡ weights f bs + among f rest
   weights-buses f no_bones rest = omega arith
   weights-buses f (more_bones b bs) rest =
       let first = weight-buses f b (buses_among bs rest) in
@@ -104,7 +104,7 @@ weights-parts f (suc k) (m ∷ ms) =
     let rest = weights-parts f k ms in
     omega arith
 
-bones-count : (ms : List Node) → bone_count (skeletons (nodes ms)) ≡ length ms
+pub bones-count : (ms : List Node) → bone_count (skeletons (nodes ms)) ≡ length ms
 bones-count [] = refl
 bones-count (m ∷ ms) =
     let rest = bones-count ms in
@@ -192,7 +192,7 @@ leaf_total c (l ∷ ls) = leaf_total (sum l) ls
 abbrev pub AreLevelsWide : List (List ℕ) → Type 0
 AreLevelsWide ls = AllByRecursion AreWidths ls
 
-among-range : (f : ℕ → ℕ) (a j k : ℕ) → among f (range_with_len a (j + k)) ≡ among f (range_with_len a j) + among f (range_with_len (a + j) k)
+pub among-range : (f : ℕ → ℕ) (a j k : ℕ) → among f (range_with_len a (j + k)) ≡ among f (range_with_len a j) + among f (range_with_len (a + j) k)
 among-range f a zero k =
     let none : a + 0 ≡ a = omega arith in
     rw (zero-add k, none) (sym (zero-add (among f (range_with_len a k))))
@@ -202,7 +202,7 @@ among-range f a (suc j) k =
     let rest = among-range f (a + 1) j k in
     rw (more, next) (omega arith)
 
-sum-some : (l : List ℕ) → 1 ≤ length l → AreWidths l → 1 ≤ sum l
+pub sum-some : (l : List ℕ) → 1 ≤ length l → AreWidths l → 1 ≤ sum l
 sum-some [] some wide = absurd (omega arith)
 sum-some (k ∷ l) some wide =
     let width = width-parts k (and_parts (is_width k) (list_all is_width l) wide).0 in

@@ -34,7 +34,7 @@ idle_faces bs = map idle_face bs
 abbrev pub some_of : List Bool → Bool
 some_of bs = list_any (λ b. b) bs
 
-any-idle : (t : ChildFace → Bool) → t (idle_face true) ≡ true → t (idle_face false) ≡ false → (bs : List Bool) → list_any t (idle_faces bs) ≡ some_of bs
+pub any-idle : (t : ChildFace → Bool) → t (idle_face true) ≡ true → t (idle_face false) ≡ false → (bs : List Bool) → list_any t (idle_faces bs) ≡ some_of bs
 any-idle t passes fails [] = refl
 any-idle t passes fails (true ∷ bs) = rw passes refl
 any-idle t passes fails (false ∷ bs) = rw fails (any-idle t passes fails bs)
