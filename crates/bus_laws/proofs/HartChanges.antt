@@ -93,10 +93,7 @@ module _ (x : ℕ) (s : LeafState) (w : List ℕ) where
                 ] refl
           ] refl
 
-  module _ (n : ℕ) (sizes : LeafSizes) (ways : List (Option WayValue)) (buffer : List BufferValue) (has_words : is_reading s ≡ false) (has : HasEntries n sizes ways buffer) where
-    suits : words_suit s w ≡ true
-    suits = ap (λ b. implies b (are_zero w)) has_words ∙ implies-false (are_zero w)
-
+  module _ (n : ℕ) (sizes : LeafSizes) (ways : List (Option WayValue)) (buffer : List BufferValue) (suits : words_suit s w ≡ true) (has : HasEntries n sizes ways buffer) where
     record WayBefore (y : ℕ) (after : WayValue) : Type 0 where
       before : WayValue
       there : way_at y ways ≡ Some before
@@ -143,9 +140,8 @@ module _ (x : ℕ) (s : LeafState) (w : List ℕ) where
           | false ↦ λ is. rw is (stays-aside e a)
         ] refl
 
-    -- where the new state has words
-    pub entries-become : HasEntries n sizes (ways_after x (becomes s w) ways) (buffer_after x (becomes s w) ways buffer)
-    entries-become = record {
+    pub entries-become_suited : HasEntries n sizes (ways_after x (becomes s w) ways) (buffer_after x (becomes s w) ways buffer)
+    entries-become_suited = record {
       count = length-set ways x _ ∙ has.count;
       fits = λ y f is.
           let b = way-before y f is in
@@ -165,6 +161,10 @@ module _ (x : ℕ) (s : LeafState) (w : List ℕ) where
             | false ↦ λ is. rw is (ap are_distinct (buffer_with-items buffer) ∙ has.once)
           ] refl;
     }
+
+-- where the new state has words
+pub entries-become : (x : ℕ) (s : LeafState) (w : List ℕ) (n : ℕ) (sizes : LeafSizes) (ways : List (Option WayValue)) (buffer : List BufferValue) → is_reading s ≡ false → HasEntries n sizes ways buffer → HasEntries n sizes (ways_after x (becomes s w) ways) (buffer_after x (becomes s w) ways buffer)
+entries-become x s w n sizes ways buffer has_words has = entries-become_suited x s w n sizes ways buffer (ap (λ b. implies b (are_zero w)) has_words ∙ implies-false (are_zero w)) has
 
 -- ---- an entry moves from its way to the end of the buffer
 
