@@ -29,15 +29,9 @@ use Rattle.tree_model.proofs.HartRooms.{leaf_step-within}
 use Rattle.tree_rules.specs.Bus.Faces.{ChildFace, leaf_face, in_state}
 use Rattle.tree_rules.specs.Bus.Own.{copy_fits, IsLeafOk, has_ways, leaf_lists, slot_fits, leaf_replies, reservation_fits, state_waits, request_suits, slot_suits, reserves_below, are_zero}
 use Rattle.tree_rules.proofs.Implying.{implies-by}
+use Rattle.bus_laws.specs.KeepsLeafRules.{KeepsLeafRules}
 use Rattle.bus_laws.proofs.HartFacts.{find-holds, way-within, HasEntries, entries-from_rules, waiting-none, one-waits, state_in, rules-from_entries}
 use Rattle.bus_laws.proofs.HartChanges.{entry_with, entry-becomes, entry-becomes_other, entries-become, way-set_none, way-kept, entry-moved, entries-move, entry-enters, entry-enters_other, entries-enter}
-
--- ---- what a leaf's turn keeps
-
--- of n items: the rules of the leaf by itself, and its face for each item
-pub record KeepsLeafRules (n : ℕ) (before after : LeafValue) : Type 0 where
-  pub own : IsLeafOk n after
-  pub seen : (x : ℕ) → leaf_face x after ≡ leaf_face x before
 
 -- ---- what a deed rests on
 

@@ -38,3 +38,8 @@ pub mod BusKept
 pub mod TreeSeen
 pub mod FoundExists
 pub mod TreeKept
+pub mod StartSums
+pub mod StartLeaves
+pub mod StartNodes
+pub mod StartLevels
+pub mod StartKept
