@@ -60,6 +60,7 @@ module _ (n : ℕ) (above : Stamp) (p : DirValue) (ns : List Node) (bus : IsBusO
   judged-keeps t (refused cause) rows = unchanged (bus_answer p.bus (refused cause))
   judged-keeps t (granted g) rows = granted-keeps t g (bus_answer p.bus (granted g)) (rows g refl)
 
-  pub bus-keeps : (t : BusTurn) → KeepsBus n above p ns (bus_step above t p ns)
-  unfolding bus_step
-  bus-keeps t = judged-keeps t (bus_judged above p ns t) (row-of above p ns t)
+-- every turn, whatever its answer
+pub bus-keeps : (n : ℕ) (above : Stamp) (t : BusTurn) (p : DirValue) (ns : List Node) → IsBusOk n p ns → AllByRecursion (IsChildOk n) ns → KeepsBus n above p ns (bus_step above t p ns)
+unfolding bus_step
+bus-keeps n above t p ns bus kids = judged-keeps n above p ns bus kids t (bus_judged above p ns t) (row-of above p ns t)

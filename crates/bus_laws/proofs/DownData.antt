@@ -25,24 +25,21 @@ use Rattle.tree_rules.specs.Bus.Rules.{IsBusOk, IsChildOk}
 use Rattle.tree_rules.proofs.Implying.{implies-use}
 use Rattle.bus_laws.specs.KeepsBus.{KeepsBus}
 use Rattle.bus_laws.proofs.Every.{every_bool, every_bool-at}
-use Rattle.bus_laws.proofs.States.{bits, each_state, state-at}
+use Rattle.bus_laws.proofs.States.{each_state, state-at}
 use Rattle.bus_laws.proofs.ItemLists.{nat_eq-same}
 use Rattle.bus_laws.proofs.DirParts.{dir-parts, note-at, lt-fact, child_seen, starts_with}
 use Rattle.bus_laws.proofs.Calls.{child-take_data}
 use Rattle.bus_laws.proofs.Parents.{as-it-was, takes_front, noted}
 use Rattle.bus_laws.proofs.Before.{idle_of, not-held, kid-ok, idle-at, gives-at, none-held, reader-at, entry-known, entry-starts}
 use Rattle.bus_laws.proofs.RowChecks.{done_never, keeps-never}
-use Rattle.bus_laws.proofs.Shapes.{quiet-bits}
+use Rattle.bus_laws.proofs.Shapes.{quiet_children, quiet-bits}
 use Rattle.bus_laws.proofs.Told.{IsTold}
 
 abbrev served : ParentFace → ParentFace
 served p = record p { queue = rest_of p.queue; note = no_note }
 
-abbrev quiet : Bool → Bits
-quiet sole = bits true sole false false true true true
-
 abbrev may_serve : TxKind → ParentFace → Bits → Bool
-may_serve kind p k = implies (starts_with kind p.queue && is_up_read p.note) (k.no_gift && (k.readers && (not k.held && every_bool (λ sole. done_never p (served p) k (quiet sole)))))
+may_serve kind p k = implies (starts_with kind p.queue && is_up_read p.note) (k.no_gift && (k.readers && (not k.held && every_bool (λ sole. done_never p (served p) k (quiet_children sole)))))
 
 each-data : (note : Note) → each_state (may_serve DataTx) note ≡ true
 unfolding implies
@@ -84,14 +81,14 @@ module _ (n : ℕ) (above : Stamp) (p : DirValue) (ns : List Node) (bus : IsBusO
     abbrev ms : List Node
     ms = map_from f 0 ns
 
-    checked : (k.no_gift && (k.readers && (not k.held && every_bool (λ sole. done_never before (served before) k (quiet sole))))) ≡ true
+    checked : (k.no_gift && (k.readers && (not k.held && every_bool (λ sole. done_never before (served before) k (quiet_children sole))))) ≡ true
     checked = implies-use (starts_with kind before.queue && is_up_read before.note) _ (state-at (may_serve kind) each before (faces_of x ns) (bus.rules x within)) (both_true (entry-starts n x p ns bus e rest front kind is_kind_e self) (ap is_up_read note))
 
     record Known : Type 0 where
       none : k.no_gift ≡ true
       readers : k.readers ≡ true
       absent : list_any holds_it (faces_of x ns) ≡ false
-      done : every_bool (λ sole. done_never before (served before) k (quiet sole)) ≡ true
+      done : every_bool (λ sole. done_never before (served before) k (quiet_children sole)) ≡ true
 
     known : Known
     known =
@@ -140,13 +137,13 @@ module _ (n : ℕ) (above : Stamp) (p : DirValue) (ns : List Node) (bus : IsBusO
     held-first : is_held (hold_after first) ≡ true
     held-first = rw (nat_eq-same first) refl
 
-    bits-after : bits_of (served before) (faces_of x ms) ≡ quiet (bits_of (served before) (faces_of x ms)).sole
+    bits-after : bits_of (served before) (faces_of x ms) ≡ quiet_children (bits_of (served before) (faces_of x ms)).sole
     bits-after = quiet-bits x (served before) ms hold_after (λ i l. (told i (omega (arith, l, many))).here) shared-after refl first (omega (arith, first-there, many)) held-first
 
     pub readers-keep : KeepsBus n above p ns (record { answer = answer; parent = with_note x no_note (front_taken e.stamp rest p); kids = ms })
     readers-keep =
         let sole = (bits_of (served before) (faces_of x ms)).sole in
-        keeps-never n x above p (with_note x no_note (front_taken e.stamp rest p)) ns ms (served before) (quiet sole)
+        keeps-never n x above p (with_note x no_note (front_taken e.stamp rest p)) ns ms (served before) (quiet_children sole)
         (record {
           bus = bus;
           known = within;
@@ -158,7 +155,7 @@ module _ (n : ℕ) (above : Stamp) (p : DirValue) (ns : List Node) (bus : IsBusO
           reserved = refl;
           replies = refl;
         })
-        (every_bool-at (λ sole. done_never before (served before) k (quiet sole)) known.done sole)
+        (every_bool-at (λ sole. done_never before (served before) k (quiet_children sole)) known.done sole)
         answer
 
   pub data_to_readers-keeps : (e : DownValue) (rest : List DownValue) (first joined : ℕ) → p.down ≡ e ∷ rest → e.kind ≡ DataTx → dir_note e.item p ≡ up_read first joined → first_given (reader_full (up_read first joined) e.item) 0 ns ≡ None → KeepsBus n above p ns (record { answer = answer; parent = with_note e.item no_note (front_taken e.stamp rest p); kids = map_from (reader_takes (up_read first joined) e.item e.words (stamp_of (front_taken e.stamp rest p))) 0 ns })

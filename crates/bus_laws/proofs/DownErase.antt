@@ -22,7 +22,7 @@ use Rattle.tree_rules.specs.Bus.Item.{implies, Bits, bits_of, item_holds, kept_p
 use Rattle.tree_rules.specs.Bus.Rules.{IsBusOk, IsChildOk}
 use Rattle.tree_rules.proofs.Implying.{implies-use}
 use Rattle.bus_laws.specs.KeepsBus.{KeepsBus}
-use Rattle.bus_laws.proofs.States.{bits, each_state, state-at}
+use Rattle.bus_laws.proofs.States.{each_state, state-at}
 use Rattle.bus_laws.proofs.DirParts.{is_seen, dir-parts, note-at, starts_with}
 use Rattle.bus_laws.proofs.DirCalls.{face_lost}
 use Rattle.bus_laws.proofs.Calls.{child-lose}
@@ -30,19 +30,16 @@ use Rattle.bus_laws.proofs.Parents.{as-it-was, takes_front, unparks, noted}
 use Rattle.bus_laws.proofs.Before.{idle_of, lost-idle, idle-bits, kid-ok, granted-at, not-reads, gives-at, none-exclusive, entry-known, entry-starts}
 use Rattle.bus_laws.proofs.RowFrame.{same-seen, RowFacts, row-keeps}
 use Rattle.bus_laws.proofs.RowChecks.{stays_seen, never_top, rules-by, never-top}
+use Rattle.bus_laws.proofs.Shapes.{nobody_holds}
 use Rattle.bus_laws.proofs.Told.{IsTold}
 
 abbrev erased : ParentFace → ParentFace
 erased p = record p { queue = rest_of p.queue; parked = false; note = without_up_erase p.note }
 
--- nothing is left
-abbrev nothing_left : Bits
-nothing_left = bits false false false false true true true
-
 abbrev may_erase_down : ParentFace → Bits → Bool
 may_erase_down p k =
     implies (starts_with EraseTx p.queue && not (is_local p.note))
-    (k.no_gift && (not k.exclusive && (not (is_up_read p.note) && (nat_eq (kept_place (erased p)) (kept_place p) && (never_top p k && stays_seen p (erased p) nothing_left)))))
+    (k.no_gift && (not k.exclusive && (not (is_up_read p.note) && (nat_eq (kept_place (erased p)) (kept_place p) && (never_top p k && stays_seen p (erased p) nobody_holds)))))
 
 each-may_erase_down : (note : Note) → each_state may_erase_down note ≡ true
 unfolding implies
@@ -105,7 +102,7 @@ module _ (n : ℕ) (above : Stamp) (p : DirValue) (ns : List Node) (bus : IsBusO
       up : is_up_read before.note ≡ false
       kept : kept_place (erased before) ≡ kept_place before
       never : never_top before k ≡ true
-      holds : item_holds (erased before) nothing_left ≡ true
+      holds : item_holds (erased before) nobody_holds ≡ true
       same : is_seen (erased before) before.hold (face_reads before) (face_erases before) before.answering ≡ true
 
     known : Known
@@ -116,7 +113,7 @@ module _ (n : ℕ) (above : Stamp) (p : DirValue) (ns : List Node) (bus : IsBusO
         let c = and_parts (not (is_up_read before.note)) _ b.1 in
         let d = and_parts (nat_eq (kept_place (erased before)) (kept_place before)) _ c.1 in
         let f = and_parts (never_top before k) _ d.1 in
-        let g = and_parts (item_holds (erased before) nothing_left) _ f.1 in
+        let g = and_parts (item_holds (erased before) nobody_holds) _ f.1 in
         record { no_gift = a.0; shared = not-true _ b.0; up = not-true _ c.0; kept = eqb-true _ _ d.0; never = f.0; holds = g.0; same = g.1 }
 
     told : (i : ℕ) → i < length ns → IsTold n x (child_at i ns) (child_at i ms) (idle_of Hold.Invalid)
@@ -143,7 +140,7 @@ module _ (n : ℕ) (above : Stamp) (p : DirValue) (ns : List Node) (bus : IsBusO
           after = λ i. idle_of Hold.Invalid;
           told = told;
           parent = m3;
-          rules = rules-by (erased before) x ms nothing_left (idle-bits x (erased before) ms (λ i l. (told i (omega (arith, l, as_many))).here) (unnoted before.note other known.up) (no-eraser before.note)) known.holds;
+          rules = rules-by (erased before) x ms nobody_holds (idle-bits x (erased before) ms (λ i l. (told i (omega (arith, l, as_many))).here) (unnoted before.note other known.up) (no-eraser before.note)) known.holds;
           reserved = ap (λ k. p.reserved + k) (sym known.kept);
           seen = same-seen x p q (erased before) m3.face refl known.same;
           top = never-top n x above p q ns ms (erased before) known.never;

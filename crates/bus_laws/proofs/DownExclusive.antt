@@ -20,7 +20,7 @@ use Rattle.tree_rules.specs.Bus.Item.{implies, holds_it, may_erase, eraser_is_gr
 use Rattle.tree_rules.specs.Bus.Rules.{IsBusOk, IsChildOk}
 use Rattle.tree_rules.proofs.Implying.{implies-use}
 use Rattle.bus_laws.specs.KeepsBus.{KeepsBus}
-use Rattle.bus_laws.proofs.States.{bits, each_state, state-at}
+use Rattle.bus_laws.proofs.States.{each_state, state-at}
 use Rattle.bus_laws.proofs.BitsOf.{passes-at}
 use Rattle.bus_laws.proofs.DirParts.{dir-parts, child_seen, starts_with}
 use Rattle.bus_laws.proofs.Calls.{child-take_exclusive}
@@ -28,20 +28,15 @@ use Rattle.bus_laws.proofs.Parents.{as-it-was, takes_front, noted}
 use Rattle.bus_laws.proofs.TopParent.{top-front, top-noted}
 use Rattle.bus_laws.proofs.Before.{idle_of, not-held, kid-ok, idle-at, gives-at, entry-known, entry-starts}
 use Rattle.bus_laws.proofs.OneChild.{not-parked, others-absent, one_after, one-told, one-many, one-here, one-other}
-use Rattle.bus_laws.proofs.RowFrame.{fits}
 use Rattle.bus_laws.proofs.RowChecks.{done_top, keeps-top}
-use Rattle.bus_laws.proofs.Shapes.{no-readers, lone-bits}
+use Rattle.bus_laws.proofs.Shapes.{one_exclusive, exclusive-fits, no-readers, lone-bits}
 use Rattle.bus_laws.proofs.Told.{IsTold}
 
 abbrev upgraded : ParentFace → ParentFace
 upgraded p = record p { queue = rest_of p.queue; note = no_note }
 
--- one child alone holds it, Exclusive
-abbrev exclusive_alone : Bits
-exclusive_alone = bits true true true false true true true
-
 abbrev may_upgrade : ParentFace → Bits → Bool
-may_upgrade p k = implies (starts_with ExclusiveTx p.queue && (is_up_erase p.note && not p.parked)) (k.no_gift && done_top p (upgraded p) k exclusive_alone)
+may_upgrade p k = implies (starts_with ExclusiveTx p.queue && (is_up_erase p.note && not p.parked)) (k.no_gift && done_top p (upgraded p) k one_exclusive)
 
 each-may_upgrade : (note : Note) → each_state may_upgrade note ≡ true
 unfolding implies
@@ -49,10 +44,6 @@ each-may_upgrade no_note = refl
 each-may_upgrade (local first joined) = refl
 each-may_upgrade (up_read first joined) = refl
 each-may_upgrade (up_erase d) = refl
-
-exclusive-fits : (d : ℕ) → fits no_note d (idle_of Hold.Exclusive) ≡ true
-unfolding implies
-exclusive-fits d = refl
 
 module _ (n : ℕ) (above : Stamp) (p : DirValue) (ns : List Node) (bus : IsBusOk n p ns) (kids : AllByRecursion (IsChildOk n) ns) (answer : TurnAnswer) where
   module _ (e : DownValue) (rest : List DownValue) (d : ℕ) (front : p.down ≡ e ∷ rest) (kind : e.kind ≡ ExclusiveTx) (note : dir_note e.item p ≡ up_erase d) (room : child_full_for ExclusiveTx e.item (child_at d ns) ≡ None) where
@@ -95,7 +86,7 @@ module _ (n : ℕ) (above : Stamp) (p : DirValue) (ns : List Node) (bus : IsBusO
     free : before.parked ≡ false
     free = not-parked n x p ns bus kids within d there holds
 
-    checked : (k.no_gift && done_top before (upgraded before) k exclusive_alone) ≡ true
+    checked : (k.no_gift && done_top before (upgraded before) k one_exclusive) ≡ true
     checked = implies-use (starts_with ExclusiveTx before.queue && (is_up_erase before.note && not before.parked)) _ (state-at may_upgrade each-may_upgrade before (faces_of x ns) (bus.rules x within)) (both_true (entry-starts n x p ns bus e rest front ExclusiveTx kind refl) (both_true (ap is_up_erase note) (ap not free)))
 
     none : k.no_gift ≡ true
@@ -117,13 +108,13 @@ module _ (n : ℕ) (above : Stamp) (p : DirValue) (ns : List Node) (bus : IsBusO
         (idle-at n x p ns bus kids within none i li (ap (λ note. is_reader note i) note) (ap (λ note. is_eraser note i) note ∙ ne_eqb i d ne) ∙
         ap idle_of (not-held (child_face x (child_at i ns)).hold (others-absent n x p ns bus kids within d there holds sole i li ne)))
 
-    bits-after : bits_of (upgraded before) (faces_of x ms) ≡ exclusive_alone
+    bits-after : bits_of (upgraded before) (faces_of x ms) ≡ one_exclusive
     bits-after =
         lone-bits x (upgraded before) ms d (omega (arith, there, many)) (idle_of Hold.Exclusive) (one-here n x p ns bus kids within d (child_take_exclusive x s) (idle_of Hold.Exclusive) told there) others-after free refl (exclusive-fits d) (no-readers x no_note ms (λ i. refl)) refl
 
     pub exclusive-keeps : KeepsBus n above p ns (record { answer = answer; parent = with_note x no_note (front_taken e.stamp rest p); kids = ms })
     exclusive-keeps =
-        keeps-top n x above p (with_note x no_note (front_taken e.stamp rest p)) ns ms (upgraded before) exclusive_alone
+        keeps-top n x above p (with_note x no_note (front_taken e.stamp rest p)) ns ms (upgraded before) one_exclusive
         (record {
           bus = bus;
           known = within;

@@ -26,7 +26,7 @@ use Rattle.tree_rules.specs.Bus.Item.{implies, holds_it, reader_is_granted, eras
 use Rattle.tree_rules.specs.Bus.Rules.{IsBusOk, IsChildOk, kept_places}
 use Rattle.tree_rules.proofs.Implying.{implies-use}
 use Rattle.bus_laws.specs.KeepsBus.{KeepsBus}
-use Rattle.bus_laws.proofs.States.{bits, each_state, state-at}
+use Rattle.bus_laws.proofs.States.{each_state, state-at}
 use Rattle.bus_laws.proofs.ItemLists.{nat_eq-same}
 use Rattle.bus_laws.proofs.DirParts.{dir-parts, note-at, lt-fact, child_seen, starts_with, is_no_note}
 use Rattle.bus_laws.proofs.Calls.{Takes, as_reader, with_room, child-take_inject}
@@ -35,7 +35,7 @@ use Rattle.bus_laws.proofs.Before.{idle_of, not-held, kid-ok, idle-at, idle-bits
 use Rattle.bus_laws.proofs.OneChild.{untouched, one_after, one-told, one-many, one-here, one-other}
 use Rattle.bus_laws.proofs.RowFrame.{fits, same-seen, row-keeps}
 use Rattle.bus_laws.proofs.RowChecks.{done_never, never_top, stays_seen, rules-by, never-top, keeps-never}
-use Rattle.bus_laws.proofs.Shapes.{no-readers, lone-bits}
+use Rattle.bus_laws.proofs.Shapes.{one_exclusive, one_shared, exclusive-fits, no-readers, lone-bits}
 use Rattle.bus_laws.proofs.Told.{IsTold}
 
 -- ---- what is computed
@@ -43,12 +43,8 @@ use Rattle.bus_laws.proofs.Told.{IsTold}
 abbrev read_by_one : ParentFace → ParentFace
 read_by_one p = record p { queue = rest_of p.queue; note = no_note }
 
--- one child alone holds it, Exclusive
-abbrev exclusive_alone : Bits
-exclusive_alone = bits true true true false true true true
-
 abbrev may_give_reader : ParentFace → Bits → Bool
-may_give_reader p k = implies (starts_with InjectTx p.queue && is_up_read p.note) (k.no_gift && (k.readers && (not k.held && (not p.parked && done_never p (read_by_one p) k exclusive_alone))))
+may_give_reader p k = implies (starts_with InjectTx p.queue && is_up_read p.note) (k.no_gift && (k.readers && (not k.held && (not p.parked && done_never p (read_by_one p) k one_exclusive))))
 
 each-give_reader : (note : Note) → each_state may_give_reader note ≡ true
 unfolding implies
@@ -67,14 +63,10 @@ done_place p q k j = nat_eq (kept_place p) (kept_place q + 1) && (never_top p k 
 abbrev in_parking : ParentFace → ParentFace
 in_parking p = record p { queue = rest_of p.queue; parked = true }
 
--- the parked copy alone holds it
-abbrev parked_alone : Bits
-parked_alone = bits true true false false true true true
-
 abbrev may_place : ParentFace → Bits → Bool
 may_place p k =
     implies (starts_with InjectTx p.queue && (not (is_local p.note) && not (is_up_read p.note)))
-    (is_no_note p.note && (k.no_gift && (not k.held && (not p.parked && (done_place p (taken p) k exclusive_alone && done_place p (in_parking p) k parked_alone)))))
+    (is_no_note p.note && (k.no_gift && (not k.held && (not p.parked && (done_place p (taken p) k one_exclusive && done_place p (in_parking p) k one_shared)))))
 
 each-place : (note : Note) → each_state may_place note ≡ true
 unfolding implies
@@ -82,10 +74,6 @@ each-place no_note = refl
 each-place (local first joined) = refl
 each-place (up_read first joined) = refl
 each-place (up_erase d) = refl
-
-exclusive-fits : (d : ℕ) → fits no_note d (idle_of Hold.Exclusive) ≡ true
-unfolding implies
-exclusive-fits d = refl
 
 no-note : (note : Note) → is_no_note note ≡ true → note ≡ no_note
 no-note no_note e = refl
@@ -144,7 +132,7 @@ module _ (n : ℕ) (above : Stamp) (p : DirValue) (ns : List Node) (bus : IsBusO
         one-other n x p ns bus kids within d (child_take_inject x e.words s) (idle_of Hold.Exclusive) told i li ne ∙
         (idle i li ne ∙ ap idle_of (not-held (child_face x (child_at i ns)).hold (none-held n x p ns bus kids within absent i li)))
 
-    taken-bits : (f : ParentFace) → f.note ≡ no_note → f.parked ≡ false → bits_of f (faces_of x ms) ≡ exclusive_alone
+    taken-bits : (f : ParentFace) → f.note ≡ no_note → f.parked ≡ false → bits_of f (faces_of x ms) ≡ one_exclusive
     taken-bits f note free =
         lone-bits x f ms d (omega (arith, there, many)) (idle_of Hold.Exclusive) (one-here n x p ns bus kids within d (child_take_inject x e.words s) (idle_of Hold.Exclusive) told there) others-after free refl
         (subst (λ note. fits note d (idle_of Hold.Exclusive) ≡ true) (sym note) (exclusive-fits d))
@@ -160,7 +148,7 @@ module _ (n : ℕ) (above : Stamp) (p : DirValue) (ns : List Node) (bus : IsBusO
   -- ---- the only reader
 
   module _ (d joined : ℕ) (note : dir_note x p ≡ up_read d joined) (alone : nat_eq joined 0 ≡ true) (place : reader_has_place x (child_at d ns) ≡ true) (room : child_full_for InjectTx x (child_at d ns) ≡ None) where
-    checked : (k.no_gift && (k.readers && (not k.held && (not before.parked && done_never before (read_by_one before) k exclusive_alone)))) ≡ true
+    checked : (k.no_gift && (k.readers && (not k.held && (not before.parked && done_never before (read_by_one before) k one_exclusive)))) ≡ true
     checked = implies-use (starts_with InjectTx before.queue && is_up_read before.note) _ (state-at may_give_reader each-give_reader before (faces_of x ns) (bus.rules x within)) (both_true (entry-starts n x p ns bus e rest front InjectTx kind refl) (ap is_up_read note))
 
     reader-there : d < length ns
@@ -187,7 +175,7 @@ module _ (n : ℕ) (above : Stamp) (p : DirValue) (ns : List Node) (bus : IsBusO
         let absent : list_any holds_it (faces_of x ns) ≡ false = (or_parts before.parked (list_any holds_it (faces_of x ns)) (not-true _ c.0)).1 in
         let takes : Takes n x within (child_at d ns) = as_reader (reader-reads b.0) place room in
         let idle : (i : ℕ) → i < length ns → i ≢ d → child_face x (child_at i ns) ≡ idle_of (child_face x (child_at i ns)).hold = λ (i : ℕ) (l : i < length ns) (ne : i ≢ d). idle-at n x p ns bus kids within a.0 i l (not-reader i ne) (ap (λ note. is_eraser note i) note) in
-        keeps-never n x above p (with_note x no_note (front_taken e.stamp rest p)) ns _ (read_by_one before) exclusive_alone
+        keeps-never n x above p (with_note x no_note (front_taken e.stamp rest p)) ns _ (read_by_one before) one_exclusive
         (record {
           bus = bus;
           known = within;
@@ -210,8 +198,8 @@ module _ (n : ℕ) (above : Stamp) (p : DirValue) (ns : List Node) (bus : IsBusO
       none : k.no_gift ≡ true
       absent : list_any holds_it (faces_of x ns) ≡ false
       free : before.parked ≡ false
-      child : done_place before (taken before) k exclusive_alone ≡ true
-      parking : done_place before (in_parking before) k parked_alone ≡ true
+      child : done_place before (taken before) k one_exclusive ≡ true
+      parking : done_place before (in_parking before) k one_shared ≡ true
 
     known : Known
     known =
@@ -220,7 +208,7 @@ module _ (n : ℕ) (above : Stamp) (p : DirValue) (ns : List Node) (bus : IsBusO
         let b = and_parts k.no_gift _ a.1 in
         let c = and_parts (not k.held) _ b.1 in
         let d = and_parts (not before.parked) _ c.1 in
-        let f = and_parts (done_place before (taken before) k exclusive_alone) _ d.1 in
+        let f = and_parts (done_place before (taken before) k one_exclusive) _ d.1 in
         record { note = no-note before.note a.0; none = b.0; absent = (or_parts before.parked (list_any holds_it (faces_of x ns)) (not-true _ c.0)).1; free = not-true _ d.0; child = f.0; parking = f.1 }
 
     idle-before : (i : ℕ) → i < length ns → child_face x (child_at i ns) ≡ idle_of (child_face x (child_at i ns)).hold
@@ -258,7 +246,7 @@ module _ (n : ℕ) (above : Stamp) (p : DirValue) (ns : List Node) (bus : IsBusO
         let there : d < length ns = first_some-either (λ j. j < length ns) (find_from (waits_with_room x) 0 ns) (find_from (has_room x) 0 ns) (λ j is. found-within (waits_with_room x) j ns no_node is) (λ j is. found-within (has_room x) j ns no_node is) d found in
         let takes : Takes n x within (child_at d ns) = with_room (inject_taker-room x (front_taken e.stamp rest p) ns e.words d found) in
         let idle : (i : ℕ) → i < length ns → i ≢ d → child_face x (child_at i ns) ≡ idle_of (child_face x (child_at i ns)).hold = λ (i : ℕ) (l : i < length ns) (ne : i ≢ d). idle-before i l in
-        released (place_released (front_taken e.stamp rest p)) (taken before) _ exclusive_alone (after d there known.none known.absent takes idle) (many d there known.none known.absent takes idle) (told-each d there known.none known.absent takes idle)
+        released (place_released (front_taken e.stamp rest p)) (taken before) _ one_exclusive (after d there known.none known.absent takes idle) (many d there known.none known.absent takes idle) (told-each d there known.none known.absent takes idle)
         (releases n (length ns) x within p _ _ front-taken) (taken-bits d there known.none known.absent takes idle (taken before) known.note known.free) refl refl known.child
 
     -- the place that was kept
@@ -268,6 +256,6 @@ module _ (n : ℕ) (above : Stamp) (p : DirValue) (ns : List Node) (bus : IsBusO
         let parts = dir-parts n (length ns) p bus.own in
         let m1 = releases n (length ns) x within p _ _ front-taken in
         let m2 = parks n (length ns) x within p _ _ m1 e.words known.free (omega (arith, parts.within.parked, some)) in
-        released (with_parked x e.words (place_released (front_taken e.stamp rest p))) (in_parking before) ns parked_alone (λ i. child_face x (child_at i ns)) refl (λ i l. untouched n x p ns bus kids i l within) m2
+        released (with_parked x e.words (place_released (front_taken e.stamp rest p))) (in_parking before) ns one_shared (λ i. child_face x (child_at i ns)) refl (λ i l. untouched n x p ns bus kids i l within) m2
         (idle-bits x (in_parking before) ns (λ i l. idle-before i l ∙ ap idle_of (not-held (child_face x (child_at i ns)).hold (none-held n x p ns bus kids within known.absent i l))) (λ i. ap (λ note. is_reader note i) known.note) (ap is_up_erase known.note))
         refl refl known.parking

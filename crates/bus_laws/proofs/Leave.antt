@@ -27,7 +27,7 @@ use Rattle.tree_rules.specs.Bus.Rules.{IsBusOk, IsChildOk}
 use Rattle.tree_rules.proofs.Implying.{implies-use}
 use Rattle.bus_laws.specs.KeepsBus.{KeepsBus}
 use Rattle.bus_laws.proofs.Every.{every_bool, every_bool-at}
-use Rattle.bus_laws.proofs.States.{bits, each_state, state-at}
+use Rattle.bus_laws.proofs.States.{each_state, state-at}
 use Rattle.bus_laws.proofs.BitsOf.{any-true}
 use Rattle.bus_laws.proofs.ItemLists.{nat_eq-same}
 use Rattle.bus_laws.proofs.DirParts.{dir-parts, lt-fact, child_seen, is_no_note}
@@ -40,7 +40,7 @@ use Rattle.bus_laws.proofs.OneChild.{leaves-there, untouched, one_after, one-tol
 use Rattle.bus_laws.proofs.Answering.{child-hold}
 use Rattle.bus_laws.proofs.RowFrame.{all-kids_at, fits, top_like}
 use Rattle.bus_laws.proofs.RowChecks.{done_top, stays_seen, keeps-top, keeps-by}
-use Rattle.bus_laws.proofs.Shapes.{no-readers, lone-bits, quiet-bits}
+use Rattle.bus_laws.proofs.Shapes.{one_exclusive, one_shared, quiet_children, exclusive-fits, no-readers, lone-bits, quiet-bits}
 use Rattle.bus_laws.proofs.Told.{IsTold}
 
 -- ---- what is computed
@@ -59,11 +59,8 @@ each-may_leave (local first joined) = refl
 each-may_leave (up_read first joined) = refl
 each-may_leave (up_erase d) = refl
 
-abbrev quiet : Bool → Bits
-quiet sole = bits true sole false false true true true
-
 abbrev may_drop : ParentFace → Bits → Bool
-may_drop p k = implies (calm p k) (every_bool (λ sole. done_top p p k (quiet sole)))
+may_drop p k = implies (calm p k) (every_bool (λ sole. done_top p p k (quiet_children sole)))
 
 each-may_drop : (note : Note) → each_state may_drop note ≡ true
 unfolding implies
@@ -72,11 +69,8 @@ each-may_drop (local first joined) = refl
 each-may_drop (up_read first joined) = refl
 each-may_drop (up_erase d) = refl
 
-abbrev alone_exclusive : Bits
-alone_exclusive = bits true true true false true true true
-
 abbrev may_pass_on : ParentFace → Bits → Bool
-may_pass_on p k = implies (calm p k && is_exclusive p.hold) (done_top p p k alone_exclusive)
+may_pass_on p k = implies (calm p k && is_exclusive p.hold) (done_top p p k one_exclusive)
 
 each-may_pass_on : (note : Note) → each_state may_pass_on note ≡ true
 unfolding implies
@@ -88,11 +82,8 @@ each-may_pass_on (up_erase d) = refl
 abbrev in_parking : ParentFace → ParentFace
 in_parking p = record p { parked = true }
 
-abbrev alone_parked : Bits
-alone_parked = bits true true false false true true true
-
 abbrev may_park : ParentFace → Bits → Bool
-may_park p k = implies (calm p k) (nat_eq (kept_place (in_parking p)) (kept_place p) && stays_seen p (in_parking p) alone_parked)
+may_park p k = implies (calm p k) (nat_eq (kept_place (in_parking p)) (kept_place p) && stays_seen p (in_parking p) one_shared)
 
 each-may_park : (note : Note) → each_state may_park note ≡ true
 unfolding implies
@@ -100,10 +91,6 @@ each-may_park no_note = refl
 each-may_park (local first joined) = refl
 each-may_park (up_read first joined) = refl
 each-may_park (up_erase d) = refl
-
-exclusive-fits : (d : ℕ) → fits no_note d (idle_of Hold.Exclusive) ≡ true
-unfolding implies
-exclusive-fits d = refl
 
 shared-or-exclusive : (h : Hold) → is_held h ≡ true → is_shared h ≡ false → is_exclusive h ≡ true
 shared-or-exclusive Hold.Invalid e s = cc
@@ -225,16 +212,16 @@ module _ (n choice c x : ℕ) (above : Stamp) (p : DirValue) (ns : List Node) (b
       at true = refl
       at false = none-exclusive n x p ns bus kids within no_exclusive i (omega (arith, l, many))
 
-    dropped-bits : bits_of before (faces_of x ms) ≡ quiet (bits_of before (faces_of x ms)).sole
+    dropped-bits : bits_of before (faces_of x ms) ≡ quiet_children (bits_of before (faces_of x ms)).sole
     dropped-bits = quiet-bits x before ms hold_after all-quiet shared-after still.note d (omega (arith, there_d, many)) held_d
 
     pub out_gone-keeps : KeepsBus n above p ns (record { answer = answer; parent = counted p; kids = ms })
     out_gone-keeps =
         let sole = (bits_of before (faces_of x ms)).sole in
         let h = implies-use (calm before k) _ (state-at may_drop each-may_drop before (faces_of x ns) (bus.rules x within)) calm-before in
-        keeps-top n x above p (counted p) ns ms before (quiet sole)
+        keeps-top n x above p (counted p) ns ms before (quiet_children sole)
         (record { bus = bus; known = within; as_many = many; after = after; told = told; parent = counts; bits = dropped-bits; reserved = refl; replies = refl })
-        (every_bool-at (λ sole. done_top before before k (quiet sole)) h sole)
+        (every_bool-at (λ sole. done_top before before k (quiet_children sole)) h sole)
         (λ zero top exclusive calm. top-counted p top)
         answer
 
@@ -254,8 +241,8 @@ module _ (n choice c x : ℕ) (above : Stamp) (p : DirValue) (ns : List Node) (b
     parked-keeps words room never =
         let h = implies-use (calm before k) _ (state-at may_park each-may_park before (faces_of x ns) (bus.rules x within)) calm-before in
         let a = and_parts (nat_eq (kept_place (in_parking before)) (kept_place before)) _ h in
-        let b = and_parts (item_holds (in_parking before) alone_parked) _ a.1 in
-        keeps-by n x above p (with_parked x words (counted p)) ns ms (in_parking before) alone_parked
+        let b = and_parts (item_holds (in_parking before) one_shared) _ a.1 in
+        keeps-by n x above p (with_parked x words (counted p)) ns ms (in_parking before) one_shared
         (record {
           bus = bus;
           known = within;
@@ -341,7 +328,7 @@ module _ (n choice c x : ℕ) (above : Stamp) (p : DirValue) (ns : List Node) (b
                 let off : nat_eq i d ≡ false = ne_eqb i d nd in
                 rw (away, off) (idle-before i li ∙ ap idle_of (not-held (child_face x (child_at i ns)).hold (absent i li ne)))
 
-      passed-bits : bits_of before (faces_of x qs) ≡ alone_exclusive
+      passed-bits : bits_of before (faces_of x qs) ≡ one_exclusive
       passed-bits =
           lone-bits x before qs d (omega (arith, there_taker, many-passed)) (idle_of Hold.Exclusive) taker-after others-passed unparked refl
           (subst (λ note. fits note d (idle_of Hold.Exclusive) ≡ true) (sym still.note) (exclusive-fits d))
@@ -351,7 +338,7 @@ module _ (n choice c x : ℕ) (above : Stamp) (p : DirValue) (ns : List Node) (b
       passed-keeps : KeepsBus n above p ns (record { answer = answer; parent = counted p; kids = qs })
       passed-keeps =
           let h = implies-use (calm before k && is_exclusive before.hold) _ (state-at may_pass_on each-may_pass_on before (faces_of x ns) (bus.rules x within)) (both_true calm-before exclusive) in
-          keeps-top n x above p (counted p) ns qs before alone_exclusive
+          keeps-top n x above p (counted p) ns qs before one_exclusive
           (record { bus = bus; known = within; as_many = many-passed; after = passed; told = told-passed; parent = counts; bits = passed-bits; reserved = refl; replies = refl })
           h
           (λ zero top exclusive calm. top-counted p top)

@@ -37,20 +37,16 @@ use Rattle.bus_laws.proofs.Before.{idle_of, gives-nothing, seen-as, shared-is, k
 use Rattle.bus_laws.proofs.OneChild.{replies-there, not-parked, shared-all, one_after, one-told, one-many, one-here, one-other}
 use Rattle.bus_laws.proofs.RowFrame.{all-kids_at, fits, rules-after, row-keeps}
 use Rattle.bus_laws.proofs.RowChecks.{done_top, never_top, keeps-top, rules-by, never-top}
-use Rattle.bus_laws.proofs.Shapes.{quiet-bits}
+use Rattle.bus_laws.proofs.Shapes.{quiet_children, quiet-bits}
 use Rattle.bus_laws.proofs.Told.{IsTold}
 
 -- ---- what is computed
-
--- quiet children of which some hold it
-abbrev quiet : Bool → Bits
-quiet sole = bits true sole false false true true true
 
 abbrev served : ParentFace → ParentFace
 served p = record p { note = no_note }
 
 abbrev may_serve : ParentFace → Bits → Bool
-may_serve p k = implies (is_local p.note && (not k.exclusive && not p.parked)) (k.one_gift && (k.readers && every_bool (λ sole. done_top p (served p) k (quiet sole))))
+may_serve p k = implies (is_local p.note && (not k.exclusive && not p.parked)) (k.one_gift && (k.readers && every_bool (λ sole. done_top p (served p) k (quiet_children sole))))
 
 each-may_serve : (note : Note) → each_state may_serve note ≡ true
 unfolding implies
@@ -151,7 +147,7 @@ module _ (n c x : ℕ) (words : List ℕ) (above : Stamp) (p : DirValue) (ns : L
     abbrev ms : List Node
     ms = map_from f 0 ns
 
-    checked : (k.one_gift && (k.readers && every_bool (λ sole. done_top before (served before) k (quiet sole)))) ≡ true
+    checked : (k.one_gift && (k.readers && every_bool (λ sole. done_top before (served before) k (quiet_children sole)))) ≡ true
     checked = implies-use (is_local before.note && (not k.exclusive && not before.parked)) _ (state-at may_serve each-may_serve before (faces_of x ns) (bus.rules x within)) (both_true (ap is_local note) (both_true (ap not no_exclusive) (ap not (not-parked n x p ns bus kids within c there holds))))
 
     one : k.one_gift ≡ true
@@ -225,14 +221,14 @@ module _ (n c x : ℕ) (words : List ℕ) (above : Stamp) (p : DirValue) (ns : L
     held-after : is_held (hold_after c) ≡ true
     held-after = ap (λ b. is_held (if◌then◌else◌ b Hold.Shared giver.hold)) giver-not_reader ∙ holds
 
-    bits-after : bits_of (served before) (faces_of x ms) ≡ quiet (bits_of (served before) (faces_of x ms)).sole
+    bits-after : bits_of (served before) (faces_of x ms) ≡ quiet_children (bits_of (served before) (faces_of x ms)).sole
     bits-after = quiet-bits x (served before) ms hold_after (λ i li. (told i (omega (arith, li, as_many))).here) shared-after refl c (omega (arith, there, as_many)) held-after
 
     pub reply_to_readers-keeps : KeepsBus n above p ns (record { answer = answer; parent = with_note x no_note (counted p); kids = ms })
     reply_to_readers-keeps =
         let sole = (bits_of (served before) (faces_of x ms)).sole in
         let more = and_parts k.readers _ (and_parts k.one_gift _ checked).1 in
-        keeps-top n x above p (with_note x no_note (counted p)) ns ms (served before) (quiet sole)
+        keeps-top n x above p (with_note x no_note (counted p)) ns ms (served before) (quiet_children sole)
         (record {
           bus = bus;
           known = within;
@@ -244,7 +240,7 @@ module _ (n c x : ℕ) (words : List ℕ) (above : Stamp) (p : DirValue) (ns : L
           reserved = refl;
           replies = refl;
         })
-        (every_bool-at (λ sole. done_top before (served before) k (quiet sole)) more.1 sole)
+        (every_bool-at (λ sole. done_top before (served before) k (quiet_children sole)) more.1 sole)
         (λ zero top exclusive quiet. top-noted (counted p) (top-counted p top) x no_note exclusive quiet)
         answer
 

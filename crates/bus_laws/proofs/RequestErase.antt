@@ -25,7 +25,7 @@ use Rattle.tree_rules.specs.Bus.Item.{implies, may_erase, eraser_is_granted, Bit
 use Rattle.tree_rules.specs.Bus.Rules.{IsBusOk, IsChildOk}
 use Rattle.tree_rules.proofs.Implying.{implies-use}
 use Rattle.bus_laws.specs.KeepsBus.{KeepsBus}
-use Rattle.bus_laws.proofs.States.{bits, each_state, state-at}
+use Rattle.bus_laws.proofs.States.{each_state, state-at}
 use Rattle.bus_laws.proofs.BitsOf.{passes-true}
 use Rattle.bus_laws.proofs.ItemLists.{nat_eq-same}
 use Rattle.bus_laws.proofs.DirParts.{dir-parts, child_seen, is_no_note, lt-test, blank-zero}
@@ -37,16 +37,12 @@ use Rattle.bus_laws.proofs.Before.{idle_of, lost-idle, kid-ok, granted-at, not-r
 use Rattle.bus_laws.proofs.OneChild.{asks-there, somebody, not-parked, shared-all}
 use Rattle.bus_laws.proofs.RowFrame.{all-kids_at, fits}
 use Rattle.bus_laws.proofs.RowChecks.{done_never, done_top, keeps-never, keeps-top}
-use Rattle.bus_laws.proofs.Shapes.{no-readers, lone-bits}
+use Rattle.bus_laws.proofs.Shapes.{one_shared, no-readers, lone-bits}
 use Rattle.bus_laws.proofs.Told.{IsTold}
 
 -- what isn't pending, and is held by a Shared child
 abbrev quiet_shared : ParentFace → Bits → Bool
 quiet_shared p k = is_no_note p.note && (not p.answering && (not (has_some p.queue) && (k.held && (not p.parked && not k.exclusive))))
-
--- the eraser alone holds it
-abbrev eraser_alone : Bits
-eraser_alone = bits true true false false true true true
 
 abbrev erasing_here : ℕ → ParentFace → ParentFace
 erasing_here c p = record p { note = up_erase c; queue = p.queue ++ ExclusiveTx ∷ [] }
@@ -55,10 +51,10 @@ abbrev erasing_above : ℕ → ParentFace → ParentFace
 erasing_above c p = record p { note = up_erase c; requests = p.requests ++ EraseTx ∷ [] }
 
 abbrev may_erase_here : ℕ → ParentFace → Bits → Bool
-may_erase_here c p k = implies (quiet_shared p k && is_exclusive p.hold) (k.no_gift && done_top p (erasing_here c p) k eraser_alone)
+may_erase_here c p k = implies (quiet_shared p k && is_exclusive p.hold) (k.no_gift && done_top p (erasing_here c p) k one_shared)
 
 abbrev may_erase_above : ℕ → ParentFace → Bits → Bool
-may_erase_above c p k = implies (quiet_shared p k && not (is_exclusive p.hold)) (k.no_gift && done_never p (erasing_above c p) k eraser_alone)
+may_erase_above c p k = implies (quiet_shared p k && not (is_exclusive p.hold)) (k.no_gift && done_never p (erasing_above c p) k one_shared)
 
 each-may_erase_here : (c : ℕ) (note : Note) → each_state (may_erase_here c) note ≡ true
 unfolding implies
@@ -167,7 +163,7 @@ module _ (n c x : ℕ) (above : Stamp) (p : DirValue) (ns : List Node) (bus : Is
     others-after : (i : ℕ) → i < length ms → i ≢ c → child_face x (child_at i ms) ≡ idle_of Hold.Invalid
     others-after i l ne = (told i (omega (arith, l, as_many))).here ∙ ap (λ b. if◌then◌else◌ b erasing (idle_of Hold.Invalid)) (ne_eqb i c ne)
 
-    bits-after : (f : ParentFace) → f.note ≡ up_erase c → f.parked ≡ before.parked → bits_of f (faces_of x ms) ≡ eraser_alone
+    bits-after : (f : ParentFace) → f.note ≡ up_erase c → f.parked ≡ before.parked → bits_of f (faces_of x ms) ≡ one_shared
     bits-after f note parked =
         lone-bits x f ms c still_there erasing here-after others-after (parked ∙ not-parked n x p ns bus kids within c there held) refl
         (subst (λ note. fits note c erasing ≡ true) (sym note) (erasing-fits c))
@@ -182,7 +178,7 @@ module _ (n c x : ℕ) (above : Stamp) (p : DirValue) (ns : List Node) (bus : Is
     here-keeps exclusive place =
         let h = implies-use (quiet_shared before k && is_exclusive before.hold) _ (state-at (may_erase_here c) (each-may_erase_here c) before (faces_of x ns) (bus.rules x within)) (both_true quiet-shared exclusive) in
         let a = and_parts k.no_gift _ h in
-        keeps-top n x above p (erase_noted above c x p ns true) ns ms (erasing_here c before) eraser_alone
+        keeps-top n x above p (erase_noted above c x p ns true) ns ms (erasing_here c before) one_shared
         (record {
           bus = bus;
           known = within;
@@ -202,7 +198,7 @@ module _ (n c x : ℕ) (above : Stamp) (p : DirValue) (ns : List Node) (bus : Is
     above-keeps shared place =
         let h = implies-use (quiet_shared before k && not (is_exclusive before.hold)) _ (state-at (may_erase_above c) (each-may_erase_above c) before (faces_of x ns) (bus.rules x within)) (both_true quiet-shared (ap not shared)) in
         let a = and_parts k.no_gift _ h in
-        keeps-never n x above p (erase_noted above c x p ns false) ns ms (erasing_above c before) eraser_alone
+        keeps-never n x above p (erase_noted above c x p ns false) ns ms (erasing_above c before) one_shared
         (record {
           bus = bus;
           known = within;

@@ -42,7 +42,7 @@ use Rattle.bus_laws.proofs.OneChild.{asks-there, untouched, one_after, one-told,
 use Rattle.bus_laws.proofs.Answering.{child-hold, IsAnswer, is-answer, exclusive-before}
 use Rattle.bus_laws.proofs.RowFrame.{all-kids_at, fits, rules-after}
 use Rattle.bus_laws.proofs.RowChecks.{done_never, done_top, RowFound, keeps-never, keeps-top}
-use Rattle.bus_laws.proofs.Shapes.{lone-bits}
+use Rattle.bus_laws.proofs.Shapes.{nobody_holds, lone-bits}
 use Rattle.bus_laws.proofs.Told.{IsTold}
 
 -- ---- what is computed
@@ -67,15 +67,11 @@ each-may_ask_child c (local first joined) = refl
 each-may_ask_child c (up_read first joined) = refl
 each-may_ask_child c (up_erase d) = refl
 
--- the reader alone waits, and nobody holds the item
-abbrev reader_alone : Bits
-reader_alone = bits false false false false true true true
-
 abbrev from_parking : ℕ → ParentFace → ParentFace
 from_parking c p = record p { note = up_read c 0; parked = false; queue = p.queue ++ DataTx ∷ [] }
 
 abbrev may_unpark : ℕ → ParentFace → Bits → Bool
-may_unpark c p k = implies (quiet p && (is_held p.hold && p.parked)) (k.no_gift && done_never p (from_parking c p) k reader_alone)
+may_unpark c p k = implies (quiet p && (is_held p.hold && p.parked)) (k.no_gift && done_never p (from_parking c p) k nobody_holds)
 
 each-may_unpark : (c : ℕ) (note : Note) → each_state (may_unpark c) note ≡ true
 unfolding implies
@@ -88,7 +84,7 @@ abbrev asking_above : ℕ → ParentFace → ParentFace
 asking_above c p = record p { note = up_read c 0; requests = p.requests ++ ReadTx ∷ [] }
 
 abbrev may_ask_above : ℕ → ParentFace → Bits → Bool
-may_ask_above c p k = implies (quiet p && not (is_held p.hold)) (k.no_gift && (not k.held && (not p.parked && done_never p (asking_above c p) k reader_alone)))
+may_ask_above c p k = implies (quiet p && not (is_held p.hold)) (k.no_gift && (not k.held && (not p.parked && done_never p (asking_above c p) k nobody_holds)))
 
 each-may_ask_above : (c : ℕ) (note : Note) → each_state (may_ask_above c) note ≡ true
 unfolding implies
@@ -187,14 +183,14 @@ module _ (n c x : ℕ) (above : Stamp) (p : DirValue) (ns : List Node) (bus : Is
             let same : i ≡ c = eqb-true i c (sym (first-alone c i) ∙ is) in
             subst (λ j. (child_face x (child_at j ms)).reads ≡ true) (sym same) (ap (λ (g : ChildFace). g.reads) here-after)))
 
-        reader-bits : (f : ParentFace) → f.note ≡ up_read c 0 → f.parked ≡ false → bits_of f (faces_of x ms) ≡ reader_alone
+        reader-bits : (f : ParentFace) → f.note ≡ up_read c 0 → f.parked ≡ false → bits_of f (faces_of x ms) ≡ nobody_holds
         reader-bits f note parked =
             lone-bits x f ms c still_there reading here-after others-after parked refl
             (subst (λ note. fits note c reading ≡ true) (sym note) (reading-fits-up c))
             (subst (λ note. all_from (reader_is_granted note) 0 (faces_of x ms) ≡ true) (sym note) readers-after)
             (subst (λ note. eraser_is_granted note (faces_of x ms) ≡ true) (sym note) refl)
 
-        reader-found : (q : DirValue) (f : ParentFace) → IsModified n (length ns) x p q f → f.note ≡ up_read c 0 → f.parked ≡ false → q.reserved ≡ p.reserved → q.replies ≡ p.replies → RowFound n x above p q ns ms f reader_alone
+        reader-found : (q : DirValue) (f : ParentFace) → IsModified n (length ns) x p q f → f.note ≡ up_read c 0 → f.parked ≡ false → q.reserved ≡ p.reserved → q.replies ≡ p.replies → RowFound n x above p q ns ms f nobody_holds
         reader-found q f parent note parked reserved replies = record {
           bus = bus;
           known = within;
@@ -216,7 +212,7 @@ module _ (n c x : ℕ) (above : Stamp) (p : DirValue) (ns : List Node) (bus : Is
         let b = and_parts (not k.held) _ a.1 in
         let d = and_parts (not before.parked) _ b.1 in
         let nobody : list_any holds_it (faces_of x ns) ≡ false = (or_parts before.parked (list_any holds_it (faces_of x ns)) (not-true _ b.0)).1 in
-        keeps-never n x above p (pushed_request ReadTx x (with_note x (up_read c 0) (counted p))) ns _ (asking_above c before) reader_alone
+        keeps-never n x above p (pushed_request ReadTx x (with_note x (up_read c 0) (counted p))) ns _ (asking_above c before) nobody_holds
         (reader-found a.0 nobody _ _ (pushes_request n (length ns) x within p _ _ (noted-counted (up_read c 0) first-fits) ReadTx (some_if-none (requests_full p) _ room)) refl (not-true _ d.0) refl refl)
         d.1
         answer
@@ -229,7 +225,7 @@ module _ (n c x : ℕ) (above : Stamp) (p : DirValue) (ns : List Node) (bus : Is
         let h = implies-use (quiet before && (is_held before.hold && before.parked)) _ (state-at (may_unpark c) (each-may_unpark c) before (faces_of x ns) (bus.rules x within)) (both_true quiet-before (both_true held is_parked)) in
         let a = and_parts k.no_gift _ h in
         let nobody : list_any holds_it (faces_of x ns) ≡ false = any-false (child_face x) no_node holds_it ns (λ i l. absent i l none (ℕ_discrete i c)) in
-        keeps-never n x above p (pushed_down DataTx x words above (without_parked x (with_note x (up_read c 0) (counted p)))) ns _ (from_parking c before) reader_alone
+        keeps-never n x above p (pushed_down DataTx x words above (without_parked x (with_note x (up_read c 0) (counted p)))) ns _ (from_parking c before) nobody_holds
         (reader-found a.0 nobody _ _ (pushes_down n (length ns) x within p _ _ (unparks n (length ns) x within p _ _ (noted-counted (up_read c 0) first-fits)) DataTx words above (some_if-none (down_full p) _ room) (λ e. cc)) refl refl refl refl)
         a.1
         answer

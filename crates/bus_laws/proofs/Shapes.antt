@@ -11,12 +11,32 @@ use Rattle.tree_model.specs.State.Directory.{is_reader}
 use Rattle.tree_model.specs.State.Blank.{no_node}
 use Rattle.tree_model.specs.Turns.Children.{child_at}
 use Rattle.tree_rules.specs.Bus.Faces.{ChildFace, ParentFace, child_face, faces_of}
-use Rattle.tree_rules.specs.Bus.Item.{implies, holds_it, holds_exclusive, one_holds, gives_none, reader_is_granted, eraser_is_granted, bits_of}
+use Rattle.tree_rules.specs.Bus.Item.{implies, holds_it, holds_exclusive, one_holds, gives_none, reader_is_granted, eraser_is_granted, bits_of, Bits}
 use Rattle.tree_rules.proofs.Implying.{implies-by}
 use Rattle.bus_laws.proofs.States.{bits}
 use Rattle.bus_laws.proofs.BitsOf.{any-true, any-false, all-true, each-true, one-true, one-none, gift-none}
 use Rattle.bus_laws.proofs.Before.{idle_of}
 use Rattle.bus_laws.proofs.RowFrame.{fits, rules-after}
+
+-- nobody holds the item or gives it, and nothing is granted but what the note names
+abbrev pub nobody_holds : Bits
+nobody_holds = bits false false false false true true true
+
+-- one child alone holds it Shared, or the parked copy alone is left
+abbrev pub one_shared : Bits
+one_shared = bits true true false false true true true
+
+-- one child alone holds it, Exclusive
+abbrev pub one_exclusive : Bits
+one_exclusive = bits true true true false true true true
+
+-- some hold it, none Exclusive, and nothing else is under way
+abbrev pub quiet_children : Bool → Bits
+quiet_children sole = bits true sole false false true true true
+
+pub exclusive-fits : (i : ℕ) → fits no_note i (idle_of Hold.Exclusive) ≡ true
+unfolding implies
+exclusive-fits i = refl
 
 pub idle-fits : (note : Note) (i : ℕ) → fits note i (idle_of Hold.Invalid) ≡ true
 unfolding implies
