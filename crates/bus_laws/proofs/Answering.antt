@@ -21,6 +21,7 @@ pub child-hold : (x : ℕ) (m : Node) → child_hold x m ≡ (child_face x m).ho
 child-hold x (leaf_node v) = refl
 child-hold x (dir_node d ns) = refl
 
+-- what a face that gave nothing becomes where it answers
 pub record IsAnswer (f g : ChildFace) : Type 0 where
   pub holds : holds_it g ≡ holds_it f
   pub exclusive : is_exclusive g.hold ≡ true → is_exclusive f.hold ≡ true

@@ -15,6 +15,7 @@ use Rattle.bus_laws.specs.KeepsBus.{dir_face}
 
 -- ---- what is seen of an item stays
 
+-- of item y, e is seen as d is
 pub record IsSameOf (y : ℕ) (d e : DirValue) : Type 0 where
   pub item : dir_item y e ≡ dir_item y d
   pub queue : queue_kinds y e.down ≡ queue_kinds y d.down

@@ -42,30 +42,39 @@ abbrev pub follows : ParentFace → ParentFace → Bits → ℕ → Hold → Boo
 follows p q k places hold reads erases answers =
     item_holds q k && (nat_eq (kept_place q) (places + kept_place p) && is_seen q hold reads erases answers)
 
+-- it has lost the item: an erase goes down, and its own erase is struck
 abbrev lost : ParentFace → ParentFace
 lost p = record p { hold = Hold.Invalid; queue = p.queue ++ EraseTx ∷ []; requests = without_first (is_kind EraseTx) p.requests }
 
+-- where it held the item Shared and gave nothing
 abbrev may_lose : ParentFace → Bits → Bool
 may_lose p k = implies (is_held p.hold && not (is_exclusive p.hold || p.answering)) (follows p (lost p) k 0 Hold.Invalid false false false)
 
+-- it was told data
 abbrev with_data : ParentFace → ParentFace
 with_data p = record p { hold = Hold.Shared; queue = p.queue ++ DataTx ∷ [] }
 
+-- where its read was granted
 abbrev may_take_data : ParentFace → Bits → Bool
 may_take_data p k = implies (face_reads p) (follows p (with_data p) k 0 Hold.Shared false false false && not p.answering)
 
+-- it was told exclusive
 abbrev with_exclusive : ParentFace → ParentFace
 with_exclusive p = record p { hold = Hold.Exclusive; queue = p.queue ++ ExclusiveTx ∷ [] }
 
+-- where its erase was granted and it gave nothing
 abbrev may_take_exclusive : ParentFace → Bits → Bool
 may_take_exclusive p k = implies (face_erases p && not p.answering) (follows p (with_exclusive p) k 0 Hold.Exclusive false false false)
 
+-- it was told to answer
 abbrev answering : ParentFace → ParentFace
 answering p = record p { answering = true; queue = p.queue ++ ReadTx ∷ [] }
 
+-- where it held the item and gave nothing
 abbrev may_answer : ParentFace → Bits → Bool
 may_answer p k = implies (is_held p.hold && not p.answering) (follows p (answering p) k 0 p.hold (face_reads p) (face_erases p) true)
 
+-- it was told inject
 abbrev with_inject : ParentFace → ParentFace
 with_inject p = record p { hold = Hold.Exclusive; queue = p.queue ++ InjectTx ∷ []; requests = without_first (is_kind ReadTx) p.requests }
 
@@ -73,6 +82,7 @@ with_inject p = record p { hold = Hold.Exclusive; queue = p.queue ++ InjectTx �
 abbrev places_for_inject : ParentFace → ℕ
 places_for_inject p = if is_up_read p.note && not (has_some p.queue) then 0 else 1
 
+-- where it held nothing and gave nothing
 abbrev may_take_inject : ParentFace → Bits → Bool
 may_take_inject p k = implies (not (is_held p.hold) && not p.answering) (follows p (with_inject p) k (places_for_inject p) Hold.Exclusive false false false)
 
@@ -113,6 +123,7 @@ each-may_take_inject (up_erase d) = refl
 
 -- ---- what was computed, as facts
 
+-- the same as facts
 pub record Follows (p q : ParentFace) (cs : List ChildFace) (places : ℕ) (hold : Hold) (reads erases answers : Bool) : Type 0 where
   pub rules : ItemRules q cs
   pub kept : kept_place q ≡ places + kept_place p
@@ -126,6 +137,7 @@ followed p q cs places hold reads erases answers same h =
 
 -- ---- to lose an item
 
+-- what is seen of a child that was told to lose the item
 abbrev pub face_lost : ChildFace → ChildFace
 face_lost f = if is_held f.hold then record f { hold = Hold.Invalid; reads = false; erases = false } else f
 

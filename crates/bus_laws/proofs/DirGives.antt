@@ -34,6 +34,7 @@ use Rattle.bus_laws.proofs.Told.{IsTold, dir-told}
 
 -- ---- an item that isn't pending
 
+-- no note, no answer, nothing that comes down
 pub record IsQuiet (x : ℕ) (d : DirValue) : Type 0 where
   pub note : dir_note x d ≡ no_note
   pub answering : is_answering x d ≡ false
@@ -55,15 +56,19 @@ quiet-from_pending x d e =
 
 -- ---- the faces after
 
+-- its first request was granted
 abbrev taken : ParentFace → ParentFace
 taken p = record p { requests = rest_of p.requests }
 
+-- where that was a read
 abbrev may_take_read : ParentFace → Bits → Bool
 may_take_read p k = implies (starts_with ReadTx p.requests) (follows p (taken p) k 0 Hold.Invalid true false p.answering && is_seen p Hold.Invalid false false p.answering)
 
+-- where that was an erase
 abbrev may_take_erase : ParentFace → Bits → Bool
 may_take_erase p k = implies (starts_with EraseTx p.requests) (follows p (taken p) k 0 Hold.Shared false true p.answering && is_seen p Hold.Shared false false p.answering)
 
+-- its parked copy left
 abbrev given_up : ParentFace → ParentFace
 given_up p = record p { hold = Hold.Invalid; parked = false }
 
@@ -130,6 +135,7 @@ module _ (n x : ℕ) (d : DirValue) (ns : Nodes) (within : x < n) (bus : IsBusOk
   taken-others : (kind : TxKind) → first_of d.requests ≡ Some (record { kind = kind; item = x }) → (y : ℕ) → y ≢ x → IsSameOf y d (record d { requests = rest_of d.requests })
   taken-others kind asks y ne = record { item = refl; queue = refl; requests = kinds-first_other y d.requests _ asks ne; parked = refl; replies = refl }
 
+  -- it is told so, and was seen so before
   pub record IsTaken (hold : Hold) (reads erases : Bool) : Type 0 where
     pub told : IsTold n x (dir_node d ns) (dir_node (record d { requests = rest_of d.requests }) ns) (child_seen hold reads erases copies (is_answering x d))
     pub was : dir_face x d ≡ child_seen hold false false copies (is_answering x d)

@@ -21,6 +21,7 @@ use Rattle.tree_model.proofs.DirRooms.{DirWithin, dir_within-facts, dir_within-t
 use Rattle.tree_rules.specs.Bus.Faces.{ChildFace, ParentFace, face_reads, face_erases, face_above}
 use Rattle.tree_rules.specs.Bus.Own.{copy_fits, are_zero, down_fits, request_fits, note_fits, item_fits, DirRule, dir_lists, notes_fit, down_entries, dir_requests, dir_replies, parked_fit, parked_once, dir_test, IsDirOk}
 
+-- what a directory keeps by itself, by names
 pub record DirParts (n kids : ℕ) (d : DirValue) : Type 0 where
   pub within : DirWithin n d
   pub notes : list_all (item_fits kids) d.items ≡ true
@@ -75,6 +76,7 @@ blank-zero (suc width) = blank-zero width
 
 -- ---- a face as the bus above sees it, by a test
 
+-- both are the same
 abbrev pub same_hold : Hold → Hold → Bool
 same_hold Hold.Invalid h = beq (is_held h) false
 same_hold Hold.Shared h = is_shared h
@@ -101,6 +103,7 @@ beq-is false false e = refl
 abbrev pub is_seen : ParentFace → Hold → Bool → Bool → Bool → Bool
 is_seen p hold reads erases answers = same_hold p.hold hold && (beq (face_reads p) reads && (beq (face_erases p) erases && beq p.answering answers))
 
+-- a face by its parts
 abbrev pub child_seen : Hold → Bool → Bool → ℕ → Bool → ChildFace
 child_seen hold reads erases replies answers = record { hold = hold; reads = reads; erases = erases; replies = replies; answers = answers }
 
@@ -131,12 +134,14 @@ entry-fits n x kind words s within bare = both_true (lt-test x n within) (implie
 
 -- ---- tests of a face
 
+-- nothing is under way
 abbrev pub is_no_note : Note → Bool
 is_no_note no_note = true
 is_no_note (local first joined) = false
 is_no_note (up_read first joined) = false
 is_no_note (up_erase d) = false
 
+-- the first of them is of this kind
 abbrev pub starts_with : TxKind → List TxKind → Bool
 starts_with kind [] = false
 starts_with kind (k ∷ ks) = is_kind kind k

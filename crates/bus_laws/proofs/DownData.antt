@@ -1,4 +1,5 @@
 -- Data comes down, or an inject that several children read: every reader is told data.
+-- Letters: x is the item, u the note, k the bits before, ms the children after, s the stamp of the bus.
 use Rattle.std.proofs.Common.{◌≡◌, ℕ, ◌<◌, Bool, true, false, List, ◌∷◌, length, None, refl, sym, ap, subst, ◌∙◌, arith}
 use Rattle.std.specs.Prelude.{not, ◌&&◌, nat_lt, if◌then◌else◌}
 use Rattle.std.specs.List.{AllByRecursion, list_any}
@@ -35,9 +36,11 @@ use Rattle.bus_laws.proofs.RowChecks.{done_never, keeps-never}
 use Rattle.bus_laws.proofs.Shapes.{quiet_children, quiet-bits}
 use Rattle.bus_laws.proofs.Told.{IsTold}
 
+-- the parent after it
 abbrev served : ParentFace → ParentFace
 served p = record p { queue = rest_of p.queue; note = no_note }
 
+-- what is known before it and kept after it
 abbrev may_serve : TxKind → ParentFace → Bits → Bool
 may_serve kind p k = implies (starts_with kind p.queue && is_up_read p.note) (k.no_gift && (k.readers && (not k.held && every_bool (λ sole. done_never p (served p) k (quiet_children sole)))))
 
@@ -84,6 +87,7 @@ module _ (n : ℕ) (above : Stamp) (p : DirValue) (ns : List Node) (bus : IsBusO
     checked : (k.no_gift && (k.readers && (not k.held && every_bool (λ sole. done_never before (served before) k (quiet_children sole))))) ≡ true
     checked = implies-use (starts_with kind before.queue && is_up_read before.note) _ (state-at (may_serve kind) each before (faces_of x ns) (bus.rules x within)) (both_true (entry-starts n x p ns bus e rest front kind is_kind_e self) (ap is_up_read note))
 
+    -- the same as facts
     record Known : Type 0 where
       none : k.no_gift ≡ true
       readers : k.readers ≡ true

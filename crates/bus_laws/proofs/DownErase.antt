@@ -1,4 +1,5 @@
 -- An erase comes down: every child is told to lose the item, and the parked copy ends.
+-- Letters: x is the item, k the bits before, q the parent after, ms the children after, s the stamp of the bus.
 use Rattle.std.proofs.Common.{◌≡◌, ℕ, ◌+◌, ◌<◌, Bool, true, false, List, ◌∷◌, length, None, refl, sym, ap, subst, arith}
 use Rattle.std.specs.Prelude.{not, ◌&&◌, nat_eq}
 use Rattle.std.specs.List.{AllByRecursion}
@@ -33,9 +34,11 @@ use Rattle.bus_laws.proofs.RowChecks.{stays_seen, never_top, rules-by, never-top
 use Rattle.bus_laws.proofs.Shapes.{nobody_holds}
 use Rattle.bus_laws.proofs.Told.{IsTold}
 
+-- the parent after it
 abbrev erased : ParentFace → ParentFace
 erased p = record p { queue = rest_of p.queue; parked = false; note = without_up_erase p.note }
 
+-- what is known before it and kept after it
 abbrev may_erase_down : ParentFace → Bits → Bool
 may_erase_down p k =
     implies (starts_with EraseTx p.queue && not (is_local p.note))
@@ -96,6 +99,7 @@ module _ (n : ℕ) (above : Stamp) (p : DirValue) (ns : List Node) (bus : IsBusO
     abbrev ms : List Node
     ms = map_from (loses x s) 0 ns
 
+    -- the same as facts
     record Known : Type 0 where
       no_gift : k.no_gift ≡ true
       shared : k.exclusive ≡ false

@@ -1,4 +1,5 @@
 -- An exclusive comes down: the child that erases is told exclusive.
+-- Letters: d is the child that erases, x the item, k the bits before, ms the children after, s the stamp of the bus.
 use Rattle.std.proofs.Common.{◌≡◌, ◌≢◌, ℕ, ◌<◌, Bool, true, false, List, ◌∷◌, length, None, refl, ap, subst, ◌∙◌, arith}
 use Rattle.std.specs.Prelude.{not, ◌&&◌}
 use Rattle.std.specs.List.{AllByRecursion}
@@ -32,9 +33,11 @@ use Rattle.bus_laws.proofs.RowChecks.{done_top, keeps-top}
 use Rattle.bus_laws.proofs.Shapes.{one_exclusive, exclusive-fits, no-readers, lone-bits}
 use Rattle.bus_laws.proofs.Told.{IsTold}
 
+-- the parent after it
 abbrev upgraded : ParentFace → ParentFace
 upgraded p = record p { queue = rest_of p.queue; note = no_note }
 
+-- what is known before it and kept after it
 abbrev may_upgrade : ParentFace → Bits → Bool
 may_upgrade p k = implies (starts_with ExclusiveTx p.queue && (is_up_erase p.note && not p.parked)) (k.no_gift && done_top p (upgraded p) k one_exclusive)
 

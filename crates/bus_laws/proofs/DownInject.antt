@@ -1,4 +1,5 @@
 -- An inject comes down: the only reader takes it, else a child with room, else it is parked in the place that was kept.
+-- Letters: d is the child that takes it, x the item, k the bits before, ms the children after, s the stamp of the bus.
 use Rattle.std.proofs.Common.{◌≡◌, ◌≢◌, ℕ, zero, suc, ◌+◌, ◌-◌, ◌<◌, ◌≤◌, Bool, true, false, List, ◌∷◌, length, Some, None, refl, sym, ap, subst, ◌∙◌, arith}
 use Rattle.std.specs.Prelude.{not, ◌&&◌, nat_eq, nat_lt}
 use Rattle.std.specs.List.{AllByRecursion, list_any, range_with_len}
@@ -40,9 +41,11 @@ use Rattle.bus_laws.proofs.Told.{IsTold}
 
 -- ---- what is computed
 
+-- the parent after the only reader took it
 abbrev read_by_one : ParentFace → ParentFace
 read_by_one p = record p { queue = rest_of p.queue; note = no_note }
 
+-- what is known before it and kept after it
 abbrev may_give_reader : ParentFace → Bits → Bool
 may_give_reader p k = implies (starts_with InjectTx p.queue && is_up_read p.note) (k.no_gift && (k.readers && (not k.held && (not p.parked && done_never p (read_by_one p) k one_exclusive))))
 
@@ -53,6 +56,7 @@ each-give_reader (local first joined) = refl
 each-give_reader (up_read first joined) = refl
 each-give_reader (up_erase d) = refl
 
+-- the parent without the entry
 abbrev taken : ParentFace → ParentFace
 taken p = record p { queue = rest_of p.queue }
 
@@ -60,9 +64,11 @@ taken p = record p { queue = rest_of p.queue }
 abbrev done_place : ParentFace → ParentFace → Bits → Bits → Bool
 done_place p q k j = nat_eq (kept_place p) (kept_place q + 1) && (never_top p k && stays_seen p q j)
 
+-- the parent with the copy parked
 abbrev in_parking : ParentFace → ParentFace
 in_parking p = record p { queue = rest_of p.queue; parked = true }
 
+-- what is known before it and kept after it
 abbrev may_place : ParentFace → Bits → Bool
 may_place p k =
     implies (starts_with InjectTx p.queue && (not (is_local p.note) && not (is_up_read p.note)))
@@ -193,6 +199,7 @@ module _ (n : ℕ) (above : Stamp) (p : DirValue) (ns : List Node) (bus : IsBusO
   -- ---- nobody reads
 
   module _ (other : is_local (dir_note x p) ≡ false) (unread : is_up_read (dir_note x p) ≡ false) where
+    -- the same as facts
     record Known : Type 0 where
       note : before.note ≡ no_note
       none : k.no_gift ≡ true

@@ -1,4 +1,5 @@
 -- A read comes down: the lowest child that holds the item is told to answer, or the parked copy answers.
+-- Letters: d is the child that answers, x the item, k the bits before, q the parent after, ms the children after.
 use Rattle.std.proofs.Common.{◌≡◌, ◌≢◌, ℕ, ◌+◌, ◌<◌, Bool, true, false, List, [], ◌∷◌, length, Some, None, refl, sym, ap, subst, ◌∙◌, arith, length-append}
 use Rattle.std.specs.Prelude.{not, ◌&&◌, ◌||◌, nat_eq}
 use Rattle.std.specs.List.{AllByRecursion, list_any, list_all}
@@ -41,12 +42,15 @@ use Rattle.bus_laws.proofs.Told.{IsTold}
 
 -- ---- what is computed
 
+-- the parent without the entry
 abbrev taken : ParentFace → ParentFace
 taken p = record p { queue = rest_of p.queue }
 
+-- the same bits, and one child answers
 abbrev with_answer : Bits → Bool → Bits
 with_answer k exclusive = bits k.held k.sole exclusive true false k.readers k.eraser
 
+-- what is known before it and kept after it
 abbrev may_ask : ParentFace → Bits → Bool
 may_ask p k = implies (starts_with ReadTx p.queue && not (is_local p.note)) (k.no_gift && every_bool (λ exclusive. implies (implies exclusive k.exclusive) (done_never p (taken p) k (with_answer k exclusive))))
 
@@ -57,9 +61,11 @@ each-may_ask (local first joined) = refl
 each-may_ask (up_read first joined) = refl
 each-may_ask (up_erase d) = refl
 
+-- the parent after its parked copy answered
 abbrev answered : ParentFace → ParentFace
 answered p = record p { hold = Hold.Shared; answering = false; queue = rest_of p.queue }
 
+-- what is known before it and kept after it
 abbrev may_answer : ParentFace → Bits → Bool
 may_answer p k =
     implies (starts_with ReadTx p.queue && (not (is_local p.note) && p.parked))
@@ -211,6 +217,7 @@ module _ (n : ℕ) (above : Stamp) (p : DirValue) (ns : List Node) (bus : IsBusO
     first-some [] f = cc
     first-some (w ∷ ws) f = refl
 
+    -- the same as facts
     record Known : Type 0 where
       parent_holds : is_held before.hold ≡ true
       asked : before.answering ≡ true

@@ -15,9 +15,11 @@ pub when-at : (b : Bool) (f : Bool → Bool) → when b f ≡ true → b ≡ tru
 when-at true f h e = h
 when-at false f h e = cc
 
+-- it passes at both
 abbrev pub every_bool : (Bool → Bool) → Bool
 every_bool f = f true && f false
 
+-- it passes at all three
 abbrev pub every_hold : (Hold → Bool) → Bool
 every_hold f = f Hold.Invalid && (f Hold.Shared && f Hold.Exclusive)
 
@@ -32,6 +34,7 @@ every_hold-at f h Hold.Exclusive = (and_parts (f Hold.Shared) _ (and_parts (f Ho
 
 -- ---- the requests of one item
 
+-- it passes at each list that the rules leave
 abbrev pub every_requests : (List TxKind → Bool) → Bool
 every_requests f = f [] && (f (ReadTx ∷ []) && f (EraseTx ∷ []))
 
@@ -59,6 +62,7 @@ behind_erase f = read_only f && read_only (λ q. f (InjectTx ∷ q))
 abbrev behind_data : (List TxKind → Bool) → Bool
 behind_data f = read_only f && behind_erase (λ q. f (EraseTx ∷ q))
 
+-- it passes at each of the sixteen
 abbrev pub every_queue : (List TxKind → Bool) → Bool
 every_queue f = read_only f && (read_only (λ q. f (InjectTx ∷ q)) && (behind_erase (λ q. f (EraseTx ∷ q)) && (behind_data (λ q. f (DataTx ∷ q)) && read_only (λ q. f (ExclusiveTx ∷ q)))))
 

@@ -1,4 +1,5 @@
 -- A request to read joins a read that is under way.
+-- Letters: c is the child that asks, x the item, k the bits before, ms the children after.
 use Rattle.std.proofs.Common.{◌≡◌, ◌≢◌, ℕ, ◌^◌, ◌<◌, Bool, true, false, List, length, Some, refl, sym, ap, subst, ◌∙◌, arith}
 use Rattle.std.specs.Prelude.{not, ◌&&◌, ◌||◌, nat_eq, nat_lt}
 use Rattle.std.specs.List.{AllByRecursion}
@@ -37,15 +38,19 @@ use Rattle.bus_laws.proofs.RowChecks.{done_top, keeps-top}
 
 -- ---- what is computed
 
+-- a read is under way
 abbrev reads_note : Note → Bool
 reads_note note = is_local note || is_up_read note
 
+-- the parent after it
 abbrev joining : ℕ → ParentFace → ParentFace
 joining c p = record p { note = joined_by c p.note }
 
+-- the same bits
 abbrev as_before_bits : Bits → Bits
 as_before_bits k = bits k.held k.sole k.exclusive k.one_gift k.no_gift true true
 
+-- what is known before it and kept after it
 abbrev may_join : ℕ → ParentFace → Bits → Bool
 may_join c p k = implies (reads_note p.note) (k.readers && done_top p (joining c p) k (as_before_bits k))
 

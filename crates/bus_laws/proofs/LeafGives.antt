@@ -67,6 +67,7 @@ each-buffered (b ∷ bs) once =
     let rest = each-buffered bs parts.1 in
     All-cons (λ (e : BufferValue). buffered e.item (b ∷ bs) ≡ Some e) b bs (rw (nat_eq-same b.item) refl) (λ k d l. behind-found b (slice_index_or bs k d) bs (differ k d l) (rest k d l))
 
+-- its entry has a state that may leave
 record MayLeave (x : ℕ) (v : LeafValue) : Type 0 where
   state : LeafState
   is : state_at x v ≡ Some state
@@ -198,6 +199,7 @@ module _ (n x : ℕ) (v : LeafValue) (ok : IsLeafOk n v) where
   stays-told : (slot : Option RequestValue) (replies : List CopyValue) → LeafChange n x v (state_at x v) slot replies v.reservation → IsTold n x (leaf_node v) (leaf_node (record v { slot = slot; replies = replies })) (state_face x (state_at x v) slot (length (words_of_item x replies)))
   stays-told slot replies c = leaf-told n x v stays (state_at x v) slot replies v.reservation ok (fated-stays n x v ok) c
 
+  -- it is told so, and was seen so before
   pub record IsGranted (hold : Hold) (reads erases : Bool) : Type 0 where
     pub told : IsTold n x (leaf_node v) (leaf_node (record v { slot = None })) (child_seen hold reads erases copies false)
     pub was : leaf_face x v ≡ child_seen hold false false copies false
@@ -279,6 +281,7 @@ module _ (n x : ℕ) (v : LeafValue) (ok : IsLeafOk n v) where
 
   -- ---- the copy leaves
 
+  -- it is one of the items, is told so, and was held
   pub record Leaves : Type 0 where
     pub known : x < n
     pub told : IsTold n x (leaf_node v) (leaf_node (leaf_give_up x v)) (child_seen Hold.Invalid false false copies false)

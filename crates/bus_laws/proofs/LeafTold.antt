@@ -94,6 +94,7 @@ now-other x y o v ne = rw (ne_eqb y x ne) refl
 abbrev pub SlotSuits : ℕ → Option LeafState → LeafValue → Option RequestValue → Type 0
 SlotSuits x o v slot = (r : RequestValue) → slot ≡ Some r → request_suits r.kind (state_now x o v r.item) ≡ true
 
+-- the rest of a change: the request, the replies and the reservation suit
 pub record LeafChange (n x : ℕ) (v : LeafValue) (o : Option LeafState) (slot : Option RequestValue) (replies : List CopyValue) (reservation : Option ℕ) : Type 0 where
   -- it waits only where it did before
   pub waits : state_waits o ≡ true → state_waits (state_at x v) ≡ true

@@ -1,4 +1,5 @@
 -- A copy leaves a child: it is dropped, passed on to another child, or parked at the parent.
+-- Letters: c is the child whose copy leaves, d another child, x the item, k the bits before, ms and qs the children after.
 use Rattle.std.proofs.Common.{◌≡◌, ◌≢◌, ℕ, ◌<◌, Bool, true, false, List, length, Option, Some, None, refl, sym, ap, subst, ◌∙◌, arith}
 use Rattle.std.specs.Prelude.{not, ◌&&◌, ◌||◌, nat_eq, nat_lt, is_some, if◌then◌else◌}
 use Rattle.std.specs.List.{AllByRecursion}
@@ -45,6 +46,7 @@ use Rattle.bus_laws.proofs.Told.{IsTold}
 
 -- ---- what is computed
 
+-- the item is not pending, and a child holds it
 abbrev calm : ParentFace → Bits → Bool
 calm p k = is_no_note p.note && (not p.answering && (not (has_some p.queue) && (k.held && not p.parked)))
 
@@ -59,6 +61,7 @@ each-may_leave (local first joined) = refl
 each-may_leave (up_read first joined) = refl
 each-may_leave (up_erase d) = refl
 
+-- where another child has a copy
 abbrev may_drop : ParentFace → Bits → Bool
 may_drop p k = implies (calm p k) (every_bool (λ sole. done_top p p k (quiet_children sole)))
 
@@ -69,6 +72,7 @@ each-may_drop (local first joined) = refl
 each-may_drop (up_read first joined) = refl
 each-may_drop (up_erase d) = refl
 
+-- where nobody else has one, and the parent holds the item Exclusive
 abbrev may_pass_on : ParentFace → Bits → Bool
 may_pass_on p k = implies (calm p k && is_exclusive p.hold) (done_top p p k one_exclusive)
 
@@ -79,9 +83,11 @@ each-may_pass_on (local first joined) = refl
 each-may_pass_on (up_read first joined) = refl
 each-may_pass_on (up_erase d) = refl
 
+-- the parent with the copy parked
 abbrev in_parking : ParentFace → ParentFace
 in_parking p = record p { parked = true }
 
+-- where nobody else has one
 abbrev may_park : ParentFace → Bits → Bool
 may_park p k = implies (calm p k) (nat_eq (kept_place (in_parking p)) (kept_place p) && stays_seen p (in_parking p) one_shared)
 
@@ -357,6 +363,7 @@ module _ (n choice c x : ℕ) (above : Stamp) (p : DirValue) (ns : List Node) (b
         not-some None e = refl
         not-some (Some d) e = cc
 
+  -- nobody else holds it, and the parent holds it Exclusive
   record Alone : Type 0 where
     others : (i : ℕ) → i < length ns → i ≢ c → is_held (child_face x (child_at i ns)).hold ≡ false
     exclusive : is_exclusive before.hold ≡ true

@@ -49,6 +49,7 @@ module _ (n x : ℕ) (p : DirValue) (ns : List Node) (bus : IsBusOk n p ns) (kid
   untouched i l within = record { ok = kid-ok n x p ns bus kids within i l; here = refl; others = λ y ne. refl }
 
   module _ (within : x < n) (c : ℕ) (f : Node → Node) (a : ChildFace) (told : IsTold n x (child_at c ns) (f (child_at c ns)) a) where
+    -- what each child is seen as then
     abbrev pub one_after : ℕ → ChildFace
     one_after i = if nat_eq i c then a else child_face x (child_at i ns)
 

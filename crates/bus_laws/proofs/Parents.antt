@@ -20,6 +20,7 @@ use Rattle.bus_laws.proofs.ItemLists.{queue-pushed, queue-pushed_other, queue-fr
 use Rattle.bus_laws.proofs.BusChanged.{IsSameOf, parent-is}
 use Rattle.bus_laws.proofs.DirParts.{DirParts, item-same, item-other, note-at, entry-fits, lt-test}
 
+-- p became q, whose face of the item is f
 pub record IsModified (n kids x : ℕ) (p q : DirValue) (f : ParentFace) : Type 0 where
   pub parts : DirParts n kids q
   pub face : parent_face x q ≡ f

@@ -1,4 +1,5 @@
 -- A reply is granted: every reader is told data, or it goes up from a parent that is answering.
+-- Letters: c is the child that replies, x the item, k the bits before, q the parent after, ms and qs the children after.
 use Rattle.std.proofs.Common.{◌≡◌, ◌≢◌, ℕ, ◌+◌, ◌-◌, ◌<◌, ◌≤◌, Bool, true, false, List, [], ◌∷◌, length, Some, None, refl, sym, ap, subst, ◌∙◌, arith, length-append}
 use Rattle.std.specs.Prelude.{not, ◌&&◌, ◌||◌, nat_eq, if◌then◌else◌}
 use Rattle.std.specs.List.{AllByRecursion}
@@ -42,9 +43,11 @@ use Rattle.bus_laws.proofs.Told.{IsTold}
 
 -- ---- what is computed
 
+-- the parent after it
 abbrev served : ParentFace → ParentFace
 served p = record p { note = no_note }
 
+-- what is known before it and kept after it
 abbrev may_serve : ParentFace → Bits → Bool
 may_serve p k = implies (is_local p.note && (not k.exclusive && not p.parked)) (k.one_gift && (k.readers && every_bool (λ sole. done_top p (served p) k (quiet_children sole))))
 
@@ -55,12 +58,15 @@ each-may_serve (local first joined) = refl
 each-may_serve (up_read first joined) = refl
 each-may_serve (up_erase d) = refl
 
+-- the parent after the reply went up
 abbrev answered : ParentFace → ParentFace
 answered p = record p { hold = Hold.Shared; answering = false }
 
+-- the same bits, and nobody gives
 abbrev ungiving : Bits → Bits
 ungiving k = bits k.held k.sole k.exclusive false true k.readers k.eraser
 
+-- what is known before it and kept after it
 abbrev may_pass_up : ParentFace → Bits → Bool
 may_pass_up p k =
     implies (p.answering && (not (is_local p.note) && (not k.no_gift && not k.exclusive)))
@@ -256,6 +262,7 @@ module _ (n c x : ℕ) (words : List ℕ) (above : Stamp) (p : DirValue) (ns : L
     abbrev said : ChildFace
     said = record giver { replies = giver.replies - 1 }
 
+    -- the same as facts
     record Known : Type 0 where
       one_gives : k.one_gift ≡ true
       parent_holds : is_held before.hold ≡ true

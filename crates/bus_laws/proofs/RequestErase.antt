@@ -1,4 +1,5 @@
 -- A request to erase is granted: every other child is told to lose the item.
+-- Letters: c is the child that asks, x the item, k the bits before, ms the children after, s the stamp of the bus.
 use Rattle.std.proofs.Common.{◌≡◌, ◌≢◌, ℕ, ◌<◌, Bool, true, false, List, [], ◌∷◌, ◌++◌, length, Some, None, refl, sym, ap, subst, ◌∙◌, arith}
 use Rattle.std.specs.Prelude.{not, ◌&&◌, ◌||◌, nat_eq, if◌then◌else◌}
 use Rattle.std.specs.List.{AllByRecursion}
@@ -44,15 +45,19 @@ use Rattle.bus_laws.proofs.Told.{IsTold}
 abbrev quiet_shared : ParentFace → Bits → Bool
 quiet_shared p k = is_no_note p.note && (not p.answering && (not (has_some p.queue) && (k.held && (not p.parked && not k.exclusive))))
 
+-- the parent after it, where it holds the item Exclusive
 abbrev erasing_here : ℕ → ParentFace → ParentFace
 erasing_here c p = record p { note = up_erase c; queue = p.queue ++ ExclusiveTx ∷ [] }
 
+-- the parent after it, where it holds the item Shared
 abbrev erasing_above : ℕ → ParentFace → ParentFace
 erasing_above c p = record p { note = up_erase c; requests = p.requests ++ EraseTx ∷ [] }
 
+-- what is known before it and kept after it
 abbrev may_erase_here : ℕ → ParentFace → Bits → Bool
 may_erase_here c p k = implies (quiet_shared p k && is_exclusive p.hold) (k.no_gift && done_top p (erasing_here c p) k one_shared)
 
+-- what is known before it and kept after it
 abbrev may_erase_above : ℕ → ParentFace → Bits → Bool
 may_erase_above c p k = implies (quiet_shared p k && not (is_exclusive p.hold)) (k.no_gift && done_never p (erasing_above c p) k one_shared)
 
@@ -70,6 +75,7 @@ each-may_erase_above c (local first joined) = refl
 each-may_erase_above c (up_read first joined) = refl
 each-may_erase_above c (up_erase d) = refl
 
+-- the child whose erase was granted
 abbrev erasing : ChildFace
 erasing = child_seen Hold.Shared false true 0 false
 

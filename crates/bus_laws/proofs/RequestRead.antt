@@ -1,4 +1,5 @@
 -- A request to read is granted: it joins a read that is under way, another child or the parked copy answers it, or it goes up.
+-- Letters: c is the child that asks, d the one that answers, x the item, k the bits before, ms and qs the children after.
 use Rattle.std.proofs.Common.{◌≡◌, ◌≢◌, ℕ, ◌^◌, ◌<◌, Bool, true, false, List, [], ◌∷◌, ◌++◌, length, Some, None, refl, sym, ap, subst, ◌∙◌, arith}
 use Rattle.std.specs.Prelude.{not, ◌&&◌, ◌||◌, nat_eq, if◌then◌else◌}
 use Rattle.std.specs.List.{AllByRecursion, list_any, list_all}
@@ -47,6 +48,7 @@ use Rattle.bus_laws.proofs.Told.{IsTold}
 
 -- ---- what is computed
 
+-- the item is not pending
 abbrev quiet : ParentFace → Bool
 quiet p = is_no_note p.note && (not p.answering && not (has_some p.queue))
 
@@ -54,9 +56,11 @@ quiet p = is_no_note p.note && (not p.answering && not (has_some p.queue))
 abbrev asking_child : ℕ → ParentFace → ParentFace
 asking_child c p = record p { note = local c 0 }
 
+-- the same bits, and one child answers
 abbrev with_answer : Bits → Bool → Bits
 with_answer k exclusive = bits k.held k.sole exclusive true false true true
 
+-- what is known before it and kept after it
 abbrev may_ask_child : ℕ → ParentFace → Bits → Bool
 may_ask_child c p k = implies (quiet p && is_held p.hold) (k.no_gift && every_bool (λ exclusive. implies (implies exclusive k.exclusive) (done_top p (asking_child c p) k (with_answer k exclusive))))
 
@@ -67,9 +71,11 @@ each-may_ask_child c (local first joined) = refl
 each-may_ask_child c (up_read first joined) = refl
 each-may_ask_child c (up_erase d) = refl
 
+-- the parent after the parked copy left
 abbrev from_parking : ℕ → ParentFace → ParentFace
 from_parking c p = record p { note = up_read c 0; parked = false; queue = p.queue ++ DataTx ∷ [] }
 
+-- what is known before it and kept after it
 abbrev may_unpark : ℕ → ParentFace → Bits → Bool
 may_unpark c p k = implies (quiet p && (is_held p.hold && p.parked)) (k.no_gift && done_never p (from_parking c p) k nobody_holds)
 
@@ -80,9 +86,11 @@ each-may_unpark c (local first joined) = refl
 each-may_unpark c (up_read first joined) = refl
 each-may_unpark c (up_erase d) = refl
 
+-- the parent after the read went up
 abbrev asking_above : ℕ → ParentFace → ParentFace
 asking_above c p = record p { note = up_read c 0; requests = p.requests ++ ReadTx ∷ [] }
 
+-- what is known before it and kept after it
 abbrev may_ask_above : ℕ → ParentFace → Bits → Bool
 may_ask_above c p k = implies (quiet p && not (is_held p.hold)) (k.no_gift && (not k.held && (not p.parked && done_never p (asking_above c p) k nobody_holds)))
 
@@ -95,6 +103,7 @@ each-may_ask_above c (up_erase d) = refl
 
 -- ---- the reader
 
+-- the child whose read was granted
 abbrev reading : ChildFace
 reading = child_seen Hold.Invalid true false 0 false
 

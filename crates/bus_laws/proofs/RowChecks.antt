@@ -41,9 +41,11 @@ never-top n x above p q ns ms f never zero top like = let no = not-true _ never 
 
 -- ---- a row that changes neither the places kept nor the replies
 
+-- the rules are kept, by a parent that is never the top
 abbrev pub done_never : ParentFace → ParentFace → Bits → Bits → Bool
 done_never p q k j = nat_eq (kept_place q) (kept_place p) && (never_top p k && stays_seen p q j)
 
+-- the rules are kept, on the top's bus too
 abbrev pub done_top : ParentFace → ParentFace → Bits → Bits → Bool
 done_top p q k j = nat_eq (kept_place q) (kept_place p) && (stays_top p q k j && stays_seen p q j)
 

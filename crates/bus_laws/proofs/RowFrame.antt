@@ -82,6 +82,7 @@ module _ (n x : ℕ) (above : Stamp) (p q : DirValue) (ns ms : List Node) (f : P
   abbrev pub TopAfter : Type 0
   TopAfter = above ≡ stamp_zero → IsTopOk p → top_like (parent_face x p) (bits_of (parent_face x p) (faces_of x ns)) ≡ true → IsTopOk q × (top_holds f (bits_of f (faces_of x ms)) ≡ true)
 
+  -- what a row has to show
   pub record RowFacts : Type 0 where
     pub known : x < n
     pub as_many : length ms ≡ length ns

@@ -24,21 +24,27 @@ bits_agree note parked k =
 
 -- ---- each state, from the parent's part inward
 
+-- rules that look at the parent alone
 abbrev parent_rules : List ItemRule
 parent_rules = answering_held ∷ inject_covered ∷ data_read ∷ erase_end ∷ exclusive_noted ∷ read_answered ∷ asked_alone ∷ request_open ∷ request_noted ∷ []
 
+-- rules that look at the holders
 abbrev holder_rules : List ItemRule
 holder_rules = exclusive_alone ∷ parked_alone ∷ exclusive_covered ∷ queue_start ∷ erased_shared ∷ hold_follows ∷ []
 
+-- rules that look at readers, eraser and gifts
 abbrev noted_rules : List ItemRule
 noted_rules = local_noted ∷ up_read_noted ∷ up_erase_noted ∷ giver ∷ []
 
+-- each of these rules passes
 abbrev passes : List ItemRule → ParentFace → Bits → Bool
 passes rs p k = list_all (λ r. item_test r p k) rs
 
+-- bits for rules that look at none
 abbrev no_bits : Bits
 no_bits = record { held = false; sole = false; exclusive = false; one_gift = false; no_gift = false; givers = false; granted = false; readers = false; eraser = false; reads = false; erases = false }
 
+-- the parent's face by its parts
 abbrev face : Note → List TxKind → Hold → Bool → List TxKind → Bool → ParentFace
 face note q h a rq parked = record { hold = h; note = note; answering = a; queue = q; requests = rq; parked = parked }
 
@@ -89,6 +95,7 @@ module _ (f : ParentFace → Bits → Bool) where
     abbrev at_queue : List TxKind → Bool
     at_queue q = every_hold (at_hold q)
 
+    -- it passes at each state with this note
     abbrev pub each_state : Bool
     each_state = every_queue at_queue
 

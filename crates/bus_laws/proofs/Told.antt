@@ -9,6 +9,7 @@ use Rattle.tree_rules.specs.Bus.Rules.{IsBusOk, IsChildOk}
 use Rattle.bus_laws.proofs.DirParts.{DirParts, dir-ok}
 use Rattle.bus_laws.proofs.BusChanged.{IsSameOf, parent-same, dir_face-same, bus-changed}
 
+-- m became k, which is seen so of the item
 pub record IsTold (n x : ℕ) (m k : Node) (seen : ChildFace) : Type 0 where
   pub ok : IsChildOk n k
   pub here : child_face x k ≡ seen

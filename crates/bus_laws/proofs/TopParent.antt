@@ -13,6 +13,7 @@ use Rattle.tree_model.specs.State.Directory.{dir_hold, is_answering, is_top, wit
 use Rattle.tree_rules.specs.Bus.Own.{are_zero, top_item, has_no_stamp, TopRule, top_bus, top_level, top_items, no_requests, no_replies, none_parked, no_places, no_epoch, no_stamps, top_test, IsTopOk}
 use Rattle.bus_laws.proofs.Lists.{pass-set, pass-pushed, pass-behind}
 
+-- what the top keeps by itself, by names
 record TopParts (d : DirValue) : Type 0 where
   bus : nat_eq d.bus 0 ≡ true
   level : nat_eq d.level 0 ≡ true
