@@ -1,17 +1,12 @@
--- A turn keeps the rules of every bus, where each turn of a bus keeps those of its own.
-use Rattle.std.proofs.Common.{◌≡◌, ℕ, ◌<◌, ◌≤◌, true, false, List, [], ◌∷◌, map, length, refl, sym, ap, subst, arith}
-use Rattle.std.specs.Prelude.{◌&&◌, nat_lt, nat_le}
+-- A turn keeps the rules of every bus, and so does a run.
+use Rattle.std.proofs.Common.{◌≡◌, ℕ, ◌<◌, true, false, List, [], ◌∷◌, map, refl, sym, ap, subst}
 use Rattle.std.specs.List.{AllByRecursion}
-use Rattle.std.proofs.lemmas.Bool.{and_parts, leb-true}
 use Rattle.ddm_types.specs.declared.answers.TurnAnswer.{TurnAnswer}
 use Rattle.ddm_types.specs.declared.turns.Turn.{Turn}
-use Rattle.ddm_types.specs.declared.keys.Stamp.{Stamp}
 use Rattle.ddm_types.specs.Keys.{stamp_zero}
 use Rattle.ddm_types.specs.ItemTable.{item_count}
-use Rattle.tree_model.specs.declared.BusTurn.{BusTurn}
-use Rattle.tree_model.specs.State.Values.{DirValue, Node, Nodes, leaf_node, dir_node, no_nodes, more_nodes, nodes, children, MachineValue, root_of}
+use Rattle.tree_model.specs.State.Values.{Node, Nodes, leaf_node, dir_node, no_nodes, more_nodes, nodes, children, MachineValue, root_of}
 use Rattle.tree_model.specs.State.Place.{Where, at_top, stamp_above, key_at_leaf}
-use Rattle.tree_model.specs.State.Shape.{skeleton, skeletons, bone_count, widths_fit, widths_fit_among, widths_bounded, IsShaped}
 use Rattle.tree_model.specs.Turns.Grant.{Outcome}
 use Rattle.tree_model.specs.Turns.Bus.{bus_step}
 use Rattle.tree_model.specs.Turns.Tree.{has_node, ChangedAt}
@@ -21,11 +16,12 @@ use Rattle.tree_model.proofs.Changed.{changed-holds}
 use Rattle.tree_model.proofs.Children.{children-nodes, nodes-children}
 use Rattle.tree_model.proofs.BusKeeps.{bus_step-keeps}
 use Rattle.tree_model.proofs.TurnChanges.{turn-changes_nothing, turn-changes_one_node}
-use Rattle.tree_model.proofs.FrameKept.{turn-frame, turn-shape}
+use Rattle.tree_model.proofs.FrameKept.{turn-frame}
 use Rattle.tree_rules.specs.Bus.Faces.{parent_face}
 use Rattle.tree_rules.specs.Bus.Rules.{IsBusOk, IsChildOk, IsTreeOk, AreTreesOk, IsMachineOk, items_of_machine}
 use Rattle.bus_laws.specs.KeepsBus.{as_before, IsTopBusOk, KeepsBus}
 use Rattle.bus_laws.proofs.HartTurns.{leaf_step-keeps_rules}
+use Rattle.bus_laws.proofs.BusKept.{bus-keeps}
 use Rattle.bus_laws.proofs.TreeSeen.{IsSeenAs, OneSeen, seen_first, seen_later, IsBusOk-above, top_holds-above}
 
 -- ---- a bus, its children, and what is below them
@@ -56,23 +52,6 @@ rejoin-all n (x ∷ xs) (y ∷ ys) same ok kids =
     let tail : map kept_of ys ≡ map kept_of xs = cc in
     (rejoin n x y head ok.0 kids.0, rejoin-all n xs ys tail ok.1 kids.1)
 
-bones-counted : (ns : Nodes) → bone_count (skeletons ns) ≡ length (children ns)
-bones-counted no_nodes = refl
-bones-counted (more_nodes m ns) =
-    let rest = bones-counted ns in
-    omega arith
-
-width-bounded : (d : DirValue) (ns : Nodes) → widths_fit (skeleton (dir_node d ns)) ≡ true → length (children ns) ≤ 16
-width-bounded d ns h =
-    let parts = and_parts (nat_lt 0 (bone_count (skeletons ns))) (nat_le (bone_count (skeletons ns)) 16 && widths_fit_among (skeletons ns)) h in
-    let rest = and_parts (nat_le (bone_count (skeletons ns)) 16) (widths_fit_among (skeletons ns)) parts.1 in
-    subst (λ k. k ≤ 16) (bones-counted ns) (leb-true _ _ rest.0)
-
-widths-below : (d : DirValue) (ns : Nodes) → widths_fit (skeleton (dir_node d ns)) ≡ true → widths_fit_among (skeletons ns) ≡ true
-widths-below d ns h =
-    let parts = and_parts (nat_lt 0 (bone_count (skeletons ns))) (nat_le (bone_count (skeletons ns)) 16 && widths_fit_among (skeletons ns)) h in
-    (and_parts (nat_le (bone_count (skeletons ns)) 16) (widths_fit_among (skeletons ns)) parts.1).1
-
 -- the top's rules, of a node that stands there
 abbrev IsTopThere : ℕ → Node → Type 0
 IsTopThere n (leaf_node v) = Unit {0}
@@ -88,21 +67,17 @@ record KeepsRun (n : ℕ) (ns ms : Nodes) : Type 0 where
   trees : AreTreesOk n ms
   seen : OneSeen (children ns) (children ms)
 
--- every turn of a bus keeps the rules of that bus, of its children, and what is seen above
-abbrev pub EachBusKeeps : Type 0
-EachBusKeeps = (n : ℕ) (above : Stamp) (t : BusTurn) (p : DirValue) (ns : List Node) → IsBusOk n p ns → AllByRecursion (IsChildOk n) ns → length ns ≤ 16 → KeepsBus n above p ns (bus_step above t p ns)
-
-module _ (bus-keeps : EachBusKeeps) (t : Turn) (m : MachineValue) where
+module _ (t : Turn) (m : MachineValue) where
   abbrev count : ℕ
   count = items_of_machine m
 
-  here-kept : (w : Where) (n : Node) → widths_fit (skeleton n) ≡ true → IsTreeOk count n → KeepsPart count w n (node_after m.code m.items t w n)
-  here-kept w (leaf_node v) wide ok =
+  here-kept : (w : Where) (n : Node) → IsTreeOk count n → KeepsPart count w n (node_after m.code m.items t w n)
+  here-kept w (leaf_node v) ok =
       let kept = leaf_step-keeps_rules m.code m.items (key_at_leaf w v.done) (victim_of t) v ok in
       record { tree = kept.own; seen = λ x. as_before (kept.seen x); top = λ none top. tt }
-  here-kept w (dir_node d ns) wide ok =
+  here-kept w (dir_node d ns) ok =
       let o : Outcome = bus_step (stamp_above w) (bus_turn_of t) d (children ns) in
-      let kept : KeepsBus count (stamp_above w) d (children ns) o = bus-keeps count (stamp_above w) (bus_turn_of t) d (children ns) ok.0 (children-of count ns ok.1) (width-bounded d ns wide) in
+      let kept : KeepsBus count (stamp_above w) d (children ns) o = bus-keeps count (stamp_above w) (bus_turn_of t) d (children ns) ok.0 (children-of count ns ok.1) in
       let back = sym (children-nodes o.kids) in
       let below : AreTreesOk count (nodes (children ns)) = subst (λ ks. AreTreesOk count ks) (sym (nodes-children ns)) ok.1 in
       record {
@@ -111,34 +86,34 @@ module _ (bus-keeps : EachBusKeeps) (t : Turn) (m : MachineValue) where
         top = λ none top. subst (λ ys. IsTopBusOk count o.parent ys) back (kept.top none top);
       }
 
-  part-kept : (a : TurnAnswer) (w : Where) (path : List ℕ) (n k : Node) → ChangedAt (TurnsHere t m a) w path n k → widths_fit (skeleton n) ≡ true → IsTreeOk count n → KeepsPart count w n k
+  part-kept : (a : TurnAnswer) (w : Where) (path : List ℕ) (n k : Node) → ChangedAt (TurnsHere t m a) w path n k → IsTreeOk count n → KeepsPart count w n k
   part-kept a =
       changed-holds (TurnsHere t m a)
-      (λ w path n k. widths_fit (skeleton n) ≡ true → IsTreeOk count n → KeepsPart count w n k)
-      (λ above d j i path ns ms. widths_fit_among (skeletons ns) ≡ true → AreTreesOk count ns → KeepsRun count ns ms)
-      (λ w n k r wide ok. subst (λ j. KeepsPart count w n j) (sym r.becomes) (here-kept w n wide ok))
-      (λ w d i path ns ms kept wide ok.
-      let below = kept (widths-below d ns wide) ok.1 in
+      (λ w path n k. IsTreeOk count n → KeepsPart count w n k)
+      (λ above d j i path ns ms. AreTreesOk count ns → KeepsRun count ns ms)
+      (λ w n k r ok. subst (λ j. KeepsPart count w n j) (sym r.becomes) (here-kept w n ok))
+      (λ w d i path ns ms kept ok.
+      let below = kept ok.1 in
       record {
         tree = (IsBusOk-above count d (children ns) (children ms) below.seen ok.0, below.trees);
         seen = λ x. as_before refl;
         top = λ none top. record { own = top.own; held = λ x l. top_holds-above (parent_face x d) x (children ns) (children ms) below.seen (top.held x l) };
       })
-      (λ above d j path n k ns kept wide ok.
-      let first = kept (and_parts (widths_fit (skeleton n)) (widths_fit_among (skeletons ns)) wide).0 ok.0 in
+      (λ above d j path n k ns kept ok.
+      let first = kept ok.0 in
       record { trees = (first.tree, ok.1); seen = seen_first first.seen })
-      (λ above d j i path n ns ms kept wide ok.
-      let later = kept (and_parts (widths_fit (skeleton n)) (widths_fit_among (skeletons ns)) wide).1 ok.1 in
+      (λ above d j i path n ns ms kept ok.
+      let later = kept ok.1 in
       record { trees = (ok.0, later.trees); seen = seen_later later.seen })
 
-  pub turn-keeps_rules : IsShaped m → IsMachineOk m → IsMachineOk (turn_of t m).machine
-  turn-keeps_rules shaped ok =
+  pub turn-keeps_rules : IsMachineOk m → IsMachineOk (turn_of t m).machine
+  turn-keeps_rules ok =
       elim (has_node (named_by t) (root_of m)) as (λ b. has_node (named_by t) (root_of m) ≡ b → IsMachineOk (turn_of t m).machine) [
         | false ↦ λ absent. subst (λ o. IsMachineOk o.machine) (sym (turn-changes_nothing t m absent)) ok
         | true ↦ λ there.
             let at = turn-changes_one_node t m there in
             let next : MachineValue = (turn_of t m).machine in
-            let kept : KeepsPart count at_top (root_of m) (root_of next) = part-kept (turn_of t m).answer at_top at.0 (root_of m) (root_of next) at.1 (shaped.each widths_bounded) ok.tree in
+            let kept : KeepsPart count at_top (root_of m) (root_of next) = part-kept (turn_of t m).answer at_top at.0 (root_of m) (root_of next) at.1 ok.tree in
             let top : IsTopBusOk count next.top (children next.kids) = kept.top refl (record { own = ok.top; held = ok.held }) in
             let items : items_of_machine next ≡ count = ap (λ f. item_count f.items) (turn-frame t m) in
             record {
@@ -148,7 +123,7 @@ module _ (bus-keeps : EachBusKeeps) (t : Turn) (m : MachineValue) where
             }
       ] refl
 
-pub run-keeps_rules : EachBusKeeps → (ts : List Turn) (m : MachineValue) → IsShaped m → IsMachineOk m → IsMachineOk (run_of ts m).machine
+pub run-keeps_rules : (ts : List Turn) (m : MachineValue) → IsMachineOk m → IsMachineOk (run_of ts m).machine
 unfolding run_of
-run-keeps_rules keeps [] m shaped ok = ok
-run-keeps_rules keeps (t ∷ ts) m shaped ok = run-keeps_rules keeps ts (turn_of t m).machine (turn-shape t m shaped) (turn-keeps_rules keeps t m shaped ok)
+run-keeps_rules [] m ok = ok
+run-keeps_rules (t ∷ ts) m ok = run-keeps_rules ts (turn_of t m).machine (turn-keeps_rules t m ok)
