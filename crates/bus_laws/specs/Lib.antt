@@ -1,0 +1,3 @@
+pub mod KeepsBus
+pub mod IsTree
+pub mod KeepsLeafRules

@@ -1,0 +1,4 @@
+//! The rules of a bus hold at the start and are kept by every turn. Theorems alone: there is nothing to run.
+#![tactic(auto)]
+
+pub mod laws;
