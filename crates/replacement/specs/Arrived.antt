@@ -1,5 +1,5 @@
 -- Lists in order of arrival: what a buffer and a parking are seen as, and what their calls give.
-use Rattle.std.specs.Prelude.{◌≡◌, ℕ, ◌^◌, ◌<◌, ◌≤◌, Bool, true, nat_eq, List, [], ◌∷◌, length, Option, None, if◌then◌else◌}
+use Rattle.std.specs.Prelude.{◌≡◌, ℕ, ◌^◌, ◌<◌, ◌≤◌, true, List, if◌then◌else◌}
 use Rattle.ddm_types.specs.declared.sizes.LeafState.{LeafState}
 use Rattle.tree_model.specs.State.Values.{BufferValue, CopyValue}
 use Rattle.tree_model.specs.State.Leaf.{is_buffered}

@@ -45,7 +45,7 @@ impl<const WORDS: usize> Parking<WORDS> {
     }
 
     /// Whether each place is taken or reserved.
-    fn is_full(&self) -> bool
+    pub fn is_full(&self) -> bool
         ensures full { result ≡ nat_le self.now.capacity (length self.now.list + self.now.reserved) }
         ensures within { length self.now.list + self.now.reserved ≤ self.now.capacity }
     {
@@ -90,6 +90,13 @@ impl<const WORDS: usize> Parking<WORDS> {
         let kept = self.reserved - 1;
         self.entries.put(ParkedCopy { item, words });
         self.reserved = kept;
+    }
+
+    /// How many places are reserved.
+    pub fn reserved(&self) -> u32
+        ensures { result ≡ self.now.reserved }
+    {
+        self.reserved
     }
 
     /// Gives a reserved place back.

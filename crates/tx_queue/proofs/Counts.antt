@@ -1,5 +1,5 @@
 -- The table of counts as entries come and go.
-use Rattle.std.proofs.Common.{◌≡◌, ◌∙◌, ap, sym, subst, refl, ℕ, zero, suc, ◌<◌, ◌≤◌, ◌+◌, ◌-◌, ◌^◌, Bool, true, false, cond, ◌||◌, nat_eq, nat_lt, List, [], ◌∷◌, ◌++◌, length, get_or, drop, Some, arith, add-zero, zero-add, length-append}
+use Rattle.std.proofs.Common.{◌≡◌, ◌∙◌, ap, sym, subst, refl, ℕ, zero, suc, ◌<◌, ◌≤◌, ◌+◌, ◌-◌, ◌^◌, Bool, true, false, cond, ◌||◌, nat_eq, nat_lt, List, [], ◌∷◌, ◌++◌, length, get_or, drop, Option, Some, None, IfSome, Bor, option_copied, arith, add-zero, zero-add, length-append}
 use Rattle.std.proofs.Math.ListN.{set, length-set, replicate}
 use Rattle.std.specs.List.{count_by, slice_get, list_any}
 use Rattle.std.proofs.lemmas.Bool.{eqb-true, eqb-false, lt-ltb}
@@ -76,6 +76,13 @@ counted_first named counts (y ∷ ys) capacity e was is =
     let one = same_one (named y) in
     let some : 0 < get_or counts (named y) 0 = omega arith in
     subst (λ x. (named x < length counts) × (0 < get_or counts (named x) 0)) same (below, some)
+
+-- the first entry names an item of the table
+pub counted_range : {X : Type 0} (named : X → ℕ) (counts : List ℕ) (list : List X) (capacity items : ℕ) (first : Option (Bor X)) → IsCounted named counts list capacity → option_copied first ≡ slice_get list 0 → length counts ≡ items → IfSome first (λ e. named e.now < items)
+counted_range named counts list capacity items None was is same = tt
+counted_range named counts list capacity items (Some e) was is same =
+    let here = counted_first named counts list capacity e.now was (sym is) in
+    omega (arith, here.0, same)
 
 popped : {X : Type 0} (named : X → ℕ) (counts : List ℕ) (y : X) (ys : List X) (capacity : ℕ) → IsCounted named counts (y ∷ ys) capacity → IsCounted named (set counts (named y) (get_or counts (named y) 0 - 1)) ys capacity
 popped named counts y ys capacity was = record {

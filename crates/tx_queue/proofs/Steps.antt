@@ -1,5 +1,5 @@
 -- The table of counts after one write, as the code makes it: v is what the table has at n.
-use Rattle.std.proofs.Common.{◌≡◌, ◌∙◌, ap, sym, refl, ℕ, zero, suc, ◌<◌, ◌≤◌, ◌+◌, ◌-◌, ◌^◌, Bool, true, false, ◌&&◌, nat_lt, List, [], ◌∷◌, ◌++◌, length, get_or, drop, Some, arith}
+use Rattle.std.proofs.Common.{◌≡◌, ◌∙◌, ap, sym, refl, ℕ, zero, suc, ◌<◌, ◌≤◌, ◌+◌, ◌-◌, ◌^◌, Bool, true, false, ◌&&◌, ◌||◌, nat_eq, nat_lt, List, [], ◌∷◌, ◌++◌, length, get_or, drop, Some, arith}
 use Rattle.std.proofs.Math.ListN.{set}
 use Rattle.std.specs.List.{slice_get, list_any}
 use Rattle.std.proofs.lemmas.Bool.{eqb-true}
@@ -62,6 +62,17 @@ request_item kind item e is = sym (eqb-true item e.1 (both (is_kind kind e.0) _ 
 
 abbrev named_by : (TxKind × ℕ) → ℕ
 named_by e = e.1
+
+none_of : (k b any less : Bool) → (b || any) ≡ false → (any ≡ false → less ≡ false) → ((k && b) || less) ≡ false
+none_of k true any less h rest = cc
+none_of true false any less h rest = rest h
+none_of false false any less h rest = rest h
+
+-- no entry names the item, so none is a request for it
+pub none_requested : (kind : TxKind) (item : ℕ) (list : List (TxKind × ℕ)) → list_any (names_item named_by item) list ≡ false → list_any (is_request kind item) list ≡ false
+none_requested kind item [] none = refl
+none_requested kind item (e ∷ es) none =
+    none_of (is_kind kind e.0) (nat_eq item e.1) (list_any (names_item named_by item) es) (list_any (is_request kind item) es) none (λ h. none_requested kind item es h)
 
 pub remove_some : (counts : List ℕ) (list : List (TxKind × ℕ)) (capacity : ℕ) (kind : TxKind) (item n v : ℕ) → IsCounted named_by counts list capacity → n ≡ item → n < length counts → v ≡ get_or counts n v → list_any (is_request kind item) list ≡ true → 1 ≤ v
 remove_some counts list capacity kind item n v was same lt is some =

@@ -1,4 +1,4 @@
-ghost use Rattle.std.specs.Prelude.{◌≡◌, ℕ, ◌<◌, ◌↔◌, ◌++◌, ◌∷◌, [], drop, length, nat_le, option_copied, slice_get, slice_index, IfErr, IfOk, IsErr, IsTrue, OnOk, is_err};
+ghost use Rattle.std.specs.Prelude.{◌≡◌, ℕ, ◌<◌, ◌↔◌, ◌++◌, ◌∷◌, [], false, drop, length, nat_le, option_copied, slice_get, slice_index, IfErr, IfOk, IfSome, IsErr, IsTrue, OnOk, is_err};
 ghost use Rattle.std.specs.List.{list_any};
 ghost use Rattle.circular_buffer.specs.Buffer.{buffer};
 ghost use Rattle.tree_model.specs.State.Lists.{names_item};
@@ -62,7 +62,8 @@ impl<T: Named> Queue<T> {
     }
 
     pub fn first(&self) -> Option<&T>
-        ensures { option_copied result ≡ slice_get self.now.list 0 }
+        ensures value { option_copied result ≡ slice_get self.now.list 0 }
+        ensures in_range { IfSome result (λ e. T.named e.now < self.now.items) }
     {
         self.ring.front()
     }
@@ -122,5 +123,19 @@ impl<T: Named> Queue<T> {
         ensures counts { (x : ℕ) → x < self.now.items → slice_index result.now x ≡ count_naming T.named x self.now.list }
     {
         self.counts.as_slice()
+    }
+}
+
+impl<T: Named + Copy> Queue<T> {
+    /// Puts an entry behind the others, where there is a place.
+    pub fn put(&mut self, entry: T)
+        requires names { T.named entry < self.old.items }
+        requires place { nat_le self.old.capacity (length self.old.list) ≡ false }
+        ensures { self.new ≡ record self.old { list = self.old.list ++ entry ∷ [] } }
+    {
+        match self.push(entry) {
+            Ok(()) => {}
+            Err(_) => unreachable!(),
+        }
     }
 }

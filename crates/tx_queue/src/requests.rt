@@ -52,6 +52,19 @@ fn remove_first(ring: &mut HeapCircularBuffer<(TxKind, ItemId)>, kind: TxKind, i
 }
 
 impl Queue<(TxKind, ItemId)> {
+    /// Whether a request of this kind and item is there.
+    pub fn has_request(&self, kind: TxKind, item: ItemId) -> bool
+        requires { item < self.now.items }
+        ensures { result ≡ list_any (is_request kind item) self.now.list }
+    {
+        if !self.holds_item(item) {
+            return false;
+        }
+        self.ring
+            .iter()
+            .any(|request| kind == request.0 && item == request.1)
+    }
+
     /// Takes out the first request of this kind and item. The others stay in their order.
     pub fn remove_request(&mut self, kind: TxKind, item: ItemId) -> bool
         requires { item < self.old.items }

@@ -1,0 +1,5 @@
+pub mod Changes
+pub mod ItemWords
+pub mod Leaving
+pub mod Lists
+pub mod Packing

@@ -1,0 +1,16 @@
+//! A directory: what it keeps of each item, its lists and its parked copies, and its faces to the bus above and to the bus
+//! below.
+#![tactic(auto)]
+
+mod lower;
+mod packed;
+mod state;
+mod table;
+mod upper;
+
+pub use state::DirState;
+pub use table::ItemTable;
+pub use upper::pending_by;
+
+#[cfg(test)]
+mod tests;

@@ -1,0 +1,7 @@
+pub mod Ways
+pub mod Buffered
+pub mod Fits
+pub mod Reading
+pub mod Changing
+pub mod Told
+pub mod Deeds

@@ -1,0 +1,55 @@
+use Rattle.std.proofs.Common.{refl, sym, ◌∙◌, ◌≡◌, ◌%◌, true, false, length, nat_le}
+use Rattle.leaf_protocol.proofs.Ways.{item_in_way-none, lowest-some, lowest-none}
+use Rattle.leaf_protocol.proofs.Fits.{are-below}
+use Rattle.leaf_protocol.proofs.Changing.{entry-both, told-ok, moved-kept, moved-ways, moved-buffer, moved-free, moved-absent, moved-waiting, cleared-is, cleared-free}
+use Rattle.leaf_protocol.proofs.entries.Entries.make_way.Goals as goal
+
+pub returns-in-Some-clause-way : goal.returns-in-Some-clause-way
+returns-in-Some-clause-way g c = rw (← c.self.view_is, lowest-some c.self.inside.items c.self.inside.memory (are-below c.self.invariant) g.row.WAYS c.args.item c.in-Some.way c.in-Some.ensures.lowest) refl
+
+pub returns-in-Some-clause-after : goal.returns-in-Some-clause-after
+returns-in-Some-clause-after g c = rw (← c.self.view_is) (sym (cleared-free c.args.item c.in-Some.way _ (item_in_way-none c.self.inside.items c.self.inside.memory (are-below c.self.invariant) c.args.item c.in-Some.way c.in-Some.ensures.lowest.free)))
+
+pub returns-in-Some-clause-free : goal.returns-in-Some-clause-free
+returns-in-Some-clause-free g c = rw (← c.self.view_is) (item_in_way-none c.self.inside.items c.self.inside.memory (are-below c.self.invariant) c.args.item c.in-Some.way c.in-Some.ensures.lowest.free)
+
+pub returns-then-is_err-clause-way : goal.returns-then-is_err-clause-way
+returns-then-is_err-clause-way g c =
+    let none = lowest-none c.self.inside.items c.self.inside.memory (are-below c.self.invariant) g.row.WAYS c.args.item c.in_default.ensures.full in
+    let full : nat_le c.self.inside.buffer.capacity (length c.self.inside.buffer.list) ≡ true = sym c.put.ensures.test ∙ (sym c.is_err.ensures.value ∙ c.if-is_err.true) in
+    rw (← c.self.view_is, none, full) refl
+
+pub invariant_of-self-2 : goal.invariant_of-self-2
+invariant_of-self-2 g c =
+    let there = entry-both _ c.unwrap-state.result c.unwrap-words.result (sym c.unwrap-state.ensures ∙ c.find.ensures.value) (sym c.unwrap-words.ensures ∙ c.words.ensures) in
+    let put = told-ok c.put.result (sym c.is_err.ensures.value ∙ c.if-is_err.false) c.put.ensures.ok in
+    rw (c.remove.ensures.removed, put) (moved-kept c.self.invariant c.args.item (c.args.victim % g.row.WAYS) c.victim-other.result c.victim-other.ensures _ there)
+
+pub returns-clause-way : goal.returns-clause-way
+returns-clause-way g c =
+    let none = lowest-none c.self.inside.items c.self.inside.memory (are-below c.self.invariant) g.row.WAYS c.args.item c.in_default.ensures.full in
+    let free : nat_le c.self.inside.buffer.capacity (length c.self.inside.buffer.list) ≡ false = sym c.put.ensures.test ∙ (sym c.is_err.ensures.value ∙ c.if-is_err.false) in
+    rw (← c.self.view_is, c.from.ensures, none, free) refl
+
+pub returns-clause-after : goal.returns-clause-after
+returns-clause-after g c =
+    let there = entry-both _ c.unwrap-state.result c.unwrap-words.result (sym c.unwrap-state.ensures ∙ c.find.ensures.value) (sym c.unwrap-words.ensures ∙ c.words.ensures) in
+    let put = told-ok c.put.result (sym c.is_err.ensures.value ∙ c.if-is_err.false) c.put.ensures.ok in
+    rw (← c.self.view_is, c.from.ensures, c.remove.ensures.removed, put) (cleared-is c.args.item (c.args.victim % g.row.WAYS) c.self.inside.memory.sets c.self.inside.buffer.capacity _ _ _ _ (moved-ways c.self.invariant c.args.item (c.args.victim % g.row.WAYS) c.victim-other.result c.victim-other.ensures _ there) (moved-buffer c.self.invariant c.args.item (c.args.victim % g.row.WAYS) c.victim-other.result c.victim-other.ensures _ there))
+
+pub returns-clause-free : goal.returns-clause-free
+returns-clause-free g c =
+    let there = entry-both _ c.unwrap-state.result c.unwrap-words.result (sym c.unwrap-state.ensures ∙ c.find.ensures.value) (sym c.unwrap-words.ensures ∙ c.words.ensures) in
+    rw (c.from.ensures, c.remove.ensures.removed) (moved-free c.self.invariant c.args.item (c.args.victim % g.row.WAYS) c.victim-other.result c.victim-other.ensures _ there)
+
+pub returns-clause-absent : goal.returns-clause-absent
+returns-clause-absent g c =
+    let there = entry-both _ c.unwrap-state.result c.unwrap-words.result (sym c.unwrap-state.ensures ∙ c.find.ensures.value) (sym c.unwrap-words.ensures ∙ c.words.ensures) in
+    let put = told-ok c.put.result (sym c.is_err.ensures.value ∙ c.if-is_err.false) c.put.ensures.ok in
+    rw (c.remove.ensures.removed, put) (moved-absent c.self.invariant c.args.item (c.args.victim % g.row.WAYS) c.victim-other.result c.victim-other.ensures _ there (rw (← c.self.view_is) at c.requires))
+
+pub returns-clause-waiting : goal.returns-clause-waiting
+returns-clause-waiting g c =
+    let there = entry-both _ c.unwrap-state.result c.unwrap-words.result (sym c.unwrap-state.ensures ∙ c.find.ensures.value) (sym c.unwrap-words.ensures ∙ c.words.ensures) in
+    let put = told-ok c.put.result (sym c.is_err.ensures.value ∙ c.if-is_err.false) c.put.ensures.ok in
+    rw (← c.self.view_is, c.remove.ensures.removed, put) (moved-waiting c.self.invariant c.args.item (c.args.victim % g.row.WAYS) c.victim-other.result c.victim-other.ensures _ there)

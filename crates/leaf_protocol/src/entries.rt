@@ -1,0 +1,241 @@
+ghost use Rattle.std.specs.Prelude.{◌≡◌, ◌%◌, ◌<◌, ◌≤◌, ◌^◌, [], true, false, Option, Some, None, IfOk, IfErr, IfSome, IsSome, is_some, length, nat_le, option_map, replicate, unwrap_or};
+ghost use Rattle.ddm_types.specs.declared.sizes.LeafState.TheVariants.{Exclusive};
+ghost use Rattle.tree_model.specs.State.States.{is_reading, is_waiting};
+ghost use Rattle.tree_model.specs.State.Leaf.{LeafEntry, blank, becomes, ends, enters, enters_free, entry_at, entry_state, entry_words, item_in_way, leaf_leaving, spot_at, waiting_item, words_in, buffered};
+ghost use Rattle.tree_model.specs.State.Child.{buffer_words};
+ghost use Rattle.leaf_protocol.specs.Entries.{cleared, cleared_if, lowest_way, may_be, waits_now, waiting_after, way_to_take, with_fate};
+
+use attraction_mem::{AttractionMem, SetFull};
+use ddm_types::{ItemId, LeafState, NoMemory, Words};
+use replacement::Buffer;
+use std::alloc::Global;
+use std::marker::Model;
+use tree_model::LeafSpot;
+
+/// The entries of a leaf: those in the ways of its memory, those in its buffer, and the item whose entry waits.
+#[derive(Drop)]
+pub(crate) struct Entries<const WAYS: usize, const WORDS: usize> {
+    /// How many items there are.
+    items: u32,
+    memory: AttractionMem<WAYS, WORDS>,
+    buffer: Buffer<WORDS>,
+    waiting: Option<ItemId>,
+}
+
+impl<const WAYS: usize, const WORDS: usize> Model for Entries<WAYS, WORDS> {
+    ghost use Rattle.leaf_protocol.specs.Entries.{AreEntries, EntriesValue, ways_of};
+
+    ghost Value = { EntriesValue };
+
+    ghost view = { λ e. record { sets = e.memory.sets; ways = ways_of e.items e.memory; buffer = e.buffer.list; room = e.buffer.capacity } };
+
+    ghost invariant = { λ e. AreEntries WAYS WORDS e.items e.memory e.buffer.list e.waiting };
+}
+
+/// Whether an entry in this state waits for a transaction.
+fn waits(state: LeafState) -> bool
+    ensures { result ≡ is_waiting state }
+{
+    match state {
+        LeafState::Shared | LeafState::Exclusive => false,
+        LeafState::Waiting | LeafState::Reading | LeafState::ReadingWaiting => true,
+    }
+}
+
+/// The words of an entry in this state: 0 where it waits for data.
+fn words_in<const WORDS: usize>(state: LeafState, words: Words<WORDS>) -> Words<WORDS>
+    ensures { result ≡ words_in state WORDS words.entry }
+{
+    match state {
+        LeafState::Shared | LeafState::Exclusive | LeafState::Waiting => words,
+        LeafState::Reading | LeafState::ReadingWaiting => Words { w: [0; WORDS] },
+    }
+}
+
+/// The item that waits, where the entry of this item waits from now on or doesn't.
+fn waiting_after(item: ItemId, waits: bool, waiting: Option<ItemId>) -> Option<ItemId>
+    ensures { result ≡ waiting_after item waits waiting }
+{
+    if waits {
+        return Some(item);
+    }
+    match waiting {
+        Some(other) if other.0 == item.0 => None,
+        _ => waiting,
+    }
+}
+
+impl<const WAYS: usize, const WORDS: usize> Entries<WAYS, WORDS> {
+    /// No entry, of this many items. No later call takes memory.
+    pub fn new(alloc: Global, items: u32, sets: u32, room: u32) -> Result<Self, NoMemory>
+        requires some_sets { 0 < sets }
+        requires few_sets { sets ≤ 4096 }
+        requires some_ways { 0 < WAYS }
+        requires few_ways { WAYS ≤ 4 }
+        requires words_fit { WORDS < 2 ^ 32 }
+        ensures { IfOk result (λ e. e ≡ record { sets = sets; ways = replicate items None; buffer = []; room = room }) }
+    {
+        let memory = AttractionMem::new(alloc, sets)?;
+        let buffer = Buffer::new(alloc, room)?;
+        Ok(Entries {
+            items,
+            memory,
+            buffer,
+            waiting: None,
+        })
+    }
+
+    /// The state of the item's entry.
+    pub fn state(&self, item: ItemId) -> Option<LeafState>
+        ensures { result ≡ option_map entry_state (entry_at item self.now.ways self.now.buffer) }
+    {
+        match self.memory.find(item) {
+            Some((_, state)) => Some(state),
+            None => match self.buffer.find(item) {
+                Some((_, state)) => Some(state),
+                None => None,
+            },
+        }
+    }
+
+    /// The words of the item's entry.
+    pub fn words(&self, item: ItemId) -> Option<Words<WORDS>>
+        ensures { result ≡ option_map (λ e. e.words) (entry_at item self.now.ways self.now.buffer) }
+    {
+        match self.memory.words(item) {
+            Some(words) => Some(words),
+            None => self.buffer.words(item),
+        }
+    }
+
+    /// Where the item's entry stands.
+    pub fn spot(&self, item: ItemId) -> Option<LeafSpot>
+        ensures { result ≡ spot_at item self.now.ways self.now.buffer }
+    {
+        match self.memory.find(item) {
+            Some((way, _)) => Some(LeafSpot::Way(way)),
+            None => match self.buffer.find(item) {
+                Some((place, _)) => Some(LeafSpot::Buffer(place)),
+                None => None,
+            },
+        }
+    }
+
+    /// The item whose entry waits for a transaction.
+    pub fn waiting(&self) -> Option<ItemId>
+        ensures { result ≡ waiting_item self.now.ways self.now.buffer }
+    {
+        self.waiting
+    }
+
+    /// The lowest free way of the item's set.
+    pub fn free_way(&self, item: ItemId) -> Option<u32>
+        ensures way { result ≡ lowest_way self.now.sets WAYS item self.now.ways }
+        ensures exists { IfSome result (λ way. way < WAYS) }
+    {
+        self.memory.free_way(item)
+    }
+
+    /// The words of the item's entry in the buffer.
+    pub fn buffered(&self, item: ItemId) -> Option<Words<WORDS>>
+        ensures { result ≡ option_map buffer_words (buffered item self.now.buffer) }
+    {
+        self.buffer.words(item)
+    }
+
+    /// The item whose copy leaves the buffer at this choice.
+    pub fn leaving(&self, choice: u8) -> Option<ItemId>
+        ensures value { result ≡ leaf_leaving choice self.now.buffer }
+        ensures inside { IfSome result (λ x. x < length self.now.ways) }
+        ensures there { IfSome result (λ x. is_some (buffered x self.now.buffer) ≡ true) }
+    {
+        self.buffer.ready(choice)
+    }
+
+    /// The item's entry gets another state and these words.
+    pub fn set(&mut self, item: ItemId, state: LeafState, words: Words<WORDS>)
+        requires there { IsSome (entry_at item self.old.ways self.old.buffer) }
+        requires alone { may_be state (entry_at item self.old.ways self.old.buffer) (waiting_item self.old.ways self.old.buffer) ≡ true }
+        ensures { self.new ≡ with_fate item (becomes state (words_in state WORDS words.entry)) self.old }
+    {
+        let suiting = words_in(state, words);
+        self.waiting = waiting_after(item, waits(state), self.waiting);
+        if self.memory.find(item).is_some() {
+            self.memory.set_state(item, state);
+            self.memory.set_words(item, suiting);
+            return;
+        }
+        self.buffer.set_state(item, state);
+        self.buffer.set_words(item, suiting);
+    }
+
+    /// The item's entry gets another state and keeps its words.
+    pub fn set_state(&mut self, item: ItemId, state: LeafState)
+        requires words_fit { WORDS < 2 ^ 32 }
+        requires there { IsSome (entry_at item self.old.ways self.old.buffer) }
+        requires alone { may_be state (entry_at item self.old.ways self.old.buffer) (waiting_item self.old.ways self.old.buffer) ≡ true }
+        ensures { self.new ≡ with_fate item (becomes state (words_in state WORDS (entry_words (entry_at item self.old.ways self.old.buffer)))) self.old }
+    {
+        let words = self.words(item).unwrap();
+        self.set(item, state, words);
+    }
+
+    /// The item's entry ends, if it has one.
+    pub fn end(&mut self, item: ItemId)
+        ensures { self.new ≡ with_fate item ends self.old }
+    {
+        self.memory.remove(item);
+        self.buffer.remove(item);
+        self.waiting = waiting_after(item, false, self.waiting);
+    }
+
+    /// The item comes, Exclusive, into the lowest free way of its set, if there is one.
+    pub fn place(&mut self, item: ItemId, words: Words<WORDS>) -> Result<u32, SetFull>
+        requires inside { item < length self.old.ways }
+        requires absent { entry_at item self.old.ways self.old.buffer ≡ None }
+        ensures way { IfOk result (λ way. lowest_way self.old.sets WAYS item self.old.ways ≡ Some way) }
+        ensures full { IfErr result (λ e. (lowest_way self.old.sets WAYS item self.old.ways ≡ None) × (e.0 ≡ item % self.old.sets)) }
+        ensures after { self.new ≡ with_fate item (enters_free Exclusive words.entry (lowest_way self.old.sets WAYS item self.old.ways)) self.old }
+    {
+        self.memory.place(item, LeafState::Exclusive, words)
+    }
+
+    /// A way of the item's set for it: the lowest free one, or else the one that `victim` chooses, whose item moves to the end
+    /// of the buffer. None: the buffer has no place.
+    pub fn make_way(&mut self, item: ItemId, victim: u8) -> Option<u32>
+        requires { entry_at item self.old.ways self.old.buffer ≡ None }
+        ensures way { result ≡ way_to_take (victim % WAYS) (nat_le self.old.room (length self.old.buffer)) (lowest_way self.old.sets WAYS item self.old.ways) }
+        ensures after { self.new ≡ cleared_if item result self.old }
+        ensures exists { IfSome result (λ way. way < WAYS) }
+        ensures free { IfSome result (λ way. item_in_way self.new.sets item way self.new.ways ≡ None) }
+        ensures absent { entry_at item self.new.ways self.new.buffer ≡ None }
+        ensures waiting { waiting_item self.new.ways self.new.buffer ≡ waiting_item self.old.ways self.old.buffer }
+    {
+        if let Some(way) = self.memory.free_way(item) {
+            return Some(way);
+        }
+        let other = self.memory.victim(item, victim);
+        let (_, state) = self.memory.find(other).unwrap();
+        let words = self.memory.words(other).unwrap();
+        if self.buffer.put(other, state, words).is_err() {
+            return None;
+        }
+        self.memory.remove(other);
+        Some((usize::from(victim) % WAYS) as u32)
+    }
+
+    /// An entry of the item that waits for data comes into a free way of its set.
+    pub fn enter(&mut self, item: ItemId, way: u32, state: LeafState)
+        requires inside { item < length self.old.ways }
+        requires exists { way < WAYS }
+        requires absent { entry_at item self.old.ways self.old.buffer ≡ None }
+        requires free { item_in_way self.old.sets item way self.old.ways ≡ None }
+        requires reading { is_reading state ≡ true }
+        requires alone { waiting_item self.old.ways self.old.buffer ≡ None }
+        ensures { self.new ≡ with_fate item (enters way state (blank WORDS)) self.old }
+    {
+        self.memory
+            .place_at(item, way, state, Words { w: [0; WORDS] });
+        self.waiting = Some(item);
+    }
+}

@@ -1,0 +1,13 @@
+//! A leaf of the tree: its hart, its memory and its buffer, and what its bus tells it.
+#![tactic(auto)]
+
+mod agent;
+mod asking;
+mod entries;
+mod leaf;
+mod turn;
+
+pub use leaf::Leaf;
+
+#[cfg(test)]
+mod tests;

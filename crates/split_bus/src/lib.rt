@@ -1,0 +1,19 @@
+//! One turn of one bus of the tree, over any parent and any children.
+#![tactic(auto)]
+
+mod answers;
+mod children;
+mod down;
+mod hearers;
+mod inject;
+mod leave;
+mod parent;
+mod readers;
+mod reply;
+mod request_erase;
+mod request_read;
+mod sought;
+mod told;
+mod turns;
+
+pub use turns::grant;

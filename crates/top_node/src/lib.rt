@@ -1,0 +1,9 @@
+//! The top of the tree: the parent of bus 0, which holds every item Exclusive and has no bus above.
+#![tactic(auto)]
+
+mod state;
+
+pub use state::TopState;
+
+#[cfg(test)]
+mod tests;
