@@ -1,6 +1,6 @@
 ghost use Rattle.std.specs.Prelude.{◌≡◌, ◌<◌, ◌^◌, ◌++◌, ◌∷◌, [], false, length, option_copied, slice_get, IfOk, if◌then◌else◌};
 ghost use Rattle.tree_model.specs.State.Values.{DirValue};
-ghost use Rattle.tree_model.specs.State.Directory.{down_full, in_down, is_parked, place_released, pushed_reply, replies_full, with_parked};
+ghost use Rattle.tree_model.specs.State.Directory.{down_full, in_down, is_parked, parked_place, place_released, pushed_reply, replies_full, with_parked};
 ghost use Rattle.tree_model.specs.Start.Nodes.{new_top, top_sizes};
 ghost use Rattle.item_states.specs.Parts.{CanPark};
 
@@ -52,6 +52,14 @@ impl<const WORDS: usize> TopState<WORDS> {
         ensures { option_copied result ≡ slice_get self.now.down place }
     {
         self.down.get(place)
+    }
+
+    /// The place of an item's parked copy: the top parks nothing.
+    pub fn parked_at(&self, _item: ItemId) -> Option<u32>
+        ensures { result ≡ parked_place _item self.now }
+    {
+        let _ = &self.count;
+        None
     }
 
     /// Whether an entry of the item stands in the down list.

@@ -1,0 +1,12 @@
+pub mod Along
+pub mod CountsKept
+pub mod Numbered
+pub mod Descend
+pub mod Names
+pub mod Steps
+pub mod Search
+pub mod MachineKept
+pub mod Recorded
+pub mod NewMachine
+pub mod Reading
+pub mod TurnMade

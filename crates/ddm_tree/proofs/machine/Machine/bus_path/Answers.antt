@@ -1,0 +1,24 @@
+use Rattle.std.proofs.Common.{◌≡◌, map, true, vec_items, sym, subst, ◌∙◌, arith}
+use Rattle.tree_model.specs.State.Values.{root_of}
+use Rattle.tree_model.specs.Turns.Tree.{bus_of_number}
+use Rattle.ddm_tree.specs.Machine.{is_part, machine_of}
+use Rattle.ddm_tree.specs.Ready.{Leads}
+use Rattle.ddm_tree.proofs.Reading.{listed-at, listed-inside, part-listed}
+use Rattle.ddm_tree.proofs.machine.Machine.bus_path.Goals as goal
+
+pub index-requires : goal.index-requires
+index-requires g c =
+    let m = machine_of c.self.inside.code c.self.inside.items c.self.inside.top (map g.C.Agent.value c.self.inside.children.items) c.self.inside.ops.items c.self.inside.traffic.items in
+    let there : is_part (bus_of_number c.args.bus) m ≡ true = subst (λ s. is_part (bus_of_number c.args.bus) s.machine ≡ true) (sym c.self.view_is) c.requires in
+    let listed = part-listed g.row.WORDS c.self.inside.turns (map vec_items c.self.inside.leaf_paths.items) (map vec_items c.self.inside.bus_paths.items) m (bus_of_number c.args.bus) c.self.invariant.0 there in
+    let inside = listed-inside vec_items c.self.inside.bus_paths.items c.args.bus listed.path listed.listed in
+    omega (arith, inside, c.bus.view_is)
+
+pub returns : goal.returns
+returns g c =
+    let m = machine_of c.self.inside.code c.self.inside.items c.self.inside.top (map g.C.Agent.value c.self.inside.children.items) c.self.inside.ops.items c.self.inside.traffic.items in
+    let there : is_part (bus_of_number c.args.bus) m ≡ true = subst (λ s. is_part (bus_of_number c.args.bus) s.machine ≡ true) (sym c.self.view_is) c.requires in
+    let listed = part-listed g.row.WORDS c.self.inside.turns (map vec_items c.self.inside.leaf_paths.items) (map vec_items c.self.inside.bus_paths.items) m (bus_of_number c.args.bus) c.self.invariant.0 there in
+    let at = listed-at vec_items c.self.inside.bus_paths.items c.args.bus listed.path c.index.result.now listed.listed (rw (c.bus.view_is) at c.index.ensures) in
+    let leads = subst (λ p. Leads (bus_of_number c.args.bus) p (root_of m)) (sym at ∙ sym c.deref.ensures.value) listed.leads in
+    subst (λ s. Leads (bus_of_number c.args.bus) c.deref.result.now (root_of s.machine)) c.self.view_is leads

@@ -1,0 +1,26 @@
+-- A new machine over its parts.
+use Rattle.std.proofs.Common.{◌≡◌, ◌≤◌, ◌+◌, length, map, replicate, true, vec_items, refl, sym, ap, subst, ◌∙◌, arith}
+use Rattle.tree_model.specs.State.Shape.{skeleton, tree_counts, widths_bounded, widths_fit}
+use Rattle.tree_model.specs.State.Values.{dir_node, nodes}
+use Rattle.tree_model.specs.Turns.Machine.{no_traffic}
+use Rattle.ddm_tree.specs.Machine.{IsMachine, machine_of, new_machine}
+use Rattle.ddm_tree.proofs.NewMachine.{new-is_machine}
+use Rattle.ddm_tree.proofs.machine.Machine.new.Goals as goal
+
+pub leaf_paths-requires : goal.leaf_paths-requires
+leaf_paths-requires g c = subst (λ cs. widths_fit (skeleton (dir_node c.args.top (nodes (map g.C.Agent.value cs)))) ≡ true) (sym c.deref.ensures.value) (c.requires.parts.shaped.each widths_bounded)
+
+pub bus_paths-requires : goal.bus_paths-requires
+bus_paths-requires g c = subst (λ cs. widths_fit (skeleton (dir_node c.args.top (nodes (map g.C.Agent.value cs)))) ≡ true) (sym c.deref-2.ensures.value) (c.requires.parts.shaped.each widths_bounded)
+
+pub invariant_of-result : goal.invariant_of-result
+invariant_of-result g c =
+    let kids = map g.C.Agent.value c.args.children.items in
+    let new = new_machine c.args.code c.args.items c.args.top kids c.args.counts in
+    let traffic : c.in_ok-traffic.traffic.items ≡ replicate c.args.counts.buses no_traffic = c.in_ok-traffic.ensures.items_if_clones_equal (λ x is. is) ∙ ap (replicate c.args.counts.buses) c.no_traffic.ensures in
+    let same : machine_of c.args.code c.args.items c.args.top kids c.new.result.items c.in_ok-traffic.traffic.items ≡ new = rw (c.new.ensures.items, traffic) refl in
+    let leaf_paths = map vec_items c.in_ok-leaf_paths.leaf_paths.items in
+    let bus_paths = map vec_items c.in_ok-bus_paths.bus_paths.items in
+    let is = new-is_machine g.row.WORDS c.args.code c.args.items c.args.top kids c.args.counts leaf_paths bus_paths c.requires.parts (rw (c.deref.ensures.value) at c.in_ok-leaf_paths.ensures) (rw (c.deref-2.ensures.value) at c.in_ok-bus_paths.ensures) in
+    let none : length c.new.result.items + 0 ≤ 0 = rw (c.new.ensures.items) (omega arith) in
+    (subst (λ n. IsMachine g.row.WORDS n 0 leaf_paths bus_paths) (sym same) is, ap tree_counts same ∙ c.requires.parts.numbers, c.requires.fits, c.requires.size, omega (arith, none))

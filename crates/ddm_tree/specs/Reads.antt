@@ -1,0 +1,78 @@
+-- What is read of a leaf, or of a directory and its children, where a node is known to be one.
+-- Letters: n is a node, v a leaf, d a directory over the nodes ns, x an item, c a child.
+-- To be believed with the contracts: it is what the calls that read give.
+use Rattle.std.specs.Prelude.{ℕ, List, length, Option, Some, None, slice_get}
+use Rattle.ddm_types.specs.declared.sizes.Hold.{Hold}
+use Rattle.ddm_types.specs.declared.sizes.LeafState.{LeafState}
+use Rattle.rv_hart.specs.HartState.{HartState}
+use Rattle.tree_model.specs.declared.LeafSpot.{LeafSpot}
+use Rattle.tree_model.specs.declared.TreeChild.{TreeChild}
+use Rattle.tree_model.specs.State.Values.{DownValue, Node, leaf_node, dir_node, children, MachineValue}
+use Rattle.tree_model.specs.State.Blank.{no_hart}
+use Rattle.tree_model.specs.State.Leaf.{LeafEntry, leaf_entry, spot_at}
+use Rattle.tree_model.specs.State.Directory.{parked_words, parked_place}
+use Rattle.tree_model.specs.State.Child.{child_label, child_hold}
+use Rattle.tree_model.specs.Turns.Children.{child_at}
+use Rattle.tree_model.specs.Turns.Machine.{ask_leaf, ask_bus}
+use Rattle.item_states.specs.Parts.{node_items}
+
+-- a leaf's hart, with how many instructions it has completed
+abbrev pub node_hart : Node → HartState
+node_hart (leaf_node v) = record { hart = v.hart; done = v.done }
+node_hart (dir_node d ns) = record { hart = no_hart; done = 0 }
+
+-- an entry, and where it stands
+abbrev pub entry_triple : Option LeafEntry → Option LeafSpot → Option (LeafState × List ℕ × LeafSpot)
+entry_triple (Some e) (Some spot) = Some (e.state, e.words, spot)
+entry_triple (Some e) None = None
+entry_triple None spot = None
+
+abbrev pub node_entry : ℕ → Node → Option (LeafState × List ℕ × LeafSpot)
+node_entry x (leaf_node v) = entry_triple (leaf_entry x v) (spot_at x v.ways v.buffer)
+node_entry x (dir_node d ns) = None
+
+-- how many children there are, and one of them
+abbrev pub node_children : Node → ℕ
+node_children (leaf_node v) = 0
+node_children (dir_node d ns) = length (children ns)
+
+abbrev pub node_child : ℕ → Node → TreeChild
+node_child c (leaf_node v) = TreeChild.BusChild 0
+node_child c (dir_node d ns) = child_label (child_at c (children ns))
+
+abbrev pub node_child_hold : ℕ → ℕ → Node → Hold
+node_child_hold c x (leaf_node v) = Hold.Invalid
+node_child_hold c x (dir_node d ns) = child_hold x (child_at c (children ns))
+
+-- of how many items the child keeps something
+abbrev pub child_items : ℕ → Node → ℕ
+child_items c (leaf_node v) = 0
+child_items c (dir_node d ns) = node_items (child_at c (children ns))
+
+-- an entry of the down list, and a parked copy with its place
+abbrev pub node_down : ℕ → Node → Option DownValue
+node_down place (leaf_node v) = None
+node_down place (dir_node d ns) = slice_get d.down place
+
+abbrev pub copy_pair : Option ℕ → Option (List ℕ) → Option (ℕ × List ℕ)
+copy_pair (Some place) (Some words) = Some (place, words)
+copy_pair (Some place) None = None
+copy_pair None words = None
+
+abbrev pub node_parked : ℕ → Node → Option (ℕ × List ℕ)
+node_parked x (leaf_node v) = None
+node_parked x (dir_node d ns) = copy_pair (parked_place x d) (parked_words x d)
+
+-- ---- what is read of a machine
+
+-- a leaf's hart, with how many instructions it has completed
+abbrev pub counted_hart_of : ℕ → MachineValue → Option HartState
+counted_hart_of leaf m = ask_leaf leaf (λ w v. record { hart = v.hart; done = v.done }) (record { hart = no_hart; done = 0 }) m
+
+-- a leaf's entry of an item, with its words, and where it stands
+abbrev pub entry_at : ℕ → ℕ → MachineValue → Option (Option (LeafState × List ℕ × LeafSpot))
+entry_at leaf x m = ask_leaf leaf (λ w v. entry_triple (leaf_entry x v) (spot_at x v.ways v.buffer)) None m
+
+-- the copy of an item that is parked at a bus: its place and its words
+abbrev pub parked_at : ℕ → ℕ → MachineValue → Option (Option (ℕ × List ℕ))
+parked_at bus x m = ask_bus bus (λ w d ns. copy_pair (parked_place x d) (parked_words x d)) None m

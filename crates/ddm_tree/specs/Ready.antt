@@ -1,0 +1,40 @@
+-- What a call on a machine, or on a part of it, needs to be safe.
+-- Letters: n is a node, d a directory over the nodes ns.
+-- To be believed with the contracts: it says which machines a call takes.
+use Rattle.std.specs.Prelude.{◌≡◌, ℕ, ◌<◌, ◌^◌, Bool, true, ◌&&◌, nat_eq, List, length, Some, ⊤}
+use Rattle.tree_model.specs.declared.BusTurn.{BusTurn}
+use Rattle.tree_model.specs.State.Values.{Node, leaf_node, dir_node, children}
+use Rattle.tree_model.specs.State.Rooms.{all_within}
+use Rattle.tree_model.specs.State.Shape.{Skeleton, Skeletons, leaf_bone, dir_bone, no_bones, more_bones, skeleton, widths_fit}
+use Rattle.tree_model.specs.Turns.Tree.{Name}
+use Rattle.split_bus.specs.Outcomes.{NamesOneOf}
+use Rattle.ddm_tree.specs.Path.{path_to}
+use Rattle.ddm_tree.specs.Counts.{counts_within}
+
+-- an item has so many words everywhere
+abbrev mutual
+  pub words_are : ℕ → Skeleton → Bool
+  words_are width (leaf_bone number sizes) = nat_eq sizes.width width
+  words_are width (dir_bone bus level sizes bones) = nat_eq sizes.width width && words_are_among width bones
+
+  pub words_are_among : ℕ → Skeletons → Bool
+  words_are_among width no_bones = true
+  words_are_among width (more_bones b bs) = words_are width b && words_are_among width bs
+
+-- each list within its room and a place for each of so many items; 1 to 16 children at each bus; items of this width; and
+-- every count may rise by one more
+pub record IsReady (items width : ℕ) (n : Node) : Type 0 where
+  pub fits : width < 2 ^ 32
+  pub rooms : all_within items n ≡ true
+  pub buses : widths_fit (skeleton n) ≡ true
+  pub words : words_are width (skeleton n) ≡ true
+  pub counts : counts_within 4294967294 n ≡ true
+
+-- the path leads from a node to the one of this name
+abbrev pub Leads : Name → List ℕ → Node → Type 0
+Leads name path n = path_to name (skeleton n) ≡ Some path
+
+-- the node has the child of a turn; a leaf has none
+abbrev pub HasChild : BusTurn → Node → Type 0
+HasChild t (leaf_node v) = ⊤
+HasChild t (dir_node d ns) = NamesOneOf (length (children ns)) t

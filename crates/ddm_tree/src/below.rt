@@ -1,0 +1,233 @@
+ghost use Rattle.std.specs.Prelude.{◌≡◌, ◌*◌, ◌<◌, ◌≤◌, true, length, map, slice_set};
+ghost use Rattle.ddm_types.specs.declared.keys.Stamp.{Stamp};
+ghost use Rattle.tree_model.specs.State.Values.{DirValue, dir_node, nodes};
+ghost use Rattle.tree_model.specs.State.Shape.{skeleton, widths_fit};
+ghost use Rattle.tree_model.specs.State.Directory.{stamp_of};
+ghost use Rattle.ddm_types.specs.ItemTable.{item_count};
+ghost use Rattle.tree_model.specs.Turns.Machine.{named_by, bus_turn_of};
+ghost use Rattle.tree_model.specs.Turns.Children.{child_at};
+ghost use Rattle.tree_model.specs.Turns.Tree.{leaf_of_number, bus_of_number};
+ghost use Rattle.item_states.specs.Parts.{node_items};
+ghost use Rattle.ddm_tree.specs.Path.{node_at, present_at, put_at, node_answer, node_turned};
+ghost use Rattle.ddm_tree.specs.Named.{name_of};
+ghost use Rattle.ddm_tree.specs.Ready.{IsReady, Leads, HasChild};
+ghost use Rattle.ddm_tree.specs.Reads.{node_hart, node_entry, node_children, node_child, node_child_hold, child_items, node_down, node_parked};
+
+use crate::named::Named;
+use crate::subtree::Subtree;
+use crate::turns::on_bus;
+use ddm_types::{
+    BusNo, ChildNo, Code, Hold, ItemId, Items, LeafNo, LeafState, Stamp, Turn, TurnAnswer, Words,
+};
+use item_states::{DownEntry, Parent};
+use rv_hart::Hart;
+use split_bus::grant;
+use tree_model::{LeafSpot, TreeChild};
+
+/// The child of a directory that a path leads to, and the rest of the path.
+fn next<'a, 'b, const WORDS: usize, P: Parent<WORDS>, C: Subtree<WORDS>>(
+    parent: &P,
+    children: &'a [C],
+    name: Named,
+    path: &'b [ChildNo],
+) -> (&'a C, &'b [ChildNo])
+    requires leads { Leads (name_of name) path.now (dir_node (P.state parent.now) (nodes (map C.value children.now))) }
+    requires on { 0 < length path.now }
+    ensures leads { Leads (name_of name) result.1.now (C.value result.0.now) }
+    ensures node { node_at path.now (dir_node (P.state parent.now) (nodes (map C.value children.now))) ≡ node_at result.1.now (C.value result.0.now) }
+    ensures present { (s : Stamp) → present_at path.now s (dir_node (P.state parent.now) (nodes (map C.value children.now))) ≡ present_at result.1.now (stamp_of (P.state parent.now)) (C.value result.0.now) }
+    ensures fits { widths_fit (skeleton (dir_node (P.state parent.now) (nodes (map C.value children.now)))) ≡ true → widths_fit (skeleton (C.value result.0.now)) ≡ true }
+{
+    match path.split_first() {
+        Some((child, rest)) => (&children[child.0 as usize], rest),
+        None => unreachable!(),
+    }
+}
+
+/// One turn of a child, or of a part below it.
+fn turn_of_child<const WORDS: usize, C: Subtree<WORDS>>(
+    children: &mut [C],
+    c: ChildNo,
+    code: &Code,
+    items: &Items,
+    path: &[ChildNo],
+    rest: &[ChildNo],
+    present: Stamp,
+    turn: Turn,
+) -> TurnAnswer
+    requires child { c < length children.old }
+    requires size { items.now.size ≡ 4 * WORDS }
+    requires ready { IsReady (item_count items.now) WORDS (child_at c (map C.value children.old)) }
+    requires leads { Leads (named_by turn) rest.now (child_at c (map C.value children.old)) }
+    requires names { HasChild (bus_turn_of turn) (node_at rest.now (child_at c (map C.value children.old))) }
+    ensures answer { let n = child_at c (map C.value children.old) in result ≡ node_answer code.now items.now turn path.now (present_at rest.now present n) (node_at rest.now n) }
+    ensures after { let n = child_at c (map C.value children.old) in map C.value children.new ≡ slice_set (map C.value children.old) c (put_at rest.now (node_turned code.now items.now turn path.now (present_at rest.now present n) (node_at rest.now n)) n) }
+{
+    children[c.0 as usize].turn(code, items, path, rest, present, turn)
+}
+
+/// One turn of a directory's own bus, or of a leaf or bus below it: `rest` is the path from the directory, `path` that from the
+/// top.
+pub(crate) fn turn_under<const WORDS: usize, P: Parent<WORDS>, C: Subtree<WORDS>>(
+    parent: &mut P,
+    children: &mut [C],
+    code: &Code,
+    items: &Items,
+    path: &[ChildNo],
+    rest: &[ChildNo],
+    present: Stamp,
+    turn: Turn,
+) -> TurnAnswer
+    requires size { items.now.size ≡ 4 * WORDS }
+    requires ready { IsReady (item_count items.now) WORDS (dir_node (P.state parent.old) (nodes (map C.value children.old))) }
+    requires leads { Leads (named_by turn) rest.now (dir_node (P.state parent.old) (nodes (map C.value children.old))) }
+    requires child { HasChild (bus_turn_of turn) (node_at rest.now (dir_node (P.state parent.old) (nodes (map C.value children.old)))) }
+    ensures answer { let n = dir_node (P.state parent.old) (nodes (map C.value children.old)) in result ≡ node_answer code.now items.now turn path.now (present_at rest.now present n) (node_at rest.now n) }
+    ensures after { let n = dir_node (P.state parent.old) (nodes (map C.value children.old)) in dir_node (P.state parent.new) (nodes (map C.value children.new)) ≡ put_at rest.now (node_turned code.now items.now turn path.now (present_at rest.now present n) (node_at rest.now n)) n }
+{
+    match rest.split_first() {
+        Some((child, further)) => {
+            let below = parent.stamp();
+            turn_of_child(children, *child, code, items, path, further, below, turn)
+        }
+        None => grant(parent, children, present, on_bus(turn)),
+    }
+}
+
+/// The hart of a leaf below a directory.
+pub(crate) fn hart_under<'a, const WORDS: usize, P: Parent<WORDS>, C: Subtree<WORDS>>(
+    parent: &P,
+    children: &'a [C],
+    leaf: LeafNo,
+    path: &[ChildNo],
+) -> &'a Hart
+    requires { Leads (leaf_of_number leaf) path.now (dir_node (P.state parent.now) (nodes (map C.value children.now))) }
+    ensures { result.now ≡ node_hart (node_at path.now (dir_node (P.state parent.now) (nodes (map C.value children.now)))) }
+{
+    let (child, rest) = next(parent, children, Named::Leaf(leaf), path);
+    child.hart_below(leaf, rest)
+}
+
+/// The present stamp of the bus of a leaf below a directory.
+pub(crate) fn stamp_under<const WORDS: usize, P: Parent<WORDS>, C: Subtree<WORDS>>(
+    parent: &P,
+    children: &[C],
+    leaf: LeafNo,
+    path: &[ChildNo],
+) -> Stamp
+    requires leads { Leads (leaf_of_number leaf) path.now (dir_node (P.state parent.now) (nodes (map C.value children.now))) }
+    ensures { (s : Stamp) → result ≡ present_at path.now s (dir_node (P.state parent.now) (nodes (map C.value children.now))) }
+{
+    let (child, rest) = next(parent, children, Named::Leaf(leaf), path);
+    child.stamp_below(leaf, rest, parent.stamp())
+}
+
+/// The entry of an item at a leaf below a directory.
+pub(crate) fn entry_under<const WORDS: usize, P: Parent<WORDS>, C: Subtree<WORDS>>(
+    parent: &P,
+    children: &[C],
+    leaf: LeafNo,
+    path: &[ChildNo],
+    item: ItemId,
+) -> Option<(LeafState, Words<WORDS>, LeafSpot)>
+    requires leads { Leads (leaf_of_number leaf) path.now (dir_node (P.state parent.now) (nodes (map C.value children.now))) }
+    requires in_range { item < node_items (node_at path.now (dir_node (P.state parent.now) (nodes (map C.value children.now)))) }
+    ensures { result ≡ node_entry item (node_at path.now (dir_node (P.state parent.now) (nodes (map C.value children.now)))) }
+{
+    let (child, rest) = next(parent, children, Named::Leaf(leaf), path);
+    child.entry_below(leaf, rest, item)
+}
+
+/// How many children a bus has, of a directory or below it.
+pub(crate) fn children_under<const WORDS: usize, P: Parent<WORDS>, C: Subtree<WORDS>>(
+    parent: &P,
+    children: &[C],
+    bus: BusNo,
+    path: &[ChildNo],
+) -> u32
+    requires buses { widths_fit (skeleton (dir_node (P.state parent.now) (nodes (map C.value children.now)))) ≡ true }
+    requires leads { Leads (bus_of_number bus) path.now (dir_node (P.state parent.now) (nodes (map C.value children.now))) }
+    ensures { result ≡ node_children (node_at path.now (dir_node (P.state parent.now) (nodes (map C.value children.now)))) }
+{
+    if path.is_empty() {
+        children.len() as u32
+    } else {
+        let (child, rest) = next(parent, children, Named::Bus(bus), path);
+        child.children_below(bus, rest)
+    }
+}
+
+/// A child of a bus, of a directory or below it.
+pub(crate) fn child_under<const WORDS: usize, P: Parent<WORDS>, C: Subtree<WORDS>>(
+    parent: &P,
+    children: &[C],
+    bus: BusNo,
+    path: &[ChildNo],
+    child: ChildNo,
+) -> TreeChild
+    requires leads { Leads (bus_of_number bus) path.now (dir_node (P.state parent.now) (nodes (map C.value children.now))) }
+    requires child { child < node_children (node_at path.now (dir_node (P.state parent.now) (nodes (map C.value children.now)))) }
+    ensures { result ≡ node_child child (node_at path.now (dir_node (P.state parent.now) (nodes (map C.value children.now)))) }
+{
+    if path.is_empty() {
+        children[child.0 as usize].label()
+    } else {
+        let (part, rest) = next(parent, children, Named::Bus(bus), path);
+        part.child_below(bus, rest, child)
+    }
+}
+
+/// What a child of a bus holds of an item, of a directory or below it.
+pub(crate) fn hold_under<const WORDS: usize, P: Parent<WORDS>, C: Subtree<WORDS>>(
+    parent: &P,
+    children: &[C],
+    bus: BusNo,
+    path: &[ChildNo],
+    child: ChildNo,
+    item: ItemId,
+) -> Hold
+    requires leads { Leads (bus_of_number bus) path.now (dir_node (P.state parent.now) (nodes (map C.value children.now))) }
+    requires child { child < node_children (node_at path.now (dir_node (P.state parent.now) (nodes (map C.value children.now)))) }
+    requires in_range { item < child_items child (node_at path.now (dir_node (P.state parent.now) (nodes (map C.value children.now)))) }
+    ensures { result ≡ node_child_hold child item (node_at path.now (dir_node (P.state parent.now) (nodes (map C.value children.now)))) }
+{
+    if path.is_empty() {
+        children[child.0 as usize].hold(item)
+    } else {
+        let (part, rest) = next(parent, children, Named::Bus(bus), path);
+        part.hold_below(bus, rest, child, item)
+    }
+}
+
+/// An entry of the down list over a bus below a directory.
+pub(crate) fn down_under<const WORDS: usize, P: Parent<WORDS>, C: Subtree<WORDS>>(
+    parent: &P,
+    children: &[C],
+    bus: BusNo,
+    path: &[ChildNo],
+    place: u32,
+) -> Option<DownEntry<WORDS>>
+    requires leads { Leads (bus_of_number bus) path.now (dir_node (P.state parent.now) (nodes (map C.value children.now))) }
+    requires on { 0 < length path.now }
+    ensures { result ≡ node_down place (node_at path.now (dir_node (P.state parent.now) (nodes (map C.value children.now)))) }
+{
+    let (part, rest) = next(parent, children, Named::Bus(bus), path);
+    part.down_below(bus, rest, place)
+}
+
+/// The copy of an item that is parked at a bus below a directory, with its place.
+pub(crate) fn parked_under<const WORDS: usize, P: Parent<WORDS>, C: Subtree<WORDS>>(
+    parent: &P,
+    children: &[C],
+    bus: BusNo,
+    path: &[ChildNo],
+    item: ItemId,
+) -> Option<(u32, Words<WORDS>)>
+    requires leads { Leads (bus_of_number bus) path.now (dir_node (P.state parent.now) (nodes (map C.value children.now))) }
+    requires on { 0 < length path.now }
+    requires in_range { item < node_items (node_at path.now (dir_node (P.state parent.now) (nodes (map C.value children.now)))) }
+    ensures { result ≡ node_parked item (node_at path.now (dir_node (P.state parent.now) (nodes (map C.value children.now)))) }
+{
+    let (part, rest) = next(parent, children, Named::Bus(bus), path);
+    part.parked_below(bus, rest, item)
+}

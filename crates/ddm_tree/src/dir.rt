@@ -1,0 +1,202 @@
+ghost use Rattle.std.specs.Prelude.{◌≡◌, ◌<◌, None, true, drop, map};
+ghost use Rattle.ddm_types.specs.declared.answers.TxKind.TheVariants.{DataTx, InjectTx};
+ghost use Rattle.tree_model.specs.State.Values.{dir_node, nodes};
+ghost use Rattle.tree_model.specs.State.Child.{child_full_for, child_take_data, child_take_inject, reader_has_place};
+ghost use Rattle.item_states.specs.Parts.{node_items};
+
+use crate::below::{
+    child_under, children_under, down_under, entry_under, hart_under, hold_under, parked_under,
+    stamp_under, turn_under,
+};
+use crate::named::Named;
+use crate::paths::path_up_under;
+use crate::subtree::Subtree;
+use ddm_types::{
+    BusNo, ChildNo, Code, Hold, ItemId, Items, LeafNo, LeafState, NoMemory, PendingWhy, QueueName,
+    Stamp, Turn, TurnAnswer, TxKind, Words,
+};
+use directory::DirState;
+use item_states::{Agent, DownEntry, Parent};
+use rv_hart::Hart;
+use std::alloc::Global;
+use tree_model::{LeafSpot, TreeChild};
+
+/// A directory over its children.
+#[derive(Drop)]
+pub struct Dir<const WORDS: usize, C: Subtree<WORDS>> {
+    state: DirState<WORDS>,
+    children: Vec<C>,
+}
+
+impl<const WORDS: usize, C: Subtree<WORDS>> Dir<WORDS, C> {
+    /// The directory over these children.
+    pub fn new(state: DirState<WORDS>, children: Vec<C>) -> Self
+        ensures { dir_node result.state (nodes (map C.value result.children.items)) ≡ dir_node state.entry (nodes (map C.value children.items)) }
+    {
+        Dir { state, children }
+    }
+}
+
+impl<const WORDS: usize, C: Subtree<WORDS>> Agent<WORDS> for Dir<WORDS, C> {
+    ghost value = { λ s. dir_node s.state (nodes (map C.value s.children.items)) };
+
+    fn hold(&self, item: ItemId) -> Hold {
+        self.state.up_hold(item)
+    }
+
+    fn waits(&self, item: ItemId) -> bool {
+        self.state.up_waits(item)
+    }
+
+    fn room(&self, item: ItemId) -> bool {
+        self.state.up_room(item)
+    }
+
+    fn reader_has_place(&self, item: ItemId) -> bool {
+        self.state.up_reader_has_place(item)
+    }
+
+    fn full_for(&self, kind: TxKind, item: ItemId) -> Option<QueueName> {
+        self.state.up_full_for(kind, item)
+    }
+
+    fn first_request(&self) -> Option<(TxKind, ItemId)> {
+        self.state.up_first_request()
+    }
+
+    fn first_reply(&self) -> Option<(ItemId, Words<WORDS>)> {
+        self.state.up_first_reply()
+    }
+
+    fn leaving(&self, choice: u8) -> Option<ItemId> {
+        self.state.up_leaving(choice)
+    }
+
+    fn pending_below(&self, item: ItemId) -> Option<(BusNo, PendingWhy)> {
+        self.state.up_pending_below(item)
+    }
+
+    fn take_request(&mut self) {
+        self.state.up_take_request();
+    }
+
+    fn take_reply(&mut self) {
+        self.state.up_take_reply();
+    }
+
+    fn lose(&mut self, item: ItemId, stamp: Stamp) {
+        self.state.up_lose(item, stamp);
+    }
+
+    fn take_data(&mut self, item: ItemId, words: Words<WORDS>, stamp: Stamp)
+        requires in_range { item < node_items (dir_node self.old.state (nodes (map C.value self.old.children.items))) }
+        requires room { child_full_for DataTx item (dir_node self.old.state (nodes (map C.value self.old.children.items))) ≡ None }
+        ensures { dir_node self.new.state (nodes (map C.value self.new.children.items)) ≡ child_take_data item words.entry stamp (dir_node self.old.state (nodes (map C.value self.old.children.items))) }
+    {
+        self.state.up_take_data(item, words, stamp);
+    }
+
+    fn take_exclusive(&mut self, item: ItemId, stamp: Stamp) {
+        self.state.up_take_exclusive(item, stamp);
+    }
+
+    fn answer(&mut self, item: ItemId, stamp: Stamp) {
+        self.state.up_answer(item, stamp);
+    }
+
+    fn take_inject(&mut self, item: ItemId, words: Words<WORDS>, stamp: Stamp)
+        requires in_range { item < node_items (dir_node self.old.state (nodes (map C.value self.old.children.items))) }
+        requires room { child_full_for InjectTx item (dir_node self.old.state (nodes (map C.value self.old.children.items))) ≡ None }
+        requires place { reader_has_place item (dir_node self.old.state (nodes (map C.value self.old.children.items))) ≡ true }
+        ensures { dir_node self.new.state (nodes (map C.value self.new.children.items)) ≡ child_take_inject item words.entry stamp (dir_node self.old.state (nodes (map C.value self.old.children.items))) }
+    {
+        self.state.up_take_inject(item, words, stamp);
+    }
+
+    fn give_up(&mut self, item: ItemId) -> Words<WORDS> {
+        self.state.up_give_up(item)
+    }
+}
+
+impl<const WORDS: usize, C: Subtree<WORDS>> Subtree<WORDS> for Dir<WORDS, C> {
+    fn label(&self) -> TreeChild {
+        TreeChild::BusChild(self.state.bus())
+    }
+
+    fn turn(
+        &mut self,
+        code: &Code,
+        items: &Items,
+        path: &[ChildNo],
+        rest: &[ChildNo],
+        present: Stamp,
+        turn: Turn,
+    ) -> TurnAnswer {
+        turn_under(
+            &mut self.state,
+            &mut self.children,
+            code,
+            items,
+            path,
+            rest,
+            present,
+            turn,
+        )
+    }
+
+    fn path_up(&self, alloc: Global, name: &Named) -> Result<Option<Vec<ChildNo>>, NoMemory> {
+        path_up_under(alloc, &self.state, &self.children, name)
+    }
+
+    fn hart_below(&self, leaf: LeafNo, path: &[ChildNo]) -> &Hart {
+        hart_under(&self.state, &self.children, leaf, path)
+    }
+
+    fn stamp_below(&self, leaf: LeafNo, path: &[ChildNo], _present: Stamp) -> Stamp {
+        stamp_under(&self.state, &self.children, leaf, path)
+    }
+
+    fn entry_below(
+        &self,
+        leaf: LeafNo,
+        path: &[ChildNo],
+        item: ItemId,
+    ) -> Option<(LeafState, Words<WORDS>, LeafSpot)> {
+        entry_under(&self.state, &self.children, leaf, path, item)
+    }
+
+    fn children_below(&self, bus: BusNo, path: &[ChildNo]) -> u32 {
+        children_under(&self.state, &self.children, bus, path)
+    }
+
+    fn child_below(&self, bus: BusNo, path: &[ChildNo], child: ChildNo) -> TreeChild {
+        child_under(&self.state, &self.children, bus, path, child)
+    }
+
+    fn hold_below(&self, bus: BusNo, path: &[ChildNo], child: ChildNo, item: ItemId) -> Hold {
+        hold_under(&self.state, &self.children, bus, path, child, item)
+    }
+
+    fn down_below(&self, bus: BusNo, path: &[ChildNo], place: u32) -> Option<DownEntry<WORDS>> {
+        if path.is_empty() {
+            self.state.down_get(place).copied()
+        } else {
+            down_under(&self.state, &self.children, bus, path, place)
+        }
+    }
+
+    fn parked_below(
+        &self,
+        bus: BusNo,
+        path: &[ChildNo],
+        item: ItemId,
+    ) -> Option<(u32, Words<WORDS>)> {
+        if path.is_empty() {
+            let place = self.state.parked_at(item)?;
+            let words = self.state.parked(item)?;
+            Some((place, words))
+        } else {
+            parked_under(&self.state, &self.children, bus, path, item)
+        }
+    }
+}

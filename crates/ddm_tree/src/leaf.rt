@@ -1,0 +1,80 @@
+use crate::named::Named;
+use crate::subtree::Subtree;
+use crate::turns::{key_on, victim};
+use ddm_types::{
+    BusNo, ChildNo, Code, Hold, ItemId, Items, LeafNo, LeafState, NoMemory, Stamp, Turn,
+    TurnAnswer, Words,
+};
+use item_states::DownEntry;
+use leaf_protocol::Leaf;
+use rv_hart::Hart;
+use std::alloc::Global;
+use tree_model::{LeafSpot, TreeChild};
+
+impl<const WAYS: usize, const WORDS: usize> Subtree<WORDS> for Leaf<WAYS, WORDS> {
+    fn label(&self) -> TreeChild {
+        TreeChild::LeafChild(self.number())
+    }
+
+    fn turn(
+        &mut self,
+        code: &Code,
+        items: &Items,
+        path: &[ChildNo],
+        _rest: &[ChildNo],
+        present: Stamp,
+        turn: Turn,
+    ) -> TurnAnswer {
+        let now = key_on(present, path, self.hart().done());
+        self.hart_turn(code, items, now, victim(turn))
+    }
+
+    fn path_up(&self, alloc: Global, name: &Named) -> Result<Option<Vec<ChildNo>>, NoMemory> {
+        match name {
+            Named::Leaf(leaf) if *leaf == self.number() => Ok(Some(Vec::new(alloc))),
+            _ => Ok(None),
+        }
+    }
+
+    fn hart_below(&self, _leaf: LeafNo, _path: &[ChildNo]) -> &Hart {
+        self.hart()
+    }
+
+    fn stamp_below(&self, _leaf: LeafNo, _path: &[ChildNo], present: Stamp) -> Stamp {
+        present
+    }
+
+    fn entry_below(
+        &self,
+        _leaf: LeafNo,
+        _path: &[ChildNo],
+        item: ItemId,
+    ) -> Option<(LeafState, Words<WORDS>, LeafSpot)> {
+        self.entry(item)
+    }
+
+    fn children_below(&self, _bus: BusNo, _path: &[ChildNo]) -> u32 {
+        0
+    }
+
+    fn child_below(&self, bus: BusNo, _path: &[ChildNo], _child: ChildNo) -> TreeChild {
+        TreeChild::BusChild(bus)
+    }
+
+    fn hold_below(&self, _bus: BusNo, _path: &[ChildNo], _child: ChildNo, _item: ItemId) -> Hold {
+        Hold::Invalid
+    }
+
+    fn down_below(&self, _bus: BusNo, _path: &[ChildNo], _place: u32) -> Option<DownEntry<WORDS>> {
+        None
+    }
+
+    fn parked_below(
+        &self,
+        _bus: BusNo,
+        _path: &[ChildNo],
+        _item: ItemId,
+    ) -> Option<(u32, Words<WORDS>)> {
+        None
+    }
+}

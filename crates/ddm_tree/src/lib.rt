@@ -1,0 +1,19 @@
+//! The machine: leaves and directories under the top, as one tree of buses. A turn follows the path to the leaf or bus that it
+//! names.
+#![tactic(auto)]
+
+mod below;
+mod dir;
+mod leaf;
+mod machine;
+mod named;
+mod paths;
+mod readers;
+mod record;
+mod subtree;
+mod turns;
+
+pub use dir::Dir;
+pub use machine::Machine;
+pub use named::Named;
+pub use subtree::Subtree;

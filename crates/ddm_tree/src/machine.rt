@@ -1,0 +1,187 @@
+ghost use Rattle.std.specs.Prelude.{◌≡◌, ℕ, List, ◌+◌, ◌*◌, ◌<◌, ◌≤◌, ◌^◌, [], Some, true, is_ok, length, map, max, vec_items, IfOk, if◌then◌else◌};
+ghost use Rattle.tree_model.specs.Turns.Machine.{named_by, names_part, no_traffic, turn_of};
+ghost use Rattle.ddm_types.specs.Keys.{stamp_zero};
+ghost use Rattle.ddm_types.specs.ItemTable.{item_count};
+ghost use Rattle.tree_model.specs.State.Values.{dir_node, nodes};
+ghost use Rattle.ddm_tree.specs.Named.{name_of};
+ghost use Rattle.ddm_tree.specs.Path.{node_at, present_at, put_at, node_answer, node_turned};
+ghost use Rattle.ddm_tree.specs.Ready.{IsReady};
+ghost use Rattle.ddm_tree.specs.Machine.{IsFound, IsNew, has_path, listed_path, new_machine, state_after};
+
+use crate::below::turn_under;
+use crate::named::Named;
+use crate::paths::{bus_paths, leaf_paths};
+use crate::record::record;
+use crate::subtree::Subtree;
+use ddm_types::{ChildNo, Code, Items, LeafNo, NoMemory, Op, Stamp, TreeCounts, Turn, TurnAnswer};
+use std::alloc::Global;
+use std::marker::Model;
+use top_node::TopState;
+use tree_model::Traffic;
+
+/// The machine: the top over the children of bus 0.
+#[derive(Drop)]
+pub struct Machine<const WORDS: usize, C: Subtree<WORDS>> {
+    pub(crate) top: TopState<WORDS>,
+    pub(crate) children: Vec<C>,
+    pub(crate) code: Code,
+    pub(crate) items: Items,
+    pub(crate) ops: Vec<Op>,
+    pub(crate) traffic: Vec<Traffic>,
+    pub(crate) counts: TreeCounts,
+    /// For each leaf and for each bus its path.
+    pub(crate) leaf_paths: Vec<Vec<ChildNo>>,
+    pub(crate) bus_paths: Vec<Vec<ChildNo>>,
+    /// How many operations can still be taken without memory.
+    pub(crate) spare: u32,
+    /// How many turns were made.
+    pub(crate) turns: u32,
+}
+
+impl<const WORDS: usize, C: Subtree<WORDS>> Model for Machine<WORDS, C> {
+    ghost use Rattle.std.specs.Prelude.{◌≡◌, ℕ, List, ◌+◌, ◌*◌, ◌≤◌, ◌^◌, ◌<◌, length, map, vec_capacity, vec_items};
+    ghost use Rattle.tree_model.specs.State.Shape.{tree_counts};
+    ghost use Rattle.ddm_tree.specs.Machine.{MachineState, IsMachine, machine_of};
+    ghost use Rattle.ddm_tree.specs.Codes.{machine_code};
+
+    ghost Value = { MachineState };
+
+    ghost coded = { machine_code };
+
+    ghost view = { λ m. record { machine = machine_of m.code m.items m.top (map C.value m.children.items) m.ops.items m.traffic.items; spare = m.spare; turns = m.turns } };
+
+    ghost invariant = { λ m. IsMachine WORDS (machine_of m.code m.items m.top (map C.value m.children.items) m.ops.items m.traffic.items) m.turns (map vec_items m.leaf_paths.items) (map vec_items m.bus_paths.items)
+        × (tree_counts (machine_of m.code m.items m.top (map C.value m.children.items) m.ops.items m.traffic.items) ≡ m.counts)
+        × (WORDS < 2 ^ 32) × (m.items.size ≡ 4 * WORDS) × (length m.ops.items + m.spare ≤ vec_capacity m.ops) };
+}
+
+impl<const WORDS: usize, C: Subtree<WORDS> + Drop> Machine<WORDS, C> {
+    /// The top over its children, before the first turn: no operation, no traffic, and no memory for operations.
+    pub fn new(
+        alloc: Global,
+        top: TopState<WORDS>,
+        children: Vec<C>,
+        code: Code,
+        items: Items,
+        counts: TreeCounts,
+    ) -> Result<Self, NoMemory>
+        requires fits { WORDS < 2 ^ 32 }
+        requires size { items.size ≡ 4 * WORDS }
+        requires parts { IsNew WORDS (new_machine code items top (map C.value children.items) counts) counts }
+        ensures { IfOk result (λ m. m ≡ record { machine = new_machine code items top.entry (map C.value children.items) counts; spare = 0; turns = 0 }) }
+    {
+        let leaf_paths = leaf_paths(alloc, &top, &children, counts.leaves)?;
+        let bus_paths = bus_paths(alloc, &top, &children, counts.buses)?;
+        let traffic = vec![in alloc; no_traffic(); counts.buses as usize]?;
+        Ok(Machine {
+            top,
+            children,
+            code,
+            items,
+            ops: Vec::new(alloc),
+            traffic,
+            counts,
+            leaf_paths,
+            bus_paths,
+            spare: 0,
+            turns: 0,
+        })
+    }
+}
+
+impl<const WORDS: usize, C: Subtree<WORDS>> Machine<WORDS, C> {
+    /// Takes memory so that at least `n` more operations need none.
+    pub fn reserve(&mut self, n: u32) -> Result<(), NoMemory>
+        ensures { self.new ≡ record self.old { spare = (if is_ok result then max self.old.spare n else self.old.spare) } }
+    {
+        if self.spare < n {
+            self.ops.reserve(n as usize)?;
+            self.spare = n;
+        }
+        Ok(())
+    }
+
+    /// One turn of a hart or a bus. It takes no memory.
+    pub fn turn(&mut self, turn: Turn) -> TurnAnswer
+        requires named { names_part turn self.old.machine ≡ true }
+        requires spare { 0 < self.old.spare }
+        requires turns { self.old.turns < 4294967295 }
+        ensures answer { result ≡ (turn_of turn self.old.machine).answer }
+        ensures after { self.new ≡ state_after turn self.old }
+    {
+        let answer = turn_found(
+            &mut self.top,
+            &mut self.children,
+            &self.code,
+            &self.items,
+            &self.leaf_paths,
+            &self.bus_paths,
+            turn,
+        );
+        self.turns += 1;
+        record(&answer, &mut self.ops, &mut self.traffic, &mut self.spare);
+        answer
+    }
+}
+
+/// One turn of the leaf or bus that it names, whose path is listed.
+fn turn_found<const WORDS: usize, C: Subtree<WORDS>>(
+    top: &mut TopState<WORDS>,
+    children: &mut [C],
+    code: &Code,
+    items: &Items,
+    leaf_paths: &[Vec<ChildNo>],
+    bus_paths: &[Vec<ChildNo>],
+    turn: Turn,
+) -> TurnAnswer
+    requires size { items.now.size ≡ 4 * WORDS }
+    requires ready { IsReady (item_count items.now) WORDS (dir_node top.old (nodes (map C.value children.old))) }
+    requires found { IsFound turn (dir_node top.old (nodes (map C.value children.old))) (map vec_items leaf_paths.now) (map vec_items bus_paths.now) }
+    ensures answer { (path : List ℕ) → listed_path (named_by turn) (map vec_items leaf_paths.now) (map vec_items bus_paths.now) ≡ Some path → let n = dir_node top.old (nodes (map C.value children.old)) in result ≡ node_answer code.now items.now turn path (present_at path stamp_zero n) (node_at path n) }
+    ensures after { (path : List ℕ) → listed_path (named_by turn) (map vec_items leaf_paths.now) (map vec_items bus_paths.now) ≡ Some path → let n = dir_node top.old (nodes (map C.value children.old)) in dir_node top.new (nodes (map C.value children.new)) ≡ put_at path (node_turned code.now items.now turn path (present_at path stamp_zero n) (node_at path n)) n }
+{
+    let path = path_of(named(&turn), leaf_paths, bus_paths);
+    turn_under(top, children, code, items, path, path, Stamp::zero(), turn)
+}
+
+/// What a turn names.
+fn named(turn: &Turn) -> Named
+    ensures { name_of result ≡ named_by turn.now }
+{
+    match turn {
+        Turn::Hart { hart, .. } => Named::Leaf(LeafNo(hart.0)),
+        Turn::Down { bus }
+        | Turn::Request { bus, .. }
+        | Turn::Reply { bus, .. }
+        | Turn::Leave { bus, .. } => Named::Bus(*bus),
+    }
+}
+
+/// The path to a leaf or bus.
+fn path_of<'a>(
+    name: Named,
+    leaf_paths: &'a [Vec<ChildNo>],
+    bus_paths: &'a [Vec<ChildNo>],
+) -> &'a [ChildNo]
+    requires { has_path (name_of name) (length leaf_paths.now) (length bus_paths.now) }
+    ensures { Some result.now ≡ listed_path (name_of name) (map vec_items leaf_paths.now) (map vec_items bus_paths.now) }
+{
+    match name {
+        Named::Leaf(leaf) => &leaf_paths[leaf.0 as usize],
+        Named::Bus(bus) => &bus_paths[bus.0 as usize],
+    }
+}
+
+/// No grant of any kind.
+fn no_traffic() -> Traffic
+    ensures { result ≡ no_traffic }
+{
+    Traffic {
+        reads: 0,
+        copies: 0,
+        erases: 0,
+        exclusives: 0,
+        outs: 0,
+        injects: 0,
+    }
+}

@@ -1,0 +1,8 @@
+use ddm_types::{BusNo, LeafNo};
+
+/// The leaf, or the directory over the bus, of this number.
+#[derive(Clone, Copy)]
+pub enum Named {
+    Leaf(LeafNo),
+    Bus(BusNo),
+}

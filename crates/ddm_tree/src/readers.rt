@@ -1,0 +1,174 @@
+ghost use Rattle.std.specs.Prelude.{◌≡◌, ◌<◌, Some, is_some, true, map, option_copied, vec_items};
+ghost use Rattle.ddm_types.specs.ItemTable.{item_count};
+ghost use Rattle.tree_model.specs.State.Shape.{tree_counts};
+ghost use Rattle.tree_model.specs.State.Values.{root_of};
+ghost use Rattle.tree_model.specs.Turns.Machine.{child_count, child_hold_of, child_of, down_entry_of, granted_of, grants_of, is_child_of, now_of};
+ghost use Rattle.tree_model.specs.Turns.Tree.{leaf_of_number, bus_of_number};
+ghost use Rattle.ddm_tree.specs.Machine.{is_part};
+ghost use Rattle.ddm_tree.specs.Ready.{Leads};
+ghost use Rattle.ddm_tree.specs.Reads.{counted_hart_of, entry_at, parked_at};
+
+use crate::below::{
+    child_under, children_under, down_under, entry_under, hart_under, hold_under, parked_under,
+    stamp_under,
+};
+use crate::machine::Machine;
+use crate::subtree::Subtree;
+use crate::turns::key_on;
+use ddm_types::{
+    BusNo, ChildNo, HartNo, Hold, ItemId, Items, Key, LeafNo, LeafState, Op, TreeCounts, TxKind,
+    Words,
+};
+use item_states::{DownEntry, Parent};
+use rv_hart::Hart;
+use tree_model::{LeafSpot, Traffic, TreeChild};
+
+impl<const WORDS: usize, C: Subtree<WORDS>> Machine<WORDS, C> {
+    /// The key that an instruction completing now at this leaf would have.
+    pub fn now(&self, leaf: LeafNo) -> Key
+        requires { is_part (leaf_of_number leaf) self.now.machine ≡ true }
+        ensures { Some result ≡ now_of leaf self.now.machine }
+    {
+        let path = self.leaf_path(leaf);
+        let present = stamp_under(&self.top, &self.children, leaf, path);
+        let hart = hart_under(&self.top, &self.children, leaf, path);
+        key_on(present, path, hart.done())
+    }
+
+    /// The operations, in order of completion.
+    pub fn ops(&self) -> &[Op]
+        ensures { result.now ≡ self.now.machine.ops }
+    {
+        &self.ops
+    }
+
+    pub fn hart(&self, hart: HartNo) -> &Hart
+        requires { is_part (leaf_of_number hart) self.now.machine ≡ true }
+        ensures { Some result.now ≡ counted_hart_of hart self.now.machine }
+    {
+        let leaf = LeafNo(hart.0);
+        hart_under(&self.top, &self.children, leaf, self.leaf_path(leaf))
+    }
+
+    /// How many leaves, buses and levels of buses the tree has.
+    pub fn counts(&self) -> TreeCounts
+        ensures { result ≡ tree_counts self.now.machine }
+    {
+        self.counts
+    }
+
+    pub fn items(&self) -> &Items
+        ensures { result.now ≡ self.now.machine.items }
+    {
+        &self.items
+    }
+
+    /// How many children a bus has.
+    pub fn children(&self, bus: BusNo) -> u32
+        requires { is_part (bus_of_number bus) self.now.machine ≡ true }
+        ensures { Some result ≡ child_count bus self.now.machine }
+    {
+        let path = self.bus_path(bus);
+        children_under(&self.top, &self.children, bus, path)
+    }
+
+    /// A child of a bus.
+    pub fn child(&self, bus: BusNo, child: ChildNo) -> TreeChild
+        requires { is_child_of child (child_count bus self.now.machine) ≡ true }
+        ensures { Some result ≡ child_of bus child self.now.machine }
+    {
+        let path = self.bus_path(bus);
+        child_under(&self.top, &self.children, bus, path, child)
+    }
+
+    /// What a child of a bus holds of an item.
+    pub fn child_hold(&self, bus: BusNo, child: ChildNo, item: ItemId) -> Hold
+        requires child { is_child_of child (child_count bus self.now.machine) ≡ true }
+        requires item { item < item_count self.now.machine.items }
+        ensures { Some result ≡ child_hold_of bus child item self.now.machine }
+    {
+        let path = self.bus_path(bus);
+        hold_under(&self.top, &self.children, bus, path, child, item)
+    }
+
+    /// The entry that a leaf has of an item, with its words, and where it stands.
+    pub fn leaf_entry(
+        &self,
+        leaf: LeafNo,
+        item: ItemId,
+    ) -> Option<(LeafState, Words<WORDS>, LeafSpot)>
+        requires leaf { is_part (leaf_of_number leaf) self.now.machine ≡ true }
+        requires item { item < item_count self.now.machine.items }
+        ensures { Some result ≡ entry_at leaf item self.now.machine }
+    {
+        let path = self.leaf_path(leaf);
+        entry_under(&self.top, &self.children, leaf, path, item)
+    }
+
+    /// An entry of the down list over a bus, by its place counted from 0.
+    pub fn down_get(&self, bus: BusNo, place: u32) -> Option<DownEntry<WORDS>>
+        requires { is_part (bus_of_number bus) self.now.machine ≡ true }
+        ensures { Some result ≡ down_entry_of bus place self.now.machine }
+    {
+        let path = self.bus_path(bus);
+        if path.is_empty() {
+            self.top.down_get(place).copied()
+        } else {
+            down_under(&self.top, &self.children, bus, path, place)
+        }
+    }
+
+    /// The copy of an item that is parked at a bus: its place, counted from 0, and its words.
+    pub fn parked(&self, bus: BusNo, item: ItemId) -> Option<(u32, Words<WORDS>)>
+        requires bus { is_part (bus_of_number bus) self.now.machine ≡ true }
+        requires item { item < item_count self.now.machine.items }
+        ensures { Some result ≡ parked_at bus item self.now.machine }
+    {
+        let path = self.bus_path(bus);
+        if path.is_empty() {
+            let place = self.top.parked_at(item)?;
+            let words = self.top.parked(item)?;
+            Some((place, words))
+        } else {
+            parked_under(&self.top, &self.children, bus, path, item)
+        }
+    }
+
+    /// The path from the top to a leaf.
+    fn leaf_path(&self, leaf: LeafNo) -> &[ChildNo]
+        requires { is_part (leaf_of_number leaf) self.now.machine ≡ true }
+        ensures { Leads (leaf_of_number leaf) result.now (root_of self.now.machine) }
+    {
+        &self.leaf_paths[leaf.0 as usize]
+    }
+
+    /// The path from the top to a bus.
+    fn bus_path(&self, bus: BusNo) -> &[ChildNo]
+        requires { is_part (bus_of_number bus) self.now.machine ≡ true }
+        ensures { Leads (bus_of_number bus) result.now (root_of self.now.machine) }
+    {
+        &self.bus_paths[bus.0 as usize]
+    }
+
+    /// How many transactions of a kind a bus has granted.
+    pub fn granted(&self, bus: BusNo, kind: TxKind) -> u32
+        requires { is_part (bus_of_number bus) self.now.machine ≡ true }
+        ensures { result ≡ grants_of bus kind self.now.machine }
+    {
+        granted_of(&self.traffic[bus.0 as usize], kind)
+    }
+}
+
+/// The count of this kind.
+fn granted_of(traffic: &Traffic, kind: TxKind) -> u32
+    ensures { result ≡ granted_of kind traffic.now }
+{
+    match kind {
+        TxKind::ReadTx => traffic.reads,
+        TxKind::DataTx => traffic.copies,
+        TxKind::EraseTx => traffic.erases,
+        TxKind::ExclusiveTx => traffic.exclusives,
+        TxKind::InjectTx => traffic.injects,
+        TxKind::OutTx => traffic.outs,
+    }
+}

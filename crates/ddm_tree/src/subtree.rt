@@ -1,0 +1,107 @@
+ghost use Rattle.std.specs.Prelude.{◌≡◌, ◌*◌, ◌<◌, true, IfOk, option_map, reverse, vec_items};
+ghost use Rattle.ddm_types.specs.ItemTable.{item_count};
+ghost use Rattle.tree_model.specs.State.Child.{child_label};
+ghost use Rattle.tree_model.specs.State.Shape.{skeleton, widths_fit};
+ghost use Rattle.tree_model.specs.Turns.Machine.{named_by, bus_turn_of};
+ghost use Rattle.tree_model.specs.Turns.Tree.{leaf_of_number, bus_of_number};
+ghost use Rattle.item_states.specs.Parts.{node_items};
+ghost use Rattle.ddm_tree.specs.Path.{path_to, node_at, present_at, put_at, node_answer, node_turned};
+ghost use Rattle.ddm_tree.specs.Named.{name_of};
+ghost use Rattle.ddm_tree.specs.Ready.{IsReady, Leads, HasChild};
+ghost use Rattle.ddm_tree.specs.Reads.{node_hart, node_entry, node_children, node_child, node_child_hold, child_items, node_down, node_parked};
+
+use crate::named::Named;
+use ddm_types::{
+    BusNo, ChildNo, Code, Hold, ItemId, Items, LeafNo, LeafState, NoMemory, Stamp, Turn,
+    TurnAnswer, Words,
+};
+use item_states::{Agent, DownEntry};
+use rv_hart::Hart;
+use std::alloc::Global;
+use tree_model::{LeafSpot, TreeChild};
+
+/// A part of the tree below a bus. A path has the child numbers from this part down to a leaf or a bus.
+pub trait Subtree<const WORDS: usize>: Agent<WORDS> {
+    /// The leaf's number, or the number of the directory's own bus.
+    fn label(&self) -> TreeChild
+        ensures { result ≡ child_label (Self.value self.now) };
+
+    /// One turn of a leaf or a bus: `rest` is the path from here to it, `path` that from the top, and `present` the stamp of the bus
+    /// above this part.
+    fn turn(
+        &mut self,
+        code: &Code,
+        items: &Items,
+        path: &[ChildNo],
+        rest: &[ChildNo],
+        present: Stamp,
+        turn: Turn,
+    ) -> TurnAnswer
+        requires size { items.now.size ≡ 4 * WORDS }
+        requires ready { IsReady (item_count items.now) WORDS (Self.value self.old) }
+        requires leads { Leads (named_by turn) rest.now (Self.value self.old) }
+        requires child { HasChild (bus_turn_of turn) (node_at rest.now (Self.value self.old)) }
+        ensures answer { result ≡ node_answer code.now items.now turn path.now (present_at rest.now present (Self.value self.old)) (node_at rest.now (Self.value self.old)) }
+        ensures after { Self.value self.new ≡ put_at rest.now (node_turned code.now items.now turn path.now (present_at rest.now present (Self.value self.old)) (node_at rest.now (Self.value self.old))) (Self.value self.old) };
+
+    /// The path from here to a leaf or a bus, from its end on; None where it isn't in this part.
+    fn path_up(&self, alloc: Global, name: &Named) -> Result<Option<Vec<ChildNo>>, NoMemory>
+        requires { widths_fit (skeleton (Self.value self.now)) ≡ true }
+        ensures { IfOk result (λ found. option_map vec_items found ≡ option_map reverse (path_to (name_of name.now) (skeleton (Self.value self.now)))) };
+
+    /// The hart of this leaf.
+    fn hart_below(&self, leaf: LeafNo, path: &[ChildNo]) -> &Hart
+        requires { Leads (leaf_of_number leaf) path.now (Self.value self.now) }
+        ensures { result.now ≡ node_hart (node_at path.now (Self.value self.now)) };
+
+    /// The present stamp of this leaf's bus.
+    fn stamp_below(&self, leaf: LeafNo, path: &[ChildNo], present: Stamp) -> Stamp
+        requires { Leads (leaf_of_number leaf) path.now (Self.value self.now) }
+        ensures { result ≡ present_at path.now present (Self.value self.now) };
+
+    /// This leaf's entry of an item, and where it stands.
+    fn entry_below(
+        &self,
+        leaf: LeafNo,
+        path: &[ChildNo],
+        item: ItemId,
+    ) -> Option<(LeafState, Words<WORDS>, LeafSpot)>
+        requires leads { Leads (leaf_of_number leaf) path.now (Self.value self.now) }
+        requires in_range { item < node_items (node_at path.now (Self.value self.now)) }
+        ensures { result ≡ node_entry item (node_at path.now (Self.value self.now)) };
+
+    /// How many children this bus has.
+    fn children_below(&self, bus: BusNo, path: &[ChildNo]) -> u32
+        requires buses { widths_fit (skeleton (Self.value self.now)) ≡ true }
+        requires leads { Leads (bus_of_number bus) path.now (Self.value self.now) }
+        ensures { result ≡ node_children (node_at path.now (Self.value self.now)) };
+
+    /// A child of this bus.
+    fn child_below(&self, bus: BusNo, path: &[ChildNo], child: ChildNo) -> TreeChild
+        requires leads { Leads (bus_of_number bus) path.now (Self.value self.now) }
+        requires child { child < node_children (node_at path.now (Self.value self.now)) }
+        ensures { result ≡ node_child child (node_at path.now (Self.value self.now)) };
+
+    /// What a child of this bus holds of an item.
+    fn hold_below(&self, bus: BusNo, path: &[ChildNo], child: ChildNo, item: ItemId) -> Hold
+        requires leads { Leads (bus_of_number bus) path.now (Self.value self.now) }
+        requires child { child < node_children (node_at path.now (Self.value self.now)) }
+        requires in_range { item < child_items child (node_at path.now (Self.value self.now)) }
+        ensures { result ≡ node_child_hold child item (node_at path.now (Self.value self.now)) };
+
+    /// An entry of the down list over this bus.
+    fn down_below(&self, bus: BusNo, path: &[ChildNo], place: u32) -> Option<DownEntry<WORDS>>
+        requires { Leads (bus_of_number bus) path.now (Self.value self.now) }
+        ensures { result ≡ node_down place (node_at path.now (Self.value self.now)) };
+
+    /// The copy of an item that is parked at this bus, with its place.
+    fn parked_below(
+        &self,
+        bus: BusNo,
+        path: &[ChildNo],
+        item: ItemId,
+    ) -> Option<(u32, Words<WORDS>)>
+        requires leads { Leads (bus_of_number bus) path.now (Self.value self.now) }
+        requires in_range { item < node_items (node_at path.now (Self.value self.now)) }
+        ensures { result ≡ node_parked item (node_at path.now (Self.value self.now)) };
+}

@@ -1,0 +1,52 @@
+ghost use Rattle.std.specs.Prelude.{◌≡◌, slice_index};
+ghost use Rattle.ddm_types.specs.Keys.{key_on};
+ghost use Rattle.tree_model.specs.Turns.Machine.{bus_turn_of, victim_of};
+
+use ddm_types::{ChildNo, Key, Stamp, Turn};
+use tree_model::BusTurn;
+
+/// A turn as its bus sees it.
+pub(crate) fn on_bus(turn: Turn) -> BusTurn
+    ensures { result ≡ bus_turn_of turn }
+{
+    match turn {
+        Turn::Hart { .. } | Turn::Down { .. } => BusTurn::Down,
+        Turn::Request { child, .. } => BusTurn::Request(child),
+        Turn::Reply { child, .. } => BusTurn::Reply(child),
+        Turn::Leave { child, choice, .. } => BusTurn::Leave(child, choice),
+    }
+}
+
+/// The way that a hart's turn may clear.
+pub(crate) fn victim(turn: Turn) -> u8
+    ensures { result ≡ victim_of turn }
+{
+    match turn {
+        Turn::Hart { victim, .. } => victim,
+        Turn::Down { .. } | Turn::Request { .. } | Turn::Reply { .. } | Turn::Leave { .. } => 0,
+    }
+}
+
+/// The child number of this level on a path, 0 where the path has none.
+fn child_on(path: &[ChildNo], level: usize) -> u32
+    ensures { result ≡ slice_index path.now level }
+{
+    path.get(level).map_or(0, |child| child.0)
+}
+
+/// The key of an instruction that completes now at the leaf of this path.
+pub(crate) fn key_on(present: Stamp, path: &[ChildNo], done: u32) -> Key
+    ensures { result ≡ key_on present path.now done }
+{
+    Key {
+        s0: present.s0,
+        c0: child_on(path, 0),
+        s1: present.s1,
+        c1: child_on(path, 1),
+        s2: present.s2,
+        c2: child_on(path, 2),
+        s3: present.s3,
+        c3: child_on(path, 3),
+        i: done,
+    }
+}
