@@ -19,8 +19,8 @@ use Rattle.tree_model.proofs.Tests.{and-first, and-second}
 use Rattle.item_states.specs.Parts.{node_items}
 use Rattle.ddm_tree.specs.Machine.{IsMachine, is_part, listed_path}
 use Rattle.ddm_tree.specs.Path.{node_at, present_at}
-use Rattle.ddm_tree.specs.Ready.{Leads}
-use Rattle.ddm_tree.specs.Reads.{node_hart, node_entry, node_children, node_child, node_child_hold, child_items, node_down, node_parked, copy_pair, counted_hart_of, entry_at, parked_at}
+use Rattle.ddm_tree.specs.Ready.{IsChild, IsItemOf, Leads}
+use Rattle.ddm_tree.specs.Reads.{node_hart, node_entry, node_children, node_child, node_child_hold, node_down, node_parked, copy_pair, counted_hart_of, entry_at, parked_at}
 use Rattle.ddm_tree.proofs.Along.{along, where_end, where_end-path, where_end-present, some_if-same}
 use Rattle.ddm_tree.proofs.Descend.{leads-child, within-child}
 use Rattle.ddm_tree.proofs.Names.{bus-there, path-there}
@@ -99,10 +99,14 @@ module _ (m : MachineValue) (bus : ℕ) (path : List ℕ) (leads : Leads (bus_of
       children-node w (leaf_node v) = refl
       children-node w (dir_node d ns) = refl
 
-  pub child-bound : (child : ℕ) → is_child_of child (child_count bus m) ≡ true → child < node_children (node_at path (root_of m))
+  pub child-bound : (child : ℕ) → is_child_of child (child_count bus m) ≡ true → IsChild child (node_at path (root_of m))
   child-bound child e =
       let counted : is_child_of child (Some (node_children (node_at path (root_of m)))) ≡ true = ap (is_child_of child) children-is ∙ e in
-      ltb-true _ _ counted
+      at-node (node_at path (root_of m)) (ltb-true _ _ counted)
+    where
+      at-node : (n : Node) → child < node_children n → IsChild child n
+      at-node (leaf_node v) below = tt
+      at-node (dir_node d ns) below = below
 
   pub child-is : (child : ℕ) → Some (node_child child (node_at path (root_of m))) ≡ child_of bus child m
   child-is child = ap Some (child-node (where_end at_top path (root_of m)) (node_at path (root_of m))) ∙ read-is m (bus_of_number bus) path leads (of_dir (λ w d ns. child_label (child_at child ns)) (TreeChild.BusChild 0))
@@ -155,9 +159,11 @@ pub items-within : (items : ℕ) (n : Node) → all_within items n ≡ true → 
 items-within items (leaf_node v) e = eqb-true _ _ (and-first _ _ e)
 items-within items (dir_node d ns) e = (dir_within-facts items d (and-first _ (all_within_among items ns) e)).items
 
-pub child_items-within : (items child : ℕ) (n : Node) → all_within items n ≡ true → child < node_children n → child_items child n ≡ items
-child_items-within items child (leaf_node v) e l = absurd (omega arith)
-child_items-within items child (dir_node d ns) e l = items-within items (child_at child (children ns)) (within-child items ns child (and-second (dir_within items d) _ e) l)
+pub child_items-within : (items child x : ℕ) (n : Node) → all_within items n ≡ true → IsChild child n → x < items → IsItemOf child x n
+child_items-within items child x (leaf_node v) e l known = tt
+child_items-within items child x (dir_node d ns) e l known =
+    let each = items-within items (child_at child (children ns)) (within-child items ns child (and-second (dir_within items d) _ e) l) in
+    omega (arith, each, known)
 
 -- ---- a bus that has a child is there
 

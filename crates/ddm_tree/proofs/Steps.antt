@@ -1,5 +1,5 @@
 -- One step down a path, where the children are seen through f.
-use Rattle.std.proofs.Common.{◌≡◌, ◌<◌, ◌≤◌, ℕ, zero, suc, Bool, true, List, [], ◌∷◌, length, map, get_or, refl, sym, ap, ◌∙◌, arith}
+use Rattle.std.proofs.Common.{◌≡◌, ◌<◌, ◌≤◌, ℕ, zero, suc, Bool, true, List, [], ◌∷◌, length, map, get_or, refl, sym, ap, subst, ◌∙◌, arith}
 use Rattle.std.specs.Prelude.{nat_eq, nat_lt, nat_le, slice_set, All}
 use Rattle.std.proofs.lemmas.Bool.{eqb-true, leb-true}
 use Rattle.std.proofs.lemmas.List.{get_or-map, map-set, length-map, nil_from_length}
@@ -10,7 +10,7 @@ use Rattle.ddm_types.specs.CodeMap.{CodeWord}
 use Rattle.tree_model.specs.Turns.Bus.{bus_step}
 use Rattle.tree_model.specs.Turns.Machine.{bus_turn_of}
 use Rattle.tree_model.specs.declared.BusTurn.{BusTurn}
-use Rattle.tree_model.specs.State.Values.{DirValue, Node, dir_node, nodes, children}
+use Rattle.tree_model.specs.State.Values.{DirValue, Node, leaf_node, dir_node, nodes, children}
 use Rattle.tree_model.specs.State.Blank.{no_node}
 use Rattle.tree_model.specs.State.Directory.{stamp_of}
 use Rattle.tree_model.specs.State.Child.{child_label, child_hold}
@@ -22,11 +22,16 @@ use Rattle.tree_model.proofs.Tests.{and-first, and-second}
 use Rattle.item_states.specs.Parts.{node_items}
 use Rattle.split_bus.specs.Outcomes.{AreSized, NamesOneOf}
 use Rattle.ddm_tree.specs.Path.{node_at, present_at, put_at, node_answer, node_turned}
-use Rattle.ddm_tree.specs.Ready.{IsReady, Leads, HasChild}
-use Rattle.ddm_tree.specs.Reads.{node_children, node_child, node_child_hold, child_items}
+use Rattle.ddm_tree.specs.Ready.{IsReady, Leads, LeadsBelow, HasChild, IsChild, IsItemOf}
+use Rattle.ddm_tree.specs.Reads.{node_children, node_child, node_child_hold}
 use Rattle.tree_model.specs.State.Place.{Where}
-use Rattle.ddm_tree.proofs.Along.{leads-among}
+use Rattle.ddm_tree.proofs.Along.{leads-among, some_if-same}
 use Rattle.ddm_tree.proofs.Descend.{LeadsOn, leads-child, bones-counted, IsReadyBus, ready-bus, ready-items, buses-child}
+
+-- a leaf is at the end of every path to it
+leads-below : (name : Name) (path : List ℕ) (n : Node) → Leads name path n → LeadsBelow name path n
+leads-below name path (leaf_node v) leads = sym (some_if-same _ path leads)
+leads-below name path (dir_node d ns) leads = leads
 
 module _ {A : Type 0} (f : A → Node) (d : DirValue) (xs : List A) (name : Name) (path : List ℕ) (i : ℕ) (rest : List ℕ) (on : path ≡ i ∷ rest) (leads : Leads name path (dir_node d (nodes (map f xs)))) where
   leads-on : LeadsOn name i rest (map f xs)
@@ -81,6 +86,9 @@ module _ {A : Type 0} (f : A → Node) (d : DirValue) (xs : List A) (name : Name
     pub step-leads : Leads name rest (f x)
     step-leads = rw step-at at leads-on.leads
 
+    pub step-below : LeadsBelow name rest (f x)
+    step-below = leads-below name rest (f x) step-leads
+
     pub step-node : node_at path (dir_node d (nodes (map f xs))) ≡ node_at rest (f x)
     step-node = rw on (ap (node_at rest) step-child)
 
@@ -127,9 +135,11 @@ module _ {A : Type 0} (f : A → Node) (d : DirValue) (xs : List A) (path : List
       let count : bone_count (skeletons (nodes (map f xs))) ≡ length xs = bones-counted (nodes (map f xs)) ∙ ap length (children-nodes (map f xs)) ∙ length-map xs f in
       omega (arith, few, count)
 
-  module _ (c : ℕ) (within : c < node_children (node_at path (dir_node d (nodes (map f xs))))) where
+  module _ (c : ℕ) (within : IsChild c (node_at path (dir_node d (nodes (map f xs))))) where
     pub own-inside : c < length xs
-    own-inside = omega (arith, within, own-children)
+    own-inside =
+        let here : c < length (children (nodes (map f xs))) = rw own at within in
+        omega (arith, here, ap length (children-nodes (map f xs)), length-map xs f)
 
     module _ (x : A) (is : x ≡ get_or xs c x) where
       own-at : child_at c (children (nodes (map f xs))) ≡ f x
@@ -141,8 +151,10 @@ module _ {A : Type 0} (f : A → Node) (d : DirValue) (xs : List A) (path : List
       pub own-hold : (item : ℕ) → node_child_hold c item (node_at path (dir_node d (nodes (map f xs)))) ≡ child_hold item (f x)
       own-hold item = rw own (ap (child_hold item) own-at)
 
-      pub own-items : child_items c (node_at path (dir_node d (nodes (map f xs)))) ≡ node_items (f x)
-      own-items = rw own (ap node_items own-at)
+      pub own-items : (item : ℕ) → IsItemOf c item (node_at path (dir_node d (nodes (map f xs)))) → item < node_items (f x)
+      own-items item known =
+          let here : item < node_items (child_at c (children (nodes (map f xs)))) = rw own at known in
+          subst (λ n. item < node_items n) own-at here
 
   -- ---- its turn
 

@@ -14,7 +14,6 @@ use Rattle.tree_model.specs.State.Directory.{parked_words, parked_place}
 use Rattle.tree_model.specs.State.Child.{child_label, child_hold}
 use Rattle.tree_model.specs.Turns.Children.{child_at}
 use Rattle.tree_model.specs.Turns.Machine.{ask_leaf, ask_bus}
-use Rattle.item_states.specs.Parts.{node_items}
 
 -- a leaf's hart, with how many instructions it has completed
 abbrev pub node_hart : Node → HartState
@@ -43,11 +42,6 @@ node_child c (dir_node d ns) = child_label (child_at c (children ns))
 abbrev pub node_child_hold : ℕ → ℕ → Node → Hold
 node_child_hold c x (leaf_node v) = Hold.Invalid
 node_child_hold c x (dir_node d ns) = child_hold x (child_at c (children ns))
-
--- of how many items the child keeps something
-abbrev pub child_items : ℕ → Node → ℕ
-child_items c (leaf_node v) = 0
-child_items c (dir_node d ns) = node_items (child_at c (children ns))
 
 -- an entry of the down list, and a parked copy with its place
 abbrev pub node_down : ℕ → Node → Option DownValue

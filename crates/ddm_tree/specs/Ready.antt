@@ -1,12 +1,14 @@
 -- What a call on a machine, or on a part of it, needs to be safe.
 -- Letters: n is a node, d a directory over the nodes ns.
 -- To be believed with the contracts: it says which machines a call takes.
-use Rattle.std.specs.Prelude.{◌≡◌, ℕ, ◌<◌, ◌^◌, Bool, true, ◌&&◌, nat_eq, List, length, Some, ⊤}
+use Rattle.std.specs.Prelude.{◌≡◌, ℕ, ◌<◌, ◌^◌, Bool, true, ◌&&◌, nat_eq, List, [], length, Some, ⊤}
 use Rattle.tree_model.specs.declared.BusTurn.{BusTurn}
 use Rattle.tree_model.specs.State.Values.{Node, leaf_node, dir_node, children}
 use Rattle.tree_model.specs.State.Rooms.{all_within}
 use Rattle.tree_model.specs.State.Shape.{Skeleton, Skeletons, leaf_bone, dir_bone, no_bones, more_bones, skeleton, widths_fit}
 use Rattle.tree_model.specs.Turns.Tree.{Name}
+use Rattle.tree_model.specs.Turns.Children.{child_at}
+use Rattle.item_states.specs.Parts.{node_items}
 use Rattle.split_bus.specs.Outcomes.{NamesOneOf}
 use Rattle.ddm_tree.specs.Path.{path_to}
 use Rattle.ddm_tree.specs.Counts.{counts_within}
@@ -38,3 +40,17 @@ Leads name path n = path_to name (skeleton n) ≡ Some path
 abbrev pub HasChild : BusTurn → Node → Type 0
 HasChild t (leaf_node v) = ⊤
 HasChild t (dir_node d ns) = NamesOneOf (length (children ns)) t
+
+-- the same where a directory is asked about a bus below it; of a leaf, which has none below, nothing is asked
+abbrev pub LeadsBelow : Name → List ℕ → Node → Type 0
+LeadsBelow name path (leaf_node v) = path ≡ []
+LeadsBelow name path (dir_node d ns) = Leads name path (dir_node d ns)
+
+-- a bus has the child of this number, and that child keeps something of the item
+abbrev pub IsChild : ℕ → Node → Type 0
+IsChild c (leaf_node v) = ⊤
+IsChild c (dir_node d ns) = c < length (children ns)
+
+abbrev pub IsItemOf : ℕ → ℕ → Node → Type 0
+IsItemOf c x (leaf_node v) = ⊤
+IsItemOf c x (dir_node d ns) = x < node_items (child_at c (children ns))

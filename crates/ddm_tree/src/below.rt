@@ -10,8 +10,8 @@ ghost use Rattle.tree_model.specs.Turns.Tree.{leaf_of_number, bus_of_number};
 ghost use Rattle.item_states.specs.Parts.{node_items};
 ghost use Rattle.ddm_tree.specs.Path.{node_at, present_at, put_at, node_answer, node_turned};
 ghost use Rattle.ddm_tree.specs.Named.{name_of};
-ghost use Rattle.ddm_tree.specs.Ready.{IsReady, Leads, HasChild};
-ghost use Rattle.ddm_tree.specs.Reads.{node_hart, node_entry, node_children, node_child, node_child_hold, child_items, node_down, node_parked};
+ghost use Rattle.ddm_tree.specs.Ready.{IsReady, Leads, LeadsBelow, HasChild, IsChild, IsItemOf};
+ghost use Rattle.ddm_tree.specs.Reads.{node_hart, node_entry, node_children, node_child, node_child_hold, node_down, node_parked};
 
 use crate::named::Named;
 use crate::subtree::Subtree;
@@ -34,6 +34,7 @@ fn next<'a, 'b, const WORDS: usize, P: Parent<WORDS>, C: Subtree<WORDS>>(
     requires leads { Leads (name_of name) path.now (dir_node (P.state parent.now) (nodes (map C.value children.now))) }
     requires on { 0 < length path.now }
     ensures leads { Leads (name_of name) result.1.now (C.value result.0.now) }
+    ensures below { LeadsBelow (name_of name) result.1.now (C.value result.0.now) }
     ensures node { node_at path.now (dir_node (P.state parent.now) (nodes (map C.value children.now))) ≡ node_at result.1.now (C.value result.0.now) }
     ensures present { (s : Stamp) → present_at path.now s (dir_node (P.state parent.now) (nodes (map C.value children.now))) ≡ present_at result.1.now (stamp_of (P.state parent.now)) (C.value result.0.now) }
     ensures fits { widths_fit (skeleton (dir_node (P.state parent.now) (nodes (map C.value children.now)))) ≡ true → widths_fit (skeleton (C.value result.0.now)) ≡ true }
@@ -166,7 +167,7 @@ pub(crate) fn child_under<const WORDS: usize, P: Parent<WORDS>, C: Subtree<WORDS
     child: ChildNo,
 ) -> TreeChild
     requires leads { Leads (bus_of_number bus) path.now (dir_node (P.state parent.now) (nodes (map C.value children.now))) }
-    requires child { child < node_children (node_at path.now (dir_node (P.state parent.now) (nodes (map C.value children.now)))) }
+    requires child { IsChild child (node_at path.now (dir_node (P.state parent.now) (nodes (map C.value children.now)))) }
     ensures { result ≡ node_child child (node_at path.now (dir_node (P.state parent.now) (nodes (map C.value children.now)))) }
 {
     if path.is_empty() {
@@ -187,8 +188,8 @@ pub(crate) fn hold_under<const WORDS: usize, P: Parent<WORDS>, C: Subtree<WORDS>
     item: ItemId,
 ) -> Hold
     requires leads { Leads (bus_of_number bus) path.now (dir_node (P.state parent.now) (nodes (map C.value children.now))) }
-    requires child { child < node_children (node_at path.now (dir_node (P.state parent.now) (nodes (map C.value children.now)))) }
-    requires in_range { item < child_items child (node_at path.now (dir_node (P.state parent.now) (nodes (map C.value children.now)))) }
+    requires child { IsChild child (node_at path.now (dir_node (P.state parent.now) (nodes (map C.value children.now)))) }
+    requires in_range { IsItemOf child item (node_at path.now (dir_node (P.state parent.now) (nodes (map C.value children.now)))) }
     ensures { result ≡ node_child_hold child item (node_at path.now (dir_node (P.state parent.now) (nodes (map C.value children.now)))) }
 {
     if path.is_empty() {

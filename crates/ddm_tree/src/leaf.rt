@@ -57,8 +57,8 @@ impl<const WAYS: usize, const WORDS: usize> Subtree<WORDS> for Leaf<WAYS, WORDS>
         0
     }
 
-    fn child_below(&self, bus: BusNo, _path: &[ChildNo], _child: ChildNo) -> TreeChild {
-        TreeChild::BusChild(bus)
+    fn child_below(&self, _bus: BusNo, _path: &[ChildNo], _child: ChildNo) -> TreeChild {
+        TreeChild::BusChild(BusNo(0))
     }
 
     fn hold_below(&self, _bus: BusNo, _path: &[ChildNo], _child: ChildNo, _item: ItemId) -> Hold {

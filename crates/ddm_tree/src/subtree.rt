@@ -7,8 +7,8 @@ ghost use Rattle.tree_model.specs.Turns.Tree.{leaf_of_number, bus_of_number};
 ghost use Rattle.item_states.specs.Parts.{node_items};
 ghost use Rattle.ddm_tree.specs.Path.{path_to, node_at, present_at, put_at, node_answer, node_turned};
 ghost use Rattle.ddm_tree.specs.Named.{name_of};
-ghost use Rattle.ddm_tree.specs.Ready.{IsReady, Leads, HasChild};
-ghost use Rattle.ddm_tree.specs.Reads.{node_hart, node_entry, node_children, node_child, node_child_hold, child_items, node_down, node_parked};
+ghost use Rattle.ddm_tree.specs.Ready.{IsReady, Leads, LeadsBelow, HasChild, IsChild, IsItemOf};
+ghost use Rattle.ddm_tree.specs.Reads.{node_hart, node_entry, node_children, node_child, node_child_hold, node_down, node_parked};
 
 use crate::named::Named;
 use ddm_types::{
@@ -73,25 +73,25 @@ pub trait Subtree<const WORDS: usize>: Agent<WORDS> {
     /// How many children this bus has.
     fn children_below(&self, bus: BusNo, path: &[ChildNo]) -> u32
         requires buses { widths_fit (skeleton (Self.value self.now)) ≡ true }
-        requires leads { Leads (bus_of_number bus) path.now (Self.value self.now) }
+        requires leads { LeadsBelow (bus_of_number bus) path.now (Self.value self.now) }
         ensures { result ≡ node_children (node_at path.now (Self.value self.now)) };
 
     /// A child of this bus.
     fn child_below(&self, bus: BusNo, path: &[ChildNo], child: ChildNo) -> TreeChild
-        requires leads { Leads (bus_of_number bus) path.now (Self.value self.now) }
-        requires child { child < node_children (node_at path.now (Self.value self.now)) }
+        requires leads { LeadsBelow (bus_of_number bus) path.now (Self.value self.now) }
+        requires child { IsChild child (node_at path.now (Self.value self.now)) }
         ensures { result ≡ node_child child (node_at path.now (Self.value self.now)) };
 
     /// What a child of this bus holds of an item.
     fn hold_below(&self, bus: BusNo, path: &[ChildNo], child: ChildNo, item: ItemId) -> Hold
-        requires leads { Leads (bus_of_number bus) path.now (Self.value self.now) }
-        requires child { child < node_children (node_at path.now (Self.value self.now)) }
-        requires in_range { item < child_items child (node_at path.now (Self.value self.now)) }
+        requires leads { LeadsBelow (bus_of_number bus) path.now (Self.value self.now) }
+        requires child { IsChild child (node_at path.now (Self.value self.now)) }
+        requires in_range { IsItemOf child item (node_at path.now (Self.value self.now)) }
         ensures { result ≡ node_child_hold child item (node_at path.now (Self.value self.now)) };
 
     /// An entry of the down list over this bus.
     fn down_below(&self, bus: BusNo, path: &[ChildNo], place: u32) -> Option<DownEntry<WORDS>>
-        requires { Leads (bus_of_number bus) path.now (Self.value self.now) }
+        requires { LeadsBelow (bus_of_number bus) path.now (Self.value self.now) }
         ensures { result ≡ node_down place (node_at path.now (Self.value self.now)) };
 
     /// The copy of an item that is parked at this bus, with its place.
@@ -101,7 +101,7 @@ pub trait Subtree<const WORDS: usize>: Agent<WORDS> {
         path: &[ChildNo],
         item: ItemId,
     ) -> Option<(u32, Words<WORDS>)>
-        requires leads { Leads (bus_of_number bus) path.now (Self.value self.now) }
+        requires leads { LeadsBelow (bus_of_number bus) path.now (Self.value self.now) }
         requires in_range { item < node_items (node_at path.now (Self.value self.now)) }
         ensures { result ≡ node_parked item (node_at path.now (Self.value self.now)) };
 }

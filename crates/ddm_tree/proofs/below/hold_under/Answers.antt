@@ -14,8 +14,8 @@ bounds-children-child-inside g c =
 
 pub hold-requires : goal.hold-requires
 hold-requires g c =
-    let items = own-items g.C.Agent.value (g.P.Parent.state c.args.parent.now) c.args.children.now c.args.path.now (own-path c.args.path.now c.is_empty.result c.is_empty.ensures c.if-is_empty.true) c.args.child c.requires.child c.index-children-child.result (rw c.child.view_is at c.index-children-child.is) in
-    omega (arith, items, c.requires.in_range)
+    let items = own-items g.C.Agent.value (g.P.Parent.state c.args.parent.now) c.args.children.now c.args.path.now (own-path c.args.path.now c.is_empty.result c.is_empty.ensures c.if-is_empty.true) c.args.child c.requires.child c.index-children-child.result (rw c.child.view_is at c.index-children-child.is) c.args.item c.requires.in_range in
+    items
 
 pub returns-then-is_empty : goal.returns-then-is_empty
 returns-then-is_empty g c = c.hold.ensures ∙ sym (own-hold g.C.Agent.value (g.P.Parent.state c.args.parent.now) c.args.children.now c.args.path.now (own-path c.args.path.now c.is_empty.result c.is_empty.ensures c.if-is_empty.true) c.args.child c.requires.child c.index-children-child.result (rw c.child.view_is at c.index-children-child.is) c.args.item)

@@ -1,7 +1,7 @@
 -- The child that the path leads to first.
 use Rattle.std.proofs.Common.{arith}
 use Rattle.ddm_tree.specs.Named.{name_of}
-use Rattle.ddm_tree.proofs.Steps.{step-inside, step-fits, step-leads, step-node, step-present}
+use Rattle.ddm_tree.proofs.Steps.{step-inside, step-fits, step-leads, step-below, step-node, step-present}
 use Rattle.ddm_tree.proofs.below.next.Goals as goal
 
 pub offset_bounds-children-child-inside : goal.offset_bounds-children-child-inside
@@ -29,3 +29,7 @@ returns-clause-present g c =
 pub returns-clause-fits : goal.returns-clause-fits
 returns-clause-fits g c =
     step-fits g.C.Agent.value (g.P.Parent.state c.args.parent.now) c.args.children.now (name_of c.args.name) c.args.path.now c.in-Some.child.now c.in-Some.rest.now c.in-Some.ensures.cases.0 c.requires.leads c.index-children-child.result (rw c.child.view_is at c.index-children-child.is)
+
+pub returns-clause-below : goal.returns-clause-below
+returns-clause-below g c =
+    step-below g.C.Agent.value (g.P.Parent.state c.args.parent.now) c.args.children.now (name_of c.args.name) c.args.path.now c.in-Some.child.now c.in-Some.rest.now c.in-Some.ensures.cases.0 c.requires.leads c.index-children-child.result (rw c.child.view_is at c.index-children-child.is)

@@ -1,6 +1,7 @@
-use Rattle.std.proofs.Common.{◌≡◌, ◌<◌, map, Some, sym, ap, subst, ◌∙◌, arith}
+use Rattle.std.proofs.Common.{◌≡◌, map, Some, sym, ap, subst, ◌∙◌, arith}
 use Rattle.tree_model.specs.State.Values.{dir_node, nodes, root_of}
-use Rattle.ddm_tree.specs.Reads.{node_child, node_children}
+use Rattle.ddm_tree.specs.Reads.{node_child}
+use Rattle.ddm_tree.specs.Ready.{IsChild}
 use Rattle.ddm_tree.specs.Path.{node_at}
 use Rattle.ddm_tree.proofs.Reading.{child-bound, child-is, parent-there}
 use Rattle.ddm_tree.proofs.machine.Machine.child.Goals as goal
@@ -11,7 +12,7 @@ bus_path-path-requires g c = (omega arith, parent-there c.args.bus c.args.child 
 pub child_under-requires-clause-child : goal.child_under-requires-clause-child
 child_under-requires-clause-child g c =
     let root : dir_node c.self.inside.top (nodes (map g.C.Agent.value c.deref.result.now)) ≡ root_of c.args.self.now.machine = ap (λ cs. dir_node c.self.inside.top (nodes (map g.C.Agent.value cs))) c.deref.ensures.value ∙ ap (λ s. root_of s.machine) c.self.view_is in
-    subst (λ n. c.args.child < node_children (node_at c.bus_path-path.result.now n)) (sym root) (child-bound c.args.self.now.machine c.args.bus c.bus_path-path.result.now c.bus_path-path.ensures c.args.child c.requires)
+    subst (λ n. IsChild c.args.child (node_at c.bus_path-path.result.now n)) (sym root) (child-bound c.args.self.now.machine c.args.bus c.bus_path-path.result.now c.bus_path-path.ensures c.args.child c.requires)
 
 pub returns : goal.returns
 returns g c =
