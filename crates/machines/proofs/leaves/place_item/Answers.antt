@@ -1,0 +1,41 @@
+use Rattle.std.proofs.Common.{rules, ◌≡◌, ◌<◌, ◌≤◌, ◌+◌, ◌%◌, ℕ, length, true, false, Some, refl, sym, ap, subst, ◌∙◌, arith, All}
+use Rattle.std.proofs.lemmas.Nat.{mod_below}
+use Rattle.tree_model.specs.State.Lists.{map_from}
+use Rattle.tree_model.specs.Start.Nodes.{has_way, leaf_for, placed_at}
+use Rattle.machines.specs.Placement.{TakesItem}
+use Rattle.machines.proofs.Placing.{in_turn, search-all, search-end, search-found, search-past, placed-found, placed-nowhere}
+use Rattle.machines.proofs.leaves.place_item.Goals as goal
+
+pub loop-k-init : goal.loop-k-init
+loop-k-init g c = (refl, refl, search-all c.args.item c.args.leaves.now)
+
+pub place_at-requires : goal.place_at-requires
+place_at-requires g c =
+    let inv = c.loop-k.invariant in
+    let some : 0 < length c.args.leaves.now = omega (arith, c.loop-k-test.true) in
+    let below = mod_below (c.item.inside.0 % length c.args.leaves.now + c.loop-k.k) (length c.args.leaves.now) some in
+    let takes : All (TakesItem c.loop-k.item) c.loop-k.leaves = rw (inv.0, inv.1) c.requires.takes in
+    (omega arith, (search rules, (omega (arith, below, c.loop-k.auto.leaves), takes)))
+
+pub returns-then-place_at : goal.returns-then-place_at
+returns-then-place_at g c =
+    let inv = c.loop-k.invariant in
+    let leaf = (c.item.inside.0 % length c.args.leaves.now + c.loop-k.k) % length c.args.leaves.now in
+    let turn : leaf ≡ in_turn c.args.item c.args.leaves.now c.loop-k.k = ap (λ x. (x % length c.args.leaves.now + c.loop-k.k) % length c.args.leaves.now) (c.item.view_is ∙ inv.1) in
+    let way : has_way c.args.leaves.now c.args.item leaf ≡ true = sym (rw (inv.0, inv.1) at c.if-place_at.ensures.way) in
+    let found : leaf_for c.args.leaves.now c.args.item ≡ Some leaf = inv.2 ∙ search-found c.args.item c.args.leaves.now c.loop-k.k leaf c.loop-k-test.true turn way in
+    let after : c.place_at.new.leaves ≡ map_from (placed_at leaf c.args.item c.args.words) 0 c.args.leaves.now = rw (inv.0, inv.1) at c.if-place_at.ensures.after in
+    after ∙ placed-found c.args.item c.args.words c.args.leaves.now leaf found
+
+pub loop-k-preserved : goal.loop-k-preserved
+loop-k-preserved g c =
+    let inv = c.loop-k.invariant in
+    let leaf = (c.item.inside.0 % length c.args.leaves.now + c.loop-k.k) % length c.args.leaves.now in
+    let turn : leaf ≡ in_turn c.args.item c.args.leaves.now c.loop-k.k = ap (λ x. (x % length c.args.leaves.now + c.loop-k.k) % length c.args.leaves.now) (c.item.view_is ∙ inv.1) in
+    let way : has_way c.args.leaves.now c.args.item leaf ≡ false = sym (rw (inv.0, inv.1) at c.if-place_at.ensures.way) in
+    (c.if-place_at.ensures.after ∙ inv.0, inv.1, inv.2 ∙ search-past c.args.item c.args.leaves.now c.loop-k.k leaf c.loop-k-test.true turn way)
+
+pub returns : goal.returns
+returns g c =
+    let inv = c.loop-k.invariant in
+    inv.0 ∙ placed-nowhere c.args.item c.args.words c.args.leaves.now (inv.2 ∙ search-end c.args.item c.args.leaves.now c.loop-k.k (omega (arith, c.loop-k-test.false)))

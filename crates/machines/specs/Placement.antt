@@ -1,0 +1,22 @@
+-- When items can be placed in leaves.
+-- Letters: v is a leaf, ls are leaves, x is an item.
+-- To be believed with the contracts: it says which leaves a call takes.
+use Rattle.std.specs.Prelude.{◌≡◌, ℕ, ◌<◌, ◌≤◌, ◌^◌, List, length, None, All}
+use Rattle.tree_model.specs.State.Values.{LeafValue}
+use Rattle.tree_model.specs.State.Leaf.{leaf_entry}
+
+-- the leaf knows the item, and has no entry of it
+pub record TakesItem (x : ℕ) (v : LeafValue) : Type 0 where
+  pub known : x < length v.ways
+  pub absent : leaf_entry x v ≡ None
+
+-- the leaf knows so many items, and has no entry
+pub record IsBlank (items : ℕ) (v : LeafValue) : Type 0 where
+  pub known : items ≤ length v.ways
+  pub absent : (x : ℕ) → leaf_entry x v ≡ None
+
+-- the words of so many items can be placed in these leaves
+pub record CanPlace (words : List (List ℕ)) (ls : List LeafValue) : Type 0 where
+  pub few_items : length words < 2 ^ 32
+  pub few_leaves : length ls < 2 ^ 31
+  pub blank : All (IsBlank (length words)) ls
