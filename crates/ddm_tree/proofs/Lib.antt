@@ -10,3 +10,4 @@ pub mod Recorded
 pub mod NewMachine
 pub mod Reading
 pub mod TurnMade
+pub mod Gathered

@@ -5,3 +5,4 @@ pub mod Reads
 pub mod Named
 pub mod Machine
 pub mod Codes
+pub mod Holders

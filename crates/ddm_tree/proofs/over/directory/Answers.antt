@@ -1,0 +1,47 @@
+use Rattle.std.proofs.Common.{Bool, ◌≡◌, ◌<◌, ◌≤◌, ◌+◌, ◌∙◌, length, map, All, refl, sym, ap, subst, arith}
+use Rattle.std.specs.Prelude.{slice_index_or, if◌then◌else◌, false}
+use Rattle.std.specs.List.{list_any}
+use Rattle.std.proofs.lemmas.List.{length-map}
+use Rattle.ddm_types.specs.declared.sizes.Hold.TheVariants.{Exclusive}
+use Rattle.tree_model.specs.State.Child.{child_hold}
+use Rattle.tree_model.specs.State.Directory.{with_hold}
+use Rattle.tree_model.specs.State.States.{is_exclusive}
+use Rattle.tree_model.specs.State.Values.{dir_node, nodes}
+use Rattle.tree_model.specs.Start.Nodes.{dir_sizes, held_below, new_dir}
+use Rattle.item_states.specs.Parts.{node_items}
+use Rattle.ddm_tree.proofs.Gathered.{below-any, below-length, dir-more, holder-items, mixed, mixed-end, mixed-length, mixed-start}
+use Rattle.ddm_tree.proofs.over.directory.Goals as goal
+
+pub loop-item-init : goal.loop-item-init
+loop-item-init g c =
+    let ks = map g.C.Agent.value c.args.children.items in
+    let some : 0 < length ks = omega (arith, c.requires.some, length-map c.args.children.items g.C.Agent.value) in
+    let bits = below-length c.args.items ks c.requires.holders some in
+    c.in_ok-state.ensures ∙ ap (new_dir (dir_sizes c.args.config.now g.row.WORDS) c.args.level c.args.bus) (mixed-start c.args.items (held_below ks) bits)
+
+pub hold_if-requires : goal.hold_if-requires
+hold_if-requires g c =
+    let ks = map g.C.Agent.value c.args.children.items in
+    let some : 0 < length ks = omega (arith, c.requires.some, length-map c.args.children.items g.C.Agent.value) in
+    let bits = below-length c.args.items ks c.requires.holders some in
+    let same : length c.loop-item.state.items ≡ length (mixed c.loop-item.item (held_below ks)) = ap (λ d. length d.items) c.loop-item.invariant in
+    let whole = mixed-length c.loop-item.item (held_below ks) in
+    (omega arith, omega (arith, same, whole, bits, c.loop-item-test.true))
+
+pub loop-item-preserved : goal.loop-item-preserved
+loop-item-preserved g c =
+    let ks = map g.C.Agent.value c.args.children.items in
+    let some : 0 < length ks = omega (arith, c.requires.some, length-map c.args.children.items g.C.Agent.value) in
+    let bits = below-length c.args.items ks c.requires.holders some in
+    let told : c.is_held-held.result ≡ list_any (λ n. is_exclusive (child_hold c.loop-item.item n)) ks = c.is_held-held.ensures ∙ ap (λ cs. list_any (λ n. is_exclusive (child_hold c.loop-item.item n)) (map g.C.Agent.value cs)) c.deref.ensures.value in
+    let held : c.is_held-held.result ≡ slice_index_or (held_below ks) c.loop-item.item false = told ∙ below-any c.args.items c.loop-item.item ks c.loop-item-test.true c.requires.holders in
+    let within : c.loop-item.item < length (held_below ks) = omega (arith, bits, c.loop-item-test.true) in
+    c.hold_if.ensures ∙ ap (λ d. if c.is_held-held.result then with_hold c.loop-item.item Exclusive d else d) c.loop-item.invariant ∙ dir-more (dir_sizes c.args.config.now g.row.WORDS) c.args.level c.args.bus c.loop-item.item (held_below ks) c.is_held-held.result within held
+
+pub returns : goal.returns
+returns g c =
+    let ks = map g.C.Agent.value c.args.children.items in
+    let some : 0 < length ks = omega (arith, c.requires.some, length-map c.args.children.items g.C.Agent.value) in
+    let bits = below-length c.args.items ks c.requires.holders some in
+    let all : length (held_below ks) ≤ c.loop-item.item = omega (arith, bits, c.loop-item-test.false) in
+    c.new-2.ensures ∙ ap (λ d. dir_node d (nodes ks)) (c.loop-item.invariant ∙ ap (new_dir (dir_sizes c.args.config.now g.row.WORDS) c.args.level c.args.bus) (mixed-end c.loop-item.item (held_below ks) all))
