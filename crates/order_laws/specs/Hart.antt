@@ -1,0 +1,22 @@
+-- What a hart's turn keeps of the rules of order, whatever it answers.
+-- Proofs alone need it.
+use Rattle.std.specs.Prelude.{ℕ}
+use Rattle.ddm_types.specs.declared.turns.Turn.{Turn}
+use Rattle.flat_model.specs.Flat.{FlatMachine}
+use Rattle.tree_model.specs.State.Values.{MachineValue}
+use Rattle.tree_model.specs.State.Shape.{IsShaped}
+use Rattle.tree_model.specs.Turns.Machine.{turn_of}
+use Rattle.tree_rules.specs.Bus.Rules.{IsMachineOk}
+use Rattle.tree_rules.specs.Order.Rules.{IsTimed, IsCore}
+
+-- the machine after the turn of a leaf's hart, with this number for what it replaces
+abbrev pub after_hart : ℕ → ℕ → MachineValue → MachineValue
+after_hart hart victim m = (turn_of (Turn.Hart hart victim) m).machine
+
+-- it keeps the rules of time
+abbrev pub HartTurnKeepsTime : Type 0
+HartTurnKeepsTime = (hart victim : ℕ) (m : MachineValue) → IsShaped m → IsMachineOk m → IsTimed m → IsTimed (after_hart hart victim m)
+
+-- and the core rules, with the same start
+abbrev pub HartTurnKeepsCore : Type 0
+HartTurnKeepsCore = (s : FlatMachine) (hart victim : ℕ) (m : MachineValue) → IsShaped m → IsMachineOk m → IsTimed m → IsCore s m → IsCore s (after_hart hart victim m)

@@ -1,0 +1,4 @@
+//! What turns keep of the rules of order. Theorems alone: there is nothing to run.
+#![tactic(auto)]
+
+pub mod laws;

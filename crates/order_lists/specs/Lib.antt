@@ -1,0 +1,2 @@
+pub mod InKeyOrder
+pub mod Copies
