@@ -63,13 +63,13 @@ module _ (n : ℕ) (sizes : LeafSizes) where
       elim (free_way v.sizes x v.ways) as (λ o. IsNewLeaf n sizes (with_fate x (enters_free LeafState.Exclusive words o) v)) [
         | None ↦ record { sizes_are = h.sizes_are; count = h.count; exclusive = h.exclusive; buffer = h.buffer; replies = h.replies; done = h.done }
         | Some way ↦ record {
-            sizes_are = h.sizes_are;
-            count = length-set v.ways x (Some (record { way = way; state = LeafState.Exclusive; words = words })) ∙ h.count;
-            exclusive = set-way v.ways x (record { way = way; state = LeafState.Exclusive; words = words }) refl h.exclusive;
-            buffer = h.buffer;
-            replies = h.replies;
-            done = h.done;
-          }
+          sizes_are = h.sizes_are;
+          count = length-set v.ways x (Some (record { way = way; state = LeafState.Exclusive; words = words })) ∙ h.count;
+          exclusive = set-way v.ways x (record { way = way; state = LeafState.Exclusive; words = words }) refl h.exclusive;
+          buffer = h.buffer;
+          replies = h.replies;
+          done = h.done;
+        }
       ]
 
   at-new : (leaf x : ℕ) (words : List ℕ) (i : ℕ) (v : LeafValue) → IsNewLeaf n sizes v → IsNewLeaf n sizes (placed_at leaf x words i v)
