@@ -3,3 +3,5 @@ pub mod ByteAt
 pub mod Sizes
 pub mod Spans
 pub mod Built
+pub mod Placing
+pub mod Open

@@ -2,6 +2,7 @@
 #![tactic(auto)]
 
 mod contents;
+mod leaves;
 mod machine;
 mod making;
 mod memory;

@@ -3,8 +3,8 @@ use Rattle.std.specs.Prelude.{is_ok, is_some, if◌then◌else◌, slice_index_o
 use Rattle.tree_model.specs.State.Leaf.{free_way}
 use Rattle.tree_model.specs.State.Lists.{map_from}
 use Rattle.tree_model.specs.Start.Nodes.{has_way, placed, placed_at}
-use Rattle.machines.proofs.Placing.{placed-after, way-at, way-told}
-use Rattle.machines.proofs.leaves.place_at.Goals as goal
+use Rattle.run_engine.proofs.Placing.{placed-after, way-at, way-told}
+use Rattle.run_engine.proofs.leaves.place_at.Goals as goal
 
 pub returns-clause-after : goal.returns-clause-after
 returns-clause-after g c =

@@ -1,8 +1,8 @@
 use Rattle.std.proofs.Common.{◌≡◌, ◌<◌, ◌≤◌, ◌+◌, ℕ, length, drop, rules, refl, sym, ap, subst, ◌∙◌, arith, All}
 use Rattle.std.proofs.lemmas.List.{drop_all}
 use Rattle.tree_model.specs.Start.Nodes.{leaf_for, placed_in, placed_items}
-use Rattle.machines.proofs.Open.{IsOpen, blank-open, open-more, open-takes, placed-end, placed-next}
-use Rattle.machines.proofs.leaves.place_items.Goals as goal
+use Rattle.run_engine.proofs.Open.{IsOpen, blank-open, open-more, open-takes, placed-end, placed-next}
+use Rattle.run_engine.proofs.leaves.place_items.Goals as goal
 
 pub loop-item-init : goal.loop-item-init
 loop-item-init g c = (blank-open (length c.args.words.now) c.args.leaves.now c.requires.blank, refl)

@@ -1,8 +1,8 @@
 use Rattle.std.proofs.Common.{◌≡◌, ◌≤◌, ◌++◌, ◌∷◌, [], map, sym, ap, ◌∙◌, arith}
 use Rattle.std.specs.List.{range_with_len}
 use Rattle.tree_model.specs.Start.Nodes.{leaf_sizes, new_leaf}
-use Rattle.machines.proofs.Placing.{made-more}
-use Rattle.machines.proofs.leaves.new_leaves.Goals as goal
+use Rattle.run_engine.proofs.Placing.{made-more}
+use Rattle.run_engine.proofs.leaves.new_leaves.Goals as goal
 
 pub loop-leaf-init : goal.loop-leaf-init
 loop-leaf-init g c = c.new-leaves.ensures.items

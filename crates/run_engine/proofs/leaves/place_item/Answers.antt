@@ -2,9 +2,9 @@ use Rattle.std.proofs.Common.{rules, ◌≡◌, ◌<◌, ◌≤◌, ◌+◌, ◌
 use Rattle.std.proofs.lemmas.Nat.{mod_below}
 use Rattle.tree_model.specs.State.Lists.{map_from}
 use Rattle.tree_model.specs.Start.Nodes.{has_way, leaf_for, placed_at}
-use Rattle.machines.specs.Placement.{TakesItem}
-use Rattle.machines.proofs.Placing.{in_turn, search-all, search-end, search-found, search-past, placed-found, placed-nowhere}
-use Rattle.machines.proofs.leaves.place_item.Goals as goal
+use Rattle.run_engine.specs.Placement.{TakesItem}
+use Rattle.run_engine.proofs.Placing.{in_turn, search-all, search-end, search-found, search-past, placed-found, placed-nowhere}
+use Rattle.run_engine.proofs.leaves.place_item.Goals as goal
 
 pub loop-k-init : goal.loop-k-init
 loop-k-init g c = (refl, refl, search-all c.args.item c.args.leaves.now)

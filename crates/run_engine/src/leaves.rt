@@ -2,7 +2,7 @@ ghost use Rattle.std.specs.Prelude.{◌≡◌, ◌+◌, ◌*◌, ◌<◌, ◌≤
 ghost use Rattle.std.specs.List.{range_with_len};
 ghost use Rattle.tree_model.specs.Start.Nodes.{has_way, leaf_for, leaf_sizes, new_leaf, placed_at, placed_in, placed_items};
 ghost use Rattle.tree_model.specs.State.Lists.{map_from};
-ghost use Rattle.machines.specs.Placement.{CanPlace, TakesItem};
+ghost use Rattle.run_engine.specs.Placement.{CanPlace, TakesItem};
 
 use ddm_types::{ItemId, LeafNo, NoMemory, Start, TreeSizes, Words};
 use leaf_protocol::Leaf;

@@ -10,7 +10,7 @@ use Rattle.tree_model.specs.State.Values.{LeafValue, WayValue}
 use Rattle.tree_model.specs.State.Leaf.{leaf_entry, entry_at, free_way, way_at, way_entry, buffer_entry, buffered, enters, enters_free, with_fate}
 use Rattle.tree_model.specs.Start.Nodes.{leaf_for, placed, placed_at, placed_in, placed_items}
 use Rattle.bus_laws.proofs.HartChanges.{way-set_other}
-use Rattle.machines.specs.Placement.{IsBlank, TakesItem}
+use Rattle.run_engine.specs.Placement.{IsBlank, TakesItem}
 
 -- the leaf knows so many items, and has no entry of one from a number on
 pub record IsOpen (items k : ℕ) (v : LeafValue) : Type 0 where

@@ -1,0 +1,7 @@
+pub mod Made
+pub mod NewLeaves
+pub mod HeldBelow
+pub mod Levels
+pub mod NewNodes
+pub mod StartNew
+pub mod Names

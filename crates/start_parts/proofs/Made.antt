@@ -1,0 +1,27 @@
+-- The start's machine is a new machine of its parts: the traffic of each bus is none.
+use Rattle.std.proofs.Common.{◌≡◌, ℕ, List, [], ◌∷◌, map, length, drop, replicate, refl, ap}
+use Rattle.ddm_types.specs.ItemTable.{item_count}
+use Rattle.tree_model.specs.declared.Traffic.{Traffic}
+use Rattle.tree_model.specs.State.Values.{DirValue, Node, leaf_node}
+use Rattle.tree_model.specs.Turns.Machine.{no_traffic}
+use Rattle.tree_model.specs.Start.Sources.{TreeValue, ImageValue, bus_widths, width_of}
+use Rattle.tree_model.specs.Start.Memory.{start_code, start_items}
+use Rattle.tree_model.specs.Start.Nodes.{dir_sizes, top_sizes, new_top, under_levels}
+use Rattle.tree_model.specs.Start.Machine.{start_leaves, start_machine}
+use Rattle.ddm_tree.specs.Machine.{machine_of, new_machine}
+use Rattle.start_parts.specs.Counts.{counts_of}
+
+-- the top and the nodes under bus 0 before the first turn
+abbrev pub start_top : TreeValue → ImageValue → DirValue
+start_top t i = new_top (top_sizes t.sizes.down (width_of t)) (item_count (start_items t i))
+
+abbrev pub start_kids : TreeValue → ImageValue → List Node
+start_kids t i = under_levels (dir_sizes t.sizes (width_of t)) 1 1 (drop 1 t.levels) (map leaf_node (start_leaves t i))
+
+no_traffic-each : (ws : List ℕ) → map (λ (w : ℕ). no_traffic) ws ≡ replicate (length ws) no_traffic
+no_traffic-each [] = refl
+no_traffic-each (w ∷ ws) = ap (λ ts. no_traffic ∷ ts) (no_traffic-each ws)
+
+pub start-made : (t : TreeValue) (i : ImageValue) → start_machine t i ≡ new_machine (start_code i) (start_items t i) (start_top t i) (start_kids t i) (counts_of t)
+unfolding start_machine
+start-made t i = ap (machine_of (start_code i) (start_items t i) (start_top t i) (start_kids t i) []) (no_traffic-each (bus_widths t))
