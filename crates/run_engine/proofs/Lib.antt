@@ -5,3 +5,4 @@ pub mod Spans
 pub mod Built
 pub mod Placing
 pub mod Open
+pub mod Overlaps

@@ -2,9 +2,10 @@ ghost use Rattle.std.specs.Prelude.{◌≡◌, ◌⊎◌, ◌≤◌, ◌*◌, �
 ghost use Rattle.ddm_types.specs.ItemTable.{item_count, span_end};
 ghost use Rattle.tree_model.specs.Start.Memory.{item_words, start_items};
 ghost use Rattle.tree_model.specs.Start.Sources.{segment_span, stack_spans, width_of};
-ghost use Rattle.tree_model.specs.Start.Machine.{start_refusal};
+ghost use Rattle.tree_model.specs.Start.Machine.{overlap_from, start_refusal};
 ghost use Rattle.elf_load.specs.ImageRule.{EndsInside};
-ghost use Rattle.run_engine.specs.Build.{build_refusal};
+ghost use Rattle.std.specs.Option.{option_map};
+ghost use Rattle.run_engine.specs.Build.{build_refusal, refusal_of};
 ghost use Rattle.run_engine.specs.declared.refusal.BuildRefusal.TheVariants as refusal;
 
 use crate::memory::item_words;
@@ -32,20 +33,30 @@ fn spans(alloc: Global, tree: &TreeConfig, segments: &[Segment]) -> Result<Vec<S
     Ok(spans)
 }
 
+// Whether a stack meets a segment.
+fn judge_stacks(tree: &TreeConfig, segments: &[Segment]) -> Result<(), BuildRefusal>
+    ensures none { OnOk result (overlap_from segments.now 0 (stack_spans tree.now) ≡ None) }
+    ensures refused { IfErr result (λ r. option_map refusal_of (overlap_from segments.now 0 (stack_spans tree.now)) ≡ Some r) }
+{
+    for hart in 0..harts(tree) {
+        if let Some(header) = header_met(&stack_span(tree, hart), segments) {
+            return Err(BuildRefusal::StackOverlap { hart, header });
+        }
+    }
+    Ok(())
+}
+
 // Whether the machine has a start, with this many items.
 #[tactic(auto, unfolding(tree_model::specs::Start::Machine::start_refusal))]
 fn judge(tree: &TreeConfig, image: &Image, count: u64) -> Result<(), BuildRefusal>
-    requires leaf { tree.now.levels ≡ (1 ∷ []) ∷ [] }
-    requires counted { count ≡ item_count (start_items tree.now image.now) }
+    requires { count ≡ item_count (start_items tree.now image.now) }
     ensures none { OnOk result (start_refusal tree.now image.now ≡ None) }
     ensures refused { IfErr result (λ r. build_refusal tree.now image.now ≡ Some r) }
 {
     if count > u64::from(MOST_ITEMS) {
         return Err(BuildRefusal::TooManyItems(count));
     }
-    if let Some(header) = header_met(&stack_span(tree, 0), &image.segments) {
-        return Err(BuildRefusal::StackOverlap { hart: 0, header });
-    }
+    judge_stacks(tree, &image.segments)?;
     let places = place_count(tree);
     if count > u64::from(places) {
         return Err(BuildRefusal::NoPlace(ItemId(places)));
@@ -56,7 +67,6 @@ fn judge(tree: &TreeConfig, image: &Image, count: u64) -> Result<(), BuildRefusa
 /// The items of a machine that has a start.
 #[tactic(auto, unfolding(tree_model::specs::Start::Memory::start_items))]
 pub fn items(alloc: Global, tree: &TreeConfig, image: &Image) -> Result<Items, BuildRefusal>
-    requires leaf { tree.now.levels ≡ (1 ∷ []) ∷ [] }
     ensures items { IfOk result (λ items. items ≡ start_items tree.now image.now) }
     ensures none { IfOk result (λ items. start_refusal tree.now image.now ≡ None) }
     ensures refused { IfErr result (λ r. (r ≡ refusal.NoMemory) ⊎ (build_refusal tree.now image.now ≡ Some r)) }
