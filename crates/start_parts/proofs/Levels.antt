@@ -1,5 +1,5 @@
 -- The levels of buses over the leaves: what each directory has where its children have it, and how many leaves and levels.
-use Rattle.std.proofs.Common.{◌≡◌, ℕ, zero, suc, ◌+◌, ◌≤◌, true, List, [], ◌∷◌, ◌++◌, map, length, take, drop, refl, sym, ap, subst, ◌∙◌, add-one, arith}
+use Rattle.std.proofs.Common.{◌≡◌, ℕ, zero, suc, ◌+◌, ◌≤◌, true, List, [], ◌∷◌, ◌++◌, length, take, drop, refl, sym, ap, subst, ◌∙◌, add-one, arith}
 use Rattle.std.specs.Prelude.{sum}
 use Rattle.std.specs.List.{AllByRecursion, list_all, flat_map}
 use Rattle.std.proofs.lemmas.Bool.{and_parts}
@@ -7,7 +7,7 @@ use Rattle.std.proofs.lemmas.List.Concat.{flat_map-cons}
 use Rattle.std.proofs.lemmas.List.Folds.{list_all-append}
 use Rattle.tree_model.specs.State.Values.{DirSizes, Node, nodes}
 use Rattle.tree_model.specs.State.Shape.{skeleton, skeletons, first_levels, leaf_numbers_of, leaf_numbers_among}
-use Rattle.tree_model.specs.Start.Sources.{TreeValue, last_level, leaf_count, bus_widths}
+use Rattle.tree_model.specs.Start.Sources.{TreeValue, last_level, leaf_count}
 use Rattle.tree_model.specs.Start.Nodes.{cut_in, dir_over, dirs_over, under_levels}
 use Rattle.bus_laws.specs.IsTree.{IsTree, is_width, AreUnder}
 use Rattle.bus_laws.proofs.StartLevels.{sum-more, width-parts, leaf_total, AreLevelsWide, sum-some}
