@@ -107,14 +107,14 @@ module _ (sizes : DirSizes) where
 
 -- ---- the levels of a tree
 
-wide-levels : (ls : List (List ℕ)) → list_all is_width (flat_map (λ l. l) ls) ≡ true → AreLevelsWide ls
+pub wide-levels : (ls : List (List ℕ)) → list_all is_width (flat_map (λ l. l) ls) ≡ true → AreLevelsWide ls
 wide-levels [] h = tt
 wide-levels (l ∷ ls) h =
     let split : list_all is_width (l ++ flat_map (λ l. l) ls) ≡ true = subst (λ ws. list_all is_width ws ≡ true) (flat_map-cons (λ (l : List ℕ). l) l ls) h in
     let parts = and_parts (list_all is_width l) (list_all is_width (flat_map (λ l. l) ls)) (sym (list_all-append is_width l (flat_map (λ l. l) ls)) ∙ split) in
     (parts.0, wide-levels ls parts.1)
 
-leaves-counted : (l : List ℕ) (ls : List (List ℕ)) → sum (last_level (l ∷ ls)) ≡ leaf_total (sum l) ls
+pub leaves-counted : (l : List ℕ) (ls : List (List ℕ)) → sum (last_level (l ∷ ls)) ≡ leaf_total (sum l) ls
 leaves-counted l [] = refl
 leaves-counted l (m ∷ ls) = leaves-counted m ls
 

@@ -3,6 +3,7 @@ pub mod NewLeaves
 pub mod HeldBelow
 pub mod Levels
 pub mod LevelsHeld
+pub mod EachLevel
 pub mod NewNodes
 pub mod StartNew
 pub mod Names

@@ -1,6 +1,6 @@
 //! What the machine before its first turn is made of, as theorems: there is nothing to run.
 
-ghost use Rattle.std.specs.Prelude.{◌≡◌, ℕ, ◌≤◌, true, List, map, drop, length, sum, slice_index_or, None};
+ghost use Rattle.std.specs.Prelude.{◌≡◌, ℕ, ◌≤◌, true, List, ◌∷◌, map, drop, length, sum, slice_index_or, None};
 ghost use Rattle.std.specs.List.{list_all};
 ghost use Rattle.ddm_types.specs.declared.turns.Turn.{Turn};
 ghost use Rattle.ddm_types.specs.ItemTable.{item_count};
@@ -34,6 +34,16 @@ pub fn placed_items_are_held()
         → AreHeld items ns → AreHeld items (dirs_over sizes level bus (cut_in l ns)) }
     ensures all { (t : TreeValue) (i : ImageValue) → IsTree t → AreHeld (item_count (start_items t i))
         (under_levels (dir_sizes t.sizes (width_of t)) 1 1 (drop 1 t.levels) (map leaf_node (start_leaves t i))) }
+{}
+
+/// For each level of a tree and all below it: the nodes under it are as many as its buses have children, they hold what is placed
+/// in them, and each bus has 1 to 16.
+pub fn levels_fit_the_tree()
+    ensures count { (t : TreeValue) (i : ImageValue) → IsTree t → (k : ℕ) (l : List ℕ) (ls : List (List ℕ)) → drop k t.levels ≡ l ∷ ls
+        → (sizes : DirSizes) (level bus : ℕ) → length (under_levels sizes level bus ls (map leaf_node (start_leaves t i))) ≡ sum l }
+    ensures held { (t : TreeValue) (i : ImageValue) → IsTree t → (k : ℕ) (l : List ℕ) (ls : List (List ℕ)) → drop k t.levels ≡ l ∷ ls
+        → (sizes : DirSizes) (level bus : ℕ) → AreHeld (item_count (start_items t i)) (under_levels sizes level bus ls (map leaf_node (start_leaves t i))) }
+    ensures wide { (t : TreeValue) → IsTree t → (k : ℕ) (l : List ℕ) (ls : List (List ℕ)) → drop k t.levels ≡ l ∷ ls → list_all is_width l ≡ true }
 {}
 
 /// So a directory over them has each item, and Exclusive where one of its children has it so.
