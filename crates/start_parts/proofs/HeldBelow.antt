@@ -1,11 +1,11 @@
 -- A directory holds what is placed below it, where its children hold what is placed in them.
-use Rattle.std.proofs.Common.{◌≡◌, ℕ, zero, suc, ◌+◌, ◌≤◌, Bool, true, false, List, [], ◌∷◌, map, length, refl, sym, ap, ◌∙◌, arith}
+use Rattle.std.proofs.Common.{◌≡◌, ℕ, zero, suc, ◌≤◌, Bool, true, false, List, [], ◌∷◌, map, length, refl, sym, ap, ◌∙◌, arith}
 use Rattle.std.specs.Prelude.{◌||◌, slice_index_or}
 use Rattle.std.proofs.lemmas.List.{length-map}
 use Rattle.tree_model.specs.State.States.{is_exclusive}
 use Rattle.tree_model.specs.State.Values.{DirItem, absent_item, DirSizes, Node}
 use Rattle.tree_model.specs.Start.Nodes.{item_is_exclusive, held_by, or_each, held_below, held_if, dir_over}
-use Rattle.start_parts.specs.Held.{has_exclusive, some_exclusive, IsHeld, AreHeld}
+use Rattle.start_parts.specs.Held.{some_exclusive, IsHeld, AreHeld}
 
 or_each-at : (bs cs : List Bool) (x : ℕ) → slice_index_or (or_each bs cs) x false ≡ (slice_index_or bs x false || slice_index_or cs x false)
 or_each-at [] cs x = refl

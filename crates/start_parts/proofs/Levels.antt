@@ -1,5 +1,5 @@
 -- The levels of buses over the leaves: what each directory has where its children have it, and how many leaves and levels.
-use Rattle.std.proofs.Common.{◌≡◌, ℕ, zero, suc, ◌+◌, ◌≤◌, true, List, [], ◌∷◌, ◌++◌, map, length, take, drop, refl, sym, ap, subst, ◌∙◌, add-one, arith}
+use Rattle.std.proofs.Common.{◌≡◌, ℕ, zero, suc, ◌+◌, ◌≤◌, true, List, [], ◌∷◌, ◌++◌, length, take, drop, refl, sym, ap, subst, ◌∙◌, add-one, arith}
 use Rattle.std.specs.Prelude.{sum}
 use Rattle.std.specs.List.{AllByRecursion, list_all, flat_map}
 use Rattle.std.proofs.lemmas.Bool.{and_parts}
@@ -7,7 +7,7 @@ use Rattle.std.proofs.lemmas.List.Concat.{flat_map-cons}
 use Rattle.std.proofs.lemmas.List.Folds.{list_all-append}
 use Rattle.tree_model.specs.State.Values.{DirSizes, Node, nodes}
 use Rattle.tree_model.specs.State.Shape.{skeleton, skeletons, first_levels, leaf_numbers_of, leaf_numbers_among}
-use Rattle.tree_model.specs.Start.Sources.{TreeValue, last_level, leaf_count, bus_widths}
+use Rattle.tree_model.specs.Start.Sources.{TreeValue, last_level, leaf_count}
 use Rattle.tree_model.specs.Start.Nodes.{cut_in, dir_over, dirs_over, under_levels}
 use Rattle.bus_laws.specs.IsTree.{IsTree, is_width, AreUnder}
 use Rattle.bus_laws.proofs.StartLevels.{sum-more, width-parts, leaf_total, AreLevelsWide, sum-some}
@@ -107,14 +107,14 @@ module _ (sizes : DirSizes) where
 
 -- ---- the levels of a tree
 
-wide-levels : (ls : List (List ℕ)) → list_all is_width (flat_map (λ l. l) ls) ≡ true → AreLevelsWide ls
+pub wide-levels : (ls : List (List ℕ)) → list_all is_width (flat_map (λ l. l) ls) ≡ true → AreLevelsWide ls
 wide-levels [] h = tt
 wide-levels (l ∷ ls) h =
     let split : list_all is_width (l ++ flat_map (λ l. l) ls) ≡ true = subst (λ ws. list_all is_width ws ≡ true) (flat_map-cons (λ (l : List ℕ). l) l ls) h in
     let parts = and_parts (list_all is_width l) (list_all is_width (flat_map (λ l. l) ls)) (sym (list_all-append is_width l (flat_map (λ l. l) ls)) ∙ split) in
     (parts.0, wide-levels ls parts.1)
 
-leaves-counted : (l : List ℕ) (ls : List (List ℕ)) → sum (last_level (l ∷ ls)) ≡ leaf_total (sum l) ls
+pub leaves-counted : (l : List ℕ) (ls : List (List ℕ)) → sum (last_level (l ∷ ls)) ≡ leaf_total (sum l) ls
 leaves-counted l [] = refl
 leaves-counted l (m ∷ ls) = leaves-counted m ls
 

@@ -1,7 +1,6 @@
 -- The start's machine is a new machine of its parts: the traffic of each bus is none.
 use Rattle.std.proofs.Common.{◌≡◌, ℕ, List, [], ◌∷◌, map, length, drop, replicate, refl, ap}
 use Rattle.ddm_types.specs.ItemTable.{item_count}
-use Rattle.tree_model.specs.declared.Traffic.{Traffic}
 use Rattle.tree_model.specs.State.Values.{DirValue, Node, leaf_node}
 use Rattle.tree_model.specs.Turns.Machine.{no_traffic}
 use Rattle.tree_model.specs.Start.Sources.{TreeValue, ImageValue, bus_widths, width_of}

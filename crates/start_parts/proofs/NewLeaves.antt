@@ -1,5 +1,5 @@
 -- The leaves before the first turn: each has an entry for each placed item, Exclusive, and nothing else.
-use Rattle.std.proofs.Common.{◌≡◌, ℕ, zero, suc, ◌+◌, Bool, true, false, List, [], ◌∷◌, map, length, replicate, Option, Some, None, refl, sym, ap, ◌∙◌, arith}
+use Rattle.std.proofs.Common.{◌≡◌, ℕ, zero, suc, ◌+◌, true, false, List, [], ◌∷◌, map, length, replicate, Option, Some, None, refl, sym, ap, ◌∙◌}
 use Rattle.std.specs.Prelude.{is_some, nat_eq, slice_set, slice_index_or, if◌then◌else◌}
 use Rattle.std.specs.List.{AllByRecursion, range_with_len}
 use Rattle.std.proofs.lemmas.List.{length-map, length-replicate, length-set}
@@ -9,7 +9,7 @@ use Rattle.ddm_types.specs.declared.sizes.LeafState.{LeafState}
 use Rattle.tree_model.specs.State.Lists.{map_from}
 use Rattle.tree_model.specs.State.States.{is_exclusive}
 use Rattle.tree_model.specs.State.Values.{WayValue, LeafSizes, LeafValue, leaf_node}
-use Rattle.tree_model.specs.State.Leaf.{way_at, entry_at, leaf_hold, free_way, enters, with_fate, enters_free}
+use Rattle.tree_model.specs.State.Leaf.{way_at, entry_at, leaf_hold, free_way, with_fate, enters_free}
 use Rattle.tree_model.specs.Start.Sources.{TreeValue, ImageValue, leaf_count, width_of}
 use Rattle.tree_model.specs.Start.Memory.{start_items, start_words}
 use Rattle.tree_model.specs.Start.Nodes.{leaf_sizes, placed, placed_at, placed_in, placed_items, leaf_for}

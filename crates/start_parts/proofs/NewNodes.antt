@@ -1,12 +1,12 @@
 -- Each node before the first turn: its lists are empty, its items of one width, nothing is counted, and it holds what is placed.
-use Rattle.std.proofs.Common.{◌≡◌, ℕ, zero, suc, ◌+◌, ◌≤◌, true, List, [], ◌∷◌, map, length, refl, sym, ap, subst, ◌∙◌, arith}
+use Rattle.std.proofs.Common.{◌≡◌, ℕ, ◌+◌, ◌≤◌, true, List, [], ◌∷◌, map, length, refl, ap, ◌∙◌, arith}
 use Rattle.std.specs.List.{AllByRecursion}
 use Rattle.std.specs.Cmp.Derive.{both_true}
 use Rattle.std.proofs.lemmas.Bool.{eq-eqb, le-leb}
 use Rattle.tree_model.specs.State.Values.{LeafSizes, LeafValue, DirSizes, Node, leaf_node, nodes}
 use Rattle.tree_model.specs.State.Shape.{skeleton, skeletons}
 use Rattle.tree_model.specs.State.Rooms.{all_within, all_within_among}
-use Rattle.tree_model.specs.Start.Nodes.{held_below, held_if, dir_over}
+use Rattle.tree_model.specs.Start.Nodes.{dir_over}
 use Rattle.ddm_tree.specs.Counts.{counts_within, counts_among}
 use Rattle.ddm_tree.specs.Ready.{words_are, words_are_among}
 use Rattle.start_parts.specs.Held.{IsHeld, AreHeld}

@@ -1,19 +1,19 @@
 -- The start's machine is a new machine, and what each of its nodes holds.
-use Rattle.std.proofs.Common.{◌≡◌, ℕ, zero, suc, ◌+◌, ◌≤◌, true, List, [], ◌∷◌, map, length, drop, replicate, Option, None, Ok, refl, sym, ap, subst, ◌∙◌, arith}
+use Rattle.std.proofs.Common.{◌≡◌, ℕ, suc, ◌+◌, true, List, [], ◌∷◌, map, length, drop, None, Ok, refl, sym, ap, subst, ◌∙◌, arith}
 use Rattle.std.specs.Prelude.{nat_eq, sum}
 use Rattle.std.specs.Cmp.Derive.{both_true}
 use Rattle.std.proofs.lemmas.Bool.{eqb-true, eq-eqb, le-leb, and_parts}
 use Rattle.std.proofs.lemmas.List.{length-map, length-replicate}
 use Rattle.ddm_types.specs.declared.sizes.TreeCounts.{TreeCounts}
 use Rattle.ddm_types.specs.ItemTable.{item_count}
-use Rattle.tree_model.specs.State.Values.{LeafSizes, LeafValue, DirSizes, Node, leaf_node, nodes, root_of}
+use Rattle.tree_model.specs.State.Values.{LeafValue, DirSizes, Node, leaf_node, nodes, root_of}
 use Rattle.tree_model.specs.State.Rooms.{all_within}
 use Rattle.tree_model.specs.State.Shape.{IsShaped, skeleton, skeletons, first_levels, buses_among, leaf_numbers_among, are_below, traffic_counted, tree_counts}
 use Rattle.tree_model.specs.Turns.Machine.{no_traffic}
 use Rattle.tree_model.specs.Start.Sources.{TreeValue, ImageValue, leaf_count, bus_widths, width_of}
 use Rattle.tree_model.specs.Start.Memory.{start_items}
 use Rattle.tree_model.specs.Start.Nodes.{leaf_sizes, dir_sizes, top_sizes, held_exclusive, under_levels}
-use Rattle.tree_model.specs.Start.Machine.{StartRefusal, start_leaves, start_machine, start_refusal, start_of}
+use Rattle.tree_model.specs.Start.Machine.{start_leaves, start_machine, start_refusal, start_of}
 use Rattle.bus_laws.specs.IsTree.{IsTree}
 use Rattle.bus_laws.proofs.StartLevels.{leaf_total}
 use Rattle.bus_laws.proofs.StartKept.{start-kept}
@@ -25,7 +25,7 @@ use Rattle.start_parts.specs.Held.{AreHeld}
 use Rattle.start_parts.proofs.Made.{start_kids}
 use Rattle.start_parts.proofs.NewLeaves.{leaves-new, leaves-length}
 use Rattle.start_parts.proofs.NewNodes.{AreNewNodes, rooms-among, words-among, counts-among, held-among, dir-new, leaves-new-nodes, IsNewNode}
-use Rattle.start_parts.proofs.Levels.{HasFirst, has-first, levels-length, levels-numbers, levels-first, levels-each}
+use Rattle.start_parts.proofs.Levels.{HasFirst, has-first, levels-numbers, levels-first, levels-each}
 
 -- ---- leaves as nodes
 
