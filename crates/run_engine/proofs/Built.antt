@@ -28,7 +28,7 @@ accepted_places t i accepted = by_tests _ _ _ _ (nat_lt (place_count t) (item_co
   by_tests x y false None true is e = cc
   by_tests x y false None false is e = grind (arith, nat_tests)
 
-accepted_few : (t : TreeValue) (i : ImageValue) → start_refusal t i ≡ None → item_count (start_items t i) ≤ 65536
+pub accepted_few : (t : TreeValue) (i : ImageValue) → start_refusal t i ≡ None → item_count (start_items t i) ≤ 65536
 unfolding start_refusal
 accepted_few t i accepted = by_tests _ _ (nat_lt 65536 (item_count (start_items t i))) refl accepted where
   by_tests : (x : StartRefusal) (rest : Option StartRefusal) (many : Bool) → nat_lt 65536 (item_count (start_items t i)) ≡ many → cond many (Some x) rest ≡ None → item_count (start_items t i) ≤ 65536
@@ -61,7 +61,7 @@ made_for t i width items words size small is same = record {
   small = omega (arith, small);
 }
 
-quarter : (width bytes : ℕ) → 4 * width ≡ bytes → bytes / 4 ≡ width
+pub quarter : (width bytes : ℕ) → 4 * width ≡ bytes → bytes / 4 ≡ width
 quarter width bytes is = rw (sym is) (omega arith)
 
 pub built_is : (t : TreeValue) (i : ImageValue) (width : ℕ) (code : List CodeWord) (items : ItemTable) (hart : HartState) (words : List (List ℕ)) → 4 * width ≡ t.item_bytes

@@ -6,3 +6,4 @@ pub mod Built
 pub mod Placing
 pub mod Open
 pub mod Overlaps
+pub mod TreeStart

@@ -8,8 +8,10 @@ mod making;
 mod memory;
 mod refusal;
 mod stacks;
+mod trees;
 mod tree;
 
 pub use machine::AnyMachine;
 pub use making::build;
 pub use refusal::BuildRefusal;
+pub use trees::{start_leaves, start_machine};

@@ -18,8 +18,9 @@ use std::alloc::Global;
 use tree_config::TreeConfig;
 
 // What the harts begin with.
-fn start_of_harts(tree: &TreeConfig, image: &Image) -> Start
+pub fn start_of_harts(tree: &TreeConfig, image: &Image) -> Start
     ensures start { result ≡ start_of_harts tree.now image.now }
+    ensures few { result.harts ≤ 64 }
     ensures fits { result.stack_base + result.harts * result.stack_bytes ≤ 4294967280 }
 {
     Start {

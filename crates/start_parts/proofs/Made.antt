@@ -9,13 +9,7 @@ use Rattle.tree_model.specs.Start.Nodes.{dir_sizes, top_sizes, new_top, under_le
 use Rattle.tree_model.specs.Start.Machine.{start_leaves, start_machine}
 use Rattle.ddm_tree.specs.Machine.{machine_of, new_machine}
 use Rattle.start_parts.specs.Counts.{counts_of}
-
--- the top and the nodes under bus 0 before the first turn
-abbrev pub start_top : TreeValue → ImageValue → DirValue
-start_top t i = new_top (top_sizes t.sizes.down (width_of t)) (item_count (start_items t i))
-
-abbrev pub start_kids : TreeValue → ImageValue → List Node
-start_kids t i = under_levels (dir_sizes t.sizes (width_of t)) 1 1 (drop 1 t.levels) (map leaf_node (start_leaves t i))
+pub use Rattle.start_parts.specs.Parts.{start_top, start_kids}
 
 no_traffic-each : (ws : List ℕ) → map (λ (w : ℕ). no_traffic) ws ≡ replicate (length ws) no_traffic
 no_traffic-each [] = refl
