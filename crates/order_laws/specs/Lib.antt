@@ -1,1 +1,3 @@
 pub mod Hart
+pub mod Timed
+pub mod Moves

@@ -5,8 +5,6 @@ pub mod Keys
 pub mod Paths
 pub mod Levels
 pub mod Clocks
-pub mod Known
-pub mod Queues
 pub mod Ends
 pub mod Late
 pub mod Holders
@@ -30,4 +28,5 @@ pub mod OwnEntry
 pub mod OneLeaf
 pub mod Latest
 pub mod Found
+pub mod Queues
 pub mod Contracts

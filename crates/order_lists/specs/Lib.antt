@@ -1,2 +1,5 @@
 pub mod InKeyOrder
 pub mod Copies
+pub mod Times
+pub mod Found
+pub mod Nodes

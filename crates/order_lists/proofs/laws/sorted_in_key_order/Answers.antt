@@ -1,4 +1,5 @@
 use Rattle.order_lists.proofs.Contracts.{sorted-in_order, stands-in_order}
+use Rattle.order_lists.proofs.OwnOrder.{own}
 use Rattle.order_lists.proofs.laws.sorted_in_key_order.Goals as goal
 
 pub returns-clause-sorted : goal.returns-clause-sorted
@@ -6,3 +7,6 @@ returns-clause-sorted c = sorted-in_order
 
 pub returns-clause-pushed : goal.returns-clause-pushed
 returns-clause-pushed c = stands-in_order
+
+pub returns-clause-own : goal.returns-clause-own
+returns-clause-own c = own

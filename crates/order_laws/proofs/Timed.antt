@@ -1,0 +1,9 @@
+pub mod Rise
+pub mod Told
+pub mod Rows
+pub mod Kept
+pub mod Leaves
+pub mod Bus
+pub mod Tree
+pub mod Machine
+pub mod Grants

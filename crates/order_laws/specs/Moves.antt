@@ -1,0 +1,5 @@
+pub mod Moved
+pub mod Parent
+pub mod Carries
+pub mod CopiesMoved
+pub mod ClaimsMoved
