@@ -1,16 +1,16 @@
 -- Directories over runs of children before the run: the items that they hold, and which children each gets.
-use Rattle.std.proofs.Common.{◌≡◌, ◌<◌, ◌≤◌, ℕ, zero, suc, ◌+◌, Bool, true, false, List, [], ◌∷◌, ◌++◌, length, map, get_or, set, take, drop, replicate, refl, sym, ap, subst, ◌∙◌, arith, add-one, All}
+use Rattle.std.proofs.Common.{◌≡◌, ◌<◌, ◌≤◌, ℕ, zero, suc, ◌+◌, Bool, true, false, List, [], ◌∷◌, ◌++◌, length, map, get_or, take, drop, replicate, refl, sym, ap, ◌∙◌, arith, add-one, All}
 use Rattle.std.specs.Prelude.{◌||◌, if◌then◌else◌, slice_index_or, slice_set, sum}
 use Rattle.std.specs.List.{list_any, AllByRecursion}
-use Rattle.std.proofs.lemmas.List.{append_assoc, get_or-map, length-append, length-map, take_all, drop_all}
+use Rattle.std.proofs.lemmas.List.{append_assoc, length-append, length-map, drop_all}
 use Rattle.std.proofs.lemmas.List.Elements.{All-from_recursion, recursion_from_All}
 use Rattle.std.proofs.lemmas.List.Sums.{sum_by-cons}
 use Rattle.ddm_types.specs.declared.sizes.Hold.{Hold}
 use Rattle.tree_model.specs.State.Child.{child_hold}
 use Rattle.tree_model.specs.State.Directory.{with_hold}
 use Rattle.tree_model.specs.State.States.{is_exclusive}
-use Rattle.tree_model.specs.State.Values.{DirItem, DirSizes, absent_item, Node, leaf_node, dir_node, nodes}
-use Rattle.tree_model.specs.Start.Nodes.{cut_in, dir_over, dirs_over, held_below, held_by, held_exclusive, held_if, item_is_exclusive, new_dir, or_each}
+use Rattle.tree_model.specs.State.Values.{DirItem, DirSizes, absent_item, Node, leaf_node, dir_node}
+use Rattle.tree_model.specs.Start.Nodes.{cut_in, dir_over, dirs_over, held_below, held_by, held_if, item_is_exclusive, new_dir, or_each}
 use Rattle.item_states.specs.Parts.{node_items}
 use Rattle.ddm_tree.specs.Holders.{IsHolder}
 

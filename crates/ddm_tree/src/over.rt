@@ -88,11 +88,7 @@ fn push_next<C: Drop>(own: &mut Vec<C>, rest: &mut IntoIter<C>) -> Result<(), No
 }
 
 /// So many of these children, from the front.
-fn take_next<C: Drop>(
-    alloc: Global,
-    rest: &mut IntoIter<C>,
-    count: u32,
-) -> Result<Vec<C>, NoMemory>
+fn take_next<C: Drop>(alloc: Global, rest: &mut IntoIter<C>, count: u32) -> Result<Vec<C>, NoMemory>
     requires known { into_iter_len rest.old ≡ length (into_iter_items rest.old) }
     requires enough { count ≤ length (into_iter_items rest.old) }
     ensures own { IfOk result (λ own. own.items ≡ take count (into_iter_items rest.old)) }

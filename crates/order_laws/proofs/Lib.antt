@@ -1,3 +1,4 @@
 pub mod Hart
 pub mod Timed
 pub mod Moves
+pub mod EveryTurn

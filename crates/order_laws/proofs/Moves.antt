@@ -8,6 +8,8 @@ pub mod Inside
 pub mod Calls
 pub mod Lose
 pub mod Bus
+pub mod LiftClaims
+pub mod Ordered
 pub mod Lift
 pub mod Next
 pub mod Beside
@@ -32,3 +34,7 @@ pub mod KidClaims
 pub mod RowClaims
 pub mod BusClaims
 pub mod ParentClaim
+pub mod ClaimsHere
+pub mod KidErases
+pub mod RowErases
+pub mod LeavesKept

@@ -1,13 +1,13 @@
 -- Leaves that have no entry of any item from a number on, and stay so while items are placed one by one.
-use Rattle.std.proofs.Common.{◌≡◌, ◌<◌, ◌≤◌, ◌≢◌, ℕ, zero, suc, ◌+◌, Bool, true, false, List, [], ◌∷◌, length, drop, get_or, set, Option, Some, None, refl, sym, ap, subst, ◌∙◌, arith, add-one, option_map, All}
-use Rattle.std.specs.Prelude.{nat_eq, slice_set, if◌then◌else◌}
+use Rattle.std.proofs.Common.{◌≡◌, ◌<◌, ◌≤◌, ◌≢◌, ℕ, zero, suc, ◌+◌, Bool, true, false, List, [], ◌∷◌, length, drop, get_or, Option, Some, None, sym, ap, ◌∙◌, arith, add-one, option_map, All}
+use Rattle.std.specs.Prelude.{nat_eq, if◌then◌else◌}
 use Rattle.std.specs.List.{AllByRecursion}
 use Rattle.std.proofs.lemmas.List.{length-set}
 use Rattle.std.proofs.lemmas.List.Elements.{All-from_recursion, recursion_from_All}
 use Rattle.ddm_types.specs.declared.sizes.LeafState.{LeafState}
 use Rattle.tree_model.specs.State.Lists.{first_some, map_from}
-use Rattle.tree_model.specs.State.Values.{LeafValue, WayValue}
-use Rattle.tree_model.specs.State.Leaf.{leaf_entry, entry_at, free_way, way_at, way_entry, buffer_entry, buffered, enters, enters_free, with_fate}
+use Rattle.tree_model.specs.State.Values.{LeafValue}
+use Rattle.tree_model.specs.State.Leaf.{leaf_entry, entry_at, free_way, way_entry, buffer_entry, buffered, enters, enters_free, with_fate}
 use Rattle.tree_model.specs.Start.Nodes.{leaf_for, placed, placed_at, placed_in, placed_items}
 use Rattle.bus_laws.proofs.HartChanges.{way-set_other}
 use Rattle.run_engine.specs.Placement.{IsBlank, TakesItem}
@@ -35,11 +35,11 @@ module _ (items x : ℕ) (words : List ℕ) where
   placed-by : (o : Option ℕ) (v : LeafValue) → IsOpen items x v → IsOpen items (x + 1) (with_fate x (enters_free LeafState.Exclusive words o) v)
   placed-by None v is = record { known = is.known; absent = λ y past. is.absent y (omega (arith, past)) }
   placed-by (Some way) v is = record {
-      known = omega (arith, is.known, length-set v.ways x (Some (record { way = way; state = LeafState.Exclusive; words = words })));
-      absent = λ y past.
-          let other : y ≢ x = omega (arith, past) in
-          entry-other x y way LeafState.Exclusive words v other ∙ is.absent y (omega (arith, past));
-    }
+    known = omega (arith, is.known, length-set v.ways x (Some (record { way = way; state = LeafState.Exclusive; words = words })));
+    absent = λ y past.
+        let other : y ≢ x = omega (arith, past) in
+        entry-other x y way LeafState.Exclusive words v other ∙ is.absent y (omega (arith, past));
+  }
 
   placed-at-by : (b : Bool) (v : LeafValue) → IsOpen items x v → IsOpen items (x + 1) (if b then placed x words v else v)
   placed-at-by true v is = placed-by (free_way v.sizes x v.ways) v is

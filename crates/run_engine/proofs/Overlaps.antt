@@ -1,5 +1,5 @@
 -- The first stack that meets a segment, while a loop goes over the harts.
-use Rattle.std.proofs.Common.{◌≡◌, ◌<◌, ◌≤◌, ℕ, suc, ◌+◌, ◌-◌, List, map, Option, Some, None, refl, sym, ap, ◌∙◌, arith}
+use Rattle.std.proofs.Common.{◌≡◌, ◌<◌, ◌≤◌, ℕ, suc, ◌+◌, ◌-◌, List, map, Option, Some, None, sym, ap, ◌∙◌, arith}
 use Rattle.std.specs.List.{range_with_len}
 use Rattle.tree_model.specs.State.Lists.{first_some}
 use Rattle.tree_model.specs.Start.Machine.{header_met, overlap_from, overlap_of, StartRefusal, stack_overlap}

@@ -1,6 +1,6 @@
 -- Where an item goes, while a loop looks for its leaf; and what stays of the other items.
-use Rattle.std.proofs.Common.{◌≡◌, ◌<◌, ◌≤◌, ◌≢◌, ℕ, zero, suc, ◌+◌, ◌-◌, ◌%◌, Bool, true, false, List, [], ◌∷◌, ◌++◌, length, map, get_or, set, drop, Option, Some, None, Result, Ok, Err, refl, sym, ap, subst, ◌∙◌, arith}
-use Rattle.std.specs.Prelude.{IfOk, IfErr, is_ok, is_some, nat_eq, find, slice_index_or, slice_set, if◌then◌else◌, All}
+use Rattle.std.proofs.Common.{◌≡◌, ◌<◌, ◌≤◌, ℕ, zero, suc, ◌+◌, ◌-◌, ◌%◌, Bool, true, false, List, [], ◌∷◌, ◌++◌, length, map, get_or, set, Option, Some, None, Result, Ok, Err, refl, sym, ap, subst, ◌∙◌, arith}
+use Rattle.std.specs.Prelude.{IfOk, IfErr, is_ok, is_some, nat_eq, find, slice_index_or, slice_set, if◌then◌else◌}
 use Rattle.std.specs.List.{range_with_len}
 use Rattle.std.proofs.lemmas.List.{map-append}
 use Rattle.std.proofs.lemmas.Bool.Decides.{nat_tests}
@@ -8,7 +8,7 @@ use Rattle.tree_model.specs.State.Lists.{map_from}
 use Rattle.tree_model.specs.State.Values.{LeafValue}
 use Rattle.tree_model.specs.State.Blank.{no_leaf}
 use Rattle.tree_model.specs.State.Leaf.{free_way}
-use Rattle.tree_model.specs.Start.Nodes.{cyclic_from, has_way, leaf_for, placed, placed_at, placed_in}
+use Rattle.tree_model.specs.Start.Nodes.{has_way, leaf_for, placed, placed_at, placed_in}
 
 -- ---- an item is placed at one leaf
 

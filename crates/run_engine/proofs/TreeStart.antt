@@ -1,5 +1,5 @@
 -- A machine over the parts that the code makes of a tree and an image is the tables' start.
-use Rattle.std.proofs.Common.{◌≡◌, ◌<◌, ◌≤◌, ◌⊎◌, ℕ, zero, suc, ◌+◌, ◌*◌, ◌/◌, Bool, true, false, List, [], ◌∷◌, length, map, replicate, get_or, sum, Option, Some, None, refl, sym, ap, subst, ◌∙◌, arith, inl, inr, All}
+use Rattle.std.proofs.Common.{◌≡◌, ◌≤◌, ℕ, zero, suc, ◌+◌, ◌*◌, Bool, true, false, List, [], ◌∷◌, length, map, replicate, sum, Option, None, refl, sym, ap, subst, ◌∙◌, arith, inl, inr}
 use Rattle.std.specs.Prelude.{◌||◌, nat_eq, nat_le, slice_index_or}
 use Rattle.std.specs.List.{AllByRecursion, range_with_len}
 use Rattle.std.proofs.lemmas.Bool.{eqb-true, leb-true}
@@ -10,7 +10,7 @@ use Rattle.ddm_types.specs.ItemTable.{ItemRow, ItemTable, IsItemSize, item_count
 use Rattle.ddm_types.specs.declared.sizes.TreeCounts.{TreeCounts}
 use Rattle.ddm_types.specs.CodeMap.{CodeWord}
 use Rattle.tree_model.specs.State.Values.{DirValue, LeafSizes, LeafValue, MachineValue, Node, WayValue}
-use Rattle.tree_model.specs.State.Leaf.{entry_at, leaf_entry}
+use Rattle.tree_model.specs.State.Leaf.{entry_at}
 use Rattle.tree_model.specs.Start.Nodes.{leaf_sizes, new_leaf, new_top, placed_items, top_sizes}
 use Rattle.tree_model.specs.Start.Machine.{start_leaves, start_machine, start_refusal}
 use Rattle.tree_model.specs.Start.Memory.{item_words, start_code, start_items, start_words}
@@ -82,9 +82,9 @@ none-at (suc n) (suc x) = none-at n x
 new-blank : (sizes : LeafSizes) (start : Start) (n number : ℕ) → IsBlank n (new_leaf sizes start n number)
 unfolding entry_at
 new-blank sizes start n number = record {
-    known = omega (arith, length-replicate n no_way);
-    absent = λ x. rw (none-at n x) refl;
-  }
+  known = omega (arith, length-replicate n no_way);
+  absent = λ x. rw (none-at n x) refl;
+}
 
 each-blank : (sizes : LeafSizes) (start : Start) (n : ℕ) (ks : List ℕ) → AllByRecursion (IsBlank n) (map (new_leaf sizes start n) ks)
 each-blank sizes start n [] = tt
@@ -120,10 +120,10 @@ module _ (t : TreeValue) (i : ImageValue) (width : ℕ) (size : 4 * width ≡ t.
       → ls ≡ placed_items 0 words (map (new_leaf (leaf_sizes t.sizes ways width) start (item_count items)) (range_with_len 0 start.harts)) → ls ≡ start_leaves t i
   leaves-start items words start ways ls ways_are is words_are start_is placed =
       placed ∙ ap (λ ws. placed_items 0 ws (map (new_leaf (leaf_sizes t.sizes ways width) start (item_count items)) (range_with_len 0 start.harts))) words_are
-        ∙ ap (λ (s : Start). placed_items 0 (start_words t i) (map (new_leaf (leaf_sizes t.sizes ways width) s (item_count items)) (range_with_len 0 s.harts))) start_is
-        ∙ ap (λ (table : ItemTable). placed_items 0 (start_words t i) (map (new_leaf (leaf_sizes t.sizes ways width) (start_of_harts t i) (item_count table)) (range_with_len 0 (leaf_count t)))) is
-        ∙ ap (λ w. placed_items 0 (start_words t i) (map (new_leaf (leaf_sizes t.sizes w width) (start_of_harts t i) (item_count (start_items t i))) (range_with_len 0 (leaf_count t)))) (sym ways_are)
-        ∙ ap (λ w. placed_items 0 (start_words t i) (map (new_leaf (leaf_sizes t.sizes t.way_count w) (start_of_harts t i) (item_count (start_items t i))) (range_with_len 0 (leaf_count t)))) (sym width-is)
+      ∙ ap (λ (s : Start). placed_items 0 (start_words t i) (map (new_leaf (leaf_sizes t.sizes ways width) s (item_count items)) (range_with_len 0 s.harts))) start_is
+      ∙ ap (λ (table : ItemTable). placed_items 0 (start_words t i) (map (new_leaf (leaf_sizes t.sizes ways width) (start_of_harts t i) (item_count table)) (range_with_len 0 (leaf_count t)))) is
+      ∙ ap (λ w. placed_items 0 (start_words t i) (map (new_leaf (leaf_sizes t.sizes w width) (start_of_harts t i) (item_count (start_items t i))) (range_with_len 0 (leaf_count t)))) (sym ways_are)
+      ∙ ap (λ w. placed_items 0 (start_words t i) (map (new_leaf (leaf_sizes t.sizes t.way_count w) (start_of_harts t i) (item_count (start_items t i))) (range_with_len 0 (leaf_count t)))) (sym width-is)
 
   pub items-few : (items : ItemTable) (words : List (List ℕ)) → start_refusal t i ≡ None → items ≡ start_items t i → words ≡ map (λ (row : ItemRow). item_words width i.segments row.address) items.rows → (length words ≡ item_count items) × (item_count items ≤ 65536)
   items-few items words accepted is same =

@@ -8,8 +8,8 @@ mod making;
 mod memory;
 mod refusal;
 mod stacks;
-mod trees;
 mod tree;
+mod trees;
 
 pub use machine::AnyMachine;
 pub use making::build;

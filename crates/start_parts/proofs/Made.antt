@@ -1,12 +1,9 @@
 -- The start's machine is a new machine of its parts: the traffic of each bus is none.
-use Rattle.std.proofs.Common.{◌≡◌, ℕ, List, [], ◌∷◌, map, length, drop, replicate, refl, ap}
-use Rattle.ddm_types.specs.ItemTable.{item_count}
-use Rattle.tree_model.specs.State.Values.{DirValue, Node, leaf_node}
+use Rattle.std.proofs.Common.{◌≡◌, ℕ, List, [], ◌∷◌, map, length, replicate, refl, ap}
 use Rattle.tree_model.specs.Turns.Machine.{no_traffic}
-use Rattle.tree_model.specs.Start.Sources.{TreeValue, ImageValue, bus_widths, width_of}
+use Rattle.tree_model.specs.Start.Sources.{TreeValue, ImageValue, bus_widths}
 use Rattle.tree_model.specs.Start.Memory.{start_code, start_items}
-use Rattle.tree_model.specs.Start.Nodes.{dir_sizes, top_sizes, new_top, under_levels}
-use Rattle.tree_model.specs.Start.Machine.{start_leaves, start_machine}
+use Rattle.tree_model.specs.Start.Machine.{start_machine}
 use Rattle.ddm_tree.specs.Machine.{machine_of, new_machine}
 use Rattle.start_parts.specs.Counts.{counts_of}
 pub use Rattle.start_parts.specs.Parts.{start_top, start_kids}

@@ -19,6 +19,7 @@ use Rattle.tree_rules.specs.Order.Copies.{CopyAt, cut, copy_here, copies_here, f
 use Rattle.tree_rules.specs.Order.Moments.{moment_at}
 use Rattle.order_lists.proofs.Moments.{less-irreflexive}
 use Rattle.order_laws.specs.Moves.Moved.{In}
+use Rattle.order_laws.specs.Moves.Carries.{IsLeafFree}
 use Rattle.order_laws.specs.Moves.Parent.{bound_at, moment_in, erased_at, downs_at}
 use Rattle.order_laws.proofs.Moves.Rise.{parent-rises}
 use Rattle.order_laws.proofs.Moves.Child.{FewerWords}
@@ -44,8 +45,8 @@ words-behind w ws us e place clock k h = from us (subst (λ l. In k (copies_here
   from (u ∷ us) (inr h) = elim (from us h) as (λ _. In k (copies_here place clock (w ∷ u ∷ us))) [ inl a ↦ inl a | inr a ↦ inr (inr a) ]
 
 -- a child holds the item then
-pub has-told : (x : ℕ) (g : ℕ → Node → Node) (ns : List Node) (i : ℕ) → i < length ns → is_held (child_hold x (g i (child_at i ns))) ≡ true → Has x (map_from g 0 ns) i
-has-told x g ns i l h = subst (λ m. is_held (child_hold x m) ≡ true) (sym (child_at-map_from g i ns l)) h
+pub has-told : (x : ℕ) (g : ℕ → Node → Node) (ns : List Node) (i : ℕ) → i < length ns → is_held (child_hold x (g i (child_at i ns))) ≡ true → IsLeafFree x (child_at i ns) → Has x ns (map_from g 0 ns) i
+has-told x g ns i l h free = (subst (λ m. is_held (child_hold x m) ≡ true) (sym (child_at-map_from g i ns l)) h, free)
 
 module _ (c : Spot) (p q : DirValue) (ns : List Node) (e : DownValue) (rest : List DownValue) (front : p.down ≡ e ∷ rest) (down : q.down ≡ rest) (epoch : q.epoch ≡ e.stamp) (other : is_kind EraseTx e.kind ≡ false) (brings : brings_copy e.kind ≡ true) where
   abbrev x : ℕ
@@ -67,13 +68,13 @@ module _ (c : Spot) (p q : DirValue) (ns : List Node) (e : DownValue) (rest : Li
       subst (λ l. In (cut (erased_at x w p) gift) (downs (spot_path c) c.above l)) (sym (queue-is w p q e rest front down)) there
 
   module _ (ms : List Node) where
-    gift-is : (b : List ℕ) → IsGift x w b p q ns (Has x ms) gift
+    gift-is : (b : List ℕ) → IsGift x w b p q ns (Has x ns ms) gift
     gift-is b = record {
-      there = in-downs x w b p q ns (Has x ms) (cut (erased_at x w p) gift) gift-first;
-      rises = parent-rises (spot_path c) (bound_at w p) (bound_at w q) (moment_in w p) (moment_in w q) (Has x ms) (moment_at c.above q.epoch) (moment_at c.above q.epoch) e.words (less-irreflexive (moment_at c.above q.epoch));
+      there = in-downs x w b p q ns (Has x ns ms) (cut (erased_at x w p) gift) gift-first;
+      rises = parent-rises (spot_path c) (bound_at w p) (bound_at w q) (moment_in w p) (moment_in w q) (Has x ns ms) (moment_at c.above q.epoch) (moment_at c.above q.epoch) e.words (less-irreflexive (moment_at c.above q.epoch));
     }
 
-    pub brought-hands : RowTime w p q → length ms ≡ length ns → ((b : List ℕ) (i : ℕ) → i < length ns → KidMoves x w b p q ns (Has x ms) (gift ∷ []) i (child_at i ns) (child_at i ms)) → FewerWords (words_of_item x q.parked) (e.words ∷ words_of_item x p.parked) → words_of_item x q.replies ≡ words_of_item x p.replies → Hands x w p ns q ms
+    pub brought-hands : RowTime w p q → length ms ≡ length ns → ((b : List ℕ) (i : ℕ) → i < length ns → KidMoves x w b p q ns (Has x ns ms) (gift ∷ []) i (child_at i ns) (child_at i ms)) → FewerWords (words_of_item x q.parked) (e.words ∷ words_of_item x p.parked) → words_of_item x q.replies ≡ words_of_item x p.replies → Hands x w p ns q ms
     brought-hands time many kids parked replies = served-hands x w p q ns ms time (gift ∷ []) (λ b. (gift-is b, tt)) (λ b. record { erased = erased-taken w p q e rest front down other; many = many; kids = kids b; parked = parked }) (downs-taken w p q e rest front down) replies
 
   module _ (time : RowTime w p q) (parked : words_of_item x q.parked ≡ words_of_item x p.parked) (replies : words_of_item x q.replies ≡ words_of_item x p.replies) where
@@ -82,7 +83,7 @@ module _ (c : Spot) (p q : DirValue) (ns : List Node) (e : DownValue) (rest : Li
     readers-hands u gets =
         let g : ℕ → Node → Node = reader_takes u x e.words (stamp_of q) in
         let ms : List Node = map_from g 0 ns in
-        brought-hands ms time (map_from-length g 0 ns) (λ b. kids-by x w p q ns ms b (gift ∷ []) g (λ i l. if-by (KidMoves x w b p q ns (Has x ms) (gift ∷ []) i (child_at i ns)) (is_reader u i) (child_take_data x e.words (stamp_of q) (child_at i ns)) (child_at i ns) (λ is. kid_given gift (inl refl) (has-told x g ns i l (subst (λ t. is_held (child_hold x (if t then child_take_data x e.words (stamp_of q) (child_at i ns) else child_at i ns)) ≡ true) (sym is) (gets i l is).holds)) (gets i l is).given) (λ no. kid_fewer (same-fewer x (child_at i ns))))) (words-more e.words _ _ parked) replies
+        brought-hands ms time (map_from-length g 0 ns) (λ b. kids-by x w p q ns ms b (gift ∷ []) g (λ i l. if-by (KidMoves x w b p q ns (Has x ns ms) (gift ∷ []) i (child_at i ns)) (is_reader u i) (child_take_data x e.words (stamp_of q) (child_at i ns)) (child_at i ns) (λ is. kid_given gift (inl refl) (has-told x g ns i l (subst (λ t. is_held (child_hold x (if t then child_take_data x e.words (stamp_of q) (child_at i ns) else child_at i ns)) ≡ true) (sym is) (gets i l is).holds) (gets i l is).free) (gets i l is).given) (λ no. kid_fewer (same-fewer x (child_at i ns))))) (words-more e.words _ _ parked) replies
 
     -- to one child, as an inject
     pub taker-hands : (d : ℕ) → (d < length ns → HasGot x e.words (stamp_of q) (child_at d ns) (child_take_inject x e.words (stamp_of q) (child_at d ns))) → Hands x w p ns q (map_from (only d (child_take_inject x e.words (stamp_of q))) 0 ns)
@@ -90,9 +91,9 @@ module _ (c : Spot) (p q : DirValue) (ns : List Node) (e : DownValue) (rest : Li
         let f : Node → Node = child_take_inject x e.words (stamp_of q) in
         let g : ℕ → Node → Node = only d f in
         let ms : List Node = map_from g 0 ns in
-        brought-hands ms time (map_from-length g 0 ns) (λ b. kids-by x w p q ns ms b (gift ∷ []) g (λ i l. if-by (KidMoves x w b p q ns (Has x ms) (gift ∷ []) i (child_at i ns)) (nat_eq i d) (f (child_at i ns)) (child_at i ns) (λ is.
+        brought-hands ms time (map_from-length g 0 ns) (λ b. kids-by x w p q ns ms b (gift ∷ []) g (λ i l. if-by (KidMoves x w b p q ns (Has x ns ms) (gift ∷ []) i (child_at i ns)) (nat_eq i d) (f (child_at i ns)) (child_at i ns) (λ is.
         let got : HasGot x e.words (stamp_of q) (child_at i ns) (f (child_at i ns)) = taken i d is l gets in
-        kid_given gift (inl refl) (has-told x g ns i l (subst (λ t. is_held (child_hold x (if t then f (child_at i ns) else child_at i ns)) ≡ true) (sym is) got.holds)) got.given) (λ no. kid_fewer (same-fewer x (child_at i ns))))) (words-more e.words _ _ parked) replies where
+        kid_given gift (inl refl) (has-told x g ns i l (subst (λ t. is_held (child_hold x (if t then f (child_at i ns) else child_at i ns)) ≡ true) (sym is) got.holds) got.free) got.given) (λ no. kid_fewer (same-fewer x (child_at i ns))))) (words-more e.words _ _ parked) replies where
           taken : (i d : ℕ) → nat_eq i d ≡ true → i < length ns → (d < length ns → HasGot x e.words (stamp_of q) (child_at d ns) (child_take_inject x e.words (stamp_of q) (child_at d ns))) → HasGot x e.words (stamp_of q) (child_at i ns) (child_take_inject x e.words (stamp_of q) (child_at i ns))
           taken i d is l gets =
               let same : i ≡ d = eqb-true i d is in

@@ -1,27 +1,21 @@
 -- Claims below a bus and at its parent, from what each child's claim does.
 -- Letters: x is the item, path that of the bus, p the parent, q after it, ns and ms the children, c where the parent stands.
-use Rattle.std.proofs.Common.{◌≡◌, ◌≢◌, ℕ, zero, suc, ◌+◌, ◌-◌, ◌*◌, ◌<◌, ◌≤◌, Bool, true, false, List, [], ◌∷◌, ◌++◌, length, take, Option, Some, None, IfSome, refl, sym, ap, subst, ◌∙◌, ◌⊎◌, inl, inr, arith}
-use Rattle.std.specs.Prelude.{not, ◌&&◌, ◌||◌, unwrap_or, if◌then◌else◌}
-use Rattle.std.specs.List.{AllByRecursion}
-use Rattle.std.proofs.lemmas.Bool.{and_parts, or_parts, not-true}
-use Rattle.std.proofs.lemmas.List.{length-append, take_all}
+use Rattle.std.proofs.Common.{◌≡◌, ◌≢◌, ℕ, zero, suc, ◌+◌, ◌-◌, ◌<◌, Bool, true, false, List, [], ◌∷◌, ◌++◌, length, take, Some, refl, sym, ap, subst, ◌∙◌, ◌⊎◌, inl, inr, arith}
+use Rattle.std.specs.Prelude.{unwrap_or, if◌then◌else◌}
+use Rattle.std.proofs.lemmas.List.{length-append}
 use Rattle.ddm_types.specs.declared.keys.Stamp.{Stamp}
-use Rattle.ddm_types.specs.declared.answers.TxKind.TheVariants.{ExclusiveTx, InjectTx}
-use Rattle.tree_model.specs.State.Kinds.{is_kind, has_kind}
 use Rattle.tree_model.specs.State.Lists.{first_some}
-use Rattle.tree_model.specs.State.States.{is_held, is_exclusive}
-use Rattle.tree_model.specs.State.Values.{DownValue, Note, no_note, local, up_read, up_erase, DirValue, Node, Nodes, leaf_node, dir_node, no_nodes, more_nodes, nodes}
-use Rattle.tree_model.specs.State.Directory.{queue_of, queue_kinds, entry_kind, stamp_of}
-use Rattle.tree_model.specs.State.Place.{Spot, spot_path, spot_in}
-use Rattle.tree_model.specs.State.Child.{child_hold}
+use Rattle.tree_model.specs.State.Values.{DirValue, Node, Nodes, leaf_node, dir_node, no_nodes, more_nodes, nodes}
+use Rattle.tree_model.specs.State.Directory.{queue_of, stamp_of}
+use Rattle.tree_model.specs.State.Place.{Spot, spot_in}
 use Rattle.tree_model.specs.Turns.Children.{child_at}
 use Rattle.tree_rules.specs.Order.Claims.{last_exclusive, child_is_exclusive, claim, first_claim, ClaimAt, claim_here, claims_in, claims_among}
 use Rattle.tree_rules.specs.Order.Core.{claim_level}
-use Rattle.tree_rules.specs.Order.Moments.{less, less_at, moment_at, moment_length, spot_moment}
+use Rattle.tree_rules.specs.Order.Moments.{less_at, moment_at, moment_length}
 use Rattle.order_lists.proofs.Filters.{each-append}
 use Rattle.order_lists.proofs.Moments.{less-irreflexive}
 use Rattle.order_laws.specs.Moves.Moved.{In}
-use Rattle.order_laws.specs.Moves.ClaimsMoved.{ClaimKept, ClaimNew, KeptFrom, ClaimFrom, ClaimsFrom}
+use Rattle.order_laws.specs.Moves.ClaimsMoved.{ClaimFrom, ClaimsFrom}
 use Rattle.order_laws.proofs.Moves.Sources.{In-left, In-right}
 use Rattle.order_laws.proofs.Moves.Brought.{if-by}
 use Rattle.order_laws.proofs.Moves.KidClaims.{KidClaims}

@@ -30,7 +30,7 @@ use Rattle.bus_laws.proofs.DirParts.{starts_with}
 use Rattle.bus_laws.proofs.OneChild.{replies-there}
 use Rattle.order_lists.proofs.Filters.{each-left, each-right}
 use Rattle.order_laws.specs.Moves.Moved.{In}
-use Rattle.order_laws.proofs.Moves.Lift.{OrderedAt}
+use Rattle.order_laws.proofs.Moves.Ordered.{OrderedAt}
 
 pub record BusFacts (n : ℕ) (w : Where) (p : DirValue) (ns : List Node) : Type 0 where
   pub bus : IsBusOk n p ns

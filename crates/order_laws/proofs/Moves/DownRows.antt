@@ -78,7 +78,7 @@ module _ (n : ℕ) (p : DirValue) (ns : List Node) (e : DownValue) (rest : List 
       let last : has_some (rest_of (queue_kinds x p.down)) ≡ false = read-queue n x p ns f.bus f.kids (within w f) (entry-starts n x p ns f.bus e rest front ReadTx kind refl) in
       let behind : has_some (queue_kinds x rest) ≡ false = subst (λ l. has_some (rest_of (map entry_kind l)) ≡ false) (ap (queue_of x) front ∙ queue-front e rest) last in
       let none : erased_at x w p ≡ None = sym erased ∙ empty w q (no-queue x q behind) in
-      let source : (b : List ℕ) → In (copy_here (where_path w) (bound_at w p) words) (hand_of x w b p (nodes ns)) = λ b. subst (λ o. In (cut o (copy_here (where_path w) (bound_at w p) words)) (hand_of x w b p (nodes ns))) none (in-parked x w b p q ns (Has x ns) (copy_here (where_path w) (bound_at w p) words) (parked-in x p.parked words parked (where_path w) (bound_at w p))) in
+      let source : (b : List ℕ) → In (copy_here (where_path w) (bound_at w p) words) (hand_of x w b p (nodes ns)) = λ b. subst (λ o. In (cut o (copy_here (where_path w) (bound_at w p) words)) (hand_of x w b p (nodes ns))) none (in-parked x w b p q ns (Has x ns ns) (copy_here (where_path w) (bound_at w p) words) (parked-in x p.parked words parked (where_path w) (bound_at w p))) in
       up-hands x w p q ns ns time f.ordered words erased (downs-taken w p q e rest front refl) refl (words-pushed x p.replies (record { item = x; words = words }) refl) source refl (λ i l. same-fewer x (child_at i ns)) where
         empty : (w : Where) (q : DirValue) → queue_of x q.down ≡ [] → erased_at x w q ≡ None
         empty at_top q h = refl

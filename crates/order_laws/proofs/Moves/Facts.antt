@@ -11,7 +11,7 @@ use Rattle.ddm_types.specs.declared.keys.Stamp.{Stamp}
 use Rattle.tree_model.specs.State.Kinds.{is_kind}
 use Rattle.tree_model.specs.State.Lists.{first_given}
 use Rattle.tree_model.specs.State.States.{is_held}
-use Rattle.tree_model.specs.State.Values.{DownValue, Note, local, up_read, DirValue, Node}
+use Rattle.tree_model.specs.State.Values.{leaf_node, dir_node, DownValue, Note, local, up_read, DirValue, Node}
 use Rattle.tree_model.specs.State.Directory.{dir_note, is_reader, is_local, is_up_read}
 use Rattle.tree_model.specs.State.Blank.{no_node}
 use Rattle.tree_model.specs.State.Child.{child_hold, child_full_for, child_take_data}
@@ -26,6 +26,7 @@ use Rattle.bus_laws.proofs.Answering.{child-hold}
 use Rattle.bus_laws.proofs.Before.{kid-ok, reader-at, reads-absent, entry-known, entry-starts}
 use Rattle.bus_laws.proofs.Calls.{child-take_data}
 use Rattle.bus_laws.proofs.DirParts.{starts_with}
+use Rattle.order_laws.specs.Moves.Carries.{IsLeafFree}
 use Rattle.order_laws.proofs.Moves.Child.{IsGiven}
 use Rattle.order_laws.proofs.Moves.Calls.{data-given}
 
@@ -64,9 +65,14 @@ held-seen x m h e is = ap is_held (child-hold x m ∙ e) ∙ is
 absent-seen : (x : ℕ) (m : Node) (h : Hold) → (child_face x m).hold ≡ h → is_held h ≡ false → is_held (child_hold x m) ≡ false
 absent-seen x m h e is = ap is_held (child-hold x m ∙ e) ∙ is
 
+pub leaf-free : (x : ℕ) (m : Node) → is_held (child_hold x m) ≡ false → IsLeafFree x m
+leaf-free x (leaf_node v) h = h
+leaf-free x (dir_node d ns) h = tt
+
 -- it holds the item then, and has these words
 pub record HasGot (x : ℕ) (words : List ℕ) (s : Stamp) (n m : Node) : Type 0 where
   pub holds : is_held (child_hold x m) ≡ true
+  pub free : IsLeafFree x n
   pub given : IsGiven x words s n m
 
 module _ (n x : ℕ) (p : DirValue) (ns : List Node) (bus : IsBusOk n p ns) (kids : AllByRecursion (IsChildOk n) ns) (within : x < n) where
@@ -90,4 +96,5 @@ module _ (n x : ℕ) (p : DirValue) (ns : List Node) (bus : IsBusOk n p ns) (kid
       let full : child_full_for DataTx x m ≡ None = rw is at (none-given (reader_full u x) i ns no_node room l) in
       let told = child-take_data n x within words s m (kid-ok n x p ns bus kids within i l) reads full in
       let holds = held-seen x (child_take_data x words s m) Hold.Shared (ap (λ f. f.hold) told.here) refl in
-      record { holds = holds; given = data-given x words s m (absent-seen x m Hold.Invalid (reads-absent n x p ns bus kids within i l reads) refl) holds }
+      let absent = absent-seen x m Hold.Invalid (reads-absent n x p ns bus kids within i l reads) refl in
+      record { holds = holds; free = leaf-free x m absent; given = data-given x words s m absent holds }

@@ -14,22 +14,22 @@ use Rattle.tree_model.proofs.Children.{child_at-map_from}
 use Rattle.tree_rules.specs.Order.Copies.{CopyAt, copies_here, first_erase, downs}
 use Rattle.order_laws.specs.Moves.Moved.{In, Moved, AllFrom}
 use Rattle.order_laws.specs.Moves.Parent.{moment_in, erased_at, downs_at, replies_up, hand_of}
-use Rattle.order_laws.specs.Moves.Carries.{IsBoundAt}
+use Rattle.order_laws.specs.Moves.Carries.{IsLeafFree, IsBoundAt}
 use Rattle.order_laws.proofs.Moves.Sources.{Sub}
 use Rattle.order_laws.proofs.Moves.Child.{words-same}
 use Rattle.order_laws.proofs.Moves.Bus.{IsGift, KidMoves, kid_fewer, IsServed, served-from, sub-from, in-downs, in-replies}
 use Rattle.order_laws.proofs.Moves.Beside.{IsBeside}
 use Rattle.order_laws.proofs.Moves.RowTime.{RowTime}
 
--- child i holds the item afterwards
-abbrev pub Has : ℕ → List Node → ℕ → Type 0
-Has x ms i = is_held (child_hold x (child_at i ms)) ≡ true
+-- child i holds the item afterwards, which a leaf did not before
+abbrev pub Has : ℕ → List Node → List Node → ℕ → Type 0
+Has x ns ms i = (is_held (child_hold x (child_at i ms)) ≡ true) × IsLeafFree x (child_at i ns)
 
-abbrev pub MoveAt : ℕ → Where → DirValue → DirValue → List Node → CopyAt → CopyAt → Type 0
-MoveAt x w p q ms = Moved (where_path w) (moment_in w p) (moment_in w q) (Has x ms)
+abbrev pub MoveAt : ℕ → Where → DirValue → DirValue → List Node → List Node → CopyAt → CopyAt → Type 0
+MoveAt x w p q ns ms = Moved (where_path w) (moment_in w p) (moment_in w q) (Has x ns ms)
 
 abbrev pub Hands : ℕ → Where → DirValue → List Node → DirValue → List Node → Type 0
-Hands x w p ns q ms = (b : List ℕ) → IsBoundAt w b → AllFrom (MoveAt x w p q ms) (hand_of x w b p (nodes ns)) (hand_of x w b q (nodes ms))
+Hands x w p ns q ms = (b : List ℕ) → IsBoundAt w b → AllFrom (MoveAt x w p q ns ms) (hand_of x w b p (nodes ns)) (hand_of x w b q (nodes ms))
 
 -- ---- what stays
 
@@ -47,24 +47,24 @@ replies-same x (at_child c) b p q e k h = subst (λ ws. In k (copies_here c.abov
 
 module _ (x : ℕ) (w : Where) (p q : DirValue) (ns ms : List Node) where
   -- each child by what it was told
-  pub kids-by : (b : List ℕ) (gifts : List CopyAt) (g : ℕ → Node → Node) → ((i : ℕ) → i < length ns → KidMoves x w b p q ns (Has x ms) gifts i (child_at i ns) (g i (child_at i ns))) → (i : ℕ) → i < length ns → KidMoves x w b p q ns (Has x ms) gifts i (child_at i ns) (child_at i (map_from g 0 ns))
-  kids-by b gifts g h i l = subst (λ m. KidMoves x w b p q ns (Has x ms) gifts i (child_at i ns) m) (sym (child_at-map_from g i ns l)) (h i l)
+  pub kids-by : (b : List ℕ) (gifts : List CopyAt) (g : ℕ → Node → Node) → ((i : ℕ) → i < length ns → KidMoves x w b p q ns (Has x ns ms) gifts i (child_at i ns) (g i (child_at i ns))) → (i : ℕ) → i < length ns → KidMoves x w b p q ns (Has x ns ms) gifts i (child_at i ns) (child_at i (map_from g 0 ns))
+  kids-by b gifts g h i l = subst (λ m. KidMoves x w b p q ns (Has x ns ms) gifts i (child_at i ns) m) (sym (child_at-map_from g i ns l)) (h i l)
 
   module _ (time : RowTime w p q) where
     abbrev Move : CopyAt → CopyAt → Type 0
-    Move = MoveAt x w p q ms
+    Move = MoveAt x w p q ns ms
 
     -- a turn in which copies may be told, and no end changes; what comes down to the parent and its own replies are told apart
-    pub hands-with : (gifts : List CopyAt) → ((b : List ℕ) → AllByRecursion (IsGift x w b p q ns (Has x ms)) gifts) → ((b : List ℕ) → IsServed x w b p q ns (Has x ms) gifts ms) → ((b : List ℕ) → AllFrom Move (hand_of x w b p (nodes ns)) (downs_at x w q)) → ((b : List ℕ) → IsBoundAt w b → AllFrom Move (hand_of x w b p (nodes ns)) (replies_up x w b q)) → Hands x w p ns q ms
-    hands-with gifts gs served down replies b is = served-from x w b p q ns (Has x ms) time.time.next (time.ends x (served b).erased) gifts ms (gs b) (served b) (down b) (replies b is)
+    pub hands-with : (gifts : List CopyAt) → ((b : List ℕ) → AllByRecursion (IsGift x w b p q ns (Has x ns ms)) gifts) → ((b : List ℕ) → IsServed x w b p q ns (Has x ns ms) gifts ms) → ((b : List ℕ) → AllFrom Move (hand_of x w b p (nodes ns)) (downs_at x w q)) → ((b : List ℕ) → IsBoundAt w b → AllFrom Move (hand_of x w b p (nodes ns)) (replies_up x w b q)) → Hands x w p ns q ms
+    hands-with gifts gs served down replies b is = served-from x w b p q ns (Has x ns ms) time.time.next (time.ends x (served b).erased) gifts ms (gs b) (served b) (down b) (replies b is)
 
     pub downs-left : Sub (downs_at x w q) (downs_at x w p) → (b : List ℕ) → AllFrom Move (hand_of x w b p (nodes ns)) (downs_at x w q)
-    downs-left down b = sub-from x w b p q ns (Has x ms) (downs_at x w q) (λ k h. in-downs x w b p q ns (Has x ms) k (down k h))
+    downs-left down b = sub-from x w b p q ns (Has x ns ms) (downs_at x w q) (λ k h. in-downs x w b p q ns (Has x ns ms) k (down k h))
 
     pub replies-left : words_of_item x q.replies ≡ words_of_item x p.replies → (b : List ℕ) → IsBoundAt w b → AllFrom Move (hand_of x w b p (nodes ns)) (replies_up x w b q)
-    replies-left replies b is = sub-from x w b p q ns (Has x ms) (replies_up x w b q) (λ k h. in-replies x w b p q ns (Has x ms) k (replies-same x w b p q replies k h))
+    replies-left replies b is = sub-from x w b p q ns (Has x ns ms) (replies_up x w b q) (λ k h. in-replies x w b p q ns (Has x ns ms) k (replies-same x w b p q replies k h))
 
-    pub served-hands : (gifts : List CopyAt) → ((b : List ℕ) → AllByRecursion (IsGift x w b p q ns (Has x ms)) gifts) → ((b : List ℕ) → IsServed x w b p q ns (Has x ms) gifts ms) → Sub (downs_at x w q) (downs_at x w p) → words_of_item x q.replies ≡ words_of_item x p.replies → Hands x w p ns q ms
+    pub served-hands : (gifts : List CopyAt) → ((b : List ℕ) → AllByRecursion (IsGift x w b p q ns (Has x ns ms)) gifts) → ((b : List ℕ) → IsServed x w b p q ns (Has x ns ms) gifts ms) → Sub (downs_at x w q) (downs_at x w p) → words_of_item x q.replies ≡ words_of_item x p.replies → Hands x w p ns q ms
     served-hands gifts gs served down replies = hands-with gifts gs served (downs-left down) (replies-left replies)
 
     -- a turn that does nothing with the item

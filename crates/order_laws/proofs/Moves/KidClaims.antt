@@ -1,16 +1,15 @@
 -- What each thing that a bus tells a child, or takes from it, does to the child's claim on an item.
 -- Letters: x is the item, y another one, s the stamp of the bus, n and m the child before and after, d and e directories.
-use Rattle.std.proofs.Common.{◌≡◌, ◌≢◌, ℕ, zero, suc, ◌+◌, Bool, true, false, List, [], ◌∷◌, ◌++◌, Option, Some, None, refl, sym, ap, subst, ◌∙◌, ◌⊎◌, inl, inr}
+use Rattle.std.proofs.Common.{◌≡◌, ◌≢◌, ℕ, zero, suc, Bool, true, false, List, [], ◌∷◌, ◌++◌, Some, refl, sym, ap, subst, ◌∙◌, ◌⊎◌, inl, inr}
 use Rattle.std.specs.Prelude.{slice_index_or, slice_set, if◌then◌else◌}
 use native.Mathlib.Decide.{ℕ_discrete}
-use Rattle.ddm_types.specs.declared.answers.TxKind.TheVariants.{ReadTx, DataTx, EraseTx, ExclusiveTx, InjectTx}
+use Rattle.ddm_types.specs.declared.answers.TxKind.TheVariants.{EraseTx}
 use Rattle.ddm_types.specs.declared.sizes.Hold.{Hold}
 use Rattle.ddm_types.specs.declared.keys.Stamp.{Stamp}
-use Rattle.tree_model.specs.State.Lists.{first_some}
 use Rattle.tree_model.specs.State.States.{is_held, is_exclusive}
-use Rattle.tree_model.specs.State.Values.{DownValue, DirItem, absent_item, LeafValue, DirValue, Node, Nodes, leaf_node, dir_node, no_nodes, more_nodes}
+use Rattle.tree_model.specs.State.Values.{DownValue, DirItem, absent_item, DirValue, Node, leaf_node, dir_node}
 use Rattle.tree_model.specs.State.Leaf.{blank}
-use Rattle.tree_model.specs.State.Directory.{dir_item, dir_hold, with_item, with_hold, with_answering, queue_of, stamp_of, dir_lose, dir_take_data, dir_take_exclusive, dir_answer, dir_take_inject, dir_give_up}
+use Rattle.tree_model.specs.State.Directory.{dir_item, dir_hold, with_item, with_hold, queue_of, stamp_of, dir_lose, dir_take_data, dir_take_exclusive, dir_answer, dir_take_inject, dir_give_up}
 use Rattle.tree_model.specs.State.Child.{child_lose, child_take_data, child_take_exclusive, child_answer, child_take_inject, child_give_up, child_request_taken, child_reply_taken}
 use Rattle.tree_rules.specs.Order.Claims.{gives_exclusive, last_exclusive}
 use Rattle.tree_rules.specs.Order.Moments.{moment_at}
@@ -35,7 +34,7 @@ set-at (j ∷ items) zero i = inl refl
 set-at (j ∷ items) (suc x) i = set-at items x i
 
 -- a hold that was set is that one, or the item isn't known
-not-exclusive : (x : ℕ) (d : DirValue) (h : Hold) → is_exclusive h ≡ false → is_exclusive (dir_hold x (with_hold x h d)) ≡ false
+pub not-exclusive : (x : ℕ) (d : DirValue) (h : Hold) → is_exclusive h ≡ false → is_exclusive (dir_hold x (with_hold x h d)) ≡ false
 not-exclusive x d h other = elim (set-at d.items x (record (dir_item x d) { hold = h })) as (λ _. is_exclusive (dir_hold x (with_hold x h d)) ≡ false) [ inl is ↦ ap (λ i. is_exclusive i.hold) is ∙ other | inr is ↦ ap (λ i. is_exclusive i.hold) is ]
 
 set-same : (items : List DirItem) (x : ℕ) (b : Bool) → (slice_index_or (slice_set items x (record (slice_index_or items x absent_item) { answering = b })) x absent_item).hold ≡ (slice_index_or items x absent_item).hold

@@ -35,9 +35,9 @@ module _ (n : ℕ) (w : Where) (p : DirValue) (ns : List Node) (f : BusFacts n w
   ok-at i l = all-kids_at (IsChildOk n) no_node ns i f.kids l
 
   -- the copy that it hands up
-  one : (q : DirValue) (ms : List Node) (time : RowTime w p q) → HandsUp x (where_path w) (bound_at w p) (bound_at w q) (stamp_of p) (stamp_of q) (Has x ms) time.time.next c (child_at c ns) (child_given x (child_at c ns))
-  one q ms time = leaving-copy x (where_path w) (bound_at w p) (bound_at w q) (stamp_of p) (stamp_of q) (Has x ms) time.time.next n choice c (child_at c ns) leaves free (ok-at c there) (timed (child_at c ns) (kid-ordered w p ns c f.ordered there)) where
-    timed : (m : Node) → AllByRecursion IsOrdered (dirs_in (spot_in (where_path w) p c) m) → IsInTime x (where_path w) (bound_at w p) (bound_at w q) (stamp_of p) (stamp_of q) (Has x ms) time.time.next c m
+  one : (q : DirValue) (ms : List Node) (time : RowTime w p q) → HandsUp x (where_path w) (bound_at w p) (bound_at w q) (stamp_of p) (stamp_of q) (Has x ns ms) time.time.next c (child_at c ns) (child_given x (child_at c ns))
+  one q ms time = leaving-copy x (where_path w) (bound_at w p) (bound_at w q) (stamp_of p) (stamp_of q) (Has x ns ms) time.time.next n choice c (child_at c ns) leaves free (ok-at c there) (timed (child_at c ns) (kid-ordered w p ns c f.ordered there)) where
+    timed : (m : Node) → AllByRecursion IsOrdered (dirs_in (spot_in (where_path w) p c) m) → IsInTime x (where_path w) (bound_at w p) (bound_at w q) (stamp_of p) (stamp_of q) (Has x ns ms) time.time.next c m
     timed (leaf_node v) h = tt
     timed (dir_node d ks) h = h.0.clocked
 

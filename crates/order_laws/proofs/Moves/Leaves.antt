@@ -1,19 +1,14 @@
 -- The words that a leaf has of an item, after each thing that its bus tells it or takes from it.
 use Rattle.std.proofs.Common.{◌≡◌, ◌≢◌, ℕ, ◌<◌, Bool, true, false, List, [], ◌∷◌, ◌++◌, length, Option, Some, None, option_map, refl, sym, ap, subst, ◌∙◌}
-use Rattle.std.specs.Prelude.{if◌then◌else◌}
 use Rattle.ddm_types.specs.declared.sizes.LeafState.{LeafState}
 use Rattle.tree_model.specs.State.States.{entry_hold, is_held, state_lost, state_with_data, state_with_exclusive, state_with_inject, state_answered}
 use Rattle.tree_model.specs.State.Values.{LeafValue}
 use Rattle.tree_model.specs.State.Leaf.{LeafEntry, entry_at, entry_state, leaf_entry, leaf_hold, Fate, stays, ends, becomes, enters, ways_after, buffer_after, words_in, words_of_item, free_way, enters_free, fate_by, fate_by_loss, fate_when_lost, fate_with_data, fate_with_exclusive, fate_answering, fate_with_inject, reply_of, leaf_lose, leaf_take_data, leaf_take_exclusive, leaf_answer, leaf_take_inject, leaf_give_up}
 use Rattle.tree_rules.specs.Order.Copies.{copies_here, entry_copies}
+pub use Rattle.order_laws.specs.Moves.HeldWords.{held_words}
 use Rattle.bus_laws.proofs.HartChanges.{entry_with, entry-becomes, entry-becomes_other, entry-enters, entry-enters_other}
 use Rattle.bus_laws.proofs.LeafEnds.{entry-ends, entry-ends_other}
 use Rattle.bus_laws.proofs.ItemLists.{words-pushed, words-pushed_other}
-
--- the words of an entry that has some
-abbrev pub held_words : Option LeafEntry → List (List ℕ)
-held_words None = []
-held_words (Some e) = if is_held (entry_hold (Some e.state)) then e.words ∷ [] else []
 
 pub entry_copies-are : (place clock : List ℕ) (o : Option LeafEntry) → entry_copies place clock o ≡ copies_here place clock (held_words o)
 entry_copies-are place clock None = refl
@@ -162,6 +157,45 @@ module _ (x : ℕ) (v : LeafValue) where
       at : (o : Option LeafEntry) → leaf_entry x v ≡ o → held_words (after (fate_with_inject v.sizes x words v.ways (leaf_entry x v))) ≡ words ∷ []
       at None is = subst (λ o. held_words (after (fate_with_inject v.sizes x words v.ways o)) ≡ words ∷ []) (sym is) (enters-way (free_way v.sizes x v.ways) l is (subst (λ o. holds_words (after (fate_with_inject v.sizes x words v.ways o)) ≡ true) is has))
       at (Some e) is = subst (λ o. held_words (after (fate_with_inject v.sizes x words v.ways o)) ≡ words ∷ []) (sym is) (inject-state e.state e.words is (absent-state e.state e.words is absent))
+
+  -- ---- where it had some they stay
+
+  module _ (words : List ℕ) (held : is_held (leaf_hold x v) ≡ true) where
+    held-state : (s : LeafState) (w : List ℕ) → leaf_entry x v ≡ Some (record { state = s; words = w }) → is_held (entry_hold (Some s)) ≡ true
+    unfolding leaf_hold
+    held-state s w is = rw is at held
+
+    data-stays : (s : LeafState) → is_held (entry_hold (Some s)) ≡ true → after (fate_by width words (state_with_data s)) ≡ leaf_entry x v
+    data-stays LeafState.Shared h = refl
+    data-stays LeafState.Exclusive h = refl
+    data-stays LeafState.Waiting h = refl
+    data-stays LeafState.Reading h = cc
+    data-stays LeafState.ReadingWaiting h = cc
+
+    pub data-held : leaf_entry x (leaf_take_data x words v) ≡ leaf_entry x v
+    unfolding leaf_take_data
+    data-held = at (leaf_entry x v) refl where
+      at : (o : Option LeafEntry) → leaf_entry x v ≡ o → after (fate_with_data width words (leaf_entry x v)) ≡ leaf_entry x v
+      at None is = subst (λ o. after (fate_with_data width words o) ≡ leaf_entry x v) (sym is) refl
+      at (Some e) is = subst (λ o. after (fate_with_data width words o) ≡ leaf_entry x v) (sym is) (data-stays e.state (held-state e.state e.words is))
+
+    inject-stays : (s : LeafState) → is_held (entry_hold (Some s)) ≡ true → after (fate_by width words (state_with_inject s)) ≡ leaf_entry x v
+    inject-stays LeafState.Shared h = refl
+    inject-stays LeafState.Exclusive h = refl
+    inject-stays LeafState.Waiting h = refl
+    inject-stays LeafState.Reading h = cc
+    inject-stays LeafState.ReadingWaiting h = cc
+
+    none-held : leaf_entry x v ≡ None → ⊥
+    unfolding leaf_hold
+    none-held is = let wrong : false ≡ true = rw is at held in cc
+
+    pub inject-held : leaf_entry x (leaf_take_inject x words v) ≡ leaf_entry x v
+    unfolding leaf_take_inject
+    inject-held = at (leaf_entry x v) refl where
+      at : (o : Option LeafEntry) → leaf_entry x v ≡ o → after (fate_with_inject v.sizes x words v.ways (leaf_entry x v)) ≡ leaf_entry x v
+      at None is = absurd (none-held is)
+      at (Some e) is = subst (λ o. after (fate_with_inject v.sizes x words v.ways o) ≡ leaf_entry x v) (sym is) (inject-stays e.state (held-state e.state e.words is))
 
   -- ---- the copy leaves
 

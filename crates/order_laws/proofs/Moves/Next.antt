@@ -26,7 +26,7 @@ use Rattle.order_lists.proofs.Stamps.{moment_at-length}
 use Rattle.order_laws.specs.Moves.Parent.{bound_at, moment_in, erased_at}
 use Rattle.order_laws.specs.Moves.Carries.{GoesOnAbove}
 use Rattle.order_laws.proofs.Moves.Rise.{IsNext}
-use Rattle.order_laws.proofs.Moves.Lift.{OrderedAt, goes_on-later}
+use Rattle.order_laws.proofs.Moves.Ordered.{OrderedAt, goes_on-later}
 
 -- ---- the present moment of a bus: that of its epoch, then its number and its count
 

@@ -1,29 +1,25 @@
 -- The claim of a bus's parent: as far as the bus above knows it doesn't fall.
 -- Letters: c is where the parent stands, p the parent, q after it, ns and ms its children, x the item, n the number of items.
-use Rattle.std.proofs.Common.{◌≡◌, ◌≢◌, ℕ, ◌+◌, ◌<◌, ◌≤◌, Bool, true, false, List, [], ◌∷◌, ◌++◌, map, length, take, Option, Some, None, IfSome, refl, sym, ap, subst, ◌∙◌, ◌⊎◌, inl, inr, arith}
-use Rattle.std.specs.Prelude.{not, ◌&&◌, ◌||◌, unwrap_or, if◌then◌else◌}
+use Rattle.std.proofs.Common.{◌≡◌, ℕ, ◌+◌, ◌<◌, true, false, List, [], ◌∷◌, length, take, Option, Some, None, IfSome, refl, sym, ap, subst, ◌∙◌, ◌⊎◌, inl, inr, arith}
+use Rattle.std.specs.Prelude.{unwrap_or, if◌then◌else◌}
 use Rattle.std.specs.List.{AllByRecursion, list_any}
-use Rattle.std.proofs.lemmas.Bool.{and_parts, or_parts, not-true}
 use Rattle.std.proofs.lemmas.List.{length-append, take_all, take-take}
 use Rattle.ddm_types.specs.declared.keys.Stamp.{Stamp}
-use Rattle.ddm_types.specs.declared.answers.TxKind.TheVariants.{ExclusiveTx, InjectTx}
 use Rattle.ddm_types.specs.declared.sizes.Hold.{Hold}
 use Rattle.tree_model.specs.State.Blank.{no_node}
-use Rattle.tree_model.specs.State.Kinds.{is_kind, has_kind}
 use Rattle.tree_model.specs.State.Lists.{first_some}
 use Rattle.tree_model.specs.State.States.{is_held, is_exclusive}
-use Rattle.tree_model.specs.State.Values.{DownValue, Note, no_note, local, up_read, up_erase, DirValue, Node, dir_node, nodes, children}
-use Rattle.tree_model.specs.State.Directory.{is_top, queue_of, queue_kinds, entry_kind, stamp_of}
-use Rattle.tree_model.specs.State.Child.{child_hold}
+use Rattle.tree_model.specs.State.Values.{DirValue, Node, dir_node, nodes, children}
+use Rattle.tree_model.specs.State.Directory.{is_top, queue_of, stamp_of}
 use Rattle.tree_model.specs.State.Place.{Spot, spot_path, spot_in}
 use Rattle.tree_model.specs.Turns.Children.{child_at}
-use Rattle.tree_rules.specs.Bus.Faces.{ParentFace, parent_face, child_face, faces_of}
+use Rattle.tree_rules.specs.Bus.Faces.{parent_face, child_face, faces_of}
 use Rattle.tree_rules.specs.Bus.Item.{holds_exclusive, exclusive_alone, ItemRules, bits_of}
 use Rattle.tree_rules.specs.Bus.Rules.{IsBusOk, IsChildOk}
 use Rattle.tree_rules.proofs.Implying.{implies-use}
-use Rattle.tree_rules.specs.Order.Claims.{gives_exclusive, last_exclusive, child_is_exclusive, claim, first_claim}
+use Rattle.tree_rules.specs.Order.Claims.{last_exclusive, child_is_exclusive, claim, first_claim}
 use Rattle.tree_rules.specs.Order.Directories.{IsClocked, IsOrdered}
-use Rattle.tree_rules.specs.Order.Moments.{less, less_at, moment_at, moment_length, spot_moment, GoesOn}
+use Rattle.tree_rules.specs.Order.Moments.{less, less_at, moment_at, moment_length, GoesOn}
 use Rattle.tree_rules.specs.Order.Places.{placed_dirs}
 use Rattle.bus_laws.proofs.Answering.{child-hold}
 use Rattle.bus_laws.proofs.BitsOf.{any-true}
@@ -34,7 +30,7 @@ use Rattle.order_lists.proofs.Clocks.{here, below_goes_on, shallow}
 use Rattle.order_lists.proofs.Holders.{first_claim_goes_on}
 use Rattle.order_lists.proofs.Moments.{less-irreflexive, at_most-at, at_most-transitive, at_most_at-fewer, GoesOn-at}
 use Rattle.order_lists.proofs.Stamps.{moment_at-length}
-use Rattle.order_laws.proofs.Moves.BusClaims.{KidOwn, ClaimOf, first-from, first-only}
+use Rattle.order_laws.proofs.Moves.BusClaims.{KidOwn, first-from, first-only}
 use Rattle.order_laws.proofs.Moves.RowClaims.{QueueClaim, queue_same, queue_taken, queue_pushed}
 
 -- ---- values

@@ -60,24 +60,24 @@ module _ (x : ℕ) (w : Where) (p q : DirValue) (ns : List Node) where
 
   -- a child is told to answer
   module _ (erased : erased_at x w q ≡ erased_at x w p) (down : Sub (downs_at x w q) (downs_at x w p)) (parked : words_of_item x q.parked ≡ words_of_item x p.parked) (replies : words_of_item x q.replies ≡ words_of_item x p.replies) (time : RowTime w p q) where
-    all-hands : (g : ℕ → Node → Node) → ((b : List ℕ) (i : ℕ) → KidMoves x w b p q ns (Has x (map_from g 0 ns)) [] i (child_at i ns) (g i (child_at i ns))) → Hands x w p ns q (map_from g 0 ns)
+    all-hands : (g : ℕ → Node → Node) → ((b : List ℕ) (i : ℕ) → KidMoves x w b p q ns (Has x ns (map_from g 0 ns)) [] i (child_at i ns) (g i (child_at i ns))) → Hands x w p ns q (map_from g 0 ns)
     all-hands g h = served-hands x w p q ns (map_from g 0 ns) time [] (λ b. tt) (λ b. record { erased = erased; many = map_from-length g 0 ns; kids = kids-by x w p q ns (map_from g 0 ns) b [] g (λ i l. h b i); parked = words-same _ _ parked }) down replies
 
     pub read_from-hands : (c k : ℕ) (s : Stamp) → Hands x w p ns q (map_from (read_from c k x s) 0 ns)
     read_from-hands c k s = all-hands (read_from c k x s) (λ b i. told b i (nat_eq i c) (nat_eq i k) (child_at i ns)) where
-      told : (b : List ℕ) (i : ℕ) (asks answers : Bool) (n : Node) → KidMoves x w b p q ns (Has x (map_from (read_from c k x s) 0 ns)) [] i n (if asks then child_request_taken n else (if answers then child_answer x s n else n))
+      told : (b : List ℕ) (i : ℕ) (asks answers : Bool) (n : Node) → KidMoves x w b p q ns (Has x ns (map_from (read_from c k x s) 0 ns)) [] i n (if asks then child_request_taken n else (if answers then child_answer x s n else n))
       told b i true answers n = kid_fewer (request-fewer x n)
       told b i false true n = kid_asked (answer-asked x s n)
       told b i false false n = kid_fewer (same-fewer x n)
 
     pub answer-hands : (k : ℕ) (s : Stamp) → Hands x w p ns q (map_from (only k (child_answer x s)) 0 ns)
     answer-hands k s = all-hands (only k (child_answer x s)) (λ b i. told b i (nat_eq i k) (child_at i ns)) where
-      told : (b : List ℕ) (i : ℕ) (answers : Bool) (n : Node) → KidMoves x w b p q ns (Has x (map_from (only k (child_answer x s)) 0 ns)) [] i n (if answers then child_answer x s n else n)
+      told : (b : List ℕ) (i : ℕ) (answers : Bool) (n : Node) → KidMoves x w b p q ns (Has x ns (map_from (only k (child_answer x s)) 0 ns)) [] i n (if answers then child_answer x s n else n)
       told b i true n = kid_asked (answer-asked x s n)
       told b i false n = kid_fewer (same-fewer x n)
 
     pub exclusive-hands : (d : ℕ) (s : Stamp) → Hands x w p ns q (map_from (only d (child_take_exclusive x s)) 0 ns)
     exclusive-hands d s = all-hands (only d (child_take_exclusive x s)) (λ b i. told b i (nat_eq i d) (child_at i ns)) where
-      told : (b : List ℕ) (i : ℕ) (takes : Bool) (n : Node) → KidMoves x w b p q ns (Has x (map_from (only d (child_take_exclusive x s)) 0 ns)) [] i n (if takes then child_take_exclusive x s n else n)
+      told : (b : List ℕ) (i : ℕ) (takes : Bool) (n : Node) → KidMoves x w b p q ns (Has x ns (map_from (only d (child_take_exclusive x s)) 0 ns)) [] i n (if takes then child_take_exclusive x s n else n)
       told b i true n = kid_fewer (exclusive-fewer x s n)
       told b i false n = kid_fewer (same-fewer x n)

@@ -149,5 +149,5 @@ module _ (n : ℕ) (w : Where) (p : DirValue) (ns : List Node) (f : BusFacts n w
       let ms : List Node = map_from (only c child_reply_taken) 0 ns in
       let l : c < length ns = replies-there c ns _ has in
       let empty : queue_of x p.down ≡ [] = no-queue x p (answered-queue n x p ns f.bus f.kids within answering other (gift-given n x c words p ns f.bus f.kids within has)) in
-      let source : (b : List ℕ) → In (copy_here (where_path w) (bound_at w p) words) (hand_of x w b p (nodes ns)) = λ b. subst (λ o. In (cut o (copy_here (where_path w) (bound_at w p) words)) (hand_of x w b p (nodes ns))) (erased-none x w p empty) (in-kid x w b p q ns (Has x ms) c (copy_here (where_path w) (bound_at w p) words) l (reply-copy x (where_path w) (bound_at w p) (stamp_of p) c (child_at c ns) words has)) in
+      let source : (b : List ℕ) → In (copy_here (where_path w) (bound_at w p) words) (hand_of x w b p (nodes ns)) = λ b. subst (λ o. In (cut o (copy_here (where_path w) (bound_at w p) words)) (hand_of x w b p (nodes ns))) (erased-none x w p empty) (in-kid x w b p q ns (Has x ns ms) c (copy_here (where_path w) (bound_at w p) words) l (reply-copy x (where_path w) (bound_at w p) (stamp_of p) c (child_at c ns) words has)) in
       up-hands x w p q ns ms time f.ordered words (erased-same x w p q refl) (downs-same x w p q refl) refl (words-pushed x p.replies (record { item = x; words = words }) refl) source (map_from-length (only c child_reply_taken) 0 ns) (one-fewer x p ns c child_reply_taken (reply-fewer x))

@@ -1,19 +1,17 @@
 -- Claims in each row of a bus's turn: those of the children, and the parent's exclusives and injects.
 -- Letters: y is any item, p the parent, q after it, ns its children, g what was granted.
-use Rattle.std.proofs.Common.{◌≡◌, ◌≢◌, ℕ, ◌<◌, Bool, true, false, List, [], ◌∷◌, ◌++◌, length, Option, Some, None, refl, sym, ap, subst, ◌∙◌, inl, inr}
+use Rattle.std.proofs.Common.{◌≡◌, ℕ, ◌<◌, Bool, true, false, List, [], ◌∷◌, ◌++◌, length, Option, Some, None, refl, sym, ap, subst, ◌∙◌}
 use Rattle.std.specs.Prelude.{nat_eq, if◌then◌else◌}
 use native.Mathlib.Decide.{ℕ_discrete}
-use Rattle.ddm_types.specs.declared.answers.TxKind.TheVariants.{DataTx, ExclusiveTx}
+use Rattle.ddm_types.specs.declared.answers.TxKind.TheVariants.{DataTx}
 use Rattle.ddm_types.specs.declared.sizes.Hold.{Hold}
 use Rattle.ddm_types.specs.declared.keys.Stamp.{Stamp}
 use Rattle.tree_model.specs.declared.BusTurn.{BusTurn}
 use Rattle.tree_model.specs.State.Lists.{map_from, first_some}
 use Rattle.tree_model.specs.State.States.{is_exclusive}
-use Rattle.tree_model.specs.State.Values.{DownValue, DirItem, Note, no_note, up_erase, up_read, local, DirValue, Node}
-use Rattle.tree_model.specs.State.Leaf.{blank}
+use Rattle.tree_model.specs.State.Values.{DownValue, Note, no_note, up_erase, up_read, local, DirValue, Node}
 use Rattle.tree_model.specs.State.Directory.{is_top, dir_item, dir_hold, dir_note, queue_of, is_reader, pending, stamp_of, counted, front_taken, with_note, with_hold, with_answering, joined_by}
-use Rattle.tree_model.specs.State.Child.{child_lose, child_take_data, child_take_exclusive, child_answer, child_take_inject, child_give_up, child_request_taken, child_reply_taken, child_given}
-use Rattle.tree_model.specs.State.Place.{Where, at_top, at_child, stamp_above}
+use Rattle.tree_model.specs.State.Child.{child_take_data, child_take_exclusive, child_answer, child_take_inject, child_give_up, child_request_taken, child_reply_taken, child_given}
 use Rattle.tree_model.proofs.Children.{map_from-length, child_at-map_from}
 use Rattle.tree_rules.specs.Order.Claims.{gives_exclusive, last_exclusive}
 use Rattle.tree_rules.specs.Order.Moments.{moment_at}

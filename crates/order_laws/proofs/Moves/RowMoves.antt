@@ -27,6 +27,9 @@ use Rattle.order_laws.proofs.Moves.Hands.{Hands, beside-hands}
 use Rattle.order_laws.proofs.Moves.LeaveRows.{out_gone-row, parked-row, leave_to-row}
 use Rattle.order_laws.proofs.Moves.PlainRows.{request-hands}
 use Rattle.order_laws.proofs.Moves.RequestRows.{joins-row, read_from-row, read_of_parked-row, erase_of_all-row, reply_to_readers-row, reply_to_parent-row}
+use Rattle.order_laws.proofs.Moves.LeavesKept.{RowKept, row-kept}
+use Rattle.order_laws.proofs.Moves.RowErases.{RowErases, row-erases}
+use Rattle.order_laws.proofs.Moves.RowClaims.{RowClaim, row-claim}
 use Rattle.order_laws.proofs.Moves.RowTime.{RowTime, row-time}
 
 module _ (n : ℕ) (w : Where) (p : DirValue) (ns : List Node) (f : BusFacts n w p ns) where
@@ -60,11 +63,14 @@ module _ (n : ℕ) (w : Where) (p : DirValue) (ns : List Node) (f : BusFacts n w
   pub record RowMoves (g : Grant) : Type 0 where
     pub time : RowTime w p g.parent
     pub hands : (y : ℕ) → Hands y w p ns g.parent g.kids
+    pub claims : (y : ℕ) → RowClaim y (stamp_above w) p g.parent ns g.kids
+    pub erases : (y : ℕ) → RowErases y g.parent ns g.kids
+    pub leaves : RowKept ns g.kids
 
   pub row-moves : (t : BusTurn) (g : Grant) → Row (stamp_above w) p ns t g → RowMoves g
   row-moves t g row =
       let time : RowTime w p g.parent = row-time w p (nodes ns) f.ordered (stamp_above w) ns t g row in
-      record { time = time; hands = λ y. by time y (ℕ_discrete y g.item) } where
+      record { time = time; hands = λ y. by time y (ℕ_discrete y g.item); claims = λ y. row-claim (stamp_above w) p ns y t g row; erases = λ y. row-erases w p ns y n f t g row; leaves = row-kept ns (stamp_above w) p t g row } where
         by : RowTime w p g.parent → (y : ℕ) → Dec (y ≡ g.item) → Hands y w p ns g.parent g.kids
         by time y (yes same) = subst (λ z. Hands z w p ns g.parent g.kids) (sym same) (own-item t g row time)
         by time y (no other) = beside-hands y w p g.parent ns g.kids time (row-beside (stamp_above w) p ns y t g row other)

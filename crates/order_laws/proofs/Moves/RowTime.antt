@@ -16,7 +16,7 @@ use Rattle.tree_model.specs.Turns.Leave.{out_gone, leave_parked, leave_to}
 use Rattle.tree_model.proofs.Rows.{Row, row_joins, row_read_of_child, row_read_of_parked, row_read_of_parent, row_erase_of_all, row_reply_to_readers, row_reply_to_parent, row_exclusive_to, row_erase_of_children, row_read_by_child, row_read_by_parked, row_data_to_readers, row_inject_to_reader, row_inject_to_readers, row_inject_to_child, row_inject_parked, row_out_gone, row_out_parked, row_leave_to, row_inject_up}
 use Rattle.tree_rules.specs.Order.Moments.{GoesOn}
 use Rattle.order_laws.specs.Moves.Parent.{moment_in, erased_at}
-use Rattle.order_laws.proofs.Moves.Lift.{OrderedAt}
+use Rattle.order_laws.proofs.Moves.Ordered.{OrderedAt}
 use Rattle.order_laws.proofs.Moves.Next.{TurnTime, plain-time, plain-ends, taken-time, taken-ends}
 
 -- the new moment goes on from the parent's own ends

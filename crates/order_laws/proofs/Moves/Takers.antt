@@ -85,8 +85,8 @@ pub takes-gets : (n x : ℕ) → x < n → (words : List ℕ) (s : Stamp) (m : N
 takes-gets n x within words s (leaf_node v) ok may =
     let told = leaf_take_inject-told n x v ok words within may in
     let holds : is_held (leaf_hold x (leaf_take_inject x words v)) ≡ true = ap (λ f. is_held f.hold) told.here in
-    record { holds = holds; given = inject-leaf n x within words s v ok (taker-free n x v ok may) holds }
-takes-gets n x within words s (dir_node d ns) ok may = record { holds = holds; given = inject-dir x words s d ns } where
+    record { holds = holds; free = taker-free n x v ok may; given = inject-leaf n x within words s v ok (taker-free n x v ok may) holds }
+takes-gets n x within words s (dir_node d ns) ok may = record { holds = holds; free = tt; given = inject-dir x words s d ns } where
   there : x < length d.items
   there = subst (λ k. x < k) (sym (dir-parts n (length (children ns)) d ok.own).within.items) within
 

@@ -22,7 +22,7 @@ use Rattle.order_laws.proofs.Moves.Rise.{parent-rises, to-parent}
 use Rattle.order_laws.proofs.Moves.Child.{FewerWords, IsFewer, words-same}
 use Rattle.order_laws.proofs.Moves.Calls.{words-none}
 use Rattle.order_laws.proofs.Moves.Bus.{kid_fewer, sub-from, in-replies, in-parked}
-use Rattle.order_laws.proofs.Moves.Lift.{OrderedAt}
+use Rattle.order_laws.proofs.Moves.Ordered.{OrderedAt}
 use Rattle.order_laws.proofs.Moves.RowTime.{RowTime}
 use Rattle.order_laws.proofs.Moves.Hands.{Has, MoveAt, Hands, hands-with, downs-left, replies-left}
 
@@ -45,19 +45,19 @@ module _ (path old new : List ℕ) (H : ℕ → Type 0) (c : Spot) (at : path �
 
 module _ (x : ℕ) (w : Where) (p q : DirValue) (ns ms : List Node) (time : RowTime w p q) (ordered : OrderedAt w (dir_node p (nodes ns))) (words : List ℕ) where
   abbrev Move : CopyAt → CopyAt → Type 0
-  Move = MoveAt x w p q ms
+  Move = MoveAt x w p q ns ms
 
   -- a copy at the parent goes to its replies
   module _ (erased : erased_at x w q ≡ erased_at x w p) (down : Sub (downs_at x w q) (downs_at x w p)) (parked : words_of_item x q.parked ≡ words_of_item x p.parked) (replies : words_of_item x q.replies ≡ words_of_item x p.replies ++ words ∷ []) (source : (b : List ℕ) → In (copy_here (where_path w) (bound_at w p) words) (hand_of x w b p (nodes ns))) where
     up-replies : (b : List ℕ) → IsBoundAt w b → AllFrom Move (hand_of x w b p (nodes ns)) (replies_up x w b q)
     up-replies b is = by w refl where
       unchanged : (c : Spot) → w ≡ at_child c → Sub (copies_here c.above b (words_of_item x p.replies)) (hand_of x w b p (nodes ns))
-      unchanged c e k h = in-replies x w b p q ns (Has x ms) k (subst (λ u. In k (replies_up x u b p)) (sym e) h)
+      unchanged c e k h = in-replies x w b p q ns (Has x ns ms) k (subst (λ u. In k (replies_up x u b p)) (sym e) h)
 
       new : (c : Spot) → w ≡ at_child c → From Move (hand_of x w b p (nodes ns)) (copy_here c.above b words)
       new c e =
           let past : less (spot_moment c) (bound_at w p) ≡ false = above-past c e in
-          record { source = copy_here (where_path w) (bound_at w p) words; there = source b; related = sent (where_path w) (moment_in w p) (moment_in w q) (Has x ms) c (ap where_path e) (bound_at w p) b words past (subst (λ u. IsBoundAt u b) e is) } where
+          record { source = copy_here (where_path w) (bound_at w p) words; there = source b; related = sent (where_path w) (moment_in w p) (moment_in w q) (Has x ns ms) c (ap where_path e) (bound_at w p) b words past (subst (λ u. IsBoundAt u b) e is) } where
             above-past : (c : Spot) → w ≡ at_child c → less (spot_moment c) (bound_at w p) ≡ false
             above-past c e =
                 let o : OrderedAt (at_child c) (dir_node p (nodes ns)) = subst (λ u. OrderedAt u (dir_node p (nodes ns))) e ordered in
@@ -68,7 +68,7 @@ module _ (x : ℕ) (w : Where) (p q : DirValue) (ns ms : List Node) (time : RowT
       by (at_child c) e =
           let before : List CopyAt = copies_here c.above b (words_of_item x p.replies) in
           let all : List CopyAt = hand_of x w b p (nodes ns) in
-          let both : AllFrom Move all (before ++ copy_here c.above b words ∷ []) = each-append (From Move all) before (copy_here c.above b words ∷ []) (sub-from x w b p q ns (Has x ms) before (unchanged c e)) (new c e, tt) in
+          let both : AllFrom Move all (before ++ copy_here c.above b words ∷ []) = each-append (From Move all) before (copy_here c.above b words ∷ []) (sub-from x w b p q ns (Has x ns ms) before (unchanged c e)) (new c e, tt) in
           let listed : copies_here c.above b (words_of_item x q.replies) ≡ before ++ copy_here c.above b words ∷ [] = ap (copies_here c.above b) replies ∙ map-append (copy_here c.above b) (words_of_item x p.replies) (words ∷ []) in
           subst (λ u. AllFrom Move all (replies_up x u b q)) (sym e) (subst (λ l. AllFrom Move all l) (sym listed) both)
 
@@ -88,7 +88,7 @@ module _ (x : ℕ) (w : Where) (p q : DirValue) (ns ms : List Node) (time : RowT
     down-from : (b : List ℕ) → AllFrom Move (hand_of x w b p (nodes ns)) (downs_at x w q)
     down-from b = by w refl where
       parked-in : In (copy_here (where_path w) (bound_at w p) words) (hand_of x w b p (nodes ns))
-      parked-in = subst (λ o. In (cut o (copy_here (where_path w) (bound_at w p) words)) (hand_of x w b p (nodes ns))) (no-erased w) (in-parked x w b p q ns (Has x ms) (copy_here (where_path w) (bound_at w p) words) has)
+      parked-in = subst (λ o. In (cut o (copy_here (where_path w) (bound_at w p) words)) (hand_of x w b p (nodes ns))) (no-erased w) (in-parked x w b p q ns (Has x ns ms) (copy_here (where_path w) (bound_at w p) words) has)
 
       by : (u : Where) → w ≡ u → AllFrom Move (hand_of x w b p (nodes ns)) (downs_at x w q)
       by at_top at = subst (λ u. AllFrom Move (hand_of x w b p (nodes ns)) (downs_at x u q)) (sym at) tt
@@ -96,7 +96,7 @@ module _ (x : ℕ) (w : Where) (p q : DirValue) (ns ms : List Node) (time : RowT
           let all : List CopyAt = hand_of x w b p (nodes ns) in
           let o : OrderedAt (at_child c) (dir_node p (nodes ns)) = subst (λ u. OrderedAt u (dir_node p (nodes ns))) at ordered in
           let past : less (spot_moment c) (bound_at w p) ≡ false = subst (λ u. less (spot_moment c) (bound_at u p) ≡ false) (sym at) o.0.clocked.taken in
-          let moved : Move (copy_here (where_path w) (bound_at w p) words) (copy_here (where_path w) (spot_moment c) words) = to-parent (where_path w) (bound_at w p) (bound_at w q) (moment_in w p) (moment_in w q) (Has x ms) (spot_moment c) (copy_here (where_path w) (bound_at w p) words) (parent-rises (where_path w) (bound_at w p) (bound_at w q) (moment_in w p) (moment_in w q) (Has x ms) (bound_at w p) (spot_moment c) words past) in
+          let moved : Move (copy_here (where_path w) (bound_at w p) words) (copy_here (where_path w) (spot_moment c) words) = to-parent (where_path w) (bound_at w p) (bound_at w q) (moment_in w p) (moment_in w q) (Has x ns ms) (spot_moment c) (copy_here (where_path w) (bound_at w p) words) (parent-rises (where_path w) (bound_at w p) (bound_at w q) (moment_in w p) (moment_in w q) (Has x ns ms) (bound_at w p) (spot_moment c) words past) in
           let one : From Move all (copy_here (where_path w) (spot_moment c) words) = record { source = copy_here (where_path w) (bound_at w p) words; there = parked-in; related = moved } in
           let stamped : e.stamp ≡ c.present = stamp ∙ ap stamp_above at in
           let list : downs (spot_path c) c.above (queue_of x q.down) ≡ copy_here (where_path w) (spot_moment c) words ∷ [] = ap (downs (spot_path c) c.above) queue ∙ (rw kind refl ∙ (ap (λ (s : Stamp). copy_here (spot_path c) (moment_at c.above s) e.words ∷ []) stamped ∙ (ap (λ t. copy_here (spot_path c) (spot_moment c) t ∷ []) text ∙ ap (λ u. copy_here (where_path u) (spot_moment c) words ∷ []) (sym at)))) in

@@ -1,11 +1,11 @@
-use Rattle.std.proofs.Common.{◌≡◌, ◌<◌, ◌≤◌, ◌+◌, ◌++◌, ◌∷◌, [], ◌∙◌, ℕ, List, length, map, take, drop, All, refl, sym, ap, subst, arith}
+use Rattle.std.proofs.Common.{◌≡◌, ◌<◌, ◌≤◌, ◌+◌, ◌++◌, ◌∷◌, [], ◌∙◌, length, map, take, drop, All, sym, ap, subst, arith}
 use Rattle.std.specs.Prelude.{slice_index_or, sum}
-use Rattle.std.specs.Vec.Iter.{into_iter_items, into_iter_len}
-use Rattle.std.proofs.lemmas.List.{append_assoc, length-map, map-append}
-use Rattle.tree_model.specs.State.Values.{Node, dir_node, nodes}
+use Rattle.std.specs.Vec.Iter.{into_iter_items}
+use Rattle.std.proofs.lemmas.List.{map-append}
+use Rattle.tree_model.specs.State.Values.{dir_node, nodes}
 use Rattle.tree_model.specs.Start.Nodes.{cut_in, dir_over, dir_sizes, dirs_over}
 use Rattle.ddm_tree.specs.Holders.{IsHolder}
-use Rattle.ddm_tree.proofs.Gathered.{all-drop, all-take, drop-less, map-drop, map-take, next-dirs, next-sum, one-dir, take-some, width-at}
+use Rattle.ddm_tree.proofs.Gathered.{all-drop, all-take, drop-less, map-drop, map-take, next-sum, one-dir, take-some, width-at}
 use Rattle.ddm_tree.proofs.over.directories.Goals as goal
 
 pub directory-requires : goal.directory-requires
@@ -39,8 +39,9 @@ loop-i-preserved g c =
     let pushed = ap (λ ds. map (λ d. dir_node d.state (nodes (map g.C.Agent.value d.children.items))) ds) c.in_ok-push.ensures.items ∙ map-append (λ d. dir_node d.state (nodes (map g.C.Agent.value d.children.items))) c.loop-i.dirs.items (c.in_ok-directory.field-0 ∷ []) in
     let made = map (λ d. dir_node d.state (nodes (map g.C.Agent.value d.children.items))) c.loop-i.dirs.items in
     let whole = one-dir sizes c.args.level c.args.first k c.args.widths.now w ns made dir (map g.C.Agent.value (into_iter_items c.take_next.new.rest)) _ c.loop-i-test.true at is rest_nodes inv.0 in
-    let left = drop-less w xs (sum (drop (k + 1) c.args.widths.now)) (sym inv.2 ∙ total) in
-    (ap (λ ds. ds ++ dirs_over sizes c.args.level (c.args.first + (k + 1)) (cut_in (drop (k + 1) c.args.widths.now) (map g.C.Agent.value (into_iter_items c.take_next.new.rest)))) pushed ∙ whole,
+    let left = drop-less w xs (sum (drop (k + 1) c.args.widths.now)) (sym inv.2 ∙ total) in (
+      ap (λ ds. ds ++ dirs_over sizes c.args.level (c.args.first + (k + 1)) (cut_in (drop (k + 1) c.args.widths.now) (map g.C.Agent.value (into_iter_items c.take_next.new.rest)))) pushed ∙ whole,
       c.in_ok-own.ensures.known,
       sym left ∙ ap length (sym c.in_ok-own.ensures.rest),
-      subst (All (IsHolder c.args.items)) (sym rest_nodes) (all-drop (IsHolder c.args.items) w ns inv.3))
+      subst (All (IsHolder c.args.items)) (sym rest_nodes) (all-drop (IsHolder c.args.items) w ns inv.3),
+    )

@@ -1,4 +1,4 @@
-use Rattle.std.proofs.Common.{Bool, ◌≡◌, ◌<◌, ◌≤◌, ◌+◌, ◌∙◌, length, map, All, refl, sym, ap, subst, arith}
+use Rattle.std.proofs.Common.{◌≡◌, ◌<◌, ◌≤◌, ◌∙◌, length, map, ap, arith}
 use Rattle.std.specs.Prelude.{slice_index_or, if◌then◌else◌, false}
 use Rattle.std.specs.List.{list_any}
 use Rattle.std.proofs.lemmas.List.{length-map}
@@ -8,8 +8,7 @@ use Rattle.tree_model.specs.State.Directory.{with_hold}
 use Rattle.tree_model.specs.State.States.{is_exclusive}
 use Rattle.tree_model.specs.State.Values.{dir_node, nodes}
 use Rattle.tree_model.specs.Start.Nodes.{dir_sizes, held_below, new_dir}
-use Rattle.item_states.specs.Parts.{node_items}
-use Rattle.ddm_tree.proofs.Gathered.{below-any, below-length, dir-more, holder-items, mixed, mixed-end, mixed-length, mixed-start}
+use Rattle.ddm_tree.proofs.Gathered.{below-any, below-length, dir-more, mixed, mixed-end, mixed-length, mixed-start}
 use Rattle.ddm_tree.proofs.over.directory.Goals as goal
 
 pub loop-item-init : goal.loop-item-init

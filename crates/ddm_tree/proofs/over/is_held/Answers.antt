@@ -1,5 +1,4 @@
-use Rattle.std.proofs.Common.{◌≡◌, ◌<◌, length, map, true, false, refl, sym, ap, subst, ◌∙◌, arith}
-use Rattle.std.proofs.lemmas.List.{length-map}
+use Rattle.std.proofs.Common.{◌≡◌, ◌<◌, true, false, refl, sym, ap, ◌∙◌}
 use Rattle.tree_model.specs.State.Child.{child_hold}
 use Rattle.tree_model.specs.State.States.{is_exclusive}
 use Rattle.item_states.specs.Parts.{node_items}

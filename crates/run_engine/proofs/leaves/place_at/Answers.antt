@@ -1,8 +1,7 @@
-use Rattle.std.proofs.Common.{rules, ◌≡◌, ◌<◌, ℕ, Bool, true, false, length, get_or, set, Option, Some, None, refl, sym, ap, subst, ◌∙◌, arith}
-use Rattle.std.specs.Prelude.{is_ok, is_some, if◌then◌else◌, slice_index_or, slice_set}
+use Rattle.std.proofs.Common.{◌≡◌, sym, ap, ◌∙◌}
+use Rattle.std.specs.Prelude.{is_ok, is_some, slice_index_or, slice_set}
 use Rattle.tree_model.specs.State.Leaf.{free_way}
-use Rattle.tree_model.specs.State.Lists.{map_from}
-use Rattle.tree_model.specs.Start.Nodes.{has_way, placed, placed_at}
+use Rattle.tree_model.specs.Start.Nodes.{has_way, placed}
 use Rattle.run_engine.proofs.Placing.{placed-after, way-at, way-told}
 use Rattle.run_engine.proofs.leaves.place_at.Goals as goal
 

@@ -1,4 +1,4 @@
-use Rattle.std.proofs.Common.{rules, ◌≡◌, ◌<◌, ◌≤◌, ◌+◌, ◌%◌, ℕ, length, true, false, Some, refl, sym, ap, subst, ◌∙◌, arith, All}
+use Rattle.std.proofs.Common.{rules, ◌≡◌, ◌<◌, ◌+◌, ◌%◌, length, true, false, Some, refl, sym, ap, ◌∙◌, arith, All}
 use Rattle.std.proofs.lemmas.Nat.{mod_below}
 use Rattle.tree_model.specs.State.Lists.{map_from}
 use Rattle.tree_model.specs.Start.Nodes.{has_way, leaf_for, placed_at}

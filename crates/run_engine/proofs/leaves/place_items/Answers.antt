@@ -1,6 +1,6 @@
-use Rattle.std.proofs.Common.{◌≡◌, ◌<◌, ◌≤◌, ◌+◌, ℕ, length, drop, rules, refl, sym, ap, subst, ◌∙◌, arith, All}
+use Rattle.std.proofs.Common.{◌<◌, ◌+◌, length, drop, rules, refl, sym, ap, subst, ◌∙◌, arith, All}
 use Rattle.std.proofs.lemmas.List.{drop_all}
-use Rattle.tree_model.specs.Start.Nodes.{leaf_for, placed_in, placed_items}
+use Rattle.tree_model.specs.Start.Nodes.{placed_items}
 use Rattle.run_engine.proofs.Open.{IsOpen, blank-open, open-more, open-takes, placed-end, placed-next}
 use Rattle.run_engine.proofs.leaves.place_items.Goals as goal
 
@@ -17,9 +17,10 @@ loop-item-preserved g c =
     let k = c.loop-item.item in
     let w = c.index-words-item.result in
     let ls = c.loop-item.leaves in
-    let next = open-more (length c.args.words.now) k w ls c.loop-item.invariant.0 in
-    (subst (λ ms. All (IsOpen (length c.args.words.now) (k + 1)) ms) (sym c.place_item.ensures) next,
-      c.loop-item.invariant.1 ∙ placed-next k c.args.words.now w ls c.loop-item-test.true c.index-words-item.is ∙ ap (placed_items (k + 1) (drop (k + 1) c.args.words.now)) (sym c.place_item.ensures))
+    let next = open-more (length c.args.words.now) k w ls c.loop-item.invariant.0 in (
+      subst (λ ms. All (IsOpen (length c.args.words.now) (k + 1)) ms) (sym c.place_item.ensures) next,
+      c.loop-item.invariant.1 ∙ placed-next k c.args.words.now w ls c.loop-item-test.true c.index-words-item.is ∙ ap (placed_items (k + 1) (drop (k + 1) c.args.words.now)) (sym c.place_item.ensures),
+    )
 
 pub returns : goal.returns
 returns g c = sym (c.loop-item.invariant.1 ∙ placed-end c.loop-item.item c.args.words.now c.loop-item.leaves (drop_all c.loop-item.item c.args.words.now c.loop-item-test.false))

@@ -1,4 +1,4 @@
-use Rattle.std.proofs.Common.{rules, ◌≡◌, ◌<◌, ◌≤◌, ◌*◌, ℕ, length, map, refl, sym, ap, subst, ◌∙◌, arith}
+use Rattle.std.proofs.Common.{rules, ◌≡◌, length, map, sym, ap, subst, ◌∙◌, arith}
 use Rattle.std.specs.List.{range_with_len}
 use Rattle.ddm_types.specs.ItemTable.{item_count}
 use Rattle.tree_model.specs.Start.Nodes.{leaf_sizes, new_leaf, placed_items}
@@ -30,6 +30,6 @@ returns g c =
     let back = items-back c.in_ok-leaves.leaves.items c.place_items.new.leaves c.in_ok-leaves.leaves.len whole same in
     let start = c.start_of_harts-start.result in
     let made : c.deref_mut.result.now ≡ map (new_leaf (leaf_sizes c.args.tree.now.sizes g.row.WAYS g.row.WORDS) start (item_count c.args.items.now)) (range_with_len 0 start.harts) =
-        c.deref_mut.ensures.value ∙ c.in_ok-leaves.ensures ∙ ap (λ s. map (new_leaf (leaf_sizes s g.row.WAYS g.row.WORDS) start c.len.result) (range_with_len 0 start.harts)) c.sizes.ensures.sizes ∙ ap (λ n. map (new_leaf (leaf_sizes c.args.tree.now.sizes g.row.WAYS g.row.WORDS) start n) (range_with_len 0 start.harts)) c.len.ensures in
+    c.deref_mut.ensures.value ∙ c.in_ok-leaves.ensures ∙ ap (λ s. map (new_leaf (leaf_sizes s g.row.WAYS g.row.WORDS) start c.len.result) (range_with_len 0 start.harts)) c.sizes.ensures.sizes ∙ ap (λ n. map (new_leaf (leaf_sizes c.args.tree.now.sizes g.row.WAYS g.row.WORDS) start n) (range_with_len 0 start.harts)) c.len.ensures in
     let placed = c.place_items.ensures ∙ ap (λ ws. placed_items 0 ws c.deref_mut.result.now) c.deref-2.ensures.value ∙ ap (placed_items 0 c.in_ok-words.words.items) made in
     back ∙ leaves-start c.args.tree.now c.args.image.now g.row.WORDS c.requires.size c.args.items.now c.in_ok-words.words.items start g.row.WAYS c.place_items.new.leaves c.requires.ways c.requires.items words c.start_of_harts-start.ensures.start placed

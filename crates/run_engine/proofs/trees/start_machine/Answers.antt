@@ -1,7 +1,7 @@
-use Rattle.std.proofs.Common.{rules, ◌≡◌, ◌<◌, ◌≤◌, ◌*◌, ℕ, length, map, refl, sym, ap, subst, ◌∙◌, arith, IfOk}
+use Rattle.std.proofs.Common.{rules, ◌≡◌, map, ap, subst, arith, IfOk}
 use Rattle.ddm_types.specs.declared.sizes.TreeCounts.{TreeCounts}
 use Rattle.ddm_types.specs.ItemTable.{item_count}
-use Rattle.ddm_tree.specs.Machine.{MachineState, new_machine}
+use Rattle.ddm_tree.specs.Machine.{MachineState}
 use Rattle.tree_config.specs.Levels.{IsShape}
 use Rattle.tree_config.specs.Ranges.{IsInRange}
 use Rattle.start_parts.specs.Counts.{counts_of}
