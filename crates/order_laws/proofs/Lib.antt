@@ -1,4 +1,5 @@
 pub mod Hart
 pub mod Timed
 pub mod Moves
+pub mod Grant
 pub mod EveryTurn

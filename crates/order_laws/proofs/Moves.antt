@@ -1,3 +1,4 @@
+pub mod Below
 pub mod Sources
 pub mod Cuts
 pub mod Queues
@@ -38,3 +39,7 @@ pub mod ClaimsHere
 pub mod KidErases
 pub mod RowErases
 pub mod LeavesKept
+pub mod ClockKept
+pub mod TurnFrame
+pub mod WordsKept
+pub mod ClaimsAfterOps

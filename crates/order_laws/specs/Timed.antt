@@ -7,7 +7,7 @@ use Rattle.tree_model.specs.State.Shape.{IsShaped}
 use Rattle.tree_model.specs.Turns.Machine.{turn_of}
 use Rattle.tree_rules.specs.Bus.Own.{IsTopOk}
 use Rattle.tree_rules.specs.Order.Rules.{IsTimed}
-use Rattle.order_lists.specs.Times.{AreCommandsPast as CommandsArePastTaken}
+use Rattle.order_lists.specs.Commands.{CommandsArePastTaken}
 
 -- a turn that completes no instruction keeps the rules of time
 abbrev pub TurnKeepsTime : Type 0

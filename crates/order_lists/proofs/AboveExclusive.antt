@@ -12,8 +12,8 @@ use Rattle.tree_model.specs.State.States.{is_held, is_exclusive, is_shared}
 use Rattle.tree_model.specs.State.Values.{Note, no_note, local, up_read, up_erase}
 use Rattle.tree_model.specs.State.Directory.{is_up_erase}
 use Rattle.tree_rules.specs.Bus.Faces.{ChildFace, ParentFace}
-use Rattle.tree_rules.proofs.Implying.{implies-use}
 use Rattle.tree_rules.specs.Bus.Item.{implies, holds_it, holds_exclusive, one_holds, granted_fits, child_passes, may_erase, eraser_is_granted, moves_copies, copies_in, starts_for, bits_of, ItemRules, exclusive_alone, exclusive_covered, queue_start, erased_shared, up_erase_noted, granted_held, exclusive_noted}
+use Rattle.order_lists.proofs.NoHold.{implied}
 
 pub shared_not_exclusive : (h : Hold) → is_shared h ≡ true → is_exclusive h ≡ false
 shared_not_exclusive Hold.Invalid k = refl
@@ -45,7 +45,7 @@ one_holder zero (c ∷ cs) each h l m = go (holds_exclusive c) refl l where
   parts = and_parts c.erases (holds_it c) h
 
   shared : is_shared c.hold ≡ true
-  shared = implies-use c.erases (is_shared c.hold) (and_parts (implies c.reads (not (holds_it c))) (implies c.erases (is_shared c.hold)) (and_parts (granted_fits c) (list_all granted_fits cs) each).0).1 parts.0
+  shared = implied c.erases (is_shared c.hold) (and_parts (implies c.reads (not (holds_it c))) (implies c.erases (is_shared c.hold)) (and_parts (granted_fits c) (list_all granted_fits cs) each).0).1 parts.0
 
   alone : list_any holds_it cs ≡ false
   alone = not-true _ (rw parts.1 at m)
@@ -87,7 +87,7 @@ module _ (p : ParentFace) (cs : List ChildFace) (rules : ItemRules p cs) (some :
   held = holder_of_exclusive cs some
 
   sole : (if p.parked then not (list_any holds_it cs) else one_holds cs) ≡ true
-  sole = implies-use (list_any holds_exclusive cs) (bits_of p cs).sole (rules.each exclusive_alone) some
+  sole = implied (list_any holds_exclusive cs) (bits_of p cs).sole (rules.each exclusive_alone) some
 
   none_copies : (ks : List TxKind) → copies_in p.queue ≡ ks → starts_for (p.parked || list_any holds_it cs) ks ≡ true → copies_in p.queue ≡ []
   none_copies [] e h = e
@@ -96,7 +96,7 @@ module _ (p : ParentFace) (cs : List ChildFace) (rules : ItemRules p cs) (some :
     erased i = any_filter (is_kind EraseTx) moves_copies p.queue (subst (λ l. list_any (is_kind EraseTx) l ≡ true) (sym e) (or_left (is_kind EraseTx k) _ i))
 
     go : (t : Bool) → is_kind EraseTx k ≡ t → beq true t ≡ true → ⊥
-    go true i h = true≢false (sym some ∙ not-true _ (implies-use (has_kind EraseTx p.queue) (not (list_any holds_exclusive cs)) (rules.each erased_shared) (erased i)))
+    go true i h = true≢false (sym some ∙ not-true _ (implied (has_kind EraseTx p.queue) (not (list_any holds_exclusive cs)) (rules.each erased_shared) (erased i)))
     go false i h = false≢true h
 
   not_parked : (t : Bool) → p.parked ≡ t → (if t then not (list_any holds_it cs) else one_holds cs) ≡ true → (p.parked ≡ false) × (one_holds cs ≡ true)
@@ -111,13 +111,13 @@ module _ (p : ParentFace) (cs : List ChildFace) (rules : ItemRules p cs) (some :
 
   none_exclusive : (t : Bool) → has_kind ExclusiveTx p.queue ≡ t → has_kind ExclusiveTx p.queue ≡ false
   none_exclusive true e =
-      let noted : is_up_erase p.note ≡ true = (and_parts (is_up_erase p.note) _ (implies-use (has_kind ExclusiveTx p.queue) _ (rules.each exclusive_noted) e)).0 in
-      absurd (no_upgrade p.note noted (and_parts (eraser_is_granted p.note cs) _ (implies-use (is_up_erase p.note) _ (rules.each up_erase_noted) noted)).0)
+      let noted : is_up_erase p.note ≡ true = (and_parts (is_up_erase p.note) _ (implied (has_kind ExclusiveTx p.queue) _ (rules.each exclusive_noted) e)).0 in
+      absurd (no_upgrade p.note noted (and_parts (eraser_is_granted p.note cs) _ (implied (is_up_erase p.note) _ (rules.each up_erase_noted) noted)).0)
   none_exclusive false e = e
 
   pub above_exclusive : IsAboveExclusive p cs
   above_exclusive = record {
-    hold = implies-use (list_any holds_exclusive cs) (is_exclusive p.hold) (rules.each exclusive_covered) some;
+    hold = implied (list_any holds_exclusive cs) (is_exclusive p.hold) (rules.each exclusive_covered) some;
     copies = none_copies (copies_in p.queue) refl (rules.each queue_start);
     no_exclusive = none_exclusive (has_kind ExclusiveTx p.queue) refl;
     parked = (not_parked p.parked refl sole).0;

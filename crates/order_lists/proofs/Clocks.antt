@@ -1,19 +1,23 @@
 -- Clocks don't run ahead: what stands below a bus goes on from a moment of it that isn't greater than the present one.
-use Rattle.std.proofs.Common.{◌≡◌, ℕ, ◌+◌, ◌<◌, true, false, List, [], ◌∷◌, ◌++◌, length, take, refl, sym, ap, subst, ◌∙◌, arith}
+-- A directory's own bus goes on from what it took over of the bus above, and a leaf from its bus.
+use Rattle.std.proofs.Common.{◌≡◌, ℕ, ◌+◌, ◌*◌, ◌<◌, false, List, [], ◌∷◌, ◌++◌, length, take, refl, sym, ap, subst, ◌∙◌, arith}
 use Rattle.std.specs.List.{AllByRecursion}
-use Rattle.std.proofs.lemmas.Bool.{true≢false}
 use Rattle.std.proofs.lemmas.List.{take_at, take_all, length-append}
 use Rattle.tree_model.specs.State.Values.{DirValue, Node, Nodes, leaf_node, dir_node, no_nodes, more_nodes}
 use Rattle.tree_model.specs.State.Directory.{stamp_of}
 use Rattle.tree_model.specs.State.Place.{Spot, spot_path, spot_in}
-use Rattle.tree_rules.specs.Order.Moments.{less, moment_at, moment_length, spot_moment, is_under, GoesOn}
-use Rattle.tree_rules.specs.Order.Places.{LeafAt, leaf_path, leaf_now, DirAt, dir_path, leaves_in, placed_leaves, dirs_in, placed_dirs}
-use Rattle.tree_rules.specs.Order.Directories.{IsClocked}
-use Rattle.order_lists.specs.Times.{IsKnownAt}
-use Rattle.order_lists.proofs.Filters.{each-weaker, each-both, each-append, each-left, each-right}
+use Rattle.tree_rules.specs.Order.Moments.{less, moment_at, spot_moment, GoesOn}
+use Rattle.tree_rules.specs.Order.Places.{LeafAt, leaf_now, DirAt, dir_path, taken_moment, present_moment, leaves_in, placed_leaves, dirs_in, placed_dirs}
+use Rattle.order_lists.proofs.Filters.{each-weaker, each-append, each-left, each-right}
 use Rattle.order_lists.proofs.Moments.{less-irreflexive, GoesOn-trans}
-use Rattle.order_lists.proofs.Stamps.{moment_at-above, moment_at-stamp, moment_at-length}
-use Rattle.order_lists.proofs.Paths.{IsFrom, under-trans, under-shorter, leaves_under, placed_from, dirs_under, dirs_from}
+use Rattle.order_lists.proofs.Stamps.{moment_at-above, moment_at-stamp, moment_at-length, same_length}
+
+-- what the shape and the rules of time say of a directory: it knows how many buses are above its own, three at most, and its
+-- bus took over no stamp past the present one above
+pub record IsClocked (c : DirAt) : Type 0 where
+  pub level : c.dir.level ≡ length (dir_path c)
+  pub deep : length (dir_path c) < 4
+  pub taken : less (present_moment c) (taken_moment c) ≡ false
 
 -- ---- lists that go on
 
@@ -27,32 +31,30 @@ goes_on-same_length a b l h = record { longer = omega arith; at_most = subst (λ
 
 -- ---- the moments of a directory
 
+pub shallow : (c : Spot) → length (spot_path c) < 4 → length c.above < 4
+shallow c h = let e : length (spot_path c) ≡ length c.above + 1 = length-append c.above (c.number ∷ []) in omega (arith, e, h)
+
 module _ (c : Spot) (d : DirValue) where
   abbrev pub here : DirAt
   here = record { spot = c; dir = d }
 
-  one_more : length (spot_path c) ≡ length c.above + 1
-  one_more = length-append c.above (c.number ∷ [])
-
-  pub shallow : IsClocked here → length c.above < 4
-  shallow k = omega (arith, one_more, k.deep)
-
   -- its epoch isn't past the present stamp above
   pub epoch_goes_on : IsClocked here → GoesOn (moment_at c.above d.epoch) (spot_moment c)
-  epoch_goes_on k = goes_on-same_length _ _ (moment_at-length c.above d.epoch (shallow k) ∙ sym (moment_at-length c.above c.present (shallow k))) k.taken
+  epoch_goes_on k = goes_on-same_length _ _ (same_length c.above d.epoch c.present (shallow c k.deep)) k.taken
 
   -- the present stamp of its own bus goes on from its epoch
   pub stamp_goes_on : IsClocked here → GoesOn (moment_at (spot_path c) (stamp_of d)) (moment_at c.above d.epoch)
   stamp_goes_on k =
-      let same : moment_at c.above (stamp_of d) ≡ moment_at c.above d.epoch = moment_at-stamp c.above d.level d.count d.epoch (omega (arith, one_more, k.level)) (omega (arith, k.level, k.deep)) in
-      let size : length (moment_at c.above d.epoch) ≡ moment_length (length c.above) = moment_at-length c.above d.epoch (shallow k) in
-      let own : length (moment_at (spot_path c) (stamp_of d)) ≡ moment_length (length (spot_path c)) = moment_at-length (spot_path c) (stamp_of d) k.deep in
+      let e : length (spot_path c) ≡ length c.above + 1 = length-append c.above (c.number ∷ []) in
+      let same : moment_at c.above (stamp_of d) ≡ moment_at c.above d.epoch = moment_at-stamp c.above d.level d.count d.epoch (omega (arith, e, k.level)) (omega (arith, k.level, k.deep)) in
+      let size : length (moment_at c.above d.epoch) ≡ 2 * length c.above + 1 = moment_at-length c.above d.epoch (shallow c k.deep) in
+      let own : length (moment_at (spot_path c) (stamp_of d)) ≡ 2 * length (spot_path c) + 1 = moment_at-length (spot_path c) (stamp_of d) k.deep in
       record {
-        longer = omega (arith, one_more, size, own);
+        longer = omega (arith, e, size, own);
         at_most = subst (λ t. less (moment_at c.above d.epoch) t ≡ false) (sym (ap (λ l. take l (moment_at (spot_path c) (stamp_of d))) size ∙ moment_at-above c (stamp_of d) ∙ same)) (less-irreflexive (moment_at c.above d.epoch));
       }
 
-  -- what goes on from the present stamp of its bus goes on from that above
+  -- what goes on from the present stamp of its bus goes on from its epoch, and from the present stamp above
   pub below_goes_on : IsClocked here → (f : List ℕ) → GoesOn f (moment_at (spot_path c) (stamp_of d)) → GoesOn f (moment_at c.above d.epoch) × GoesOn f (spot_moment c)
   below_goes_on k f g =
       let epoch : GoesOn f (moment_at c.above d.epoch) = GoesOn-trans f _ _ g (stamp_goes_on k) in
@@ -70,26 +72,6 @@ mutual
 
   pub placed_go_on : (path : List ℕ) (d : DirValue) (i : ℕ) (ns : Nodes) → AllByRecursion IsClocked (placed_dirs path d i ns) → AllByRecursion (NowGoesOn (moment_at path (stamp_of d))) (placed_leaves path d i ns)
   placed_go_on path d i no_nodes h = tt
-  placed_go_on path d i (more_nodes n ns) h = each-append _ (leaves_in (spot_in path d i) n) (placed_leaves path d (i + 1) ns) (leaves_go_on (spot_in path d i) n (each-left _ (dirs_in (spot_in path d i) n) _ h)) (placed_go_on path d (i + 1) ns (each-right _ (dirs_in (spot_in path d i) n) _ h))
-
--- ---- a leaf below a directory is no further than the directory's epoch
-
-apart_left : (path : List ℕ) (i : ℕ) (b : DirAt) (a : LeafAt) → is_under (path ++ i ∷ []) (dir_path b) ≡ true → IsFrom path (i + 1) (leaf_path a) → IsKnownAt b a
-apart_left path i b a h f k = absurd (true≢false (sym (under-trans (path ++ i ∷ []) (dir_path b) (leaf_path a) h k) ∙ f.later i (omega arith)))
-
-apart_right : (path : List ℕ) (i : ℕ) (b : DirAt) (a : LeafAt) → IsFrom path (i + 1) (dir_path b) → is_under (path ++ i ∷ []) (leaf_path a) ≡ true → IsKnownAt b a
-apart_right path i b a f h k =
-    let e : length (path ++ i ∷ []) ≡ length path + 1 = length-append path (i ∷ []) in
-    absurd (true≢false (sym (under-shorter (path ++ i ∷ []) (dir_path b) (leaf_path a) h k (omega (arith, e, f.longer))) ∙ f.later i (omega arith)))
-
-mutual
-  pub leaves_known : (c : Spot) (n : Node) → AllByRecursion IsClocked (dirs_in c n) → AllByRecursion (λ b. AllByRecursion (IsKnownAt b) (leaves_in c n)) (dirs_in c n)
-  leaves_known c (leaf_node v) h = tt
-  leaves_known c (dir_node d ns) h = (each-weaker _ _ (λ a g k. (below_goes_on c d h.0 (leaf_now a) g).0) _ (placed_go_on (spot_path c) d 0 ns h.1), placed_known (spot_path c) d 0 ns h.1)
-
-  pub placed_known : (path : List ℕ) (d : DirValue) (i : ℕ) (ns : Nodes) → AllByRecursion IsClocked (placed_dirs path d i ns) → AllByRecursion (λ b. AllByRecursion (IsKnownAt b) (placed_leaves path d i ns)) (placed_dirs path d i ns)
-  placed_known path d i no_nodes h = tt
-  placed_known path d i (more_nodes n ns) h =
-      each-append _ (dirs_in (spot_in path d i) n) (placed_dirs path d (i + 1) ns)
-      (each-both _ _ _ (λ b known u. each-append (IsKnownAt b) (leaves_in (spot_in path d i) n) _ known (each-weaker _ _ (λ a f. apart_left path i b a u f) _ (placed_from path d (i + 1) ns))) _ (leaves_known (spot_in path d i) n (each-left _ (dirs_in (spot_in path d i) n) _ h)) (dirs_under (spot_in path d i) n))
-      (each-both _ _ _ (λ b known f. each-append (IsKnownAt b) (leaves_in (spot_in path d i) n) _ (each-weaker _ _ (λ a u. apart_right path i b a f u) _ (leaves_under (spot_in path d i) n)) known) _ (placed_known path d (i + 1) ns (each-right _ (dirs_in (spot_in path d i) n) _ h)) (dirs_from path d (i + 1) ns))
+  placed_go_on path d i (more_nodes n ns) h =
+      each-append _ (leaves_in (spot_in path d i) n) (placed_leaves path d (i + 1) ns) (leaves_go_on (spot_in path d i) n (each-left _ (dirs_in (spot_in path d i) n) _ h))
+      (placed_go_on path d (i + 1) ns (each-right _ (dirs_in (spot_in path d i) n) _ h))

@@ -5,14 +5,14 @@ use Rattle.std.specs.List.{AllByRecursion}
 use Rattle.std.proofs.lemmas.Bool.{true≢false, false_from_ne_true}
 use Rattle.std.proofs.lemmas.List.Elements.{filter-append}
 use Rattle.ddm_types.specs.declared.operations.Op.{Op}
+use Rattle.ddm_types.specs.Keys.{key_less}
 use Rattle.ddm_types.specs.CodeMap.{CodeWord}
 use Rattle.ddm_types.specs.ItemTable.{ItemTable}
 use Rattle.flat_model.specs.Flat.{FlatMachine, flat_hart}
-use Rattle.flat_model.specs.Legal.{changed_item, HasWholeWords, legal_step, legal_run, reservation}
+use Rattle.flat_model.specs.Legal.{is_of, changed_item, effect_item, HasWholeWords, legal_step, legal_run, reservation}
 use Rattle.flat_model.proofs.Runs.{legal_run_append}
 use Rattle.flat_model.proofs.Insert.{IsElsewhere, Elsewhere, EndsAlike}
 use Rattle.tree_model.specs.Turns.Witness.{sorted_ops}
-use Rattle.order_lists.specs.InKeyOrder.{ComesAfter}
 use Rattle.order_lists.proofs.Keys.{key_less-asymmetric}
 use Rattle.order_lists.proofs.Filters.{filter-yes, filter-no, each-weaker, each-passing}
 use Rattle.order_lists.proofs.Sorted.{IsNew, KeysDiffer, lesser, greater, sorted-each, sorted-rise, push}
@@ -29,8 +29,9 @@ module _ (code : List CodeWord) (items : ItemTable) where
     go (Some a) k h = (a, k, h)
 
   -- an operation that completes: those of its hart, and those on the item that it changes, are less
-  abbrev pub IsLatest : Op → Op → Type 0
-  IsLatest o p = ComesAfter items o p
+  pub record IsLatest (o p : Op) : Type 0 where
+    pub hart : is_of o.hart p ≡ true → key_less p.key o.key ≡ true
+    pub item : (y : ℕ) → changed_item items o.effect ≡ Some y → effect_item items p.effect ≡ Some y → key_less p.key o.key ≡ true
 
   greater_elsewhere : (o : Op) (ops : List Op) → AllByRecursion (IsLatest o) ops → Elsewhere items o.hart (changed_item items o.effect) (greater o ops)
   greater_elsewhere o ops h = each-passing _ _ ops (each-weaker _ _ (λ p l g. record { hart = false_from_ne_true _ (λ e. true≢false (sym (l.hart e) ∙ key_less-asymmetric o.key p.key g)); item = λ y at k. true≢false (sym (l.item y at k) ∙ key_less-asymmetric o.key p.key g) }) ops h)

@@ -1,41 +1,29 @@
 -- The crate's theorems as its contracts say them.
-use Rattle.std.proofs.Common.{◌≡◌, ℕ, ◌<◌, true, List, [], ◌∷◌, ◌++◌, Some, sym}
-use Rattle.std.specs.List.{AllByRecursion, list_any}
-use Rattle.std.proofs.lemmas.Bool.{or_left, or_right}
+use Rattle.std.proofs.Common.{◌≡◌, ℕ, ◌<◌, List, [], ◌∷◌, ◌++◌, Some, sym}
+use Rattle.std.specs.List.{AllByRecursion}
 use Rattle.ddm_types.specs.declared.operations.Op.{Op}
 use Rattle.ddm_types.specs.CodeMap.{CodeWord}
 use Rattle.ddm_types.specs.ItemTable.{ItemTable}
 use Rattle.flat_model.specs.Flat.{FlatMachine}
 use Rattle.flat_model.specs.Legal.{changed_item, HasWholeWords, legal_run}
 use Rattle.flat_model.proofs.Insert.{EndsAlike}
-use Rattle.tree_model.specs.State.Values.{Node, MachineValue}
-use Rattle.tree_model.specs.State.Place.{Spot}
+use Rattle.tree_model.specs.State.Values.{MachineValue}
 use Rattle.tree_model.specs.State.Shape.{IsShaped}
 use Rattle.tree_model.specs.Turns.Witness.{sorted_ops}
 use Rattle.tree_rules.specs.Statements.{Holds, each_pair}
-use Rattle.tree_rules.specs.Bus.Rules.{IsTreeOk, IsMachineOk, items_of_machine}
-use Rattle.tree_rules.specs.Order.Moments.{same_numbers}
-use Rattle.tree_rules.specs.Order.Copies.{copies_of, erases_in}
-use Rattle.tree_rules.specs.Order.Places.{dirs_in, leaves_at}
-use Rattle.tree_rules.specs.Order.Directories.{IsClocked, IsOrdered}
+use Rattle.tree_rules.specs.Bus.Rules.{IsMachineOk, items_of_machine}
+use Rattle.tree_rules.specs.Order.Copies.{copies_of}
+use Rattle.tree_rules.specs.Order.Places.{leaves_at}
 use Rattle.tree_rules.specs.Order.Time.{keys_differ}
 use Rattle.tree_rules.specs.Order.Rules.{IsTimed, IsCore, commands_past_taken, words_right, clocks_know, claims_after_ops, claims_after_copies}
 use Rattle.tree_rules.proofs.Statements.{facts-each}
 use Rattle.order_lists.specs.InKeyOrder.{is_before, InKeyOrder, StandsInOrder, ComesAfter, EndsWith, StaysLegal}
 use Rattle.order_lists.specs.Copies.{HasChangesToItsEnd, EndsAfterItsClock, IsAloneWhereExclusive}
-use Rattle.order_lists.specs.Times.{AreCommandsPast, IsInTime}
-use Rattle.order_lists.specs.Nodes.{KeepsTime, HoldsCopies}
 use Rattle.order_lists.proofs.Filters.{each-weaker, each-both}
-use Rattle.order_lists.proofs.Moments.{same_numbers-itself}
 use Rattle.order_lists.proofs.Sorted.{KeysRise, sorted-rise, sorted-permutation, push}
 use Rattle.order_lists.proofs.Listed.{IsNew-from_last, KeysDiffer-from_rule, each_pair-before, each_pair-last}
 use Rattle.order_lists.proofs.Completing.{StepsFrom, completing}
-use Rattle.order_lists.proofs.Clocks.{leaves_go_on}
-use Rattle.order_lists.proofs.Ends.{inner-timely, ends_later}
-use Rattle.order_lists.proofs.Holders.{claim_goes_on, erases_go_on, inner_ends}
-use Rattle.order_lists.proofs.NoHold.{none_held}
-use Rattle.order_lists.proofs.Found.{node_found}
-use Rattle.order_lists.proofs.State.{prepared, leaves_are_known, copies_timely, copies_late}
+use Rattle.order_lists.proofs.State.{copies_timely}
 use Rattle.order_lists.proofs.CopyWords.{words_of_copies}
 use Rattle.order_lists.proofs.Latest.{writer_is_past_ops, writer_is_alone}
 
@@ -51,7 +39,7 @@ stands-in_order ops o h = push ops o (KeysDiffer-from_rule ops (each_pair-before
 
 pub stays-legal : (code : List CodeWord) (items : ItemTable) (s without : FlatMachine) (ops : List Op) (o : Op) → HasWholeWords items → Holds (each_pair keys_differ (ops ++ o ∷ [])) → AllByRecursion (ComesAfter items o) ops → legal_run code items s (sorted_ops ops) ≡ Some without
     → StaysLegal code items s without ops o
-stays-legal code items s without ops o whole differ after run = go (completing code items s without ops o whole (KeysDiffer-from_rule ops (each_pair-before keys_differ ops o differ)) (IsNew-from_last ops o (each_pair-last keys_differ ops o differ)) after run) where
+stays-legal code items s without ops o whole differ after run = go (completing code items s without ops o whole (KeysDiffer-from_rule ops (each_pair-before keys_differ ops o differ)) (IsNew-from_last ops o (each_pair-last keys_differ ops o differ)) (each-weaker _ _ (λ p (c : ComesAfter items o p). record { hart = c.hart; item = c.item }) ops after) run) where
   go : StepsFrom code items s without ops o → StaysLegal code items s without ops o
   go f = record {
     behind = f.machine;
@@ -79,32 +67,3 @@ copies-end_late s m x shaped timed core = each-weaker _ _ (λ k t. t.end) (copie
 
 pub exclusive-alone : (s : FlatMachine) (m : MachineValue) (x : ℕ) → IsShaped m → IsMachineOk m → IsTimed m → IsCore s m → x < items_of_machine m → AllByRecursion (IsAloneWhereExclusive m x) (leaves_at m)
 exclusive-alone s m x shaped ok timed core below = each-both _ _ _ (λ a ops copies e. record { ops = ops e; copies = copies e }) (leaves_at m) (writer_is_past_ops s m x below ok shaped timed (core.copies x below claims_after_ops)) (writer_is_alone s m x below ok (core.copies x below claims_after_copies))
-
--- ---- clocks
-
--- each of a list is in it
-members : (xs ys : List (List ℕ)) → ((e : List ℕ) → list_any (same_numbers e) xs ≡ true → list_any (same_numbers e) ys ≡ true) → AllByRecursion (λ e. list_any (same_numbers e) ys ≡ true) xs
-members [] ys f = tt
-members (x ∷ xs) ys f = (f x (or_left (same_numbers x x) (list_any (same_numbers x) xs) (same_numbers-itself x)), members xs ys (λ e h. f e (or_right (same_numbers e x) (list_any (same_numbers e) xs) h)))
-
-pub node-in_time : (x : ℕ) (c : Spot) (n : Node) → AllByRecursion IsOrdered (dirs_in c n) → KeepsTime x c n
-node-in_time x c n h = record {
-  leaves = leaves_go_on c n (each-weaker IsOrdered IsClocked (λ d o. o.clocked) (dirs_in c n) h);
-  copies = inner-timely x c n h;
-  claim = claim_goes_on x c n h;
-  erases = erases_go_on x c n h;
-  ends = inner_ends (λ e. list_any (same_numbers e) (erases_in x c n) ≡ true) x c n (members (erases_in x c n) (erases_in x c n) (λ e i. i));
-}
-
-pub machine-in_time : (m : MachineValue) → IsShaped m → IsTimed m → AreCommandsPast m → IsInTime m
-machine-in_time m shaped timed past = record {
-  dirs = prepared m shaped timed past;
-  leaves = leaves_are_known m shaped timed;
-  ends = λ x. each-weaker _ _ (ends_later []) (copies_of x m) (copies_timely m shaped timed past x);
-  below = copies_late m shaped timed past;
-}
-
--- ---- what a node holds
-
-pub node-holds : (items x : ℕ) (c : Spot) (n : Node) → x < items → IsTreeOk items n → HoldsCopies x c n
-node-holds items x c n low ok = record { held = node_found items x c n low ok; unheld = none_held items x c n low ok }

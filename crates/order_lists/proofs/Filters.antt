@@ -2,8 +2,6 @@
 use Rattle.std.proofs.Common.{◌≡◌, Bool, true, false, ◌||◌, List, [], ◌∷◌, ◌++◌, filter, refl, sym, ap, ◌∙◌}
 use Rattle.std.specs.List.{AllByRecursion, list_all, list_any}
 use Rattle.std.proofs.lemmas.Bool.{and_parts}
-use Rattle.tree_rules.specs.Statements.{Statement, Holds, each, each_pair}
-use Rattle.tree_rules.proofs.Statements.{each-facts, facts-each}
 
 module _ {X : Type 0} where
   pub filter-yes : (p : X → Bool) (x : X) (xs : List X) → p x ≡ true → filter p (x ∷ xs) ≡ x ∷ filter p xs
@@ -88,14 +86,3 @@ module _ {X Y : Type 0} (R : X → Y → Type 0) where
   pub each-swap : (xs : List X) (ys : List Y) → AllByRecursion (λ x. AllByRecursion (R x) ys) xs → AllByRecursion (λ y. AllByRecursion (λ x. R x y) xs) ys
   each-swap xs [] h = tt
   each-swap xs (y ∷ ys) h = (each-weaker _ _ (λ x k. k.0) xs h, each-swap xs ys (each-weaker _ _ (λ x k. k.1) xs h))
-
-module _ {X : Type 0} where
-  pub holds-filter : (s : X → Statement) (p : X → Bool) (xs : List X) → Holds (each s xs) → Holds (each s (filter p xs))
-  holds-filter s p xs h = facts-each s (filter p xs) (each-filter (λ x. Holds (s x)) p xs (each-facts s xs h))
-
-  pub pairs-filter : (s : X → X → Statement) (p : X → Bool) (xs : List X) → Holds (each_pair s xs) → Holds (each_pair s (filter p xs))
-  pairs-filter s p [] h = tt
-  pairs-filter s p (x ∷ xs) h = go (p x) refl (pairs-filter s p xs h.1) where
-    go : (t : Bool) → p x ≡ t → Holds (each_pair s (filter p xs)) → Holds (each_pair s (filter p (x ∷ xs)))
-    go true e rest = rw e (holds-filter (s x) p xs h.0, rest)
-    go false e rest = rw e rest

@@ -27,13 +27,16 @@ use Rattle.tree_rules.specs.Order.Copies.{CopyAt, cut, first_erase, downs, copie
 use Rattle.tree_rules.specs.Order.Core.{any_op, words_until}
 use Rattle.tree_rules.specs.Order.Rules.{copy_rule, words_right}
 use Rattle.tree_rules.proofs.Statements.{each-facts}
-use Rattle.order_lists.specs.Found.{AnyOf, IsFound, IsFoundIn}
 use Rattle.order_lists.proofs.Moments.{same_numbers-true}
 use Rattle.order_lists.proofs.NoHold.{kinds, seen_hold}
 
 -- ---- some element
 
 module _ {X : Type 0} where
+  abbrev pub AnyOf : (X → Type 0) → List X → Type 0
+  AnyOf P [] = ⊥
+  AnyOf P (x ∷ xs) = P x ⊎ AnyOf P xs
+
   any-left : (P : X → Type 0) (xs ys : List X) → AnyOf P xs → AnyOf P (xs ++ ys)
   any-left P [] ys h = absurd h
   any-left P (x ∷ xs) ys (inl h) = inl h
@@ -48,6 +51,14 @@ module _ {X : Type 0} where
   any-gives P Q R f [] h k = absurd k
   any-gives P Q R f (x ∷ xs) h (inl k) = f x h.0 k
   any-gives P Q R f (x ∷ xs) h (inr k) = any-gives P Q R f xs h.1 k
+
+-- a copy with these words and no end
+abbrev pub IsFound : List ℕ → CopyAt → Type 0
+IsFound ws k = (k.end ≡ None) × (k.words ≡ ws)
+
+-- the words are there, and those of such a copy
+abbrev pub IsFoundIn : Option (List ℕ) → List CopyAt → Type 0
+IsFoundIn o ks = (ws : List ℕ) × (o ≡ Some ws) × AnyOf (IsFound ws) ks
 
 -- ---- down lists
 

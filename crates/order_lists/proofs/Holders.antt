@@ -7,7 +7,7 @@ use Rattle.tree_model.specs.State.Lists.{first_some}
 use Rattle.tree_model.specs.State.Kinds.{is_kind, brings_copy}
 use Rattle.tree_model.specs.State.States.{entry_hold, is_held}
 use Rattle.tree_model.specs.State.Values.{DownValue, DirValue, Node, Nodes, leaf_node, dir_node, no_nodes, more_nodes}
-use Rattle.tree_model.specs.State.Leaf.{LeafEntry, leaf_entry, words_of_item}
+use Rattle.tree_model.specs.State.Leaf.{words_of_item, LeafEntry, leaf_entry}
 use Rattle.tree_model.specs.State.Directory.{queue_of, stamp_of}
 use Rattle.tree_model.specs.State.Child.{child_replies}
 use Rattle.tree_model.specs.State.Place.{Spot, spot_path, spot_in}
@@ -15,15 +15,14 @@ use Rattle.tree_rules.specs.Order.Moments.{moment_at, spot_moment, GoesOn}
 use Rattle.tree_rules.specs.Order.Places.{dirs_in, placed_dirs}
 use Rattle.tree_rules.specs.Order.Copies.{CopyAt, cut, first_erase, downs, copies_here, entry_copies, inner, handed, erases_of, erases_in, erases_among}
 use Rattle.tree_rules.specs.Order.Claims.{gives_exclusive, last_exclusive, child_is_exclusive, claim, first_claim}
-use Rattle.tree_rules.specs.Order.Directories.{IsOrdered}
 use Rattle.order_lists.proofs.Filters.{each-weaker, each-append, each-left, each-right}
 use Rattle.order_lists.proofs.Moments.{GoesOn-refl}
 use Rattle.order_lists.proofs.Clocks.{epoch_goes_on, below_goes_on}
-use Rattle.order_lists.proofs.Ends.{queue-below, some_first, first_erase-each}
+use Rattle.order_lists.proofs.Queues.{IsOrdered, queue-below, some_first, first_erase-each}
 
 -- ---- claims
 
-last-each : (P : List ℕ → Type 0) (above : List ℕ) (q : List DownValue) → AllByRecursion (λ e. P (moment_at above e.stamp)) q → IfSome (last_exclusive above q) P
+pub last-each : (P : List ℕ → Type 0) (above : List ℕ) (q : List DownValue) → AllByRecursion (λ e. P (moment_at above e.stamp)) q → IfSome (last_exclusive above q) P
 last-each P above [] h = tt
 last-each P above (e ∷ es) h = go (gives_exclusive e) refl (last-each P above es h.1) where
   go : (t : Bool) → gives_exclusive e ≡ t → IfSome (last_exclusive above es) P → IfSome (last_exclusive above (e ∷ es)) P
@@ -34,11 +33,14 @@ last-each P above (e ∷ es) h = go (gives_exclusive e) refl (last-each P above 
 mutual
   pub claim_goes_on : (x : ℕ) (c : Spot) (n : Node) → AllByRecursion IsOrdered (dirs_in c n) → GoesOn (claim x c n) (spot_moment c)
   claim_goes_on x c (leaf_node v) h = GoesOn-refl (spot_moment c)
-  claim_goes_on x c (dir_node d ns) h = go (first_some (last_exclusive c.above (queue_of x d.down)) (first_claim x (spot_path c) d 0 ns)) refl (some_first (last_exclusive c.above (queue_of x d.down)) _ (λ t. GoesOn t (spot_moment c)) (last-each _ c.above (queue_of x d.down) (queue-below x c d h.0)) (first_claim_goes_on x (spot_path c) (spot_moment c) d 0 ns (λ f g. (below_goes_on c d h.0.clocked f g).1) h.1)) where
-    go : (o : Option (List ℕ)) → first_some (last_exclusive c.above (queue_of x d.down)) (first_claim x (spot_path c) d 0 ns) ≡ o → IfSome o (λ t. GoesOn t (spot_moment c)) → GoesOn (claim x c (dir_node d ns)) (spot_moment c)
-    go None e g = rw e (epoch_goes_on c d h.0.clocked)
-    go (Some t) e g = rw e g
+  claim_goes_on x c (dir_node d ns) h =
+      go (first_some (last_exclusive c.above (queue_of x d.down)) (first_claim x (spot_path c) d 0 ns)) refl
+      (some_first (last_exclusive c.above (queue_of x d.down)) _ (λ t. GoesOn t (spot_moment c)) (last-each _ c.above (queue_of x d.down) (queue-below x c d h.0)) (first_claim_goes_on x (spot_path c) (spot_moment c) d 0 ns (λ f g. (below_goes_on c d h.0.clocked f g).1) h.1)) where
+        go : (o : Option (List ℕ)) → first_some (last_exclusive c.above (queue_of x d.down)) (first_claim x (spot_path c) d 0 ns) ≡ o → IfSome o (λ t. GoesOn t (spot_moment c)) → GoesOn (claim x c (dir_node d ns)) (spot_moment c)
+        go None e g = rw e (epoch_goes_on c d h.0.clocked)
+        go (Some t) e g = rw e g
 
+  -- what goes on from the bus's present moment goes on from the bound
   pub first_claim_goes_on : (x : ℕ) (path bound : List ℕ) (d : DirValue) (i : ℕ) (ns : Nodes) → ((f : List ℕ) → GoesOn f (moment_at path (stamp_of d)) → GoesOn f bound) → AllByRecursion IsOrdered (placed_dirs path d i ns) → IfSome (first_claim x path d i ns) (λ t. GoesOn t bound)
   first_claim_goes_on x path bound d i no_nodes up h = tt
   first_claim_goes_on x path bound d i (more_nodes n ns) up h = go (child_is_exclusive x n) refl (up _ (claim_goes_on x (spot_in path d i) n (each-left _ (dirs_in (spot_in path d i) n) _ h))) (first_claim_goes_on x path bound d (i + 1) ns up (each-right _ (dirs_in (spot_in path d i) n) _ h)) where
@@ -46,7 +48,7 @@ mutual
     go true e here rest = rw e here
     go false e here rest = rw e rest
 
--- ---- erases and ends
+-- ---- erases
 
 module _ (P : List ℕ → Type 0) where
   abbrev pub EndIs : CopyAt → Type 0
@@ -70,7 +72,7 @@ module _ (P : List ℕ → Type 0) where
   cut_ends e h [] k = tt
   cut_ends e h (c ∷ cs) k = (some_first c.end e P k.0 h, cut_ends e h cs k.1)
 
-  here_ends : (place clock : List ℕ) (ws : List (List ℕ)) → AllByRecursion EndIs (copies_here place clock ws)
+  pub here_ends : (place clock : List ℕ) (ws : List (List ℕ)) → AllByRecursion EndIs (copies_here place clock ws)
   here_ends place clock [] = tt
   here_ends place clock (w ∷ ws) = (tt, here_ends place clock ws)
 
@@ -111,8 +113,13 @@ module _ (P : List ℕ → Type 0) where
 mutual
   pub erases_go_on : (x : ℕ) (c : Spot) (n : Node) → AllByRecursion IsOrdered (dirs_in c n) → AllByRecursion (λ e. GoesOn e (spot_moment c)) (erases_in x c n)
   erases_go_on x c (leaf_node v) h = tt
-  erases_go_on x c (dir_node d ns) h = each-append _ (erases_of c.above (queue_of x d.down)) _ (to_erases _ c.above (queue_of x d.down) (queue-below x c d h.0)) (erases_among_go_on x (spot_path c) (spot_moment c) d 0 ns (λ f g. (below_goes_on c d h.0.clocked f g).1) h.1)
+  erases_go_on x c (dir_node d ns) h =
+      each-append _ (erases_of c.above (queue_of x d.down)) _ (to_erases _ c.above (queue_of x d.down) (queue-below x c d h.0))
+      (erases_among_go_on x (spot_path c) (spot_moment c) d 0 ns (λ f g. (below_goes_on c d h.0.clocked f g).1) h.1)
 
+  -- what goes on from the bus's present moment goes on from the bound
   pub erases_among_go_on : (x : ℕ) (path bound : List ℕ) (d : DirValue) (i : ℕ) (ns : Nodes) → ((f : List ℕ) → GoesOn f (moment_at path (stamp_of d)) → GoesOn f bound) → AllByRecursion IsOrdered (placed_dirs path d i ns) → AllByRecursion (λ e. GoesOn e bound) (erases_among x path d i ns)
   erases_among_go_on x path bound d i no_nodes up h = tt
-  erases_among_go_on x path bound d i (more_nodes n ns) up h = each-append _ (erases_in x (spot_in path d i) n) _ (each-weaker _ _ (λ e g. up e g) _ (erases_go_on x (spot_in path d i) n (each-left _ (dirs_in (spot_in path d i) n) _ h))) (erases_among_go_on x path bound d (i + 1) ns up (each-right _ (dirs_in (spot_in path d i) n) _ h))
+  erases_among_go_on x path bound d i (more_nodes n ns) up h =
+      each-append _ (erases_in x (spot_in path d i) n) _ (each-weaker _ _ (λ e g. up e g) _ (erases_go_on x (spot_in path d i) n (each-left _ (dirs_in (spot_in path d i) n) _ h)))
+      (erases_among_go_on x path bound d (i + 1) ns up (each-right _ (dirs_in (spot_in path d i) n) _ h))

@@ -5,6 +5,8 @@ pub mod Keys
 pub mod Paths
 pub mod Levels
 pub mod Clocks
+pub mod Known
+pub mod Queues
 pub mod Ends
 pub mod Late
 pub mod Holders
@@ -28,5 +30,4 @@ pub mod OwnEntry
 pub mod OneLeaf
 pub mod Latest
 pub mod Found
-pub mod Queues
 pub mod Contracts

@@ -19,12 +19,18 @@ use Rattle.tree_rules.specs.Bus.Item.{implies, holds_it, giver_holds, bits_of, c
 use Rattle.tree_rules.specs.Bus.Rules.{IsTreeOk, AreTreesOk}
 use Rattle.tree_rules.specs.Order.Moments.{moment_at, spot_moment}
 use Rattle.tree_rules.specs.Order.Copies.{CopyAt, cut, first_erase, downs, copies_here, entry_copies, inner, handed, gathered}
-use Rattle.tree_rules.proofs.Implying.{implies-use}
-use Rattle.order_lists.specs.Nodes.{HasEnd}
 use Rattle.order_lists.proofs.Filters.{each-append}
+
+abbrev pub HasEnd : CopyAt → Type 0
+HasEnd k = is_some k.end ≡ true
 
 abbrev pub kinds : List DownValue → List TxKind
 kinds q = map entry_kind q
+
+pub implied : (a b : Bool) → implies a b ≡ true → a ≡ true → b ≡ true
+unfolding implies
+implied true b h k = h
+implied false b h k = absurd (false≢true k)
 
 -- ---- down lists
 
@@ -91,7 +97,7 @@ none_given : (n : ℕ) (held : Hold) → implies (not (nat_eq n 0)) (is_shared h
 none_given n held i k = go (nat_eq n 0) refl i where
   go : (t : Bool) → nat_eq n 0 ≡ t → implies (not t) (is_shared held) ≡ true → n ≡ 0
   go true e i = eqb-true n 0 e
-  go false e i = absurd (true≢false (sym (implies-use true (is_shared held) i refl) ∙ k))
+  go false e i = absurd (true≢false (sym (implied true (is_shared held) i refl) ∙ k))
 
 -- who has a reply holds the item Shared
 pub no_replies : (x : ℕ) (n : Node) → giver_holds (child_face x n) ≡ true → is_shared (child_hold x n) ≡ false → words_of_item x (child_replies n) ≡ []

@@ -1,5 +1,3 @@
 pub mod InKeyOrder
 pub mod Copies
-pub mod Times
-pub mod Found
-pub mod Nodes
+pub mod Commands

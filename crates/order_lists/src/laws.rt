@@ -7,31 +7,30 @@ ghost use Rattle.ddm_types.specs.ItemTable.{ItemTable};
 ghost use Rattle.ddm_types.specs.CodeMap.{CodeWord};
 ghost use Rattle.flat_model.specs.Flat.{FlatMachine};
 ghost use Rattle.flat_model.specs.Legal.{is_of, HasWholeWords, legal_run};
-ghost use Rattle.tree_model.specs.State.Values.{Node, MachineValue};
-ghost use Rattle.tree_model.specs.State.Place.{Spot};
+ghost use Rattle.tree_model.specs.State.Values.{MachineValue};
 ghost use Rattle.tree_model.specs.State.Shape.{IsShaped};
 ghost use Rattle.tree_model.specs.Turns.Found.{found_words};
 ghost use Rattle.tree_model.specs.Turns.Witness.{sorted_ops};
 ghost use Rattle.tree_rules.specs.Statements.{Holds, each_pair};
-ghost use Rattle.tree_rules.specs.Bus.Rules.{IsTreeOk, IsMachineOk, items_of_machine};
+ghost use Rattle.tree_rules.specs.Bus.Rules.{IsMachineOk, items_of_machine};
 ghost use Rattle.tree_rules.specs.Order.Time.{keys_differ};
 ghost use Rattle.tree_rules.specs.Order.Core.{any_op, is_in_own_order};
 ghost use Rattle.tree_rules.specs.Order.Ops.{words_where};
 ghost use Rattle.tree_rules.specs.Order.Copies.{copies_of};
-ghost use Rattle.tree_rules.specs.Order.Places.{dirs_in, leaves_at};
-ghost use Rattle.tree_rules.specs.Order.Directories.{IsOrdered};
+ghost use Rattle.tree_rules.specs.Order.Places.{leaves_at};
 ghost use Rattle.tree_rules.specs.Order.Rules.{IsTimed, IsCore};
 ghost use Rattle.order_lists.specs.InKeyOrder.{InKeyOrder, StandsInOrder, ComesAfter, StaysLegal};
-ghost use Rattle.order_lists.specs.Times.{AreCommandsPast, IsInTime};
-ghost use Rattle.order_lists.specs.Nodes.{KeepsTime, HoldsCopies};
 ghost use Rattle.order_lists.specs.Copies.{HasChangesToItsEnd, EndsAfterItsClock, IsAloneWhereExclusive};
 
-/// Where keys differ, sorting puts the operations in the order of their keys, and one more operation in its place among them;
-/// where each hart's keys rise, its operations stand there in the order in which they completed.
+/// Where keys differ, sorting puts the operations in the order of their keys, and one more operation in its place among them.
 pub fn sorted_in_key_order()
     ensures sorted { (ops : List Op) → Holds (each_pair keys_differ ops) → InKeyOrder ops (sorted_ops ops) }
     ensures pushed { (ops : List Op) (o : Op) → Holds (each_pair keys_differ (ops ++ o ∷ [])) → StandsInOrder ops o }
-    ensures own { (h : ℕ) (ops : List Op) → Holds (each_pair is_in_own_order ops) → filter (is_of h) (sorted_ops ops) ≡ filter (is_of h) ops }
+{}
+
+/// Where each hart's keys rise, its operations stand in the sorted list in the order in which they completed.
+pub fn own_order_kept()
+    ensures { (h : ℕ) (ops : List Op) → Holds (each_pair is_in_own_order ops) → filter (is_of h) (sorted_ops ops) ≡ filter (is_of h) ops }
 {}
 
 /// One more operation leaves the sorted list legal, where it comes after those of its hart and those on the item that it
@@ -55,16 +54,8 @@ pub fn exclusive_leaf_is_alone()
         → AllByRecursion (IsAloneWhereExclusive m x) (leaves_at m) }
 {}
 
-/// The found copy of an item has the words that all operations leave; a node that holds an item has its found copy inside, without
-/// an end, and in one that doesn't hold it each copy has an end.
+/// The found copy of an item has the words that all operations leave.
 pub fn found_copy_is_current()
-    ensures words { (s : FlatMachine) (m : MachineValue) (x : ℕ) → IsMachineOk m → IsCore s m → x < items_of_machine m
+    ensures { (s : FlatMachine) (m : MachineValue) (x : ℕ) → IsMachineOk m → IsCore s m → x < items_of_machine m
         → found_words x m ≡ Some (words_where s m.items m.ops x any_op) }
-    ensures nodes { (items x : ℕ) (c : Spot) (n : Node) → x < items → IsTreeOk items n → HoldsCopies x c n }
-{}
-
-/// Nothing below a bus runs ahead of its present stamp: no leaf, copy, claim or erase, and no operation of a leaf there.
-pub fn nothing_runs_ahead()
-    ensures nodes { (x : ℕ) (c : Spot) (n : Node) → AllByRecursion IsOrdered (dirs_in c n) → KeepsTime x c n }
-    ensures machine { (m : MachineValue) → IsShaped m → IsTimed m → AreCommandsPast m → IsInTime m }
 {}

@@ -7,3 +7,4 @@ pub mod Placing
 pub mod Open
 pub mod Overlaps
 pub mod TreeStart
+pub mod LevelNodes

@@ -2,6 +2,7 @@
 #![tactic(auto)]
 
 mod contents;
+mod depths;
 mod leaves;
 mod machine;
 mod making;
@@ -11,6 +12,7 @@ mod stacks;
 mod tree;
 mod trees;
 
+pub use depths::{one_level, two_levels};
 pub use machine::AnyMachine;
 pub use making::build;
 pub use refusal::BuildRefusal;

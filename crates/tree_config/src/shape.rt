@@ -1,4 +1,4 @@
-ghost use Rattle.std.specs.Prelude.{◌≡◌, ◌≤◌, ◌<◌, ◌^◌, ◌↔◌, IfSome, IsNone, IsTrue, length, slice_get, sum};
+ghost use Rattle.std.specs.Prelude.{◌≡◌, ◌≤◌, ◌<◌, ◌^◌, ◌↔◌, Some, IfSome, IsNone, IsTrue, length, slice_get, sum};
 ghost use Rattle.tree_config.specs.Levels.{IsShape, is_width, leaves_of, widths_of};
 
 use ddm_types::BusNo;
@@ -62,6 +62,15 @@ impl Shape {
         ensures shape { IsShape self.now }
     {
         self.levels.len() as u32
+    }
+
+    /// How many children each bus of a level has, from left to right; levels are counted from the top, from 0.
+    pub fn level(&self, level: u32) -> &[u32]
+        requires { level < length self.now }
+        ensures widths { Some result.now ≡ slice_get self.now level }
+        ensures shape { IsShape self.now }
+    {
+        &self.levels[level as usize]
     }
 
     /// The number of children of a bus, where there is such a bus.

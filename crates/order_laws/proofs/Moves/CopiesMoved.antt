@@ -1,6 +1,7 @@
 -- Every turn of a bus: where the copies of each item in the machine come from.
 -- Letters: m is the machine, t the turn, w where a node stands, d a directory over the children ns.
-use Rattle.std.proofs.Common.{◌≡◌, ℕ, ◌<◌, true, false, List, [], ◌++◌, map, length, None, refl, sym, ap, subst, ◌∙◌, ◌⊎◌, inl, inr}
+use Rattle.std.specs.List.{AllByRecursion}
+use Rattle.std.proofs.Common.{◌≡◌, ℕ, ◌<◌, true, false, List, [], ◌++◌, map, length, None, refl, sym, ap, subst, ◌∙◌, ◌⊎◌, inl, inr, arith}
 use Rattle.std.specs.Prelude.{nat_eq}
 use Rattle.std.proofs.lemmas.Bool.{and_parts, eqb-true}
 use Rattle.ddm_types.specs.declared.answers.TurnAnswer.{TurnAnswer}
@@ -10,7 +11,7 @@ use Rattle.tree_model.specs.State.States.{is_held}
 use Rattle.tree_model.specs.State.Values.{LeafValue, DirValue, Node, Nodes, leaf_node, dir_node, nodes, children, MachineValue, root_of}
 use Rattle.tree_model.specs.State.Directory.{stamp_of}
 use Rattle.tree_model.specs.State.Child.{child_hold}
-use Rattle.tree_model.specs.State.Place.{Where, at_top, at_child, where_path, spot_in, stamp_above}
+use Rattle.tree_model.specs.State.Place.{Where, at_top, at_child, where_path, spot_path, spot_in, stamp_above}
 use Rattle.tree_model.specs.State.Shape.{IsShaped, levels_known, levels_fit, depth_of, skeleton}
 use Rattle.tree_model.specs.Turns.Bus.{bus_step, bus_judged}
 use Rattle.tree_model.specs.Turns.Children.{child_at}
@@ -24,15 +25,17 @@ use Rattle.tree_model.proofs.TurnChanges.{turn-changes_nothing, turn-changes_one
 use Rattle.tree_rules.specs.Bus.Rules.{IsTreeOk, AreTreesOk, IsMachineOk, items_of_machine}
 use Rattle.tree_rules.specs.Order.Copies.{CopyAt, cut, copies_of, gathered, erases_in}
 use Rattle.tree_rules.specs.Order.Claims.{child_is_exclusive, claims_of}
-use Rattle.tree_rules.specs.Order.Places.{dirs_at, placed_leaves, leaves_at}
+use Rattle.tree_rules.specs.Order.Directories.{IsClocked, IsOrdered}
+use Rattle.tree_rules.specs.Order.Moments.{is_under, GoesOn}
+use Rattle.order_laws.proofs.Moves.Below.{NowGoesOn, placed_go_on, AreCommandsPast, dirs_ordered}
+use Rattle.order_lists.proofs.Filters.{each-weaker}
+use Rattle.tree_rules.specs.Order.Places.{LeafAt, leaf_path, leaf_now, placed_dirs, dirs_at, placed_leaves, leaves_at}
 use Rattle.tree_rules.specs.Order.Rules.{IsTimed}
 use Rattle.bus_laws.specs.KeepsBus.{IsTopBusOk}
-use Rattle.order_lists.specs.Times.{AreCommandsPast}
-use Rattle.order_lists.proofs.State.{dirs_ordered}
 use Rattle.order_laws.specs.Moves.Moved.{In, Moved, AllFrom}
 use Rattle.order_laws.specs.Moves.ClaimsMoved.{ClaimsFrom}
 use Rattle.order_laws.specs.Moves.Parent.{moment_in, hand_of}
-use Rattle.order_laws.specs.Moves.Carries.{IsLeafFree, ClaimsAt, claims_at, node_at, BusTurned, new_moment, MovedBy, IsBoundAt, hand_at, Carries}
+use Rattle.order_laws.specs.Moves.Carries.{IsBelowOld, IsLeafFree, ClaimsAt, claims_at, node_at, BusTurned, new_moment, MovedBy, IsBoundAt, hand_at, Carries}
 use Rattle.order_laws.specs.Moves.CopiesMoved.{IsBusTurn, TurnMoves, MovesOf, CopiesMoved, ClaimsMoved, ErasesNew}
 use Rattle.order_laws.proofs.Moves.Cuts.{cut-nothing}
 use Rattle.order_laws.proofs.Moves.Leaves.{back}
@@ -42,6 +45,7 @@ use Rattle.order_laws.proofs.Moves.LeavesKept.{row-leaves, kept-same}
 use Rattle.order_laws.proofs.Moves.ClaimsHere.{bus-claims}
 use Rattle.order_laws.proofs.Moves.Lift.{children-of, carried}
 use Rattle.order_laws.proofs.Moves.Ordered.{OrderedAt, TopAt}
+use Rattle.order_laws.proofs.Moves.TurnFrame.{not-leaf}
 use Rattle.order_laws.proofs.Moves.RowMoves.{RowMoves, row-moves}
 
 -- ---- the node that the turn names
@@ -73,15 +77,28 @@ module _ (x count : ℕ) (w : Where) (d : DirValue) (ns : Nodes) (f : BusFacts c
         at = sym (back (where_path w));
         before = refl;
         after = is;
+        deep = deep w f.ordered;
         rises = r.time.time.rises;
         past = r.time.time.past;
         moved = λ b bound. moved b bound;
         claims = λ within. subst (ClaimsAt x bus w (dir_node d ns)) (sym is) (claims within);
         erases = subst (Erases x w d ns g.parent g.kids) (sym (children-nodes g.kids)) ((r.erases x).kids (where_path w) (stamp_of d));
         leaves = subst (λ j. LeavesKept (leaves_below w (dir_node d ns)) (leaves_below w j)) (sym is) (leaves w placed);
+        nows = nows w f.ordered;
       } where
         placed : LeavesKept (placed_leaves (where_path w) d 0 ns) (placed_leaves (where_path w) g.parent 0 (nodes g.kids))
         placed = subst (λ ks. LeavesKept (placed_leaves (where_path w) d 0 ks) (placed_leaves (where_path w) g.parent 0 (nodes g.kids))) (nodes-children ns) (row-leaves (where_path w) d g.parent r.time.time.next.rises 0 (children ns) g.kids r.leaves.many r.leaves.kids)
+
+        deep : (u : Where) → OrderedAt u (dir_node d (nodes (children ns))) → length (where_path u) < 4
+        deep at_top h = omega arith
+        deep (at_child c) h = h.0.clocked.deep
+
+        go-on : (u : Where) → AllByRecursion IsOrdered (placed_dirs (where_path u) d 0 ns) → AllByRecursion (λ (a : LeafAt). is_under (where_path u) (leaf_path a) ≡ true → GoesOn (leaf_now a) (moment_in u d)) (placed_leaves (where_path u) d 0 ns)
+        go-on u h = each-weaker (NowGoesOn (moment_in u d)) _ (λ a g under. g) (placed_leaves (where_path u) d 0 ns) (placed_go_on (where_path u) d 0 ns (each-weaker IsOrdered IsClocked (λ c o. o.clocked) (placed_dirs (where_path u) d 0 ns) h))
+
+        nows : (u : Where) → OrderedAt u (dir_node d (nodes (children ns))) → AllByRecursion (λ (a : LeafAt). is_under (where_path u) (leaf_path a) ≡ true → GoesOn (leaf_now a) (moment_in u d)) (leaves_below u (dir_node d ns))
+        nows at_top h = go-on at_top (subst (λ ks. AllByRecursion IsOrdered (placed_dirs [] d 0 ks)) (nodes-children ns) h.1)
+        nows (at_child c) h = go-on (at_child c) (subst (λ ks. AllByRecursion IsOrdered (placed_dirs (spot_path c) d 0 ks)) (nodes-children ns) h.1)
 
         leaves : (u : Where) → LeavesKept (placed_leaves (where_path u) d 0 ns) (placed_leaves (where_path u) g.parent 0 (nodes g.kids)) → LeavesKept (leaves_below u (dir_node d ns)) (leaves_below u (dir_node g.parent (nodes g.kids)))
         leaves at_top h = h
@@ -109,13 +126,6 @@ module _ (x count : ℕ) (w : Where) (d : DirValue) (ns : Nodes) (f : BusFacts c
   unfolding bus_step
   at-dir bt k is = judged-carries bt (bus_judged (stamp_above w) d (children ns) bt) (λ g e. row-moves count w d (children ns) f bt g (row-of (stamp_above w) d (children ns) bt g e)) k is
 
-not-leaf : (t : Turn) (v : LeafValue) → IsBusTurn t → is_named (named_by t) (leaf_node v) ≡ true → ⊥
-not-leaf (Turn.Hart hart victim) v b h = absurd b
-not-leaf (Turn.Down bus) v b h = cc
-not-leaf (Turn.Request bus child) v b h = cc
-not-leaf (Turn.Reply bus child) v b h = cc
-not-leaf (Turn.Leave bus child choice) v b h = cc
-
 here-carried : (x count : ℕ) (t : Turn) (m : MachineValue) (a : TurnAnswer) → IsBusTurn t → (w : Where) (n k : Node) → TurnsHere t m a w n k → IsTreeOk count n → OrderedAt w n → TopAt count w n → (k ≡ n) ⊎ Carries x count w [] n k
 here-carried x count t m a bus w (leaf_node v) k here ok ordered top = absurd (not-leaf t v bus here.named)
 here-carried x count t m a bus w (dir_node d ns) k here ok ordered top = at-dir x count w d ns (bus-facts count w d ns ok ordered top) (bus_turn_of t) k here.becomes
@@ -133,10 +143,17 @@ root-ordered m shaped timed past =
     let fit : levels_fit (depth_of m) 0 (skeleton (root_of m)) ≡ true = shaped.each levels_known in
     (eqb-true m.top.level 0 (and_parts (nat_eq m.top.level 0) _ fit).0, dirs_ordered m shaped timed past)
 
+-- trees that are the same have the same copies
+pub copies-same : (x : ℕ) (m m' : MachineValue) → root_of m' ≡ root_of m → copies_of x m' ≡ copies_of x m
+copies-same x m m' same = sym (top-hands x [] m') ∙ (ap (hand_at x at_top []) same ∙ top-hands x [] m)
+
 -- all claims, and all leaves
 top-claims : (x : ℕ) (m : MachineValue) → claims_at x at_top (root_of m) ≡ claims_of x m
 unfolding claims_of
 top-claims x m = refl
+
+pub claims-of-same : (x : ℕ) (m m' : MachineValue) → root_of m' ≡ root_of m → claims_of x m' ≡ claims_of x m
+claims-of-same x m m' same = sym (top-claims x m') ∙ (ap (claims_at x at_top) same ∙ top-claims x m)
 
 top-leaves : (m : MachineValue) → leaves_below at_top (root_of m) ≡ leaves_at m
 unfolding leaves_at
@@ -151,10 +168,12 @@ module _ (m : MachineValue) (shaped : IsShaped m) (ok : IsMachineOk m) (timed : 
     bus = c.bus;
     before = ap (λ p. node_at p (root_of m)) c.at ∙ c.before;
     after = ap (λ p. node_at p (root_of next)) c.at ∙ c.after;
+    deep = c.deep;
     rises = c.rises;
     copies = subst (λ l. AllFrom (MovedBy x c.bus) l (copies_of x next)) (top-hands x [] m) (subst (λ l. AllFrom (MovedBy x c.bus) (hand_at x at_top [] (root_of m)) l) (top-hands x [] next) (c.moved [] tt));
     claims = λ within. subst (λ l. ClaimsFrom c.bus.path (new_moment c.bus) l (claims_of x next)) (top-claims x m) (subst (λ l. ClaimsFrom c.bus.path (new_moment c.bus) (claims_at x at_top (root_of m)) l) (top-claims x next) (c.claims within).from);
     erases = c.erases;
+    nows = subst (AllByRecursion (IsBelowOld c.bus)) (top-leaves m) c.nows;
     leaves = subst (λ l. LeavesKept l (leaves_at next)) (top-leaves m) (subst (λ l. LeavesKept (leaves_below at_top (root_of m)) l) (top-leaves next) c.leaves);
   }
 

@@ -1,5 +1,5 @@
 -- What holds of the copies that the parent of a bus hands up holds of all copies of the machine.
-use Rattle.std.proofs.Common.{◌≡◌, ℕ, ◌<◌, suc, ◌+◌, List, [], ◌∷◌, ◌++◌, map, refl, ap, subst, ◌∙◌, ◌⊎◌, inl, inr, arith, append_assoc}
+use Rattle.std.proofs.Common.{◌≡◌, true, false, sym, ℕ, ◌<◌, suc, ◌+◌, List, [], ◌∷◌, ◌++◌, map, refl, ap, subst, ◌∙◌, ◌⊎◌, inl, inr, arith, append_assoc}
 use Rattle.std.specs.List.{AllByRecursion}
 use Rattle.ddm_types.specs.declared.answers.TurnAnswer.{TurnAnswer}
 use Rattle.ddm_types.specs.declared.turns.Turn.{Turn}
@@ -15,14 +15,15 @@ use Rattle.tree_model.proofs.Changed.{changed-holds}
 use Rattle.tree_rules.specs.Bus.Rules.{IsChildOk, IsTreeOk, AreTreesOk}
 use Rattle.tree_rules.specs.Order.Copies.{CopyAt, cut, copies_here, inner, handed}
 use Rattle.tree_rules.specs.Order.Directories.{IsOrdered}
-use Rattle.tree_rules.specs.Order.Moments.{moment_at, GoesOn}
-use Rattle.tree_rules.specs.Order.Places.{leaves_in, placed_leaves, dirs_in, placed_dirs}
-use Rattle.order_lists.proofs.Filters.{each-left, each-right}
+use Rattle.tree_rules.specs.Order.Moments.{is_under, moment_at, GoesOn}
+use Rattle.tree_rules.specs.Order.Places.{LeafAt, leaf_path, leaves_in, placed_leaves, dirs_in, placed_dirs}
+use Rattle.order_lists.proofs.Filters.{each-append, each-weaker, each-left, each-right}
 use Rattle.order_laws.specs.Moves.Moved.{AllFrom}
 use Rattle.order_laws.specs.Moves.Parent.{bound_at, erased_at, downs_at, replies_up, hand_of}
-use Rattle.order_laws.specs.Moves.Carries.{node_at, BusTurned, old_moment, new_moment, HoldsAfter, MovedBy, IsBoundOf, hand_at, ClaimsAt, Carries, CarriesAmong}
+use Rattle.order_laws.specs.Moves.Carries.{IsBelowOld, node_at, BusTurned, old_moment, new_moment, HoldsAfter, MovedBy, IsBoundOf, hand_at, ClaimsAt, Carries, CarriesAmong}
 use Rattle.order_laws.specs.Moves.LeavesKept.{LeavesKept, leaves_below}
 use Rattle.order_laws.proofs.Moves.LeavesKept.{kept-same, kept-append}
+use Rattle.order_lists.proofs.Paths.{IsFrom, under-trans, under-append, one_child, leaves_under, placed_from}
 use Rattle.order_laws.proofs.Moves.LiftClaims.{below-claims, first-claims, later-claims}
 use Rattle.order_laws.proofs.Moves.Ordered.{OrderedAt, TopAt, ordered-below, own-bound, above-goes_on, erased-later}
 use Rattle.order_laws.proofs.Moves.Sources.{AllFrom-append, AllFrom-same, AllFrom-map}
@@ -53,6 +54,18 @@ child-hand : (x : ℕ) (above : List ℕ) (d : DirValue) (j : ℕ) (b : List ℕ
 child-hand x above d j b (leaf_node v) = refl
 child-hand x above d j b (dir_node e ns) = refl
 
+-- ---- leaves beside the bus aren't under it
+
+module _ (bus : BusTurned) (above : List ℕ) (d : DirValue) (j : ℕ) where
+  under-first : (i : ℕ) (rest : List ℕ) → bus.path ≡ above ++ i ∷ rest → (a : LeafAt) → is_under bus.path (leaf_path a) ≡ true → is_under (above ++ i ∷ []) (leaf_path a) ≡ true
+  under-first i rest at a is = under-trans (above ++ i ∷ []) bus.path (leaf_path a) (subst (λ p. is_under (above ++ i ∷ []) p ≡ true) (sym (at ∙ sym (append_assoc above (i ∷ []) rest))) (under-append (above ++ i ∷ []) rest)) is
+
+  later-nows : (rest : List ℕ) (ns : Nodes) → bus.path ≡ above ++ j ∷ rest → AllByRecursion (IsBelowOld bus) (placed_leaves above d (j + 1) ns)
+  later-nows rest ns at = each-weaker (λ (a : LeafAt). IsFrom above (j + 1) (leaf_path a)) (IsBelowOld bus) (λ a f is. absurd (let wrong : false ≡ true = sym (f.later j (omega arith)) ∙ under-first j rest at a is in cc)) (placed_leaves above d (j + 1) ns) (placed_from above d (j + 1) ns)
+
+  earlier-nows : (i : ℕ) (rest : List ℕ) (n : Node) → bus.path ≡ above ++ i ∷ rest → j < i → AllByRecursion (IsBelowOld bus) (leaves_in (spot_in above d j) n)
+  earlier-nows i rest n at l = each-weaker (λ (a : LeafAt). is_under (above ++ j ∷ []) (leaf_path a) ≡ true) (IsBelowOld bus) (λ a u is. absurd (let same : i ≡ j = one_child above (leaf_path a) i j (under-first i rest at a is) u in let no : ⊥ = omega (arith, same, l) in no)) (leaves_in (spot_in above d j) n) (leaves_under (spot_in above d j) n)
+
 -- ---- the tree
 
 child-of : (n : ℕ) (m : Node) → IsTreeOk n m → IsChildOk n m
@@ -74,6 +87,7 @@ module _ (x : ℕ) (count : ℕ) (t : Turn) (m : MachineValue) (a : TurnAnswer) 
         at = c_at ∙ append_assoc above (j ∷ []) rest;
         before = c.before;
         after = c.after;
+        deep = c.deep;
         rises = c.rises;
         past = c.past;
         moved = λ b is.
@@ -83,6 +97,7 @@ module _ (x : ℕ) (count : ℕ) (t : Turn) (m : MachineValue) (a : TurnAnswer) 
         claims = λ within. first-claims x c.bus above d j n k ns (c.claims within);
         erases = c.erases;
         leaves = kept-append (leaves_in (spot_in above d j) n) (leaves_in (spot_in above d j) k) (placed_leaves above d (j + 1) ns) (placed_leaves above d (j + 1) ns) c.leaves (kept-same (placed_leaves above d (j + 1) ns));
+        nows = each-append (IsBelowOld c.bus) (leaves_in (spot_in above d j) n) (placed_leaves above d (j + 1) ns) c.nows (later-nows c.bus above d j rest ns (c_at ∙ append_assoc above (j ∷ []) rest));
       }
 
   later-carried : (above : List ℕ) (d : DirValue) (j i : ℕ) (rest : List ℕ) (n : Node) (ns ms : Nodes) → CarriesAmong x count above d (j + 1) i rest ns ms → CarriesAmong x count above d j i rest (more_nodes n ns) (more_nodes n ms)
@@ -95,6 +110,7 @@ module _ (x : ℕ) (count : ℕ) (t : Turn) (m : MachineValue) (a : TurnAnswer) 
         at = c.at;
         before = c.before;
         after = c.after;
+        deep = c.deep;
         rises = c.rises;
         past = c.past;
         moved = λ b is.
@@ -103,6 +119,7 @@ module _ (x : ℕ) (count : ℕ) (t : Turn) (m : MachineValue) (a : TurnAnswer) 
         claims = λ within. later-claims x c.bus above d j n ns ms (c.claims within);
         erases = c.erases;
         leaves = kept-append (leaves_in (spot_in above d j) n) (leaves_in (spot_in above d j) n) (placed_leaves above d (j + 1) ns) (placed_leaves above d (j + 1) ms) (kept-same (leaves_in (spot_in above d j) n)) c.leaves;
+        nows = each-append (IsBelowOld c.bus) (leaves_in (spot_in above d j) n) (placed_leaves above d (j + 1) ns) (earlier-nows c.bus above d j i rest n c.at (omega (arith, c_is))) c.nows;
       }
 
   below-carried : (w : Where) (d : DirValue) (i : ℕ) (rest : List ℕ) (ns ms : Nodes) → IsTreeOk count (dir_node d ns) → OrderedAt w (dir_node d ns) → CarriesAmong x count (where_path w) d 0 i rest ns ms → Carries x count w (i ∷ rest) (dir_node d ns) (dir_node d ms)
@@ -114,16 +131,22 @@ module _ (x : ℕ) (count : ℕ) (t : Turn) (m : MachineValue) (a : TurnAnswer) 
         at = c.at;
         before = ap (λ k. node_at rest (child_at k (children ns))) at ∙ c.before;
         after = ap (λ k. node_at rest (child_at k (children ms))) at ∙ c.after;
+        deep = c.deep;
         rises = c.rises;
         past = above-goes_on w d ns ordered (new_moment c.bus) c.past;
         moved = λ b is. hands b;
         claims = claims w ok ordered c;
         erases = c.erases;
         leaves = leaves w c.leaves;
+        nows = nows w c.nows;
       } where
         leaves : (u : Where) → LeavesKept (placed_leaves (where_path u) d 0 ns) (placed_leaves (where_path u) d 0 ms) → LeavesKept (leaves_below u (dir_node d ns)) (leaves_below u (dir_node d ms))
         leaves at_top h = h
         leaves (at_child p) h = h
+
+        nows : (u : Where) → AllByRecursion (IsBelowOld c.bus) (placed_leaves (where_path u) d 0 ns) → AllByRecursion (IsBelowOld c.bus) (leaves_below u (dir_node d ns))
+        nows at_top h = h
+        nows (at_child p) h = h
 
         claims : (u : Where) → IsTreeOk count (dir_node d ns) → OrderedAt u (dir_node d ns) → (c : CarriesAmong x count (where_path u) d 0 i rest ns ms) → x < count → ClaimsAt x c.bus u (dir_node d ns) (dir_node d ms)
         claims at_top ok o c within = record { own = tt; from = (c.claims within).from }

@@ -17,8 +17,8 @@ use Rattle.tree_rules.specs.Order.Time.{lies_between, may_stand_behind}
 use Rattle.tree_rules.specs.Order.Copies.{first_erase}
 use Rattle.tree_rules.specs.Order.Directories.{IsClocked}
 use Rattle.tree_rules.specs.Order.Moments.{less, less_at, moment_of, moment_at, moment_length, spot_moment, GoesOn}
-use Rattle.order_lists.proofs.Clocks.{here, goes_on-append, goes_on-same_length, shallow}
-use Rattle.order_lists.proofs.Ends.{erase_later, first_erase-each, some_weaker, same_length, queue-late}
+use Rattle.order_lists.proofs.Clocks.{here, goes_on-append, goes_on-same_length}
+use Rattle.order_laws.proofs.Moves.Below.{erase_later, first_erase-each, some_weaker, same_length, queue-late, shallow}
 use Rattle.order_lists.proofs.Filters.{each-filter, each-weaker}
 use Rattle.tree_rules.proofs.Statements.{each-facts}
 use Rattle.order_lists.proofs.Moments.{less-irreflexive, less-asymmetric, less-head, less-tail, least-parts, less_at-all, GoesOn-trans}

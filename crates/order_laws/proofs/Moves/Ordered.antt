@@ -10,8 +10,8 @@ use Rattle.tree_rules.specs.Order.Copies.{first_erase}
 use Rattle.tree_rules.specs.Order.Directories.{IsClocked, IsOrdered}
 use Rattle.tree_rules.specs.Order.Moments.{less, moment_at, moment_length, GoesOn}
 use Rattle.tree_rules.specs.Order.Places.{dirs_in, placed_dirs}
-use Rattle.order_lists.proofs.Clocks.{here, below_goes_on, shallow}
-use Rattle.order_lists.proofs.Ends.{before_later, some_weaker, queue-late}
+use Rattle.order_lists.proofs.Clocks.{here}
+use Rattle.order_laws.proofs.Moves.Below.{before_later, some_weaker, queue-late, below_goes_on, shallow}
 use Rattle.order_lists.proofs.Moments.{less-asymmetric}
 use Rattle.order_lists.proofs.Stamps.{moment_at-above, moment_at-stamp, moment_at-length}
 use Rattle.order_laws.specs.Moves.Parent.{bound_at, erased_at}

@@ -24,10 +24,9 @@ use Rattle.tree_rules.specs.Order.Places.{placed_dirs}
 use Rattle.bus_laws.proofs.Answering.{child-hold}
 use Rattle.bus_laws.proofs.BitsOf.{any-true}
 use Rattle.bus_laws.proofs.OneChild.{others-absent}
-use Rattle.order_lists.proofs.ExclusiveClaims.{dir_above}
+use Rattle.order_laws.proofs.Moves.Below.{dir_above, below_goes_on, shallow, first_claim_goes_on}
 use Rattle.tree_model.proofs.Children.{children-nodes}
-use Rattle.order_lists.proofs.Clocks.{here, below_goes_on, shallow}
-use Rattle.order_lists.proofs.Holders.{first_claim_goes_on}
+use Rattle.order_lists.proofs.Clocks.{here}
 use Rattle.order_lists.proofs.Moments.{less-irreflexive, at_most-at, at_most-transitive, at_most_at-fewer, GoesOn-at}
 use Rattle.order_lists.proofs.Stamps.{moment_at-length}
 use Rattle.order_laws.proofs.Moves.BusClaims.{KidOwn, first-from, first-only}
@@ -118,7 +117,7 @@ module _ (n x : ℕ) (c : Spot) (p q : DirValue) (ns ms : List Node) (bus : IsBu
   empty i l is =
       let rules : ItemRules (parent_face x p) (faces_of x (children (nodes ns))) = subst (λ ks. ItemRules (parent_face x p) (faces_of x ks)) (sym (children-nodes ns)) (bus.rules x within) in
       let found : list_any holds_exclusive (faces_of x (children (nodes ns))) ≡ true = subst (λ ks. list_any holds_exclusive (faces_of x ks) ≡ true) (sym (children-nodes ns)) (some i l is) in
-      (dir_above x p (nodes ns) rules found).no_exclusive c.above
+      (dir_above x p (nodes ns) rules found).1.1 c.above
 
   short : (s : Stamp) → length (moment_at c.above s) ≡ far
   short s = moment_at-length c.above s (shallow c p clocked)

@@ -23,10 +23,8 @@ use Rattle.tree_rules.specs.Order.Directories.{IsOrdered}
 use Rattle.tree_rules.specs.Order.Moments.{moment_at, GoesOn}
 use Rattle.tree_rules.specs.Order.Places.{dirs_in}
 use Rattle.bus_laws.proofs.States.{each_state, state-at}
-use Rattle.order_lists.specs.Times.{IsTimely, IsLate, IsPrepared}
-use Rattle.order_lists.proofs.Ends.{inner-timely}
+use Rattle.order_laws.proofs.Moves.Below.{IsTimely, IsLate, IsPrepared, inner-timely, inner-late}
 use Rattle.order_lists.proofs.Filters.{each-both, each-weaker}
-use Rattle.order_lists.proofs.Late.{inner-late}
 use Rattle.order_lists.proofs.NoHold.{none_held}
 use Rattle.order_lists.proofs.Paths.{under_child}
 use Rattle.order_laws.proofs.Moves.Queues.{NoErase}

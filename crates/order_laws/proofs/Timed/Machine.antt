@@ -25,7 +25,7 @@ use Rattle.order_lists.proofs.Filters.{each-weaker, each-both}
 use Rattle.order_lists.proofs.Moments.{less-least}
 use Rattle.order_lists.proofs.Levels.{IsLevelled, all_levelled}
 use Rattle.order_lists.proofs.Queues.{MayFollow, Rises, rises-from_rule}
-use Rattle.order_lists.specs.Times.{AreCommandsPast as CommandsArePastTaken}
+use Rattle.order_lists.specs.Commands.{CommandsArePastTaken}
 use Rattle.order_laws.specs.Timed.{TurnKeepsTime, TurnKeepsCommands}
 use Rattle.order_laws.proofs.Timed.Kept.{EntryTimes}
 use Rattle.order_laws.proofs.Timed.Leaves.{Pairs, LeafRisen, LeafRisen-same, pairs-same}

@@ -12,10 +12,11 @@ use Rattle.tree_model.specs.State.Place.{Where, at_top, at_child, where_path, sp
 use Rattle.tree_model.specs.Turns.Children.{child_at}
 use Rattle.tree_rules.specs.Order.Copies.{CopyAt, copies_here, inner, handed, erases_in}
 use Rattle.tree_rules.specs.Order.Claims.{ClaimAt, child_is_exclusive, claim, claims_in, claims_among}
-use Rattle.tree_rules.specs.Order.Moments.{less_at, moment_at, moment_length, spot_moment, GoesOn}
+use Rattle.tree_rules.specs.Order.Moments.{less_at, moment_at, moment_length, is_under, spot_moment, GoesOn}
 use Rattle.order_laws.specs.Moves.LeavesKept.{LeavesKept, leaves_below}
 use Rattle.order_laws.specs.Moves.Moved.{In, Moved, AllFrom}
-use Rattle.tree_rules.specs.Order.Places.{placed_leaves}
+use Rattle.tree_rules.specs.Order.Places.{LeafAt, leaf_path, leaf_now, placed_leaves}
+use Rattle.std.specs.List.{AllByRecursion}
 use Rattle.std.proofs.Common.{◌⊎◌}
 use Rattle.order_laws.specs.Moves.ClaimsMoved.{ClaimsFrom}
 use Rattle.order_laws.specs.Moves.Parent.{hand_of}
@@ -102,18 +103,24 @@ NewErases x t =
     (i : ℕ) → i < length (children t.kids) → (e : List ℕ) → In e (erases_in x (spot_in t.path t.dir_after i) (child_at i (children t.kids_after)))
     → In e (erases_in x (spot_in t.path t.dir i) (child_at i (children t.kids))) ⊎ ((e ≡ new_moment t) × ((j : ℕ) → j < length (children t.kids) → child_is_exclusive x (child_at j (children t.kids_after)) ≡ false))
 
+-- a leaf under the bus isn't past the bus's old moment
+abbrev pub IsBelowOld : BusTurned → LeafAt → Type 0
+IsBelowOld t a = is_under t.path (leaf_path a) ≡ true → GoesOn (leaf_now a) (old_moment t)
+
 -- the bus is that of the node at a path below n, which became k; of `count` items the claims are known
 pub record Carries (x count : ℕ) (w : Where) (rest : List ℕ) (n k : Node) : Type 0 where
   pub bus : BusTurned
   pub at : bus.path ≡ where_path w ++ rest
   pub before : node_at rest n ≡ dir_node bus.dir bus.kids
   pub after : node_at rest k ≡ dir_node bus.dir_after bus.kids_after
+  pub deep : length bus.path < 4
   pub rises : less_at (moment_length (length bus.path)) (old_moment bus) (new_moment bus) ≡ true
   pub past : GoesOnAbove w (new_moment bus)
   pub moved : (b : List ℕ) → IsBoundAt w b → AllFrom (MovedBy x bus) (hand_at x w b n) (hand_at x w b k)
   pub claims : x < count → ClaimsAt x bus w n k
   pub erases : NewErases x bus
   pub leaves : LeavesKept (leaves_below w n) (leaves_below w k)
+  pub nows : AllByRecursion (IsBelowOld bus) (leaves_below w n)
 
 -- the same below one of the children from number j on
 pub record CarriesAmong (x count : ℕ) (above : List ℕ) (d : DirValue) (j i : ℕ) (rest : List ℕ) (ns ms : Nodes) : Type 0 where
@@ -123,9 +130,11 @@ pub record CarriesAmong (x count : ℕ) (above : List ℕ) (d : DirValue) (j i :
   pub at : bus.path ≡ above ++ i ∷ rest
   pub before : node_at rest (child_at offset (children ns)) ≡ dir_node bus.dir bus.kids
   pub after : node_at rest (child_at offset (children ms)) ≡ dir_node bus.dir_after bus.kids_after
+  pub deep : length bus.path < 4
   pub rises : less_at (moment_length (length bus.path)) (old_moment bus) (new_moment bus) ≡ true
   pub past : GoesOn (new_moment bus) (moment_at above (stamp_of d))
   pub moved : (b : List ℕ) → IsBoundOf above (stamp_of d) b → AllFrom (MovedBy x bus) (handed x above b d j ns) (handed x above b d j ms)
   pub claims : x < count → ClaimsAmong x bus above d j ns ms
   pub erases : NewErases x bus
   pub leaves : LeavesKept (placed_leaves above d j ns) (placed_leaves above d j ms)
+  pub nows : AllByRecursion (IsBelowOld bus) (placed_leaves above d j ns)

@@ -1,6 +1,7 @@
 -- A turn of a bus: where the copies of each item in the machine come from.
 -- To be believed where a rule is relied on; the order of the witness needs no reader here.
 use Rattle.std.specs.Prelude.{◌≡◌, ℕ, ◌<◌, true, length}
+use Rattle.std.specs.List.{AllByRecursion}
 use Rattle.std.proofs.Common.{◌⊎◌}
 use Rattle.ddm_types.specs.declared.turns.Turn.{Turn}
 use Rattle.tree_model.specs.State.Values.{dir_node, MachineValue, root_of}
@@ -13,7 +14,7 @@ use Rattle.tree_rules.specs.Order.Moments.{less_at, moment_length}
 use Rattle.order_laws.specs.Moves.Moved.{AllFrom}
 use Rattle.order_laws.specs.Moves.ClaimsMoved.{ClaimsFrom}
 use Rattle.order_laws.specs.Moves.LeavesKept.{LeavesKept}
-use Rattle.order_laws.specs.Moves.Carries.{node_at, BusTurned, old_moment, new_moment, MovedBy, NewErases}
+use Rattle.order_laws.specs.Moves.Carries.{IsBelowOld, node_at, BusTurned, old_moment, new_moment, MovedBy, NewErases}
 
 abbrev pub IsBusTurn : Turn → Type 0
 IsBusTurn (Turn.Hart hart victim) = ⊥
@@ -29,11 +30,14 @@ pub record TurnMoves (x : ℕ) (m m' : MachineValue) : Type 0 where
   pub bus : BusTurned
   pub before : node_at bus.path (root_of m) ≡ dir_node bus.dir bus.kids
   pub after : node_at bus.path (root_of m') ≡ dir_node bus.dir_after bus.kids_after
+  pub deep : length bus.path < 4
   pub rises : less_at (moment_length (length bus.path)) (old_moment bus) (new_moment bus) ≡ true
   pub copies : AllFrom (MovedBy x bus) (copies_of x m) (copies_of x m')
   pub claims : x < items_of_machine m → ClaimsFrom bus.path (new_moment bus) (claims_of x m) (claims_of x m')
   pub erases : NewErases x bus
   pub leaves : LeavesKept (leaves_at m) (leaves_at m')
+  -- before it no leaf under the bus was past the bus's moment
+  pub nows : AllByRecursion (IsBelowOld bus) (leaves_at m)
 
 -- or nothing was granted, and the tree is as it was
 abbrev pub MovesOf : Turn → MachineValue → ℕ → Type 0

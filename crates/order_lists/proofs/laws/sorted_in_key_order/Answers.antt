@@ -1,5 +1,4 @@
 use Rattle.order_lists.proofs.Contracts.{sorted-in_order, stands-in_order}
-use Rattle.order_lists.proofs.OwnOrder.{own}
 use Rattle.order_lists.proofs.laws.sorted_in_key_order.Goals as goal
 
 pub returns-clause-sorted : goal.returns-clause-sorted
@@ -7,6 +6,3 @@ returns-clause-sorted c = sorted-in_order
 
 pub returns-clause-pushed : goal.returns-clause-pushed
 returns-clause-pushed c = stands-in_order
-
-pub returns-clause-own : goal.returns-clause-own
-returns-clause-own c = own

@@ -1,0 +1,28 @@
+-- The machine of a tree and an image before its first turn, and the nodes at each level of its buses.
+-- Letters: t is a tree, i an image.
+-- To be believed with the contracts: they speak of it.
+use Rattle.std.specs.Prelude.{◌≡◌, ℕ, ◌*◌, ◌≤◌, List, None, drop, map}
+use Rattle.ddm_types.specs.CodeMap.{CodeWord}
+use Rattle.ddm_types.specs.ItemTable.{ItemTable}
+use Rattle.tree_model.specs.State.Values.{Node, leaf_node}
+use Rattle.tree_model.specs.Start.Sources.{TreeValue, ImageValue, width_of}
+use Rattle.tree_model.specs.Start.Memory.{start_code, start_items}
+use Rattle.tree_model.specs.Start.Nodes.{dir_sizes, under_levels}
+use Rattle.tree_model.specs.Start.Machine.{start_leaves, start_machine, start_refusal}
+use Rattle.ddm_tree.specs.Machine.{MachineState}
+
+abbrev pub started : TreeValue → ImageValue → MachineState
+started t i = record { machine = start_machine t i; spare = 0; turns = 0 }
+
+-- what a machine of leaves with so many ways, and items of so many words, is made of
+pub record CanStart (ways width : ℕ) (t : TreeValue) (i : ImageValue) (code : List CodeWord) (items : ItemTable) : Type 0 where
+  pub ways_are : t.way_count ≡ ways
+  pub size : 4 * width ≡ t.item_bytes
+  pub small : width ≤ 16
+  pub code_is : code ≡ start_code i
+  pub items_are : items ≡ start_items t i
+  pub accepted : start_refusal t i ≡ None
+
+-- the nodes at this level, of which the first is over the bus of this number: the leaves behind the last level
+abbrev pub nodes_at : TreeValue → ImageValue → ℕ → ℕ → List Node
+nodes_at t i level first = under_levels (dir_sizes t.sizes (width_of t)) level first (drop level t.levels) (map leaf_node (start_leaves t i))

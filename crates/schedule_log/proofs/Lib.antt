@@ -1,0 +1,5 @@
+pub mod Seeds
+pub mod Cuts
+pub mod FirstLines
+pub mod Readers
+pub mod Cuttings

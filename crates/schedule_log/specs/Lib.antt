@@ -1,0 +1,5 @@
+pub mod Shapes
+pub mod Standings
+pub mod Steps
+pub mod Reader
+pub mod Pieces

@@ -1,0 +1,20 @@
+//! The text of a schedule, read in pieces of any lengths and written, and the schedule of a seed.
+#![tactic(auto)]
+
+pub mod laws;
+mod reading;
+mod refusal;
+mod seeding;
+mod standing;
+mod steps;
+mod words;
+mod writing;
+
+pub use reading::ScheduleReader;
+pub use refusal::FeedError;
+pub use seeding::seeded;
+pub use text_model::ScheduleRefusal;
+pub use writing::{push_turn, write_schedule};
+
+#[cfg(test)]
+mod tests;

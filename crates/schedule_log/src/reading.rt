@@ -1,0 +1,148 @@
+ghost use Rattle.std.specs.Prelude.{◌≡◌, ◌≤◌, IfOk, OnErr, length, take};
+ghost use Rattle.schedule_log.specs.Reader.{FeedGives, IsInLine, LinesRead, begun, finish_of};
+ghost use Rattle.schedule_log.specs.Shapes.{shape_view};
+
+use crate::refusal::FeedError;
+use crate::standing::Standing;
+use crate::steps::{Step, first_step};
+use ddm_types::{NoMemory, Turn};
+use std::alloc::Global;
+use std::marker::Model;
+use text_model::ScheduleRefusal;
+use tree_config::Shape;
+
+/// What the lines of a text come to: the number of turns so far, where the line begins that isn't whole, and how far the
+/// text has come.
+#[derive(Clone, Copy)]
+pub(crate) struct Lines {
+    made: u32,
+    kept: usize,
+    standing: Standing,
+}
+
+// Puts the turns of a text's whole lines at the end, up to the first that is refused.
+fn read_lines(
+    shape: &Shape,
+    first: u32,
+    text: &[u8],
+    turns: &mut Vec<Turn>,
+) -> Result<Lines, NoMemory>
+    requires { first ≤ 1048576 }
+    ensures ok { IfOk result (LinesRead (shape_view shape.now) first text.now turns.old.items turns.new.items) }
+    ensures err { OnErr result (take (length turns.old.items) turns.new.items ≡ turns.old.items) }
+{
+    let mut made = first;
+    let mut kept = 0;
+    'lines: loop {
+        match first_step(shape, made, &text[kept..]) {
+            Step::Turn { turn, used } => {
+                turns.push(turn)?;
+                made += 1;
+                kept += used;
+            }
+            Step::Stop(standing) => {
+                return Ok(Lines {
+                    made,
+                    kept,
+                    standing,
+                });
+            }
+        }
+    }
+}
+
+/// Reads the text of a schedule, in pieces of any lengths. A contract sees how many turns the lines so far were, the
+/// bytes of the line that isn't whole, and how far the text has come.
+#[derive(Drop)]
+pub struct ScheduleReader {
+    held: Vec<u8>,
+    made: u32,
+    standing: Standing,
+}
+
+impl Model for ScheduleReader {
+    ghost use Rattle.std.specs.Prelude.{◌≤◌};
+    ghost use Rattle.schedule_log.specs.Reader.{ReaderView, held_by};
+    ghost use Rattle.schedule_log.specs.Standings.{standing_of};
+
+    ghost Value = { ReaderView };
+
+    ghost view = { λ r. record { made = r.made; held = held_by r.standing r.held.items; standing = standing_of r.made r.standing } };
+
+    ghost invariant = { λ r. r.made ≤ 1048576 };
+}
+
+impl ScheduleReader {
+    /// Before the first byte of a text.
+    pub fn new(alloc: Global) -> Result<ScheduleReader, NoMemory>
+        ensures { IfOk result (λ r. r ≡ begun) }
+    {
+        Ok(ScheduleReader {
+            held: Vec::new(alloc),
+            made: 0,
+            standing: Standing::InLine,
+        })
+    }
+
+    // The same, in a line.
+    fn feed_lines(
+        &mut self,
+        shape: &Shape,
+        piece: &[u8],
+        turns: &mut Vec<Turn>,
+    ) -> Result<(), FeedError>
+        requires { IsInLine self.old.standing }
+        ensures { FeedGives (shape_view shape.now) self.old piece.now self.new turns.old.items turns.new.items result }
+    {
+        let held = self.held.len();
+        let first = turns.len();
+        if self.held.extend_from_slice(piece).is_err() {
+            return Err(FeedError::NoMemory);
+        }
+        match read_lines(shape, self.made, &self.held, turns) {
+            Ok(lines) => {
+                self.made = lines.made;
+                self.standing = lines.standing;
+                self.held.drain(..lines.kept);
+                lines.standing.answer()
+            }
+            Err(_) => {
+                self.held.truncate(held);
+                turns.truncate(first);
+                Err(FeedError::NoMemory)
+            }
+        }
+    }
+
+    /// Reads the next piece of the text: puts the turns of the lines that are whole by now at the end, up to the first
+    /// line that is refused. A refusal is answered again by every further call; after `NoMemory` all is as before.
+    pub fn feed(
+        &mut self,
+        shape: &Shape,
+        piece: &[u8],
+        turns: &mut Vec<Turn>,
+    ) -> Result<(), FeedError>
+        ensures { FeedGives (shape_view shape.now) self.old piece.now self.new turns.old.items turns.new.items result }
+    {
+        match self.standing {
+            Standing::InLine => self.feed_lines(shape, piece, turns),
+            Standing::AtEnd if piece.is_empty() => Ok(()),
+            Standing::AtEnd => {
+                self.standing = Standing::Refused(self.made + 2, ScheduleRefusal::AfterEnd);
+                Err(FeedError::Refused(self.made + 2, ScheduleRefusal::AfterEnd))
+            }
+            Standing::Refused(line, refusal) => Err(FeedError::Refused(line, refusal)),
+        }
+    }
+
+    /// The text ends here.
+    pub fn finish(self) -> Result<(), (u32, ScheduleRefusal)>
+        ensures { result ≡ finish_of self.standing }
+    {
+        match self.standing {
+            Standing::InLine => Err((self.made + 1, ScheduleRefusal::NoEnd)),
+            Standing::AtEnd => Ok(()),
+            Standing::Refused(line, refusal) => Err((line, refusal)),
+        }
+    }
+}

@@ -1,0 +1,78 @@
+ghost use Rattle.std.specs.Prelude.{◌≡◌, ◌≤◌, ◌<◌, ◌+◌, ◌*◌, IfOk};
+ghost use Rattle.text_model.specs.Seeded.{bus_turn_from, seeded_turn, seeded_turns};
+ghost use Rattle.schedule_log.specs.Shapes.{shape_view};
+
+use ddm_types::{BusNo, ChildNo, HartNo, NoMemory, Turn};
+use rand_core::utils::NextWord;
+use rand_pcg::Pcg32;
+use std::alloc::Global;
+use tree_config::Shape;
+
+/// The stream of the generator.
+const STREAM: u64 = 54;
+
+// The turn of a bus with this number of children, by the number of its source.
+fn bus_turn(bus: BusNo, children: u32, choice: u8, source: u32) -> Turn
+    requires few { children ≤ 16 }
+    requires within { source < 1 + 3 * children }
+    ensures { result ≡ bus_turn_from bus children choice source }
+{
+    if source == 0 {
+        Turn::Down { bus }
+    } else if source < children + 1 {
+        Turn::Request {
+            bus,
+            child: ChildNo(source - 1),
+        }
+    } else if source < 2 * children + 1 {
+        Turn::Reply {
+            bus,
+            child: ChildNo(source - children - 1),
+        }
+    } else {
+        Turn::Leave {
+            bus,
+            child: ChildNo(source - 2 * children - 1),
+            choice,
+        }
+    }
+}
+
+// The turn of two words of the generator.
+#[tactic(auto, unfolding(text_model::specs::Seeded::seeded_turn))]
+fn seeded_turn(shape: &Shape, a: u32, b: u32) -> Turn
+    ensures { result ≡ seeded_turn (shape_view shape.now) a b }
+{
+    if a % 4 < 2 {
+        let harts = shape.harts();
+        Turn::Hart {
+            hart: HartNo(b % harts),
+            victim: (b / harts % 256) as u8,
+        }
+    } else {
+        let buses = shape.buses();
+        let bus = BusNo(b % buses);
+        let children = shape.children(bus).unwrap_or(0);
+        bus_turn(
+            bus,
+            children,
+            (a / 4 % 16) as u8,
+            b / buses % (1 + 3 * children),
+        )
+    }
+}
+
+/// The schedule of a seed: so many turns, each of two words of the generator.
+pub fn seeded(alloc: Global, seed: u64, turns: u32, shape: &Shape) -> Result<Vec<Turn>, NoMemory>
+    ensures { IfOk result (λ list. list.items ≡ seeded_turns (shape_view shape.now) seed turns) }
+{
+    let mut words = Pcg32::new(seed, STREAM);
+    let mut list = Vec::new(alloc);
+    for turn in 0..turns {
+        let _ = turn;
+        let a = words.next_word();
+        let b = words.next_word();
+        list.push(seeded_turn(shape, a, b))?;
+    }
+    Ok(list)
+}

@@ -1,0 +1,117 @@
+ghost use Rattle.std.specs.Prelude.{◌≡◌, ◌≤◌, ◌+◌, slice_get};
+ghost use Rattle.tree_config.specs.Levels.{widths_of};
+ghost use Rattle.text_model.specs.Schedule.{child_fault, end_with, refusal_of_turn, turn_fault};
+ghost use Rattle.schedule_log.specs.Shapes.{shape_view};
+ghost use Rattle.schedule_log.specs.Standings.{standing_of};
+ghost use Rattle.schedule_log.specs.Steps.{IsLine, StepGives, step_by};
+
+use crate::standing::Standing;
+use crate::words::turn_of_line;
+use ddm_text::{LineCut, cut_line};
+use ddm_types::{BusNo, ChildNo, Turn};
+use text_model::ScheduleRefusal;
+use tree_config::Shape;
+
+/// The most turns of a schedule.
+const MOST_TURNS: u32 = 1_048_576;
+
+/// The most bytes of a line before its line feed.
+const MOST_BYTES: usize = 24;
+
+const END: &[u8] = b"end";
+
+/// What a text begins with: a line that is a turn, with its bytes and its line feed, or what it stops at.
+pub(crate) enum Step {
+    Turn { turn: Turn, used: usize },
+    Stop(Standing),
+}
+
+fn child_fault(shape: &Shape, bus: BusNo, child: ChildNo) -> Option<ScheduleRefusal>
+    ensures { result ≡ child_fault child (slice_get (widths_of shape.now) bus) }
+{
+    match shape.children(bus) {
+        None => Some(ScheduleRefusal::NoSuchBus),
+        Some(children) if child.0 < children => None,
+        Some(_) => Some(ScheduleRefusal::NoSuchChild),
+    }
+}
+
+// What a turn names that the tree doesn't have.
+#[tactic(auto, unfolding(text_model::specs::Schedule::turn_fault))]
+fn turn_fault(shape: &Shape, turn: Turn) -> Option<ScheduleRefusal>
+    ensures { result ≡ turn_fault (shape_view shape.now) turn }
+{
+    match turn {
+        Turn::Hart { hart, .. } if hart.0 < shape.harts() => None,
+        Turn::Hart { .. } => Some(ScheduleRefusal::NoSuchHart),
+        Turn::Down { bus } if bus.0 < shape.buses() => None,
+        Turn::Down { .. } => Some(ScheduleRefusal::NoSuchBus),
+        Turn::Request { bus, child } => child_fault(shape, bus, child),
+        Turn::Reply { bus, child } => child_fault(shape, bus, child),
+        Turn::Leave { bus, child, .. } => child_fault(shape, bus, child),
+    }
+}
+
+// Why a turn is refused that comes behind `made` others.
+fn refusal_of_turn(shape: &Shape, made: u32, turn: Turn) -> Option<ScheduleRefusal>
+    ensures { result ≡ refusal_of_turn (shape_view shape.now) made turn }
+{
+    if made < MOST_TURNS {
+        turn_fault(shape, turn)
+    } else {
+        Some(ScheduleRefusal::TooManyTurns)
+    }
+}
+
+// Nothing may come behind the end.
+fn after_end(made: u32, behind: &[u8]) -> Standing
+    requires { made ≤ 1048576 }
+    ensures { standing_of made result ≡ end_with (made + 1 + 1) behind.now }
+{
+    if behind.is_empty() {
+        Standing::AtEnd
+    } else {
+        Standing::Refused(made + 2, ScheduleRefusal::AfterEnd)
+    }
+}
+
+// The step of a line that is a turn, with so many bytes.
+fn step_of_turn(shape: &Shape, made: u32, turn: Turn, used: usize) -> Step
+    requires { made ≤ 1048576 }
+    ensures { result ≡ step_by (refusal_of_turn (shape_view shape.now) made turn) made turn used }
+{
+    // A value that was handed on isn't put into another one.
+    let judged = turn;
+    match refusal_of_turn(shape, made, judged) {
+        None => Step::Turn { turn, used },
+        Some(refusal) => Step::Stop(Standing::Refused(made + 1, refusal)),
+    }
+}
+
+// What a text begins with whose first line has `end` bytes.
+fn step_of_line(shape: &Shape, made: u32, text: &[u8], end: usize) -> Step
+    requires made { made ≤ 1048576 }
+    requires line { IsLine text.now end }
+    ensures { StepGives (shape_view shape.now) made text.now result }
+{
+    let line = &text[..end];
+    if line == END {
+        return Step::Stop(after_end(made, &text[end + 1..]));
+    }
+    match turn_of_line(line) {
+        None => Step::Stop(Standing::Refused(made + 1, ScheduleRefusal::BadTurn)),
+        Some(turn) => step_of_turn(shape, made, turn, end + 1),
+    }
+}
+
+/// What a text begins with that comes behind `made` turns.
+pub(crate) fn first_step(shape: &Shape, made: u32, text: &[u8]) -> Step
+    requires { made ≤ 1048576 }
+    ensures { StepGives (shape_view shape.now) made text.now result }
+{
+    match cut_line(text, 0, MOST_BYTES) {
+        LineCut::Line(end) => step_of_line(shape, made, text, end),
+        LineCut::LineTooLong => Step::Stop(Standing::Refused(made + 1, ScheduleRefusal::BadTurn)),
+        LineCut::NoEndOfLine => Step::Stop(Standing::InLine),
+    }
+}
