@@ -32,7 +32,15 @@ fn level_over<const WORDS: usize, C: Subtree<WORDS> + Drop>(
     ensures { IfOk result (λ ds. map (λ d. dir_node d.state (nodes (map C.value d.children.items))) ds.items ≡ nodes_at tree.now image.now level first) }
 {
     let widths = tree.nodes.level(level);
-    directories(alloc, &tree.sizes(), items.len(), level, first, widths, children)
+    directories(
+        alloc,
+        &tree.sizes(),
+        items.len(),
+        level,
+        first,
+        widths,
+        children,
+    )
 }
 
 /// The machine of a tree with one level of buses, before its first turn.

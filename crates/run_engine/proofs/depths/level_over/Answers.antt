@@ -41,5 +41,5 @@ returns g c =
     let children : map g.C.Agent.value c.args.children.items ≡ nodes_at t i (k + 1) (c.args.first + length l) = c.requires.children ∙ ap (λ m. nodes_at t i (k + 1) (c.args.first + length m)) (level-at k t.levels l is) in
     let sizes : dir_sizes c.sizes.result g.row.WORDS ≡ dir_sizes t.sizes (width_of t) = ap (λ s. dir_sizes s g.row.WORDS) c.sizes.ensures.sizes ∙ ap (dir_sizes t.sizes) (sym (width-is t i g.row.WORDS c.requires.size)) in
     let all : dirs_over (dir_sizes c.sizes.result g.row.WORDS) k c.args.first (cut_in l (map g.C.Agent.value c.args.children.items)) ≡ nodes_at t i k c.args.first =
-        ap (λ s. dirs_over s k c.args.first (cut_in l (map g.C.Agent.value c.args.children.items))) sizes ∙ ap (λ ns. dirs_over (dir_sizes t.sizes (width_of t)) k c.args.first (cut_in l ns)) children ∙ level-nodes t i shape c.sizes.ensures.range k c.args.first l is in
+    ap (λ s. dirs_over s k c.args.first (cut_in l (map g.C.Agent.value c.args.children.items))) sizes ∙ ap (λ ns. dirs_over (dir_sizes t.sizes (width_of t)) k c.args.first (cut_in l ns)) children ∙ level-nodes t i shape c.sizes.ensures.range k c.args.first l is in
     subst (λ ns. IfOk c.directories.result (λ ds. map (λ d. dir_node d.state (nodes (map g.C.Agent.value d.children.items))) ds.items ≡ ns)) all c.directories.ensures
