@@ -1,1 +1,3 @@
+pub mod Reserved
 pub mod Kept
+pub mod ReservedKept

@@ -1,5 +1,5 @@
 -- A text cut at the first place of a byte.
-use Rattle.std.proofs.Common.{◌≡◌, ℕ, zero, suc, ◌+◌, ◌-◌, ◌<◌, ◌≤◌, Bool, true, false, not, ◌&&◌, nat_eq, nat_lt, nat_le, List, [], ◌∷◌, ◌++◌, length, take, drop, get_or, Option, Some, None, Result, Ok, Err, cond, refl, sym, ap, ◌∙◌, subst, arith}
+use Rattle.std.proofs.Common.{◌≡◌, ℕ, zero, suc, ◌+◌, ◌-◌, ◌<◌, ◌≤◌, Bool, false, not, ◌&&◌, nat_eq, List, [], ◌∷◌, ◌++◌, length, take, drop, get_or, Option, Some, None, Ok, refl, ap, ◌∙◌, arith}
 use Rattle.std.specs.Prelude.{position}
 use Rattle.std.specs.List.{list_all, position_or_len}
 use Rattle.std.proofs.lemmas.Grind.{common_steps}
@@ -11,7 +11,7 @@ use Rattle.text_model.specs.Schedule.{pieces_at}
 use Rattle.ddm_text.specs.Numbers.{number_of, number_stop, value_of, at_most, unless_stopped}
 use Rattle.std.proofs.lemmas.Bool.Decides.{nat_tests}
 use Rattle.text_model.specs.Lines.{Lacks}
-use Rattle.text_model.proofs.Pieces.{pieces_at-whole, pieces_at-append, some_piece}
+use Rattle.text_model.proofs.Pieces.{pieces_at-whole, pieces_at-append}
 
 -- the test for a byte
 abbrev pub is_byte : ℕ → ℕ → Bool

@@ -1,24 +1,23 @@
 -- The first line of a text, and what the text gives by it.
-use Rattle.std.proofs.Common.{◌≡◌, ℕ, suc, ◌+◌, ◌<◌, ◌≤◌, Bool, true, false, nat_le, nat_lt, List, [], ◌∷◌, ◌++◌, length, take, drop, get_or, Option, Some, None, cond, refl, sym, ap, ◌∙◌, subst, arith}
+use Rattle.std.proofs.Common.{◌≡◌, ℕ, suc, ◌+◌, ◌<◌, ◌≤◌, Bool, true, false, nat_le, nat_lt, List, [], ◌∷◌, ◌++◌, length, take, drop, Option, Some, None, cond, refl, sym, ap, ◌∙◌, subst, arith}
 use Rattle.std.specs.Prelude.{position, bytes_eq, codes}
 use Rattle.std.proofs.lemmas.Bool.{le-ltb}
 use Rattle.std.proofs.lemmas.Bool.Decides.{nat_tests}
 use Rattle.std.proofs.lemmas.List.{length-take, get_or-take, take-take, take_all, take-append-drop}
 use Rattle.ddm_types.specs.declared.turns.Turn.{Turn}
 use Rattle.ddm_text.specs.Lines.{first_line, cut_at, is_line_feed}
-use Rattle.ddm_text.specs.declared.lines.LineCut.{LineCut}
 use Rattle.ddm_text.specs.declared.lines.LineCut.TheVariants.{Line, LineTooLong, NoEndOfLine}
 use Rattle.text_model.specs.declared.ScheduleRefusal.{ScheduleRefusal}
 use Rattle.text_model.specs.declared.ScheduleRefusal.TheVariants.{BadTurn, TooManyTurns}
-use Rattle.text_model.specs.Schedule.{ShapeView, pieces_at, turn_of_words, line_of_turn, meaning_of, LineMeaning, turn_line_of, end_line, no_line, turn_fault, refusal_of_turn, in_line, at_end, refused_at, nothing_but, with_turn, unless_refused, reading_on, reading_of_line, end_with, held_of, last_piece}
+use Rattle.text_model.specs.Schedule.{ShapeView, pieces_at, turn_of_words, line_of_turn, meaning_of, LineMeaning, turn_line_of, end_line, no_line, turn_fault, refusal_of_turn, refused_at, nothing_but, with_turn, unless_refused, reading_on, reading_of_line, end_with, held_of, last_piece}
 use Rattle.text_model.specs.Lines.{Lacks}
 use Rattle.text_model.proofs.Pieces.{pieces_at-whole, pieces_at-append, some_piece}
 use Rattle.text_model.proofs.Parts.{reading_on-open, reading_on-long, reading_on-line}
 use Rattle.schedule_log.specs.declared.standing.Standing.{Standing as Place}
 use Rattle.schedule_log.specs.declared.standing.Standing.TheVariants.{InLine, AtEnd, Refused}
 use Rattle.schedule_log.specs.Standings.{standing_of}
-use Rattle.schedule_log.specs.Steps.{IsLine, BeginsWithTurn, HoldsAll, StopsAt, StepGives, step_by}
-use Rattle.schedule_log.proofs.Cuts.{IsCut, split_at, cut_of, uncut_of}
+use Rattle.schedule_log.specs.Steps.{IsLine, HoldsAll, StopsAt, StepGives, step_by}
+use Rattle.schedule_log.proofs.Cuts.{split_at, cut_of, uncut_of}
 
 -- ---- where it ends
 

@@ -4,14 +4,14 @@ use Rattle.std.proofs.lemmas.List.{append-nil}
 use Rattle.ddm_types.specs.declared.turns.Turn.{Turn}
 use Rattle.text_model.specs.declared.ScheduleRefusal.{ScheduleRefusal}
 use Rattle.text_model.specs.declared.ScheduleRefusal.TheVariants.{AfterEnd}
-use Rattle.text_model.specs.Schedule.{ShapeView, Standing, in_line, at_end, refused_at, Reading, reading_on, held_of, with_turns, resumed}
+use Rattle.text_model.specs.Schedule.{ShapeView, Standing, in_line, at_end, refused_at, Reading, reading_on, with_turns, resumed}
 use Rattle.schedule_log.specs.declared.standing.Standing.{Standing as Place}
 use Rattle.schedule_log.specs.declared.standing.Standing.TheVariants.{InLine, AtEnd, Refused}
 use Rattle.schedule_log.specs.declared.refusal.FeedError.{FeedError}
 use Rattle.schedule_log.specs.declared.refusal.FeedError.TheVariants as error
 use Rattle.schedule_log.specs.declared.reading.Lines.{Lines}
 use Rattle.schedule_log.specs.Standings.{standing_of, held_in}
-use Rattle.schedule_log.specs.Reader.{ReaderView, given, fed, Fed, answer_of, FeedGives, held_by, KeepsHeld, LinesRead, IsInLine}
+use Rattle.schedule_log.specs.Reader.{ReaderView, Fed, answer_of, FeedGives, held_by, KeepsHeld, LinesRead, IsInLine}
 
 -- what a contract sees of these fields
 abbrev pub seen : ℕ → Place → List ℕ → ReaderView

@@ -1,8 +1,7 @@
 -- A bus's turn keeps what the core rules say of harts and of operations alone, and so, with what is known of copies, claims and
 -- reservations, all core rules.
-use Rattle.std.proofs.Common.{◌≡◌, ℕ, ◌<◌, List, [], ◌∷◌, Option, is_some, refl, sym, ap, subst, ◌∙◌}
+use Rattle.std.proofs.Common.{◌≡◌, ℕ, ◌<◌, List, [], ◌∷◌, sym, ap, subst, ◌∙◌}
 use Rattle.std.specs.Prelude.{nat_eq}
-use Rattle.ddm_types.specs.declared.operations.HaltCause.{HaltCause}
 use Rattle.ddm_types.specs.declared.operations.Op.{Op}
 use Rattle.ddm_types.specs.declared.turns.Turn.{Turn}
 use Rattle.ddm_types.specs.CodeMap.{CodeWord}
@@ -24,7 +23,7 @@ use Rattle.order_laws.specs.Grant.{after_bus, CommandsPastAfter, ReservationsAft
 use Rattle.order_laws.specs.Moves.CopiesMoved.{IsBusTurn}
 use Rattle.order_laws.specs.Moves.LeavesKept.{LeafKept, LeavesKept}
 use Rattle.order_laws.proofs.Hart.CopiesTurned.{Pairs}
-use Rattle.order_laws.proofs.Hart.CoreParts.{core_of, core_holds}
+use Rattle.order_laws.proofs.Hart.CoreParts.{core_of}
 use Rattle.order_laws.proofs.Hart.Transport.{pairs-holds}
 use Rattle.order_laws.proofs.Moves.ClaimsAfterOps.{claims_after_ops-kept}
 use Rattle.order_laws.proofs.Moves.ClockKept.{clocks-kept}

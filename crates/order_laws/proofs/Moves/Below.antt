@@ -1,6 +1,6 @@
 -- What the proofs of a bus's turn take of the lists of one state, said of a directory's clocks and order as the rules have them.
 -- A directory of the rules is one of those lists: `of_clocked` and `of_ordered`.
-use Rattle.std.proofs.Common.{◌≡◌, ℕ, ◌<◌, Bool, true, false, not, List, [], ◌∷◌, length, IfSome, None, refl, sym, ◌∙◌}
+use Rattle.std.proofs.Common.{◌≡◌, ℕ, ◌<◌, Bool, true, false, not, List, length, IfSome, None, refl, sym, ◌∙◌}
 use Rattle.std.specs.List.{AllByRecursion, list_any}
 use Rattle.std.proofs.lemmas.Bool.{true≢false}
 use Rattle.ddm_types.specs.declared.operations.Op.{Op}
@@ -20,7 +20,7 @@ use Rattle.tree_rules.specs.Order.Claims.{last_exclusive, first_claim}
 use Rattle.tree_rules.specs.Order.Copies.{CopyAt, first_erase, inner, copies_of}
 use Rattle.tree_rules.specs.Order.Core.{is_past_taken, ended_before}
 use Rattle.tree_rules.specs.Order.Directories.{IsClocked, IsOrdered}
-use Rattle.tree_rules.specs.Order.Moments.{less, is_under, moment_at, spot_moment, GoesOn}
+use Rattle.tree_rules.specs.Order.Moments.{less, moment_at, spot_moment, GoesOn}
 use Rattle.tree_rules.specs.Order.Ops.{op_key, op_path, words_where}
 use Rattle.tree_rules.specs.Order.Places.{LeafAt, leaf_path, leaf_now, leaves_at, DirAt, dirs_at, dirs_in, placed_dirs, placed_leaves}
 use Rattle.tree_rules.specs.Order.Rules.{IsTimed, IsCore, commands_past_taken, words_right, clocks_know, ops_of_leaves, keys_have_paths, keys_are_past, stamps_between, stamps_rise}

@@ -1,15 +1,14 @@
 -- Each claim is still after each operation on its item under another child of its bus, after every turn of a bus.
 -- Letters: c is a claim before, c' one after, o an operation.
-use Rattle.std.proofs.Common.{◌≡◌, ℕ, ◌+◌, ◌-◌, ◌*◌, ◌<◌, ◌≤◌, Bool, true, false, List, [], ◌∷◌, ◌++◌, length, take, refl, sym, ap, subst, ◌∙◌, ◌⊎◌, inl, inr, arith}
+use Rattle.std.proofs.Common.{◌≡◌, ℕ, ◌+◌, ◌-◌, ◌<◌, true, List, [], ◌∷◌, ◌++◌, length, take, sym, ap, subst, ◌∙◌, inl, inr, arith}
 use Rattle.std.specs.Prelude.{nat_eq, nat_lt, ◌&&◌}
 use Rattle.std.specs.List.{AllByRecursion}
 use Rattle.std.proofs.lemmas.Bool.{and_parts, eqb-true}
-use Rattle.std.proofs.lemmas.List.{length-append, take_all, take-take}
+use Rattle.std.proofs.lemmas.List.{length-append, take_all}
 use Rattle.ddm_types.specs.declared.operations.Op.{Op}
 use Rattle.ddm_types.specs.declared.turns.Turn.{Turn}
 use Rattle.flat_model.specs.Flat.{FlatMachine}
-use Rattle.flat_model.specs.Legal.{on_item}
-use Rattle.tree_model.specs.State.Values.{MachineValue, root_of}
+use Rattle.tree_model.specs.State.Values.{MachineValue}
 use Rattle.tree_model.specs.State.Directory.{stamp_of}
 use Rattle.tree_model.specs.State.Shape.{IsShaped, depth_of}
 use Rattle.tree_model.specs.Turns.Machine.{turn_of}
@@ -26,9 +25,8 @@ use Rattle.order_lists.proofs.Filters.{each-weaker}
 use Rattle.order_lists.proofs.Moments.{less-least, least-less}
 use Rattle.order_lists.proofs.Paths.{under-append, under-parted}
 use Rattle.order_lists.proofs.Stamps.{moment_at-length}
-use Rattle.order_laws.specs.Moves.Moved.{In}
 use Rattle.order_laws.specs.Moves.Carries.{old_moment, new_moment}
-use Rattle.order_laws.specs.Moves.ClaimsMoved.{ClaimKept, ClaimNew, KeptFrom, ClaimFrom, ClaimsFrom}
+use Rattle.order_laws.specs.Moves.ClaimsMoved.{ClaimKept, ClaimNew, ClaimFrom, ClaimsFrom}
 use Rattle.order_laws.specs.Moves.CopiesMoved.{IsBusTurn, TurnMoves}
 use Rattle.order_laws.proofs.Moves.ClockKept.{IsBeforeOld, ops-before}
 use Rattle.order_laws.proofs.Moves.CopiesMoved.{turn-moves, claims-of-same}

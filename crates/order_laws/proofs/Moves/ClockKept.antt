@@ -1,12 +1,10 @@
 -- Where each copy comes from one before, each copy still knows each change that isn't under its place.
-use Rattle.std.proofs.Common.{◌≡◌, ℕ, zero, suc, ◌+◌, ◌<◌, Bool, true, false, List, [], ◌∷◌, ◌++◌, length, take, Option, Some, None, refl, sym, ap, subst, ◌∙◌, ◌⊎◌, inl, inr, arith}
+use Rattle.std.proofs.Common.{◌≡◌, ℕ, suc, ◌+◌, ◌<◌, Bool, true, false, List, [], ◌∷◌, ◌++◌, length, take, Option, Some, None, refl, sym, ap, subst, ◌∙◌, ◌⊎◌, inl, inr, arith}
 use Rattle.std.specs.Prelude.{nat_eq}
 use Rattle.std.specs.List.{AllByRecursion}
 use Rattle.std.proofs.lemmas.List.{take-take}
 use Rattle.ddm_types.specs.declared.operations.Op.{Op}
 use Rattle.ddm_types.specs.declared.turns.Turn.{Turn}
-use Rattle.ddm_types.specs.ItemTable.{ItemTable}
-use Rattle.flat_model.specs.Legal.{changes_item}
 use Rattle.flat_model.specs.Flat.{FlatMachine}
 use Rattle.tree_model.specs.State.Values.{MachineValue}
 use Rattle.tree_model.specs.State.Shape.{IsShaped, depth_of}
@@ -17,7 +15,7 @@ use Rattle.tree_rules.specs.Order.Moments.{less, less_at, past, parted, is_under
 use Rattle.tree_rules.specs.Order.Copies.{CopyAt, copies_of}
 use Rattle.tree_rules.specs.Order.Core.{ended_before, knows_change}
 use Rattle.tree_rules.specs.Order.Ops.{op_key, op_path}
-use Rattle.tree_rules.specs.Order.Places.{LeafAt, leaf_path, leaf_now, leaves_at}
+use Rattle.tree_rules.specs.Order.Places.{LeafAt, leaf_path, leaf_now}
 use Rattle.tree_rules.specs.Order.Rules.{IsTimed, copy_rule, clocks_know}
 use Rattle.tree_rules.proofs.Statements.{each-facts, facts-each}
 use Rattle.order_lists.proofs.Moments.{less-least, least-less, less-asymmetric, at_most-at, at_most-transitive, GoesOn-past, GoesOn-at}
@@ -25,7 +23,7 @@ use Rattle.order_lists.proofs.Paths.{under-trans, under-parted, under-append}
 use Rattle.order_laws.proofs.Moves.Below.{AreCommandsPast, ops-by_leaves}
 use Rattle.order_lists.proofs.Stamps.{moment_at-length}
 use Rattle.tree_model.specs.State.Directory.{stamp_of}
-use Rattle.order_laws.specs.Moves.Moved.{Kept, Told, Ended, Moved, From, AllFrom}
+use Rattle.order_laws.specs.Moves.Moved.{Kept, Told, Ended, Moved, AllFrom}
 use Rattle.order_laws.specs.Moves.Carries.{BusTurned, old_moment, new_moment, HoldsAfter, MovedBy, IsBelowOld}
 use Rattle.order_laws.specs.Moves.CopiesMoved.{IsBusTurn, TurnMoves}
 use Rattle.order_laws.proofs.Moves.CopiesMoved.{turn-moves, copies-same}

@@ -8,7 +8,7 @@ use Rattle.ddm_types.specs.declared.answers.TurnAnswer.{TurnAnswer}
 use Rattle.ddm_types.specs.declared.turns.Turn.{Turn}
 use Rattle.tree_model.specs.declared.BusTurn.{BusTurn}
 use Rattle.tree_model.specs.State.States.{is_held}
-use Rattle.tree_model.specs.State.Values.{LeafValue, DirValue, Node, Nodes, leaf_node, dir_node, nodes, children, MachineValue, root_of}
+use Rattle.tree_model.specs.State.Values.{DirValue, Node, Nodes, leaf_node, dir_node, nodes, children, MachineValue, root_of}
 use Rattle.tree_model.specs.State.Directory.{stamp_of}
 use Rattle.tree_model.specs.State.Child.{child_hold}
 use Rattle.tree_model.specs.State.Place.{Where, at_top, at_child, where_path, spot_path, spot_in, stamp_above}
@@ -17,7 +17,7 @@ use Rattle.tree_model.specs.Turns.Bus.{bus_step, bus_judged}
 use Rattle.tree_model.specs.Turns.Children.{child_at}
 use Rattle.tree_model.specs.Turns.Grant.{Grant, Judged, Outcome, nothing_there, refused, granted, outcome_of}
 use Rattle.tree_model.specs.Turns.Machine.{named_by, bus_turn_of, turn_of}
-use Rattle.tree_model.specs.Turns.Tree.{has_node, is_named}
+use Rattle.tree_model.specs.Turns.Tree.{has_node}
 use Rattle.tree_model.specs.Laws.{TurnsHere}
 use Rattle.tree_model.proofs.Children.{children-nodes, nodes-children}
 use Rattle.tree_model.proofs.Rows.{row-of}

@@ -1,9 +1,8 @@
 -- A turn of a bus leaves the operations, the table of items and the depth of the tree.
-use Rattle.std.proofs.Common.{◌≡◌, ℕ, true, false, List, Option, None, Some, refl, sym, ap, subst, ◌∙◌}
+use Rattle.std.proofs.Common.{◌≡◌, ℕ, true, None, Some, refl, ap, subst, ◌∙◌}
 use Rattle.ddm_types.specs.declared.answers.TurnAnswer.{TurnAnswer}
 use Rattle.ddm_types.specs.declared.turns.Turn.{Turn}
-use Rattle.ddm_types.specs.ItemTable.{ItemTable}
-use Rattle.tree_model.specs.State.Values.{LeafValue, DirValue, Node, Nodes, leaf_node, dir_node, MachineValue, root_of, children}
+use Rattle.tree_model.specs.State.Values.{LeafValue, Node, leaf_node, dir_node, MachineValue, root_of, children}
 use Rattle.tree_model.specs.State.Place.{Where, at_top, stamp_above}
 use Rattle.tree_model.specs.State.Shape.{Frame, depth_of, levels_of}
 use Rattle.tree_model.specs.Turns.Bus.{bus_step, bus_judged}

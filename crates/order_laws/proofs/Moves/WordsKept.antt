@@ -1,32 +1,31 @@
 -- Each copy still has the right words, after every turn of a bus.
 -- Letters: k is a copy before, k' the one that comes from it, o an operation.
-use Rattle.std.proofs.Common.{◌≡◌, ℕ, ◌+◌, ◌*◌, ◌<◌, ◌≤◌, Bool, true, false, List, [], ◌∷◌, length, take, filter, Option, Some, None, IfSome, refl, sym, ap, subst, ◌∙◌, ◌⊎◌, inl, inr, arith}
+use Rattle.std.proofs.Common.{◌≡◌, ℕ, ◌<◌, ◌≤◌, Bool, true, false, List, [], ◌∷◌, length, take, Option, Some, None, IfSome, refl, sym, subst, ◌∙◌, ◌⊎◌, inl, inr, arith}
 use Rattle.std.specs.List.{AllByRecursion}
 use Rattle.std.proofs.lemmas.Bool.{cases_lt}
 use Rattle.ddm_types.specs.declared.operations.Op.{Op}
 use Rattle.ddm_types.specs.declared.turns.Turn.{Turn}
 use Rattle.flat_model.specs.Legal.{changes_item}
 use Rattle.flat_model.specs.Flat.{FlatMachine}
-use Rattle.tree_model.specs.State.Values.{MachineValue, root_of}
+use Rattle.tree_model.specs.State.Values.{MachineValue}
 use Rattle.tree_model.specs.State.Directory.{stamp_of}
 use Rattle.tree_model.specs.State.Shape.{IsShaped, depth_of}
 use Rattle.tree_model.specs.Turns.Machine.{turn_of}
-use Rattle.tree_model.specs.Turns.Witness.{sorted_ops}
 use Rattle.tree_rules.specs.Statements.{Holds, is_so, each, there_and}
 use Rattle.tree_rules.specs.Bus.Rules.{IsMachineOk, items_of_machine}
-use Rattle.tree_rules.specs.Order.Moments.{less, less_at, before, past, parted, is_under, moment_length, same_numbers, GoesOn}
+use Rattle.tree_rules.specs.Order.Moments.{less_at, before, past, parted, is_under, moment_length, same_numbers, GoesOn}
 use Rattle.tree_rules.specs.Order.Copies.{CopyAt, copies_of}
 use Rattle.tree_rules.specs.Order.Core.{ended_before, knows_change, has_right_words, words_until}
 use Rattle.tree_rules.specs.Order.Ops.{op_key, op_path}
 use Rattle.tree_rules.specs.Order.Rules.{IsTimed, IsCore, copy_rule, words_right, clocks_know, commands_past_taken}
 use Rattle.tree_rules.proofs.Statements.{each-facts, facts-each}
 use Rattle.order_laws.proofs.Moves.Below.{AreCommandsPast, SortsByEnd, HasWordsOfChanges, words_of_copies}
-use Rattle.order_lists.proofs.Filters.{each-weaker, each-both}
+use Rattle.order_lists.proofs.Filters.{each-both}
 use Rattle.order_lists.proofs.Moments.{less-least, least-less, less_at-more, at_most_at-fewer, before_is, past-not_before, same_numbers-itself, less-asymmetric, GoesOn-past, GoesOn-at}
-use Rattle.order_lists.proofs.Paths.{under-trans, under-length, under-parted}
+use Rattle.order_lists.proofs.Paths.{under-trans, under-parted}
 use Rattle.order_lists.proofs.Stamps.{moment_at-length}
-use Rattle.order_laws.specs.Moves.Moved.{Ended, Moved, From, AllFrom}
-use Rattle.order_laws.specs.Moves.Carries.{BusTurned, old_moment, new_moment, HoldsAfter, MovedBy}
+use Rattle.order_laws.specs.Moves.Moved.{Ended, AllFrom}
+use Rattle.order_laws.specs.Moves.Carries.{old_moment, new_moment, HoldsAfter, MovedBy}
 use Rattle.order_laws.specs.Moves.CopiesMoved.{IsBusTurn, TurnMoves}
 use Rattle.order_laws.proofs.Moves.ClockKept.{IsBeforeOld, ops-before}
 use Rattle.order_laws.proofs.Moves.CopiesMoved.{turn-moves, copies-same}

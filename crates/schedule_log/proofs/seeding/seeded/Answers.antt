@@ -1,4 +1,4 @@
-use Rattle.std.proofs.Common.{ℕ, ◌+◌, ◌-◌, List, [], ◌∷◌, ◌++◌, ap, ◌∙◌, arith}
+use Rattle.std.proofs.Common.{◌+◌, ◌-◌, List, [], ◌∷◌, ◌++◌, ap, ◌∙◌, arith}
 use Rattle.ddm_types.specs.declared.turns.Turn.{Turn}
 use Rattle.rand_pcg.specs.Lcg.{Lcg}
 use Rattle.schedule_log.specs.Shapes.{shape_view}

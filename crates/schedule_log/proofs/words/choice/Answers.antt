@@ -1,4 +1,4 @@
-use Rattle.std.proofs.Common.{◌∙◌, sym, arith}
+use Rattle.std.proofs.Common.{sym, arith}
 use Rattle.schedule_log.proofs.Cuts.{small_number}
 use Rattle.schedule_log.proofs.words.choice.Goals as goal
 

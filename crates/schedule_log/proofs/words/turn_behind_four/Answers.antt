@@ -1,5 +1,5 @@
-use Rattle.std.proofs.Common.{ℕ, ◌+◌, List, ◌∷◌, take, drop, length, sym, ap, ◌∙◌, arith}
-use Rattle.text_model.specs.Schedule.{pieces_at, turn_of_words}
+use Rattle.std.proofs.Common.{ℕ, ◌+◌, List, ◌∷◌, take, drop, sym, ap, ◌∙◌, arith}
+use Rattle.text_model.specs.Schedule.{turn_of_words}
 use Rattle.text_model.proofs.Pieces.{some_piece}
 use Rattle.schedule_log.proofs.words.turn_behind_four.Goals as goal
 

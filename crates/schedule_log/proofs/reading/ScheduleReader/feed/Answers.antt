@@ -1,4 +1,4 @@
-use Rattle.std.proofs.Common.{refl, sym, ◌∙◌, arith}
+use Rattle.std.proofs.Common.{refl, arith}
 use Rattle.std.proofs.lemmas.Bool.Decides.{nat_tests}
 use Rattle.schedule_log.specs.Shapes.{shape_view}
 use Rattle.schedule_log.proofs.Readers.{end_again, end_refused, refused_again}

@@ -1,4 +1,4 @@
-use Rattle.std.proofs.Common.{◌≡◌, drop, sym, ◌∙◌, rules}
+use Rattle.std.proofs.Common.{rules}
 use Rattle.schedule_log.specs.Shapes.{shape_view}
 use Rattle.schedule_log.proofs.Readers.{lines_fed}
 use Rattle.schedule_log.proofs.reading.ScheduleReader.feed_lines.Goals as goal
