@@ -12,7 +12,7 @@ mod stacks;
 mod tree;
 mod trees;
 
-pub use depths::{one_level, two_levels};
+pub use depths::{four_levels, one_level, three_levels, two_levels};
 pub use machine::AnyMachine;
 pub use making::build;
 pub use refusal::BuildRefusal;
