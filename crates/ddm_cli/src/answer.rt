@@ -10,7 +10,7 @@ ghost use Rattle.ddm_cli.specs.LeafView.{leaf_view};
 use crate::report_lines::report;
 use ddm_types::NoMemory;
 use one_leaf::{OneLeaf, run};
-use run_engine::AnyMachine;
+use run_engine::LeafMachine;
 use std::alloc::Global;
 
 // The report after so many turns of hart 0.
@@ -35,7 +35,7 @@ fn ran_text<const WORDS: usize>(
 /// The report of a machine whose leaf has this many sets, after so many turns of hart 0.
 pub fn report_text(
     alloc: Global,
-    machine: AnyMachine,
+    machine: LeafMachine,
     sets: u32,
     turns: u64,
 ) -> Result<Vec<u8>, NoMemory>
@@ -47,7 +47,7 @@ pub fn report_text(
         IfOk result (λ text. text.items ≡ report_of (leaf_view sets counts after)) }
 {
     match machine {
-        AnyMachine::Narrow(machine) => ran_text(alloc, machine, sets, turns),
-        AnyMachine::Wide(machine) => ran_text(alloc, machine, sets, turns),
+        LeafMachine::Narrow(machine) => ran_text(alloc, machine, sets, turns),
+        LeafMachine::Wide(machine) => ran_text(alloc, machine, sets, turns),
     }
 }

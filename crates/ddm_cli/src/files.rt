@@ -14,7 +14,7 @@ use crate::status::Status;
 use ddm_outside::Shelf;
 use elf_load::ImageRefusal;
 use report::FileRole;
-use run_engine::AnyMachine;
+use run_engine::LeafMachine;
 use std::alloc::Global;
 use tree_config::{TreeConfig, TreeRefusal};
 
@@ -47,7 +47,7 @@ pub fn image_file<F: Shelf>(
     name: &str,
     buffer: &mut [u8],
     tree: &TreeConfig,
-) -> Result<AnyMachine, Status>
+) -> Result<LeafMachine, Status>
     requires room { 0 < length buffer.old }
     requires leaf { tree.now.levels ≡ (1 ∷ []) ∷ [] }
     ensures found { IfOk result (λ m. (i : ImageValue) × IsBuilt tree.now i (machine_value m) × IfSome (F.told files.old name.now) (λ file. image_of tree.now.item_bytes file ≡ Ok i)) }

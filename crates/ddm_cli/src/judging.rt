@@ -8,7 +8,7 @@ ghost use Rattle.ddm_cli.specs.Parts.{is_one_leaf, parts_in, tree_at};
 use crate::status::Status;
 use elf_load::{Image, ImageRefusal, load};
 use report::FileRole;
-use run_engine::{AnyMachine, BuildRefusal, build};
+use run_engine::{BuildRefusal, LeafMachine, build_leaf};
 use std::alloc::Global;
 use tree_config::{TreeConfig, TreeRefusal, read_tree};
 
@@ -34,12 +34,12 @@ pub fn judged_tree(alloc: Global, bytes: &[u8]) -> Result<TreeConfig, Status>
 }
 
 // The machine of a tree and an image.
-fn built(alloc: Global, tree: &TreeConfig, image: &Image) -> Result<AnyMachine, Status>
+fn built(alloc: Global, tree: &TreeConfig, image: &Image) -> Result<LeafMachine, Status>
     requires { tree.now.levels ≡ (1 ∷ []) ∷ [] }
     ensures built { IfOk result (λ m. IsBuilt tree.now image.now (machine_value m)) }
     ensures cause { IfErr result (BuildCause tree.now image.now) }
 {
-    match build(alloc, tree, image) {
+    match build_leaf(alloc, tree, image) {
         Ok(machine) => Ok(machine),
         Err(BuildRefusal::NoMemory) => Err(Status::NoMemory),
         Err(refusal) => Err(Status::ImageBuild(refusal)),
@@ -47,7 +47,7 @@ fn built(alloc: Global, tree: &TreeConfig, image: &Image) -> Result<AnyMachine, 
 }
 
 /// The machine of a tree and the image that a file's bytes are.
-pub fn judged_image(alloc: Global, tree: &TreeConfig, bytes: &[u8]) -> Result<AnyMachine, Status>
+pub fn judged_image(alloc: Global, tree: &TreeConfig, bytes: &[u8]) -> Result<LeafMachine, Status>
     requires { tree.now.levels ≡ (1 ∷ []) ∷ [] }
     ensures found { IfOk result (λ m. (i : ImageValue) × IsBuilt tree.now i (machine_value m) × (image_of tree.now.item_bytes bytes.now ≡ Ok i)) }
     ensures taken { IfOk result (λ m. IsSome (parts_in tree.now bytes.now)) }

@@ -22,7 +22,15 @@ pub record CanFill (ways width : ℕ) (t : TreeValue) (i : ImageValue) (items : 
   pub items_are : items ≡ start_items t i
   pub accepted : start_refusal t i ≡ None
 
--- with the code, what a machine of them is made of
+-- what a machine is made of, whatever its leaves' ways
+pub record CanMake (width : ℕ) (t : TreeValue) (i : ImageValue) (code : List CodeWord) (items : ItemTable) : Type 0 where
+  pub size : 4 * width ≡ t.item_bytes
+  pub small : width ≤ 16
+  pub code_is : code ≡ start_code i
+  pub items_are : items ≡ start_items t i
+  pub accepted : start_refusal t i ≡ None
+
+-- and what a machine of leaves with so many ways is made of
 pub record CanStart (ways width : ℕ) (t : TreeValue) (i : ImageValue) (code : List CodeWord) (items : ItemTable) : Type 0 where
   pub fill : CanFill ways width t i items
   pub code_is : code ≡ start_code i
