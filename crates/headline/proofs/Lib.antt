@@ -1,0 +1,4 @@
+pub mod Leaves
+pub mod Witnessed
+pub mod GoesOn
+pub mod Runs

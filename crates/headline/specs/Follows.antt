@@ -1,0 +1,12 @@
+-- What follows from the rules of order in one state of a machine.
+-- To be believed: it is what is claimed of every state.
+use Rattle.flat_model.specs.Flat.{FlatMachine}
+use Rattle.tree_model.specs.State.Values.{MachineValue}
+use Rattle.tree_model.specs.State.Shape.{IsShaped}
+use Rattle.tree_rules.specs.Bus.Rules.{IsMachineOk}
+use Rattle.tree_rules.specs.Order.Rules.{IsTimed, IsCore, IsWritten}
+use Rattle.tree_rules.specs.Witness.{IsWitnessed}
+
+-- the witness: what a reader is told of a machine and its operations
+abbrev pub WitnessFollows : Type 0
+WitnessFollows = (s : FlatMachine) (m : MachineValue) → IsShaped m → IsMachineOk m → IsTimed m → IsCore s m → IsWitnessed s m
