@@ -2,3 +2,4 @@ pub mod Leaves
 pub mod Witnessed
 pub mod GoesOn
 pub mod Runs
+pub mod StartFresh
