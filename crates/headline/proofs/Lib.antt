@@ -3,3 +3,4 @@ pub mod Witnessed
 pub mod GoesOn
 pub mod Runs
 pub mod StartFresh
+pub mod StartCopies
