@@ -4,3 +4,4 @@ pub mod GoesOn
 pub mod Runs
 pub mod StartFresh
 pub mod StartCopies
+pub mod StartOrder
