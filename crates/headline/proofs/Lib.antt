@@ -5,3 +5,5 @@ pub mod Runs
 pub mod StartFresh
 pub mod StartCopies
 pub mod StartOrder
+pub mod Numbered
+pub mod Causes
