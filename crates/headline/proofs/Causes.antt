@@ -40,7 +40,7 @@ use Rattle.headline.proofs.Numbered.{StandsIn, in_here, in_below, StandsAmong, i
 
 -- ---- small facts
 
-full-is : (n room : ℕ) → n ≤ room → nat_le room n ≡ true → nat_eq n room ≡ true
+pub full-is : (n room : ℕ) → n ≤ room → nat_le room n ≡ true → nat_eq n room ≡ true
 full-is n room l h = let k : room ≤ n = leb-true room n h in eq-eqb n room (omega (arith, l, k))
 
 -- why an item is pending is so
@@ -150,7 +150,7 @@ module _ (m : MachineValue) (shaped : IsShaped m) (ok : IsMachineOk m) where
     at_there k l = stands-under (child_at k ns) (dir_node p nodes) (root_of m) (in_below (among-at nodes k l)) there
 
     -- what was judged names a cause that is so
-    abbrev IsCaused : Judged → Type 0
+    abbrev pub IsCaused : Judged → Type 0
     IsCaused nothing_there = ⊤
     IsCaused (refused cause) = cause_holds t m cause ≡ true
     IsCaused (granted g) = ⊤
@@ -233,13 +233,13 @@ module _ (m : MachineValue) (shaped : IsShaped m) (ok : IsMachineOk m) where
       kind-caused InjectTx = tt
       kind-caused OutTx = tt
 
-    request-caused : (above : Stamp) (c : ℕ) (r : Option RequestValue) → IsCaused (request_turn above p ns c r)
+    pub request-caused : (above : Stamp) (c : ℕ) (r : Option RequestValue) → IsCaused (request_turn above p ns c r)
     request-caused above c None = tt
     request-caused above c (Some r) = kind-caused above c r.item r.kind
 
     -- ---- replies
 
-    reply-caused : (above : Stamp) (c : ℕ) (r : Option CopyValue) → IsCaused (reply_turn above p ns c r)
+    pub reply-caused : (above : Stamp) (c : ℕ) (r : Option CopyValue) → IsCaused (reply_turn above p ns c r)
     reply-caused above c None = tt
     reply-caused above c (Some r) = by_note (dir_note r.item p) where
       answering : (b : Bool) → IsCaused (reply_answering c r.item r.words p ns b)
@@ -324,7 +324,7 @@ module _ (m : MachineValue) (shaped : IsShaped m) (ok : IsMachineOk m) where
       entry-caused kind (up_read first joined) i = down_kind-caused kind
       entry-caused kind (up_erase d) i = down_kind-caused kind
 
-    down-caused : (down : List DownValue) → IsCaused (down_turn p ns down)
+    pub down-caused : (down : List DownValue) → IsCaused (down_turn p ns down)
     down-caused [] = tt
     down-caused (e ∷ rest) = entry-caused e rest e.kind (dir_note e.item p) refl
 
@@ -425,12 +425,12 @@ module _ (m : MachineValue) (shaped : IsShaped m) (ok : IsMachineOk m) where
       leaving-caused x None e (Some w) f = below-caused x (child_at c ns) refl w f
       leaving-caused x None e None f = hold-caused x (child_hold x (child_at c ns))
 
-      leave-caused : (above : Stamp) (o : Option ℕ) → IsCaused (leave_turn above p ns c o)
+      pub leave-caused : (above : Stamp) (o : Option ℕ) → IsCaused (leave_turn above p ns c o)
       leave-caused above None = tt
       leave-caused above (Some x) = leaving-caused x (pending x p) refl (pending_below x (child_at c ns)) refl
 
     -- its answer
-    answer-holds : (j : Judged) → IsCaused j → busy_has_cause t m (bus_answer p.bus j) ≡ true
+    pub answer-holds : (j : Judged) → IsCaused j → busy_has_cause t m (bus_answer p.bus j) ≡ true
     answer-holds nothing_there h = refl
     answer-holds (refused cause) h = h
     answer-holds (granted g) h = refl

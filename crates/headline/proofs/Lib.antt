@@ -7,3 +7,4 @@ pub mod StartCopies
 pub mod StartOrder
 pub mod Numbered
 pub mod Causes
+pub mod BusyCauses

@@ -10,6 +10,7 @@ use Rattle.ddm_types.specs.declared.turns.Turn.{Turn}
 use Rattle.flat_model.specs.Flat.{FlatMachine}
 use Rattle.tree_model.specs.State.Values.{MachineValue}
 use Rattle.tree_model.specs.Turns.Machine.{turn_of, run_of}
+use Rattle.tree_model.specs.Start.Machine.{flat_start_of}
 use Rattle.tree_model.proofs.FrameKept.{turn-shape}
 use Rattle.tree_rules.specs.Order.Places.{LeafAt, leaves_at}
 use Rattle.tree_rules.specs.Witness.{busy_has_cause, EachCauseHolds, op_of_answer, ops_of_answers, halts_hart, some_halts, IsHaltedByTurn, IsRunWitnessed}
@@ -17,10 +18,11 @@ use Rattle.bus_laws.proofs.TreeKept.{turn-keeps_rules}
 use Rattle.order_laws.proofs.EveryTurn.{every_turn-keeps_time}
 use Rattle.order_laws.proofs.Hart.CopiesTurned.{Pairs}
 use Rattle.order_laws.proofs.Hart.HartMachine.{ops_with, ops_after}
-use Rattle.headline.specs.Causes.{BusyHasItsCause}
-use Rattle.headline.specs.Runs.{IsOrderly, TurnKeepsCore}
+use Rattle.headline.specs.Runs.{IsOrderly, TurnKeepsCore, EveryRunIsWitnessed}
 use Rattle.headline.proofs.Leaves.{each_leaf}
 use Rattle.headline.proofs.Witnessed.{witnessed}
+use Rattle.headline.proofs.StartOrder.{start-orderly}
+use Rattle.headline.proofs.BusyCauses.{busy-has_cause}
 use Rattle.headline.proofs.GoesOn.{GoesOn, turn-goes_on, pairs-each_same, pairs-joined, pairs-second}
 
 -- ---- operations
@@ -83,17 +85,20 @@ module _ (kept : TurnKeepsCore) where
 
   -- ---- whole runs
 
-  module _ (cause : BusyHasItsCause) where
-    causes-hold : (s : FlatMachine) (ts : List Turn) (m : MachineValue) → IsOrderly s m → EachCauseHolds ts m
-    causes-hold s [] m r = tt
-    causes-hold s (t ∷ ts) m r = (cause t m r.shaped r.buses, causes-hold s ts (turn_of t m).machine (turn-orderly s m t r))
+  causes-hold : (s : FlatMachine) (ts : List Turn) (m : MachineValue) → IsOrderly s m → EachCauseHolds ts m
+  causes-hold s [] m r = tt
+  causes-hold s (t ∷ ts) m r = (busy-has_cause t m r.shaped r.buses, causes-hold s ts (turn_of t m).machine (turn-orderly s m t r))
 
-    pub run-witnessed : (s : FlatMachine) (ts : List Turn) (m : MachineValue) → IsOrderly s m → IsRunWitnessed s ts m
-    run-witnessed s ts m r =
-        let after = run-orderly s m ts r in
-        record {
-          machine = witnessed s (run_of ts m).machine after.shaped after.buses after.timed after.core;
-          ops = run-ops ts m;
-          running = each_leaf (run_of ts m).machine (IsHaltedByTurn ts (run_of ts m).answers) (pairs-second (RunsOn ts (run_of ts m).answers) _ (λ a b k e. (k.running e).1) (leaves_at m) (leaves_at (run_of ts m).machine) (run-on s ts m r));
-          causes = causes-hold s ts m r;
-        }
+  pub run-witnessed : (s : FlatMachine) (ts : List Turn) (m : MachineValue) → IsOrderly s m → IsRunWitnessed s ts m
+  run-witnessed s ts m r =
+      let after = run-orderly s m ts r in
+      record {
+        machine = witnessed s (run_of ts m).machine after.shaped after.buses after.timed after.core;
+        ops = run-ops ts m;
+        running = each_leaf (run_of ts m).machine (IsHaltedByTurn ts (run_of ts m).answers) (pairs-second (RunsOn ts (run_of ts m).answers) _ (λ a b k e. (k.running e).1) (leaves_at m) (leaves_at (run_of ts m).machine) (run-on s ts m r));
+        causes = causes-hold s ts m r;
+      }
+
+-- after each of the turns from the start
+pub each-turn : EveryRunIsWitnessed
+each-turn kept t i m tree built ts k = run-witnessed kept (flat_start_of t i) (take k ts) m (start-orderly t i m tree built)

@@ -1,9 +1,32 @@
 //! What follows from the core rules of order, as theorems: there is nothing to run.
 
 ghost use Rattle.headline.specs.Follows.{WitnessFollows};
+ghost use Rattle.headline.specs.Runs.{StartIsOrderly, RunStaysOrderly, EveryRunIsWitnessed};
+ghost use Rattle.headline.specs.Causes.{BusyHasItsCause};
 
 /// What a reader asks of a machine follows from the core rules: the operations in key order are one run of the flat machine, each
 /// hart has that run's registers, pc, count and halt, and each found copy that run's words.
 pub fn order_follows()
     ensures { WitnessFollows }
+{}
+
+/// The machine of a tree and an image starts in order, from the flat machine of the same tree and image.
+pub fn start_is_in_order()
+    ensures { StartIsOrderly }
+{}
+
+/// Where every turn keeps the core rules, a run keeps all that makes a machine be in order.
+pub fn run_stays_in_order()
+    ensures { RunStaysOrderly }
+{}
+
+/// The order theorem: for every tree and image from which a machine is made and every list of turns, after each turn the machine's
+/// operations in key order are one run of the flat machine, and harts, words, answers and causes are that run's.
+pub fn each_turn_is_witnessed()
+    ensures { EveryRunIsWitnessed }
+{}
+
+/// A turn that answers busy names a cause that is a fact of the machine before it.
+pub fn busy_has_its_cause()
+    ensures { BusyHasItsCause }
 {}
