@@ -8,3 +8,4 @@ pub mod StartOrder
 pub mod Numbered
 pub mod Causes
 pub mod BusyCauses
+pub mod CopyPlaces
