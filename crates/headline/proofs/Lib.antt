@@ -9,3 +9,5 @@ pub mod Numbered
 pub mod Causes
 pub mod BusyCauses
 pub mod CopyPlaces
+pub mod DirClaims
+pub mod Written

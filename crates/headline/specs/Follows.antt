@@ -10,3 +10,8 @@ use Rattle.tree_rules.specs.Witness.{IsWitnessed}
 -- the witness: what a reader is told of a machine and its operations
 abbrev pub WitnessFollows : Type 0
 WitnessFollows = (s : FlatMachine) (m : MachineValue) → IsShaped m → IsMachineOk m → IsTimed m → IsCore s m → IsWitnessed s m
+
+-- and the written rules: a leaf is before its copy's end, a writer is alone and latest, what is beside a directory that holds an
+-- item Exclusive is over, and changes are known
+abbrev pub WrittenFollows : Type 0
+WrittenFollows = (s : FlatMachine) (m : MachineValue) → IsShaped m → IsMachineOk m → IsTimed m → IsCore s m → IsWritten m

@@ -1,13 +1,14 @@
 //! What follows from the core rules of order, as theorems: there is nothing to run.
 
-ghost use Rattle.headline.specs.Follows.{WitnessFollows};
+ghost use Rattle.headline.specs.Follows.{WitnessFollows, WrittenFollows};
 ghost use Rattle.headline.specs.Runs.{StartIsOrderly, RunStaysOrderly, EveryRunIsWitnessed};
 ghost use Rattle.headline.specs.Causes.{BusyHasItsCause};
 
 /// What a reader asks of a machine follows from the core rules: the operations in key order are one run of the flat machine, each
-/// hart has that run's registers, pc, count and halt, and each found copy that run's words.
+/// hart has that run's registers, pc, count and halt, and each found copy that run's words. So do the written rules.
 pub fn order_follows()
-    ensures { WitnessFollows }
+    ensures witnessed { WitnessFollows }
+    ensures written { WrittenFollows }
 {}
 
 /// The machine of a tree and an image starts in order, from the flat machine of the same tree and image.
