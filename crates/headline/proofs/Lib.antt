@@ -11,3 +11,4 @@ pub mod BusyCauses
 pub mod CopyPlaces
 pub mod DirClaims
 pub mod Written
+pub mod Conditional

@@ -253,5 +253,8 @@ module _ (m : MachineValue) (shaped : IsShaped m) where
   pub told-dir : (d : DirValue) (ns : Nodes) → StandsIn (dir_node d ns) (root_of m) → (q : DirValue → List Node → Bool) → is_told (ask_bus d.bus (λ w e ks. q e ks) false m) ≡ q d (children ns)
   told-dir d ns i q = ap is_told (read-one (bus_of_number d.bus) (of_dir (λ w e ks. q e ks) false) at_top (root_of m) (dir_node d ns) i (eq-eqb d.bus d.bus refl) (one-bus d.bus)).1
 
+  pub asked-leaf : {A : Type 0} (v : LeafValue) → StandsIn (leaf_node v) (root_of m) → (q : LeafValue → A) (other : A) → ask_leaf v.number (λ w u. q u) other m ≡ Some (q v)
+  asked-leaf v i q other = (read-one (leaf_of_number v.number) (of_leaf (λ w u. q u) other) at_top (root_of m) (leaf_node v) i (eq-eqb v.number v.number refl) (one-leaf v.number)).1
+
   pub told-leaf : (v : LeafValue) → StandsIn (leaf_node v) (root_of m) → (q : LeafValue → Bool) → is_told (ask_leaf v.number (λ w u. q u) false m) ≡ q v
-  told-leaf v i q = ap is_told (read-one (leaf_of_number v.number) (of_leaf (λ w u. q u) false) at_top (root_of m) (leaf_node v) i (eq-eqb v.number v.number refl) (one-leaf v.number)).1
+  told-leaf v i q = ap is_told (asked-leaf v i q false)

@@ -3,6 +3,7 @@
 ghost use Rattle.headline.specs.Follows.{WitnessFollows, WrittenFollows};
 ghost use Rattle.headline.specs.Runs.{StartIsOrderly, RunStaysOrderly, EveryRunIsWitnessed};
 ghost use Rattle.headline.specs.Causes.{BusyHasItsCause};
+ghost use Rattle.headline.specs.Conditional.{ConditionalStoresJudged};
 
 /// What a reader asks of a machine follows from the core rules: the operations in key order are one run of the flat machine, each
 /// hart has that run's registers, pc, count and halt, and each found copy that run's words. So do the written rules.
@@ -30,4 +31,10 @@ pub fn each_turn_is_witnessed()
 /// A turn that answers busy names a cause that is a fact of the machine before it.
 pub fn busy_has_its_cause()
     ensures { BusyHasItsCause }
+{}
+
+/// An SC that completes as stored had its item reserved at its leaf, and so had the flat machine's hart at its place in the order.
+/// One that completes as failed hadn't.
+pub fn conditional_stores()
+    ensures { ConditionalStoresJudged }
 {}
