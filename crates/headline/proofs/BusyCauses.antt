@@ -1,12 +1,10 @@
 -- Of every turn: where it answers busy, the cause that it names is a fact of the machine before.
-use Rattle.std.proofs.Common.{◌≡◌, ℕ, ◌+◌, ◌%◌, ◌≤◌, Bool, true, false, nat_eq, List, [], ◌∷◌, length, Option, Some, None, Result, Ok, Err, refl, sym, ap, subst, ◌∙◌, arith}
-use Rattle.std.specs.Prelude.{⊤, nat_le}
-use Rattle.std.proofs.lemmas.Bool.{true≢false, eqb-true}
+use Rattle.std.proofs.Common.{◌≡◌, ℕ, ◌%◌, Bool, true, false, nat_eq, List, length, Option, Some, None, Result, Ok, Err, refl, sym, ap, subst, ◌∙◌}
+use Rattle.std.specs.Prelude.{⊤}
+use Rattle.std.proofs.lemmas.Bool.{eqb-true}
 use Rattle.ddm_types.specs.declared.answers.TurnAnswer.{TurnAnswer}
-use Rattle.ddm_types.specs.declared.answers.QueueName.{QueueName}
 use Rattle.ddm_types.specs.declared.operations.HaltCause.{HaltCause}
 use Rattle.ddm_types.specs.declared.keys.Key.{Key}
-use Rattle.ddm_types.specs.declared.keys.Stamp.{Stamp}
 use Rattle.ddm_types.specs.declared.sizes.LeafState.{LeafState}
 use Rattle.ddm_types.specs.declared.turns.Turn.{Turn}
 use Rattle.ddm_types.specs.ItemTable.{ItemTable}
@@ -22,16 +20,16 @@ use Rattle.tree_model.specs.State.Shape.{IsShaped}
 use Rattle.tree_model.specs.Turns.HartTurn.{Deed, has_halted, waits_for, halts, completes, fetches, upgrades, finds_buffer_full, Need, no_need, a_copy, no_other_copy, time, need_of, change_here, deed_of_change, replaces, deed_to_fetch, deed_by_need, deed_unless_waiting, deed_unless_halted, deed_of, answer_of_deed, leaf_step}
 use Rattle.tree_model.specs.Turns.Children.{child_at}
 use Rattle.tree_model.specs.Turns.Bus.{bus_judged, bus_step}
-use Rattle.tree_model.specs.Turns.Tree.{leaf_of_number, bus_of_number, is_named}
-use Rattle.tree_model.specs.Turns.Machine.{named_by, bus_turn_of, answer_here, turn_answer, turn_of}
+use Rattle.tree_model.specs.Turns.Tree.{is_named}
+use Rattle.tree_model.specs.Turns.Machine.{named_by, answer_here, turn_answer, turn_of}
 use Rattle.tree_model.proofs.TurnChanges.{turn-unanswered, turn-answered}
-use Rattle.tree_model.proofs.LeafRooms.{LeafWithin, leaf_within-facts}
+use Rattle.tree_model.proofs.LeafRooms.{leaf_within-facts}
 use Rattle.tree_rules.specs.Bus.Own.{leaf_lists}
 use Rattle.tree_rules.specs.Bus.Rules.{items_of_machine, IsMachineOk}
-use Rattle.tree_rules.specs.Witness.{leaves_nowhere, none_has_room, busy_has_cause}
+use Rattle.tree_rules.specs.Witness.{none_has_room, busy_has_cause}
 use Rattle.headline.specs.Causes.{BusyHasItsCause}
 use Rattle.headline.proofs.Numbered.{StandsIn, stands-ok, WasRead, was-read, told-leaf}
-use Rattle.headline.proofs.Causes.{full-is, IsCaused, answer-holds, down-caused, request-caused, reply-caused, leave-caused}
+use Rattle.headline.proofs.Causes.{full-is, answer-holds, down-caused, request-caused, reply-caused, leave-caused}
 
 -- ---- a hart's turn
 

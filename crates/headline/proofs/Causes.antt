@@ -1,10 +1,9 @@
 -- A turn that answers busy names a cause that is a fact of the machine before it.
 -- Letters: p is the parent of the bus that takes its turn, ns are its children, x is an item, c and k are child numbers.
-use Rattle.std.proofs.Common.{◌≡◌, ℕ, zero, suc, ◌+◌, ◌%◌, ◌<◌, ◌≤◌, Bool, true, false, not, ◌&&◌, ◌||◌, nat_eq, nat_lt, ◌⊎◌, inl, inr, List, [], ◌∷◌, length, Option, Some, None, Result, Ok, Err, refl, sym, ap, subst, ◌∙◌, arith}
-use Rattle.std.specs.Prelude.{IfSome, IsTrue, ⊤, nat_le, slice_index_or, if◌then◌else◌}
+use Rattle.std.proofs.Common.{◌≡◌, ℕ, zero, suc, ◌+◌, ◌<◌, ◌≤◌, Bool, true, false, not, ◌&&◌, ◌||◌, nat_eq, ◌⊎◌, inl, inr, List, [], ◌∷◌, length, Option, Some, None, refl, sym, ap, subst, ◌∙◌, arith}
+use Rattle.std.specs.Prelude.{IfSome, ⊤, nat_le, if◌then◌else◌}
 use Rattle.std.specs.List.{AllByRecursion}
-use Rattle.std.proofs.lemmas.Bool.{and_parts, true≢false, eqb-true, eqb-false, eq-eqb, leb-true, cases_lt, lt-ltb}
-use Rattle.ddm_types.specs.declared.answers.TurnAnswer.{TurnAnswer}
+use Rattle.std.proofs.lemmas.Bool.{and_parts, true≢false, eqb-false, eq-eqb, leb-true, cases_lt, lt-ltb}
 use Rattle.ddm_types.specs.declared.answers.TxKind.{TxKind}
 use Rattle.ddm_types.specs.declared.answers.TxKind.TheVariants.{ReadTx, DataTx, EraseTx, ExclusiveTx, InjectTx, OutTx}
 use Rattle.ddm_types.specs.declared.answers.PendingWhy.{PendingWhy}
@@ -13,28 +12,27 @@ use Rattle.ddm_types.specs.declared.answers.BusyCause.{BusyCause}
 use Rattle.ddm_types.specs.declared.sizes.Hold.{Hold}
 use Rattle.ddm_types.specs.declared.turns.Turn.{Turn}
 use Rattle.ddm_types.specs.declared.keys.Stamp.{Stamp}
-use Rattle.tree_model.specs.declared.BusTurn.{BusTurn}
-use Rattle.tree_model.specs.State.Lists.{some_if, first_some, first_given, find_from, all_from, chosen}
+use Rattle.tree_model.specs.State.Lists.{some_if, first_some, first_given, find_from, all_from}
 use Rattle.tree_model.specs.State.States.{is_held, is_exclusive, is_shared}
 use Rattle.tree_model.specs.State.Values.{RequestValue, CopyValue, DownValue, LeafValue, Note, no_note, local, up_read, up_erase, DirValue, Node, Nodes, leaf_node, dir_node, no_nodes, more_nodes, children, MachineValue, root_of}
-use Rattle.tree_model.specs.State.Blank.{no_leaf, no_node}
-use Rattle.tree_model.specs.State.Leaf.{leaf_replies_full, buffer_full}
+use Rattle.tree_model.specs.State.Blank.{no_node}
+use Rattle.tree_model.specs.State.Leaf.{leaf_replies_full}
 use Rattle.tree_model.specs.State.Directory.{is_top, dir_hold, dir_note, is_answering, in_down, is_reader, is_parked, down_full, requests_full, replies_full, parking_full, parked_words, pending, note_why, pending_by, front_taken}
-use Rattle.tree_model.specs.State.Child.{child_hold, child_room, child_request, child_reply, child_leaving, leaf_full_for, child_full_for, reader_has_place, pending_below}
+use Rattle.tree_model.specs.State.Child.{child_hold, child_room, child_full_for, reader_has_place, pending_below}
 use Rattle.tree_model.specs.State.Shape.{IsShaped}
 use Rattle.tree_model.specs.Turns.Grant.{Grant, Judged, nothing_there, refused, granted, is_pending, unless_full, bus_answer, own_down_full, own_requests_full, own_replies_full}
 use Rattle.tree_model.specs.Turns.Children.{child_at, holds_item, other_holds, other_waits, room_after, room_before, other_full, full_to_lose, reader_full}
-use Rattle.tree_model.specs.Turns.RequestRead.{joins, read_of_child, read_of_parked, read_of_parent, read_held, read_granted, read_unless_pending, request_read}
+use Rattle.tree_model.specs.Turns.RequestRead.{read_of_child, read_of_parked, read_of_parent, read_held, read_granted, read_unless_pending, request_read}
 use Rattle.tree_model.specs.Turns.RequestErase.{erase_list_full, erase_of_all, request_erase}
 use Rattle.tree_model.specs.Turns.Reply.{reply_to_readers, reply_to_parent, reply_answering, reply_by_note}
-use Rattle.tree_model.specs.Turns.Down.{exclusive_to, down_exclusive, erase_of_children, down_erase, read_by_child, read_by_parked, down_read, data_to_readers, down_data, inject_to_reader, inject_to_readers, inject_to_child, inject_parked, inject_to_parking, inject_to_taker, inject_to_only_reader, inject_to_read, inject_taker, down_inject, down_by_kind, down_by_note, down_turn}
-use Rattle.tree_model.specs.Turns.Leave.{out_gone, leave_parked, leave_to, leave_taker, parked_unless_full, leave_inject, leave_shared, other_copy, leave_by_hold, leave_unless_pending, leave_of}
-use Rattle.tree_model.specs.Turns.Bus.{request_by_kind, request_turn, reply_turn, leave_turn, bus_judged}
+use Rattle.tree_model.specs.Turns.Down.{exclusive_to, down_exclusive, erase_of_children, down_erase, read_by_child, read_by_parked, down_read, data_to_readers, down_data, inject_to_reader, inject_to_readers, inject_parked, inject_to_parking, inject_to_taker, inject_to_only_reader, inject_to_read, inject_taker, down_inject, down_by_kind, down_by_note, down_turn}
+use Rattle.tree_model.specs.Turns.Leave.{leave_parked, leave_taker, parked_unless_full, leave_inject, leave_shared, other_copy, leave_by_hold, leave_unless_pending}
+use Rattle.tree_model.specs.Turns.Bus.{request_by_kind, request_turn, reply_turn, leave_turn}
 use Rattle.tree_model.proofs.Children.{found-within}
 use Rattle.tree_model.proofs.DirRooms.{DirWithin, dir_within-facts}
-use Rattle.tree_model.proofs.LeafRooms.{LeafWithin, leaf_within-facts}
+use Rattle.tree_model.proofs.LeafRooms.{leaf_within-facts}
 use Rattle.tree_rules.specs.Bus.Own.{leaf_lists, dir_lists}
-use Rattle.tree_rules.specs.Bus.Rules.{IsTreeOk, items_of_machine, IsMachineOk}
+use Rattle.tree_rules.specs.Bus.Rules.{items_of_machine, IsMachineOk}
 use Rattle.tree_rules.specs.Witness.{is_note_of, pends_by, is_full, none_has_room, leaves_nowhere, cause_holds, busy_has_cause}
 use Rattle.headline.proofs.Numbered.{StandsIn, in_here, in_below, StandsAmong, in_first, in_later, stands-under, stands-ok, told-dir, told-leaf}
 

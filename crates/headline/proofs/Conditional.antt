@@ -1,5 +1,5 @@
 -- An SC that completes: by the leaf's reservation, which where it has one is the flat machine's.
-use Rattle.std.proofs.Common.{◌≡◌, ℕ, ◌+◌, Bool, true, false, ◌&&◌, nat_eq, List, [], ◌∷◌, ◌++◌, filter, Option, Some, None, Result, Ok, Err, refl, sym, ap, subst, ◌∙◌}
+use Rattle.std.proofs.Common.{◌≡◌, ℕ, ◌+◌, Bool, true, false, List, [], ◌++◌, filter, Option, Some, None, Result, Ok, refl, sym, ap, subst, ◌∙◌}
 use Rattle.std.specs.Prelude.{option_and_then, ⊤}
 use Rattle.std.specs.List.{AllByRecursion}
 use Rattle.std.proofs.lemmas.Bool.{eqb-true}
@@ -25,26 +25,22 @@ use Rattle.tree_model.specs.State.Place.{Spot, spot_path, spot_in}
 use Rattle.tree_model.specs.State.Shape.{depth_of, IsShaped}
 use Rattle.tree_model.specs.Turns.HartTurn.{change_here, words_here}
 use Rattle.tree_model.specs.Turns.Tree.{leaf_of_number, has_node}
-use Rattle.tree_model.specs.Turns.Machine.{turn_of}
 use Rattle.tree_model.specs.Turns.Witness.{sorted_ops}
 use Rattle.tree_model.proofs.TurnChanges.{turn-changes_nothing}
 use Rattle.tree_rules.specs.Statements.{Holds, if_there}
-use Rattle.tree_rules.specs.Bus.Rules.{IsMachineOk}
 use Rattle.tree_rules.specs.Order.Moments.{less}
 use Rattle.tree_rules.specs.Order.Ops.{op_key}
 use Rattle.tree_rules.specs.Order.Places.{LeafAt, leaf_now, leaves_in, placed_leaves, leaves_at}
 use Rattle.tree_rules.specs.Order.Core as core
-use Rattle.tree_rules.specs.Order.Rules.{IsTimed, IsCore}
 use Rattle.order_lists.proofs.Filters.{each-weaker, each-both, each-append}
 use Rattle.order_lists.proofs.Sorted.{lesser, greater}
-use Rattle.order_laws.proofs.Hart.HartMachine.{answer, Tip, HartTurned, hart_turned}
+use Rattle.order_laws.proofs.Hart.HartMachine.{Tip, hart_turned}
 use Rattle.order_laws.proofs.Hart.LeafPlaces.{IsOnlyOf}
 use Rattle.order_laws.proofs.Hart.FromRules.{facts_from_rules}
-use Rattle.order_laws.proofs.Hart.Completed.{whole_words, Completed}
+use Rattle.order_laws.proofs.Hart.Completed.{whole_words}
 use Rattle.order_laws.proofs.Hart.ReservedKept.{is_split, before_now}
-use Rattle.order_laws.proofs.Hart.Retiring.{op_of}
 use Rattle.order_laws.proofs.Hart.Seen.{Before, flat, OpSeen, ops_seen, differ, new, now_is, done, flat_run}
-use Rattle.headline.specs.Conditional.{reservation_of, StoresReserved, FailsUnreserved, IsJudged, ConditionalStoresJudged}
+use Rattle.headline.specs.Conditional.{reservation_of, IsJudged, ConditionalStoresJudged}
 use Rattle.headline.proofs.Numbered.{StandsIn, in_here, in_below, StandsAmong, in_first, in_later, asked-leaf}
 
 -- ---- the instruction

@@ -1,5 +1,5 @@
 -- The claim of each directory that holds an item Exclusive: it goes on from the moment since which the directory does.
-use Rattle.std.proofs.Common.{◌≡◌, ℕ, zero, suc, ◌+◌, ◌<◌, Bool, true, false, List, [], ◌∷◌, ◌++◌, length, Option, Some, None, refl, ap, subst}
+use Rattle.std.proofs.Common.{◌≡◌, ℕ, ◌+◌, ◌<◌, true, List, [], ◌∷◌, length, Option, Some, None, refl, subst}
 use Rattle.std.specs.Prelude.{IfSome, unwrap_or, if◌then◌else◌}
 use Rattle.std.specs.List.{AllByRecursion}
 use Rattle.tree_model.specs.State.Lists.{first_some}
@@ -8,13 +8,13 @@ use Rattle.tree_model.specs.State.Values.{DownValue, DirValue, Node, Nodes, leaf
 use Rattle.tree_model.specs.State.Directory.{dir_hold, queue_of}
 use Rattle.tree_model.specs.State.Place.{Spot, spot_path, spot_in}
 use Rattle.tree_rules.specs.Order.Moments.{moment_at, moment_length, GoesOn}
-use Rattle.tree_rules.specs.Order.Claims.{last_exclusive, child_is_exclusive, claim, first_claim, ClaimAt, claim_here, claims_in, claims_among, claims_of}
+use Rattle.tree_rules.specs.Order.Claims.{last_exclusive, claim, first_claim, ClaimAt, claim_here, claims_in, claims_among, claims_of}
 use Rattle.tree_rules.specs.Order.Places.{DirAt, dir_path, taken_moment, dirs_in, placed_dirs, dirs_at}
 use Rattle.tree_rules.specs.Order.Written.{exclusive_since}
 use Rattle.order_lists.proofs.Filters.{each-append, each-left, each-right}
 use Rattle.order_lists.proofs.Moments.{GoesOn-refl}
 use Rattle.order_lists.proofs.Stamps.{moment_at-length}
-use Rattle.order_lists.proofs.Clocks.{shallow, below_goes_on}
+use Rattle.order_lists.proofs.Clocks.{below_goes_on}
 use Rattle.order_lists.proofs.Queues.{IsOrdered}
 use Rattle.order_lists.proofs.Holders.{last-each, first_claim_goes_on}
 

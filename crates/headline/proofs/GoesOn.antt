@@ -12,18 +12,16 @@ use Rattle.ddm_types.specs.CodeMap.{CodeWord}
 use Rattle.flat_model.specs.Hart.{ask_of}
 use Rattle.flat_model.specs.Flat.{FlatMachine, Change}
 use Rattle.tree_model.specs.State.Values.{LeafValue, MachineValue, root_of}
-use Rattle.tree_model.specs.State.Shape.{IsShaped}
 use Rattle.tree_model.specs.State.Place.{at_child, key_at_leaf}
 use Rattle.tree_model.specs.State.Leaf.{free_way, buffer_full, waiting_item}
-use Rattle.tree_model.specs.Turns.HartTurn.{Deed, has_halted, waits_for, halts, completes, fetches, upgrades, finds_buffer_full, Need, no_need, a_copy, no_other_copy, time, need_of, change_here, deed_of_change, replaces, deed_to_fetch, deed_by_need, deed_unless_waiting, deed_unless_halted, deed_of, answer_of_deed, leaf_after_deed, leaf_step}
+use Rattle.tree_model.specs.Turns.HartTurn.{Deed, Need, no_need, a_copy, no_other_copy, time, need_of, change_here, deed_of_change, replaces, deed_to_fetch, deed_by_need, deed_unless_waiting, deed_unless_halted, deed_of, answer_of_deed, leaf_after_deed, leaf_step}
 use Rattle.tree_model.specs.Turns.Tree.{leaf_of_number, has_node}
 use Rattle.tree_model.specs.Turns.Machine.{turn_of}
 use Rattle.tree_model.proofs.HartKeeps.{leaf_step-keeps}
 use Rattle.tree_model.proofs.TurnChanges.{turn-changes_nothing}
-use Rattle.tree_rules.specs.Bus.Rules.{IsMachineOk}
 use Rattle.tree_rules.specs.Order.Moments.{is_under}
 use Rattle.tree_rules.specs.Order.Places.{LeafAt, leaf_path, leaves_at}
-use Rattle.tree_rules.specs.Order.Rules.{IsTimed, commands_past_taken}
+use Rattle.tree_rules.specs.Order.Rules.{commands_past_taken}
 use Rattle.tree_rules.specs.Witness.{halts_hart}
 use Rattle.order_lists.proofs.Paths.{under-itself}
 use Rattle.order_laws.specs.Moves.CopiesMoved.{IsBusTurn}
@@ -31,7 +29,7 @@ use Rattle.order_laws.specs.Moves.LeavesKept.{LeafKept}
 use Rattle.order_laws.proofs.Moves.CopiesMoved.{reservations-kept}
 use Rattle.order_laws.proofs.Grant.Kept.{leaf-pairs}
 use Rattle.order_laws.proofs.Hart.CopiesTurned.{Pairs}
-use Rattle.order_laws.proofs.Hart.ClaimsTurned.{LeafMoved, LeafTook}
+use Rattle.order_laws.proofs.Hart.ClaimsTurned.{LeafMoved}
 use Rattle.order_laws.proofs.Hart.HartMachine.{next, answer, Takes, Tip, HartTurned, hart_turned, leaves_after}
 use Rattle.order_laws.proofs.Hart.LeafPlaces.{IsOnlyOf, one_of_number}
 use Rattle.headline.specs.Runs.{IsOrderly}

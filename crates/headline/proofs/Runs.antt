@@ -1,8 +1,7 @@
 -- A run of a machine that keeps the rules: it goes on keeping them, and after it the machine's witness is one run of the flat
 -- machine, of the operations that were answered.
-use Rattle.std.proofs.Common.{◌≡◌, ℕ, Bool, true, false, ◌||◌, List, [], ◌∷◌, ◌++◌, None, Ok, refl, sym, ap, subst, ◌∙◌, append_assoc}
-use Rattle.std.specs.Prelude.{take, IsTrue}
-use Rattle.std.specs.List.{AllByRecursion}
+use Rattle.std.proofs.Common.{◌≡◌, Bool, true, false, ◌||◌, List, [], ◌∷◌, ◌++◌, None, refl, sym, ap, ◌∙◌, append_assoc}
+use Rattle.std.specs.Prelude.{take}
 use Rattle.std.proofs.lemmas.List.{append-nil}
 use Rattle.ddm_types.specs.declared.answers.TurnAnswer.{TurnAnswer}
 use Rattle.ddm_types.specs.declared.operations.Op.{Op}
@@ -13,7 +12,7 @@ use Rattle.tree_model.specs.Turns.Machine.{turn_of, run_of}
 use Rattle.tree_model.specs.Start.Machine.{flat_start_of}
 use Rattle.tree_model.proofs.FrameKept.{turn-shape}
 use Rattle.tree_rules.specs.Order.Places.{LeafAt, leaves_at}
-use Rattle.tree_rules.specs.Witness.{busy_has_cause, EachCauseHolds, op_of_answer, ops_of_answers, halts_hart, some_halts, IsHaltedByTurn, IsRunWitnessed}
+use Rattle.tree_rules.specs.Witness.{EachCauseHolds, op_of_answer, ops_of_answers, halts_hart, some_halts, IsHaltedByTurn, IsRunWitnessed}
 use Rattle.bus_laws.proofs.TreeKept.{turn-keeps_rules}
 use Rattle.order_laws.proofs.EveryTurn.{every_turn-keeps_time}
 use Rattle.order_laws.proofs.Hart.CopiesTurned.{Pairs}

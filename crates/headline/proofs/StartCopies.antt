@@ -1,16 +1,16 @@
 -- The copies of an item before the first turn: they stand at one leaf, with no end and the start's words, and who has a claim on
 -- the item is that leaf or a directory over it.
-use Rattle.std.proofs.Common.{◌≡◌, ℕ, zero, suc, ◌+◌, ◌<◌, ◌≤◌, Bool, true, false, not, ◌||◌, ◌⊎◌, inl, inr, List, [], ◌∷◌, ◌++◌, length, map, Option, Some, None, is_some, option_map, refl, sym, ap, subst, ◌∙◌, arith}
+use Rattle.std.proofs.Common.{◌≡◌, ℕ, ◌+◌, ◌<◌, Bool, true, false, not, ◌||◌, inl, inr, List, [], ◌∷◌, ◌++◌, length, map, Option, Some, None, is_some, option_map, refl, sym, ap, subst, ◌∙◌, arith}
 use Rattle.std.specs.Prelude.{slice_index_or, nat_eq, if◌then◌else◌}
 use Rattle.std.specs.List.{AllByRecursion, list_any}
-use Rattle.std.proofs.lemmas.Bool.{and_parts, or_parts, not-true, true≢false, false≢true, eqb-true, eq-eqb}
+use Rattle.std.proofs.lemmas.Bool.{and_parts, or_parts, not-true, true≢false, false≢true}
 use Rattle.std.proofs.lemmas.List.{length-append}
 use Rattle.ddm_types.specs.declared.sizes.Start.{Start}
 use Rattle.ddm_types.specs.declared.sizes.Hold.{Hold}
 use Rattle.ddm_types.specs.declared.sizes.LeafState.{LeafState}
 use Rattle.tree_model.specs.State.Lists.{first_some}
 use Rattle.tree_model.specs.State.States.{entry_hold, is_held, is_exclusive}
-use Rattle.tree_model.specs.State.Values.{WayValue, DownValue, LeafValue, absent_item, DirValue, Node, Nodes, leaf_node, dir_node, no_nodes, more_nodes, children, MachineValue}
+use Rattle.tree_model.specs.State.Values.{WayValue, LeafValue, DirValue, Node, Nodes, leaf_node, dir_node, no_nodes, more_nodes, children, MachineValue}
 use Rattle.tree_model.specs.State.Leaf.{words_of_item, LeafEntry, entry_state, entry_at, leaf_entry, way_at, way_entry, buffer_entry, buffered, leaf_hold}
 use Rattle.tree_model.specs.State.Directory.{queue_of, dir_hold}
 use Rattle.tree_model.specs.State.Child.{child_hold, child_replies}

@@ -12,10 +12,10 @@ use Rattle.ddm_types.specs.ItemTable.{item_count}
 use Rattle.flat_model.specs.Hart.{hart_start}
 use Rattle.tree_model.specs.State.Lists.{map_from}
 use Rattle.tree_model.specs.State.Values.{WayValue, LeafValue, DirItem, absent_item, DirSizes, DirValue, Node, Nodes, leaf_node, dir_node, no_nodes, more_nodes, nodes, MachineValue}
-use Rattle.tree_model.specs.State.Leaf.{way_at, free_way, enters_free}
+use Rattle.tree_model.specs.State.Leaf.{way_at, free_way}
 use Rattle.tree_model.specs.Start.Sources.{ImageValue, TreeValue, leaf_count, width_of, start_of_harts}
 use Rattle.tree_model.specs.Start.Memory.{start_items, start_words}
-use Rattle.tree_model.specs.Start.Nodes.{dir_sizes, top_sizes, held_exclusive, new_dir, new_top, leaf_for, placed, placed_at, placed_in, placed_items, cut_in, held_below, held_if, dirs_over, under_levels}
+use Rattle.tree_model.specs.Start.Nodes.{dir_sizes, held_exclusive, leaf_for, placed, placed_at, placed_in, placed_items, cut_in, held_below, held_if, dirs_over, under_levels}
 use Rattle.tree_model.specs.Start.Machine.{start_leaf, start_leaves, start_machine}
 use Rattle.bus_laws.proofs.HartChanges.{way-set_other}
 

@@ -1,19 +1,18 @@
 -- The written rules of order, from the core in one state: ends come later (4), a writer is alone and latest (5), what is beside a
 -- directory that holds the item Exclusive is over (6), and changes are known (9).
-use Rattle.std.proofs.Common.{◌≡◌, ℕ, zero, suc, ◌+◌, ◌*◌, ◌-◌, ◌<◌, ◌≤◌, Bool, true, false, not, ◌&&◌, nat_eq, nat_lt, nat_le, ◌⊎◌, inl, inr, List, [], ◌∷◌, ◌++◌, length, take, Option, Some, None, option_map, refl, sym, ap, subst, ◌∙◌, arith}
+use Rattle.std.proofs.Common.{◌≡◌, ℕ, ◌+◌, ◌<◌, ◌≤◌, Bool, true, false, not, ◌&&◌, nat_eq, nat_lt, ◌⊎◌, inl, inr, List, [], ◌∷◌, ◌++◌, length, take, Option, Some, None, option_map, refl, sym, ap, subst, ◌∙◌, arith}
 use Rattle.std.specs.Prelude.{IfSome, if◌then◌else◌}
 use Rattle.std.specs.List.{AllByRecursion}
-use Rattle.std.proofs.lemmas.Bool.{and_parts, not-true, true≢false, false≢true, eqb-true, eq-eqb, lt-ltb, ltb-true, leb-true}
+use Rattle.std.proofs.lemmas.Bool.{and_parts, not-true, true≢false, false≢true, eqb-true, eq-eqb, lt-ltb, ltb-true}
 use Rattle.std.proofs.lemmas.List.{length-append, take-append-le}
 use Rattle.ddm_types.specs.declared.operations.Op.{Op}
 use Rattle.flat_model.specs.Flat.{FlatMachine}
-use Rattle.flat_model.specs.Legal.{on_item, changes_item}
-use Rattle.tree_model.specs.State.States.{is_held, is_exclusive, entry_hold}
+use Rattle.flat_model.specs.Legal.{changes_item}
+use Rattle.tree_model.specs.State.States.{is_held, entry_hold}
 use Rattle.tree_model.specs.State.Values.{LeafValue, MachineValue}
 use Rattle.tree_model.specs.State.Leaf.{LeafEntry, entry_state, leaf_entry, leaf_hold}
-use Rattle.tree_model.specs.State.Directory.{dir_hold}
 use Rattle.tree_model.specs.State.Shape.{depth_of, IsShaped}
-use Rattle.tree_rules.specs.Statements.{Statement, Holds, is_so, is_not, each, if_there, there_and}
+use Rattle.tree_rules.specs.Statements.{Holds, is_so, is_not, each, if_there, there_and}
 use Rattle.tree_rules.proofs.Statements.{each-facts, facts-each}
 use Rattle.tree_rules.specs.Bus.Rules.{items_of_machine, IsMachineOk}
 use Rattle.tree_rules.specs.Order.Moments.{less, less_at, moment_length, before, past, parted, is_under, same_numbers, spot_moment, GoesOn}
@@ -24,16 +23,16 @@ use Rattle.tree_rules.specs.Order.Claims.{ClaimAt, claims_of}
 use Rattle.tree_rules.specs.Order.Core.{ended_before, knows_change, claim_level, parts_at_claim, claim_is_after_op, claim_is_after_end, claim_is_after_copy}
 use Rattle.tree_rules.specs.Order.Written as written
 use Rattle.tree_rules.specs.Order.Rules.{IsTimed, IsCore, epochs_end, commands_past_taken, claims_after_ops, claims_after_copies, clocks_know, WrittenRule, ends_later, writer_alone, writer_latest, ops_beside, copies_beside, leaf_knows, dirs_know, written_rule, IsWritten}
-use Rattle.order_lists.specs.Copies.{IsOwnOrEnded, IsAloneWith, IsAloneWhereExclusive}
+use Rattle.order_lists.specs.Copies.{IsOwnOrEnded, IsAloneWhereExclusive}
 use Rattle.order_lists.proofs.Filters.{each-weaker, each-both, each-swap}
-use Rattle.order_lists.proofs.Moments.{less-parts, less-head, less-tail, less-least, less_at-less, less_at-more, before_is, before-not_past, past-not_before, same_numbers-true, same_numbers-itself}
+use Rattle.order_lists.proofs.Moments.{less-parts, less-head, less-tail, less-least, less_at-less, before-not_past, past-not_before, same_numbers-true, same_numbers-itself}
 use Rattle.order_lists.proofs.Paths.{under-itself, under-trans, under-same}
 use Rattle.order_lists.proofs.Levels.{IsAtDepth, all_at_depth}
 use Rattle.order_lists.proofs.Stamps.{moment_at-length}
 use Rattle.order_lists.proofs.Clocks.{shallow}
 use Rattle.order_lists.proofs.Queues.{IsOrdered}
 use Rattle.order_lists.proofs.Ends.{IsTimely}
-use Rattle.order_lists.proofs.Late.{IsBelowEnd, OpsBelow, IsLate}
+use Rattle.order_lists.proofs.Late.{IsBelowEnd, IsLate}
 use Rattle.order_lists.proofs.State.{all_ordered, ops_at_depth, copies_timely, copies_late}
 use Rattle.order_lists.proofs.Contracts.{exclusive-alone}
 use Rattle.order_laws.specs.Moves.Moved.{In}

@@ -1,6 +1,6 @@
 -- Conditional stores: an SC stores just where its hart's reservation holds, and where it stores the flat machine's holds.
 -- To be believed: it is what is claimed of every turn.
-use Rattle.std.specs.Prelude.{◌≡◌, ℕ, false, List, filter, Option, Some, None, ⊤}
+use Rattle.std.specs.Prelude.{◌≡◌, ℕ, false, filter, Option, Some, None, ⊤}
 use Rattle.ddm_types.specs.declared.answers.TurnAnswer.{TurnAnswer}
 use Rattle.ddm_types.specs.declared.operations.Effect.{Effect}
 use Rattle.ddm_types.specs.declared.operations.Effect.TheVariants.{Plain, Put, Load, Store, Lr, ScOk, ScFail, Amo}

@@ -1,7 +1,7 @@
 -- A whole run: from its start, whatever the turns, the machine stays in the rules, and after each turn the witness is one run of
 -- the flat machine.
 -- To be believed: it is what is claimed of every run.
-use Rattle.std.specs.Prelude.{◌≡◌, List, Ok, IsTrue}
+use Rattle.std.specs.Prelude.{◌≡◌, List, Ok}
 use Rattle.ddm_types.specs.declared.turns.Turn.{Turn}
 use Rattle.flat_model.specs.Flat.{FlatMachine}
 use Rattle.tree_model.specs.State.Values.{MachineValue}
@@ -11,7 +11,7 @@ use Rattle.tree_model.specs.Start.Sources.{TreeValue, ImageValue}
 use Rattle.tree_model.specs.Start.Machine.{flat_start_of, start_of}
 use Rattle.tree_rules.specs.Bus.Rules.{IsMachineOk}
 use Rattle.tree_rules.specs.Order.Rules.{IsTimed, IsCore}
-use Rattle.tree_rules.specs.Witness.{busy_has_cause, EachTurnWitnessed}
+use Rattle.tree_rules.specs.Witness.{EachTurnWitnessed}
 use Rattle.bus_laws.specs.IsTree.{IsTree}
 
 -- all that every turn keeps: the shape, the rules of every bus, and the rules of order from a start
