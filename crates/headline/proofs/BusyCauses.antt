@@ -28,8 +28,11 @@ use Rattle.tree_rules.specs.Bus.Own.{leaf_lists}
 use Rattle.tree_rules.specs.Bus.Rules.{items_of_machine, IsMachineOk}
 use Rattle.tree_rules.specs.Witness.{none_has_room, busy_has_cause}
 use Rattle.headline.specs.Causes.{BusyHasItsCause}
-use Rattle.headline.proofs.Numbered.{StandsIn, stands-ok, WasRead, was-read, told-leaf}
-use Rattle.headline.proofs.Causes.{full-is, answer-holds, down-caused, request-caused, reply-caused, leave-caused}
+use Rattle.headline.proofs.Standing.{StandsIn, stands-ok, WasRead, was-read}
+use Rattle.headline.proofs.Numbered.{told-leaf}
+use Rattle.headline.proofs.FullLists.{full-is}
+use Rattle.headline.proofs.Causes.{answer-holds, down-caused, request-caused, reply-caused}
+use Rattle.headline.proofs.LeaveCauses.{leave-caused}
 
 -- ---- a hart's turn
 

@@ -41,7 +41,8 @@ use Rattle.order_laws.proofs.Hart.Completed.{whole_words}
 use Rattle.order_laws.proofs.Hart.ReservedKept.{is_split, before_now}
 use Rattle.order_laws.proofs.Hart.Seen.{Before, flat, OpSeen, ops_seen, differ, new, now_is, done, flat_run}
 use Rattle.headline.specs.Conditional.{reservation_of, IsJudged, ConditionalStoresJudged}
-use Rattle.headline.proofs.Numbered.{StandsIn, in_here, in_below, StandsAmong, in_first, in_later, asked-leaf}
+use Rattle.headline.proofs.Standing.{StandsIn, in_here, in_below, StandsAmong, in_first, in_later}
+use Rattle.headline.proofs.Numbered.{asked-leaf}
 
 -- ---- the instruction
 

@@ -1,32 +1,30 @@
--- The copies of an item before the first turn: they stand at one leaf, with no end and the start's words, and who has a claim on
+-- The copies of an item before the first turn: they have no end and the start's words; who doesn't hold the item has neither a copy
+-- of it nor a claim.
 -- the item is that leaf or a directory over it.
-use Rattle.std.proofs.Common.{◌≡◌, ℕ, ◌+◌, ◌<◌, Bool, true, false, not, ◌||◌, inl, inr, List, [], ◌∷◌, ◌++◌, length, map, Option, Some, None, is_some, option_map, refl, sym, ap, subst, ◌∙◌, arith}
-use Rattle.std.specs.Prelude.{slice_index_or, nat_eq, if◌then◌else◌}
+use Rattle.std.proofs.Common.{◌≡◌, ℕ, ◌+◌, ◌<◌, Bool, true, false, inl, inr, List, [], ◌∷◌, length, map, Option, Some, None, is_some, option_map, refl, sym, ap, subst, ◌∙◌, arith}
+use Rattle.std.specs.Prelude.{slice_index_or, nat_eq}
 use Rattle.std.specs.List.{AllByRecursion, list_any}
-use Rattle.std.proofs.lemmas.Bool.{and_parts, or_parts, not-true, true≢false, false≢true}
-use Rattle.std.proofs.lemmas.List.{length-append}
+use Rattle.std.proofs.lemmas.Bool.{and_parts, or_parts, true≢false, false≢true}
 use Rattle.ddm_types.specs.declared.sizes.Start.{Start}
 use Rattle.ddm_types.specs.declared.sizes.Hold.{Hold}
 use Rattle.ddm_types.specs.declared.sizes.LeafState.{LeafState}
 use Rattle.tree_model.specs.State.Lists.{first_some}
 use Rattle.tree_model.specs.State.States.{entry_hold, is_held, is_exclusive}
-use Rattle.tree_model.specs.State.Values.{WayValue, LeafValue, DirValue, Node, Nodes, leaf_node, dir_node, no_nodes, more_nodes, children, MachineValue}
+use Rattle.tree_model.specs.State.Values.{WayValue, LeafValue, DirValue, Node, Nodes, leaf_node, dir_node, no_nodes, more_nodes, children}
 use Rattle.tree_model.specs.State.Leaf.{words_of_item, LeafEntry, entry_state, entry_at, leaf_entry, way_at, way_entry, buffer_entry, buffered, leaf_hold}
 use Rattle.tree_model.specs.State.Directory.{queue_of, dir_hold}
 use Rattle.tree_model.specs.State.Child.{child_hold, child_replies}
 use Rattle.tree_model.specs.State.Place.{Spot, spot_path, spot_in}
 use Rattle.tree_rules.specs.Bus.Faces.{child_face, parent_face, faces_of}
-use Rattle.tree_rules.specs.Bus.Item.{holds_it, holds_exclusive, one_holds, ItemRules}
-use Rattle.tree_rules.specs.Bus.Rules.{IsTreeOk, AreTreesOk, items_of_machine, IsMachineOk}
+use Rattle.tree_rules.specs.Bus.Item.{holds_it, holds_exclusive, ItemRules}
+use Rattle.tree_rules.specs.Bus.Rules.{IsTreeOk, AreTreesOk}
 use Rattle.tree_rules.specs.Order.Moments.{is_under, parted, moment_at, spot_moment}
-use Rattle.tree_rules.specs.Order.Copies.{CopyAt, cut, first_erase, downs, copies_here, entry_copies, inner, handed, copies_of}
-use Rattle.tree_rules.specs.Order.Claims.{ClaimAt, claim, child_is_exclusive, claim_here, claims_in, claims_among, claims_of}
+use Rattle.tree_rules.specs.Order.Copies.{CopyAt, cut, first_erase, downs, copies_here, entry_copies, inner, handed}
+use Rattle.tree_rules.specs.Order.Claims.{child_is_exclusive, claims_in, claims_among}
 use Rattle.order_lists.proofs.Filters.{each-append}
-use Rattle.order_lists.proofs.Paths.{under-itself, under_child}
 use Rattle.order_lists.proofs.NoHold.{HasEnd, seen_hold, none_held, none_counted}
-use Rattle.order_lists.proofs.AboveExclusive.{exclusive_held, holder_of_exclusive}
-use Rattle.order_lists.proofs.ExclusiveClaims.{dir_above, first_other}
-use Rattle.headline.proofs.StartFresh.{IsFreshLeaf, IsFreshDir, IsFresh, AreFresh, IsFreshMachine}
+use Rattle.order_lists.proofs.ExclusiveClaims.{dir_above}
+use Rattle.headline.proofs.StartFresh.{IsFreshLeaf, IsFreshDir, IsFresh, AreFresh}
 
 -- ---- paths
 
@@ -39,10 +37,10 @@ parted-under (c ∷ p) (d ∷ q) h =
     rw parts.0 (omega (arith, rest))
 
 module _ (start : Start) (words : List (List ℕ)) (items x : ℕ) (below : x < items) where
-  abbrev Fresh : Node → Type 0
+  abbrev pub Fresh : Node → Type 0
   Fresh n = IsFresh start words n
 
-  abbrev AllFresh : Nodes → Type 0
+  abbrev pub AllFresh : Nodes → Type 0
   AllFresh ns = AreFresh start words ns
 
   -- ---- entries
@@ -60,7 +58,7 @@ module _ (start : Start) (words : List (List ℕ)) (items x : ℕ) (below : x < 
         absurd (let wrong : ⊥ = cc in wrong)
 
   -- a fresh node that doesn't hold the item Exclusive doesn't hold it
-  not_held : (n : Node) → Fresh n → is_exclusive (child_hold x n) ≡ false → is_held (child_hold x n) ≡ false
+  pub not_held : (n : Node) → Fresh n → is_exclusive (child_hold x n) ≡ false → is_held (child_hold x n) ≡ false
   unfolding leaf_hold
   not_held (leaf_node v) f h = go (leaf_entry x v) refl where
     go : (o : Option LeafEntry) → leaf_entry x v ≡ o → is_held (leaf_hold x v) ≡ false
@@ -83,9 +81,6 @@ module _ (start : Start) (words : List (List ℕ)) (items x : ℕ) (below : x < 
   unfolding queue_of
   no_queue d f = rw f.down refl
 
-  none_listed : (o : CopyAt → CopyAt) (cs : List CopyAt) → cs ≡ [] → map o cs ≡ []
-  none_listed o cs e = rw e refl
-
   entry-start : (path clock : List ℕ) (v : LeafValue) → IsFreshLeaf start words v → (o : Option LeafEntry) → leaf_entry x v ≡ o → AllByRecursion IsStartCopy (entry_copies path clock o)
   entry-start path clock v f None is = tt
   entry-start path clock v f (Some e) is = go (is_held (entry_hold (Some e.state))) refl where
@@ -97,10 +92,10 @@ module _ (start : Start) (words : List (List ℕ)) (items x : ℕ) (below : x < 
   cut-start o is [] h = tt
   cut-start o is (k ∷ ks) h = ((ap (λ e. first_some e o) h.0.0 ∙ is, h.0.1), cut-start o is ks h.1)
 
-  none_parked : (P : CopyAt → Type 0) (path clock : List ℕ) (ws : List (List ℕ)) → ws ≡ [] → AllByRecursion P (copies_here path clock ws)
+  pub none_parked : (P : CopyAt → Type 0) (path clock : List ℕ) (ws : List (List ℕ)) → ws ≡ [] → AllByRecursion P (copies_here path clock ws)
   none_parked P path clock ws e = rw e tt
 
-  no_words : (d : DirValue) → IsFreshDir d → words_of_item x d.parked ≡ []
+  pub no_words : (d : DirValue) → IsFreshDir d → words_of_item x d.parked ≡ []
   unfolding words_of_item
   no_words d f = rw f.parked refl
 
@@ -110,14 +105,14 @@ module _ (start : Start) (words : List (List ℕ)) (items x : ℕ) (below : x < 
   no_replies (dir_node d ns) f = rw f.0.replies refl
 
   -- of a directory, from what its children hand to it
-  dir-each : (P : CopyAt → Type 0) → ((ks : List CopyAt) → AllByRecursion P ks → (o : Option (List ℕ)) → o ≡ None → AllByRecursion P (map (cut o) ks)) → (c : Spot) (d : DirValue) (ns : Nodes) → IsFreshDir d → AllByRecursion P (handed x (spot_path c) (moment_at c.above d.epoch) d 0 ns) → AllByRecursion P (inner x c (dir_node d ns))
+  pub dir-each : (P : CopyAt → Type 0) → ((ks : List CopyAt) → AllByRecursion P ks → (o : Option (List ℕ)) → o ≡ None → AllByRecursion P (map (cut o) ks)) → (c : Spot) (d : DirValue) (ns : Nodes) → IsFreshDir d → AllByRecursion P (handed x (spot_path c) (moment_at c.above d.epoch) d 0 ns) → AllByRecursion P (inner x c (dir_node d ns))
   dir-each P cuts c d ns f h =
       each-append P _ (downs (spot_path c) c.above (queue_of x d.down))
       (cuts _ (each-append P (handed x (spot_path c) (moment_at c.above d.epoch) d 0 ns) _ h (none_parked P (spot_path c) (moment_at c.above d.epoch) (words_of_item x d.parked) (no_words d f))) (first_erase c.above (queue_of x d.down)) (ap (first_erase c.above) (no_queue d f)))
       (subst (λ q. AllByRecursion P (downs (spot_path c) c.above q)) (sym (no_queue d f)) tt)
 
   -- of a child and those behind it
-  child-each : (P : CopyAt → Type 0) (path bound : List ℕ) (d : DirValue) (i : ℕ) (n : Node) (ns : Nodes) → Fresh n → AllByRecursion P (inner x (spot_in path d i) n) → AllByRecursion P (handed x path bound d (i + 1) ns) → AllByRecursion P (handed x path bound d i (more_nodes n ns))
+  pub child-each : (P : CopyAt → Type 0) (path bound : List ℕ) (d : DirValue) (i : ℕ) (n : Node) (ns : Nodes) → Fresh n → AllByRecursion P (inner x (spot_in path d i) n) → AllByRecursion P (handed x path bound d (i + 1) ns) → AllByRecursion P (handed x path bound d i (more_nodes n ns))
   child-each P path bound d i n ns f h k = each-append P _ (handed x path bound d (i + 1) ns) (each-append P (inner x (spot_in path d i) n) _ h (none_parked P path bound (words_of_item x (child_replies n)) (no_replies n f))) k
 
   mutual
@@ -135,10 +130,10 @@ module _ (start : Start) (words : List (List ℕ)) (items x : ℕ) (below : x < 
   no_end [] h s = refl
   no_end (k ∷ ks) h s = absurd (true≢false (sym h.0 ∙ ap (λ o. is_some o) s.0.0))
 
-  no_copies : (c : Spot) (n : Node) → Fresh n → IsTreeOk items n → is_held (child_hold x n) ≡ false → inner x c n ≡ []
+  pub no_copies : (c : Spot) (n : Node) → Fresh n → IsTreeOk items n → is_held (child_hold x n) ≡ false → inner x c n ≡ []
   no_copies c n f ok h = no_end (inner x c n) (none_held items x c n below ok h) (inner-start c n f)
 
-  none-handed : (path bound : List ℕ) (d : DirValue) (i : ℕ) (ns : Nodes) → AllFresh ns → AreTreesOk items ns → list_any holds_it (faces_of x (children ns)) ≡ false → handed x path bound d i ns ≡ []
+  pub none-handed : (path bound : List ℕ) (d : DirValue) (i : ℕ) (ns : Nodes) → AllFresh ns → AreTreesOk items ns → list_any holds_it (faces_of x (children ns)) ≡ false → handed x path bound d i ns ≡ []
   none-handed path bound d i no_nodes f ok h = refl
   none-handed path bound d i (more_nodes n ns) f ok h =
       let none : (is_held (child_hold x n) ≡ false) × (list_any holds_it (faces_of x (children ns)) ≡ false) = none_counted x n (children ns) h in
@@ -151,132 +146,13 @@ module _ (start : Start) (words : List (List ℕ)) (items x : ℕ) (below : x < 
     go false e = e
 
   mutual
-    no_claims : (c : Spot) (n : Node) → IsTreeOk items n → child_is_exclusive x n ≡ false → claims_in x c n ≡ []
+    pub no_claims : (c : Spot) (n : Node) → IsTreeOk items n → child_is_exclusive x n ≡ false → claims_in x c n ≡ []
     no_claims c (leaf_node v) ok h = rw h refl
     no_claims c (dir_node d ns) ok h = rw h (none-claimed (spot_path c) d 0 ns ok.1 (none_exclusive d ns (ok.0.rules x below) h))
 
-    none-claimed : (path : List ℕ) (d : DirValue) (i : ℕ) (ns : Nodes) → AreTreesOk items ns → list_any holds_exclusive (faces_of x (children ns)) ≡ false → claims_among x path d i ns ≡ []
+    pub none-claimed : (path : List ℕ) (d : DirValue) (i : ℕ) (ns : Nodes) → AreTreesOk items ns → list_any holds_exclusive (faces_of x (children ns)) ≡ false → claims_among x path d i ns ≡ []
     none-claimed path d i no_nodes ok h = refl
     none-claimed path d i (more_nodes n ns) ok h =
         let none : (holds_exclusive (child_face x n) ≡ false) × (list_any holds_exclusive (faces_of x (children ns)) ≡ false) = or_parts _ _ h in
         let here : child_is_exclusive x n ≡ false = subst (λ k. is_exclusive k ≡ false) (seen_hold x n) none.0 in
         rw (no_claims (spot_in path d i) n ok.0 here) (none-claimed path d (i + 1) ns ok.1 none.1)
-
-  -- ---- one place
-
-  -- a claim of a child over this place
-  abbrev IsOver : List ℕ → ClaimAt → Type 0
-  IsOver place t = (is_under t.child place ≡ true) × (0 < length t.child)
-
-  -- below a path there is one place of all these copies, and whoever claims is over it
-  pub record IsOnePlace (path : List ℕ) (ks : List CopyAt) (ts : List ClaimAt) : Type 0 where
-    pub place : List ℕ
-    pub under : is_under path place ≡ true
-    pub copies : AllByRecursion (λ (k : CopyAt). k.place ≡ place) ks
-    pub claims : AllByRecursion (IsOver place) ts
-
-  own-claim : (c : Spot) (n : Node) (moment place : List ℕ) → is_under (spot_path c) place ≡ true → AllByRecursion (IsOver place) (claim_here x c n moment)
-  own-claim c n moment place u = go (child_is_exclusive x n) refl where
-    long : 0 < length (spot_path c)
-    long = let e : length (c.above ++ c.number ∷ []) ≡ length c.above + 1 = length-append c.above (c.number ∷ []) in omega (arith, e)
-
-    go : (t : Bool) → child_is_exclusive x n ≡ t → AllByRecursion (IsOver place) (claim_here x c n moment)
-    go true e = rw e ((u, long), tt)
-    go false e = rw e tt
-
-  entry-place : (path clock : List ℕ) (o : Option LeafEntry) → AllByRecursion (λ (k : CopyAt). k.place ≡ path) (entry_copies path clock o)
-  entry-place path clock None = tt
-  entry-place path clock (Some e) = go (is_held (entry_hold (Some e.state))) refl where
-    go : (t : Bool) → is_held (entry_hold (Some e.state)) ≡ t → AllByRecursion (λ (k : CopyAt). k.place ≡ path) (entry_copies path clock (Some e))
-    go true i = rw i (refl, tt)
-    go false i = rw i tt
-
-  cut-place : (place : List ℕ) (ks : List CopyAt) → AllByRecursion (λ (k : CopyAt). k.place ≡ place) ks → (o : Option (List ℕ)) → o ≡ None → AllByRecursion (λ (k : CopyAt). k.place ≡ place) (map (cut o) ks)
-  cut-place place [] h o e = tt
-  cut-place place (k ∷ ks) h o e = (h.0, cut-place place ks h.1 o e)
-
-  mutual
-    one-place : (c : Spot) (n : Node) → Fresh n → IsTreeOk items n → IsOnePlace (spot_path c) (inner x c n) (claims_in x c n)
-    one-place c (leaf_node v) f ok = record { place = spot_path c; under = under-itself (spot_path c); copies = entry-place (spot_path c) (spot_moment c) (leaf_entry x v); claims = own-claim c (leaf_node v) (claim x c (leaf_node v)) (spot_path c) (under-itself (spot_path c)) }
-    one-place c (dir_node d ns) f ok = over (one-among (spot_path c) (moment_at c.above d.epoch) d 0 ns f.1 ok.1 (λ h. (dir_above x d ns (ok.0.rules x below) h).one)) where
-      over : IsOnePlace (spot_path c) (handed x (spot_path c) (moment_at c.above d.epoch) d 0 ns) (claims_among x (spot_path c) d 0 ns) → IsOnePlace (spot_path c) (inner x c (dir_node d ns)) (claims_in x c (dir_node d ns))
-      over s = record {
-        place = s.place;
-        under = s.under;
-        copies = dir-each (λ (k : CopyAt). k.place ≡ s.place) (λ ks h o e. cut-place s.place ks h o e) c d ns f.0 s.copies;
-        claims = each-append (IsOver s.place) _ (claims_among x (spot_path c) d 0 ns) (own-claim c (dir_node d ns) (claim x c (dir_node d ns)) s.place s.under) s.claims;
-      }
-
-    -- where one child holds the item if any holds it Exclusive
-    pub one-among : (path bound : List ℕ) (d : DirValue) (i : ℕ) (ns : Nodes) → AllFresh ns → AreTreesOk items ns → (list_any holds_exclusive (faces_of x (children ns)) ≡ true → one_holds (faces_of x (children ns)) ≡ true)
-        → IsOnePlace path (handed x path bound d i ns) (claims_among x path d i ns)
-    one-among path bound d i no_nodes f ok one = record { place = path; under = under-itself path; copies = tt; claims = tt }
-    one-among path bound d i (more_nodes n ns) f ok one = go (child_is_exclusive x n) refl (one-place (spot_in path d i) n f.0 ok.0) (one-among path bound d (i + 1) ns f.1 ok.1) where
-      seen : child_is_exclusive x n ≡ true → holds_exclusive (child_face x n) ≡ true
-      seen e = subst (λ k. is_exclusive k ≡ true) (sym (seen_hold x n)) e
-
-      any : (b : Bool) → holds_exclusive (child_face x n) ≡ true → (holds_exclusive (child_face x n) || b) ≡ true
-      any b e = rw e refl
-
-      or-later : (a b : Bool) → b ≡ true → (a || b) ≡ true
-      or-later true b e = refl
-      or-later false b e = e
-
-      -- this child alone
-      alone : child_is_exclusive x n ≡ true → list_any holds_it (faces_of x (children ns)) ≡ false
-      alone e =
-          let h : one_holds (faces_of x (children (more_nodes n ns))) ≡ true = one (any (list_any holds_exclusive (faces_of x (children ns))) (seen e)) in
-          let k : not (list_any holds_it (faces_of x (children ns))) ≡ true = subst (λ t. (if t then not (list_any holds_it (faces_of x (children ns))) else one_holds (faces_of x (children ns))) ≡ true) (exclusive_held (child_face x n).hold (seen e)) h in
-          not-true _ k
-
-      unclaimed : list_any holds_it (faces_of x (children ns)) ≡ false → list_any holds_exclusive (faces_of x (children ns)) ≡ false
-      unclaimed h = by_test (list_any holds_exclusive (faces_of x (children ns))) refl where
-        by_test : (t : Bool) → list_any holds_exclusive (faces_of x (children ns)) ≡ t → list_any holds_exclusive (faces_of x (children ns)) ≡ false
-        by_test true e = absurd (true≢false (sym (holder_of_exclusive (faces_of x (children ns)) e) ∙ h))
-        by_test false e = e
-
-      here : child_is_exclusive x n ≡ true → IsOnePlace (spot_path (spot_in path d i)) (inner x (spot_in path d i) n) (claims_in x (spot_in path d i) n) → IsOnePlace path (handed x path bound d i (more_nodes n ns)) (claims_among x path d i (more_nodes n ns))
-      here e s = record {
-        place = s.place;
-        under = under_child path s.place i s.under;
-        copies = child-each (λ (k : CopyAt). k.place ≡ s.place) path bound d i n ns f.0 s.copies (subst (λ l. AllByRecursion (λ (k : CopyAt). k.place ≡ s.place) l) (sym (none-handed path bound d (i + 1) ns f.1 ok.1 (alone e))) tt);
-        claims = each-append (IsOver s.place) (claims_in x (spot_in path d i) n) _ s.claims (subst (λ l. AllByRecursion (IsOver s.place) l) (sym (none-claimed path d (i + 1) ns ok.1 (unclaimed (alone e)))) tt);
-      }
-
-      later : child_is_exclusive x n ≡ false → IsOnePlace path (handed x path bound d (i + 1) ns) (claims_among x path d (i + 1) ns) → IsOnePlace path (handed x path bound d i (more_nodes n ns)) (claims_among x path d i (more_nodes n ns))
-      later e s = record {
-        place = s.place;
-        under = s.under;
-        copies = child-each (λ (k : CopyAt). k.place ≡ s.place) path bound d i n ns f.0 (subst (λ l. AllByRecursion (λ (k : CopyAt). k.place ≡ s.place) l) (sym (no_copies (spot_in path d i) n f.0 ok.0 (not_held n f.0 e))) tt) s.copies;
-        claims = each-append (IsOver s.place) (claims_in x (spot_in path d i) n) _ (subst (λ l. AllByRecursion (IsOver s.place) l) (sym (no_claims (spot_in path d i) n ok.0 e)) tt) s.claims;
-      }
-
-      go : (t : Bool) → child_is_exclusive x n ≡ t → IsOnePlace (spot_path (spot_in path d i)) (inner x (spot_in path d i) n) (claims_in x (spot_in path d i) n)
-          → ((list_any holds_exclusive (faces_of x (children ns)) ≡ true → one_holds (faces_of x (children ns)) ≡ true) → IsOnePlace path (handed x path bound d (i + 1) ns) (claims_among x path d (i + 1) ns))
-          → IsOnePlace path (handed x path bound d i (more_nodes n ns)) (claims_among x path d i (more_nodes n ns))
-      go true e first rest = here e first
-      go false e first rest = later e (rest (λ h. (first_other x n (children ns) h (one (or-later (holds_exclusive (child_face x n)) (list_any holds_exclusive (faces_of x (children ns))) h))).1))
-
-  -- ---- of a machine
-
-  module _ (m : MachineValue) (f : IsFreshMachine start words m) (ok : IsMachineOk m) (same : items_of_machine m ≡ items) where
-    trees : AreTreesOk items m.kids
-    trees = subst (λ n. AreTreesOk n m.kids) same ok.tree.1
-
-    rules : ItemRules (parent_face x m.top) (faces_of x (children m.kids))
-    rules = ok.tree.0.rules x (subst (λ n. x < n) (sym same) below)
-
-    pub copies-start : AllByRecursion IsStartCopy (copies_of x m)
-    unfolding copies_of
-    copies-start = each-append IsStartCopy (handed x [] [] m.top 0 m.kids) _ (handed-start [] [] m.top 0 m.kids f.kids) (none_parked IsStartCopy [] [] (words_of_item x m.top.parked) (no_words m.top f.top))
-
-    pub machine-one_place : IsOnePlace [] (copies_of x m) (claims_of x m)
-    unfolding copies_of claims_of
-    machine-one_place = over (one-among [] [] m.top 0 m.kids f.kids trees (λ h. (dir_above x m.top m.kids rules h).one)) where
-      over : IsOnePlace [] (handed x [] [] m.top 0 m.kids) (claims_among x [] m.top 0 m.kids) → IsOnePlace [] (copies_of x m) (claims_of x m)
-      over s = record {
-        place = s.place;
-        under = s.under;
-        copies = each-append (λ (k : CopyAt). k.place ≡ s.place) (handed x [] [] m.top 0 m.kids) _ s.copies (none_parked (λ (k : CopyAt). k.place ≡ s.place) [] [] (words_of_item x m.top.parked) (no_words m.top f.top));
-        claims = s.claims;
-      }

@@ -38,7 +38,8 @@ use Rattle.order_lists.proofs.Moments.{less-irreflexive, same_numbers-itself}
 use Rattle.order_laws.proofs.Hart.Halting.{is_flat}
 use Rattle.headline.specs.Runs.{IsOrderly, StartIsOrderly}
 use Rattle.headline.proofs.StartFresh.{IsFreshLeaf, IsFreshDir, IsFresh, AreFresh, IsFreshMachine, start-fresh}
-use Rattle.headline.proofs.StartCopies.{parted-under, IsStartCopy, IsOnePlace, copies-start, machine-one_place}
+use Rattle.headline.proofs.StartCopies.{parted-under, IsStartCopy}
+use Rattle.headline.proofs.StartPlace.{IsOnePlace, copies-start, machine-one_place}
 
 -- ---- statements of no operation
 

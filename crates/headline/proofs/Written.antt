@@ -1,21 +1,20 @@
 -- The written rules of order, from the core in one state: ends come later (4), a writer is alone and latest (5), what is beside a
 -- directory that holds the item Exclusive is over (6), and changes are known (9).
-use Rattle.std.proofs.Common.{◌≡◌, ℕ, ◌+◌, ◌<◌, ◌≤◌, Bool, true, false, not, ◌&&◌, nat_eq, nat_lt, ◌⊎◌, inl, inr, List, [], ◌∷◌, ◌++◌, length, take, Option, Some, None, option_map, refl, sym, ap, subst, ◌∙◌, arith}
+use Rattle.std.proofs.Common.{◌≡◌, ℕ, ◌+◌, ◌<◌, ◌≤◌, Bool, true, false, ◌&&◌, ◌⊎◌, inl, inr, List, [], ◌∷◌, length, Option, Some, None, refl, sym, ap, subst, ◌∙◌, arith}
 use Rattle.std.specs.Prelude.{IfSome, if◌then◌else◌}
 use Rattle.std.specs.List.{AllByRecursion}
-use Rattle.std.proofs.lemmas.Bool.{and_parts, not-true, true≢false, false≢true, eqb-true, eq-eqb, lt-ltb, ltb-true}
-use Rattle.std.proofs.lemmas.List.{length-append, take-append-le}
+use Rattle.std.proofs.lemmas.Bool.{true≢false, false≢true, eq-eqb, lt-ltb}
+use Rattle.std.proofs.lemmas.List.{length-append}
 use Rattle.ddm_types.specs.declared.operations.Op.{Op}
 use Rattle.flat_model.specs.Flat.{FlatMachine}
 use Rattle.flat_model.specs.Legal.{changes_item}
-use Rattle.tree_model.specs.State.States.{is_held, entry_hold}
-use Rattle.tree_model.specs.State.Values.{LeafValue, MachineValue}
-use Rattle.tree_model.specs.State.Leaf.{LeafEntry, entry_state, leaf_entry, leaf_hold}
+use Rattle.tree_model.specs.State.Values.{MachineValue}
+use Rattle.tree_model.specs.State.Leaf.{LeafEntry}
 use Rattle.tree_model.specs.State.Shape.{depth_of, IsShaped}
 use Rattle.tree_rules.specs.Statements.{Holds, is_so, is_not, each, if_there, there_and}
 use Rattle.tree_rules.proofs.Statements.{each-facts, facts-each}
 use Rattle.tree_rules.specs.Bus.Rules.{items_of_machine, IsMachineOk}
-use Rattle.tree_rules.specs.Order.Moments.{less, less_at, moment_length, before, past, parted, is_under, same_numbers, spot_moment, GoesOn}
+use Rattle.tree_rules.specs.Order.Moments.{less, less_at, moment_length, before, past, parted, is_under, same_numbers, spot_moment}
 use Rattle.tree_rules.specs.Order.Ops.{op_key, op_path}
 use Rattle.tree_rules.specs.Order.Places.{LeafAt, leaf_path, leaf_now, leaves_at, DirAt, dir_path, taken_moment, dirs_at}
 use Rattle.tree_rules.specs.Order.Copies.{CopyAt, copies_of}
@@ -25,7 +24,7 @@ use Rattle.tree_rules.specs.Order.Written as written
 use Rattle.tree_rules.specs.Order.Rules.{IsTimed, IsCore, epochs_end, commands_past_taken, claims_after_ops, claims_after_copies, clocks_know, WrittenRule, ends_later, writer_alone, writer_latest, ops_beside, copies_beside, leaf_knows, dirs_know, written_rule, IsWritten}
 use Rattle.order_lists.specs.Copies.{IsOwnOrEnded, IsAloneWhereExclusive}
 use Rattle.order_lists.proofs.Filters.{each-weaker, each-both, each-swap}
-use Rattle.order_lists.proofs.Moments.{less-parts, less-head, less-tail, less-least, less_at-less, before-not_past, past-not_before, same_numbers-true, same_numbers-itself}
+use Rattle.order_lists.proofs.Moments.{less_at-less, before-not_past, past-not_before, same_numbers-true}
 use Rattle.order_lists.proofs.Paths.{under-itself, under-trans, under-same}
 use Rattle.order_lists.proofs.Levels.{IsAtDepth, all_at_depth}
 use Rattle.order_lists.proofs.Stamps.{moment_at-length}
@@ -42,90 +41,7 @@ use Rattle.order_laws.proofs.Hart.LeafPlaces.{IsPlaced, all_placed}
 use Rattle.order_laws.proofs.Hart.Ready.{CopyOf, HasItsCopy, entry_copy}
 use Rattle.headline.proofs.CopyPlaces.{IsEntryOf, IsEntryAt, entries-at, IsKnownBelow, known-below}
 use Rattle.headline.proofs.DirClaims.{ClaimOf, IsClaimed, since-length, all-claimed}
-
--- ---- lists of numbers
-
-less-longer : (a b t : List ℕ) → less a b ≡ true → less a (b ++ t) ≡ true
-less-longer a [] t h = absurd (let wrong : ⊥ = cc in wrong)
-less-longer [] (n ∷ b) t h = refl
-less-longer (m ∷ a) (n ∷ b) t h = go (less-parts m n a b h) (less-longer a b t) where
-  go : (m < n) ⊎ ((m ≡ n) × (less a b ≡ true)) → (less a b ≡ true → less a (b ++ t) ≡ true) → less (m ∷ a) (n ∷ (b ++ t)) ≡ true
-  go (inl i) rest = less-head m n a (b ++ t) i
-  go (inr i) rest = less-tail m n a (b ++ t) i.0 (rest i.1)
-
--- what is less is before, too
-less-before : (a b : List ℕ) → less a b ≡ true → before a b ≡ true
-less-before a [] h = absurd (let wrong : ⊥ = cc in wrong)
-less-before [] (n ∷ b) h = refl
-less-before (m ∷ a) (n ∷ b) h = go (less-parts m n a b h) (less-before a b) where
-  go : (m < n) ⊎ ((m ≡ n) × (less a b ≡ true)) → (less a b ≡ true → before a b ≡ true) → before (m ∷ a) (n ∷ b) ≡ true
-  go (inl i) rest = less-head m n (take (length b) a) b i
-  go (inr i) rest = less-tail m n (take (length b) a) b i.0 (rest i.1)
-
--- what is before a moment at its bus is before that from which it goes on
-before-goes_on : (n : ℕ) (key f e : List ℕ) → n ≡ length e → less_at n key f ≡ true → GoesOn f e → before key e ≡ true
-before-goes_on n key f e at h g = less-least (take (length e) key) (take (length e) f) e (subst (λ k. less_at k key f ≡ true) at h) g.at_most
-
-shorter-before : (k t e : List ℕ) → length e ≤ length k → before k e ≡ true → before (k ++ t) e ≡ true
-shorter-before k t e l h = ap (λ q. less q e) (take-append-le (length e) k t l) ∙ h
-
--- a path beside: where it parts from what is under the child
-beside-parted : (above : List ℕ) (n : ℕ) (place path : List ℕ) → is_under (above ++ n ∷ []) place ≡ true → is_under above path ≡ true → is_under (above ++ n ∷ []) path ≡ false → parted place path ≡ length above
-beside-parted [] n [] path u v w = absurd (false≢true u)
-beside-parted [] n (c ∷ place) [] u v w = refl
-beside-parted [] n (c ∷ place) (d ∷ path) u v w = go (nat_eq c d) refl where
-  first : n ≡ c
-  first = eqb-true n c (and_parts (nat_eq n c) true u).0
-
-  go : (t : Bool) → nat_eq c d ≡ t → parted (c ∷ place) (d ∷ path) ≡ 0
-  go true e = absurd (true≢false (sym (ap (λ k. nat_eq k d && true) first ∙ ap (λ b. b && true) e) ∙ w))
-  go false e = rw e refl
-beside-parted (a ∷ above) n [] path u v w = absurd (false≢true u)
-beside-parted (a ∷ above) n (c ∷ place) [] u v w = absurd (false≢true v)
-beside-parted (a ∷ above) n (c ∷ place) (d ∷ path) u v w =
-    let p : (nat_eq a c ≡ true) × (is_under (above ++ n ∷ []) place ≡ true) = and_parts (nat_eq a c) _ u in
-    let q : (nat_eq a d ≡ true) × (is_under above path ≡ true) = and_parts (nat_eq a d) _ v in
-    let w2 : is_under (above ++ n ∷ []) path ≡ false = rw q.0 at w in
-    let same : nat_eq c d ≡ true = eq-eqb c d (sym (eqb-true a c p.0) ∙ eqb-true a d q.0) in
-    let rest : parted place path ≡ length above = beside-parted above n place path p.1 q.1 w2 in
-    rw same (omega (arith, rest))
-
--- where is_beside passes
-record IsBeside (c : DirAt) (path : List ℕ) : Type 0 where
-  above : is_under c.spot.above path ≡ true
-  apart : is_under (dir_path c) path ≡ false
-  long : length c.spot.above < length path
-
-beside-facts : (c : DirAt) (path : List ℕ) → written.is_beside c path ≡ true → IsBeside c path
-beside-facts c path h =
-    let p : (is_under c.spot.above path ≡ true) × ((not (is_under (dir_path c) path) && nat_lt (length c.spot.above) (length path)) ≡ true) = and_parts (is_under c.spot.above path) _ h in
-    let q : (not (is_under (dir_path c) path) ≡ true) × (nat_lt (length c.spot.above) (length path) ≡ true) = and_parts (not (is_under (dir_path c) path)) _ p.1 in
-    record { above = p.0; apart = not-true _ q.0; long = ltb-true _ _ q.1 }
-
-not_same : (a b : List ℕ) → same_numbers a b ≡ false → a ≡ b → ⊥
-not_same a b h e = true≢false (sym (same_numbers-itself b) ∙ subst (λ k. same_numbers k b ≡ false) e h)
-
--- ---- entries
-
-record HasEntry (x : ℕ) (v : LeafValue) : Type 0 where
-  entry : LeafEntry
-  is : leaf_entry x v ≡ Some entry
-  held : is_held (entry_hold (Some entry.state)) ≡ true
-
-held-entry : (x : ℕ) (v : LeafValue) → is_held (leaf_hold x v) ≡ true → HasEntry x v
-unfolding leaf_hold
-held-entry x v h = go (leaf_entry x v) refl h where
-  go : (o : Option LeafEntry) → leaf_entry x v ≡ o → is_held (entry_hold (option_map entry_state o)) ≡ true → HasEntry x v
-  go None is held = absurd (let wrong : ⊥ = cc in wrong)
-  go (Some e) is held = record { entry = e; is = is; held = held }
-
--- of each element a fact where there is an end
-some-each : {X : Type 0} (o : Option (List ℕ)) (P : List ℕ → X → Type 0) (xs : List X) → IfSome o (λ e. AllByRecursion (P e) xs) → AllByRecursion (λ z. IfSome o (λ e. P e z)) xs
-some-each None P xs h = all xs where
-  all : {X : Type 0} (ys : List X) → AllByRecursion (λ z. Unit {0}) ys
-  all [] = tt
-  all (y ∷ ys) = (tt, all ys)
-some-each (Some e) P xs h = h
+use Rattle.headline.proofs.Beside.{IsBeside, HasEntry, less-longer, less-before, before-goes_on, shorter-before, beside-parted, beside-facts, not_same, held-entry, some-each}
 
 module _ (s : FlatMachine) (m : MachineValue) (shaped : IsShaped m) (ok : IsMachineOk m) (timed : IsTimed m) (core : IsCore s m) (x : ℕ) (below : x < items_of_machine m) where
   abbrev depth : ℕ
