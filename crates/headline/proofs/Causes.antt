@@ -27,19 +27,25 @@ use Rattle.tree_model.specs.Turns.Bus.{request_by_kind, request_turn, reply_turn
 use Rattle.tree_model.proofs.Children.{found-within}
 use Rattle.tree_rules.specs.Bus.Rules.{IsMachineOk}
 use Rattle.tree_rules.specs.Witness.{is_note_of, pends_by, cause_holds, busy_has_cause}
-use Rattle.headline.proofs.Standing.{in_below, stands-under}
+use Rattle.headline.proofs.Standing.{StandsIn, in_below, stands-under}
 use Rattle.headline.proofs.Numbered.{told-dir}
-use Rattle.headline.proofs.FullLists.{pends, among-at, among-each, past-end, InTree, FullHolds, first-full, some-full, given-full, child-full, down-is_full, requests-are_full, replies-are_full}
+use Rattle.headline.proofs.FullLists.{pends, among-at, among-each, past-end, FullHolds, first-full, some-full, given-full, child-full, down-is_full, requests-are_full, replies-are_full}
 
 module _ (m : MachineValue) (shaped : IsShaped m) (ok : IsMachineOk m) where
-  module _ (t : Turn) (p : DirValue) (nodes : Nodes) (there : (InTree m shaped ok) (dir_node p nodes)) where
+  abbrev There : Node → Type 0
+  There n = StandsIn n (root_of m)
+
+  abbrev Full : Option QueueName → Type 0
+  Full o = FullHolds m shaped ok o
+
+  module _ (t : Turn) (p : DirValue) (nodes : Nodes) (there : There (dir_node p nodes)) where
     abbrev pub ns : List Node
     ns = children nodes
 
-    pub all_there : AllByRecursion (InTree m shaped ok) ns
-    all_there = among-each (InTree m shaped ok) nodes (λ n i. stands-under n (dir_node p nodes) (root_of m) (in_below i) there)
+    pub all_there : AllByRecursion There ns
+    all_there = among-each There nodes (λ n i. stands-under n (dir_node p nodes) (root_of m) (in_below i) there)
 
-    pub at_there : (k : ℕ) → k < length ns → (InTree m shaped ok) (child_at k ns)
+    pub at_there : (k : ℕ) → k < length ns → There (child_at k ns)
     at_there k l = stands-under (child_at k ns) (dir_node p nodes) (root_of m) (in_below (among-at nodes k l)) there
 
     -- what was judged names a cause that is so
@@ -48,7 +54,7 @@ module _ (m : MachineValue) (shaped : IsShaped m) (ok : IsMachineOk m) where
     IsCaused (refused cause) = cause_holds t m cause ≡ true
     IsCaused (granted g) = ⊤
 
-    unless : (o : Option QueueName) (g : Grant) → (FullHolds m shaped ok) o → IsCaused (unless_full o g)
+    unless : (o : Option QueueName) (g : Grant) → Full o → IsCaused (unless_full o g)
     unfolding unless_full
     unless None g h = tt
     unless (Some list) g h = h
@@ -56,35 +62,35 @@ module _ (m : MachineValue) (shaped : IsShaped m) (ok : IsMachineOk m) where
     pub own-pending : (x : ℕ) (why : PendingWhy) → pends_by why x p ≡ true → IsCaused (is_pending p.bus x why)
     own-pending x why h = told-dir m shaped p nodes there (λ d ks. pends_by why x d) ∙ h
 
-    full-at : (kind : TxKind) (x k : ℕ) → child_full_for kind x no_node ≡ None → (FullHolds m shaped ok) (child_full_for kind x (child_at k ns))
+    full-at : (kind : TxKind) (x k : ℕ) → child_full_for kind x no_node ≡ None → Full (child_full_for kind x (child_at k ns))
     full-at kind x k none = go (cases_lt k (length ns)) where
-      go : (k < length ns) ⊎ (length ns ≤ k) → (FullHolds m shaped ok) (child_full_for kind x (child_at k ns))
-      go (inl l) = (child-full m shaped ok) kind x (child_at k ns) (at_there k l)
-      go (inr l) = subst (λ o. (FullHolds m shaped ok) o) (sym (ap (child_full_for kind x) (past-end ns k l) ∙ none)) tt
+      go : (k < length ns) ⊎ (length ns ≤ k) → Full (child_full_for kind x (child_at k ns))
+      go (inl l) = child-full m shaped ok kind x (child_at k ns) (at_there k l)
+      go (inr l) = subst (λ o. Full o) (sym (ap (child_full_for kind x) (past-end ns k l) ∙ none)) tt
 
-    reader-full : (note : Note) (x i : ℕ) (n : Node) → (InTree m shaped ok) n → (FullHolds m shaped ok) (reader_full note x i n)
+    reader-full : (note : Note) (x i : ℕ) (n : Node) → There n → Full (reader_full note x i n)
     reader-full note x i n h = go (is_reader note i) where
-      go : (b : Bool) → (FullHolds m shaped ok) (if b then child_full_for DataTx x n else None)
-      go true = (child-full m shaped ok) DataTx x n h
+      go : (b : Bool) → Full (if b then child_full_for DataTx x n else None)
+      go true = child-full m shaped ok DataTx x n h
       go false = tt
 
-    readers-full : (note : Note) (x : ℕ) → (FullHolds m shaped ok) (first_given (reader_full note x) 0 ns)
-    readers-full note x = (given-full m shaped ok) (reader_full note x) (reader-full note x) 0 ns all_there
+    readers-full : (note : Note) (x : ℕ) → Full (first_given (reader_full note x) 0 ns)
+    readers-full note x = given-full m shaped ok (reader_full note x) (reader-full note x) 0 ns all_there
 
-    down-full : (FullHolds m shaped ok) (own_down_full p)
-    down-full = (some-full m shaped ok) (down_full p) (QueueName.Down p.bus) ((down-is_full m shaped ok) p nodes there)
+    down-full : Full (own_down_full p)
+    down-full = some-full m shaped ok (down_full p) (QueueName.Down p.bus) (down-is_full m shaped ok p nodes there)
 
-    requests-full : (FullHolds m shaped ok) (own_requests_full p)
-    requests-full = (some-full m shaped ok) (requests_full p) (QueueName.Requests p.bus) ((requests-are_full m shaped ok) p nodes there)
+    requests-full : Full (own_requests_full p)
+    requests-full = some-full m shaped ok (requests_full p) (QueueName.Requests p.bus) (requests-are_full m shaped ok p nodes there)
 
-    replies-full : (FullHolds m shaped ok) (own_replies_full p)
-    replies-full = (some-full m shaped ok) (replies_full p) (QueueName.Replies p.bus) ((replies-are_full m shaped ok) p nodes there)
+    replies-full : Full (own_replies_full p)
+    replies-full = some-full m shaped ok (replies_full p) (QueueName.Replies p.bus) (replies-are_full m shaped ok p nodes there)
 
     -- ---- requests
 
     module _ (above : Stamp) (c x : ℕ) where
       held-caused : (k : Option ℕ) → find_from (other_holds c x) 0 ns ≡ k → (parked : Option (List ℕ)) → IsCaused (read_held c x p ns above k parked)
-      held-caused (Some k) e parked = unless (child_full_for ReadTx x (child_at k ns)) (read_of_child c x p ns k) ((child-full m shaped ok) ReadTx x (child_at k ns) (at_there k (found-within (other_holds c x) k ns no_node e)))
+      held-caused (Some k) e parked = unless (child_full_for ReadTx x (child_at k ns)) (read_of_child c x p ns k) (child-full m shaped ok ReadTx x (child_at k ns) (at_there k (found-within (other_holds c x) k ns no_node e)))
       held-caused None e (Some words) = unless (own_down_full p) (read_of_parked c x p ns above words) down-full
       held-caused None e None = tt
 
@@ -102,13 +108,13 @@ module _ (m : MachineValue) (shaped : IsShaped m) (ok : IsMachineOk m) where
       read-caused no_note = unless-caused (pending x p) refl
       read-caused (up_erase d) = unless-caused (pending x p) refl
 
-      others-full : (i : ℕ) (n : Node) → (InTree m shaped ok) n → (FullHolds m shaped ok) (other_full c x i n)
+      others-full : (i : ℕ) (n : Node) → There n → Full (other_full c x i n)
       others-full i n h = go (nat_eq i c) where
-        go : (b : Bool) → (FullHolds m shaped ok) (if b then None else child_full_for EraseTx x n)
+        go : (b : Bool) → Full (if b then None else child_full_for EraseTx x n)
         go true = tt
-        go false = (child-full m shaped ok) EraseTx x n h
+        go false = child-full m shaped ok EraseTx x n h
 
-      list-full : (b : Bool) → (FullHolds m shaped ok) (erase_list_full above c x p ns b)
+      list-full : (b : Bool) → Full (erase_list_full above c x p ns b)
       list-full true = down-full
       list-full false = requests-full
 
@@ -116,7 +122,7 @@ module _ (m : MachineValue) (shaped : IsShaped m) (ok : IsMachineOk m) where
       erase-caused (Some why) e = own-pending x why (pends x p why e)
       erase-caused None e =
           unless (first_some (first_given (other_full c x) 0 ns) (erase_list_full above c x p ns (is_exclusive (dir_hold x p)))) (erase_of_all above c x p ns)
-          ((first-full m shaped ok) (first_given (other_full c x) 0 ns) _ ((given-full m shaped ok) (other_full c x) others-full 0 ns all_there) (list-full (is_exclusive (dir_hold x p))))
+          (first-full m shaped ok (first_given (other_full c x) 0 ns) _ (given-full m shaped ok (other_full c x) others-full 0 ns all_there) (list-full (is_exclusive (dir_hold x p))))
 
       kind-caused : (kind : TxKind) → IsCaused (request_by_kind above p ns c x kind)
       kind-caused ReadTx = read-caused (dir_note x p)
@@ -158,10 +164,10 @@ module _ (m : MachineValue) (shaped : IsShaped m) (ok : IsMachineOk m) where
       exclusive-caused (up_read first joined) = tt
 
       lose-caused : IsCaused (down_erase e.item q ns)
-      lose-caused = unless (first_given (full_to_lose e.item) 0 ns) (erase_of_children e.item q ns) ((given-full m shaped ok) (full_to_lose e.item) (λ i n h. (child-full m shaped ok) EraseTx e.item n h) 0 ns all_there)
+      lose-caused = unless (first_given (full_to_lose e.item) 0 ns) (erase_of_children e.item q ns) (given-full m shaped ok (full_to_lose e.item) (λ i n h. child-full m shaped ok EraseTx e.item n h) 0 ns all_there)
 
       answer-caused : (k : Option ℕ) → find_from (holds_item e.item) 0 ns ≡ k → (parked : Option (List ℕ)) → IsCaused (down_read e.item q ns k parked)
-      answer-caused (Some k) f parked = unless (child_full_for ReadTx e.item (child_at k ns)) (read_by_child e.item q ns k) ((child-full m shaped ok) ReadTx e.item (child_at k ns) (at_there k (found-within (holds_item e.item) k ns no_node f)))
+      answer-caused (Some k) f parked = unless (child_full_for ReadTx e.item (child_at k ns)) (read_by_child e.item q ns k) (child-full m shaped ok ReadTx e.item (child_at k ns) (at_there k (found-within (holds_item e.item) k ns no_node f)))
       answer-caused None f (Some words) = unless (own_replies_full q) (read_by_parked e.item q ns words) replies-full
       answer-caused None f None = tt
 

@@ -21,8 +21,8 @@ use Rattle.order_lists.proofs.Paths.{under-itself, under_child}
 use Rattle.order_lists.proofs.NoHold.{seen_hold}
 use Rattle.order_lists.proofs.AboveExclusive.{exclusive_held, holder_of_exclusive}
 use Rattle.order_lists.proofs.ExclusiveClaims.{dir_above, first_other}
-use Rattle.headline.proofs.StartFresh.{IsFreshMachine}
-use Rattle.headline.proofs.StartCopies.{not_held, none_parked, no_words, dir-each, child-each, handed-start, no_copies, none-handed, no_claims, none-claimed, IsStartCopy, Fresh, AllFresh}
+use Rattle.headline.proofs.StartFresh.{IsFresh, AreFresh, IsFreshMachine}
+use Rattle.headline.proofs.StartCopies.{not_held, none_parked, no_words, dir-each, child-each, handed-start, no_copies, none-handed, no_claims, none-claimed, IsStartCopy}
 
 module _ (start : Start) (words : List (List ℕ)) (items x : ℕ) (below : x < items) where
   -- a claim of a child over this place
@@ -57,19 +57,19 @@ module _ (start : Start) (words : List (List ℕ)) (items x : ℕ) (below : x < 
   cut-place place (k ∷ ks) h o e = (h.0, cut-place place ks h.1 o e)
 
   mutual
-    one-place : (c : Spot) (n : Node) → (Fresh start words items x below) n → IsTreeOk items n → IsOnePlace (spot_path c) (inner x c n) (claims_in x c n)
+    one-place : (c : Spot) (n : Node) → IsFresh start words n → IsTreeOk items n → IsOnePlace (spot_path c) (inner x c n) (claims_in x c n)
     one-place c (leaf_node v) f ok = record { place = spot_path c; under = under-itself (spot_path c); copies = entry-place (spot_path c) (spot_moment c) (leaf_entry x v); claims = own-claim c (leaf_node v) (claim x c (leaf_node v)) (spot_path c) (under-itself (spot_path c)) }
     one-place c (dir_node d ns) f ok = over (one-among (spot_path c) (moment_at c.above d.epoch) d 0 ns f.1 ok.1 (λ h. (dir_above x d ns (ok.0.rules x below) h).one)) where
       over : IsOnePlace (spot_path c) (handed x (spot_path c) (moment_at c.above d.epoch) d 0 ns) (claims_among x (spot_path c) d 0 ns) → IsOnePlace (spot_path c) (inner x c (dir_node d ns)) (claims_in x c (dir_node d ns))
       over s = record {
         place = s.place;
         under = s.under;
-        copies = (dir-each start words items x below) (λ (k : CopyAt). k.place ≡ s.place) (λ ks h o e. cut-place s.place ks h o e) c d ns f.0 s.copies;
+        copies = dir-each start words items x below (λ (k : CopyAt). k.place ≡ s.place) (λ ks h o e. cut-place s.place ks h o e) c d ns f.0 s.copies;
         claims = each-append (IsOver s.place) _ (claims_among x (spot_path c) d 0 ns) (own-claim c (dir_node d ns) (claim x c (dir_node d ns)) s.place s.under) s.claims;
       }
 
     -- where one child holds the item if any holds it Exclusive
-    pub one-among : (path bound : List ℕ) (d : DirValue) (i : ℕ) (ns : Nodes) → (AllFresh start words items x below) ns → AreTreesOk items ns → (list_any holds_exclusive (faces_of x (children ns)) ≡ true → one_holds (faces_of x (children ns)) ≡ true)
+    pub one-among : (path bound : List ℕ) (d : DirValue) (i : ℕ) (ns : Nodes) → AreFresh start words ns → AreTreesOk items ns → (list_any holds_exclusive (faces_of x (children ns)) ≡ true → one_holds (faces_of x (children ns)) ≡ true)
         → IsOnePlace path (handed x path bound d i ns) (claims_among x path d i ns)
     one-among path bound d i no_nodes f ok one = record { place = path; under = under-itself path; copies = tt; claims = tt }
     one-among path bound d i (more_nodes n ns) f ok one = go (child_is_exclusive x n) refl (one-place (spot_in path d i) n f.0 ok.0) (one-among path bound d (i + 1) ns f.1 ok.1) where
@@ -100,16 +100,16 @@ module _ (start : Start) (words : List (List ℕ)) (items x : ℕ) (below : x < 
       here e s = record {
         place = s.place;
         under = under_child path s.place i s.under;
-        copies = (child-each start words items x below) (λ (k : CopyAt). k.place ≡ s.place) path bound d i n ns f.0 s.copies (subst (λ l. AllByRecursion (λ (k : CopyAt). k.place ≡ s.place) l) (sym ((none-handed start words items x below) path bound d (i + 1) ns f.1 ok.1 (alone e))) tt);
-        claims = each-append (IsOver s.place) (claims_in x (spot_in path d i) n) _ s.claims (subst (λ l. AllByRecursion (IsOver s.place) l) (sym ((none-claimed start words items x below) path d (i + 1) ns ok.1 (unclaimed (alone e)))) tt);
+        copies = child-each start words items x below (λ (k : CopyAt). k.place ≡ s.place) path bound d i n ns f.0 s.copies (subst (λ l. AllByRecursion (λ (k : CopyAt). k.place ≡ s.place) l) (sym (none-handed start words items x below path bound d (i + 1) ns f.1 ok.1 (alone e))) tt);
+        claims = each-append (IsOver s.place) (claims_in x (spot_in path d i) n) _ s.claims (subst (λ l. AllByRecursion (IsOver s.place) l) (sym (none-claimed start words items x below path d (i + 1) ns ok.1 (unclaimed (alone e)))) tt);
       }
 
       later : child_is_exclusive x n ≡ false → IsOnePlace path (handed x path bound d (i + 1) ns) (claims_among x path d (i + 1) ns) → IsOnePlace path (handed x path bound d i (more_nodes n ns)) (claims_among x path d i (more_nodes n ns))
       later e s = record {
         place = s.place;
         under = s.under;
-        copies = (child-each start words items x below) (λ (k : CopyAt). k.place ≡ s.place) path bound d i n ns f.0 (subst (λ l. AllByRecursion (λ (k : CopyAt). k.place ≡ s.place) l) (sym ((no_copies start words items x below) (spot_in path d i) n f.0 ok.0 ((not_held start words items x below) n f.0 e))) tt) s.copies;
-        claims = each-append (IsOver s.place) (claims_in x (spot_in path d i) n) _ (subst (λ l. AllByRecursion (IsOver s.place) l) (sym ((no_claims start words items x below) (spot_in path d i) n ok.0 e)) tt) s.claims;
+        copies = child-each start words items x below (λ (k : CopyAt). k.place ≡ s.place) path bound d i n ns f.0 (subst (λ l. AllByRecursion (λ (k : CopyAt). k.place ≡ s.place) l) (sym (no_copies start words items x below (spot_in path d i) n f.0 ok.0 (not_held start words items x below n f.0 e))) tt) s.copies;
+        claims = each-append (IsOver s.place) (claims_in x (spot_in path d i) n) _ (subst (λ l. AllByRecursion (IsOver s.place) l) (sym (no_claims start words items x below (spot_in path d i) n ok.0 e)) tt) s.claims;
       }
 
       go : (t : Bool) → child_is_exclusive x n ≡ t → IsOnePlace (spot_path (spot_in path d i)) (inner x (spot_in path d i) n) (claims_in x (spot_in path d i) n)
@@ -129,7 +129,7 @@ module _ (start : Start) (words : List (List ℕ)) (items x : ℕ) (below : x < 
 
     pub copies-start : AllByRecursion (IsStartCopy start words items x below) (copies_of x m)
     unfolding copies_of
-    copies-start = each-append (IsStartCopy start words items x below) (handed x [] [] m.top 0 m.kids) _ ((handed-start start words items x below) [] [] m.top 0 m.kids f.kids) ((none_parked start words items x below) (IsStartCopy start words items x below) [] [] (words_of_item x m.top.parked) ((no_words start words items x below) m.top f.top))
+    copies-start = each-append (IsStartCopy start words items x below) (handed x [] [] m.top 0 m.kids) _ (handed-start start words items x below [] [] m.top 0 m.kids f.kids) (none_parked start words items x below (IsStartCopy start words items x below) [] [] (words_of_item x m.top.parked) (no_words start words items x below m.top f.top))
 
     pub machine-one_place : IsOnePlace [] (copies_of x m) (claims_of x m)
     unfolding copies_of claims_of
@@ -138,6 +138,6 @@ module _ (start : Start) (words : List (List ℕ)) (items x : ℕ) (below : x < 
       over s = record {
         place = s.place;
         under = s.under;
-        copies = each-append (λ (k : CopyAt). k.place ≡ s.place) (handed x [] [] m.top 0 m.kids) _ s.copies ((none_parked start words items x below) (λ (k : CopyAt). k.place ≡ s.place) [] [] (words_of_item x m.top.parked) ((no_words start words items x below) m.top f.top));
+        copies = each-append (λ (k : CopyAt). k.place ≡ s.place) (handed x [] [] m.top 0 m.kids) _ s.copies (none_parked start words items x below (λ (k : CopyAt). k.place ≡ s.place) [] [] (words_of_item x m.top.parked) (no_words start words items x below m.top f.top));
         claims = s.claims;
       }
