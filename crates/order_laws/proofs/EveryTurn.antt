@@ -9,7 +9,7 @@ use Rattle.tree_model.proofs.FrameKept.{turn-shape}
 use Rattle.tree_rules.specs.Bus.Rules.{IsMachineOk}
 use Rattle.tree_rules.specs.Order.Rules.{commands_past_taken, IsTimed, IsCore}
 use Rattle.bus_laws.proofs.TreeKept.{turn-keeps_rules}
-use Rattle.order_laws.specs.EveryTurn.{EveryTurnKeepsTime, TurnKeepsCore, IsBetweenTurns, RunKeepsOrder}
+use Rattle.order_laws.specs.EveryTurn.{EveryTurnKeepsTime, TurnKeepsCore, IsOrderly, RunStaysOrderly}
 use Rattle.order_laws.specs.Grant.{after_bus, ClaimsAfterCopies, BusTurnKeepsClaims}
 use Rattle.order_laws.specs.Moves.CopiesMoved.{IsBusTurn}
 use Rattle.order_laws.proofs.Hart.CoreTurn.{hart-turn-core}
@@ -33,25 +33,28 @@ pub bus_turn-core : (s : FlatMachine) (m : MachineValue) (t : Turn) → IsShaped
 bus_turn-core s m t shaped ok timed bus claims core = core-after-bus s m t shaped ok timed (every_turn-keeps_time t m shaped ok timed) bus (turn-keeps_commands t m shaped ok.top timed (core.each commands_past_taken)) (own-copies-stay m t shaped ok timed (core.each commands_past_taken) bus) claims core
 
 module _ (claims : BusTurnKeepsClaims) where
-  bus-core : (s : FlatMachine) (t : Turn) (m : MachineValue) → IsBusTurn t → IsShaped m → IsMachineOk m → IsTimed m → IsCore s m → IsCore s (turn_of t m).machine
-  bus-core s t m bus shaped ok timed core = bus_turn-core s m t shaped ok timed bus (claims s m t shaped ok timed bus core) core
+  bus-core : (t : Turn) (m : MachineValue) (s : FlatMachine) → IsBusTurn t → IsShaped m → IsMachineOk m → IsTimed m → IsCore s m → IsCore s (turn_of t m).machine
+  bus-core t m s bus shaped ok timed core = bus_turn-core s m t shaped ok timed bus (claims s m t shaped ok timed bus core) core
 
   pub core-turn : TurnKeepsCore
-  core-turn s (Turn.Hart hart victim) m shaped ok timed core = hart-turn-core s hart victim m shaped ok timed core
-  core-turn s (Turn.Down bus) m shaped ok timed core = bus-core s (Turn.Down bus) m tt shaped ok timed core
-  core-turn s (Turn.Request bus child) m shaped ok timed core = bus-core s (Turn.Request bus child) m tt shaped ok timed core
-  core-turn s (Turn.Reply bus child) m shaped ok timed core = bus-core s (Turn.Reply bus child) m tt shaped ok timed core
-  core-turn s (Turn.Leave bus child choice) m shaped ok timed core = bus-core s (Turn.Leave bus child choice) m tt shaped ok timed core
+  core-turn (Turn.Hart hart victim) m s shaped ok timed core = hart-turn-core s hart victim m shaped ok timed core
+  core-turn (Turn.Down bus) m s shaped ok timed core = bus-core (Turn.Down bus) m s tt shaped ok timed core
+  core-turn (Turn.Request bus child) m s shaped ok timed core = bus-core (Turn.Request bus child) m s tt shaped ok timed core
+  core-turn (Turn.Reply bus child) m s shaped ok timed core = bus-core (Turn.Reply bus child) m s tt shaped ok timed core
+  core-turn (Turn.Leave bus child choice) m s shaped ok timed core = bus-core (Turn.Leave bus child choice) m s tt shaped ok timed core
 
-  pub order-turn : (s : FlatMachine) (t : Turn) (m : MachineValue) → IsBetweenTurns s m → IsBetweenTurns s (turn_of t m).machine
-  order-turn s t m h = record {
-    shaped = turn-shape t m h.shaped;
-    ok = turn-keeps_rules t m h.ok;
-    timed = every_turn-keeps_time t m h.shaped h.ok h.timed;
-    core = core-turn s t m h.shaped h.ok h.timed h.core;
+-- ---- all that every turn keeps
+
+module _ (kept : TurnKeepsCore) where
+  pub turn-orderly : (s : FlatMachine) (m : MachineValue) (t : Turn) → IsOrderly s m → IsOrderly s (turn_of t m).machine
+  turn-orderly s m t r = record {
+    shaped = turn-shape t m r.shaped;
+    buses = turn-keeps_rules t m r.buses;
+    timed = every_turn-keeps_time t m r.shaped r.buses r.timed;
+    core = kept t m s r.shaped r.buses r.timed r.core;
   }
 
-  pub run-core : RunKeepsOrder
+  pub run-orderly : RunStaysOrderly
   unfolding run_of
-  run-core s [] m h = h
-  run-core s (t ∷ ts) m h = run-core s ts (turn_of t m).machine (order-turn s t m h)
+  run-orderly s m [] r = r
+  run-orderly s m (t ∷ ts) r = run-orderly s (turn_of t m).machine ts (turn-orderly s m t r)

@@ -15,17 +15,16 @@ EveryTurnKeepsTime = (t : Turn) (m : MachineValue) → IsShaped m → IsMachineO
 
 -- it keeps the core rules, with the same start
 abbrev pub TurnKeepsCore : Type 0
-TurnKeepsCore = (s : FlatMachine) (t : Turn) (m : MachineValue) → IsShaped m → IsMachineOk m → IsTimed m → IsCore s m → IsCore s (turn_of t m).machine
+TurnKeepsCore = (t : Turn) (m : MachineValue) (s : FlatMachine) → IsShaped m → IsMachineOk m → IsTimed m → IsCore s m → IsCore s (turn_of t m).machine
 
 -- ---- a run
 
--- what holds between turns: the shape, the rules of every bus, those of time, and the core rules
-pub record IsBetweenTurns (s : FlatMachine) (m : MachineValue) : Type 0 where
+-- all that every turn keeps: the shape, the rules of every bus, and the rules of order from a start
+pub record IsOrderly (s : FlatMachine) (m : MachineValue) : Type 0 where
   pub shaped : IsShaped m
-  pub ok : IsMachineOk m
+  pub buses : IsMachineOk m
   pub timed : IsTimed m
   pub core : IsCore s m
 
--- a run keeps it
-abbrev pub RunKeepsOrder : Type 0
-RunKeepsOrder = (s : FlatMachine) (ts : List Turn) (m : MachineValue) → IsBetweenTurns s m → IsBetweenTurns s (run_of ts m).machine
+abbrev pub RunStaysOrderly : Type 0
+RunStaysOrderly = (s : FlatMachine) (m : MachineValue) (ts : List Turn) → IsOrderly s m → IsOrderly s (run_of ts m).machine

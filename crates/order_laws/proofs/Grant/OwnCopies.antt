@@ -227,7 +227,7 @@ module _ (m : MachineValue) (t : Turn) (shaped : IsShaped m) (ok : IsMachineOk m
   leaves-known = each-both (IsFoundIn m) (λ a. (x : ℕ) → AllByRecursion (IsOfEntry a) (copies_of x m)) IsLeafKnown (λ a f o. record { found = f; own = o }) (leaves_at m) (all_found m) (each-index (λ x a. AllByRecursion (IsOfEntry a) (copies_of x m)) (leaves_at m) (λ x. entries_of x m))
 
   stays : (a b : LeafAt) → LeafKept a b → IsLeafKnown a → OwnCopyStays m t a b
-  stays a b kept known x low held words = go (turn-moves m shaped ok timed past t bus x) where
+  stays a b kept known x low held = go (turn-moves m shaped ok timed past t bus x) where
     go : MovesOf t m x → AllByRecursion (λ k. k.place ≡ leaf_path b → FromOwn x m a k) (copies_of x (after_bus t m))
     go (inl same) = subst (AllByRecursion (λ k. k.place ≡ leaf_path b → FromOwn x m a k)) (sym (copies-same x m (after_bus t m) same)) (each-both (IsOfEntry a) (λ k. In k (copies_of x m)) _ (λ k o there. still_own x m a b kept (known.own x) k (o, there)) (copies_of x m) (known.own x) (each-member (copies_of x m)))
     go (inr c) = each-weaker (From (MovedBy x c.bus) (copies_of x m)) _ (from_own x m a b kept (known.own x) (after_bus t m) c known.found held) (copies_of x (after_bus t m)) c.copies
@@ -238,6 +238,6 @@ module _ (m : MachineValue) (t : Turn) (shaped : IsShaped m) (ok : IsMachineOk m
   all-stay (a ∷ xs) [] k f = absurd k
   all-stay (a ∷ xs) (b ∷ ys) k f = (stays a b k.0 f.0, all-stay xs ys k.1 f.1)
 
-  -- each copy at the place of a leaf that keeps its words of the item comes from its own entry
+  -- each copy at the place of a leaf that held the item comes from its own entry
   pub own-copies-stay : OwnCopiesStay m t
   own-copies-stay = all-stay (leaves_at m) (leaves_at (after_bus t m)) (leaf-pairs (leaves_at m) (leaves_at (after_bus t m)) (reservations-kept m shaped ok timed past t bus)) leaves-known
