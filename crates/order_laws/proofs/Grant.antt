@@ -1,3 +1,4 @@
 pub mod Reserved
 pub mod Kept
 pub mod ReservedKept
+pub mod OwnCopies
