@@ -1,3 +1,5 @@
 pub mod Reserved
 pub mod Kept
 pub mod ReservedKept
+pub mod ClaimsCopiesNode
+pub mod ClaimsCopiesEnds
