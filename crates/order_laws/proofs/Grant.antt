@@ -3,3 +3,4 @@ pub mod Kept
 pub mod ReservedKept
 pub mod ClaimsCopiesNode
 pub mod ClaimsCopiesEnds
+pub mod ClaimsCopiesHeld
