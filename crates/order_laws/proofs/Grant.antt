@@ -4,3 +4,5 @@ pub mod ReservedKept
 pub mod ClaimsCopiesNode
 pub mod ClaimsCopiesEnds
 pub mod ClaimsCopiesHeld
+pub mod ClaimsCopiesPaths
+pub mod ClaimsCopies
