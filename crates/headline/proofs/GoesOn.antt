@@ -32,7 +32,7 @@ use Rattle.order_laws.proofs.Hart.CopiesTurned.{Pairs}
 use Rattle.order_laws.proofs.Hart.ClaimsTurned.{LeafMoved}
 use Rattle.order_laws.proofs.Hart.HartMachine.{next, answer, Takes, Tip, HartTurned, hart_turned, leaves_after}
 use Rattle.order_laws.proofs.Hart.LeafPlaces.{IsOnlyOf, one_of_number}
-use Rattle.headline.specs.Runs.{IsOrderly}
+use Rattle.order_laws.specs.EveryTurn.{IsOrderly}
 
 -- ---- lists
 

@@ -9,15 +9,16 @@ use Rattle.ddm_types.specs.declared.turns.Turn.{Turn}
 use Rattle.flat_model.specs.Flat.{FlatMachine}
 use Rattle.tree_model.specs.State.Values.{MachineValue}
 use Rattle.tree_model.specs.Turns.Machine.{turn_of, run_of}
-use Rattle.tree_model.specs.Start.Machine.{flat_start_of}
-use Rattle.tree_model.proofs.FrameKept.{turn-shape}
+use Rattle.tree_model.specs.Start.Sources.{TreeValue, ImageValue}
+use Rattle.tree_model.specs.Start.Machine.{start_machine, flat_start_of, start_refusal, start_or, start_of}
 use Rattle.tree_rules.specs.Order.Places.{LeafAt, leaves_at}
-use Rattle.tree_rules.specs.Witness.{EachCauseHolds, op_of_answer, ops_of_answers, halts_hart, some_halts, IsHaltedByTurn, IsRunWitnessed}
-use Rattle.bus_laws.proofs.TreeKept.{turn-keeps_rules}
-use Rattle.order_laws.proofs.EveryTurn.{every_turn-keeps_time}
+use Rattle.tree_rules.specs.Witness.{EachCauseHolds, op_of_answer, ops_of_answers, halts_hart, some_halts, IsHaltedByTurn, IsRunWitnessed, EachTurnWitnessed}
+use Rattle.bus_laws.specs.IsTree.{IsTree}
+use Rattle.order_laws.specs.EveryTurn.{IsOrderly}
+use Rattle.order_laws.proofs.EveryTurn.{turn-orderly, run-orderly}
 use Rattle.order_laws.proofs.Hart.CopiesTurned.{Pairs}
 use Rattle.order_laws.proofs.Hart.HartMachine.{ops_with, ops_after}
-use Rattle.headline.specs.Runs.{IsOrderly, TurnKeepsCore, EveryRunIsWitnessed}
+use Rattle.headline.specs.Runs.{EveryRunIsWitnessed}
 use Rattle.headline.proofs.Leaves.{each_leaf}
 use Rattle.headline.proofs.Witnessed.{witnessed}
 use Rattle.headline.proofs.StartOrder.{start-orderly}
@@ -43,61 +44,55 @@ run-ops (t ∷ ts) m =
     let next : MachineValue = (turn_of t m).machine in
     run-ops ts next ∙ ap (λ ops. ops ++ ops_of_answers (run_of ts next).answers) (ops_after t m ∙ answer-ops (turn_of t m).answer m.ops) ∙ append_assoc m.ops (op_of_answer (turn_of t m).answer) (ops_of_answers (run_of ts next).answers)
 
-module _ (kept : TurnKeepsCore) where
-  -- ---- the rules
+-- ---- harts
 
-  pub turn-orderly : (s : FlatMachine) (m : MachineValue) (t : Turn) → IsOrderly s m → IsOrderly s (turn_of t m).machine
-  turn-orderly s m t r = record { shaped = turn-shape t m r.shaped; buses = turn-keeps_rules t m r.buses; timed = every_turn-keeps_time t m r.shaped r.buses r.timed; core = kept t m s r.shaped r.buses r.timed r.core }
+-- a hart that hasn't halted after the turns was halted by none of them
+record RunsOn (ts : List Turn) (answers : List TurnAnswer) (before after : LeafAt) : Type 0 where
+  number : after.leaf.number ≡ before.leaf.number
+  running : after.leaf.hart.halt ≡ None → (before.leaf.hart.halt ≡ None) × (some_halts after.leaf.number ts answers ≡ false)
 
-  pub run-orderly : (s : FlatMachine) (m : MachineValue) (ts : List Turn) → IsOrderly s m → IsOrderly s (run_of ts m).machine
-  unfolding run_of
-  run-orderly s m [] r = r
-  run-orderly s m (t ∷ ts) r = run-orderly s (turn_of t m).machine ts (turn-orderly s m t r)
+neither : (a b : Bool) → a ≡ false → b ≡ false → (a || b) ≡ false
+neither false b e k = k
+neither true b e k = absurd (let wrong : ⊥ = cc in wrong)
 
-  -- ---- harts
+on-joined : (t : Turn) (ts : List Turn) (a : TurnAnswer) (answers : List TurnAnswer) (x y z : LeafAt) → GoesOn t a x y → RunsOn ts answers y z → RunsOn (t ∷ ts) (a ∷ answers) x z
+on-joined t ts a answers x y z g r = record {
+  number = r.number ∙ g.number;
+  running = λ e.
+      let later = r.running e in
+      let here = g.running later.0 in
+      (here.0, neither (halts_hart z.leaf.number t a) (some_halts z.leaf.number ts answers) (ap (λ n. halts_hart n t a) r.number ∙ here.1) later.1);
+}
 
-  -- a hart that hasn't halted after the turns was halted by none of them
-  record RunsOn (ts : List Turn) (answers : List TurnAnswer) (before after : LeafAt) : Type 0 where
-    number : after.leaf.number ≡ before.leaf.number
-    running : after.leaf.hart.halt ≡ None → (before.leaf.hart.halt ≡ None) × (some_halts after.leaf.number ts answers ≡ false)
+run-on : (s : FlatMachine) (ts : List Turn) (m : MachineValue) → IsOrderly s m → Pairs (RunsOn ts (run_of ts m).answers) (leaves_at m) (leaves_at (run_of ts m).machine)
+unfolding run_of
+run-on s [] m r = pairs-each_same _ (λ a. record { number = refl; running = λ e. (e, refl) }) (leaves_at m)
+run-on s (t ∷ ts) m r =
+    let next : MachineValue = (turn_of t m).machine in
+    pairs-joined (GoesOn t (turn_of t m).answer) (RunsOn ts (run_of ts next).answers) _ (λ x y z g k. on-joined t ts (turn_of t m).answer (run_of ts next).answers x y z g k) (leaves_at m) (leaves_at next) (leaves_at (run_of ts next).machine)
+    (turn-goes_on s m t r) (run-on s ts next (turn-orderly s m t r))
 
-  neither : (a b : Bool) → a ≡ false → b ≡ false → (a || b) ≡ false
-  neither false b e k = k
-  neither true b e k = absurd (let wrong : ⊥ = cc in wrong)
+-- ---- whole runs
 
-  on-joined : (t : Turn) (ts : List Turn) (a : TurnAnswer) (answers : List TurnAnswer) (x y z : LeafAt) → GoesOn t a x y → RunsOn ts answers y z → RunsOn (t ∷ ts) (a ∷ answers) x z
-  on-joined t ts a answers x y z g r = record {
-    number = r.number ∙ g.number;
-    running = λ e.
-        let later = r.running e in
-        let here = g.running later.0 in
-        (here.0, neither (halts_hart z.leaf.number t a) (some_halts z.leaf.number ts answers) (ap (λ n. halts_hart n t a) r.number ∙ here.1) later.1);
-  }
+causes-hold : (s : FlatMachine) (ts : List Turn) (m : MachineValue) → IsOrderly s m → EachCauseHolds ts m
+causes-hold s [] m r = tt
+causes-hold s (t ∷ ts) m r = (busy-has_cause t m r.shaped r.buses, causes-hold s ts (turn_of t m).machine (turn-orderly s m t r))
 
-  run-on : (s : FlatMachine) (ts : List Turn) (m : MachineValue) → IsOrderly s m → Pairs (RunsOn ts (run_of ts m).answers) (leaves_at m) (leaves_at (run_of ts m).machine)
-  unfolding run_of
-  run-on s [] m r = pairs-each_same _ (λ a. record { number = refl; running = λ e. (e, refl) }) (leaves_at m)
-  run-on s (t ∷ ts) m r =
-      let next : MachineValue = (turn_of t m).machine in
-      pairs-joined (GoesOn t (turn_of t m).answer) (RunsOn ts (run_of ts next).answers) _ (λ x y z g k. on-joined t ts (turn_of t m).answer (run_of ts next).answers x y z g k) (leaves_at m) (leaves_at next) (leaves_at (run_of ts next).machine)
-      (turn-goes_on s m t r) (run-on s ts next (turn-orderly s m t r))
-
-  -- ---- whole runs
-
-  causes-hold : (s : FlatMachine) (ts : List Turn) (m : MachineValue) → IsOrderly s m → EachCauseHolds ts m
-  causes-hold s [] m r = tt
-  causes-hold s (t ∷ ts) m r = (busy-has_cause t m r.shaped r.buses, causes-hold s ts (turn_of t m).machine (turn-orderly s m t r))
-
-  pub run-witnessed : (s : FlatMachine) (ts : List Turn) (m : MachineValue) → IsOrderly s m → IsRunWitnessed s ts m
-  run-witnessed s ts m r =
-      let after = run-orderly s m ts r in
-      record {
-        machine = witnessed s (run_of ts m).machine after.shaped after.buses after.timed after.core;
-        ops = run-ops ts m;
-        running = each_leaf (run_of ts m).machine (IsHaltedByTurn ts (run_of ts m).answers) (pairs-second (RunsOn ts (run_of ts m).answers) _ (λ a b k e. (k.running e).1) (leaves_at m) (leaves_at (run_of ts m).machine) (run-on s ts m r));
-        causes = causes-hold s ts m r;
-      }
+pub run-witnessed : (s : FlatMachine) (ts : List Turn) (m : MachineValue) → IsOrderly s m → IsRunWitnessed s ts m
+run-witnessed s ts m r =
+    let after = run-orderly s m ts r in
+    record {
+      machine = witnessed s (run_of ts m).machine after.shaped after.buses after.timed after.core;
+      ops = run-ops ts m;
+      running = each_leaf (run_of ts m).machine (IsHaltedByTurn ts (run_of ts m).answers) (pairs-second (RunsOn ts (run_of ts m).answers) _ (λ a b k e. (k.running e).1) (leaves_at m) (leaves_at (run_of ts m).machine) (run-on s ts m r));
+      causes = causes-hold s ts m r;
+    }
 
 -- after each of the turns from the start
 pub each-turn : EveryRunIsWitnessed
-each-turn kept t i m tree built ts k = run-witnessed kept (flat_start_of t i) (take k ts) m (start-orderly t i m tree built)
+each-turn t i m tree built ts k = run-witnessed (flat_start_of t i) (take k ts) m (start-orderly t i m tree built)
+
+-- the same of the machine that is made where nothing is refused
+pub start-witnessed : (t : TreeValue) (i : ImageValue) (ts : List Turn) → IsTree t → start_refusal t i ≡ None → EachTurnWitnessed (flat_start_of t i) ts (start_machine t i)
+unfolding start_of
+start-witnessed t i ts tree none = each-turn t i (start_machine t i) tree (ap (λ o. start_or o t i) none) ts

@@ -36,7 +36,8 @@ use Rattle.bus_laws.proofs.StartKept.{start-kept}
 use Rattle.order_lists.proofs.Filters.{each-weaker, each-append}
 use Rattle.order_lists.proofs.Moments.{less-irreflexive, same_numbers-itself}
 use Rattle.order_laws.proofs.Hart.Halting.{is_flat}
-use Rattle.headline.specs.Runs.{IsOrderly, StartIsOrderly}
+use Rattle.order_laws.specs.EveryTurn.{IsOrderly}
+use Rattle.headline.specs.Runs.{StartIsOrderly}
 use Rattle.headline.proofs.StartFresh.{IsFreshLeaf, IsFreshDir, IsFresh, AreFresh, IsFreshMachine, start-fresh}
 use Rattle.headline.proofs.StartCopies.{parted-under, IsStartCopy}
 use Rattle.headline.proofs.StartPlace.{IsOnePlace, copies-start, machine-one_place}

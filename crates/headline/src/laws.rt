@@ -1,7 +1,7 @@
 //! What follows from the core rules of order, as theorems: there is nothing to run.
 
 ghost use Rattle.headline.specs.Follows.{WitnessFollows, WrittenFollows};
-ghost use Rattle.headline.specs.Runs.{StartIsOrderly, RunStaysOrderly, EveryRunIsWitnessed};
+ghost use Rattle.headline.specs.Runs.{StartIsOrderly, EveryRunIsWitnessed};
 ghost use Rattle.headline.specs.Causes.{BusyHasItsCause};
 ghost use Rattle.headline.specs.Conditional.{ConditionalStoresJudged};
 
@@ -15,11 +15,6 @@ pub fn order_follows()
 /// The machine of a tree and an image starts in order, from the flat machine of the same tree and image.
 pub fn start_is_in_order()
     ensures { StartIsOrderly }
-{}
-
-/// Where every turn keeps the core rules, a run keeps all that makes a machine be in order.
-pub fn run_stays_in_order()
-    ensures { RunStaysOrderly }
 {}
 
 /// The order theorem: for every tree and image from which a machine is made and every list of turns, after each turn the machine's
