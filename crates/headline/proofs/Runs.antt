@@ -18,9 +18,10 @@ use Rattle.order_laws.specs.EveryTurn.{IsOrderly}
 use Rattle.order_laws.proofs.EveryTurn.{turn-orderly, run-orderly}
 use Rattle.order_laws.proofs.Hart.CopiesTurned.{Pairs}
 use Rattle.order_laws.proofs.Hart.HartMachine.{ops_with, ops_after}
-use Rattle.headline.specs.Runs.{EveryRunIsWitnessed}
+use Rattle.headline.specs.Runs.{EveryRunIsWitnessed, EveryRunIsInOrder}
 use Rattle.headline.proofs.Leaves.{each_leaf}
 use Rattle.headline.proofs.Witnessed.{witnessed}
+use Rattle.headline.proofs.Written.{written-follows}
 use Rattle.headline.proofs.StartOrder.{start-orderly}
 use Rattle.headline.proofs.BusyCauses.{busy-has_cause}
 use Rattle.headline.proofs.GoesOn.{GoesOn, turn-goes_on, pairs-each_same, pairs-joined, pairs-second}
@@ -96,3 +97,9 @@ each-turn t i m tree built ts k = run-witnessed (flat_start_of t i) (take k ts) 
 pub start-witnessed : (t : TreeValue) (i : ImageValue) (ts : List Turn) → IsTree t → start_refusal t i ≡ None → EachTurnWitnessed (flat_start_of t i) ts (start_machine t i)
 unfolding start_of
 start-witnessed t i ts tree none = each-turn t i (start_machine t i) tree (ap (λ o. start_or o t i) none) ts
+
+-- all rules at the end of a run
+pub run-in_order : EveryRunIsInOrder
+run-in_order t i m tree built ts =
+    let after = run-orderly (flat_start_of t i) m ts (start-orderly t i m tree built) in
+    (after.buses, record { timed = after.timed; core = after.core; written = written-follows (flat_start_of t i) (run_of ts m).machine after.shaped after.buses after.timed after.core })

@@ -1,7 +1,7 @@
 //! What follows from the core rules of order, as theorems: there is nothing to run.
 
 ghost use Rattle.headline.specs.Follows.{WitnessFollows, WrittenFollows};
-ghost use Rattle.headline.specs.Runs.{StartIsOrderly, EveryRunIsWitnessed};
+ghost use Rattle.headline.specs.Runs.{StartIsOrderly, EveryRunIsWitnessed, EveryRunIsInOrder};
 ghost use Rattle.headline.specs.Causes.{BusyHasItsCause};
 ghost use Rattle.headline.specs.Conditional.{ConditionalStoresJudged};
 
@@ -19,8 +19,10 @@ pub fn start_is_in_order()
 
 /// The order theorem: for every tree and image from which a machine is made and every list of turns, after each turn the machine's
 /// operations in key order are one run of the flat machine, and harts, words, answers and causes are that run's.
+/// And at the end of every run all rules of order hold, and those of every bus.
 pub fn each_turn_is_witnessed()
-    ensures { EveryRunIsWitnessed }
+    ensures witnessed { EveryRunIsWitnessed }
+    ensures rules { EveryRunIsInOrder }
 {}
 
 /// A turn that answers busy names a cause that is a fact of the machine before it.
