@@ -1,27 +1,15 @@
--- What is beside a directory, in paths and in moments; and a leaf's entry that has words.
+-- What is beside a directory, in paths and in moments.
 -- directory that holds the item Exclusive is over (6), and changes are known (9).
-use Rattle.std.proofs.Common.{◌≡◌, ℕ, ◌<◌, ◌≤◌, Bool, true, false, not, ◌&&◌, nat_eq, nat_lt, ◌⊎◌, inl, inr, List, [], ◌∷◌, ◌++◌, length, take, Option, Some, None, option_map, refl, sym, ap, subst, ◌∙◌, arith}
+use Rattle.std.proofs.Common.{◌≡◌, ℕ, ◌<◌, Bool, true, false, not, ◌&&◌, nat_eq, nat_lt, ◌⊎◌, inl, inr, List, [], ◌∷◌, ◌++◌, length, take, Option, Some, None, refl, sym, ap, subst, ◌∙◌, arith}
 use Rattle.std.specs.Prelude.{IfSome}
 use Rattle.std.specs.List.{AllByRecursion}
 use Rattle.std.proofs.lemmas.Bool.{and_parts, not-true, true≢false, false≢true, eqb-true, eq-eqb, ltb-true}
-use Rattle.std.proofs.lemmas.List.{take-append-le}
-use Rattle.tree_model.specs.State.States.{is_held, entry_hold}
-use Rattle.tree_model.specs.State.Values.{LeafValue}
-use Rattle.tree_model.specs.State.Leaf.{LeafEntry, entry_state, leaf_entry, leaf_hold}
 use Rattle.tree_rules.specs.Order.Moments.{less, less_at, before, parted, is_under, same_numbers, GoesOn}
 use Rattle.tree_rules.specs.Order.Places.{DirAt, dir_path}
 use Rattle.tree_rules.specs.Order.Written as written
 use Rattle.order_lists.proofs.Moments.{less-parts, less-head, less-tail, less-least, same_numbers-itself}
 
 -- ---- lists of numbers
-
-pub less-longer : (a b t : List ℕ) → less a b ≡ true → less a (b ++ t) ≡ true
-less-longer a [] t h = absurd (let wrong : ⊥ = cc in wrong)
-less-longer [] (n ∷ b) t h = refl
-less-longer (m ∷ a) (n ∷ b) t h = go (less-parts m n a b h) (less-longer a b t) where
-  go : (m < n) ⊎ ((m ≡ n) × (less a b ≡ true)) → (less a b ≡ true → less a (b ++ t) ≡ true) → less (m ∷ a) (n ∷ (b ++ t)) ≡ true
-  go (inl i) rest = less-head m n a (b ++ t) i
-  go (inr i) rest = less-tail m n a (b ++ t) i.0 (rest i.1)
 
 -- what is less is before, too
 pub less-before : (a b : List ℕ) → less a b ≡ true → before a b ≡ true
@@ -35,9 +23,6 @@ less-before (m ∷ a) (n ∷ b) h = go (less-parts m n a b h) (less-before a b) 
 -- what is before a moment at its bus is before that from which it goes on
 pub before-goes_on : (n : ℕ) (key f e : List ℕ) → n ≡ length e → less_at n key f ≡ true → GoesOn f e → before key e ≡ true
 before-goes_on n key f e at h g = less-least (take (length e) key) (take (length e) f) e (subst (λ k. less_at k key f ≡ true) at h) g.at_most
-
-pub shorter-before : (k t e : List ℕ) → length e ≤ length k → before k e ≡ true → before (k ++ t) e ≡ true
-shorter-before k t e l h = ap (λ q. less q e) (take-append-le (length e) k t l) ∙ h
 
 -- a path beside: where it parts from what is under the child
 pub beside-parted : (above : List ℕ) (n : ℕ) (place path : List ℕ) → is_under (above ++ n ∷ []) place ≡ true → is_under above path ≡ true → is_under (above ++ n ∷ []) path ≡ false → parted place path ≡ length above
@@ -74,20 +59,6 @@ beside-facts c path h =
 
 pub not_same : (a b : List ℕ) → same_numbers a b ≡ false → a ≡ b → ⊥
 not_same a b h e = true≢false (sym (same_numbers-itself b) ∙ subst (λ k. same_numbers k b ≡ false) e h)
-
--- ---- entries
-
-pub record HasEntry (x : ℕ) (v : LeafValue) : Type 0 where
-  pub entry : LeafEntry
-  pub is : leaf_entry x v ≡ Some entry
-  pub held : is_held (entry_hold (Some entry.state)) ≡ true
-
-pub held-entry : (x : ℕ) (v : LeafValue) → is_held (leaf_hold x v) ≡ true → HasEntry x v
-unfolding leaf_hold
-held-entry x v h = go (leaf_entry x v) refl h where
-  go : (o : Option LeafEntry) → leaf_entry x v ≡ o → is_held (entry_hold (option_map entry_state o)) ≡ true → HasEntry x v
-  go None is held = absurd (let wrong : ⊥ = cc in wrong)
-  go (Some e) is held = record { entry = e; is = is; held = held }
 
 -- of each element a fact where there is an end
 pub some-each : {X : Type 0} (o : Option (List ℕ)) (P : List ℕ → X → Type 0) (xs : List X) → IfSome o (λ e. AllByRecursion (P e) xs) → AllByRecursion (λ z. IfSome o (λ e. P e z)) xs

@@ -2,7 +2,6 @@
 use Rattle.std.proofs.Common.{◌≡◌, ℕ, ◌+◌, Bool, true, false, List, [], ◌++◌, filter, Option, Some, None, Result, Ok, refl, sym, ap, subst, ◌∙◌}
 use Rattle.std.specs.Prelude.{option_and_then, ⊤}
 use Rattle.std.specs.List.{AllByRecursion}
-use Rattle.std.proofs.lemmas.Bool.{eqb-true}
 use Rattle.ddm_types.specs.declared.answers.TurnAnswer.{TurnAnswer}
 use Rattle.ddm_types.specs.declared.operations.Effect.{Effect}
 use Rattle.ddm_types.specs.declared.operations.Effect.TheVariants.{Plain, Put, Load, Store, Lr, ScOk, ScFail, Amo}
@@ -39,6 +38,7 @@ use Rattle.order_laws.proofs.Hart.LeafPlaces.{IsOnlyOf}
 use Rattle.order_laws.proofs.Hart.FromRules.{facts_from_rules}
 use Rattle.order_laws.proofs.Hart.Completed.{whole_words}
 use Rattle.order_laws.proofs.Hart.ReservedKept.{is_split, before_now}
+use Rattle.order_laws.proofs.Grant.ReservedKept.{reserved-is}
 use Rattle.order_laws.proofs.Hart.Seen.{Before, flat, OpSeen, ops_seen, differ, new, now_is, done, flat_run}
 use Rattle.headline.specs.Conditional.{reservation_of, IsJudged, ConditionalStoresJudged}
 use Rattle.headline.proofs.Standing.{StandsIn, in_here, in_below, StandsAmong, in_first, in_later}
@@ -104,10 +104,6 @@ legal-first code items s z first rest e = go (legal_run code items s first) refl
   go : (o : Option FlatMachine) → legal_run code items s first ≡ o → (y : FlatMachine) × (legal_run code items s first ≡ Some y)
   go None i = absurd (let none : None ≡ Some z = sym (ap (option_and_then (λ n. legal_run code items n rest)) i) ∙ sym (legal_run_append code items s first rest) ∙ e in let wrong : ⊥ = cc in wrong)
   go (Some y) i = (y, i)
-
-reserved-is : (r : Option ℕ) (x : ℕ) → has_reserved r x ≡ true → r ≡ Some x
-reserved-is None x h = absurd (let wrong : ⊥ = cc in wrong)
-reserved-is (Some y) x h = ap Some (eqb-true y x h)
 
 -- ---- a turn that completes
 

@@ -8,7 +8,8 @@ use Rattle.tree_model.specs.State.Place.{at_top}
 use Rattle.tree_model.specs.Turns.Tree.{leaf_of_number, bus_of_number, of_leaf, of_dir}
 use Rattle.tree_model.specs.Turns.Machine.{ask_leaf, ask_bus}
 use Rattle.tree_rules.specs.Witness.{is_told}
-use Rattle.headline.proofs.Standing.{StandsIn, named_in, named_among, read-one, one_if}
+use Rattle.bus_laws.proofs.StartSums.{one_if}
+use Rattle.headline.proofs.Standing.{StandsIn, named_in, named_among, read-one}
 
 -- ---- numbers
 

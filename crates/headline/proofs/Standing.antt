@@ -6,6 +6,7 @@ use Rattle.tree_model.specs.State.Values.{DirValue, Node, Nodes, leaf_node, dir_
 use Rattle.tree_model.specs.State.Place.{Where, at_child, where_path, spot_in}
 use Rattle.tree_model.specs.Turns.Tree.{Name, is_named, has_node, has_among, read_in, read_among}
 use Rattle.tree_rules.specs.Bus.Rules.{IsTreeOk, AreTreesOk}
+use Rattle.bus_laws.proofs.StartSums.{one_if}
 
 -- ---- a node of a tree
 
@@ -41,9 +42,6 @@ mutual
 or-second : (a b : Bool) → b ≡ true → (a || b) ≡ true
 or-second true b e = refl
 or-second false b e = e
-
-abbrev pub one_if : Bool → ℕ
-one_if b = if b then 1 else 0
 
 module _ (name : Name) where
   abbrev mutual

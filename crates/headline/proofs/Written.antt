@@ -36,12 +36,12 @@ use Rattle.order_lists.proofs.State.{all_ordered, ops_at_depth, copies_timely, c
 use Rattle.order_lists.proofs.Contracts.{exclusive-alone}
 use Rattle.order_laws.specs.Moves.Moved.{In}
 use Rattle.order_laws.proofs.Moves.Sources.{each-in}
-use Rattle.order_laws.proofs.Grant.ReservedKept.{each-member}
+use Rattle.order_laws.proofs.Grant.ReservedKept.{each-member, HeldEntry, held-entry}
 use Rattle.order_laws.proofs.Hart.LeafPlaces.{IsPlaced, all_placed}
-use Rattle.order_laws.proofs.Hart.Ready.{CopyOf, HasItsCopy, entry_copy}
+use Rattle.order_laws.proofs.Hart.Ready.{CopyOf, HasItsCopy, entry_copy, less-append, before-append}
 use Rattle.headline.proofs.CopyPlaces.{IsEntryOf, IsEntryAt, entries-at, IsKnownBelow, known-below}
 use Rattle.headline.proofs.DirClaims.{ClaimOf, IsClaimed, since-length, all-claimed}
-use Rattle.headline.proofs.Beside.{IsBeside, HasEntry, less-longer, less-before, before-goes_on, shorter-before, beside-parted, beside-facts, not_same, held-entry, some-each}
+use Rattle.headline.proofs.Beside.{IsBeside, less-before, before-goes_on, beside-parted, beside-facts, not_same, some-each}
 
 module _ (s : FlatMachine) (m : MachineValue) (shaped : IsShaped m) (ok : IsMachineOk m) (timed : IsTimed m) (core : IsCore s m) (x : ℕ) (below : x < items_of_machine m) where
   abbrev depth : ℕ
@@ -67,7 +67,7 @@ module _ (s : FlatMachine) (m : MachineValue) (shaped : IsShaped m) (ok : IsMach
 
       go : (o : Option (List ℕ)) → IfSome o (λ e. length e < moment_length (length a.spot.above)) → IfSome o (λ e. before k.clock e ≡ true) → Holds (if_there (λ e. is_so (before (leaf_now a) e)) o)
       go None short h = tt
-      go (Some e) short h = shorter-before (spot_moment a.spot) (a.spot.number ∷ a.leaf.done ∷ []) e (omega (arith, short, clock)) (subst (λ c. before c e ≡ true) is.clock h)
+      go (Some e) short h = before-append (spot_moment a.spot) (a.spot.number ∷ a.leaf.done ∷ []) e (omega (arith, short, clock)) (subst (λ c. before c e ≡ true) is.clock h)
 
   -- ---- 5
 
@@ -180,10 +180,10 @@ module _ (s : FlatMachine) (m : MachineValue) (shaped : IsShaped m) (ok : IsMach
             not_ended (Some e) short b p = true≢false (sym p ∙ before-not_past (op_key depth o) e (b (inr (omega (arith, short, parted_at)))))
 
             go : (less (op_key depth o) c.copy.clock ≡ true) ⊎ Holds (ended_before c.copy (op_key depth o)) → less (op_key depth o) (leaf_now a) ≡ true
-            go (inl l) = ap (less (op_key depth o)) c.now ∙ less-longer (op_key depth o) c.copy.clock c.tail l
+            go (inl l) = ap (less (op_key depth o)) c.now ∙ less-append (op_key depth o) c.copy.clock c.tail l
             go (inr p) = absurd (not_ended c.copy.end own.end h.1 p)
 
-    by_entry : (a : LeafAt) → IsAtDepth depth a → AllByRecursion (IsEntryAt a) (copies_of x m) → HasEntry x a.leaf → HasItsCopy x IsHere a → Holds (each (written.knows_beside depth m.items x a) m.ops)
+    by_entry : (a : LeafAt) → IsAtDepth depth a → AllByRecursion (IsEntryAt a) (copies_of x m) → HeldEntry x a.leaf → HasItsCopy x IsHere a → Holds (each (written.knows_beside depth m.items x a) m.ops)
     by_entry a deep entries f copy = by_copy a deep entries f.entry (copy f.entry f.is f.held)
 
   dirs_are_told : AllByRecursion (λ k. AllByRecursion (λ c. Holds (written.dir_knows_changes depth m.items m.ops x k c)) (dirs_at m)) (copies_of x m)

@@ -72,14 +72,14 @@ pub record HeldEntry (y : ℕ) (v : LeafValue) : Type 0 where
   pub is : leaf_entry y v ≡ Some entry
   pub held : is_held (entry_hold (Some entry.state)) ≡ true
 
-held-entry : (y : ℕ) (v : LeafValue) → is_held (leaf_hold y v) ≡ true → HeldEntry y v
+pub held-entry : (y : ℕ) (v : LeafValue) → is_held (leaf_hold y v) ≡ true → HeldEntry y v
 unfolding leaf_hold
 held-entry y v h = go (leaf_entry y v) refl h where
   go : (o : Option LeafEntry) → leaf_entry y v ≡ o → is_held (entry_hold (option_map entry_state o)) ≡ true → HeldEntry y v
   go None is held = cc
   go (Some e) is held = record { entry = e; is = is; held = held }
 
-reserved-is : (q : Option ℕ) (y : ℕ) → has_reserved q y ≡ true → q ≡ Some y
+pub reserved-is : (q : Option ℕ) (y : ℕ) → has_reserved q y ≡ true → q ≡ Some y
 reserved-is None y h = cc
 reserved-is (Some z) y h = ap Some (eqb-true z y h)
 
