@@ -1,6 +1,5 @@
 -- The copies of an item before the first turn: they have no end and the start's words; who doesn't hold the item has neither a copy
 -- of it nor a claim.
--- the item is that leaf or a directory over it.
 use Rattle.std.proofs.Common.{◌≡◌, ℕ, ◌+◌, ◌<◌, Bool, true, false, inl, inr, List, [], ◌∷◌, length, map, Option, Some, None, is_some, option_map, refl, sym, ap, subst, ◌∙◌, arith}
 use Rattle.std.specs.Prelude.{slice_index_or, nat_eq}
 use Rattle.std.specs.List.{AllByRecursion, list_any}
