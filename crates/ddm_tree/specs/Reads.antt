@@ -1,18 +1,21 @@
 -- What is read of a leaf, or of a directory and its children, where a node is known to be one.
 -- Letters: n is a node, v a leaf, d a directory over the nodes ns, x an item, c a child.
 -- To be believed with the contracts: it is what the calls that read give.
-use Rattle.std.specs.Prelude.{ℕ, List, length, Option, Some, None, slice_get}
+use Rattle.std.specs.Prelude.{ℕ, List, length, Option, Some, None, option_map, slice_get}
 use Rattle.ddm_types.specs.declared.sizes.Hold.{Hold}
 use Rattle.ddm_types.specs.declared.sizes.LeafState.{LeafState}
 use Rattle.rv_hart.specs.HartState.{HartState}
+use Rattle.tree_model.specs.declared.CopyPlace.{CopyPlace}
 use Rattle.tree_model.specs.declared.LeafSpot.{LeafSpot}
 use Rattle.tree_model.specs.declared.TreeChild.{TreeChild}
-use Rattle.tree_model.specs.State.Values.{DownValue, Node, leaf_node, dir_node, children, MachineValue}
+use Rattle.tree_model.specs.State.Lists.{first_some}
+use Rattle.tree_model.specs.State.Values.{DownValue, DirValue, Node, leaf_node, dir_node, children, MachineValue}
 use Rattle.tree_model.specs.State.Blank.{no_hart}
 use Rattle.tree_model.specs.State.Leaf.{LeafEntry, leaf_entry, spot_at}
-use Rattle.tree_model.specs.State.Directory.{parked_words, parked_place}
+use Rattle.tree_model.specs.State.Directory.{parked_words, parked_place, queue_of}
 use Rattle.tree_model.specs.State.Child.{child_label, child_hold}
 use Rattle.tree_model.specs.Turns.Children.{child_at}
+use Rattle.tree_model.specs.Turns.Found.{down_place, queue_words}
 use Rattle.tree_model.specs.Turns.Machine.{ask_leaf, ask_bus}
 
 -- a leaf's hart, with how many instructions it has completed
@@ -56,6 +59,13 @@ copy_pair None words = None
 abbrev pub node_parked : ℕ → Node → Option (ℕ × List ℕ)
 node_parked x (leaf_node v) = None
 node_parked x (dir_node d ns) = copy_pair (parked_place x d) (parked_words x d)
+
+-- a directory's own copy: the last one in its down list, else the parked one
+abbrev pub own_place : ℕ → DirValue → Option CopyPlace
+own_place x d = first_some (option_map (λ k. CopyPlace.DownList d.bus k) (down_place x 0 d.down)) (option_map (λ k. CopyPlace.Parking d.bus k) (parked_place x d))
+
+abbrev pub own_words : ℕ → DirValue → Option (List ℕ)
+own_words x d = first_some (queue_words (queue_of x d.down)) (parked_words x d)
 
 -- ---- what is read of a machine
 

@@ -8,6 +8,7 @@ use crate::below::{
     child_under, children_under, down_under, entry_under, hart_under, hold_under, parked_under,
     stamp_under, turn_under,
 };
+use crate::found::{Found, found_among, own_copy};
 use crate::named::Named;
 use crate::paths::path_up_under;
 use crate::subtree::Subtree;
@@ -197,6 +198,13 @@ impl<const WORDS: usize, C: Subtree<WORDS>> Subtree<WORDS> for Dir<WORDS, C> {
             Some((place, words))
         } else {
             parked_under(&self.state, &self.children, bus, path, item)
+        }
+    }
+
+    fn found_below(&self, item: ItemId) -> Option<Found<WORDS>> {
+        match own_copy(&self.state, item) {
+            Some(found) => Some(found),
+            None => found_among(&self.children, item),
         }
     }
 }

@@ -1,3 +1,4 @@
+use crate::found::{Found, place_at};
 use crate::named::Named;
 use crate::subtree::Subtree;
 use crate::turns::{key_on, victim};
@@ -76,5 +77,11 @@ impl<const WAYS: usize, const WORDS: usize> Subtree<WORDS> for Leaf<WAYS, WORDS>
         _item: ItemId,
     ) -> Option<(u32, Words<WORDS>)> {
         None
+    }
+
+    fn found_below(&self, item: ItemId) -> Option<Found<WORDS>> {
+        let (_, words, spot) = self.entry(item)?;
+        let at = place_at(self.number(), spot);
+        Some(Found { at, words })
     }
 }

@@ -1,7 +1,8 @@
 ghost use Rattle.std.specs.Prelude.{◌≡◌, ◌<◌, Some, is_some, true, map, option_copied, vec_items};
 ghost use Rattle.ddm_types.specs.ItemTable.{item_count};
-ghost use Rattle.tree_model.specs.State.Shape.{tree_counts};
+ghost use Rattle.tree_model.specs.State.Shape.{IsShaped, tree_counts};
 ghost use Rattle.tree_model.specs.State.Values.{root_of};
+ghost use Rattle.tree_model.specs.Turns.Found.{found_copy};
 ghost use Rattle.tree_model.specs.Turns.Machine.{child_count, child_hold_of, child_of, down_entry_of, granted_of, grants_of, is_child_of, now_of};
 ghost use Rattle.tree_model.specs.Turns.Tree.{leaf_of_number, bus_of_number};
 ghost use Rattle.ddm_tree.specs.Machine.{is_part};
@@ -12,6 +13,7 @@ use crate::below::{
     child_under, children_under, down_under, entry_under, hart_under, hold_under, parked_under,
     stamp_under,
 };
+use crate::found::{Found, found_among};
 use crate::machine::Machine;
 use crate::subtree::Subtree;
 use crate::turns::key_on;
@@ -52,7 +54,8 @@ impl<const WORDS: usize, C: Subtree<WORDS>> Machine<WORDS, C> {
 
     /// How many leaves, buses and levels of buses the tree has.
     pub fn counts(&self) -> TreeCounts
-        ensures { result ≡ tree_counts self.now.machine }
+        ensures counts { result ≡ tree_counts self.now.machine }
+        ensures shape { IsShaped self.now.machine }
     {
         self.counts
     }
@@ -148,6 +151,21 @@ impl<const WORDS: usize, C: Subtree<WORDS>> Machine<WORDS, C> {
         ensures { Leads (bus_of_number bus) result.now (root_of self.now.machine) }
     {
         &self.bus_paths[bus.0 as usize]
+    }
+
+    /// The found copy of an item.
+    pub fn found(&self, item: ItemId) -> Option<Found<WORDS>>
+        requires { item < item_count self.now.machine.items }
+        ensures { result ≡ found_copy item self.now.machine }
+    {
+        found_among(&self.children, item)
+    }
+
+    /// For each bus how many transactions of each kind it has granted.
+    pub fn traffic(&self) -> &[Traffic]
+        ensures { result.now ≡ self.now.machine.traffic }
+    {
+        &self.traffic
     }
 
     /// How many transactions of a kind a bus has granted.
