@@ -1,15 +1,12 @@
 -- The found copy: among children while a loop goes over them, seen through f; and a directory's own before theirs.
-use Rattle.std.proofs.Common.{◌≡◌, ◌<◌, ◌≤◌, ℕ, zero, suc, ◌+◌, Bool, true, false, not, List, [], ◌∷◌, length, map, drop, get_or, filter, Option, Some, None, option_map, refl, sym, ap, ◌∙◌, arith, add-one, All, cond}
-use Rattle.std.specs.Prelude.{is_some, nat_lt, if◌then◌else◌}
-use Rattle.std.specs.List.{position_or_len}
-use Rattle.std.proofs.lemmas.Bool.{ltb-true, ltb-false, lt-ltb, le-ltb}
+use Rattle.std.proofs.Common.{◌≡◌, ◌<◌, ◌≤◌, ℕ, ◌+◌, Bool, true, false, List, ◌∷◌, length, map, drop, get_or, Option, Some, None, option_map, refl, sym, ap, ◌∙◌, arith, add-one, All}
+use Rattle.std.specs.Prelude.{if◌then◌else◌}
 use Rattle.std.proofs.lemmas.List.Elements.{All-nil, All-cons}
 use Rattle.std.proofs.lemmas.List.{drop_all}
-use Rattle.tree_model.specs.State.Lists.{first_of, first_some}
-use Rattle.tree_model.specs.State.Values.{CopyValue, DirValue, Node, Nodes, dir_node, no_nodes, more_nodes, nodes, children}
+use Rattle.tree_model.specs.State.Lists.{first_some}
+use Rattle.tree_model.specs.State.Values.{DirValue, Node, Nodes, dir_node, no_nodes, more_nodes, nodes, children}
 use Rattle.tree_model.specs.State.Rooms.{dir_within, all_within, all_within_among}
 use Rattle.tree_model.specs.State.Child.{child_holds}
-use Rattle.tree_model.specs.State.Leaf.{is_copy, copy_words, words_of_item}
 use Rattle.tree_model.specs.State.Directory.{parked_place, parked_words, queue_of}
 use Rattle.tree_model.specs.declared.CopyPlace.{CopyPlace}
 use Rattle.tree_model.specs.Turns.Found.{FoundValue, found_of, place_found, place_among, words_found, words_among, down_place, queue_words}
@@ -19,6 +16,7 @@ use Rattle.item_states.specs.Parts.{node_items}
 use Rattle.ddm_tree.specs.Reads.{own_place, own_words}
 use Rattle.ddm_tree.specs.Ready.{IsItemIn}
 use Rattle.ddm_tree.proofs.Gathered.{drop-here}
+use Rattle.ddm_tree.proofs.Places.{none-alike, parked-alike}
 use Rattle.ddm_tree.proofs.Reading.{items-within}
 
 -- of the lowest of these that holds the item
@@ -80,40 +78,7 @@ module _ (x : ℕ) (d : DirValue) (ns : List Node) where
   pub none-own : None ≡ own_place x d → None ≡ own_words x d → copy_among x ns ≡ copy_in x (dir_node d (nodes ns))
   none-own place words = sym (own-first ∙ rw (← place, ← words) refl)
 
--- ---- a copy is parked where it has a place
-
-lt-suc : (a b : ℕ) → nat_lt a b ≡ nat_lt (1 + a) (suc b)
-lt-suc a b =
-    elim (nat_lt a b) as (λ t. nat_lt a b ≡ t → t ≡ nat_lt (1 + a) (suc b)) [
-      | true ↦ λ e.
-          let below : a < b = ltb-true a b e in
-          sym (lt-ltb (1 + a) (suc b) (omega (arith, below)))
-      | false ↦ λ e.
-          let past : b ≤ a = ltb-false a b e in
-          sym (le-ltb (1 + a) (suc b) (omega (arith, past)))
-    ] refl
-
-module _ (p : CopyValue → Bool) where
-  passes-alike : (cs : List CopyValue) → nat_lt (position_or_len p cs) (length cs) ≡ is_some (first_of (map copy_words (filter p cs)))
-  passes-alike [] = refl
-  passes-alike (c ∷ cs) = by_test (p c) (passes-alike cs)
-    where
-      by_test : (b : Bool) → nat_lt (position_or_len p cs) (length cs) ≡ is_some (first_of (map copy_words (filter p cs))) → nat_lt (cond (not b) (1 + position_or_len p cs) 0) (suc (length cs)) ≡ is_some (first_of (map copy_words (cond b (c ∷ filter p cs) (filter p cs))))
-      by_test true e = lt-ltb 0 (suc (length cs)) (omega arith)
-      by_test false e = sym (lt-suc (position_or_len p cs) (length cs)) ∙ e
-
-placed-if : (b : Bool) (k : ℕ) → is_some (cond b (Some k) None) ≡ b
-placed-if true k = refl
-placed-if false k = refl
-
-parked-alike : (x : ℕ) (d : DirValue) → is_some (parked_place x d) ≡ is_some (parked_words x d)
-unfolding words_of_item
-parked-alike x d = placed-if _ _ ∙ passes-alike (is_copy x) d.parked
-
-none-alike : {A B : Type 0} (a : Option A) (b : Option B) → is_some a ≡ is_some b → None ≡ a → None ≡ b
-none-alike None None alike e = refl
-none-alike None (Some b) alike e = cc
-none-alike (Some a) b alike e = cc
+-- ---- no own copy: neither in the down list nor parked
 
 module _ (x : ℕ) (d : DirValue) where
   pub no-own-words : None ≡ queue_words (queue_of x d.down) → None ≡ parked_place x d → None ≡ own_words x d

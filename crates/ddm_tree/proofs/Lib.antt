@@ -13,3 +13,4 @@ pub mod TurnMade
 pub mod FoundCopy
 pub mod Gathered
 pub mod LeafList
+pub mod Places

@@ -2,7 +2,7 @@
 //! granted.
 #![tactic(auto)]
 
-ghost use Rattle.std.specs.Prelude.{◌≡◌, ◌<◌, Some, true, IfOk, slice_index_or};
+ghost use Rattle.std.specs.Prelude.{◌≡◌, ◌<◌, ◌≤◌, Some, true, IfOk, slice_index_or};
 ghost use Rattle.ddm_types.specs.ItemTable.{item_count};
 ghost use Rattle.tree_model.specs.Turns.Found.{found_copy, states_of};
 ghost use Rattle.tree_model.specs.Turns.Machine.{no_traffic};
@@ -34,6 +34,7 @@ pub fn state<const WORDS: usize, C: Subtree<WORDS>>(
     item: ItemId,
     leaf: LeafNo,
 ) -> Option<LeafState>
+    requires small { WORDS ≤ 16 }
     requires leaf { is_part (leaf_of_number leaf) machine.now.machine ≡ true }
     requires item { item < item_count machine.now.machine.items }
     ensures { Some result ≡ state_of leaf item machine.now.machine }
@@ -48,7 +49,8 @@ pub fn states<const WORDS: usize, C: Subtree<WORDS>>(
     machine: &Machine<WORDS, C>,
     item: ItemId,
 ) -> Result<Vec<Option<LeafState>>, NoMemory>
-    requires { item < item_count machine.now.machine.items }
+    requires small { WORDS ≤ 16 }
+    requires item { item < item_count machine.now.machine.items }
     ensures { IfOk result (λ states. states.items ≡ states_of item machine.now.machine) }
 {
     let mut states = Vec::new(alloc);

@@ -1,7 +1,6 @@
-use Rattle.std.proofs.Common.{◌≡◌, map, sym, ap, subst, ◌∙◌, rules, All}
-use Rattle.tree_model.specs.State.Values.{dir_node, nodes}
+use Rattle.std.proofs.Common.{map, sym, ap, subst, ◌∙◌, rules, All}
 use Rattle.ddm_tree.specs.Ready.{IsItemIn}
-use Rattle.ddm_tree.proofs.FoundCopy.{copy_among, copy_in, items-under, own-found, none-own}
+use Rattle.ddm_tree.proofs.FoundCopy.{copy_among, items-under, own-found, none-own}
 use Rattle.ddm_tree.proofs.dir.DirSubtree.found_below.Goals as goal
 
 pub found_among-requires : goal.found_among-requires

@@ -1,7 +1,5 @@
-use Rattle.std.proofs.Common.{◌≡◌, ◌<◌, map, true, sym, ap, subst, ◌∙◌, rules, All}
+use Rattle.std.proofs.Common.{◌≡◌, ◌<◌, map, sym, ap, subst, ◌∙◌, rules, All}
 use Rattle.ddm_types.specs.ItemTable.{item_count}
-use Rattle.tree_model.specs.State.Rooms.{all_within}
-use Rattle.tree_model.specs.State.Values.{root_of}
 use Rattle.tree_model.specs.Turns.Found.{found_copy, found_place, found_words}
 use Rattle.ddm_tree.specs.Ready.{IsItemIn}
 use Rattle.ddm_tree.proofs.FoundCopy.{copy_among, items-under}
