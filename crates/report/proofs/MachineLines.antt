@@ -1,5 +1,5 @@
 -- The lines of a machine's harts, buses and items, one more at a time.
-use Rattle.std.proofs.Common.{◌≡◌, ◌<◌, ◌≤◌, ℕ, zero, suc, ◌+◌, ◌++◌, List, [], ◌∷◌, length, map, take, Option, Some, None, option_map, true, get_or, refl, sym, ap, ◌∙◌, arith, add-one, add-zero, zero-add}
+use Rattle.std.proofs.Common.{◌≡◌, ◌<◌, ◌≤◌, ℕ, zero, suc, ◌+◌, ◌++◌, List, [], ◌∷◌, length, map, take, Some, true, get_or, refl, sym, ap, ◌∙◌, arith, add-one, add-zero, zero-add}
 use Rattle.std.specs.Prelude.{slice_get, slice_index_or, nat_le, nat_eq}
 use Rattle.std.specs.List.{flat_map}
 use Rattle.std.proofs.lemmas.Bool.{eqb-true, leb-true}
@@ -11,7 +11,7 @@ use Rattle.tree_model.specs.declared.Traffic.{Traffic}
 use Rattle.tree_model.specs.State.Values.{LeafValue, MachineValue, root_of}
 use Rattle.tree_model.specs.State.Blank.{no_hart}
 use Rattle.tree_model.specs.State.Shape.{IsShaped, Skeleton, Skeletons, leaf_bone, dir_bone, no_bones, more_bones, skeleton, levels_of, first_levels, levels_fit, levels_fit_among, are_below, depth_of, tree_counts, buses_of, levels_known, traffic_counted}
-use Rattle.tree_model.specs.Turns.Machine.{machine_leaves}
+use Rattle.tree_model.specs.Turns.Machine.{machine_leaves, no_traffic}
 use Rattle.tree_model.proofs.Tests.{and-first, and-second}
 use Rattle.text_model.specs.Report.{HartView, ItemView, bus_line, bus_lines, bus_lines_from, item_line, item_lines}
 use Rattle.text_model.specs.Run.{item_view, item_views, view_of}
@@ -59,15 +59,16 @@ buses-pushed b (u ∷ us) t =
     let next : b + 1 + length us ≡ b + suc (length us) = omega arith in
     ap (λ l. bus_line b u ++ l) (buses-pushed (b + 1) us t ∙ ap (λ n. bus_lines_from (b + 1) us ++ bus_line n t) next) ∙ sym (append_assoc (bus_line b u) (bus_lines_from (b + 1) us) (bus_line (b + suc (length us)) t))
 
-got-some : {X : Type 0} (xs : List X) (k : ℕ) (x : X) → k < length xs → x ≡ get_or xs k x → slice_get xs k ≡ Some x
-got-some [] k x l is = absurd (omega (arith, l))
-got-some (y ∷ ys) zero x l is = ap Some (sym is)
-got-some (y ∷ ys) (suc k) x l is = got-some ys k x (omega (arith, l)) is
+got-some : {X : Type 0} (xs : List X) (k : ℕ) (d : X) → k < length xs → slice_get xs k ≡ Some (get_or xs k d)
+got-some [] k d l = absurd (omega (arith, l))
+got-some (y ∷ ys) zero d l = refl
+got-some (y ∷ ys) (suc k) d l = got-some ys k d (omega (arith, l))
 
-pub more-buses : (ts : List Traffic) (k : ℕ) (t : Traffic) → k < length ts → t ≡ get_or ts k t → bus_lines (take (k + 1) ts) ≡ bus_lines (take k ts) ++ bus_line k t
-more-buses ts k t l is =
+pub more-buses : (ts : List Traffic) (k : ℕ) → k < length ts → bus_lines (take (k + 1) ts) ≡ bus_lines (take k ts) ++ bus_line k (get_or ts k no_traffic)
+more-buses ts k l =
     let size : length (take k ts) ≡ k = length-take-le k ts (omega (arith, l)) in
-    rw (add-one, taken-one ts k t (got-some ts k t l is)) (buses-pushed 0 (take k ts) t ∙ ap (λ n. bus_lines (take k ts) ++ bus_line n t) (zero-add (length (take k ts)) ∙ size))
+    let t = get_or ts k no_traffic in
+    rw (add-one, taken-one ts k t (got-some ts k no_traffic l)) (buses-pushed 0 (take k ts) t ∙ ap (λ n. bus_lines (take k ts) ++ bus_line n t) (zero-add (length (take k ts)) ∙ size))
 
 -- traffic is counted for each bus
 pub buses-counted : (m : MachineValue) → IsShaped m → length m.traffic ≡ (tree_counts m).buses
@@ -81,17 +82,12 @@ views-pushed m x (r ∷ rows) row =
     let next : x + 1 + length rows ≡ x + suc (length rows) = omega arith in
     ap (λ (vs : List ItemView). item_view m x r ∷ vs) (views-pushed m (x + 1) rows row ∙ ap (λ n. item_views m (x + 1) rows ++ item_view m n row ∷ []) next)
 
-row-there : (rows : List ItemRow) (k : ℕ) → k < length rows → slice_get rows k ≡ Some (slice_index_or rows k no_row)
-row-there [] k l = absurd (omega (arith, l))
-row-there (r ∷ rows) zero l = refl
-row-there (r ∷ rows) (suc k) l = row-there rows k (omega (arith, l))
-
 pub more-items : (m : MachineValue) (rows : List ItemRow) (k : ℕ) → k < length rows → item_lines (item_views m 0 (take (k + 1) rows)) ≡ item_lines (item_views m 0 (take k rows)) ++ item_line (item_view m k (slice_index_or rows k no_row))
 unfolding item_lines
 more-items m rows k inside =
     let size : length (take k rows) ≡ k = length-take-le k rows (omega arith) in
     let row = slice_index_or rows k no_row in
-    rw (add-one, taken-one rows k row (row-there rows k inside), views-pushed m 0 (take k rows) row, size, zero-add k)
+    rw (add-one, taken-one rows k row (got-some rows k no_row inside), views-pushed m 0 (take k rows) row, size, zero-add k)
     (flat_map-append item_line (item_views m 0 (take k rows)) (item_view m k row ∷ []) ∙ ap (λ t. flat_map item_line (item_views m 0 (take k rows)) ++ t) (append-nil (item_line (item_view m k row))))
 
 -- ---- levels

@@ -85,7 +85,8 @@ fn push_item<const WORDS: usize, C: Subtree<WORDS>>(
     machine: &Machine<WORDS, C>,
     item: ItemId,
 ) -> Result<(), NoMemory>
-    requires { item < item_count machine.now.machine.items }
+    requires small { WORDS ≤ 16 }
+    requires item { item < item_count machine.now.machine.items }
     ensures { OnOk result (Adds out.old.items out.new.items (item_line (item_view machine.now.machine item (row_at machine.now.machine.items item)))) }
 {
     let states = states(alloc, machine, item)?;
@@ -108,6 +109,7 @@ fn push_items<const WORDS: usize, C: Subtree<WORDS>>(
     out: &mut Vec<u8>,
     machine: &Machine<WORDS, C>,
 ) -> Result<(), NoMemory>
+    requires small { WORDS ≤ 16 }
     ensures { OnOk result (Adds out.old.items out.new.items (item_lines (item_views machine.now.machine 0 machine.now.machine.items.rows))) }
 {
     for number in 0..machine.items().len() {
@@ -122,7 +124,8 @@ pub fn machine_report<const WORDS: usize, C: Subtree<WORDS>>(
     machine: &Machine<WORDS, C>,
     counts: RunCounts,
 ) -> Result<Vec<u8>, NoMemory>
-    requires { HaveOtherKeys machine.now.machine.ops }
+    requires small { WORDS ≤ 16 }
+    requires keys { HaveOtherKeys machine.now.machine.ops }
     ensures { IfOk result (λ text. text.items ≡ report_of (view_of (depth_of machine.now.machine) counts machine.now.machine)) }
 {
     let mut text = Vec::new(alloc);
