@@ -46,11 +46,17 @@ abbrev pub node_child_hold : ℕ → ℕ → Node → Hold
 node_child_hold c x (leaf_node v) = Hold.Invalid
 node_child_hold c x (dir_node d ns) = child_hold x (child_at c (children ns))
 
--- an entry of the down list, and a parked copy with its place
+-- an entry of the down list
 abbrev pub node_down : ℕ → Node → Option DownValue
 node_down place (leaf_node v) = None
 node_down place (dir_node d ns) = slice_get d.down place
 
+-- how many entries there are
+abbrev pub node_down_len : Node → ℕ
+node_down_len (leaf_node v) = 0
+node_down_len (dir_node d ns) = length d.down
+
+-- a parked copy with its place
 abbrev pub copy_pair : Option ℕ → Option (List ℕ) → Option (ℕ × List ℕ)
 copy_pair (Some place) (Some words) = Some (place, words)
 copy_pair (Some place) None = None
@@ -80,3 +86,7 @@ entry_at leaf x m = ask_leaf leaf (λ w v. entry_triple (leaf_entry x v) (spot_a
 -- the copy of an item that is parked at a bus: its place and its words
 abbrev pub parked_at : ℕ → ℕ → MachineValue → Option (Option (ℕ × List ℕ))
 parked_at bus x m = ask_bus bus (λ w d ns. copy_pair (parked_place x d) (parked_words x d)) None m
+
+-- how many entries the down list over a bus has
+abbrev pub down_len_of : ℕ → MachineValue → Option ℕ
+down_len_of bus m = ask_bus bus (λ w d ns. length d.down) 0 m

@@ -5,7 +5,7 @@ ghost use Rattle.tree_model.specs.State.Child.{child_full_for, child_take_data, 
 ghost use Rattle.item_states.specs.Parts.{node_items};
 
 use crate::below::{
-    child_under, children_under, down_under, entry_under, hart_under, hold_under, parked_under,
+    child_under, children_under, down_len_under, down_under, entry_under, hart_under, hold_under, parked_under,
     stamp_under, turn_under,
 };
 use crate::found::{Found, found_among, own_copy};
@@ -183,6 +183,14 @@ impl<const WORDS: usize, C: Subtree<WORDS>> Subtree<WORDS> for Dir<WORDS, C> {
             self.state.down_get(place).copied()
         } else {
             down_under(&self.state, &self.children, bus, path, place)
+        }
+    }
+
+    fn down_len_below(&self, bus: BusNo, path: &[ChildNo]) -> u32 {
+        if path.is_empty() {
+            self.state.down_len()
+        } else {
+            down_len_under(&self.state, &self.children, bus, path)
         }
     }
 

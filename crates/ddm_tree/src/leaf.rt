@@ -70,6 +70,10 @@ impl<const WAYS: usize, const WORDS: usize> Subtree<WORDS> for Leaf<WAYS, WORDS>
         None
     }
 
+    fn down_len_below(&self, _bus: BusNo, _path: &[ChildNo]) -> u32 {
+        0
+    }
+
     fn parked_below(
         &self,
         _bus: BusNo,

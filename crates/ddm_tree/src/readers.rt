@@ -7,10 +7,10 @@ ghost use Rattle.tree_model.specs.Turns.Machine.{child_count, child_hold_of, chi
 ghost use Rattle.tree_model.specs.Turns.Tree.{leaf_of_number, bus_of_number};
 ghost use Rattle.ddm_tree.specs.Machine.{is_part};
 ghost use Rattle.ddm_tree.specs.Ready.{Leads};
-ghost use Rattle.ddm_tree.specs.Reads.{counted_hart_of, entry_at, parked_at};
+ghost use Rattle.ddm_tree.specs.Reads.{counted_hart_of, down_len_of, entry_at, parked_at};
 
 use crate::below::{
-    child_under, children_under, down_under, entry_under, hart_under, hold_under, parked_under,
+    child_under, children_under, down_len_under, down_under, entry_under, hart_under, hold_under, parked_under,
     stamp_under,
 };
 use crate::found::{Found, found_among};
@@ -118,6 +118,19 @@ impl<const WORDS: usize, C: Subtree<WORDS>> Machine<WORDS, C> {
             self.top.down_get(place).copied()
         } else {
             down_under(&self.top, &self.children, bus, path, place)
+        }
+    }
+
+    /// How many entries the down list over a bus has.
+    pub fn down_len(&self, bus: BusNo) -> u32
+        requires { is_part (bus_of_number bus) self.now.machine ≡ true }
+        ensures { Some result ≡ down_len_of bus self.now.machine }
+    {
+        let path = self.bus_path(bus);
+        if path.is_empty() {
+            self.top.down_len()
+        } else {
+            down_len_under(&self.top, &self.children, bus, path)
         }
     }
 

@@ -9,7 +9,7 @@ ghost use Rattle.item_states.specs.Parts.{node_items};
 ghost use Rattle.ddm_tree.specs.Path.{path_to, node_at, present_at, put_at, node_answer, node_turned};
 ghost use Rattle.ddm_tree.specs.Named.{name_of};
 ghost use Rattle.ddm_tree.specs.Ready.{IsReady, Leads, LeadsBelow, HasChild, IsChild, IsItemIn, IsItemOf};
-ghost use Rattle.ddm_tree.specs.Reads.{node_hart, node_entry, node_children, node_child, node_child_hold, node_down, node_parked};
+ghost use Rattle.ddm_tree.specs.Reads.{node_hart, node_entry, node_children, node_child, node_child_hold, node_down, node_down_len, node_parked};
 
 use crate::found::Found;
 use crate::named::Named;
@@ -95,6 +95,11 @@ pub trait Subtree<const WORDS: usize>: Agent<WORDS> {
     fn down_below(&self, bus: BusNo, path: &[ChildNo], place: u32) -> Option<DownEntry<WORDS>>
         requires { LeadsBelow (bus_of_number bus) path.now (Self.value self.now) }
         ensures { result ≡ node_down place (node_at path.now (Self.value self.now)) };
+
+    /// How many entries the down list over this bus has.
+    fn down_len_below(&self, bus: BusNo, path: &[ChildNo]) -> u32
+        requires { LeadsBelow (bus_of_number bus) path.now (Self.value self.now) }
+        ensures { result ≡ node_down_len (node_at path.now (Self.value self.now)) };
 
     /// The copy of an item that is parked at this bus, with its place.
     fn parked_below(

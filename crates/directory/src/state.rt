@@ -120,6 +120,13 @@ impl<const WORDS: usize> DirState<WORDS> {
         self.down.get(place)
     }
 
+    /// How many entries stand in the down list.
+    pub fn down_len(&self) -> u32
+        ensures { result ≡ length self.now.down }
+    {
+        self.down.len()
+    }
+
     /// The last data or inject of an item in the down list: its place and its words.
     pub fn last_copy(&self, item: ItemId) -> Option<(u32, Words<WORDS>)>
         ensures place { option_map (λ c. c.0) result ≡ down_place item 0 self.now.down }
