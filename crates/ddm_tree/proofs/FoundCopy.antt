@@ -69,8 +69,10 @@ first_some-assoc (Some x) b c = refl
 module _ (x : ℕ) (d : DirValue) (ns : List Node) where
   own-first : copy_in x (dir_node d (nodes ns)) ≡ found_of (first_some (own_place x d) (place_among x (nodes ns))) (first_some (own_words x d) (words_among x (nodes ns)))
   own-first =
-      rw (first_some-assoc (option_map (λ k. CopyPlace.DownList d.bus k) (down_place x 0 d.down)) (option_map (λ k. CopyPlace.Parking d.bus k) (parked_place x d)) (place_among x (nodes ns)),
-          first_some-assoc (queue_words (queue_of x d.down)) (parked_words x d) (words_among x (nodes ns))) refl
+      rw (
+        first_some-assoc (option_map (λ k. CopyPlace.DownList d.bus k) (down_place x 0 d.down)) (option_map (λ k. CopyPlace.Parking d.bus k) (parked_place x d)) (place_among x (nodes ns)),
+        first_some-assoc (queue_words (queue_of x d.down)) (parked_words x d) (words_among x (nodes ns)),
+      ) refl
 
   pub own-found : (f : FoundValue) → Some f.place ≡ own_place x d → Some f.words ≡ own_words x d → Some f ≡ copy_in x (dir_node d (nodes ns))
   own-found f place words = sym (own-first ∙ rw (← place, ← words) refl)

@@ -5,8 +5,8 @@ ghost use Rattle.tree_model.specs.State.Child.{child_full_for, child_take_data, 
 ghost use Rattle.item_states.specs.Parts.{node_items};
 
 use crate::below::{
-    child_under, children_under, down_len_under, down_under, entry_under, hart_under, hold_under, parked_under,
-    stamp_under, turn_under,
+    child_under, children_under, down_len_under, down_under, entry_under, hart_under, hold_under,
+    parked_under, stamp_under, turn_under,
 };
 use crate::found::{Found, found_among, own_copy};
 use crate::named::Named;

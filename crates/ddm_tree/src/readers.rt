@@ -10,8 +10,8 @@ ghost use Rattle.ddm_tree.specs.Ready.{Leads};
 ghost use Rattle.ddm_tree.specs.Reads.{counted_hart_of, down_len_of, entry_at, parked_at};
 
 use crate::below::{
-    child_under, children_under, down_len_under, down_under, entry_under, hart_under, hold_under, parked_under,
-    stamp_under,
+    child_under, children_under, down_len_under, down_under, entry_under, hart_under, hold_under,
+    parked_under, stamp_under,
 };
 use crate::found::{Found, found_among};
 use crate::machine::Machine;

@@ -1,6 +1,6 @@
 -- The state of an entry is what is read of the leaf, and the states of all leaves are read one after the other.
-use Rattle.std.proofs.Common.{◌≡◌, ◌<◌, ℕ, zero, suc, ◌+◌, true, List, [], ◌∷◌, ◌++◌, map, length, take, Option, Some, None, option_map, refl, sym, ap, ◌∙◌, arith, add-one}
-use Rattle.std.specs.Prelude.{is_some, slice_get}
+use Rattle.std.proofs.Common.{◌≡◌, ℕ, ◌+◌, true, List, [], ◌∷◌, ◌++◌, map, length, take, Option, Some, None, option_map, refl, sym, ap, ◌∙◌, add-one}
+use Rattle.std.specs.Prelude.{is_some}
 use Rattle.std.proofs.lemmas.List.{length-map}
 use Rattle.ddm_types.specs.declared.sizes.LeafState.{LeafState}
 use Rattle.tree_model.specs.declared.LeafSpot.{LeafSpot}
@@ -20,6 +20,7 @@ use Rattle.ddm_tree.proofs.Names.{path-there}
 use Rattle.ddm_tree.proofs.Places.{entry-alike}
 use Rattle.ddm_tree.proofs.Reading.{read-is}
 use Rattle.inspector.specs.States.{state_of}
+use Rattle.inspector.proofs.OneMore.{taken-one}
 
 abbrev pub state_read : LeafState × List ℕ × LeafSpot → LeafState
 state_read e = e.0
@@ -54,11 +55,6 @@ pub one-more : (m : MachineValue) (leaf x : ℕ) (s : Option LeafState) (states 
 unfolding states_of
 one-more m leaf x s states shaped is so_far =
     rw (add-one, so_far) (sym (taken-one (map (state_at x) (machine_leaves m)) leaf s (leaf-listed (state_at x) None leaf m shaped ∙ sym is)))
-  where
-    taken-one : {X : Type 0} (xs : List X) (k : ℕ) (x : X) → slice_get xs k ≡ Some x → take (suc k) xs ≡ take k xs ++ x ∷ []
-    taken-one [] k x is = cc
-    taken-one (y ∷ ys) zero x is = cc
-    taken-one (y ∷ ys) (suc k) x is = ap (λ zs. y ∷ zs) (taken-one ys k x is)
 
 pub states-counted : (m : MachineValue) (x : ℕ) → length (states_of x m) ≡ (tree_counts m).leaves
 unfolding states_of

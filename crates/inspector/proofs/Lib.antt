@@ -1,1 +1,4 @@
+pub mod BusNumbers
+pub mod CopyLists
 pub mod LeafStates
+pub mod OneMore

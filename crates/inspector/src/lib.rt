@@ -2,6 +2,8 @@
 //! granted.
 #![tactic(auto)]
 
+mod all_copies;
+
 ghost use Rattle.std.specs.Prelude.{◌≡◌, ◌<◌, ◌≤◌, Some, true, IfOk, slice_index_or};
 ghost use Rattle.ddm_types.specs.ItemTable.{item_count};
 ghost use Rattle.tree_model.specs.Turns.Found.{found_copy, states_of};
@@ -10,12 +12,12 @@ ghost use Rattle.tree_model.specs.Turns.Tree.{leaf_of_number, bus_of_number};
 ghost use Rattle.ddm_tree.specs.Machine.{is_part};
 ghost use Rattle.inspector.specs.States.{state_of};
 
+pub use all_copies::copies;
+pub use ddm_tree::Found;
 use ddm_tree::{Machine, Subtree};
 use ddm_types::{BusNo, ItemId, LeafNo, LeafState, NoMemory, TxKind};
 use std::alloc::Global;
 use tree_model::Traffic;
-
-pub use ddm_tree::Found;
 
 /// The current copy of an item, as the report shows it.
 pub fn find<const WORDS: usize, C: Subtree<WORDS>>(

@@ -17,17 +17,8 @@ use Rattle.text_model.specs.Report.{HartView, ItemView, bus_line, bus_lines, bus
 use Rattle.text_model.specs.Run.{item_view, item_views, view_of}
 use Rattle.ddm_tree.specs.Reads.{counted_hart_of}
 use Rattle.ddm_tree.proofs.LeafList.{leaf-listed, leaf-number, leaves-counted}
+use Rattle.inspector.proofs.OneMore.{got-some, taken-one}
 use Rattle.report.specs.MachineView.{harts_of}
-
-taken-one : {X : Type 0} (xs : List X) (k : ℕ) (x : X) → slice_get xs k ≡ Some x → take (suc k) xs ≡ take k xs ++ x ∷ []
-taken-one [] k x is = cc
-taken-one (y ∷ ys) zero x is = cc
-taken-one (y ∷ ys) (suc k) x is = ap (λ zs. y ∷ zs) (taken-one ys k x is)
-
--- ---- a line for each element
-
-pub more-lines : {X : Type 0} (f : X → List ℕ) (xs : List X) (k : ℕ) (x : X) → slice_get xs k ≡ Some x → flat_map f (take (k + 1) xs) ≡ flat_map f (take k xs) ++ f x
-more-lines f xs k x is = rw (add-one, taken-one xs k x is) (flat_map-append f (take k xs) (x ∷ []) ∙ ap (λ t. flat_map f (take k xs) ++ t) (append-nil (f x)))
 
 -- ---- harts
 
@@ -58,11 +49,6 @@ buses-pushed b [] t = append-nil (bus_line b t) ∙ ap (λ n. bus_line n t) (sym
 buses-pushed b (u ∷ us) t =
     let next : b + 1 + length us ≡ b + suc (length us) = omega arith in
     ap (λ l. bus_line b u ++ l) (buses-pushed (b + 1) us t ∙ ap (λ n. bus_lines_from (b + 1) us ++ bus_line n t) next) ∙ sym (append_assoc (bus_line b u) (bus_lines_from (b + 1) us) (bus_line (b + suc (length us)) t))
-
-got-some : {X : Type 0} (xs : List X) (k : ℕ) (d : X) → k < length xs → slice_get xs k ≡ Some (get_or xs k d)
-got-some [] k d l = absurd (omega (arith, l))
-got-some (y ∷ ys) zero d l = refl
-got-some (y ∷ ys) (suc k) d l = got-some ys k d (omega (arith, l))
 
 pub more-buses : (ts : List Traffic) (k : ℕ) → k < length ts → bus_lines (take (k + 1) ts) ≡ bus_lines (take k ts) ++ bus_line k (get_or ts k no_traffic)
 more-buses ts k l =

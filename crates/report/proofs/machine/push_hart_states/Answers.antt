@@ -4,8 +4,9 @@ use Rattle.ddm_text.specs.Adds.{◌▸◌}
 use Rattle.tree_model.specs.State.Shape.{tree_counts}
 use Rattle.text_model.specs.Report.{hart_line_of}
 use Rattle.ddm_tree.proofs.LeafList.{leaf-there}
+use Rattle.inspector.proofs.OneMore.{more-of}
 use Rattle.report.specs.MachineView.{harts_of}
-use Rattle.report.proofs.MachineLines.{hart-shown, harts-counted, more-lines}
+use Rattle.report.proofs.MachineLines.{hart-shown, harts-counted}
 use Rattle.report.proofs.machine.push_hart_states.Goals as goal
 
 pub hart-hart-requires : goal.hart-hart-requires
@@ -18,7 +19,7 @@ pub loop-leaf-preserved : goal.loop-leaf-preserved
 loop-leaf-preserved g c =
     let m = c.args.machine.now.machine in
     let shown = hart-shown m c.loop-leaf.leaf c.hart-hart.result.now c.counts-leaf-end.ensures.shape c.hart-hart.ensures in
-    rw (more-lines hart_line_of (harts_of m) c.loop-leaf.leaf _ shown) (c.loop-leaf.invariant ▸ rw (c.halted.ensures, c.pc.ensures, c.done.ensures) at c.in_ok-push_hart_line.ensures)
+    rw (more-of hart_line_of (harts_of m) c.loop-leaf.leaf _ shown) (c.loop-leaf.invariant ▸ rw (c.halted.ensures, c.pc.ensures, c.done.ensures) at c.in_ok-push_hart_line.ensures)
 
 pub returns : goal.returns
 returns g c =

@@ -4,8 +4,9 @@ use Rattle.ddm_text.specs.Adds.{◌▸◌}
 use Rattle.tree_model.specs.State.Shape.{tree_counts}
 use Rattle.text_model.specs.Report.{hart_lines}
 use Rattle.ddm_tree.proofs.LeafList.{leaf-there}
+use Rattle.inspector.proofs.OneMore.{more-of}
 use Rattle.report.specs.MachineView.{harts_of}
-use Rattle.report.proofs.MachineLines.{hart-shown, harts-counted, more-lines}
+use Rattle.report.proofs.MachineLines.{hart-shown, harts-counted}
 use Rattle.report.proofs.machine.push_harts.Goals as goal
 
 pub hart-requires : goal.hart-requires
@@ -18,7 +19,7 @@ pub loop-leaf-preserved : goal.loop-leaf-preserved
 loop-leaf-preserved g c =
     let m = c.args.machine.now.machine in
     let shown = hart-shown m c.loop-leaf.leaf c.hart.result.now c.counts-leaf-end.ensures.shape c.hart.ensures in
-    rw (more-lines (hart_lines m.ops) (harts_of m) c.loop-leaf.leaf _ shown) (c.loop-leaf.invariant ▸ rw c.ops.ensures at c.in_ok-push_hart_lines.ensures)
+    rw (more-of (hart_lines m.ops) (harts_of m) c.loop-leaf.leaf _ shown) (c.loop-leaf.invariant ▸ rw c.ops.ensures at c.in_ok-push_hart_lines.ensures)
 
 pub returns : goal.returns
 returns g c =
