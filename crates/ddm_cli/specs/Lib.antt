@@ -2,8 +2,7 @@ pub mod Code
 pub mod Words
 pub mod Reads
 pub mod Parts
-pub mod ScheduleForm
-pub mod LeafView
+pub mod Engine
 pub mod Causes
 pub mod Refusals
 pub mod Top

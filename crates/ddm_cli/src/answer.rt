@@ -1,53 +1,21 @@
-ghost use Rattle.std.specs.Prelude.{◌≡◌, ◌<◌, ◌≤◌, IfOk};
-ghost use Rattle.text_model.specs.Report.{report_of};
-ghost use Rattle.text_model.specs.Run.{counts_of};
-ghost use Rattle.text_model.specs.Schedule.{hart_turns};
-ghost use Rattle.rv_flat.specs.Registers.{IsHart};
-ghost use Rattle.one_leaf.specs.Run.{after_all, answers_of};
-ghost use Rattle.run_engine.specs.Build.{machine_value};
-ghost use Rattle.ddm_cli.specs.LeafView.{leaf_view};
+ghost use Rattle.std.specs.Prelude.{◌≡◌, ◌≤◌, true, All, IfOk, length};
+ghost use Rattle.tree_model.specs.State.Shape.{depth_of};
+ghost use Rattle.tree_model.specs.Turns.Machine.{names_part};
+ghost use Rattle.text_model.specs.Run.{report_text_of};
+ghost use Rattle.ddm_cli.specs.Engine.{machine_state};
 
-use crate::report_lines::report;
-use ddm_types::NoMemory;
-use one_leaf::{OneLeaf, run};
-use run_engine::AnyMachine;
+use crate::engine::{AnyMachine, report_text, run};
+use ddm_types::{NoMemory, Turn};
 use std::alloc::Global;
 
-// The report after so many turns of hart 0.
-fn ran_text<const WORDS: usize>(
-    alloc: Global,
-    mut machine: OneLeaf<WORDS>,
-    sets: u32,
-    turns: u64,
-) -> Result<Vec<u8>, NoMemory>
-    requires small { WORDS ≤ 16 }
-    requires sets { 0 < sets }
-    requires few { turns ≤ 1048576 }
-    requires fresh { machine.done ≡ 0 }
-    requires hart { IsHart machine.hart }
-    ensures { let after = after_all (hart_turns turns) machine.entry in let counts = counts_of (answers_of (hart_turns turns) machine.entry) in
-        IfOk result (λ text. text.items ≡ report_of (leaf_view sets counts after)) }
+/// The report of a machine after these turns, its first ones.
+pub fn ran_text(alloc: Global, mut machine: AnyMachine, turns: &[Turn]) -> Result<Vec<u8>, NoMemory>
+    requires named { All (λ turn. names_part turn (machine_state machine).machine ≡ true) turns.now }
+    requires fresh { (machine_state machine).turns ≡ 0 }
+    requires few { length turns.now ≤ 1048576 }
+    ensures { let m = (machine_state machine).machine in IfOk result (λ text. text.items ≡ report_text_of (depth_of m) turns.now m) }
 {
-    let counts = run(&mut machine, turns)?;
-    report(alloc, counts, &machine, sets)
-}
-
-/// The report of a machine whose leaf has this many sets, after so many turns of hart 0.
-pub fn report_text(
-    alloc: Global,
-    machine: AnyMachine,
-    sets: u32,
-    turns: u64,
-) -> Result<Vec<u8>, NoMemory>
-    requires sets { 0 < sets }
-    requires few { turns ≤ 1048576 }
-    requires fresh { (machine_value machine).done ≡ 0 }
-    requires hart { IsHart (machine_value machine).hart }
-    ensures { let after = after_all (hart_turns turns) (machine_value machine) in let counts = counts_of (answers_of (hart_turns turns) (machine_value machine)) in
-        IfOk result (λ text. text.items ≡ report_of (leaf_view sets counts after)) }
-{
-    match machine {
-        AnyMachine::Narrow(machine) => ran_text(alloc, machine, sets, turns),
-        AnyMachine::Wide(machine) => ran_text(alloc, machine, sets, turns),
-    }
+    let mut answers = Vec::new(alloc);
+    let counts = run(&mut machine, turns, &mut answers, false)?;
+    report_text(alloc, &machine, counts)
 }
