@@ -2,7 +2,6 @@ pub mod Code
 pub mod Words
 pub mod Reads
 pub mod Parts
-pub mod Engine
 pub mod Causes
 pub mod Refusals
 pub mod Top

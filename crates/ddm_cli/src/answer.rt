@@ -2,10 +2,11 @@ ghost use Rattle.std.specs.Prelude.{◌≡◌, ◌≤◌, true, All, IfOk, lengt
 ghost use Rattle.tree_model.specs.State.Shape.{depth_of};
 ghost use Rattle.tree_model.specs.Turns.Machine.{names_part};
 ghost use Rattle.text_model.specs.Run.{report_text_of};
-ghost use Rattle.ddm_cli.specs.Engine.{machine_state};
+ghost use Rattle.run_engine.specs.Any.{machine_state};
 
-use crate::engine::{AnyMachine, report_text, run};
+use crate::engine::{report_text, run};
 use ddm_types::{NoMemory, Turn};
+use run_engine::AnyMachine;
 use std::alloc::Global;
 
 /// The report of a machine after these turns, its first ones.

@@ -1,37 +1,16 @@
-//! Stands in the place of the machines of every tree until `run_engine` and `report` have them. It is always out of memory.
+//! Stands in the place of runs and reports of every tree until `run_engine` and `report` have them. It is always out of memory.
 
-ghost use Rattle.std.specs.Prelude.{◌≡◌, ◌⊎◌, ◌+◌, ◌≤◌, true, All, IfOk, IfErr, None, Some, length};
-ghost use Rattle.tree_model.specs.Start.Machine.{start_refusal};
+ghost use Rattle.std.specs.Prelude.{◌≡◌, ◌+◌, ◌≤◌, true, All, IfOk, length};
 ghost use Rattle.tree_model.specs.State.Shape.{depth_of};
 ghost use Rattle.tree_model.specs.Turns.Machine.{names_part, run_of};
 ghost use Rattle.text_model.specs.Report.{report_of};
 ghost use Rattle.text_model.specs.Run.{counts_of, view_of};
-ghost use Rattle.run_engine.specs.Build.{build_refusal};
-ghost use Rattle.run_engine.specs.Started.{started};
-ghost use Rattle.run_engine.specs.declared.refusal.BuildRefusal.TheVariants as refusal;
-ghost use Rattle.ddm_cli.specs.Engine.{machine_state};
+ghost use Rattle.run_engine.specs.Any.{machine_state};
 
-use ddm_tree::Machine;
 use ddm_types::{NoMemory, Turn, TurnAnswer};
-use elf_load::Image;
-use leaf_protocol::Leaf;
-use run_engine::BuildRefusal;
+use run_engine::AnyMachine;
 use std::alloc::Global;
 use text_model::RunCounts;
-use tree_config::TreeConfig;
-
-#[derive(Drop)]
-pub struct AnyMachine {
-    machine: Machine<4, Leaf<1, 4>>,
-}
-
-pub fn build(alloc: Global, tree: &TreeConfig, image: &Image) -> Result<AnyMachine, BuildRefusal>
-    ensures built { IfOk result (λ m. machine_state m ≡ started tree.now image.now) }
-    ensures accepted { IfOk result (λ m. start_refusal tree.now image.now ≡ None) }
-    ensures refused { IfErr result (λ r. (r ≡ refusal.NoMemory) ⊎ (build_refusal tree.now image.now ≡ Some r)) }
-{
-    Err(BuildRefusal::NoMemory)
-}
 
 pub fn run(
     machine: &mut AnyMachine,

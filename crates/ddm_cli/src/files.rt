@@ -2,11 +2,10 @@ ghost use Rattle.std.specs.Prelude.{◌≡◌, ◌<◌, ◌≤◌, ℕ, List, Ok
 ghost use Rattle.tree_model.specs.Start.Sources.{ImageValue};
 ghost use Rattle.bus_laws.specs.IsTree.{IsTree};
 ghost use Rattle.elf_load.specs.ElfFile.{image_of};
-ghost use Rattle.ddm_cli.specs.Engine.{machine_state};
+ghost use Rattle.run_engine.specs.Any.{machine_state};
 ghost use Rattle.ddm_cli.specs.Causes.{ImageCause, AcceptedAs, Accepts, TreeCause};
 ghost use Rattle.ddm_cli.specs.Parts.{IsStart, parts_in, tree_at};
 
-use crate::engine::AnyMachine;
 use crate::judging::{judged_image, judged_tree};
 use crate::limits::{MOST_IMAGE, MOST_TREE};
 use crate::reading::{ReadError, read_whole};
@@ -14,6 +13,7 @@ use crate::status::Status;
 use ddm_outside::Shelf;
 use elf_load::ImageRefusal;
 use report::FileRole;
+use run_engine::AnyMachine;
 use std::alloc::Global;
 use tree_config::{TreeConfig, TreeRefusal};
 

@@ -4,14 +4,13 @@ ghost use Rattle.bus_laws.specs.IsTree.{IsTree};
 ghost use Rattle.elf_load.specs.ElfFile.{image_of};
 ghost use Rattle.tree_model.specs.Start.Machine.{start_refusal};
 ghost use Rattle.run_engine.specs.Started.{started};
-ghost use Rattle.ddm_cli.specs.Engine.{machine_state};
+ghost use Rattle.run_engine.specs.Any.{machine_state};
 ghost use Rattle.ddm_cli.specs.Causes.{BuildCause, ImageCause, TreeCause};
 ghost use Rattle.ddm_cli.specs.Parts.{IsStart, parts_in, tree_at};
 
-use crate::engine::{AnyMachine, build};
 use crate::status::Status;
 use elf_load::{Image, ImageRefusal, load};
-use run_engine::BuildRefusal;
+use run_engine::{AnyMachine, BuildRefusal, build};
 use std::alloc::Global;
 use tree_config::{TreeConfig, TreeRefusal, read_tree};
 

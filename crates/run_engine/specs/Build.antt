@@ -6,8 +6,8 @@ use Rattle.tree_model.specs.Start.Machine.{StartRefusal, too_many_items, stack_o
 use Rattle.one_leaf.specs.OneLeaf.{OneLeafValue}
 use Rattle.one_leaf.specs.Made.{in_tree}
 use Rattle.one_leaf.specs.Start.{one_leaf_start}
-use Rattle.run_engine.specs.declared.machine.AnyMachine.{AnyMachine}
-use Rattle.run_engine.specs.declared.machine.AnyMachine.TheVariants.{Narrow, Wide}
+use Rattle.run_engine.specs.declared.leaf_machine.LeafMachine.{LeafMachine}
+use Rattle.run_engine.specs.declared.leaf_machine.LeafMachine.TheVariants.{Narrow, Wide}
 use Rattle.run_engine.specs.declared.refusal.BuildRefusal.{BuildRefusal}
 use Rattle.run_engine.specs.declared.refusal.BuildRefusal.TheVariants.{TooManyItems, StackOverlap, NoPlace}
 
@@ -21,7 +21,7 @@ refusal_of (no_place i) = NoPlace i
 abbrev pub build_refusal : TreeValue → ImageValue → Option BuildRefusal
 build_refusal t i = option_map refusal_of (start_refusal t i)
 
-abbrev pub machine_value : AnyMachine → OneLeafValue
+abbrev pub machine_value : LeafMachine → OneLeafValue
 machine_value (Narrow m) = m
 machine_value (Wide m) = m
 

@@ -1,3 +1,4 @@
+pub mod Any
 pub mod Build
 pub mod Placement
 pub mod Started

@@ -14,14 +14,26 @@ use Rattle.ddm_tree.specs.Machine.{MachineState}
 abbrev pub started : TreeValue → ImageValue → MachineState
 started t i = record { machine = start_machine t i; spare = 0; turns = 0 }
 
--- what a machine of leaves with so many ways, and items of so many words, is made of
-pub record CanStart (ways width : ℕ) (t : TreeValue) (i : ImageValue) (code : List CodeWord) (items : ItemTable) : Type 0 where
+-- what the leaves of so many ways, and items of so many words, are filled from
+pub record CanFill (ways width : ℕ) (t : TreeValue) (i : ImageValue) (items : ItemTable) : Type 0 where
   pub ways_are : t.way_count ≡ ways
+  pub size : 4 * width ≡ t.item_bytes
+  pub small : width ≤ 16
+  pub items_are : items ≡ start_items t i
+  pub accepted : start_refusal t i ≡ None
+
+-- what a machine is made of, whatever its leaves' ways
+pub record CanMake (width : ℕ) (t : TreeValue) (i : ImageValue) (code : List CodeWord) (items : ItemTable) : Type 0 where
   pub size : 4 * width ≡ t.item_bytes
   pub small : width ≤ 16
   pub code_is : code ≡ start_code i
   pub items_are : items ≡ start_items t i
   pub accepted : start_refusal t i ≡ None
+
+-- and what a machine of leaves with so many ways is made of
+pub record CanStart (ways width : ℕ) (t : TreeValue) (i : ImageValue) (code : List CodeWord) (items : ItemTable) : Type 0 where
+  pub fill : CanFill ways width t i items
+  pub code_is : code ≡ start_code i
 
 -- the nodes at this level, of which the first is over the bus of this number: the leaves behind the last level
 abbrev pub nodes_at : TreeValue → ImageValue → ℕ → ℕ → List Node

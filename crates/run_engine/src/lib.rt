@@ -1,8 +1,10 @@
 //! Makes the machine of a tree and an image.
 #![tactic(auto)]
 
+mod any;
 mod contents;
 mod depths;
+mod leaf_machine;
 mod leaves;
 mod machine;
 mod making;
@@ -12,8 +14,9 @@ mod stacks;
 mod tree;
 mod trees;
 
-pub use depths::{one_level, two_levels};
-pub use machine::AnyMachine;
-pub use making::build;
+pub use any::build;
+pub use leaf_machine::LeafMachine;
+pub use machine::{AnyMachine, Machines};
+pub use making::build_leaf;
 pub use refusal::BuildRefusal;
 pub use trees::{start_leaves, start_machine};

@@ -1,8 +1,27 @@
-use one_leaf::OneLeaf;
+use cluster::Cluster;
+use ddm_tree::{Dir, Machine};
+use leaf_protocol::Leaf;
 
-/// A machine, with items of four or of sixteen words.
+/// A machine of a tree of one to four levels of buses (D1 to D4), whose leaves have one, two or four ways (W1, W2, W4).
+#[derive(Drop)]
+pub enum Machines<const WORDS: usize> {
+    D1W1(Machine<WORDS, Leaf<1, WORDS>>),
+    D1W2(Machine<WORDS, Leaf<2, WORDS>>),
+    D1W4(Machine<WORDS, Leaf<4, WORDS>>),
+    D2W1(Machine<WORDS, Cluster<1, WORDS>>),
+    D2W2(Machine<WORDS, Cluster<2, WORDS>>),
+    D2W4(Machine<WORDS, Cluster<4, WORDS>>),
+    D3W1(Machine<WORDS, Dir<WORDS, Cluster<1, WORDS>>>),
+    D3W2(Machine<WORDS, Dir<WORDS, Cluster<2, WORDS>>>),
+    D3W4(Machine<WORDS, Dir<WORDS, Cluster<4, WORDS>>>),
+    D4W1(Machine<WORDS, Dir<WORDS, Dir<WORDS, Cluster<1, WORDS>>>>),
+    D4W2(Machine<WORDS, Dir<WORDS, Dir<WORDS, Cluster<2, WORDS>>>>),
+    D4W4(Machine<WORDS, Dir<WORDS, Dir<WORDS, Cluster<4, WORDS>>>>),
+}
+
+/// A machine of any tree, with items of four or of sixteen words.
 #[derive(Drop)]
 pub enum AnyMachine {
-    Narrow(OneLeaf<4>),
-    Wide(OneLeaf<16>),
+    Narrow(Machines<4>),
+    Wide(Machines<16>),
 }

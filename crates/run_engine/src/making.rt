@@ -7,7 +7,7 @@ ghost use Rattle.run_engine.specs.Build.{build_refusal, machine_value, IsBuilt};
 ghost use Rattle.run_engine.specs.declared.refusal.BuildRefusal.TheVariants as refusal;
 
 use crate::contents::{items, words};
-use crate::machine::AnyMachine;
+use crate::leaf_machine::LeafMachine;
 use crate::refusal::BuildRefusal;
 use crate::tree::{harts, item_bytes};
 use ddm_types::{HartNo, Start};
@@ -52,7 +52,7 @@ fn built<const WORDS: usize>(
 
 /// The machine of a tree and an image before its first turn: each item in the lowest free way of its set, items taken in
 /// order of number. Today the tree has one leaf.
-pub fn build(alloc: Global, tree: &TreeConfig, image: &Image) -> Result<AnyMachine, BuildRefusal>
+pub fn build_leaf(alloc: Global, tree: &TreeConfig, image: &Image) -> Result<LeafMachine, BuildRefusal>
     requires leaf { tree.now.levels ≡ (1 ∷ []) ∷ [] }
     ensures built { IfOk result (λ m. IsBuilt tree.now image.now (machine_value m)) }
     ensures start { IfOk result (λ m. start_of tree.now image.now ≡ Ok (machine_of (in_tree tree.now (machine_value m)))) }
@@ -61,8 +61,8 @@ pub fn build(alloc: Global, tree: &TreeConfig, image: &Image) -> Result<AnyMachi
     // There is a set, or the tree would have been refused.
     let _ = &tree.sets;
     if item_bytes(tree) == 16 {
-        Ok(AnyMachine::Narrow(built(alloc, tree, image)?))
+        Ok(LeafMachine::Narrow(built(alloc, tree, image)?))
     } else {
-        Ok(AnyMachine::Wide(built(alloc, tree, image)?))
+        Ok(LeafMachine::Wide(built(alloc, tree, image)?))
     }
 }

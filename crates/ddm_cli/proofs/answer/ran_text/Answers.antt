@@ -1,6 +1,6 @@
 use Rattle.std.proofs.Common.{◌∙◌}
 use Rattle.std.proofs.lemmas.Result.{IfOk-weaker}
-use Rattle.ddm_cli.specs.Engine.{machine_state}
+use Rattle.run_engine.specs.Any.{machine_state}
 use Rattle.ddm_cli.proofs.Taken.{ran_report}
 use Rattle.ddm_cli.proofs.answer.ran_text.Goals as goal
 

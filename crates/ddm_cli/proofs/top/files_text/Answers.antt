@@ -8,7 +8,7 @@ use Rattle.text_model.specs.ReadBack.{GivesTurnsOf}
 use Rattle.schedule_log.specs.Shapes.{shape_view}
 use Rattle.ddm_tree.specs.Machine.{MachineState}
 use Rattle.ddm_cli.specs.Causes.{AcceptedAs, ScheduleCause}
-use Rattle.ddm_cli.specs.Engine.{machine_state}
+use Rattle.run_engine.specs.Any.{machine_state}
 use Rattle.ddm_cli.specs.Parts.{turns_at}
 use Rattle.ddm_cli.specs.Words.{names_value}
 use Rattle.ddm_cli.proofs.Causes.{takes_parts}

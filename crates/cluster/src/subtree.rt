@@ -1,0 +1,74 @@
+use crate::cluster::Cluster;
+use ddm_tree::{Named, Subtree};
+use ddm_types::{
+    BusNo, ChildNo, Code, Hold, ItemId, Items, LeafNo, LeafState, NoMemory, Stamp, Turn,
+    TurnAnswer, Words,
+};
+use item_states::DownEntry;
+use rv_hart::Hart;
+use std::alloc::Global;
+use tree_model::{LeafSpot, TreeChild};
+
+impl<const WAYS: usize, const WORDS: usize> Subtree<WORDS> for Cluster<WAYS, WORDS> {
+    fn label(&self) -> TreeChild {
+        self.dir.label()
+    }
+
+    fn turn(
+        &mut self,
+        code: &Code,
+        items: &Items,
+        path: &[ChildNo],
+        rest: &[ChildNo],
+        present: Stamp,
+        turn: Turn,
+    ) -> TurnAnswer {
+        self.dir.turn(code, items, path, rest, present, turn)
+    }
+
+    fn path_up(&self, alloc: Global, name: &Named) -> Result<Option<Vec<ChildNo>>, NoMemory> {
+        self.dir.path_up(alloc, name)
+    }
+
+    fn hart_below(&self, leaf: LeafNo, path: &[ChildNo]) -> &Hart {
+        self.dir.hart_below(leaf, path)
+    }
+
+    fn stamp_below(&self, leaf: LeafNo, path: &[ChildNo], present: Stamp) -> Stamp {
+        self.dir.stamp_below(leaf, path, present)
+    }
+
+    fn entry_below(
+        &self,
+        leaf: LeafNo,
+        path: &[ChildNo],
+        item: ItemId,
+    ) -> Option<(LeafState, Words<WORDS>, LeafSpot)> {
+        self.dir.entry_below(leaf, path, item)
+    }
+
+    fn children_below(&self, bus: BusNo, path: &[ChildNo]) -> u32 {
+        self.dir.children_below(bus, path)
+    }
+
+    fn child_below(&self, bus: BusNo, path: &[ChildNo], child: ChildNo) -> TreeChild {
+        self.dir.child_below(bus, path, child)
+    }
+
+    fn hold_below(&self, bus: BusNo, path: &[ChildNo], child: ChildNo, item: ItemId) -> Hold {
+        self.dir.hold_below(bus, path, child, item)
+    }
+
+    fn down_below(&self, bus: BusNo, path: &[ChildNo], place: u32) -> Option<DownEntry<WORDS>> {
+        self.dir.down_below(bus, path, place)
+    }
+
+    fn parked_below(
+        &self,
+        bus: BusNo,
+        path: &[ChildNo],
+        item: ItemId,
+    ) -> Option<(u32, Words<WORDS>)> {
+        self.dir.parked_below(bus, path, item)
+    }
+}
