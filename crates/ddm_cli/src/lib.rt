@@ -16,5 +16,6 @@ mod unknown_key;
 mod words;
 
 pub use report::FileRole;
+pub use schedule_log::ScheduleRefusal;
 pub use status::{Status, code};
 pub use top::ddm_main;
