@@ -1,5 +1,6 @@
 pub mod ItemWords
 pub mod ByteAt
+pub mod RunMore
 pub mod Sizes
 pub mod Spans
 pub mod Built

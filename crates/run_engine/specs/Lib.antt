@@ -1,4 +1,5 @@
 pub mod Any
 pub mod Build
 pub mod Placement
+pub mod Run
 pub mod Started

@@ -3,6 +3,7 @@
 
 mod any;
 mod contents;
+mod counting;
 mod depths;
 mod leaf_machine;
 mod leaves;
@@ -10,6 +11,7 @@ mod machine;
 mod making;
 mod memory;
 mod refusal;
+mod running;
 mod stacks;
 mod tree;
 mod trees;
@@ -19,4 +21,5 @@ pub use leaf_machine::LeafMachine;
 pub use machine::{AnyMachine, Machines};
 pub use making::build_leaf;
 pub use refusal::BuildRefusal;
+pub use running::run;
 pub use trees::{start_leaves, start_machine};

@@ -52,7 +52,11 @@ fn built<const WORDS: usize>(
 
 /// The machine of a tree and an image before its first turn: each item in the lowest free way of its set, items taken in
 /// order of number. Today the tree has one leaf.
-pub fn build_leaf(alloc: Global, tree: &TreeConfig, image: &Image) -> Result<LeafMachine, BuildRefusal>
+pub fn build_leaf(
+    alloc: Global,
+    tree: &TreeConfig,
+    image: &Image,
+) -> Result<LeafMachine, BuildRefusal>
     requires leaf { tree.now.levels ≡ (1 ∷ []) ∷ [] }
     ensures built { IfOk result (λ m. IsBuilt tree.now image.now (machine_value m)) }
     ensures start { IfOk result (λ m. start_of tree.now image.now ≡ Ok (machine_of (in_tree tree.now (machine_value m)))) }

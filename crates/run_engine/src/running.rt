@@ -1,0 +1,170 @@
+ghost use Rattle.std.specs.Prelude.{◌≡◌, ◌+◌, ◌<◌, ◌≤◌, ◌++◌, ◌∷◌, [], true, IfOk, OnErr, OnOk, length, vec_capacity, vec_len, if◌then◌else◌};
+ghost use Rattle.tree_model.specs.Turns.Machine.{names_part, turn_of};
+ghost use Rattle.text_model.specs.Run.{counted_answer};
+ghost use Rattle.ddm_tree.specs.Machine.{state_after};
+ghost use Rattle.run_engine.specs.Any.{machine_state, state_in};
+ghost use Rattle.run_engine.specs.Run.{AreBelow, CanRun, NameParts, answers_in, counts_in, ran, with_room};
+
+use crate::counting::{count, no_counts};
+use crate::machine::{AnyMachine, Machines};
+use ddm_tree::{Dir, Machine, Subtree};
+use ddm_types::{NoMemory, Turn, TurnAnswer};
+use text_model::RunCounts;
+
+/// One turn, counted.
+fn counted_turn<const WORDS: usize, C: Subtree<WORDS>>(
+    machine: &mut Machine<WORDS, C>,
+    turn: Turn,
+    counts: &mut RunCounts,
+) -> TurnAnswer
+    requires named { names_part turn machine.old.machine ≡ true }
+    requires spare { 0 < machine.old.spare }
+    requires turns { machine.old.turns < 4294967295 }
+    requires counts { AreBelow 4294967295 counts.old }
+    ensures answer { result ≡ (turn_of turn machine.old.machine).answer }
+    ensures after { machine.new ≡ state_after turn machine.old }
+    ensures counts { counts.new ≡ counted_answer (turn_of turn machine.old.machine).answer counts.old }
+{
+    let answer = machine.turn(turn);
+    count(counts, &answer);
+    answer
+}
+
+/// Puts an answer behind the others, where there is memory for it.
+fn add_answer(answers: &mut Vec<TurnAnswer>, answer: &TurnAnswer)
+    requires { vec_len answers.old < vec_capacity answers.old }
+    ensures items { answers.new.items ≡ answers.old.items ++ answer.now ∷ [] }
+    ensures capacity { vec_capacity answers.old ≤ vec_capacity answers.new }
+{
+    if answers.extend_from_slice(&[*answer]).is_err() {
+        unreachable!();
+    }
+}
+
+/// Does so where the answers are kept.
+fn keep_answer(answers: &mut Vec<TurnAnswer>, answer: &TurnAnswer, keep: bool)
+    requires { keep ≡ true → vec_len answers.old < vec_capacity answers.old }
+    ensures items { answers.new.items ≡ (if keep then answers.old.items ++ answer.now ∷ [] else answers.old.items) }
+    ensures capacity { vec_capacity answers.old ≤ vec_capacity answers.new }
+{
+    if keep {
+        add_answer(answers, answer);
+    }
+}
+
+/// Makes the turns in order. It takes no memory.
+fn run_turns<const WORDS: usize, C: Subtree<WORDS>>(
+    machine: &mut Machine<WORDS, C>,
+    turns: &[Turn],
+    answers: &mut Vec<TurnAnswer>,
+    keep: bool,
+) -> RunCounts
+    requires named { NameParts turns.now machine.old.machine }
+    requires spare { length turns.now ≤ machine.old.spare }
+    requires few { CanRun turns.now machine.old }
+    requires room { keep ≡ true → length answers.old.items + length turns.now ≤ vec_capacity answers.old }
+    ensures after { machine.new ≡ ran turns.now machine.old }
+    ensures counts { result ≡ counts_in turns.now machine.old }
+    ensures answers { answers.new.items ≡ (if keep then answers.old.items ++ answers_in turns.now machine.old else answers.old.items) }
+{
+    let mut counts = no_counts();
+    for turn in turns {
+        let answer = counted_turn(machine, *turn, &mut counts);
+        keep_answer(answers, &answer, keep);
+    }
+    counts
+}
+
+/// Takes the memory, then makes the turns.
+fn run_reserved<const WORDS: usize, C: Subtree<WORDS>>(
+    machine: &mut Machine<WORDS, C>,
+    turns: &[Turn],
+    answers: &mut Vec<TurnAnswer>,
+    keep: bool,
+) -> Result<RunCounts, NoMemory>
+    requires named { NameParts turns.now machine.old.machine }
+    requires few { CanRun turns.now machine.old }
+    ensures after { OnOk result (machine.new ≡ ran turns.now (with_room (length turns.now) machine.old)) }
+    ensures counts { IfOk result (λ counts. counts ≡ counts_in turns.now machine.old) }
+    ensures answers { OnOk result (answers.new.items ≡ (if keep then answers.old.items ++ answers_in turns.now machine.old else answers.old.items)) }
+    ensures same { OnErr result (machine.new ≡ machine.old) }
+    ensures kept { OnErr result (answers.new.items ≡ answers.old.items) }
+{
+    if keep {
+        answers.reserve(turns.len())?;
+    }
+    machine.reserve(turns.len() as u32)?;
+    Ok(run_turns(machine, turns, answers, keep))
+}
+
+/// The same of a machine whose directories under bus 0 are over these children. A check of the call above at three types within one
+/// another is beyond its limits.
+fn run_over<const WORDS: usize, C: Subtree<WORDS>>(
+    machine: &mut Machine<WORDS, Dir<WORDS, C>>,
+    turns: &[Turn],
+    answers: &mut Vec<TurnAnswer>,
+    keep: bool,
+) -> Result<RunCounts, NoMemory>
+    requires named { NameParts turns.now machine.old.machine }
+    requires few { CanRun turns.now machine.old }
+    ensures after { OnOk result (machine.new ≡ ran turns.now (with_room (length turns.now) machine.old)) }
+    ensures counts { IfOk result (λ counts. counts ≡ counts_in turns.now machine.old) }
+    ensures answers { OnOk result (answers.new.items ≡ (if keep then answers.old.items ++ answers_in turns.now machine.old else answers.old.items)) }
+    ensures same { OnErr result (machine.new ≡ machine.old) }
+    ensures kept { OnErr result (answers.new.items ≡ answers.old.items) }
+{
+    run_reserved(machine, turns, answers, keep)
+}
+
+/// The same, whatever the depth and the ways.
+fn run_machines<const WORDS: usize>(
+    machine: &mut Machines<WORDS>,
+    turns: &[Turn],
+    answers: &mut Vec<TurnAnswer>,
+    keep: bool,
+) -> Result<RunCounts, NoMemory>
+    requires named { NameParts turns.now (state_in machine.old).machine }
+    requires few { CanRun turns.now (state_in machine.old) }
+    ensures after { OnOk result (state_in machine.new ≡ ran turns.now (with_room (length turns.now) (state_in machine.old))) }
+    ensures counts { IfOk result (λ counts. counts ≡ counts_in turns.now (state_in machine.old)) }
+    ensures answers { OnOk result (answers.new.items ≡ (if keep then answers.old.items ++ answers_in turns.now (state_in machine.old) else answers.old.items)) }
+    ensures same { OnErr result (state_in machine.new ≡ state_in machine.old) }
+    ensures kept { OnErr result (answers.new.items ≡ answers.old.items) }
+{
+    match machine {
+        Machines::D1W1(machine) => run_reserved(machine, turns, answers, keep),
+        Machines::D1W2(machine) => run_reserved(machine, turns, answers, keep),
+        Machines::D1W4(machine) => run_reserved(machine, turns, answers, keep),
+        Machines::D2W1(machine) => run_reserved(machine, turns, answers, keep),
+        Machines::D2W2(machine) => run_reserved(machine, turns, answers, keep),
+        Machines::D2W4(machine) => run_reserved(machine, turns, answers, keep),
+        Machines::D3W1(machine) => run_over(machine, turns, answers, keep),
+        Machines::D3W2(machine) => run_over(machine, turns, answers, keep),
+        Machines::D3W4(machine) => run_over(machine, turns, answers, keep),
+        Machines::D4W1(machine) => run_over(machine, turns, answers, keep),
+        Machines::D4W2(machine) => run_over(machine, turns, answers, keep),
+        Machines::D4W4(machine) => run_over(machine, turns, answers, keep),
+    }
+}
+
+/// Makes the turns in order, and keeps their answers where that is asked. It takes all memory first: after `NoMemory` no turn was
+/// made.
+pub fn run(
+    machine: &mut AnyMachine,
+    turns: &[Turn],
+    answers: &mut Vec<TurnAnswer>,
+    keep: bool,
+) -> Result<RunCounts, NoMemory>
+    requires named { NameParts turns.now (machine_state machine.old).machine }
+    requires few { CanRun turns.now (machine_state machine.old) }
+    ensures after { OnOk result (machine_state machine.new ≡ ran turns.now (with_room (length turns.now) (machine_state machine.old))) }
+    ensures counts { IfOk result (λ counts. counts ≡ counts_in turns.now (machine_state machine.old)) }
+    ensures answers { OnOk result (answers.new.items ≡ (if keep then answers.old.items ++ answers_in turns.now (machine_state machine.old) else answers.old.items)) }
+    ensures same { OnErr result (machine_state machine.new ≡ machine_state machine.old) }
+    ensures kept { OnErr result (answers.new.items ≡ answers.old.items) }
+{
+    match machine {
+        AnyMachine::Narrow(machine) => run_machines(machine, turns, answers, keep),
+        AnyMachine::Wide(machine) => run_machines(machine, turns, answers, keep),
+    }
+}
