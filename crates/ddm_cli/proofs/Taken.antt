@@ -17,6 +17,7 @@ use Rattle.elf_load.specs.ElfFile.{image_of}
 use Rattle.report.specs.declared.roles.FileRole.TheVariants.{ImageFile, TreeFile, ScheduleFile, WitnessFile, CheckpointFile}
 use Rattle.ddm_cli.specs.Causes.{AcceptedAs, Accepts, IsUnscheduled, ScheduleCause}
 use Rattle.ddm_cli.specs.Parts.{IsStart, Parts, parts_in, tree_at, turns_at}
+use Rattle.ddm_cli.specs.Reads.{IsRanBy}
 use Rattle.ddm_cli.specs.Top.{AcceptsParts, AcceptsRun, Both, HasText, NotAccepted, text_at}
 use Rattle.ddm_cli.specs.Words.{Names}
 use Rattle.ddm_cli.specs.declared.status.Status.{Status}
@@ -35,20 +36,14 @@ ran_report turns before after counts counted made =
     let depth : depth_of after ≡ depth_of before = ap depth_of made ∙ ap (λ (f : Frame). levels_of f.bones) (run-frame turns before) in
     ap (λ n. report_of (view_of n counts after)) depth ∙ ap (λ c. report_of (view_of (depth_of before) c after)) counted ∙ ap (λ m. report_of (view_of (depth_of before) (counts_of (run_of turns before).answers) m)) made
 
--- the machine was made of this tree and image, and this is its report after these turns
-pub record IsRan (t : TreeValue) (i : ImageValue) (s : MachineState) (turns : List Turn) (text : List ℕ) : Type 0 where
-  pub tree : IsTree t
-  pub start : IsStart t i s
-  pub report : text ≡ report_text_of (depth_of s.machine) turns s.machine
-
 abbrev parts : TreeValue → ImageValue → Parts
 parts t i = record { tree = t; image = i }
 
-text_is : (t : TreeValue) (i : ImageValue) (s : MachineState) (turns : List Turn) (text : List ℕ) → IsRan t i s turns text → text_at (parts t i) turns ≡ text
+text_is : (t : TreeValue) (i : ImageValue) (s : MachineState) (turns : List Turn) (text : List ℕ) → IsTree t → IsStart t i s → text ≡ report_text_of (depth_of s.machine) turns s.machine → text_at (parts t i) turns ≡ text
 unfolding text_at
-text_is t i s turns text ran =
-    let machine : s.machine ≡ start_machine t i = ap (λ (s : MachineState). s.machine) ran.start.machine in
-    sym (ran.report ∙ ap (λ (m : MachineValue). report_text_of (depth_of m) turns m) machine ∙ ap (λ n. report_text_of n turns (start_machine t i)) (start_depth t i ran.tree ran.start.accepted))
+text_is t i s turns text tree start report =
+    let machine : s.machine ≡ start_machine t i = ap (λ (s : MachineState). s.machine) start.machine in
+    sym (report ∙ ap (λ (m : MachineValue). report_text_of (depth_of m) turns m) machine ∙ ap (λ n. report_text_of n turns (start_machine t i)) (start_depth t i tree start.accepted))
 
 takes_image : (image : Option (List ℕ)) (t : TreeValue) (i : ImageValue) (s : MachineState) → IsStart t i s → IfSome image (λ f. image_of t.item_bytes f ≡ Ok i) → Accepts (parts_in t) image
 takes_image None t i s start loaded = tt
@@ -65,16 +60,16 @@ takes_turns None levels turns taken = tt
 takes_turns (Some f) levels turns taken = rw taken refl
 
 has_text : (tree image schedule : Option (List ℕ)) (t : TreeValue) (i : ImageValue) (s : MachineState) (turns : List Turn) (text : List ℕ) → AcceptedAs tree_at tree t → IfSome image (λ f. image_of t.item_bytes f ≡ Ok i)
-    → AcceptedAs (turns_at t.levels) schedule turns → IsRan t i s turns text → HasText tree image schedule text
-has_text None image schedule t i s turns text a b c ran = tt
-has_text (Some f) None schedule t i s turns text a b c ran = tt
-has_text (Some f) (Some h) None t i s turns text a b c ran = tt
-has_text (Some f) (Some h) (Some k) t i s turns text a b c ran = rw (both_taken f h t i a b ran.start.accepted, c) (ap Some (text_is t i s turns text ran))
+    → AcceptedAs (turns_at t.levels) schedule turns → IsTree t → IsStart t i s → text ≡ report_text_of (depth_of s.machine) turns s.machine → HasText tree image schedule text
+has_text None image schedule t i s turns text a b c is start report = tt
+has_text (Some f) None schedule t i s turns text a b c is start report = tt
+has_text (Some f) (Some h) None t i s turns text a b c is start report = tt
+has_text (Some f) (Some h) (Some k) t i s turns text a b c is start report = rw (both_taken f h t i a b start.accepted, c) (ap Some (text_is t i s turns text is start report))
 
-pub all_taken : (tree image schedule : Option (List ℕ)) (t : TreeValue) (i : ImageValue) (s : MachineState) (turns : List Turn) (text : List ℕ) → AcceptedAs tree_at tree t → IfSome image (λ f. image_of t.item_bytes f ≡ Ok i)
-    → AcceptedAs (turns_at t.levels) schedule turns → IsRan t i s turns text → AcceptsRun tree image schedule × HasText tree image schedule text
-all_taken tree image schedule t i s turns text a b c ran =
-    ((takes_parts tree image t a (takes_image image t i s ran.start b), with_tree tree schedule t (λ levels k. IsSome (turns_at levels k)) a (takes_turns schedule t.levels turns c)), has_text tree image schedule t i s turns text a b c ran)
+pub all_taken : (tree image schedule : Option (List ℕ)) (t : TreeValue) (i : ImageValue) (s : MachineState) (text : List ℕ) → AcceptedAs tree_at tree t → IfSome image (λ f. image_of t.item_bytes f ≡ Ok i)
+    → IsTree t → IsStart t i s → IsRanBy t.levels schedule s.machine text → AcceptsRun tree image schedule × HasText tree image schedule text
+all_taken tree image schedule t i s text a b is start ran =
+    ((takes_parts tree image t a (takes_image image t i s start b), with_tree tree schedule t (λ levels k. IsSome (turns_at levels k)) a (takes_turns schedule t.levels ran.turns ran.accepted)), has_text tree image schedule t i s ran.turns text a b ran.accepted is start ran.report)
 
 -- why the schedule gave no turns, as a cause of the command: the count rose since the image was read, or before
 pub schedule_refused : {F : Type 0} (told : F → List ℕ → Option (List ℕ)) (faults : F → List ℕ → ℕ) (files files' : F) (n : Names) (t : TreeValue) (before : ℕ) (s : Status) → AcceptedAs tree_at (told files n.tree) t → AcceptsParts (told files n.tree) (told files n.image)

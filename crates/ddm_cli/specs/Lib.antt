@@ -1,7 +1,7 @@
 pub mod Code
 pub mod Words
-pub mod Reads
 pub mod Parts
 pub mod Causes
+pub mod Reads
 pub mod Refusals
 pub mod Top

@@ -38,6 +38,9 @@ pub record IsStart (t : TreeValue) (i : ImageValue) (s : MachineState) : Type 0 
   pub accepted : start_refusal t i ≡ None
   pub machine : s ≡ started t i
 
+abbrev pub HasStart : TreeValue → MachineState → Type 0
+HasStart t s = (i : ImageValue) × IsStart t i s
+
 -- the turns of a schedule file that is accepted for a tree with these levels
 unfoldable pub turns_at : List (List ℕ) → List ℕ → Option (List Turn)
 turns_at levels file = result_ok (schedule_of (shape_view levels) 0 file)
