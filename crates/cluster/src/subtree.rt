@@ -1,5 +1,5 @@
 use crate::cluster::Cluster;
-use ddm_tree::{Named, Subtree};
+use ddm_tree::{Found, Named, Subtree};
 use ddm_types::{
     BusNo, ChildNo, Code, Hold, ItemId, Items, LeafNo, LeafState, NoMemory, Stamp, Turn,
     TurnAnswer, Words,
@@ -63,6 +63,10 @@ impl<const WAYS: usize, const WORDS: usize> Subtree<WORDS> for Cluster<WAYS, WOR
         self.dir.down_below(bus, path, place)
     }
 
+    fn down_len_below(&self, bus: BusNo, path: &[ChildNo]) -> u32 {
+        self.dir.down_len_below(bus, path)
+    }
+
     fn parked_below(
         &self,
         bus: BusNo,
@@ -70,5 +74,9 @@ impl<const WAYS: usize, const WORDS: usize> Subtree<WORDS> for Cluster<WAYS, WOR
         item: ItemId,
     ) -> Option<(u32, Words<WORDS>)> {
         self.dir.parked_below(bus, path, item)
+    }
+
+    fn found_below(&self, item: ItemId) -> Option<Found<WORDS>> {
+        self.dir.found_below(item)
     }
 }

@@ -17,7 +17,7 @@ use Rattle.ddm_tree.specs.Holders.{IsHolder}
 -- ---- a list while a loop goes over it
 
 module _ {A : Type 0} (f : A → Node) (p : Node → Bool) where
-  drop-here : (k : ℕ) (xs : List A) (x : A) → k < length xs → x ≡ get_or xs k x → drop k xs ≡ x ∷ drop (suc k) xs
+  pub drop-here : (k : ℕ) (xs : List A) (x : A) → k < length xs → x ≡ get_or xs k x → drop k xs ≡ x ∷ drop (suc k) xs
   drop-here k [] x l is = absurd (omega (arith, l))
   drop-here zero (y ∷ ys) x l is = ap (λ z. z ∷ ys) (sym is)
   drop-here (suc k) (y ∷ ys) x l is = drop-here k ys x (omega (arith, l)) is

@@ -10,4 +10,7 @@ pub mod Recorded
 pub mod NewMachine
 pub mod Reading
 pub mod TurnMade
+pub mod FoundCopy
 pub mod Gathered
+pub mod LeafList
+pub mod Places

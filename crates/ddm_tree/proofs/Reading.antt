@@ -20,7 +20,7 @@ use Rattle.item_states.specs.Parts.{node_items}
 use Rattle.ddm_tree.specs.Machine.{IsMachine, is_part, listed_path}
 use Rattle.ddm_tree.specs.Path.{node_at, present_at}
 use Rattle.ddm_tree.specs.Ready.{IsChild, IsItemOf, Leads}
-use Rattle.ddm_tree.specs.Reads.{node_hart, node_entry, node_children, node_child, node_child_hold, node_down, node_parked, copy_pair, counted_hart_of, entry_at, parked_at}
+use Rattle.ddm_tree.specs.Reads.{node_hart, node_entry, node_children, node_child, node_child_hold, node_down, node_down_len, node_parked, copy_pair, counted_hart_of, down_len_of, entry_at, parked_at}
 use Rattle.ddm_tree.proofs.Along.{along, where_end, where_end-path, where_end-present, some_if-same}
 use Rattle.ddm_tree.proofs.Descend.{leads-child, within-child}
 use Rattle.ddm_tree.proofs.Names.{bus-there, path-there}
@@ -128,6 +128,13 @@ module _ (m : MachineValue) (bus : ℕ) (path : List ℕ) (leads : Leads (bus_of
       down-node : (w : Where) (n : Node) → node_down place n ≡ of_dir (λ w d ns. slice_get d.down place) None w n
       down-node w (leaf_node v) = refl
       down-node w (dir_node d ns) = refl
+
+  pub down_len-is : Some (node_down_len (node_at path (root_of m))) ≡ down_len_of bus m
+  down_len-is = ap Some (len-node (where_end at_top path (root_of m)) (node_at path (root_of m))) ∙ read-is m (bus_of_number bus) path leads (of_dir (λ w d ns. length d.down) 0)
+    where
+      len-node : (w : Where) (n : Node) → node_down_len n ≡ of_dir (λ w d ns. length d.down) 0 w n
+      len-node w (leaf_node v) = refl
+      len-node w (dir_node d ns) = refl
 
   pub parked-is : (x : ℕ) → Some (node_parked x (node_at path (root_of m))) ≡ parked_at bus x m
   parked-is x = ap Some (parked-node (where_end at_top path (root_of m)) (node_at path (root_of m))) ∙ read-is m (bus_of_number bus) path leads (of_dir (λ w d ns. node_parked x (dir_node d m.kids)) None)

@@ -1,18 +1,21 @@
 -- What is read of a leaf, or of a directory and its children, where a node is known to be one.
 -- Letters: n is a node, v a leaf, d a directory over the nodes ns, x an item, c a child.
 -- To be believed with the contracts: it is what the calls that read give.
-use Rattle.std.specs.Prelude.{ℕ, List, length, Option, Some, None, slice_get}
+use Rattle.std.specs.Prelude.{ℕ, List, length, Option, Some, None, option_map, slice_get}
 use Rattle.ddm_types.specs.declared.sizes.Hold.{Hold}
 use Rattle.ddm_types.specs.declared.sizes.LeafState.{LeafState}
 use Rattle.rv_hart.specs.HartState.{HartState}
+use Rattle.tree_model.specs.declared.CopyPlace.{CopyPlace}
 use Rattle.tree_model.specs.declared.LeafSpot.{LeafSpot}
 use Rattle.tree_model.specs.declared.TreeChild.{TreeChild}
-use Rattle.tree_model.specs.State.Values.{DownValue, Node, leaf_node, dir_node, children, MachineValue}
+use Rattle.tree_model.specs.State.Lists.{first_some}
+use Rattle.tree_model.specs.State.Values.{DownValue, DirValue, Node, leaf_node, dir_node, children, MachineValue}
 use Rattle.tree_model.specs.State.Blank.{no_hart}
 use Rattle.tree_model.specs.State.Leaf.{LeafEntry, leaf_entry, spot_at}
-use Rattle.tree_model.specs.State.Directory.{parked_words, parked_place}
+use Rattle.tree_model.specs.State.Directory.{parked_words, parked_place, queue_of}
 use Rattle.tree_model.specs.State.Child.{child_label, child_hold}
 use Rattle.tree_model.specs.Turns.Children.{child_at}
+use Rattle.tree_model.specs.Turns.Found.{down_place, queue_words}
 use Rattle.tree_model.specs.Turns.Machine.{ask_leaf, ask_bus}
 
 -- a leaf's hart, with how many instructions it has completed
@@ -43,11 +46,17 @@ abbrev pub node_child_hold : ℕ → ℕ → Node → Hold
 node_child_hold c x (leaf_node v) = Hold.Invalid
 node_child_hold c x (dir_node d ns) = child_hold x (child_at c (children ns))
 
--- an entry of the down list, and a parked copy with its place
+-- an entry of the down list
 abbrev pub node_down : ℕ → Node → Option DownValue
 node_down place (leaf_node v) = None
 node_down place (dir_node d ns) = slice_get d.down place
 
+-- how many entries there are
+abbrev pub node_down_len : Node → ℕ
+node_down_len (leaf_node v) = 0
+node_down_len (dir_node d ns) = length d.down
+
+-- a parked copy with its place
 abbrev pub copy_pair : Option ℕ → Option (List ℕ) → Option (ℕ × List ℕ)
 copy_pair (Some place) (Some words) = Some (place, words)
 copy_pair (Some place) None = None
@@ -56,6 +65,13 @@ copy_pair None words = None
 abbrev pub node_parked : ℕ → Node → Option (ℕ × List ℕ)
 node_parked x (leaf_node v) = None
 node_parked x (dir_node d ns) = copy_pair (parked_place x d) (parked_words x d)
+
+-- a directory's own copy: the last one in its down list, else the parked one
+abbrev pub own_place : ℕ → DirValue → Option CopyPlace
+own_place x d = first_some (option_map (λ k. CopyPlace.DownList d.bus k) (down_place x 0 d.down)) (option_map (λ k. CopyPlace.Parking d.bus k) (parked_place x d))
+
+abbrev pub own_words : ℕ → DirValue → Option (List ℕ)
+own_words x d = first_some (queue_words (queue_of x d.down)) (parked_words x d)
 
 -- ---- what is read of a machine
 
@@ -70,3 +86,7 @@ entry_at leaf x m = ask_leaf leaf (λ w v. entry_triple (leaf_entry x v) (spot_a
 -- the copy of an item that is parked at a bus: its place and its words
 abbrev pub parked_at : ℕ → ℕ → MachineValue → Option (Option (ℕ × List ℕ))
 parked_at bus x m = ask_bus bus (λ w d ns. copy_pair (parked_place x d) (parked_words x d)) None m
+
+-- how many entries the down list over a bus has
+abbrev pub down_len_of : ℕ → MachineValue → Option ℕ
+down_len_of bus m = ask_bus bus (λ w d ns. length d.down) 0 m

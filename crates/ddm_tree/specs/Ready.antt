@@ -54,3 +54,9 @@ IsChild c (dir_node d ns) = c < length (children ns)
 abbrev pub IsItemOf : ℕ → ℕ → Node → Type 0
 IsItemOf c x (leaf_node v) = ⊤
 IsItemOf c x (dir_node d ns) = x < node_items (child_at c (children ns))
+
+-- the node keeps something of the item, as each below it does
+pub record IsItemIn (x : ℕ) (n : Node) : Type 0 where
+  pub items : ℕ
+  pub within : all_within items n ≡ true
+  pub below : x < items

@@ -11,7 +11,7 @@ ghost use Rattle.item_states.specs.Parts.{node_items};
 ghost use Rattle.ddm_tree.specs.Path.{node_at, present_at, put_at, node_answer, node_turned};
 ghost use Rattle.ddm_tree.specs.Named.{name_of};
 ghost use Rattle.ddm_tree.specs.Ready.{IsReady, Leads, LeadsBelow, HasChild, IsChild, IsItemOf};
-ghost use Rattle.ddm_tree.specs.Reads.{node_hart, node_entry, node_children, node_child, node_child_hold, node_down, node_parked};
+ghost use Rattle.ddm_tree.specs.Reads.{node_hart, node_entry, node_children, node_child, node_child_hold, node_down, node_down_len, node_parked};
 
 use crate::named::Named;
 use crate::subtree::Subtree;
@@ -214,6 +214,21 @@ pub(crate) fn down_under<const WORDS: usize, P: Parent<WORDS>, C: Subtree<WORDS>
 {
     let (part, rest) = next(parent, children, Named::Bus(bus), path);
     part.down_below(bus, rest, place)
+}
+
+/// How many entries the down list over a bus below a directory has.
+pub(crate) fn down_len_under<const WORDS: usize, P: Parent<WORDS>, C: Subtree<WORDS>>(
+    parent: &P,
+    children: &[C],
+    bus: BusNo,
+    path: &[ChildNo],
+) -> u32
+    requires leads { Leads (bus_of_number bus) path.now (dir_node (P.state parent.now) (nodes (map C.value children.now))) }
+    requires on { 0 < length path.now }
+    ensures { result ≡ node_down_len (node_at path.now (dir_node (P.state parent.now) (nodes (map C.value children.now)))) }
+{
+    let (part, rest) = next(parent, children, Named::Bus(bus), path);
+    part.down_len_below(bus, rest)
 }
 
 /// The copy of an item that is parked at a bus below a directory, with its place.

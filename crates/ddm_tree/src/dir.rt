@@ -5,9 +5,10 @@ ghost use Rattle.tree_model.specs.State.Child.{child_full_for, child_take_data, 
 ghost use Rattle.item_states.specs.Parts.{node_items};
 
 use crate::below::{
-    child_under, children_under, down_under, entry_under, hart_under, hold_under, parked_under,
+    child_under, children_under, down_len_under, down_under, entry_under, hart_under, hold_under, parked_under,
     stamp_under, turn_under,
 };
+use crate::found::{Found, found_among, own_copy};
 use crate::named::Named;
 use crate::paths::path_up_under;
 use crate::subtree::Subtree;
@@ -185,6 +186,14 @@ impl<const WORDS: usize, C: Subtree<WORDS>> Subtree<WORDS> for Dir<WORDS, C> {
         }
     }
 
+    fn down_len_below(&self, bus: BusNo, path: &[ChildNo]) -> u32 {
+        if path.is_empty() {
+            self.state.down_len()
+        } else {
+            down_len_under(&self.state, &self.children, bus, path)
+        }
+    }
+
     fn parked_below(
         &self,
         bus: BusNo,
@@ -197,6 +206,13 @@ impl<const WORDS: usize, C: Subtree<WORDS>> Subtree<WORDS> for Dir<WORDS, C> {
             Some((place, words))
         } else {
             parked_under(&self.state, &self.children, bus, path, item)
+        }
+    }
+
+    fn found_below(&self, item: ItemId) -> Option<Found<WORDS>> {
+        match own_copy(&self.state, item) {
+            Some(found) => Some(found),
+            None => found_among(&self.children, item),
         }
     }
 }

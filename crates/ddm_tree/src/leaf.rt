@@ -1,3 +1,4 @@
+use crate::found::{Found, place_at};
 use crate::named::Named;
 use crate::subtree::Subtree;
 use crate::turns::{key_on, victim};
@@ -69,6 +70,10 @@ impl<const WAYS: usize, const WORDS: usize> Subtree<WORDS> for Leaf<WAYS, WORDS>
         None
     }
 
+    fn down_len_below(&self, _bus: BusNo, _path: &[ChildNo]) -> u32 {
+        0
+    }
+
     fn parked_below(
         &self,
         _bus: BusNo,
@@ -76,5 +81,11 @@ impl<const WAYS: usize, const WORDS: usize> Subtree<WORDS> for Leaf<WAYS, WORDS>
         _item: ItemId,
     ) -> Option<(u32, Words<WORDS>)> {
         None
+    }
+
+    fn found_below(&self, item: ItemId) -> Option<Found<WORDS>> {
+        let (_, words, spot) = self.entry(item)?;
+        let at = place_at(self.number(), spot);
+        Some(Found { at, words })
     }
 }

@@ -4,6 +4,7 @@
 
 mod below;
 mod dir;
+mod found;
 mod leaf;
 mod machine;
 mod named;
@@ -15,6 +16,7 @@ mod subtree;
 mod turns;
 
 pub use dir::Dir;
+pub use found::Found;
 pub use machine::Machine;
 pub use named::Named;
 pub use over::directories;

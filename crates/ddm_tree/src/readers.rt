@@ -1,17 +1,19 @@
 ghost use Rattle.std.specs.Prelude.{◌≡◌, ◌<◌, Some, is_some, true, map, option_copied, vec_items};
 ghost use Rattle.ddm_types.specs.ItemTable.{item_count};
-ghost use Rattle.tree_model.specs.State.Shape.{tree_counts};
+ghost use Rattle.tree_model.specs.State.Shape.{IsShaped, tree_counts};
 ghost use Rattle.tree_model.specs.State.Values.{root_of};
+ghost use Rattle.tree_model.specs.Turns.Found.{found_copy};
 ghost use Rattle.tree_model.specs.Turns.Machine.{child_count, child_hold_of, child_of, down_entry_of, granted_of, grants_of, is_child_of, now_of};
 ghost use Rattle.tree_model.specs.Turns.Tree.{leaf_of_number, bus_of_number};
 ghost use Rattle.ddm_tree.specs.Machine.{is_part};
 ghost use Rattle.ddm_tree.specs.Ready.{Leads};
-ghost use Rattle.ddm_tree.specs.Reads.{counted_hart_of, entry_at, parked_at};
+ghost use Rattle.ddm_tree.specs.Reads.{counted_hart_of, down_len_of, entry_at, parked_at};
 
 use crate::below::{
-    child_under, children_under, down_under, entry_under, hart_under, hold_under, parked_under,
+    child_under, children_under, down_len_under, down_under, entry_under, hart_under, hold_under, parked_under,
     stamp_under,
 };
+use crate::found::{Found, found_among};
 use crate::machine::Machine;
 use crate::subtree::Subtree;
 use crate::turns::key_on;
@@ -52,7 +54,8 @@ impl<const WORDS: usize, C: Subtree<WORDS>> Machine<WORDS, C> {
 
     /// How many leaves, buses and levels of buses the tree has.
     pub fn counts(&self) -> TreeCounts
-        ensures { result ≡ tree_counts self.now.machine }
+        ensures counts { result ≡ tree_counts self.now.machine }
+        ensures shape { IsShaped self.now.machine }
     {
         self.counts
     }
@@ -118,6 +121,19 @@ impl<const WORDS: usize, C: Subtree<WORDS>> Machine<WORDS, C> {
         }
     }
 
+    /// How many entries the down list over a bus has.
+    pub fn down_len(&self, bus: BusNo) -> u32
+        requires { is_part (bus_of_number bus) self.now.machine ≡ true }
+        ensures { Some result ≡ down_len_of bus self.now.machine }
+    {
+        let path = self.bus_path(bus);
+        if path.is_empty() {
+            self.top.down_len()
+        } else {
+            down_len_under(&self.top, &self.children, bus, path)
+        }
+    }
+
     /// The copy of an item that is parked at a bus: its place, counted from 0, and its words.
     pub fn parked(&self, bus: BusNo, item: ItemId) -> Option<(u32, Words<WORDS>)>
         requires bus { is_part (bus_of_number bus) self.now.machine ≡ true }
@@ -148,6 +164,21 @@ impl<const WORDS: usize, C: Subtree<WORDS>> Machine<WORDS, C> {
         ensures { Leads (bus_of_number bus) result.now (root_of self.now.machine) }
     {
         &self.bus_paths[bus.0 as usize]
+    }
+
+    /// The found copy of an item.
+    pub fn found(&self, item: ItemId) -> Option<Found<WORDS>>
+        requires { item < item_count self.now.machine.items }
+        ensures { result ≡ found_copy item self.now.machine }
+    {
+        found_among(&self.children, item)
+    }
+
+    /// For each bus how many transactions of each kind it has granted.
+    pub fn traffic(&self) -> &[Traffic]
+        ensures { result.now ≡ self.now.machine.traffic }
+    {
+        &self.traffic
     }
 
     /// How many transactions of a kind a bus has granted.

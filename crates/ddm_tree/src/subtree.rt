@@ -2,14 +2,16 @@ ghost use Rattle.std.specs.Prelude.{◌≡◌, ◌*◌, ◌<◌, true, IfOk, opt
 ghost use Rattle.ddm_types.specs.ItemTable.{item_count};
 ghost use Rattle.tree_model.specs.State.Child.{child_label};
 ghost use Rattle.tree_model.specs.State.Shape.{skeleton, widths_fit};
+ghost use Rattle.tree_model.specs.Turns.Found.{found_of, place_found, words_found};
 ghost use Rattle.tree_model.specs.Turns.Machine.{named_by, bus_turn_of};
 ghost use Rattle.tree_model.specs.Turns.Tree.{leaf_of_number, bus_of_number};
 ghost use Rattle.item_states.specs.Parts.{node_items};
 ghost use Rattle.ddm_tree.specs.Path.{path_to, node_at, present_at, put_at, node_answer, node_turned};
 ghost use Rattle.ddm_tree.specs.Named.{name_of};
-ghost use Rattle.ddm_tree.specs.Ready.{IsReady, Leads, LeadsBelow, HasChild, IsChild, IsItemOf};
-ghost use Rattle.ddm_tree.specs.Reads.{node_hart, node_entry, node_children, node_child, node_child_hold, node_down, node_parked};
+ghost use Rattle.ddm_tree.specs.Ready.{IsReady, Leads, LeadsBelow, HasChild, IsChild, IsItemIn, IsItemOf};
+ghost use Rattle.ddm_tree.specs.Reads.{node_hart, node_entry, node_children, node_child, node_child_hold, node_down, node_down_len, node_parked};
 
+use crate::found::Found;
 use crate::named::Named;
 use ddm_types::{
     BusNo, ChildNo, Code, Hold, ItemId, Items, LeafNo, LeafState, NoMemory, Stamp, Turn,
@@ -94,6 +96,11 @@ pub trait Subtree<const WORDS: usize>: Agent<WORDS> {
         requires { LeadsBelow (bus_of_number bus) path.now (Self.value self.now) }
         ensures { result ≡ node_down place (node_at path.now (Self.value self.now)) };
 
+    /// How many entries the down list over this bus has.
+    fn down_len_below(&self, bus: BusNo, path: &[ChildNo]) -> u32
+        requires { LeadsBelow (bus_of_number bus) path.now (Self.value self.now) }
+        ensures { result ≡ node_down_len (node_at path.now (Self.value self.now)) };
+
     /// The copy of an item that is parked at this bus, with its place.
     fn parked_below(
         &self,
@@ -104,4 +111,9 @@ pub trait Subtree<const WORDS: usize>: Agent<WORDS> {
         requires leads { LeadsBelow (bus_of_number bus) path.now (Self.value self.now) }
         requires in_range { item < node_items (node_at path.now (Self.value self.now)) }
         ensures { result ≡ node_parked item (node_at path.now (Self.value self.now)) };
+
+    /// The found copy of an item in this part.
+    fn found_below(&self, item: ItemId) -> Option<Found<WORDS>>
+        requires { IsItemIn item (Self.value self.now) }
+        ensures { result ≡ found_of (place_found item (Self.value self.now)) (words_found item (Self.value self.now)) };
 }

@@ -1,5 +1,6 @@
 pub mod Changes
 pub mod ItemWords
+pub mod LastCopy
 pub mod Leaving
 pub mod Lists
 pub mod Packing

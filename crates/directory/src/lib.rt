@@ -2,6 +2,7 @@
 //! below.
 #![tactic(auto)]
 
+mod last_copy;
 mod lower;
 mod packed;
 mod state;

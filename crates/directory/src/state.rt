@@ -1,11 +1,13 @@
 ghost use Rattle.std.specs.Prelude.{◌≡◌, ℕ, ◌+◌, ◌<◌, ◌≤◌, ◌^◌, false, true, List, [], length, map, replicate, Option, None, option_copied, option_map, slice_get, IfOk, IfSome, is_some, unwrap_or};
 ghost use Rattle.ddm_types.specs.declared.sizes.Hold.TheVariants.{Exclusive};
 ghost use Rattle.tree_model.specs.State.Values.{DirValue, absent_item};
-ghost use Rattle.tree_model.specs.State.Directory.{parked_place, with_hold};
+ghost use Rattle.tree_model.specs.State.Directory.{parked_place, queue_of, with_hold};
+ghost use Rattle.tree_model.specs.Turns.Found.{down_place, queue_words};
 ghost use Rattle.tree_model.specs.Start.Nodes.{dir_sizes, new_dir};
 ghost use Rattle.directory.specs.Packed.{packed_item};
 
 use crate::ItemTable;
+use crate::last_copy::later_copy;
 use ddm_types::{BusNo, Hold, ItemId, NoMemory, Stamp, TreeSizes, TxKind, Words};
 use item_states::DownEntry;
 use replacement::Parking;
@@ -116,6 +118,25 @@ impl<const WORDS: usize> DirState<WORDS> {
         ensures { option_copied result ≡ slice_get self.now.down place }
     {
         self.down.get(place)
+    }
+
+    /// How many entries stand in the down list.
+    pub fn down_len(&self) -> u32
+        ensures { result ≡ length self.now.down }
+    {
+        self.down.len()
+    }
+
+    /// The last data or inject of an item in the down list: its place and its words.
+    pub fn last_copy(&self, item: ItemId) -> Option<(u32, Words<WORDS>)>
+        ensures place { option_map (λ c. c.0) result ≡ down_place item 0 self.now.down }
+        ensures words { option_map (λ c. c.1) result ≡ queue_words (queue_of item self.now.down) }
+    {
+        let mut last = None;
+        for place in 0..self.down.len() {
+            last = later_copy(&self.down, item, place, last);
+        }
+        last
     }
 
     /// What it keeps of each item, as one word: bits 0 and 1 have the hold (0 invalid, 1 shared, 2 exclusive), bits 2 and 3

@@ -30,3 +30,7 @@ ClaimsAfterCopies s m t = (x : ℕ) → x < items_of_machine m → Holds (copy_r
 -- with these a bus's turn keeps the core rules, with the same start
 abbrev pub BusTurnKeepsCore : Type 0
 BusTurnKeepsCore = (s : FlatMachine) (m : MachineValue) (t : Turn) → IsShaped m → IsMachineOk m → IsTimed m → IsBusTurn t → CommandsPastAfter s m t → ReservationsAfter s m t → ClaimsAfterCopies s m t → IsCore s m → IsCore s (after_bus t m)
+
+-- it keeps each claim after the ends of the copies beside it
+abbrev pub BusTurnKeepsClaims : Type 0
+BusTurnKeepsClaims = (s : FlatMachine) (m : MachineValue) (t : Turn) → IsShaped m → IsMachineOk m → IsTimed m → IsBusTurn t → IsCore s m → ClaimsAfterCopies s m t

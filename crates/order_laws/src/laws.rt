@@ -1,6 +1,6 @@
 //! The rules of order after a turn.
 
-ghost use Rattle.order_laws.specs.EveryTurn.{EveryTurnKeepsTime};
+ghost use Rattle.order_laws.specs.EveryTurn.{EveryTurnKeepsTime, TurnKeepsCore, RunStaysOrderly};
 ghost use Rattle.order_laws.specs.Hart.{HartTurnKeepsCore};
 ghost use Rattle.order_laws.specs.Timed.{TurnKeepsCommands};
 
@@ -15,4 +15,10 @@ pub fn turn_keeps_time()
 /// and each hart, each copy's words and each reservation as the flat machine has them after it.
 pub fn hart_turn_keeps_order()
     ensures { HartTurnKeepsCore }
+{}
+
+/// Every turn keeps the core rules of order, whatever it answers. So a run keeps all that makes a machine be in order.
+pub fn turn_keeps_order()
+    ensures turn { TurnKeepsCore }
+    ensures run { RunStaysOrderly }
 {}

@@ -3,12 +3,14 @@
 #![tactic(auto)]
 
 mod answers;
+mod any;
 mod buses;
 mod effects;
 mod fault_line;
 mod faults;
 mod harts;
 mod items;
+mod machine;
 mod numbers;
 mod operations;
 mod pieces;
@@ -19,12 +21,14 @@ mod writing;
 pub use answers::{
     push_answer, push_busy, push_entry, push_kind, push_place, push_queue_name, push_why,
 };
+pub use any::{report_text, summary_text};
 pub use buses::push_bus_line;
 pub use effects::{push_effect, push_halt, push_state};
 pub use fault_line::{FaultLine, LINE_BYTES};
 pub use faults::{memory_line, read_line, unbuilt_line, usage_line, write_line};
 pub use harts::{push_hart_line, push_head, push_out_line, push_regs_line, push_turns_line};
 pub use items::{push_copy_place, push_item_line, push_letters};
+pub use machine::{machine_report, machine_summary};
 pub use operations::{push_key, push_op_line, push_op_lines};
 pub use pieces::{push_bytes, push_number, push_words};
 pub use roles::FileRole;

@@ -80,6 +80,13 @@ impl Hart {
         }
     }
 
+    /// All registers, by number.
+    pub fn registers(&self) -> [u32; 32]
+        ensures { result ≡ self.now.hart.registers }
+    {
+        self.registers
+    }
+
     pub fn pc(&self) -> u32
         ensures { result ≡ self.now.hart.pc }
     {

@@ -54,6 +54,13 @@ impl<const WORDS: usize> TopState<WORDS> {
         self.down.get(place)
     }
 
+    /// How many entries stand in the down list.
+    pub fn down_len(&self) -> u32
+        ensures { result ≡ length self.now.down }
+    {
+        self.down.len()
+    }
+
     /// The place of an item's parked copy: the top parks nothing.
     pub fn parked_at(&self, _item: ItemId) -> Option<u32>
         ensures { result ≡ parked_place _item self.now }

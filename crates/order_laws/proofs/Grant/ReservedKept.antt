@@ -72,18 +72,18 @@ pub record HeldEntry (y : ℕ) (v : LeafValue) : Type 0 where
   pub is : leaf_entry y v ≡ Some entry
   pub held : is_held (entry_hold (Some entry.state)) ≡ true
 
-held-entry : (y : ℕ) (v : LeafValue) → is_held (leaf_hold y v) ≡ true → HeldEntry y v
+pub held-entry : (y : ℕ) (v : LeafValue) → is_held (leaf_hold y v) ≡ true → HeldEntry y v
 unfolding leaf_hold
 held-entry y v h = go (leaf_entry y v) refl h where
   go : (o : Option LeafEntry) → leaf_entry y v ≡ o → is_held (entry_hold (option_map entry_state o)) ≡ true → HeldEntry y v
   go None is held = cc
   go (Some e) is held = record { entry = e; is = is; held = held }
 
-reserved-is : (q : Option ℕ) (y : ℕ) → has_reserved q y ≡ true → q ≡ Some y
+pub reserved-is : (q : Option ℕ) (y : ℕ) → has_reserved q y ≡ true → q ≡ Some y
 reserved-is None y h = cc
 reserved-is (Some z) y h = ap Some (eqb-true z y h)
 
--- ---- what is taken from elsewhere
+-- ---- the copies at a leaf's place
 
 -- a copy after comes from that of the leaf's own entry before, and has ended where that had
 pub record FromOwn (x : ℕ) (m : MachineValue) (a : LeafAt) (k' : CopyAt) : Type 0 where
@@ -93,9 +93,9 @@ pub record FromOwn (x : ℕ) (m : MachineValue) (a : LeafAt) (k' : CopyAt) : Typ
   pub clock : source.clock ≡ spot_moment a.spot
   pub ended : (key : List ℕ) → Holds (core.ended_before source key) → Holds (core.ended_before k' key)
 
--- where a leaf keeps its words of an item, each copy at its place does
+-- where a leaf held an item, each copy at its place afterwards comes from its own entry
 abbrev pub OwnCopyStays : MachineValue → Turn → LeafAt → LeafAt → Type 0
-OwnCopyStays m t a b = (x : ℕ) → x < items_of_machine m → is_held (leaf_hold x a.leaf) ≡ true → held_words (leaf_entry x b.leaf) ≡ held_words (leaf_entry x a.leaf) → AllByRecursion (λ k. k.place ≡ leaf_path b → FromOwn x m a k) (copies_of x (after_bus t m))
+OwnCopyStays m t a b = (x : ℕ) → x < items_of_machine m → is_held (leaf_hold x a.leaf) ≡ true → AllByRecursion (λ k. k.place ≡ leaf_path b → FromOwn x m a k) (copies_of x (after_bus t m))
 
 abbrev pub OwnCopiesStay : MachineValue → Turn → Type 0
 OwnCopiesStay m t = Pairs (OwnCopyStays m t) (leaves_at m) (leaves_at (after_bus t m))
@@ -133,7 +133,7 @@ module _ (s : FlatMachine) (m : MachineValue) (t : Turn) (order : IsCore s m) wh
     all-between y low held words =
         let e : HeldEntry y b.leaf = held-entry y b.leaf (held-by_words y a.leaf b.leaf words held) in
         let c : CopyOf (IsLateCopy y) b e.entry = after y low e.entry e.is e.held in
-        let from : FromOwn y m a c.copy = each-in (λ k. k.place ≡ leaf_path b → FromOwn y m a k) c.copy (copies_of y next) (stays y low held words) c.fact.1 c.place in
+        let from : FromOwn y m a c.copy = each-in (λ k. k.place ≡ leaf_path b → FromOwn y m a k) c.copy (copies_of y next) (stays y low held) c.fact.1 c.place in
         let knows : Holds (each (core.knows_change depth m.items y from.source) m.ops) = each-in (λ k. Holds (each (core.knows_change depth m.items y k) m.ops)) from.source (copies_of y m) (each-facts (λ k. each (core.knows_change depth m.items y k) m.ops) (copies_of y m) (order.copies y low clocks_know)) from.there in
         each-both (IsOwnBefore depth a) (λ o. Holds (core.knows_change depth m.items y from.source o)) (Between y) (λ o own known. between depth m.items y a b from.source c.copy from.ended from.place from.clock c.tail c.now c.fact.0 rises o own known) m.ops ready.own (each-facts (core.knows_change depth m.items y from.source) m.ops knows)
 

@@ -87,7 +87,7 @@ module _ (x : ℕ) where
 
 -- ---- which changes the entry has: those before the leaf's `now`
 
-less-append : (a b t : List ℕ) → less a b ≡ true → less a (b ++ t) ≡ true
+pub less-append : (a b t : List ℕ) → less a b ≡ true → less a (b ++ t) ≡ true
 less-append a [] t h = absurd (let wrong : ⊥ = cc in wrong)
 less-append [] (n ∷ b) t h = refl
 less-append (m ∷ a) (n ∷ b) t h = go (less-parts m n a b h) (less-append a b t) where
@@ -95,7 +95,7 @@ less-append (m ∷ a) (n ∷ b) t h = go (less-parts m n a b h) (less-append a b
   go (inl i) rest = less-head m n a (b ++ t) i
   go (inr i) rest = less-tail m n a (b ++ t) i.0 (rest i.1)
 
-before-append : (k t e : List ℕ) → length e ≤ length k → before k e ≡ true → before (k ++ t) e ≡ true
+pub before-append : (k t e : List ℕ) → length e ≤ length k → before k e ≡ true → before (k ++ t) e ≡ true
 before-append k t e l h = ap (λ q. less q e) (take-append-le (length e) k t l) ∙ h
 
 -- an end of the leaf's copy comes after the leaf's `now`

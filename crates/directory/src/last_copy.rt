@@ -1,0 +1,33 @@
+ghost use Rattle.std.specs.Prelude.{◌≡◌, ◌<◌, ◌&&◌, Some, length, nat_eq, slice_get, if◌then◌else◌};
+ghost use Rattle.tree_model.specs.State.Kinds.{brings_copy};
+ghost use Rattle.tree_model.specs.State.Values.{DownValue};
+
+use ddm_types::{ItemId, TxKind, Words};
+use item_states::DownEntry;
+use tx_queue::Queue;
+
+/// Whether a transaction of this kind brings a copy down.
+fn brings_copy(kind: TxKind) -> bool
+    ensures { result ≡ brings_copy kind }
+{
+    match kind {
+        TxKind::DataTx | TxKind::InjectTx => true,
+        TxKind::ReadTx | TxKind::EraseTx | TxKind::ExclusiveTx | TxKind::OutTx => false,
+    }
+}
+
+/// The copy at this place of a down list, where it is one of the item; else what was found before.
+pub(crate) fn later_copy<const WORDS: usize>(
+    down: &Queue<DownEntry<WORDS>>,
+    item: ItemId,
+    place: u32,
+    before: Option<(u32, Words<WORDS>)>,
+) -> Option<(u32, Words<WORDS>)>
+    requires { place < length down.now.list }
+    ensures { (e : DownValue) → slice_get down.now.list place ≡ Some e → result ≡ (if nat_eq item e.item && brings_copy e.kind then Some (place, e.words) else before.entry) }
+{
+    match down.get(place) {
+        Some(entry) if item == entry.item && brings_copy(entry.kind) => Some((place, entry.words)),
+        _ => before,
+    }
+}

@@ -1,0 +1,79 @@
+//! What can be asked of a machine of any tree: the found copy of an item, the state of its entry at a leaf, and what a bus has
+//! granted.
+#![tactic(auto)]
+
+ghost use Rattle.std.specs.Prelude.{◌≡◌, ◌<◌, ◌≤◌, Some, true, IfOk, slice_index_or};
+ghost use Rattle.ddm_types.specs.ItemTable.{item_count};
+ghost use Rattle.tree_model.specs.Turns.Found.{found_copy, states_of};
+ghost use Rattle.tree_model.specs.Turns.Machine.{no_traffic};
+ghost use Rattle.tree_model.specs.Turns.Tree.{leaf_of_number, bus_of_number};
+ghost use Rattle.ddm_tree.specs.Machine.{is_part};
+ghost use Rattle.inspector.specs.States.{state_of};
+
+use ddm_tree::{Machine, Subtree};
+use ddm_types::{BusNo, ItemId, LeafNo, LeafState, NoMemory, TxKind};
+use std::alloc::Global;
+use tree_model::Traffic;
+
+pub use ddm_tree::Found;
+
+/// The current copy of an item, as the report shows it.
+pub fn find<const WORDS: usize, C: Subtree<WORDS>>(
+    machine: &Machine<WORDS, C>,
+    item: ItemId,
+) -> Option<Found<WORDS>>
+    requires { item < item_count machine.now.machine.items }
+    ensures { result ≡ found_copy item machine.now.machine }
+{
+    machine.found(item)
+}
+
+/// The state of a leaf's entry of an item.
+pub fn state<const WORDS: usize, C: Subtree<WORDS>>(
+    machine: &Machine<WORDS, C>,
+    item: ItemId,
+    leaf: LeafNo,
+) -> Option<LeafState>
+    requires small { WORDS ≤ 16 }
+    requires leaf { is_part (leaf_of_number leaf) machine.now.machine ≡ true }
+    requires item { item < item_count machine.now.machine.items }
+    ensures { Some result ≡ state_of leaf item machine.now.machine }
+{
+    let (state, _, _) = machine.leaf_entry(leaf, item)?;
+    Some(state)
+}
+
+/// The state of each leaf's entry of an item, by the leaf's number.
+pub fn states<const WORDS: usize, C: Subtree<WORDS>>(
+    alloc: Global,
+    machine: &Machine<WORDS, C>,
+    item: ItemId,
+) -> Result<Vec<Option<LeafState>>, NoMemory>
+    requires small { WORDS ≤ 16 }
+    requires item { item < item_count machine.now.machine.items }
+    ensures { IfOk result (λ states. states.items ≡ states_of item machine.now.machine) }
+{
+    let mut states = Vec::new(alloc);
+    for leaf in 0..machine.counts().leaves {
+        states.push(state(machine, item, LeafNo(leaf)))?;
+    }
+    Ok(states)
+}
+
+/// How many transactions of each kind a bus has granted.
+pub fn traffic<const WORDS: usize, C: Subtree<WORDS>>(
+    machine: &Machine<WORDS, C>,
+    bus: BusNo,
+) -> Traffic
+    requires { is_part (bus_of_number bus) machine.now.machine ≡ true }
+    ensures { result ≡ slice_index_or machine.now.machine.traffic bus no_traffic }
+{
+    Traffic {
+        reads: machine.granted(bus, TxKind::ReadTx),
+        copies: machine.granted(bus, TxKind::DataTx),
+        erases: machine.granted(bus, TxKind::EraseTx),
+        exclusives: machine.granted(bus, TxKind::ExclusiveTx),
+        outs: machine.granted(bus, TxKind::OutTx),
+        injects: machine.granted(bus, TxKind::InjectTx),
+    }
+}

@@ -1,0 +1,110 @@
+-- The lines of a machine's harts, buses and items, one more at a time.
+use Rattle.std.proofs.Common.{◌≡◌, ◌<◌, ◌≤◌, ℕ, zero, suc, ◌+◌, ◌++◌, List, [], ◌∷◌, length, map, take, Some, true, get_or, refl, sym, ap, ◌∙◌, arith, add-one, add-zero, zero-add}
+use Rattle.std.specs.Prelude.{slice_get, slice_index_or, nat_le, nat_eq}
+use Rattle.std.specs.List.{flat_map}
+use Rattle.std.proofs.lemmas.Bool.{eqb-true, leb-true}
+use Rattle.std.proofs.lemmas.List.{append-nil, append_assoc, length-take-le, length-map}
+use Rattle.std.proofs.lemmas.Grind.{flat_map-append}
+use Rattle.ddm_types.specs.ItemTable.{ItemRow, no_row}
+use Rattle.rv_hart.specs.HartState.{HartState}
+use Rattle.tree_model.specs.declared.Traffic.{Traffic}
+use Rattle.tree_model.specs.State.Values.{LeafValue, MachineValue, root_of}
+use Rattle.tree_model.specs.State.Blank.{no_hart}
+use Rattle.tree_model.specs.State.Shape.{IsShaped, Skeleton, Skeletons, leaf_bone, dir_bone, no_bones, more_bones, skeleton, levels_of, first_levels, levels_fit, levels_fit_among, are_below, depth_of, tree_counts, buses_of, levels_known, traffic_counted}
+use Rattle.tree_model.specs.Turns.Machine.{machine_leaves, no_traffic}
+use Rattle.tree_model.proofs.Tests.{and-first, and-second}
+use Rattle.text_model.specs.Report.{HartView, ItemView, bus_line, bus_lines, bus_lines_from, item_line, item_lines}
+use Rattle.text_model.specs.Run.{item_view, item_views, view_of}
+use Rattle.ddm_tree.specs.Reads.{counted_hart_of}
+use Rattle.ddm_tree.proofs.LeafList.{leaf-listed, leaf-number, leaves-counted}
+use Rattle.report.specs.MachineView.{harts_of}
+
+taken-one : {X : Type 0} (xs : List X) (k : ℕ) (x : X) → slice_get xs k ≡ Some x → take (suc k) xs ≡ take k xs ++ x ∷ []
+taken-one [] k x is = cc
+taken-one (y ∷ ys) zero x is = cc
+taken-one (y ∷ ys) (suc k) x is = ap (λ zs. y ∷ zs) (taken-one ys k x is)
+
+-- ---- a line for each element
+
+pub more-lines : {X : Type 0} (f : X → List ℕ) (xs : List X) (k : ℕ) (x : X) → slice_get xs k ≡ Some x → flat_map f (take (k + 1) xs) ≡ flat_map f (take k xs) ++ f x
+more-lines f xs k x is = rw (add-one, taken-one xs k x is) (flat_map-append f (take k xs) (x ∷ []) ∙ ap (λ t. flat_map f (take k xs) ++ t) (append-nil (f x)))
+
+-- ---- harts
+
+abbrev state_in : LeafValue → HartState
+state_in v = record { hart = v.hart; done = v.done }
+
+view-at : (vs : List LeafValue) (k n : ℕ) (h : HartState) (f : LeafValue → HartView) → slice_get (map state_in vs) k ≡ Some h → ((v : LeafValue) → f v ≡ record { number = v.number; hart = v.hart; done = v.done }) → ((v : LeafValue) → slice_get vs k ≡ Some v → v.number ≡ n) → slice_get (map f vs) k ≡ Some (record { number = n; hart = h.hart; done = h.done })
+view-at [] k n h f is shows numbered = cc
+view-at (v ∷ vs) zero n h f is shows numbered =
+    let state : state_in v ≡ h = cc in
+    let number : v.number ≡ n = numbered v refl in
+    rw (shows v, number, ← state) refl
+view-at (v ∷ vs) (suc k) n h f is shows numbered = view-at vs k n h f is shows numbered
+
+pub hart-shown : (m : MachineValue) (k : ℕ) (h : HartState) → IsShaped m → Some h ≡ counted_hart_of k m → slice_get (harts_of m) k ≡ Some (record { number = k; hart = h.hart; done = h.done })
+unfolding view_of
+hart-shown m k h shaped is = view-at (machine_leaves m) k k h _ (leaf-listed state_in (record { hart = no_hart; done = 0 }) k m shaped ∙ sym is) (λ v. refl) (λ v there. leaf-number k m v shaped there)
+
+pub harts-counted : (m : MachineValue) → length (harts_of m) ≡ (tree_counts m).leaves
+unfolding view_of
+harts-counted m = length-map (machine_leaves m) _ ∙ sym (leaves-counted m)
+
+-- ---- buses
+
+buses-pushed : (b : ℕ) (ts : List Traffic) (t : Traffic) → bus_lines_from b (ts ++ t ∷ []) ≡ bus_lines_from b ts ++ bus_line (b + length ts) t
+unfolding bus_lines_from
+buses-pushed b [] t = append-nil (bus_line b t) ∙ ap (λ n. bus_line n t) (sym (add-zero b))
+buses-pushed b (u ∷ us) t =
+    let next : b + 1 + length us ≡ b + suc (length us) = omega arith in
+    ap (λ l. bus_line b u ++ l) (buses-pushed (b + 1) us t ∙ ap (λ n. bus_lines_from (b + 1) us ++ bus_line n t) next) ∙ sym (append_assoc (bus_line b u) (bus_lines_from (b + 1) us) (bus_line (b + suc (length us)) t))
+
+got-some : {X : Type 0} (xs : List X) (k : ℕ) (d : X) → k < length xs → slice_get xs k ≡ Some (get_or xs k d)
+got-some [] k d l = absurd (omega (arith, l))
+got-some (y ∷ ys) zero d l = refl
+got-some (y ∷ ys) (suc k) d l = got-some ys k d (omega (arith, l))
+
+pub more-buses : (ts : List Traffic) (k : ℕ) → k < length ts → bus_lines (take (k + 1) ts) ≡ bus_lines (take k ts) ++ bus_line k (get_or ts k no_traffic)
+more-buses ts k l =
+    let size : length (take k ts) ≡ k = length-take-le k ts (omega (arith, l)) in
+    let t = get_or ts k no_traffic in
+    rw (add-one, taken-one ts k t (got-some ts k no_traffic l)) (buses-pushed 0 (take k ts) t ∙ ap (λ n. bus_lines (take k ts) ++ bus_line n t) (zero-add (length (take k ts)) ∙ size))
+
+-- traffic is counted for each bus
+pub buses-counted : (m : MachineValue) → IsShaped m → length m.traffic ≡ (tree_counts m).buses
+buses-counted m shaped = sym (eqb-true _ _ (and-first _ (are_below (length m.traffic) (buses_of (skeleton (root_of m)) [])) (shaped.each traffic_counted)))
+
+-- ---- items
+
+views-pushed : (m : MachineValue) (x : ℕ) (rows : List ItemRow) (row : ItemRow) → item_views m x (rows ++ row ∷ []) ≡ item_views m x rows ++ item_view m (x + length rows) row ∷ []
+views-pushed m x [] row = ap (λ n. item_view m n row ∷ []) (sym (add-zero x))
+views-pushed m x (r ∷ rows) row =
+    let next : x + 1 + length rows ≡ x + suc (length rows) = omega arith in
+    ap (λ (vs : List ItemView). item_view m x r ∷ vs) (views-pushed m (x + 1) rows row ∙ ap (λ n. item_views m (x + 1) rows ++ item_view m n row ∷ []) next)
+
+pub more-items : (m : MachineValue) (rows : List ItemRow) (k : ℕ) → k < length rows → item_lines (item_views m 0 (take (k + 1) rows)) ≡ item_lines (item_views m 0 (take k rows)) ++ item_line (item_view m k (slice_index_or rows k no_row))
+unfolding item_lines
+more-items m rows k inside =
+    let size : length (take k rows) ≡ k = length-take-le k rows (omega arith) in
+    let row = slice_index_or rows k no_row in
+    rw (add-one, taken-one rows k row (got-some rows k no_row inside), views-pushed m 0 (take k rows) row, size, zero-add k)
+    (flat_map-append item_line (item_views m 0 (take k rows)) (item_view m k row ∷ []) ∙ ap (λ t. flat_map item_line (item_views m 0 (take k rows)) ++ t) (append-nil (item_line (item_view m k row))))
+
+-- ---- levels
+
+mutual
+  levels-few : (depth above : ℕ) (b : Skeleton) → above ≤ 4 → levels_fit depth above b ≡ true → levels_of b + above ≤ 4
+  levels-few depth above (leaf_bone number sizes) l e = omega (arith, l)
+  levels-few depth above (dir_bone bus level sizes bones) l e =
+      let few : above ≤ 3 = leb-true _ _ (and-first _ (levels_fit_among depth (above + 1) bones) (and-second (nat_eq level above) _ e)) in
+      let below = first-few depth (above + 1) bones (omega (arith, few)) (and-second (nat_le above 3) _ (and-second (nat_eq level above) _ e)) in
+      omega (arith, below)
+
+  first-few : (depth above : ℕ) (bs : Skeletons) → above ≤ 4 → levels_fit_among depth above bs ≡ true → first_levels bs + above ≤ 4
+  first-few depth above no_bones l e = omega (arith, l)
+  first-few depth above (more_bones b bs) l e = levels-few depth above b l (and-first _ (levels_fit_among depth above bs) e)
+
+pub depth-few : (m : MachineValue) → IsShaped m → depth_of m ≤ 4
+depth-few m shaped =
+    let few = levels-few (depth_of m) 0 (skeleton (root_of m)) (omega arith) (shaped.each levels_known) in
+    omega (arith, few)
