@@ -1,15 +1,14 @@
--- What was judged of a tree, an image and a schedule, as the parts of a machine.
-use Rattle.std.proofs.Common.{◌≡◌, ℕ, ◌<◌, true, List, [], ◌∷◌, length, Some, None, Ok, Err, refl, arith}
+-- What was judged of a tree and an image, as the parts of a machine.
+use Rattle.std.proofs.Common.{◌≡◌, ℕ, ◌<◌, List, length, Some, None, Ok, Err, refl}
 use Rattle.std.specs.Prelude.{IsSome}
 use Rattle.std.proofs.lemmas.Bool.{lt-ltb}
-use Rattle.std.proofs.lemmas.Bool.Decides.{nat_tests}
 use Rattle.tree_model.specs.Start.Sources.{TreeValue, ImageValue}
 use Rattle.tree_model.specs.Start.Machine.{start_refusal}
 use Rattle.elf_load.specs.ElfFile.{file_refusal, image_of}
 use Rattle.elf_load.specs.declared.refusal.ImageRefusal.TheVariants as image
 use Rattle.tree_config.specs.TreeFile.{tree_of}
 use Rattle.tree_config.specs.declared.refusal.TreeRefusal.TheVariants as tree
-use Rattle.ddm_cli.specs.Parts.{is_one_leaf, parts_in, parts_of, tree_at}
+use Rattle.ddm_cli.specs.Parts.{parts_in, parts_of, tree_at}
 
 pub tree_of-long : (file : List ℕ) → 65536 < length file → tree_of file ≡ Err tree.TooLong
 unfolding tree_of
@@ -19,19 +18,9 @@ pub image_of-long : (item_bytes : ℕ) (file : List ℕ) → 4194304 < length fi
 unfolding image_of file_refusal
 image_of-long item_bytes file long = rw (lt-ltb 4194304 (length file) long) refl
 
--- a tree of one leaf has one bus
-pub one_leaf_levels : (t : TreeValue) → is_one_leaf t ≡ true → t.levels ≡ (1 ∷ []) ∷ []
-one_leaf_levels t one = by_levels t.levels one where
-  by_levels : (levels : List (List ℕ)) → is_one_leaf (record t { levels = levels }) ≡ true → levels ≡ (1 ∷ []) ∷ []
-  by_levels [] one = cc
-  by_levels ([] ∷ []) one = cc
-  by_levels ((n ∷ []) ∷ []) one = let same : n ≡ 1 = grind (arith, nat_tests) in rw same refl
-  by_levels ((n ∷ m ∷ ns) ∷ []) one = absurd (grind (arith, nat_tests))
-  by_levels (l ∷ k ∷ ls) one = absurd (grind (arith, nat_tests))
-
-pub tree_taken : (file : List ℕ) (t : TreeValue) → tree_of file ≡ Ok t → is_one_leaf t ≡ true → tree_at file ≡ Some t
+pub tree_taken : (file : List ℕ) (t : TreeValue) → tree_of file ≡ Ok t → tree_at file ≡ Some t
 unfolding tree_at
-tree_taken file t is one = rw (is, one) refl
+tree_taken file t is = rw is refl
 
 pub parts_taken : (file : List ℕ) (t : TreeValue) (i : ImageValue) → image_of t.item_bytes file ≡ Ok i → start_refusal t i ≡ None → parts_in t file ≡ Some (record { tree = t; image = i })
 unfolding parts_in

@@ -12,7 +12,7 @@ use Rattle.tree_config.specs.declared.refusal.TreeRefusal.TheVariants as tree
 use Rattle.ddm_cli.specs.Refusals.{tree_line, tree_line_head, tree_line_rest}
 use Rattle.ddm_cli.specs.Top.{Offers, fault_line, line_head, line_rest}
 use Rattle.ddm_cli.specs.declared.status.Status.{Status}
-use Rattle.ddm_cli.specs.declared.status.Status.TheVariants.{Done, Usage, ImageLoad, ImageBuild, Tree, Unbuilt, ReadFault, WriteFault, NoMemory}
+use Rattle.ddm_cli.specs.declared.status.Status.TheVariants.{Done, Usage, ImageLoad, ImageBuild, Tree, Schedule, ReadFault, WriteFault, NoMemory}
 
 -- one text, and then a first part of another
 pub part_more : (old mid new : Option (List ℕ)) (a b : List ℕ) → Appends old mid a → AppendsPart mid new b → AppendsPart old new (a ++ b)
@@ -49,7 +49,7 @@ line_parts Done = sym (append-nil _)
 line_parts (Usage k) = sym (append-nil _)
 line_parts (ImageLoad r) = sym (append-nil _)
 line_parts (ImageBuild r) = sym (append-nil _)
-line_parts (Unbuilt role) = sym (append-nil _)
+line_parts (Schedule line r) = sym (append-nil _)
 line_parts (ReadFault role) = sym (append-nil _)
 line_parts WriteFault = sym (append-nil _)
 line_parts NoMemory = sym (append-nil _)

@@ -1,5 +1,5 @@
 -- Why a file gave nothing, by the status that says so. A file of which nothing is told may be of any kind.
-use Rattle.std.specs.Prelude.{◌≡◌, ℕ, false, List, Option, None, Some, IsSome, IfSome, IsOkAnd, Err}
+use Rattle.std.specs.Prelude.{◌≡◌, ℕ, List, Option, Some, IsSome, IfSome, IsOkAnd, Err}
 use Rattle.ddm_outside.specs.Causes.{Rose}
 use Rattle.report.specs.declared.roles.FileRole.TheVariants.{ImageFile, TreeFile, ScheduleFile}
 use Rattle.tree_model.specs.Start.Sources.{TreeValue, ImageValue}
@@ -8,10 +8,11 @@ use Rattle.elf_load.specs.declared.refusal.ImageRefusal.{ImageRefusal}
 use Rattle.tree_config.specs.TreeFile.{tree_of}
 use Rattle.run_engine.specs.Build.{build_refusal}
 use Rattle.run_engine.specs.declared.refusal.BuildRefusal.{BuildRefusal}
-use Rattle.ddm_cli.specs.Parts.{is_one_leaf}
-use Rattle.ddm_cli.specs.ScheduleForm.{turn_count}
+use Rattle.text_model.specs.Schedule.{schedule_of}
+use Rattle.text_model.specs.declared.ScheduleRefusal.{ScheduleRefusal}
+use Rattle.schedule_log.specs.Shapes.{shape_view}
 use Rattle.ddm_cli.specs.declared.status.Status.{Status}
-use Rattle.ddm_cli.specs.declared.status.Status.TheVariants.{ImageLoad, ImageBuild, Tree, Unbuilt, ReadFault, NoMemory}
+use Rattle.ddm_cli.specs.declared.status.Status.TheVariants.{ImageLoad, ImageBuild, Tree, Schedule, ReadFault, NoMemory}
 
 -- where the file is told, it is accepted
 abbrev pub Accepts : {A : Type 0} → (List ℕ → Option A) → Option (List ℕ) → Type 0
@@ -23,13 +24,8 @@ AcceptedAs judge told a = IfSome told (λ file. judge file ≡ Some a)
 
 -- ---- the tree
 
--- the tree is accepted, and isn't one of one leaf
-abbrev pub IsUnbuiltTree : List ℕ → Type 0
-IsUnbuiltTree file = IsOkAnd (tree_of file) (λ t. is_one_leaf t ≡ false)
-
 abbrev pub TreeCause : Option (List ℕ) → ℕ → ℕ → Status → Type 0
 TreeCause told before now (Tree r) = IfSome told (λ file. tree_of file ≡ Err r)
-TreeCause told before now (Unbuilt TreeFile) = IfSome told IsUnbuiltTree
 TreeCause told before now (ReadFault TreeFile) = Rose before now
 TreeCause told before now NoMemory = Unit {0}
 TreeCause told before now _ = ⊥
@@ -56,10 +52,13 @@ ImageCause t told before now (ReadFault ImageFile) = Rose before now
 ImageCause t told before now NoMemory = Unit {0}
 ImageCause t told before now _ = ⊥
 
--- ---- the schedule
+-- ---- the schedule, for a tree with these levels
 
-abbrev pub ScheduleCause : Option (List ℕ) → ℕ → ℕ → Status → Type 0
-ScheduleCause told before now (Unbuilt ScheduleFile) = IfSome told (λ file. turn_count file ≡ None)
-ScheduleCause told before now (ReadFault ScheduleFile) = Rose before now
-ScheduleCause told before now NoMemory = Unit {0}
-ScheduleCause told before now _ = ⊥
+abbrev pub IsUnscheduled : List (List ℕ) → ℕ → ScheduleRefusal → List ℕ → Type 0
+IsUnscheduled levels line r file = schedule_of (shape_view levels) 0 file ≡ Err (line, r)
+
+abbrev pub ScheduleCause : List (List ℕ) → Option (List ℕ) → ℕ → ℕ → Status → Type 0
+ScheduleCause levels told before now (Schedule line r) = IfSome told (IsUnscheduled levels line r)
+ScheduleCause levels told before now (ReadFault ScheduleFile) = Rose before now
+ScheduleCause levels told before now NoMemory = Unit {0}
+ScheduleCause levels told before now _ = ⊥

@@ -1,6 +1,6 @@
 use Rattle.std.specs.Prelude.{ℕ}
 use Rattle.ddm_cli.specs.declared.status.Status.{Status}
-use Rattle.ddm_cli.specs.declared.status.Status.TheVariants.{Done, Usage, ImageLoad, ImageBuild, Tree, Unbuilt, ReadFault, WriteFault, NoMemory}
+use Rattle.ddm_cli.specs.declared.status.Status.TheVariants.{Done, Usage, ImageLoad, ImageBuild, Tree, Schedule, ReadFault, WriteFault, NoMemory}
 
 -- the number of each status
 abbrev pub exit_code : Status → ℕ
@@ -9,7 +9,7 @@ exit_code (Usage n) = 2
 exit_code (ImageLoad r) = 3
 exit_code (ImageBuild r) = 3
 exit_code (Tree r) = 4
+exit_code (Schedule line r) = 5
 exit_code (ReadFault role) = 6
 exit_code WriteFault = 7
 exit_code NoMemory = 8
-exit_code (Unbuilt role) = 9

@@ -1,9 +1,7 @@
 pub mod Code
 pub mod Words
-pub mod Reads
 pub mod Parts
-pub mod ScheduleForm
-pub mod LeafView
 pub mod Causes
+pub mod Reads
 pub mod Refusals
 pub mod Top

@@ -1,10 +1,11 @@
 -- What a command answers, and why.
-use Rattle.std.specs.Prelude.{◌≡◌, ◌⊎◌, ℕ, List, [], Option, Some, None, IsSome, IfSome, IfOk, Ok, Err, IsOkAnd}
+use Rattle.std.specs.Prelude.{◌≡◌, ◌⊎◌, ℕ, List, [], length, Option, Some, IsSome, IfSome, option_and_then, option_map, IfOk, Ok, Err, IsOkAnd}
+use Rattle.ddm_types.specs.declared.turns.Turn.{Turn}
 use Rattle.tree_model.specs.Start.Sources.{TreeValue}
 use Rattle.tree_model.specs.Start.Machine.{start_machine}
-use Rattle.text_model.specs.Faults.{usage_fault, unbuilt_fault, read_fault, write_fault, memory_fault}
+use Rattle.text_model.specs.Faults.{usage_fault, schedule_fault, read_fault, write_fault, memory_fault}
 use Rattle.text_model.specs.Run.{report_text_of, EachOutputWitnessed}
-use Rattle.text_model.specs.Schedule.{hart_turns}
+use Rattle.text_model.specs.declared.ScheduleRefusal.{ScheduleRefusal}
 use Rattle.report.specs.Appends.{Appends, AppendsPart}
 use Rattle.report.specs.Roles.{role_text}
 use Rattle.report.specs.declared.roles.FileRole.{FileRole}
@@ -13,35 +14,33 @@ use Rattle.tree_model.specs.Start.Machine.{flat_start_of}
 use Rattle.tree_rules.specs.Witness.{EachTurnWitnessed}
 use Rattle.ddm_outside.specs.Causes.{Rose}
 use Rattle.tree_config.specs.TreeFile.{tree_of}
-use Rattle.ddm_cli.specs.Parts.{Parts, parts_of, tree_at}
-use Rattle.ddm_cli.specs.ScheduleForm.{turn_count}
-use Rattle.ddm_cli.specs.Causes.{Accepts, IsUnbuiltTree, IsUnloaded, IsUnstarted}
+use Rattle.ddm_cli.specs.Parts.{Parts, parts_of, tree_at, turns_at}
+use Rattle.ddm_cli.specs.Causes.{Accepts, IsUnloaded, IsUnstarted, IsUnscheduled}
 use Rattle.ddm_cli.specs.Refusals.{build_line, image_line, tree_line, tree_line_head, tree_line_rest}
 use Rattle.ddm_cli.specs.Words.{Names, names_of}
 use Rattle.ddm_cli.specs.declared.status.Status.{Status}
-use Rattle.ddm_cli.specs.declared.status.Status.TheVariants.{Done, Usage, ImageLoad, ImageBuild, Tree, Unbuilt, ReadFault, WriteFault, NoMemory}
+use Rattle.ddm_cli.specs.declared.status.Status.TheVariants.{Done, Usage, ImageLoad, ImageBuild, Tree, Schedule, ReadFault, WriteFault, NoMemory}
 
 -- ---- the text
 
--- the report of a machine after so many turns
-unfoldable pub text_at : Parts → ℕ → List ℕ
-text_at p n = report_text_of 1 (hart_turns n) (start_machine p.tree p.image)
+-- the report of a machine after these turns
+unfoldable pub text_at : Parts → List Turn → List ℕ
+text_at p turns = report_text_of (length p.tree.levels) turns (start_machine p.tree p.image)
 
-abbrev pub text_by : Option Parts → Option ℕ → Option (List ℕ)
-text_by (Some p) (Some n) = Some (text_at p n)
-text_by _ _ = None
+-- with the turns of a schedule that is accepted for its tree
+abbrev pub text_with : List ℕ → Parts → Option (List ℕ)
+text_with schedule p = option_map (text_at p) (turns_at p.tree.levels schedule)
 
 -- what a tree, an image and a schedule make the command print
 abbrev pub text_of : List ℕ → List ℕ → List ℕ → Option (List ℕ)
-text_of tree image schedule = text_by (parts_of tree image) (turn_count schedule)
+text_of tree image schedule = option_and_then (text_with schedule) (parts_of tree image)
 
 -- ---- order
 
--- after each turn of hart 0 the operations, in the order of their keys, are one legal run of the flat machine from its start,
--- the hart and the found copy of every item are that run's, and so is what the hart has put out
-abbrev pub RunsInOrder : Option Parts → Option ℕ → Type 0
-RunsInOrder (Some p) (Some n) = EachTurnWitnessed (flat_start_of p.tree p.image) (hart_turns n) (start_machine p.tree p.image) × EachOutputWitnessed (hart_turns n) (start_machine p.tree p.image)
-RunsInOrder _ _ = Unit {0}
+-- after each turn of the schedule the operations, in the order of their keys, are one legal run of the flat machine from its
+-- start, each hart and the found copy of every item are that run's, and so is what each hart has put out
+abbrev pub RunsInOrder : List ℕ → Parts → Type 0
+RunsInOrder schedule p = IfSome (turns_at p.tree.levels schedule) (λ turns. EachTurnWitnessed (flat_start_of p.tree p.image) turns (start_machine p.tree p.image) × EachOutputWitnessed turns (start_machine p.tree p.image))
 
 -- ---- the files
 
@@ -57,6 +56,14 @@ AcceptsParts tree image = Accepts tree_at tree × Both tree image (λ t i. IsSom
 abbrev pub RefusesImage : (TreeValue → List ℕ → Type 0) → Option (List ℕ) → Option (List ℕ) → Type 0
 RefusesImage refused tree image = Accepts tree_at tree × Both tree image (λ t i. IfSome (tree_at t) (λ value. refused value i))
 
+-- the tree and the image are accepted, and with the tree the schedule
+abbrev pub AcceptsRun : Option (List ℕ) → Option (List ℕ) → Option (List ℕ) → Type 0
+AcceptsRun tree image schedule = AcceptsParts tree image × Both tree schedule (λ t s. IfSome (tree_at t) (λ value. IsSome (turns_at value.levels s)))
+
+-- the schedule is refused in a line for the tree, which is accepted with the image
+abbrev pub RefusesSchedule : ℕ → ScheduleRefusal → Option (List ℕ) → Option (List ℕ) → Option (List ℕ) → Type 0
+RefusesSchedule line r tree image schedule = AcceptsParts tree image × Both tree schedule (λ t s. IfSome (tree_at t) (λ value. IsUnscheduled value.levels line r s))
+
 -- where all three are told, this is their text
 abbrev pub HasText : Option (List ℕ) → Option (List ℕ) → Option (List ℕ) → List ℕ → Type 0
 HasText tree image schedule text = Both tree image (λ t i. IfSome schedule (λ s. text_of t i s ≡ Some text))
@@ -64,7 +71,7 @@ HasText tree image schedule text = Both tree image (λ t i. IfSome schedule (λ 
 module _ {F : Type 0} (told : F → List ℕ → Option (List ℕ)) where
   -- the files that were read are accepted, and this is their text
   abbrev pub FilesAccepted : F → List ℕ → Names → Type 0
-  FilesAccepted files text n = AcceptsParts (told files n.tree) (told files n.image) × Accepts turn_count (told files n.schedule)
+  FilesAccepted files text n = AcceptsRun (told files n.tree) (told files n.image) (told files n.schedule)
       × HasText (told files n.tree) (told files n.image) (told files n.schedule) text
 
   -- the words are in the grammar, and this is the text of the files that they name
@@ -73,7 +80,7 @@ module _ {F : Type 0} (told : F → List ℕ → Option (List ℕ)) where
 
   -- where all three files are told and accepted, their run is in order
   abbrev pub RunIsWitnessed : List (List ℕ) → F → Type 0
-  RunIsWitnessed words files = IfOk (names_of words) (λ n. Both (told files n.tree) (told files n.image) (λ t i. IfSome (told files n.schedule) (λ s. RunsInOrder (parts_of t i) (turn_count s))))
+  RunIsWitnessed words files = IfOk (names_of words) (λ n. Both (told files n.tree) (told files n.image) (λ t i. IfSome (told files n.schedule) (λ s. IfSome (parts_of t i) (RunsInOrder s))))
 
   module _ (faults : F → List ℕ → ℕ) (files files' : F) where
     -- the count of failed reads of this file rose in the call
@@ -88,21 +95,13 @@ module _ {F : Type 0} (told : F → List ℕ → Option (List ℕ)) where
     CantRead WitnessFile n = ⊥
     CantRead CheckpointFile n = ⊥
 
-    -- a file is of a form that isn't built
-    abbrev pub IsUnbuilt : FileRole → Names → Type 0
-    IsUnbuilt TreeFile n = IfSome (told files n.tree) IsUnbuiltTree
-    IsUnbuilt ScheduleFile n = AcceptsParts (told files n.tree) (told files n.image) × IfSome (told files n.schedule) (λ file. turn_count file ≡ None)
-    IsUnbuilt ImageFile n = ⊥
-    IsUnbuilt WitnessFile n = ⊥
-    IsUnbuilt CheckpointFile n = ⊥
-
     -- why the files give no text; the other statuses are no such answers
     abbrev pub NotAccepted : Status → Names → Type 0
     NotAccepted (Tree r) n = IfSome (told files n.tree) (λ file. tree_of file ≡ Err r)
     NotAccepted (ImageLoad r) n = RefusesImage (λ t. IsUnloaded t r) (told files n.tree) (told files n.image)
     NotAccepted (ImageBuild r) n = RefusesImage (λ t. IsUnstarted t r) (told files n.tree) (told files n.image)
+    NotAccepted (Schedule line r) n = RefusesSchedule line r (told files n.tree) (told files n.image) (told files n.schedule)
     NotAccepted (ReadFault role) n = CantRead role n
-    NotAccepted (Unbuilt role) n = IsUnbuilt role n
     NotAccepted NoMemory n = Unit {0}
     NotAccepted _ n = ⊥
 
@@ -125,8 +124,8 @@ module _ {F K : Type 0} (told : F → List ℕ → Option (List ℕ)) (faults : 
   StatusHasCause words files files' out out' (Tree r) = Refused told faults files files' words (Tree r) × (held out' ≡ held out)
   StatusHasCause words files files' out out' (ImageLoad r) = Refused told faults files files' words (ImageLoad r) × (held out' ≡ held out)
   StatusHasCause words files files' out out' (ImageBuild r) = Refused told faults files files' words (ImageBuild r) × (held out' ≡ held out)
+  StatusHasCause words files files' out out' (Schedule line r) = Refused told faults files files' words (Schedule line r) × (held out' ≡ held out)
   StatusHasCause words files files' out out' (ReadFault role) = Refused told faults files files' words (ReadFault role) × (held out' ≡ held out)
-  StatusHasCause words files files' out out' (Unbuilt role) = Refused told faults files files' words (Unbuilt role) × (held out' ≡ held out)
   StatusHasCause words files files' out out' NoMemory = Refused told faults files files' words NoMemory × (held out' ≡ held out)
 
   -- no count of the three files rose
@@ -150,7 +149,7 @@ fault_line (Usage place) = usage_fault place
 fault_line (Tree r) = tree_line r
 fault_line (ImageLoad r) = image_line r
 fault_line (ImageBuild r) = build_line r
-fault_line (Unbuilt role) = unbuilt_fault (role_text role)
+fault_line (Schedule line r) = schedule_fault line r
 fault_line (ReadFault role) = read_fault (role_text role)
 fault_line WriteFault = write_fault
 fault_line NoMemory = memory_fault

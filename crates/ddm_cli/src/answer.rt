@@ -1,53 +1,54 @@
-ghost use Rattle.std.specs.Prelude.{◌≡◌, ◌<◌, ◌≤◌, IfOk};
-ghost use Rattle.text_model.specs.Report.{report_of};
-ghost use Rattle.text_model.specs.Run.{counts_of};
-ghost use Rattle.text_model.specs.Schedule.{hart_turns};
-ghost use Rattle.rv_flat.specs.Registers.{IsHart};
-ghost use Rattle.one_leaf.specs.Run.{after_all, answers_of};
-ghost use Rattle.run_engine.specs.Build.{machine_value};
-ghost use Rattle.ddm_cli.specs.LeafView.{leaf_view};
+ghost use Rattle.std.specs.Prelude.{◌≡◌, ◌<◌, ◌≤◌, ℕ, List, length, IfOk, IfErr};
+ghost use Rattle.tree_model.specs.State.Shape.{depth_of};
+ghost use Rattle.text_model.specs.Run.{report_text_of};
+ghost use Rattle.bus_laws.specs.IsTree.{IsTree};
+ghost use Rattle.run_engine.specs.Any.{machine_state};
+ghost use Rattle.run_engine.specs.Run.{NameParts};
+ghost use Rattle.ddm_cli.specs.Causes.{ScheduleCause};
+ghost use Rattle.ddm_cli.specs.Parts.{HasStart};
+ghost use Rattle.ddm_cli.specs.Reads.{IsRanBy};
 
-use crate::report_lines::report;
-use ddm_types::NoMemory;
-use one_leaf::{OneLeaf, run};
-use run_engine::LeafMachine;
+use crate::engine::report_text;
+use crate::schedule_file::schedule_file;
+use crate::status::Status;
+use ddm_outside::Shelf;
+use ddm_types::{NoMemory, Turn};
+use run_engine::{AnyMachine, run};
 use std::alloc::Global;
+use tree_config::TreeConfig;
 
-// The report after so many turns of hart 0.
-fn ran_text<const WORDS: usize>(
+// The report of a machine after these turns, its first ones.
+fn ran_text(
     alloc: Global,
-    mut machine: OneLeaf<WORDS>,
-    sets: u32,
-    turns: u64,
+    machine: &mut AnyMachine,
+    turns: &[Turn],
 ) -> Result<Vec<u8>, NoMemory>
-    requires small { WORDS ≤ 16 }
-    requires sets { 0 < sets }
-    requires few { turns ≤ 1048576 }
-    requires fresh { machine.done ≡ 0 }
-    requires hart { IsHart machine.hart }
-    ensures { let after = after_all (hart_turns turns) machine.entry in let counts = counts_of (answers_of (hart_turns turns) machine.entry) in
-        IfOk result (λ text. text.items ≡ report_of (leaf_view sets counts after)) }
+    requires named { NameParts turns.now (machine_state machine.old).machine }
+    requires fresh { (machine_state machine.old).turns ≡ 0 }
+    requires few { length turns.now ≤ 1048576 }
+    ensures { let m = (machine_state machine.old).machine in IfOk result (λ text. text.items ≡ report_text_of (depth_of m) turns.now m) }
 {
-    let counts = run(&mut machine, turns)?;
-    report(alloc, counts, &machine, sets)
+    let mut answers = Vec::new(alloc);
+    let counts = run(machine, turns, &mut answers, false)?;
+    report_text(alloc, machine, counts)
 }
 
-/// The report of a machine whose leaf has this many sets, after so many turns of hart 0.
-pub fn report_text(
+/// The report of a tree's machine after the turns of a schedule file.
+pub fn scheduled_text<F: Shelf>(
     alloc: Global,
-    machine: LeafMachine,
-    sets: u32,
-    turns: u64,
-) -> Result<Vec<u8>, NoMemory>
-    requires sets { 0 < sets }
-    requires few { turns ≤ 1048576 }
-    requires fresh { (machine_value machine).done ≡ 0 }
-    requires hart { IsHart (machine_value machine).hart }
-    ensures { let after = after_all (hart_turns turns) (machine_value machine) in let counts = counts_of (answers_of (hart_turns turns) (machine_value machine)) in
-        IfOk result (λ text. text.items ≡ report_of (leaf_view sets counts after)) }
+    files: &mut F,
+    name: &str,
+    buffer: &mut [u8],
+    tree: &TreeConfig,
+    machine: &mut AnyMachine,
+) -> Result<Vec<u8>, Status>
+    requires room { 0 < length buffer.old }
+    requires tree { IsTree tree.now }
+    requires start { HasStart tree.now (machine_state machine.old) }
+    ensures ran { IfOk result (λ text. IsRanBy tree.now.levels (F.told files.old name.now) (machine_state machine.old).machine text.items) }
+    ensures cause { IfErr result (ScheduleCause tree.now.levels (F.told files.old name.now) (F.faults files.old name.now) (F.faults files.new name.now)) }
+    ensures later { (other : List ℕ) → F.faults files.old other ≤ F.faults files.new other }
 {
-    match machine {
-        LeafMachine::Narrow(machine) => ran_text(alloc, machine, sets, turns),
-        LeafMachine::Wide(machine) => ran_text(alloc, machine, sets, turns),
-    }
+    let turns = schedule_file(alloc, files, name, buffer, &tree.nodes)?;
+    Ok(ran_text(alloc, machine, &turns)?)
 }

@@ -1,11 +1,11 @@
 ghost use Rattle.std.specs.Prelude.{◌≡◌};
 ghost use Rattle.ddm_cli.specs.Top.{fault_line, line_head, Offers};
 
-use crate::refusal_lines::{build_line, image_line, tree_line_head};
+use crate::refusal_lines::{build_line, image_line, schedule_line, tree_line_head};
 use crate::status::Status;
 use crate::unknown_key::tell_rest;
 use ddm_outside::Sink;
-use report::{FaultLine, memory_line, read_line, unbuilt_line, usage_line, write_all, write_line};
+use report::{FaultLine, memory_line, read_line, usage_line, write_all, write_line};
 
 // The line of a status; for an unknown key what stands before it.
 #[tactic(auto, unfolding(crate::specs::Top::fault_line))]
@@ -18,7 +18,7 @@ fn line_head(status: &Status) -> FaultLine
         Status::ImageLoad(refusal) => image_line(refusal),
         Status::ImageBuild(refusal) => build_line(refusal),
         Status::Tree(refusal) => tree_line_head(refusal),
-        Status::Unbuilt(role) => unbuilt_line(*role),
+        Status::Schedule(line, refusal) => schedule_line(*line, *refusal),
         Status::ReadFault(role) => read_line(*role),
         Status::WriteFault => write_line(),
         Status::NoMemory => memory_line(),

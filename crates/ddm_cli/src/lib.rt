@@ -2,13 +2,13 @@
 #![tactic(auto)]
 
 mod answer;
+mod engine;
 mod fault;
 mod files;
 mod judging;
 mod limits;
 mod reading;
 mod refusal_lines;
-mod report_lines;
 mod schedule_file;
 mod status;
 mod top;
@@ -16,5 +16,6 @@ mod unknown_key;
 mod words;
 
 pub use report::FileRole;
+pub use schedule_log::ScheduleRefusal;
 pub use status::{Status, code};
 pub use top::ddm_main;

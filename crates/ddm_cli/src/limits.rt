@@ -3,6 +3,3 @@ pub const MOST_IMAGE: u64 = 4_194_304;
 
 /// The most bytes of a tree file that are read.
 pub const MOST_TREE: u64 = 65_536;
-
-/// The most bytes of a schedule that are read.
-pub const MOST_SCHEDULE: u64 = 33_554_432;

@@ -1,11 +1,12 @@
 ghost use Rattle.std.specs.Prelude.{◌≡◌, ◌+◌, ◌++◌, ◌≤◌, length, codes};
-ghost use Rattle.text_model.specs.Faults.{name_words, number_texts};
+ghost use Rattle.text_model.specs.Faults.{name_words, number_texts, schedule_fault, schedule_refusal_name};
 ghost use Rattle.tree_config.specs.TreeFile.{key_name};
 ghost use Rattle.ddm_cli.specs.Refusals.{build_line, image_line, tree_line_head};
 
 use elf_load::ImageRefusal;
 use report::FaultLine;
 use run_engine::BuildRefusal;
+use text_model::ScheduleRefusal;
 use tree_config::{TreeKey, TreeRefusal};
 
 // Puts numbers at the end, each behind a space.
@@ -150,4 +151,35 @@ pub fn tree_line_head(refusal: &TreeRefusal) -> FaultLine
         TreeRefusal::OutOfRange(key) => keyed(b"out of range", *key),
         TreeRefusal::NoMemory => tree(b"no memory", &[]),
     }
+}
+
+// The words of a schedule's refusal.
+#[tactic(auto, unfolding(text_model::specs::Faults::name_words))]
+fn schedule_words(refusal: ScheduleRefusal) -> &'static [u8]
+    ensures words { result.now ≡ name_words (schedule_refusal_name refusal) }
+    ensures short { length result.now ≤ 14 }
+{
+    match refusal {
+        ScheduleRefusal::BadTurn => b"bad turn",
+        ScheduleRefusal::TooManyTurns => b"too many turns",
+        ScheduleRefusal::NoSuchHart => b"no such hart",
+        ScheduleRefusal::NoSuchBus => b"no such bus",
+        ScheduleRefusal::NoSuchChild => b"no such child",
+        ScheduleRefusal::NoEnd => b"no end",
+        ScheduleRefusal::AfterEnd => b"after end",
+    }
+}
+
+/// The line for a schedule that is refused in a line.
+#[tactic(auto, unfolding(text_model::specs::Faults::schedule_fault))]
+pub fn schedule_line(line: u32, refusal: ScheduleRefusal) -> FaultLine
+    ensures { result ≡ schedule_fault line refusal }
+{
+    let mut text = FaultLine::new();
+    text.push(b"ddm: schedule line ");
+    text.push_number(u64::from(line));
+    text.push(b": ");
+    text.push(schedule_words(refusal));
+    text.push(b"\n");
+    text
 }

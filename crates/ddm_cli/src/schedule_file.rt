@@ -1,36 +1,50 @@
-ghost use Rattle.std.specs.Prelude.{◌≡◌, ◌≤◌, ℕ, IfSome, MatchOption};
-ghost use Rattle.text_model.specs.Schedule.{hart_turns, schedule_text};
-ghost use Rattle.ddm_cli.specs.ScheduleForm.{turn_count};
+ghost use Rattle.std.specs.Prelude.{◌≡◌, ◌<◌, ◌≤◌, ℕ, List, length, IfOk, IfErr};
+ghost use Rattle.text_model.specs.ReadBack.{GivesTurnsOf};
+ghost use Rattle.schedule_log.specs.Shapes.{shape_view};
+ghost use Rattle.ddm_cli.specs.Causes.{AcceptedAs, ScheduleCause};
+ghost use Rattle.ddm_cli.specs.Parts.{turns_at};
 
-const LINE: &[u8] = b"h 0 0\n";
+use crate::status::Status;
+use ddm_outside::Shelf;
+use ddm_types::Turn;
+use report::FileRole;
+use schedule_log::{FeedError, ScheduleReader};
+use std::alloc::Global;
+use tree_config::Shape;
 
-const LAST_LINE: &[u8] = b"end\n";
-
-const MOST_TURNS: u64 = 1_048_576;
-
-// How many turns of hart 0 a text is the text of, however many they are.
-fn count_lines(text: &[u8]) -> Option<u64>
-    ensures { MatchOption result
-        ((n : ℕ) → ¬ (text.now ≡ schedule_text (hart_turns n)))
-        (λ n. text.now ≡ schedule_text (hart_turns n)) }
+/// The turns of a schedule file for a tree of this shape. A line that is refused is answered before any byte is asked for
+/// that comes behind the piece with its end.
+pub fn schedule_file<F: Shelf>(
+    alloc: Global,
+    files: &mut F,
+    name: &str,
+    buffer: &mut [u8],
+    shape: &Shape,
+) -> Result<Vec<Turn>, Status>
+    requires { 0 < length buffer.old }
+    ensures found { IfOk result (λ turns. AcceptedAs (turns_at shape.now) (F.told files.old name.now) turns.items) }
+    ensures given { IfOk result (λ turns. GivesTurnsOf (shape_view shape.now) 0 turns.items) }
+    ensures cause { IfErr result (ScheduleCause shape.now (F.told files.old name.now) (F.faults files.old name.now) (F.faults files.new name.now)) }
+    ensures same { F.told files.new ≡ F.told files.old }
+    ensures later { (other : List ℕ) → F.faults files.old other ≤ F.faults files.new other }
 {
-    let mut rest = text;
-    let mut turns = 0;
-    'lines: while let Some(after) = rest.strip_prefix(LINE) {
-        turns += 1;
-        rest = after;
-    }
-    if rest == LAST_LINE { Some(turns) } else { None }
-}
-
-/// How many turns of hart 0 a schedule has, where it is of the form that is built.
-#[tactic(auto, using(crate::proofs::Counted::counts))]
-pub fn count_turns(text: &[u8]) -> Option<u64>
-    ensures turns { result ≡ turn_count text.now }
-    ensures few { IfSome result (λ n. n ≤ 1048576) }
-{
-    match count_lines(text) {
-        Some(turns) if turns <= MOST_TURNS => Some(turns),
-        _ => None,
+    let mut reader = ScheduleReader::new(alloc)?;
+    let mut turns = Vec::new(alloc);
+    let mut at = 0;
+    'reading: loop {
+        let Ok(n) = files.read(name, at, buffer) else {
+            return Err(Status::ReadFault(FileRole::ScheduleFile));
+        };
+        if n == 0 {
+            return match reader.finish() {
+                Ok(()) => Ok(turns),
+                Err((line, refusal)) => Err(Status::Schedule(line, refusal)),
+            };
+        }
+        match reader.feed(shape, &buffer[..n], &mut turns) {
+            Ok(()) => at += n as u64,
+            Err(FeedError::Refused(line, refusal)) => return Err(Status::Schedule(line, refusal)),
+            Err(FeedError::NoMemory) => return Err(Status::NoMemory),
+        }
     }
 }

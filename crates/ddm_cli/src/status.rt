@@ -6,6 +6,7 @@ use ddm_types::NoMemory;
 use elf_load::ImageRefusal;
 use report::FileRole;
 use run_engine::BuildRefusal;
+use text_model::ScheduleRefusal;
 use tree_config::TreeRefusal;
 
 /// How a command ended.
@@ -20,8 +21,8 @@ pub enum Status {
     ImageBuild(BuildRefusal),
     /// Why the tree file isn't accepted.
     Tree(TreeRefusal),
-    /// What the file says isn't built yet.
-    Unbuilt(FileRole),
+    /// The line of the schedule, counted from 1, and why it isn't accepted.
+    Schedule(u32, ScheduleRefusal),
     ReadFault(FileRole),
     WriteFault,
     NoMemory,
@@ -36,10 +37,10 @@ pub fn code(status: &Status) -> u8
         Status::Usage(_) => 2,
         Status::ImageLoad(_) | Status::ImageBuild(_) => 3,
         Status::Tree(_) => 4,
+        Status::Schedule(_, _) => 5,
         Status::ReadFault(_) => 6,
         Status::WriteFault => 7,
         Status::NoMemory => 8,
-        Status::Unbuilt(_) => 9,
     }
 }
 

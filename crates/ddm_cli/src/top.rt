@@ -3,9 +3,9 @@ ghost use Rattle.std.specs.String.{string_bytes};
 ghost use Rattle.ddm_cli.specs.Top.{Accepted, FilesAccepted, StatusHasCause, Completes, RunIsWitnessed, NotAccepted, Offers, Refused, fault_line};
 ghost use Rattle.ddm_cli.specs.Words.{names_value};
 
-use crate::answer::report_text;
+use crate::answer::scheduled_text;
 use crate::fault::tell;
-use crate::files::{image_file, schedule_file, tree_file};
+use crate::files::{image_file, tree_file};
 use crate::status::Status;
 use crate::words::{FileNames, file_names};
 use ddm_outside::{Shelf, Sink};
@@ -34,9 +34,10 @@ fn files_text<F: Shelf>(
 {
     let mut buffer = read_buffer(alloc)?;
     let tree = tree_file(alloc, files, names.tree, &mut buffer)?;
-    let machine = image_file(alloc, files, names.image, &mut buffer, &tree)?;
-    let turns = schedule_file(alloc, files, names.schedule, &mut buffer)?;
-    Ok(report_text(alloc, machine, tree.sets, turns)?)
+    let mut machine = image_file(alloc, files, names.image, &mut buffer, &tree)?;
+    let text = scheduled_text(alloc, files, names.schedule, &mut buffer, &tree, &mut machine);
+    drop(machine);
+    text
 }
 
 // The text of a command, or the status without one.

@@ -1,6 +1,11 @@
-use Rattle.std.proofs.Common.{arith}
-use Rattle.ddm_cli.proofs.HartKept.{run_keeps}
+use Rattle.std.proofs.Common.{ap, ◌∙◌}
+use Rattle.std.proofs.lemmas.Result.{IfOk-weaker}
+use Rattle.ddm_tree.specs.Machine.{MachineState}
+use Rattle.run_engine.specs.Any.{machine_state}
+use Rattle.ddm_cli.proofs.Taken.{ran_report}
 use Rattle.ddm_cli.proofs.answer.ran_text.Goals as goal
 
-pub report-requires : goal.report-requires
-report-requires g c = (omega arith, (c.requires.small, (c.requires.sets, rw c.in_ok-counts.ensures.after (run_keeps c.args.turns c.args.machine c.requires.hart))))
+pub returns : goal.returns
+returns c =
+    let after = ap (λ (s : MachineState). s.machine) c.in_ok-counts.ensures.after in
+    IfOk-weaker c.report_text.result _ _ (λ text is. is ∙ ran_report c.args.turns.now (machine_state c.args.machine.now).machine (machine_state c.run.new.machine).machine c.in_ok-counts.counts c.in_ok-counts.ensures.counts after) c.report_text.ensures
