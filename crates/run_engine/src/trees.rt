@@ -4,8 +4,8 @@ ghost use Rattle.tree_model.specs.Start.Memory.{start_code, start_items};
 ghost use Rattle.start_parts.specs.Parts.{start_kids};
 
 use crate::contents::words;
+use crate::harts::start_of_harts;
 use crate::leaves::{new_leaves, place_items};
-use crate::making::start_of_harts;
 use ddm_tree::{Machine, Subtree};
 use ddm_types::{Code, Items, NoMemory, TreeCounts};
 use elf_load::Image;

@@ -1,0 +1,21 @@
+ghost use Rattle.std.specs.Prelude.{◌≡◌, ◌≤◌, ◌+◌, ◌*◌};
+ghost use Rattle.tree_model.specs.Start.Sources.{start_of_harts};
+
+use crate::tree::harts;
+use ddm_types::Start;
+use elf_load::Image;
+use tree_config::TreeConfig;
+
+/// What the harts begin with.
+pub fn start_of_harts(tree: &TreeConfig, image: &Image) -> Start
+    ensures start { result ≡ start_of_harts tree.now image.now }
+    ensures few { result.harts ≤ 64 }
+    ensures fits { result.stack_base + result.harts * result.stack_bytes ≤ 4294967280 }
+{
+    Start {
+        entry: image.entry,
+        harts: harts(tree),
+        stack_base: tree.stack_base,
+        stack_bytes: tree.stack_bytes,
+    }
+}
