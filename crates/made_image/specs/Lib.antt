@@ -1,0 +1,3 @@
+pub mod MadeImage
+pub mod Computing
+pub mod MadeExample
