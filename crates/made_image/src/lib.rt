@@ -2,5 +2,11 @@
 #![tactic(auto)]
 
 mod examples;
+mod making;
+mod program;
 
 pub use examples::made_example;
+pub use making::make_image;
+
+#[cfg(test)]
+mod tests;
