@@ -1,3 +1,4 @@
 pub mod MadeImage
+pub mod Accepted
 pub mod Computing
 pub mod MadeExample

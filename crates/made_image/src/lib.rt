@@ -2,10 +2,12 @@
 #![tactic(auto)]
 
 mod examples;
+mod laws;
 mod making;
 mod program;
 
 pub use examples::made_example;
+pub use laws::made_images_load;
 pub use making::make_image;
 
 #[cfg(test)]
