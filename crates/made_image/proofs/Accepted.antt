@@ -1,13 +1,14 @@
 -- Every made image is accepted: no test of the file, of its headers and of its sizes refuses it.
-use Rattle.std.proofs.Common.{◌≡◌, ℕ, suc, ◌+◌, ◌-◌, ◌*◌, ◌/◌, ◌^◌, ◌<◌, ◌≤◌, List, [], ◌∷◌, ◌++◌, length, take, drop, map, Option, Some, None, Ok, refl, sym, ap, ◌∙◌, arith, append_assoc, length-append}
-use Rattle.std.specs.Prelude.{Bool, true, false, not, ◌&&◌, nat_eq, nat_lt, slice_index}
+use Rattle.std.proofs.Common.{◌≡◌, ℕ, suc, ◌+◌, ◌-◌, ◌/◌, ◌^◌, ◌<◌, ◌≤◌, List, [], ◌∷◌, ◌++◌, length, take, drop, map, None, Ok, refl, sym, ap, ◌∙◌, arith, inl, inr, append_assoc}
+use Rattle.std.specs.Prelude.{true, false, nat_lt}
 use Rattle.std.proofs.lemmas.Bool.Decides.{nat_tests}
 use Rattle.byteorder.specs.Endian.{little_bytes, little_number}
 use Rattle.byteorder.specs.Numbers.{little_number-reads_back}
 use Rattle.std.proofs.Math.Seq.{take-append_seam}
-use Rattle.ddm_types.specs.ItemTable.{item_count, items_of}
+use Rattle.ddm_types.specs.ItemTable.{IsItemSize, item_count, items_of}
+use Rattle.ddm_types.specs.declared.sizes.Span.{Span}
 use Rattle.ddm_types.specs.CodeMap.{word_at, words_from}
-use Rattle.tree_model.specs.Start.Sources.{SegmentValue, ImageValue}
+use Rattle.tree_model.specs.Start.Sources.{ImageValue}
 use Rattle.tree_model.specs.Start.Memory.{start_code}
 use Rattle.elf_load.specs.declared.headers.ProgramHeader.{ProgramHeader}
 use Rattle.elf_load.specs.ElfFile.{image_of, image_in, file_refusal, headers_refusal, header_refusal, sizes_refusal, entry_refusal, judged_entry, headers_of, loaded_headers, is_elf, kind_refusal, flags_refusal, table_refusal, header_count, header_size, table_of, word_in, entry_of, code_refusal, code_bytes, items_refusal, items_met, header_span, segments_of}
@@ -124,16 +125,26 @@ code_accepted : (size : ℕ) → size ≤ 400016 → code_refusal (headers size)
 unfolding code_refusal
 code_accepted size short = rw (bytes_of_code size, no_more 0x100000 size (omega (arith, short))) refl
 
-items_accepted : (size : ℕ) → size ≤ 400016 → items_refusal 16 (headers size) ≡ None
-unfolding items_refusal items_met
-items_accepted size short =
-    let some : item_count (items_of 16 (map header_span (headers size))) ≤ (0x10000 + size) / 16 + 1 - 0x1000 + 17 = items_in_two (header_span (code_header size size)) (header_span (memory_header (116 + size))) in
-    let few : item_count (items_of 16 (map header_span (headers size))) ≤ 65536 = omega (arith, some, short) in
-    rw (no_more 65536 (item_count (items_of 16 (map header_span (headers size)))) few) refl
+-- 16 or 64 bytes: at most 25,002 and 17 items, or 6,251 and 5
+few_items : (item_bytes size : ℕ) → IsItemSize item_bytes → size ≤ 400016 → item_count (items_of item_bytes (map header_span (headers size))) ≤ 65536
+few_items item_bytes size is short = elim is as (λ h. item_count (items_of item_bytes (map header_span (headers size))) ≤ 65536) [
+  | inl e ↦ rw e (let some : item_count (items_of 16 (map header_span (headers size))) ≤ (0x10000 + size) / 16 + 1 - 0x1000 + 17 = items_in_two 16 code memory (omega arith) in omega (arith, some, short))
+  | inr e ↦ rw e (let some : item_count (items_of 64 (map header_span (headers size))) ≤ (0x10000 + size) / 64 + 1 - 0x400 + 5 = items_in_two 64 code memory (omega arith) in omega (arith, some, short))
+] where
+  code : Span
+  code = header_span (code_header size size)
 
-sizes_accepted : (size : ℕ) → size ≤ 400016 → sizes_refusal 16 (headers size) ≡ None
+  memory : Span
+  memory = header_span (memory_header (116 + size))
+
+items_accepted : (item_bytes size : ℕ) → IsItemSize item_bytes → size ≤ 400016 → items_refusal item_bytes (headers size) ≡ None
+unfolding items_refusal items_met
+items_accepted item_bytes size is short =
+    rw (no_more 65536 (item_count (items_of item_bytes (map header_span (headers size)))) (few_items item_bytes size is short)) refl
+
+sizes_accepted : (item_bytes size : ℕ) → IsItemSize item_bytes → size ≤ 400016 → sizes_refusal item_bytes (headers size) ≡ None
 unfolding sizes_refusal
-sizes_accepted size short = rw (code_accepted size short, items_accepted size short) refl
+sizes_accepted item_bytes size is short = rw (code_accepted size short, items_accepted item_bytes size is short) refl
 
 -- ---- the image
 
@@ -162,8 +173,8 @@ entry_accepted code some =
 
 -- ---- the whole
 
-image_accepted : (code : List ℕ) → 4 ≤ length code → length code ≤ 400016 → image_of 16 (written_image 0x10000 (made_segments code)) ≡ Ok (image_value 0x10000 (made_segments code))
-image_accepted code some short =
+image_accepted : (item_bytes : ℕ) (code : List ℕ) → IsItemSize item_bytes → 4 ≤ length code → length code ≤ 400016 → image_of item_bytes (written_image 0x10000 (made_segments code)) ≡ Ok (image_value 0x10000 (made_segments code))
+image_accepted item_bytes code is some short =
     let file = file_of code in
     let size = length code in
     let form = file_is code in
@@ -172,11 +183,11 @@ image_accepted code some short =
     let of_file = file_accepted file (no_more 0x400000 (length file) (omega (arith, long, short))) (elf_accepted (behind code) (no_more (length file) 52 (omega (arith, long)))) (kind_accepted (behind code)) (flags_accepted (behind code))
     (table_accepted file (fields (behind code)).0 (fields (behind code)).1 (fields (behind code)).2 (omega (arith, long))) in
     let of_headers : headers_refusal (length file) [] (headers_of file) ≡ None = rw (long, read) (headers_accepted size (omega (arith, some)) short) in
-    let of_sizes : sizes_refusal 16 (loaded_headers file) ≡ None = ap (sizes_refusal 16) (loaded_are file size read (omega (arith, some))) ∙ sizes_accepted size short in
-    ap (image_of 16) form ∙ accepted 16 file (image_value 0x10000 (made_segments code)) of_file of_headers of_sizes (image_is code (omega (arith, some)) short) (entry_accepted code some)
+    let of_sizes : sizes_refusal item_bytes (loaded_headers file) ≡ None = ap (sizes_refusal item_bytes) (loaded_are file size read (omega (arith, some))) ∙ sizes_accepted item_bytes size is short in
+    ap (image_of item_bytes) form ∙ accepted item_bytes file (image_value 0x10000 (made_segments code)) of_file of_headers of_sizes (image_is code (omega (arith, some)) short) (entry_accepted code some)
 
 pub made_images_load : MadeImagesLoad
 unfolding made_image
-made_images_load seed rounds few =
+made_images_load item_bytes seed rounds is few =
     let size = program_length seed rounds in
-    image_accepted (program_bytes (made_program seed rounds)) (omega (arith, size)) (omega (arith, size, few))
+    image_accepted item_bytes (program_bytes (made_program seed rounds)) is (omega (arith, size)) (omega (arith, size, few))

@@ -1,7 +1,9 @@
 -- Spans make no more items than they overlap, counted span by span.
-use Rattle.std.proofs.Common.{◌≡◌, ℕ, zero, suc, ◌+◌, ◌-◌, ◌*◌, ◌/◌, ◌<◌, ◌≤◌, List, [], ◌∷◌, ◌++◌, length, map, refl, arith, length-append}
+use Rattle.std.proofs.Common.{ℕ, ◌+◌, ◌-◌, ◌/◌, ◌<◌, ◌≤◌, List, [], ◌∷◌, ◌++◌, length, arith, length-append}
 use Rattle.std.specs.Prelude.{Bool, true, false, nat_eq, nat_lt, if◌then◌else◌}
-use Rattle.std.specs.List.{flat_map, fold, range_with_len}
+use Rattle.std.specs.List.{fold, range_with_len}
+use Rattle.std.proofs.Math.Nat.{div-mul-le_self}
+use Rattle.std.proofs.lemmas.Nat.{le-div}
 use Rattle.std.proofs.lemmas.List.{length-map}
 use Rattle.std.proofs.lemmas.List.FromFn.{length-range_with_len}
 use Rattle.ddm_types.specs.declared.sizes.Span.{Span}
@@ -24,32 +26,38 @@ fold-at_most ms (n ∷ ns) =
     omega (arith, first, rest)
 
 -- no more than the items from the one of the span's first byte to the one of the byte behind it
-abbrev pub most_items : Span → ℕ
-most_items s = (s.start + s.bytes) / 16 + 1 - s.start / 16
+abbrev pub most_items : ℕ → Span → ℕ
+most_items size s = (s.start + s.bytes) / size + 1 - s.start / size
 
-numbers_in : (s : Span) → length (span_numbers 16 s) ≤ most_items s
+numbers_in : (size : ℕ) (s : Span) → 0 < size → length (span_numbers size s) ≤ most_items size s
 unfolding span_numbers
-numbers_in s = by_size (nat_eq s.bytes 0) where
+numbers_in size s some = by_bytes (nat_eq s.bytes 0) where
+  past : ℕ
+  past = s.start + s.bytes
+
   count : ℕ
-  count = (s.start + s.bytes - 1) / 16 + 1 - s.start / 16
+  count = (past - 1) / size + 1 - s.start / size
 
-  few : count ≤ most_items s
-  few = omega arith
+  few : count ≤ most_items size s
+  few =
+      let below = div-mul-le_self (past - 1) size in
+      let last : (past - 1) / size ≤ past / size = le-div ((past - 1) / size) past size some (omega (arith, below)) in
+      omega (arith, last)
 
-  by_size : (empty : Bool) → length (if empty then [] else range_with_len (s.start / 16) count) ≤ most_items s
-  by_size true = omega arith
-  by_size false = let size = length-range_with_len (s.start / 16) count in omega (arith, size, few)
+  by_bytes : (none : Bool) → length (if none then [] else range_with_len (s.start / size) count) ≤ most_items size s
+  by_bytes true = omega arith
+  by_bytes false = let all = length-range_with_len (s.start / size) count in omega (arith, all, few)
 
 -- the items of two spans
-pub items_in_two : (s t : Span) → item_count (items_of 16 (s ∷ t ∷ [])) ≤ most_items s + most_items t
+pub items_in_two : (size : ℕ) (s t : Span) → 0 < size → item_count (items_of size (s ∷ t ∷ [])) ≤ most_items size s + most_items size t
 unfolding items_of item_numbers
-items_in_two s t =
+items_in_two size s t some =
     let spans = s ∷ t ∷ [] in
-    let numbers = span_numbers 16 s ++ (span_numbers 16 t ++ []) in
-    let rows = length-map (fold with_number [] numbers) (item_row 16 spans) in
+    let numbers = span_numbers size s ++ (span_numbers size t ++ []) in
+    let rows = length-map (fold with_number [] numbers) (item_row size spans) in
     let once = fold-at_most [] numbers in
-    let all = length-append (span_numbers 16 s) (span_numbers 16 t ++ []) in
-    let others = length-append (span_numbers 16 t) [] in
-    let first = numbers_in s in
-    let second = numbers_in t in
+    let all = length-append (span_numbers size s) (span_numbers size t ++ []) in
+    let others = length-append (span_numbers size t) [] in
+    let first = numbers_in size s some in
+    let second = numbers_in size t some in
     omega (arith, rows, once, all, others, first, second)
