@@ -1,4 +1,4 @@
--- The made image: a random program, every hart of which works on the same 64 words of memory, as an ELF file.
+-- The made image: a random program as an ELF file. Every hart runs it, on the same 64 words of memory.
 use Rattle.std.specs.Prelude.{ℕ, ◌*◌, ◌/◌, ◌%◌, nat_eq, pos, false, List, [], ◌∷◌, ◌++◌, length, if◌then◌else◌}
 use Rattle.std.specs.List.{flat_map}
 use Rattle.byteorder.specs.Endian.{little_bytes}
@@ -77,6 +77,6 @@ made_segments code =
     record { header = 0; vaddr = 0x10000; flags = 5; bytes = code; memsz = length code } ∷
     record { header = 1; vaddr = 0x200000; flags = 6; bytes = []; memsz = 256 } ∷ []
 
--- The image of a seed and a number of rounds begins with its first instruction.
+-- of a seed and a number of rounds; the entry is the first instruction
 unfoldable pub made_image : ℕ → ℕ → List ℕ
 made_image seed rounds = written_image 0x10000 (made_segments (program_bytes (made_program seed rounds)))
