@@ -1,0 +1,4 @@
+pub mod Lengths
+pub mod Pushes
+pub mod ItemCounts
+pub mod Accepted

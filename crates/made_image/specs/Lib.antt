@@ -1,0 +1,4 @@
+pub mod MadeImage
+pub mod Accepted
+pub mod Computing
+pub mod MadeExample

@@ -1,0 +1,6 @@
+ghost use Rattle.made_image.specs.MadeExample.{MadeExample};
+
+/// The image of one seed, byte for byte.
+pub fn made_example()
+    ensures { MadeExample }
+{}

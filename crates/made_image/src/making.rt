@@ -1,0 +1,86 @@
+ghost use Rattle.std.specs.Prelude.{◌≡◌, ◌≤◌, ◌+◌, ◌*◌, ◌++◌, All, IfOk, OnOk, length};
+ghost use Rattle.rv_decode.specs.Valid.{IsValid};
+ghost use Rattle.made_image.specs.MadeImage.{made_image, made_program, made_segments, program_bytes};
+
+use crate::program::{ending, opening, round_of};
+use ddm_types::NoMemory;
+use elf_load::{Segment, write_image};
+use rand_core::utils::NextWord;
+use rand_pcg::Pcg32;
+use rv_decode::{Instr, encode};
+use std::alloc::Global;
+
+/// The stream of the generator.
+const STREAM: u64 = 54;
+
+/// Where the code begins, with the first instruction.
+const CODE: u32 = 0x1_0000;
+
+/// Where the 64 words begin, and their bytes.
+const MEMORY: u32 = 0x20_0000;
+
+const MEMORY_BYTES: u32 = 256;
+
+#[tactic(auto, using(crate::proofs::Pushes::instr_next, crate::proofs::Pushes::instrs_done))]
+fn push_program(code: &mut Vec<u8>, program: &[Instr]) -> Result<(), NoMemory>
+    requires { All IsValid program.now }
+    ensures { OnOk result (code.new.items ≡ code.old.items ++ program_bytes program.now) }
+{
+    for instr in program {
+        code.extend_from_slice(&encode(instr).to_le_bytes())?;
+    }
+    Ok(())
+}
+
+/// The bytes of the program.
+#[tactic(auto, using(crate::proofs::Pushes::rounds_begun, crate::proofs::Pushes::round_next, crate::proofs::Pushes::rounds_done))]
+fn made_code(alloc: Global, seed: u64, rounds: u32) -> Result<Vec<u8>, NoMemory>
+    ensures { IfOk result (λ code. code.items ≡ program_bytes (made_program seed rounds)) }
+{
+    let mut words = Pcg32::new(seed, STREAM);
+    let mut code = Vec::new(alloc);
+    push_program(&mut code, &opening())?;
+    for round in 0..rounds {
+        let _ = round;
+        push_program(&mut code, &round_of(words.next_word()))?;
+    }
+    push_program(&mut code, &ending())?;
+    Ok(code)
+}
+
+/// The code, and the memory that the program works on.
+#[tactic(auto, unfolding(crate::specs::MadeImage::made_segments))]
+fn made_segments(alloc: Global, code: Vec<u8>) -> Result<Vec<Segment>, NoMemory>
+    requires { length code.items ≤ 400016 }
+    ensures { IfOk result (λ segments. segments.items ≡ made_segments code.items) }
+{
+    let mut segments = Vec::new(alloc);
+    let memsz = code.len() as u32;
+    segments.push(Segment {
+        header: 0,
+        vaddr: CODE,
+        flags: 5,
+        bytes: code,
+        memsz,
+    })?;
+    segments.push(Segment {
+        header: 1,
+        vaddr: MEMORY,
+        flags: 6,
+        bytes: Vec::new(alloc),
+        memsz: MEMORY_BYTES,
+    })?;
+    Ok(segments)
+}
+
+/// The ELF file of the random program of a seed with so many rounds.
+#[tactic(auto, using(crate::proofs::Lengths::made_fits), unfolding(crate::specs::MadeImage::made_image, crate::specs::MadeImage::made_segments))]
+pub fn make_image(alloc: Global, seed: u64, rounds: u32) -> Result<Vec<u8>, NoMemory>
+    requires some { 1 ≤ rounds }
+    requires few { rounds ≤ 50000 }
+    ensures { IfOk result (λ bytes. bytes.items ≡ made_image seed rounds) }
+{
+    let code = made_code(alloc, seed, rounds)?;
+    let segments = made_segments(alloc, code)?;
+    write_image(alloc, CODE, &segments)
+}
