@@ -1,6 +1,8 @@
 ghost use Rattle.std.specs.Prelude.{◌≡◌, ◌<◌, ◌≤◌, ℕ, List, length, IfOk, IfErr};
 ghost use Rattle.tree_model.specs.State.Shape.{depth_of};
+ghost use Rattle.tree_model.specs.Turns.Machine.{run_of};
 ghost use Rattle.text_model.specs.Run.{report_text_of};
+ghost use Rattle.witness_order.specs.Order.{HaveOtherKeys};
 ghost use Rattle.bus_laws.specs.IsTree.{IsTree};
 ghost use Rattle.run_engine.specs.Any.{machine_state};
 ghost use Rattle.run_engine.specs.Run.{NameParts};
@@ -8,11 +10,11 @@ ghost use Rattle.ddm_cli.specs.Causes.{ScheduleCause};
 ghost use Rattle.ddm_cli.specs.Parts.{HasStart};
 ghost use Rattle.ddm_cli.specs.Reads.{IsRanBy};
 
-use crate::engine::report_text;
 use crate::schedule_file::schedule_file;
 use crate::status::Status;
 use ddm_outside::Shelf;
 use ddm_types::{NoMemory, Turn};
+use report::report_text;
 use run_engine::{AnyMachine, run};
 use std::alloc::Global;
 use tree_config::TreeConfig;
@@ -26,6 +28,7 @@ fn ran_text(
     requires named { NameParts turns.now (machine_state machine.old).machine }
     requires fresh { (machine_state machine.old).turns ≡ 0 }
     requires few { length turns.now ≤ 1048576 }
+    requires keys { HaveOtherKeys (run_of turns.now (machine_state machine.old).machine).machine.ops }
     ensures { let m = (machine_state machine.old).machine in IfOk result (λ text. text.items ≡ report_text_of (depth_of m) turns.now m) }
 {
     let mut answers = Vec::new(alloc);

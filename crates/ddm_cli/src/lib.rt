@@ -2,13 +2,13 @@
 #![tactic(auto)]
 
 mod answer;
-mod engine;
 mod fault;
 mod files;
 mod judging;
 mod limits;
 mod reading;
 mod refusal_lines;
+mod release;
 mod schedule_file;
 mod status;
 mod top;

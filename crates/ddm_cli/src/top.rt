@@ -6,6 +6,7 @@ ghost use Rattle.ddm_cli.specs.Words.{names_value};
 use crate::answer::scheduled_text;
 use crate::fault::tell;
 use crate::files::{image_file, tree_file};
+use crate::release::release;
 use crate::status::Status;
 use crate::words::{FileNames, file_names};
 use ddm_outside::{Shelf, Sink};
@@ -36,7 +37,7 @@ fn files_text<F: Shelf>(
     let tree = tree_file(alloc, files, names.tree, &mut buffer)?;
     let mut machine = image_file(alloc, files, names.image, &mut buffer, &tree)?;
     let text = scheduled_text(alloc, files, names.schedule, &mut buffer, &tree, &mut machine);
-    drop(machine);
+    release(machine);
     text
 }
 

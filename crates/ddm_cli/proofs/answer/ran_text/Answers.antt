@@ -1,9 +1,14 @@
-use Rattle.std.proofs.Common.{ap, ◌∙◌}
+use Rattle.std.proofs.Common.{ap, subst, sym, ◌∙◌}
 use Rattle.std.proofs.lemmas.Result.{IfOk-weaker}
+use Rattle.tree_model.specs.State.Values.{MachineValue}
 use Rattle.ddm_tree.specs.Machine.{MachineState}
 use Rattle.run_engine.specs.Any.{machine_state}
+use Rattle.witness_order.specs.Order.{HaveOtherKeys}
 use Rattle.ddm_cli.proofs.Taken.{ran_report}
 use Rattle.ddm_cli.proofs.answer.ran_text.Goals as goal
+
+pub report_text-requires : goal.report_text-requires
+report_text-requires c = record { keys = subst (λ (m : MachineValue). HaveOtherKeys m.ops) (sym (ap (λ (s : MachineState). s.machine) c.in_ok-counts.ensures.after)) c.requires.keys }
 
 pub returns : goal.returns
 returns c =

@@ -9,6 +9,9 @@ use Rattle.run_engine.specs.Any.{machine_state}
 use Rattle.run_engine.specs.Run.{NameParts}
 use Rattle.ddm_cli.specs.Causes.{AcceptedAs}
 use Rattle.ddm_cli.specs.Parts.{turns_at}
+use Rattle.tree_model.specs.Turns.Machine.{run_of}
+use Rattle.witness_order.specs.Order.{HaveOtherKeys}
+use Rattle.ddm_cli.proofs.OtherKeys.{run_keys}
 use Rattle.ddm_cli.proofs.StartNames.{named_parts}
 use Rattle.ddm_cli.proofs.answer.scheduled_text.Goals as goal
 
@@ -20,6 +23,12 @@ ran_text-requires-clause-named g c =
     let given = subst (λ ls. GivesTurnsOf (shape_view ls) 0 c.in_ok-turns.turns.items) levels c.in_ok-turns.ensures.given in
     let named = named_parts c.args.tree.now start.0 c.requires.tree start.1.accepted c.in_ok-turns.turns.items given.each in
     subst (λ (ts : List Turn). NameParts ts (machine_state c.args.machine.now).machine) (sym c.deref.ensures.value) (subst (λ (m : MachineValue). NameParts c.in_ok-turns.turns.items m) (sym machine) named)
+
+pub ran_text-requires-clause-keys : goal.ran_text-requires-clause-keys
+ran_text-requires-clause-keys g c =
+    let start = c.requires.start in
+    let machine = ap (λ (s : MachineState). s.machine) start.1.machine in
+    subst (λ (m : MachineValue). HaveOtherKeys (run_of c.deref.result.now m).machine.ops) (sym machine) (run_keys c.args.tree.now start.0 c.requires.tree start.1.accepted c.deref.result.now)
 
 pub returns-clause-ran : goal.returns-clause-ran
 returns-clause-ran g c =
