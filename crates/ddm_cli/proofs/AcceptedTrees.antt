@@ -10,7 +10,7 @@ use Rattle.tree_model.specs.Start.Sources.{TreeValue}
 use Rattle.ddm_types.specs.declared.sizes.TreeSizes.{TreeSizes}
 use Rattle.bus_laws.specs.IsTree.{IsTree}
 use Rattle.tree_config.specs.Levels.{IsShape, depth_of, is_uneven, leaves_of, levels_of}
-use Rattle.tree_config.specs.Ranges.{AreSizes, IsInRange, highest_end, is_allowed, stacks_end}
+use Rattle.tree_config.specs.Ranges.{AreSizes, highest_end, is_allowed, stacks_end}
 use Rattle.tree_config.specs.ShapeText.{Tree, leaf_tree, group_tree, node_text, read_from, shape_of}
 use Rattle.tree_config.specs.TreeFile.{◌>>=◌, in_range, is_wide, item_bytes_at, judged_reading, judged_tree, key_name, least_unknown, levels_in, number, number_at, number_or, shape_at, shape_text, sizes_at, stack_bytes_at, tree_in, tree_of, tree_of_table, unless_unknown, value_at, whole_number}
 use Rattle.tree_config.specs.declared.refusal.TreeKey.{TreeKey}

@@ -1,16 +1,16 @@
 -- The nodes under the top before the first turn: each bus has as many children as the tree says, and each bus and leaf of the
 -- tree is there.
-use Rattle.std.proofs.Common.{◌≡◌, ℕ, zero, suc, ◌+◌, ◌<◌, ◌≤◌, Bool, true, false, List, [], ◌∷◌, ◌++◌, length, take, drop, map, Option, Some, None, refl, sym, ap, ◌∙◌, add-one, add-zero, length-append, arith, cond}
+use Rattle.std.proofs.Common.{◌≡◌, ℕ, zero, suc, ◌+◌, ◌<◌, ◌≤◌, Bool, true, false, List, [], ◌∷◌, ◌++◌, length, take, drop, map, Some, refl, sym, ap, ◌∙◌, add-one, add-zero, length-append, arith, cond}
 use Rattle.std.specs.Prelude.{◌||◌, nat_eq, nat_lt, slice_get, sum, ⊤}
 use Rattle.std.specs.List.{AllByRecursion, flat_map}
-use Rattle.std.proofs.lemmas.Bool.{eq-eqb, eqb-true, lt-ltb, ltb-true}
+use Rattle.std.proofs.lemmas.Bool.{eqb-true, ltb-true}
 use Rattle.std.proofs.lemmas.Bool.Decides.{nat_tests}
 use Rattle.std.proofs.lemmas.List.{length-take-le, length-drop}
 use Rattle.std.proofs.lemmas.List.Concat.{flat_map-cons}
 use Rattle.tree_model.specs.State.Values.{LeafValue, DirSizes, DirValue, Node, Nodes, leaf_node, dir_node, no_nodes, more_nodes, nodes, children}
 use Rattle.tree_model.specs.State.Place.{Where, at_child, where_path, spot_in}
 use Rattle.tree_model.specs.Start.Nodes.{cut_in, dirs_over, under_levels}
-use Rattle.tree_model.specs.Turns.Tree.{Name, leaf_of_number, bus_of_number, has_node, has_among, is_named, of_dir, read_in, read_among}
+use Rattle.tree_model.specs.Turns.Tree.{Name, bus_of_number, has_node, has_among, of_dir, read_in, read_among}
 use Rattle.tree_model.proofs.Children.{children-nodes}
 use Rattle.bus_laws.specs.IsTree.{AreUnder}
 use Rattle.bus_laws.proofs.StartLevels.{leaf_total, sum-more}

@@ -1,9 +1,7 @@
 -- What follows from the causes.
 use Rattle.std.proofs.Common.{◌≡◌, ℕ, Bool, true, false, cond, List, ap, Option, Some, None, Result, Ok, Err, inl, inr, refl, sym, ◌∙◌}
 use Rattle.std.specs.Prelude.{IfSome, IsOkAnd, is_none, option_and_then}
-use Rattle.std.specs.Result.{result_ok}
 use Rattle.std.specs.Option.{option_map}
-use Rattle.report.specs.declared.roles.FileRole.{FileRole}
 use Rattle.report.specs.declared.roles.FileRole.TheVariants.{ImageFile, TreeFile, ScheduleFile, WitnessFile, CheckpointFile}
 use Rattle.tree_model.specs.Start.Sources.{TreeValue, ImageValue}
 use Rattle.tree_model.specs.Start.Machine.{StartRefusal, start_refusal}

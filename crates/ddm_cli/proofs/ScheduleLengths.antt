@@ -1,12 +1,11 @@
 -- A schedule that isn't refused is short: each of its lines has few bytes, and its turns are few.
-use Rattle.std.proofs.Common.{◌≡◌, ℕ, suc, ◌+◌, ◌*◌, ◌<◌, ◌≤◌, Bool, true, false, cond, nat_lt, List, [], ◌∷◌, length, Option, Some, None, refl, sym, ap, ◌∙◌, subst, arith}
-use Rattle.std.specs.Prelude.{bytes_eq, codes, nat_eq}
+use Rattle.std.proofs.Common.{◌≡◌, ℕ, ◌+◌, ◌*◌, ◌≤◌, Bool, true, false, cond, nat_lt, List, [], ◌∷◌, length, Option, Some, None, refl, sym, arith}
+use Rattle.std.specs.Prelude.{nat_eq}
 use Rattle.std.proofs.lemmas.Bool.Decides.{nat_tests}
 use Rattle.ddm_types.specs.declared.turns.Turn.{Turn}
 use Rattle.text_model.specs.declared.ScheduleRefusal.{ScheduleRefusal}
-use Rattle.text_model.specs.Schedule.{ShapeView, Standing, in_line, at_end, refused_at, Reading, LineMeaning, turn_line_of, end_line, no_line, with_byte_before, pieces_at, line_of_turn, meaning_of, turn_of_words, refusal_of_turn, with_turn, after_end, unless_refused, line_reading, reading_from, reading_of}
+use Rattle.text_model.specs.Schedule.{ShapeView, Standing, in_line, at_end, refused_at, Reading, LineMeaning, turn_line_of, end_line, no_line, with_byte_before, pieces_at, meaning_of, refusal_of_turn, with_turn, after_end, unless_refused, line_reading, reading_from, reading_of}
 use Rattle.text_model.proofs.Given.{turns-reading_on}
-use Rattle.schedule_log.specs.Pieces.{turns_of}
 
 -- a text that may go on, or has come to its end
 abbrev pub GoesOn : Standing → Type 0

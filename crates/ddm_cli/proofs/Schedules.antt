@@ -1,17 +1,16 @@
 -- What a reader says of a schedule that was given to it in pieces, as what the whole file gives.
-use Rattle.std.proofs.Common.{◌≡◌, ℕ, ◌+◌, ◌≤◌, List, [], ◌++◌, length, take, drop, Option, Some, None, Result, Ok, Err, refl, sym, ap, ◌∙◌, subst, arith, append_assoc, length-append}
+use Rattle.std.proofs.Common.{◌≡◌, ℕ, ◌+◌, ◌≤◌, List, [], ◌++◌, length, take, drop, Option, Some, None, Ok, Err, refl, sym, ap, ◌∙◌, subst, arith, append_assoc, length-append}
 use Rattle.std.specs.Prelude.{IfSome}
 use Rattle.std.proofs.lemmas.List.{append-nil, length-take-le}
 use Rattle.ddm_types.specs.declared.turns.Turn.{Turn}
 use Rattle.ddm_outside.specs.Telling.{ReadsPart}
 use Rattle.text_model.specs.declared.ScheduleRefusal.{ScheduleRefusal}
-use Rattle.text_model.specs.Schedule.{ShapeView, Standing, in_line, at_end, refused_at, Reading, finished, pieces_at, reading_from, reading_of, resumed, schedule_of}
+use Rattle.text_model.specs.Schedule.{ShapeView, Standing, in_line, at_end, refused_at, pieces_at, reading_from, reading_of, resumed, schedule_of}
 use Rattle.text_model.specs.ReadBack.{GivesTurnsOf}
 use Rattle.text_model.proofs.Given.{turns-schedule_of}
 use Rattle.schedule_log.specs.Pieces.{reader_after, turns_of}
 use Rattle.schedule_log.specs.Reader.{ReaderView, Fed, answer_of, begun, fed, finish_of, given}
 use Rattle.schedule_log.specs.Shapes.{shape_view}
-use Rattle.schedule_log.specs.declared.refusal.FeedError.{FeedError}
 use Rattle.schedule_log.specs.declared.refusal.FeedError.TheVariants as error
 use Rattle.schedule_log.proofs.Cuttings.{finish_accepts, finish_refuses, no_piece, reader_cut, turns_cut}
 use Rattle.ddm_cli.specs.Causes.{AcceptedAs, IsUnscheduled}

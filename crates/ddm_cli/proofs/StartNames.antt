@@ -9,14 +9,14 @@ use Rattle.std.proofs.lemmas.List.Elements.{All-weaker}
 use Rattle.ddm_types.specs.declared.turns.Turn.{Turn}
 use Rattle.ddm_types.specs.declared.sizes.TreeCounts.{TreeCounts}
 use Rattle.ddm_types.specs.Keys.{key_zero}
-use Rattle.tree_model.specs.State.Values.{DirSizes, Node, Nodes, leaf_node, dir_node, no_nodes, more_nodes, nodes, children, MachineValue, root_of}
+use Rattle.tree_model.specs.State.Values.{DirSizes, Node, Nodes, leaf_node, dir_node, no_nodes, more_nodes, nodes, root_of}
 use Rattle.tree_model.specs.State.Place.{at_top, key_at_leaf}
 use Rattle.tree_model.specs.State.Shape.{skeleton, skeletons, leaf_numbers_of, leaf_numbers_among, count_from, leaves_numbered, depth_of}
 use Rattle.tree_model.specs.Start.Sources.{TreeValue, ImageValue, bus_widths, leaf_count, width_of}
 use Rattle.tree_model.specs.Start.Nodes.{dir_sizes, under_levels}
 use Rattle.tree_model.specs.Start.Machine.{start_leaves, start_machine, start_refusal}
 use Rattle.tree_model.specs.Turns.Machine.{child_count, is_child_of, names_part}
-use Rattle.tree_model.specs.Turns.Tree.{leaf_of_number, bus_of_number, has_node, has_among, of_dir, of_leaf, read_in}
+use Rattle.tree_model.specs.Turns.Tree.{leaf_of_number, bus_of_number, has_node, has_among, of_dir, of_leaf}
 use Rattle.tree_model.proofs.NamedNode.{read_in-is_some}
 use Rattle.tree_model.proofs.Tests.{and-first, and-second}
 use Rattle.tree_model.proofs.Children.{children-nodes}
@@ -26,7 +26,6 @@ use Rattle.text_model.specs.declared.ScheduleRefusal.{ScheduleRefusal}
 use Rattle.text_model.specs.Schedule.{child_fault, turn_fault}
 use Rattle.text_model.specs.ReadBack.{IsTurnOf}
 use Rattle.schedule_log.specs.Shapes.{shape_view}
-use Rattle.start_parts.specs.Counts.{counts_of}
 use Rattle.start_parts.specs.Parts.{start_kids}
 use Rattle.start_parts.proofs.Levels.{HasFirst, has-first, levels-length}
 use Rattle.start_parts.proofs.NewLeaves.{leaves-length}

@@ -1,5 +1,5 @@
 -- Where all three files were taken, the report of the run is their text.
-use Rattle.std.proofs.Common.{◌≡◌, ℕ, ◌≤◌, List, length, Option, Some, None, Ok, refl, sym, ap, ◌∙◌}
+use Rattle.std.proofs.Common.{◌≡◌, ℕ, ◌≤◌, List, Option, Some, None, Ok, refl, sym, ap, ◌∙◌}
 use Rattle.std.specs.Prelude.{IfSome, IsSome}
 use Rattle.ddm_types.specs.declared.turns.Turn.{Turn}
 use Rattle.tree_model.specs.State.Shape.{Frame, depth_of, levels_of}
@@ -26,7 +26,6 @@ use Rattle.ddm_cli.proofs.Telling.{rose_before}
 use Rattle.ddm_cli.proofs.Causes.{takes_parts}
 use Rattle.ddm_cli.proofs.Judged.{both_taken, parts_taken}
 use Rattle.ddm_cli.proofs.StartNames.{start_depth}
-use Rattle.text_model.specs.declared.ScheduleRefusal.{ScheduleRefusal}
 
 -- the report after these turns, of the machine that they made
 pub ran_report : (turns : List Turn) (before after : MachineValue) (counts : RunCounts) → counts ≡ counts_of (run_of turns before).answers → after ≡ (run_of turns before).machine

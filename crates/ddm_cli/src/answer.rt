@@ -20,11 +20,7 @@ use std::alloc::Global;
 use tree_config::TreeConfig;
 
 // The report of a machine after these turns, its first ones.
-fn ran_text(
-    alloc: Global,
-    machine: &mut AnyMachine,
-    turns: &[Turn],
-) -> Result<Vec<u8>, NoMemory>
+fn ran_text(alloc: Global, machine: &mut AnyMachine, turns: &[Turn]) -> Result<Vec<u8>, NoMemory>
     requires named { NameParts turns.now (machine_state machine.old).machine }
     requires fresh { (machine_state machine.old).turns ≡ 0 }
     requires few { length turns.now ≤ 1048576 }

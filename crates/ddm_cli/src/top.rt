@@ -36,7 +36,14 @@ fn files_text<F: Shelf>(
     let mut buffer = read_buffer(alloc)?;
     let tree = tree_file(alloc, files, names.tree, &mut buffer)?;
     let mut machine = image_file(alloc, files, names.image, &mut buffer, &tree)?;
-    let text = scheduled_text(alloc, files, names.schedule, &mut buffer, &tree, &mut machine);
+    let text = scheduled_text(
+        alloc,
+        files,
+        names.schedule,
+        &mut buffer,
+        &tree,
+        &mut machine,
+    );
     release(machine);
     text
 }

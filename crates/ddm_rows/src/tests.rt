@@ -53,7 +53,13 @@ const WIDE_REPORT: &[u8] =
     b"ddm 1\nturns 8 retired 6 granted 0 busy 0\nhart 0 exit 7 pc 00010018 done 6\nregs 0 00000000 00030010 00000000 00000000 00020000 00000007 00000007 00000000 00000000 00000007 00000001 00000000 00000000 00000000 00000000 00000000 0000005d 00000000 00000000 00000000 00000000 00000000 00000000 00000000 00000000 00000000 00000000 00000000 00000000 00000000 00000000\nout 0 -\nbus 0 read 0 data 0 erase 0 exclusive 0 out 0 inject 0\nitem 0 00010000 000202b7 00700313 0062a023 0002a383 05d00893 00038513 00000073 00000000 00000000 00000000 00000000 00000000 00000000 00000000 00000000 00000000 leaf 0 way 0 E\nitem 1 00020000 00000007 00000000 00000000 00000000 00000000 00000000 00000000 00000000 00000000 00000000 00000000 00000000 00000000 00000000 00000000 00000000 leaf 0 way 1 E\nitem 2 00030000 00000000 00000000 00000000 00000000 00000000 00000000 00000000 00000000 00000000 00000000 00000000 00000000 00000000 00000000 00000000 00000000 leaf 0 way 2 E\nop 0 0.0.0 00010000 plain\nop 0 0.0.1 00010004 plain\nop 0 0.0.2 00010008 store 00020000 00000000 00000007\nop 0 0.0.3 0001000c load 00020000 00000007\nop 0 0.0.4 00010010 plain\nop 0 0.0.5 00010014 plain\nend\n";
 
 // Loads the word at 0x20000 and asks to exit.
-const ONE_READ_IMAGE: &[u8] = &[127, 69, 76, 70, 1, 1, 1, 0, 0, 0, 0, 0, 0, 0, 0, 0, 2, 0, 243, 0, 1, 0, 0, 0, 0, 0, 1, 0, 52, 0, 0, 0, 0, 0, 0, 0, 0, 0, 0, 0, 52, 0, 32, 0, 2, 0, 0, 0, 0, 0, 0, 0, 1, 0, 0, 0, 116, 0, 0, 0, 0, 0, 1, 0, 0, 0, 1, 0, 16, 0, 0, 0, 16, 0, 0, 0, 5, 0, 0, 0, 1, 0, 0, 0, 1, 0, 0, 0, 132, 0, 0, 0, 0, 0, 2, 0, 0, 0, 2, 0, 4, 0, 0, 0, 16, 0, 0, 0, 6, 0, 0, 0, 1, 0, 0, 0, 183, 2, 2, 0, 131, 163, 2, 0, 147, 8, 208, 5, 115, 0, 0, 0, 5, 0, 0, 0];
+const ONE_READ_IMAGE: &[u8] = &[
+    127, 69, 76, 70, 1, 1, 1, 0, 0, 0, 0, 0, 0, 0, 0, 0, 2, 0, 243, 0, 1, 0, 0, 0, 0, 0, 1, 0, 52,
+    0, 0, 0, 0, 0, 0, 0, 0, 0, 0, 0, 52, 0, 32, 0, 2, 0, 0, 0, 0, 0, 0, 0, 1, 0, 0, 0, 116, 0, 0,
+    0, 0, 0, 1, 0, 0, 0, 1, 0, 16, 0, 0, 0, 16, 0, 0, 0, 5, 0, 0, 0, 1, 0, 0, 0, 1, 0, 0, 0, 132,
+    0, 0, 0, 0, 0, 2, 0, 0, 0, 2, 0, 4, 0, 0, 0, 16, 0, 0, 0, 6, 0, 0, 0, 1, 0, 0, 0, 183, 2, 2, 0,
+    131, 163, 2, 0, 147, 8, 208, 5, 115, 0, 0, 0, 5, 0, 0, 0,
+];
 
 const TWO_LEAVES: &[u8] =
     b"shape = \"(LL)\"\nways = 4\nsets = 1\nbuffer = 1\nparking = 1\ndown = 16\nrequests = 16\nreplies = 16\nstack_base = 196608\nstack_bytes = 0\n";
@@ -61,13 +67,25 @@ const TWO_LEAVES: &[u8] =
 const ONE_READ: &[u8] = b"h 0 0\nh 0 0\ng 0 q 0\ng 0 r 1\nh 0 0\nend\n";
 
 // Loads the word at 0x20000 and stores the hart's number and 1 there.
-const TWO_WRITERS_IMAGE: &[u8] = &[127, 69, 76, 70, 1, 1, 1, 0, 0, 0, 0, 0, 0, 0, 0, 0, 2, 0, 243, 0, 1, 0, 0, 0, 0, 0, 1, 0, 52, 0, 0, 0, 0, 0, 0, 0, 0, 0, 0, 0, 52, 0, 32, 0, 2, 0, 0, 0, 0, 0, 0, 0, 1, 0, 0, 0, 116, 0, 0, 0, 0, 0, 1, 0, 0, 0, 1, 0, 16, 0, 0, 0, 16, 0, 0, 0, 5, 0, 0, 0, 1, 0, 0, 0, 1, 0, 0, 0, 132, 0, 0, 0, 0, 0, 2, 0, 0, 0, 2, 0, 4, 0, 0, 0, 16, 0, 0, 0, 6, 0, 0, 0, 1, 0, 0, 0, 183, 2, 2, 0, 131, 163, 2, 0, 19, 3, 21, 0, 35, 160, 98, 0, 5, 0, 0, 0];
+const TWO_WRITERS_IMAGE: &[u8] = &[
+    127, 69, 76, 70, 1, 1, 1, 0, 0, 0, 0, 0, 0, 0, 0, 0, 2, 0, 243, 0, 1, 0, 0, 0, 0, 0, 1, 0, 52,
+    0, 0, 0, 0, 0, 0, 0, 0, 0, 0, 0, 52, 0, 32, 0, 2, 0, 0, 0, 0, 0, 0, 0, 1, 0, 0, 0, 116, 0, 0,
+    0, 0, 0, 1, 0, 0, 0, 1, 0, 16, 0, 0, 0, 16, 0, 0, 0, 5, 0, 0, 0, 1, 0, 0, 0, 1, 0, 0, 0, 132,
+    0, 0, 0, 0, 0, 2, 0, 0, 0, 2, 0, 4, 0, 0, 0, 16, 0, 0, 0, 6, 0, 0, 0, 1, 0, 0, 0, 183, 2, 2, 0,
+    131, 163, 2, 0, 19, 3, 21, 0, 35, 160, 98, 0, 5, 0, 0, 0,
+];
 
 const TWO_WRITERS: &[u8] =
     b"h 0 0\nh 0 0\ng 0 q 0\ng 0 r 1\nh 0 0\nh 0 0\nh 0 0\nh 1 0\nh 1 0\nh 1 0\nh 1 0\ng 0 q 1\ng 0 q 0\ng 0 d\nh 1 0\ng 0 q 0\ng 0 r 1\ng 0 q 0\ng 0 d\nh 0 0\nend\n";
 
 // Loads the word at 0x20000, and then the first word of its own code.
-const LAST_COPY_IMAGE: &[u8] = &[127, 69, 76, 70, 1, 1, 1, 0, 0, 0, 0, 0, 0, 0, 0, 0, 2, 0, 243, 0, 1, 0, 0, 0, 0, 0, 1, 0, 52, 0, 0, 0, 0, 0, 0, 0, 0, 0, 0, 0, 52, 0, 32, 0, 2, 0, 0, 0, 0, 0, 0, 0, 1, 0, 0, 0, 116, 0, 0, 0, 0, 0, 1, 0, 0, 0, 1, 0, 16, 0, 0, 0, 16, 0, 0, 0, 5, 0, 0, 0, 1, 0, 0, 0, 1, 0, 0, 0, 132, 0, 0, 0, 0, 0, 2, 0, 0, 0, 2, 0, 4, 0, 0, 0, 16, 0, 0, 0, 6, 0, 0, 0, 1, 0, 0, 0, 183, 2, 2, 0, 131, 163, 2, 0, 55, 3, 1, 0, 3, 36, 3, 0, 5, 0, 0, 0];
+const LAST_COPY_IMAGE: &[u8] = &[
+    127, 69, 76, 70, 1, 1, 1, 0, 0, 0, 0, 0, 0, 0, 0, 0, 2, 0, 243, 0, 1, 0, 0, 0, 0, 0, 1, 0, 52,
+    0, 0, 0, 0, 0, 0, 0, 0, 0, 0, 0, 52, 0, 32, 0, 2, 0, 0, 0, 0, 0, 0, 0, 1, 0, 0, 0, 116, 0, 0,
+    0, 0, 0, 1, 0, 0, 0, 1, 0, 16, 0, 0, 0, 16, 0, 0, 0, 5, 0, 0, 0, 1, 0, 0, 0, 1, 0, 0, 0, 132,
+    0, 0, 0, 0, 0, 2, 0, 0, 0, 2, 0, 4, 0, 0, 0, 16, 0, 0, 0, 6, 0, 0, 0, 1, 0, 0, 0, 183, 2, 2, 0,
+    131, 163, 2, 0, 55, 3, 1, 0, 3, 36, 3, 0, 5, 0, 0, 0,
+];
 
 const TWO_BUSES_OF_ONE_LEAF: &[u8] =
     b"shape = \"((L)(L))\"\nways = 1\nsets = 1\nbuffer = 1\nparking = 1\ndown = 2\nrequests = 2\nreplies = 2\nstack_base = 196608\nstack_bytes = 0\n";
@@ -292,7 +310,9 @@ fn items_of_64_bytes(rt: HostRuntime) -> Result<(), Fail> {
 }
 
 fn has_line(report: &[u8], line: &str) -> bool {
-    report.split(|byte| *byte == b'\n').any(|other| other == line.as_bytes())
+    report
+        .split(|byte| *byte == b'\n')
+        .any(|other| other == line.as_bytes())
 }
 
 // Whether these files are accepted, and the report has these lines.
@@ -328,7 +348,13 @@ fn two_writers(rt: HostRuntime) -> Result<(), Fail> {
         "op 1 4.1.3 0001000c store 00020000 00000005 00000002",
         "op 0 8.0.3 0001000c store 00020000 00000002 00000001",
     ];
-    assert!(rt; reports(rt.alloc(), [TWO_LEAVES, TWO_WRITERS_IMAGE, TWO_WRITERS], &lines)?);
+    assert!(rt;
+        reports(
+            rt.alloc(),
+            [TWO_LEAVES, TWO_WRITERS_IMAGE, TWO_WRITERS],
+            &lines
+        )?
+    );
     Ok(())
 }
 
@@ -417,9 +443,18 @@ fn schedules_that_are_refused(rt: HostRuntime) -> Result<(), Fail> {
         (b"h 0 00\nend\n", b"ddm: schedule line 1: bad turn\n"),
         (b"end\nx", b"ddm: schedule line 2: after end\n"),
         (b"h 0 0\nend\n\n", b"ddm: schedule line 3: after end\n"),
-        (b"g 4294967295 d\nend\n", b"ddm: schedule line 1: no such bus\n"),
-        (b"g 999999999 q 4294967295\nend\n", b"ddm: schedule line 1: no such bus\n"),
-        (b"g 1000000000 q 4294967295\nend\n", b"ddm: schedule line 1: bad turn\n"),
+        (
+            b"g 4294967295 d\nend\n",
+            b"ddm: schedule line 1: no such bus\n",
+        ),
+        (
+            b"g 999999999 q 4294967295\nend\n",
+            b"ddm: schedule line 1: no such bus\n",
+        ),
+        (
+            b"g 1000000000 q 4294967295\nend\n",
+            b"ddm: schedule line 1: bad turn\n",
+        ),
         (b"g 0 q 1\nend\n", b"ddm: schedule line 1: no such child\n"),
         (b"h 0 256\nend\n", b"ddm: schedule line 1: bad turn\n"),
         (b"h  0 0\nend\n", b"ddm: schedule line 1: bad turn\n"),

@@ -1,4 +1,4 @@
-use Rattle.std.proofs.Common.{List, ℕ, ◌≡◌, ap, subst, sym, true, ◌∙◌}
+use Rattle.std.proofs.Common.{List, ap, subst, sym}
 use Rattle.ddm_types.specs.declared.turns.Turn.{Turn}
 use Rattle.tree_model.specs.State.Values.{MachineValue}
 use Rattle.tree_model.specs.Start.Sources.{TreeValue}
