@@ -59,7 +59,7 @@ behind-found b f bs other found =
     rw back found
 
 -- each entry is the one of its item
-each-buffered : (es : List BufferValue) → are_distinct (map buffer_item es) ≡ true → All (λ (e : BufferValue). buffered e.item es ≡ Some e) es
+pub each-buffered : (es : List BufferValue) → are_distinct (map buffer_item es) ≡ true → All (λ (e : BufferValue). buffered e.item es ≡ Some e) es
 each-buffered [] once = All-nil (λ (e : BufferValue). buffered e.item [] ≡ Some e)
 each-buffered (b ∷ bs) once =
     let parts = and_parts (not (list_any (nat_eq b.item) (map buffer_item bs))) (are_distinct (map buffer_item bs)) once in

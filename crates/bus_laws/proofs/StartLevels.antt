@@ -15,12 +15,12 @@ use Rattle.bus_laws.proofs.StartNodes.{some_of, has_held, IsIdle, AreIdle, holdi
 -- ---- parts of a list
 
 module _ {X : Type 0} (P : X → Type 0) where
-  each-take : (k : ℕ) (xs : List X) → AllByRecursion P xs → AllByRecursion P (take k xs)
+  pub each-take : (k : ℕ) (xs : List X) → AllByRecursion P xs → AllByRecursion P (take k xs)
   each-take zero xs h = tt
   each-take (suc k) [] h = tt
   each-take (suc k) (x ∷ xs) h = (h.0, each-take k xs h.1)
 
-  each-drop : (k : ℕ) (xs : List X) → AllByRecursion P xs → AllByRecursion P (drop k xs)
+  pub each-drop : (k : ℕ) (xs : List X) → AllByRecursion P xs → AllByRecursion P (drop k xs)
   each-drop zero xs h = h
   each-drop (suc k) [] h = tt
   each-drop (suc k) (x ∷ xs) h = each-drop k xs h.1

@@ -126,23 +126,25 @@ AreIdle n ms = AllByRecursion (IsIdle n) ms
 abbrev pub holding : ℕ → List Node → ℕ
 holding x ms = among (λ m. one_if (has_held x m)) ms
 
+-- ---- where one of two lists holds
+
+pub or_each-at : (bs cs : List Bool) (x : ℕ) → slice_index_or (or_each bs cs) x false ≡ (slice_index_or bs x false || slice_index_or cs x false)
+or_each-at [] cs x = refl
+or_each-at (b ∷ bs) [] x = sym (or-false (slice_index_or (b ∷ bs) x false)) where
+  or-false : (c : Bool) → (c || false) ≡ c
+  or-false true = refl
+  or-false false = refl
+or_each-at (b ∷ bs) (c ∷ cs) zero = refl
+or_each-at (b ∷ bs) (c ∷ cs) (suc x) = or_each-at bs cs x
+
+pub or_each-length : (bs cs : List Bool) → length bs ≡ length cs → length (or_each bs cs) ≡ length bs
+or_each-length [] [] same = refl
+or_each-length [] (c ∷ cs) same = absurd (omega arith)
+or_each-length (b ∷ bs) [] same = refl
+or_each-length (b ∷ bs) (c ∷ cs) same = ap suc (or_each-length bs cs (omega arith))
+
 module _ (n : ℕ) where
   -- ---- what is held below
-
-  or_each-at : (bs cs : List Bool) (x : ℕ) → slice_index_or (or_each bs cs) x false ≡ (slice_index_or bs x false || slice_index_or cs x false)
-  or_each-at [] cs x = refl
-  or_each-at (b ∷ bs) [] x = sym (or-false (slice_index_or (b ∷ bs) x false)) where
-    or-false : (c : Bool) → (c || false) ≡ c
-    or-false true = refl
-    or-false false = refl
-  or_each-at (b ∷ bs) (c ∷ cs) zero = refl
-  or_each-at (b ∷ bs) (c ∷ cs) (suc x) = or_each-at bs cs x
-
-  or_each-length : (bs cs : List Bool) → length bs ≡ length cs → length (or_each bs cs) ≡ length bs
-  or_each-length [] [] same = refl
-  or_each-length [] (c ∷ cs) same = absurd (omega arith)
-  or_each-length (b ∷ bs) [] same = refl
-  or_each-length (b ∷ bs) (c ∷ cs) same = ap suc (or_each-length bs cs (omega arith))
 
   held_below-at : (ms : List Node) (x : ℕ) → slice_index_or (held_below ms) x false ≡ some_of (map (has_held x) ms)
   held_below-at [] x = refl

@@ -37,10 +37,14 @@ text_of tree image schedule = option_and_then (text_with schedule) (parts_of tre
 
 -- ---- order
 
--- after each turn of the schedule the operations, in the order of their keys, are one legal run of the flat machine from its
--- start, each hart and the found copy of every item are that run's, and so is what each hart has put out
+-- after each of the turns the operations, in the order of their keys, are one legal run of the flat machine from its start, each
+-- hart and the found copy of every item are that run's, and so is what each hart has put out
+abbrev pub TurnsInOrder : Parts → List Turn → Type 0
+TurnsInOrder p turns = EachTurnWitnessed (flat_start_of p.tree p.image) turns (start_machine p.tree p.image) × EachOutputWitnessed turns (start_machine p.tree p.image)
+
+-- after each turn of the schedule
 abbrev pub RunsInOrder : List ℕ → Parts → Type 0
-RunsInOrder schedule p = IfSome (turns_at p.tree.levels schedule) (λ turns. EachTurnWitnessed (flat_start_of p.tree p.image) turns (start_machine p.tree p.image) × EachOutputWitnessed turns (start_machine p.tree p.image))
+RunsInOrder schedule p = IfSome (turns_at p.tree.levels schedule) (TurnsInOrder p)
 
 -- ---- the files
 
@@ -64,6 +68,10 @@ AcceptsRun tree image schedule = AcceptsParts tree image × Both tree schedule (
 abbrev pub RefusesSchedule : ℕ → ScheduleRefusal → Option (List ℕ) → Option (List ℕ) → Option (List ℕ) → Type 0
 RefusesSchedule line r tree image schedule = AcceptsParts tree image × Both tree schedule (λ t s. IfSome (tree_at t) (λ value. IsUnscheduled value.levels line r s))
 
+-- where all three are told and accepted, their run is in order
+abbrev pub FilesInOrder : Option (List ℕ) → Option (List ℕ) → Option (List ℕ) → Type 0
+FilesInOrder tree image schedule = Both tree image (λ t i. IfSome schedule (λ s. IfSome (parts_of t i) (RunsInOrder s)))
+
 -- where all three are told, this is their text
 abbrev pub HasText : Option (List ℕ) → Option (List ℕ) → Option (List ℕ) → List ℕ → Type 0
 HasText tree image schedule text = Both tree image (λ t i. IfSome schedule (λ s. text_of t i s ≡ Some text))
@@ -80,7 +88,7 @@ module _ {F : Type 0} (told : F → List ℕ → Option (List ℕ)) where
 
   -- where all three files are told and accepted, their run is in order
   abbrev pub RunIsWitnessed : List (List ℕ) → F → Type 0
-  RunIsWitnessed words files = IfOk (names_of words) (λ n. Both (told files n.tree) (told files n.image) (λ t i. IfSome (told files n.schedule) (λ s. IfSome (parts_of t i) (RunsInOrder s))))
+  RunIsWitnessed words files = IfOk (names_of words) (λ n. FilesInOrder (told files n.tree) (told files n.image) (told files n.schedule))
 
   module _ (faults : F → List ℕ → ℕ) (files files' : F) where
     -- the count of failed reads of this file rose in the call
@@ -113,12 +121,16 @@ module _ {F : Type 0} (told : F → List ℕ → Option (List ℕ)) where
 -- ---- the command
 
 module _ {F K : Type 0} (told : F → List ℕ → Option (List ℕ)) (faults : F → List ℕ → ℕ) (held : K → Option (List ℕ)) (failures : K → ℕ) where
+  -- a first part of the text was written, and the count of failed writes rose
+  abbrev pub WritesPart : K → K → List ℕ → Type 0
+  WritesPart out out' text = AppendsPart (held out) (held out') text × Rose (failures out) (failures out')
+
   -- the cause of each status, from what was there before the call and after it
   abbrev pub StatusHasCause : List (List ℕ) → F → F → K → K → Status → Type 0
   -- the text stands behind what was there
   StatusHasCause words files files' out out' Done = (text : List ℕ) × Accepted told words files text × Appends (held out) (held out') text
   -- a first part of the text does
-  StatusHasCause words files files' out out' WriteFault = (text : List ℕ) × Accepted told words files text × AppendsPart (held out) (held out') text × Rose (failures out) (failures out')
+  StatusHasCause words files files' out out' WriteFault = (text : List ℕ) × Accepted told words files text × WritesPart out out' text
   -- there is no text, and nothing was written
   StatusHasCause words files files' out out' (Usage k) = Refused told faults files files' words (Usage k) × (held out' ≡ held out)
   StatusHasCause words files files' out out' (Tree r) = Refused told faults files files' words (Tree r) × (held out' ≡ held out)

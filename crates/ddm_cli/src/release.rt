@@ -30,7 +30,7 @@ fn release_machines<const WORDS: usize>(machines: Machines<WORDS>) {
 }
 
 /// Lets a machine go.
-pub fn release(machine: AnyMachine) {
+pub(crate) fn release(machine: AnyMachine) {
     match machine {
         AnyMachine::Narrow(machines) => release_machines(machines),
         AnyMachine::Wide(machines) => release_machines(machines),

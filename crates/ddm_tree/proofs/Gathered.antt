@@ -170,23 +170,6 @@ pub next-dirs : (sizes : DirSizes) (level bus k : ℕ) (ws : List ℕ) (w : ℕ)
     → dirs_over sizes level bus (cut_in (drop k ws) ns) ≡ dir_over sizes level bus (take w ns) ∷ dirs_over sizes level (bus + 1) (cut_in (drop (k + 1) ws) (drop w ns))
 next-dirs sizes level bus k ws w ns l is = ap (λ vs. dirs_over sizes level bus (cut_in vs ns)) (next-width k ws w l is)
 
-module _ (P : Node → Type 0) where
-  each-take : (n : ℕ) (ns : List Node) → AllByRecursion P ns → AllByRecursion P (take n ns)
-  each-take zero ns all = tt
-  each-take (suc n) [] all = tt
-  each-take (suc n) (m ∷ ns) all = (all.0, each-take n ns all.1)
-
-  each-drop : (n : ℕ) (ns : List Node) → AllByRecursion P ns → AllByRecursion P (drop n ns)
-  each-drop zero ns all = all
-  each-drop (suc n) [] all = tt
-  each-drop (suc n) (m ∷ ns) all = each-drop n ns all.1
-
-  pub all-take : (n : ℕ) (ns : List Node) → All P ns → All P (take n ns)
-  all-take n ns all = All-from_recursion P (take n ns) (each-take n ns (recursion_from_All P ns all))
-
-  pub all-drop : (n : ℕ) (ns : List Node) → All P ns → All P (drop n ns)
-  all-drop n ns all = All-from_recursion P (drop n ns) (each-drop n ns (recursion_from_All P ns all))
-
 pub take-some : {X : Type 0} (n : ℕ) (xs : List X) → 0 < n → n ≤ length xs → 0 < length (take n xs)
 take-some zero xs some enough = absurd (omega (arith, some))
 take-some (suc n) [] some enough = absurd (omega (arith, enough))

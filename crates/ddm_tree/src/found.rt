@@ -39,7 +39,7 @@ fn is_held(hold: Hold) -> bool
 }
 
 /// An entry's place in a leaf.
-pub(crate) fn place_at(leaf: LeafNo, spot: LeafSpot) -> CopyPlace
+pub fn place_at(leaf: LeafNo, spot: LeafSpot) -> CopyPlace
     ensures { result ≡ place_at leaf spot }
 {
     match spot {

@@ -16,7 +16,7 @@ mod subtree;
 mod turns;
 
 pub use dir::Dir;
-pub use found::Found;
+pub use found::{Found, place_at};
 pub use machine::Machine;
 pub use named::Named;
 pub use over::directories;

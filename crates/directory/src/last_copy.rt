@@ -7,7 +7,7 @@ use item_states::DownEntry;
 use tx_queue::Queue;
 
 /// Whether a transaction of this kind brings a copy down.
-fn brings_copy(kind: TxKind) -> bool
+pub fn brings_copy(kind: TxKind) -> bool
     ensures { result ≡ brings_copy kind }
 {
     match kind {

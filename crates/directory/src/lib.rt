@@ -9,6 +9,7 @@ mod state;
 mod table;
 mod upper;
 
+pub use last_copy::brings_copy;
 pub use state::DirState;
 pub use table::ItemTable;
 pub use upper::pending_by;

@@ -27,8 +27,7 @@ use Rattle.order_lists.proofs.Paths.{under-itself}
 use Rattle.order_laws.specs.Moves.CopiesMoved.{IsBusTurn}
 use Rattle.order_laws.specs.Moves.LeavesKept.{LeafKept}
 use Rattle.order_laws.proofs.Moves.CopiesMoved.{reservations-kept}
-use Rattle.order_laws.proofs.Grant.Kept.{leaf-pairs}
-use Rattle.order_laws.proofs.Hart.CopiesTurned.{Pairs}
+use Rattle.order_laws.specs.Pairs.{Pairs}
 use Rattle.order_laws.proofs.Hart.ClaimsTurned.{LeafMoved}
 use Rattle.order_laws.proofs.Hart.HartMachine.{next, answer, Takes, Tip, HartTurned, hart_turned, leaves_after}
 use Rattle.order_laws.proofs.Hart.LeafPlaces.{IsOnlyOf, one_of_number}
@@ -121,7 +120,7 @@ no_halt (Turn.Reply bus child) a h is = refl
 no_halt (Turn.Leave bus child choice) a h is = refl
 
 bus-goes_on : (s : FlatMachine) (m : MachineValue) (t : Turn) → IsBusTurn t → IsOrderly s m → Pairs (GoesOn t (turn_of t m).answer) (leaves_at m) (leaves_at (turn_of t m).machine)
-bus-goes_on s m t bus r = pairs-weaker LeafKept _ kept (leaves_at m) (leaves_at (turn_of t m).machine) (leaf-pairs (leaves_at m) (leaves_at (turn_of t m).machine) (reservations-kept m r.shaped r.buses r.timed (r.core.each commands_past_taken) t bus)) where
+bus-goes_on s m t bus r = pairs-weaker LeafKept _ kept (leaves_at m) (leaves_at (turn_of t m).machine) (reservations-kept m r.shaped r.buses r.timed (r.core.each commands_past_taken) t bus) where
   kept : (a b : LeafAt) → LeafKept a b → GoesOn t (turn_of t m).answer a b
   kept a b k = record { number = k.leaf.number; running = λ e. (sym (ap (λ h. h.halt) k.leaf.hart) ∙ e, no_halt t (turn_of t m).answer b.leaf.number bus) }
 

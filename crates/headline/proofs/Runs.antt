@@ -16,7 +16,7 @@ use Rattle.tree_rules.specs.Witness.{EachCauseHolds, op_of_answer, ops_of_answer
 use Rattle.bus_laws.specs.IsTree.{IsTree}
 use Rattle.order_laws.specs.EveryTurn.{IsOrderly}
 use Rattle.order_laws.proofs.EveryTurn.{turn-orderly, run-orderly}
-use Rattle.order_laws.proofs.Hart.CopiesTurned.{Pairs}
+use Rattle.order_laws.specs.Pairs.{Pairs}
 use Rattle.order_laws.proofs.Hart.HartMachine.{ops_with, ops_after}
 use Rattle.headline.specs.Runs.{EveryRunIsWitnessed, EveryRunIsInOrder}
 use Rattle.headline.proofs.Leaves.{each_leaf}

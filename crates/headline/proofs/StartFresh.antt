@@ -18,6 +18,7 @@ use Rattle.tree_model.specs.Start.Memory.{start_items, start_words}
 use Rattle.tree_model.specs.Start.Nodes.{dir_sizes, held_exclusive, leaf_for, placed, placed_at, placed_in, placed_items, cut_in, held_below, held_if, dirs_over, under_levels}
 use Rattle.tree_model.specs.Start.Machine.{start_leaf, start_leaves, start_machine}
 use Rattle.bus_laws.proofs.HartChanges.{way-set_other}
+use Rattle.bus_laws.proofs.StartLevels.{each-take, each-drop}
 
 -- ---- a leaf and a directory
 
@@ -97,16 +98,6 @@ module _ (start : Start) (words : List (List ℕ)) where
 
   -- ---- the levels above
 
-  take-fresh : (k : ℕ) (ns : List Node) → AllByRecursion IsFresh ns → AllByRecursion IsFresh (take k ns)
-  take-fresh zero ns f = tt
-  take-fresh (suc k) [] f = tt
-  take-fresh (suc k) (n ∷ ns) f = (f.0, take-fresh k ns f.1)
-
-  drop-fresh : (k : ℕ) (ns : List Node) → AllByRecursion IsFresh ns → AllByRecursion IsFresh (drop k ns)
-  drop-fresh zero ns f = f
-  drop-fresh (suc k) [] f = tt
-  drop-fresh (suc k) (n ∷ ns) f = drop-fresh k ns f.1
-
   pub nodes-fresh : (ns : List Node) → AllByRecursion IsFresh ns → AreFresh (nodes ns)
   nodes-fresh [] f = tt
   nodes-fresh (n ∷ ns) f = (f.0, nodes-fresh ns f.1)
@@ -120,8 +111,8 @@ module _ (start : Start) (words : List (List ℕ)) where
   dirs-fresh : (sizes : DirSizes) (level bus : ℕ) (l : List ℕ) (ns : List Node) → AllByRecursion IsFresh ns → AllByRecursion IsFresh (dirs_over sizes level bus (cut_in l ns))
   dirs-fresh sizes level bus [] ns f = tt
   dirs-fresh sizes level bus (k ∷ l) ns f = (
-    (record { items = held-fresh (held_below (take k ns)); down = refl; replies = refl; parked = refl; count = refl; epoch = refl }, nodes-fresh (take k ns) (take-fresh k ns f)),
-    dirs-fresh sizes level (bus + 1) l (drop k ns) (drop-fresh k ns f),
+    (record { items = held-fresh (held_below (take k ns)); down = refl; replies = refl; parked = refl; count = refl; epoch = refl }, nodes-fresh (take k ns) (each-take IsFresh k ns f)),
+    dirs-fresh sizes level (bus + 1) l (drop k ns) (each-drop IsFresh k ns f),
   )
 
   levels-fresh : (sizes : DirSizes) (level bus : ℕ) (ls : List (List ℕ)) (leaves : List Node) → AllByRecursion IsFresh leaves → AllByRecursion IsFresh (under_levels sizes level bus ls leaves)

@@ -1,17 +1,16 @@
-ghost use Rattle.std.specs.Prelude.{◌≡◌, ℕ, ◌<◌, ◌≤◌, ◌&&◌, ◌++◌, [], Some, None, true, IfOk, OnOk, nat_eq, unwrap_or, if◌then◌else◌};
+ghost use Rattle.std.specs.Prelude.{◌≡◌, ◌<◌, ◌≤◌, ◌++◌, [], true, IfOk, OnOk, unwrap_or};
 ghost use Rattle.std.specs.List.{flat_map};
 ghost use Rattle.ddm_types.specs.ItemTable.{item_count};
-ghost use Rattle.tree_model.specs.State.Kinds.{brings_copy};
 ghost use Rattle.tree_model.specs.State.States.{is_reading};
-ghost use Rattle.tree_model.specs.Turns.Found.{place_at};
 ghost use Rattle.tree_model.specs.Turns.Machine.{machine_leaves, parked_place_of};
 ghost use Rattle.tree_model.specs.Turns.Tree.{bus_of_number};
 ghost use Rattle.ddm_tree.specs.Machine.{is_part};
 ghost use Rattle.inspector.specs.Copies.{buses_of, copies_in, down_copies, down_of, leaf_copies, parked_copies, place_list};
 ghost use Rattle.inspector.specs.Entries.{down_copy, entry_copy, parked_copy};
 
-use ddm_tree::{Machine, Subtree};
-use ddm_types::{BusNo, ItemId, LeafNo, LeafState, NoMemory, TxKind, Words};
+use ddm_tree::{Machine, Subtree, place_at};
+use ddm_types::{BusNo, ItemId, LeafNo, LeafState, NoMemory, Words};
+use directory::brings_copy;
 use item_states::DownEntry;
 use std::alloc::Global;
 use tree_model::{CopyPlace, LeafSpot};
@@ -23,15 +22,6 @@ fn is_reading(state: LeafState) -> bool
     match state {
         LeafState::Reading | LeafState::ReadingWaiting => true,
         LeafState::Shared | LeafState::Exclusive | LeafState::Waiting => false,
-    }
-}
-
-fn place_at(leaf: LeafNo, spot: LeafSpot) -> CopyPlace
-    ensures { result ≡ place_at leaf spot }
-{
-    match spot {
-        LeafSpot::Way(way) => CopyPlace::LeafWay { leaf, way },
-        LeafSpot::Buffer(place) => CopyPlace::LeafBuffer { leaf, place },
     }
 }
 
@@ -57,16 +47,6 @@ fn parked_copy<const WORDS: usize>(
     match parked {
         Some((place, _)) => Some(CopyPlace::Parking { bus, place }),
         None => None,
-    }
-}
-
-/// Whether a transaction of this kind brings a copy down.
-fn brings_copy(kind: TxKind) -> bool
-    ensures { result ≡ brings_copy kind }
-{
-    match kind {
-        TxKind::DataTx | TxKind::InjectTx => true,
-        TxKind::ReadTx | TxKind::EraseTx | TxKind::ExclusiveTx | TxKind::OutTx => false,
     }
 }
 

@@ -1,5 +1,5 @@
 -- Every turn, a hart's or one of a bus, keeps the rules of time and the core rules; so does a run.
-use Rattle.std.proofs.Common.{[], ◌∷◌, refl}
+use Rattle.std.proofs.Common.{[], ◌∷◌}
 use Rattle.ddm_types.specs.declared.turns.Turn.{Turn}
 use Rattle.flat_model.specs.Flat.{FlatMachine}
 use Rattle.tree_model.specs.State.Values.{MachineValue}
@@ -21,10 +21,10 @@ use Rattle.order_laws.proofs.Grant.ClaimsCopies.{bus_turn-keeps_claims}
 
 pub every_turn-keeps_time : EveryTurnKeepsTime
 every_turn-keeps_time (Turn.Hart hart victim) m shaped ok timed = hart-turn-timed hart victim m shaped ok timed
-every_turn-keeps_time (Turn.Down bus) m shaped ok timed = bus_turn-keeps_time (Turn.Down bus) m refl shaped ok.top timed
-every_turn-keeps_time (Turn.Request bus child) m shaped ok timed = bus_turn-keeps_time (Turn.Request bus child) m refl shaped ok.top timed
-every_turn-keeps_time (Turn.Reply bus child) m shaped ok timed = bus_turn-keeps_time (Turn.Reply bus child) m refl shaped ok.top timed
-every_turn-keeps_time (Turn.Leave bus child choice) m shaped ok timed = bus_turn-keeps_time (Turn.Leave bus child choice) m refl shaped ok.top timed
+every_turn-keeps_time (Turn.Down bus) m shaped ok timed = bus_turn-keeps_time (Turn.Down bus) m tt shaped ok.top timed
+every_turn-keeps_time (Turn.Request bus child) m shaped ok timed = bus_turn-keeps_time (Turn.Request bus child) m tt shaped ok.top timed
+every_turn-keeps_time (Turn.Reply bus child) m shaped ok timed = bus_turn-keeps_time (Turn.Reply bus child) m tt shaped ok.top timed
+every_turn-keeps_time (Turn.Leave bus child choice) m shaped ok timed = bus_turn-keeps_time (Turn.Leave bus child choice) m tt shaped ok.top timed
 
 -- ---- the core rules
 

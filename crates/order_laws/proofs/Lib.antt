@@ -1,3 +1,4 @@
+pub mod Pairs
 pub mod Hart
 pub mod Timed
 pub mod Moves

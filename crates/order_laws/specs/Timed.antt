@@ -1,6 +1,6 @@
 -- What every turn keeps of the rules of time and of the commands of down lists.
 -- Proofs alone need it.
-use Rattle.std.specs.Prelude.{◌≡◌, Bool, true, false}
+use Rattle.std.specs.Prelude.{◌≡◌}
 use Rattle.ddm_types.specs.declared.turns.Turn.{Turn}
 use Rattle.tree_model.specs.State.Values.{MachineValue}
 use Rattle.tree_model.specs.State.Shape.{IsShaped}
@@ -8,6 +8,7 @@ use Rattle.tree_model.specs.Turns.Machine.{turn_of}
 use Rattle.tree_rules.specs.Bus.Own.{IsTopOk}
 use Rattle.tree_rules.specs.Order.Rules.{IsTimed}
 use Rattle.order_lists.specs.Commands.{CommandsArePastTaken}
+use Rattle.order_laws.specs.Moves.CopiesMoved.{IsBusTurn}
 
 -- a turn that completes no instruction keeps the rules of time
 abbrev pub TurnKeepsTime : Type 0
@@ -18,14 +19,6 @@ TurnKeepsTime = (t : Turn) (m : MachineValue) → IsShaped m → IsTopOk m.top �
 abbrev pub TurnKeepsCommands : Type 0
 TurnKeepsCommands = (t : Turn) (m : MachineValue) → IsShaped m → IsTopOk m.top → IsTimed m → CommandsArePastTaken m → CommandsArePastTaken (turn_of t m).machine
 
--- a turn of a bus
-abbrev pub is_of_bus : Turn → Bool
-is_of_bus (Turn.Hart hart victim) = false
-is_of_bus (Turn.Down bus) = true
-is_of_bus (Turn.Request bus child) = true
-is_of_bus (Turn.Reply bus child) = true
-is_of_bus (Turn.Leave bus child choice) = true
-
 -- it completes no instruction, and keeps the rules of time
 abbrev pub BusTurnKeepsTime : Type 0
-BusTurnKeepsTime = (t : Turn) (m : MachineValue) → is_of_bus t ≡ true → IsShaped m → IsTopOk m.top → IsTimed m → IsTimed (turn_of t m).machine
+BusTurnKeepsTime = (t : Turn) (m : MachineValue) → IsBusTurn t → IsShaped m → IsTopOk m.top → IsTimed m → IsTimed (turn_of t m).machine

@@ -2,7 +2,8 @@ use cluster::Cluster;
 use ddm_tree::{Dir, Machine};
 use leaf_protocol::Leaf;
 
-/// A machine of a tree of one to four levels of buses (D1 to D4), whose leaves have one, two or four ways (W1, W2, W4).
+/// A machine of any tree. A variant's name says how many levels of buses are above its leaves, one to four, and how many ways
+/// each leaf has, one, two or four.
 #[derive(Drop)]
 pub enum Machines<const WORDS: usize> {
     D1W1(Machine<WORDS, Leaf<1, WORDS>>),

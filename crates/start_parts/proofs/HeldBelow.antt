@@ -6,21 +6,7 @@ use Rattle.tree_model.specs.State.States.{is_exclusive}
 use Rattle.tree_model.specs.State.Values.{DirItem, absent_item, DirSizes, Node}
 use Rattle.tree_model.specs.Start.Nodes.{item_is_exclusive, held_by, or_each, held_below, held_if, dir_over}
 use Rattle.start_parts.specs.Held.{some_exclusive, IsHeld, AreHeld}
-
-or_each-at : (bs cs : List Bool) (x : ℕ) → slice_index_or (or_each bs cs) x false ≡ (slice_index_or bs x false || slice_index_or cs x false)
-or_each-at [] cs x = refl
-or_each-at (b ∷ bs) [] x = sym (or-false (slice_index_or (b ∷ bs) x false)) where
-  or-false : (c : Bool) → (c || false) ≡ c
-  or-false true = refl
-  or-false false = refl
-or_each-at (b ∷ bs) (c ∷ cs) zero = refl
-or_each-at (b ∷ bs) (c ∷ cs) (suc x) = or_each-at bs cs x
-
-or_each-length : (bs cs : List Bool) → length bs ≡ length cs → length (or_each bs cs) ≡ length bs
-or_each-length [] [] same = refl
-or_each-length [] (c ∷ cs) same = absurd (omega arith)
-or_each-length (b ∷ bs) [] same = refl
-or_each-length (b ∷ bs) (c ∷ cs) same = ap suc (or_each-length bs cs (omega arith))
+use Rattle.bus_laws.proofs.StartNodes.{or_each-at, or_each-length}
 
 item-at : (bs : List Bool) (x : ℕ) → slice_index_or (map held_if bs) x absent_item ≡ held_if (slice_index_or bs x false)
 item-at [] x = refl

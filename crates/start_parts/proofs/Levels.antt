@@ -10,20 +10,9 @@ use Rattle.tree_model.specs.State.Shape.{skeleton, skeletons, first_levels, leaf
 use Rattle.tree_model.specs.Start.Sources.{TreeValue, last_level, leaf_count}
 use Rattle.tree_model.specs.Start.Nodes.{cut_in, dir_over, dirs_over, under_levels}
 use Rattle.bus_laws.specs.IsTree.{IsTree, is_width, AreUnder}
-use Rattle.bus_laws.proofs.StartLevels.{sum-more, width-parts, leaf_total, AreLevelsWide, sum-some}
+use Rattle.bus_laws.proofs.StartLevels.{each-take, each-drop, sum-more, width-parts, leaf_total, AreLevelsWide, sum-some}
 
 -- ---- parts of a list
-
-module _ {X : Type 0} (P : X → Type 0) where
-  each-take : (k : ℕ) (xs : List X) → AllByRecursion P xs → AllByRecursion P (take k xs)
-  each-take zero xs h = tt
-  each-take (suc k) [] h = tt
-  each-take (suc k) (x ∷ xs) h = (h.0, each-take k xs h.1)
-
-  each-drop : (k : ℕ) (xs : List X) → AllByRecursion P xs → AllByRecursion P (drop k xs)
-  each-drop zero xs h = h
-  each-drop (suc k) [] h = tt
-  each-drop (suc k) (x ∷ xs) h = each-drop k xs h.1
 
 take-length : {X : Type 0} (k : ℕ) (xs : List X) → k ≤ length xs → length (take k xs) ≡ k
 take-length zero xs h = refl

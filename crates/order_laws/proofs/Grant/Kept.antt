@@ -1,6 +1,6 @@
 -- A bus's turn keeps what the core rules say of harts and of operations alone, and so, with what is known of copies, claims and
 -- reservations, all core rules.
-use Rattle.std.proofs.Common.{◌≡◌, ℕ, ◌<◌, List, [], ◌∷◌, sym, ap, subst, ◌∙◌}
+use Rattle.std.proofs.Common.{◌≡◌, ℕ, ◌<◌, List, sym, ap, subst, ◌∙◌}
 use Rattle.std.specs.Prelude.{nat_eq}
 use Rattle.ddm_types.specs.declared.operations.Op.{Op}
 use Rattle.ddm_types.specs.declared.turns.Turn.{Turn}
@@ -21,8 +21,8 @@ use Rattle.tree_rules.specs.Order.Places.{LeafAt, leaves_at, dirs_at}
 use Rattle.tree_rules.specs.Order.Rules.{CoreRule, commands_past_taken, reservations_kept, legal, harts_follow, counts_follow, halts_follow, own_order, core_rule, CopyRule, words_right, claims_after_ops, claims_after_copies, clocks_know, copy_rule, IsTimed, IsCore}
 use Rattle.order_laws.specs.Grant.{after_bus, CommandsPastAfter, ReservationsAfter, ClaimsAfterCopies, BusTurnKeepsCore}
 use Rattle.order_laws.specs.Moves.CopiesMoved.{IsBusTurn}
-use Rattle.order_laws.specs.Moves.LeavesKept.{LeafKept, LeavesKept}
-use Rattle.order_laws.proofs.Hart.CopiesTurned.{Pairs}
+use Rattle.order_laws.specs.Moves.LeavesKept.{LeafKept}
+use Rattle.order_laws.specs.Pairs.{Pairs}
 use Rattle.order_laws.proofs.Hart.CoreParts.{core_of}
 use Rattle.order_laws.proofs.Hart.Transport.{pairs-holds}
 use Rattle.order_laws.proofs.Moves.ClaimsAfterOps.{claims_after_ops-kept}
@@ -30,13 +30,6 @@ use Rattle.order_laws.proofs.Moves.ClockKept.{clocks-kept}
 use Rattle.order_laws.proofs.Moves.CopiesMoved.{reservations-kept}
 use Rattle.order_laws.proofs.Moves.TurnFrame.{ops-same, items-same, depth-same}
 use Rattle.order_laws.proofs.Moves.WordsKept.{words-kept}
-
--- leaf by leaf
-pub leaf-pairs : (xs ys : List LeafAt) → LeavesKept xs ys → Pairs LeafKept xs ys
-leaf-pairs [] [] h = tt
-leaf-pairs [] (b ∷ ys) h = absurd h
-leaf-pairs (a ∷ xs) [] h = absurd h
-leaf-pairs (a ∷ xs) (b ∷ ys) h = (h.0, leaf-pairs xs ys h.1)
 
 -- ---- what a leaf keeps
 
@@ -68,7 +61,7 @@ module _ (s : FlatMachine) (m : MachineValue) (t : Turn) (bus : IsBusTurn t) whe
     flat = flat_after m.code m.items s (sorted_ops m.ops)
 
     pairs : Pairs LeafKept (leaves_at m) (leaves_at next)
-    pairs = leaf-pairs (leaves_at m) (leaves_at next) (reservations-kept m shaped ok timed (c.each commands_past_taken) t bus)
+    pairs = reservations-kept m shaped ok timed (c.each commands_past_taken) t bus
 
     pub still-legal : Holds (core_rule legal s next)
     still-legal = same-frame (λ code items depth ops. Holds (core_of s code items depth legal (leaves_at next) (dirs_at next) ops)) (c.each legal)

@@ -26,11 +26,10 @@ use Rattle.order_laws.specs.Moves.Carries.{node_at, old_moment, new_moment, Hold
 use Rattle.order_laws.specs.Moves.CopiesMoved.{IsBusTurn, TurnMoves, MovesOf}
 use Rattle.order_laws.specs.Moves.LeavesKept.{LeafKept}
 use Rattle.order_laws.specs.Moves.Moved.{In, From, Kept, Told}
-use Rattle.order_laws.proofs.Hart.CopiesTurned.{Pairs}
+use Rattle.order_laws.specs.Pairs.{Pairs}
 use Rattle.order_laws.proofs.Moves.Below.{AreCommandsPast}
 use Rattle.order_laws.proofs.Moves.CopiesMoved.{turn-moves, copies-same, reservations-kept}
 use Rattle.order_laws.proofs.Moves.Sources.{each-in, each-map}
-use Rattle.order_laws.proofs.Grant.Kept.{leaf-pairs}
 use Rattle.order_laws.proofs.Grant.Reserved.{ended-moved}
 use Rattle.order_laws.proofs.Grant.ReservedKept.{each-member, FromOwn, OwnCopyStays, OwnCopiesStay}
 
@@ -240,4 +239,4 @@ module _ (m : MachineValue) (t : Turn) (shaped : IsShaped m) (ok : IsMachineOk m
 
   -- each copy at the place of a leaf that held the item comes from its own entry
   pub own-copies-stay : OwnCopiesStay m t
-  own-copies-stay = all-stay (leaves_at m) (leaves_at (after_bus t m)) (leaf-pairs (leaves_at m) (leaves_at (after_bus t m)) (reservations-kept m shaped ok timed past t bus)) leaves-known
+  own-copies-stay = all-stay (leaves_at m) (leaves_at (after_bus t m)) (reservations-kept m shaped ok timed past t bus) leaves-known

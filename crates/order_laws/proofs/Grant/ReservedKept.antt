@@ -36,7 +36,7 @@ use Rattle.order_laws.specs.Moves.LeavesKept.{LeafKept}
 use Rattle.order_laws.specs.Moves.Moved.{In}
 use Rattle.order_laws.proofs.Hart.Completed.{IsKnownLeaf, known_leaves}
 use Rattle.order_laws.proofs.Hart.CoreParts.{core_of}
-use Rattle.order_laws.proofs.Hart.CopiesTurned.{Pairs}
+use Rattle.order_laws.specs.Pairs.{Pairs}
 use Rattle.order_laws.proofs.Hart.EndsShort.{IsLong, ends_short}
 use Rattle.order_laws.proofs.Hart.Facts.{EndsLater}
 use Rattle.order_laws.proofs.Hart.LeafPlaces.{placed-length}
@@ -45,7 +45,7 @@ use Rattle.order_laws.proofs.Hart.Seen.{each-family, changed_inside}
 use Rattle.order_laws.proofs.Moves.Below.{ops-by_leaves}
 use Rattle.order_laws.proofs.Moves.CopiesMoved.{reservations-kept}
 use Rattle.order_laws.proofs.Moves.Sources.{each-in}
-use Rattle.order_laws.proofs.Grant.Kept.{leaf-pairs, same-frame, grant-core}
+use Rattle.order_laws.proofs.Grant.Kept.{same-frame, grant-core}
 use Rattle.order_laws.proofs.Grant.Reserved.{IsBetween, reserved-later, least-behind, IsOnlyAt, one_of_path, IsOwnBefore, between}
 
 -- ---- lists
@@ -204,7 +204,7 @@ module _ (s : FlatMachine) (m : MachineValue) (t : Turn) (order : IsCore s m) wh
 
       -- the rule after a bus's turn
       pub reservations-after : IsBusTurn t → OwnCopiesStay m t → ReservationsAfter s m t
-      reservations-after bus stays = same-frame s m t bus (λ code items depth ops. Holds (core_of s code items depth reservations_kept (leaves_at next) (dirs_at next) ops)) (reservations-still (leaves_at m) (leaves_at next) (leaf-pairs (leaves_at m) (leaves_at next) (reservations-kept m shaped ok timed (order.each commands_past_taken) t bus)) stays ready-before ready-after (order.each reservations_kept))
+      reservations-after bus stays = same-frame s m t bus (λ code items depth ops. Holds (core_of s code items depth reservations_kept (leaves_at next) (dirs_at next) ops)) (reservations-still (leaves_at m) (leaves_at next) (reservations-kept m shaped ok timed (order.each commands_past_taken) t bus) stays ready-before ready-after (order.each reservations_kept))
 
 -- and so all core rules
 pub core-after-bus : (s : FlatMachine) (m : MachineValue) (t : Turn) → IsShaped m → IsMachineOk m → IsTimed m → IsTimed (after_bus t m) → IsBusTurn t → CommandsPastAfter s m t → OwnCopiesStay m t → ClaimsAfterCopies s m t → IsCore s m → IsCore s (after_bus t m)

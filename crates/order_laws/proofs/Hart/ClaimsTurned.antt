@@ -10,7 +10,8 @@ use Rattle.tree_rules.specs.Order.Claims.{child_is_exclusive, claim, first_claim
 use Rattle.tree_rules.specs.Order.Places.{LeafAt, leaf_path, DirAt, leaves_in, placed_leaves, dirs_in, placed_dirs}
 use Rattle.order_laws.proofs.Hart.LeafTurned.{EntryTurned, hold_turned}
 use Rattle.order_laws.proofs.Hart.TreeTurned.{AtLeaf, NodeTurned, AmongTurned}
-use Rattle.order_laws.proofs.Hart.CopiesTurned.{Pairs, pairs-append}
+use Rattle.order_laws.specs.Pairs.{Pairs}
+use Rattle.order_laws.proofs.Pairs.{pairs-append}
 
 module _ (items : ItemTable) (x : ℕ) (effect : Effect) (at : List ℕ) (Takes : AtLeaf) (takes : (c : Spot) (v w : LeafValue) → Takes c v w → EntryTurned items effect x v w) where
   exclusive_same : (c : Spot) (n m : Node) → NodeTurned at Takes c n m → child_is_exclusive x m ≡ child_is_exclusive x n

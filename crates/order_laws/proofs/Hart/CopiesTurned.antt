@@ -1,5 +1,5 @@
 -- The copies of an item after a hart's turn: those before it, with the words of the leaf's entry changed where it stored.
-use Rattle.std.proofs.Common.{◌≡◌, ℕ, ◌+◌, Bool, true, false, ◌⊎◌, inl, inr, List, [], ◌∷◌, ◌++◌, map, Option, Some, None, refl, sym, ap, subst, ◌∙◌}
+use Rattle.std.proofs.Common.{◌≡◌, ℕ, ◌+◌, Bool, true, false, ◌⊎◌, inl, inr, List, [], ◌∷◌, ◌++◌, Option, Some, None, refl, sym, ap, subst, ◌∙◌}
 use Rattle.std.proofs.lemmas.Bool.{true≢false}
 use Rattle.ddm_types.specs.declared.operations.Effect.{Effect}
 use Rattle.ddm_types.specs.ItemTable.{ItemTable}
@@ -15,35 +15,10 @@ use Rattle.tree_model.specs.State.Place.{Spot, spot_path, spot_in}
 use Rattle.tree_rules.specs.Order.Moments.{moment_at, spot_moment, is_under}
 use Rattle.tree_rules.specs.Order.Copies.{CopyAt, cut, first_erase, downs, copies_here, entry_copies, inner, handed}
 use Rattle.order_lists.proofs.Paths.{under-itself}
+use Rattle.order_laws.specs.Pairs.{Pairs}
+use Rattle.order_laws.proofs.Pairs.{pairs-append, pairs-map}
 use Rattle.order_laws.proofs.Hart.LeafTurned.{EntryTurned}
 use Rattle.order_laws.proofs.Hart.TreeTurned.{AtLeaf, NodeTurned, AmongTurned}
-
--- ---- two lists, element by element
-
-module _ {X : Type 0} (R : X → X → Type 0) where
-  abbrev pub Pairs : List X → List X → Type 0
-  Pairs [] [] = Unit {0}
-  Pairs [] (y ∷ ys) = ⊥
-  Pairs (x ∷ xs) [] = ⊥
-  Pairs (x ∷ xs) (y ∷ ys) = R x y × Pairs xs ys
-
-  pub pairs-append : (xs ys us vs : List X) → Pairs xs ys → Pairs us vs → Pairs (xs ++ us) (ys ++ vs)
-  pairs-append [] [] us vs h k = k
-  pairs-append [] (y ∷ ys) us vs h k = absurd h
-  pairs-append (x ∷ xs) [] us vs h k = absurd h
-  pairs-append (x ∷ xs) (y ∷ ys) us vs h k = (h.0, pairs-append xs ys us vs h.1 k)
-
-  pub pairs-map : (f : X → X) → ((x y : X) → R x y → R (f x) (f y)) → (xs ys : List X) → Pairs xs ys → Pairs (map f xs) (map f ys)
-  pairs-map f g [] [] h = tt
-  pairs-map f g [] (y ∷ ys) h = absurd h
-  pairs-map f g (x ∷ xs) [] h = absurd h
-  pairs-map f g (x ∷ xs) (y ∷ ys) h = (g x y h.0, pairs-map f g xs ys h.1)
-
-  pub pairs-same : ((x y : X) → R x y → y ≡ x) → (xs ys : List X) → Pairs xs ys → ys ≡ xs
-  pairs-same f [] [] h = refl
-  pairs-same f [] (y ∷ ys) h = absurd h
-  pairs-same f (x ∷ xs) [] h = absurd h
-  pairs-same f (x ∷ xs) (y ∷ ys) h = ap (λ z. z ∷ ys) (f x y h.0) ∙ ap (λ zs. x ∷ zs) (pairs-same f xs ys h.1)
 
 module _ (items : ItemTable) (x : ℕ) (effect : Effect) (at : List ℕ) where
   -- one copy before and after: at the leaf its words change where the effect changes the item

@@ -21,7 +21,8 @@ use Rattle.tree_rules.specs.Order.Rules.{CoreRule, commands_past_taken, reservat
 use Rattle.order_laws.proofs.Hart.Retiring.{has_retired}
 use Rattle.order_laws.proofs.Hart.LeafTurned.{EntryTurned}
 use Rattle.order_laws.proofs.Hart.Still.{HasHalted, Stays, stays_itself}
-use Rattle.order_laws.proofs.Hart.CopiesTurned.{CopyTurned, pairs-same, copy_stays}
+use Rattle.order_laws.proofs.Pairs.{pairs-same}
+use Rattle.order_laws.proofs.Hart.CopiesTurned.{CopyTurned, copy_stays}
 use Rattle.order_laws.proofs.Hart.ClaimsTurned.{LeafMoved}
 use Rattle.order_laws.proofs.Hart.HartMachine.{next, answer, Takes, HartTurned, code_after, items_after, depth_after, dirs_after, leaves_after, copies_after, claims_after}
 use Rattle.order_laws.proofs.Hart.Transport.{holds-both, pairs-holds}

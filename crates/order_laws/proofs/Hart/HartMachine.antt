@@ -27,7 +27,9 @@ use Rattle.tree_rules.specs.Order.Claims.{claims_of, claims_among}
 use Rattle.order_lists.proofs.Filters.{each-left, each-right}
 use Rattle.order_laws.proofs.Hart.LeafTurned.{EntryTurned}
 use Rattle.order_laws.proofs.Hart.TreeTurned.{NodeTurned, AmongTurned, RootTurned, root_turned}
-use Rattle.order_laws.proofs.Hart.CopiesTurned.{Pairs, CopyTurned, CopiesTurned, pairs-append, here_turned, handed_turned}
+use Rattle.order_laws.specs.Pairs.{Pairs}
+use Rattle.order_laws.proofs.Pairs.{pairs-append}
+use Rattle.order_laws.proofs.Hart.CopiesTurned.{CopyTurned, CopiesTurned, here_turned, handed_turned}
 use Rattle.order_laws.proofs.Hart.ClaimsTurned.{among_claims, placed_same, LeafMoved, placed_moved}
 
 -- ---- operations

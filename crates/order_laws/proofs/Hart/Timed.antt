@@ -25,7 +25,7 @@ use Rattle.order_laws.specs.Hart.{HartTurnKeepsTime}
 use Rattle.order_laws.proofs.Hart.Retiring.{has_retired}
 use Rattle.order_laws.proofs.Hart.LeafTurned.{LeafTurned}
 use Rattle.order_laws.proofs.Hart.Still.{Stays, stays_after}
-use Rattle.order_laws.proofs.Hart.CopiesTurned.{Pairs}
+use Rattle.order_laws.specs.Pairs.{Pairs}
 use Rattle.order_laws.proofs.Hart.ClaimsTurned.{LeafMoved}
 use Rattle.order_laws.proofs.Hart.HartMachine.{ops_with, ops_after, next, answer, Takes, HartTurned, hart_turned, nothing_turned, depth_after, dirs_after, leaves_after}
 use Rattle.order_laws.proofs.Hart.LeafPlaces.{IsOnlyOf}

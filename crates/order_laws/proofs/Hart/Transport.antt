@@ -2,7 +2,7 @@
 use Rattle.std.proofs.Common.{◌≡◌, Bool, true, false, ◌||◌, List, [], ◌∷◌, ◌++◌, refl, ap₂}
 use Rattle.std.specs.List.{AllByRecursion, list_any}
 use Rattle.tree_rules.specs.Statements.{Statement, Holds, both, each}
-use Rattle.order_laws.proofs.Hart.CopiesTurned.{Pairs}
+use Rattle.order_laws.specs.Pairs.{Pairs}
 
 module _ {X : Type 0} where
   pub holds-push : (s : X → Statement) (xs : List X) (x : X) → Holds (each s xs) → Holds (s x) → Holds (each s (xs ++ x ∷ []))

@@ -1,15 +1,11 @@
 -- A child whose reply is granted or whose copy leaves: the copy that it hands up before.
 -- Letters: x is the item, n the child, v a leaf, d a directory, i the child's number.
 use Rattle.std.proofs.Common.{◌≡◌, ℕ, true, false, List, [], ◌∷◌, ◌++◌, map, take, Option, Some, None, option_map, refl, sym, ap, subst, ◌∙◌, inl}
-use Rattle.std.specs.Prelude.{not, nat_eq, filter, slice_index_or, unwrap_or}
-use Rattle.std.specs.List.{All, list_any}
-use Rattle.std.proofs.lemmas.Bool.{and_parts, or_parts, not-true, eqb-false, ne_eqb}
-use Rattle.std.proofs.lemmas.List.Elements.{All-nil, All-cons}
+use Rattle.std.specs.Prelude.{filter, unwrap_or}
 use Rattle.ddm_types.specs.declared.answers.PendingWhy.{PendingWhy}
 use Rattle.ddm_types.specs.declared.sizes.LeafState.{LeafState}
 use Rattle.ddm_types.specs.declared.keys.Stamp.{Stamp}
 use Rattle.tree_model.specs.State.Lists.{first_of, has_some}
-use Rattle.tree_model.specs.State.Shape.{are_distinct}
 use Rattle.tree_model.specs.State.States.{may_leave}
 use Rattle.tree_model.specs.State.Values.{BufferValue, DownValue, LeafValue, DirValue, Node, leaf_node, dir_node}
 use Rattle.tree_model.specs.State.Leaf.{buffer_item, buffer_entry, buffered, way_at, entry_at, leaf_entry, words_of_item, copy_item, may_leave_buffer, leaf_leaving}
@@ -22,9 +18,9 @@ use Rattle.tree_rules.specs.Order.Copies.{CopyAt, cut, copy_here, copies_here, f
 use Rattle.tree_rules.specs.Order.Directories.{IsClocked}
 use Rattle.tree_rules.specs.Order.Moments.{moment_at, moment_length}
 use Rattle.bus_laws.proofs.HartFacts.{entries-from_rules}
-use Rattle.bus_laws.proofs.LeafGives.{get-filter}
+use Rattle.bus_laws.proofs.LeafGives.{each-buffered, get-filter}
 use Rattle.bus_laws.proofs.Lists.{chosen-get}
-use Rattle.bus_laws.proofs.ItemLists.{nat_eq-same, words-first, words-got}
+use Rattle.bus_laws.proofs.ItemLists.{words-first, words-got}
 use Rattle.bus_laws.proofs.DirGives.{quiet-from_pending}
 use Rattle.order_lists.proofs.Clocks.{here}
 use Rattle.order_lists.proofs.Moments.{at_most-at, at_most-transitive}
@@ -36,25 +32,6 @@ use Rattle.order_laws.proofs.Moves.Rise.{IsNext, Rises, entry-rises}
 use Rattle.order_laws.proofs.Moves.Child.{hand, replies_at}
 
 -- ---- a leaf's copy that may leave stands in the buffer alone
-
-others-differ : (x : ℕ) (es : List BufferValue) → list_any (nat_eq x) (map buffer_item es) ≡ false → All (λ (f : BufferValue). nat_eq x f.item ≡ false) es
-others-differ x [] h = All-nil (λ (f : BufferValue). nat_eq x f.item ≡ false)
-others-differ x (e ∷ es) h =
-    let parts = or_parts (nat_eq x e.item) (list_any (nat_eq x) (map buffer_item es)) h in
-    All-cons (λ (f : BufferValue). nat_eq x f.item ≡ false) e es parts.0 (others-differ x es parts.1)
-
-behind-found : (b f : BufferValue) (bs : List BufferValue) → nat_eq b.item f.item ≡ false → buffered f.item bs ≡ Some f → buffered f.item (b ∷ bs) ≡ Some f
-behind-found b f bs other found =
-    let back : nat_eq f.item b.item ≡ false = ne_eqb _ _ (λ same. eqb-false _ _ other (sym same)) in
-    rw back found
-
-each-buffered : (es : List BufferValue) → are_distinct (map buffer_item es) ≡ true → All (λ (e : BufferValue). buffered e.item es ≡ Some e) es
-each-buffered [] once = All-nil (λ (e : BufferValue). buffered e.item [] ≡ Some e)
-each-buffered (b ∷ bs) once =
-    let parts = and_parts (not (list_any (nat_eq b.item) (map buffer_item bs))) (are_distinct (map buffer_item bs)) once in
-    let differ = others-differ b.item bs (not-true _ parts.0) in
-    let rest = each-buffered bs parts.1 in
-    All-cons (λ (e : BufferValue). buffered e.item (b ∷ bs) ≡ Some e) b bs (rw (nat_eq-same b.item) refl) (λ k d l. behind-found b (slice_index_or bs k d) bs (differ k d l) (rest k d l))
 
 held-leaving : (s : LeafState) (w : List ℕ) → may_leave s ≡ true → held_words (Some (record { state = s; words = w })) ≡ w ∷ []
 held-leaving LeafState.Shared w h = refl

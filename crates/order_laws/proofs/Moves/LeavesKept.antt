@@ -19,7 +19,7 @@ use Rattle.tree_rules.specs.Order.Moments.{less, moment_at, spot_moment}
 use Rattle.tree_rules.specs.Order.Places.{LeafAt, leaves_in, placed_leaves}
 use Rattle.order_lists.proofs.Moments.{less-irreflexive}
 use Rattle.order_laws.specs.Moves.HeldWords.{held_words}
-use Rattle.order_laws.specs.Moves.LeavesKept.{KeepsLeaf, LeavesKept}
+use Rattle.order_laws.specs.Moves.LeavesKept.{LeafKept, KeepsLeaf, LeavesKept}
 use Rattle.order_laws.proofs.Moves.Leaves.{exclusive-words, answered-words, data-held, inject-held, lost-other, data-other, exclusive-other, answered-other, inject-other, gone-other}
 use Rattle.tree_model.specs.Turns.Grant.{Grant}
 use Rattle.tree_model.specs.Turns.Children.{child_at, only, read_from, erased_by, loses, reader_takes, replied_by, passed_on}
@@ -29,6 +29,7 @@ use Rattle.tree_model.specs.Turns.Reply.{reply_to_readers, reply_to_parent}
 use Rattle.tree_model.specs.Turns.Down.{exclusive_to, erase_of_children, read_by_child, read_by_parked, data_to_readers, inject_to_reader, inject_to_readers, inject_to_child, inject_parked}
 use Rattle.tree_model.specs.Turns.Leave.{out_gone, leave_parked, leave_to}
 use Rattle.tree_model.proofs.Rows.{Row, row_joins, row_read_of_child, row_read_of_parked, row_read_of_parent, row_erase_of_all, row_reply_to_readers, row_reply_to_parent, row_exclusive_to, row_erase_of_children, row_read_by_child, row_read_by_parked, row_data_to_readers, row_inject_to_reader, row_inject_to_readers, row_inject_to_child, row_inject_parked, row_out_gone, row_out_parked, row_leave_to, row_inject_up}
+use Rattle.order_laws.proofs.Pairs.{pairs-append, pairs-itself}
 
 -- ---- a leaf
 
@@ -136,14 +137,7 @@ replied-kept x words s (dir_node d ns) = data-kept x words s (dir_node (record d
 -- ---- lists of leaves
 
 pub kept-same : (xs : List LeafAt) → LeavesKept xs xs
-kept-same [] = tt
-kept-same (a ∷ xs) = (record { above = refl; number = refl; moment = less-irreflexive (spot_moment a.spot); leaf = keeps-same a.leaf }, kept-same xs)
-
-pub kept-append : (xs ys zs ws : List LeafAt) → LeavesKept xs ys → LeavesKept zs ws → LeavesKept (xs ++ zs) (ys ++ ws)
-kept-append [] [] zs ws f g = g
-kept-append [] (b ∷ ys) zs ws f g = absurd f
-kept-append (a ∷ xs) [] zs ws f g = absurd f
-kept-append (a ∷ xs) (b ∷ ys) zs ws f g = (f.0, kept-append xs ys zs ws f.1 g)
+kept-same = pairs-itself LeafKept (λ a. record { above = refl; number = refl; moment = less-irreflexive (spot_moment a.spot); leaf = keeps-same a.leaf })
 
 placed-same : (path : List ℕ) (d e : DirValue) (i : ℕ) (ns : Nodes) → stamp_of e ≡ stamp_of d → placed_leaves path e i ns ≡ placed_leaves path d i ns
 placed-same path d e i no_nodes same = refl
@@ -161,7 +155,7 @@ pub row-leaves : (path : List ℕ) (p q : DirValue) → less (moment_at path (st
 row-leaves path p q rises k [] [] many kids = tt
 row-leaves path p q rises k [] (m ∷ ms) many kids = absurd (omega (arith, many))
 row-leaves path p q rises k (n ∷ ns) [] many kids = absurd (omega (arith, many))
-row-leaves path p q rises k (n ∷ ns) (m ∷ ms) many kids = kept-append (leaves_in (spot_in path p k) n) (leaves_in (spot_in path q k) m) (placed_leaves path p (k + 1) (nodes ns)) (placed_leaves path q (k + 1) (nodes ms)) (kid-leaves path (stamp_of p) (stamp_of q) rises k n m (kids 0 (omega arith))) (row-leaves path p q rises (k + 1) ns ms (omega (arith, many)) (λ i l. kids (suc i) (omega (arith, l))))
+row-leaves path p q rises k (n ∷ ns) (m ∷ ms) many kids = pairs-append LeafKept (leaves_in (spot_in path p k) n) (leaves_in (spot_in path q k) m) (placed_leaves path p (k + 1) (nodes ns)) (placed_leaves path q (k + 1) (nodes ms)) (kid-leaves path (stamp_of p) (stamp_of q) rises k n m (kids 0 (omega arith))) (row-leaves path p q rises (k + 1) ns ms (omega (arith, many)) (λ i l. kids (suc i) (omega (arith, l))))
 
 -- ---- by rows
 

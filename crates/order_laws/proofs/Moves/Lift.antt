@@ -21,8 +21,9 @@ use Rattle.order_lists.proofs.Filters.{each-append, each-weaker, each-left, each
 use Rattle.order_laws.specs.Moves.Moved.{AllFrom}
 use Rattle.order_laws.specs.Moves.Parent.{bound_at, erased_at, downs_at, replies_up, hand_of}
 use Rattle.order_laws.specs.Moves.Carries.{IsBelowOld, node_at, BusTurned, old_moment, new_moment, HoldsAfter, MovedBy, IsBoundOf, hand_at, ClaimsAt, Carries, CarriesAmong}
-use Rattle.order_laws.specs.Moves.LeavesKept.{LeavesKept, leaves_below}
-use Rattle.order_laws.proofs.Moves.LeavesKept.{kept-same, kept-append}
+use Rattle.order_laws.specs.Moves.LeavesKept.{LeafKept, LeavesKept, leaves_below}
+use Rattle.order_laws.proofs.Moves.LeavesKept.{kept-same}
+use Rattle.order_laws.proofs.Pairs.{pairs-append}
 use Rattle.order_lists.proofs.Paths.{IsFrom, under-trans, under-append, one_child, leaves_under, placed_from}
 use Rattle.order_laws.proofs.Moves.LiftClaims.{below-claims, first-claims, later-claims}
 use Rattle.order_laws.proofs.Moves.Ordered.{OrderedAt, TopAt, ordered-below, own-bound, above-goes_on, erased-later}
@@ -96,7 +97,7 @@ module _ (x : ℕ) (count : ℕ) (t : Turn) (m : MachineValue) (a : TurnAnswer) 
             AllFrom-append (MovedBy x c.bus) _ _ later later hands (AllFrom-same (MovedBy x c.bus) (same x c.bus) later);
         claims = λ within. first-claims x c.bus above d j n k ns (c.claims within);
         erases = c.erases;
-        leaves = kept-append (leaves_in (spot_in above d j) n) (leaves_in (spot_in above d j) k) (placed_leaves above d (j + 1) ns) (placed_leaves above d (j + 1) ns) c.leaves (kept-same (placed_leaves above d (j + 1) ns));
+        leaves = pairs-append LeafKept (leaves_in (spot_in above d j) n) (leaves_in (spot_in above d j) k) (placed_leaves above d (j + 1) ns) (placed_leaves above d (j + 1) ns) c.leaves (kept-same (placed_leaves above d (j + 1) ns));
         nows = each-append (IsBelowOld c.bus) (leaves_in (spot_in above d j) n) (placed_leaves above d (j + 1) ns) c.nows (later-nows c.bus above d j rest ns (c_at ∙ append_assoc above (j ∷ []) rest));
       }
 
@@ -118,7 +119,7 @@ module _ (x : ℕ) (count : ℕ) (t : Turn) (m : MachineValue) (a : TurnAnswer) 
             AllFrom-append (MovedBy x c.bus) own own _ _ (AllFrom-same (MovedBy x c.bus) (same x c.bus) own) (c.moved b is);
         claims = λ within. later-claims x c.bus above d j n ns ms (c.claims within);
         erases = c.erases;
-        leaves = kept-append (leaves_in (spot_in above d j) n) (leaves_in (spot_in above d j) n) (placed_leaves above d (j + 1) ns) (placed_leaves above d (j + 1) ms) (kept-same (leaves_in (spot_in above d j) n)) c.leaves;
+        leaves = pairs-append LeafKept (leaves_in (spot_in above d j) n) (leaves_in (spot_in above d j) n) (placed_leaves above d (j + 1) ns) (placed_leaves above d (j + 1) ms) (kept-same (leaves_in (spot_in above d j) n)) c.leaves;
         nows = each-append (IsBelowOld c.bus) (leaves_in (spot_in above d j) n) (placed_leaves above d (j + 1) ns) (earlier-nows c.bus above d j i rest n c.at (omega (arith, c_is))) c.nows;
       }
 

@@ -17,7 +17,9 @@ use Rattle.order_laws.proofs.Timed.Rise.{rises-at_top, rises-at_child, ends-at}
 use Rattle.order_laws.proofs.Timed.Told.{DirTold, Told, AllTold}
 use Rattle.order_laws.proofs.Timed.Rows.{ParentTurned, DownTurned, down_stays, down_grows, down_taken}
 use Rattle.order_laws.proofs.Timed.Kept.{DirTimes, told-times, own-times, own-epoch}
-use Rattle.order_laws.proofs.Timed.Leaves.{Pairs, pairs-append, pairs-same, LeafRisen, LeafRisen-same, bus-risen, same-leaves, same-dirs}
+use Rattle.order_laws.specs.Pairs.{Pairs}
+use Rattle.order_laws.proofs.Pairs.{pairs-append, pairs-itself}
+use Rattle.order_laws.proofs.Timed.Leaves.{LeafRisen, LeafRisen-same, bus-risen, same-leaves, same-dirs}
 
 -- what the shape and the rules of time say of a directory below the top
 pub record IsDirTimed (strict : Bool) (c : DirAt) : Type 0 where
@@ -84,7 +86,7 @@ module _ (strict : Bool) where
     kid-leaves i (leaf_node v) (leaf_node w) told = (bus-risen path i (stamp_of d) (stamp_of q) v w bus.deep bus.rise told.number, tt)
     kid-leaves i (leaf_node v) (dir_node e ms) told = absurd told
     kid-leaves i (dir_node e ms) (leaf_node w) told = absurd told
-    kid-leaves i (dir_node e ms) (dir_node f ls) told = subst (λ l. Pairs LeafRisen (placed_leaves (path ++ i ∷ []) e 0 ms) (placed_leaves (path ++ i ∷ []) f 0 l)) (sym told.1) (subst (Pairs LeafRisen (placed_leaves (path ++ i ∷ []) e 0 ms)) (sym (same-leaves (path ++ i ∷ []) e f (told-stamp (stamp_of q) e f told.0) 0 ms)) (pairs-same LeafRisen LeafRisen-same (placed_leaves (path ++ i ∷ []) e 0 ms)))
+    kid-leaves i (dir_node e ms) (dir_node f ls) told = subst (λ l. Pairs LeafRisen (placed_leaves (path ++ i ∷ []) e 0 ms) (placed_leaves (path ++ i ∷ []) f 0 l)) (sym told.1) (subst (Pairs LeafRisen (placed_leaves (path ++ i ∷ []) e 0 ms)) (sym (same-leaves (path ++ i ∷ []) e f (told-stamp (stamp_of q) e f told.0) 0 ms)) (pairs-itself LeafRisen LeafRisen-same (placed_leaves (path ++ i ∷ []) e 0 ms)))
 
     pub kids-leaves : (i : ℕ) (ns : Nodes) (ks : List Node) → AllTold (stamp_of q) (children ns) ks → Pairs LeafRisen (placed_leaves path d i ns) (placed_leaves path q i (nodes ks))
     kids-leaves i no_nodes [] told = tt

@@ -12,25 +12,6 @@ use Rattle.tree_rules.specs.Order.Places.{LeafAt, leaf_path, leaf_now, leaves_in
 use Rattle.order_lists.proofs.Moments.{less-irreflexive, less-asymmetric, less_at-less, least-head, least-tail}
 use Rattle.order_lists.proofs.Stamps.{same_length}
 
--- ---- two lists, pair by pair
-
-module _ {X : Type 0} (R : X → X → Type 0) where
-  abbrev pub Pairs : List X → List X → Type 0
-  Pairs [] [] = Unit {0}
-  Pairs [] (y ∷ ys) = ⊥
-  Pairs (x ∷ xs) [] = ⊥
-  Pairs (x ∷ xs) (y ∷ ys) = R x y × Pairs xs ys
-
-  pub pairs-append : (xs ys us vs : List X) → Pairs xs ys → Pairs us vs → Pairs (xs ++ us) (ys ++ vs)
-  pairs-append [] [] us vs h k = k
-  pairs-append [] (y ∷ ys) us vs h k = absurd h
-  pairs-append (x ∷ xs) [] us vs h k = absurd h
-  pairs-append (x ∷ xs) (y ∷ ys) us vs h k = (h.0, pairs-append xs ys us vs h.1 k)
-
-  pub pairs-same : ((x : X) → R x x) → (xs : List X) → Pairs xs xs
-  pairs-same h [] = tt
-  pairs-same h (x ∷ xs) = (h x, pairs-same h xs)
-
 -- ---- a leaf
 
 pub record LeafRisen (a b : LeafAt) : Type 0 where

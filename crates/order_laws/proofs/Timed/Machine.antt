@@ -28,7 +28,9 @@ use Rattle.order_lists.proofs.Queues.{MayFollow, Rises, rises-from_rule}
 use Rattle.order_lists.specs.Commands.{CommandsArePastTaken}
 use Rattle.order_laws.specs.Timed.{TurnKeepsTime, TurnKeepsCommands}
 use Rattle.order_laws.proofs.Timed.Kept.{EntryTimes}
-use Rattle.order_laws.proofs.Timed.Leaves.{Pairs, LeafRisen, LeafRisen-same, pairs-same}
+use Rattle.order_laws.specs.Pairs.{Pairs}
+use Rattle.order_laws.proofs.Pairs.{pairs-itself}
+use Rattle.order_laws.proofs.Timed.Leaves.{LeafRisen, LeafRisen-same}
 use Rattle.order_laws.proofs.Timed.Bus.{IsDirTimed}
 use Rattle.order_laws.proofs.Timed.Tree.{KeepsTime, part-kept}
 
@@ -112,7 +114,7 @@ turn-after : (strict : Bool) (t : Turn) (m : MachineValue) → IsTopOk m.top →
 unfolding dirs_at
 turn-after strict t m top h =
     elim (has_node (named_by t) (root_of m)) as (λ b. has_node (named_by t) (root_of m) ≡ b → IsAfter strict m (turn_of t m).machine) [
-      | false ↦ λ absent. subst (λ o. IsAfter strict m o.machine) (sym (turn-changes_nothing t m absent)) (record { dirs = h; leaves = pairs-same LeafRisen LeafRisen-same (leaves_at m) })
+      | false ↦ λ absent. subst (λ o. IsAfter strict m o.machine) (sym (turn-changes_nothing t m absent)) (record { dirs = h; leaves = pairs-itself LeafRisen LeafRisen-same (leaves_at m) })
       | true ↦ λ there.
           let at = turn-changes_one_node t m there in
           at_top-dirs strict m h (turn_of t m).machine (λ ends level. part-kept strict t m (turn_of t m).answer at_top at.0 (root_of m) (root_of (turn_of t m).machine) at.1 (level, ends) h) top

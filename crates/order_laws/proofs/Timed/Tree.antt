@@ -26,7 +26,9 @@ use Rattle.tree_rules.specs.Order.Time.{stamp_ends}
 use Rattle.tree_rules.specs.Order.Places.{LeafAt, leaves_in, placed_leaves, DirAt, dirs_in, placed_dirs}
 use Rattle.order_lists.proofs.Filters.{each-append, each-left, each-right}
 use Rattle.order_laws.proofs.Timed.Rows.{BusTurned, row-turned}
-use Rattle.order_laws.proofs.Timed.Leaves.{Pairs, pairs-append, pairs-same, LeafRisen, LeafRisen-same, hart-risen}
+use Rattle.order_laws.specs.Pairs.{Pairs}
+use Rattle.order_laws.proofs.Pairs.{pairs-append, pairs-itself}
+use Rattle.order_laws.proofs.Timed.Leaves.{LeafRisen, LeafRisen-same, hart-risen}
 use Rattle.order_laws.proofs.Timed.Bus.{IsDirTimed, BusRises, stamp_of-ends, top-rises, child-timed, child-rises, kids-dirs, kids-leaves}
 
 -- ---- a part of the tree where it stands; the top itself is no directory below a bus
@@ -73,7 +75,7 @@ module _ (strict : Bool) where
     leaves : Pairs LeafRisen (placed_leaves above d i ns) (placed_leaves above d i ms)
 
   unchanged : (w : Where) (n : Node) → Timed (dirs_below w n) → KeepsTime w n n
-  unchanged w n h = record { dirs = h; leaves = pairs-same LeafRisen LeafRisen-same (leaves_below w n) }
+  unchanged w n h = record { dirs = h; leaves = pairs-itself LeafRisen LeafRisen-same (leaves_below w n) }
 
   -- ---- the changed node
 
@@ -119,7 +121,7 @@ module _ (strict : Bool) where
         let r : KeepsTime (at_child (spot_in above d i)) n k = kept ends (each-left _ (dirs_in (spot_in above d i) n) _ h) in
         record {
           dirs = each-append _ (dirs_in (spot_in above d i) k) (placed_dirs above d (i + 1) ns) r.dirs (each-right _ (dirs_in (spot_in above d i) n) _ h);
-          leaves = pairs-append LeafRisen (leaves_in (spot_in above d i) n) (leaves_in (spot_in above d i) k) _ _ r.leaves (pairs-same LeafRisen LeafRisen-same (placed_leaves above d (i + 1) ns));
+          leaves = pairs-append LeafRisen (leaves_in (spot_in above d i) n) (leaves_in (spot_in above d i) k) _ _ r.leaves (pairs-itself LeafRisen LeafRisen-same (placed_leaves above d (i + 1) ns));
         }
 
     later-kept : (above : List ℕ) (d : DirValue) (i : ℕ) (n : Node) (ns ms : Nodes) → KeepsAmong above d (i + 1) ns ms → KeepsAmong above d i (more_nodes n ns) (more_nodes n ms)
@@ -127,7 +129,7 @@ module _ (strict : Bool) where
         let r : KeepsRun above d (i + 1) ns ms = kept ends (each-right _ (dirs_in (spot_in above d i) n) _ h) in
         record {
           dirs = each-append _ (dirs_in (spot_in above d i) n) (placed_dirs above d (i + 1) ms) (each-left _ (dirs_in (spot_in above d i) n) _ h) r.dirs;
-          leaves = pairs-append LeafRisen (leaves_in (spot_in above d i) n) (leaves_in (spot_in above d i) n) _ _ (pairs-same LeafRisen LeafRisen-same (leaves_in (spot_in above d i) n)) r.leaves;
+          leaves = pairs-append LeafRisen (leaves_in (spot_in above d i) n) (leaves_in (spot_in above d i) n) _ _ (pairs-itself LeafRisen LeafRisen-same (leaves_in (spot_in above d i) n)) r.leaves;
         }
 
     pub part-kept : (a : TurnAnswer) (w : Where) (path : List ℕ) (n k : Node) → ChangedAt (TurnsHere t m a) w path n k → KeepsPart w n k

@@ -1,6 +1,6 @@
 -- A turn of a bus leaves every leaf where it is, with its hart; a reservation stays only where the leaf keeps its words.
 -- To be believed where a rule is relied on; the order of the witness needs no reader here.
-use Rattle.std.specs.Prelude.{◌≡◌, ℕ, true, false, List, [], ◌∷◌, Some}
+use Rattle.std.specs.Prelude.{◌≡◌, ℕ, true, false, List, [], Some}
 use Rattle.tree_model.specs.State.States.{is_held}
 use Rattle.tree_model.specs.State.Values.{LeafValue, Node, leaf_node, dir_node}
 use Rattle.tree_model.specs.State.Leaf.{leaf_entry, leaf_hold}
@@ -8,6 +8,7 @@ use Rattle.tree_model.specs.State.Place.{Where, at_top, at_child}
 use Rattle.tree_rules.specs.Order.Moments.{less, spot_moment}
 use Rattle.tree_rules.specs.Order.Places.{LeafAt, leaves_in, placed_leaves}
 use Rattle.order_laws.specs.Moves.HeldWords.{held_words}
+use Rattle.order_laws.specs.Pairs.{Pairs}
 
 pub record KeepsLeaf (v w : LeafValue) : Type 0 where
   pub number : w.number ≡ v.number
@@ -25,10 +26,7 @@ pub record LeafKept (a b : LeafAt) : Type 0 where
 
 -- leaf by leaf
 abbrev pub LeavesKept : List LeafAt → List LeafAt → Type 0
-LeavesKept [] [] = Unit {0}
-LeavesKept [] (b ∷ ys) = ⊥
-LeavesKept (a ∷ xs) [] = ⊥
-LeavesKept (a ∷ xs) (b ∷ ys) = LeafKept a b × LeavesKept xs ys
+LeavesKept = Pairs LeafKept
 
 -- the leaves of a node and of all below it
 abbrev pub leaves_below : Where → Node → List LeafAt

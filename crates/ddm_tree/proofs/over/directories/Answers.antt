@@ -5,8 +5,9 @@ use Rattle.std.proofs.lemmas.List.{map-append}
 use Rattle.tree_model.specs.State.Values.{dir_node, nodes}
 use Rattle.tree_model.specs.Start.Nodes.{cut_in, dir_over, dir_sizes, dirs_over}
 use Rattle.ddm_tree.specs.Holders.{IsHolder}
-use Rattle.ddm_tree.proofs.Gathered.{all-drop, all-take, drop-less, map-drop, map-take, next-sum, one-dir, take-some, width-at}
+use Rattle.ddm_tree.proofs.Gathered.{drop-less, map-drop, map-take, next-sum, one-dir, take-some, width-at}
 use Rattle.ddm_tree.proofs.over.directories.Goals as goal
+use Rattle.std.proofs.lemmas.List.Elements.{All-drop, All-take}
 
 pub directory-requires : goal.directory-requires
 directory-requires g c =
@@ -18,7 +19,7 @@ directory-requires g c =
     let own = c.in_ok-own.ensures.own in
     let enough : w ≤ length xs = omega (arith, total, inv.2) in
     let first : 0 < length c.in_ok-own.own.items = subst (λ ys. 0 < length ys) (sym own) (take-some w xs some enough) in
-    let holders : All (IsHolder c.args.items) (map g.C.Agent.value (take w xs)) = subst (All (IsHolder c.args.items)) (sym (map-take g.C.Agent.value w xs)) (all-take (IsHolder c.args.items) w (map g.C.Agent.value xs) inv.3) in
+    let holders : All (IsHolder c.args.items) (map g.C.Agent.value (take w xs)) = subst (All (IsHolder c.args.items)) (sym (map-take g.C.Agent.value w xs)) (All-take (IsHolder c.args.items) w (map g.C.Agent.value xs) inv.3) in
     let each : All (IsHolder c.args.items) (map g.C.Agent.value c.in_ok-own.own.items) = subst (λ ys. All (IsHolder c.args.items) (map g.C.Agent.value ys)) (sym own) holders in
     (omega arith, (c.requires.words_fit, (c.requires.below_top, (c.requires.deepest, (omega (arith, c.requires.some), (first, each))))))
 
@@ -43,5 +44,5 @@ loop-i-preserved g c =
       ap (λ ds. ds ++ dirs_over sizes c.args.level (c.args.first + (k + 1)) (cut_in (drop (k + 1) c.args.widths.now) (map g.C.Agent.value (into_iter_items c.take_next.new.rest)))) pushed ∙ whole,
       c.in_ok-own.ensures.known,
       sym left ∙ ap length (sym c.in_ok-own.ensures.rest),
-      subst (All (IsHolder c.args.items)) (sym rest_nodes) (all-drop (IsHolder c.args.items) w ns inv.3),
+      subst (All (IsHolder c.args.items)) (sym rest_nodes) (All-drop (IsHolder c.args.items) w ns inv.3),
     )
