@@ -12,10 +12,12 @@ use Rattle.tree_config.specs.declared.refusal.TreeRefusal.{TreeRefusal}
 use Rattle.run_engine.specs.Build.{build_refusal, refusal_of}
 use Rattle.run_engine.specs.declared.refusal.BuildRefusal.{BuildRefusal}
 use Rattle.text_model.specs.declared.ScheduleRefusal.{ScheduleRefusal}
-use Rattle.ddm_cli.specs.Causes.{IsUnloaded, IsUnscheduled, IsUnstarted}
-use Rattle.ddm_cli.specs.Parts.{Parts, if_started, parts_in, parts_of, tree_at, turns_at}
-use Rattle.ddm_cli.specs.Top.{text_of, text_with, StatusHasCause, Completes, RefusesImage}
-use Rattle.ddm_cli.specs.Words.{Names}
+use Rattle.ddm_cli.specs.Causes.{IsRefused, IsUnloaded, IsUnscheduled, IsUnstarted}
+use Rattle.ddm_cli.specs.Commands.{Command, Run, to_run, to_list, command_of}
+use Rattle.ddm_cli.specs.Parts.{Parts, if_started, parts_in, parts_of, tree_at, turns_at, turns_of}
+use Rattle.ddm_cli.specs.Told.{ScheduleGiven, written, seeded, image_told, schedule_told}
+use Rattle.ddm_cli.specs.Top.{command_text, text_of, text_with, StatusHasCause, Completes, NoRun, NotAccepted, NothingFailed, RefusesImage}
+use Rattle.ddm_cli.specs.declared.command.Prints.{Prints}
 use Rattle.ddm_cli.specs.declared.status.Status.{Status}
 use Rattle.ddm_cli.specs.declared.status.Status.TheVariants.{Done, Usage, ImageLoad, ImageBuild, Tree, Schedule, ReadFault, WriteFault, NoMemory}
 
@@ -56,9 +58,10 @@ unstarted r t image = by_result (image_of t.item_bytes image) where
   by_result (Err q) given = absurd given
 
 -- a schedule that gives no turns for the tree
-no_turns : (levels : List (List ℕ)) (schedule : List ℕ) (line : ℕ) (r : ScheduleRefusal) → IsUnscheduled levels line r schedule → turns_at levels schedule ≡ None
+no_turns : (levels : List (List ℕ)) (schedule : ScheduleGiven) (line : ℕ) (r : ScheduleRefusal) → IsRefused levels line r schedule → turns_of levels schedule ≡ None
 unfolding turns_at
-no_turns levels schedule line r is = rw is refl
+no_turns levels (written file) line r is = rw is refl
+no_turns levels (seeded seed count) line r is = absurd is
 
 parts_tree : (t : TreeValue) (image : List ℕ) (p : Parts) → parts_in t image ≡ Some p → p.tree ≡ t
 unfolding parts_in
@@ -71,45 +74,95 @@ parts_tree t image p = by_result (image_of t.item_bytes image) where
   by_result (Ok i) e = by_test i (is_none (start_refusal t i)) e
   by_result (Err q) e = absurd (cc e)
 
-unscheduled : (tree image schedule text : List ℕ) (line : ℕ) (r : ScheduleRefusal) → IfSome (tree_at tree) (λ u. IsUnscheduled u.levels line r schedule) → text_of tree image schedule ≡ Some text → ⊥
-unfolding parts_of
-unscheduled tree image schedule text line r = by_tree (tree_at tree) where
-  by_parts : (t : TreeValue) (o : Option Parts) → parts_in t image ≡ o → IsUnscheduled t.levels line r schedule → option_and_then (text_with schedule) o ≡ Some text → ⊥
-  by_parts t None is refused has = cc has
-  by_parts t (Some p) is refused has =
-      let none : turns_at p.tree.levels schedule ≡ None = ap (λ (u : TreeValue). turns_at u.levels schedule) (parts_tree t image p is) ∙ no_turns t.levels schedule line r refused in
-      no_text (sym (rw none refl) ∙ has)
+module _ (prints : Prints) where
+  unscheduled : (tree image : List ℕ) (schedule : ScheduleGiven) (text : List ℕ) (line : ℕ) (r : ScheduleRefusal) → IfSome (tree_at tree) (λ u. IsRefused u.levels line r schedule) → text_of prints tree image schedule ≡ Some text → ⊥
+  unfolding parts_of
+  unscheduled tree image schedule text line r = by_tree (tree_at tree) where
+    by_parts : (t : TreeValue) (o : Option Parts) → parts_in t image ≡ o → IsRefused t.levels line r schedule → option_and_then (text_with prints schedule) o ≡ Some text → ⊥
+    by_parts t None is refused has = cc has
+    by_parts t (Some p) is refused has =
+        let none : turns_of p.tree.levels schedule ≡ None = ap (λ (u : TreeValue). turns_of u.levels schedule) (parts_tree t image p is) ∙ no_turns t.levels schedule line r refused in
+        no_text (sym (rw none refl) ∙ has)
 
-  by_tree : (o : Option TreeValue) → IfSome o (λ u. IsUnscheduled u.levels line r schedule) → option_and_then (text_with schedule) (option_and_then (λ t. parts_in t image) o) ≡ Some text → ⊥
-  by_tree None refused has = cc has
-  by_tree (Some t) refused has = by_parts t (parts_in t image) refl refused has
+    by_tree : (o : Option TreeValue) → IfSome o (λ u. IsRefused u.levels line r schedule) → option_and_then (text_with prints schedule) (option_and_then (λ t. parts_in t image) o) ≡ Some text → ⊥
+    by_tree None refused has = cc has
+    by_tree (Some t) refused has = by_parts t (parts_in t image) refl refused has
 
-module _ {F K : Type 0} (told : F → List ℕ → Option (List ℕ)) (faults : F → List ℕ → ℕ) (held : K → Option (List ℕ)) (failures : K → ℕ) where
-  no_image : (files : F) (n : Names) (tree image schedule text : List ℕ) (P : TreeValue → List ℕ → Type 0) → ((t : TreeValue) → P t image → parts_in t image ≡ None)
-      → told files n.tree ≡ Some tree → told files n.image ≡ Some image → text_of tree image schedule ≡ Some text → RefusesImage P (told files n.tree) (told files n.image) → ⊥
-  no_image files n tree image schedule text P none t i has refused =
-      let here : IfSome (tree_at tree) (λ u. P u image) = rw (t, i) at refused.1 in
+  no_image : (t i : Option (List ℕ)) (tree image : List ℕ) (schedule : ScheduleGiven) (text : List ℕ) (P : TreeValue → List ℕ → Type 0) → ((u : TreeValue) → P u image → parts_in u image ≡ None)
+      → t ≡ Some tree → i ≡ Some image → text_of prints tree image schedule ≡ Some text → RefusesImage P t i → ⊥
+  no_image t i tree image schedule text P none is-tree is-image has refused =
+      let here : IfSome (tree_at tree) (λ u. P u image) = rw (is-tree, is-image) at refused.1 in
       let nothing = refused_parts tree image P none here in
       no_text (sym (rw nothing refl) ∙ has)
 
+-- ---- what is told where a command has a text
+
+and_then_some : {A B : Type 0} (o : Option A) (f : A → Option B) (b : B) → option_and_then f o ≡ Some b → (a : A) × (o ≡ Some a) × (f a ≡ Some b)
+and_then_some None f b e = absurd (cc e)
+and_then_some (Some a) f b e = (a, refl, e)
+
+module _ {F K : Type 0} (told : F → List ℕ → Option (List ℕ)) (faults : F → List ℕ → ℕ) (held : K → Option (List ℕ)) (failures : K → ℕ) where
+  module _ (files files' : F) where
+    -- a run that has a text isn't refused, but for want of memory
+    run_refused : (prints : Prints) (r : Run) (text : List ℕ) → command_text (told files) (to_run prints r) ≡ Some text → NothingFailed told faults files files' (to_run prints r) → (s : Status) → NoRun told faults files files' s r → s ≡ NoMemory
+    run_refused prints r text has calm = by_status where
+      tree = and_then_some (told files r.tree) _ text has
+      image = and_then_some (image_told (told files) r.image) _ text tree.2
+      schedule = and_then_some (schedule_told (told files) r.turns) _ text image.2
+
+      by_status : (s : Status) → NoRun told faults files files' s r → s ≡ NoMemory
+      by_status NoMemory refused = refl
+      by_status Done refused = absurd refused
+      by_status WriteFault refused = absurd refused
+      by_status (Usage k) refused = absurd refused
+      by_status (Tree x) refused =
+          let is : tree_of tree.0 ≡ Err x = rw tree.1 at refused in
+          let nothing = no_parts tree.0 image.0 (refused_tree tree.0 x is) in
+          absurd (no_text (sym (rw nothing refl) ∙ schedule.2))
+      by_status (ImageLoad x) refused = absurd (no_image prints (told files r.tree) (image_told (told files) r.image) tree.0 image.0 schedule.0 text (λ u. IsUnloaded u x) (λ u. unloaded x u image.0) tree.1 image.1 schedule.2 refused)
+      by_status (ImageBuild x) refused = absurd (no_image prints (told files r.tree) (image_told (told files) r.image) tree.0 image.0 schedule.0 text (λ u. IsUnstarted u x) (λ u. unstarted x u image.0) tree.1 image.1 schedule.2 refused)
+      by_status (Schedule line x) refused =
+          let here : IfSome (tree_at tree.0) (λ u. IsRefused u.levels line x schedule.0) = rw (tree.1, schedule.1) at refused.1 in
+          absurd (unscheduled prints tree.0 image.0 schedule.0 text line x here schedule.2)
+      by_status (ReadFault TreeFile) refused = absurd (calm.0 refused)
+      by_status (ReadFault ImageFile) refused = absurd (calm.1 refused.0)
+      by_status (ReadFault ScheduleFile) refused = absurd (calm.2 refused.0)
+      by_status (ReadFault WitnessFile) refused = absurd refused
+      by_status (ReadFault CheckpointFile) refused = absurd refused
+
+    list_refused : (name : List ℕ) (seed count : ℕ) (text : List ℕ) → command_text (told files) (to_list name seed count) ≡ Some text → NothingFailed told faults files files' (to_list name seed count)
+        → (s : Status) → NotAccepted told faults files files' s (to_list name seed count) → s ≡ NoMemory
+    list_refused name seed count text has calm = by_status where
+      tree = and_then_some (told files name) _ text has
+
+      by_status : (s : Status) → NotAccepted told faults files files' s (to_list name seed count) → s ≡ NoMemory
+      by_status NoMemory refused = refl
+      by_status Done refused = absurd refused
+      by_status WriteFault refused = absurd refused
+      by_status (Usage k) refused = absurd refused
+      by_status (Tree x) refused =
+          let is : tree_of tree.0 ≡ Err x = rw tree.1 at refused in
+          absurd (no_text (sym (rw (refused_tree tree.0 x is) refl) ∙ tree.2))
+      by_status (ImageLoad x) refused = absurd refused
+      by_status (ImageBuild x) refused = absurd refused
+      by_status (Schedule line x) refused = absurd refused
+      by_status (ReadFault TreeFile) refused = absurd (calm refused)
+      by_status (ReadFault ImageFile) refused = absurd refused
+      by_status (ReadFault ScheduleFile) refused = absurd refused
+      by_status (ReadFault WitnessFile) refused = absurd refused
+      by_status (ReadFault CheckpointFile) refused = absurd refused
+
+    command_refused : (c : Command) (text : List ℕ) → command_text (told files) c ≡ Some text → NothingFailed told faults files files' c → (s : Status) → NotAccepted told faults files files' s c → s ≡ NoMemory
+    command_refused (to_run prints r) text has calm = run_refused prints r text has calm
+    command_refused (to_list tree seed count) text has calm = list_refused tree seed count text has calm
+
   pub completes : (words : List (List ℕ)) (files files' : F) (out out' : K) (status : Status) → StatusHasCause told faults held failures words files files' out out' status → Completes told faults held failures words files files' out out' status
-  completes words files files' out out' Done came n tree image schedule text named t i s has calm quiet = inl refl
-  completes words files files' out out' NoMemory came n tree image schedule text named t i s has calm quiet = inr refl
-  completes words files files' out out' (Usage k) came n tree image schedule text named t i s has calm quiet = cc
-  completes words files files' out out' WriteFault came n tree image schedule text named t i s has calm quiet = absurd (quiet came.3)
-  completes words files files' out out' (Tree r) came n tree image schedule text named t i s has calm quiet =
-      let refused : tree_of tree ≡ Err r = rw (named, t) at came.0 in
-      let nothing = no_parts tree image (refused_tree tree r refused) in
-      absurd (no_text (sym (rw nothing refl) ∙ has))
-  completes words files files' out out' (ImageLoad r) came n tree image schedule text named t i s has calm quiet =
-      absurd (no_image files n tree image schedule text (λ u. IsUnloaded u r) (λ u. unloaded r u image) t i has (rw named at came.0))
-  completes words files files' out out' (ImageBuild r) came n tree image schedule text named t i s has calm quiet =
-      absurd (no_image files n tree image schedule text (λ u. IsUnstarted u r) (λ u. unstarted r u image) t i has (rw named at came.0))
-  completes words files files' out out' (ReadFault TreeFile) came n tree image schedule text named t i s has calm quiet = absurd (calm.0 (rw named at came.0))
-  completes words files files' out out' (ReadFault ImageFile) came n tree image schedule text named t i s has calm quiet = absurd (calm.1 (rw named at came.0).0)
-  completes words files files' out out' (ReadFault ScheduleFile) came n tree image schedule text named t i s has calm quiet = absurd (calm.2 (rw named at came.0).0)
-  completes words files files' out out' (ReadFault WitnessFile) came n tree image schedule text named t i s has calm quiet = absurd (rw named at came.0)
-  completes words files files' out out' (ReadFault CheckpointFile) came n tree image schedule text named t i s has calm quiet = absurd (rw named at came.0)
-  completes words files files' out out' (Schedule line r) came n tree image schedule text named t i s has calm quiet =
-      let here : IfSome (tree_at tree) (λ u. IsUnscheduled u.levels line r schedule) = rw (t, s) at (rw named at came.0).1 in
-      absurd (unscheduled tree image schedule text line r here has)
+  completes words files files' out out' Done came c text said has calm quiet = inl refl
+  completes words files files' out out' WriteFault came c text said has calm quiet = absurd (quiet came.3)
+  completes words files files' out out' (Usage k) came c text said has calm quiet = cc
+  completes words files files' out out' NoMemory came c text said has calm quiet = inr refl
+  completes words files files' out out' (Tree r) came c text said has calm quiet = inr (command_refused files files' c text has calm (Tree r) (rw said at came.0))
+  completes words files files' out out' (ImageLoad r) came c text said has calm quiet = inr (command_refused files files' c text has calm (ImageLoad r) (rw said at came.0))
+  completes words files files' out out' (ImageBuild r) came c text said has calm quiet = inr (command_refused files files' c text has calm (ImageBuild r) (rw said at came.0))
+  completes words files files' out out' (Schedule line r) came c text said has calm quiet = inr (command_refused files files' c text has calm (Schedule line r) (rw said at came.0))
+  completes words files files' out out' (ReadFault role) came c text said has calm quiet = inr (command_refused files files' c text has calm (ReadFault role) (rw said at came.0))

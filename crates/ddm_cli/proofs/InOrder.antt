@@ -13,9 +13,10 @@ use Rattle.elf_load.specs.ElfFile.{image_of}
 use Rattle.elf_load.specs.declared.refusal.ImageRefusal.{ImageRefusal}
 use Rattle.tree_config.specs.TreeFile.{tree_of}
 use Rattle.tree_config.specs.declared.refusal.TreeRefusal.{TreeRefusal}
-use Rattle.ddm_cli.specs.Parts.{Parts, if_started, parts_in, parts_of, tree_at, turns_at}
-use Rattle.ddm_cli.specs.Top.{Both, RunsInOrder, RunIsWitnessed}
-use Rattle.ddm_cli.specs.Words.{Names, names_of}
+use Rattle.ddm_cli.specs.Commands.{Command, to_run, to_list, command_of}
+use Rattle.ddm_cli.specs.Parts.{Parts, if_started, parts_in, parts_of, tree_at, turns_of}
+use Rattle.ddm_cli.specs.Told.{ScheduleGiven, image_told, schedule_told}
+use Rattle.ddm_cli.specs.Top.{FilesInOrder, IsInOrder, RunsInOrder, RunIsWitnessed}
 use Rattle.ddm_cli.proofs.AcceptedTrees.{accepted_tree}
 use Rattle.ddm_cli.proofs.OtherKeys.{each_turn}
 
@@ -49,28 +50,29 @@ both_taken tree image p = by_tree (tree_at tree) refl where
   by_tree None is e = cc
   by_tree (Some t) is e = parts_taken image t p (tree_taken tree t is) e
 
-turns_in_order : (p : Parts) → ArePartsTaken p → (schedule : List ℕ) → RunsInOrder schedule p
-turns_in_order p taken schedule = by_turns (turns_at p.tree.levels schedule) where
+turns_in_order : (p : Parts) → ArePartsTaken p → (schedule : ScheduleGiven) → RunsInOrder schedule p
+turns_in_order p taken schedule = by_turns (turns_of p.tree.levels schedule) where
   by_turns : (o : Option (List Turn)) → IfSome o (λ turns. EachTurnWitnessed (flat_start_of p.tree p.image) turns (start_machine p.tree p.image) × EachOutputWitnessed turns (start_machine p.tree p.image))
   by_turns None = tt
   by_turns (Some turns) =
       let runs = each_turn p.tree p.image taken.tree taken.accepted turns in
       (runs, λ k h. put_texts-same h _ _ ((runs k).machine.own_order h))
 
-files_in_order : (tree image schedule : List ℕ) → IfSome (parts_of tree image) (RunsInOrder schedule)
+files_in_order : (tree image : List ℕ) (schedule : ScheduleGiven) → IfSome (parts_of tree image) (RunsInOrder schedule)
 files_in_order tree image schedule = by_parts (parts_of tree image) refl where
   by_parts : (o : Option Parts) → parts_of tree image ≡ o → IfSome o (RunsInOrder schedule)
   by_parts None is = tt
   by_parts (Some p) is = turns_in_order p (both_taken tree image p is) schedule
 
-told_in_order : (tree image schedule : Option (List ℕ)) → Both tree image (λ t i. IfSome schedule (λ s. IfSome (parts_of t i) (RunsInOrder s)))
+told_in_order : (tree image : Option (List ℕ)) (schedule : Option ScheduleGiven) → FilesInOrder tree image schedule
 told_in_order None image schedule = tt
 told_in_order (Some t) None schedule = tt
 told_in_order (Some t) (Some i) None = tt
 told_in_order (Some t) (Some i) (Some s) = files_in_order t i s
 
 pub in_order : {F : Type 0} (told : F → List ℕ → Option (List ℕ)) (words : List (List ℕ)) (files : F) → RunIsWitnessed told words files
-in_order {F} told words files = by_names (names_of words) where
-  by_names : (r : Result Names ℕ) → IfOk r (λ n. Both (told files n.tree) (told files n.image) (λ t i. IfSome (told files n.schedule) (λ s. IfSome (parts_of t i) (RunsInOrder s))))
-  by_names (Ok n) = told_in_order (told files n.tree) (told files n.image) (told files n.schedule)
-  by_names (Err k) = tt
+in_order {F} told words files = by_command (command_of words) where
+  by_command : (r : Result Command ℕ) → IfOk r (IsInOrder told files)
+  by_command (Ok (to_run prints r)) = told_in_order (told files r.tree) (image_told (told files) r.image) (schedule_told (told files) r.turns)
+  by_command (Ok (to_list tree seed count)) = tt
+  by_command (Err k) = tt

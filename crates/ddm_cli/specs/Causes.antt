@@ -11,16 +11,17 @@ use Rattle.run_engine.specs.declared.refusal.BuildRefusal.{BuildRefusal}
 use Rattle.text_model.specs.Schedule.{schedule_of}
 use Rattle.text_model.specs.declared.ScheduleRefusal.{ScheduleRefusal}
 use Rattle.schedule_log.specs.Shapes.{shape_view}
+use Rattle.ddm_cli.specs.Told.{ScheduleGiven, written, seeded}
 use Rattle.ddm_cli.specs.declared.status.Status.{Status}
 use Rattle.ddm_cli.specs.declared.status.Status.TheVariants.{ImageLoad, ImageBuild, Tree, Schedule, ReadFault, NoMemory}
 
--- where the file is told, it is accepted
-abbrev pub Accepts : {A : Type 0} → (List ℕ → Option A) → Option (List ℕ) → Type 0
+-- where a file is told, it is accepted
+abbrev pub Accepts : {A B : Type 0} → (A → Option B) → Option A → Type 0
 Accepts judge told = IfSome told (λ file. IsSome (judge file))
 
 -- where it is told, it is accepted as this
-abbrev pub AcceptedAs : {A : Type 0} → (List ℕ → Option A) → Option (List ℕ) → A → Type 0
-AcceptedAs judge told a = IfSome told (λ file. judge file ≡ Some a)
+abbrev pub AcceptedAs : {A B : Type 0} → (A → Option B) → Option A → B → Type 0
+AcceptedAs judge told b = IfSome told (λ file. judge file ≡ Some b)
 
 -- ---- the tree
 
@@ -54,11 +55,18 @@ ImageCause t told before now _ = ⊥
 
 -- ---- the schedule, for a tree with these levels
 
+-- a schedule file is refused in this line
 abbrev pub IsUnscheduled : List (List ℕ) → ℕ → ScheduleRefusal → List ℕ → Type 0
 IsUnscheduled levels line r file = schedule_of (shape_view levels) 0 file ≡ Err (line, r)
 
-abbrev pub ScheduleCause : List (List ℕ) → Option (List ℕ) → ℕ → ℕ → Status → Type 0
-ScheduleCause levels told before now (Schedule line r) = IfSome told (IsUnscheduled levels line r)
-ScheduleCause levels told before now (ReadFault ScheduleFile) = Rose before now
-ScheduleCause levels told before now NoMemory = Unit {0}
-ScheduleCause levels told before now _ = ⊥
+-- a seeded schedule never is
+abbrev pub IsRefused : List (List ℕ) → ℕ → ScheduleRefusal → ScheduleGiven → Type 0
+IsRefused levels line r (written file) = IsUnscheduled levels line r file
+IsRefused levels line r (seeded seed count) = ⊥
+
+-- what is said of a schedule, with the way it is refused
+abbrev pub ScheduleCause : {A : Type 0} → (ℕ → ScheduleRefusal → A → Type 0) → Option A → ℕ → ℕ → Status → Type 0
+ScheduleCause refused told before now (Schedule line r) = IfSome told (refused line r)
+ScheduleCause refused told before now (ReadFault ScheduleFile) = Rose before now
+ScheduleCause refused told before now NoMemory = Unit {0}
+ScheduleCause refused told before now _ = ⊥

@@ -1,7 +1,10 @@
-pub mod Code
-pub mod Words
-pub mod Parts
 pub mod Causes
+pub mod Code
+pub mod Commands
+pub mod Parts
+pub mod Printed
 pub mod Reads
 pub mod Refusals
+pub mod Told
 pub mod Top
+pub mod Views

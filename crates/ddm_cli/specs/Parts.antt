@@ -10,7 +10,9 @@ use Rattle.elf_load.specs.declared.refusal.ImageRefusal.{ImageRefusal}
 use Rattle.tree_config.specs.TreeFile.{tree_of}
 use Rattle.run_engine.specs.Started.{started}
 use Rattle.text_model.specs.Schedule.{schedule_of}
+use Rattle.text_model.specs.Seeded.{seeded_turns}
 use Rattle.schedule_log.specs.Shapes.{shape_view}
+use Rattle.ddm_cli.specs.Told.{ScheduleGiven, written, seeded}
 
 -- what a machine is made from
 pub record Parts : Type 0 where
@@ -44,3 +46,8 @@ HasStart t s = (i : ImageValue) × IsStart t i s
 -- the turns of a schedule file that is accepted for a tree with these levels
 unfoldable pub turns_at : List (List ℕ) → List ℕ → Option (List Turn)
 turns_at levels file = result_ok (schedule_of (shape_view levels) 0 file)
+
+-- the turns of a schedule, a seeded one too
+abbrev pub turns_of : List (List ℕ) → ScheduleGiven → Option (List Turn)
+turns_of levels (written file) = turns_at levels file
+turns_of levels (seeded seed count) = Some (seeded_turns (shape_view levels) seed count)

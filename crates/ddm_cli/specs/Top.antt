@@ -2,38 +2,56 @@
 use Rattle.std.specs.Prelude.{◌≡◌, ◌⊎◌, ℕ, List, [], length, Option, Some, IsSome, IfSome, option_and_then, option_map, IfOk, Ok, Err, IsOkAnd}
 use Rattle.ddm_types.specs.declared.turns.Turn.{Turn}
 use Rattle.tree_model.specs.Start.Sources.{TreeValue}
-use Rattle.tree_model.specs.Start.Machine.{start_machine}
+use Rattle.tree_model.specs.Start.Machine.{flat_start_of, start_machine}
+use Rattle.tree_rules.specs.Witness.{EachTurnWitnessed}
 use Rattle.text_model.specs.Faults.{usage_fault, schedule_fault, read_fault, write_fault, memory_fault}
-use Rattle.text_model.specs.Run.{report_text_of, EachOutputWitnessed}
+use Rattle.text_model.specs.Run.{EachOutputWitnessed}
+use Rattle.text_model.specs.Schedule.{schedule_text}
+use Rattle.text_model.specs.Seeded.{seeded_turns}
 use Rattle.text_model.specs.declared.ScheduleRefusal.{ScheduleRefusal}
 use Rattle.report.specs.Appends.{Appends, AppendsPart}
 use Rattle.report.specs.Roles.{role_text}
 use Rattle.report.specs.declared.roles.FileRole.{FileRole}
 use Rattle.report.specs.declared.roles.FileRole.TheVariants.{ImageFile, TreeFile, ScheduleFile, WitnessFile, CheckpointFile}
-use Rattle.tree_model.specs.Start.Machine.{flat_start_of}
-use Rattle.tree_rules.specs.Witness.{EachTurnWitnessed}
 use Rattle.ddm_outside.specs.Causes.{Rose}
+use Rattle.schedule_log.specs.Shapes.{shape_view}
 use Rattle.tree_config.specs.TreeFile.{tree_of}
-use Rattle.ddm_cli.specs.Parts.{Parts, parts_of, tree_at, turns_at}
-use Rattle.ddm_cli.specs.Causes.{Accepts, IsUnloaded, IsUnstarted, IsUnscheduled}
+use Rattle.ddm_cli.specs.Causes.{Accepts, IsRefused, IsUnloaded, IsUnstarted, TreeCause}
+use Rattle.ddm_cli.specs.Commands.{Command, ImageFrom, Run, TurnsFrom, to_run, to_list, command_of}
+use Rattle.ddm_cli.specs.Parts.{Parts, parts_of, tree_at, turns_of}
+use Rattle.ddm_cli.specs.Printed.{printed}
 use Rattle.ddm_cli.specs.Refusals.{build_line, image_line, tree_line, tree_line_head, tree_line_rest}
-use Rattle.ddm_cli.specs.Words.{Names, names_of}
+use Rattle.ddm_cli.specs.Told.{ScheduleGiven, image_faults, image_told, schedule_faults, schedule_told}
+use Rattle.ddm_cli.specs.declared.command.Prints.{Prints}
 use Rattle.ddm_cli.specs.declared.status.Status.{Status}
 use Rattle.ddm_cli.specs.declared.status.Status.TheVariants.{Done, Usage, ImageLoad, ImageBuild, Tree, Schedule, ReadFault, WriteFault, NoMemory}
 
 -- ---- the text
 
--- the report of a machine after these turns
-unfoldable pub text_at : Parts → List Turn → List ℕ
-text_at p turns = report_text_of (length p.tree.levels) turns (start_machine p.tree p.image)
+-- what is printed of a run of these turns from the start
+unfoldable pub text_at : Prints → Parts → List Turn → List ℕ
+text_at prints p turns = printed prints (length p.tree.levels) turns (start_machine p.tree p.image)
 
--- with the turns of a schedule that is accepted for its tree
-abbrev pub text_with : List ℕ → Parts → Option (List ℕ)
-text_with schedule p = option_map (text_at p) (turns_at p.tree.levels schedule)
+-- of the turns of a schedule that is accepted for the tree
+abbrev pub text_with : Prints → ScheduleGiven → Parts → Option (List ℕ)
+text_with prints schedule p = option_map (text_at prints p) (turns_of p.tree.levels schedule)
 
--- what a tree, an image and a schedule make the command print
-abbrev pub text_of : List ℕ → List ℕ → List ℕ → Option (List ℕ)
-text_of tree image schedule = option_and_then (text_with schedule) (parts_of tree image)
+-- what a tree, an image and a schedule give
+abbrev pub text_of : Prints → List ℕ → List ℕ → ScheduleGiven → Option (List ℕ)
+text_of prints tree image schedule = option_and_then (text_with prints schedule) (parts_of tree image)
+
+-- the schedule of a seed for a tree
+unfoldable pub list_at : ℕ → ℕ → TreeValue → List ℕ
+list_at seed count t = schedule_text (seeded_turns (shape_view t.levels) seed count)
+
+abbrev pub list_of : ℕ → ℕ → List ℕ → Option (List ℕ)
+list_of seed count tree = option_map (list_at seed count) (tree_at tree)
+
+-- what a command prints, where its files are told and accepted
+abbrev pub command_text : (List ℕ → Option (List ℕ)) → Command → Option (List ℕ)
+command_text told (to_run prints r) =
+    option_and_then (λ tree. option_and_then (λ image. option_and_then (text_of prints tree image) (schedule_told told r.turns)) (image_told told r.image)) (told r.tree)
+command_text told (to_list tree seed count) = option_and_then (list_of seed count) (told tree)
 
 -- ---- order
 
@@ -43,14 +61,14 @@ abbrev pub TurnsInOrder : Parts → List Turn → Type 0
 TurnsInOrder p turns = EachTurnWitnessed (flat_start_of p.tree p.image) turns (start_machine p.tree p.image) × EachOutputWitnessed turns (start_machine p.tree p.image)
 
 -- after each turn of the schedule
-abbrev pub RunsInOrder : List ℕ → Parts → Type 0
-RunsInOrder schedule p = IfSome (turns_at p.tree.levels schedule) (TurnsInOrder p)
+abbrev pub RunsInOrder : ScheduleGiven → Parts → Type 0
+RunsInOrder schedule p = IfSome (turns_of p.tree.levels schedule) (TurnsInOrder p)
 
 -- ---- the files
 
--- what holds of a tree and an image, where both are told
-abbrev pub Both : Option (List ℕ) → Option (List ℕ) → (List ℕ → List ℕ → Type 0) → Type 0
-Both tree image P = IfSome tree (λ t. IfSome image (P t))
+-- what holds of a tree and something else, where both are told
+abbrev pub Both : {A : Type 0} → Option (List ℕ) → Option A → (List ℕ → A → Type 0) → Type 0
+Both tree other P = IfSome tree (λ t. IfSome other (P t))
 
 -- the tree is accepted, and with it the image, from which the machine has a start
 abbrev pub AcceptsParts : Option (List ℕ) → Option (List ℕ) → Type 0
@@ -61,62 +79,86 @@ abbrev pub RefusesImage : (TreeValue → List ℕ → Type 0) → Option (List �
 RefusesImage refused tree image = Accepts tree_at tree × Both tree image (λ t i. IfSome (tree_at t) (λ value. refused value i))
 
 -- the tree and the image are accepted, and with the tree the schedule
-abbrev pub AcceptsRun : Option (List ℕ) → Option (List ℕ) → Option (List ℕ) → Type 0
-AcceptsRun tree image schedule = AcceptsParts tree image × Both tree schedule (λ t s. IfSome (tree_at t) (λ value. IsSome (turns_at value.levels s)))
+abbrev pub AcceptsRun : Option (List ℕ) → Option (List ℕ) → Option ScheduleGiven → Type 0
+AcceptsRun tree image schedule = AcceptsParts tree image × Both tree schedule (λ t s. IfSome (tree_at t) (λ value. IsSome (turns_of value.levels s)))
 
 -- the schedule is refused in a line for the tree, which is accepted with the image
-abbrev pub RefusesSchedule : ℕ → ScheduleRefusal → Option (List ℕ) → Option (List ℕ) → Option (List ℕ) → Type 0
-RefusesSchedule line r tree image schedule = AcceptsParts tree image × Both tree schedule (λ t s. IfSome (tree_at t) (λ value. IsUnscheduled value.levels line r s))
+abbrev pub RefusesSchedule : ℕ → ScheduleRefusal → Option (List ℕ) → Option (List ℕ) → Option ScheduleGiven → Type 0
+RefusesSchedule line r tree image schedule = AcceptsParts tree image × Both tree schedule (λ t s. IfSome (tree_at t) (λ value. IsRefused value.levels line r s))
 
 -- where all three are told and accepted, their run is in order
-abbrev pub FilesInOrder : Option (List ℕ) → Option (List ℕ) → Option (List ℕ) → Type 0
+abbrev pub FilesInOrder : Option (List ℕ) → Option (List ℕ) → Option ScheduleGiven → Type 0
 FilesInOrder tree image schedule = Both tree image (λ t i. IfSome schedule (λ s. IfSome (parts_of t i) (RunsInOrder s)))
 
 -- where all three are told, this is their text
-abbrev pub HasText : Option (List ℕ) → Option (List ℕ) → Option (List ℕ) → List ℕ → Type 0
-HasText tree image schedule text = Both tree image (λ t i. IfSome schedule (λ s. text_of t i s ≡ Some text))
+abbrev pub HasText : Prints → Option (List ℕ) → Option (List ℕ) → Option ScheduleGiven → List ℕ → Type 0
+HasText prints tree image schedule text = Both tree image (λ t i. IfSome schedule (λ s. text_of prints t i s ≡ Some text))
+
+-- ---- what a command reads
 
 module _ {F : Type 0} (told : F → List ℕ → Option (List ℕ)) where
-  -- the files that were read are accepted, and this is their text
-  abbrev pub FilesAccepted : F → List ℕ → Names → Type 0
-  FilesAccepted files text n = AcceptsRun (told files n.tree) (told files n.image) (told files n.schedule)
-      × HasText (told files n.tree) (told files n.image) (told files n.schedule) text
+  -- the files that a command read are accepted, and this is what it prints
+  abbrev pub HasAccepted : F → List ℕ → Command → Type 0
+  HasAccepted files text (to_run prints r) =
+      AcceptsRun (told files r.tree) (image_told (told files) r.image) (schedule_told (told files) r.turns)
+      × HasText prints (told files r.tree) (image_told (told files) r.image) (schedule_told (told files) r.turns) text
+  HasAccepted files text (to_list tree seed count) = Accepts tree_at (told files tree) × IfSome (told files tree) (λ t. list_of seed count t ≡ Some text)
 
-  -- the words are in the grammar, and this is the text of the files that they name
+  -- the words are in the grammar, and this is what their command prints
   abbrev pub Accepted : List (List ℕ) → F → List ℕ → Type 0
-  Accepted words files text = IsOkAnd (names_of words) (FilesAccepted files text)
+  Accepted words files text = IsOkAnd (command_of words) (HasAccepted files text)
 
-  -- where all three files are told and accepted, their run is in order
+  -- where all that a run is made of is told and accepted, it is in order
+  abbrev pub IsInOrder : F → Command → Type 0
+  IsInOrder files (to_run prints r) = FilesInOrder (told files r.tree) (image_told (told files) r.image) (schedule_told (told files) r.turns)
+  IsInOrder files (to_list tree seed count) = Unit {0}
+
   abbrev pub RunIsWitnessed : List (List ℕ) → F → Type 0
-  RunIsWitnessed words files = IfOk (names_of words) (λ n. FilesInOrder (told files n.tree) (told files n.image) (told files n.schedule))
+  RunIsWitnessed words files = IfOk (command_of words) (IsInOrder files)
 
   module _ (faults : F → List ℕ → ℕ) (files files' : F) where
-    -- the count of failed reads of this file rose in the call
-    abbrev pub Failed : List ℕ → Type 0
-    Failed name = Rose (faults files name) (faults files' name)
+    -- the count of failed reads of this source rose in the call
+    abbrev pub TreeFailed : List ℕ → Type 0
+    TreeFailed name = Rose (faults files name) (faults files' name)
+
+    abbrev pub ImageFailed : ImageFrom → Type 0
+    ImageFailed image = Rose (image_faults (faults files) image) (image_faults (faults files') image)
+
+    abbrev pub ScheduleFailed : TurnsFrom → Type 0
+    ScheduleFailed turns = Rose (schedule_faults (faults files) turns) (schedule_faults (faults files') turns)
 
     -- a file can't be read: the tree is read first, then the image, then the schedule
-    abbrev pub CantRead : FileRole → Names → Type 0
-    CantRead TreeFile n = Failed n.tree
-    CantRead ImageFile n = Failed n.image × Accepts tree_at (told files n.tree)
-    CantRead ScheduleFile n = Failed n.schedule × AcceptsParts (told files n.tree) (told files n.image)
-    CantRead WitnessFile n = ⊥
-    CantRead CheckpointFile n = ⊥
+    abbrev pub CantRead : FileRole → Run → Type 0
+    CantRead TreeFile r = TreeFailed r.tree
+    CantRead ImageFile r = ImageFailed r.image × Accepts tree_at (told files r.tree)
+    CantRead ScheduleFile r = ScheduleFailed r.turns × AcceptsParts (told files r.tree) (image_told (told files) r.image)
+    CantRead WitnessFile r = ⊥
+    CantRead CheckpointFile r = ⊥
 
-    -- why the files give no text; the other statuses are no such answers
-    abbrev pub NotAccepted : Status → Names → Type 0
-    NotAccepted (Tree r) n = IfSome (told files n.tree) (λ file. tree_of file ≡ Err r)
-    NotAccepted (ImageLoad r) n = RefusesImage (λ t. IsUnloaded t r) (told files n.tree) (told files n.image)
-    NotAccepted (ImageBuild r) n = RefusesImage (λ t. IsUnstarted t r) (told files n.tree) (told files n.image)
-    NotAccepted (Schedule line r) n = RefusesSchedule line r (told files n.tree) (told files n.image) (told files n.schedule)
-    NotAccepted (ReadFault role) n = CantRead role n
-    NotAccepted NoMemory n = Unit {0}
-    NotAccepted _ n = ⊥
+    -- why there is no run; the other statuses are no such answers
+    abbrev pub NoRun : Status → Run → Type 0
+    NoRun (Tree r) n = IfSome (told files n.tree) (λ file. tree_of file ≡ Err r)
+    NoRun (ImageLoad r) n = RefusesImage (λ t. IsUnloaded t r) (told files n.tree) (image_told (told files) n.image)
+    NoRun (ImageBuild r) n = RefusesImage (λ t. IsUnstarted t r) (told files n.tree) (image_told (told files) n.image)
+    NoRun (Schedule line r) n = RefusesSchedule line r (told files n.tree) (image_told (told files) n.image) (schedule_told (told files) n.turns)
+    NoRun (ReadFault role) n = CantRead role n
+    NoRun NoMemory n = Unit {0}
+    NoRun _ n = ⊥
+
+    -- why a command prints nothing: where it only lists turns, what is said of a tree file
+    abbrev pub NotAccepted : Status → Command → Type 0
+    NotAccepted s (to_run prints r) = NoRun s r
+    NotAccepted s (to_list tree seed count) = TreeCause (told files tree) (faults files tree) (faults files' tree) s
 
     -- why there is no text
     abbrev pub Refused : List (List ℕ) → Status → Type 0
-    Refused words (Usage k) = names_of words ≡ Err k
-    Refused words s = IsOkAnd (names_of words) (NotAccepted s)
+    Refused words (Usage k) = command_of words ≡ Err k
+    Refused words s = IsOkAnd (command_of words) (NotAccepted s)
+
+    -- no read of the command failed
+    abbrev pub NothingFailed : Command → Type 0
+    NothingFailed (to_run prints r) = (¬ TreeFailed r.tree) × (¬ ImageFailed r.image) × (¬ ScheduleFailed r.turns)
+    NothingFailed (to_list tree seed count) = ¬ TreeFailed tree
 
 -- ---- the command
 
@@ -140,16 +182,11 @@ module _ {F K : Type 0} (told : F → List ℕ → Option (List ℕ)) (faults : 
   StatusHasCause words files files' out out' (ReadFault role) = Refused told faults files files' words (ReadFault role) × (held out' ≡ held out)
   StatusHasCause words files files' out out' NoMemory = Refused told faults files files' words NoMemory × (held out' ≡ held out)
 
-  -- no count of the three files rose
-  abbrev pub NothingFailed : F → F → Names → Type 0
-  NothingFailed files files' n = (¬ Failed told faults files files' n.tree) × (¬ Failed told faults files files' n.image) × (¬ Failed told faults files files' n.schedule)
-
   -- Where the words are in the grammar, the told files are accepted and nothing failed, all was done, or memory ran out.
   abbrev pub Completes : List (List ℕ) → F → F → K → K → Status → Type 0
   Completes words files files' out out' status =
-      (n : Names) (tree image schedule text : List ℕ) → names_of words ≡ Ok n
-      → told files n.tree ≡ Some tree → told files n.image ≡ Some image → told files n.schedule ≡ Some schedule
-      → text_of tree image schedule ≡ Some text → NothingFailed files files' n → ¬ Rose (failures out) (failures out')
+      (c : Command) (text : List ℕ) → command_of words ≡ Ok c → command_text (told files) c ≡ Some text
+      → NothingFailed told faults files files' c → ¬ Rose (failures out) (failures out')
       → (status ≡ Done) ⊎ (status ≡ NoMemory)
 
 -- ---- the line of a fault

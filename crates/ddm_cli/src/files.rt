@@ -1,17 +1,23 @@
-ghost use Rattle.std.specs.Prelude.{◌≡◌, ◌<◌, ◌≤◌, ℕ, List, Ok, length, IfOk, IfErr, IfSome};
+ghost use Rattle.std.specs.Prelude.{◌≡◌, ◌<◌, ◌≤◌, ℕ, List, Ok, Some, IsSome, length, IfOk, IfErr, IfSome};
 ghost use Rattle.tree_model.specs.Start.Sources.{ImageValue};
 ghost use Rattle.bus_laws.specs.IsTree.{IsTree};
 ghost use Rattle.elf_load.specs.ElfFile.{image_of};
-ghost use Rattle.run_engine.specs.Any.{machine_state};
+ghost use Rattle.made_image.specs.MadeImage.{made_image};
+ghost use Rattle.any_machine.specs.Any.{machine_state};
 ghost use Rattle.ddm_cli.specs.Causes.{ImageCause, AcceptedAs, Accepts, TreeCause};
+ghost use Rattle.ddm_cli.specs.Commands.{IsMakeable};
 ghost use Rattle.ddm_cli.specs.Parts.{IsStart, parts_in, tree_at};
+ghost use Rattle.ddm_cli.specs.Told.{image_faults, image_told};
+ghost use Rattle.ddm_cli.specs.Views.{image_from};
 
+use crate::command::ImageSource;
 use crate::judging::{judged_image, judged_tree};
 use crate::limits::{MOST_IMAGE, MOST_TREE};
 use crate::reading::{ReadError, read_whole};
 use crate::status::Status;
 use ddm_outside::Shelf;
 use elf_load::ImageRefusal;
+use made_image::make_image;
 use report::FileRole;
 use run_engine::AnyMachine;
 use std::alloc::Global;
@@ -40,7 +46,7 @@ pub fn tree_file<F: Shelf>(
 }
 
 /// The machine of a tree and an image file.
-pub fn image_file<F: Shelf>(
+fn image_file<F: Shelf>(
     alloc: Global,
     files: &mut F,
     name: &str,
@@ -59,5 +65,39 @@ pub fn image_file<F: Shelf>(
         Err(ReadError::Failed) => Err(Status::ReadFault(FileRole::ImageFile)),
         Err(ReadError::TooLong) => Err(Status::ImageLoad(ImageRefusal::TooLong)),
         Err(ReadError::Memory) => Err(Status::NoMemory),
+    }
+}
+
+/// The machine of a tree and the made image of a seed.
+fn made_machine(alloc: Global, tree: &TreeConfig, seed: u64, rounds: u32) -> Result<AnyMachine, Status>
+    requires some { 1 ≤ rounds }
+    requires few { rounds ≤ 50000 }
+    ensures found { IfOk result (λ m. (i : ImageValue) × IsStart tree.now i (machine_state m) × (image_of tree.now.item_bytes (made_image seed rounds) ≡ Ok i)) }
+    ensures taken { IfOk result (λ m. IsSome (parts_in tree.now (made_image seed rounds))) }
+    ensures cause { IfErr result (ImageCause tree.now (Some (made_image seed rounds)) 0 0) }
+{
+    let bytes = make_image(alloc, seed, rounds)?;
+    judged_image(alloc, tree, &bytes)
+}
+
+/// The machine of a tree and an image.
+pub fn image_machine<F: Shelf>(
+    alloc: Global,
+    files: &mut F,
+    image: ImageSource<'_>,
+    buffer: &mut [u8],
+    tree: &TreeConfig,
+) -> Result<AnyMachine, Status>
+    requires room { 0 < length buffer.old }
+    requires made { IsMakeable (image_from image) }
+    ensures found { IfOk result (λ m. (i : ImageValue) × IsStart tree.now i (machine_state m) × IfSome (image_told (F.told files.old) (image_from image)) (λ file. image_of tree.now.item_bytes file ≡ Ok i)) }
+    ensures taken { IfOk result (λ m. Accepts (parts_in tree.now) (image_told (F.told files.old) (image_from image))) }
+    ensures cause { IfErr result (ImageCause tree.now (image_told (F.told files.old) (image_from image)) (image_faults (F.faults files.old) (image_from image)) (image_faults (F.faults files.new) (image_from image))) }
+    ensures same { F.told files.new ≡ F.told files.old }
+    ensures later { (other : List ℕ) → F.faults files.old other ≤ F.faults files.new other }
+{
+    match image {
+        ImageSource::File(name) => image_file(alloc, files, name, buffer, tree),
+        ImageSource::Made { seed, rounds } => made_machine(alloc, tree, seed, rounds),
     }
 }

@@ -4,7 +4,7 @@ ghost use Rattle.bus_laws.specs.IsTree.{IsTree};
 ghost use Rattle.elf_load.specs.ElfFile.{image_of};
 ghost use Rattle.tree_model.specs.Start.Machine.{start_refusal};
 ghost use Rattle.run_engine.specs.Started.{started};
-ghost use Rattle.run_engine.specs.Any.{machine_state};
+ghost use Rattle.any_machine.specs.Any.{machine_state};
 ghost use Rattle.ddm_cli.specs.Causes.{BuildCause, ImageCause, TreeCause};
 ghost use Rattle.ddm_cli.specs.Parts.{IsStart, parts_in, tree_at};
 

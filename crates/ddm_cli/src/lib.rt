@@ -1,17 +1,18 @@
 //! The command line as a library: from the words of a command and the files that they name to what is printed.
 #![tactic(auto)]
 
-mod answer;
+mod command;
 mod fault;
 mod files;
 mod judging;
 mod limits;
+mod printing;
 mod reading;
 mod refusal_lines;
-mod release;
 mod schedule_file;
 mod status;
 mod top;
+mod turns;
 mod unknown_key;
 mod words;
 

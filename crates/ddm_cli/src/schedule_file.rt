@@ -1,7 +1,7 @@
 ghost use Rattle.std.specs.Prelude.{◌≡◌, ◌<◌, ◌≤◌, ℕ, List, length, IfOk, IfErr};
 ghost use Rattle.text_model.specs.ReadBack.{GivesTurnsOf};
 ghost use Rattle.schedule_log.specs.Shapes.{shape_view};
-ghost use Rattle.ddm_cli.specs.Causes.{AcceptedAs, ScheduleCause};
+ghost use Rattle.ddm_cli.specs.Causes.{AcceptedAs, IsUnscheduled, ScheduleCause};
 ghost use Rattle.ddm_cli.specs.Parts.{turns_at};
 
 use crate::status::Status;
@@ -24,7 +24,7 @@ pub fn schedule_file<F: Shelf>(
     requires { 0 < length buffer.old }
     ensures found { IfOk result (λ turns. AcceptedAs (turns_at shape.now) (F.told files.old name.now) turns.items) }
     ensures given { IfOk result (λ turns. GivesTurnsOf (shape_view shape.now) 0 turns.items) }
-    ensures cause { IfErr result (ScheduleCause shape.now (F.told files.old name.now) (F.faults files.old name.now) (F.faults files.new name.now)) }
+    ensures cause { IfErr result (ScheduleCause (IsUnscheduled shape.now) (F.told files.old name.now) (F.faults files.old name.now) (F.faults files.new name.now)) }
     ensures same { F.told files.new ≡ F.told files.old }
     ensures later { (other : List ℕ) → F.faults files.old other ≤ F.faults files.new other }
 {

@@ -1,17 +1,21 @@
 ghost use Rattle.std.specs.Prelude.{◌<◌, vec_len, map, IfOk, IfErr};
 ghost use Rattle.std.specs.String.{string_bytes};
-ghost use Rattle.ddm_cli.specs.Top.{Accepted, FilesAccepted, StatusHasCause, Completes, RunIsWitnessed, NotAccepted, Offers, Refused, fault_line};
-ghost use Rattle.ddm_cli.specs.Words.{names_value};
+ghost use Rattle.ddm_cli.specs.Causes.{TreeCause};
+ghost use Rattle.ddm_cli.specs.Commands.{IsInRange, to_list, to_run};
+ghost use Rattle.ddm_cli.specs.Top.{Accepted, Completes, HasAccepted, NoRun, NotAccepted, Offers, Refused, RunIsWitnessed, StatusHasCause, fault_line};
+ghost use Rattle.ddm_cli.specs.Views.{command_from, run_from};
 
-use crate::answer::scheduled_text;
+use crate::command::{Command, Prints, Run};
 use crate::fault::tell;
-use crate::files::{image_file, tree_file};
-use crate::release::release;
+use crate::files::{image_machine, tree_file};
+use crate::printing::machine_text;
 use crate::status::Status;
-use crate::words::{FileNames, file_names};
+use crate::words::command_said;
+use any_machine::release;
 use ddm_outside::{Shelf, Sink};
 use ddm_types::NoMemory;
 use report::write_all;
+use schedule_log::{seeded, write_schedule};
 use std::alloc::Global;
 
 const READ_BYTES: usize = 65_536;
@@ -23,38 +27,74 @@ fn read_buffer(alloc: Global) -> Result<Vec<u8>, NoMemory>
     Ok(Vec::from_elem(alloc, 0, READ_BYTES)?)
 }
 
-// The text of the named files, or the status without one.
+// What is printed of a run, or the status without it.
 #[tactic(auto, using(crate::proofs::Causes::takes_parts))]
-fn files_text<F: Shelf>(
+fn run_text<F: Shelf>(
     alloc: Global,
-    names: FileNames<'_>,
     files: &mut F,
+    prints: Prints,
+    run: Run<'_>,
 ) -> Result<Vec<u8>, Status>
-    ensures taken { IfOk result (λ text. FilesAccepted F.told files.old text.items (names_value names.entry.image.now names.entry.tree.now names.entry.schedule.now)) }
-    ensures refused { IfErr result (λ status. NotAccepted F.told F.faults files.old files.new status (names_value names.entry.image.now names.entry.tree.now names.entry.schedule.now)) }
+    requires range { IsInRange (to_run prints (run_from run.entry)) }
+    ensures taken { IfOk result (λ text. HasAccepted F.told files.old text.items (to_run prints (run_from run.entry))) }
+    ensures refused { IfErr result (λ status. NoRun F.told F.faults files.old files.new status (run_from run.entry)) }
 {
     let mut buffer = read_buffer(alloc)?;
-    let tree = tree_file(alloc, files, names.tree, &mut buffer)?;
-    let mut machine = image_file(alloc, files, names.image, &mut buffer, &tree)?;
-    let text = scheduled_text(
+    let tree = tree_file(alloc, files, run.tree, &mut buffer)?;
+    let mut machine = image_machine(alloc, files, run.image, &mut buffer, &tree)?;
+    let text = machine_text(
         alloc,
         files,
-        names.schedule,
+        run.turns,
         &mut buffer,
         &tree,
         &mut machine,
+        prints,
     );
     release(machine);
     text
 }
 
-// The text of a command, or the status without one.
+// The schedule of a seed for the tree of a file, or the status without it.
+fn list_text<F: Shelf>(
+    alloc: Global,
+    files: &mut F,
+    tree: &str,
+    seed: u64,
+    count: u32,
+) -> Result<Vec<u8>, Status>
+    ensures taken { IfOk result (λ text. HasAccepted F.told files.old text.items (to_list tree.now seed count)) }
+    ensures refused { IfErr result (TreeCause (F.told files.old tree.now) (F.faults files.old tree.now) (F.faults files.new tree.now)) }
+{
+    let mut buffer = read_buffer(alloc)?;
+    let tree = tree_file(alloc, files, tree, &mut buffer)?;
+    let turns = seeded(alloc, seed, count, &tree.nodes)?;
+    Ok(write_schedule(alloc, &turns)?)
+}
+
+// What a command prints, or the status without it.
+fn command_text<F: Shelf>(
+    alloc: Global,
+    files: &mut F,
+    command: Command<'_>,
+) -> Result<Vec<u8>, Status>
+    requires range { IsInRange (command_from command.entry) }
+    ensures taken { IfOk result (λ text. HasAccepted F.told files.old text.items (command_from command.entry)) }
+    ensures refused { IfErr result (λ status. NotAccepted F.told F.faults files.old files.new status (command_from command.entry)) }
+{
+    match command {
+        Command::Run(prints, run) => run_text(alloc, files, prints, run),
+        Command::List { tree, seed, count } => list_text(alloc, files, tree, seed, count),
+    }
+}
+
+// What the command of these words prints, or the status without it.
 fn text<F: Shelf>(alloc: Global, words: &[String], files: &mut F) -> Result<Vec<u8>, Status>
     ensures accepted { IfOk result (λ text. Accepted F.told (map string_bytes words.now) files.old text.items) }
     ensures refused { IfErr result (Refused F.told F.faults files.old files.new (map string_bytes words.now)) }
 {
-    match file_names(words) {
-        Ok(names) => files_text(alloc, names, files),
+    match command_said(words) {
+        Ok(command) => command_text(alloc, files, command),
         Err(place) => Err(Status::Usage(place)),
     }
 }
@@ -71,8 +111,8 @@ fn answer<F: Shelf, K: Sink>(alloc: Global, words: &[String], files: &mut F, out
     }
 }
 
-/// Runs a command: its text goes to `out`, and the line of a fault to `faults_out`. The tree is read first, then the
-/// image, then the schedule, and nothing is written before all three are read.
+/// Follows the words of a command: its text goes to `out`, and the line of a fault to `faults_out`. The tree is read first, then the
+/// image, then the schedule, and nothing is written before all that the command names is read.
 pub fn ddm_main<F: Shelf, K: Sink>(
     alloc: Global,
     words: &[String],

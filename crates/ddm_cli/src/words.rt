@@ -1,32 +1,171 @@
-ghost use Rattle.std.specs.Prelude.{◌≡◌, map, MatchResult, Ok, Err};
+ghost use Rattle.std.specs.Prelude.{◌≡◌, ◌≤◌, ◌<◌, ◌*◌, ◌+◌, map, length, Err, IfOk, IfSome, MatchResult, None, Ok, Some, option_and_then, slice_get};
 ghost use Rattle.std.specs.String.{string_bytes};
-ghost use Rattle.ddm_cli.specs.Words.{names_of};
+ghost use Rattle.ddm_cli.specs.Commands.{IsInRange, command_of, file_run, made_run, number_in, seed_list, seed_run};
+ghost use Rattle.ddm_cli.specs.Views.{command_from};
 
-/// The files that a command names.
-#[derive(Clone, Copy)]
-pub struct FileNames<'a> {
-    pub image: &'a str,
-    pub tree: &'a str,
-    pub schedule: &'a str,
+use crate::command::{Command, ImageSource, Prints, Run, TurnSource};
+use ddm_text::read_decimal;
+
+const MOST_TURNS: u64 = 1_048_576;
+
+const MOST_ROUNDS: u64 = 50_000;
+
+/// The number that a word spells, if it is at least and at most so much.
+#[tactic(auto, unfolding(crate::specs::Commands::number_in))]
+fn number_in(word: &str, least: u64, most: u64) -> Option<u64>
+    ensures number { result ≡ number_in least most word.now }
+    ensures least { IfSome result (λ n. least ≤ n) }
+    ensures most { IfSome result (λ n. n ≤ most) }
+{
+    match read_decimal(word.as_bytes(), most) {
+        Ok(n) if least <= n => Some(n),
+        _ => None,
+    }
 }
 
-/// The files that the words of a command name, or the index of the word at fault.
-pub fn file_names(words: &[String]) -> Result<FileNames<'_>, u32>
+/// The word at an index, or this index where there is none.
+fn word(words: &[String], k: usize) -> Result<&str, u32>
+    requires { k ≤ 4 }
     ensures { MatchResult result
-        (λ n. names_of (map string_bytes words.now) ≡ Ok (record { image = n.image.now; tree = n.tree.now; schedule = n.schedule.now }))
-        (λ k. names_of (map string_bytes words.now) ≡ Err k) }
+        (λ word. slice_get (map string_bytes words.now) k ≡ Some word.now)
+        (λ at. (at ≡ k) × (slice_get (map string_bytes words.now) k ≡ None)) }
 {
-    match words {
-        [] => Err(0),
-        [word, ..] if word.as_str() != "run" => Err(0),
-        [_] => Err(1),
-        [_, _] => Err(2),
-        [_, _, _] => Err(3),
-        [_, image, tree, schedule] => Ok(FileNames {
-            image: image.as_str(),
-            tree: tree.as_str(),
-            schedule: schedule.as_str(),
-        }),
-        _ => Err(4),
+    match words.get(k) {
+        Some(word) => Ok(word.as_str()),
+        None => Err(k as u32),
+    }
+}
+
+/// The number that the word there spells.
+fn number(words: &[String], k: usize, least: u64, most: u64) -> Result<u64, u32>
+    requires { k ≤ 4 }
+    ensures is { MatchResult result
+        (λ n. option_and_then (number_in least most) (slice_get (map string_bytes words.now) k) ≡ Some n)
+        (λ at. (at ≡ k) × (option_and_then (number_in least most) (slice_get (map string_bytes words.now) k) ≡ None)) }
+    ensures least { IfOk result (λ n. least ≤ n) }
+    ensures most { IfOk result (λ n. n ≤ most) }
+{
+    number_in(word(words, k)?, least, most).ok_or(k as u32)
+}
+
+/// A number of at most 32 bits.
+fn small_number(words: &[String], k: usize, least: u64, most: u64) -> Result<u32, u32>
+    requires index { k ≤ 4 }
+    requires small { most ≤ 1048576 }
+    ensures is { MatchResult result
+        (λ n. option_and_then (number_in least most) (slice_get (map string_bytes words.now) k) ≡ Some n)
+        (λ at. (at ≡ k) × (option_and_then (number_in least most) (slice_get (map string_bytes words.now) k) ≡ None)) }
+    ensures least { IfOk result (λ n. least ≤ n) }
+    ensures most { IfOk result (λ n. n ≤ most) }
+{
+    Ok(number(words, k, least, most)? as u32)
+}
+
+/// `run IMAGE TREE SCHEDULE` and `trace IMAGE TREE SCHEDULE`.
+#[tactic(auto, unfolding(crate::specs::Commands::file_run))]
+fn file_run(words: &[String], prints: Prints) -> Result<Command<'_>, u32>
+    ensures is { MatchResult result
+        (λ c. file_run prints (map string_bytes words.now) ≡ Ok (command_from c))
+        (λ k. file_run prints (map string_bytes words.now) ≡ Err k) }
+    ensures range { IfOk result (λ c. IsInRange (command_from c)) }
+{
+    let image = word(words, 1)?;
+    let tree = word(words, 2)?;
+    let schedule = word(words, 3)?;
+    if words.len() > 4 {
+        return Err(4);
+    }
+    Ok(Command::Run(
+        prints,
+        Run {
+            image: ImageSource::File(image),
+            tree,
+            turns: TurnSource::File(schedule),
+        },
+    ))
+}
+
+/// `seed IMAGE TREE SEED TURNS`.
+#[tactic(auto, unfolding(crate::specs::Commands::seed_run))]
+fn seed_run(words: &[String]) -> Result<Command<'_>, u32>
+    ensures is { MatchResult result
+        (λ c. seed_run (map string_bytes words.now) ≡ Ok (command_from c))
+        (λ k. seed_run (map string_bytes words.now) ≡ Err k) }
+    ensures range { IfOk result (λ c. IsInRange (command_from c)) }
+{
+    let image = word(words, 1)?;
+    let tree = word(words, 2)?;
+    let seed = number(words, 3, 0, u64::MAX)?;
+    let count = small_number(words, 4, 0, MOST_TURNS)?;
+    if words.len() > 5 {
+        return Err(5);
+    }
+    Ok(Command::Run(
+        Prints::Report,
+        Run {
+            image: ImageSource::File(image),
+            tree,
+            turns: TurnSource::Seeded { seed, count },
+        },
+    ))
+}
+
+/// `schedule TREE SEED TURNS`.
+#[tactic(auto, unfolding(crate::specs::Commands::seed_list))]
+fn seed_list(words: &[String]) -> Result<Command<'_>, u32>
+    ensures is { MatchResult result
+        (λ c. seed_list (map string_bytes words.now) ≡ Ok (command_from c))
+        (λ k. seed_list (map string_bytes words.now) ≡ Err k) }
+    ensures range { IfOk result (λ c. IsInRange (command_from c)) }
+{
+    let tree = word(words, 1)?;
+    let seed = number(words, 2, 0, u64::MAX)?;
+    let count = small_number(words, 3, 0, MOST_TURNS)?;
+    if words.len() > 4 {
+        return Err(4);
+    }
+    Ok(Command::List { tree, seed, count })
+}
+
+/// `make SEED ROUNDS TREE`.
+#[tactic(auto, unfolding(crate::specs::Commands::made_run))]
+fn made_run(words: &[String]) -> Result<Command<'_>, u32>
+    ensures is { MatchResult result
+        (λ c. made_run (map string_bytes words.now) ≡ Ok (command_from c))
+        (λ k. made_run (map string_bytes words.now) ≡ Err k) }
+    ensures range { IfOk result (λ c. IsInRange (command_from c)) }
+{
+    let seed = number(words, 1, 0, u64::MAX)?;
+    let rounds = small_number(words, 2, 1, MOST_ROUNDS)?;
+    let tree = word(words, 3)?;
+    if words.len() > 4 {
+        return Err(4);
+    }
+    let count = 20 * rounds + 1000;
+    Ok(Command::Run(
+        Prints::Summary,
+        Run {
+            image: ImageSource::Made { seed, rounds },
+            tree,
+            turns: TurnSource::Seeded { seed, count },
+        },
+    ))
+}
+
+/// The command that the words say, or the index of the first word at fault or of the first that is missing.
+#[tactic(auto, unfolding(crate::specs::Commands::command_of))]
+pub fn command_said(words: &[String]) -> Result<Command<'_>, u32>
+    ensures is { MatchResult result
+        (λ c. command_of (map string_bytes words.now) ≡ Ok (command_from c))
+        (λ k. command_of (map string_bytes words.now) ≡ Err k) }
+    ensures range { IfOk result (λ c. IsInRange (command_from c)) }
+{
+    match word(words, 0)? {
+        "run" => file_run(words, Prints::Report),
+        "trace" => file_run(words, Prints::Trace),
+        "seed" => seed_run(words),
+        "schedule" => seed_list(words),
+        "make" => made_run(words),
+        _ => Err(0),
     }
 }

@@ -1,6 +1,5 @@
 pub mod ItemWords
 pub mod ByteAt
-pub mod RunMore
 pub mod Sizes
 pub mod Spans
 pub mod Built

@@ -3,20 +3,17 @@
 
 mod any;
 mod contents;
-mod counting;
 mod depths;
 mod harts;
 mod leaves;
-mod machine;
 mod memory;
 mod refusal;
-mod running;
 mod stacks;
 mod tree;
 mod trees;
 
 pub use any::build;
-pub use machine::{AnyMachine, Machines};
+pub use any_machine::{AnyMachine, Depths, Machines, release, run};
+pub use made_image::make_image;
 pub use refusal::BuildRefusal;
-pub use running::run;
 pub use trees::{start_leaves, start_machine};

@@ -3,3 +3,4 @@ pub mod Cuts
 pub mod FirstLines
 pub mod Readers
 pub mod Cuttings
+pub mod SeedTurns

@@ -12,7 +12,7 @@ abbrev pub turns_on : ShapeView → Lcg → ℕ → List Turn
 turns_on shape g n = turns_of_words shape (words_of g (2 * n))
 
 -- a turn, and those behind it
-first_turn : (shape : ShapeView) (g : Lcg) (n : ℕ) → turns_on shape g (suc n) ≡ (let a = pcg32 g in let b = pcg32 a.1 in seeded_turn shape a.0 b.0 ∷ turns_on shape b.1 n)
+pub first_turn : (shape : ShapeView) (g : Lcg) (n : ℕ) → turns_on shape g (suc n) ≡ (let a = pcg32 g in let b = pcg32 a.1 in seeded_turn shape a.0 b.0 ∷ turns_on shape b.1 n)
 unfolding turns_of_words words_of
 first_turn shape g n =
     let two : 2 * suc n ≡ suc (suc (2 * n)) = omega arith in

@@ -1,4 +1,6 @@
-ghost use Rattle.std.specs.Prelude.{◌≡◌, ◌≤◌, ◌<◌, ◌+◌, ◌*◌, IfOk};
+ghost use Rattle.std.specs.Prelude.{◌≡◌, ◌≤◌, ◌<◌, ◌+◌, ◌*◌, length, All, IfOk};
+ghost use Rattle.tree_config.specs.Levels.{leaves_of, widths_of};
+ghost use Rattle.text_model.specs.ReadBack.{IsTurnOf};
 ghost use Rattle.text_model.specs.Seeded.{bus_turn_from, seeded_turn, seeded_turns};
 ghost use Rattle.schedule_log.specs.Shapes.{shape_view};
 
@@ -38,19 +40,21 @@ fn bus_turn(bus: BusNo, children: u32, choice: u8, source: u32) -> Turn
     }
 }
 
-// The turn of two words of the generator.
+// The turn of two words of the generator, for a tree with this many harts and buses.
 #[tactic(auto, unfolding(text_model::specs::Seeded::seeded_turn))]
-fn seeded_turn(shape: &Shape, a: u32, b: u32) -> Turn
+fn seeded_turn(shape: &Shape, harts: u32, buses: u32, a: u32, b: u32) -> Turn
+    requires harts { harts ≡ leaves_of shape.now }
+    requires buses { buses ≡ length (widths_of shape.now) }
+    requires some_harts { 1 ≤ harts }
+    requires some_buses { 1 ≤ buses }
     ensures { result ≡ seeded_turn (shape_view shape.now) a b }
 {
     if a % 4 < 2 {
-        let harts = shape.harts();
         Turn::Hart {
             hart: HartNo(b % harts),
             victim: (b / harts % 256) as u8,
         }
     } else {
-        let buses = shape.buses();
         let bus = BusNo(b % buses);
         let children = shape.children(bus).unwrap_or(0);
         bus_turn(
@@ -62,17 +66,21 @@ fn seeded_turn(shape: &Shape, a: u32, b: u32) -> Turn
     }
 }
 
-/// The schedule of a seed: so many turns, each of two words of the generator.
+/// The schedule of a seed: so many turns, each of two words of the generator, and each of a part of the tree.
 pub fn seeded(alloc: Global, seed: u64, turns: u32, shape: &Shape) -> Result<Vec<Turn>, NoMemory>
-    ensures { IfOk result (λ list. list.items ≡ seeded_turns (shape_view shape.now) seed turns) }
+    ensures turns { IfOk result (λ list. list.items ≡ seeded_turns (shape_view shape.now) seed turns) }
+    ensures known { IfOk result (λ list. All (IsTurnOf (shape_view shape.now)) list.items) }
+    ensures count { IfOk result (λ list. length list.items ≡ turns) }
 {
+    let harts = shape.harts();
+    let buses = shape.buses();
     let mut words = Pcg32::new(seed, STREAM);
     let mut list = Vec::new(alloc);
     for turn in 0..turns {
         let _ = turn;
         let a = words.next_word();
         let b = words.next_word();
-        list.push(seeded_turn(shape, a, b))?;
+        list.push(seeded_turn(shape, harts, buses, a, b))?;
     }
     Ok(list)
 }

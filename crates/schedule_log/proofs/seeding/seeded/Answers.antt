@@ -1,7 +1,10 @@
-use Rattle.std.proofs.Common.{◌+◌, ◌-◌, List, [], ◌∷◌, ◌++◌, ap, ◌∙◌, arith}
+use Rattle.std.proofs.Common.{◌+◌, ◌-◌, ◌<◌, List, [], ◌∷◌, ◌++◌, length, ap, sym, subst, ◌∙◌, arith}
+use Rattle.std.specs.Prelude.{All}
 use Rattle.ddm_types.specs.declared.turns.Turn.{Turn}
 use Rattle.rand_pcg.specs.Lcg.{Lcg}
+use Rattle.text_model.specs.ReadBack.{IsTurnOf}
 use Rattle.schedule_log.specs.Shapes.{shape_view}
+use Rattle.schedule_log.proofs.SeedTurns.{seeded_count, seeded_known}
 use Rattle.schedule_log.proofs.Seeds.{seeded_none, seeded_more, seeded_all, turns_on}
 use Rattle.schedule_log.proofs.seeding.seeded.Goals as goal
 
@@ -19,5 +22,18 @@ loop-turn-preserved c =
     ap (λ (turns : List Turn). turns ++ rest) (c.in_ok-push.ensures.items ∙ ap (λ turn. c.loop-turn.list.items ++ turn ∷ []) c.seeded_turn.ensures)
     ∙ seeded_more shape c.loop-turn.words c.next_word-a.new.self c.next_word-b.new.self c.next_word-a.result c.next_word-b.result c.args.turns c.loop-turn.turn c.loop-turn.list.items _ (omega (arith, c.loop-turn-test.true)) c.next_word-a.ensures c.next_word-b.ensures c.loop-turn.invariant
 
-pub returns : goal.returns
-returns c = seeded_all (shape_view c.args.shape.now) c.loop-turn.words c.args.turns c.loop-turn.turn _ _ (omega arith) c.loop-turn.invariant
+pub returns-clause-turns : goal.returns-clause-turns
+returns-clause-turns c = seeded_all (shape_view c.args.shape.now) c.loop-turn.words c.args.turns c.loop-turn.turn _ _ (omega arith) c.loop-turn.invariant
+
+pub returns-clause-known : goal.returns-clause-known
+returns-clause-known c =
+    let shape = shape_view c.args.shape.now in
+    let all = seeded_all shape c.loop-turn.words c.args.turns c.loop-turn.turn _ _ (omega arith) c.loop-turn.invariant in
+    let harts : 0 < shape.harts = omega (arith, c.harts-harts.ensures.some, c.harts-harts.ensures.leaves) in
+    let buses : 0 < length shape.buses = omega (arith, c.buses-buses.ensures.some, c.buses-buses.ensures.buses) in
+    subst (All (IsTurnOf shape)) (sym all) (seeded_known shape harts buses c.args.seed c.args.turns)
+
+pub returns-clause-count : goal.returns-clause-count
+returns-clause-count c =
+    let shape = shape_view c.args.shape.now in
+    ap length (seeded_all shape c.loop-turn.words c.args.turns c.loop-turn.turn _ _ (omega arith) c.loop-turn.invariant) ∙ seeded_count shape c.args.seed c.args.turns

@@ -2,11 +2,11 @@ ghost use Rattle.std.specs.Prelude.{◌≡◌, ◌+◌, ◌<◌, ◌≤◌, ◌+
 ghost use Rattle.tree_model.specs.Turns.Machine.{names_part, turn_of};
 ghost use Rattle.text_model.specs.Run.{counted_answer};
 ghost use Rattle.ddm_tree.specs.Machine.{state_after};
-ghost use Rattle.run_engine.specs.Any.{machine_state, state_in};
-ghost use Rattle.run_engine.specs.Run.{AreBelow, CanRun, NameParts, answers_in, counts_in, ran, with_room};
+ghost use Rattle.any_machine.specs.Any.{depths_state, machine_state, state_in};
+ghost use Rattle.any_machine.specs.Run.{AreBelow, CanRun, NameParts, answers_in, counts_in, ran, with_room};
 
 use crate::counting::{count, no_counts};
-use crate::machine::{AnyMachine, Machines};
+use crate::machine::{AnyMachine, Depths, Machines};
 use ddm_tree::{Dir, Machine, Subtree};
 use ddm_types::{NoMemory, Turn, TurnAnswer};
 use text_model::RunCounts;
@@ -116,7 +116,30 @@ fn run_over<const WORDS: usize, C: Subtree<WORDS>>(
     run_reserved(machine, turns, answers, keep)
 }
 
-/// The same, whatever the depth and the ways.
+/// The same, whatever the depth.
+fn run_depths<const WAYS: usize, const WORDS: usize>(
+    machine: &mut Depths<WAYS, WORDS>,
+    turns: &[Turn],
+    answers: &mut Vec<TurnAnswer>,
+    keep: bool,
+) -> Result<RunCounts, NoMemory>
+    requires named { NameParts turns.now (depths_state machine.old).machine }
+    requires few { CanRun turns.now (depths_state machine.old) }
+    ensures after { OnOk result (depths_state machine.new ≡ ran turns.now (with_room (length turns.now) (depths_state machine.old))) }
+    ensures counts { IfOk result (λ counts. counts ≡ counts_in turns.now (depths_state machine.old)) }
+    ensures answers { OnOk result (answers.new.items ≡ (if keep then answers.old.items ++ answers_in turns.now (depths_state machine.old) else answers.old.items)) }
+    ensures same { OnErr result (depths_state machine.new ≡ depths_state machine.old) }
+    ensures kept { OnErr result (answers.new.items ≡ answers.old.items) }
+{
+    match machine {
+        Depths::D1(machine) => run_reserved(machine, turns, answers, keep),
+        Depths::D2(machine) => run_reserved(machine, turns, answers, keep),
+        Depths::D3(machine) => run_over(machine, turns, answers, keep),
+        Depths::D4(machine) => run_over(machine, turns, answers, keep),
+    }
+}
+
+/// The same, whatever the ways.
 fn run_machines<const WORDS: usize>(
     machine: &mut Machines<WORDS>,
     turns: &[Turn],
@@ -132,18 +155,9 @@ fn run_machines<const WORDS: usize>(
     ensures kept { OnErr result (answers.new.items ≡ answers.old.items) }
 {
     match machine {
-        Machines::D1W1(machine) => run_reserved(machine, turns, answers, keep),
-        Machines::D1W2(machine) => run_reserved(machine, turns, answers, keep),
-        Machines::D1W4(machine) => run_reserved(machine, turns, answers, keep),
-        Machines::D2W1(machine) => run_reserved(machine, turns, answers, keep),
-        Machines::D2W2(machine) => run_reserved(machine, turns, answers, keep),
-        Machines::D2W4(machine) => run_reserved(machine, turns, answers, keep),
-        Machines::D3W1(machine) => run_over(machine, turns, answers, keep),
-        Machines::D3W2(machine) => run_over(machine, turns, answers, keep),
-        Machines::D3W4(machine) => run_over(machine, turns, answers, keep),
-        Machines::D4W1(machine) => run_over(machine, turns, answers, keep),
-        Machines::D4W2(machine) => run_over(machine, turns, answers, keep),
-        Machines::D4W4(machine) => run_over(machine, turns, answers, keep),
+        Machines::W1(machine) => run_depths(machine, turns, answers, keep),
+        Machines::W2(machine) => run_depths(machine, turns, answers, keep),
+        Machines::W4(machine) => run_depths(machine, turns, answers, keep),
     }
 }
 

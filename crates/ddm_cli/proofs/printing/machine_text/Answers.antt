@@ -5,15 +5,15 @@ use Rattle.tree_model.specs.Start.Sources.{TreeValue}
 use Rattle.text_model.specs.ReadBack.{GivesTurnsOf}
 use Rattle.schedule_log.specs.Shapes.{shape_view}
 use Rattle.ddm_tree.specs.Machine.{MachineState}
-use Rattle.run_engine.specs.Any.{machine_state}
-use Rattle.run_engine.specs.Run.{NameParts}
+use Rattle.any_machine.specs.Any.{machine_state}
+use Rattle.any_machine.specs.Run.{NameParts}
 use Rattle.ddm_cli.specs.Causes.{AcceptedAs}
 use Rattle.ddm_cli.specs.Parts.{turns_at}
 use Rattle.tree_model.specs.Turns.Machine.{run_of}
 use Rattle.witness_order.specs.Order.{HaveOtherKeys}
 use Rattle.ddm_cli.proofs.OtherKeys.{run_keys}
 use Rattle.ddm_cli.proofs.StartNames.{named_parts}
-use Rattle.ddm_cli.proofs.answer.scheduled_text.Goals as goal
+use Rattle.ddm_cli.proofs.printing.machine_text.Goals as goal
 
 pub ran_text-requires-clause-named : goal.ran_text-requires-clause-named
 ran_text-requires-clause-named g c =

@@ -1,10 +1,10 @@
 use Rattle.std.proofs.Common.{◌≤◌, arith}
 use Rattle.std.proofs.lemmas.Result.{IfErr-weaker, IfOk-weaker}
-use Rattle.run_engine.specs.Any.{machine_state}
+use Rattle.any_machine.specs.Any.{machine_state}
 use Rattle.ddm_cli.specs.Words.{names_value}
 use Rattle.ddm_cli.proofs.Causes.{takes_parts}
 use Rattle.ddm_cli.proofs.Taken.{all_taken, schedule_refused}
-use Rattle.ddm_cli.proofs.top.files_text.Goals as goal
+use Rattle.ddm_cli.proofs.top.run_text.Goals as goal
 
 pub returns-clause-taken : goal.returns-clause-taken
 returns-clause-taken g c =

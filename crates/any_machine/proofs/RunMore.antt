@@ -11,7 +11,7 @@ use Rattle.text_model.specs.declared.RunCounts.{RunCounts}
 use Rattle.text_model.specs.Run.{counted_answer, counts_of, no_counts}
 use Rattle.ddm_tree.specs.Machine.{MachineState, spare_after, state_after}
 use Rattle.start_parts.proofs.Names.{run-names}
-use Rattle.run_engine.specs.Run.{AreBelow, CanRun, NameParts, answers_in, counts_in, ran}
+use Rattle.any_machine.specs.Run.{AreBelow, CanRun, NameParts, answers_in, counts_in, ran}
 
 -- ---- the tables' run
 

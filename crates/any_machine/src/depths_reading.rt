@@ -1,0 +1,157 @@
+ghost use Rattle.std.specs.Prelude.{◌≡◌, ◌<◌, ◌≤◌, Some, true};
+ghost use Rattle.ddm_types.specs.ItemTable.{item_count};
+ghost use Rattle.tree_model.specs.State.Shape.{IsShaped, tree_counts};
+ghost use Rattle.tree_model.specs.Turns.Found.{found_copy};
+ghost use Rattle.tree_model.specs.Turns.Tree.{leaf_of_number};
+ghost use Rattle.ddm_tree.specs.Machine.{is_part};
+ghost use Rattle.ddm_tree.specs.Reads.{counted_hart_of};
+ghost use Rattle.inspector.specs.States.{state_of};
+ghost use Rattle.any_machine.specs.Any.{depths_state};
+
+use crate::machine::Depths;
+use ddm_tree::{Dir, Found, Machine, Subtree};
+use ddm_types::{HartNo, ItemId, Items, LeafNo, LeafState, Op, TreeCounts};
+use inspector::{find, state};
+use rv_hart::Hart;
+use tree_model::Traffic;
+
+// Each call below has one for machines whose directories under bus 0 are over these children: a check of three types within one
+// another is beyond its limits.
+
+fn counts_over<const WORDS: usize, C: Subtree<WORDS>>(machine: &Machine<WORDS, Dir<WORDS, C>>) -> TreeCounts
+    ensures counts { result ≡ tree_counts machine.now.machine }
+    ensures shape { IsShaped machine.now.machine }
+{
+    machine.counts()
+}
+
+fn items_over<const WORDS: usize, C: Subtree<WORDS>>(machine: &Machine<WORDS, Dir<WORDS, C>>) -> &Items
+    ensures { result.now ≡ machine.now.machine.items }
+{
+    machine.items()
+}
+
+fn ops_over<const WORDS: usize, C: Subtree<WORDS>>(machine: &Machine<WORDS, Dir<WORDS, C>>) -> &[Op]
+    ensures { result.now ≡ machine.now.machine.ops }
+{
+    machine.ops()
+}
+
+fn traffic_over<const WORDS: usize, C: Subtree<WORDS>>(machine: &Machine<WORDS, Dir<WORDS, C>>) -> &[Traffic]
+    ensures { result.now ≡ machine.now.machine.traffic }
+{
+    machine.traffic()
+}
+
+fn hart_over<const WORDS: usize, C: Subtree<WORDS>>(machine: &Machine<WORDS, Dir<WORDS, C>>, hart: HartNo) -> &Hart
+    requires { is_part (leaf_of_number hart) machine.now.machine ≡ true }
+    ensures { Some result.now ≡ counted_hart_of hart machine.now.machine }
+{
+    machine.hart(hart)
+}
+
+fn find_over<const WORDS: usize, C: Subtree<WORDS>>(machine: &Machine<WORDS, Dir<WORDS, C>>, item: ItemId) -> Option<Found<WORDS>>
+    requires { item < item_count machine.now.machine.items }
+    ensures { result ≡ found_copy item machine.now.machine }
+{
+    find(machine, item)
+}
+
+fn state_over<const WORDS: usize, C: Subtree<WORDS>>(machine: &Machine<WORDS, Dir<WORDS, C>>, item: ItemId, leaf: LeafNo) -> Option<LeafState>
+    requires small { WORDS ≤ 16 }
+    requires leaf { is_part (leaf_of_number leaf) machine.now.machine ≡ true }
+    requires item { item < item_count machine.now.machine.items }
+    ensures { Some result ≡ state_of leaf item machine.now.machine }
+{
+    state(machine, item, leaf)
+}
+
+impl<const WAYS: usize, const WORDS: usize> Depths<WAYS, WORDS> {
+    /// How many leaves, buses and levels of buses the tree has.
+    pub fn counts(&self) -> TreeCounts
+        ensures counts { result ≡ tree_counts (depths_state self.now).machine }
+        ensures shape { IsShaped (depths_state self.now).machine }
+    {
+        match self {
+            Depths::D1(machine) => machine.counts(),
+            Depths::D2(machine) => machine.counts(),
+            Depths::D3(machine) => counts_over(machine),
+            Depths::D4(machine) => counts_over(machine),
+        }
+    }
+
+    pub fn items(&self) -> &Items
+        ensures { result.now ≡ (depths_state self.now).machine.items }
+    {
+        match self {
+            Depths::D1(machine) => machine.items(),
+            Depths::D2(machine) => machine.items(),
+            Depths::D3(machine) => items_over(machine),
+            Depths::D4(machine) => items_over(machine),
+        }
+    }
+
+    /// The operations, in order of completion.
+    pub fn ops(&self) -> &[Op]
+        ensures { result.now ≡ (depths_state self.now).machine.ops }
+    {
+        match self {
+            Depths::D1(machine) => machine.ops(),
+            Depths::D2(machine) => machine.ops(),
+            Depths::D3(machine) => ops_over(machine),
+            Depths::D4(machine) => ops_over(machine),
+        }
+    }
+
+    /// For each bus how many transactions of each kind it has granted.
+    pub fn traffic(&self) -> &[Traffic]
+        ensures { result.now ≡ (depths_state self.now).machine.traffic }
+    {
+        match self {
+            Depths::D1(machine) => machine.traffic(),
+            Depths::D2(machine) => machine.traffic(),
+            Depths::D3(machine) => traffic_over(machine),
+            Depths::D4(machine) => traffic_over(machine),
+        }
+    }
+
+    pub fn hart(&self, hart: HartNo) -> &Hart
+        requires { is_part (leaf_of_number hart) (depths_state self.now).machine ≡ true }
+        ensures { Some result.now ≡ counted_hart_of hart (depths_state self.now).machine }
+    {
+        match self {
+            Depths::D1(machine) => machine.hart(hart),
+            Depths::D2(machine) => machine.hart(hart),
+            Depths::D3(machine) => hart_over(machine, hart),
+            Depths::D4(machine) => hart_over(machine, hart),
+        }
+    }
+
+    /// The current copy of an item.
+    pub fn find(&self, item: ItemId) -> Option<Found<WORDS>>
+        requires { item < item_count (depths_state self.now).machine.items }
+        ensures { result ≡ found_copy item (depths_state self.now).machine }
+    {
+        match self {
+            Depths::D1(machine) => find(machine, item),
+            Depths::D2(machine) => find(machine, item),
+            Depths::D3(machine) => find_over(machine, item),
+            Depths::D4(machine) => find_over(machine, item),
+        }
+    }
+
+    /// The state of a leaf's entry of an item.
+    pub fn state(&self, item: ItemId, leaf: LeafNo) -> Option<LeafState>
+        requires small { WORDS ≤ 16 }
+        requires leaf { is_part (leaf_of_number leaf) (depths_state self.now).machine ≡ true }
+        requires item { item < item_count (depths_state self.now).machine.items }
+        ensures { Some result ≡ state_of leaf item (depths_state self.now).machine }
+    {
+        match self {
+            Depths::D1(machine) => state(machine, item, leaf),
+            Depths::D2(machine) => state(machine, item, leaf),
+            Depths::D3(machine) => state_over(machine, item, leaf),
+            Depths::D4(machine) => state_over(machine, item, leaf),
+        }
+    }
+}

@@ -1,0 +1,14 @@
+//! A machine of any tree as one type: one to four levels of buses, leaves of one, two or four ways, items of 16 or 64 bytes, with
+//! the calls of one machine. What has to be said for each kind stands here and nowhere else.
+#![tactic(auto)]
+
+mod counting;
+mod depths_reading;
+mod machine;
+mod reading;
+mod releasing;
+mod running;
+
+pub use machine::{AnyMachine, Depths, Machines};
+pub use releasing::release;
+pub use running::run;

@@ -1,0 +1,98 @@
+ghost use Rattle.std.specs.Prelude.{◌≡◌, ◌<◌, ◌≤◌, Some, true};
+ghost use Rattle.ddm_types.specs.ItemTable.{item_count};
+ghost use Rattle.tree_model.specs.State.Shape.{IsShaped, tree_counts};
+ghost use Rattle.tree_model.specs.Turns.Found.{found_copy};
+ghost use Rattle.tree_model.specs.Turns.Tree.{leaf_of_number};
+ghost use Rattle.ddm_tree.specs.Machine.{is_part};
+ghost use Rattle.ddm_tree.specs.Reads.{counted_hart_of};
+ghost use Rattle.inspector.specs.States.{state_of};
+ghost use Rattle.any_machine.specs.Any.{state_in};
+
+use crate::machine::Machines;
+use ddm_tree::Found;
+use ddm_types::{HartNo, ItemId, Items, LeafNo, LeafState, Op, TreeCounts};
+use rv_hart::Hart;
+use tree_model::Traffic;
+
+impl<const WORDS: usize> Machines<WORDS> {
+    /// How many leaves, buses and levels of buses the tree has.
+    pub fn counts(&self) -> TreeCounts
+        ensures counts { result ≡ tree_counts (state_in self.now).machine }
+        ensures shape { IsShaped (state_in self.now).machine }
+    {
+        match self {
+            Machines::W1(machine) => machine.counts(),
+            Machines::W2(machine) => machine.counts(),
+            Machines::W4(machine) => machine.counts(),
+        }
+    }
+
+    pub fn items(&self) -> &Items
+        ensures { result.now ≡ (state_in self.now).machine.items }
+    {
+        match self {
+            Machines::W1(machine) => machine.items(),
+            Machines::W2(machine) => machine.items(),
+            Machines::W4(machine) => machine.items(),
+        }
+    }
+
+    /// The operations, in order of completion.
+    pub fn ops(&self) -> &[Op]
+        ensures { result.now ≡ (state_in self.now).machine.ops }
+    {
+        match self {
+            Machines::W1(machine) => machine.ops(),
+            Machines::W2(machine) => machine.ops(),
+            Machines::W4(machine) => machine.ops(),
+        }
+    }
+
+    /// For each bus how many transactions of each kind it has granted.
+    pub fn traffic(&self) -> &[Traffic]
+        ensures { result.now ≡ (state_in self.now).machine.traffic }
+    {
+        match self {
+            Machines::W1(machine) => machine.traffic(),
+            Machines::W2(machine) => machine.traffic(),
+            Machines::W4(machine) => machine.traffic(),
+        }
+    }
+
+    pub fn hart(&self, hart: HartNo) -> &Hart
+        requires { is_part (leaf_of_number hart) (state_in self.now).machine ≡ true }
+        ensures { Some result.now ≡ counted_hart_of hart (state_in self.now).machine }
+    {
+        match self {
+            Machines::W1(machine) => machine.hart(hart),
+            Machines::W2(machine) => machine.hart(hart),
+            Machines::W4(machine) => machine.hart(hart),
+        }
+    }
+
+    /// The current copy of an item.
+    pub fn find(&self, item: ItemId) -> Option<Found<WORDS>>
+        requires { item < item_count (state_in self.now).machine.items }
+        ensures { result ≡ found_copy item (state_in self.now).machine }
+    {
+        match self {
+            Machines::W1(machine) => machine.find(item),
+            Machines::W2(machine) => machine.find(item),
+            Machines::W4(machine) => machine.find(item),
+        }
+    }
+
+    /// The state of a leaf's entry of an item.
+    pub fn state(&self, item: ItemId, leaf: LeafNo) -> Option<LeafState>
+        requires small { WORDS ≤ 16 }
+        requires leaf { is_part (leaf_of_number leaf) (state_in self.now).machine ≡ true }
+        requires item { item < item_count (state_in self.now).machine.items }
+        ensures { Some result ≡ state_of leaf item (state_in self.now).machine }
+    {
+        match self {
+            Machines::W1(machine) => machine.state(item, leaf),
+            Machines::W2(machine) => machine.state(item, leaf),
+            Machines::W4(machine) => machine.state(item, leaf),
+        }
+    }
+}

@@ -1,0 +1,114 @@
+-- The commands, and the words that say them.
+-- Letters: k is the index of a word, counted from 0.
+-- To be believed with the contracts: they speak of it.
+use Rattle.std.specs.Prelude.{ℕ, ◌+◌, ◌*◌, ◌≤◌, nat_le, nat_lt, List, [], ◌∷◌, length, Result, Ok, Err, Option, Some, None, slice_get, option_and_then, if◌then◌else◌, bytes_eq, codes}
+use Rattle.std.specs.Result.{result_ok}
+use Rattle.ddm_text.specs.Numbers.{number_of}
+use Rattle.ddm_cli.specs.declared.command.Prints.{Prints}
+use Rattle.ddm_cli.specs.declared.command.Prints.TheVariants.{Report, Trace, Summary}
+
+-- ---- what a command is
+
+-- where an image comes from: a file of this name, or the random program of a seed with so many rounds
+pub data ImageFrom : Type 0 where
+  image_named : List ℕ → ImageFrom
+  image_made : ℕ → ℕ → ImageFrom
+
+-- where turns come from: a schedule file of this name, or a seed that gives so many
+pub data TurnsFrom : Type 0 where
+  schedule_named : List ℕ → TurnsFrom
+  turns_seeded : ℕ → ℕ → TurnsFrom
+
+-- what is made has 1 to 50,000 rounds
+abbrev pub IsMakeable : ImageFrom → Type 0
+IsMakeable (image_named name) = Unit {0}
+IsMakeable (image_made seed rounds) = (1 ≤ rounds) × (rounds ≤ 50000)
+
+-- and there are few enough turns
+abbrev pub AreFew : TurnsFrom → Type 0
+AreFew (schedule_named name) = Unit {0}
+AreFew (turns_seeded seed count) = count ≤ 1048576
+
+-- what a machine is made of and which turns it makes
+pub record Run : Type 0 where
+  pub image : ImageFrom
+  pub tree : List ℕ
+  pub turns : TurnsFrom
+
+pub data Command : Type 0 where
+  -- to run a machine and print this of it
+  to_run : Prints → Run → Command
+  -- to print the schedule of a seed, so many turns for the tree of this file
+  to_list : List ℕ → ℕ → ℕ → Command
+
+abbrev run_value : ImageFrom → List ℕ → TurnsFrom → Run
+run_value image tree turns = record { image = image; tree = tree; turns = turns }
+
+-- its numbers are in their ranges
+abbrev pub IsInRange : Command → Type 0
+IsInRange (to_run prints r) = IsMakeable r.image × AreFew r.turns
+IsInRange (to_list tree seed count) = count ≤ 1048576
+
+-- ---- words in their order: the command that they say, or the index of the first word at fault or of the first that is missing
+
+-- the number that a word spells, from the least to the most
+unfoldable pub number_in : ℕ → ℕ → List ℕ → Option ℕ
+number_in least most word = option_and_then (λ n. if nat_le least n then Some n else None) (result_ok (number_of word most))
+
+-- on with what was found at this index
+abbrev pub on_found : {A : Type 0} → ℕ → Option A → (A → Result Command ℕ) → Result Command ℕ
+on_found k None next = Err k
+on_found k (Some a) next = next a
+
+-- on with the word there
+abbrev pub word_at : List (List ℕ) → ℕ → (List ℕ → Result Command ℕ) → Result Command ℕ
+word_at words k next = on_found k (slice_get words k) next
+
+-- on with the number there
+abbrev pub number_at : List (List ℕ) → ℕ → ℕ → ℕ → (ℕ → Result Command ℕ) → Result Command ℕ
+number_at words k least most next = on_found k (option_and_then (number_in least most) (slice_get words k)) next
+
+abbrev pub seed_at : List (List ℕ) → ℕ → (ℕ → Result Command ℕ) → Result Command ℕ
+seed_at words k next = number_at words k 0 18446744073709551615 next
+
+abbrev pub count_at : List (List ℕ) → ℕ → (ℕ → Result Command ℕ) → Result Command ℕ
+count_at words k next = number_at words k 0 1048576 next
+
+-- there are just so many words
+abbrev pub ends_at : List (List ℕ) → ℕ → Command → Result Command ℕ
+ends_at words k command = if nat_lt k (length words) then Err k else Ok command
+
+-- run IMAGE TREE SCHEDULE, and trace IMAGE TREE SCHEDULE
+unfoldable pub file_run : Prints → List (List ℕ) → Result Command ℕ
+file_run prints words =
+    word_at words 1 (λ image. word_at words 2 (λ tree. word_at words 3 (λ schedule.
+    ends_at words 4 (to_run prints (run_value (image_named image) tree (schedule_named schedule))))))
+
+-- seed IMAGE TREE SEED TURNS
+unfoldable pub seed_run : List (List ℕ) → Result Command ℕ
+seed_run words =
+    word_at words 1 (λ image. word_at words 2 (λ tree. seed_at words 3 (λ seed. count_at words 4 (λ count.
+    ends_at words 5 (to_run Report (run_value (image_named image) tree (turns_seeded seed count)))))))
+
+-- schedule TREE SEED TURNS
+unfoldable pub seed_list : List (List ℕ) → Result Command ℕ
+seed_list words =
+    word_at words 1 (λ tree. seed_at words 2 (λ seed. count_at words 3 (λ count. ends_at words 4 (to_list tree seed count))))
+
+-- make SEED ROUNDS TREE
+unfoldable pub made_run : List (List ℕ) → Result Command ℕ
+made_run words =
+    seed_at words 1 (λ seed. number_at words 2 1 50000 (λ rounds. word_at words 3 (λ tree.
+    ends_at words 4 (to_run Summary (run_value (image_made seed rounds) tree (turns_seeded seed (20 * rounds + 1000)))))))
+
+abbrev pub named_command : List (List ℕ) → List ℕ → Result Command ℕ
+named_command words name =
+    if bytes_eq name (codes "run") then file_run Report words
+    else (if bytes_eq name (codes "trace") then file_run Trace words
+    else (if bytes_eq name (codes "seed") then seed_run words
+    else (if bytes_eq name (codes "schedule") then seed_list words
+    else (if bytes_eq name (codes "make") then made_run words
+    else Err 0))))
+
+unfoldable pub command_of : List (List ℕ) → Result Command ℕ
+command_of words = word_at words 0 (named_command words)

@@ -1,0 +1,30 @@
+-- What the sources of a command are told to hold, and the counts of their failed reads. What is made in place of a file is always
+-- told, and never fails.
+use Rattle.std.specs.Prelude.{ℕ, List, Option, Some}
+use Rattle.std.specs.Option.{option_map}
+use Rattle.made_image.specs.MadeImage.{made_image}
+use Rattle.ddm_cli.specs.Commands.{ImageFrom, TurnsFrom, image_named, image_made, schedule_named, turns_seeded}
+
+-- the bytes of a schedule file, or a seed and a number of turns
+pub data ScheduleGiven : Type 0 where
+  written : List ℕ → ScheduleGiven
+  seeded : ℕ → ℕ → ScheduleGiven
+
+module _ (told : List ℕ → Option (List ℕ)) where
+  -- the bytes of an image
+  abbrev pub image_told : ImageFrom → Option (List ℕ)
+  image_told (image_named name) = told name
+  image_told (image_made seed rounds) = Some (made_image seed rounds)
+
+  abbrev pub schedule_told : TurnsFrom → Option ScheduleGiven
+  schedule_told (schedule_named name) = option_map written (told name)
+  schedule_told (turns_seeded seed count) = Some (seeded seed count)
+
+module _ (faults : List ℕ → ℕ) where
+  abbrev pub image_faults : ImageFrom → ℕ
+  image_faults (image_named name) = faults name
+  image_faults (image_made seed rounds) = 0
+
+  abbrev pub schedule_faults : TurnsFrom → ℕ
+  schedule_faults (schedule_named name) = faults name
+  schedule_faults (turns_seeded seed count) = 0

@@ -1,0 +1,24 @@
+-- A command as the code has it, and as it is said.
+use Rattle.ddm_cli.specs.Commands as said
+use Rattle.ddm_cli.specs.declared.command.Command.{Command}
+use Rattle.ddm_cli.specs.declared.command.Command.TheVariants.{Run as ToRun, List as ToList}
+use Rattle.ddm_cli.specs.declared.command.ImageSource.{ImageSource}
+use Rattle.ddm_cli.specs.declared.command.ImageSource.TheVariants.{File as ImageFile, Made}
+use Rattle.ddm_cli.specs.declared.command.Run.{Run}
+use Rattle.ddm_cli.specs.declared.command.TurnSource.{TurnSource}
+use Rattle.ddm_cli.specs.declared.command.TurnSource.TheVariants.{File as ScheduleFile, Seeded}
+
+abbrev pub image_from : ImageSource → said.ImageFrom
+image_from (ImageFile name) = said.image_named name.now
+image_from (Made seed rounds) = said.image_made seed rounds
+
+abbrev pub turns_from : TurnSource → said.TurnsFrom
+turns_from (ScheduleFile name) = said.schedule_named name.now
+turns_from (Seeded seed count) = said.turns_seeded seed count
+
+abbrev pub run_from : Run → said.Run
+run_from r = record { image = image_from r.image; tree = r.tree.now; turns = turns_from r.turns }
+
+abbrev pub command_from : Command → said.Command
+command_from (ToRun prints run) = said.to_run prints (run_from run)
+command_from (ToList tree seed count) = said.to_list tree.now seed count

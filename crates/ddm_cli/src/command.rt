@@ -1,0 +1,49 @@
+/// What is printed of a run.
+#[derive(Clone, Copy, Debug, PartialEq, Eq)]
+pub enum Prints {
+    Report,
+    /// A line for each turn, and then the report.
+    Trace,
+    Summary,
+}
+
+/// Where an image comes from.
+#[derive(Clone, Copy)]
+pub enum ImageSource<'a> {
+    File(&'a str),
+    /// The random program of a seed, with 1 to 50,000 rounds.
+    Made {
+        seed: u64,
+        rounds: u32,
+    },
+}
+
+/// Where turns come from.
+#[derive(Clone, Copy)]
+pub enum TurnSource<'a> {
+    File(&'a str),
+    Seeded {
+        seed: u64,
+        count: u32,
+    },
+}
+
+/// What a machine is made of, and which turns it makes.
+#[derive(Clone, Copy)]
+pub struct Run<'a> {
+    pub image: ImageSource<'a>,
+    pub tree: &'a str,
+    pub turns: TurnSource<'a>,
+}
+
+/// What the words of a command say.
+#[derive(Clone, Copy)]
+pub enum Command<'a> {
+    Run(Prints, Run<'a>),
+    /// The turns of a seed, for the tree of this file.
+    List {
+        tree: &'a str,
+        seed: u64,
+        count: u32,
+    },
+}
