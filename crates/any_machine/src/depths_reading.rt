@@ -18,14 +18,18 @@ use tree_model::Traffic;
 // Each call below has one for machines whose directories under bus 0 are over these children: a check of three types within one
 // another is beyond its limits.
 
-fn counts_over<const WORDS: usize, C: Subtree<WORDS>>(machine: &Machine<WORDS, Dir<WORDS, C>>) -> TreeCounts
+fn counts_over<const WORDS: usize, C: Subtree<WORDS>>(
+    machine: &Machine<WORDS, Dir<WORDS, C>>,
+) -> TreeCounts
     ensures counts { result ≡ tree_counts machine.now.machine }
     ensures shape { IsShaped machine.now.machine }
 {
     machine.counts()
 }
 
-fn items_over<const WORDS: usize, C: Subtree<WORDS>>(machine: &Machine<WORDS, Dir<WORDS, C>>) -> &Items
+fn items_over<const WORDS: usize, C: Subtree<WORDS>>(
+    machine: &Machine<WORDS, Dir<WORDS, C>>,
+) -> &Items
     ensures { result.now ≡ machine.now.machine.items }
 {
     machine.items()
@@ -37,27 +41,39 @@ fn ops_over<const WORDS: usize, C: Subtree<WORDS>>(machine: &Machine<WORDS, Dir<
     machine.ops()
 }
 
-fn traffic_over<const WORDS: usize, C: Subtree<WORDS>>(machine: &Machine<WORDS, Dir<WORDS, C>>) -> &[Traffic]
+fn traffic_over<const WORDS: usize, C: Subtree<WORDS>>(
+    machine: &Machine<WORDS, Dir<WORDS, C>>,
+) -> &[Traffic]
     ensures { result.now ≡ machine.now.machine.traffic }
 {
     machine.traffic()
 }
 
-fn hart_over<const WORDS: usize, C: Subtree<WORDS>>(machine: &Machine<WORDS, Dir<WORDS, C>>, hart: HartNo) -> &Hart
+fn hart_over<const WORDS: usize, C: Subtree<WORDS>>(
+    machine: &Machine<WORDS, Dir<WORDS, C>>,
+    hart: HartNo,
+) -> &Hart
     requires { is_part (leaf_of_number hart) machine.now.machine ≡ true }
     ensures { Some result.now ≡ counted_hart_of hart machine.now.machine }
 {
     machine.hart(hart)
 }
 
-fn find_over<const WORDS: usize, C: Subtree<WORDS>>(machine: &Machine<WORDS, Dir<WORDS, C>>, item: ItemId) -> Option<Found<WORDS>>
+fn find_over<const WORDS: usize, C: Subtree<WORDS>>(
+    machine: &Machine<WORDS, Dir<WORDS, C>>,
+    item: ItemId,
+) -> Option<Found<WORDS>>
     requires { item < item_count machine.now.machine.items }
     ensures { result ≡ found_copy item machine.now.machine }
 {
     find(machine, item)
 }
 
-fn state_over<const WORDS: usize, C: Subtree<WORDS>>(machine: &Machine<WORDS, Dir<WORDS, C>>, item: ItemId, leaf: LeafNo) -> Option<LeafState>
+fn state_over<const WORDS: usize, C: Subtree<WORDS>>(
+    machine: &Machine<WORDS, Dir<WORDS, C>>,
+    item: ItemId,
+    leaf: LeafNo,
+) -> Option<LeafState>
     requires small { WORDS ≤ 16 }
     requires leaf { is_part (leaf_of_number leaf) machine.now.machine ≡ true }
     requires item { item < item_count machine.now.machine.items }

@@ -1,34 +1,62 @@
-//! `ddm run IMAGE TREE SCHEDULE` runs a program on the machine of a tree, turn by turn, and prints what came of it.
+//! `ddm` runs programs on the machine of a tree, turn by turn, and prints what came of it. Its commands are in the README.
 #![tactic(auto)]
 
-use ddm_cli::{Status, code, ddm_main};
+use ddm_cli::{Status, code, ddm_main, first_fault, tell};
 use ddm_outside::{FileShelf, StdSink};
+use ddm_types::NoMemory;
+use std::alloc::Global;
+use std::env::{Env, FillError};
 use std::process::ExitCode;
-use std::{env, io};
+use std::str;
 
-// The words can't be had: no memory, or a word that isn't text and so is no word of a command.
-fn status_without_words(error: &io::Error) -> Status {
-    match error.kind() {
-        io::ErrorKind::OutOfMemory => Status::NoMemory,
-        _ => Status::Usage(0),
+/// The most bytes that the system hands over in one word.
+const WORD_BYTES: usize = 131_072;
+
+// The words behind the program's name. One that isn't UTF-8 is no word of a command.
+fn words<R: Env>(rt: &R, alloc: Global) -> Result<Vec<String>, Status> {
+    let mut buffer = bytes(alloc)?;
+    let mut words = Vec::new(alloc);
+    for place in 0..u32::MAX {
+        match rt.arg(place as usize + 1, &mut buffer) {
+            Ok(n) => match str::from_utf8(&buffer[..n]) {
+                Ok(word) => push_word(&mut words, alloc, word)?,
+                Err(_) => return Err(Status::Usage(fault_at(&words, place))),
+            },
+            Err(FillError::NotPresent) => return Ok(words),
+            Err(FillError::TooLong) => return Err(Status::Usage(fault_at(&words, place))),
+        }
+    }
+    Ok(words)
+}
+
+fn bytes(alloc: Global) -> Result<Vec<u8>, NoMemory> {
+    Ok(Vec::from_elem(alloc, 0, WORD_BYTES)?)
+}
+
+fn push_word(words: &mut Vec<String>, alloc: Global, word: &str) -> Result<(), NoMemory> {
+    words.push(String::from_str(alloc, word)?)?;
+    Ok(())
+}
+
+// The place of the first word at fault, where this one is.
+fn fault_at(words: &[String], place: u32) -> u32 {
+    match first_fault(words) {
+        Some(fault) if fault < place => fault,
+        _ => place,
     }
 }
 
 fn main(rt: HostRuntime) -> ExitCode {
     let alloc = rt.alloc();
-    let all = match env::args(&rt) {
-        Ok(all) => all,
-        Err(error) => return ExitCode::from(code(&status_without_words(&error))),
-    };
-    let mut words = Vec::new(alloc);
-    for word in all.skip(1) {
-        if words.push(word).is_err() {
-            return ExitCode::from(code(&Status::NoMemory));
-        }
-    }
     let mut files = FileShelf::new(&rt);
     let mut out = StdSink::output(rt.stdout());
     let mut faults_out = StdSink::faults(rt.stderr());
-    let status = ddm_main(alloc, &words, &mut files, &mut out, &mut faults_out);
+    let status = match words(&rt, alloc) {
+        Ok(words) => ddm_main(alloc, &words, &mut files, &mut out, &mut faults_out),
+        Err(status) => {
+            tell(&mut faults_out, &status);
+            status
+        }
+    };
     ExitCode::from(code(&status))
 }

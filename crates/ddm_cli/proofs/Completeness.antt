@@ -16,7 +16,7 @@ use Rattle.ddm_cli.specs.Causes.{IsRefused, IsUnloaded, IsUnscheduled, IsUnstart
 use Rattle.ddm_cli.specs.Commands.{Command, Run, to_run, to_list, command_of}
 use Rattle.ddm_cli.specs.Parts.{Parts, if_started, parts_in, parts_of, tree_at, turns_at, turns_of}
 use Rattle.ddm_cli.specs.Told.{ScheduleGiven, written, seeded, image_told, schedule_told}
-use Rattle.ddm_cli.specs.Top.{command_text, text_of, text_with, StatusHasCause, Completes, NoRun, NotAccepted, NothingFailed, RefusesImage}
+use Rattle.ddm_cli.specs.Top.{Both, command_text, list_of, text_of, text_with, StatusHasCause, Completes, NoRun, NotAccepted, NothingFailed, RefusesImage}
 use Rattle.ddm_cli.specs.declared.command.Prints.{Prints}
 use Rattle.ddm_cli.specs.declared.status.Status.{Status}
 use Rattle.ddm_cli.specs.declared.status.Status.TheVariants.{Done, Usage, ImageLoad, ImageBuild, Tree, Schedule, ReadFault, WriteFault, NoMemory}
@@ -95,6 +95,14 @@ module _ (prints : Prints) where
       let nothing = refused_parts tree image P none here in
       no_text (sym (rw nothing refl) ∙ has)
 
+-- what holds of a tree that is told, and of a schedule with it
+tree_here : (t : Option (List ℕ)) (tree : List ℕ) (x : TreeRefusal) → t ≡ Some tree → IfSome t (λ f. tree_of f ≡ Err x) → tree_of tree ≡ Err x
+tree_here t tree x is refused = rw is at refused
+
+both_here : (t : Option (List ℕ)) (s : Option ScheduleGiven) (tree : List ℕ) (schedule : ScheduleGiven) (P : TreeValue → ScheduleGiven → Type 0) → t ≡ Some tree → s ≡ Some schedule
+    → Both t s (λ f k. IfSome (tree_at f) (λ value. P value k)) → IfSome (tree_at tree) (λ value. P value schedule)
+both_here t s tree schedule P is-tree is-schedule both = rw (is-tree, is-schedule) at both
+
 -- ---- what is told where a command has a text
 
 and_then_some : {A B : Type 0} (o : Option A) (f : A → Option B) (b : B) → option_and_then f o ≡ Some b → (a : A) × (o ≡ Some a) × (f a ≡ Some b)
@@ -106,8 +114,13 @@ module _ {F K : Type 0} (told : F → List ℕ → Option (List ℕ)) (faults : 
     -- a run that has a text isn't refused, but for want of memory
     run_refused : (prints : Prints) (r : Run) (text : List ℕ) → command_text (told files) (to_run prints r) ≡ Some text → NothingFailed told faults files files' (to_run prints r) → (s : Status) → NoRun told faults files files' s r → s ≡ NoMemory
     run_refused prints r text has calm = by_status where
+      tree : (t : List ℕ) × (told files r.tree ≡ Some t) × (option_and_then (λ i. option_and_then (text_of prints t i) (schedule_told (told files) r.turns)) (image_told (told files) r.image) ≡ Some text)
       tree = and_then_some (told files r.tree) _ text has
+
+      image : (i : List ℕ) × (image_told (told files) r.image ≡ Some i) × (option_and_then (text_of prints tree.0 i) (schedule_told (told files) r.turns) ≡ Some text)
       image = and_then_some (image_told (told files) r.image) _ text tree.2
+
+      schedule : (s : ScheduleGiven) × (schedule_told (told files) r.turns ≡ Some s) × (text_of prints tree.0 image.0 s ≡ Some text)
       schedule = and_then_some (schedule_told (told files) r.turns) _ text image.2
 
       by_status : (s : Status) → NoRun told faults files files' s r → s ≡ NoMemory
@@ -116,13 +129,13 @@ module _ {F K : Type 0} (told : F → List ℕ → Option (List ℕ)) (faults : 
       by_status WriteFault refused = absurd refused
       by_status (Usage k) refused = absurd refused
       by_status (Tree x) refused =
-          let is : tree_of tree.0 ≡ Err x = rw tree.1 at refused in
+          let is = tree_here (told files r.tree) tree.0 x tree.1 refused in
           let nothing = no_parts tree.0 image.0 (refused_tree tree.0 x is) in
           absurd (no_text (sym (rw nothing refl) ∙ schedule.2))
       by_status (ImageLoad x) refused = absurd (no_image prints (told files r.tree) (image_told (told files) r.image) tree.0 image.0 schedule.0 text (λ u. IsUnloaded u x) (λ u. unloaded x u image.0) tree.1 image.1 schedule.2 refused)
       by_status (ImageBuild x) refused = absurd (no_image prints (told files r.tree) (image_told (told files) r.image) tree.0 image.0 schedule.0 text (λ u. IsUnstarted u x) (λ u. unstarted x u image.0) tree.1 image.1 schedule.2 refused)
       by_status (Schedule line x) refused =
-          let here : IfSome (tree_at tree.0) (λ u. IsRefused u.levels line x schedule.0) = rw (tree.1, schedule.1) at refused.1 in
+          let here = both_here (told files r.tree) (schedule_told (told files) r.turns) tree.0 schedule.0 (λ u. IsRefused u.levels line x) tree.1 schedule.1 refused.1 in
           absurd (unscheduled prints tree.0 image.0 schedule.0 text line x here schedule.2)
       by_status (ReadFault TreeFile) refused = absurd (calm.0 refused)
       by_status (ReadFault ImageFile) refused = absurd (calm.1 refused.0)
@@ -133,6 +146,7 @@ module _ {F K : Type 0} (told : F → List ℕ → Option (List ℕ)) (faults : 
     list_refused : (name : List ℕ) (seed count : ℕ) (text : List ℕ) → command_text (told files) (to_list name seed count) ≡ Some text → NothingFailed told faults files files' (to_list name seed count)
         → (s : Status) → NotAccepted told faults files files' s (to_list name seed count) → s ≡ NoMemory
     list_refused name seed count text has calm = by_status where
+      tree : (t : List ℕ) × (told files name ≡ Some t) × (list_of seed count t ≡ Some text)
       tree = and_then_some (told files name) _ text has
 
       by_status : (s : Status) → NotAccepted told faults files files' s (to_list name seed count) → s ≡ NoMemory
@@ -141,7 +155,7 @@ module _ {F K : Type 0} (told : F → List ℕ → Option (List ℕ)) (faults : 
       by_status WriteFault refused = absurd refused
       by_status (Usage k) refused = absurd refused
       by_status (Tree x) refused =
-          let is : tree_of tree.0 ≡ Err x = rw tree.1 at refused in
+          let is = tree_here (told files name) tree.0 x tree.1 refused in
           absurd (no_text (sym (rw (refused_tree tree.0 x is) refl) ∙ tree.2))
       by_status (ImageLoad x) refused = absurd refused
       by_status (ImageBuild x) refused = absurd refused
@@ -158,7 +172,7 @@ module _ {F K : Type 0} (told : F → List ℕ → Option (List ℕ)) (faults : 
 
   pub completes : (words : List (List ℕ)) (files files' : F) (out out' : K) (status : Status) → StatusHasCause told faults held failures words files files' out out' status → Completes told faults held failures words files files' out out' status
   completes words files files' out out' Done came c text said has calm quiet = inl refl
-  completes words files files' out out' WriteFault came c text said has calm quiet = absurd (quiet came.3)
+  completes words files files' out out' WriteFault came c text said has calm quiet = absurd (quiet came.2.1)
   completes words files files' out out' (Usage k) came c text said has calm quiet = cc
   completes words files files' out out' NoMemory came c text said has calm quiet = inr refl
   completes words files files' out out' (Tree r) came c text said has calm quiet = inr (command_refused files files' c text has calm (Tree r) (rw said at came.0))

@@ -1,5 +1,5 @@
 -- Where all three files were taken, the report of the run is their text.
-use Rattle.std.proofs.Common.{◌≡◌, ℕ, ◌≤◌, List, ◌++◌, Option, Some, None, Ok, refl, sym, ap, ◌∙◌}
+use Rattle.std.proofs.Common.{◌≡◌, ℕ, suc, ◌≤◌, List, [], ◌∷◌, ◌++◌, length, Option, Some, None, Ok, refl, sym, ap, ◌∙◌, arith}
 use Rattle.std.specs.Prelude.{IfSome, IsSome}
 use Rattle.std.specs.Option.{option_map}
 use Rattle.ddm_types.specs.declared.answers.TurnAnswer.{TurnAnswer}
@@ -8,7 +8,7 @@ use Rattle.tree_model.specs.State.Shape.{Frame, depth_of, levels_of}
 use Rattle.tree_model.specs.State.Values.{MachineValue}
 use Rattle.tree_model.specs.Start.Sources.{TreeValue, ImageValue}
 use Rattle.tree_model.specs.Start.Machine.{start_machine}
-use Rattle.tree_model.specs.Turns.Machine.{run_of}
+use Rattle.tree_model.specs.Turns.Machine.{run_of, turn_of}
 use Rattle.tree_model.proofs.FrameKept.{run-frame}
 use Rattle.text_model.specs.declared.RunCounts.{RunCounts}
 use Rattle.text_model.specs.Report.{report_of, summary_of}
@@ -20,12 +20,12 @@ use Rattle.ddm_tree.specs.Machine.{MachineState}
 use Rattle.elf_load.specs.ElfFile.{image_of}
 use Rattle.report.specs.declared.roles.FileRole.TheVariants.{ImageFile, TreeFile, ScheduleFile, WitnessFile, CheckpointFile}
 use Rattle.ddm_cli.specs.Causes.{AcceptedAs, Accepts, IsRefused, IsUnscheduled, ScheduleCause}
-use Rattle.ddm_cli.specs.Commands.{Run}
+use Rattle.ddm_cli.specs.Commands.{Run, TurnsFrom, schedule_named, turns_seeded}
 use Rattle.ddm_cli.specs.Parts.{IsStart, Parts, parts_in, tree_at, turns_at, turns_of}
 use Rattle.ddm_cli.specs.Printed.{printed}
 use Rattle.ddm_cli.specs.Reads.{IsRanBy}
 use Rattle.ddm_cli.specs.Told.{ScheduleGiven, written, image_told, schedule_faults, schedule_told}
-use Rattle.ddm_cli.specs.Top.{AcceptsParts, AcceptsRun, Both, HasText, NoRun, text_at}
+use Rattle.ddm_cli.specs.Top.{AcceptsParts, AcceptsRun, Both, HasText, NoRun, list_at, list_of, text_at}
 use Rattle.ddm_cli.specs.declared.command.Prints.{Prints}
 use Rattle.ddm_cli.specs.declared.command.Prints.TheVariants.{Report, Trace, Summary}
 use Rattle.ddm_cli.specs.declared.status.Status.{Status}
@@ -53,6 +53,17 @@ module _ (turns : List Turn) (before after : MachineValue) (counts : RunCounts) 
   pub ran_trace : (answers : List TurnAnswer) → answers ≡ (run_of turns before).answers → trace_text turns answers ++ report_of (view_of (depth_of after) counts after) ≡ printed Trace (depth_of before) turns before
   unfolding trace_and_report_of
   ran_trace answers is = ap (λ (a : List TurnAnswer). trace_text turns a ++ report_of (view_of (depth_of after) counts after)) is ∙ ap (λ t. trace_text turns (run_of turns before).answers ++ t) (ap report_of ran_view)
+
+-- an answer for each turn
+pub answers_counted : (turns : List Turn) (m : MachineValue) → length turns ≡ length (run_of turns m).answers
+unfolding run_of
+answers_counted [] m = refl
+answers_counted (t ∷ ts) m = ap suc (answers_counted ts (turn_of t m).machine)
+
+-- the schedule of a seed, where its tree is told
+pub list_taken : (told : Option (List ℕ)) (t : TreeValue) (seed count : ℕ) (text : List ℕ) → AcceptedAs tree_at told t → text ≡ list_at seed count t → Accepts tree_at told × IfSome told (λ f. list_of seed count f ≡ Some text)
+list_taken None t seed count text taken is = (tt, tt)
+list_taken (Some f) t seed count text taken is = (rw taken refl, rw taken (ap Some (sym is)))
 
 abbrev parts : TreeValue → ImageValue → Parts
 parts t i = record { tree = t; image = i }
@@ -113,6 +124,11 @@ file_caused levels told before now (ImageLoad r) cause = absurd cause
 file_caused levels told before now (ImageBuild r) cause = absurd cause
 file_caused levels told before now (Tree r) cause = absurd cause
 file_caused levels told before now WriteFault cause = absurd cause
+
+-- counts that don't fall, from one call to the next
+pub later_faults : (turns : TurnsFrom) (f g h : List ℕ → ℕ) → ((name : List ℕ) → f name ≤ g name) → ((name : List ℕ) → g name ≤ h name) → schedule_faults f turns ≤ schedule_faults h turns
+later_faults (schedule_named name) f g h first second = omega (arith, first name, second name)
+later_faults (turns_seeded seed count) f g h first second = omega arith
 
 -- why there are no turns, as a cause of the command: the count rose since the image was read, or before
 module _ {F : Type 0} (told : F → List ℕ → Option (List ℕ)) (faults : F → List ℕ → ℕ) (files files' : F) (n : Run) (t : TreeValue) (before : ℕ) (tree : AcceptedAs tree_at (told files n.tree) t)

@@ -12,20 +12,14 @@ pub enum Prints {
 pub enum ImageSource<'a> {
     File(&'a str),
     /// The random program of a seed, with 1 to 50,000 rounds.
-    Made {
-        seed: u64,
-        rounds: u32,
-    },
+    Made { seed: u64, rounds: u32 },
 }
 
 /// Where turns come from.
 #[derive(Clone, Copy)]
 pub enum TurnSource<'a> {
     File(&'a str),
-    Seeded {
-        seed: u64,
-        count: u32,
-    },
+    Seeded { seed: u64, count: u32 },
 }
 
 /// What a machine is made of, and which turns it makes.

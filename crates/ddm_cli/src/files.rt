@@ -69,7 +69,12 @@ fn image_file<F: Shelf>(
 }
 
 /// The machine of a tree and the made image of a seed.
-fn made_machine(alloc: Global, tree: &TreeConfig, seed: u64, rounds: u32) -> Result<AnyMachine, Status>
+fn made_machine(
+    alloc: Global,
+    tree: &TreeConfig,
+    seed: u64,
+    rounds: u32,
+) -> Result<AnyMachine, Status>
     requires some { 1 ≤ rounds }
     requires few { rounds ≤ 50000 }
     ensures found { IfOk result (λ m. (i : ImageValue) × IsStart tree.now i (machine_state m) × (image_of tree.now.item_bytes (made_image seed rounds) ≡ Ok i)) }
@@ -90,9 +95,9 @@ pub fn image_machine<F: Shelf>(
 ) -> Result<AnyMachine, Status>
     requires room { 0 < length buffer.old }
     requires made { IsMakeable (image_from image) }
-    ensures found { IfOk result (λ m. (i : ImageValue) × IsStart tree.now i (machine_state m) × IfSome (image_told (F.told files.old) (image_from image)) (λ file. image_of tree.now.item_bytes file ≡ Ok i)) }
-    ensures taken { IfOk result (λ m. Accepts (parts_in tree.now) (image_told (F.told files.old) (image_from image))) }
-    ensures cause { IfErr result (ImageCause tree.now (image_told (F.told files.old) (image_from image)) (image_faults (F.faults files.old) (image_from image)) (image_faults (F.faults files.new) (image_from image))) }
+    ensures found { IfOk result (λ m. (i : ImageValue) × IsStart tree.now i (machine_state m) × IfSome (image_told (F.told files.old) (image_from image.entry)) (λ file. image_of tree.now.item_bytes file ≡ Ok i)) }
+    ensures taken { IfOk result (λ m. Accepts (parts_in tree.now) (image_told (F.told files.old) (image_from image.entry))) }
+    ensures cause { IfErr result (ImageCause tree.now (image_told (F.told files.old) (image_from image.entry)) (image_faults (F.faults files.old) (image_from image.entry)) (image_faults (F.faults files.new) (image_from image.entry))) }
     ensures same { F.told files.new ≡ F.told files.old }
     ensures later { (other : List ℕ) → F.faults files.old other ≤ F.faults files.new other }
 {

@@ -16,7 +16,9 @@ mod turns;
 mod unknown_key;
 mod words;
 
+pub use fault::tell;
 pub use report::FileRole;
 pub use schedule_log::ScheduleRefusal;
 pub use status::{Status, code};
 pub use top::ddm_main;
+pub use words::first_fault;

@@ -35,7 +35,7 @@ fn run_text<F: Shelf>(
     prints: Prints,
     run: Run<'_>,
 ) -> Result<Vec<u8>, Status>
-    requires range { IsInRange (to_run prints (run_from run.entry)) }
+    requires range { IsInRange (to_run prints (run_from run)) }
     ensures taken { IfOk result (λ text. HasAccepted F.told files.old text.items (to_run prints (run_from run.entry))) }
     ensures refused { IfErr result (λ status. NoRun F.told F.faults files.old files.new status (run_from run.entry)) }
 {
@@ -78,7 +78,7 @@ fn command_text<F: Shelf>(
     files: &mut F,
     command: Command<'_>,
 ) -> Result<Vec<u8>, Status>
-    requires range { IsInRange (command_from command.entry) }
+    requires range { IsInRange (command_from command) }
     ensures taken { IfOk result (λ text. HasAccepted F.told files.old text.items (command_from command.entry)) }
     ensures refused { IfErr result (λ status. NotAccepted F.told F.faults files.old files.new status (command_from command.entry)) }
 {

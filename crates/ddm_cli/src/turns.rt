@@ -26,7 +26,7 @@ pub fn turns_made<F: Shelf>(
     tree: &TreeConfig,
 ) -> Result<Vec<Turn>, Status>
     requires room { 0 < length buffer.old }
-    requires few { AreFew (turns_from turns.entry) }
+    requires few { AreFew (turns_from turns) }
     requires tree { IsTree tree.now }
     ensures found { IfOk result (λ ts. AcceptedAs (turns_of tree.now.levels) (schedule_told (F.told files.old) (turns_from turns.entry)) ts.items) }
     ensures given { IfOk result (λ ts. GivesTurnsOf (shape_view tree.now.levels) 0 ts.items) }

@@ -1,4 +1,4 @@
-ghost use Rattle.std.specs.Prelude.{◌≡◌, ◌≤◌, ◌<◌, ◌*◌, ◌+◌, map, length, Err, IfOk, IfSome, MatchResult, None, Ok, Some, option_and_then, slice_get};
+ghost use Rattle.std.specs.Prelude.{◌≡◌, ◌≤◌, ◌<◌, ◌*◌, ◌+◌, map, length, Err, IfOk, IfSome, IsOk, MatchResult, None, Ok, Some, option_and_then, slice_get};
 ghost use Rattle.std.specs.String.{string_bytes};
 ghost use Rattle.ddm_cli.specs.Commands.{IsInRange, command_of, file_run, made_run, number_in, seed_list, seed_run};
 ghost use Rattle.ddm_cli.specs.Views.{command_from};
@@ -168,4 +168,12 @@ pub fn command_said(words: &[String]) -> Result<Command<'_>, u32>
         "make" => made_run(words),
         _ => Err(0),
     }
+}
+
+/// The index of the first word at fault or of the first that is missing; None where the words are those of a command.
+pub fn first_fault(words: &[String]) -> Option<u32>
+    ensures fault { IfSome result (λ k. command_of (map string_bytes words.now) ≡ Err k) }
+    ensures none { result ≡ None → IsOk (command_of (map string_bytes words.now)) }
+{
+    command_said(words).err()
 }

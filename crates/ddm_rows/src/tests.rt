@@ -272,7 +272,7 @@ fn a_fault_line_fails(rt: HostRuntime) -> Result<(), Fail> {
 #[test]
 fn words_at_fault(rt: HostRuntime) -> Result<(), Fail> {
     let alloc = rt.alloc();
-    let commands: [(&[&str], &str); 4] = [
+    let commands: [(&[&str], &str); 10] = [
         (&[], "ddm: usage: word 0\n"),
         (
             &["walk", "image", "tree", "schedule"],
@@ -282,6 +282,21 @@ fn words_at_fault(rt: HostRuntime) -> Result<(), Fail> {
         (
             &["run", "image", "tree", "schedule", "more"],
             "ddm: usage: word 4\n",
+        ),
+        (
+            &["seed", "image", "tree", "01", "5"],
+            "ddm: usage: word 3\n",
+        ),
+        (
+            &["seed", "image", "tree", "1", "1048577"],
+            "ddm: usage: word 4\n",
+        ),
+        (&["schedule", "tree", "1"], "ddm: usage: word 3\n"),
+        (&["make", "1", "0", "tree"], "ddm: usage: word 2\n"),
+        (&["make", "1", "50001", "tree"], "ddm: usage: word 2\n"),
+        (
+            &["make", "18446744073709551616", "1", "tree"],
+            "ddm: usage: word 1\n",
         ),
     ];
     for (words, line) in commands {
@@ -539,4 +554,64 @@ fn numbers_of_the_statuses(rt: HostRuntime) {
     assert_eq!(rt; code(&Status::WriteFault), 7);
     assert_eq!(rt; code(&Status::NoMemory), 8);
     assert_eq!(rt; code(&Status::Schedule(2, ScheduleRefusal::NoEnd)), 5);
+}
+
+// What the command of these words puts out; nothing where it isn't done.
+fn output_of(alloc: Global, words: &[&str], texts: [&[u8]; 3]) -> Result<Vec<u8>, Fail> {
+    let files = shelf(alloc, texts, Vec::new(alloc))?;
+    let out = sink(alloc, Vec::new(alloc))?;
+    let faults_out = sink(alloc, Vec::new(alloc))?;
+    let answer = answer_of(alloc, words, files, out, faults_out)?;
+    if code(&answer.status) == 0 {
+        Ok(answer.out.bytes().to_vec(alloc)?)
+    } else {
+        Ok(Vec::new(alloc))
+    }
+}
+
+#[test]
+fn the_turns_of_a_seed(rt: HostRuntime) -> Result<(), Fail> {
+    let words = ["schedule", "tree", "42", "3"];
+    let turns = output_of(rt.alloc(), &words, [TWO_LEAVES, b"", b""])?;
+    assert_eq!(rt;
+        turns.as_slice(),
+        b"g 0 r 1\nh 1 73\ng 0 q 1\nend\n".as_slice()
+    );
+    Ok(())
+}
+
+#[test]
+fn a_seed_runs_its_schedule(rt: HostRuntime) -> Result<(), Fail> {
+    let alloc = rt.alloc();
+    let files = [TWO_LEAVES, ONE_READ_IMAGE, b""];
+    let turns = output_of(alloc, &["schedule", "tree", "42", "500"], files)?;
+    let ran = output_of(alloc, WORDS, [TWO_LEAVES, ONE_READ_IMAGE, &turns])?;
+    let seeded = output_of(alloc, &["seed", "image", "tree", "42", "500"], files)?;
+    assert!(rt; has_line(&seeded, "end"));
+    assert_eq!(rt; seeded.as_slice(), ran.as_slice());
+    Ok(())
+}
+
+#[test]
+fn a_trace_and_then_the_report(rt: HostRuntime) -> Result<(), Fail> {
+    let alloc = rt.alloc();
+    let files = [TWO_LEAVES, ONE_READ_IMAGE, ONE_READ];
+    let lines: &[u8] =
+        b"t 0 h 0 0 retired plain\nt 1 h 0 0 issued read 1\nt 2 g 0 q 0 granted read 1 from child 0 to child 1\nt 3 g 0 r 1 granted data 1 from child 1 to child 0\nt 4 h 0 0 retired load 00020000 00000005\n";
+    let traced = output_of(alloc, &["trace", "image", "tree", "schedule"], files)?;
+    let mut both = lines.to_vec(alloc)?;
+    both.extend_from_slice(&output_of(alloc, WORDS, files)?)?;
+    assert_eq!(rt; traced.as_slice(), both.as_slice());
+    Ok(())
+}
+
+// Two rounds give 1,040 turns.
+#[test]
+fn a_made_image(rt: HostRuntime) -> Result<(), Fail> {
+    let tree: &[u8] =
+        b"shape = \"(LL)\"\nways = 4\nsets = 64\nbuffer = 4\nparking = 4\ndown = 16\nrequests = 16\nreplies = 16\nstack_base = 196608\nstack_bytes = 0\n";
+    let summary = output_of(rt.alloc(), &["make", "42", "2", "tree"], [tree, b"", b""])?;
+    assert!(rt; summary.starts_with(b"ddm 1\nturns 1040 retired "));
+    assert!(rt; has_line(&summary, "end"));
+    Ok(())
 }

@@ -28,7 +28,6 @@ pub use fault_line::{FaultLine, LINE_BYTES};
 pub use faults::{memory_line, read_line, unbuilt_line, usage_line, write_line};
 pub use harts::{push_hart_line, push_head, push_out_line, push_regs_line, push_turns_line};
 pub use items::{push_copy_place, push_item_line, push_letters};
-pub use machine::{machine_report, machine_summary};
 pub use operations::{push_key, push_op_line, push_op_lines};
 pub use pieces::{push_bytes, push_number, push_words};
 pub use roles::FileRole;

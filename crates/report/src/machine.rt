@@ -3,9 +3,11 @@ ghost use Rattle.std.specs.List.{flat_map};
 ghost use Rattle.ddm_text.specs.Adds.{Adds};
 ghost use Rattle.ddm_types.specs.ItemTable.{item_count, row_at};
 ghost use Rattle.tree_model.specs.State.Shape.{depth_of};
+ghost use Rattle.tree_model.specs.Turns.Found.{states_of};
 ghost use Rattle.text_model.specs.Report.{bus_lines, hart_line_of, hart_lines, item_line, item_lines, report_of, summary_of};
 ghost use Rattle.text_model.specs.Run.{item_view, item_views, view_of};
 ghost use Rattle.witness_order.specs.Order.{HaveOtherKeys};
+ghost use Rattle.any_machine.specs.Any.{state_in};
 ghost use Rattle.report.specs.MachineView.{harts_of};
 
 use crate::buses::push_bus_line;
@@ -13,9 +15,8 @@ use crate::harts::{push_hart_line, push_head, push_out_line, push_regs_line};
 use crate::items::push_item_line;
 use crate::operations::push_op_lines;
 use crate::pieces::push_bytes;
-use ddm_tree::{Machine, Subtree};
-use ddm_types::{BusNo, HartNo, ItemId, NoMemory, Op};
-use inspector::{find, states};
+use any_machine::Machines;
+use ddm_types::{BusNo, HartNo, ItemId, LeafNo, LeafState, NoMemory, Op};
 use rv_hart::Hart;
 use std::alloc::Global;
 use text_model::RunCounts;
@@ -37,11 +38,11 @@ fn push_hart_lines(
 }
 
 // The three lines of each hart.
-fn push_harts<const WORDS: usize, C: Subtree<WORDS>>(
+fn push_harts<const WORDS: usize>(
     out: &mut Vec<u8>,
-    machine: &Machine<WORDS, C>,
+    machine: &Machines<WORDS>,
 ) -> Result<(), NoMemory>
-    ensures { OnOk result (Adds out.old.items out.new.items (flat_map (hart_lines machine.now.machine.ops) (harts_of machine.now.machine))) }
+    ensures { OnOk result (Adds out.old.items out.new.items (flat_map (hart_lines (state_in machine.now).machine.ops) (harts_of (state_in machine.now).machine))) }
 {
     for leaf in 0..machine.counts().leaves {
         let number = HartNo(leaf);
@@ -51,11 +52,11 @@ fn push_harts<const WORDS: usize, C: Subtree<WORDS>>(
 }
 
 // The first line of each hart.
-fn push_hart_states<const WORDS: usize, C: Subtree<WORDS>>(
+fn push_hart_states<const WORDS: usize>(
     out: &mut Vec<u8>,
-    machine: &Machine<WORDS, C>,
+    machine: &Machines<WORDS>,
 ) -> Result<(), NoMemory>
-    ensures { OnOk result (Adds out.old.items out.new.items (flat_map hart_line_of (harts_of machine.now.machine))) }
+    ensures { OnOk result (Adds out.old.items out.new.items (flat_map hart_line_of (harts_of (state_in machine.now).machine))) }
 {
     for leaf in 0..machine.counts().leaves {
         let number = HartNo(leaf);
@@ -66,11 +67,11 @@ fn push_hart_states<const WORDS: usize, C: Subtree<WORDS>>(
 }
 
 // The line of each bus.
-fn push_buses<const WORDS: usize, C: Subtree<WORDS>>(
+fn push_buses<const WORDS: usize>(
     out: &mut Vec<u8>,
-    machine: &Machine<WORDS, C>,
+    machine: &Machines<WORDS>,
 ) -> Result<(), NoMemory>
-    ensures { OnOk result (Adds out.old.items out.new.items (bus_lines machine.now.machine.traffic)) }
+    ensures { OnOk result (Adds out.old.items out.new.items (bus_lines (state_in machine.now).machine.traffic)) }
 {
     for bus in 0..machine.counts().buses {
         push_bus_line(out, BusNo(bus), &machine.traffic()[bus as usize])?;
@@ -78,20 +79,37 @@ fn push_buses<const WORDS: usize, C: Subtree<WORDS>>(
     Ok(())
 }
 
+// The state of each leaf's entry of an item.
+fn states<const WORDS: usize>(
+    alloc: Global,
+    machine: &Machines<WORDS>,
+    item: ItemId,
+) -> Result<Vec<Option<LeafState>>, NoMemory>
+    requires small { WORDS ≤ 16 }
+    requires item { item < item_count (state_in machine.now).machine.items }
+    ensures { IfOk result (λ states. states.items ≡ states_of item (state_in machine.now).machine) }
+{
+    let mut states = Vec::new(alloc);
+    for leaf in 0..machine.counts().leaves {
+        states.push(machine.state(item, LeafNo(leaf)))?;
+    }
+    Ok(states)
+}
+
 // The line of an item. One that is found nowhere, which no run has, is shown without words.
-fn push_item<const WORDS: usize, C: Subtree<WORDS>>(
+fn push_item<const WORDS: usize>(
     alloc: Global,
     out: &mut Vec<u8>,
-    machine: &Machine<WORDS, C>,
+    machine: &Machines<WORDS>,
     item: ItemId,
 ) -> Result<(), NoMemory>
     requires small { WORDS ≤ 16 }
-    requires item { item < item_count machine.now.machine.items }
-    ensures { OnOk result (Adds out.old.items out.new.items (item_line (item_view machine.now.machine item (row_at machine.now.machine.items item)))) }
+    requires item { item < item_count (state_in machine.now).machine.items }
+    ensures { OnOk result (Adds out.old.items out.new.items (item_line (item_view (state_in machine.now).machine item (row_at (state_in machine.now).machine.items item)))) }
 {
     let states = states(alloc, machine, item)?;
     let address = machine.items().address(item);
-    match find(machine, item) {
+    match machine.find(item) {
         Some(found) => push_item_line(out, item, address, &found.words.w, found.at, &states),
         None => {
             let nowhere = CopyPlace::Parking {
@@ -104,13 +122,13 @@ fn push_item<const WORDS: usize, C: Subtree<WORDS>>(
 }
 
 // The line of each item.
-fn push_items<const WORDS: usize, C: Subtree<WORDS>>(
+fn push_items<const WORDS: usize>(
     alloc: Global,
     out: &mut Vec<u8>,
-    machine: &Machine<WORDS, C>,
+    machine: &Machines<WORDS>,
 ) -> Result<(), NoMemory>
     requires small { WORDS ≤ 16 }
-    ensures { OnOk result (Adds out.old.items out.new.items (item_lines (item_views machine.now.machine 0 machine.now.machine.items.rows))) }
+    ensures { OnOk result (Adds out.old.items out.new.items (item_lines (item_views (state_in machine.now).machine 0 (state_in machine.now).machine.items.rows))) }
 {
     for number in 0..machine.items().len() {
         push_item(alloc, out, machine, ItemId(number))?;
@@ -119,14 +137,14 @@ fn push_items<const WORDS: usize, C: Subtree<WORDS>>(
 }
 
 /// The report of a machine after turns that came to these counts.
-pub fn machine_report<const WORDS: usize, C: Subtree<WORDS>>(
+pub fn machine_report<const WORDS: usize>(
     alloc: Global,
-    machine: &Machine<WORDS, C>,
+    machine: &Machines<WORDS>,
     counts: RunCounts,
 ) -> Result<Vec<u8>, NoMemory>
     requires small { WORDS ≤ 16 }
-    requires keys { HaveOtherKeys machine.now.machine.ops }
-    ensures { IfOk result (λ text. text.items ≡ report_of (view_of (depth_of machine.now.machine) counts machine.now.machine)) }
+    requires keys { HaveOtherKeys (state_in machine.now).machine.ops }
+    ensures { IfOk result (λ text. text.items ≡ report_of (view_of (depth_of (state_in machine.now).machine) counts (state_in machine.now).machine)) }
 {
     let mut text = Vec::new(alloc);
     push_head(&mut text, counts)?;
@@ -140,12 +158,12 @@ pub fn machine_report<const WORDS: usize, C: Subtree<WORDS>>(
 }
 
 /// The summary of a machine after turns that came to these counts.
-pub fn machine_summary<const WORDS: usize, C: Subtree<WORDS>>(
+pub fn machine_summary<const WORDS: usize>(
     alloc: Global,
-    machine: &Machine<WORDS, C>,
+    machine: &Machines<WORDS>,
     counts: RunCounts,
 ) -> Result<Vec<u8>, NoMemory>
-    ensures { IfOk result (λ text. text.items ≡ summary_of (view_of (depth_of machine.now.machine) counts machine.now.machine)) }
+    ensures { IfOk result (λ text. text.items ≡ summary_of (view_of (depth_of (state_in machine.now).machine) counts (state_in machine.now).machine)) }
 {
     let mut text = Vec::new(alloc);
     push_head(&mut text, counts)?;

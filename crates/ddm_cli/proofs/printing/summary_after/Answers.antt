@@ -1,0 +1,12 @@
+use Rattle.std.proofs.Common.{ap, subst, sym, ◌∙◌}
+use Rattle.std.proofs.lemmas.Result.{IfOk-weaker}
+use Rattle.tree_model.specs.State.Values.{MachineValue}
+use Rattle.ddm_tree.specs.Machine.{MachineState}
+use Rattle.any_machine.specs.Any.{machine_state}
+use Rattle.ddm_cli.proofs.Taken.{ran_summary}
+use Rattle.ddm_cli.proofs.printing.summary_after.Goals as goal
+
+pub returns : goal.returns
+returns c =
+    let after = ap (λ (s : MachineState). s.machine) c.in_ok-counts.ensures.after in
+    IfOk-weaker c.summary_text.result _ _ (λ text is. is ∙ ran_summary c.args.turns.now (machine_state c.args.machine.now).machine (machine_state c.run.new.machine).machine c.in_ok-counts.counts c.in_ok-counts.ensures.counts after) c.summary_text.ensures

@@ -1,0 +1,24 @@
+use Rattle.std.proofs.Common.{◌<◌, ◌≤◌, length, rules, ap, ◌∙◌, arith}
+use Rattle.std.proofs.lemmas.List.{take_all}
+use Rattle.tree_model.specs.State.Shape.{tree_counts}
+use Rattle.tree_model.specs.Turns.Found.{states_of}
+use Rattle.ddm_tree.proofs.LeafList.{leaf-there}
+use Rattle.inspector.proofs.LeafStates.{one-more, states-counted}
+use Rattle.any_machine.specs.Any.{state_in}
+use Rattle.report.proofs.machine.states.Goals as goal
+
+pub state-requires : goal.state-requires
+state-requires g c =
+    let leaves = ap (λ n. n.leaves) c.counts-leaf-end.ensures.counts in
+    let below : c.loop-leaf.leaf < (tree_counts (state_in c.args.machine.now).machine).leaves = omega (arith, leaves, c.loop-leaf-test.true) in
+    (search rules, (c.requires.small, (leaf-there c.loop-leaf.leaf (state_in c.args.machine.now).machine c.counts-leaf-end.ensures.shape below, c.requires.item)))
+
+pub loop-leaf-preserved : goal.loop-leaf-preserved
+loop-leaf-preserved g c = c.in_ok-push.ensures.items ∙ one-more (state_in c.args.machine.now).machine c.loop-leaf.leaf c.args.item c.state.result c.loop-leaf.states.items c.counts-leaf-end.ensures.shape c.state.ensures c.loop-leaf.invariant
+
+pub returns : goal.returns
+returns g c =
+    let leaves = ap (λ n. n.leaves) c.counts-leaf-end.ensures.counts in
+    let size = states-counted (state_in c.args.machine.now).machine c.args.item in
+    let past : length (states_of c.args.item (state_in c.args.machine.now).machine) ≤ c.loop-leaf.leaf = omega (arith, leaves, size, c.loop-leaf-test.false) in
+    c.loop-leaf.invariant ∙ take_all c.loop-leaf.leaf (states_of c.args.item (state_in c.args.machine.now).machine) past
