@@ -12,3 +12,4 @@ pub mod OtherKeys
 pub mod InOrder
 pub mod Completeness
 pub mod Keys
+pub mod RunsInPieces

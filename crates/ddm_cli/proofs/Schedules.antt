@@ -7,7 +7,7 @@ use Rattle.ddm_outside.specs.Telling.{ReadsPart}
 use Rattle.text_model.specs.declared.ScheduleRefusal.{ScheduleRefusal}
 use Rattle.text_model.specs.Schedule.{ShapeView, Standing, in_line, at_end, refused_at, pieces_at, reading_from, reading_of, resumed, schedule_of}
 use Rattle.text_model.specs.ReadBack.{GivesTurnsOf}
-use Rattle.text_model.proofs.Given.{turns-schedule_of}
+use Rattle.text_model.proofs.Given.{turns-reading_on, turns-schedule_of}
 use Rattle.schedule_log.specs.Pieces.{reader_after, turns_of}
 use Rattle.schedule_log.specs.Reader.{ReaderView, Fed, answer_of, begun, fed, finish_of, given}
 use Rattle.schedule_log.specs.Shapes.{shape_view}
@@ -51,6 +51,13 @@ module _ (levels : List (List ℕ)) (told : Option (List ℕ)) where
     front (Some file) = refl
 
   module _ (count : ℕ) (reader : ReaderView) (turns : List Turn) (read : HasRead levels told count reader turns) where
+    -- one more, of which the reader gave the turns behind none
+    pub more_read : (n : ℕ) (into : List ℕ) (new : ReaderView) (none more : List Turn) → none ≡ [] → n ≤ length into → IfSome told (λ file. ReadsPart file count n into) → Fed (shape_view levels) reader (take n into) new none more
+        → HasRead levels told (count + n) new (turns ++ more)
+    more_read n into new none more is few part f =
+        let given : more ≡ (given (shape_view levels) reader (take n into)).turns = f.turns ∙ ap (λ ts. ts ++ (given (shape_view levels) reader (take n into)).turns) is in
+        piece_read n into new (turns ++ more) few part (record { reader = f.reader; turns = ap (λ ts. turns ++ ts) given })
+
     -- one more
     pub piece_read : (n : ℕ) (into : List ℕ) (new : ReaderView) (after : List Turn) → n ≤ length into → IfSome told (λ file. ReadsPart file count n into) → Fed (shape_view levels) reader (take n into) new turns after
         → HasRead levels told (count + n) new after
@@ -75,6 +82,11 @@ module _ (levels : List (List ℕ)) (told : Option (List ℕ)) where
 
     standing_is : reader.standing ≡ (reading_of (shape_view levels) 0 read.text).standing
     standing_is = ap (λ (r : ReaderView). r.standing) read.reader_is
+
+    -- they are turns of the tree
+    pub given_so_far : GivesTurnsOf (shape_view levels) 0 turns
+    unfolding reading_of
+    given_so_far = subst (GivesTurnsOf (shape_view levels) 0) (sym read.turns_are) (turns-reading_on (shape_view levels) 1 0 read.text (omega arith))
 
     -- a schedule that isn't refused yet
     pub few_read : answer_of reader.standing ≡ Ok tt → count ≤ 26214425

@@ -1,6 +1,7 @@
 pub mod Causes
 pub mod Code
 pub mod Commands
+pub mod Made
 pub mod Parts
 pub mod Printed
 pub mod Reads

@@ -6,13 +6,12 @@ mod fault;
 mod files;
 mod judging;
 mod limits;
+mod making;
 mod printing;
 mod reading;
 mod refusal_lines;
-mod schedule_file;
 mod status;
 mod top;
-mod turns;
 mod unknown_key;
 mod words;
 

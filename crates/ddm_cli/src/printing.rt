@@ -1,94 +1,67 @@
-ghost use Rattle.std.specs.Prelude.{◌≡◌, ◌<◌, ◌≤◌, ℕ, List, length, IfOk, IfErr};
+ghost use Rattle.std.specs.Prelude.{◌≡◌, ◌<◌, ◌≤◌, ℕ, List, true, length, IfOk, IfErr};
+ghost use Rattle.ddm_types.specs.declared.turns.Turn.{Turn};
 ghost use Rattle.tree_model.specs.State.Shape.{depth_of};
-ghost use Rattle.tree_model.specs.Turns.Machine.{run_of};
+ghost use Rattle.ddm_tree.specs.Machine.{MachineState};
 ghost use Rattle.witness_order.specs.Order.{HaveOtherKeys};
 ghost use Rattle.bus_laws.specs.IsTree.{IsTree};
 ghost use Rattle.any_machine.specs.Any.{machine_state};
-ghost use Rattle.any_machine.specs.Run.{NameParts};
 ghost use Rattle.ddm_cli.specs.Causes.{IsRefused, ScheduleCause};
 ghost use Rattle.ddm_cli.specs.Commands.{AreFew};
+ghost use Rattle.ddm_cli.specs.Made.{HasMade};
 ghost use Rattle.ddm_cli.specs.Parts.{HasStart};
-ghost use Rattle.ddm_cli.specs.Printed.{printed};
+ghost use Rattle.ddm_cli.specs.Printed.{is_trace, printed};
 ghost use Rattle.ddm_cli.specs.Reads.{IsRanBy};
 ghost use Rattle.ddm_cli.specs.Told.{schedule_faults, schedule_told};
 ghost use Rattle.ddm_cli.specs.Views.{turns_from};
-ghost use Rattle.ddm_cli.specs.declared.command.Prints.TheVariants.{Report, Summary, Trace};
+ghost use Rattle.ddm_cli.specs.declared.command.Prints.TheVariants.{Trace};
 
 use crate::command::{Prints, TurnSource};
+use crate::making::{Made, turns_made};
 use crate::status::Status;
-use crate::turns::turns_made;
 use ddm_outside::Shelf;
-use ddm_types::{NoMemory, Turn};
+use ddm_types::NoMemory;
 use report::{report_text, summary_text, trace_text};
-use run_engine::{AnyMachine, run};
+use run_engine::AnyMachine;
 use std::alloc::Global;
 use tree_config::TreeConfig;
 
-// The report of a machine's first turns.
-fn report_after(
-    alloc: Global,
-    machine: &mut AnyMachine,
-    turns: &[Turn],
-) -> Result<Vec<u8>, NoMemory>
-    requires named { NameParts turns.now (machine_state machine.old).machine }
-    requires fresh { (machine_state machine.old).turns ≡ 0 }
-    requires few { length turns.now ≤ 1048576 }
-    requires keys { HaveOtherKeys (run_of turns.now (machine_state machine.old).machine).machine.ops }
-    ensures { let m = (machine_state machine.old).machine in IfOk result (λ text. text.items ≡ printed Report (depth_of m) turns.now m) }
+fn is_trace(prints: Prints) -> bool
+    ensures { result ≡ is_trace prints }
 {
-    let mut answers = Vec::new(alloc);
-    let counts = run(machine, turns, &mut answers, false)?;
-    report_text(alloc, machine, counts)
+    match prints {
+        Prints::Trace => true,
+        Prints::Report | Prints::Summary => false,
+    }
 }
 
-// Their summary.
-fn summary_after(
-    alloc: Global,
-    machine: &mut AnyMachine,
-    turns: &[Turn],
-) -> Result<Vec<u8>, NoMemory>
-    requires named { NameParts turns.now (machine_state machine.old).machine }
-    requires fresh { (machine_state machine.old).turns ≡ 0 }
-    requires few { length turns.now ≤ 1048576 }
-    ensures { let m = (machine_state machine.old).machine in IfOk result (λ text. text.items ≡ printed Summary (depth_of m) turns.now m) }
+// The trace of turns that were made, and the report of the machine after them.
+fn traced_text(alloc: Global, machine: &AnyMachine, made: &Made) -> Result<Vec<u8>, NoMemory>
+    requires keys { HaveOtherKeys (machine_state machine.now).machine.ops }
+    requires answers { length made.now.turns.items ≡ length made.now.answers.items }
+    ensures { (s : MachineState) (turns : List Turn) → HasMade true s (machine_state machine.now) made.now turns
+        → IfOk result (λ text. text.items ≡ printed Trace (depth_of s.machine) turns s.machine) }
 {
-    let mut answers = Vec::new(alloc);
-    let counts = run(machine, turns, &mut answers, false)?;
-    summary_text(alloc, machine, counts)
-}
-
-// Their trace, and then the report.
-fn trace_after(alloc: Global, machine: &mut AnyMachine, turns: &[Turn]) -> Result<Vec<u8>, NoMemory>
-    requires named { NameParts turns.now (machine_state machine.old).machine }
-    requires fresh { (machine_state machine.old).turns ≡ 0 }
-    requires few { length turns.now ≤ 1048576 }
-    requires keys { HaveOtherKeys (run_of turns.now (machine_state machine.old).machine).machine.ops }
-    ensures { let m = (machine_state machine.old).machine in IfOk result (λ text. text.items ≡ printed Trace (depth_of m) turns.now m) }
-{
-    let mut answers = Vec::new(alloc);
-    let counts = run(machine, turns, &mut answers, true)?;
-    let mut text = trace_text(alloc, turns, &answers)?;
-    text.extend_from_slice(&report_text(alloc, machine, counts)?)?;
+    let mut text = trace_text(alloc, &made.turns, &made.answers)?;
+    text.extend_from_slice(&report_text(alloc, machine, made.counts)?)?;
     Ok(text)
 }
 
-// What is printed of a machine's first turns.
-fn ran_text(
+// What is printed of turns that were made.
+fn made_text(
     alloc: Global,
-    machine: &mut AnyMachine,
-    turns: &[Turn],
+    machine: &AnyMachine,
+    made: &Made,
     prints: Prints,
 ) -> Result<Vec<u8>, NoMemory>
-    requires named { NameParts turns.now (machine_state machine.old).machine }
-    requires fresh { (machine_state machine.old).turns ≡ 0 }
-    requires few { length turns.now ≤ 1048576 }
-    requires keys { HaveOtherKeys (run_of turns.now (machine_state machine.old).machine).machine.ops }
-    ensures { let m = (machine_state machine.old).machine in IfOk result (λ text. text.items ≡ printed prints (depth_of m) turns.now m) }
+    requires keys { HaveOtherKeys (machine_state machine.now).machine.ops }
+    requires answers { length made.now.turns.items ≡ length made.now.answers.items }
+    ensures { (s : MachineState) (turns : List Turn) → HasMade (is_trace prints) s (machine_state machine.now) made.now turns
+        → IfOk result (λ text. text.items ≡ printed prints (depth_of s.machine) turns s.machine) }
 {
     match prints {
-        Prints::Report => report_after(alloc, machine, turns),
-        Prints::Trace => trace_after(alloc, machine, turns),
-        Prints::Summary => summary_after(alloc, machine, turns),
+        Prints::Report => report_text(alloc, machine, made.counts),
+        Prints::Trace => traced_text(alloc, machine, made),
+        Prints::Summary => summary_text(alloc, machine, made.counts),
     }
 }
 
@@ -110,6 +83,14 @@ pub fn machine_text<F: Shelf>(
     ensures cause { IfErr result (ScheduleCause (IsRefused tree.now.levels) (schedule_told (F.told files.old) (turns_from turns.entry)) (schedule_faults (F.faults files.old) (turns_from turns.entry)) (schedule_faults (F.faults files.new) (turns_from turns.entry))) }
     ensures later { (other : List ℕ) → F.faults files.old other ≤ F.faults files.new other }
 {
-    let turns = turns_made(alloc, files, turns, buffer, tree)?;
-    Ok(ran_text(alloc, machine, &turns, prints)?)
+    let made = turns_made(
+        alloc,
+        files,
+        turns,
+        buffer,
+        tree,
+        machine,
+        is_trace(prints),
+    )?;
+    Ok(made_text(alloc, machine, &made, prints)?)
 }

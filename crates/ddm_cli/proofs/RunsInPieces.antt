@@ -1,0 +1,116 @@
+-- Turns made piece by piece, as one run.
+use Rattle.std.proofs.Common.{◌≡◌, ℕ, zero, suc, ◌+◌, ◌-◌, ◌<◌, ◌≤◌, Bool, true, false, cond, List, [], ◌∷◌, ◌++◌, length, drop, map, Option, Some, None, refl, sym, ap, subst, ◌∙◌, arith, append_assoc}
+use Rattle.std.specs.Prelude.{All, if◌then◌else◌}
+use Rattle.std.proofs.lemmas.List.{length-append}
+use Rattle.std.proofs.lemmas.List.Elements.{All-drop, All-weaker}
+use Rattle.ddm_types.specs.declared.answers.TurnAnswer.{TurnAnswer}
+use Rattle.ddm_types.specs.declared.turns.Turn.{Turn}
+use Rattle.tree_model.specs.State.Values.{MachineValue}
+use Rattle.tree_model.specs.Start.Sources.{TreeValue}
+use Rattle.tree_model.specs.Start.Machine.{start_machine}
+use Rattle.tree_model.specs.Turns.Machine.{names_part, run_of, turn_of}
+use Rattle.text_model.specs.declared.RunCounts.{RunCounts}
+use Rattle.text_model.specs.ReadBack.{GivesTurnsOf, IsTurnOf}
+use Rattle.text_model.specs.Run.{counted_answer, counts_of, no_counts}
+use Rattle.schedule_log.specs.Shapes.{shape_view}
+use Rattle.bus_laws.specs.IsTree.{IsTree}
+use Rattle.start_parts.proofs.Names.{run-names}
+use Rattle.ddm_tree.specs.Machine.{MachineState}
+use Rattle.any_machine.specs.Run.{AreBelow, CanRun, NameParts, answers_in, counts_in, ran, with_room}
+use Rattle.any_machine.proofs.RunMore.{counted-below, counted-plus, plus, plus-swap, same-counts}
+use Rattle.ddm_cli.specs.Made.{CanCount, HasMade, counts_plus}
+use Rattle.ddm_cli.specs.Parts.{HasStart}
+use Rattle.ddm_cli.specs.declared.making.Made.{Made}
+use Rattle.ddm_cli.proofs.StartNames.{named_parts}
+
+drop_front : {A : Type 0} (xs ys : List A) → drop (length xs) (xs ++ ys) ≡ ys
+drop_front [] ys = refl
+drop_front (x ∷ xs) ys = drop_front xs ys
+
+-- ---- two runs, one after the other
+
+answers_append : (ts us : List Turn) (m : MachineValue) → (run_of (ts ++ us) m).answers ≡ (run_of ts m).answers ++ (run_of us (run_of ts m).machine).answers
+unfolding run_of
+answers_append [] us m = refl
+answers_append (t ∷ ts) us m = ap (λ l. (turn_of t m).answer ∷ l) (answers_append ts us (turn_of t m).machine)
+
+machine_append : (ts us : List Turn) (m : MachineValue) → (run_of (ts ++ us) m).machine ≡ (run_of us (run_of ts m).machine).machine
+unfolding run_of
+machine_append [] us m = refl
+machine_append (t ∷ ts) us m = machine_append ts us (turn_of t m).machine
+
+counts_append : (xs ys : List TurnAnswer) → counts_of (xs ++ ys) ≡ counts_plus (counts_of xs) (counts_of ys)
+unfolding counts_of
+counts_append [] ys = refl
+counts_append (x ∷ xs) ys =
+    ap (counted_answer x) (counts_append xs ys) ∙ counted-plus x (plus (counts_of xs) (counts_of ys)) ∙ plus-swap (counts_of xs) (counts_of ys) (counted_answer x no_counts)
+    ∙ sym (ap (λ c. plus c (counts_of ys)) (counted-plus x (counts_of xs)))
+
+-- no count is above the number of answers
+counts_few : (xs : List TurnAnswer) → AreBelow (length xs + 1) (counts_of xs)
+unfolding counts_of
+counts_few [] = record { turns = omega arith; retired = omega arith; granted = omega arith; busy = omega arith }
+counts_few (x ∷ xs) = counted-below (length xs + 1) x (counts_of xs) (counts_few xs)
+
+answers_counted : (turns : List Turn) (m : MachineValue) → length (run_of turns m).answers ≡ length turns
+unfolding run_of
+answers_counted [] m = refl
+answers_counted (t ∷ ts) m = ap suc (answers_counted ts (turn_of t m).machine)
+
+run_counts_few : (turns : List Turn) (m : MachineValue) → AreBelow (length turns + 1) (counts_of (run_of turns m).answers)
+run_counts_few turns m = subst (λ n. AreBelow (n + 1) (counts_of (run_of turns m).answers)) (answers_counted turns m) (counts_few (run_of turns m).answers)
+
+kept_more : {A : Type 0} (keep : Bool) (old new before more : List A) → old ≡ (if keep then before else []) → new ≡ (if keep then old ++ more else old) → new ≡ (if keep then before ++ more else [])
+kept_more true old new before more was is = is ∙ ap (λ l. l ++ more) was
+kept_more false old new before more was is = is ∙ was
+
+-- ---- turns of a tree's machine
+
+module _ (t : TreeValue) (tree : IsTree t) (s : MachineState) (start : HasStart t s) where
+  -- nothing yet
+  pub nothing_made : (keep : Bool) (made : Made) → made.counts ≡ no_counts → made.turns.items ≡ [] → made.answers.items ≡ [] → HasMade keep s s made []
+  unfolding run_of counts_of
+  nothing_made keep made counts turns answers = record { machine = refl; number = omega arith; counts = counts; turns_kept = turns ∙ none keep; answers_kept = answers ∙ none keep } where
+    none : {A : Type 0} (b : Bool) → [] {A = A} ≡ (if b then [] else [])
+    none true = refl
+    none false = refl
+
+  module _ (keep : Bool) (now : MachineState) (made : Made) (turns more : List Turn) (has : HasMade keep s now made turns) (given : GivesTurnsOf (shape_view t.levels) 0 (turns ++ more)) where
+    -- the next turns name parts of the machine, and can be counted
+    pub more_named : NameParts more now.machine
+    more_named = subst (λ (m : MachineValue). NameParts more m) (sym has.machine) (All-weaker _ _ (λ u here. run-names u turns s.machine ∙ here) more at_start) where
+      each : All (IsTurnOf (shape_view t.levels)) more
+      each = subst (All (IsTurnOf (shape_view t.levels))) (drop_front turns more) (All-drop (IsTurnOf (shape_view t.levels)) (length turns) (turns ++ more) given.each)
+
+      at_start : NameParts more s.machine
+      at_start = subst (λ (m : MachineValue). NameParts more m) (sym (ap (λ (r : MachineState). r.machine) start.1.machine)) (named_parts t start.0 tree start.1.accepted more each)
+
+    few_turns : length turns + length more ≤ 1048576
+    few_turns = omega (arith, given.room, length-append turns more)
+
+    pub more_counted : CanRun more now
+    more_counted = let none : s.turns ≡ 0 = ap (λ (r : MachineState). r.turns) start.1.machine in omega (arith, none, has.number, few_turns)
+
+    pub can_count : CanCount made.counts (counts_in more now)
+    can_count =
+        let a = run_counts_few turns s.machine in
+        let b = run_counts_few more now.machine in
+        let c = subst (AreBelow (length turns + 1)) (sym has.counts) a in
+        record { turns = omega (arith, c.turns, b.turns, few_turns); retired = omega (arith, c.retired, b.retired, few_turns); granted = omega (arith, c.granted, b.granted, few_turns); busy = omega (arith, c.busy, b.busy, few_turns) }
+
+    -- and were made
+    module _ (after : MachineState) (made' : Made) (is : after ≡ ran more (with_room (length more) now)) (counts : made'.counts ≡ counts_plus made.counts (counts_in more now))
+        (kept : made'.turns.items ≡ (if keep then made.turns.items ++ more else made.turns.items)) (answers : made'.answers.items ≡ (if keep then made.answers.items ++ answers_in more now else made.answers.items)) where
+      pub more_made : HasMade keep s after made' (turns ++ more)
+      more_made =
+          let machine : after.machine ≡ (run_of more now.machine).machine = ap (λ (r : MachineState). r.machine) is in
+          let number : after.turns ≡ now.turns + length more = ap (λ (r : MachineState). r.turns) is in
+          record {
+            machine = machine ∙ ap (λ (m : MachineValue). (run_of more m).machine) has.machine ∙ sym (machine_append turns more s.machine);
+            number = omega (arith, number, has.number, length-append turns more);
+            counts = counts ∙ ap (λ (c : RunCounts). counts_plus c (counts_in more now)) has.counts ∙ ap (λ (m : MachineValue). counts_plus (counts_of (run_of turns s.machine).answers) (counts_of (run_of more m).answers)) has.machine ∙ sym (counts_append (run_of turns s.machine).answers (run_of more (run_of turns s.machine).machine).answers) ∙ ap counts_of (sym (answers_append turns more s.machine));
+            turns_kept = kept_more keep made.turns.items made'.turns.items turns more has.turns_kept kept;
+            answers_kept =
+              let both = kept_more keep made.answers.items made'.answers.items (run_of turns s.machine).answers (answers_in more now) has.answers_kept answers in
+              both ∙ ap (λ (m : MachineValue). if keep then (run_of turns s.machine).answers ++ (run_of more m).answers else []) has.machine ∙ ap (λ l. if keep then l else []) (sym (answers_append turns more s.machine));
+          }

@@ -1,0 +1,37 @@
+-- What turns came to that were made piece by piece.
+-- Letters: s is a machine before them.
+use Rattle.std.specs.Prelude.{◌≡◌, ℕ, ◌+◌, ◌≤◌, Bool, List, [], length, Option, if◌then◌else◌}
+use Rattle.ddm_types.specs.declared.turns.Turn.{Turn}
+use Rattle.tree_model.specs.Turns.Machine.{run_of}
+use Rattle.text_model.specs.declared.RunCounts.{RunCounts}
+use Rattle.text_model.specs.Run.{counts_of}
+use Rattle.ddm_tree.specs.Machine.{MachineState}
+use Rattle.ddm_cli.specs.Causes.{AcceptedAs}
+use Rattle.ddm_cli.specs.Parts.{turns_of}
+use Rattle.ddm_cli.specs.Told.{ScheduleGiven}
+use Rattle.ddm_cli.specs.declared.making.Made.{Made}
+
+-- the counts of turns and of more turns
+abbrev pub counts_plus : RunCounts → RunCounts → RunCounts
+counts_plus c d = record { turns = c.turns + d.turns; retired = c.retired + d.retired; granted = c.granted + d.granted; busy = c.busy + d.busy }
+
+-- they fit into words
+pub record CanCount (c d : RunCounts) : Type 0 where
+  pub turns : c.turns + d.turns ≤ 4294967295
+  pub retired : c.retired + d.retired ≤ 4294967295
+  pub granted : c.granted + d.granted ≤ 4294967295
+  pub busy : c.busy + d.busy ≤ 4294967295
+
+-- These turns were made of a machine: machine and counts are those of their run, and for a trace turns and answers are kept.
+pub record HasMade (keep : Bool) (s after : MachineState) (made : Made) (turns : List Turn) : Type 0 where
+  pub machine : after.machine ≡ (run_of turns s.machine).machine
+  pub number : after.turns ≡ s.turns + length turns
+  pub counts : made.counts ≡ counts_of (run_of turns s.machine).answers
+  pub turns_kept : made.turns.items ≡ (if keep then turns else [])
+  pub answers_kept : made.answers.items ≡ (if keep then (run_of turns s.machine).answers else [])
+
+-- and they are all that the schedule has, where it is told
+pub record HasAllMade (levels : List (List ℕ)) (told : Option ScheduleGiven) (keep : Bool) (s after : MachineState) (made : Made) : Type 0 where
+  pub turns : List Turn
+  pub accepted : AcceptedAs (turns_of levels) told turns
+  pub all : HasMade keep s after made turns

@@ -1,0 +1,172 @@
+ghost use Rattle.std.specs.Prelude.{◌≡◌, ◌<◌, ◌≤◌, ◌+◌, ◌++◌, [], ℕ, List, Some, length, IfOk, IfErr, OnOk, if◌then◌else◌};
+ghost use Rattle.std.specs.Option.{option_map};
+ghost use Rattle.text_model.specs.Run.{no_counts};
+ghost use Rattle.bus_laws.specs.IsTree.{IsTree};
+ghost use Rattle.any_machine.specs.Any.{machine_state};
+ghost use Rattle.any_machine.specs.Run.{CanRun, NameParts, answers_in, counts_in, ran, with_room};
+ghost use Rattle.ddm_cli.specs.Causes.{IsRefused, ScheduleCause};
+ghost use Rattle.ddm_cli.specs.Commands.{AreFew};
+ghost use Rattle.ddm_cli.specs.Made.{CanCount, HasAllMade, counts_plus};
+ghost use Rattle.ddm_cli.specs.Parts.{HasStart};
+ghost use Rattle.ddm_cli.specs.Told as Told;
+ghost use Rattle.ddm_cli.specs.Told.{schedule_faults, schedule_told, written};
+ghost use Rattle.ddm_cli.specs.Views.{turns_from};
+
+use crate::command::TurnSource;
+use crate::status::Status;
+use ddm_outside::Shelf;
+use ddm_types::{NoMemory, Turn, TurnAnswer};
+use report::FileRole;
+use run_engine::{AnyMachine, run};
+use schedule_log::{FeedError, ScheduleReader, seeded};
+use std::alloc::Global;
+use text_model::RunCounts;
+use tree_config::TreeConfig;
+
+/// What turns came to. A trace keeps them with their answers.
+#[derive(Drop)]
+pub struct Made {
+    pub counts: RunCounts,
+    pub turns: Vec<Turn>,
+    pub answers: Vec<TurnAnswer>,
+}
+
+fn nothing_made(alloc: Global) -> Made
+    ensures counts { result.counts ≡ no_counts }
+    ensures turns { result.turns.items ≡ [] }
+    ensures answers { result.answers.items ≡ [] }
+{
+    Made {
+        counts: RunCounts {
+            turns: 0,
+            retired: 0,
+            granted: 0,
+            busy: 0,
+        },
+        turns: Vec::new(alloc),
+        answers: Vec::new(alloc),
+    }
+}
+
+fn add_counts(counts: &mut RunCounts, more: RunCounts)
+    requires { CanCount counts.old more }
+    ensures { counts.new ≡ counts_plus counts.old more }
+{
+    counts.turns += more.turns;
+    counts.retired += more.retired;
+    counts.granted += more.granted;
+    counts.busy += more.busy;
+}
+
+// Makes more turns.
+fn make_turns(
+    machine: &mut AnyMachine,
+    turns: &[Turn],
+    made: &mut Made,
+    keep: bool,
+) -> Result<(), NoMemory>
+    requires named { NameParts turns.now (machine_state machine.old).machine }
+    requires few { CanRun turns.now (machine_state machine.old) }
+    requires counted { CanCount made.old.counts (counts_in turns.now (machine_state machine.old)) }
+    ensures after { OnOk result (machine_state machine.new ≡ ran turns.now (with_room (length turns.now) (machine_state machine.old))) }
+    ensures counts { OnOk result (made.new.counts ≡ counts_plus made.old.counts (counts_in turns.now (machine_state machine.old))) }
+    ensures turns { OnOk result (made.new.turns.items ≡ (if keep then made.old.turns.items ++ turns.now else made.old.turns.items)) }
+    ensures answers { OnOk result (made.new.answers.items ≡ (if keep then made.old.answers.items ++ answers_in turns.now (machine_state machine.old) else made.old.answers.items)) }
+{
+    if keep {
+        made.turns.extend_from_slice(turns)?;
+    }
+    let counts = run(machine, turns, &mut made.answers, keep)?;
+    add_counts(&mut made.counts, counts);
+    Ok(())
+}
+
+/// Makes the turns of a schedule file, those of each piece that is read before the next one is asked for. So a line that is refused
+/// is answered before any byte is asked for that comes behind the piece with its end.
+fn schedule_made<F: Shelf>(
+    alloc: Global,
+    files: &mut F,
+    name: &str,
+    buffer: &mut [u8],
+    tree: &TreeConfig,
+    machine: &mut AnyMachine,
+    keep: bool,
+) -> Result<Made, Status>
+    requires room { 0 < length buffer.old }
+    requires tree { IsTree tree.now }
+    requires start { HasStart tree.now (machine_state machine.old) }
+    ensures all { IfOk result (λ made. HasAllMade tree.now.levels (option_map written (F.told files.old name.now)) keep (machine_state machine.old) (machine_state machine.new) made) }
+    ensures cause { IfErr result (ScheduleCause (IsRefused tree.now.levels) (option_map written (F.told files.old name.now)) (F.faults files.old name.now) (F.faults files.new name.now)) }
+    ensures later { (other : List ℕ) → F.faults files.old other ≤ F.faults files.new other }
+{
+    let mut reader = ScheduleReader::new(alloc)?;
+    let mut made = nothing_made(alloc);
+    let mut turns = Vec::new(alloc);
+    let mut at = 0;
+    'reading: loop {
+        let Ok(n) = files.read(name, at, buffer) else {
+            return Err(Status::ReadFault(FileRole::ScheduleFile));
+        };
+        if n == 0 {
+            return match reader.finish() {
+                Ok(()) => Ok(made),
+                Err((line, refusal)) => Err(Status::Schedule(line, refusal)),
+            };
+        }
+        match reader.feed(&tree.nodes, &buffer[..n], &mut turns) {
+            Ok(()) => at += n as u64,
+            Err(FeedError::Refused(line, refusal)) => return Err(Status::Schedule(line, refusal)),
+            Err(FeedError::NoMemory) => return Err(Status::NoMemory),
+        }
+        make_turns(machine, &turns, &mut made, keep)?;
+        turns.clear();
+    }
+}
+
+// Makes the turns of a seed.
+fn seed_made(
+    alloc: Global,
+    tree: &TreeConfig,
+    seed: u64,
+    count: u32,
+    machine: &mut AnyMachine,
+    keep: bool,
+) -> Result<Made, NoMemory>
+    requires few { count ≤ 1048576 }
+    requires tree { IsTree tree.now }
+    requires start { HasStart tree.now (machine_state machine.old) }
+    ensures { IfOk result (λ made. HasAllMade tree.now.levels (Some (Told.seeded seed count)) keep (machine_state machine.old) (machine_state machine.new) made) }
+{
+    let turns = seeded(alloc, seed, count, &tree.nodes)?;
+    let mut made = nothing_made(alloc);
+    make_turns(machine, &turns, &mut made, keep)?;
+    Ok(made)
+}
+
+/// Makes the turns of a run on the machine of a tree.
+pub fn turns_made<F: Shelf>(
+    alloc: Global,
+    files: &mut F,
+    turns: TurnSource<'_>,
+    buffer: &mut [u8],
+    tree: &TreeConfig,
+    machine: &mut AnyMachine,
+    keep: bool,
+) -> Result<Made, Status>
+    requires room { 0 < length buffer.old }
+    requires few { AreFew (turns_from turns) }
+    requires tree { IsTree tree.now }
+    requires start { HasStart tree.now (machine_state machine.old) }
+    ensures all { IfOk result (λ made. HasAllMade tree.now.levels (schedule_told (F.told files.old) (turns_from turns.entry)) keep (machine_state machine.old) (machine_state machine.new) made) }
+    ensures cause { IfErr result (ScheduleCause (IsRefused tree.now.levels) (schedule_told (F.told files.old) (turns_from turns.entry)) (schedule_faults (F.faults files.old) (turns_from turns.entry)) (schedule_faults (F.faults files.new) (turns_from turns.entry))) }
+    ensures later { (other : List ℕ) → F.faults files.old other ≤ F.faults files.new other }
+{
+    match turns {
+        TurnSource::File(name) => {
+            schedule_made(alloc, files, name, buffer, tree, machine, keep)
+        }
+        TurnSource::Seeded { seed, count } => {
+            Ok(seed_made(alloc, tree, seed, count, machine, keep)?)
+        }
+    }
+}
