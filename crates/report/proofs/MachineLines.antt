@@ -1,10 +1,8 @@
 -- The lines of a machine's harts, buses and items, one more at a time.
 use Rattle.std.proofs.Common.{◌≡◌, ◌<◌, ◌≤◌, ℕ, zero, suc, ◌+◌, ◌++◌, List, [], ◌∷◌, length, map, take, Option, Some, None, true, get_or, refl, sym, ap, ◌∙◌, arith, add-one, add-zero, zero-add}
-use Rattle.std.specs.Prelude.{slice_get, slice_index_or, nat_le, nat_eq}
-use Rattle.std.specs.List.{flat_map}
+use Rattle.std.specs.Prelude.{slice_get, nat_le, nat_eq}
 use Rattle.std.proofs.lemmas.Bool.{eqb-true, leb-true}
 use Rattle.std.proofs.lemmas.List.{append-nil, append_assoc, length-take-le, length-map}
-use Rattle.std.proofs.lemmas.Grind.{flat_map-append}
 use Rattle.ddm_types.specs.declared.sizes.LeafState.{LeafState}
 use Rattle.ddm_types.specs.ItemTable.{ItemRow, no_row}
 use Rattle.rv_hart.specs.HartState.{HartState}

@@ -1,7 +1,7 @@
 -- A report as the texts of its parts, one behind the other.
 -- Letters: v is what a report shows, k and n are numbers of parts, t is a part's text.
-use Rattle.std.proofs.Common.{◌≡◌, ◌<◌, ◌≤◌, ℕ, ◌+◌, Bool, true, false, cond, List, [], ◌∷◌, ◌++◌, length, drop, get_or, refl, sym, ap, ◌∙◌, arith, append_assoc, add-zero}
-use Rattle.std.specs.Prelude.{codes, decimal, nat_lt, ⊤}
+use Rattle.std.proofs.Common.{◌≡◌, ◌<◌, ◌≤◌, ℕ, ◌+◌, Bool, true, false, cond, List, [], ◌∷◌, ◌++◌, length, drop, get_or, refl, sym, ap, ◌∙◌, arith, append_assoc}
+use Rattle.std.specs.Prelude.{codes, decimal, nat_lt}
 use Rattle.std.specs.List.{flat_map}
 use Rattle.std.proofs.lemmas.Bool.{ltb-true, ltb-false}
 use Rattle.std.proofs.lemmas.List.{append-nil, drop_all, drop_more}
@@ -9,7 +9,7 @@ use Rattle.ddm_types.specs.declared.operations.Op.{Op}
 use Rattle.tree_model.specs.declared.Traffic.{Traffic}
 use Rattle.tree_model.specs.Turns.Machine.{no_traffic}
 use Rattle.text_model.specs.declared.RunCounts.{RunCounts}
-use Rattle.text_model.specs.Report.{HartView, ItemView, ReportView, bus_line, bus_lines_from, hart_line_of, hart_lines, head_lines, item_line, item_lines, letter_texts, op_line, op_lines, out_line, put_texts, regs_line, report_of, turns_line, hart_line}
+use Rattle.text_model.specs.Report.{HartView, ItemView, ReportView, bus_line, bus_lines_from, hart_line_of, hart_lines, head_lines, item_line, item_lines, letter_texts, op_line, op_lines, out_line, put_texts, regs_line, report_of, hart_line}
 use Rattle.report.specs.LineParts.{dash_behind, item_front}
 use Rattle.report.specs.ReportLeft.{from_operation, from_item, from_bus, from_hart, hart_front, front_of, no_item, no_view, states_shown, from_part, HasPart, HasSize, operation_part, item_part, bus_part, hart_part, Gives}
 use Rattle.report.specs.declared.report_parts.ReportPart.{ReportPart}

@@ -14,4 +14,5 @@ dash_behind output = if any_byte output then [] else codes "-"
 
 -- the line of an item up to the states of its entries
 unfoldable pub item_front : ℕ → ℕ → List ℕ → CopyPlace → List ℕ
-item_front number address words place = codes "item " ++ decimal number ++ codes " " ++ hex8 address ++ word_texts words ++ codes " " ++ copy_place_text place ++ codes " "
+item_front number address words place =
+    codes "item " ++ decimal number ++ codes " " ++ hex8 address ++ word_texts words ++ codes " " ++ copy_place_text place ++ codes " "

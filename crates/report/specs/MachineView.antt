@@ -1,5 +1,5 @@
 -- What a report shows of a machine.
-use Rattle.std.specs.Prelude.{◌≡◌, ℕ, ◌≤◌, List}
+use Rattle.std.specs.Prelude.{◌≡◌, List}
 use Rattle.ddm_types.specs.declared.operations.Op.{Op}
 use Rattle.tree_model.specs.State.Shape.{IsShaped, depth_of}
 use Rattle.tree_model.specs.State.Values.{MachineValue}

@@ -104,6 +104,7 @@ pub fn push_put_by<W: TextBuffer>(out: &mut W, hart: HartNo, op: &Op) -> Result<
     Ok(())
 }
 
+// Whether an operation puts a byte of a hart.
 #[tactic(auto, unfolding(ddm_text::specs::Hex::hex2))]
 fn puts_byte(hart: HartNo, op: &Op) -> bool
     ensures { result ≡ any_byte (put_text_by hart op.now) }

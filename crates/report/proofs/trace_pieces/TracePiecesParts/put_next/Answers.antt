@@ -1,4 +1,4 @@
-use Rattle.std.proofs.Common.{◌≡◌, ◌<◌, ◌+◌, ◌++◌, drop, length, sym, ap, ◌∙◌, arith}
+use Rattle.std.proofs.Common.{◌<◌, ◌+◌, ◌++◌, drop, length, sym, ap, ◌∙◌, arith}
 use Rattle.ddm_text.specs.Adds.{alone}
 use Rattle.text_model.specs.Trace.{trace_from}
 use Rattle.report.proofs.TraceParts.{line-some, trace-more, trace-none}
