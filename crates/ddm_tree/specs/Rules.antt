@@ -7,22 +7,11 @@ use Rattle.tree_rules.specs.Bus.Rules.{IsMachineOk}
 use Rattle.tree_rules.specs.Order.Rules.{IsTimed, IsCore}
 use Rattle.tree_rules.specs.Witness.{IsWitnessed}
 
--- the rules of every bus, and the rules of time
+-- the rules of every bus, and those of time
 unfoldable pub KeepsRules : MachineValue → Type 0
 KeepsRules m = IsMachineOk m × IsTimed m
 
-pub rules-of : (m : MachineValue) → IsMachineOk m → IsTimed m → KeepsRules m
-unfolding KeepsRules
-rules-of m buses timed = (buses, timed)
-
-pub rules-buses : (m : MachineValue) → KeepsRules m → IsMachineOk m
-unfolding KeepsRules
-rules-buses m rules = rules.0
-
-pub rules-timed : (m : MachineValue) → KeepsRules m → IsTimed m
-unfolding KeepsRules
-rules-timed m rules = rules.1
-
--- from whatever start the machine before is in order, so is the one after, and a reader is told of it what the start's run gives
+-- From whatever start the core rules of order hold before, they hold after, and the machine's operations in key order are one run of
+-- the flat machine from that start, with its harts and its words.
 unfoldable pub StaysInOrder : MachineValue → MachineValue → Type 0
 StaysInOrder before after = (s : FlatMachine) → IsCore s before → IsCore s after × IsWitnessed s after

@@ -20,7 +20,7 @@ use Rattle.order_laws.specs.EveryTurn.{IsOrderly}
 use Rattle.headline.proofs.StartOrder.{start-orderly}
 use Rattle.ddm_tree.specs.Counts.{counts_within}
 use Rattle.ddm_tree.specs.Machine.{IsNew}
-use Rattle.ddm_tree.specs.Rules.{rules-of}
+use Rattle.ddm_tree.proofs.RulesKept.{rules-of}
 use Rattle.ddm_tree.specs.Ready.{words_are}
 use Rattle.start_parts.specs.Counts.{counts_of}
 use Rattle.start_parts.specs.Held.{AreHeld}

@@ -3,8 +3,9 @@ use Rattle.ddm_types.specs.ItemTable.{item_count}
 use Rattle.tree_model.specs.Turns.Found.{found_copy, found_place, found_words}
 use Rattle.bus_laws.proofs.FoundExists.{found_copy-exists}
 use Rattle.ddm_tree.specs.Ready.{IsItemIn}
-use Rattle.ddm_tree.specs.Rules.{KeepsRules, rules-buses}
+use Rattle.ddm_tree.specs.Rules.{KeepsRules}
 use Rattle.ddm_tree.proofs.FoundCopy.{copy_among, items-under}
+use Rattle.ddm_tree.proofs.RulesKept.{rules-buses}
 use Rattle.ddm_tree.proofs.machine.Machine.found.Goals as goal
 
 pub found_among-requires : goal.found_among-requires

@@ -3,9 +3,8 @@ use Rattle.std.proofs.Common.{◌≡◌, ◌≤◌, ◌+◌, length, map, take, 
 use Rattle.tree_model.specs.State.Shape.{tree_counts}
 use Rattle.tree_model.specs.Turns.Machine.{names_part, turn_of}
 use Rattle.ddm_tree.specs.Machine.{IsMachine, MachineState, machine_of, state_after}
-use Rattle.ddm_tree.specs.Rules.{StaysInOrder}
 use Rattle.ddm_tree.proofs.MachineKept.{turn-keeps}
-use Rattle.ddm_tree.proofs.RulesKept.{turn-order}
+use Rattle.ddm_tree.proofs.RulesKept.{made-order}
 use Rattle.ddm_tree.proofs.TurnMade.{Told, all-traffic-most, items-back, machine-ready, part-found, state-made, told-turn, turn-tree_counts}
 use Rattle.ddm_tree.proofs.machine.Machine.turn.Goals as goal
 use Rattle.ddm_tree.proofs.machine.Machine.turn.Given
@@ -68,4 +67,4 @@ pub returns-clause-order : goal.returns-clause-order
 returns-clause-order g c =
     let m = machine_of c.self.inside.code c.self.inside.items c.self.inside.top (map g.C.Agent.value c.self.inside.children.items) c.self.inside.ops.items c.self.inside.traffic.items in
     let inv = c.self.invariant.0 in
-    subst (λ s. StaysInOrder s.machine _) c.self.view_is (subst (StaysInOrder m) (sym (machine-after g c)) (turn-order c.args.turn m inv.shaped inv.rules))
+    made-order c.args.turn m _ _ (ap (λ s. s.machine) c.self.view_is) (machine-after g c) inv.shaped inv.rules
