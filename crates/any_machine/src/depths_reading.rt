@@ -5,6 +5,7 @@ ghost use Rattle.tree_model.specs.Turns.Found.{found_copy};
 ghost use Rattle.tree_model.specs.Turns.Tree.{leaf_of_number};
 ghost use Rattle.ddm_tree.specs.Machine.{is_part};
 ghost use Rattle.ddm_tree.specs.Reads.{counted_hart_of};
+ghost use Rattle.ddm_tree.specs.Rules.{KeepsRules};
 ghost use Rattle.inspector.specs.States.{state_of};
 ghost use Rattle.any_machine.specs.Any.{depths_state};
 
@@ -21,6 +22,7 @@ use tree_model::Traffic;
 fn counts_over<const WORDS: usize, C: Subtree<WORDS>>(machine: &Machine<WORDS, Dir<WORDS, C>>) -> TreeCounts
     ensures counts { result ≡ tree_counts machine.now.machine }
     ensures shape { IsShaped machine.now.machine }
+    ensures rules { KeepsRules machine.now.machine }
 {
     machine.counts()
 }
@@ -50,9 +52,9 @@ fn hart_over<const WORDS: usize, C: Subtree<WORDS>>(machine: &Machine<WORDS, Dir
     machine.hart(hart)
 }
 
-fn find_over<const WORDS: usize, C: Subtree<WORDS>>(machine: &Machine<WORDS, Dir<WORDS, C>>, item: ItemId) -> Option<Found<WORDS>>
+fn find_over<const WORDS: usize, C: Subtree<WORDS>>(machine: &Machine<WORDS, Dir<WORDS, C>>, item: ItemId) -> Found<WORDS>
     requires { item < item_count machine.now.machine.items }
-    ensures { result ≡ found_copy item machine.now.machine }
+    ensures { Some result ≡ found_copy item machine.now.machine }
 {
     find(machine, item)
 }
@@ -71,6 +73,7 @@ impl<const WAYS: usize, const WORDS: usize> Depths<WAYS, WORDS> {
     pub fn counts(&self) -> TreeCounts
         ensures counts { result ≡ tree_counts (depths_state self.now).machine }
         ensures shape { IsShaped (depths_state self.now).machine }
+        ensures rules { KeepsRules (depths_state self.now).machine }
     {
         match self {
             Depths::D1(machine) => machine.counts(),
@@ -127,10 +130,10 @@ impl<const WAYS: usize, const WORDS: usize> Depths<WAYS, WORDS> {
         }
     }
 
-    /// The current copy of an item.
-    pub fn find(&self, item: ItemId) -> Option<Found<WORDS>>
+    /// The current copy of an item, which every item has.
+    pub fn find(&self, item: ItemId) -> Found<WORDS>
         requires { item < item_count (depths_state self.now).machine.items }
-        ensures { result ≡ found_copy item (depths_state self.now).machine }
+        ensures { Some result ≡ found_copy item (depths_state self.now).machine }
     {
         match self {
             Depths::D1(machine) => find(machine, item),
