@@ -19,7 +19,6 @@ use crate::pieces::push_bytes;
 use any_machine::Machines;
 use ddm_types::{BusNo, HartNo, ItemId, LEVELS, LeafNo, Op};
 use text_model::RunCounts;
-use tree_model::CopyPlace;
 
 // From so many bytes on a line takes no further byte of output and no further state.
 const LONG_LINE: usize = 500;
@@ -100,7 +99,7 @@ pub fn put_bus<const WORDS: usize>(line: &mut Line, machine: &Machines<WORDS>, b
     };
 }
 
-/// Puts the line of an item, up to the states of its entries. One that is found nowhere, which no run has, is shown without words.
+/// Puts the line of an item, up to the states of its entries.
 pub fn put_item<const WORDS: usize>(line: &mut Line, machine: &Machines<WORDS>, item: ItemId)
     requires small { WORDS ≤ 16 }
     requires empty { line.old ≡ [] }
@@ -108,17 +107,8 @@ pub fn put_item<const WORDS: usize>(line: &mut Line, machine: &Machines<WORDS>, 
     ensures { let m = (state_in machine.now).machine in line.new ≡ front_of (item_view m item (row_at m.items item)) }
 {
     let address = machine.items().address(item);
-    let put = match machine.find(item) {
-        Some(found) => push_item_front(line, item, address, &found.words.w, found.at),
-        None => {
-            let nowhere = CopyPlace::Parking {
-                bus: BusNo(0),
-                place: 0,
-            };
-            push_item_front(line, item, address, &[], nowhere)
-        }
-    };
-    let Ok(()) = put else {
+    let found = machine.find(item);
+    let Ok(()) = push_item_front(line, item, address, &found.words.w, found.at) else {
         unreachable!();
     };
 }
