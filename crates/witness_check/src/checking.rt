@@ -1,0 +1,30 @@
+ghost use Rattle.std.specs.Prelude.{◌≡◌, ◌⊎◌, ◌≤◌, ◌+◌, ◌*◌};
+ghost use Rattle.ddm_types.specs.ItemTable.{IsItemSize};
+ghost use Rattle.witness_check.specs.Start.{check_of};
+ghost use Rattle.witness_check.specs.Reader.{setting};
+ghost use Rattle.witness_check.specs.declared.refusal.CheckRefusal.TheVariants as refusal;
+
+use crate::reader::WitnessReader;
+use crate::refusal::CheckRefusal;
+use ddm_types::Start;
+use elf_load::Image;
+use std::alloc::Global;
+
+/// Judges the text of a witness: the number of its lines, if each is the line of an operation that is the next step of its
+/// hart, from the start of the image and the harts; or the first refusal.
+pub fn check(
+    alloc: Global,
+    image: &Image,
+    start: Start,
+    item_bytes: u32,
+    text: &[u8],
+) -> Result<u32, CheckRefusal>
+    requires size { IsItemSize item_bytes }
+    requires harts { start.harts ≤ 64 }
+    requires stacks { start.stack_base + start.harts * start.stack_bytes ≤ 4294967280 }
+    ensures { (result ≡ Err refusal.NoMemory) ⊎ (result ≡ check_of (setting image.now start item_bytes) text.now) }
+{
+    let mut reader = WitnessReader::new(alloc, image, start, item_bytes)?;
+    reader.feed(text)?;
+    reader.finish()
+}
