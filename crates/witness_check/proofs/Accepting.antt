@@ -31,6 +31,10 @@ pub record AreLegal (p : Program) (machine : FlatMachine) (made : ℕ) (text : L
 no_refusal : (p : Program) (refusal : CheckRefusal) (text : List ℕ) (lines : ℕ) {P : Type 0} → answer_of (lines_of p (refused refusal) text) ≡ Ok lines → P
 no_refusal p refusal text lines e = absurd (cc (sym (ap answer_of (refused_stays p refusal text)) ∙ e))
 
+legal_none : (p : Program) (machine : FlatMachine) → Legal p.code p.items machine []
+unfolding legal_run
+legal_none p machine = refl
+
 -- one more operation before legal ones
 legal_more : (p : Program) (machine next : FlatMachine) (op : Op) (ops : List Op) → legal_step p.code p.items machine op ≡ Some next → Legal p.code p.items next ops → Legal p.code p.items machine (op ∷ ops)
 unfolding legal_run
@@ -38,19 +42,14 @@ legal_more p machine next op ops step legal =
     let P : Option FlatMachine → Type 0 = λ o. IsSome (option_and_then (λ m. legal_run p.code p.items m ops) o) in
     subst P (sym step) legal
 
-accepted : (p : Program) (machine : FlatMachine) (made : ℕ) (front text : List ℕ) (lines : ℕ) → made ≤ 1048576 → answer_of (lines_of p (going machine made front) text) ≡ Ok lines → AreLegal p machine made (front ++ text) lines
-unfolding with_byte
-accepted p machine made [] [] lines few e =
-    let same : made ≡ lines = cc e in
-    record { ops = []; text_is = refl; count = omega arith; few = omega arith; legal = tt }
-accepted p machine made (b ∷ front) [] lines few e = absurd (cc e)
-accepted p machine made front (byte ∷ text) lines few e = by_room (nat_lt made 1048576) refl e where
-  P : List ℕ → Type 0
-  P t = AreLegal p machine made t lines
-
+-- one byte of a text that is accepted, where the same is known of what it makes: behind its line, and with a longer line
+module _ (p : Program) (machine : FlatMachine) (made : ℕ) (front : List ℕ) (byte : ℕ) (text : List ℕ) (lines : ℕ)
+  (behind : (next : FlatMachine) → made < 1048576 → answer_of (lines_of p (going next (made + 1) []) text) ≡ Ok lines → AreLegal p next (made + 1) text lines)
+  (longer : answer_of (lines_of p (going machine made (front ++ byte ∷ [])) text) ≡ Ok lines → AreLegal p machine made ((front ++ byte ∷ []) ++ text) lines)
+  where
   by_step : (o : Option FlatMachine) (op : Op) → byte ≡ 10 → made < 1048576 → op_in front ≡ Some op → legal_step p.code p.items machine op ≡ o → answer_of (lines_of p (after_step made o) text) ≡ Ok lines → AreLegal p machine made (front ++ byte ∷ text) lines
   by_step (Some next) op is room read step e =
-      let more = accepted p next (made + 1) [] text lines (omega arith) e in
+      let more = behind next room e in
       record {
         ops = op ∷ more.ops;
         text_is = (front, text, ap (λ (b : ℕ). front ++ b ∷ text) is, line_of front op read, more.text_is);
@@ -65,16 +64,30 @@ accepted p machine made front (byte ∷ text) lines few e = by_room (nat_lt made
   by_line None is room read e = no_refusal p (BadLine (made + 1)) text lines e
 
   by_length : (d : Bool) → answer_of (lines_of p (longer_line d machine made front byte) text) ≡ Ok lines → AreLegal p machine made (front ++ byte ∷ text) lines
-  by_length true e = subst P (append_assoc front (byte ∷ []) text) (accepted p machine made (front ++ byte ∷ []) text lines few e)
+  by_length true e =
+      let P : List ℕ → Type 0 = λ t. AreLegal p machine made t lines in
+      subst P (append_assoc front (byte ∷ []) text) (longer e)
   by_length false e = no_refusal p (BadLine (made + 1)) text lines e
 
   by_byte : (d : Bool) → nat_eq byte 10 ≡ d → made < 1048576 → answer_of (lines_of p (in_line d p machine made front byte) text) ≡ Ok lines → AreLegal p machine made (front ++ byte ∷ text) lines
   by_byte true is room e = by_line (op_in front) (eqb-true byte 10 is) room refl e
   by_byte false is room e = by_length (nat_lt (length front) 160) e
 
-  by_room : (d : Bool) → nat_lt made 1048576 ≡ d → answer_of (lines_of p (in_text d p machine made front byte) text) ≡ Ok lines → AreLegal p machine made (front ++ byte ∷ text) lines
-  by_room true room e = by_byte (nat_eq byte 10) refl (ltb-true made 1048576 room) e
-  by_room false room e = no_refusal p (TooManyLines (made + 1)) text lines e
+  one_byte : (d : Bool) → nat_lt made 1048576 ≡ d → answer_of (lines_of p (in_text d p machine made front byte) text) ≡ Ok lines → AreLegal p machine made (front ++ byte ∷ text) lines
+  one_byte true room e = by_byte (nat_eq byte 10) refl (ltb-true made 1048576 room) e
+  one_byte false room e = no_refusal p (TooManyLines (made + 1)) text lines e
+
+accepted : (p : Program) (machine : FlatMachine) (made : ℕ) (front text : List ℕ) (lines : ℕ) → made ≤ 1048576 → answer_of (lines_of p (going machine made front) text) ≡ Ok lines → AreLegal p machine made (front ++ text) lines
+unfolding with_byte
+accepted p machine made [] [] lines few e =
+    let same : made ≡ lines = cc e in
+    record { ops = []; text_is = refl; count = omega arith; few = omega arith; legal = legal_none p machine }
+accepted p machine made (b ∷ front) [] lines few e = absurd (cc e)
+accepted p machine made front (byte ∷ text) lines few e =
+    one_byte p machine made front byte text lines
+    (λ next room e'. accepted p next (made + 1) [] text lines (omega (arith, room)) e')
+    (λ e'. accepted p machine made (front ++ byte ∷ []) text lines few e')
+    (nat_lt made 1048576) refl e
 
 -- ---- and what is so is accepted
 
@@ -115,21 +128,24 @@ unfolding legal_run
 complete p machine made text [] is few legal =
     let same : made ≡ made + 0 = omega arith in
     ap (λ (t : List ℕ). answer_of (lines_of p (going machine made []) t)) is ∙ ap (λ (n : ℕ). Ok n) same
-complete p machine made text (op ∷ ops) is few legal = by (legal_step p.code p.items machine op) refl legal where
-  by : (o : Option FlatMachine) → legal_step p.code p.items machine op ≡ o → IsSome (option_and_then (λ m. legal_run p.code p.items m ops) o)
-      → answer_of (lines_of p (going machine made []) text) ≡ Ok (made + length (op ∷ ops))
-  by None step legal = absurd legal
-  by (Some next) step legal =
-      let line = is.0 in
-      let rest = is.1 in
-      let read = read_line line op is.3 in
-      let room : made < 1048576 = omega (arith, few) in
-      let same : made + 1 + length ops ≡ made + length (op ∷ ops) = omega arith in
-      ap (λ (t : List ℕ). answer_of (lines_of p (going machine made []) t)) is.2
-      ∙ ap answer_of (going_on p machine made [] line (10 ∷ rest) room read.lacks (omega (arith, read.short)))
-      ∙ ap (λ s. answer_of (lines_of p s rest)) (line_end_step p machine made line room ∙ ap (λ o. after_line p machine made o) read.is ∙ ap (λ o. after_step made o) (step_of_key p machine read.read op read.same ∙ step))
-      ∙ complete p next (made + 1) rest ops is.4 (omega (arith, few)) legal
-      ∙ ap (λ (n : ℕ). Ok n) same
+complete p machine made text (op ∷ ops) is few legal =
+    by (λ next legal'. complete p next (made + 1) is.1 ops is.4 (omega (arith, few)) legal') (legal_step p.code p.items machine op) refl legal
+  where
+    by : ((next : FlatMachine) → Legal p.code p.items next ops → answer_of (lines_of p (going next (made + 1) []) is.1) ≡ Ok (made + 1 + length ops))
+        → (o : Option FlatMachine) → legal_step p.code p.items machine op ≡ o → IsSome (option_and_then (λ m. legal_run p.code p.items m ops) o)
+        → answer_of (lines_of p (going machine made []) text) ≡ Ok (made + length (op ∷ ops))
+    by more None step legal = absurd (cc legal)
+    by more (Some next) step legal =
+        let line = is.0 in
+        let rest = is.1 in
+        let read = read_line line op is.3 in
+        let room : made < 1048576 = omega (arith, few) in
+        let same : made + 1 + length ops ≡ made + length (op ∷ ops) = omega arith in
+        ap (λ (t : List ℕ). answer_of (lines_of p (going machine made []) t)) is.2
+        ∙ ap answer_of (going_on p machine made [] line (10 ∷ rest) room read.lacks (omega (arith, read.short)))
+        ∙ ap (λ s. answer_of (lines_of p s rest)) (line_end_step p machine made line room ∙ ap (λ o. after_line p machine made o) read.is ∙ ap (λ o. after_step made o) (step_of_key p machine read.read op read.same ∙ step))
+        ∙ more next legal
+        ∙ ap (λ (n : ℕ). Ok n) same
 
 length-text : (text : List ℕ) (ops : List Op) → IsTextOf text ops → length text ≤ 161 * length ops
 length-text text [] is = omega (arith, ap length is)

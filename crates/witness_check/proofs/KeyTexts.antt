@@ -62,17 +62,17 @@ pub record AreDecimals (words : List (List ℕ)) (ns : List ℕ) : Type 0 where
 pub decimals_of : (words : List (List ℕ)) (ns : List ℕ) → numbers_in words ≡ Some ns → AreDecimals words ns
 decimals_of [] [] e = record { small = tt; are = refl }
 decimals_of [] (n ∷ ns) e = absurd (cc e)
-decimals_of (w ∷ ws) ns e = by (place_in w) (numbers_in ws) ns refl refl e where
-  by : (o : Option ℕ) (more : Option (List ℕ)) (ns : List ℕ) → place_in w ≡ o → numbers_in ws ≡ more → with_number o more ≡ Some ns → AreDecimals (w ∷ ws) ns
-  by (Some n) (Some others) [] one rest e = absurd (cc e)
-  by (Some n) (Some others) (m ∷ ms) one rest e =
+decimals_of (w ∷ ws) ns e = by (λ ms rest. decimals_of ws ms rest) (place_in w) (numbers_in ws) ns refl refl e where
+  by : ((ms : List ℕ) → numbers_in ws ≡ Some ms → AreDecimals ws ms) → (o : Option ℕ) (more : Option (List ℕ)) (ns : List ℕ) → place_in w ≡ o → numbers_in ws ≡ more → with_number o more ≡ Some ns → AreDecimals (w ∷ ws) ns
+  by more (Some n) (Some others) [] one rest e = absurd (cc e)
+  by more (Some n) (Some others) (m ∷ ms) one rest e =
       let first : n ≡ m = cc e in
       let behind : others ≡ ms = cc e in
       let here = decimal_of w m (one ∙ ap (λ (k : ℕ). Some k) first) in
-      let there = decimals_of ws ms (rest ∙ ap (λ (ks : List ℕ). Some ks) behind) in
+      let there = more ms (rest ∙ ap (λ (ks : List ℕ). Some ks) behind) in
       record { small = (here.small, there.small); are = ap (λ (t : List ℕ). t ∷ ws) here.is ∙ ap (λ (ts : List (List ℕ)). decimal m ∷ ts) there.are }
-  by (Some n) None ns one rest e = absurd (cc e)
-  by None more ns one rest e = absurd (cc e)
+  by more (Some n) None ns one rest e = absurd (cc e)
+  by more None others ns one rest e = absurd (cc e)
 
 pub numbers_in-decimals : (ns : List ℕ) → AreSmall ns → numbers_in (map decimal ns) ≡ Some ns
 numbers_in-decimals [] small = refl

@@ -3,6 +3,7 @@ pub mod Pieces
 pub mod Cuts
 pub mod Numbers
 pub mod FlatWords
+pub mod ReaderSteps
 pub mod HexTexts
 pub mod KeyTexts
 pub mod EffectTexts

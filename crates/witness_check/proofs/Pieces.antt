@@ -53,3 +53,7 @@ answer_is s text accepted = ap (λ o. answer_unless o (answer_of (reader_after s
 pub refused_at_start : (s : Setting) (text : List ℕ) (refusal : CheckRefusal) → start_refusal s ≡ Some refusal → Err refusal ≡ check_of s text
 unfolding check_of
 refused_at_start s text refusal e = ap (λ o. answer_unless o (answer_of (reader_after s text).standing)) (sym e)
+
+-- a text in one piece
+pub whole_text : (s : Setting) (text : List ℕ) → fed (begun s) text ≡ reader_after s text
+whole_text s text = ap (λ r. fed r text) (nothing_yet s) ∙ piece_more s [] text

@@ -1,6 +1,6 @@
 ghost use Rattle.std.specs.Prelude.{◌≡◌, ◌⊎◌, ◌≤◌, ◌+◌, ◌*◌, None, Some, IfErr, IfOk};
 ghost use Rattle.ddm_types.specs.ItemTable.{IsItemSize};
-ghost use Rattle.flat_model.specs.Legal.{is_sc_ok, legal_step};
+ghost use Rattle.flat_model.specs.Legal.{is_sc_ok, legal_step, same_effect};
 ghost use Rattle.start_memory.specs.Memory.{memory_items};
 ghost use Rattle.witness_check.specs.Start.{start_refusal};
 ghost use Rattle.witness_check.specs.Reader.{StepGives, judge_at_start, setting};
@@ -38,6 +38,12 @@ fn is_sc_ok(effect: &Effect) -> bool
     ensures { result ≡ is_sc_ok effect.now }
 {
     matches!(effect, Effect::ScOk { .. })
+}
+
+fn same_effect(made: &Effect, said: &Effect) -> bool
+    ensures { result ≡ same_effect made.now said.now }
+{
+    made == said
 }
 
 // The items of a program that has a start.
@@ -100,7 +106,7 @@ impl Judge {
         }
         let sc_ok = is_sc_ok(&op.effect);
         match self.machine.step(&self.code, &self.items, op.hart, sc_ok) {
-            Ok(effect) => effect == op.effect,
+            Ok(effect) => same_effect(&effect, &op.effect),
             Err(_) => false,
         }
     }

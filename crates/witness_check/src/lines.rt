@@ -35,6 +35,8 @@ pub(crate) fn op_of_line(line: &[u8]) -> Option<Op>
     let (mark, first) = cut_word(line)?;
     let (hart, second) = cut_word(first)?;
     let (key, third) = cut_word(second)?;
-    let (pc, effect) = cut_word(third)?;
+    let Some((pc, effect)) = cut_word(third) else {
+        return None;
+    };
     op_of_parts(mark, hart, key, pc, effect)
 }

@@ -1,6 +1,6 @@
 ghost use Rattle.std.specs.Prelude.{◌≡◌, ◌⊎◌, ◌≤◌, ◌+◌, ◌*◌, None, Some, IfErr, IfOk};
 ghost use Rattle.ddm_types.specs.ItemTable.{IsItemSize};
-ghost use Rattle.witness_check.specs.Judging.{answer_of, with_byte};
+ghost use Rattle.witness_check.specs.Judging.{answer_of, lines_of, with_byte};
 ghost use Rattle.witness_check.specs.Start.{start_refusal};
 ghost use Rattle.witness_check.specs.Reader.{begun, fed, feed_answer, setting, with_standing, IsAtLineEnd};
 ghost use Rattle.witness_check.specs.declared.refusal.CheckRefusal.TheVariants as refusal;
@@ -122,8 +122,18 @@ impl WitnessReader {
         }
     }
 
+    // Reads bytes that don't make the text too long.
+    fn take_bytes(&mut self, piece: &[u8])
+        ensures { self.new ≡ with_standing (lines_of self.old.program self.old.standing piece.now) self.old }
+    {
+        for byte in piece {
+            self.take_byte(*byte);
+        }
+    }
+
     /// Reads the next piece of the text. It takes no memory. The answer is an error exactly where the text so far is too
     /// long, which is its first refusal; every other one is answered by `finish`, since the text may still become too long.
+    #[tactic(auto, unfolding(crate::specs::Reader::fed))]
     pub fn feed(&mut self, piece: &[u8]) -> Result<(), CheckRefusal>
         ensures reader { self.new ≡ fed self.old piece.now }
         ensures answer { result ≡ feed_answer self.new.standing }
@@ -131,12 +141,10 @@ impl WitnessReader {
         if piece.len() > (MOST_TEXT - self.size) as usize {
             self.size = MOST_TEXT;
             self.refusal = Some(CheckRefusal::TooLong);
-        } else {
-            self.size += piece.len() as u32;
-            for byte in piece {
-                self.take_byte(*byte);
-            }
+            return Err(CheckRefusal::TooLong);
         }
+        self.size += piece.len() as u32;
+        self.take_bytes(piece);
         self.feed_answer()
     }
 

@@ -39,13 +39,21 @@ fn count_numbers(word: &[u8]) -> Option<usize>
     let mut from = 0;
     'numbers: loop {
         let rest = &word[from..];
-        let Some(end) = place_of(b'.', rest) else {
-            number(rest)?;
-            return Some(count + 1);
-        };
-        number(&rest[..end])?;
-        count += 1;
-        from += end + 1;
+        match place_of(b'.', rest) {
+            None => {
+                return match number(rest) {
+                    None => None,
+                    Some(_) => Some(count + 1),
+                };
+            }
+            Some(end) => {
+                let Some(_) = number(&rest[..end]) else {
+                    return None;
+                };
+                count += 1;
+                from += end + 1;
+            }
+        }
     }
 }
 

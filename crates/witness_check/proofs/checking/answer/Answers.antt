@@ -1,0 +1,23 @@
+use Rattle.std.proofs.Common.{◌≡◌, ℕ, ◌⊎◌, List, Result, Some, Ok, Err, inl, inr, ap, ◌∙◌}
+use Rattle.std.specs.Prelude.{Option}
+use Rattle.witness_check.specs.declared.refusal.CheckRefusal.{CheckRefusal}
+use Rattle.witness_check.specs.declared.refusal.CheckRefusal.TheVariants.{NoMemory}
+use Rattle.witness_check.specs.Judging.{answer_of}
+use Rattle.witness_check.specs.Start.{Setting, check_of, start_refusal}
+use Rattle.witness_check.specs.Reader.{ReaderView, fed, setting}
+use Rattle.witness_check.proofs.Pieces.{answer_is, refused_at_start, whole_text}
+use Rattle.witness_check.proofs.checking.answer.Goals as goal
+
+no_start : (s : Setting) (text : List ℕ) (refusal : CheckRefusal) → (refusal ≡ NoMemory) ⊎ (start_refusal s ≡ Some refusal) → (Err {T = ℕ} refusal ≡ Err NoMemory) ⊎ (Err refusal ≡ check_of s text)
+no_start s text refusal (inl none) = inl (ap (λ (r : CheckRefusal). Err r) none)
+no_start s text refusal (inr is) = inr (refused_at_start s text refusal is)
+
+pub returns-in-Err : goal.returns-in-Err
+returns-in-Err c = no_start (setting c.args.image.now c.args.start c.args.item_bytes) c.args.text.now c.in-Err.refusal c.in-Err.ensures.refused
+
+pub returns-in-Ok : goal.returns-in-Ok
+returns-in-Ok c =
+    let s = setting c.args.image.now c.args.start c.args.item_bytes in
+    inr (c.finish.ensures
+    ∙ ap (λ (r : ReaderView). answer_of r.standing) (c.feed.ensures.reader ∙ ap (λ r. fed r c.args.text.now) c.in-Ok.ensures.begun ∙ whole_text s c.args.text.now)
+    ∙ answer_is s c.args.text.now c.in-Ok.ensures.accepted)
