@@ -4,7 +4,7 @@ use Rattle.ddm_types.specs.declared.sizes.Start.{Start}
 use Rattle.ddm_types.specs.ItemTable.{ItemTable}
 use Rattle.flat_model.specs.Flat.{FlatMachine}
 use Rattle.rv_flat.specs.FlatState.{FlatState, HasItems}
-use Rattle.tree_model.specs.Start.Sources.{ImageValue}
+use Rattle.tree_model.specs.Start.Sources.{ImageValue, TreeValue, start_of_harts}
 use Rattle.witness_check.specs.declared.refusal.CheckRefusal.{CheckRefusal}
 use Rattle.witness_check.specs.declared.refusal.CheckRefusal.TheVariants.{TooLong, TooManyItems, StackOverlap, BadLine, TooManyLines, NotLegal, NoMemory}
 use Rattle.witness_check.specs.Judging.{Program, Standing, going, refused, lines_limit, line_limit, text_limit, lines_of, standing_of}
@@ -12,6 +12,10 @@ use Rattle.witness_check.specs.Start.{Setting, program_of, machine_of}
 
 abbrev pub setting : ImageValue → Start → ℕ → Setting
 setting image start item_bytes = record { image = image; start = start; item_bytes = item_bytes }
+
+-- the setting of a tree and an image
+abbrev pub setting_of : TreeValue → ImageValue → Setting
+setting_of t i = setting i (start_of_harts t i) t.item_bytes
 
 -- what a contract sees of a reader
 pub record ReaderView : Type 0 where

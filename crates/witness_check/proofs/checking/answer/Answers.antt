@@ -8,8 +8,14 @@ use Rattle.witness_check.specs.Reader.{ReaderView, fed, setting}
 use Rattle.witness_check.proofs.Pieces.{answer_is, refused_at_start, whole_text}
 use Rattle.witness_check.proofs.checking.answer.Goals as goal
 
-no_start : (s : Setting) (text : List ℕ) (refusal : CheckRefusal) → (refusal ≡ NoMemory) ⊎ (start_refusal s ≡ Some refusal) → (Err {T = ℕ} refusal ≡ Err NoMemory) ⊎ (Err refusal ≡ check_of s text)
-no_start s text refusal (inl none) = inl (ap (λ (r : CheckRefusal). Err r) none)
+abbrev err : CheckRefusal → Result ℕ CheckRefusal
+err refusal = Err refusal
+
+abbrev IsAnswer : Result ℕ CheckRefusal → Setting → List ℕ → Type 0
+IsAnswer answer s text = (answer ≡ Err NoMemory) ⊎ (answer ≡ check_of s text)
+
+no_start : (s : Setting) (text : List ℕ) (refusal : CheckRefusal) → (refusal ≡ NoMemory) ⊎ (start_refusal s ≡ Some refusal) → IsAnswer (Err refusal) s text
+no_start s text refusal (inl none) = inl (ap err none)
 no_start s text refusal (inr is) = inr (refused_at_start s text refusal is)
 
 pub returns-in-Err : goal.returns-in-Err
