@@ -81,7 +81,12 @@ pub fn words_of_items(
 {
     let mut words = Vec::new(alloc);
     for item in 0..items.len() {
-        push_item(&mut words, segments, items.address(ItemId(item)), item_bytes / 4)?;
+        push_item(
+            &mut words,
+            segments,
+            items.address(ItemId(item)),
+            item_bytes / 4,
+        )?;
     }
     Ok(words)
 }

@@ -1,8 +1,8 @@
 -- A text is accepted exactly where it is the lines of legal operations.
-use Rattle.std.proofs.Common.{◌≡◌, ℕ, zero, suc, ◌+◌, ◌*◌, ◌<◌, ◌≤◌, Bool, true, false, not, cond, ◌&&◌, nat_eq, nat_lt, List, [], ◌∷◌, ◌++◌, length, Option, Some, None, Result, Ok, Err, refl, sym, ap, ◌∙◌, subst, arith, append_assoc, length-append}
-use Rattle.std.specs.Prelude.{fold, option_and_then, IsSome}
+use Rattle.std.proofs.Common.{◌≡◌, ℕ, ◌+◌, ◌*◌, ◌<◌, ◌≤◌, Bool, true, false, not, cond, nat_eq, nat_lt, List, [], ◌∷◌, ◌++◌, length, Option, Some, None, Ok, refl, sym, ap, ◌∙◌, subst, arith, append_assoc, length-append}
+use Rattle.std.specs.Prelude.{option_and_then, IsSome}
 use Rattle.std.specs.List.{list_all}
-use Rattle.std.proofs.lemmas.Bool.{eqb-true, lt-ltb, le-ltb, ltb-true, ltb-false}
+use Rattle.std.proofs.lemmas.Bool.{eqb-true, lt-ltb, le-ltb, ltb-true}
 use Rattle.std.proofs.lemmas.List.{append-nil}
 use Rattle.ddm_types.specs.declared.operations.Op.{Op}
 use Rattle.flat_model.specs.Flat.{FlatMachine}
@@ -12,18 +12,18 @@ use Rattle.text_model.proofs.Pieces.{both}
 use Rattle.witness_check.specs.declared.refusal.CheckRefusal.{CheckRefusal}
 use Rattle.witness_check.specs.declared.refusal.CheckRefusal.TheVariants.{TooLong, BadLine, TooManyLines, NotLegal}
 use Rattle.witness_check.specs.Lines.{op_in, without_key}
-use Rattle.witness_check.specs.Judging.{Program, Standing, going, refused, lines_limit, line_limit, text_limit, after_line, after_step, in_line, in_text, longer_line, with_byte, lines_of, standing_of, answer_of}
+use Rattle.witness_check.specs.Judging.{Program, going, refused, after_line, after_step, in_line, in_text, longer_line, with_byte, lines_of, standing_of, answer_of}
 use Rattle.witness_check.specs.Start.{Setting, program_of, machine_of, start_refusal, answer_unless, check_of}
-use Rattle.witness_check.specs.Witness.{IsLineOf, IsTextOf, IsAccepted}
-use Rattle.witness_check.proofs.LineTexts.{line_of, read_line, IsReadLine}
+use Rattle.witness_check.specs.Witness.{BeginsWith, IsAccepted}
+use Rattle.witness_check.proofs.LineTexts.{line_of, read_line}
 use Rattle.witness_check.proofs.Pieces.{refused_stays}
 
 -- ---- what is accepted is so
 
 -- behind `made` lines, a text of lines of legal operations
-pub record AreLegal (p : Program) (machine : FlatMachine) (made : ℕ) (text : List ℕ) (lines : ℕ) : Type 0 where
+pub record IsLegalText (p : Program) (machine : FlatMachine) (made : ℕ) (text : List ℕ) (lines : ℕ) : Type 0 where
   pub ops : List Op
-  pub text_is : IsTextOf text ops
+  pub text_is : BeginsWith text ops []
   pub count : made + length ops ≡ lines
   pub few : lines ≤ 1048576
   pub legal : Legal p.code p.items machine ops
@@ -31,12 +31,12 @@ pub record AreLegal (p : Program) (machine : FlatMachine) (made : ℕ) (text : L
 no_refusal : (p : Program) (refusal : CheckRefusal) (text : List ℕ) (lines : ℕ) {P : Type 0} → answer_of (lines_of p (refused refusal) text) ≡ Ok lines → P
 no_refusal p refusal text lines e = absurd (cc (sym (ap answer_of (refused_stays p refusal text)) ∙ e))
 
-legal_none : (p : Program) (machine : FlatMachine) → Legal p.code p.items machine []
+pub legal_none : (p : Program) (machine : FlatMachine) → Legal p.code p.items machine []
 unfolding legal_run
 legal_none p machine = refl
 
 -- one more operation before legal ones
-legal_more : (p : Program) (machine next : FlatMachine) (op : Op) (ops : List Op) → legal_step p.code p.items machine op ≡ Some next → Legal p.code p.items next ops → Legal p.code p.items machine (op ∷ ops)
+pub legal_more : (p : Program) (machine next : FlatMachine) (op : Op) (ops : List Op) → legal_step p.code p.items machine op ≡ Some next → Legal p.code p.items next ops → Legal p.code p.items machine (op ∷ ops)
 unfolding legal_run
 legal_more p machine next op ops step legal =
     let P : Option FlatMachine → Type 0 = λ o. IsSome (option_and_then (λ m. legal_run p.code p.items m ops) o) in
@@ -44,40 +44,40 @@ legal_more p machine next op ops step legal =
 
 -- one byte of a text that is accepted, where the same is known of what it makes: behind its line, and with a longer line
 module _ (p : Program) (machine : FlatMachine) (made : ℕ) (front : List ℕ) (byte : ℕ) (text : List ℕ) (lines : ℕ)
-  (behind : (next : FlatMachine) → made < 1048576 → answer_of (lines_of p (going next (made + 1) []) text) ≡ Ok lines → AreLegal p next (made + 1) text lines)
-  (longer : answer_of (lines_of p (going machine made (front ++ byte ∷ [])) text) ≡ Ok lines → AreLegal p machine made ((front ++ byte ∷ []) ++ text) lines)
+    (behind : (next : FlatMachine) → made < 1048576 → answer_of (lines_of p (going next (made + 1) []) text) ≡ Ok lines → IsLegalText p next (made + 1) text lines)
+    (longer : answer_of (lines_of p (going machine made (front ++ byte ∷ [])) text) ≡ Ok lines → IsLegalText p machine made ((front ++ byte ∷ []) ++ text) lines)
   where
-  by_step : (o : Option FlatMachine) (op : Op) → byte ≡ 10 → made < 1048576 → op_in front ≡ Some op → legal_step p.code p.items machine op ≡ o → answer_of (lines_of p (after_step made o) text) ≡ Ok lines → AreLegal p machine made (front ++ byte ∷ text) lines
-  by_step (Some next) op is room read step e =
-      let more = behind next room e in
-      record {
-        ops = op ∷ more.ops;
-        text_is = (front, text, ap (λ (b : ℕ). front ++ b ∷ text) is, line_of front op read, more.text_is);
-        count = omega (arith, more.count);
-        few = more.few;
-        legal = legal_more p machine next op more.ops step more.legal;
-      }
-  by_step None op is room read step e = no_refusal p (NotLegal (made + 1)) text lines e
+    by_step : (o : Option FlatMachine) (op : Op) → byte ≡ 10 → made < 1048576 → op_in front ≡ Some op → legal_step p.code p.items machine op ≡ o → answer_of (lines_of p (after_step made o) text) ≡ Ok lines → IsLegalText p machine made (front ++ byte ∷ text) lines
+    by_step (Some next) op is room read step e =
+        let more = behind next room e in
+        record {
+          ops = op ∷ more.ops;
+          text_is = (front, text, ap (λ (b : ℕ). front ++ b ∷ text) is, line_of front op read, more.text_is);
+          count = omega (arith, more.count);
+          few = more.few;
+          legal = legal_more p machine next op more.ops step more.legal;
+        }
+    by_step None op is room read step e = no_refusal p (NotLegal (made + 1)) text lines e
 
-  by_line : (o : Option Op) → byte ≡ 10 → made < 1048576 → op_in front ≡ o → answer_of (lines_of p (after_line p machine made o) text) ≡ Ok lines → AreLegal p machine made (front ++ byte ∷ text) lines
-  by_line (Some op) is room read e = by_step (legal_step p.code p.items machine op) op is room read refl e
-  by_line None is room read e = no_refusal p (BadLine (made + 1)) text lines e
+    by_line : (o : Option Op) → byte ≡ 10 → made < 1048576 → op_in front ≡ o → answer_of (lines_of p (after_line p machine made o) text) ≡ Ok lines → IsLegalText p machine made (front ++ byte ∷ text) lines
+    by_line (Some op) is room read e = by_step (legal_step p.code p.items machine op) op is room read refl e
+    by_line None is room read e = no_refusal p (BadLine (made + 1)) text lines e
 
-  by_length : (d : Bool) → answer_of (lines_of p (longer_line d machine made front byte) text) ≡ Ok lines → AreLegal p machine made (front ++ byte ∷ text) lines
-  by_length true e =
-      let P : List ℕ → Type 0 = λ t. AreLegal p machine made t lines in
-      subst P (append_assoc front (byte ∷ []) text) (longer e)
-  by_length false e = no_refusal p (BadLine (made + 1)) text lines e
+    by_length : (d : Bool) → answer_of (lines_of p (longer_line d machine made front byte) text) ≡ Ok lines → IsLegalText p machine made (front ++ byte ∷ text) lines
+    by_length true e =
+        let P : List ℕ → Type 0 = λ t. IsLegalText p machine made t lines in
+        subst P (append_assoc front (byte ∷ []) text) (longer e)
+    by_length false e = no_refusal p (BadLine (made + 1)) text lines e
 
-  by_byte : (d : Bool) → nat_eq byte 10 ≡ d → made < 1048576 → answer_of (lines_of p (in_line d p machine made front byte) text) ≡ Ok lines → AreLegal p machine made (front ++ byte ∷ text) lines
-  by_byte true is room e = by_line (op_in front) (eqb-true byte 10 is) room refl e
-  by_byte false is room e = by_length (nat_lt (length front) 160) e
+    by_byte : (d : Bool) → nat_eq byte 10 ≡ d → made < 1048576 → answer_of (lines_of p (in_line d p machine made front byte) text) ≡ Ok lines → IsLegalText p machine made (front ++ byte ∷ text) lines
+    by_byte true is room e = by_line (op_in front) (eqb-true byte 10 is) room refl e
+    by_byte false is room e = by_length (nat_lt (length front) 160) e
 
-  one_byte : (d : Bool) → nat_lt made 1048576 ≡ d → answer_of (lines_of p (in_text d p machine made front byte) text) ≡ Ok lines → AreLegal p machine made (front ++ byte ∷ text) lines
-  one_byte true room e = by_byte (nat_eq byte 10) refl (ltb-true made 1048576 room) e
-  one_byte false room e = no_refusal p (TooManyLines (made + 1)) text lines e
+    one_byte : (d : Bool) → nat_lt made 1048576 ≡ d → answer_of (lines_of p (in_text d p machine made front byte) text) ≡ Ok lines → IsLegalText p machine made (front ++ byte ∷ text) lines
+    one_byte true room e = by_byte (nat_eq byte 10) refl (ltb-true made 1048576 room) e
+    one_byte false room e = no_refusal p (TooManyLines (made + 1)) text lines e
 
-accepted : (p : Program) (machine : FlatMachine) (made : ℕ) (front text : List ℕ) (lines : ℕ) → made ≤ 1048576 → answer_of (lines_of p (going machine made front) text) ≡ Ok lines → AreLegal p machine made (front ++ text) lines
+accepted : (p : Program) (machine : FlatMachine) (made : ℕ) (front text : List ℕ) (lines : ℕ) → made ≤ 1048576 → answer_of (lines_of p (going machine made front) text) ≡ Ok lines → IsLegalText p machine made (front ++ text) lines
 unfolding with_byte
 accepted p machine made [] [] lines few e =
     let same : made ≡ lines = cc e in
@@ -122,7 +122,7 @@ step_of_key : (p : Program) (machine : FlatMachine) (a b : Op) → without_key a
 unfolding legal_step
 step_of_key p machine a b same = ap (λ (o : Op). legal_step p.code p.items machine o) same
 
-complete : (p : Program) (machine : FlatMachine) (made : ℕ) (text : List ℕ) (ops : List Op) → IsTextOf text ops → made + length ops ≤ 1048576 → Legal p.code p.items machine ops
+complete : (p : Program) (machine : FlatMachine) (made : ℕ) (text : List ℕ) (ops : List Op) → BeginsWith text ops [] → made + length ops ≤ 1048576 → Legal p.code p.items machine ops
     → answer_of (lines_of p (going machine made []) text) ≡ Ok (made + length ops)
 unfolding legal_run
 complete p machine made text [] is few legal =
@@ -147,7 +147,7 @@ complete p machine made text (op ∷ ops) is few legal =
         ∙ more next legal
         ∙ ap (λ (n : ℕ). Ok n) same
 
-length-text : (text : List ℕ) (ops : List Op) → IsTextOf text ops → length text ≤ 161 * length ops
+length-text : (text : List ℕ) (ops : List Op) → BeginsWith text ops [] → length text ≤ 161 * length ops
 length-text text [] is = omega (arith, ap length is)
 length-text text (op ∷ ops) is =
     omega (arith, ap length is.2, length-append is.0 (10 ∷ is.1), (read_line is.0 op is.3).short, length-text is.1 ops is.4)

@@ -1,5 +1,5 @@
 -- The words of an effect.
-use Rattle.std.proofs.Common.{◌≡◌, ℕ, ◌+◌, ◌<◌, ◌≤◌, Bool, true, false, cond, nat_eq, List, [], ◌∷◌, ◌++◌, length, Option, Some, None, refl, sym, ap, ◌∙◌, subst, arith, append_assoc}
+use Rattle.std.proofs.Common.{◌≡◌, ℕ, ◌<◌, Bool, true, false, cond, List, [], ◌∷◌, ◌++◌, Option, Some, None, refl, ap, ◌∙◌, subst, append_assoc}
 use Rattle.std.specs.Prelude.{codes, bytes_eq, option_map}
 use Rattle.std.specs.List.{join_with_byte}
 use Rattle.std.proofs.lemmas.Slice.Eq.{bytes_eq-Decides}
@@ -7,9 +7,9 @@ use Rattle.ddm_types.specs.declared.operations.Effect.{Effect}
 use Rattle.ddm_types.specs.declared.operations.Effect.TheVariants.{Plain, Put, Load, Store, Lr, ScOk, ScFail, Amo}
 use Rattle.ddm_text.specs.Hex.{hex2, hex8}
 use Rattle.text_model.specs.Words.{effect_text}
-use Rattle.witness_check.specs.Lines.{hex2_in, hex8_in, plain_in, effect_of_one, effect_of_two, effect_of_three, with_both, with_all, effect_of_words}
+use Rattle.witness_check.specs.Lines.{hex2_in, hex8_in, with_both, with_all, effect_of_words}
 use Rattle.witness_check.specs.Witness.{IsEffect}
-use Rattle.witness_check.proofs.HexTexts.{IsByte, IsEight, hex2_of, hex8_of, hex2_in-hex2, hex8_in-hex8}
+use Rattle.witness_check.proofs.HexTexts.{hex2_of, hex8_of, hex2_in-hex2, hex8_in-hex8}
 
 abbrev pub words_of_effect : Effect → List (List ℕ)
 words_of_effect Plain = codes "plain" ∷ []

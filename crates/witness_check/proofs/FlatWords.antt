@@ -1,18 +1,15 @@
 -- The words of all items, one behind the other, cut into those of each item.
-use Rattle.std.proofs.Common.{◌≡◌, ℕ, zero, suc, ◌+◌, ◌*◌, ◌/◌, List, [], ◌∷◌, ◌++◌, map, length, take, drop, refl, sym, ap, ◌∙◌, arith, append_assoc, length-append}
+use Rattle.std.proofs.Common.{◌≡◌, ℕ, ◌+◌, ◌*◌, ◌/◌, List, [], ◌∷◌, ◌++◌, map, length, take, drop, refl, sym, ap, ◌∙◌, arith, append_assoc, length-append}
 use Rattle.std.specs.Prelude.{flat_map}
 use Rattle.std.specs.List.{range_with_len}
 use Rattle.std.proofs.Math.Seq.{drop-append_seam, take-append_seam}
 use Rattle.std.proofs.lemmas.List.FromFn.{length-map-range_with_len}
 use Rattle.ddm_types.specs.declared.sizes.Start.{Start}
 use Rattle.ddm_types.specs.ItemTable.{ItemRow, ItemTable, item_count, items_of}
-use Rattle.flat_model.specs.Flat.{flat_start}
 use Rattle.tree_model.specs.Start.Sources.{SegmentValue}
 use Rattle.tree_model.specs.Start.Memory.{item_words, memory_word}
 use Rattle.rv_flat.specs.ItemWords.{words_of_item, words_by_item}
 use Rattle.start_memory.specs.Memory.{memory_items, memory_words}
-use Rattle.witness_check.specs.Start.{Setting, machine_of}
-use Rattle.witness_check.specs.Reader.{setting}
 
 module _ (width : ℕ) (segments : List SegmentValue) where
   words_at : ItemRow → List ℕ
@@ -36,10 +33,10 @@ module _ (width : ℕ) (segments : List SegmentValue) where
       let here = item_words width segments row.address in
       let more = all_words rows in
       let first : take width (drop (k * width) (front ++ (here ++ more))) ≡ here =
-          ap (λ (n : ℕ). take width (drop n (front ++ (here ++ more)))) (sym size)
-          ∙ ap (λ t. take width t) (drop-append_seam front (here ++ more))
-          ∙ ap (λ (n : ℕ). take n (here ++ more)) (sym (length-item row.address))
-          ∙ take-append_seam here more in
+      ap (λ (n : ℕ). take width (drop n (front ++ (here ++ more)))) (sym size)
+      ∙ ap (λ t. take width t) (drop-append_seam front (here ++ more))
+      ∙ ap (λ (n : ℕ). take n (here ++ more)) (sym (length-item row.address))
+      ∙ take-append_seam here more in
       let size' : length (front ++ here) ≡ (k + 1) * width = omega (arith, length-append front here, length-item row.address, size) in
       ap (λ (w : List ℕ). w ∷ map (words_of_item width (front ++ (here ++ more))) (range_with_len (k + 1) (length rows))) first
       ∙ ap (λ (ws : List ℕ). here ∷ map (words_of_item width ws) (range_with_len (k + 1) (length rows))) (sym (append_assoc front here more))

@@ -9,3 +9,4 @@ pub mod KeyTexts
 pub mod EffectTexts
 pub mod LineTexts
 pub mod Accepting
+pub mod Refusing

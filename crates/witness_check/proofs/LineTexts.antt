@@ -1,6 +1,6 @@
 -- A line is that of an operation exactly where a report of some depth has it.
-use Rattle.std.proofs.Common.{◌≡◌, ℕ, zero, suc, ◌+◌, ◌*◌, ◌/◌, ◌%◌, ◌^◌, ◌<◌, ◌≤◌, Bool, true, false, not, cond, ◌&&◌, nat_eq, List, [], ◌∷◌, ◌++◌, length, take, Option, Some, None, decimal, refl, sym, ap, ◌∙◌, subst, arith, append_assoc, length-append}
-use Rattle.std.specs.Prelude.{codes, bytes_eq, nat_le, nat_lt, option_map}
+use Rattle.std.proofs.Common.{◌≡◌, ℕ, zero, suc, ◌+◌, ◌*◌, ◌/◌, ◌%◌, ◌<◌, ◌≤◌, Bool, true, false, not, cond, ◌&&◌, nat_eq, List, [], ◌∷◌, ◌++◌, length, take, Option, Some, None, decimal, refl, sym, ap, ◌∙◌, subst, arith, append_assoc, length-append}
+use Rattle.std.specs.Prelude.{codes, bytes_eq, nat_le, nat_lt}
 use Rattle.std.specs.List.{join_with_byte, list_all}
 use Rattle.std.specs.Fmt.{digit_glyph}
 use Rattle.std.proofs.lemmas.Bool.{eqb-true, le-leb, leb-true}
@@ -20,10 +20,10 @@ use Rattle.text_model.specs.Words.{effect_text}
 use Rattle.text_model.specs.Report.{key_text, level_numbers, number_stops, op_line}
 use Rattle.text_model.proofs.Pieces.{Lacks-append, both}
 use Rattle.witness_check.specs.Lines.{key_in, hex8_in, effect_of_words, op_of_parts, op_of_words, op_in, without_key}
-use Rattle.witness_check.specs.Witness.{HasWords, IsEffect, IsOp, IsLineOf}
+use Rattle.witness_check.specs.Witness.{HasWords, IsOp, IsLineOf}
 use Rattle.witness_check.proofs.HexTexts.{hex8_of, hex8_in-hex8}
-use Rattle.witness_check.proofs.KeyTexts.{AllLack, AreSmall, IsKeyOf, IsRead, decimal_of, place_in-decimal, key_is, key_read, join-pieces_at, pieces_at-join}
-use Rattle.witness_check.proofs.EffectTexts.{words_of_effect, AreOf, same_bytes, effect_is, effect_read, join-effect}
+use Rattle.witness_check.proofs.KeyTexts.{AllLack, AreSmall, decimal_of, place_in-decimal, key_is, key_read, join-pieces_at, pieces_at-join}
+use Rattle.witness_check.proofs.EffectTexts.{words_of_effect, same_bytes, effect_is, effect_read, join-effect}
 
 -- the words of an operation's line
 abbrev pub line_words : ℕ → Op → List (List ℕ)
@@ -224,8 +224,13 @@ length-key_text : (depth : ℕ) (key : Key) → HasWords key → length (key_tex
 unfolding key_text
 length-key_text depth key fits =
     let few : length (take (2 * depth) (level_numbers key)) ≤ 8 = omega (arith, length-take (2 * depth) (level_numbers key)) in
-    omega (arith, length-append (number_stops (take (2 * depth) (level_numbers key))) (decimal key.i),
-        length-stops (take (2 * depth) (level_numbers key)) (small_take (2 * depth) (level_numbers key) (small_levels key fits)), few, ten_digits key.i fits.last)
+    omega (
+      arith,
+      length-append (number_stops (take (2 * depth) (level_numbers key))) (decimal key.i),
+      length-stops (take (2 * depth) (level_numbers key)) (small_take (2 * depth) (level_numbers key) (small_levels key fits)),
+      few,
+      ten_digits key.i fits.last,
+    )
 
 length-hex8 : (n : ℕ) → length (hex8 n) ≡ 8
 unfolding hex8 hex2

@@ -1,6 +1,6 @@
 -- A text in pieces stands as the whole text does.
-use Rattle.std.proofs.Common.{◌≡◌, ℕ, ◌+◌, ◌<◌, ◌≤◌, Bool, true, false, cond, nat_lt, List, [], ◌∷◌, ◌++◌, length, Option, Some, None, Ok, Err, refl, sym, ap, ◌∙◌, arith, length-append}
-use Rattle.std.specs.Prelude.{min, fold}
+use Rattle.std.proofs.Common.{◌≡◌, ℕ, ◌+◌, Bool, true, false, cond, nat_lt, List, [], ◌∷◌, ◌++◌, length, Some, None, Err, refl, sym, ap, ◌∙◌, arith, length-append}
+use Rattle.std.specs.Prelude.{min}
 use Rattle.std.proofs.lemmas.List.Sums.{fold-append}
 use Rattle.witness_check.specs.declared.refusal.CheckRefusal.{CheckRefusal}
 use Rattle.witness_check.specs.declared.refusal.CheckRefusal.TheVariants.{TooLong}
@@ -39,8 +39,8 @@ piece_more s text piece =
     let k = length piece in
     ap (λ size. view size (fed (reader_after s text) piece).standing) (size_by text_limit n k ∙ ap (λ m. min m text_limit) (sym (length-append text piece)))
     ∙ ap (λ standing. view (min (length (text ++ piece)) text_limit) standing)
-      (long_by (nat_lt text_limit n) p text_limit n k (lines_of p first text) (lines_of p first (text ++ piece)) piece refl (fold-append (with_byte p) first text piece)
-      ∙ ap (λ (m : ℕ). cond (nat_lt text_limit m) (refused TooLong) (lines_of p first (text ++ piece))) (sym (length-append text piece)))
+    (long_by (nat_lt text_limit n) p text_limit n k (lines_of p first text) (lines_of p first (text ++ piece)) piece refl (fold-append (with_byte p) first text piece)
+    ∙ ap (λ (m : ℕ). cond (nat_lt text_limit m) (refused TooLong) (lines_of p first (text ++ piece))) (sym (length-append text piece)))
 
 pub nothing_yet : (s : Setting) → begun s ≡ reader_after s []
 unfolding standing_of

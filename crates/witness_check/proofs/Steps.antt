@@ -1,5 +1,5 @@
 -- The step that an operation names, by what the machine's step answers.
-use Rattle.std.proofs.Common.{◌≡◌, ℕ, ◌<◌, ◌≤◌, Bool, true, false, cond, nat_eq, List, length, Option, Some, None, Result, Ok, Err, refl, sym, ap, ◌∙◌, subst, arith}
+use Rattle.std.proofs.Common.{◌≡◌, ℕ, ◌≤◌, Bool, true, false, cond, nat_eq, List, length, Option, Some, None, Result, Ok, Err, refl, sym, ap, ◌∙◌, subst, arith}
 use Rattle.std.specs.Prelude.{slice_index_or}
 use Rattle.std.proofs.lemmas.List.{get_or_past}
 use Rattle.ddm_types.specs.declared.operations.Effect.{Effect}
@@ -80,11 +80,11 @@ outcome_gives : (o : FlatStepped) (m after : FlatMachine) (hart : ℕ) (said : E
 outcome_gives (Ok x) m after hart said (Ok effect) same is are e =
     let made : effect ≡ x.0 = cc is in
     by (same_effect x.0 said) same (e ∙ ap (λ a. same_effect a said) made) are where
-  by : (d same : Bool) → same ≡ d → after ≡ x.1 → StepGives (cond d (Some x.1) None) same after
-  by true true e are = are
-  by true false e are = absurd (cc e)
-  by false true e are = absurd (cc e)
-  by false false e are = tt
+      by : (d same : Bool) → same ≡ d → after ≡ x.1 → StepGives (cond d (Some x.1) None) same after
+      by true true e are = are
+      by true false e are = absurd (cc e)
+      by false true e are = absurd (cc e)
+      by false false e are = tt
 outcome_gives (Ok x) m after hart said (Err cause) same is are e = absurd (cc is)
 outcome_gives (Err halt) m after hart said (Ok effect) same is are e = absurd (cc is)
 outcome_gives (Err halt) m after hart said (Err cause) same is are e = let P : Bool → Type 0 = λ b. StepGives None b after in subst P (sym e) tt

@@ -1,8 +1,8 @@
-ghost use Rattle.std.specs.Prelude.{◌≡◌, ◌⊎◌, ◌≤◌, ◌+◌, ◌*◌, ℕ, Ok, Err, IfOk};
+ghost use Rattle.std.specs.Prelude.{◌≡◌, ◌⊎◌, ◌≤◌, ◌+◌, ◌*◌, ℕ, Ok, Err, IfErr, IfOk};
 ghost use Rattle.ddm_types.specs.ItemTable.{IsItemSize};
 ghost use Rattle.witness_check.specs.Start.{check_of};
 ghost use Rattle.witness_check.specs.Reader.{setting};
-ghost use Rattle.witness_check.specs.Witness.{IsAccepted};
+ghost use Rattle.witness_check.specs.Witness.{IsAccepted, IsRefused};
 ghost use Rattle.witness_check.specs.declared.refusal.CheckRefusal.TheVariants as refusal;
 
 use crate::reader::WitnessReader;
@@ -52,6 +52,7 @@ pub fn check(
     ensures accepted { IfOk result (IsAccepted (setting image.now start item_bytes) text.now) }
     ensures complete { (n : ℕ) → IsAccepted (setting image.now start item_bytes) text.now n
         → (result ≡ Err refusal.NoMemory) ⊎ (result ≡ Ok n) }
+    ensures refused { IfErr result (λ r. (r ≡ refusal.NoMemory) ⊎ IsRefused (setting image.now start item_bytes) text.now r) }
 {
     answer(alloc, image, start, item_bytes, text)
 }

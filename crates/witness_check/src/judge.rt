@@ -48,7 +48,12 @@ fn same_effect(made: &Effect, said: &Effect) -> bool
 
 // The items of a program that has a start.
 #[tactic(auto, unfolding(crate::specs::Start::start_refusal, start_memory::specs::Memory::memory_items))]
-fn items_of(alloc: Global, image: &Image, start: Start, item_bytes: u32) -> Result<Items, CheckRefusal>
+fn items_of(
+    alloc: Global,
+    image: &Image,
+    start: Start,
+    item_bytes: u32,
+) -> Result<Items, CheckRefusal>
     requires size { IsItemSize item_bytes }
     requires stacks { start.stack_base + start.harts * start.stack_bytes ≤ 4294967280 }
     ensures items { IfOk result (λ items. items ≡ memory_items start item_bytes image.now.segments) }

@@ -41,9 +41,9 @@ impl Model for WitnessReader {
     ghost Value = { ReaderView };
 
     ghost view = { λ r. record {
-        program = r.judge.program;
-        size = r.size;
-        standing = standing_by r.refusal r.judge.machine r.made (take r.len r.line);
+      program = r.judge.program;
+      size = r.size;
+      standing = standing_by r.refusal r.judge.machine r.made (take r.len r.line);
     } };
 
     ghost invariant = { λ r. IsReader r.len r.made r.size };

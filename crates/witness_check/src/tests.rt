@@ -46,11 +46,20 @@ fn judges_texts(rt: HostRuntime) -> Result<(), Fail> {
         (EXCHANGED, Err(CheckRefusal::NotLegal(3))),
         ("op 0 0.0.0 00010000 plain", Err(CheckRefusal::BadLine(1))),
         ("op 0 0.0 00010000 plain\n", Err(CheckRefusal::BadLine(1))),
-        ("op 1 0.0.0 00010000 plain\n", Err(CheckRefusal::NotLegal(1))),
+        (
+            "op 1 0.0.0 00010000 plain\n",
+            Err(CheckRefusal::NotLegal(1)),
+        ),
     ];
     for (text, answer) in rows {
-        assert_eq!(rt; check(rt.alloc(), &image, ONE_HART, 16, text.as_bytes()), answer);
-        assert_eq!(rt; check(rt.alloc(), &image, ONE_HART, 64, text.as_bytes()), answer);
+        assert_eq!(rt;
+            check(rt.alloc(), &image, ONE_HART, 16, text.as_bytes()),
+            answer
+        );
+        assert_eq!(rt;
+            check(rt.alloc(), &image, ONE_HART, 64, text.as_bytes()),
+            answer
+        );
     }
     Ok(())
 }

@@ -1,11 +1,12 @@
 use Rattle.std.proofs.Common.{◌≡◌, ℕ, ◌⊎◌, List, Result, Ok, Err, inl, inr, sym, ◌∙◌}
-use Rattle.std.specs.Prelude.{IfOk}
+use Rattle.std.specs.Prelude.{IfErr, IfOk}
 use Rattle.witness_check.specs.declared.refusal.CheckRefusal.{CheckRefusal}
 use Rattle.witness_check.specs.declared.refusal.CheckRefusal.TheVariants.{NoMemory}
 use Rattle.witness_check.specs.Start.{Setting, check_of}
 use Rattle.witness_check.specs.Reader.{setting}
-use Rattle.witness_check.specs.Witness.{IsAccepted}
+use Rattle.witness_check.specs.Witness.{IsAccepted, IsRefused}
 use Rattle.witness_check.proofs.Accepting.{accepted_is, is_accepted}
+use Rattle.witness_check.proofs.Refusing.{refused_is}
 use Rattle.witness_check.proofs.checking.check.Goals as goal
 
 ok_is : (s : Setting) (text : List ℕ) (answer : Result ℕ CheckRefusal) → (answer ≡ Err NoMemory) ⊎ (answer ≡ check_of s text) → IfOk answer (IsAccepted s text)
@@ -22,3 +23,11 @@ returns-clause-accepted c = ok_is (setting c.args.image.now c.args.start c.args.
 
 pub returns-clause-complete : goal.returns-clause-complete
 returns-clause-complete c = is_ok (setting c.args.image.now c.args.start c.args.item_bytes) c.args.text.now c.answer.result c.answer.ensures
+
+err_is : (s : Setting) (text : List ℕ) (answer : Result ℕ CheckRefusal) → (answer ≡ Err NoMemory) ⊎ (answer ≡ check_of s text) → IfErr answer (λ r. (r ≡ NoMemory) ⊎ IsRefused s text r)
+err_is s text (Ok n) either = tt
+err_is s text (Err refusal) (inl e) = inl (cc e)
+err_is s text (Err refusal) (inr e) = inr (refused_is s text refusal (sym e))
+
+pub returns-clause-refused : goal.returns-clause-refused
+returns-clause-refused c = err_is (setting c.args.image.now c.args.start c.args.item_bytes) c.args.text.now c.answer.result c.answer.ensures

@@ -2,14 +2,12 @@ use Rattle.std.proofs.Common.{◌≡◌, ℕ, Bool, true, false, cond, Option, S
 use Rattle.std.specs.Prelude.{option_and_then}
 use Rattle.ddm_types.specs.ItemTable.{item_count}
 use Rattle.tree_model.specs.State.Lists.{first_some}
-use Rattle.tree_model.specs.Start.Sources.{ImageValue, TreeValue, place_count, stack_spans}
+use Rattle.tree_model.specs.Start.Sources.{place_count, stack_spans}
 use Rattle.tree_model.specs.Start.Memory.{start_items, start_words}
-use Rattle.tree_model.specs.Start.Machine.{StartRefusal, flat_start_of, no_place, overlap_from, start_refusal as tables_refusal, too_many_items}
+use Rattle.tree_model.specs.Start.Machine.{StartRefusal, no_place, overlap_from, start_refusal as tables_refusal, too_many_items}
 use Rattle.start_memory.specs.Memory.{memory_items, memory_words}
-use Rattle.witness_check.specs.declared.refusal.CheckRefusal.{CheckRefusal}
 use Rattle.witness_check.specs.declared.refusal.CheckRefusal.TheVariants.{TooManyItems}
-use Rattle.witness_check.specs.Start.{judged, machine_of, program_of, start_refusal}
-use Rattle.witness_check.specs.Reader.{setting_of}
+use Rattle.witness_check.specs.Start.{judged, start_refusal}
 use Rattle.witness_check.proofs.laws.starts_are_the_tables.Goals as goal
 
 by : (many : Bool) (met : Option StartRefusal) (full : Bool) (n places : ℕ)
