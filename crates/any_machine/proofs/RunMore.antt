@@ -6,10 +6,13 @@ use Rattle.std.proofs.lemmas.List.Elements.{All-get_or}
 use Rattle.ddm_types.specs.declared.answers.TurnAnswer.{TurnAnswer}
 use Rattle.ddm_types.specs.declared.turns.Turn.{Turn}
 use Rattle.tree_model.specs.State.Values.{MachineValue}
+use Rattle.tree_model.specs.State.Shape.{IsShaped}
 use Rattle.tree_model.specs.Turns.Machine.{names_part, turn_of, run_of}
 use Rattle.text_model.specs.declared.RunCounts.{RunCounts}
 use Rattle.text_model.specs.Run.{counted_answer, counts_of, no_counts}
 use Rattle.ddm_tree.specs.Machine.{MachineState, spare_after, state_after}
+use Rattle.ddm_tree.specs.Rules.{KeepsRules, StaysInOrder}
+use Rattle.ddm_tree.proofs.RulesKept.{run-order}
 use Rattle.start_parts.proofs.Names.{run-names}
 use Rattle.any_machine.specs.Run.{AreBelow, CanRun, NameParts, answers_in, counts_in, ran}
 
@@ -24,6 +27,9 @@ pub machine-more : (ts : List Turn) (t : Turn) (m : MachineValue) → (run_of (t
 unfolding run_of
 machine-more [] t m = refl
 machine-more (u ∷ us) t m = machine-more us t (turn_of u m).machine
+
+pub made-order : (ts : List Turn) (before after : MachineValue) → after ≡ (run_of ts before).machine → IsShaped before → KeepsRules before → StaysInOrder before after
+made-order ts before after made shaped rules = subst (StaysInOrder before) (sym made) (run-order ts before shaped rules)
 
 -- ---- counts
 

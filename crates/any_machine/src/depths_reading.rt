@@ -5,6 +5,7 @@ ghost use Rattle.tree_model.specs.Turns.Found.{found_copy};
 ghost use Rattle.tree_model.specs.Turns.Tree.{leaf_of_number};
 ghost use Rattle.ddm_tree.specs.Machine.{is_part};
 ghost use Rattle.ddm_tree.specs.Reads.{counted_hart_of};
+ghost use Rattle.ddm_tree.specs.Rules.{KeepsRules};
 ghost use Rattle.inspector.specs.States.{state_of};
 ghost use Rattle.any_machine.specs.Any.{depths_state};
 
@@ -23,6 +24,7 @@ fn counts_over<const WORDS: usize, C: Subtree<WORDS>>(
 ) -> TreeCounts
     ensures counts { result ≡ tree_counts machine.now.machine }
     ensures shape { IsShaped machine.now.machine }
+    ensures rules { KeepsRules machine.now.machine }
 {
     machine.counts()
 }
@@ -62,9 +64,9 @@ fn hart_over<const WORDS: usize, C: Subtree<WORDS>>(
 fn find_over<const WORDS: usize, C: Subtree<WORDS>>(
     machine: &Machine<WORDS, Dir<WORDS, C>>,
     item: ItemId,
-) -> Option<Found<WORDS>>
+) -> Found<WORDS>
     requires { item < item_count machine.now.machine.items }
-    ensures { result ≡ found_copy item machine.now.machine }
+    ensures { Some result ≡ found_copy item machine.now.machine }
 {
     find(machine, item)
 }
@@ -87,6 +89,7 @@ impl<const WAYS: usize, const WORDS: usize> Depths<WAYS, WORDS> {
     pub fn counts(&self) -> TreeCounts
         ensures counts { result ≡ tree_counts (depths_state self.now).machine }
         ensures shape { IsShaped (depths_state self.now).machine }
+        ensures rules { KeepsRules (depths_state self.now).machine }
     {
         match self {
             Depths::D1(machine) => machine.counts(),
@@ -143,10 +146,10 @@ impl<const WAYS: usize, const WORDS: usize> Depths<WAYS, WORDS> {
         }
     }
 
-    /// The current copy of an item.
-    pub fn find(&self, item: ItemId) -> Option<Found<WORDS>>
+    /// The current copy of an item, which every item has.
+    pub fn find(&self, item: ItemId) -> Found<WORDS>
         requires { item < item_count (depths_state self.now).machine.items }
-        ensures { result ≡ found_copy item (depths_state self.now).machine }
+        ensures { Some result ≡ found_copy item (depths_state self.now).machine }
     {
         match self {
             Depths::D1(machine) => find(machine, item),

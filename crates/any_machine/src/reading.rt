@@ -5,6 +5,7 @@ ghost use Rattle.tree_model.specs.Turns.Found.{found_copy};
 ghost use Rattle.tree_model.specs.Turns.Tree.{leaf_of_number};
 ghost use Rattle.ddm_tree.specs.Machine.{is_part};
 ghost use Rattle.ddm_tree.specs.Reads.{counted_hart_of};
+ghost use Rattle.ddm_tree.specs.Rules.{KeepsRules};
 ghost use Rattle.inspector.specs.States.{state_of};
 ghost use Rattle.any_machine.specs.Any.{state_in};
 
@@ -19,6 +20,7 @@ impl<const WORDS: usize> Machines<WORDS> {
     pub fn counts(&self) -> TreeCounts
         ensures counts { result ≡ tree_counts (state_in self.now).machine }
         ensures shape { IsShaped (state_in self.now).machine }
+        ensures rules { KeepsRules (state_in self.now).machine }
     {
         match self {
             Machines::W1(machine) => machine.counts(),
@@ -70,10 +72,10 @@ impl<const WORDS: usize> Machines<WORDS> {
         }
     }
 
-    /// The current copy of an item.
-    pub fn find(&self, item: ItemId) -> Option<Found<WORDS>>
+    /// The current copy of an item, which every item has.
+    pub fn find(&self, item: ItemId) -> Found<WORDS>
         requires { item < item_count (state_in self.now).machine.items }
-        ensures { result ≡ found_copy item (state_in self.now).machine }
+        ensures { Some result ≡ found_copy item (state_in self.now).machine }
     {
         match self {
             Machines::W1(machine) => machine.find(item),

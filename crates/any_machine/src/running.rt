@@ -2,6 +2,7 @@ ghost use Rattle.std.specs.Prelude.{◌≡◌, ◌+◌, ◌<◌, ◌≤◌, ◌+
 ghost use Rattle.tree_model.specs.Turns.Machine.{names_part, turn_of};
 ghost use Rattle.text_model.specs.Run.{counted_answer};
 ghost use Rattle.ddm_tree.specs.Machine.{state_after};
+ghost use Rattle.ddm_tree.specs.Rules.{StaysInOrder};
 ghost use Rattle.any_machine.specs.Any.{depths_state, machine_state, state_in};
 ghost use Rattle.any_machine.specs.Run.{AreBelow, CanRun, NameParts, answers_in, counts_in, ran, with_room};
 
@@ -87,9 +88,12 @@ fn run_reserved<const WORDS: usize, C: Subtree<WORDS>>(
     ensures after { OnOk result (machine.new ≡ ran turns.now (with_room (length turns.now) machine.old)) }
     ensures counts { IfOk result (λ counts. counts ≡ counts_in turns.now machine.old) }
     ensures answers { OnOk result (answers.new.items ≡ (if keep then answers.old.items ++ answers_in turns.now machine.old else answers.old.items)) }
+    ensures order { OnOk result (StaysInOrder machine.old.machine machine.new.machine) }
     ensures same { OnErr result (machine.new ≡ machine.old) }
     ensures kept { OnErr result (answers.new.items ≡ answers.old.items) }
 {
+    // The rules that every machine keeps, on which `order` rests.
+    machine.counts();
     if keep {
         answers.reserve(turns.len())?;
     }
@@ -110,6 +114,7 @@ fn run_over<const WORDS: usize, C: Subtree<WORDS>>(
     ensures after { OnOk result (machine.new ≡ ran turns.now (with_room (length turns.now) machine.old)) }
     ensures counts { IfOk result (λ counts. counts ≡ counts_in turns.now machine.old) }
     ensures answers { OnOk result (answers.new.items ≡ (if keep then answers.old.items ++ answers_in turns.now machine.old else answers.old.items)) }
+    ensures order { OnOk result (StaysInOrder machine.old.machine machine.new.machine) }
     ensures same { OnErr result (machine.new ≡ machine.old) }
     ensures kept { OnErr result (answers.new.items ≡ answers.old.items) }
 {
@@ -128,6 +133,7 @@ fn run_depths<const WAYS: usize, const WORDS: usize>(
     ensures after { OnOk result (depths_state machine.new ≡ ran turns.now (with_room (length turns.now) (depths_state machine.old))) }
     ensures counts { IfOk result (λ counts. counts ≡ counts_in turns.now (depths_state machine.old)) }
     ensures answers { OnOk result (answers.new.items ≡ (if keep then answers.old.items ++ answers_in turns.now (depths_state machine.old) else answers.old.items)) }
+    ensures order { OnOk result (StaysInOrder (depths_state machine.old).machine (depths_state machine.new).machine) }
     ensures same { OnErr result (depths_state machine.new ≡ depths_state machine.old) }
     ensures kept { OnErr result (answers.new.items ≡ answers.old.items) }
 {
@@ -151,6 +157,7 @@ fn run_machines<const WORDS: usize>(
     ensures after { OnOk result (state_in machine.new ≡ ran turns.now (with_room (length turns.now) (state_in machine.old))) }
     ensures counts { IfOk result (λ counts. counts ≡ counts_in turns.now (state_in machine.old)) }
     ensures answers { OnOk result (answers.new.items ≡ (if keep then answers.old.items ++ answers_in turns.now (state_in machine.old) else answers.old.items)) }
+    ensures order { OnOk result (StaysInOrder (state_in machine.old).machine (state_in machine.new).machine) }
     ensures same { OnErr result (state_in machine.new ≡ state_in machine.old) }
     ensures kept { OnErr result (answers.new.items ≡ answers.old.items) }
 {
@@ -174,6 +181,7 @@ pub fn run(
     ensures after { OnOk result (machine_state machine.new ≡ ran turns.now (with_room (length turns.now) (machine_state machine.old))) }
     ensures counts { IfOk result (λ counts. counts ≡ counts_in turns.now (machine_state machine.old)) }
     ensures answers { OnOk result (answers.new.items ≡ (if keep then answers.old.items ++ answers_in turns.now (machine_state machine.old) else answers.old.items)) }
+    ensures order { OnOk result (StaysInOrder (machine_state machine.old).machine (machine_state machine.new).machine) }
     ensures same { OnErr result (machine_state machine.new ≡ machine_state machine.old) }
     ensures kept { OnErr result (answers.new.items ≡ answers.old.items) }
 {

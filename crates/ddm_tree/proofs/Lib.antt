@@ -5,6 +5,7 @@ pub mod Descend
 pub mod Names
 pub mod Steps
 pub mod Search
+pub mod RulesKept
 pub mod MachineKept
 pub mod Recorded
 pub mod NewMachine

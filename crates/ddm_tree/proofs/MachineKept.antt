@@ -19,6 +19,7 @@ use Rattle.ddm_tree.specs.Path.{path_to}
 use Rattle.ddm_tree.specs.Machine.{traffic_within, IsMachine}
 use Rattle.ddm_tree.specs.Ready.{words_are}
 use Rattle.ddm_tree.proofs.CountsKept.{turn-counts}
+use Rattle.ddm_tree.proofs.RulesKept.{turn-rules}
 
 -- ---- traffic
 
@@ -112,6 +113,7 @@ turn-keeps width turns leaf_paths bus_paths t m k =
     let items : (turn_of t m).machine.items ≡ m.items = ap (λ f. f.items) frame in
     record {
       shaped = turn-shape t m k.shaped;
+      rules = turn-rules t m k.shaped k.rules;
       rooms = rw items (turn-within (item_count m.items) t m k.rooms);
       words = subst (λ b. words_are width b ≡ true) (sym bones) k.words;
       counts = turn-counts turns t m k.counts;

@@ -26,6 +26,7 @@ module _ (width : ℕ) (code : List CodeWord) (items : ItemTable) (top : DirValu
       → IsMachine width (new_machine code items top kids counts) 0 leaf_paths bus_paths
   new-is_machine leaf_paths bus_paths is leaves buses = record {
     shaped = is.shaped;
+    rules = is.rules;
     rooms = is.rooms;
     words = is.words;
     counts = is.uncounted;

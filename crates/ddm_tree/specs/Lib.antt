@@ -3,6 +3,7 @@ pub mod Counts
 pub mod Ready
 pub mod Reads
 pub mod Named
+pub mod Rules
 pub mod Machine
 pub mod Codes
 pub mod Holders

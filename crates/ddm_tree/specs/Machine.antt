@@ -19,6 +19,7 @@ use Rattle.tree_model.specs.Turns.Tree.{Name, leaf_of_number, bus_of_number, has
 use Rattle.ddm_tree.specs.Counts.{counts_within}
 use Rattle.ddm_tree.specs.Path.{node_at}
 use Rattle.ddm_tree.specs.Ready.{words_are, HasChild, Leads}
+use Rattle.ddm_tree.specs.Rules.{KeepsRules}
 
 pub record MachineState : Type 0 where
   pub machine : MachineValue
@@ -82,19 +83,21 @@ pub record IsFound (t : Turn) (n : Node) (leaf_paths bus_paths : List (List ℕ)
   pub leads : Leads (named_by t) path n
   pub child : HasChild (bus_turn_of t) (node_at path n)
 
--- The shape of a tree, each list within its room, items of this width, and no count above the number of turns; and the path to
--- each leaf and to each bus stands in a list.
+-- The shape of a tree, the rules of its buses and of time, each list within its room, items of this width, and no count above the
+-- number of turns; and the path to each leaf and to each bus stands in a list.
 pub record IsMachine (width : ℕ) (m : MachineValue) (turns : ℕ) (leaf_paths bus_paths : List (List ℕ)) : Type 0 where
   pub shaped : IsShaped m
+  pub rules : KeepsRules m
   pub rooms : all_within (item_count m.items) (root_of m) ≡ true
   pub words : words_are width (skeleton (root_of m)) ≡ true
   pub counts : counts_within turns (root_of m) ≡ true
   pub granted : list_all (traffic_within turns) m.traffic ≡ true
   pub paths : (name : Name) (path : List ℕ) → Leads name path (root_of m) → listed_path name leaf_paths bus_paths ≡ Some path
 
--- the parts of a new machine: nothing is counted yet, and there are as many leaves, buses and levels as is said
+-- the parts of a new machine: it keeps the rules, nothing is counted yet, and there are as many leaves, buses and levels as is said
 pub record IsNew (width : ℕ) (m : MachineValue) (counts : TreeCounts) : Type 0 where
   pub shaped : IsShaped m
+  pub rules : KeepsRules m
   pub rooms : all_within (item_count m.items) (root_of m) ≡ true
   pub words : words_are width (skeleton (root_of m)) ≡ true
   pub uncounted : counts_within 0 (root_of m) ≡ true

@@ -6,6 +6,7 @@ ghost use Rattle.tree_model.specs.State.Values.{dir_node, nodes};
 ghost use Rattle.ddm_tree.specs.Named.{name_of};
 ghost use Rattle.ddm_tree.specs.Path.{node_at, present_at, put_at, node_answer, node_turned};
 ghost use Rattle.ddm_tree.specs.Ready.{IsReady};
+ghost use Rattle.ddm_tree.specs.Rules.{StaysInOrder};
 ghost use Rattle.ddm_tree.specs.Machine.{IsFound, IsNew, has_path, listed_path, new_machine, state_after};
 
 use crate::below::turn_under;
@@ -108,6 +109,7 @@ impl<const WORDS: usize, C: Subtree<WORDS>> Machine<WORDS, C> {
         requires turns { self.old.turns < 4294967295 }
         ensures answer { result ≡ (turn_of turn self.old.machine).answer }
         ensures after { self.new ≡ state_after turn self.old }
+        ensures order { StaysInOrder self.old.machine self.new.machine }
     {
         let answer = turn_found(
             &mut self.top,

@@ -6,6 +6,7 @@ ghost use Rattle.tree_model.specs.Turns.Found.{found_copy};
 ghost use Rattle.tree_model.specs.Turns.Machine.{child_count, child_hold_of, child_of, down_entry_of, granted_of, grants_of, is_child_of, now_of};
 ghost use Rattle.tree_model.specs.Turns.Tree.{leaf_of_number, bus_of_number};
 ghost use Rattle.ddm_tree.specs.Machine.{is_part};
+ghost use Rattle.ddm_tree.specs.Rules.{KeepsRules};
 ghost use Rattle.ddm_tree.specs.Ready.{Leads};
 ghost use Rattle.ddm_tree.specs.Reads.{counted_hart_of, down_len_of, entry_at, parked_at};
 
@@ -56,6 +57,7 @@ impl<const WORDS: usize, C: Subtree<WORDS>> Machine<WORDS, C> {
     pub fn counts(&self) -> TreeCounts
         ensures counts { result ≡ tree_counts self.now.machine }
         ensures shape { IsShaped self.now.machine }
+        ensures rules { KeepsRules self.now.machine }
     {
         self.counts
     }
@@ -166,12 +168,12 @@ impl<const WORDS: usize, C: Subtree<WORDS>> Machine<WORDS, C> {
         &self.bus_paths[bus.0 as usize]
     }
 
-    /// The found copy of an item.
-    pub fn found(&self, item: ItemId) -> Option<Found<WORDS>>
+    /// The found copy of an item. Under the rules of the buses there is one.
+    pub fn found(&self, item: ItemId) -> Found<WORDS>
         requires { item < item_count self.now.machine.items }
-        ensures { result ≡ found_copy item self.now.machine }
+        ensures { Some result ≡ found_copy item self.now.machine }
     {
-        found_among(&self.children, item)
+        found_among(&self.children, item).unwrap()
     }
 
     /// For each bus how many transactions of each kind it has granted.

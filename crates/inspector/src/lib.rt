@@ -19,13 +19,13 @@ use ddm_types::{BusNo, ItemId, LeafNo, LeafState, NoMemory, TxKind};
 use std::alloc::Global;
 use tree_model::Traffic;
 
-/// The current copy of an item, as the report shows it.
+/// The current copy of an item, as the report shows it. Every item has one.
 pub fn find<const WORDS: usize, C: Subtree<WORDS>>(
     machine: &Machine<WORDS, C>,
     item: ItemId,
-) -> Option<Found<WORDS>>
+) -> Found<WORDS>
     requires { item < item_count machine.now.machine.items }
-    ensures { result ≡ found_copy item machine.now.machine }
+    ensures { Some result ≡ found_copy item machine.now.machine }
 {
     machine.found(item)
 }

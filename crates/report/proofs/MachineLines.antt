@@ -1,22 +1,24 @@
 -- The lines of a machine's harts, buses and items, one more at a time.
-use Rattle.std.proofs.Common.{◌≡◌, ◌<◌, ◌≤◌, ℕ, zero, suc, ◌+◌, ◌++◌, List, [], ◌∷◌, length, map, take, Some, true, get_or, refl, sym, ap, ◌∙◌, arith, add-one, add-zero, zero-add}
-use Rattle.std.specs.Prelude.{slice_get, slice_index_or, nat_le, nat_eq}
-use Rattle.std.specs.List.{flat_map}
+use Rattle.std.proofs.Common.{◌≡◌, ◌<◌, ◌≤◌, ℕ, zero, suc, ◌+◌, ◌++◌, List, [], ◌∷◌, length, map, take, Option, Some, None, true, get_or, refl, sym, ap, ◌∙◌, arith, add-one, add-zero, zero-add}
+use Rattle.std.specs.Prelude.{slice_get, nat_le, nat_eq}
 use Rattle.std.proofs.lemmas.Bool.{eqb-true, leb-true}
 use Rattle.std.proofs.lemmas.List.{append-nil, append_assoc, length-take-le, length-map}
-use Rattle.std.proofs.lemmas.Grind.{flat_map-append}
+use Rattle.ddm_types.specs.declared.sizes.LeafState.{LeafState}
 use Rattle.ddm_types.specs.ItemTable.{ItemRow, no_row}
 use Rattle.rv_hart.specs.HartState.{HartState}
 use Rattle.tree_model.specs.declared.Traffic.{Traffic}
 use Rattle.tree_model.specs.State.Values.{LeafValue, MachineValue, root_of}
 use Rattle.tree_model.specs.State.Blank.{no_hart}
 use Rattle.tree_model.specs.State.Shape.{IsShaped, Skeleton, Skeletons, leaf_bone, dir_bone, no_bones, more_bones, skeleton, levels_of, first_levels, levels_fit, levels_fit_among, are_below, depth_of, tree_counts, buses_of, levels_known, traffic_counted}
+use Rattle.tree_model.specs.State.Leaf.{state_at}
+use Rattle.tree_model.specs.Turns.Found.{states_of}
 use Rattle.tree_model.specs.Turns.Machine.{machine_leaves, no_traffic}
 use Rattle.tree_model.proofs.Tests.{and-first, and-second}
-use Rattle.text_model.specs.Report.{HartView, ItemView, bus_line, bus_lines, bus_lines_from, item_line, item_lines}
+use Rattle.text_model.specs.Report.{HartView, ItemView, bus_line, bus_lines, bus_lines_from}
 use Rattle.text_model.specs.Run.{item_view, item_views, view_of}
 use Rattle.ddm_tree.specs.Reads.{counted_hart_of}
 use Rattle.ddm_tree.proofs.LeafList.{leaf-listed, leaf-number, leaves-counted}
+use Rattle.inspector.specs.States.{state_of}
 use Rattle.inspector.proofs.OneMore.{got-some, taken-one}
 use Rattle.report.specs.MachineView.{harts_of}
 
@@ -62,19 +64,36 @@ buses-counted m shaped = sym (eqb-true _ _ (and-first _ (are_below (length m.tra
 
 -- ---- items
 
-views-pushed : (m : MachineValue) (x : ℕ) (rows : List ItemRow) (row : ItemRow) → item_views m x (rows ++ row ∷ []) ≡ item_views m x rows ++ item_view m (x + length rows) row ∷ []
-views-pushed m x [] row = ap (λ n. item_view m n row ∷ []) (sym (add-zero x))
-views-pushed m x (r ∷ rows) row =
-    let next : x + 1 + length rows ≡ x + suc (length rows) = omega arith in
-    ap (λ (vs : List ItemView). item_view m x r ∷ vs) (views-pushed m (x + 1) rows row ∙ ap (λ n. item_views m (x + 1) rows ++ item_view m n row ∷ []) next)
+views-counted : (m : MachineValue) (x : ℕ) (rows : List ItemRow) → length (item_views m x rows) ≡ length rows
+views-counted m x [] = refl
+views-counted m x (row ∷ rows) = ap suc (views-counted m (x + 1) rows)
 
-pub more-items : (m : MachineValue) (rows : List ItemRow) (k : ℕ) → k < length rows → item_lines (item_views m 0 (take (k + 1) rows)) ≡ item_lines (item_views m 0 (take k rows)) ++ item_line (item_view m k (slice_index_or rows k no_row))
-unfolding item_lines
-more-items m rows k inside =
-    let size : length (take k rows) ≡ k = length-take-le k rows (omega arith) in
-    let row = slice_index_or rows k no_row in
-    rw (add-one, taken-one rows k row (got-some rows k no_row inside), views-pushed m 0 (take k rows) row, size, zero-add k)
-    (flat_map-append item_line (item_views m 0 (take k rows)) (item_view m k row ∷ []) ∙ ap (λ t. flat_map item_line (item_views m 0 (take k rows)) ++ t) (append-nil (item_line (item_view m k row))))
+-- as many items are shown as there are
+pub items-counted : (m : MachineValue) → length (item_views m 0 m.items.rows) ≡ length m.items.rows
+items-counted m = views-counted m 0 m.items.rows
+
+view-there : (m : MachineValue) (x k : ℕ) (rows : List ItemRow) (d : ItemView) → k < length rows → get_or (item_views m x rows) k d ≡ item_view m (x + k) (get_or rows k no_row)
+view-there m x k [] d inside = absurd (omega (arith, inside))
+view-there m x zero (row ∷ rows) d inside = ap (λ n. item_view m n row) (sym (add-zero x))
+view-there m x (suc k) (row ∷ rows) d inside =
+    let next : x + 1 + k ≡ x + suc k = omega arith in
+    view-there m (x + 1) k rows d (omega (arith, inside)) ∙ ap (λ n. item_view m n (get_or rows k no_row)) next
+
+-- an item's view stands at its number
+pub item-shown : (m : MachineValue) (k : ℕ) (d : ItemView) → k < length m.items.rows → get_or (item_views m 0 m.items.rows) k d ≡ item_view m k (get_or m.items.rows k no_row)
+item-shown m k d inside = view-there m 0 k m.items.rows d inside ∙ ap (λ n. item_view m n (get_or m.items.rows k no_row)) (zero-add k)
+
+-- the state of an entry stands at its leaf's number
+pub state-shown : (m : MachineValue) (leaf x : ℕ) (s : Option LeafState) → IsShaped m → Some s ≡ state_of leaf x m → slice_get (states_of x m) leaf ≡ Some s
+unfolding states_of
+state-shown m leaf x s shaped is = leaf-listed (state_at x) None leaf m shaped ∙ sym is
+
+-- ---- what stands at a place
+
+pub got-is : {X : Type 0} (xs : List X) (k : ℕ) (x d : X) → slice_get xs k ≡ Some x → get_or xs k d ≡ x
+got-is [] k x d is = cc
+got-is (y ∷ ys) zero x d is = cc
+got-is (y ∷ ys) (suc k) x d is = got-is ys k x d is
 
 -- ---- levels
 

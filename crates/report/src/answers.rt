@@ -1,7 +1,9 @@
 ghost use Rattle.std.specs.Prelude.{OnOk};
 ghost use Rattle.ddm_text.specs.Adds.{Adds};
 ghost use Rattle.text_model.specs.Words.{answer_text, busy_text, entry_text, kind_text, place_text, queue_text, why_text};
+ghost use Rattle.report.specs.Room.{UsesRoom};
 
+use crate::buffers::TextBuffer;
 use crate::effects::{push_effect, push_halt};
 use crate::numbers::{push_bus, push_child, push_item, push_named_leaf};
 use crate::pieces::push_bytes;
@@ -9,8 +11,9 @@ use ddm_types::{BusyCause, LogEntry, NoMemory, PendingWhy, Place, QueueName, Tur
 
 /// Puts a kind of transaction at the end.
 #[tactic(auto, unfolding(text_model::specs::Words::kind_text))]
-pub fn push_kind(out: &mut Vec<u8>, kind: TxKind) -> Result<(), NoMemory>
-    ensures { OnOk result (Adds out.old.items out.new.items (kind_text kind)) }
+pub fn push_kind<W: TextBuffer>(out: &mut W, kind: TxKind) -> Result<(), NoMemory>
+    ensures text { OnOk result (Adds (W.text out.old) (W.text out.new) (kind_text kind)) }
+    ensures room { UsesRoom 9 (W.room out.old) (W.room out.new) result }
 {
     match kind {
         TxKind::ReadTx => push_bytes(out, b"read"),
@@ -24,8 +27,9 @@ pub fn push_kind(out: &mut Vec<u8>, kind: TxKind) -> Result<(), NoMemory>
 
 /// Puts at the end where a granted transaction came from or went to.
 #[tactic(auto, unfolding(text_model::specs::Words::place_text))]
-pub fn push_place(out: &mut Vec<u8>, place: Place) -> Result<(), NoMemory>
-    ensures { OnOk result (Adds out.old.items out.new.items (place_text place)) }
+pub fn push_place<W: TextBuffer>(out: &mut W, place: Place) -> Result<(), NoMemory>
+    ensures text { OnOk result (Adds (W.text out.old) (W.text out.new) (place_text place)) }
+    ensures room { UsesRoom 26 (W.room out.old) (W.room out.new) result }
 {
     match place {
         Place::Parent => push_bytes(out, b"parent"),
@@ -43,8 +47,9 @@ pub fn push_place(out: &mut Vec<u8>, place: Place) -> Result<(), NoMemory>
 
 /// Puts at the end why an item is pending.
 #[tactic(auto, unfolding(text_model::specs::Words::why_text))]
-pub fn push_why(out: &mut Vec<u8>, why: PendingWhy) -> Result<(), NoMemory>
-    ensures { OnOk result (Adds out.old.items out.new.items (why_text why)) }
+pub fn push_why<W: TextBuffer>(out: &mut W, why: PendingWhy) -> Result<(), NoMemory>
+    ensures text { OnOk result (Adds (W.text out.old) (W.text out.new) (why_text why)) }
+    ensures room { UsesRoom 28 (W.room out.old) (W.room out.new) result }
 {
     match why {
         PendingWhy::Local(child) => {
@@ -66,8 +71,9 @@ pub fn push_why(out: &mut Vec<u8>, why: PendingWhy) -> Result<(), NoMemory>
 
 /// Puts the name of a list of transactions at the end.
 #[tactic(auto, unfolding(text_model::specs::Words::queue_text))]
-pub fn push_queue_name(out: &mut Vec<u8>, name: QueueName) -> Result<(), NoMemory>
-    ensures { OnOk result (Adds out.old.items out.new.items (queue_text name)) }
+pub fn push_queue_name<W: TextBuffer>(out: &mut W, name: QueueName) -> Result<(), NoMemory>
+    ensures text { OnOk result (Adds (W.text out.old) (W.text out.new) (queue_text name)) }
+    ensures room { UsesRoom 32 (W.room out.old) (W.room out.new) result }
 {
     match name {
         QueueName::Down(bus) => {
@@ -88,8 +94,9 @@ pub fn push_queue_name(out: &mut Vec<u8>, name: QueueName) -> Result<(), NoMemor
 
 /// Puts at the end why a turn changed nothing.
 #[tactic(auto, unfolding(text_model::specs::Words::busy_text))]
-pub fn push_busy(out: &mut Vec<u8>, cause: BusyCause) -> Result<(), NoMemory>
-    ensures { OnOk result (Adds out.old.items out.new.items (busy_text cause)) }
+pub fn push_busy<W: TextBuffer>(out: &mut W, cause: BusyCause) -> Result<(), NoMemory>
+    ensures text { OnOk result (Adds (W.text out.old) (W.text out.new) (busy_text cause)) }
+    ensures room { UsesRoom 75 (W.room out.old) (W.room out.new) result }
 {
     match cause {
         BusyCause::ItemPending { bus, item, why } => {
@@ -117,8 +124,9 @@ pub fn push_busy(out: &mut Vec<u8>, cause: BusyCause) -> Result<(), NoMemory>
 }
 
 /// Puts a granted transaction at the end.
-pub fn push_entry(out: &mut Vec<u8>, entry: LogEntry) -> Result<(), NoMemory>
-    ensures { OnOk result (Adds out.old.items out.new.items (entry_text entry)) }
+pub fn push_entry<W: TextBuffer>(out: &mut W, entry: LogEntry) -> Result<(), NoMemory>
+    ensures text { OnOk result (Adds (W.text out.old) (W.text out.new) (entry_text entry)) }
+    ensures room { UsesRoom 92 (W.room out.old) (W.room out.new) result }
 {
     push_kind(out, entry.kind)?;
     push_bytes(out, b" ")?;
@@ -132,8 +140,9 @@ pub fn push_entry(out: &mut Vec<u8>, entry: LogEntry) -> Result<(), NoMemory>
 
 /// Puts at the end what a turn answered.
 #[tactic(auto, unfolding(text_model::specs::Words::answer_text))]
-pub fn push_answer(out: &mut Vec<u8>, answer: TurnAnswer) -> Result<(), NoMemory>
-    ensures { OnOk result (Adds out.old.items out.new.items (answer_text answer)) }
+pub fn push_answer<W: TextBuffer>(out: &mut W, answer: TurnAnswer) -> Result<(), NoMemory>
+    ensures text { OnOk result (Adds (W.text out.old) (W.text out.new) (answer_text answer)) }
+    ensures room { UsesRoom 100 (W.room out.old) (W.room out.new) result }
 {
     match answer {
         TurnAnswer::Retired(op) => {

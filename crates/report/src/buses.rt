@@ -1,15 +1,22 @@
 ghost use Rattle.std.specs.Prelude.{OnOk};
 ghost use Rattle.ddm_text.specs.Adds.{Adds};
 ghost use Rattle.text_model.specs.Report.{bus_line};
+ghost use Rattle.report.specs.Room.{UsesRoom};
 
+use crate::buffers::TextBuffer;
 use crate::numbers::push_bus;
 use crate::pieces::{push_bytes, push_number};
 use ddm_types::{BusNo, NoMemory};
 use tree_model::Traffic;
 
 /// Puts at the end the line of the transactions that a bus has granted.
-pub fn push_bus_line(out: &mut Vec<u8>, bus: BusNo, traffic: &Traffic) -> Result<(), NoMemory>
-    ensures { OnOk result (Adds out.old.items out.new.items (bus_line bus traffic.now)) }
+pub fn push_bus_line<W: TextBuffer>(
+    out: &mut W,
+    bus: BusNo,
+    traffic: &Traffic,
+) -> Result<(), NoMemory>
+    ensures text { OnOk result (Adds (W.text out.old) (W.text out.new) (bus_line bus traffic.now)) }
+    ensures room { UsesRoom 188 (W.room out.old) (W.room out.new) result }
 {
     push_bytes(out, b"bus ")?;
     push_bus(out, bus)?;

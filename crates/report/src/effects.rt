@@ -1,16 +1,24 @@
-ghost use Rattle.std.specs.Prelude.{◌++◌, OnOk, codes};
+ghost use Rattle.std.specs.Prelude.{◌+◌, ◌++◌, OnOk, codes, length};
 ghost use Rattle.ddm_text.specs.Adds.{Adds};
 ghost use Rattle.ddm_text.specs.Hex.{hex8};
 ghost use Rattle.text_model.specs.Words.{effect_text, halt_text, state_text};
+ghost use Rattle.report.specs.Room.{UsesRoom};
 
+use crate::buffers::TextBuffer;
+use crate::digits::{push_hex2, push_hex8};
 use crate::pieces::{push_bytes, push_named, push_named_word};
-use ddm_text::{push_hex2, push_hex8};
 use ddm_types::{Effect, HaltCause, NoMemory};
 
 // A name, an address and the word there.
-fn push_access(out: &mut Vec<u8>, name: &[u8], address: u32, word: u32) -> Result<(), NoMemory>
-    ensures { OnOk result (Adds out.old.items out.new.items
+fn push_access<W: TextBuffer>(
+    out: &mut W,
+    name: &[u8],
+    address: u32,
+    word: u32,
+) -> Result<(), NoMemory>
+    ensures text { OnOk result (Adds (W.text out.old) (W.text out.new)
         (name.now ++ hex8 address ++ codes " " ++ hex8 word)) }
+    ensures room { UsesRoom (length name.now + 17) (W.room out.old) (W.room out.new) result }
 {
     push_named_word(out, name, address)?;
     push_bytes(out, b" ")?;
@@ -18,15 +26,16 @@ fn push_access(out: &mut Vec<u8>, name: &[u8], address: u32, word: u32) -> Resul
 }
 
 // A name, an address and the words there before and after.
-fn push_change(
-    out: &mut Vec<u8>,
+fn push_change<W: TextBuffer>(
+    out: &mut W,
     name: &[u8],
     address: u32,
     before: u32,
     after: u32,
 ) -> Result<(), NoMemory>
-    ensures { OnOk result (Adds out.old.items out.new.items
+    ensures text { OnOk result (Adds (W.text out.old) (W.text out.new)
         (name.now ++ hex8 address ++ codes " " ++ hex8 before ++ codes " " ++ hex8 after)) }
+    ensures room { UsesRoom (length name.now + 26) (W.room out.old) (W.room out.new) result }
 {
     push_access(out, name, address, before)?;
     push_bytes(out, b" ")?;
@@ -35,8 +44,9 @@ fn push_change(
 
 /// Puts at the end what an instruction did.
 #[tactic(auto, unfolding(text_model::specs::Words::effect_text))]
-pub fn push_effect(out: &mut Vec<u8>, effect: Effect) -> Result<(), NoMemory>
-    ensures { OnOk result (Adds out.old.items out.new.items (effect_text effect)) }
+pub fn push_effect<W: TextBuffer>(out: &mut W, effect: Effect) -> Result<(), NoMemory>
+    ensures text { OnOk result (Adds (W.text out.old) (W.text out.new) (effect_text effect)) }
+    ensures room { UsesRoom 32 (W.room out.old) (W.room out.new) result }
 {
     match effect {
         Effect::Plain => push_bytes(out, b"plain"),
@@ -67,8 +77,9 @@ pub fn push_effect(out: &mut Vec<u8>, effect: Effect) -> Result<(), NoMemory>
 
 /// Puts at the end why a hart stopped for good.
 #[tactic(auto, unfolding(text_model::specs::Words::halt_text))]
-pub fn push_halt(out: &mut Vec<u8>, cause: HaltCause) -> Result<(), NoMemory>
-    ensures { OnOk result (Adds out.old.items out.new.items (halt_text cause)) }
+pub fn push_halt<W: TextBuffer>(out: &mut W, cause: HaltCause) -> Result<(), NoMemory>
+    ensures text { OnOk result (Adds (W.text out.old) (W.text out.new) (halt_text cause)) }
+    ensures room { UsesRoom 25 (W.room out.old) (W.room out.new) result }
 {
     match cause {
         HaltCause::Exit(code) => push_named(out, b"exit ", code),
@@ -85,8 +96,9 @@ pub fn push_halt(out: &mut Vec<u8>, cause: HaltCause) -> Result<(), NoMemory>
 
 /// Puts at the end how a hart stands.
 #[tactic(auto, unfolding(text_model::specs::Words::state_text))]
-pub fn push_state(out: &mut Vec<u8>, halt: Option<HaltCause>) -> Result<(), NoMemory>
-    ensures { OnOk result (Adds out.old.items out.new.items (state_text halt)) }
+pub fn push_state<W: TextBuffer>(out: &mut W, halt: Option<HaltCause>) -> Result<(), NoMemory>
+    ensures text { OnOk result (Adds (W.text out.old) (W.text out.new) (state_text halt)) }
+    ensures room { UsesRoom 25 (W.room out.old) (W.room out.new) result }
 {
     match halt {
         None => push_bytes(out, b"running"),

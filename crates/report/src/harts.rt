@@ -1,17 +1,23 @@
-ghost use Rattle.std.specs.Prelude.{◌<◌, OnOk, length};
+ghost use Rattle.std.specs.Prelude.{◌≡◌, ◌<◌, ◌+◌, ◌*◌, OnOk, length};
 ghost use Rattle.ddm_text.specs.Adds.{Adds};
 ghost use Rattle.text_model.specs.Report.{hart_line, head_lines, or_dash, out_line, put_text, put_text_by, put_texts, regs_line, turns_line};
+ghost use Rattle.report.specs.LineParts.{any_byte, dash_behind};
+ghost use Rattle.report.specs.ReportLeft.{hart_front};
+ghost use Rattle.report.specs.Room.{UsesRoom};
 
+use crate::buffers::TextBuffer;
+use crate::digits::{push_hex2, push_hex8};
 use crate::effects::push_state;
 use crate::numbers::push_hart;
 use crate::pieces::{push_bytes, push_number, push_words};
-use ddm_text::{push_hex2, push_hex8};
 use ddm_types::{Effect, HaltCause, HartNo, NoMemory, Op};
+use rv_hart::Hart;
 use text_model::RunCounts;
 
 /// Puts at the end the line that says what the turns came to.
-pub fn push_turns_line(out: &mut Vec<u8>, counts: RunCounts) -> Result<(), NoMemory>
-    ensures { OnOk result (Adds out.old.items out.new.items (turns_line counts)) }
+pub fn push_turns_line<W: TextBuffer>(out: &mut W, counts: RunCounts) -> Result<(), NoMemory>
+    ensures text { OnOk result (Adds (W.text out.old) (W.text out.new) (turns_line counts)) }
+    ensures room { UsesRoom 111 (W.room out.old) (W.room out.new) result }
 {
     push_bytes(out, b"turns ")?;
     push_number(out, counts.turns)?;
@@ -27,22 +33,24 @@ pub fn push_turns_line(out: &mut Vec<u8>, counts: RunCounts) -> Result<(), NoMem
 
 /// Puts at the end the first two lines.
 #[tactic(auto, unfolding(text_model::specs::Report::head_lines))]
-pub fn push_head(out: &mut Vec<u8>, counts: RunCounts) -> Result<(), NoMemory>
-    ensures { OnOk result (Adds out.old.items out.new.items (head_lines counts)) }
+pub fn push_head<W: TextBuffer>(out: &mut W, counts: RunCounts) -> Result<(), NoMemory>
+    ensures text { OnOk result (Adds (W.text out.old) (W.text out.new) (head_lines counts)) }
+    ensures room { UsesRoom 117 (W.room out.old) (W.room out.new) result }
 {
     push_bytes(out, b"ddm 1\n")?;
     push_turns_line(out, counts)
 }
 
 /// Puts at the end the line that says how a hart stands.
-pub fn push_hart_line(
-    out: &mut Vec<u8>,
+pub fn push_hart_line<W: TextBuffer>(
+    out: &mut W,
     hart: HartNo,
     halt: Option<HaltCause>,
     pc: u32,
     done: u32,
 ) -> Result<(), NoMemory>
-    ensures { OnOk result (Adds out.old.items out.new.items (hart_line hart halt pc done)) }
+    ensures text { OnOk result (Adds (W.text out.old) (W.text out.new) (hart_line hart halt pc done)) }
+    ensures room { UsesRoom 90 (W.room out.old) (W.room out.new) result }
 {
     push_bytes(out, b"hart ")?;
     push_hart(out, hart)?;
@@ -58,9 +66,14 @@ pub fn push_hart_line(
 
 /// Puts at the end the line of a hart's registers. The first one, which is always 0, isn't shown.
 #[tactic(auto, unfolding(text_model::specs::Report::regs_line))]
-pub fn push_regs_line(out: &mut Vec<u8>, hart: HartNo, registers: &[u32]) -> Result<(), NoMemory>
+pub fn push_regs_line<W: TextBuffer>(
+    out: &mut W,
+    hart: HartNo,
+    registers: &[u32],
+) -> Result<(), NoMemory>
     requires { 0 < length registers.now }
-    ensures { OnOk result (Adds out.old.items out.new.items (regs_line hart registers.now)) }
+    ensures text { OnOk result (Adds (W.text out.old) (W.text out.new) (regs_line hart registers.now)) }
+    ensures room { UsesRoom (26 + 9 * length registers.now) (W.room out.old) (W.room out.new) result }
 {
     push_bytes(out, b"regs ")?;
     push_hart(out, hart)?;
@@ -70,8 +83,9 @@ pub fn push_regs_line(out: &mut Vec<u8>, hart: HartNo, registers: &[u32]) -> Res
 }
 
 // The byte that an instruction put.
-fn push_put(out: &mut Vec<u8>, effect: Effect) -> Result<(), NoMemory>
-    ensures { OnOk result (Adds out.old.items out.new.items (put_text effect)) }
+fn push_put<W: TextBuffer>(out: &mut W, effect: Effect) -> Result<(), NoMemory>
+    ensures text { OnOk result (Adds (W.text out.old) (W.text out.new) (put_text effect)) }
+    ensures room { UsesRoom 2 (W.room out.old) (W.room out.new) result }
 {
     if let Effect::Put { byte } = effect {
         push_hex2(out, byte)?;
@@ -79,9 +93,10 @@ fn push_put(out: &mut Vec<u8>, effect: Effect) -> Result<(), NoMemory>
     Ok(())
 }
 
-// What an operation adds to a hart's output.
-fn push_put_by(out: &mut Vec<u8>, hart: HartNo, op: &Op) -> Result<(), NoMemory>
-    ensures { OnOk result (Adds out.old.items out.new.items (put_text_by hart op.now)) }
+/// Puts at the end what an operation adds to a hart's output.
+pub fn push_put_by<W: TextBuffer>(out: &mut W, hart: HartNo, op: &Op) -> Result<(), NoMemory>
+    ensures text { OnOk result (Adds (W.text out.old) (W.text out.new) (put_text_by hart op.now)) }
+    ensures room { UsesRoom 2 (W.room out.old) (W.room out.new) result }
 {
     if op.hart.0 == hart.0 {
         push_put(out, op.effect)?;
@@ -89,9 +104,23 @@ fn push_put_by(out: &mut Vec<u8>, hart: HartNo, op: &Op) -> Result<(), NoMemory>
     Ok(())
 }
 
+// Whether an operation puts a byte of a hart.
+#[tactic(auto, unfolding(ddm_text::specs::Hex::hex2))]
+fn puts_byte(hart: HartNo, op: &Op) -> bool
+    ensures { result ≡ any_byte (put_text_by hart op.now) }
+{
+    if op.hart.0 != hart.0 {
+        return false;
+    }
+    match op.effect {
+        Effect::Put { .. } => true,
+        _ => false,
+    }
+}
+
 #[tactic(auto, unfolding(text_model::specs::Report::put_texts))]
-fn push_puts(out: &mut Vec<u8>, hart: HartNo, ops: &[Op]) -> Result<(), NoMemory>
-    ensures { OnOk result (Adds out.old.items out.new.items (put_texts hart ops.now)) }
+fn push_puts<W: TextBuffer>(out: &mut W, hart: HartNo, ops: &[Op]) -> Result<(), NoMemory>
+    ensures { OnOk result (Adds (W.text out.old) (W.text out.new) (put_texts hart ops.now)) }
 {
     for op in ops {
         push_put_by(out, hart, op)?;
@@ -99,22 +128,60 @@ fn push_puts(out: &mut Vec<u8>, hart: HartNo, ops: &[Op]) -> Result<(), NoMemory
     Ok(())
 }
 
-// A hart's output, or a dash for none.
-fn push_output(out: &mut Vec<u8>, hart: HartNo, ops: &[Op]) -> Result<(), NoMemory>
-    ensures { OnOk result (Adds out.old.items out.new.items (or_dash (put_texts hart ops.now))) }
+// Whether a hart has put anything.
+#[tactic(auto, unfolding(text_model::specs::Report::put_texts))]
+fn has_output(hart: HartNo, ops: &[Op]) -> bool
+    ensures { result ≡ any_byte (put_texts hart ops.now) }
 {
-    let before = out.len();
-    push_puts(out, hart, ops)?;
-    if out.len() == before {
+    for op in ops {
+        if puts_byte(hart, op) {
+            return true;
+        }
+    }
+    false
+}
+
+/// Puts at the end the dash of a hart that has put nothing.
+pub fn push_dash<W: TextBuffer>(out: &mut W, hart: HartNo, ops: &[Op]) -> Result<(), NoMemory>
+    ensures text { OnOk result (Adds (W.text out.old) (W.text out.new) (dash_behind (put_texts hart ops.now))) }
+    ensures room { UsesRoom 1 (W.room out.old) (W.room out.new) result }
+{
+    if !has_output(hart, ops) {
         push_bytes(out, b"-")?;
     }
     Ok(())
 }
 
+// A hart's output, or a dash for none.
+fn push_output<W: TextBuffer>(out: &mut W, hart: HartNo, ops: &[Op]) -> Result<(), NoMemory>
+    ensures { OnOk result (Adds (W.text out.old) (W.text out.new) (or_dash (put_texts hart ops.now))) }
+{
+    push_puts(out, hart, ops)?;
+    push_dash(out, hart, ops)?;
+    Ok(())
+}
+
+/// Puts at the end the lines of a hart, up to its output.
+pub fn push_hart_front<W: TextBuffer>(
+    out: &mut W,
+    number: HartNo,
+    hart: &Hart,
+) -> Result<(), NoMemory>
+    ensures text { OnOk result (Adds (W.text out.old) (W.text out.new) (hart_front (record { number = number; hart = hart.now.hart; done = hart.now.done }))) }
+    ensures room { UsesRoom 429 (W.room out.old) (W.room out.new) result }
+{
+    push_hart_line(out, number, hart.halted(), hart.pc(), hart.done())?;
+    push_regs_line(out, number, &hart.registers())?;
+    push_bytes(out, b"out ")?;
+    push_hart(out, number)?;
+    push_bytes(out, b" ")?;
+    Ok(())
+}
+
 /// Puts at the end the line of a hart's output, out of operations in order of completion.
 #[tactic(auto, unfolding(text_model::specs::Report::out_line))]
-pub fn push_out_line(out: &mut Vec<u8>, hart: HartNo, ops: &[Op]) -> Result<(), NoMemory>
-    ensures { OnOk result (Adds out.old.items out.new.items (out_line hart ops.now)) }
+pub fn push_out_line<W: TextBuffer>(out: &mut W, hart: HartNo, ops: &[Op]) -> Result<(), NoMemory>
+    ensures { OnOk result (Adds (W.text out.old) (W.text out.new) (out_line hart ops.now)) }
 {
     push_bytes(out, b"out ")?;
     push_hart(out, hart)?;

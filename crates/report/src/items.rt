@@ -1,17 +1,21 @@
-ghost use Rattle.std.specs.Prelude.{OnOk};
+ghost use Rattle.std.specs.Prelude.{◌+◌, ◌*◌, OnOk, length};
 ghost use Rattle.ddm_text.specs.Adds.{Adds};
 ghost use Rattle.text_model.specs.Report.{copy_place_text, item_line, letter_text, letter_texts};
+ghost use Rattle.report.specs.LineParts.{item_front};
+ghost use Rattle.report.specs.Room.{UsesRoom};
 
+use crate::buffers::TextBuffer;
+use crate::digits::push_hex8;
 use crate::numbers::{push_bus, push_item, push_named_leaf};
 use crate::pieces::{push_bytes, push_named, push_words};
-use ddm_text::push_hex8;
 use ddm_types::{ItemId, LeafState, NoMemory};
 use tree_model::CopyPlace;
 
 /// Puts at the end where an item's current copy is.
 #[tactic(auto, unfolding(text_model::specs::Report::copy_place_text))]
-pub fn push_copy_place(out: &mut Vec<u8>, place: CopyPlace) -> Result<(), NoMemory>
-    ensures { OnOk result (Adds out.old.items out.new.items (copy_place_text place)) }
+pub fn push_copy_place<W: TextBuffer>(out: &mut W, place: CopyPlace) -> Result<(), NoMemory>
+    ensures text { OnOk result (Adds (W.text out.old) (W.text out.new) (copy_place_text place)) }
+    ensures room { UsesRoom 53 (W.room out.old) (W.room out.new) result }
 {
     match place {
         CopyPlace::LeafWay { leaf, way } => {
@@ -35,9 +39,11 @@ pub fn push_copy_place(out: &mut Vec<u8>, place: CopyPlace) -> Result<(), NoMemo
     }
 }
 
+/// Puts at the end the letter for a leaf's entry of an item.
 #[tactic(auto, unfolding(text_model::specs::Report::letter_text))]
-fn push_letter(out: &mut Vec<u8>, state: Option<LeafState>) -> Result<(), NoMemory>
-    ensures { OnOk result (Adds out.old.items out.new.items (letter_text state)) }
+pub fn push_letter<W: TextBuffer>(out: &mut W, state: Option<LeafState>) -> Result<(), NoMemory>
+    ensures text { OnOk result (Adds (W.text out.old) (W.text out.new) (letter_text state)) }
+    ensures room { UsesRoom 1 (W.room out.old) (W.room out.new) result }
 {
     match state {
         None => push_bytes(out, b"-"),
@@ -51,8 +57,11 @@ fn push_letter(out: &mut Vec<u8>, state: Option<LeafState>) -> Result<(), NoMemo
 
 /// Puts at the end a letter for each leaf's entry of an item.
 #[tactic(auto, unfolding(text_model::specs::Report::letter_texts))]
-pub fn push_letters(out: &mut Vec<u8>, states: &[Option<LeafState>]) -> Result<(), NoMemory>
-    ensures { OnOk result (Adds out.old.items out.new.items (letter_texts states.now)) }
+pub fn push_letters<W: TextBuffer>(
+    out: &mut W,
+    states: &[Option<LeafState>],
+) -> Result<(), NoMemory>
+    ensures { OnOk result (Adds (W.text out.old) (W.text out.new) (letter_texts states.now)) }
 {
     for state in states {
         push_letter(out, *state)?;
@@ -60,23 +69,17 @@ pub fn push_letters(out: &mut Vec<u8>, states: &[Option<LeafState>]) -> Result<(
     Ok(())
 }
 
-/// Puts at the end the line of an item with its current words, where they are, and the state of its entry
-/// in each leaf.
-pub fn push_item_line(
-    out: &mut Vec<u8>,
+/// Puts at the end the line of an item up to the states of its entries.
+#[tactic(auto, unfolding(crate::specs::LineParts::item_front))]
+pub fn push_item_front<W: TextBuffer>(
+    out: &mut W,
     item: ItemId,
     address: u32,
     words: &[u32],
     place: CopyPlace,
-    states: &[Option<LeafState>],
 ) -> Result<(), NoMemory>
-    ensures { OnOk result (Adds out.old.items out.new.items (item_line (record {
-      number = item;
-      address = address;
-      words = words.now;
-      place = place;
-      states = states.now;
-    }))) }
+    ensures text { OnOk result (Adds (W.text out.old) (W.text out.new) (item_front item address words.now place)) }
+    ensures room { UsesRoom (89 + 9 * length words.now) (W.room out.old) (W.room out.new) result }
 {
     push_bytes(out, b"item ")?;
     push_item(out, item)?;
@@ -86,6 +89,28 @@ pub fn push_item_line(
     push_bytes(out, b" ")?;
     push_copy_place(out, place)?;
     push_bytes(out, b" ")?;
+    Ok(())
+}
+
+/// Puts at the end the line of an item with its current words, where they are, and the state of its entry
+/// in each leaf.
+pub fn push_item_line<W: TextBuffer>(
+    out: &mut W,
+    item: ItemId,
+    address: u32,
+    words: &[u32],
+    place: CopyPlace,
+    states: &[Option<LeafState>],
+) -> Result<(), NoMemory>
+    ensures { OnOk result (Adds (W.text out.old) (W.text out.new) (item_line (record {
+      number = item;
+      address = address;
+      words = words.now;
+      place = place;
+      states = states.now;
+    }))) }
+{
+    push_item_front(out, item, address, words, place)?;
     push_letters(out, states)?;
     push_bytes(out, b"\n")?;
     Ok(())

@@ -3,35 +3,45 @@
 #![tactic(auto)]
 
 mod answers;
-mod any;
+mod buffers;
 mod buses;
+mod digits;
 mod effects;
-mod fault_line;
 mod faults;
 mod harts;
 mod items;
-mod machine;
+mod line;
+mod machine_parts;
 mod numbers;
 mod operations;
+mod parts;
 mod pieces;
+mod report_parts;
+mod report_pieces;
 mod roles;
+mod summary;
 mod trace;
+mod trace_pieces;
 mod writing;
 
 pub use answers::{
     push_answer, push_busy, push_entry, push_kind, push_place, push_queue_name, push_why,
 };
-pub use any::{report_text, summary_text};
+pub use buffers::TextBuffer;
 pub use buses::push_bus_line;
 pub use effects::{push_effect, push_halt, push_state};
-pub use fault_line::{FaultLine, LINE_BYTES};
 pub use faults::{memory_line, read_line, unbuilt_line, usage_line, write_line};
 pub use harts::{push_hart_line, push_head, push_out_line, push_regs_line, push_turns_line};
 pub use items::{push_copy_place, push_item_line, push_letters};
+pub use line::{LINE_BYTES, Line, Line as FaultLine};
 pub use operations::{push_key, push_op_line, push_op_lines};
+pub use parts::LEAST_PIECE;
 pub use pieces::{push_bytes, push_number, push_words};
+pub use report_pieces::{ReportPieces, report_text};
 pub use roles::FileRole;
-pub use trace::{push_trace, push_trace_line, push_turn, trace_text};
+pub use summary::summary_text;
+pub use trace::{push_trace, push_trace_line, push_turn};
+pub use trace_pieces::{TracePieces, trace_text};
 pub use writing::{MOST_OFFERED, write_all};
 
 #[cfg(test)]

@@ -2,18 +2,20 @@ ghost use Rattle.std.specs.Prelude.{◌≡◌, OnOk, IfOk, length};
 ghost use Rattle.ddm_text.specs.Adds.{Adds};
 ghost use Rattle.text_model.specs.Schedule.{turn_text};
 ghost use Rattle.text_model.specs.Trace.{trace_line, trace_text};
+ghost use Rattle.report.specs.Room.{UsesRoom};
 
 use crate::answers::push_answer;
+use crate::buffers::TextBuffer;
+use crate::digits::push_decimal;
 use crate::numbers::{push_bus, push_child, push_hart};
 use crate::pieces::{push_bytes, push_number};
-use ddm_text::push_decimal;
 use ddm_types::{NoMemory, Turn, TurnAnswer};
-use std::alloc::Global;
 
 /// Puts a turn at the end, as a schedule has it.
 #[tactic(auto, unfolding(text_model::specs::Schedule::turn_text))]
-pub fn push_turn(out: &mut Vec<u8>, turn: Turn) -> Result<(), NoMemory>
-    ensures { OnOk result (Adds out.old.items out.new.items (turn_text turn)) }
+pub fn push_turn<W: TextBuffer>(out: &mut W, turn: Turn) -> Result<(), NoMemory>
+    ensures text { OnOk result (Adds (W.text out.old) (W.text out.new) (turn_text turn)) }
+    ensures room { UsesRoom 66 (W.room out.old) (W.room out.new) result }
 {
     match turn {
         Turn::Hart { hart, victim } => {
@@ -51,13 +53,14 @@ pub fn push_turn(out: &mut Vec<u8>, turn: Turn) -> Result<(), NoMemory>
 }
 
 /// Puts at the end the line of a turn, counted from 0, and of its answer.
-pub fn push_trace_line(
-    out: &mut Vec<u8>,
+pub fn push_trace_line<W: TextBuffer>(
+    out: &mut W,
     number: u64,
     turn: Turn,
     answer: TurnAnswer,
 ) -> Result<(), NoMemory>
-    ensures { OnOk result (Adds out.old.items out.new.items (trace_line number turn answer)) }
+    ensures text { OnOk result (Adds (W.text out.old) (W.text out.new) (trace_line number turn answer)) }
+    ensures room { UsesRoom 191 (W.room out.old) (W.room out.new) result }
 {
     push_bytes(out, b"t ")?;
     push_decimal(out, number)?;
@@ -70,26 +73,16 @@ pub fn push_trace_line(
 }
 
 /// Puts at the end a line for each turn, with its answer.
-pub fn push_trace(out: &mut Vec<u8>, turns: &[Turn], answers: &[TurnAnswer]) -> Result<(), NoMemory>
+pub fn push_trace<W: TextBuffer>(
+    out: &mut W,
+    turns: &[Turn],
+    answers: &[TurnAnswer],
+) -> Result<(), NoMemory>
     requires { length turns.now ≡ length answers.now }
-    ensures { OnOk result (Adds out.old.items out.new.items (trace_text turns.now answers.now)) }
+    ensures { OnOk result (Adds (W.text out.old) (W.text out.new) (trace_text turns.now answers.now)) }
 {
     for number in 0..turns.len() {
         push_trace_line(out, number as u64, turns[number], answers[number])?;
     }
     Ok(())
-}
-
-/// The trace of turns with their answers.
-pub fn trace_text(
-    alloc: Global,
-    turns: &[Turn],
-    answers: &[TurnAnswer],
-) -> Result<Vec<u8>, NoMemory>
-    requires { length turns.now ≡ length answers.now }
-    ensures { IfOk result (λ text. text.items ≡ trace_text turns.now answers.now) }
-{
-    let mut text = Vec::new(alloc);
-    push_trace(&mut text, turns, answers)?;
-    Ok(text)
 }

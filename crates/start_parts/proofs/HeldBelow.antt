@@ -1,5 +1,5 @@
 -- A directory holds what is placed below it, where its children hold what is placed in them.
-use Rattle.std.proofs.Common.{◌≡◌, ℕ, zero, suc, ◌≤◌, Bool, true, false, List, [], ◌∷◌, map, length, refl, sym, ap, ◌∙◌, arith}
+use Rattle.std.proofs.Common.{◌≡◌, ℕ, zero, suc, ◌≤◌, Bool, false, List, [], ◌∷◌, map, length, refl, sym, ap, ◌∙◌, arith}
 use Rattle.std.specs.Prelude.{◌||◌, slice_index_or}
 use Rattle.std.proofs.lemmas.List.{length-map}
 use Rattle.tree_model.specs.State.States.{is_exclusive}

@@ -13,12 +13,14 @@ use Rattle.tree_model.specs.Turns.Machine.{no_traffic}
 use Rattle.tree_model.specs.Start.Sources.{TreeValue, ImageValue, leaf_count, bus_widths, width_of}
 use Rattle.tree_model.specs.Start.Memory.{start_items}
 use Rattle.tree_model.specs.Start.Nodes.{leaf_sizes, dir_sizes, top_sizes, held_exclusive, under_levels}
-use Rattle.tree_model.specs.Start.Machine.{start_leaves, start_machine, start_refusal, start_of}
+use Rattle.tree_model.specs.Start.Machine.{flat_start_of, start_leaves, start_machine, start_refusal, start_of}
 use Rattle.bus_laws.specs.IsTree.{IsTree}
 use Rattle.bus_laws.proofs.StartLevels.{leaf_total}
-use Rattle.bus_laws.proofs.StartKept.{start-kept}
+use Rattle.order_laws.specs.EveryTurn.{IsOrderly}
+use Rattle.headline.proofs.StartOrder.{start-orderly}
 use Rattle.ddm_tree.specs.Counts.{counts_within}
 use Rattle.ddm_tree.specs.Machine.{IsNew}
+use Rattle.ddm_tree.proofs.RulesKept.{rules-of}
 use Rattle.ddm_tree.specs.Ready.{words_are}
 use Rattle.start_parts.specs.Counts.{counts_of}
 use Rattle.start_parts.specs.Held.{AreHeld}
@@ -108,10 +110,16 @@ start-built : (t : TreeValue) (i : ImageValue) → start_refusal t i ≡ None �
 unfolding start_of
 start-built t i none = rw none refl
 
-start-shaped : (t : TreeValue) (i : ImageValue) → IsTree t → start_refusal t i ≡ None → IsShaped (start_machine t i)
-start-shaped t i tree none = (start-kept t i (start_machine t i) tree (start-built t i none)).0
+start-is_orderly : (t : TreeValue) (i : ImageValue) → IsTree t → start_refusal t i ≡ None → IsOrderly (flat_start_of t i) (start_machine t i)
+start-is_orderly t i tree none = start-orderly t i (start_machine t i) tree (start-built t i none)
 
 pub start-new : (t : TreeValue) (i : ImageValue) → IsTree t → start_refusal t i ≡ None → IsNew (width_of t) (start_machine t i) (counts_of t)
 start-new t i tree none =
-    let shaped = start-shaped t i tree none in
-    record { shaped = shaped; rooms = start-rooms t i tree; words = start-words t i tree; uncounted = start-uncounted t i tree; numbers = start-numbers t i tree shaped }
+    let is = start-is_orderly t i tree none in record {
+      shaped = is.shaped;
+      rules = rules-of (start_machine t i) is.buses is.timed;
+      rooms = start-rooms t i tree;
+      words = start-words t i tree;
+      uncounted = start-uncounted t i tree;
+      numbers = start-numbers t i tree is.shaped;
+    }

@@ -22,7 +22,8 @@ pub fn start_is_made_of_parts()
         (under_levels (dir_sizes t.sizes (width_of t)) 1 1 (drop 1 t.levels) (map leaf_node (start_leaves t i))) (counts_of t) }
 {}
 
-/// Where nothing refuses it, it is a new machine: it has its shape and rooms, nothing is counted, and its counts are the tree's.
+/// Where nothing refuses it, it is a new machine: it has its shape and rooms, keeps the rules, nothing is counted, and its counts
+/// are the tree's.
 pub fn start_is_new()
     ensures { (t : TreeValue) (i : ImageValue) → IsTree t → start_refusal t i ≡ None → IsNew (width_of t) (start_machine t i) (counts_of t) }
 {}

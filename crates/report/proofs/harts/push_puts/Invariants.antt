@@ -4,4 +4,4 @@ use Rattle.text_model.specs.Report.{put_texts}
 use Rattle.report.proofs.harts.push_puts.Given as goal
 
 abbrev pub invariant-loop-op : goal.invariant-loop-op
-invariant-loop-op l = Adds l.initial.out.items l.out.items (put_texts l.hart (take l.op-index l.ops))
+invariant-loop-op g l = Adds (g.W.TextBuffer.text l.initial.out) (g.W.TextBuffer.text l.out) (put_texts l.hart (take l.op-index l.ops))

@@ -4,4 +4,4 @@ use Rattle.text_model.specs.Trace.{trace_text}
 use Rattle.report.proofs.trace.push_trace.Given as goal
 
 abbrev pub invariant-loop-number : goal.invariant-loop-number
-invariant-loop-number l = Adds l.initial.out.items l.out.items (trace_text (take l.number l.turns) (take l.number l.answers))
+invariant-loop-number g l = Adds (g.W.TextBuffer.text l.initial.out) (g.W.TextBuffer.text l.out) (trace_text (take l.number l.turns) (take l.number l.answers))

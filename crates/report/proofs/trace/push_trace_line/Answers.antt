@@ -2,6 +2,6 @@ use Rattle.ddm_text.specs.Adds.{◌▸◌}
 use Rattle.text_model.specs.Trace.{trace_line}
 use Rattle.report.proofs.trace.push_trace_line.Goals as goal
 
-pub returns : goal.returns
+pub returns-clause-text : goal.returns-clause-text
 unfolding trace_line
-returns c = c.in_ok-push_bytes.ensures ▸ c.in_ok-push_decimal.ensures.ok ▸ c.in_ok-push_bytes-2.ensures ▸ c.in_ok-push_turn.ensures ▸ c.in_ok-push_bytes-3.ensures ▸ c.in_ok-push_answer.ensures ▸ c.in_ok-push_bytes-4.ensures
+returns-clause-text g c = c.in_ok-push_bytes.ensures.text ▸ c.in_ok-push_decimal.ensures.text ▸ c.in_ok-push_bytes-2.ensures.text ▸ c.in_ok-push_turn.ensures.text ▸ c.in_ok-push_bytes-3.ensures.text ▸ c.in_ok-push_answer.ensures.text ▸ c.in_ok-push_bytes-4.ensures.text

@@ -4,6 +4,7 @@ use Rattle.tree_model.specs.State.Shape.{tree_counts}
 use Rattle.tree_model.specs.Turns.Machine.{names_part, turn_of}
 use Rattle.ddm_tree.specs.Machine.{IsMachine, MachineState, machine_of, state_after}
 use Rattle.ddm_tree.proofs.MachineKept.{turn-keeps}
+use Rattle.ddm_tree.proofs.RulesKept.{made-order}
 use Rattle.ddm_tree.proofs.TurnMade.{Told, all-traffic-most, items-back, machine-ready, part-found, state-made, told-turn, turn-tree_counts}
 use Rattle.ddm_tree.proofs.machine.Machine.turn.Goals as goal
 use Rattle.ddm_tree.proofs.machine.Machine.turn.Given
@@ -61,3 +62,9 @@ returns-clause-after g c =
     let m = machine_of c.self.inside.code c.self.inside.items c.self.inside.top (map g.C.Agent.value c.self.inside.children.items) c.self.inside.ops.items c.self.inside.traffic.items in
     let old : MachineState = record { machine = m; spare = c.self.inside.spare; turns = c.self.inside.turns } in
     state-made c.args.turn old _ c.turn_found-answer.result c.record.new.spare (machine-after g c) (told g c).answer_is c.record.ensures.spare ∙ ap (state_after c.args.turn) c.self.view_is
+
+pub returns-clause-order : goal.returns-clause-order
+returns-clause-order g c =
+    let m = machine_of c.self.inside.code c.self.inside.items c.self.inside.top (map g.C.Agent.value c.self.inside.children.items) c.self.inside.ops.items c.self.inside.traffic.items in
+    let inv = c.self.invariant.0 in
+    made-order c.args.turn m _ _ (ap (λ s. s.machine) c.self.view_is) (machine-after g c) inv.shaped inv.rules

@@ -1,0 +1,18 @@
+-- Parts of the lines of a report.
+use Rattle.std.specs.Prelude.{ℕ, Bool, true, false, List, [], ◌∷◌, ◌++◌, codes, decimal, if◌then◌else◌}
+use Rattle.ddm_text.specs.Hex.{hex8}
+use Rattle.tree_model.specs.declared.CopyPlace.{CopyPlace}
+use Rattle.text_model.specs.Report.{copy_place_text, word_texts}
+
+abbrev pub any_byte : List ℕ → Bool
+any_byte [] = false
+any_byte (byte ∷ bytes) = true
+
+-- what stands behind a hart's output: a dash where there is none
+abbrev pub dash_behind : List ℕ → List ℕ
+dash_behind output = if any_byte output then [] else codes "-"
+
+-- the line of an item up to the states of its entries
+unfoldable pub item_front : ℕ → ℕ → List ℕ → CopyPlace → List ℕ
+item_front number address words place =
+    codes "item " ++ decimal number ++ codes " " ++ hex8 address ++ word_texts words ++ codes " " ++ copy_place_text place ++ codes " "

@@ -1,0 +1,164 @@
+ghost use Rattle.std.specs.Prelude.{◌≡◌, ◌<◌, ◌≤◌, ◌++◌, [], true, codes, drop, length, slice_index_or};
+ghost use Rattle.ddm_types.specs.ItemTable.{item_count, row_at};
+ghost use Rattle.tree_model.specs.State.Shape.{IsShaped, tree_counts};
+ghost use Rattle.tree_model.specs.Turns.Found.{states_of};
+ghost use Rattle.tree_model.specs.Turns.Machine.{no_traffic};
+ghost use Rattle.text_model.specs.Report.{bus_line, head_lines, letter_texts, op_line, put_texts};
+ghost use Rattle.text_model.specs.Run.{item_view};
+ghost use Rattle.any_machine.specs.Any.{state_in};
+ghost use Rattle.report.specs.LineParts.{dash_behind};
+ghost use Rattle.report.specs.MachineView.{harts_of};
+ghost use Rattle.report.specs.ReportLeft.{front_of, hart_front, no_view};
+
+use crate::buses::push_bus_line;
+use crate::harts::{push_dash, push_hart_front, push_head, push_put_by};
+use crate::items::{push_item_front, push_letter};
+use crate::line::Line;
+use crate::operations::push_op_line;
+use crate::pieces::push_bytes;
+use any_machine::Machines;
+use ddm_types::{BusNo, HartNo, ItemId, LEVELS, LeafNo, Op};
+use text_model::RunCounts;
+
+// From so many bytes on a line takes no further byte of output and no further state.
+const LONG_LINE: usize = 500;
+
+/// Puts the first two lines of a report.
+pub fn put_head(line: &mut Line, counts: RunCounts)
+    requires { line.old ≡ [] }
+    ensures { line.new ≡ head_lines counts }
+{
+    let Ok(()) = push_head(line, counts) else {
+        unreachable!();
+    };
+}
+
+/// Puts the lines of a hart, up to its output.
+pub fn put_hart<const WORDS: usize>(line: &mut Line, machine: &Machines<WORDS>, leaf: u32)
+    requires empty { line.old ≡ [] }
+    requires shape { IsShaped (state_in machine.now).machine }
+    requires leaf { leaf < (tree_counts (state_in machine.now).machine).leaves }
+    ensures { line.new ≡ hart_front (slice_index_or (harts_of (state_in machine.now).machine) leaf no_view) }
+{
+    let number = HartNo(leaf);
+    let Ok(()) = push_hart_front(line, number, machine.hart(number)) else {
+        unreachable!();
+    };
+}
+
+/// Puts a hart's output from an operation on, until the line is long, and says from which operation on the rest is.
+#[tactic(auto, unfolding(text_model::specs::Report::put_texts))]
+pub fn put_output(line: &mut Line, hart: HartNo, ops: &[Op], from: usize) -> usize
+    requires empty { line.old ≡ [] }
+    requires from { from ≤ length ops.now }
+    ensures within { result ≤ length ops.now }
+    ensures output { put_texts hart (drop from ops.now) ≡ line.new ++ put_texts hart (drop result ops.now) }
+    ensures room { length line.new ≤ 501 }
+    ensures long { result < length ops.now → 500 ≤ length line.new }
+{
+    let mut next = from;
+    'output: while next < ops.len() && line.len() < LONG_LINE {
+        let Ok(()) = push_put_by(line, hart, &ops[next]) else {
+            unreachable!();
+        };
+        next += 1;
+    }
+    next
+}
+
+/// Ends the line of a hart's output.
+pub fn end_output(line: &mut Line, hart: HartNo, ops: &[Op])
+    requires { length line.old ≤ 501 }
+    ensures { line.new ≡ line.old ++ dash_behind (put_texts hart ops.now) ++ codes "\n" }
+{
+    let Ok(()) = push_dash(line, hart, ops) else {
+        unreachable!();
+    };
+    end_line(line);
+}
+
+/// Ends a line.
+pub fn end_line(line: &mut Line)
+    requires { length line.old ≤ 502 }
+    ensures { line.new ≡ line.old ++ codes "\n" }
+{
+    let Ok(()) = push_bytes(line, b"\n") else {
+        unreachable!();
+    };
+}
+
+/// Puts the line of a bus.
+pub fn put_bus<const WORDS: usize>(line: &mut Line, machine: &Machines<WORDS>, bus: u32)
+    requires empty { line.old ≡ [] }
+    requires bus { bus < length (state_in machine.now).machine.traffic }
+    ensures { line.new ≡ bus_line bus (slice_index_or (state_in machine.now).machine.traffic bus no_traffic) }
+{
+    let traffic = &machine.traffic()[bus as usize];
+    let Ok(()) = push_bus_line(line, BusNo(bus), traffic) else {
+        unreachable!();
+    };
+}
+
+/// Puts the line of an item, up to the states of its entries.
+pub fn put_item<const WORDS: usize>(line: &mut Line, machine: &Machines<WORDS>, item: ItemId)
+    requires small { WORDS ≤ 16 }
+    requires empty { line.old ≡ [] }
+    requires item { item < item_count (state_in machine.now).machine.items }
+    ensures { let m = (state_in machine.now).machine in line.new ≡ front_of (item_view m item (row_at m.items item)) }
+{
+    let address = machine.items().address(item);
+    let found = machine.find(item);
+    let Ok(()) = push_item_front(line, item, address, &found.words.w, found.at) else {
+        unreachable!();
+    };
+}
+
+/// Puts the states of an item's entries from a leaf on, until the line is long, and says from which leaf on the rest is.
+pub fn put_states<const WORDS: usize>(
+    line: &mut Line,
+    machine: &Machines<WORDS>,
+    item: ItemId,
+    from: u32,
+    leaves: u32,
+) -> u32
+    requires small { WORDS ≤ 16 }
+    requires empty { line.old ≡ [] }
+    requires shape { IsShaped (state_in machine.now).machine }
+    requires leaves { leaves ≡ (tree_counts (state_in machine.now).machine).leaves }
+    requires item { item < item_count (state_in machine.now).machine.items }
+    requires from { from ≤ leaves }
+    ensures within { result ≤ leaves }
+    ensures states { let all = states_of item (state_in machine.now).machine in letter_texts (drop from all) ≡ line.new ++ letter_texts (drop result all) }
+    ensures room { length line.new ≤ 500 }
+    ensures long { result < leaves → 500 ≤ length line.new }
+{
+    let mut next = from;
+    'states: while next < leaves && line.len() < LONG_LINE {
+        let Ok(()) = push_letter(line, machine.state(item, LeafNo(next))) else {
+            unreachable!();
+        };
+        next += 1;
+    }
+    next
+}
+
+/// Puts the line of an operation.
+pub fn put_operation(line: &mut Line, depth: u32, op: Op)
+    requires empty { line.old ≡ [] }
+    requires depth { depth ≤ LEVELS }
+    ensures { line.new ≡ op_line depth op }
+{
+    let Ok(()) = push_op_line(line, depth, op) else {
+        unreachable!();
+    };
+}
+
+/// Puts the last line of a report.
+pub fn put_end(line: &mut Line)
+    requires { line.old ≡ [] }
+    ensures { line.new ≡ codes "end\n" }
+{
+    let Ok(()) = push_bytes(line, b"end\n") else {
+        unreachable!();
+    };
+}

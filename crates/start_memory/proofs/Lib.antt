@@ -1,0 +1,4 @@
+pub mod ByteAt
+pub mod ItemWords
+pub mod StackOverlaps
+pub mod MemorySpans

@@ -1,0 +1,13 @@
+//! The memory that a program starts with: the items of an image's segments and of the harts' stacks, their words, and the
+//! first stack that meets a segment.
+#![tactic(auto)]
+
+mod laws;
+mod overlaps;
+mod spans;
+mod words;
+
+pub use laws::memory_is_the_start;
+pub use overlaps::{Overlap, first_overlap};
+pub use spans::{segment_span, spans_of, stack_span};
+pub use words::{memory_word, words_of_items};

@@ -1,0 +1,12 @@
+pub mod Steps
+pub mod Pieces
+pub mod Cuts
+pub mod Numbers
+pub mod FlatWords
+pub mod ReaderSteps
+pub mod HexTexts
+pub mod KeyTexts
+pub mod EffectTexts
+pub mod LineTexts
+pub mod Accepting
+pub mod Refusing

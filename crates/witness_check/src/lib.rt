@@ -1,0 +1,22 @@
+//! Judges a list of operations by the flat machine alone: whether a text has the lines of operations of which each, in turn,
+//! is the next step of its hart.
+#![tactic(auto)]
+
+mod checking;
+mod effects;
+mod examples;
+mod hex;
+mod judge;
+pub mod laws;
+mod lines;
+mod reader;
+mod refusal;
+mod words;
+
+pub use checking::check;
+pub use examples::{eight_operations, lines_of_operations, six_operations};
+pub use reader::WitnessReader;
+pub use refusal::CheckRefusal;
+
+#[cfg(test)]
+mod tests;

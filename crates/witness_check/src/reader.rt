@@ -1,0 +1,161 @@
+ghost use Rattle.std.specs.Prelude.{◌≡◌, ◌⊎◌, ◌≤◌, ◌+◌, ◌*◌, None, Some, IfErr, IfOk};
+ghost use Rattle.ddm_types.specs.ItemTable.{IsItemSize};
+ghost use Rattle.witness_check.specs.Judging.{answer_of, lines_of, with_byte};
+ghost use Rattle.witness_check.specs.Start.{start_refusal};
+ghost use Rattle.witness_check.specs.Reader.{begun, fed, feed_answer, setting, with_standing, IsAtLineEnd};
+ghost use Rattle.witness_check.specs.declared.refusal.CheckRefusal.TheVariants as refusal;
+
+use crate::judge::Judge;
+use crate::lines::op_of_line;
+use crate::refusal::CheckRefusal;
+use ddm_types::Start;
+use elf_load::Image;
+use std::alloc::Global;
+use std::marker::Model;
+
+/// The most bytes of a line before its line feed.
+const MOST_BYTES: usize = 160;
+
+/// The most lines of a text.
+const MOST_LINES: u32 = 1_048_576;
+
+/// The most bytes of a text.
+const MOST_TEXT: u32 = 168_820_736;
+
+/// Reads the text of a witness, in pieces of any lengths, and holds no more of it than a line. A contract sees the program,
+/// how many bytes came, and how the text stands.
+#[derive(Drop)]
+pub struct WitnessReader {
+    judge: Judge,
+    line: [u8; MOST_BYTES],
+    len: usize,
+    made: u32,
+    size: u32,
+    refusal: Option<CheckRefusal>,
+}
+
+impl Model for WitnessReader {
+    ghost use Rattle.std.specs.Prelude.{take};
+    ghost use Rattle.witness_check.specs.Reader.{IsReader, ReaderView, standing_by};
+
+    ghost Value = { ReaderView };
+
+    ghost view = { λ r. record {
+      program = r.judge.program;
+      size = r.size;
+      standing = standing_by r.refusal r.judge.machine r.made (take r.len r.line);
+    } };
+
+    ghost invariant = { λ r. IsReader r.len r.made r.size };
+}
+
+impl WitnessReader {
+    /// Before the first byte of a text, where the image and the harts' stacks have a start. All memory is taken here.
+    pub fn new(
+        alloc: Global,
+        image: &Image,
+        start: Start,
+        item_bytes: u32,
+    ) -> Result<WitnessReader, CheckRefusal>
+        requires size { IsItemSize item_bytes }
+        requires harts { start.harts ≤ 64 }
+        requires stacks { start.stack_base + start.harts * start.stack_bytes ≤ 4294967280 }
+        ensures begun { IfOk result (λ reader. reader ≡ begun (setting image.now start item_bytes)) }
+        ensures accepted { IfOk result (λ reader. start_refusal (setting image.now start item_bytes) ≡ None) }
+        ensures refused { IfErr result (λ r. (r ≡ refusal.NoMemory) ⊎ (start_refusal (setting image.now start item_bytes) ≡ Some r)) }
+    {
+        Ok(WitnessReader {
+            judge: Judge::new(alloc, image, start, item_bytes)?,
+            line: [0; MOST_BYTES],
+            len: 0,
+            made: 0,
+            size: 0,
+            refusal: None,
+        })
+    }
+
+    // The line feed of a line.
+    #[tactic(auto, unfolding(crate::specs::Judging::with_byte))]
+    fn end_line(&mut self)
+        requires { IsAtLineEnd self.old.standing }
+        ensures { self.new ≡ with_standing (with_byte self.old.program self.old.standing 10) self.old }
+    {
+        match op_of_line(&self.line[..self.len]) {
+            None => self.refusal = Some(CheckRefusal::BadLine(self.made + 1)),
+            Some(op) => {
+                if self.judge.step(&op) {
+                    self.made += 1;
+                    self.len = 0;
+                } else {
+                    self.refusal = Some(CheckRefusal::NotLegal(self.made + 1));
+                }
+            }
+        }
+    }
+
+    #[tactic(auto, unfolding(crate::specs::Judging::with_byte))]
+    fn take_byte(&mut self, byte: u8)
+        ensures { self.new ≡ with_standing (with_byte self.old.program self.old.standing byte) self.old }
+    {
+        if self.refusal.is_some() {
+            return;
+        }
+        if self.made >= MOST_LINES {
+            self.refusal = Some(CheckRefusal::TooManyLines(self.made + 1));
+        } else if byte == b'\n' {
+            self.end_line();
+        } else if self.len < MOST_BYTES {
+            self.line[self.len] = byte;
+            self.len += 1;
+        } else {
+            self.refusal = Some(CheckRefusal::BadLine(self.made + 1));
+        }
+    }
+
+    // What a call answers after which the text stands so.
+    fn feed_answer(&self) -> Result<(), CheckRefusal>
+        ensures { result ≡ feed_answer self.now.standing }
+    {
+        match self.refusal {
+            Some(CheckRefusal::TooLong) => Err(CheckRefusal::TooLong),
+            _ => Ok(()),
+        }
+    }
+
+    // Reads bytes that don't make the text too long.
+    fn take_bytes(&mut self, piece: &[u8])
+        ensures { self.new ≡ with_standing (lines_of self.old.program self.old.standing piece.now) self.old }
+    {
+        for byte in piece {
+            self.take_byte(*byte);
+        }
+    }
+
+    /// Reads the next piece of the text. It takes no memory. The answer is an error exactly where the text so far is too
+    /// long, which is its first refusal; every other one is answered by `finish`, since the text may still become too long.
+    #[tactic(auto, unfolding(crate::specs::Reader::fed))]
+    pub fn feed(&mut self, piece: &[u8]) -> Result<(), CheckRefusal>
+        ensures reader { self.new ≡ fed self.old piece.now }
+        ensures answer { result ≡ feed_answer self.new.standing }
+    {
+        if piece.len() > (MOST_TEXT - self.size) as usize {
+            self.size = MOST_TEXT;
+            self.refusal = Some(CheckRefusal::TooLong);
+            return Err(CheckRefusal::TooLong);
+        }
+        self.size += piece.len() as u32;
+        self.take_bytes(piece);
+        self.feed_answer()
+    }
+
+    /// The text ends here: the number of its lines, or its first refusal.
+    pub fn finish(self) -> Result<u32, CheckRefusal>
+        ensures { result ≡ answer_of self.standing }
+    {
+        match self.refusal {
+            Some(refusal) => Err(refusal),
+            None if self.len == 0 => Ok(self.made),
+            None => Err(CheckRefusal::BadLine(self.made + 1)),
+        }
+    }
+}
