@@ -30,7 +30,7 @@ use Rattle.ddm_cli.specs.declared.command.Prints.{Prints}
 use Rattle.ddm_cli.specs.declared.command.Prints.TheVariants.{Report, Trace, Summary}
 use Rattle.ddm_cli.specs.declared.status.Status.{Status}
 use Rattle.ddm_cli.specs.declared.status.Status.TheVariants.{Done, Usage, ImageLoad, ImageBuild, Tree, Schedule, ReadFault, WriteFault, NoMemory}
-use Rattle.ddm_cli.proofs.Telling.{rose_before}
+use Rattle.report.proofs.Written.{rose_before}
 use Rattle.ddm_cli.proofs.Causes.{takes_parts}
 use Rattle.ddm_cli.proofs.Judged.{both_taken, parts_taken}
 use Rattle.ddm_cli.proofs.StartNames.{start_depth}

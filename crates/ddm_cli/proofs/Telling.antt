@@ -5,7 +5,7 @@ use Rattle.std.proofs.Math.Seq.{take-add, take-append-add, take-length}
 use Rattle.std.proofs.lemmas.List.{append-nil, map-append, take-append-drop, take-append-le, length-append}
 use Rattle.ddm_outside.specs.Causes.{HasCause, Rose}
 use Rattle.report.specs.Appends.{Appends, AppendsPart}
-use Rattle.report.proofs.Written.{appends_more}
+use Rattle.report.proofs.Written.{appends_more, part_front, part_more, rose_before}
 use Rattle.text_model.specs.Faults.{key_refusal_text, name_words, shown_byte, shown_key, tree_key_fault}
 use Rattle.tree_config.specs.declared.refusal.TreeRefusal.{TreeRefusal}
 use Rattle.tree_config.specs.declared.refusal.TreeRefusal.TheVariants as tree
@@ -13,19 +13,6 @@ use Rattle.ddm_cli.specs.Refusals.{tree_line, tree_line_head, tree_line_rest}
 use Rattle.ddm_cli.specs.Top.{Offers, fault_line, line_head, line_rest}
 use Rattle.ddm_cli.specs.declared.status.Status.{Status}
 use Rattle.ddm_cli.specs.declared.status.Status.TheVariants.{Done, Usage, ImageLoad, ImageBuild, Tree, Schedule, ReadFault, WriteFault, NoMemory}
-
--- one text, and then a first part of another
-pub part_more : (old mid new : Option (List ℕ)) (a b : List ℕ) → Appends old mid a → AppendsPart mid new b → AppendsPart old new (a ++ b)
-part_more old mid new a b first (n, few, more) =
-    (length a + n, omega (arith, few, length-append a b), subst (Appends old new) (sym (take-append-add a b n)) (appends_more old mid new a (take n b) first more))
-
--- a first part of a text is one of a longer text
-pub part_front : (old new : Option (List ℕ)) (a b : List ℕ) → AppendsPart old new a → AppendsPart old new (a ++ b)
-part_front old new a b (n, few, more) = (n, omega (arith, few, length-append a b), subst (Appends old new) (sym (take-append-le n a b few)) more)
-
--- a count that rose since some moment rose since an earlier one
-pub rose_before : (a b c : ℕ) → a ≤ b → Rose b c → Rose a c
-rose_before a b c earlier rose = omega (arith, earlier, rose)
 
 tree_line_parts : (r : TreeRefusal) → tree_line r ≡ tree_line_head r ++ tree_line_rest r
 unfolding tree_key_fault key_refusal_text name_words

@@ -1,10 +1,15 @@
 -- What is printed of a run.
 -- Letters: m is a machine.
-use Rattle.std.specs.Prelude.{ℕ, Bool, false, true, List}
+use Rattle.std.specs.Prelude.{ℕ, Bool, false, true, List, ◌++◌, Option, Result, MatchResult}
 use Rattle.ddm_types.specs.declared.turns.Turn.{Turn}
 use Rattle.tree_model.specs.State.Values.{MachineValue}
-use Rattle.text_model.specs.Run.{report_text_of, summary_text_of, trace_and_report_of}
+use Rattle.tree_model.specs.State.Shape.{depth_of}
+use Rattle.text_model.specs.Report.{report_of, summary_of}
+use Rattle.text_model.specs.Run.{report_text_of, summary_text_of, trace_and_report_of, view_of}
+use Rattle.text_model.specs.Trace.{trace_text}
+use Rattle.report.specs.Appends.{Appends, AppendsPart}
 use Rattle.ddm_cli.specs.declared.command.Prints.{Prints}
+use Rattle.ddm_cli.specs.declared.making.Made.{Made}
 use Rattle.ddm_cli.specs.declared.command.Prints.TheVariants.{Report, Trace, Summary}
 
 -- of these turns from a machine, whose keys are as long as the tree is deep
@@ -18,3 +23,13 @@ abbrev pub is_trace : Prints → Bool
 is_trace Report = false
 is_trace Trace = true
 is_trace Summary = false
+
+-- the same of turns that were made, and are kept for a trace
+abbrev pub made_text : Prints → MachineValue → Made → List ℕ
+made_text Summary m made = summary_of (view_of (depth_of m) made.counts m)
+made_text Report m made = trace_text made.turns.items made.answers.items ++ report_of (view_of (depth_of m) made.counts m)
+made_text Trace m made = trace_text made.turns.items made.answers.items ++ report_of (view_of (depth_of m) made.counts m)
+
+-- a text was written behind what was there, or a first part of it where a write failed
+abbrev pub Writes : {E : Type 0} → Option (List ℕ) → Option (List ℕ) → List ℕ → Result (Unit {0}) E → Type 0
+Writes old new text result = MatchResult result (λ u. Appends old new text) (λ e. AppendsPart old new text)

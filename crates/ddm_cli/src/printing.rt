@@ -1,29 +1,32 @@
-ghost use Rattle.std.specs.Prelude.{◌≡◌, ◌<◌, ◌≤◌, ℕ, List, true, length, IfOk, IfErr};
-ghost use Rattle.ddm_types.specs.declared.turns.Turn.{Turn};
+ghost use Rattle.std.specs.Prelude.{◌≡◌, ◌<◌, ◌≤◌, ℕ, List, length, IfOk, IfErr, OnErr, OnOk};
 ghost use Rattle.tree_model.specs.State.Shape.{depth_of};
-ghost use Rattle.ddm_tree.specs.Machine.{MachineState};
+ghost use Rattle.tree_model.specs.Turns.Witness.{sorted_ops};
+ghost use Rattle.text_model.specs.Report.{report_of, summary_of};
+ghost use Rattle.text_model.specs.Run.{view_of};
+ghost use Rattle.text_model.specs.Trace.{trace_text};
 ghost use Rattle.witness_order.specs.Order.{HaveOtherKeys};
 ghost use Rattle.bus_laws.specs.IsTree.{IsTree};
 ghost use Rattle.any_machine.specs.Any.{machine_state};
+ghost use Rattle.ddm_outside.specs.Causes.{HasCause};
+ghost use Rattle.report.specs.Appends.{Appends, AppendsPart};
 ghost use Rattle.ddm_cli.specs.Causes.{IsRefused, ScheduleCause};
 ghost use Rattle.ddm_cli.specs.Commands.{AreFew};
-ghost use Rattle.ddm_cli.specs.Made.{HasMade};
 ghost use Rattle.ddm_cli.specs.Parts.{HasStart};
-ghost use Rattle.ddm_cli.specs.Printed.{is_trace, printed};
-ghost use Rattle.ddm_cli.specs.Reads.{IsRanBy};
+ghost use Rattle.ddm_cli.specs.Printed.{Writes, is_trace, made_text};
+ghost use Rattle.ddm_cli.specs.Reads.{WritesRan};
 ghost use Rattle.ddm_cli.specs.Told.{schedule_faults, schedule_told};
 ghost use Rattle.ddm_cli.specs.Views.{turns_from};
-ghost use Rattle.ddm_cli.specs.declared.command.Prints.TheVariants.{Trace};
 
 use crate::command::{Prints, TurnSource};
 use crate::making::{Made, turns_made};
 use crate::status::Status;
-use ddm_outside::Shelf;
-use ddm_types::NoMemory;
-use report::{report_text, summary_text, trace_text};
+use ddm_outside::{Failed, Shelf, Sink};
+use ddm_types::{NoMemory, Op};
+use report::{ReportPieces, TracePieces, summary_text, write_all, write_pieces};
 use run_engine::AnyMachine;
 use std::alloc::Global;
 use tree_config::TreeConfig;
+use witness_order::Witness;
 
 fn is_trace(prints: Prints) -> bool
     ensures { result ≡ is_trace prints }
@@ -34,63 +37,82 @@ fn is_trace(prints: Prints) -> bool
     }
 }
 
-// The trace of turns that were made, and the report of the machine after them.
-fn traced_text(alloc: Global, machine: &AnyMachine, made: &Made) -> Result<Vec<u8>, NoMemory>
-    requires keys { HaveOtherKeys (machine_state machine.now).machine.ops }
-    requires answers { length made.now.turns.items ≡ length made.now.answers.items }
-    ensures { (s : MachineState) (turns : List Turn) → HasMade true s (machine_state machine.now) made.now turns
-        → IfOk result (λ text. text.items ≡ printed Trace (depth_of s.machine) turns s.machine) }
+// A machine's operations in the order of their keys.
+fn witness(alloc: Global, machine: &AnyMachine) -> Result<Vec<Op>, NoMemory>
+    requires { HaveOtherKeys (machine_state machine.now).machine.ops }
+    ensures { IfOk result (λ ops. ops.items ≡ sorted_ops (machine_state machine.now).machine.ops) }
 {
-    let mut text = trace_text(alloc, &made.turns, &made.answers)?;
-    text.extend_from_slice(&report_text(alloc, machine, made.counts)?)?;
-    Ok(text)
+    Ok(Witness::new(alloc, machine.ops())?.sorted())
 }
 
-// What is printed of turns that were made.
-fn made_text(
+// Writes the trace of the turns that are kept, none where it isn't asked for, and then the report.
+fn write_run<K: Sink>(
+    out: &mut K,
+    machine: &AnyMachine,
+    witness: &[Op],
+    made: &Made,
+    buffer: &mut [u8],
+) -> Result<(), Failed>
+    requires room { 1024 ≤ length buffer.old }
+    requires witness { witness.now ≡ sorted_ops (machine_state machine.now).machine.ops }
+    requires answers { length made.now.turns.items ≡ length made.now.answers.items }
+    ensures written { let m = (machine_state machine.now).machine in Writes (K.held out.old) (K.held out.new) (trace_text made.now.turns.items made.now.answers.items ++ report_of (view_of (depth_of m) made.now.counts m)) result }
+    ensures cause { HasCause (K.faults out.old) (K.faults out.new) result }
+{
+    write_pieces(out, &mut TracePieces::new(&made.turns, &made.answers), buffer)?;
+    write_pieces(out, &mut ReportPieces::new(machine, witness, made.counts), buffer)
+}
+
+// Writes what is printed of turns that were made. All memory is taken before the first write.
+fn write_made<K: Sink>(
     alloc: Global,
+    out: &mut K,
     machine: &AnyMachine,
     made: &Made,
     prints: Prints,
-) -> Result<Vec<u8>, NoMemory>
+    buffer: &mut [u8],
+) -> Result<Result<(), Failed>, NoMemory>
+    requires room { 1024 ≤ length buffer.old }
     requires keys { HaveOtherKeys (machine_state machine.now).machine.ops }
     requires answers { length made.now.turns.items ≡ length made.now.answers.items }
-    ensures { (s : MachineState) (turns : List Turn) → HasMade (is_trace prints) s (machine_state machine.now) made.now turns
-        → IfOk result (λ text. text.items ≡ printed prints (depth_of s.machine) turns s.machine) }
+    ensures written { IfOk result (Writes (K.held out.old) (K.held out.new) (made_text prints (machine_state machine.now).machine made.now)) }
+    ensures cause { IfOk result (HasCause (K.faults out.old) (K.faults out.new)) }
+    ensures same { OnErr result (K.held out.new ≡ K.held out.old) }
 {
     match prints {
-        Prints::Report => report_text(alloc, machine, made.counts),
-        Prints::Trace => traced_text(alloc, machine, made),
-        Prints::Summary => summary_text(alloc, machine, made.counts),
+        Prints::Summary => {
+            let text = summary_text(alloc, machine, made.counts)?;
+            Ok(write_all(out, &text))
+        }
+        Prints::Report | Prints::Trace => {
+            let witness = witness(alloc, machine)?;
+            Ok(write_run(out, machine, &witness, made, buffer))
+        }
     }
 }
 
-/// What is printed of a tree's machine and its turns.
-pub fn machine_text<F: Shelf>(
+/// Makes the turns of a run on a tree's machine, and writes what is printed of it.
+pub fn write_ran<F: Shelf, K: Sink>(
     alloc: Global,
     files: &mut F,
+    out: &mut K,
     turns: TurnSource<'_>,
     buffer: &mut [u8],
     tree: &TreeConfig,
     machine: &mut AnyMachine,
     prints: Prints,
-) -> Result<Vec<u8>, Status>
-    requires room { 0 < length buffer.old }
+) -> Result<Result<(), Failed>, Status>
+    requires room { 1024 ≤ length buffer.old }
     requires few { AreFew (turns_from turns) }
     requires tree { IsTree tree.now }
     requires start { HasStart tree.now (machine_state machine.old) }
-    ensures ran { IfOk result (λ text. IsRanBy prints tree.now.levels (schedule_told (F.told files.old) (turns_from turns.entry)) (machine_state machine.old).machine text.items) }
+    ensures ran { IfOk result (WritesRan prints tree.now.levels (schedule_told (F.told files.old) (turns_from turns.entry)) (machine_state machine.old).machine (K.held out.old) (K.held out.new)) }
+    ensures failed { IfOk result (HasCause (K.faults out.old) (K.faults out.new)) }
     ensures cause { IfErr result (ScheduleCause (IsRefused tree.now.levels) (schedule_told (F.told files.old) (turns_from turns.entry)) (schedule_faults (F.faults files.old) (turns_from turns.entry)) (schedule_faults (F.faults files.new) (turns_from turns.entry))) }
+    ensures same { OnErr result (K.held out.new ≡ K.held out.old) }
     ensures later { (other : List ℕ) → F.faults files.old other ≤ F.faults files.new other }
 {
-    let made = turns_made(
-        alloc,
-        files,
-        turns,
-        buffer,
-        tree,
-        machine,
-        is_trace(prints),
-    )?;
-    Ok(made_text(alloc, machine, &made, prints)?)
+    let keep = is_trace(prints);
+    let made = turns_made(alloc, files, turns, buffer, tree, machine, keep)?;
+    Ok(write_made(alloc, out, machine, &made, prints, buffer)?)
 }

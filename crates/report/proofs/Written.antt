@@ -1,15 +1,34 @@
 -- Bytes that are written piece by piece.
-use Rattle.std.proofs.Common.{◌≡◌, ℕ, ◌+◌, List, ◌++◌, take, drop, Option, Some, None, Result, Ok, Err, sym, ap, subst, ◌∙◌, arith, append_assoc}
+use Rattle.std.proofs.Common.{◌≡◌, ℕ, ◌+◌, ◌≤◌, List, [], ◌++◌, length, take, drop, Option, Some, None, Result, Ok, Err, sym, ap, subst, ◌∙◌, arith, append_assoc}
 use Rattle.std.specs.Prelude.{IfSome}
-use Rattle.std.proofs.Math.Seq.{take-add}
-use Rattle.std.proofs.lemmas.List.{take-take, length-take}
+use Rattle.std.proofs.Math.Seq.{take-add, take-append-add}
+use Rattle.std.proofs.lemmas.List.{append-nil, take-append-le, take-take, length-append, length-take}
+use Rattle.ddm_outside.specs.Causes.{Rose}
 use Rattle.ddm_outside.specs.Telling.{Takes, WritesTold}
-use Rattle.report.specs.Appends.{Appends}
+use Rattle.report.specs.Appends.{Appends, AppendsPart}
 
 -- one text, and then another
 pub appends_more : (old mid new : Option (List ℕ)) (a b : List ℕ) → Appends old mid a → Appends mid new b → Appends old new (a ++ b)
 appends_more None mid new a b first more = tt
 appends_more (Some h) mid new a b first more = subst (λ (o : Option (List ℕ)). IfSome o (λ x. new ≡ Some (x ++ b))) first more ∙ ap Some (append_assoc h a b)
+
+-- no text
+pub appends_none : (old : Option (List ℕ)) → Appends old old []
+appends_none None = tt
+appends_none (Some h) = ap Some (sym (append-nil h))
+
+-- one text, and then a first part of another
+pub part_more : (old mid new : Option (List ℕ)) (a b : List ℕ) → Appends old mid a → AppendsPart mid new b → AppendsPart old new (a ++ b)
+part_more old mid new a b first (n, few, more) =
+    (length a + n, omega (arith, few, length-append a b), subst (Appends old new) (sym (take-append-add a b n)) (appends_more old mid new a (take n b) first more))
+
+-- a first part of a text is one of a longer text
+pub part_front : (old new : Option (List ℕ)) (a b : List ℕ) → AppendsPart old new a → AppendsPart old new (a ++ b)
+part_front old new a b (n, few, more) = (n, omega (arith, few, length-append a b), subst (Appends old new) (sym (take-append-le n a b few)) more)
+
+-- a count that rose since some moment rose since an earlier one
+pub rose_before : (a b c : ℕ) → a ≤ b → Rose b c → Rose a c
+rose_before a b c earlier rose = omega (arith, earlier, rose)
 
 -- what was written, and then some more of the bytes
 pub writes_on : (old mid new : Option (List ℕ)) (bytes : List ℕ) (at n : ℕ) → Appends old mid (take at bytes) → Takes mid new (drop at bytes) n → Appends old new (take (at + n) bytes)

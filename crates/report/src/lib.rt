@@ -35,14 +35,14 @@ pub use harts::{push_hart_line, push_head, push_out_line, push_regs_line, push_t
 pub use items::{push_copy_place, push_item_line, push_letters};
 pub use line::{LINE_BYTES, Line, Line as FaultLine};
 pub use operations::{push_key, push_op_line, push_op_lines};
-pub use parts::LEAST_PIECE;
+pub use parts::{LEAST_PIECE, Parts};
 pub use pieces::{push_bytes, push_number, push_words};
 pub use report_pieces::{ReportPieces, report_text};
 pub use roles::FileRole;
 pub use summary::summary_text;
 pub use trace::{push_trace, push_trace_line, push_turn};
 pub use trace_pieces::{TracePieces, trace_text};
-pub use writing::{MOST_OFFERED, write_all};
+pub use writing::{MOST_OFFERED, write_all, write_pieces};
 
 #[cfg(test)]
 mod tests;

@@ -1,8 +1,9 @@
-ghost use Rattle.std.specs.Prelude.{◌<◌, length, OnOk, OnErr};
+ghost use Rattle.std.specs.Prelude.{◌<◌, ◌≤◌, length, OnOk, OnErr};
 ghost use Rattle.ddm_outside.specs.Causes.{HasCause};
 ghost use Rattle.ddm_outside.specs.Telling.{WritesTold};
 ghost use Rattle.report.specs.Appends.{Appends, AppendsPart};
 
+use crate::parts::{LEAST_PIECE, Parts, put_piece};
 use ddm_outside::{Failed, Sink};
 
 /// The most bytes that are offered to a sink in one write.
@@ -30,4 +31,24 @@ pub fn write_all<K: Sink>(sink: &mut K, bytes: &[u8]) -> Result<(), Failed>
         at += offer(sink, &bytes[at..])?;
     }
     Ok(())
+}
+
+/// Writes a text that is given piece by piece, over a buffer that is lent. No memory is taken.
+pub fn write_pieces<P: Parts, K: Sink>(
+    sink: &mut K,
+    parts: &mut P,
+    buffer: &mut [u8],
+) -> Result<(), Failed>
+    requires { LEAST_PIECE ≤ length buffer.old }
+    ensures ok { OnOk result (Appends (K.held sink.old) (K.held sink.new) (P.left parts.old)) }
+    ensures err { OnErr result (AppendsPart (K.held sink.old) (K.held sink.new) (P.left parts.old)) }
+    ensures cause { HasCause (K.faults sink.old) (K.faults sink.new) result }
+{
+    'writing: loop {
+        let n = put_piece(parts, buffer);
+        if n == 0 {
+            return Ok(());
+        }
+        write_all(sink, &buffer[..n])?;
+    }
 }
