@@ -44,16 +44,16 @@ retired-by (TurnAnswer.Halted cause) c n = refl
 retired-by TurnAnswer.Empty c n = refl
 
 -- answers are counted in either order
-same-counts : (c d : RunCounts) → c.turns ≡ d.turns → c.retired ≡ d.retired → c.granted ≡ d.granted → c.busy ≡ d.busy → c ≡ d
+pub same-counts : (c d : RunCounts) → c.turns ≡ d.turns → c.retired ≡ d.retired → c.granted ≡ d.granted → c.busy ≡ d.busy → c ≡ d
 same-counts c d turns retired granted busy = rw (turns, retired, granted, busy) refl
 
-abbrev plus : RunCounts → RunCounts → RunCounts
+abbrev pub plus : RunCounts → RunCounts → RunCounts
 plus c d = record { turns = c.turns + d.turns; retired = c.retired + d.retired; granted = c.granted + d.granted; busy = c.busy + d.busy }
 
 add-none : (n : ℕ) → n ≡ n + 0
 add-none n = omega arith
 
-counted-plus : (a : TurnAnswer) (c : RunCounts) → counted_answer a c ≡ plus c (counted_answer a no_counts)
+pub counted-plus : (a : TurnAnswer) (c : RunCounts) → counted_answer a c ≡ plus c (counted_answer a no_counts)
 counted-plus (TurnAnswer.Retired op) c = same-counts _ _ refl refl (add-none c.granted) (add-none c.busy)
 counted-plus (TurnAnswer.Granted e) c = same-counts _ _ refl (add-none c.retired) refl (add-none c.busy)
 counted-plus (TurnAnswer.Busy cause) c = same-counts _ _ refl (add-none c.retired) (add-none c.granted) refl
@@ -65,7 +65,7 @@ counted-plus TurnAnswer.Empty c = same-counts _ _ refl (add-none c.retired) (add
 add-swap : (k m n : ℕ) → k + m + n ≡ k + n + m
 add-swap k m n = omega arith
 
-plus-swap : (c d e : RunCounts) → plus (plus c d) e ≡ plus (plus c e) d
+pub plus-swap : (c d e : RunCounts) → plus (plus c d) e ≡ plus (plus c e) d
 plus-swap c d e = same-counts _ _ (add-swap c.turns d.turns e.turns) (add-swap c.retired d.retired e.retired) (add-swap c.granted d.granted e.granted) (add-swap c.busy d.busy e.busy)
 
 counted-swap : (b a : TurnAnswer) (c : RunCounts) → counted_answer b (counted_answer a c) ≡ counted_answer a (counted_answer b c)

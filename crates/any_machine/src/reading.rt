@@ -7,9 +7,9 @@ ghost use Rattle.ddm_tree.specs.Machine.{is_part};
 ghost use Rattle.ddm_tree.specs.Reads.{counted_hart_of};
 ghost use Rattle.ddm_tree.specs.Rules.{KeepsRules};
 ghost use Rattle.inspector.specs.States.{state_of};
-ghost use Rattle.any_machine.specs.Any.{state_in};
+ghost use Rattle.any_machine.specs.Any.{machine_state, state_in};
 
-use crate::machine::Machines;
+use crate::machine::{AnyMachine, Machines};
 use ddm_tree::Found;
 use ddm_types::{HartNo, ItemId, Items, LeafNo, LeafState, Op, TreeCounts};
 use rv_hart::Hart;
@@ -95,6 +95,18 @@ impl<const WORDS: usize> Machines<WORDS> {
             Machines::W1(machine) => machine.state(item, leaf),
             Machines::W2(machine) => machine.state(item, leaf),
             Machines::W4(machine) => machine.state(item, leaf),
+        }
+    }
+}
+
+impl AnyMachine {
+    /// The operations, in order of completion.
+    pub fn ops(&self) -> &[Op]
+        ensures { result.now ≡ (machine_state self.now).machine.ops }
+    {
+        match self {
+            AnyMachine::Narrow(machine) => machine.ops(),
+            AnyMachine::Wide(machine) => machine.ops(),
         }
     }
 }
