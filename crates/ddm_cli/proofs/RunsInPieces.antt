@@ -1,6 +1,6 @@
 -- Turns made piece by piece, as one run.
-use Rattle.std.proofs.Common.{◌≡◌, ℕ, zero, suc, ◌+◌, ◌-◌, ◌<◌, ◌≤◌, Bool, true, false, cond, List, [], ◌∷◌, ◌++◌, length, drop, map, Option, Some, None, refl, sym, ap, subst, ◌∙◌, arith, append_assoc}
-use Rattle.std.specs.Prelude.{All, if◌then◌else◌}
+use Rattle.std.proofs.Common.{◌≡◌, ℕ, zero, suc, ◌+◌, ◌-◌, ◌<◌, ◌≤◌, Bool, true, false, cond, List, [], ◌∷◌, ◌++◌, length, take, drop, Option, Some, None, refl, sym, ap, subst, ◌∙◌, arith, append_assoc}
+use Rattle.std.specs.Prelude.{All, IfSome, Result, if◌then◌else◌}
 use Rattle.std.proofs.lemmas.List.{length-append}
 use Rattle.std.proofs.lemmas.List.Elements.{All-drop, All-weaker}
 use Rattle.ddm_types.specs.declared.answers.TurnAnswer.{TurnAnswer}
@@ -11,16 +11,28 @@ use Rattle.tree_model.specs.Start.Machine.{start_machine}
 use Rattle.tree_model.specs.Turns.Machine.{names_part, run_of, turn_of}
 use Rattle.text_model.specs.declared.RunCounts.{RunCounts}
 use Rattle.text_model.specs.ReadBack.{GivesTurnsOf, IsTurnOf}
-use Rattle.text_model.specs.Run.{counted_answer, counts_of, no_counts}
+use Rattle.text_model.specs.Run.{counted_answer, counts_of, no_counts, view_of}
+use Rattle.ddm_outside.specs.Telling.{ReadsPart}
+use Rattle.schedule_log.specs.Reader.{ReaderView, Fed}
 use Rattle.schedule_log.specs.Shapes.{shape_view}
 use Rattle.bus_laws.specs.IsTree.{IsTree}
 use Rattle.start_parts.proofs.Names.{run-names}
 use Rattle.ddm_tree.specs.Machine.{MachineState}
 use Rattle.any_machine.specs.Run.{AreBelow, CanRun, NameParts, answers_in, counts_in, ran, with_room}
 use Rattle.any_machine.proofs.RunMore.{counted-below, counted-plus, plus, plus-swap, same-counts}
-use Rattle.ddm_cli.specs.Made.{CanCount, HasMade, counts_plus}
+use Rattle.tree_model.specs.State.Shape.{depth_of}
+use Rattle.text_model.specs.Report.{report_of}
+use Rattle.text_model.specs.Trace.{trace_text}
+use Rattle.ddm_cli.specs.Made.{CanCount, HasAllMade, HasMade, counts_plus}
+use Rattle.ddm_cli.specs.Printed.{Writes, is_trace, made_text, printed}
+use Rattle.ddm_cli.specs.Reads.{HasRead, WritesRan}
+use Rattle.ddm_cli.specs.Told.{ScheduleGiven}
+use Rattle.ddm_cli.specs.declared.command.Prints.{Prints}
+use Rattle.ddm_cli.specs.declared.command.Prints.TheVariants.{Report, Trace, Summary}
+use Rattle.ddm_cli.proofs.Taken.{ran_report, ran_summary, ran_trace}
 use Rattle.ddm_cli.specs.Parts.{HasStart}
 use Rattle.ddm_cli.specs.declared.making.Made.{Made}
+use Rattle.ddm_cli.proofs.Schedules.{given_so_far, more_read}
 use Rattle.ddm_cli.proofs.StartNames.{named_parts}
 
 drop_front : {A : Type 0} (xs ys : List A) → drop (length xs) (xs ++ ys) ≡ ys
@@ -41,7 +53,9 @@ machine_append (t ∷ ts) us m = machine_append ts us (turn_of t m).machine
 
 counts_append : (xs ys : List TurnAnswer) → counts_of (xs ++ ys) ≡ counts_plus (counts_of xs) (counts_of ys)
 unfolding counts_of
-counts_append [] ys = refl
+counts_append [] ys = same-counts (counts_of ys) (counts_plus no_counts (counts_of ys)) (from_zero _) (from_zero _) (from_zero _) (from_zero _) where
+  from_zero : (n : ℕ) → n ≡ 0 + n
+  from_zero n = omega arith
 counts_append (x ∷ xs) ys =
     ap (counted_answer x) (counts_append xs ys) ∙ counted-plus x (plus (counts_of xs) (counts_of ys)) ∙ plus-swap (counts_of xs) (counts_of ys) (counted_answer x no_counts)
     ∙ sym (ap (λ c. plus c (counts_of ys)) (counted-plus x (counts_of xs)))
@@ -50,7 +64,9 @@ counts_append (x ∷ xs) ys =
 counts_few : (xs : List TurnAnswer) → AreBelow (length xs + 1) (counts_of xs)
 unfolding counts_of
 counts_few [] = record { turns = omega arith; retired = omega arith; granted = omega arith; busy = omega arith }
-counts_few (x ∷ xs) = counted-below (length xs + 1) x (counts_of xs) (counts_few xs)
+counts_few (x ∷ xs) =
+    let next : length xs + 1 + 1 ≡ length (x ∷ xs) + 1 = omega arith in
+    subst (λ n. AreBelow n (counts_of (x ∷ xs))) next (counted-below (length xs + 1) x (counts_of xs) (counts_few xs))
 
 answers_counted : (turns : List Turn) (m : MachineValue) → length (run_of turns m).answers ≡ length turns
 unfolding run_of
@@ -59,6 +75,10 @@ answers_counted (t ∷ ts) m = ap suc (answers_counted ts (turn_of t m).machine)
 
 run_counts_few : (turns : List Turn) (m : MachineValue) → AreBelow (length turns + 1) (counts_of (run_of turns m).answers)
 run_counts_few turns m = subst (λ n. AreBelow (n + 1) (counts_of (run_of turns m).answers)) (answers_counted turns m) (counts_few (run_of turns m).answers)
+
+kept_none : {A : Type 0} (keep : Bool) (l : List A) → l ≡ [] → l ≡ (if keep then [] else [])
+kept_none true l is = is
+kept_none false l is = is
 
 kept_more : {A : Type 0} (keep : Bool) (old new before more : List A) → old ≡ (if keep then before else []) → new ≡ (if keep then old ++ more else old) → new ≡ (if keep then before ++ more else [])
 kept_more true old new before more was is = is ∙ ap (λ l. l ++ more) was
@@ -70,15 +90,12 @@ module _ (t : TreeValue) (tree : IsTree t) (s : MachineState) (start : HasStart 
   -- nothing yet
   pub nothing_made : (keep : Bool) (made : Made) → made.counts ≡ no_counts → made.turns.items ≡ [] → made.answers.items ≡ [] → HasMade keep s s made []
   unfolding run_of counts_of
-  nothing_made keep made counts turns answers = record { machine = refl; number = omega arith; counts = counts; turns_kept = turns ∙ none keep; answers_kept = answers ∙ none keep } where
-    none : {A : Type 0} (b : Bool) → [] {A = A} ≡ (if b then [] else [])
-    none true = refl
-    none false = refl
+  nothing_made keep made counts turns answers = record { machine = refl; number = omega arith; counts = counts; turns_kept = kept_none keep made.turns.items turns; answers_kept = kept_none keep made.answers.items answers }
 
   module _ (keep : Bool) (now : MachineState) (made : Made) (turns more : List Turn) (has : HasMade keep s now made turns) (given : GivesTurnsOf (shape_view t.levels) 0 (turns ++ more)) where
     -- the next turns name parts of the machine, and can be counted
     pub more_named : NameParts more now.machine
-    more_named = subst (λ (m : MachineValue). NameParts more m) (sym has.machine) (All-weaker _ _ (λ u here. run-names u turns s.machine ∙ here) more at_start) where
+    more_named = subst (λ (m : MachineValue). NameParts more m) (sym has.machine) (All-weaker (λ u. names_part u s.machine ≡ true) (λ u. names_part u (run_of turns s.machine).machine ≡ true) (λ u here. run-names u turns s.machine ∙ here) more at_start) where
       each : All (IsTurnOf (shape_view t.levels)) more
       each = subst (All (IsTurnOf (shape_view t.levels))) (drop_front turns more) (All-drop (IsTurnOf (shape_view t.levels)) (length turns) (turns ++ more) given.each)
 
@@ -114,3 +131,54 @@ module _ (t : TreeValue) (tree : IsTree t) (s : MachineState) (start : HasStart 
               let both = kept_more keep made.answers.items made'.answers.items (run_of turns s.machine).answers (answers_in more now) has.answers_kept answers in
               both ∙ ap (λ (m : MachineValue). if keep then (run_of turns s.machine).answers ++ (run_of more m).answers else []) has.machine ∙ ap (λ l. if keep then l else []) (sym (answers_append turns more s.machine));
           }
+
+-- ---- turns that were made
+
+-- for a trace there is an answer for each turn
+pub answers_kept : (keep : Bool) (s now : MachineState) (made : Made) (turns : List Turn) → HasMade keep s now made turns → length made.turns.items ≡ length made.answers.items
+answers_kept true s now made turns has = ap length has.turns_kept ∙ sym (answers_counted turns s.machine) ∙ sym (ap length has.answers_kept)
+answers_kept false s now made turns has = ap length has.turns_kept ∙ sym (ap length has.answers_kept)
+
+-- what is printed of them is what is printed of their run
+pub made_printed : (prints : Prints) (s now : MachineState) (made : Made) (turns : List Turn) → HasMade (is_trace prints) s now made turns → made_text prints now.machine made ≡ printed prints (depth_of s.machine) turns s.machine
+made_printed Summary s now made turns has = ran_summary turns s.machine now.machine made.counts has.counts has.machine
+made_printed Trace s now made turns has =
+    ap (λ ts. trace_text ts made.answers.items ++ report_of (view_of (depth_of now.machine) made.counts now.machine)) has.turns_kept ∙ ran_trace turns s.machine now.machine made.counts has.counts has.machine made.answers.items has.answers_kept
+made_printed Report s now made turns has =
+    ap (λ ts. trace_text ts made.answers.items ++ report_of (view_of (depth_of now.machine) made.counts now.machine)) has.turns_kept
+    ∙ ap (λ as. trace_text [] as ++ report_of (view_of (depth_of now.machine) made.counts now.machine)) has.answers_kept
+    ∙ no_trace ∙ ran_report turns s.machine now.machine made.counts has.counts has.machine
+  where
+    no_trace : trace_text [] [] ++ report_of (view_of (depth_of now.machine) made.counts now.machine) ≡ report_of (view_of (depth_of now.machine) made.counts now.machine)
+    unfolding trace_text
+    no_trace = refl
+
+pub made_written : {E : Type 0} (prints : Prints) (levels : List (List ℕ)) (told : Option ScheduleGiven) (s now : MachineState) (made : Made) (old new : Option (List ℕ)) (w : Result (Unit {0}) E)
+    → HasAllMade levels told (is_trace prints) s now made → Writes old new (made_text prints now.machine made) w → WritesRan prints levels told s.machine old new w
+made_written prints levels told s now made old new w has writes =
+    (made_text prints now.machine made, record { turns = has.turns; accepted = has.accepted; text_is = made_printed prints s now made has.turns has.all }, writes)
+
+-- ---- the turns of a seed
+
+pub seed_given : (levels levels' : List (List ℕ)) (ts : List Turn) → levels ≡ levels' → All (IsTurnOf (shape_view levels)) ts → length ts ≤ 1048576 → GivesTurnsOf (shape_view levels') 0 ts
+seed_given levels levels' ts same known few = record { each = subst (λ ls. All (IsTurnOf (shape_view ls)) ts) same known; room = omega (arith, few) }
+
+-- ---- the pieces of a file
+
+-- a piece more that was read, and whose turns can be made
+pub record IsNext (levels : List (List ℕ)) (told : Option (List ℕ)) (count : ℕ) (reader : ReaderView) (turns more : List Turn) (now : MachineState) (made : Made) : Type 0 where
+  pub read : HasRead levels told count reader (turns ++ more)
+  pub given : GivesTurnsOf (shape_view levels) 0 (turns ++ more)
+  pub named : NameParts more now.machine
+  pub few : CanRun more now
+  pub counted : CanCount made.counts (counts_in more now)
+
+module _ (t : TreeValue) (tree : IsTree t) (s : MachineState) (start : HasStart t s) (keep : Bool) (told : Option (List ℕ)) (count : ℕ) (reader : ReaderView) (now : MachineState) (made : Made) (turns : List Turn)
+    (read : HasRead t.levels told count reader turns) (has : HasMade keep s now made turns) where
+  pub next_piece : (levels : List (List ℕ)) (n : ℕ) (into : List ℕ) (new : ReaderView) (none more : List Turn) → levels ≡ t.levels → none ≡ [] → n ≤ length into → IfSome told (λ file. ReadsPart file count n into) → Fed (shape_view levels) reader (take n into) new none more
+      → IsNext t.levels told (count + n) new turns more now made
+  next_piece levels n into new none more same is few part fed =
+      let here = subst (λ ls. Fed (shape_view ls) reader (take n into) new none more) same fed in
+      let next = more_read t.levels told count reader turns read n into new none more is few part here in
+      let given = given_so_far t.levels told (count + n) new (turns ++ more) next in
+      record { read = next; given = given; named = more_named t tree s start keep now made turns more has given; few = more_counted t tree s start keep now made turns more has given; counted = can_count t tree s start keep now made turns more has given }

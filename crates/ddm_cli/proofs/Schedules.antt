@@ -51,13 +51,6 @@ module _ (levels : List (List ℕ)) (told : Option (List ℕ)) where
     front (Some file) = refl
 
   module _ (count : ℕ) (reader : ReaderView) (turns : List Turn) (read : HasRead levels told count reader turns) where
-    -- one more, of which the reader gave the turns behind none
-    pub more_read : (n : ℕ) (into : List ℕ) (new : ReaderView) (none more : List Turn) → none ≡ [] → n ≤ length into → IfSome told (λ file. ReadsPart file count n into) → Fed (shape_view levels) reader (take n into) new none more
-        → HasRead levels told (count + n) new (turns ++ more)
-    more_read n into new none more is few part f =
-        let given : more ≡ (given (shape_view levels) reader (take n into)).turns = f.turns ∙ ap (λ ts. ts ++ (given (shape_view levels) reader (take n into)).turns) is in
-        piece_read n into new (turns ++ more) few part (record { reader = f.reader; turns = ap (λ ts. turns ++ ts) given })
-
     -- one more
     pub piece_read : (n : ℕ) (into : List ℕ) (new : ReaderView) (after : List Turn) → n ≤ length into → IfSome told (λ file. ReadsPart file count n into) → Fed (shape_view levels) reader (take n into) new turns after
         → HasRead levels told (count + n) new after
@@ -79,6 +72,13 @@ module _ (levels : List (List ℕ)) (told : Option (List ℕ)) where
         front : (o : Option (List ℕ)) → IfSome o (λ file. file ≡ read.text ++ drop count file) → IfSome o (λ file. ReadsPart file count n into) → IfSome o (λ file. file ≡ (read.text ++ take n into) ++ drop (count + n) file)
         front None so_far part = tt
         front (Some file) so_far part = so_far ∙ ap (λ t. read.text ++ t) part.bytes ∙ sym (append_assoc read.text (take n into) (drop (count + n) file))
+
+    -- one more, of which the reader gave the turns behind none
+    pub more_read : (n : ℕ) (into : List ℕ) (new : ReaderView) (none more : List Turn) → none ≡ [] → n ≤ length into → IfSome told (λ file. ReadsPart file count n into) → Fed (shape_view levels) reader (take n into) new none more
+        → HasRead levels told (count + n) new (turns ++ more)
+    more_read n into new none more is few part f =
+        let given : more ≡ (given (shape_view levels) reader (take n into)).turns = f.turns ∙ ap (λ ts. ts ++ (given (shape_view levels) reader (take n into)).turns) is in
+        piece_read n into new (turns ++ more) few part (record { reader = f.reader; turns = ap (λ ts. turns ++ ts) given })
 
     standing_is : reader.standing ≡ (reading_of (shape_view levels) 0 read.text).standing
     standing_is = ap (λ (r : ReaderView). r.standing) read.reader_is

@@ -1,5 +1,5 @@
 -- Where all three files were taken, the report of the run is their text.
-use Rattle.std.proofs.Common.{◌≡◌, ℕ, suc, ◌≤◌, List, [], ◌∷◌, ◌++◌, length, Option, Some, None, Ok, refl, sym, ap, ◌∙◌, arith}
+use Rattle.std.proofs.Common.{◌≡◌, ℕ, ◌≤◌, List, ◌++◌, Option, Some, None, Ok, refl, sym, ap, ◌∙◌, arith}
 use Rattle.std.specs.Prelude.{IfSome, IsSome}
 use Rattle.std.specs.Option.{option_map}
 use Rattle.ddm_types.specs.declared.answers.TurnAnswer.{TurnAnswer}
@@ -8,7 +8,7 @@ use Rattle.tree_model.specs.State.Shape.{Frame, depth_of, levels_of}
 use Rattle.tree_model.specs.State.Values.{MachineValue}
 use Rattle.tree_model.specs.Start.Sources.{TreeValue, ImageValue}
 use Rattle.tree_model.specs.Start.Machine.{start_machine}
-use Rattle.tree_model.specs.Turns.Machine.{run_of, turn_of}
+use Rattle.tree_model.specs.Turns.Machine.{run_of}
 use Rattle.tree_model.proofs.FrameKept.{run-frame}
 use Rattle.text_model.specs.declared.RunCounts.{RunCounts}
 use Rattle.text_model.specs.Report.{report_of, summary_of}
@@ -53,12 +53,6 @@ module _ (turns : List Turn) (before after : MachineValue) (counts : RunCounts) 
   pub ran_trace : (answers : List TurnAnswer) → answers ≡ (run_of turns before).answers → trace_text turns answers ++ report_of (view_of (depth_of after) counts after) ≡ printed Trace (depth_of before) turns before
   unfolding trace_and_report_of
   ran_trace answers is = ap (λ (a : List TurnAnswer). trace_text turns a ++ report_of (view_of (depth_of after) counts after)) is ∙ ap (λ t. trace_text turns (run_of turns before).answers ++ t) (ap report_of ran_view)
-
--- an answer for each turn
-pub answers_counted : (turns : List Turn) (m : MachineValue) → length turns ≡ length (run_of turns m).answers
-unfolding run_of
-answers_counted [] m = refl
-answers_counted (t ∷ ts) m = ap suc (answers_counted ts (turn_of t m).machine)
 
 -- the schedule of a seed, where its tree is told
 pub list_taken : (told : Option (List ℕ)) (t : TreeValue) (seed count : ℕ) (text : List ℕ) → AcceptedAs tree_at told t → text ≡ list_at seed count t → Accepts tree_at told × IfSome told (λ f. list_of seed count f ≡ Some text)
@@ -106,7 +100,7 @@ pub file_accepted : (levels : List (List ℕ)) (told : Option (List ℕ)) (turns
 file_accepted levels None turns taken = tt
 file_accepted levels (Some f) turns taken = taken
 
-file_refused : (levels : List (List ℕ)) (told : Option (List ℕ)) (line : ℕ) (r : ScheduleRefusal) → IfSome told (IsUnscheduled levels line r) → IfSome (option_map written told) (IsRefused levels line r)
+pub file_refused : (levels : List (List ℕ)) (told : Option (List ℕ)) (line : ℕ) (r : ScheduleRefusal) → IfSome told (IsUnscheduled levels line r) → IfSome (option_map written told) (IsRefused levels line r)
 file_refused levels None line r refused = tt
 file_refused levels (Some f) line r refused = refused
 

@@ -9,10 +9,24 @@ use Rattle.report.proofs.Written.{appends_more, part_front, part_more, rose_befo
 use Rattle.text_model.specs.Faults.{key_refusal_text, name_words, shown_byte, shown_key, tree_key_fault}
 use Rattle.tree_config.specs.declared.refusal.TreeRefusal.{TreeRefusal}
 use Rattle.tree_config.specs.declared.refusal.TreeRefusal.TheVariants as tree
+use Rattle.ddm_cli.specs.Printed.{Writes}
 use Rattle.ddm_cli.specs.Refusals.{tree_line, tree_line_head, tree_line_rest}
 use Rattle.ddm_cli.specs.Top.{Offers, fault_line, line_head, line_rest}
 use Rattle.ddm_cli.specs.declared.status.Status.{Status}
 use Rattle.ddm_cli.specs.declared.status.Status.TheVariants.{Done, Usage, ImageLoad, ImageBuild, Tree, Schedule, ReadFault, WriteFault, NoMemory}
+
+-- what two calls in a row wrote
+pub writes_of : {E : Type 0} (old new : Option (List ℕ)) (a : List ℕ) (w : Result (Unit {0}) E) → OnOk w (Appends old new a) → OnErr w (AppendsPart old new a) → Writes old new a w
+writes_of old new a (Ok u) ok err = ok
+writes_of old new a (Err e) ok err = err
+
+pub writes_more : {E : Type 0} (old mid new : Option (List ℕ)) (a b : List ℕ) (w : Result (Unit {0}) E) → Appends old mid a → Writes mid new b w → Writes old new (a ++ b) w
+writes_more old mid new a b (Ok u) first more = appends_more old mid new a b first more
+writes_more old mid new a b (Err e) first more = part_more old mid new a b first more
+
+pub cause_before : {T E : Type 0} (a b c : ℕ) (w : Result T E) → a ≤ b → HasCause b c w → HasCause a c w
+cause_before a b c (Ok u) earlier cause = record { later = omega (arith, earlier, cause.later); failed = tt }
+cause_before a b c (Err e) earlier cause = record { later = omega (arith, earlier, cause.later); failed = rose_before a b c earlier cause.failed }
 
 tree_line_parts : (r : TreeRefusal) → tree_line r ≡ tree_line_head r ++ tree_line_rest r
 unfolding tree_key_fault key_refusal_text name_words

@@ -1,5 +1,5 @@
 -- What a command answers, and why.
-use Rattle.std.specs.Prelude.{◌≡◌, ◌⊎◌, ℕ, List, [], length, Option, Some, IsSome, IfSome, option_and_then, option_map, IfOk, Ok, Err, IsOkAnd}
+use Rattle.std.specs.Prelude.{◌≡◌, ◌⊎◌, ℕ, List, [], length, Option, Some, IsSome, IfSome, option_and_then, option_map, IfOk, Result, Ok, Err, IsOkAnd}
 use Rattle.ddm_types.specs.declared.turns.Turn.{Turn}
 use Rattle.tree_model.specs.Start.Sources.{TreeValue}
 use Rattle.tree_model.specs.Start.Machine.{flat_start_of, start_machine}
@@ -19,7 +19,7 @@ use Rattle.tree_config.specs.TreeFile.{tree_of}
 use Rattle.ddm_cli.specs.Causes.{Accepts, IsRefused, IsUnloaded, IsUnstarted, TreeCause}
 use Rattle.ddm_cli.specs.Commands.{Command, ImageFrom, Run, TurnsFrom, to_run, to_list, command_of}
 use Rattle.ddm_cli.specs.Parts.{Parts, parts_of, tree_at, turns_of}
-use Rattle.ddm_cli.specs.Printed.{printed}
+use Rattle.ddm_cli.specs.Printed.{Writes, printed}
 use Rattle.ddm_cli.specs.Refusals.{build_line, image_line, tree_line, tree_line_head, tree_line_rest}
 use Rattle.ddm_cli.specs.Told.{ScheduleGiven, image_faults, image_told, schedule_faults, schedule_told}
 use Rattle.ddm_cli.specs.declared.command.Prints.{Prints}
@@ -108,6 +108,10 @@ module _ {F : Type 0} (told : F → List ℕ → Option (List ℕ)) where
   abbrev pub Accepted : List (List ℕ) → F → List ℕ → Type 0
   Accepted words files text = IsOkAnd (command_of words) (HasAccepted files text)
 
+  -- it was written behind what was there, or a first part of it where a write failed
+  abbrev pub WritesAccepted : {E : Type 0} → F → Option (List ℕ) → Option (List ℕ) → Command → Result (Unit {0}) E → Type 0
+  WritesAccepted files old new c result = (text : List ℕ) × HasAccepted files text c × Writes old new text result
+
   -- where all that a run is made of is told and accepted, it is in order
   abbrev pub IsInOrder : F → Command → Type 0
   IsInOrder files (to_run prints r) = FilesInOrder (told files r.tree) (image_told (told files) r.image) (schedule_told (told files) r.turns)
@@ -188,6 +192,12 @@ module _ {F K : Type 0} (told : F → List ℕ → Option (List ℕ)) (faults : 
       (c : Command) (text : List ℕ) → command_of words ≡ Ok c → command_text (told files) c ≡ Some text
       → NothingFailed told faults files files' c → ¬ Rose (failures out) (failures out')
       → (status ≡ Done) ⊎ (status ≡ NoMemory)
+
+-- how a command ended that wrote its text, or had none
+abbrev pub status_of : {E : Type 0} → Result (Result (Unit {0}) E) Status → Status
+status_of (Ok (Ok u)) = Done
+status_of (Ok (Err e)) = WriteFault
+status_of (Err s) = s
 
 -- ---- the line of a fault
 

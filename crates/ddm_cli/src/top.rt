@@ -1,18 +1,19 @@
-ghost use Rattle.std.specs.Prelude.{◌<◌, vec_len, map, IfOk, IfErr};
+ghost use Rattle.std.specs.Prelude.{◌≡◌, ◌≤◌, vec_len, map, IfOk, IfErr, OnErr};
+ghost use Rattle.ddm_outside.specs.Causes.{HasCause};
 ghost use Rattle.std.specs.String.{string_bytes};
 ghost use Rattle.ddm_cli.specs.Causes.{TreeCause};
 ghost use Rattle.ddm_cli.specs.Commands.{IsInRange, to_list, to_run};
-ghost use Rattle.ddm_cli.specs.Top.{Accepted, Completes, HasAccepted, NoRun, NotAccepted, Offers, Refused, RunIsWitnessed, StatusHasCause, fault_line};
+ghost use Rattle.ddm_cli.specs.Top.{Completes, HasAccepted, NoRun, NotAccepted, Offers, RunIsWitnessed, StatusHasCause, WritesAccepted, fault_line, status_of};
 ghost use Rattle.ddm_cli.specs.Views.{command_from, run_from};
 
 use crate::command::{Command, Prints, Run};
 use crate::fault::tell;
 use crate::files::{image_machine, tree_file};
-use crate::printing::machine_text;
+use crate::printing::write_ran;
 use crate::status::Status;
 use crate::words::command_said;
 use any_machine::release;
-use ddm_outside::{Shelf, Sink};
+use ddm_outside::{Failed, Shelf, Sink};
 use ddm_types::NoMemory;
 use report::write_all;
 use schedule_log::{seeded, write_schedule};
@@ -22,29 +23,33 @@ const READ_BYTES: usize = 65_536;
 
 // The buffer that files are read through. Its bytes aren't stated: a proof that sees 65,536 of them computes them all.
 fn read_buffer(alloc: Global) -> Result<Vec<u8>, NoMemory>
-    ensures { IfOk result (λ b. 0 < vec_len b) }
+    ensures { IfOk result (λ b. 1024 ≤ vec_len b) }
 {
     Ok(Vec::from_elem(alloc, 0, READ_BYTES)?)
 }
 
-// What is printed of a run, or the status without it.
+// Runs a machine and writes what is printed of it, or answers the status without a text.
 #[tactic(auto, using(crate::proofs::Causes::takes_parts))]
-fn run_text<F: Shelf>(
+fn write_run<F: Shelf, K: Sink>(
     alloc: Global,
     files: &mut F,
+    out: &mut K,
     prints: Prints,
     run: Run<'_>,
-) -> Result<Vec<u8>, Status>
+) -> Result<Result<(), Failed>, Status>
     requires range { IsInRange (to_run prints (run_from run)) }
-    ensures taken { IfOk result (λ text. HasAccepted F.told files.old text.items (to_run prints (run_from run.entry))) }
+    ensures written { IfOk result (WritesAccepted F.told files.old (K.held out.old) (K.held out.new) (to_run prints (run_from run.entry))) }
+    ensures failed { IfOk result (HasCause (K.faults out.old) (K.faults out.new)) }
     ensures refused { IfErr result (λ status. NoRun F.told F.faults files.old files.new status (run_from run.entry)) }
+    ensures same { OnErr result (K.held out.new ≡ K.held out.old) }
 {
     let mut buffer = read_buffer(alloc)?;
     let tree = tree_file(alloc, files, run.tree, &mut buffer)?;
     let mut machine = image_machine(alloc, files, run.image, &mut buffer, &tree)?;
-    let text = machine_text(
+    let written = write_ran(
         alloc,
         files,
+        out,
         run.turns,
         &mut buffer,
         &tree,
@@ -52,7 +57,7 @@ fn run_text<F: Shelf>(
         prints,
     );
     release(machine);
-    text
+    written
 }
 
 // The schedule of a seed for the tree of a file, or the status without it.
@@ -72,42 +77,59 @@ fn list_text<F: Shelf>(
     Ok(write_schedule(alloc, &turns)?)
 }
 
-// What a command prints, or the status without it.
-fn command_text<F: Shelf>(
+// Writes it.
+fn write_list<F: Shelf, K: Sink>(
     alloc: Global,
     files: &mut F,
+    out: &mut K,
+    tree: &str,
+    seed: u64,
+    count: u32,
+) -> Result<Result<(), Failed>, Status>
+    ensures written { IfOk result (WritesAccepted F.told files.old (K.held out.old) (K.held out.new) (to_list tree.now seed count)) }
+    ensures failed { IfOk result (HasCause (K.faults out.old) (K.faults out.new)) }
+    ensures refused { IfErr result (TreeCause (F.told files.old tree.now) (F.faults files.old tree.now) (F.faults files.new tree.now)) }
+    ensures same { OnErr result (K.held out.new ≡ K.held out.old) }
+{
+    let text = list_text(alloc, files, tree, seed, count)?;
+    Ok(write_all(out, &text))
+}
+
+// Writes what a command prints, or answers the status without a text.
+fn write_command<F: Shelf, K: Sink>(
+    alloc: Global,
+    files: &mut F,
+    out: &mut K,
     command: Command<'_>,
-) -> Result<Vec<u8>, Status>
+) -> Result<Result<(), Failed>, Status>
     requires range { IsInRange (command_from command) }
-    ensures taken { IfOk result (λ text. HasAccepted F.told files.old text.items (command_from command.entry)) }
+    ensures written { IfOk result (WritesAccepted F.told files.old (K.held out.old) (K.held out.new) (command_from command.entry)) }
+    ensures failed { IfOk result (HasCause (K.faults out.old) (K.faults out.new)) }
     ensures refused { IfErr result (λ status. NotAccepted F.told F.faults files.old files.new status (command_from command.entry)) }
+    ensures same { OnErr result (K.held out.new ≡ K.held out.old) }
 {
     match command {
-        Command::Run(prints, run) => run_text(alloc, files, prints, run),
-        Command::List { tree, seed, count } => list_text(alloc, files, tree, seed, count),
+        Command::Run(prints, run) => write_run(alloc, files, out, prints, run),
+        Command::List { tree, seed, count } => write_list(alloc, files, out, tree, seed, count),
     }
 }
 
-// What the command of these words prints, or the status without it.
-fn text<F: Shelf>(alloc: Global, words: &[String], files: &mut F) -> Result<Vec<u8>, Status>
-    ensures accepted { IfOk result (λ text. Accepted F.told (map string_bytes words.now) files.old text.items) }
-    ensures refused { IfErr result (Refused F.told F.faults files.old files.new (map string_bytes words.now)) }
+fn status_of(written: Result<Result<(), Failed>, Status>) -> Status
+    ensures { result ≡ status_of written }
 {
-    match command_said(words) {
-        Ok(command) => command_text(alloc, files, command),
-        Err(place) => Err(Status::Usage(place)),
+    match written {
+        Ok(Ok(())) => Status::Done,
+        Ok(Err(_)) => Status::WriteFault,
+        Err(status) => status,
     }
 }
 
 fn answer<F: Shelf, K: Sink>(alloc: Global, words: &[String], files: &mut F, out: &mut K) -> Status
     ensures { StatusHasCause F.told F.faults K.held K.faults (map string_bytes words.now) files.old files.new out.old out.new result }
 {
-    match text(alloc, words, files) {
-        Ok(text) => match write_all(out, &text) {
-            Ok(()) => Status::Done,
-            Err(_) => Status::WriteFault,
-        },
-        Err(status) => status,
+    match command_said(words) {
+        Ok(command) => status_of(write_command(alloc, files, out, command)),
+        Err(place) => Status::Usage(place),
     }
 }
 
