@@ -6,5 +6,5 @@ use Rattle.any_machine.proofs.running.run_reserved.Goals as goal
 pub returns-clause-order : goal.returns-clause-order
 returns-clause-order g c =
     made-order c.args.turns.now _ _
-    (ap (λ s. s.machine) c.run_turns.ensures.after ∙ ap (λ s. (run_of c.args.turns.now s.machine).machine) c.in_ok-reserve.ensures)
+    (ap (λ s. s.machine) c.run_turns.ensures.after ∙ ap (λ s. (run_of c.args.turns.now s.machine).machine) c.in_ok-reserve-2.ensures)
     c.counts.ensures.shape c.counts.ensures.rules
