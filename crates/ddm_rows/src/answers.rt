@@ -1,6 +1,6 @@
 ghost use Rattle.std.specs.Prelude.{◌≡◌, All, IfOk};
 
-use crate::files::Files;
+use crate::files::{Files, schedule};
 use ddm_cli::{Status, code, ddm_main};
 use ddm_outside::{MemoryShelf, MemorySink, NamedFile, Shelf};
 use ddm_text::Text;
@@ -50,18 +50,18 @@ fn named(alloc: Global, name: &str, bytes: &[u8]) -> Result<NamedFile, Fail>
     })
 }
 
-fn named_files(alloc: Global, files: Files<'_>) -> Result<Vec<NamedFile>, Fail>
+fn named_files(alloc: Global, files: &Files) -> Result<Vec<NamedFile>, Fail>
     ensures { IfOk result (λ files. All (λ file. file.faults ≡ 0) files.items) }
 {
     let mut named_files = Vec::new(alloc);
-    named_files.push(named(alloc, "tree", files.tree)?)?;
-    named_files.push(named(alloc, "image", files.image)?)?;
-    named_files.push(named(alloc, "schedule", files.schedule)?)?;
+    named_files.push(named(alloc, "tree", &files.tree)?)?;
+    named_files.push(named(alloc, "image", &files.image)?)?;
+    named_files.push(named(alloc, "schedule", &files.schedule)?)?;
     Ok(named_files)
 }
 
 /// A shelf of these files, whose reads of these numbers fail.
-pub fn shelf(alloc: Global, files: Files<'_>, fail: &[u64]) -> Result<MemoryShelf, Fail> {
+pub fn shelf(alloc: Global, files: &Files, fail: &[u64]) -> Result<MemoryShelf, Fail> {
     Ok(MemoryShelf::new(
         named_files(alloc, files)?,
         fail.to_vec(alloc)?,
@@ -94,13 +94,13 @@ pub fn answer_with<F: Shelf>(
 }
 
 /// What comes of the command of these words where no read and no write fails.
-pub fn answer(alloc: Global, words: &[&str], files: Files<'_>) -> Result<Answer, Fail> {
+pub fn answer(alloc: Global, words: &[&str], files: &Files) -> Result<Answer, Fail> {
     let mut shelf = shelf(alloc, files, &[])?;
     answer_with(alloc, words, &mut shelf, sink(alloc, &[])?, sink(alloc, &[])?)
 }
 
 /// What the command of these words puts out. It is to be done.
-pub fn output(alloc: Global, words: &[&str], files: Files<'_>) -> Result<Vec<u8>, Fail> {
+pub fn output(alloc: Global, words: &[&str], files: &Files) -> Result<Vec<u8>, Fail> {
     let answer = answer(alloc, words, files)?;
     if answer.is_done() {
         Ok(answer.out.bytes().to_vec(alloc)?)
@@ -134,24 +134,23 @@ pub fn missing<'a>(text: &[u8], lines: &[&'a str]) -> &'a str {
 /// A turn of a schedule, and what a trace says of it.
 pub type Turn = (&'static str, &'static str);
 
-/// The trace and the report of these turns. Each is to have its answer: the line of the first that has another stands in front.
+/// The trace and the report of these turns, each of which is to have its answer.
 pub fn traced(
     alloc: Global,
-    tree: &[u8],
-    image: &[u8],
+    tree: Vec<u8>,
+    image: Vec<u8>,
     turns: &[Turn],
 ) -> Result<Vec<u8>, Fail> {
     let mut lines = Vec::new(alloc);
     for turn in turns {
         lines.push(turn.0)?;
     }
-    let schedule = crate::files::schedule(alloc, &lines, 1)?;
     let files = Files {
         tree,
         image,
-        schedule: &schedule,
+        schedule: schedule(alloc, &lines, 1)?,
     };
-    let text = output(alloc, TRACE, files)?;
+    let text = output(alloc, TRACE, &files)?;
     for (number, turn) in turns.iter().enumerate() {
         let line = format!(in alloc; "t {number} {} {}", turn.0, turn.1)?;
         if line_number(&text, line.as_str()) != Some(number) {

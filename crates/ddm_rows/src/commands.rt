@@ -31,11 +31,11 @@ pub const STORED_AND_LOADED: &[&str] = &[
 fn store_and_load_back(rt: HostRuntime) -> Result<(), Fail> {
     let alloc = rt.alloc();
     let files = Files {
-        tree: &one_leaf().bytes(alloc)?,
-        image: &store_and_load(alloc)?,
-        schedule: &schedule(alloc, &["h 0 0"], 8)?,
+        tree: one_leaf().bytes(alloc)?,
+        image: store_and_load(alloc)?,
+        schedule: schedule(alloc, &["h 0 0"], 8)?,
     };
-    let report = output(alloc, RUN, files)?;
+    let report = output(alloc, RUN, &files)?;
     assert_eq!(rt; report.as_slice(), text_of(alloc, STORED_AND_LOADED)?.as_slice());
     Ok(())
 }
@@ -53,7 +53,7 @@ fn a_halted_hart_says_so_again(rt: HostRuntime) -> Result<(), Fail> {
         ("h 0 0", "halted exit 7"),
         ("h 0 0", "halted exit 7"),
     ];
-    let text = traced(alloc, &one_leaf().bytes(alloc)?, &store_and_load(alloc)?, &turns)?;
+    let text = traced(alloc, one_leaf().bytes(alloc)?, store_and_load(alloc)?, &turns)?;
     assert!(rt; text.ends_with(&text_of(alloc, STORED_AND_LOADED)?));
     Ok(())
 }
@@ -62,9 +62,9 @@ fn a_halted_hart_says_so_again(rt: HostRuntime) -> Result<(), Fail> {
 fn no_turns(rt: HostRuntime) -> Result<(), Fail> {
     let alloc = rt.alloc();
     let files = Files {
-        tree: &one_leaf().bytes(alloc)?,
-        image: &store_and_load(alloc)?,
-        schedule: b"end\n",
+        tree: one_leaf().bytes(alloc)?,
+        image: store_and_load(alloc)?,
+        schedule: b"end\n".to_vec(alloc)?,
     };
     let lines = [
         "turns 0 retired 0 granted 0 busy 0",
@@ -72,7 +72,7 @@ fn no_turns(rt: HostRuntime) -> Result<(), Fail> {
         "regs 0 00000000 00030010 00000000 00000000 00000000 00000000 00000000 00000000 00000000 00000000 00000001 00000000 00000000 00000000 00000000 00000000 00000000 00000000 00000000 00000000 00000000 00000000 00000000 00000000 00000000 00000000 00000000 00000000 00000000 00000000 00000000",
         "item 2 00020000 00000000 00000000 00000000 00000000 leaf 0 way 2 E",
     ];
-    let report = output(alloc, RUN, files)?;
+    let report = output(alloc, RUN, &files)?;
     assert_eq!(rt; missing(&report, &lines), "");
     assert!(rt; !has_start(&report, "op "));
     Ok(())
@@ -93,7 +93,7 @@ fn one_byte_of_output(rt: HostRuntime) -> Result<(), Fail> {
         ("h 0 0", "halted nofetch 0001000c"),
     ];
     let tree = tree("(L)", [4, 1, 1, 1]).bytes(alloc)?;
-    let text = traced(alloc, &tree, &image(alloc, &code, &[], 0)?, &turns)?;
+    let text = traced(alloc, tree, image(alloc, &code, &[], 0)?, &turns)?;
     assert_eq!(rt; missing(&text, &["out 0 48"]), "");
     Ok(())
 }
@@ -107,16 +107,16 @@ fn items_of_64_bytes(rt: HostRuntime) -> Result<(), Fail> {
         ..one_leaf()
     };
     let files = Files {
-        tree: &tree.bytes(alloc)?,
-        image: &store_and_load(alloc)?,
-        schedule: &schedule(alloc, &["h 0 0"], 8)?,
+        tree: tree.bytes(alloc)?,
+        image: store_and_load(alloc)?,
+        schedule: schedule(alloc, &["h 0 0"], 8)?,
     };
     let items = [
         "item 0 00010000 000202b7 00700313 0062a023 0002a383 05d00893 00038513 00000073 00000000 00000000 00000000 00000000 00000000 00000000 00000000 00000000 00000000 leaf 0 way 0 E",
         "item 1 00020000 00000007 00000000 00000000 00000000 00000000 00000000 00000000 00000000 00000000 00000000 00000000 00000000 00000000 00000000 00000000 00000000 leaf 0 way 1 E",
         "item 2 00030000 00000000 00000000 00000000 00000000 00000000 00000000 00000000 00000000 00000000 00000000 00000000 00000000 00000000 00000000 00000000 00000000 leaf 0 way 2 E",
     ];
-    let report = output(alloc, RUN, files)?;
+    let report = output(alloc, RUN, &files)?;
     assert_eq!(rt; missing(&report, &items), "");
     assert!(rt; !has_start(&report, "item 3 "));
     for line in STORED_AND_LOADED {
@@ -133,9 +133,9 @@ fn depth_four(rt: HostRuntime) -> Result<(), Fail> {
         ..one_leaf()
     };
     let files = Files {
-        tree: &tree.bytes(alloc)?,
-        image: &store_and_load(alloc)?,
-        schedule: &schedule(alloc, &["h 0 0"], 8)?,
+        tree: tree.bytes(alloc)?,
+        image: store_and_load(alloc)?,
+        schedule: schedule(alloc, &["h 0 0"], 8)?,
     };
     let lines = [
         "bus 0 read 0 data 0 erase 0 exclusive 0 out 0 inject 0",
@@ -145,7 +145,7 @@ fn depth_four(rt: HostRuntime) -> Result<(), Fail> {
         "op 0 0.0.0.0.0.0.0.0.0 00010000 plain",
         "op 0 0.0.0.0.0.0.0.0.1 00010004 plain",
     ];
-    let report = output(alloc, RUN, files)?;
+    let report = output(alloc, RUN, &files)?;
     assert_eq!(rt; missing(&report, &lines), "");
     assert!(rt; !has_start(&report, "bus 4 "));
     Ok(())
@@ -155,14 +155,13 @@ fn depth_four(rt: HostRuntime) -> Result<(), Fail> {
 #[test]
 fn a_hart_of_another_tree(rt: HostRuntime) -> Result<(), Fail> {
     let alloc = rt.alloc();
-    let image = store_and_load(alloc)?;
     for (shape, number) in [("(L)", 5), ("(LL)", 0)] {
         let files = Files {
-            tree: &tree(shape, [4, 1, 1, 1]).bytes(alloc)?,
-            image: &image,
-            schedule: b"h 1 0\nend\n",
+            tree: tree(shape, [4, 1, 1, 1]).bytes(alloc)?,
+            image: store_and_load(alloc)?,
+            schedule: b"h 1 0\nend\n".to_vec(alloc)?,
         };
-        assert_eq!(rt; ddm_cli::code(&answer(alloc, RUN, files)?.status), number);
+        assert_eq!(rt; ddm_cli::code(&answer(alloc, RUN, &files)?.status), number);
     }
     Ok(())
 }
@@ -171,9 +170,9 @@ fn a_hart_of_another_tree(rt: HostRuntime) -> Result<(), Fail> {
 fn a_trace_and_then_the_report(rt: HostRuntime) -> Result<(), Fail> {
     let alloc = rt.alloc();
     let files = Files {
-        tree: &tree("(LL)", [4, 1, 1, 1]).bytes(alloc)?,
-        image: &load_and_exit(alloc)?,
-        schedule: &schedule(alloc, &["h 0 0", "h 0 0", "g 0 q 0", "g 0 r 1", "h 0 0"], 1)?,
+        tree: tree("(LL)", [4, 1, 1, 1]).bytes(alloc)?,
+        image: load_and_exit(alloc)?,
+        schedule: schedule(alloc, &["h 0 0", "h 0 0", "g 0 q 0", "g 0 r 1", "h 0 0"], 1)?,
     };
     let mut both = text_of(
         alloc,
@@ -185,8 +184,8 @@ fn a_trace_and_then_the_report(rt: HostRuntime) -> Result<(), Fail> {
             "t 4 h 0 0 retired load 00020000 00000005",
         ],
     )?;
-    both.extend_from_slice(&output(alloc, RUN, files)?)?;
-    assert_eq!(rt; output(alloc, TRACE, files)?.as_slice(), both.as_slice());
+    both.extend_from_slice(&output(alloc, RUN, &files)?)?;
+    assert_eq!(rt; output(alloc, TRACE, &files)?.as_slice(), both.as_slice());
     Ok(())
 }
 
@@ -194,11 +193,11 @@ fn a_trace_and_then_the_report(rt: HostRuntime) -> Result<(), Fail> {
 fn the_turns_of_a_seed(rt: HostRuntime) -> Result<(), Fail> {
     let alloc = rt.alloc();
     let files = Files {
-        tree: &tree("(LL)", [4, 1, 1, 1]).bytes(alloc)?,
-        image: b"",
-        schedule: b"",
+        tree: tree("(LL)", [4, 1, 1, 1]).bytes(alloc)?,
+        image: Vec::new(alloc),
+        schedule: Vec::new(alloc),
     };
-    let turns = output(alloc, &["schedule", "tree", "42", "3"], files)?;
+    let turns = output(alloc, &["schedule", "tree", "42", "3"], &files)?;
     assert_eq!(rt; turns.as_slice(), b"g 0 r 1\nh 1 73\ng 0 q 1\nend\n".as_slice());
     Ok(())
 }
@@ -206,19 +205,15 @@ fn the_turns_of_a_seed(rt: HostRuntime) -> Result<(), Fail> {
 #[test]
 fn a_seed_runs_its_schedule(rt: HostRuntime) -> Result<(), Fail> {
     let alloc = rt.alloc();
-    for image in [&load_and_exit(alloc)?, &store_and_load(alloc)?] {
-        let files = Files {
-            tree: &tree("(LL)", [4, 1, 1, 1]).bytes(alloc)?,
+    for image in [load_and_exit(alloc)?, store_and_load(alloc)?] {
+        let mut files = Files {
+            tree: tree("(LL)", [4, 1, 1, 1]).bytes(alloc)?,
             image,
-            schedule: b"",
+            schedule: Vec::new(alloc),
         };
-        let turns = output(alloc, &["schedule", "tree", "42", "500"], files)?;
-        let listed = Files {
-            schedule: &turns,
-            ..files
-        };
-        let seeded = output(alloc, &["seed", "image", "tree", "42", "500"], files)?;
-        assert_eq!(rt; seeded.as_slice(), output(alloc, RUN, listed)?.as_slice());
+        let seeded = output(alloc, &["seed", "image", "tree", "42", "500"], &files)?;
+        files.schedule = output(alloc, &["schedule", "tree", "42", "500"], &files)?;
+        assert_eq!(rt; seeded.as_slice(), output(alloc, RUN, &files)?.as_slice());
     }
     Ok(())
 }
@@ -228,14 +223,14 @@ fn a_seed_runs_its_schedule(rt: HostRuntime) -> Result<(), Fail> {
 fn a_made_image(rt: HostRuntime) -> Result<(), Fail> {
     let alloc = rt.alloc();
     let files = Files {
-        tree: &tree("(LL)", [4, 64, 4, 4]).bytes(alloc)?,
-        image: b"",
-        schedule: b"",
+        tree: tree("(LL)", [4, 64, 4, 4]).bytes(alloc)?,
+        image: Vec::new(alloc),
+        schedule: Vec::new(alloc),
     };
-    let summary = output(alloc, &["make", "42", "2", "tree"], files)?;
+    let summary = output(alloc, &["make", "42", "2", "tree"], &files)?;
     assert!(rt; summary.starts_with(b"ddm 1\nturns 1040 retired "));
     assert!(rt; summary.ends_with(b"\nend\n"));
-    let again = output(alloc, &["make", "42", "2", "tree"], files)?;
+    let again = output(alloc, &["make", "42", "2", "tree"], &files)?;
     assert_eq!(rt; again.as_slice(), summary.as_slice());
     Ok(())
 }

@@ -17,11 +17,11 @@ const EXECUTABLE: u32 = 5;
 pub const WRITABLE: u32 = 6;
 
 /// The files that a command names.
-#[derive(Clone, Copy)]
-pub struct Files<'a> {
-    pub tree: &'a [u8],
-    pub image: &'a [u8],
-    pub schedule: &'a [u8],
+#[derive(Drop)]
+pub struct Files {
+    pub tree: Vec<u8>,
+    pub image: Vec<u8>,
+    pub schedule: Vec<u8>,
 }
 
 /// What a tree file says.

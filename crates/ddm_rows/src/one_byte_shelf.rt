@@ -18,6 +18,7 @@ impl Shelf for OneByteShelf {
 
     ghost faults = { λ one. count_of one.shelf };
 
+    #[tactic(auto, using(crate::proofs::Parts::front_part))]
     fn read(&mut self, name: &str, at: u64, into: &mut [u8]) -> Result<usize, Failed> {
         self.shelf.read(name, at, &mut into[..1])
     }
@@ -27,9 +28,9 @@ impl Shelf for OneByteShelf {
 fn every_command(rt: HostRuntime) -> Result<(), Fail> {
     let alloc = rt.alloc();
     let files = Files {
-        tree: &tree("(LL)", [4, 64, 4, 4]).bytes(alloc)?,
-        image: &load_and_exit(alloc)?,
-        schedule: &schedule(alloc, &["h 0 0", "h 0 0", "g 0 q 0", "g 0 r 1", "h 0 0"], 1)?,
+        tree: tree("(LL)", [4, 64, 4, 4]).bytes(alloc)?,
+        image: load_and_exit(alloc)?,
+        schedule: schedule(alloc, &["h 0 0", "h 0 0", "g 0 q 0", "g 0 r 1", "h 0 0"], 1)?,
     };
     let commands: [&[&str]; 5] = [
         &["run", "image", "tree", "schedule"],
@@ -40,11 +41,11 @@ fn every_command(rt: HostRuntime) -> Result<(), Fail> {
     ];
     for words in commands {
         let mut bytes = OneByteShelf {
-            shelf: shelf(alloc, files, &[])?,
+            shelf: shelf(alloc, &files, &[])?,
         };
         let answer = answer_with(alloc, words, &mut bytes, sink(alloc, &[])?, sink(alloc, &[])?)?;
         assert!(rt; answer.is_done(), "{words:?}");
-        assert_eq!(rt; answer.out.bytes(), output(alloc, words, files)?.as_slice());
+        assert_eq!(rt; answer.out.bytes(), output(alloc, words, &files)?.as_slice());
     }
     Ok(())
 }

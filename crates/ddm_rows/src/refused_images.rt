@@ -11,11 +11,11 @@ use std::test::Fail;
 // What comes of this image on one leaf, before any turn.
 fn answer_to(alloc: Global, image: &[u8]) -> Result<Answer, Fail> {
     let files = Files {
-        tree: &one_leaf().bytes(alloc)?,
-        image,
-        schedule: b"end\n",
+        tree: one_leaf().bytes(alloc)?,
+        image: image.to_vec(alloc)?,
+        schedule: b"end\n".to_vec(alloc)?,
     };
-    answer(alloc, RUN, files)
+    answer(alloc, RUN, &files)
 }
 
 // The name of the refusal of the first bytes of `store_and_load`.
@@ -84,21 +84,21 @@ fn two_changes_of_an_image(rt: HostRuntime) -> Result<(), Fail> {
 fn images_and_trees_that_make_no_machine(rt: HostRuntime) -> Result<(), Fail> {
     let alloc = rt.alloc();
     let one_place = Files {
-        tree: &tree("(L)", [1, 1, 1, 1]).bytes(alloc)?,
-        image: &load_and_exit(alloc)?,
-        schedule: b"end\n",
+        tree: tree("(L)", [1, 1, 1, 1]).bytes(alloc)?,
+        image: load_and_exit(alloc)?,
+        schedule: b"end\n".to_vec(alloc)?,
     };
-    assert!(rt; answer(alloc, RUN, one_place)?.is_refusal(3, "ddm: image: no place 1"));
+    assert!(rt; answer(alloc, RUN, &one_place)?.is_refusal(3, "ddm: image: no place 1"));
     let stack_on_code = TreeFile {
         stack_base: 65_536,
         ..one_leaf()
     };
     let overlap = Files {
-        tree: &stack_on_code.bytes(alloc)?,
-        image: &store_and_load(alloc)?,
-        schedule: b"end\n",
+        tree: stack_on_code.bytes(alloc)?,
+        image: store_and_load(alloc)?,
+        schedule: b"end\n".to_vec(alloc)?,
     };
-    assert!(rt; answer(alloc, RUN, overlap)?.is_refusal(3, "ddm: image: stack overlap 0 0"));
+    assert!(rt; answer(alloc, RUN, &overlap)?.is_refusal(3, "ddm: image: stack overlap 0 0"));
     Ok(())
 }
 
@@ -152,7 +152,7 @@ fn segments_that_share_an_item(rt: HostRuntime) -> Result<(), Fail> {
         ("h 0 0", "retired store 00020008 00000000 00000007"),
     ];
     let tree = tree("(L)", [4, 1, 1, 1]).bytes(alloc)?;
-    let text = traced(alloc, &tree, &image_of(alloc, &segments)?, &turns)?;
+    let text = traced(alloc, tree, image_of(alloc, &segments)?, &turns)?;
     let item = "item 1 00020000 00000000 00000000 00000007 00000000 leaf 0 way 1 E";
     assert_eq!(rt; missing(&text, &[item]), "");
     Ok(())
@@ -200,7 +200,7 @@ fn a_linkers_image(rt: HostRuntime) -> Result<(), Fail> {
         ("h 0 0", "retired load 00010000 464c457f"),
         ("h 0 0", "halted nostore 00010000"),
     ];
-    let text = traced(alloc, &tree.bytes(alloc)?, &linked(alloc)?, &turns)?;
+    let text = traced(alloc, tree.bytes(alloc)?, linked(alloc)?, &turns)?;
     assert!(rt; has_start(&text, "item 64 00011400 00000001 00000002 00000003 00000004 "));
     assert!(rt; has_start(&text, "item 81 00011510 "));
     assert!(rt; has_start(&text, "item 82 80000000 "));

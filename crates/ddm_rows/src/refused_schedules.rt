@@ -24,12 +24,12 @@ fn lines_at_fault(rt: HostRuntime) -> Result<(), Fail> {
     ];
     for (schedule, name) in schedules {
         let files = Files {
-            tree: &one_leaf().bytes(alloc)?,
-            image: &store_and_load(alloc)?,
-            schedule,
+            tree: one_leaf().bytes(alloc)?,
+            image: store_and_load(alloc)?,
+            schedule: schedule.to_vec(alloc)?,
         };
         let line = format!(in alloc; "ddm: schedule {name}")?;
-        assert!(rt; answer(alloc, RUN, files)?.is_refusal(5, line.as_str()), "{line}");
+        assert!(rt; answer(alloc, RUN, &files)?.is_refusal(5, line.as_str()), "{line}");
     }
     Ok(())
 }
@@ -42,12 +42,12 @@ fn cut_schedules(rt: HostRuntime) -> Result<(), Fail> {
     assert_eq!(rt; whole.len(), 52);
     for length in 0..52_usize {
         let files = Files {
-            tree: &one_leaf().bytes(alloc)?,
-            image: &store_and_load(alloc)?,
-            schedule: &whole[..length],
+            tree: one_leaf().bytes(alloc)?,
+            image: store_and_load(alloc)?,
+            schedule: whole[..length].to_vec(alloc)?,
         };
         let line = format!(in alloc; "ddm: schedule line {}: no end", length / 6 + 1)?;
-        assert!(rt; answer(alloc, RUN, files)?.is_refusal(5, line.as_str()), "{length} bytes");
+        assert!(rt; answer(alloc, RUN, &files)?.is_refusal(5, line.as_str()), "{length} bytes");
     }
     Ok(())
 }

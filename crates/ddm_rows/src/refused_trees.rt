@@ -36,12 +36,12 @@ fn lines_at_fault(rt: HostRuntime) -> Result<(), Fail> {
     let plain = one_leaf().bytes(alloc)?;
     for (key, text, name) in lines {
         let files = Files {
-            tree: &with_line(alloc, &plain, key, text)?,
-            image: &store_and_load(alloc)?,
-            schedule: b"end\n",
+            tree: with_line(alloc, &plain, key, text)?,
+            image: store_and_load(alloc)?,
+            schedule: b"end\n".to_vec(alloc)?,
         };
         let line = format!(in alloc; "ddm: tree: {name}")?;
-        assert!(rt; answer(alloc, RUN, files)?.is_refusal(4, line.as_str()), "{line}");
+        assert!(rt; answer(alloc, RUN, &files)?.is_refusal(4, line.as_str()), "{line}");
     }
     Ok(())
 }
@@ -60,12 +60,12 @@ fn files_at_fault(rt: HostRuntime) -> Result<(), Fail> {
     ];
     for (tree, name) in trees {
         let files = Files {
-            tree,
-            image: &store_and_load(alloc)?,
-            schedule: b"end\n",
+            tree: tree.to_vec(alloc)?,
+            image: store_and_load(alloc)?,
+            schedule: b"end\n".to_vec(alloc)?,
         };
         let line = format!(in alloc; "ddm: tree: {name}")?;
-        assert!(rt; answer(alloc, RUN, files)?.is_refusal(4, line.as_str()), "{line}");
+        assert!(rt; answer(alloc, RUN, &files)?.is_refusal(4, line.as_str()), "{line}");
     }
     Ok(())
 }
@@ -78,10 +78,10 @@ fn items_of_32_bytes(rt: HostRuntime) -> Result<(), Fail> {
         ..one_leaf()
     };
     let files = Files {
-        tree: &tree.bytes(alloc)?,
-        image: &store_and_load(alloc)?,
-        schedule: b"end\n",
+        tree: tree.bytes(alloc)?,
+        image: store_and_load(alloc)?,
+        schedule: b"end\n".to_vec(alloc)?,
     };
-    assert!(rt; answer(alloc, RUN, files)?.is_refusal(4, "ddm: tree: out of range item_bytes"));
+    assert!(rt; answer(alloc, RUN, &files)?.is_refusal(4, "ddm: tree: out of range item_bytes"));
     Ok(())
 }

@@ -24,7 +24,7 @@ fn one_read(rt: HostRuntime) -> Result<(), Fail> {
         "op 0 2.0.1 00010004 load 00020000 00000005",
     ];
     let tree = tree("(LL)", [4, 1, 1, 1]).bytes(alloc)?;
-    let text = traced(alloc, &tree, &load_and_exit(alloc)?, &turns)?;
+    let text = traced(alloc, tree, load_and_exit(alloc)?, &turns)?;
     assert_eq!(rt; missing(&text, &lines), "");
     Ok(())
 }
@@ -52,7 +52,7 @@ fn a_joined_read(rt: HostRuntime) -> Result<(), Fail> {
         "op 2 3.2.1 00010004 load 00020000 00000005",
     ];
     let tree = tree("(LLL)", [4, 1, 1, 1]).bytes(alloc)?;
-    let text = traced(alloc, &tree, &load_and_exit(alloc)?, &turns)?;
+    let text = traced(alloc, tree, load_and_exit(alloc)?, &turns)?;
     assert_eq!(rt; missing(&text, &lines), "");
     Ok(())
 }
@@ -106,7 +106,7 @@ fn two_writers(rt: HostRuntime) -> Result<(), Fail> {
         "end",
     ];
     let tree = tree("(LL)", [4, 1, 1, 1]).bytes(alloc)?;
-    let text = traced(alloc, &tree, &image(alloc, &code, &[5], 16)?, &turns)?;
+    let text = traced(alloc, tree, image(alloc, &code, &[5], 16)?, &turns)?;
     assert_eq!(rt; missing(&text, &lines), "");
     assert!(rt; text.ends_with(&text_of(alloc, &order)?));
     Ok(())
@@ -131,7 +131,7 @@ fn a_reservation_is_kept(rt: HostRuntime) -> Result<(), Fail> {
         ("h 1 0", "retired scok 00020000 00000005 00000005"),
     ];
     let tree = tree("(LL)", [4, 1, 1, 1]).bytes(alloc)?;
-    let text = traced(alloc, &tree, &reserve_and_store(alloc)?, &turns)?;
+    let text = traced(alloc, tree, reserve_and_store(alloc)?, &turns)?;
     let registers = "regs 1 00000000 00030000 00000000 00000000 00020000 00000000 00000005 ";
     assert!(rt; has_start(&text, registers));
     Ok(())
@@ -161,7 +161,7 @@ fn a_reservation_is_lost(rt: HostRuntime) -> Result<(), Fail> {
         "op 1 4.1.2 00010008 scfail 00020000",
     ];
     let tree = tree("(LL)", [4, 1, 1, 1]).bytes(alloc)?;
-    let text = traced(alloc, &tree, &reserve_and_store(alloc)?, &turns)?;
+    let text = traced(alloc, tree, reserve_and_store(alloc)?, &turns)?;
     let registers = "regs 1 00000000 00030000 00000000 00000000 00020000 00000001 00000005 ";
     assert_eq!(rt; missing(&text, &lines), "");
     assert!(rt; has_start(&text, registers));
@@ -256,7 +256,7 @@ fn a_stale_load(rt: HostRuntime) -> Result<(), Fail> {
         "op 0 2.0.2.0.1 00010004 load 00020000 00000005",
     ];
     let tree = tree("((LL)(LL))", [4, 1, 1, 1]).bytes(alloc)?;
-    let text = traced(alloc, &tree, &word_and_flag(alloc)?, &turns)?;
+    let text = traced(alloc, tree, word_and_flag(alloc)?, &turns)?;
     let load = line_number(&text, "op 3 1.1.4.1.3 0001000c load 00020000 00000005");
     let store = line_number(&text, "op 0 4.0.4.0.3 00010018 store 00020000 00000005 00000004");
     assert_eq!(rt; missing(&text, &lines), "");
@@ -277,7 +277,7 @@ fn the_flag(rt: HostRuntime) -> Result<(), Fail> {
         "op 3 10.1.10.1.4 00010010 load 00020010 00000004",
     ];
     let tree = tree("((LL)(LL))", [4, 1, 1, 1]).bytes(alloc)?;
-    let text = traced(alloc, &tree, &word_and_flag(alloc)?, &turns)?;
+    let text = traced(alloc, tree, word_and_flag(alloc)?, &turns)?;
     assert_eq!(rt; missing(&text, &lines), "");
     Ok(())
 }
@@ -298,7 +298,7 @@ fn the_flag_behind_a_full_list(rt: HostRuntime) -> Result<(), Fail> {
         down: 1,
         ..tree("((LL)(LL))", [4, 1, 1, 1])
     };
-    traced(alloc, &tree.bytes(alloc)?, &word_and_flag(alloc)?, &turns)?;
+    traced(alloc, tree.bytes(alloc)?, word_and_flag(alloc)?, &turns)?;
     Ok(())
 }
 
@@ -321,9 +321,9 @@ fn four_counters(rt: HostRuntime) -> Result<(), Fail> {
         "g 0 r 1", "g 0 r 2", "g 0 r 3", "g 0 d",
     ];
     let files = Files {
-        tree: &tree("(LLLL)", [2, 8, 1, 1]).bytes(alloc)?,
-        image: &image(alloc, &code, &[], 16)?,
-        schedule: &schedule(alloc, &round, 5000)?,
+        tree: tree("(LLLL)", [2, 8, 1, 1]).bytes(alloc)?,
+        image: image(alloc, &code, &[], 16)?,
+        schedule: schedule(alloc, &round, 5000)?,
     };
     let lines = [
         "hart 0 exit 0 pc 0001001c done 304",
@@ -331,7 +331,7 @@ fn four_counters(rt: HostRuntime) -> Result<(), Fail> {
         "hart 2 exit 2 pc 0001001c done 304",
         "hart 3 exit 3 pc 0001001c done 304",
     ];
-    let report = output(alloc, RUN, files)?;
+    let report = output(alloc, RUN, &files)?;
     assert_eq!(rt; missing(&report, &lines), "");
     assert!(rt; has_start(&report, "item 2 00020000 00000190 "));
     Ok(())
@@ -363,7 +363,7 @@ fn a_full_buffer(rt: HostRuntime) -> Result<(), Fail> {
         ("h 0 0", "issued read 2"),
     ];
     let image = load_two_items(alloc)?;
-    let text = traced(alloc, &tree("(LLLL)", [1, 1, 1, 1]).bytes(alloc)?, &image, &turns)?;
+    let text = traced(alloc, tree("(LLLL)", [1, 1, 1, 1]).bytes(alloc)?, image, &turns)?;
     assert_eq!(rt; missing(&text, &["op 0 2.0.1 00010004 load 00020000 00000005"]), "");
     Ok(())
 }
@@ -382,7 +382,7 @@ fn no_room(rt: HostRuntime) -> Result<(), Fail> {
         ("g 0 l 0 0", "busy room 0"),
     ];
     let image = load_two_items(alloc)?;
-    traced(alloc, &tree("(LLL)", [1, 1, 1, 1]).bytes(alloc)?, &image, &turns)?;
+    traced(alloc, tree("(LLL)", [1, 1, 1, 1]).bytes(alloc)?, image, &turns)?;
     Ok(())
 }
 
@@ -451,7 +451,7 @@ fn the_last_copy(rt: HostRuntime) -> Result<(), Fail> {
         ..tree("((L)(L))", [1, 1, 1, 1])
     };
     let image = image(alloc, &code, &[5], 16)?;
-    let text = traced(alloc, &tree.bytes(alloc)?, &image, &turns)?;
+    let text = traced(alloc, tree.bytes(alloc)?, image, &turns)?;
     assert_eq!(rt; missing(&text, &lines), "");
     assert!(rt; text.ends_with(&text_of(alloc, &order)?));
     Ok(())
@@ -493,7 +493,7 @@ fn an_inject_for_several_readers(rt: HostRuntime) -> Result<(), Fail> {
         "op 2 1.1.3.1.3 00010010 load 00010000 000202b7",
     ];
     let tree = tree("((L)(LL))", [1, 1, 1, 1]).bytes(alloc)?;
-    let text = traced(alloc, &tree, &image(alloc, &code, &[5], 16)?, &turns)?;
+    let text = traced(alloc, tree, image(alloc, &code, &[5], 16)?, &turns)?;
     assert_eq!(rt; missing(&text, &lines), "");
     Ok(())
 }

@@ -4,12 +4,6 @@ use crate::answers::answer;
 use crate::files::Files;
 use std::test::Fail;
 
-const NO_FILES: Files<'static> = Files {
-    tree: b"",
-    image: b"",
-    schedule: b"",
-};
-
 #[test]
 fn words_at_fault(rt: HostRuntime) -> Result<(), Fail> {
     let commands: [(&[&str], u32); 21] = [
@@ -36,9 +30,14 @@ fn words_at_fault(rt: HostRuntime) -> Result<(), Fail> {
         (&["RUN", "a", "b", "c"], 0),
     ];
     let alloc = rt.alloc();
+    let no_files = Files {
+        tree: Vec::new(alloc),
+        image: Vec::new(alloc),
+        schedule: Vec::new(alloc),
+    };
     for (words, place) in commands {
         let line = format!(in alloc; "ddm: usage: word {place}")?;
-        assert!(rt; answer(alloc, words, NO_FILES)?.is_refusal(2, line.as_str()), "{line}");
+        assert!(rt; answer(alloc, words, &no_files)?.is_refusal(2, line.as_str()), "{line}");
     }
     Ok(())
 }
