@@ -62,10 +62,7 @@ fn named_files(alloc: Global, files: &Files) -> Result<Vec<NamedFile>, Fail>
 
 /// A shelf of these files, whose reads of these numbers fail.
 pub fn shelf(alloc: Global, files: &Files, fail: &[u64]) -> Result<MemoryShelf, Fail> {
-    Ok(MemoryShelf::new(
-        named_files(alloc, files)?,
-        fail.to_vec(alloc)?,
-    ))
+    Ok(MemoryShelf::new(named_files(alloc, files)?, fail.to_vec(alloc)?))
 }
 
 /// A sink that takes ten bytes at a time, and whose writes of these numbers fail.
@@ -74,7 +71,7 @@ pub fn sink(alloc: Global, fail: &[u64]) -> Result<MemorySink, Fail> {
 }
 
 /// What comes of the command of these words on this shelf and these sinks.
-pub fn answer_with<F: Shelf>(
+pub fn ask_with<F: Shelf>(
     alloc: Global,
     words: &[&str],
     files: &mut F,
@@ -94,14 +91,20 @@ pub fn answer_with<F: Shelf>(
 }
 
 /// What comes of the command of these words where no read and no write fails.
-pub fn answer(alloc: Global, words: &[&str], files: &Files) -> Result<Answer, Fail> {
+pub fn ask(alloc: Global, words: &[&str], files: &Files) -> Result<Answer, Fail> {
     let mut shelf = shelf(alloc, files, &[])?;
-    answer_with(alloc, words, &mut shelf, sink(alloc, &[])?, sink(alloc, &[])?)
+    ask_with(
+        alloc,
+        words,
+        &mut shelf,
+        sink(alloc, &[])?,
+        sink(alloc, &[])?,
+    )
 }
 
 /// What the command of these words puts out. It is to be done.
 pub fn output(alloc: Global, words: &[&str], files: &Files) -> Result<Vec<u8>, Fail> {
-    let answer = answer(alloc, words, files)?;
+    let answer = ask(alloc, words, files)?;
     if answer.is_done() {
         Ok(answer.out.bytes().to_vec(alloc)?)
     } else {

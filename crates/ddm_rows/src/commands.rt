@@ -1,6 +1,6 @@
 //! What each command puts out, on one leaf.
 
-use crate::answers::{RUN, TRACE, answer, has_start, line_number, missing, output, traced};
+use crate::answers::{RUN, TRACE, ask, has_start, line_number, missing, output, traced};
 use crate::files::{
     Files, TreeFile, image, load_and_exit, one_leaf, schedule, store_and_load, text_of, tree,
 };
@@ -36,7 +36,10 @@ fn store_and_load_back(rt: HostRuntime) -> Result<(), Fail> {
         schedule: schedule(alloc, &["h 0 0"], 8)?,
     };
     let report = output(alloc, RUN, &files)?;
-    assert_eq!(rt; report.as_slice(), text_of(alloc, STORED_AND_LOADED)?.as_slice());
+    assert_eq!(rt;
+        report.as_slice(),
+        text_of(alloc, STORED_AND_LOADED)?.as_slice()
+    );
     Ok(())
 }
 
@@ -53,7 +56,12 @@ fn a_halted_hart_says_so_again(rt: HostRuntime) -> Result<(), Fail> {
         ("h 0 0", "halted exit 7"),
         ("h 0 0", "halted exit 7"),
     ];
-    let text = traced(alloc, one_leaf().bytes(alloc)?, store_and_load(alloc)?, &turns)?;
+    let text = traced(
+        alloc,
+        one_leaf().bytes(alloc)?,
+        store_and_load(alloc)?,
+        &turns,
+    )?;
     assert!(rt; text.ends_with(&text_of(alloc, STORED_AND_LOADED)?));
     Ok(())
 }
@@ -120,7 +128,10 @@ fn items_of_64_bytes(rt: HostRuntime) -> Result<(), Fail> {
     assert_eq!(rt; missing(&report, &items), "");
     assert!(rt; !has_start(&report, "item 3 "));
     for line in STORED_AND_LOADED {
-        assert!(rt; line.starts_with("item ") || line_number(&report, line).is_some(), "{line}");
+        assert!(rt;
+            line.starts_with("item ") || line_number(&report, line).is_some(),
+            "{line}"
+        );
     }
     Ok(())
 }
@@ -161,7 +172,7 @@ fn a_hart_of_another_tree(rt: HostRuntime) -> Result<(), Fail> {
             image: store_and_load(alloc)?,
             schedule: b"h 1 0\nend\n".to_vec(alloc)?,
         };
-        assert_eq!(rt; ddm_cli::code(&answer(alloc, RUN, &files)?.status), number);
+        assert_eq!(rt; ddm_cli::code(&ask(alloc, RUN, &files)?.status), number);
     }
     Ok(())
 }
@@ -198,7 +209,10 @@ fn the_turns_of_a_seed(rt: HostRuntime) -> Result<(), Fail> {
         schedule: Vec::new(alloc),
     };
     let turns = output(alloc, &["schedule", "tree", "42", "3"], &files)?;
-    assert_eq!(rt; turns.as_slice(), b"g 0 r 1\nh 1 73\ng 0 q 1\nend\n".as_slice());
+    assert_eq!(rt;
+        turns.as_slice(),
+        b"g 0 r 1\nh 1 73\ng 0 q 1\nend\n".as_slice()
+    );
     Ok(())
 }
 

@@ -1,6 +1,6 @@
 //! Reads and writes that fail.
 
-use crate::answers::{RUN, answer, answer_with, shelf, sink};
+use crate::answers::{RUN, ask, ask_with, shelf, sink};
 use crate::commands::STORED_AND_LOADED;
 use crate::files::{Files, one_leaf, schedule, store_and_load, text_of};
 use ddm_cli::{Status, code};
@@ -25,13 +25,16 @@ fn a_read_fails(rt: HostRuntime) -> Result<(), Fail> {
     ];
     for (number, line) in reads {
         let mut shelf = shelf(alloc, &files, &[number])?;
-        let answer = answer_with(alloc, RUN, &mut shelf, sink(alloc, &[])?, sink(alloc, &[])?)?;
+        let answer = ask_with(alloc, RUN, &mut shelf, sink(alloc, &[])?, sink(alloc, &[])?)?;
         assert!(rt; answer.is_refusal(6, line), "read {number}");
     }
     let mut shelf = shelf(alloc, &files, &[6])?;
-    let answer = answer_with(alloc, RUN, &mut shelf, sink(alloc, &[])?, sink(alloc, &[])?)?;
+    let answer = ask_with(alloc, RUN, &mut shelf, sink(alloc, &[])?, sink(alloc, &[])?)?;
     assert!(rt; answer.is_done());
-    assert_eq!(rt; answer.out.bytes(), text_of(alloc, STORED_AND_LOADED)?.as_slice());
+    assert_eq!(rt;
+        answer.out.bytes(),
+        text_of(alloc, STORED_AND_LOADED)?.as_slice()
+    );
     Ok(())
 }
 
@@ -49,10 +52,13 @@ fn a_write_fails(rt: HostRuntime) -> Result<(), Fail> {
     for (number, piece) in report.chunks(10).enumerate() {
         let mut shelf = shelf(alloc, &files, &[])?;
         let out = sink(alloc, &[number as u64])?;
-        let answer = answer_with(alloc, RUN, &mut shelf, out, sink(alloc, &[])?)?;
+        let answer = ask_with(alloc, RUN, &mut shelf, out, sink(alloc, &[])?)?;
         assert_eq!(rt; code(&answer.status), 7, "write {number}");
         assert_eq!(rt; answer.out.bytes(), held.as_slice(), "write {number}");
-        assert_eq!(rt; answer.faults_out.bytes(), b"ddm: cannot write\n".as_slice());
+        assert_eq!(rt;
+            answer.faults_out.bytes(),
+            b"ddm: cannot write\n".as_slice()
+        );
         held.extend_from_slice(piece)?;
     }
     Ok(())
@@ -68,9 +74,12 @@ fn no_line_of_a_fault_is_written(rt: HostRuntime) -> Result<(), Fail> {
     };
     let mut shelf = shelf(alloc, &files, &[])?;
     let failing = sink(alloc, &[0, 1, 2])?;
-    let answer = answer_with(alloc, RUN, &mut shelf, sink(alloc, &[])?, failing)?;
+    let answer = ask_with(alloc, RUN, &mut shelf, sink(alloc, &[])?, failing)?;
     assert!(rt; answer.is_done());
-    assert_eq!(rt; answer.out.bytes(), text_of(alloc, STORED_AND_LOADED)?.as_slice());
+    assert_eq!(rt;
+        answer.out.bytes(),
+        text_of(alloc, STORED_AND_LOADED)?.as_slice()
+    );
     Ok(())
 }
 
@@ -87,7 +96,7 @@ fn the_line_of_a_fault_fails(rt: HostRuntime) -> Result<(), Fail> {
     for (number, held) in writes {
         let mut shelf = shelf(alloc, &files, &[])?;
         let failing = sink(alloc, &[number])?;
-        let answer = answer_with(alloc, RUN, &mut shelf, sink(alloc, &[])?, failing)?;
+        let answer = ask_with(alloc, RUN, &mut shelf, sink(alloc, &[])?, failing)?;
         assert_eq!(rt; code(&answer.status), 5);
         assert_eq!(rt; answer.out.bytes(), b"".as_slice());
         assert_eq!(rt; answer.faults_out.bytes(), held);
@@ -108,7 +117,7 @@ fn a_refused_first_line_is_judged_before_the_rest_is_read(rt: HostRuntime) -> Re
         schedule: turns,
     };
     let mut shelf = shelf(alloc, &files, &[5])?;
-    let answer = answer_with(alloc, RUN, &mut shelf, sink(alloc, &[])?, sink(alloc, &[])?)?;
+    let answer = ask_with(alloc, RUN, &mut shelf, sink(alloc, &[])?, sink(alloc, &[])?)?;
     assert!(rt; answer.is_refusal(5, "ddm: schedule line 1: no such hart"));
     Ok(())
 }
@@ -122,7 +131,7 @@ fn a_missing_file(rt: HostRuntime) -> Result<(), Fail> {
         schedule: Vec::new(alloc),
     };
     let words = ["run", "a program", "tree", "schedule"];
-    assert!(rt; answer(alloc, &words, &files)?.is_refusal(6, "ddm: cannot read the image"));
+    assert!(rt; ask(alloc, &words, &files)?.is_refusal(6, "ddm: cannot read the image"));
     Ok(())
 }
 

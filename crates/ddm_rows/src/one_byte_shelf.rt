@@ -1,6 +1,6 @@
 //! Files that come a byte at a time: what is put out is the same.
 
-use crate::answers::{answer_with, output, shelf, sink};
+use crate::answers::{ask_with, output, shelf, sink};
 use crate::files::{Files, load_and_exit, schedule, tree};
 use ddm_outside::{Failed, MemoryShelf, Shelf};
 use std::test::Fail;
@@ -43,9 +43,18 @@ fn every_command(rt: HostRuntime) -> Result<(), Fail> {
         let mut bytes = OneByteShelf {
             shelf: shelf(alloc, &files, &[])?,
         };
-        let answer = answer_with(alloc, words, &mut bytes, sink(alloc, &[])?, sink(alloc, &[])?)?;
+        let answer = ask_with(
+            alloc,
+            words,
+            &mut bytes,
+            sink(alloc, &[])?,
+            sink(alloc, &[])?,
+        )?;
         assert!(rt; answer.is_done(), "{words:?}");
-        assert_eq!(rt; answer.out.bytes(), output(alloc, words, &files)?.as_slice());
+        assert_eq!(rt;
+            answer.out.bytes(),
+            output(alloc, words, &files)?.as_slice()
+        );
     }
     Ok(())
 }

@@ -1,6 +1,6 @@
 //! Images that are refused, by themselves or with their tree, and images that are just accepted.
 
-use crate::answers::{Answer, RUN, answer, has_start, missing, traced};
+use crate::answers::{Answer, RUN, ask, has_start, missing, traced};
 use crate::files::{
     DATA, Files, TreeFile, WRITABLE, changed, code_segment, image_of, load_and_exit, one_leaf,
     segment, store_and_load, tree,
@@ -15,7 +15,7 @@ fn answer_to(alloc: Global, image: &[u8]) -> Result<Answer, Fail> {
         image: image.to_vec(alloc)?,
         schedule: b"end\n".to_vec(alloc)?,
     };
-    answer(alloc, RUN, &files)
+    ask(alloc, RUN, &files)
 }
 
 // The name of the refusal of the first bytes of `store_and_load`.
@@ -88,7 +88,7 @@ fn images_and_trees_that_make_no_machine(rt: HostRuntime) -> Result<(), Fail> {
         image: load_and_exit(alloc)?,
         schedule: b"end\n".to_vec(alloc)?,
     };
-    assert!(rt; answer(alloc, RUN, &one_place)?.is_refusal(3, "ddm: image: no place 1"));
+    assert!(rt; ask(alloc, RUN, &one_place)?.is_refusal(3, "ddm: image: no place 1"));
     let stack_on_code = TreeFile {
         stack_base: 65_536,
         ..one_leaf()
@@ -98,7 +98,7 @@ fn images_and_trees_that_make_no_machine(rt: HostRuntime) -> Result<(), Fail> {
         image: store_and_load(alloc)?,
         schedule: b"end\n".to_vec(alloc)?,
     };
-    assert!(rt; answer(alloc, RUN, &overlap)?.is_refusal(3, "ddm: image: stack overlap 0 0"));
+    assert!(rt; ask(alloc, RUN, &overlap)?.is_refusal(3, "ddm: image: stack overlap 0 0"));
     Ok(())
 }
 
@@ -201,7 +201,12 @@ fn a_linkers_image(rt: HostRuntime) -> Result<(), Fail> {
         ("h 0 0", "halted nostore 00010000"),
     ];
     let text = traced(alloc, tree.bytes(alloc)?, linked(alloc)?, &turns)?;
-    assert!(rt; has_start(&text, "item 64 00011400 00000001 00000002 00000003 00000004 "));
+    assert!(rt;
+        has_start(
+            &text,
+            "item 64 00011400 00000001 00000002 00000003 00000004 "
+        )
+    );
     assert!(rt; has_start(&text, "item 81 00011510 "));
     assert!(rt; has_start(&text, "item 82 80000000 "));
     assert!(rt; has_start(&text, "item 593 80001ff0 "));

@@ -1,6 +1,6 @@
 //! Schedules that are refused, each in its line.
 
-use crate::answers::{RUN, answer};
+use crate::answers::{RUN, ask};
 use crate::files::{Files, one_leaf, schedule, store_and_load};
 use std::test::Fail;
 
@@ -29,7 +29,10 @@ fn lines_at_fault(rt: HostRuntime) -> Result<(), Fail> {
             schedule: schedule.to_vec(alloc)?,
         };
         let line = format!(in alloc; "ddm: schedule {name}")?;
-        assert!(rt; answer(alloc, RUN, &files)?.is_refusal(5, line.as_str()), "{line}");
+        assert!(rt;
+            ask(alloc, RUN, &files)?.is_refusal(5, line.as_str()),
+            "{line}"
+        );
     }
     Ok(())
 }
@@ -47,7 +50,10 @@ fn cut_schedules(rt: HostRuntime) -> Result<(), Fail> {
             schedule: whole[..length].to_vec(alloc)?,
         };
         let line = format!(in alloc; "ddm: schedule line {}: no end", length / 6 + 1)?;
-        assert!(rt; answer(alloc, RUN, &files)?.is_refusal(5, line.as_str()), "{length} bytes");
+        assert!(rt;
+            ask(alloc, RUN, &files)?.is_refusal(5, line.as_str()),
+            "{length} bytes"
+        );
     }
     Ok(())
 }

@@ -1,6 +1,6 @@
 //! Tree files that are refused.
 
-use crate::answers::{RUN, answer};
+use crate::answers::{RUN, ask};
 use crate::files::{Files, TreeFile, one_leaf, store_and_load};
 use std::alloc::Global;
 use std::test::Fail;
@@ -30,7 +30,11 @@ fn lines_at_fault(rt: HostRuntime) -> Result<(), Fail> {
         ("sets", "sets = \"4\"", "wrong type sets"),
         ("replies", "", "missing key replies"),
         ("replies", "replies = 16\ncache = 1", "unknown key cache"),
-        ("replies", "replies = 16\n\"a key\" = 1", "unknown key a?key"),
+        (
+            "replies",
+            "replies = 16\n\"a key\" = 1",
+            "unknown key a?key",
+        ),
         ("replies", "replies = ", "not toml"),
     ];
     let plain = one_leaf().bytes(alloc)?;
@@ -41,7 +45,10 @@ fn lines_at_fault(rt: HostRuntime) -> Result<(), Fail> {
             schedule: b"end\n".to_vec(alloc)?,
         };
         let line = format!(in alloc; "ddm: tree: {name}")?;
-        assert!(rt; answer(alloc, RUN, &files)?.is_refusal(4, line.as_str()), "{line}");
+        assert!(rt;
+            ask(alloc, RUN, &files)?.is_refusal(4, line.as_str()),
+            "{line}"
+        );
     }
     Ok(())
 }
@@ -65,7 +72,10 @@ fn files_at_fault(rt: HostRuntime) -> Result<(), Fail> {
             schedule: b"end\n".to_vec(alloc)?,
         };
         let line = format!(in alloc; "ddm: tree: {name}")?;
-        assert!(rt; answer(alloc, RUN, &files)?.is_refusal(4, line.as_str()), "{line}");
+        assert!(rt;
+            ask(alloc, RUN, &files)?.is_refusal(4, line.as_str()),
+            "{line}"
+        );
     }
     Ok(())
 }
@@ -82,6 +92,6 @@ fn items_of_32_bytes(rt: HostRuntime) -> Result<(), Fail> {
         image: store_and_load(alloc)?,
         schedule: b"end\n".to_vec(alloc)?,
     };
-    assert!(rt; answer(alloc, RUN, &files)?.is_refusal(4, "ddm: tree: out of range item_bytes"));
+    assert!(rt; ask(alloc, RUN, &files)?.is_refusal(4, "ddm: tree: out of range item_bytes"));
     Ok(())
 }

@@ -258,7 +258,10 @@ fn a_stale_load(rt: HostRuntime) -> Result<(), Fail> {
     let tree = tree("((LL)(LL))", [4, 1, 1, 1]).bytes(alloc)?;
     let text = traced(alloc, tree, word_and_flag(alloc)?, &turns)?;
     let load = line_number(&text, "op 3 1.1.4.1.3 0001000c load 00020000 00000005");
-    let store = line_number(&text, "op 0 4.0.4.0.3 00010018 store 00020000 00000005 00000004");
+    let store = line_number(
+        &text,
+        "op 0 4.0.4.0.3 00010018 store 00020000 00000005 00000004",
+    );
     assert_eq!(rt; missing(&text, &lines), "");
     assert!(rt; load.is_some() && load < store);
     Ok(())
@@ -363,8 +366,16 @@ fn a_full_buffer(rt: HostRuntime) -> Result<(), Fail> {
         ("h 0 0", "issued read 2"),
     ];
     let image = load_two_items(alloc)?;
-    let text = traced(alloc, tree("(LLLL)", [1, 1, 1, 1]).bytes(alloc)?, image, &turns)?;
-    assert_eq!(rt; missing(&text, &["op 0 2.0.1 00010004 load 00020000 00000005"]), "");
+    let text = traced(
+        alloc,
+        tree("(LLLL)", [1, 1, 1, 1]).bytes(alloc)?,
+        image,
+        &turns,
+    )?;
+    assert_eq!(rt;
+        missing(&text, &["op 0 2.0.1 00010004 load 00020000 00000005"]),
+        ""
+    );
     Ok(())
 }
 
@@ -382,7 +393,12 @@ fn no_room(rt: HostRuntime) -> Result<(), Fail> {
         ("g 0 l 0 0", "busy room 0"),
     ];
     let image = load_two_items(alloc)?;
-    traced(alloc, tree("(LLL)", [1, 1, 1, 1]).bytes(alloc)?, image, &turns)?;
+    traced(
+        alloc,
+        tree("(LLL)", [1, 1, 1, 1]).bytes(alloc)?,
+        image,
+        &turns,
+    )?;
     Ok(())
 }
 

@@ -1,6 +1,6 @@
 //! Words that are no command: the first at fault is named, or where one is missing.
 
-use crate::answers::answer;
+use crate::answers::ask;
 use crate::files::Files;
 use std::test::Fail;
 
@@ -37,7 +37,10 @@ fn words_at_fault(rt: HostRuntime) -> Result<(), Fail> {
     };
     for (words, place) in commands {
         let line = format!(in alloc; "ddm: usage: word {place}")?;
-        assert!(rt; answer(alloc, words, &no_files)?.is_refusal(2, line.as_str()), "{line}");
+        assert!(rt;
+            ask(alloc, words, &no_files)?.is_refusal(2, line.as_str()),
+            "{line}"
+        );
     }
     Ok(())
 }
