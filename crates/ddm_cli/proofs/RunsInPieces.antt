@@ -146,7 +146,7 @@ made_printed Trace s now made turns has =
     ap (λ ts. trace_text ts made.answers.items ++ report_of (view_of (depth_of now.machine) made.counts now.machine)) has.turns_kept ∙ ran_trace turns s.machine now.machine made.counts has.counts has.machine made.answers.items has.answers_kept
 made_printed Report s now made turns has =
     ap (λ ts. trace_text ts made.answers.items ++ report_of (view_of (depth_of now.machine) made.counts now.machine)) has.turns_kept
-    ∙ ap (λ as. trace_text [] as ++ report_of (view_of (depth_of now.machine) made.counts now.machine)) has.answers_kept
+    ∙ ap (λ answers. trace_text [] answers ++ report_of (view_of (depth_of now.machine) made.counts now.machine)) has.answers_kept
     ∙ no_trace ∙ ran_report turns s.machine now.machine made.counts has.counts has.machine
   where
     no_trace : trace_text [] [] ++ report_of (view_of (depth_of now.machine) made.counts now.machine) ≡ report_of (view_of (depth_of now.machine) made.counts now.machine)

@@ -5,7 +5,7 @@ use Rattle.std.proofs.Math.Seq.{take-add, take-append-add, take-length}
 use Rattle.std.proofs.lemmas.List.{append-nil, map-append, take-append-drop, take-append-le, length-append}
 use Rattle.ddm_outside.specs.Causes.{HasCause, Rose}
 use Rattle.report.specs.Appends.{Appends, AppendsPart}
-use Rattle.report.proofs.Written.{appends_more, part_front, part_more, rose_before}
+use Rattle.report.proofs.Written.{appends_more, on_err, part_front, part_more, rose_before}
 use Rattle.text_model.specs.Faults.{key_refusal_text, name_words, shown_byte, shown_key, tree_key_fault}
 use Rattle.tree_config.specs.declared.refusal.TreeRefusal.{TreeRefusal}
 use Rattle.tree_config.specs.declared.refusal.TreeRefusal.TheVariants as tree
@@ -71,10 +71,6 @@ module _ {K : Type 0} (held : K → Option (List ℕ)) (failures : K → ℕ) wh
   head_offered old new s part rose = rw (line_parts s) (record { part = part_front (held old) (held new) (line_head s) (line_rest s) part; whole = λ quiet. absurd (quiet rose) })
 
 -- ---- a key, piece by piece
-
-on_err : {T E : Type 0} (r : Result T E) (P : Type 0) → P → OnErr r P
-on_err (Ok a) P p = tt
-on_err (Err e) P p = p
 
 on_err_weaker : {T E : Type 0} (r : Result T E) (P Q : Type 0) → (P → Q) → OnErr r P → OnErr r Q
 on_err_weaker (Ok a) P Q f p = tt

@@ -1,4 +1,4 @@
-ghost use Rattle.std.specs.Prelude.{◌≡◌, ◌<◌, ◌≤◌, ℕ, List, length, IfOk, IfErr, OnErr, OnOk};
+ghost use Rattle.std.specs.Prelude.{◌≡◌, ◌≤◌, ◌++◌, ℕ, List, length, IfOk, IfErr, OnErr};
 ghost use Rattle.tree_model.specs.State.Shape.{depth_of};
 ghost use Rattle.tree_model.specs.Turns.Witness.{sorted_ops};
 ghost use Rattle.text_model.specs.Report.{report_of, summary_of};

@@ -1,6 +1,6 @@
 -- Bytes that are written piece by piece.
 use Rattle.std.proofs.Common.{◌≡◌, ℕ, ◌+◌, ◌≤◌, List, [], ◌++◌, length, take, drop, Option, Some, None, Result, Ok, Err, sym, ap, subst, ◌∙◌, arith, append_assoc}
-use Rattle.std.specs.Prelude.{IfSome}
+use Rattle.std.specs.Prelude.{IfSome, OnErr}
 use Rattle.std.proofs.Math.Seq.{take-add, take-append-add}
 use Rattle.std.proofs.lemmas.List.{append-nil, take-append-le, take-take, length-append, length-take}
 use Rattle.ddm_outside.specs.Causes.{Rose}
@@ -25,6 +25,10 @@ part_more old mid new a b first (n, few, more) =
 -- a first part of a text is one of a longer text
 pub part_front : (old new : Option (List ℕ)) (a b : List ℕ) → AppendsPart old new a → AppendsPart old new (a ++ b)
 part_front old new a b (n, few, more) = (n, omega (arith, few, length-append a b), subst (Appends old new) (sym (take-append-le n a b few)) more)
+
+pub on_err : {T E : Type 0} (r : Result T E) (P : Type 0) → P → OnErr r P
+on_err (Ok a) P p = tt
+on_err (Err e) P p = p
 
 -- a count that rose since some moment rose since an earlier one
 pub rose_before : (a b c : ℕ) → a ≤ b → Rose b c → Rose a c
