@@ -22,7 +22,7 @@ use Rattle.any_machine.specs.Run.{AreBelow, CanRun, NameParts, answers_in, count
 use Rattle.any_machine.proofs.RunMore.{counted-below, counted-plus, plus, plus-swap, same-counts}
 use Rattle.tree_model.specs.State.Shape.{depth_of}
 use Rattle.text_model.specs.Report.{report_of}
-use Rattle.text_model.specs.Trace.{trace_text}
+use Rattle.text_model.specs.Trace.{trace_from, trace_text}
 use Rattle.ddm_cli.specs.Made.{CanCount, HasAllMade, HasMade, counts_plus}
 use Rattle.ddm_cli.specs.Printed.{Writes, is_trace, made_text, printed}
 use Rattle.ddm_cli.specs.Reads.{HasRead, WritesRan}
@@ -128,8 +128,8 @@ module _ (t : TreeValue) (tree : IsTree t) (s : MachineState) (start : HasStart 
             counts = counts ∙ ap (λ (c : RunCounts). counts_plus c (counts_in more now)) has.counts ∙ ap (λ (m : MachineValue). counts_plus (counts_of (run_of turns s.machine).answers) (counts_of (run_of more m).answers)) has.machine ∙ sym (counts_append (run_of turns s.machine).answers (run_of more (run_of turns s.machine).machine).answers) ∙ ap counts_of (sym (answers_append turns more s.machine));
             turns_kept = kept_more keep made.turns.items made'.turns.items turns more has.turns_kept kept;
             answers_kept =
-              let both = kept_more keep made.answers.items made'.answers.items (run_of turns s.machine).answers (answers_in more now) has.answers_kept answers in
-              both ∙ ap (λ (m : MachineValue). if keep then (run_of turns s.machine).answers ++ (run_of more m).answers else []) has.machine ∙ ap (λ l. if keep then l else []) (sym (answers_append turns more s.machine));
+                let both = kept_more keep made.answers.items made'.answers.items (run_of turns s.machine).answers (answers_in more now) has.answers_kept answers in
+                both ∙ ap (λ (m : MachineValue). if keep then (run_of turns s.machine).answers ++ (run_of more m).answers else []) has.machine ∙ ap (λ l. if keep then l else []) (sym (answers_append turns more s.machine));
           }
 
 -- ---- turns that were made
@@ -139,6 +139,11 @@ pub answers_kept : (keep : Bool) (s now : MachineState) (made : Made) (turns : L
 answers_kept true s now made turns has = ap length has.turns_kept ∙ sym (answers_counted turns s.machine) ∙ sym (ap length has.answers_kept)
 answers_kept false s now made turns has = ap length has.turns_kept ∙ sym (ap length has.answers_kept)
 
+-- no turns have an empty trace
+no_trace : (t : List ℕ) → trace_text [] [] ++ t ≡ t
+unfolding trace_text trace_from
+no_trace t = refl
+
 -- what is printed of them is what is printed of their run
 pub made_printed : (prints : Prints) (s now : MachineState) (made : Made) (turns : List Turn) → HasMade (is_trace prints) s now made turns → made_text prints now.machine made ≡ printed prints (depth_of s.machine) turns s.machine
 made_printed Summary s now made turns has = ran_summary turns s.machine now.machine made.counts has.counts has.machine
@@ -147,11 +152,7 @@ made_printed Trace s now made turns has =
 made_printed Report s now made turns has =
     ap (λ ts. trace_text ts made.answers.items ++ report_of (view_of (depth_of now.machine) made.counts now.machine)) has.turns_kept
     ∙ ap (λ answers. trace_text [] answers ++ report_of (view_of (depth_of now.machine) made.counts now.machine)) has.answers_kept
-    ∙ no_trace ∙ ran_report turns s.machine now.machine made.counts has.counts has.machine
-  where
-    no_trace : trace_text [] [] ++ report_of (view_of (depth_of now.machine) made.counts now.machine) ≡ report_of (view_of (depth_of now.machine) made.counts now.machine)
-    unfolding trace_text
-    no_trace = refl
+    ∙ no_trace (report_of (view_of (depth_of now.machine) made.counts now.machine)) ∙ ran_report turns s.machine now.machine made.counts has.counts has.machine
 
 pub made_written : {E : Type 0} (prints : Prints) (levels : List (List ℕ)) (told : Option ScheduleGiven) (s now : MachineState) (made : Made) (old new : Option (List ℕ)) (w : Result (Unit {0}) E)
     → HasAllMade levels told (is_trace prints) s now made → Writes old new (made_text prints now.machine made) w → WritesRan prints levels told s.machine old new w

@@ -162,9 +162,7 @@ pub fn turns_made<F: Shelf>(
     ensures later { (other : List ℕ) → F.faults files.old other ≤ F.faults files.new other }
 {
     match turns {
-        TurnSource::File(name) => {
-            schedule_made(alloc, files, name, buffer, tree, machine, keep)
-        }
+        TurnSource::File(name) => { schedule_made(alloc, files, name, buffer, tree, machine, keep) }
         TurnSource::Seeded { seed, count } => {
             Ok(seed_made(alloc, tree, seed, count, machine, keep)?)
         }

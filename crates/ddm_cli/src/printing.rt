@@ -59,8 +59,16 @@ fn write_run<K: Sink>(
     ensures written { let m = (machine_state machine.now).machine in Writes (K.held out.old) (K.held out.new) (trace_text made.now.turns.items made.now.answers.items ++ report_of (view_of (depth_of m) made.now.counts m)) result }
     ensures cause { HasCause (K.faults out.old) (K.faults out.new) result }
 {
-    write_pieces(out, &mut TracePieces::new(&made.turns, &made.answers), buffer)?;
-    write_pieces(out, &mut ReportPieces::new(machine, witness, made.counts), buffer)
+    write_pieces(
+        out,
+        &mut TracePieces::new(&made.turns, &made.answers),
+        buffer,
+    )?;
+    write_pieces(
+        out,
+        &mut ReportPieces::new(machine, witness, made.counts),
+        buffer,
+    )
 }
 
 // Writes what is printed of turns that were made. All memory is taken before the first write.

@@ -49,7 +49,16 @@ reading-preserved g c =
     let (turns, read, has) = c.reading.invariant.all in
     let levels = ap (λ (u : TreeValue). u.levels) c.tree.view_is in
     let next = next_piece c.args.tree.now c.requires.tree (machine_state c.args.machine.now) c.requires.start c.args.keep told c.reading.at c.reading.reader (machine_state c.reading.machine) c.reading.made turns read has _ c.in-Ok.n c.read.new.into c.feed.new.self c.reading.turns.items c.feed.new.turns.items levels c.reading.invariant.none c.in-Ok.ensures.bound (rw c.reading.invariant.same at c.in-Ok.ensures.told) c.in-Ok-feed.ensures.0 in
-    ?
+    let value = c.deref.ensures.value in
+    let done = c.in_ok-make_turns.ensures in
+    let more = c.feed.new.turns.items in
+    record {
+      all = (turns ++ more, next.read, more_made c.args.tree.now c.requires.tree (machine_state c.args.machine.now) c.requires.start c.args.keep (machine_state c.reading.machine) c.reading.made turns more has next.given (machine_state c.make_turns.new.machine) c.make_turns.new.made (rw value at done.after) (rw value at done.counts) (rw value at done.turns) (rw value at done.answers));
+      none = c.clear.ensures.items;
+      few = few_read c.args.tree.now.levels told (c.reading.at + c.in-Ok.n) c.feed.new.self (turns ++ more) next.read c.in-Ok-feed.ensures.1;
+      same = c.read.ensures.same ∙ c.reading.invariant.same;
+      later = λ other. omega (arith, c.reading.invariant.later other, c.read.ensures.later other);
+    }
 
 pub returns-in-Ok-finish-clause-all : goal.returns-in-Ok-finish-clause-all
 returns-in-Ok-finish-clause-all g c =
@@ -74,4 +83,4 @@ returns-in-Err-Refused-clause-cause g c =
     let (turns, read, has) = c.reading.invariant.all in
     let levels = ap (λ (u : TreeValue). u.levels) c.tree.view_is in
     let next = next_piece c.args.tree.now c.requires.tree (machine_state c.args.machine.now) c.requires.start c.args.keep told c.reading.at c.reading.reader (machine_state c.reading.machine) c.reading.made turns read has _ c.in-Ok.n c.read.new.into c.feed.new.self c.reading.turns.items c.feed.new.turns.items levels c.reading.invariant.none c.in-Ok.ensures.bound (rw c.reading.invariant.same at c.in-Ok.ensures.told) fed.0 in
-    file_refused c.args.tree.now.levels told c.in-Err-Refused.line c.in-Err-Refused.refusal (refused_read c.args.tree.now.levels told (c.reading.at + c.in-Ok.n) c.feed.new.self (turns ++ c.feed.new.turns.items) next.read c.in-Err-Refused.line c.in-Err-Refused.refusal fed.1)
+    rw c.in-Err-Refused.field-0-is (file_refused c.args.tree.now.levels told c.in-Err-Refused.line c.in-Err-Refused.refusal (refused_read c.args.tree.now.levels told (c.reading.at + c.in-Ok.n) c.feed.new.self (turns ++ c.feed.new.turns.items) next.read c.in-Err-Refused.line c.in-Err-Refused.refusal fed.1))
