@@ -100,6 +100,18 @@ impl<const WORDS: usize> Machines<WORDS> {
 }
 
 impl AnyMachine {
+    /// How many leaves, buses and levels of buses the tree has.
+    pub fn counts(&self) -> TreeCounts
+        ensures counts { result ≡ tree_counts (machine_state self.now).machine }
+        ensures shape { IsShaped (machine_state self.now).machine }
+        ensures rules { KeepsRules (machine_state self.now).machine }
+    {
+        match self {
+            AnyMachine::Narrow(machine) => machine.counts(),
+            AnyMachine::Wide(machine) => machine.counts(),
+        }
+    }
+
     /// The operations, in order of completion.
     pub fn ops(&self) -> &[Op]
         ensures { result.now ≡ (machine_state self.now).machine.ops }

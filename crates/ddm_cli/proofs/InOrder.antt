@@ -18,7 +18,7 @@ use Rattle.ddm_cli.specs.Parts.{Parts, if_started, parts_in, parts_of, tree_at, 
 use Rattle.ddm_cli.specs.Told.{ScheduleGiven, image_told, schedule_told}
 use Rattle.ddm_cli.specs.Top.{FilesInOrder, IsInOrder, RunsInOrder, RunIsWitnessed}
 use Rattle.ddm_cli.proofs.AcceptedTrees.{accepted_tree}
-use Rattle.ddm_cli.proofs.OtherKeys.{each_turn}
+use Rattle.ddm_cli.proofs.EachTurn.{each_turn}
 
 -- parts that were taken
 record ArePartsTaken (p : Parts) : Type 0 where

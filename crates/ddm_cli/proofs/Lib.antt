@@ -8,7 +8,7 @@ pub mod StartNames
 pub mod ScheduleLengths
 pub mod Schedules
 pub mod Taken
-pub mod OtherKeys
+pub mod EachTurn
 pub mod InOrder
 pub mod Completeness
 pub mod Keys

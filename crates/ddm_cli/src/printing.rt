@@ -4,7 +4,6 @@ ghost use Rattle.tree_model.specs.Turns.Witness.{sorted_ops};
 ghost use Rattle.text_model.specs.Report.{report_of, summary_of};
 ghost use Rattle.text_model.specs.Run.{view_of};
 ghost use Rattle.text_model.specs.Trace.{trace_text};
-ghost use Rattle.witness_order.specs.Order.{HaveOtherKeys};
 ghost use Rattle.bus_laws.specs.IsTree.{IsTree};
 ghost use Rattle.any_machine.specs.Any.{machine_state};
 ghost use Rattle.ddm_outside.specs.Causes.{HasCause};
@@ -22,11 +21,10 @@ use crate::making::{Made, turns_made};
 use crate::status::Status;
 use ddm_outside::{Failed, Shelf, Sink};
 use ddm_types::{NoMemory, Op};
-use report::{ReportPieces, TracePieces, summary_text, write_all, write_pieces};
+use report::{ReportPieces, TracePieces, summary_text, witness, write_all, write_pieces};
 use run_engine::AnyMachine;
 use std::alloc::Global;
 use tree_config::TreeConfig;
-use witness_order::Witness;
 
 fn is_trace(prints: Prints) -> bool
     ensures { result ≡ is_trace prints }
@@ -35,14 +33,6 @@ fn is_trace(prints: Prints) -> bool
         Prints::Trace => true,
         Prints::Report | Prints::Summary => false,
     }
-}
-
-// A machine's operations in the order of their keys.
-fn witness(alloc: Global, machine: &AnyMachine) -> Result<Vec<Op>, NoMemory>
-    requires { HaveOtherKeys (machine_state machine.now).machine.ops }
-    ensures { IfOk result (λ ops. ops.items ≡ sorted_ops (machine_state machine.now).machine.ops) }
-{
-    Ok(Witness::new(alloc, machine.ops())?.sorted())
 }
 
 // Writes the trace of the turns that are kept, none where it isn't asked for, and then the report.
@@ -81,7 +71,6 @@ fn write_made<K: Sink>(
     buffer: &mut [u8],
 ) -> Result<Result<(), Failed>, NoMemory>
     requires room { 1024 ≤ length buffer.old }
-    requires keys { HaveOtherKeys (machine_state machine.now).machine.ops }
     requires answers { length made.now.turns.items ≡ length made.now.answers.items }
     ensures written { IfOk result (Writes (K.held out.old) (K.held out.new) (made_text prints (machine_state machine.now).machine made.now)) }
     ensures cause { IfOk result (HasCause (K.faults out.old) (K.faults out.new)) }

@@ -1,5 +1,6 @@
 pub mod Lines
 pub mod MachineLines
+pub mod OtherKeys
 pub mod ReportParts
 pub mod Shown
 pub mod TraceParts

@@ -3,7 +3,6 @@ ghost use Rattle.tree_model.specs.State.Shape.{IsShaped, depth_of};
 ghost use Rattle.tree_model.specs.Turns.Witness.{sorted_ops};
 ghost use Rattle.text_model.specs.Report.{report_of};
 ghost use Rattle.text_model.specs.Run.{view_of};
-ghost use Rattle.witness_order.specs.Order.{HaveOtherKeys};
 ghost use Rattle.any_machine.specs.Any.{machine_state, state_in};
 ghost use Rattle.report.specs.MachineView.{IsGiven, shown};
 ghost use Rattle.report.specs.ReportLeft.{Gives, HasSize};
@@ -198,14 +197,14 @@ impl<'a> Parts for ReportPieces<'a> {
     }
 }
 
-// The operations of a machine, in order of completion.
-fn completed(machine: &AnyMachine) -> &[Op]
-    ensures { result.now ≡ (machine_state machine.now).machine.ops }
+/// A machine's witness: its operations, in the order of their keys.
+#[tactic(auto, using(crate::proofs::OtherKeys::ruled-keys))]
+pub fn witness(alloc: Global, machine: &AnyMachine) -> Result<Vec<Op>, NoMemory>
+    ensures { IfOk result (λ ops. ops.items ≡ sorted_ops (machine_state machine.now).machine.ops) }
 {
-    match machine {
-        AnyMachine::Narrow(machine) => machine.ops(),
-        AnyMachine::Wide(machine) => machine.ops(),
-    }
+    // The rules that every machine keeps, by which no two operations have one key.
+    machine.counts();
+    Ok(Witness::new(alloc, machine.ops())?.sorted())
 }
 
 /// The report of a machine of any tree, after turns that came to these counts.
@@ -214,9 +213,8 @@ pub fn report_text(
     machine: &AnyMachine,
     counts: RunCounts,
 ) -> Result<Vec<u8>, NoMemory>
-    requires keys { HaveOtherKeys (machine_state machine.now).machine.ops }
     ensures { let m = (machine_state machine.now).machine in IfOk result (λ text. text.items ≡ report_of (view_of (depth_of m) counts m)) }
 {
-    let witness = Witness::new(alloc, completed(machine))?.sorted();
+    let witness = witness(alloc, machine)?;
     joined(alloc, &mut ReportPieces::new(machine, &witness, counts))
 }

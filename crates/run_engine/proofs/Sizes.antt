@@ -1,17 +1,10 @@
--- Stacks end in memory, and the number of places is small.
+-- The number of places is small.
 use Rattle.std.proofs.Common.{ℕ, ◌+◌, ◌*◌, ◌<◌, ◌≤◌, arith}
 use Rattle.std.specs.Prelude.{IsTrue}
 use Rattle.std.proofs.lemmas.Bool.Decides.{nat_tests}
-use Rattle.std.proofs.Math.Nat.{mul-le-mul_right}
 use Rattle.std.proofs.lemmas.Nat.{mul-le}
 use Rattle.tree_config.specs.Ranges.{is_allowed}
 use Rattle.tree_config.specs.declared.refusal.TreeKey.TheVariants as key
-
--- a stack ends where the last one does, or before
-pub stack_inside : (base bytes leaves hart : ℕ) → base + leaves * bytes ≤ 4294967280 → hart < leaves → base + (hart * bytes + bytes) ≤ 4294967280
-stack_inside base bytes leaves hart fits inside =
-    let more : (hart + 1) * bytes ≤ leaves * bytes = mul-le-mul_right bytes (omega (arith, inside)) in
-    omega (arith, more, fits)
 
 pub ways_few : (leaves ways : ℕ) → leaves ≤ 64 → ways ≤ 4 → leaves * ways ≤ 256
 ways_few leaves ways a b = mul-le leaves ways 64 4 a b

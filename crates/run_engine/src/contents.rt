@@ -1,49 +1,34 @@
-ghost use Rattle.std.specs.Prelude.{◌≡◌, ◌⊎◌, ◌≤◌, ◌*◌, ◌++◌, [], ◌∷◌, map, None, Some, All, IfOk, IfErr, OnOk};
-ghost use Rattle.ddm_types.specs.ItemTable.{item_count, span_end};
+ghost use Rattle.std.specs.Prelude.{◌≡◌, ◌⊎◌, ◌≤◌, map, None, Some, IfOk, IfErr, OnOk};
+ghost use Rattle.ddm_types.specs.ItemTable.{item_count};
 ghost use Rattle.tree_model.specs.Start.Memory.{item_words, start_items};
-ghost use Rattle.tree_model.specs.Start.Sources.{segment_span, stack_spans, width_of};
+ghost use Rattle.tree_model.specs.Start.Sources.{stack_spans};
 ghost use Rattle.tree_model.specs.Start.Machine.{overlap_from, start_refusal};
-ghost use Rattle.elf_load.specs.ImageRule.{EndsInside};
 ghost use Rattle.std.specs.Option.{option_map};
 ghost use Rattle.run_engine.specs.Build.{build_refusal, refusal_of};
 ghost use Rattle.run_engine.specs.declared.refusal.BuildRefusal.TheVariants as refusal;
 
+use crate::harts::start_of_harts;
 use crate::memory::item_words;
 use crate::refusal::BuildRefusal;
-use crate::stacks::{header_met, segment_span, stack_span};
-use crate::tree::{harts, item_bytes, place_count};
-use ddm_types::{ItemId, Items, MOST_ITEMS, NoMemory, Span, Words, count_items};
+use crate::tree::{item_bytes, place_count};
+use ddm_types::{ItemId, Items, MOST_ITEMS, NoMemory, Words, count_items};
 use elf_load::{Image, Segment};
+use start_memory::{first_overlap, spans_of};
 use std::alloc::Global;
 use tree_config::TreeConfig;
 
-// The memory of segments and stacks.
-fn spans(alloc: Global, tree: &TreeConfig, segments: &[Segment]) -> Result<Vec<Span>, NoMemory>
-    requires { All EndsInside segments.now }
-    ensures spans { IfOk result (λ spans. spans.items ≡ map segment_span segments.now ++ stack_spans tree.now) }
-    ensures ends { IfOk result (λ spans. All (λ span. span_end span ≤ 4294967296) spans.items) }
-{
-    let mut spans = Vec::new(alloc);
-    for segment in segments {
-        spans.push(segment_span(segment))?;
-    }
-    for hart in 0..harts(tree) {
-        spans.push(stack_span(tree, hart))?;
-    }
-    Ok(spans)
-}
-
 // Whether a stack meets a segment.
-fn judge_stacks(tree: &TreeConfig, segments: &[Segment]) -> Result<(), BuildRefusal>
-    ensures none { OnOk result (overlap_from segments.now 0 (stack_spans tree.now) ≡ None) }
-    ensures refused { IfErr result (λ r. option_map refusal_of (overlap_from segments.now 0 (stack_spans tree.now)) ≡ Some r) }
+fn judge_stacks(tree: &TreeConfig, image: &Image) -> Result<(), BuildRefusal>
+    ensures none { OnOk result (overlap_from image.now.segments 0 (stack_spans tree.now) ≡ None) }
+    ensures refused { IfErr result (λ r. option_map refusal_of (overlap_from image.now.segments 0 (stack_spans tree.now)) ≡ Some r) }
 {
-    for hart in 0..harts(tree) {
-        if let Some(header) = header_met(&stack_span(tree, hart), segments) {
-            return Err(BuildRefusal::StackOverlap { hart, header });
-        }
+    match first_overlap(&image.segments, start_of_harts(tree, image)) {
+        None => Ok(()),
+        Some(met) => Err(BuildRefusal::StackOverlap {
+            hart: met.hart,
+            header: met.header,
+        }),
     }
-    Ok(())
 }
 
 // Whether the machine has a start, with this many items.
@@ -56,7 +41,7 @@ fn judge(tree: &TreeConfig, image: &Image, count: u64) -> Result<(), BuildRefusa
     if count > u64::from(MOST_ITEMS) {
         return Err(BuildRefusal::TooManyItems(count));
     }
-    judge_stacks(tree, &image.segments)?;
+    judge_stacks(tree, image)?;
     let places = place_count(tree);
     if count > u64::from(places) {
         return Err(BuildRefusal::NoPlace(ItemId(places)));
@@ -71,7 +56,7 @@ pub fn items(alloc: Global, tree: &TreeConfig, image: &Image) -> Result<Items, B
     ensures none { IfOk result (λ items. start_refusal tree.now image.now ≡ None) }
     ensures refused { IfErr result (λ r. (r ≡ refusal.NoMemory) ⊎ (build_refusal tree.now image.now ≡ Some r)) }
 {
-    let spans = spans(alloc, tree, &image.segments)?;
+    let spans = spans_of(alloc, &image.segments, start_of_harts(tree, image))?;
     let count = count_items(alloc, &spans, item_bytes(tree))?;
     judge(tree, image, count)?;
     Ok(Items::from_spans(alloc, &spans, item_bytes(tree))?)

@@ -8,7 +8,6 @@ mod harts;
 mod leaves;
 mod memory;
 mod refusal;
-mod stacks;
 mod tree;
 mod trees;
 

@@ -1,21 +1,8 @@
-use Rattle.std.proofs.Common.{ap, sym, subst, ◌∙◌}
-use Rattle.tree_model.specs.State.Values.{MachineValue}
-use Rattle.tree_model.specs.Turns.Machine.{run_of}
-use Rattle.ddm_tree.specs.Machine.{MachineState}
 use Rattle.any_machine.specs.Any.{machine_state}
-use Rattle.witness_order.specs.Order.{HaveOtherKeys}
 use Rattle.ddm_cli.specs.Told.{schedule_told}
 use Rattle.ddm_cli.specs.Views.{turns_from}
-use Rattle.ddm_cli.proofs.OtherKeys.{run_keys}
 use Rattle.ddm_cli.proofs.RunsInPieces.{answers_kept, made_written}
 use Rattle.ddm_cli.proofs.printing.write_ran.Goals as goal
-
-pub write_made-requires-clause-keys : goal.write_made-requires-clause-keys
-write_made-requires-clause-keys g c =
-    let all = c.in_ok-made.ensures.all in
-    let start = c.requires.start in
-    let machine = all.all.machine ∙ ap (λ (s : MachineState). (run_of all.turns s.machine).machine) start.1.machine in
-    subst (λ (m : MachineValue). HaveOtherKeys m.ops) (sym machine) (run_keys c.args.tree.now start.0 c.requires.tree start.1.accepted all.turns)
 
 pub write_made-requires-clause-answers : goal.write_made-requires-clause-answers
 write_made-requires-clause-answers g c =

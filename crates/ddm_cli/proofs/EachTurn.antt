@@ -1,0 +1,15 @@
+-- The order theorem, of the machine that a tree and an image start.
+use Rattle.std.proofs.Common.{◌≡◌, List, None, Ok, refl}
+use Rattle.ddm_types.specs.declared.turns.Turn.{Turn}
+use Rattle.tree_model.specs.Start.Sources.{TreeValue, ImageValue}
+use Rattle.tree_model.specs.Start.Machine.{flat_start_of, start_machine, start_of, start_refusal}
+use Rattle.tree_rules.specs.Witness.{EachTurnWitnessed}
+use Rattle.bus_laws.specs.IsTree.{IsTree}
+use Rattle.headline.proofs.Runs.{each-turn}
+
+starts : (t : TreeValue) (i : ImageValue) → start_refusal t i ≡ None → start_of t i ≡ Ok (start_machine t i)
+unfolding start_of
+starts t i accepted = rw accepted refl
+
+pub each_turn : (t : TreeValue) (i : ImageValue) → IsTree t → start_refusal t i ≡ None → (turns : List Turn) → EachTurnWitnessed (flat_start_of t i) turns (start_machine t i)
+each_turn t i tree accepted turns = each-turn t i (start_machine t i) tree (starts t i accepted) turns

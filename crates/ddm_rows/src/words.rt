@@ -1,0 +1,46 @@
+//! Words that are no command: the first at fault is named, or where one is missing.
+
+use crate::answers::ask;
+use crate::files::Files;
+use std::test::Fail;
+
+#[test]
+fn words_at_fault(rt: HostRuntime) -> Result<(), Fail> {
+    let commands: [(&[&str], u32); 21] = [
+        (&[], 0),
+        (&["walk"], 0),
+        (&["run", "a", "b"], 3),
+        (&["run", "a", "b", "c", "d"], 4),
+        (&["trace", "a", "b"], 3),
+        (&["trace", "a", "b", "c", "d"], 4),
+        (&["seed", "i", "t"], 3),
+        (&["seed", "i", "t", "01", "5"], 3),
+        (&["seed", "i", "t", "18446744073709551616", "5"], 3),
+        (&["seed", "i", "t", "1", "1048577"], 4),
+        (&["seed", "i", "t", "1", "5", "more"], 5),
+        (&["schedule", "t", "-1", "1"], 2),
+        (&["schedule", "t", "1"], 3),
+        (&["schedule", "t", "1", "1048577"], 3),
+        (&["schedule", "t", "1", "1", "more"], 4),
+        (&["make", "18446744073709551616", "1", "t"], 1),
+        (&["make", "1", "0", "t"], 2),
+        (&["make", "1", "50001", "t"], 2),
+        (&["make", "1", "1"], 3),
+        (&["make", "1", "1", "t", "more"], 4),
+        (&["RUN", "a", "b", "c"], 0),
+    ];
+    let alloc = rt.alloc();
+    let no_files = Files {
+        tree: Vec::new(alloc),
+        image: Vec::new(alloc),
+        schedule: Vec::new(alloc),
+    };
+    for (words, place) in commands {
+        let line = format!(in alloc; "ddm: usage: word {place}")?;
+        assert!(rt;
+            ask(alloc, words, &no_files)?.is_refusal(2, line.as_str()),
+            "{line}"
+        );
+    }
+    Ok(())
+}

@@ -1,6 +1,0 @@
-use Rattle.std.proofs.Common.{◌≡◌, drop}
-use Rattle.tree_model.specs.Start.Memory.{byte_at}
-use Rattle.run_engine.proofs.memory.byte_at.Given as goal
-
-abbrev pub invariant-loop-segment : goal.invariant-loop-segment
-invariant-loop-segment l = byte_at (drop l.segment-index l.segments) l.a ≡ byte_at l.segments l.a

@@ -1,6 +1,0 @@
-use Rattle.std.proofs.Common.{◌≡◌, drop}
-use Rattle.tree_model.specs.Start.Machine.{header_met}
-use Rattle.run_engine.proofs.stacks.header_met.Given as goal
-
-abbrev pub invariant-loop-segment : goal.invariant-loop-segment
-invariant-loop-segment l = header_met l.stack (drop l.segment-index l.segments) ≡ header_met l.stack l.segments
