@@ -1,7 +1,9 @@
 //! Leaves that share items: what each turn answers, and what is left. Hart and leaf have one number, and bus 0 is the top's.
 
 use crate::answers::{RUN, Turn, has_start, line_number, missing, output, traced};
-use crate::files::{Files, TreeFile, image, load_and_exit, load_two_words, schedule, text_of, tree};
+use crate::files::{
+    Files, TreeFile, image, load_and_exit, load_two_words, schedule, text_of, tree,
+};
 use std::alloc::Global;
 use std::test::Fail;
 

@@ -49,7 +49,11 @@ fn many_seeds(rt: HostRuntime) -> Result<(), Fail> {
         let words = ["seed", "image", "tree", seed.as_str(), "5000"];
         let witness = operations(alloc, &output(alloc, &words, &files)?)?;
         let legal = check(alloc, &image, TWO_HARTS, 16, &witness)?;
-        assert_eq!(rt; legal as usize, witness.split(|byte| *byte == b'\n').count() - 1, "seed {seed}");
+        assert_eq!(rt;
+            legal as usize,
+            witness.split(|byte| *byte == b'\n').count() - 1,
+            "seed {seed}"
+        );
     }
     Ok(())
 }
