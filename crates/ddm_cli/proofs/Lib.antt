@@ -12,4 +12,5 @@ pub mod OtherKeys
 pub mod InOrder
 pub mod Completeness
 pub mod Keys
+pub mod Verdicts
 pub mod RunsInPieces

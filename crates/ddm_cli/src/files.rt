@@ -4,14 +4,14 @@ ghost use Rattle.bus_laws.specs.IsTree.{IsTree};
 ghost use Rattle.elf_load.specs.ElfFile.{image_of};
 ghost use Rattle.made_image.specs.MadeImage.{made_image};
 ghost use Rattle.any_machine.specs.Any.{machine_state};
-ghost use Rattle.ddm_cli.specs.Causes.{ImageCause, AcceptedAs, Accepts, TreeCause};
+ghost use Rattle.ddm_cli.specs.Causes.{ImageCause, AcceptedAs, Accepts, JudgedImageCause, TreeCause};
 ghost use Rattle.ddm_cli.specs.Commands.{IsMakeable};
-ghost use Rattle.ddm_cli.specs.Parts.{IsStart, parts_in, tree_at};
+ghost use Rattle.ddm_cli.specs.Parts.{BeginsFor, IsStart, parts_in, tree_at};
 ghost use Rattle.ddm_cli.specs.Told.{image_faults, image_told};
 ghost use Rattle.ddm_cli.specs.Views.{image_from};
 
 use crate::command::ImageSource;
-use crate::judging::{judged_image, judged_tree};
+use crate::judging::{judged_image, judged_setting, judged_tree};
 use crate::limits::{MOST_IMAGE, MOST_TREE};
 use crate::reading::{ReadError, read_whole};
 use crate::status::Status;
@@ -22,6 +22,7 @@ use report::FileRole;
 use run_engine::AnyMachine;
 use std::alloc::Global;
 use tree_config::{TreeConfig, TreeRefusal};
+use witness_check::WitnessReader;
 
 /// The tree of a tree file.
 pub fn tree_file<F: Shelf>(
@@ -104,5 +105,27 @@ pub fn image_machine<F: Shelf>(
     match image {
         ImageSource::File(name) => image_file(alloc, files, name, buffer, tree),
         ImageSource::Made { seed, rounds } => made_machine(alloc, tree, seed, rounds),
+    }
+}
+
+/// The reader of a witness for a tree and an image file, of which nothing is kept but the flat machine.
+pub fn setting_file<F: Shelf>(
+    alloc: Global,
+    files: &mut F,
+    name: &str,
+    buffer: &mut [u8],
+    tree: &TreeConfig,
+) -> Result<WitnessReader, Status>
+    requires { 0 < length buffer.old }
+    ensures found { IfOk result (BeginsFor tree.now (F.told files.old name.now)) }
+    ensures cause { IfErr result (JudgedImageCause tree.now (F.told files.old name.now) (F.faults files.old name.now) (F.faults files.new name.now)) }
+    ensures same { F.told files.new ≡ F.told files.old }
+    ensures later { (other : List ℕ) → F.faults files.old other ≤ F.faults files.new other }
+{
+    match read_whole(alloc, files, name, MOST_IMAGE, buffer) {
+        Ok(bytes) => judged_setting(alloc, tree, &bytes),
+        Err(ReadError::Failed) => Err(Status::ReadFault(FileRole::ImageFile)),
+        Err(ReadError::TooLong) => Err(Status::ImageLoad(ImageRefusal::TooLong)),
+        Err(ReadError::Memory) => Err(Status::NoMemory),
     }
 }

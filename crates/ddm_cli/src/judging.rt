@@ -1,18 +1,22 @@
-ghost use Rattle.std.specs.Prelude.{◌≡◌, None, Ok, Some, IsSome, IfOk, IfErr};
-ghost use Rattle.tree_model.specs.Start.Sources.{ImageValue};
+ghost use Rattle.std.specs.Prelude.{◌≡◌, ◌≤◌, ◌+◌, ◌*◌, None, Ok, Some, IsSome, IfOk, IfErr};
+ghost use Rattle.tree_model.specs.Start.Sources.{ImageValue, start_of_harts};
+ghost use Rattle.witness_check.specs.Reader.{begun, setting_of};
+ghost use Rattle.witness_check.specs.Start as check;
 ghost use Rattle.bus_laws.specs.IsTree.{IsTree};
 ghost use Rattle.elf_load.specs.ElfFile.{image_of};
 ghost use Rattle.tree_model.specs.Start.Machine.{start_refusal};
 ghost use Rattle.run_engine.specs.Started.{started};
 ghost use Rattle.any_machine.specs.Any.{machine_state};
-ghost use Rattle.ddm_cli.specs.Causes.{BuildCause, ImageCause, TreeCause};
-ghost use Rattle.ddm_cli.specs.Parts.{IsStart, parts_in, tree_at};
+ghost use Rattle.ddm_cli.specs.Causes.{BuildCause, ImageCause, JudgedImageCause, SettingCause, TreeCause};
+ghost use Rattle.ddm_cli.specs.Parts.{BeginsFor, IsStart, parts_in, tree_at};
 
 use crate::status::Status;
+use ddm_types::Start;
 use elf_load::{Image, ImageRefusal, load};
 use run_engine::{AnyMachine, BuildRefusal, build};
 use std::alloc::Global;
 use tree_config::{TreeConfig, TreeRefusal, read_tree};
+use witness_check::{CheckRefusal, WitnessReader};
 
 /// The tree that a file's bytes say.
 pub fn judged_tree(alloc: Global, bytes: &[u8]) -> Result<TreeConfig, Status>
@@ -48,6 +52,54 @@ pub fn judged_image(alloc: Global, tree: &TreeConfig, bytes: &[u8]) -> Result<An
 {
     match load(alloc, bytes, tree.item_bytes) {
         Ok(image) => built(alloc, tree, &image),
+        Err(ImageRefusal::NoMemory) => Err(Status::NoMemory),
+        Err(refusal) => Err(Status::ImageLoad(refusal)),
+    }
+}
+
+// What the harts begin with.
+fn harts_start(tree: &TreeConfig, image: &Image) -> Start
+    ensures start { result ≡ start_of_harts tree.now image.now }
+    ensures few { result.harts ≤ 64 }
+    ensures stacks { result.stack_base + result.harts * result.stack_bytes ≤ 4294967280 }
+{
+    Start {
+        entry: image.entry,
+        harts: tree.nodes.harts(),
+        stack_base: tree.stack_base,
+        stack_bytes: tree.stack_bytes,
+    }
+}
+
+// The reader of a witness for a tree and an image.
+fn begun(alloc: Global, tree: &TreeConfig, image: &Image) -> Result<WitnessReader, Status>
+    ensures begun { IfOk result (λ reader. reader ≡ begun (setting_of tree.now image.now)) }
+    ensures accepted { IfOk result (λ reader. check.start_refusal (setting_of tree.now image.now) ≡ None) }
+    ensures cause { IfErr result (SettingCause tree.now image.now) }
+{
+    match WitnessReader::new(alloc, image, harts_start(tree, image), tree.item_bytes) {
+        Ok(reader) => Ok(reader),
+        Err(CheckRefusal::TooManyItems(count)) => {
+            Err(Status::ImageBuild(BuildRefusal::TooManyItems(count)))
+        }
+        Err(CheckRefusal::StackOverlap { hart, header }) => {
+            Err(Status::ImageBuild(BuildRefusal::StackOverlap { hart, header }))
+        }
+        Err(_) => Err(Status::NoMemory),
+    }
+}
+
+/// The reader of a witness for a tree and the image that a file's bytes are.
+pub fn judged_setting(
+    alloc: Global,
+    tree: &TreeConfig,
+    bytes: &[u8],
+) -> Result<WitnessReader, Status>
+    ensures found { IfOk result (BeginsFor tree.now (Some bytes.now)) }
+    ensures cause { IfErr result (JudgedImageCause tree.now (Some bytes.now) 0 0) }
+{
+    match load(alloc, bytes, tree.item_bytes) {
+        Ok(image) => begun(alloc, tree, &image),
         Err(ImageRefusal::NoMemory) => Err(Status::NoMemory),
         Err(refusal) => Err(Status::ImageLoad(refusal)),
     }
