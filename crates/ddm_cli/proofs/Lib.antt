@@ -12,5 +12,6 @@ pub mod OtherKeys
 pub mod InOrder
 pub mod Completeness
 pub mod Keys
+pub mod Settings
 pub mod Verdicts
 pub mod RunsInPieces

@@ -56,11 +56,7 @@ fn feed_file<F: Shelf>(
 }
 
 // How many lines a witness has that is accepted, or the status without them.
-fn witness_lines<F: Shelf>(
-    alloc: Global,
-    files: &mut F,
-    check: Check<'_>,
-) -> Result<u32, Status>
+fn witness_lines<F: Shelf>(alloc: Global, files: &mut F, check: Check<'_>) -> Result<u32, Status>
     ensures taken { IfOk result (λ lines. HasAccepted F.told files.old (legal_line lines) (to_check (check_from check.entry))) }
     ensures refused { IfErr result (λ status. NoVerdict F.told F.faults files.old files.new status (check_from check.entry)) }
 {

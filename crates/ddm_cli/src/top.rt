@@ -6,8 +6,8 @@ ghost use Rattle.ddm_cli.specs.Commands.{IsInRange, to_list, to_run};
 ghost use Rattle.ddm_cli.specs.Top.{Completes, HasAccepted, NoRun, NotAccepted, Offers, RunIsWitnessed, StatusHasCause, WritesAccepted, fault_line, status_of};
 ghost use Rattle.ddm_cli.specs.Views.{command_from, run_from};
 
-use crate::command::{Command, Prints, Run};
 use crate::checking::write_check;
+use crate::command::{Command, Prints, Run};
 use crate::fault::tell;
 use crate::files::{image_machine, tree_file};
 use crate::printing::write_ran;
