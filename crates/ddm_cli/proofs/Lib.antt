@@ -13,5 +13,6 @@ pub mod InOrder
 pub mod Completeness
 pub mod Keys
 pub mod Settings
+pub mod Images
 pub mod Verdicts
 pub mod RunsInPieces

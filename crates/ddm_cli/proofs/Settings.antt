@@ -8,14 +8,14 @@ use Rattle.elf_load.specs.ElfFile.{image_of}
 use Rattle.run_engine.specs.Build.{build_refusal, refusal_of}
 use Rattle.run_engine.specs.declared.refusal.BuildRefusal.{BuildRefusal}
 use Rattle.run_engine.specs.declared.refusal.BuildRefusal.TheVariants as build
-use Rattle.witness_check.specs.Reader.{ReaderView, begun, setting_of}
+use Rattle.witness_check.specs.Reader.{setting_of}
 use Rattle.witness_check.specs.Start as check
 use Rattle.witness_check.specs.Start.{Setting, judged}
 use Rattle.witness_check.specs.declared.refusal.CheckRefusal.{CheckRefusal}
 use Rattle.witness_check.specs.declared.refusal.CheckRefusal.TheVariants as refusal
 use Rattle.witness_check.proofs.Starts.{start_refusal-tables}
 use Rattle.ddm_cli.specs.Causes.{IsOfStart}
-use Rattle.ddm_cli.specs.Parts.{BeginsFor, if_judged, setting_in}
+use Rattle.ddm_cli.specs.Parts.{setting_in}
 
 -- ---- where the tables refuse a start for another reason than places
 
@@ -51,9 +51,6 @@ overlap t i hart header e = by (start_refusal t i) (sym (start_refusal-tables t 
 
 -- ---- a file whose image has a start
 
-setting_started : (t : TreeValue) (i : ImageValue) (file : List ℕ) → image_of t.item_bytes file ≡ Ok i → check.start_refusal (setting_of t i) ≡ None → setting_in t file ≡ Some (setting_of t i)
+pub setting_started : (t : TreeValue) (i : ImageValue) (file : List ℕ) → image_of t.item_bytes file ≡ Ok i → check.start_refusal (setting_of t i) ≡ None → setting_in t file ≡ Some (setting_of t i)
 unfolding setting_in
 setting_started t i file loaded starts = rw (loaded, starts) refl
-
-pub begins : (t : TreeValue) (i : ImageValue) (file : List ℕ) (reader : ReaderView) → image_of t.item_bytes file ≡ Ok i → reader ≡ begun (setting_of t i) → check.start_refusal (setting_of t i) ≡ None → BeginsFor t (Some file) reader
-begins t i file reader loaded is starts = record { setting = setting_of t i; begins = is; starts = starts; is = setting_started t i file loaded starts }

@@ -41,6 +41,13 @@ TreeCause told before now _ = ⊥
 abbrev pub IsUnloaded : TreeValue → ImageRefusal → List ℕ → Type 0
 IsUnloaded t r file = image_of t.item_bytes file ≡ Err r
 
+-- why there is no image
+abbrev pub NoImage : TreeValue → Option (List ℕ) → ℕ → ℕ → Status → Type 0
+NoImage t told before now (ImageLoad r) = IfSome told (IsUnloaded t r)
+NoImage t told before now (ReadFault ImageFile) = Rose before now
+NoImage t told before now NoMemory = Unit {0}
+NoImage t told before now _ = ⊥
+
 -- why there is no machine of a tree and an image
 abbrev pub BuildCause : TreeValue → ImageValue → Status → Type 0
 BuildCause t i (ImageBuild r) = build_refusal t i ≡ Some r
@@ -52,11 +59,8 @@ abbrev pub IsUnstarted : TreeValue → BuildRefusal → List ℕ → Type 0
 IsUnstarted t r file = IsOkAnd (image_of t.item_bytes file) (λ i. build_refusal t i ≡ Some r)
 
 abbrev pub ImageCause : TreeValue → Option (List ℕ) → ℕ → ℕ → Status → Type 0
-ImageCause t told before now (ImageLoad r) = IfSome told (IsUnloaded t r)
 ImageCause t told before now (ImageBuild r) = IfSome told (IsUnstarted t r)
-ImageCause t told before now (ReadFault ImageFile) = Rose before now
-ImageCause t told before now NoMemory = Unit {0}
-ImageCause t told before now _ = ⊥
+ImageCause t told before now s = NoImage t told before now s
 
 -- ---- the schedule, for a tree with these levels
 
@@ -94,11 +98,8 @@ abbrev pub HasNoSetting : TreeValue → BuildRefusal → List ℕ → Type 0
 HasNoSetting t r file = IsOfStart r × IsUnstarted t r file
 
 abbrev pub JudgedImageCause : TreeValue → Option (List ℕ) → ℕ → ℕ → Status → Type 0
-JudgedImageCause t told before now (ImageLoad r) = IfSome told (IsUnloaded t r)
 JudgedImageCause t told before now (ImageBuild r) = IfSome told (HasNoSetting t r)
-JudgedImageCause t told before now (ReadFault ImageFile) = Rose before now
-JudgedImageCause t told before now NoMemory = Unit {0}
-JudgedImageCause t told before now _ = ⊥
+JudgedImageCause t told before now s = NoImage t told before now s
 
 -- the text comes to this answer from the setting with which a reader of it began
 abbrev pub ComesTo : ReaderView → Result ℕ CheckRefusal → List ℕ → Type 0

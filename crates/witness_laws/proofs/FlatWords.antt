@@ -7,6 +7,7 @@ use Rattle.std.proofs.lemmas.Bool.Decides.{nat_tests}
 use Rattle.std.specs.Int.{w32, cast_unsigned}
 use Rattle.ddm_types.specs.declared.operations.Effect.{Effect}
 use Rattle.ddm_types.specs.declared.operations.HaltCause.{HaltCause}
+use Rattle.ddm_types.specs.declared.operations.HaltCause.TheVariants.{Exit, UnknownCall, MisalignedAccess, MisalignedTarget, StoreOutside}
 use Rattle.ddm_types.specs.declared.operations.Op.{Op}
 use Rattle.ddm_types.specs.CodeMap.{CodeWord, word_at}
 use Rattle.ddm_types.specs.ItemTable.{ItemTable, item_at, row_at}
@@ -68,7 +69,7 @@ HasSmallImmediate i = Unit {0}
 module _ (items : ItemTable) where
   aligned_action : (bytes a : ℕ) (action : ℕ → Action) → ((b : ℕ) → IsWord b → IsAction (action b)) → IsWord a → IsAction (aligned bytes a action)
   aligned_action bytes a action is small = by (nat_eq (a % bytes) 0) where
-    by : (b : Bool) → IsAction (cond b (action a) (Halts _))
+    by : (b : Bool) → IsAction (cond b (action a) (Halts (MisalignedAccess a)))
     by true = is a small
     by false = tt
 
@@ -80,7 +81,7 @@ module _ (items : ItemTable) where
 
   store_action : (action : Access → Action) → ((a : Access) → IsWord a.address → IsAction (action a)) → (a : ℕ) → IsWord a → IsAction (store_at items action a)
   store_action action is a small = by (item_at items a) where
-    if_writable : (x : ℕ) (b : Bool) → IsAction (cond b (action (access_in items a x)) (Halts _))
+    if_writable : (x : ℕ) (b : Bool) → IsAction (cond b (action (access_in items a x)) (Halts (StoreOutside a)))
     if_writable x true = is (access_in items a x) small
     if_writable x false = tt
 
@@ -91,20 +92,20 @@ module _ (items : ItemTable) where
   module _ (h : HartValue) (has : HasWords h) where
     jump_action : (rd target : ℕ) → IsWord target → IsAction (jump (with_register h rd (next_pc h)) target)
     jump_action rd target small = by (nat_eq (target % 4) 0) where
-      by : (b : Bool) → IsAction (cond b (Computes (record (with_register h rd (next_pc h)) { pc = target })) (Halts _))
+      by : (b : Bool) → IsAction (cond b (Computes (record (with_register h rd (next_pc h)) { pc = target })) (Halts (MisalignedTarget target)))
       by true = record { registers = with_register_words h has rd (next_pc h) (wraps (h.pc + 4)); pc = small }
       by false = tt
 
     branch_action : (target : ℕ) → IsWord target → (taken : Bool) → IsAction (cond taken (jump h target) (Computes (record h { pc = next_pc h })))
     branch_action target small false = advanced_words h has
     branch_action target small true = by (nat_eq (target % 4) 0) where
-      by : (b : Bool) → IsAction (cond b (Computes (record h { pc = target })) (Halts _))
+      by : (b : Bool) → IsAction (cond b (Computes (record h { pc = target })) (Halts (MisalignedTarget target)))
       by true = record { registers = has.registers; pc = small }
       by false = tt
 
-    call_action : (number argument : ℕ) → IsAction (cond (nat_eq number 93) (Halts _) (cond (nat_eq number 1000) (Puts (argument % 256) (record h { pc = next_pc h })) (Halts _)))
+    call_action : (number argument : ℕ) → IsAction (cond (nat_eq number 93) (Halts (Exit argument)) (cond (nat_eq number 1000) (Puts (argument % 256) (record h { pc = next_pc h })) (Halts (UnknownCall number))))
     call_action number argument = by (nat_eq number 93) (nat_eq number 1000) where
-      by : (b c : Bool) → IsAction (cond b (Halts _) (cond c (Puts (argument % 256) (record h { pc = next_pc h })) (Halts _)))
+      by : (b c : Bool) → IsAction (cond b (Halts (Exit argument)) (cond c (Puts (argument % 256) (record h { pc = next_pc h })) (Halts (UnknownCall number))))
       by true c = tt
       by false true = (omega arith, advanced_words h has)
       by false false = tt
@@ -148,22 +149,15 @@ none w = tt
 
 rows_small : AllByRecursion MakesSmall table
 unfolding table
-rows_small = (
-  upper, none, none, none,
-  none, none, none, none, none, none,
-  none, none, none, none, none, none, none, none,
-  immediate, immediate, immediate, immediate, immediate, immediate, amount, amount, amount,
-  none, none, none, none, none, none, none, none, none, none,
-  none, none, none,
-  none, none, none, none, none, none, none, none, none, none, none, tt)
+rows_small = (upper, (none, (none, (none, (none, (none, (none, (none, (none, (none, (none, (none, (none, (none, (none, (none, (none, (none, (immediate, (immediate, (immediate, (immediate, (immediate, (immediate, (amount, (amount, (amount, (none, (none, (none, (none, (none, (none, (none, (none, (none, (none, (none, (none, (none, (none, (none, (none, (none, (none, (none, (none, (none, (none, (none, (none, tt)))))))))))))))))))))))))))))))))))))))))))))))))))
 
 decoded_small : (rows : List Row) (w : ℕ) → AllByRecursion MakesSmall rows → IfSome (decode_by rows w) HasSmallImmediate
 unfolding decode_by
 decoded_small [] w all = tt
-decoded_small (row ∷ rows) w all = by (fits w row) where
-  by : (b : Bool) → IfSome (cond b (Some (row.makes w)) (decode_by rows w)) HasSmallImmediate
-  by true = all.0 w
-  by false = decoded_small rows w all.1
+decoded_small (row ∷ rows) w all = by (fits w row) (decoded_small rows w all.1) where
+  by : (b : Bool) → IfSome (decode_by rows w) HasSmallImmediate → IfSome (cond b (Some (row.makes w)) (decode_by rows w)) HasSmallImmediate
+  by true rest = all.0 w
+  by false rest = rest
 
 action_words : (code : List CodeWord) (items : ItemTable) (h : HartValue) → HasWords h → IsAction (action_of code items h)
 unfolding action_of decode_of
@@ -273,7 +267,7 @@ module _ (code : List CodeWord) (items : ItemTable) where
   step_is : (m next : FlatMachine) (op : Op) → FlatHasWords m → legal_step code items m op ≡ Some next → IsStep op next
   step_is m next op has e =
       let is = legal_step_is code items m next op e in
-      let words : IfOk (Ok (op.effect, next)) IsStepped = subst (λ (r : FlatStepped). IfOk r IsStepped) is.1 (step_words code items m op.hart (is_sc_ok op.effect) has) in
+      let words : IfOk {E = HaltCause} (Ok (op.effect, next)) IsStepped = subst (λ (r : FlatStepped). IfOk r IsStepped) is.1 (step_words code items m op.hart (is_sc_ok op.effect) has) in
       record { pc = subst IsWord is.0 (has.harts op.hart).pc; effect = words.0; after = words.1 }
 
   hart_there : (m next : FlatMachine) (op : Op) → legal_step code items m op ≡ Some next → op.hart < length m.harts
@@ -286,16 +280,18 @@ module _ (code : List CodeWord) (items : ItemTable) where
   unfolding flat_step
   harts_stay m next op e = by (hart_step code items (flat_hart m op.hart) (item_words m) (is_sc_ok op.effect)) (legal_step_is code items m next op e).1 where
     by : (r : Result Change HaltCause) → stepped m op.hart r ≡ Ok (op.effect, next) → length next.harts ≡ length m.harts
-    by (Ok c) is = let same : with_change m op.hart c ≡ next = cc in ap (λ (n : FlatMachine). length n.harts) (sym same) ∙ (same_counts m op.hart c).0
+    by (Ok c) is =
+        let both : (let made : Effect × FlatMachine = (c.effect, with_change m op.hart c) in made) ≡ (op.effect, next) = cc is in
+        ap (λ (x : Effect × FlatMachine). length x.1.harts) (sym both) ∙ (same_counts m op.hart c).0
     by (Err cause) is = absurd (cc is)
 
   -- each operation of a legal list is of such numbers
   pub legal_words : (m : FlatMachine) (ops : List Op) → FlatHasWords m → Legal code items m ops → AllByRecursion (IsOfWords (length m.harts)) ops
   unfolding legal_run
   legal_words m [] has legal = tt
-  legal_words m (op ∷ ops) has legal = by (legal_step code items m op) refl legal where
-    by : (o : Option FlatMachine) → legal_step code items m op ≡ o → IsSome (option_and_then (λ next. legal_run code items next ops) o) → AllByRecursion (IsOfWords (length m.harts)) (op ∷ ops)
-    by None is legal = cc
-    by (Some next) is legal =
+  legal_words m (op ∷ ops) has legal = by (legal_step code items m op) refl legal (λ next. legal_words next ops) where
+    by : (o : Option FlatMachine) → legal_step code items m op ≡ o → IsSome (option_and_then (λ next. legal_run code items next ops) o) → ((next : FlatMachine) → FlatHasWords next → Legal code items next ops → AllByRecursion (IsOfWords (length next.harts)) ops) → AllByRecursion (IsOfWords (length m.harts)) (op ∷ ops)
+    by None is legal rest = cc
+    by (Some next) is legal rest =
         let step = step_is m next op has is in
-        (record { hart = hart_there m next op is; pc = step.pc; effect = step.effect }, subst (λ (n : ℕ). AllByRecursion (IsOfWords n) ops) (harts_stay m next op is) (legal_words next ops step.after legal))
+        (record { hart = hart_there m next op is; pc = step.pc; effect = step.effect }, subst (λ (n : ℕ). AllByRecursion (IsOfWords n) ops) (harts_stay m next op is) (rest next step.after legal))
