@@ -12,8 +12,8 @@ use Rattle.tree_config.specs.declared.refusal.TreeRefusal.{TreeRefusal}
 use Rattle.run_engine.specs.Build.{build_refusal, refusal_of}
 use Rattle.run_engine.specs.declared.refusal.BuildRefusal.{BuildRefusal}
 use Rattle.text_model.specs.declared.ScheduleRefusal.{ScheduleRefusal}
-use Rattle.ddm_cli.specs.Causes.{IsRefused, IsUnloaded, IsUnscheduled, IsUnstarted}
-use Rattle.ddm_cli.specs.Commands.{Command, Run, to_run, to_list, command_of}
+use Rattle.ddm_cli.specs.Causes.{IsRefused, IsUnloaded, IsUnstarted}
+use Rattle.ddm_cli.specs.Commands.{Command, Run, to_run, to_list}
 use Rattle.ddm_cli.specs.Parts.{Parts, if_started, parts_in, parts_of, tree_at, turns_at, turns_of}
 use Rattle.ddm_cli.specs.Told.{ScheduleGiven, written, seeded, image_told, schedule_told}
 use Rattle.ddm_cli.specs.Top.{Both, command_text, list_of, text_of, text_with, StatusHasCause, Completes, NoRun, NotAccepted, NothingFailed, RefusesImage}
