@@ -1,7 +1,7 @@
 -- The commands, and the words that say them.
 -- Letters: k is the index of a word, counted from 0.
 -- To be believed with the contracts: they speak of it.
-use Rattle.std.specs.Prelude.{ℕ, ◌+◌, ◌*◌, ◌≤◌, nat_le, nat_lt, List, [], ◌∷◌, length, Result, Ok, Err, Option, Some, None, slice_get, option_and_then, if◌then◌else◌, bytes_eq, codes}
+use Rattle.std.specs.Prelude.{ℕ, ◌+◌, ◌*◌, ◌≤◌, nat_le, nat_lt, List, length, Result, Ok, Err, Option, Some, None, slice_get, option_and_then, if◌then◌else◌, bytes_eq, codes}
 use Rattle.std.specs.Result.{result_ok}
 use Rattle.ddm_text.specs.Numbers.{number_of}
 use Rattle.ddm_cli.specs.declared.command.Prints.{Prints}

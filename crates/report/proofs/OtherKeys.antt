@@ -15,5 +15,5 @@ other_keys : (ops : List Op) → KeysDiffer ops → HaveOtherKeys ops
 other_keys [] differ = λ i j d before within. absurd (omega (arith, within))
 other_keys (o ∷ os) differ = AllPairs-cons (λ (a b : Op). a.key ≢ b.key) o os (All-from_recursion (λ (p : Op). o.key ≢ p.key) os differ.0) (other_keys os differ.1)
 
-pub ruled-keys : (m : MachineValue) → KeepsRules m → HaveOtherKeys m.ops
-ruled-keys m rules = other_keys m.ops (KeysDiffer-from_rule m.ops ((rules-timed m rules).each keys_differ))
+pub keys_by_rules : (m : MachineValue) → KeepsRules m → HaveOtherKeys m.ops
+keys_by_rules m rules = other_keys m.ops (KeysDiffer-from_rule m.ops ((rules-timed m rules).each keys_differ))

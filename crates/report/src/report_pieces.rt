@@ -198,7 +198,7 @@ impl<'a> Parts for ReportPieces<'a> {
 }
 
 /// A machine's witness: its operations, in the order of their keys.
-#[tactic(auto, using(crate::proofs::OtherKeys::ruled-keys))]
+#[tactic(auto, using(crate::proofs::OtherKeys::keys_by_rules))]
 pub fn witness(alloc: Global, machine: &AnyMachine) -> Result<Vec<Op>, NoMemory>
     ensures { IfOk result (λ ops. ops.items ≡ sorted_ops (machine_state machine.now).machine.ops) }
 {

@@ -1,15 +1,12 @@
 -- A tree and an image that are accepted have few items.
-use Rattle.std.proofs.Common.{◌≡◌, ℕ, ◌*◌, ◌/◌, ◌<◌, ◌≤◌, Bool, true, false, List, [], ◌∷◌, ◌++◌, map, Option, Some, None, Ok, refl, sym, subst, ap, ◌∙◌, arith, cond}
+use Rattle.std.proofs.Common.{◌≡◌, ℕ, ◌*◌, ◌/◌, ◌≤◌, Bool, true, false, List, ◌++◌, map, Option, Some, None, refl, sym, arith, cond}
 use Rattle.std.specs.Prelude.{nat_lt}
 use Rattle.std.proofs.lemmas.Bool.Decides.{nat_tests}
-use Rattle.std.proofs.lemmas.List.{length-map}
 use Rattle.ddm_types.specs.declared.sizes.Span.{Span}
-use Rattle.ddm_types.specs.CodeMap.{CodeWord}
-use Rattle.ddm_types.specs.ItemTable.{ItemRow, ItemTable, items_of, item_count}
-use Rattle.tree_model.specs.State.Lists.{first_some}
-use Rattle.tree_model.specs.Start.Sources.{TreeValue, ImageValue, place_count, segment_span, stack_spans, start_of_harts}
-use Rattle.tree_model.specs.Start.Machine.{StartRefusal, start_of, start_refusal}
-use Rattle.tree_model.specs.Start.Memory.{item_words, start_code, start_items, start_words}
+use Rattle.ddm_types.specs.ItemTable.{items_of, item_count}
+use Rattle.tree_model.specs.Start.Sources.{TreeValue, ImageValue, segment_span, stack_spans}
+use Rattle.tree_model.specs.Start.Machine.{StartRefusal, start_refusal}
+use Rattle.tree_model.specs.Start.Memory.{start_items}
 
 pub accepted_few : (t : TreeValue) (i : ImageValue) → start_refusal t i ≡ None → item_count (start_items t i) ≤ 65536
 unfolding start_refusal

@@ -1,14 +1,14 @@
 -- One level of buses over the level below it.
-use Rattle.std.proofs.Common.{◌≡◌, ◌<◌, ◌≤◌, ℕ, zero, suc, ◌+◌, ◌*◌, Bool, true, List, [], ◌∷◌, ◌++◌, length, map, drop, sum, Some, None, refl, sym, ap, subst, ◌∙◌, arith, add-one, All}
+use Rattle.std.proofs.Common.{◌≡◌, ◌<◌, ◌≤◌, ℕ, zero, suc, ◌+◌, true, List, [], ◌∷◌, length, map, drop, sum, Some, sym, ap, ◌∙◌, arith, add-one, All}
 use Rattle.std.specs.Prelude.{nat_le, slice_get, slice_index_or}
 use Rattle.std.specs.List.{AllByRecursion, flat_map, list_all}
 use Rattle.std.proofs.lemmas.Bool.{leb-true}
-use Rattle.std.proofs.lemmas.List.{length-append, length-map}
+use Rattle.std.proofs.lemmas.List.{length-append}
 use Rattle.std.proofs.lemmas.List.Elements.{All-from_recursion}
 use Rattle.ddm_types.specs.ItemTable.{item_count}
-use Rattle.tree_model.specs.State.Values.{DirSizes, Node, leaf_node}
+use Rattle.tree_model.specs.State.Values.{Node, leaf_node}
 use Rattle.tree_model.specs.Start.Nodes.{cut_in, dir_sizes, dirs_over, under_levels}
-use Rattle.tree_model.specs.Start.Machine.{start_leaves, start_refusal}
+use Rattle.tree_model.specs.Start.Machine.{start_leaves}
 use Rattle.tree_model.specs.Start.Memory.{start_items}
 use Rattle.tree_model.specs.Start.Sources.{TreeValue, ImageValue, width_of}
 use Rattle.tree_model.proofs.Tests.{and-first, and-second}
@@ -17,10 +17,10 @@ use Rattle.tree_config.specs.Ranges.{IsInRange}
 use Rattle.tree_config.proofs.Counts.{IsShape-buses}
 use Rattle.bus_laws.specs.IsTree.{is_width}
 use Rattle.ddm_tree.specs.Holders.{IsHolder}
-use Rattle.start_parts.specs.Held.{AreHeld, IsHeld}
+use Rattle.start_parts.specs.Held.{AreHeld}
 use Rattle.start_parts.proofs.EachLevel.{level-count, level-held, level-wide}
 use Rattle.run_engine.specs.Started.{nodes_at}
-use Rattle.run_engine.proofs.TreeStart.{tree-is, width-is}
+use Rattle.run_engine.proofs.TreeStart.{tree-is}
 
 -- ---- a level of a list of levels
 

@@ -1,5 +1,5 @@
-use Rattle.std.proofs.Common.{rules, ◌≡◌, ◌<◌, ◌≤◌, ◌+◌, ◌*◌, ℕ, List, [], length, map, sum, Some, refl, sym, ap, subst, ◌∙◌, arith, IfOk, All}
-use Rattle.std.specs.Prelude.{slice_get, slice_index_or}
+use Rattle.std.proofs.Common.{◌≡◌, ◌≤◌, ◌+◌, length, map, sum, Some, sym, ap, subst, ◌∙◌, arith, IfOk, All}
+use Rattle.std.specs.Prelude.{slice_get}
 use Rattle.std.proofs.lemmas.List.{length-map}
 use Rattle.ddm_types.specs.ItemTable.{item_count}
 use Rattle.tree_model.specs.State.Values.{dir_node, nodes}
