@@ -27,7 +27,10 @@ use Rattle.tree_model.proofs.Changed.{changed-holds}
 use Rattle.tree_model.proofs.Rows.{row-of}
 use Rattle.tree_model.proofs.Tests.{and-first, and-second}
 use Rattle.tree_model.proofs.TurnChanges.{turn-changes_nothing, turn-changes_one_node}
-use Rattle.headline.proofs.StartFresh.{AreFresh, IsFresh, IsFreshDir, IsFreshLeaf}
+use Rattle.tree_model.specs.Start.Machine.{start_machine}
+use Rattle.tree_model.specs.Start.Memory.{start_words}
+use Rattle.tree_model.specs.Start.Sources.{ImageValue, TreeValue, start_of_harts}
+use Rattle.headline.proofs.StartFresh.{AreFresh, IsFresh, start-fresh}
 use Rattle.order_laws.proofs.Hart.HartMachine.{ops_after, ops_with}
 use Rattle.order_laws.proofs.Timed.Rows.{BusTurned, DownTurned, ParentTurned, down_grows, down_stays, down_taken, row-turned}
 use Rattle.order_laws.proofs.Timed.Told.{AllTold, DirTold, Pushed, Told}
@@ -341,3 +344,8 @@ module _ (start : Start) (words : List (List ℕ)) where
     are_fresh_within : (ns : Nodes) → AreFresh start words ns → widths_fit_among (skeletons ns) ≡ true → AmongWithin 0 ns
     are_fresh_within no_nodes fresh fit = tt
     are_fresh_within (more_nodes n ns) fresh fit = (fresh_within n fresh.0 (and-first _ (widths_fit_among (skeletons ns)) fit), are_fresh_within ns fresh.1 (and-second (widths_fit (skeleton n)) _ fit))
+
+pub start_within : (t : TreeValue) (i : ImageValue) → widths_fit (skeleton (root_of (start_machine t i))) ≡ true → Within 0 (root_of (start_machine t i))
+start_within t i fit =
+    let fresh = start-fresh t i in
+    fresh_within (start_of_harts t i) (start_words t i) (root_of (start_machine t i)) (fresh.top, fresh.kids) fit
