@@ -21,3 +21,10 @@ reading-preserved g c =
       same = c.read.ensures.same ∙ c.reading.invariant.same;
       later = λ other. omega (arith, c.reading.invariant.later other, c.read.ensures.later other);
     }
+
+pub returns-in-Err-clause-cause : goal.returns-in-Err-clause-cause
+returns-in-Err-clause-cause g c =
+    let told = g.F.Shelf.told c.args.files.now c.args.name.now in
+    let part = rw c.reading.invariant.same at c.in-Ok.ensures.told in
+    let read = piece_fed c.args.reader.now told c.reading.at c.reading.reader c.reading.invariant.read c.in-Ok.n c.read.new.into part c.feed.new.self c.in-Ok.ensures.bound c.feed.ensures.reader in
+    long_fed c.args.reader.now told (c.reading.at + c.in-Ok.n) c.feed.new.self read c.in-Err.refusal (sym c.in-Err.ensures.answer)
