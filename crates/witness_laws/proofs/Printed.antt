@@ -1,5 +1,5 @@
 -- The witness of a run is the lines of legal operations.
-use Rattle.std.proofs.Common.{◌≡◌, ℕ, suc, ◌+◌, ◌<◌, ◌≤◌, Bool, true, false, List, [], ◌∷◌, ◌++◌, length, Option, Some, None, Ok, refl, sym, ap, subst, ◌∙◌, arith, append_assoc, length-append}
+use Rattle.std.proofs.Common.{◌≡◌, ℕ, suc, ◌+◌, ◌≤◌, Bool, true, false, List, [], ◌∷◌, ◌++◌, length, None, Ok, refl, sym, ap, subst, ◌∙◌, arith, append_assoc, length-append}
 use Rattle.std.specs.Prelude.{codes, decimal, flat_map, option_and_then}
 use Rattle.std.specs.List.{AllByRecursion}
 use Rattle.std.proofs.Math.Seq.{take-length}
@@ -11,8 +11,8 @@ use Rattle.ddm_types.specs.CodeMap.{CodeWord}
 use Rattle.ddm_types.specs.ItemTable.{ItemTable}
 use Rattle.flat_model.specs.Legal.{Legal}
 use Rattle.tree_model.specs.State.Shape.{Frame, widths_bounded}
-use Rattle.tree_model.specs.State.Values.{MachineValue, root_of}
-use Rattle.tree_model.specs.Start.Sources.{ImageValue, TreeValue, start_of_harts}
+use Rattle.tree_model.specs.State.Values.{MachineValue}
+use Rattle.tree_model.specs.Start.Sources.{ImageValue, TreeValue}
 use Rattle.tree_model.specs.Start.Memory.{start_code, start_items, start_words}
 use Rattle.tree_model.specs.Start.Machine.{flat_start_of, start_machine, start_of, start_refusal}
 use Rattle.tree_model.specs.Turns.Machine.{run_of, turn_of}
@@ -29,11 +29,10 @@ use Rattle.bus_laws.proofs.StartKept.{start-kept}
 use Rattle.order_lists.proofs.Sorted.{sorted-each, with_op-least, with_op-less}
 use Rattle.order_laws.proofs.Hart.HartMachine.{ops_after, ops_with}
 use Rattle.headline.proofs.Runs.{each-turn}
-use Rattle.headline.proofs.StartFresh.{start-fresh}
 use Rattle.start_memory.specs.Memory.{memory_items, memory_words}
 use Rattle.witness_check.specs.Reader.{setting_of}
 use Rattle.witness_check.specs.Start.{judged, start_refusal as judged_refusal}
-use Rattle.witness_check.specs.Witness.{AreLegal, BeginsWith, HasWords, IsAccepted, IsLineOf, IsOp, IsWord}
+use Rattle.witness_check.specs.Witness.{AreLegal, BeginsWith, HasWords, IsAccepted, IsOp}
 use Rattle.witness_check.proofs.Starts.{start_refusal-tables}
 use Rattle.witness_laws.specs.Printed.{IsOfBytes, ops_of_run, printed_witness}
 use Rattle.witness_laws.proofs.FlatWords.{IsOfWords, legal_words}

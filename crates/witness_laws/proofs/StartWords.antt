@@ -1,15 +1,14 @@
 -- The flat machine of a tree and an image starts with numbers of 32 bits.
-use Rattle.std.proofs.Common.{◌≡◌, ℕ, zero, suc, ◌+◌, ◌*◌, ◌%◌, ◌^◌, ◌<◌, ◌≤◌, Bool, true, false, cond, List, [], ◌∷◌, ◌++◌, length, map, replicate, sum, Option, Some, None, refl, sym, ap, ◌∙◌, arith}
-use Rattle.std.specs.Prelude.{◌&&◌, IfSome, find, nat_le, slice_index, slice_index_or, slice_set}
+use Rattle.std.proofs.Common.{◌≡◌, ℕ, zero, suc, ◌+◌, ◌*◌, ◌%◌, ◌^◌, ◌<◌, ◌≤◌, Bool, true, false, cond, List, [], ◌∷◌, ◌++◌, length, map, replicate, sum, Option, Some, None, sym, ap, ◌∙◌, arith}
+use Rattle.std.specs.Prelude.{IfSome, find, slice_index_or, slice_set}
 use Rattle.std.specs.List.{AllByRecursion, flat_map, list_all, range_with_len}
-use Rattle.std.proofs.lemmas.List.{length-map}
 use Rattle.std.proofs.lemmas.List.Concat.{flat_map-cons}
 use Rattle.std.proofs.lemmas.List.FromFn.{length-map-range_with_len}
 use Rattle.ddm_types.specs.declared.sizes.Start.{Start}
 use Rattle.ddm_types.specs.ItemTable.{ItemRow}
-use Rattle.flat_model.specs.Flat.{FlatHart, flat_hart, flat_hart_start, flat_start, item_words as words_of, no_flat_hart}
+use Rattle.flat_model.specs.Flat.{flat_hart_start, flat_start, no_flat_hart}
 use Rattle.flat_model.specs.Hart.{hart_start}
-use Rattle.tree_model.specs.Start.Sources.{ImageValue, SegmentValue, TreeValue, bus_widths, last_level, leaf_count, start_of_harts, width_of}
+use Rattle.tree_model.specs.Start.Sources.{ImageValue, SegmentValue, TreeValue, last_level, leaf_count, start_of_harts, width_of}
 use Rattle.tree_model.specs.Start.Memory.{byte_at, byte_of, has_byte, item_words, memory_word, start_items, start_words}
 use Rattle.tree_model.specs.Start.Machine.{flat_start_of}
 use Rattle.tree_model.proofs.Tests.{and-first, and-second}
