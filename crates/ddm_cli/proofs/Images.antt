@@ -1,7 +1,6 @@
 -- Why there is no machine and no setting of an image file, from what its image comes to.
 use Rattle.std.proofs.Common.{◌≡◌, ℕ, List, Option, Some, None, Result, Ok, Err, refl}
-use Rattle.std.specs.Prelude.{IfErr, IfSome, IsOkAnd}
-use Rattle.report.specs.declared.roles.FileRole.{FileRole}
+use Rattle.std.specs.Prelude.{IfOk, IfSome}
 use Rattle.tree_model.specs.Start.Sources.{TreeValue, ImageValue}
 use Rattle.elf_load.specs.ElfFile.{image_of}
 use Rattle.tree_model.specs.Start.Machine.{start_refusal}
@@ -88,8 +87,12 @@ pub takes_image : (t : TreeValue) (told : Option (List ℕ)) (i : ImageValue) �
 takes_image t None i has accepted = tt
 takes_image t (Some file) i has accepted = some_parts file t i has accepted
 
-pub begins : (t : TreeValue) (told : Option (List ℕ)) (i : ImageValue) (reader : ReaderView) → HasImage t told i → reader ≡ begun (setting_of t i) → check.start_refusal (setting_of t i) ≡ None → BeginsFor t told reader
+begins : (t : TreeValue) (told : Option (List ℕ)) (i : ImageValue) (reader : ReaderView) → HasImage t told i → reader ≡ begun (setting_of t i) → check.start_refusal (setting_of t i) ≡ None → BeginsFor t told reader
 begins t told i reader has is starts = record { setting = setting_of t i; begins = is; starts = starts; is = by told has } where
   by : (o : Option (List ℕ)) → HasImage t o i → IfSome o (λ file. setting_in t file ≡ Some (setting_of t i))
   by None has = tt
   by (Some file) has = setting_started t i file has starts
+
+pub begins_for : {E : Type 0} (t : TreeValue) (told : Option (List ℕ)) (i : ImageValue) (r : Result ReaderView E) → HasImage t told i → IfOk r (λ reader. reader ≡ begun (setting_of t i)) → IfOk r (λ reader. check.start_refusal (setting_of t i) ≡ None) → IfOk r (BeginsFor t told)
+begins_for t told i (Ok reader) has is starts = begins t told i reader has is starts
+begins_for t told i (Err e) has is starts = tt

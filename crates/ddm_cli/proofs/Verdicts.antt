@@ -18,6 +18,7 @@ use Rattle.witness_check.proofs.Pieces.{answer_is, nothing_yet, piece_more, refu
 use Rattle.ddm_cli.specs.Causes.{AcceptedAs, ComesTo, WitnessCause}
 use Rattle.ddm_cli.specs.Commands.{Check}
 use Rattle.ddm_cli.specs.Parts.{BeginsFor, setting_at, setting_in, tree_at}
+use Rattle.ddm_cli.specs.Printed.{legal_line}
 use Rattle.ddm_cli.specs.Reads.{HasFed, IsBehind}
 use Rattle.ddm_cli.specs.Top.{AcceptsSetting, IsJudged, NoVerdict}
 use Rattle.ddm_cli.specs.declared.status.Status.{Status}
@@ -128,6 +129,11 @@ is_judged answer None image witness t reader taken begins comes = tt
 is_judged answer (Some f) None witness t reader taken begins comes = tt
 is_judged answer (Some f) (Some g) None t reader taken begins comes = tt
 is_judged answer (Some f) (Some g) (Some w) t reader taken begins comes = rw (setting_taken f g t begins.setting taken begins.is) (comes begins.setting begins.begins begins.starts)
+
+-- a witness that is accepted
+pub verdict_taken : (tree image witness : Option (List ℕ)) (t : TreeValue) (reader : ReaderView) (lines : ℕ) → AcceptedAs tree_at tree t → BeginsFor t image reader → IfSome witness (ComesTo reader (Ok lines))
+    → AcceptsSetting tree image × ((n : ℕ) × (legal_line lines ≡ legal_line n) × IsJudged (Ok n) tree image witness)
+verdict_taken tree image witness t reader lines taken begins comes = (takes_setting tree image t reader taken begins, (lines, refl, is_judged (Ok lines) tree image witness t reader taken begins comes))
 
 -- why a witness isn't accepted, as a cause of the command: the count rose since the image was read, or before
 module _ {F : Type 0} (told : F → List ℕ → Option (List ℕ)) (faults : F → List ℕ → ℕ) (files files' : F) (c : Check) (t : TreeValue) (reader : ReaderView) (before : ℕ) (tree : AcceptedAs tree_at (told files c.tree) t)

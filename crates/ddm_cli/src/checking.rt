@@ -1,8 +1,8 @@
-ghost use Rattle.std.specs.Prelude.{◌≡◌, ◌<◌, IfErr, IfOk, IfSome, OnErr, length};
+ghost use Rattle.std.specs.Prelude.{◌≡◌, ◌<◌, Ok, IfErr, IfOk, IfSome, OnErr, length};
 ghost use Rattle.ddm_outside.specs.Causes.{HasCause};
 ghost use Rattle.witness_check.specs.Reader.{begun};
 ghost use Rattle.witness_check.specs.Start.{Setting};
-ghost use Rattle.ddm_cli.specs.Causes.{WitnessCause};
+ghost use Rattle.ddm_cli.specs.Causes.{ComesTo, WitnessCause};
 ghost use Rattle.ddm_cli.specs.Commands.{to_check};
 ghost use Rattle.ddm_cli.specs.Printed.{legal_line};
 ghost use Rattle.ddm_cli.specs.Reads.{IsBehind};
@@ -48,10 +48,29 @@ fn feed_file<F: Shelf>(
         if n == 0 {
             return Ok(());
         }
-        if let Err(refusal) = reader.feed(&buffer[..n]) {
-            return Err(Status::Witness(refusal));
+        match reader.feed(&buffer[..n]) {
+            Ok(()) => at += n as u64,
+            Err(refusal) => return Err(Status::Witness(refusal)),
         }
-        at += n as u64;
+    }
+}
+
+// How many lines a witness file has that its reader accepts.
+fn lines_in<F: Shelf>(
+    files: &mut F,
+    name: &str,
+    buffer: &mut [u8],
+    mut reader: WitnessReader,
+) -> Result<u32, Status>
+    requires room { 0 < length buffer.old }
+    requires begins { (s : Setting) × (reader ≡ begun s) }
+    ensures comes { IfOk result (λ lines. IfSome (F.told files.old name.now) (ComesTo reader (Ok lines))) }
+    ensures cause { IfErr result (WitnessCause reader (F.told files.old name.now) (F.faults files.old name.now) (F.faults files.new name.now)) }
+{
+    feed_file(files, name, buffer, &mut reader)?;
+    match reader.finish() {
+        Ok(lines) => Ok(lines),
+        Err(refusal) => Err(Status::Witness(refusal)),
     }
 }
 
@@ -62,12 +81,8 @@ fn witness_lines<F: Shelf>(alloc: Global, files: &mut F, check: Check<'_>) -> Re
 {
     let mut buffer = read_buffer(alloc)?;
     let tree = tree_file(alloc, files, check.tree, &mut buffer)?;
-    let mut reader = setting_file(alloc, files, check.image, &mut buffer, &tree)?;
-    feed_file(files, check.witness, &mut buffer, &mut reader)?;
-    match reader.finish() {
-        Ok(lines) => Ok(lines),
-        Err(refusal) => Err(Status::Witness(refusal)),
-    }
+    let reader = setting_file(alloc, files, check.image, &mut buffer, &tree)?;
+    lines_in(files, check.witness, &mut buffer, reader)
 }
 
 /// Judges a witness, and writes how many lines it has where it is accepted; or answers the status without a text. The flat machine,

@@ -1,5 +1,5 @@
 -- A flat machine of 32-bit numbers makes steps of such numbers, and goes on having them.
-use Rattle.std.proofs.Common.{◌≡◌, ℕ, zero, suc, ◌+◌, ◌*◌, ◌/◌, ◌%◌, ◌^◌, ◌<◌, ◌≤◌, Bool, true, false, cond, List, [], ◌∷◌, map, length, Option, Some, None, Result, Ok, Err, refl, sym, ap, ◌∙◌, subst, arith}
+use Rattle.std.proofs.Common.{◌≡◌, ℕ, zero, suc, ◌+◌, ◌*◌, ◌/◌, ◌%◌, ◌^◌, ◌<◌, Bool, true, false, cond, List, [], ◌∷◌, map, length, Option, Some, None, Result, Ok, Err, refl, sym, ap, ◌∙◌, subst, arith}
 use Rattle.std.specs.Prelude.{◌&&◌, nat_eq, nat_lt, IfOk, IfSome, IsSome, slice_index, slice_index_or, slice_set, option_and_then}
 use Rattle.std.specs.List.{AllByRecursion}
 use Rattle.std.proofs.lemmas.Bool.{ltb-true}
@@ -14,15 +14,14 @@ use Rattle.ddm_types.specs.ItemTable.{ItemTable, item_at, row_at}
 use Rattle.rv_decode.specs.declared.instructions.Instr.{Instr}
 use Rattle.rv_decode.specs.declared.instructions.Instr.TheVariants.{Lui, Auipc, Jal, Jalr, Branch, Load, Store, Immediate, Register, Fence, Ecall, Ebreak, Lr, Sc, Amo}
 use Rattle.rv_decode.specs.Table.{Row, decode_by, decode_of, field, fits, signed, table}
-use Rattle.flat_model.specs.declared.Ask.{Ask}
-use Rattle.flat_model.specs.Hart.{Access, Action, Halts, Computes, Puts, Loads, Stores, Reserves, StoresIfReserved, Changes, Finished, HartValue, access_in, action_of, aligned, ask_by, ask_of, decoded_action, fetched_action, finish_by, finish_of, instr_action, is_taken, jump, load_at, load_found, next_pc, offset_by, operation, register, store_at, store_found, with_register, written}
-use Rattle.flat_model.specs.Flat.{Change, FlatHart, FlatMachine, FlatStepped, Stored, change_by, conditional, flat_hart, flat_step, has_reserved, hart_step, item_words, no_flat_hart, stepped, unless_halted, with_change, with_hart, with_stored, without_reserved}
-use Rattle.flat_model.specs.Legal.{Legal, if_effect, is_sc_ok, legal_run, legal_step, same_effect}
+use Rattle.flat_model.specs.Hart.{Access, Action, Halts, Computes, Puts, Loads, Stores, Reserves, StoresIfReserved, Changes, HartValue, access_in, action_of, aligned, ask_by, ask_of, decoded_action, fetched_action, finish_by, finish_of, instr_action, is_taken, jump, load_at, load_found, next_pc, offset_by, operation, register, store_at, store_found, with_register, written}
+use Rattle.flat_model.specs.Flat.{Change, FlatHart, FlatMachine, FlatStepped, Stored, change_by, conditional, flat_hart, flat_step, has_reserved, hart_step, item_words, no_flat_hart, stepped, unless_halted, with_change, with_stored, without_reserved}
+use Rattle.flat_model.specs.Legal.{Legal, is_sc_ok, legal_run, legal_step}
 use Rattle.flat_model.proofs.Frames.{same_counts}
 use Rattle.flat_model.proofs.Runs.{legal_step_is}
 use Rattle.witness_check.specs.Witness.{IsEffect, IsWord}
 use Rattle.witness_check.proofs.Steps.{no_hart}
-use Rattle.witness_laws.proofs.Words.{AreWords, amo_words, loaded_words, no_words, register_words, signed_immediate, stored_words, words_more, words_set, wraps}
+use Rattle.witness_laws.proofs.Words.{AreWords, amo_words, loaded_words, register_words, signed_immediate, stored_words, words_set, wraps}
 
 -- ---- a hart
 

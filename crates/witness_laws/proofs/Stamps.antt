@@ -1,5 +1,5 @@
 -- The numbers of keys: none is above the number of turns, or no child number.
-use Rattle.std.proofs.Common.{◌≡◌, ℕ, zero, suc, ◌+◌, ◌<◌, ◌≤◌, Bool, true, false, cond, ◌⊎◌, inl, inr, List, [], ◌∷◌, ◌++◌, length, Option, Some, None, refl, sym, ap, subst, ◌∙◌, arith}
+use Rattle.std.proofs.Common.{◌≡◌, ℕ, zero, suc, ◌+◌, ◌<◌, ◌≤◌, Bool, true, false, cond, ◌⊎◌, inl, inr, List, [], ◌∷◌, ◌++◌, length, refl, sym, ap, subst, arith}
 use Rattle.std.specs.Prelude.{nat_eq, nat_le, nat_lt, slice_index}
 use Rattle.std.proofs.lemmas.Bool.{leb-true}
 use Rattle.std.specs.List.{AllByRecursion}
@@ -11,14 +11,14 @@ use Rattle.ddm_types.specs.declared.sizes.Start.{Start}
 use Rattle.ddm_types.specs.declared.turns.Turn.{Turn}
 use Rattle.ddm_types.specs.ItemTable.{ItemTable}
 use Rattle.ddm_types.specs.CodeMap.{CodeWord}
-use Rattle.ddm_types.specs.Keys.{key_on, stamp_at, stamp_zero}
+use Rattle.ddm_types.specs.Keys.{stamp_at, stamp_zero}
 use Rattle.tree_model.specs.declared.BusTurn.{BusTurn}
 use Rattle.tree_model.specs.State.Values.{DownValue, LeafValue, DirValue, Node, Nodes, leaf_node, dir_node, no_nodes, more_nodes, nodes, children, MachineValue, root_of}
 use Rattle.tree_model.specs.State.Directory.{is_top, stamp_of}
-use Rattle.tree_model.specs.State.Place.{Spot, Where, at_child, at_top, key_at_leaf, spot_in, spot_path, stamp_above, where_path}
+use Rattle.tree_model.specs.State.Place.{Where, at_child, at_top, key_at_leaf, spot_in, stamp_above, where_path}
 use Rattle.tree_model.specs.State.Shape.{bone_count, skeleton, skeletons, widths_fit, widths_fit_among}
 use Rattle.tree_model.specs.Turns.Tree.{ChangedAt, has_node}
-use Rattle.tree_model.specs.Turns.Grant.{Grant, Judged, nothing_there, refused, granted, outcome_of}
+use Rattle.tree_model.specs.Turns.Grant.{Judged, nothing_there, refused, granted, outcome_of}
 use Rattle.tree_model.specs.Turns.Bus.{bus_judged, bus_step}
 use Rattle.tree_model.specs.Turns.HartTurn.{Deed, has_halted, waits_for, halts, completes, fetches, upgrades, finds_buffer_full, answer_of_deed, deed_of, leaf_after_deed, leaf_step}
 use Rattle.tree_model.specs.Turns.Machine.{answer_here, bus_turn_of, named_by, node_after, run_of, turn_of, victim_of}
@@ -27,11 +27,14 @@ use Rattle.tree_model.proofs.Changed.{changed-holds}
 use Rattle.tree_model.proofs.Rows.{row-of}
 use Rattle.tree_model.proofs.Tests.{and-first, and-second}
 use Rattle.tree_model.proofs.TurnChanges.{turn-changes_nothing, turn-changes_one_node}
-use Rattle.headline.proofs.StartFresh.{AreFresh, IsFresh, IsFreshDir, IsFreshLeaf}
+use Rattle.tree_model.specs.Start.Machine.{start_machine}
+use Rattle.tree_model.specs.Start.Memory.{start_words}
+use Rattle.tree_model.specs.Start.Sources.{ImageValue, TreeValue, start_of_harts}
+use Rattle.headline.proofs.StartFresh.{AreFresh, IsFresh, start-fresh}
 use Rattle.order_laws.proofs.Hart.HartMachine.{ops_after, ops_with}
 use Rattle.order_laws.proofs.Timed.Rows.{BusTurned, DownTurned, ParentTurned, down_grows, down_stays, down_taken, row-turned}
-use Rattle.order_laws.proofs.Timed.Told.{AllTold, DirTold, Pushed, Told}
-use Rattle.witness_check.specs.Witness.{HasWords, IsWord}
+use Rattle.order_laws.proofs.Timed.Told.{AllTold, Pushed, Told}
+use Rattle.witness_check.specs.Witness.{HasWords}
 
 -- ---- stamps
 
@@ -152,12 +155,15 @@ module _ (most : ℕ) (s : Stamp) (s_in : StampWithin (most + 1) s) where
   told_within (leaf_node v) (leaf_node w) told low = omega (arith, told.done, low)
   told_within (leaf_node v) (dir_node e ms) told low = absurd told
   told_within (dir_node d ns) (leaf_node w) told low = absurd told
-  told_within (dir_node d ns) (dir_node e ms) told low =
-      (record {
-        count = omega (arith, told.0.count, low.0.count);
-        epoch = subst (StampWithin (most + 1)) (sym told.0.epoch) (stamp_more most d.epoch low.0.epoch);
-        down = by told.0.down;
-      }, subst (λ ks. node_count ks ≤ 16) (sym told.1) low.1, subst (AmongWithin (most + 1)) (sym told.1) (among_more most ns low.2))
+  told_within (dir_node d ns) (dir_node e ms) told low = (
+    record {
+      count = omega (arith, told.0.count, low.0.count);
+      epoch = subst (StampWithin (most + 1)) (sym told.0.epoch) (stamp_more most d.epoch low.0.epoch);
+      down = by told.0.down;
+    },
+    subst (λ ks. node_count ks ≤ 16) (sym told.1) low.1,
+    subst (AmongWithin (most + 1)) (sym told.1) (among_more most ns low.2),
+  )
     where
       by : (e.down ≡ d.down) ⊎ Pushed s d.down e.down → AllByRecursion (λ (e : DownValue). StampWithin (most + 1) e.stamp) e.down
       by (inl same) = subst (AllByRecursion (λ (e : DownValue). StampWithin (most + 1) e.stamp)) (sym same) (entries_more most d.down low.0.down)
@@ -327,8 +333,7 @@ module _ (start : Start) (words : List (List ℕ)) where
     fresh_within (leaf_node v) fresh fit = omega (arith, fresh.done)
     fresh_within (dir_node d ns) fresh fit =
         let more = and-second _ _ fit in
-        let count = leb-true (bone_count (skeletons ns)) 16 (and-first _ (widths_fit_among (skeletons ns)) more) in
-        (
+        let count = leb-true (bone_count (skeletons ns)) 16 (and-first _ (widths_fit_among (skeletons ns)) more) in (
           record {
             count = omega (arith, fresh.0.count);
             epoch = subst (StampWithin 0) (sym fresh.0.epoch) (zero_within 0);
@@ -341,3 +346,8 @@ module _ (start : Start) (words : List (List ℕ)) where
     are_fresh_within : (ns : Nodes) → AreFresh start words ns → widths_fit_among (skeletons ns) ≡ true → AmongWithin 0 ns
     are_fresh_within no_nodes fresh fit = tt
     are_fresh_within (more_nodes n ns) fresh fit = (fresh_within n fresh.0 (and-first _ (widths_fit_among (skeletons ns)) fit), are_fresh_within ns fresh.1 (and-second (widths_fit (skeleton n)) _ fit))
+
+pub start_within : (t : TreeValue) (i : ImageValue) → widths_fit (skeleton (root_of (start_machine t i))) ≡ true → Within 0 (root_of (start_machine t i))
+start_within t i fit =
+    let fresh = start-fresh t i in
+    fresh_within (start_of_harts t i) (start_words t i) (root_of (start_machine t i)) (fresh.top, fresh.kids) fit

@@ -1,7 +1,7 @@
 -- Numbers of 32 bits: what instructions make of them are such numbers.
-use Rattle.std.proofs.Common.{◌≡◌, ℕ, zero, suc, ℤ, pos, negsuc, ◌+◌, ◌-◌, ◌*◌, ◌/◌, ◌%◌, ◌^◌, ◌<◌, ◌≤◌, Bool, true, false, cond, List, [], ◌∷◌, refl, arith, ap, sym, subst}
-use Rattle.std.specs.Prelude.{nat_eq, nat_lt, min, max, int_lt, bit_and, bit_or, bit_xor, slice_index, slice_set}
-use Rattle.std.specs.Int.{w8, w16, w32, cast_signed, cast_unsigned, int_shr, to_le_bytes, from_le_bytes, from_bool}
+use Rattle.std.proofs.Common.{ℕ, zero, suc, ℤ, pos, negsuc, ◌+◌, ◌-◌, ◌*◌, ◌/◌, ◌%◌, ◌^◌, ◌<◌, ◌≤◌, Bool, true, false, cond, List, [], ◌∷◌, arith}
+use Rattle.std.specs.Prelude.{nat_lt, int_lt, slice_index, slice_set}
+use Rattle.std.specs.Int.{w32, cast_unsigned, int_shr, to_le_bytes, from_le_bytes, from_bool}
 use native.Mathlib.Nat.{div-le_self}
 use Rattle.std.proofs.lemmas.Nat.{and_le_l, or_lt, xor_lt}
 use Rattle.rv_decode.specs.declared.instructions.RegOp.{RegOp}
