@@ -60,10 +60,10 @@ each-first_entry (up_read first joined) = refl
 each-first_entry (up_erase d) = refl
 
 -- of a child that gives, and of a parent that is to have it given
-abbrev gift : ParentFace → Bits → Bool
+abbrev pub gift : ParentFace → Bits → Bool
 gift p k = implies (not k.no_gift) (is_local p.note || p.answering) && implies (is_local p.note || (p.answering && not (has_some p.queue))) (not k.no_gift)
 
-each-gift : (note : Note) → each_state gift note ≡ true
+pub each-gift : (note : Note) → each_state gift note ≡ true
 unfolding implies
 each-gift no_note = refl
 each-gift (local first joined) = refl
@@ -71,10 +71,10 @@ each-gift (up_read first joined) = refl
 each-gift (up_erase d) = refl
 
 -- of an item that isn't pending
-abbrev calm : ParentFace → Bits → Bool
+abbrev pub calm : ParentFace → Bits → Bool
 calm p k = implies (is_no_note p.note && (not p.answering && (not (has_some p.queue) && is_held p.hold))) k.held
 
-each-calm : (note : Note) → each_state calm note ≡ true
+pub each-calm : (note : Note) → each_state calm note ≡ true
 unfolding implies
 each-calm no_note = refl
 each-calm (local first joined) = refl
@@ -88,7 +88,7 @@ absent [] e = refl
 absent (x ∷ xs) e = cc
 
 -- where nothing is parked and no child holds the item, there is no holder
-no-holder : (x : ℕ) (p : DirValue) (ns : List Node) → parked_words x p ≡ None → ((i : ℕ) → i < length ns → child_holds x (child_at i ns) ≡ false) → (bits_of (parent_face x p) (faces_of x ns)).held ≡ false
+pub no-holder : (x : ℕ) (p : DirValue) (ns : List Node) → parked_words x p ≡ None → ((i : ℕ) → i < length ns → child_holds x (child_at i ns) ≡ false) → (bits_of (parent_face x p) (faces_of x ns)).held ≡ false
 no-holder x p ns parked none =
     let free : is_parked x p ≡ false = absent (words_of_item x p.parked) parked in
     let nobody : list_any holds_it (faces_of x ns) ≡ false = any-false (child_face x) no_node holds_it ns (λ i l. ap is_held (sym (child-hold x (child_at i ns))) ∙ none i l) in
