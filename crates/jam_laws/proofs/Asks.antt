@@ -70,7 +70,7 @@ pub data Wants (n : ℕ) (m : Node) : Type 0 where
 abbrev pub Granted : Stamp → DirValue → List Node → ℕ → Type 0
 Granted above p ns c = goes (request_turn above p ns c (child_request (child_at c ns))) ≡ true
 
-some-queued : (x : ℕ) (d : DirValue) → in_down x d ≡ true → has_some d.down ≡ true
+pub some-queued : (x : ℕ) (d : DirValue) → in_down x d ≡ true → has_some d.down ≡ true
 unfolding queue_of
 some-queued x d h = at d.down h where
   at : (down : List DownValue) → has_some (map entry_kind (filter (names_item entry_item x) down)) ≡ true → has_some down ≡ true
@@ -212,12 +212,12 @@ module _ (n : ℕ) (above : Stamp) (p : DirValue) (ns : List Node) (bus : IsBusO
 
 -- ---- what went up is wanted of the bus above, where nothing comes down
 
-abbrev wanted : ParentFace → Bits → Bool
+abbrev pub wanted : ParentFace → Bits → Bool
 wanted p k =
     implies (is_up_read p.note && not (has_some p.queue)) (has_some p.requests || face_reads p)
     && implies (is_up_erase p.note && not (has_some p.queue)) (has_some p.requests || face_erases p)
 
-each-wanted : (note : Note) → each_state wanted note ≡ true
+pub each-wanted : (note : Note) → each_state wanted note ≡ true
 unfolding implies
 each-wanted no_note = refl
 each-wanted (local first joined) = refl

@@ -1,3 +1,4 @@
 pub mod Judged
 pub mod Goes
 pub mod Asks
+pub mod Walk
