@@ -2,3 +2,4 @@ pub mod Judged
 pub mod Goes
 pub mod Asks
 pub mod Walk
+pub mod Named
