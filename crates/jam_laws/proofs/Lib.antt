@@ -3,3 +3,4 @@ pub mod Goes
 pub mod Asks
 pub mod Walk
 pub mod Named
+pub mod Short

@@ -102,7 +102,7 @@ unfolding words_of_item
 some-reply x m ns [] is some = absurd (true≢false some)
 some-reply x m ns (c ∷ cs) is some = record { child = 0; there = omega arith; copy = c; has = ap first_of is }
 
-replies-seen : (x : ℕ) (m : Node) → (child_face x m).replies ≡ length (words_of_item x (child_replies m))
+pub replies-seen : (x : ℕ) (m : Node) → (child_face x m).replies ≡ length (words_of_item x (child_replies m))
 replies-seen x (leaf_node v) = refl
 replies-seen x (dir_node d ns) = refl
 

@@ -1,13 +1,14 @@
 -- Whether a leaf waits, whether the lists have room, and which turn of a bus would be granted.
 -- Letters: m is a machine, v a leaf, d a directory over the children ns, t a turn.
 -- To be believed with the laws: it is what they speak of.
-use Rattle.std.specs.Prelude.{◌≡◌, ℕ, ◌*◌, Bool, true, false, ◌&&◌, nat_le, List, ◌∷◌, ◌++◌, map, find, Option, Some, None, is_some, unwrap_or, if◌then◌else◌}
-use Rattle.std.specs.List.{list_any, flat_map, range_with_len}
+use Rattle.std.specs.Prelude.{◌≡◌, ℕ, ◌*◌, ◌≤◌, Bool, true, false, ◌&&◌, nat_le, List, ◌∷◌, ◌++◌, length, map, find, Option, Some, None, is_some, unwrap_or, if◌then◌else◌}
+use Rattle.std.specs.List.{AllByRecursion, list_any, flat_map, range_with_len}
 use Rattle.ddm_types.specs.declared.answers.BusyCause.{BusyCause}
 use Rattle.ddm_types.specs.declared.answers.TurnAnswer.{TurnAnswer}
 use Rattle.ddm_types.specs.declared.turns.Turn.{Turn}
 use Rattle.tree_model.specs.State.Values.{LeafValue, DirValue, Node, Nodes, leaf_node, dir_node, no_nodes, more_nodes, MachineValue}
 use Rattle.tree_model.specs.State.Leaf.{waiting_item}
+use Rattle.tree_model.specs.State.Child.{child_replies}
 use Rattle.tree_model.specs.State.Shape.{tree_counts}
 use Rattle.tree_model.specs.Turns.Machine.{turn_of, child_count, names_part, machine_leaves}
 use Rattle.tree_rules.specs.Bus.Rules.{items_of_machine}
@@ -37,6 +38,14 @@ abbrev mutual
 -- each list has at least eight places for each item; the top sends nothing, and has a down list alone
 abbrev pub has_large_lists : MachineValue → Bool
 has_large_lists m = nat_le (8 * items_of_machine m) m.top.sizes.down_room && lists_have_among (8 * items_of_machine m) m.kids
+
+-- ---- how long lists get
+
+-- of n items: what comes down to the parent of a bus, what it asks for, and the replies of each child
+pub record HasShortLists (n : ℕ) (p : DirValue) (ns : List Node) : Type 0 where
+  pub down : length p.down ≤ 4 * n
+  pub requests : length p.requests ≤ n
+  pub replies : AllByRecursion (λ m. length (child_replies m) ≤ n) ns
 
 -- ---- what a turn comes to
 
