@@ -4,3 +4,5 @@ pub mod Asks
 pub mod Walk
 pub mod Named
 pub mod Short
+pub mod BusRoom
+pub mod NeverFull
