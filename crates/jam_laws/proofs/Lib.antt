@@ -6,3 +6,6 @@ pub mod Named
 pub mod Short
 pub mod BusRoom
 pub mod NeverFull
+pub mod First
+pub mod LargeLists
+pub mod NoJam

@@ -14,7 +14,7 @@ use Rattle.tree_model.specs.Turns.Bus.{bus_judged, bus_step}
 use Rattle.tree_model.specs.Turns.Tree.{Name, bus_of_number, is_named, has_node, has_among, read_in, read_among, of_dir}
 use Rattle.tree_model.specs.Turns.Machine.{named_by, bus_turn_of, answer_here, turn_of, child_count, names_part, is_child_of}
 use Rattle.tree_model.proofs.TurnChanges.{turn-answered}
-use Rattle.jam_laws.specs.GoesOn.{is_granted, finds_list_full, goes_on_with, SomeTurn}
+use Rattle.jam_laws.specs.GoesOn.{goes_on, SomeTurn}
 use Rattle.jam_laws.proofs.Judged.{goes, goes-answer}
 use Rattle.jam_laws.proofs.Walk.{is_onward, BusGoes, SomeGoes, SomeGoesAmong}
 
@@ -53,7 +53,7 @@ same-test a b = by (nat_eq a b) refl where
   by true e = sym (eq-eqb b a (sym (eqb-true a b e)))
   by false e = sym (ne_eqb b a (λ same. true≢false (sym (eq-eqb a b (sym same)) ∙ e)))
 
-or-first : (a b : Bool) → a ≡ true → (a || b) ≡ true
+pub or-first : (a b : Bool) → a ≡ true → (a || b) ≡ true
 or-first true b e = refl
 or-first false b e = cc
 
@@ -72,7 +72,7 @@ module _ (k : ℕ) where
     number-behind_among (more_nodes m ns) rest there = number-behind m _ (number-behind_among ns rest there)
 
   mutual
-    number-in : (m : Node) (rest : List ℕ) → has_node name m ≡ true → list_any (nat_eq k) (buses_of (skeleton m) rest) ≡ true
+    pub number-in : (m : Node) (rest : List ℕ) → has_node name m ≡ true → list_any (nat_eq k) (buses_of (skeleton m) rest) ≡ true
     number-in (leaf_node v) rest has = absurd (true≢false (sym has))
     number-in (dir_node d ns) rest has = by (nat_eq d.bus k) refl has (λ below. number-in_among ns rest below) where
       by : (b : Bool) → nat_eq d.bus k ≡ b → (b || has_among name ns) ≡ true → (has_among name ns ≡ true → list_any (nat_eq k) (buses_among (skeletons ns) rest) ≡ true) → list_any (nat_eq k) (buses_of (skeleton (dir_node d ns)) rest) ≡ true
@@ -152,10 +152,6 @@ mutual
       record { place = r.place; parent = r.parent; kids = r.kids; on = r.on; has = rw other r.has; stands = rw other r.stands }
 
 -- ---- the turn
-
--- it is granted, or a list is full
-abbrev pub goes_on : TurnAnswer → Bool
-goes_on a = is_granted a || finds_list_full a
 
 abbrev turn_on : ℕ → BusTurn → Turn
 turn_on bus BusTurn.Down = Turn.Down bus

@@ -17,6 +17,7 @@ use Rattle.tree_model.specs.State.Leaf.{leaf_replies_full}
 use Rattle.tree_model.specs.State.Directory.{dir_hold, is_answering, down_full, requests_full, replies_full}
 use Rattle.tree_model.specs.State.Child.{child_replies}
 use Rattle.tree_model.specs.State.Place.{Where, at_top, at_child, stamp_above, where_path, spot_in, key_at_leaf}
+use Rattle.tree_model.specs.State.Shape.{skeleton, skeletons}
 use Rattle.tree_model.specs.Turns.Bus.{bus_judged, bus_step}
 use Rattle.tree_model.specs.Turns.HartTurn.{Deed, has_halted, waits_for, halts, completes, fetches, upgrades, finds_buffer_full, deed_of, answer_of_deed, leaf_step}
 use Rattle.tree_model.specs.Turns.Tree.{is_named, has_node, read_in, read_among}
@@ -52,7 +53,7 @@ module _ (n : ℕ) where
       let room : 8 * n ≤ d.sizes.down_room = leb-true _ _ large in
       less-not-full _ _ (omega (arith, short, room, some))
 
-  dir-room : (d : DirValue) (ns : Nodes) → IsBusOk n d (children ns) → AreTreesOk n ns → length d.replies ≤ n → lists_have (8 * n) (dir_node d ns) ≡ true → 0 < n → HasPlace (dir_node d ns) × HasOwnPlace n d
+  dir-room : (d : DirValue) (ns : Nodes) → IsBusOk n d (children ns) → AreTreesOk n ns → length d.replies ≤ n → lists_have (8 * n) (skeleton (dir_node d ns)) ≡ true → 0 < n → HasPlace (dir_node d ns) × HasOwnPlace n d
   dir-room d ns bus kids short large some =
       let a = and_parts (nat_le (8 * n) d.sizes.down_room) _ large in
       let b = and_parts (nat_le (8 * n) d.sizes.request_room) _ a.1 in
@@ -67,15 +68,15 @@ module _ (n : ℕ) where
         replies = λ x within answering. less-not-full _ _ (omega (arith, short, reply_room, some));
       })
 
-  child-room : (m : Node) → IsTreeOk n m → length (child_replies m) ≤ n → lists_have (8 * n) m ≡ true → ChildRoom n m
+  child-room : (m : Node) → IsTreeOk n m → length (child_replies m) ≤ n → lists_have (8 * n) (skeleton m) ≡ true → ChildRoom n m
   unfolding ChildRoom
   child-room (leaf_node v) ok short large = leaf-room v short large
   child-room (dir_node d ns) ok short large = dir-room d ns ok.0 ok.1 short large
 
-  kids-room : (ns : Nodes) → AreTreesOk n ns → AllByRecursion (λ m. length (child_replies m) ≤ n) (children ns) → lists_have_among (8 * n) ns ≡ true → AllByRecursion (ChildRoom n) (children ns)
+  kids-room : (ns : Nodes) → AreTreesOk n ns → AllByRecursion (λ m. length (child_replies m) ≤ n) (children ns) → lists_have_among (8 * n) (skeletons ns) ≡ true → AllByRecursion (ChildRoom n) (children ns)
   kids-room no_nodes ok short large = tt
   kids-room (more_nodes m ns) ok short large =
-      let parts = and_parts (lists_have (8 * n) m) _ large in
+      let parts = and_parts (lists_have (8 * n) (skeleton m)) _ large in
       (child-room m ok.0 short.0 parts.0, kids-room ns ok.1 short.1 parts.1)
 
   places : (ns : Nodes) → AllByRecursion (ChildRoom n) (children ns) → 0 < n → AllByRecursion HasPlace (children ns)
@@ -112,7 +113,7 @@ module _ (m : MachineValue) (t : Turn) (n : ℕ) where
   read = answer_here m.code m.items t
 
   -- a bus: its own turn, or one below
-  dir-finds : (w : Where) (d : DirValue) (ns : Nodes) → IsTreeOk n (dir_node d ns) → lists_have_among (8 * n) ns ≡ true → (0 < n → HasOwnPlace n d) → (AllByRecursion (ChildRoom n) (children ns) → finds (read_among (named_by t) read (where_path w) d 0 ns) ≡ false) → finds (read_in (named_by t) read w (dir_node d ns)) ≡ false
+  dir-finds : (w : Where) (d : DirValue) (ns : Nodes) → IsTreeOk n (dir_node d ns) → lists_have_among (8 * n) (skeletons ns) ≡ true → (0 < n → HasOwnPlace n d) → (AllByRecursion (ChildRoom n) (children ns) → finds (read_among (named_by t) read (where_path w) d 0 ns) ≡ false) → finds (read_in (named_by t) read w (dir_node d ns)) ≡ false
   dir-finds w d ns ok large own below = by (is_named (named_by t) (dir_node d ns)) refl where
     rooms : AllByRecursion (ChildRoom n) (children ns)
     rooms = kids-room n ns ok.1 (lists-short n d (children ns) ok.0 (children-ok n ns ok.1)).replies large
@@ -123,7 +124,7 @@ module _ (m : MachineValue) (t : Turn) (n : ℕ) where
 
   mutual
     unfolding ChildRoom
-    child-finds : (w : Where) (k : Node) → IsTreeOk n k → lists_have (8 * n) k ≡ true → ChildRoom n k → finds (read_in (named_by t) read w k) ≡ false
+    child-finds : (w : Where) (k : Node) → IsTreeOk n k → lists_have (8 * n) (skeleton k) ≡ true → ChildRoom n k → finds (read_in (named_by t) read w k) ≡ false
     child-finds w (leaf_node v) ok large room = by (is_named (named_by t) (leaf_node v)) refl where
       by : (b : Bool) → is_named (named_by t) (leaf_node v) ≡ b → finds (read_in (named_by t) read w (leaf_node v)) ≡ false
       by true is = rw is (leaf-finds m.code m.items (key_at_leaf w v.done) (victim_of t) v)
@@ -134,10 +135,10 @@ module _ (m : MachineValue) (t : Turn) (n : ℕ) where
         let c = and_parts (nat_le (8 * n) d.sizes.reply_room) _ b.1 in
         dir-finds w d ns ok c.1 (λ some. (room some).1) (λ rooms. among-finds (where_path w) d 0 ns ok.1 c.1 rooms)
 
-    among-finds : (path : List ℕ) (d : DirValue) (i : ℕ) (ns : Nodes) → AreTreesOk n ns → lists_have_among (8 * n) ns ≡ true → AllByRecursion (ChildRoom n) (children ns) → finds (read_among (named_by t) read path d i ns) ≡ false
+    among-finds : (path : List ℕ) (d : DirValue) (i : ℕ) (ns : Nodes) → AreTreesOk n ns → lists_have_among (8 * n) (skeletons ns) ≡ true → AllByRecursion (ChildRoom n) (children ns) → finds (read_among (named_by t) read path d i ns) ≡ false
     among-finds path d i no_nodes ok large rooms = refl
     among-finds path d i (more_nodes k ns) ok large rooms =
-        let parts = and_parts (lists_have (8 * n) k) _ large in
+        let parts = and_parts (lists_have (8 * n) (skeleton k)) _ large in
         by (has_node (named_by t) k) refl (child-finds (at_child (spot_in path d i)) k ok.0 parts.0 rooms.0) (among-finds path d (i + 1) ns ok.1 parts.1 rooms.1) where
           by : (b : Bool) → has_node (named_by t) k ≡ b → finds (read_in (named_by t) read (at_child (spot_in path d i)) k) ≡ false → finds (read_among (named_by t) read path d (i + 1) ns) ≡ false → finds (read_among (named_by t) read path d i (more_nodes k ns)) ≡ false
           by true is first later = rw is first
@@ -165,7 +166,7 @@ top-place m ok down = record {
 pub never-full : (m : MachineValue) → IsMachineOk m → has_large_lists m ≡ true → (t : Turn) → finds_list_full (turn_of t m).answer ≡ false
 unfolding turn_of
 never-full m ok large t = answered (turn_answer t m) refl tree where
-  parts : (nat_le (8 * items_of_machine m) m.top.sizes.down_room ≡ true) × (lists_have_among (8 * items_of_machine m) m.kids ≡ true)
+  parts : (nat_le (8 * items_of_machine m) m.top.sizes.down_room ≡ true) × (lists_have_among (8 * items_of_machine m) (skeletons m.kids) ≡ true)
   parts = and_parts (nat_le (8 * items_of_machine m) m.top.sizes.down_room) _ large
 
   own : 0 < items_of_machine m → HasOwnPlace (items_of_machine m) m.top

@@ -1,15 +1,16 @@
 -- Whether a leaf waits, whether the lists have room, and which turn of a bus would be granted.
 -- Letters: m is a machine, v a leaf, d a directory over the children ns, t a turn.
 -- To be believed with the laws: it is what they speak of.
-use Rattle.std.specs.Prelude.{◌≡◌, ℕ, ◌*◌, ◌≤◌, Bool, true, false, ◌&&◌, nat_le, List, ◌∷◌, ◌++◌, length, map, find, Option, Some, None, is_some, unwrap_or, if◌then◌else◌}
+use Rattle.std.specs.Prelude.{◌≡◌, ℕ, ◌*◌, ◌≤◌, Bool, true, false, ◌&&◌, ◌||◌, nat_le, List, ◌∷◌, ◌++◌, length, map, find, Option, Some, None, is_some, unwrap_or, if◌then◌else◌}
 use Rattle.std.specs.List.{AllByRecursion, list_any, flat_map, range_with_len}
 use Rattle.ddm_types.specs.declared.answers.BusyCause.{BusyCause}
 use Rattle.ddm_types.specs.declared.answers.TurnAnswer.{TurnAnswer}
+use Rattle.ddm_types.specs.declared.sizes.TreeSizes.{TreeSizes}
 use Rattle.ddm_types.specs.declared.turns.Turn.{Turn}
-use Rattle.tree_model.specs.State.Values.{LeafValue, DirValue, Node, Nodes, leaf_node, dir_node, no_nodes, more_nodes, MachineValue}
+use Rattle.tree_model.specs.State.Values.{LeafValue, DirValue, Node, MachineValue}
 use Rattle.tree_model.specs.State.Leaf.{waiting_item}
 use Rattle.tree_model.specs.State.Child.{child_replies}
-use Rattle.tree_model.specs.State.Shape.{tree_counts}
+use Rattle.tree_model.specs.State.Shape.{Skeleton, Skeletons, leaf_bone, dir_bone, no_bones, more_bones, skeletons, tree_counts}
 use Rattle.tree_model.specs.Turns.Machine.{turn_of, child_count, names_part, machine_leaves}
 use Rattle.tree_rules.specs.Bus.Rules.{items_of_machine}
 
@@ -24,20 +25,24 @@ some_leaf_waits m = list_any leaf_is_waiting (machine_leaves m)
 
 -- ---- room
 
--- each list of the node and of what is below it has so many places
+-- each list of a leaf or a directory, and of what is below it, has so many places
 abbrev mutual
-  pub lists_have : ℕ → Node → Bool
-  lists_have places (leaf_node v) = nat_le places v.sizes.reply_room
-  lists_have places (dir_node d ns) =
-      nat_le places d.sizes.down_room && (nat_le places d.sizes.request_room && (nat_le places d.sizes.reply_room && lists_have_among places ns))
+  pub lists_have : ℕ → Skeleton → Bool
+  lists_have places (leaf_bone number sizes) = nat_le places sizes.reply_room
+  lists_have places (dir_bone bus level sizes bones) =
+      nat_le places sizes.down_room && (nat_le places sizes.request_room && (nat_le places sizes.reply_room && lists_have_among places bones))
 
-  pub lists_have_among : ℕ → Nodes → Bool
-  lists_have_among places no_nodes = true
-  lists_have_among places (more_nodes n ns) = lists_have places n && lists_have_among places ns
+  pub lists_have_among : ℕ → Skeletons → Bool
+  lists_have_among places no_bones = true
+  lists_have_among places (more_bones b bs) = lists_have places b && lists_have_among places bs
 
 -- each list has at least eight places for each item; the top sends nothing, and has a down list alone
 abbrev pub has_large_lists : MachineValue → Bool
-has_large_lists m = nat_le (8 * items_of_machine m) m.top.sizes.down_room && lists_have_among (8 * items_of_machine m) m.kids
+has_large_lists m = nat_le (8 * items_of_machine m) m.top.sizes.down_room && lists_have_among (8 * items_of_machine m) (skeletons m.kids)
+
+-- the same of a tree for so many items
+abbrev pub sizes_are_large : TreeSizes → ℕ → Bool
+sizes_are_large s items = nat_le (8 * items) s.down && (nat_le (8 * items) s.requests && nat_le (8 * items) s.replies)
 
 -- ---- how long lists get
 
@@ -57,6 +62,10 @@ is_granted _ = false
 abbrev pub finds_list_full : TurnAnswer → Bool
 finds_list_full (TurnAnswer.Busy (BusyCause.QueueFull list)) = true
 finds_list_full _ = false
+
+-- one of the two
+abbrev pub goes_on : TurnAnswer → Bool
+goes_on a = is_granted a || finds_list_full a
 
 abbrev pub would_grant : MachineValue → Turn → Bool
 would_grant m t = is_granted (turn_of t m).answer
@@ -93,3 +102,14 @@ pub record SomeTurn (m : MachineValue) (passes : TurnAnswer → Bool) : Type 0 w
   pub kind : goes_on_with turn ≡ true
   pub names : names_part turn m ≡ true
   pub answer : passes (turn_of turn m).answer ≡ true
+
+-- none of these turns would be granted, and then this one is
+pub record IsFirstGranted (m : MachineValue) (t : Turn) : Type 0 where
+  pub before : List Turn
+  pub behind : List Turn
+  pub order : bus_turns m ≡ before ++ t ∷ behind
+  pub refused : list_any (would_grant m) before ≡ false
+  pub granted : would_grant m t ≡ true
+  -- it is a Down, Reply or Request turn of a bus and a child of the machine's tree
+  pub kind : goes_on_with t ≡ true
+  pub names : names_part t m ≡ true
