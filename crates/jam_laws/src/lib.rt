@@ -1,4 +1,6 @@
-//! A machine of buses with large lists never jams. Theorems alone: there is nothing to run.
+//! Why a machine of buses with large lists never jams: wherever a leaf waits, some bus goes on. Theorems alone: there is nothing
+//! to run.
 #![tactic(auto)]
 
+pub mod examples;
 pub mod laws;
