@@ -1,11 +1,11 @@
 -- A child that asks, or whose request was granted: its request goes on, or the item is under way on the bus.
 -- Letters: x is the item, p the parent, ns its children, c a child number.
-use Rattle.std.proofs.Common.{◌≡◌, ◌≢◌, ℕ, ◌<◌, Bool, true, false, ◌⊎◌, inl, inr, List, [], ◌∷◌, length, Option, Some, None, refl, sym, ap, subst, ◌∙◌, arith}
+use Rattle.std.proofs.Common.{◌≡◌, ℕ, ◌<◌, Bool, true, false, ◌⊎◌, inl, inr, List, [], ◌∷◌, length, Option, Some, None, refl, sym, ap, subst, ◌∙◌}
 use Rattle.std.specs.Prelude.{not, ◌&&◌, ◌||◌, nat_eq, filter, map}
 use Rattle.std.specs.List.{AllByRecursion, list_all}
 use native.Mathlib.Decide.{ℕ_discrete}
 use Rattle.std.specs.Cmp.Derive.{both_true}
-use Rattle.std.proofs.lemmas.Bool.{and_parts, ne_eqb, not-true, true≢false}
+use Rattle.std.proofs.lemmas.Bool.{ne_eqb, true≢false}
 use Rattle.ddm_types.specs.declared.answers.PendingWhy.{PendingWhy}
 use Rattle.ddm_types.specs.declared.answers.TxKind.{TxKind}
 use Rattle.ddm_types.specs.declared.answers.TxKind.TheVariants.{ReadTx, DataTx, EraseTx, ExclusiveTx, InjectTx, OutTx}
@@ -13,9 +13,9 @@ use Rattle.ddm_types.specs.declared.sizes.Hold.{Hold}
 use Rattle.ddm_types.specs.declared.sizes.LeafState.{LeafState}
 use Rattle.ddm_types.specs.declared.keys.Stamp.{Stamp}
 use Rattle.tree_model.specs.State.Lists.{has_some, first_of, find_from, names_item}
-use Rattle.tree_model.specs.State.Kinds.{has_kind, goes_up}
-use Rattle.tree_model.specs.State.States.{is_held, is_shared, is_exclusive}
-use Rattle.tree_model.specs.State.Values.{RequestValue, DownValue, LeafValue, Note, no_note, local, up_read, up_erase, DirValue, Node, Nodes, leaf_node, dir_node, children}
+use Rattle.tree_model.specs.State.Kinds.{goes_up}
+use Rattle.tree_model.specs.State.States.{is_held}
+use Rattle.tree_model.specs.State.Values.{RequestValue, DownValue, LeafValue, Note, no_note, local, up_read, up_erase, DirValue, Node, leaf_node, dir_node, children}
 use Rattle.tree_model.specs.State.Leaf.{state_at}
 use Rattle.tree_model.specs.State.Directory.{dir_hold, dir_note, is_answering, is_local, is_up_read, is_up_erase, is_reader, is_eraser, parked_words, pending, pending_by, note_why, in_down, entry_item, entry_kind, queue_of}
 use Rattle.tree_model.specs.State.Child.{child_request, child_holds}
@@ -34,9 +34,8 @@ use Rattle.bus_laws.proofs.States.{each_state, state-at}
 use Rattle.bus_laws.proofs.ItemLists.{kinds-first}
 use Rattle.bus_laws.proofs.DirParts.{dir-parts, lt-fact, is_no_note}
 use Rattle.bus_laws.proofs.Lists.{pass-first}
-use Rattle.bus_laws.proofs.DirGives.{IsQuiet, quiet-from_pending}
+use Rattle.bus_laws.proofs.DirGives.{quiet-from_pending}
 use Rattle.bus_laws.proofs.Calls.{IsGranted, child-read-taken, child-erase-taken}
-use Rattle.bus_laws.proofs.OneChild.{asks-there}
 use Rattle.bus_laws.proofs.Answering.{child-hold}
 use Rattle.bus_laws.proofs.RowFrame.{all-kids_at}
 use Rattle.bus_laws.proofs.Before.{not-reads, not-erases}

@@ -1,18 +1,17 @@
 -- The first turn of a machine that would be granted: there is one where some turn would be.
 -- Letters: m is a machine, t a turn.
-use Rattle.std.proofs.Common.{◌≡◌, ◌≢◌, ℕ, zero, suc, ◌+◌, ◌<◌, ◌≤◌, Bool, true, false, List, [], ◌∷◌, ◌++◌, length, map, Option, Some, None, refl, sym, ap, subst, ◌∙◌, arith, append_assoc}
-use Rattle.std.specs.Prelude.{not, ◌&&◌, ◌||◌, nat_eq, nat_lt, find, is_some, unwrap_or}
+use Rattle.std.proofs.Common.{◌≡◌, ◌≢◌, ℕ, zero, suc, ◌+◌, ◌<◌, ◌≤◌, Bool, true, false, List, [], ◌∷◌, ◌++◌, length, map, Option, Some, None, refl, sym, ap, subst, ◌∙◌, arith}
+use Rattle.std.specs.Prelude.{◌||◌, nat_eq, nat_lt, find, is_some, unwrap_or}
 use Rattle.std.specs.List.{AllByRecursion, list_any, flat_map, range_with_len}
 use native.Mathlib.Decide.{ℕ_discrete}
 use Rattle.std.proofs.lemmas.Bool.{and_parts, or_right, eqb-true, lt-ltb, ltb-true, true≢false}
 use Rattle.std.proofs.lemmas.List.Concat.{flat_map-cons}
-use Rattle.ddm_types.specs.declared.answers.TurnAnswer.{TurnAnswer}
 use Rattle.ddm_types.specs.declared.turns.Turn.{Turn}
-use Rattle.tree_model.specs.State.Values.{Node, MachineValue, root_of}
+use Rattle.tree_model.specs.State.Values.{MachineValue, root_of}
 use Rattle.tree_model.specs.State.Place.{at_top}
 use Rattle.tree_model.specs.State.Shape.{IsShaped, skeleton, buses_of, are_below, tree_counts, traffic_counted}
 use Rattle.tree_model.specs.Turns.Tree.{bus_of_number, has_node, of_dir}
-use Rattle.tree_model.specs.Turns.Machine.{named_by, turn_of, child_count, names_part, is_child_of}
+use Rattle.tree_model.specs.Turns.Machine.{named_by, child_count, names_part, is_child_of}
 use Rattle.tree_model.proofs.NamedNode.{read_in-is_some}
 use Rattle.tree_model.proofs.TurnChanges.{turn-changes_nothing}
 use Rattle.jam_laws.specs.GoesOn.{is_granted, would_grant, turns_of_bus, bus_turns, first_granted, goes_on_with, SomeTurn, IsFirstGranted}
@@ -162,11 +161,12 @@ module _ (m : MachineValue) where
   bus-turns_of : (bus : ℕ) → AllByRecursion IsTurnOf (turns_of_bus bus (unwrap_or (child_count bus m) 0))
   unfolding IsTurnOf
   bus-turns_of bus =
-      let count = unwrap_or (child_count bus m) 0 in
-      ((refl, λ granted. read_in-is_some (bus_of_number bus) (of_dir (λ w d ns. length ns) 0) at_top (root_of m) ∙ granted-there (Turn.Down bus) granted),
+      let count = unwrap_or (child_count bus m) 0 in (
+        (refl, λ granted. read_in-is_some (bus_of_number bus) (of_dir (λ w d ns. length ns) 0) at_top (root_of m) ∙ granted-there (Turn.Down bus) granted),
         each-append IsTurnOf (map (Turn.Reply bus) (range_with_len 0 count)) (map (Turn.Request bus) (range_with_len 0 count))
-        (each-range IsTurnOf (Turn.Reply bus) 0 count (λ c l. (refl, λ granted. child-named c (child_count bus m) (omega (arith, l)))))
-        (each-range IsTurnOf (Turn.Request bus) 0 count (λ c l. (refl, λ granted. child-named c (child_count bus m) (omega (arith, l))))))
+            (each-range IsTurnOf (Turn.Reply bus) 0 count (λ c l. (refl, λ granted. child-named c (child_count bus m) (omega (arith, l)))))
+            (each-range IsTurnOf (Turn.Request bus) 0 count (λ c l. (refl, λ granted. child-named c (child_count bus m) (omega (arith, l))))),
+      )
 
   pub first-is : (t : Turn) → first_granted m ≡ Some t → IsFirstGranted m t
   unfolding IsTurnOf

@@ -1,47 +1,40 @@
 -- Which turns of one bus go on. Each is granted but where a list that needs a place is full.
 -- Letters: x is the item, p the parent, q the parent after its first entry was taken, ns the children, c a child number.
-use Rattle.std.proofs.Common.{◌≡◌, ◌≢◌, ℕ, zero, suc, ◌+◌, ◌<◌, ◌≤◌, Bool, true, false, ◌⊎◌, inl, inr, List, [], ◌∷◌, length, Option, Some, None, refl, sym, ap, subst, ◌∙◌, arith}
-use Rattle.std.specs.Prelude.{not, ◌&&◌, ◌||◌, nat_eq, nat_lt, is_some}
+use Rattle.std.proofs.Common.{◌≡◌, ◌≢◌, ℕ, zero, suc, ◌+◌, ◌<◌, ◌≤◌, Bool, true, false, List, [], ◌∷◌, length, Option, Some, None, refl, sym, ap, subst, ◌∙◌, arith}
+use Rattle.std.specs.Prelude.{not, ◌&&◌, ◌||◌, nat_eq, nat_lt}
 use Rattle.std.specs.List.{AllByRecursion, list_any, list_all, range_with_len}
 use native.Mathlib.Decide.{ℕ_discrete}
-use Rattle.std.specs.Cmp.Derive.{both_true}
 use Rattle.std.proofs.Math.Bool.{and-false}
 use Rattle.std.proofs.lemmas.Bool.{and_parts, eqb-true, eq-eqb, ne_eqb, not-true, true≢false}
-use Rattle.ddm_types.specs.declared.answers.PendingWhy.{PendingWhy}
 use Rattle.ddm_types.specs.declared.answers.TxKind.{TxKind}
 use Rattle.ddm_types.specs.declared.answers.TxKind.TheVariants.{ReadTx, DataTx, EraseTx, ExclusiveTx, InjectTx, OutTx}
-use Rattle.ddm_types.specs.declared.sizes.Hold.{Hold}
 use Rattle.ddm_types.specs.declared.keys.Stamp.{Stamp}
 use Rattle.tree_model.specs.State.Lists.{first_of, has_some, find_from}
-use Rattle.tree_model.specs.State.States.{is_held, is_exclusive}
-use Rattle.tree_model.specs.State.Values.{RequestValue, CopyValue, DownValue, Note, no_note, local, up_read, up_erase, DirValue, Node, leaf_node, dir_node}
+use Rattle.tree_model.specs.State.States.{is_held}
+use Rattle.tree_model.specs.State.Values.{CopyValue, DownValue, Note, no_note, local, up_read, up_erase, DirValue, Node, leaf_node, dir_node}
 use Rattle.tree_model.specs.State.Leaf.{words_of_item}
-use Rattle.tree_model.specs.State.Directory.{dir_hold, dir_note, is_answering, is_local, is_up_read, is_up_erase, is_reader, is_parked, parked_words, pending, front_taken, queue_kinds}
-use Rattle.tree_model.specs.State.Child.{child_request, child_reply, child_holds, reader_has_place}
+use Rattle.tree_model.specs.State.Directory.{dir_note, is_answering, is_local, is_up_read, is_up_erase, is_reader, is_parked, parked_words, front_taken, queue_kinds}
+use Rattle.tree_model.specs.State.Child.{child_reply, child_holds, reader_has_place}
 use Rattle.tree_model.specs.State.Blank.{no_node}
-use Rattle.tree_model.specs.Turns.Grant.{Judged}
-use Rattle.tree_model.specs.Turns.Children.{child_at, holds_item, other_holds}
-use Rattle.tree_model.specs.Turns.RequestRead.{read_held, read_granted, read_unless_pending, request_read}
-use Rattle.tree_model.specs.Turns.RequestErase.{request_erase}
+use Rattle.tree_model.specs.Turns.Children.{child_at, holds_item}
 use Rattle.tree_model.specs.Turns.Reply.{reply_answering, reply_by_note}
-use Rattle.tree_model.specs.Turns.Down.{down_exclusive, down_read, down_data, inject_to_parking, inject_to_taker, inject_to_only_reader, inject_to_read, inject_taker, down_inject, down_by_kind, down_by_note, down_turn}
-use Rattle.tree_model.specs.Turns.Bus.{request_turn, reply_turn}
+use Rattle.tree_model.specs.Turns.Down.{down_exclusive, down_read, down_data, inject_to_parking, inject_to_taker, inject_to_read, inject_taker, down_inject, down_by_kind, down_by_note, down_turn}
+use Rattle.tree_model.specs.Turns.Bus.{reply_turn}
 use Rattle.tree_model.proofs.Children.{none-passes}
-use Rattle.tree_rules.specs.Bus.Faces.{ParentFace, ChildFace, parent_face, face_reads, child_face, faces_of}
+use Rattle.tree_rules.specs.Bus.Faces.{ParentFace, parent_face, child_face, faces_of}
 use Rattle.tree_rules.specs.Bus.Own.{note_fits}
-use Rattle.tree_rules.specs.Bus.Item.{implies, holds_it, gives_none, asked_below, Bits, bits_of, kept_place}
+use Rattle.tree_rules.specs.Bus.Item.{implies, holds_it, gives_none, Bits, bits_of, kept_place}
 use Rattle.tree_rules.specs.Bus.Rules.{IsBusOk, IsChildOk, kept_places}
 use Rattle.tree_rules.proofs.Implying.{implies-use}
 use Rattle.bus_laws.proofs.States.{each_state, state-at}
 use Rattle.bus_laws.proofs.BitsOf.{any-false, all-at}
 use Rattle.bus_laws.proofs.ItemLists.{queue-front}
 use Rattle.bus_laws.proofs.DirParts.{dir-parts, note-at, lt-fact, starts_with, is_no_note}
-use Rattle.bus_laws.proofs.DirGives.{IsQuiet, quiet-from_pending}
-use Rattle.bus_laws.proofs.Calls.{child-read-taken, child-erase-taken, child-reply-taken}
-use Rattle.bus_laws.proofs.OneChild.{asks-there, replies-there}
+use Rattle.bus_laws.proofs.Calls.{child-reply-taken}
+use Rattle.bus_laws.proofs.OneChild.{replies-there}
 use Rattle.bus_laws.proofs.Answering.{child-hold}
 use Rattle.bus_laws.proofs.RowFrame.{all-kids_at}
-use Rattle.bus_laws.proofs.Before.{reader-at, entry-known, entry-starts}
+use Rattle.bus_laws.proofs.Before.{reader-at, entry-known}
 use Rattle.jam_laws.proofs.Judged.{goes, unless_full-goes}
 
 -- ---- what the rules of an item say, computed at each state that they leave

@@ -8,12 +8,12 @@ use Rattle.std.proofs.lemmas.Bool.{and_parts}
 use Rattle.ddm_types.specs.declared.turns.Turn.{Turn}
 use Rattle.ddm_types.specs.ItemTable.{item_count}
 use Rattle.tree_model.specs.State.Lists.{map_from}
-use Rattle.tree_model.specs.State.Values.{LeafSizes, LeafValue, DirSizes, Node, leaf_node, dir_node, nodes, MachineValue, root_of}
-use Rattle.tree_model.specs.State.Shape.{Skeleton, Skeletons, leaf_bone, dir_bone, skeleton, skeletons, Frame, frame_of}
+use Rattle.tree_model.specs.State.Values.{LeafValue, DirSizes, Node, leaf_node, nodes, MachineValue}
+use Rattle.tree_model.specs.State.Shape.{Skeleton, leaf_bone, dir_bone, skeleton, skeletons, Frame}
 use Rattle.tree_model.specs.Turns.Machine.{turn_of, run_of}
 use Rattle.tree_model.specs.Start.Sources.{TreeValue, ImageValue, width_of, leaf_count}
 use Rattle.tree_model.specs.Start.Memory.{start_items, start_words}
-use Rattle.tree_model.specs.Start.Nodes.{leaf_sizes, dir_sizes, leaf_for, placed, placed_at, placed_in, placed_items, cut_in, dir_over, dirs_over, under_levels}
+use Rattle.tree_model.specs.Start.Nodes.{dir_sizes, leaf_for, placed, placed_at, placed_in, placed_items, cut_in, dir_over, dirs_over, under_levels}
 use Rattle.tree_model.specs.Start.Machine.{StartRefusal, start_leaf, start_leaves, start_machine, start_refusal, start_or, start_of}
 use Rattle.tree_model.proofs.FrameKept.{turn-frame, run-frame}
 use Rattle.tree_rules.specs.Bus.Rules.{items_of_machine}

@@ -1,18 +1,17 @@
 -- A bus of the tree that goes on is the one that a turn with its number names, since no two buses have one number.
 -- Letters: m is a node and w where it stands, d a directory over the nodes ns, k a number of a bus.
-use Rattle.std.proofs.Common.{◌≡◌, ◌≢◌, ℕ, ◌+◌, ◌<◌, Bool, true, false, ◌⊎◌, inl, inr, List, [], ◌∷◌, length, Option, Some, None, refl, sym, ap, subst, ◌∙◌, arith}
-use Rattle.std.specs.Prelude.{not, ◌&&◌, ◌||◌, is_some, nat_eq, nat_lt, option_map}
+use Rattle.std.proofs.Common.{◌≡◌, ℕ, ◌+◌, Bool, true, false, inl, inr, List, [], length, Some, refl, sym, ap, subst, ◌∙◌}
+use Rattle.std.specs.Prelude.{not, ◌||◌, is_some, nat_eq, option_map}
 use Rattle.std.specs.List.{list_any}
-use Rattle.std.proofs.lemmas.Bool.{and_parts, eqb-true, eq-eqb, ne_eqb, ltb-true, not-true, or_right, true≢false}
-use Rattle.ddm_types.specs.declared.answers.TurnAnswer.{TurnAnswer}
+use Rattle.std.proofs.lemmas.Bool.{and_parts, eqb-true, eq-eqb, ne_eqb, not-true, or_right, true≢false}
 use Rattle.ddm_types.specs.declared.turns.Turn.{Turn}
 use Rattle.tree_model.specs.declared.BusTurn.{BusTurn}
 use Rattle.tree_model.specs.State.Values.{DirValue, Node, Nodes, leaf_node, dir_node, no_nodes, more_nodes, children, MachineValue, root_of}
 use Rattle.tree_model.specs.State.Place.{Where, at_top, at_child, stamp_above, where_path, spot_in}
-use Rattle.tree_model.specs.State.Shape.{IsShaped, skeleton, skeletons, buses_of, buses_among, are_distinct, are_below, tree_counts, buses_differ, traffic_counted}
+use Rattle.tree_model.specs.State.Shape.{IsShaped, skeleton, skeletons, buses_of, buses_among, are_distinct, buses_differ}
 use Rattle.tree_model.specs.Turns.Bus.{bus_judged, bus_step}
 use Rattle.tree_model.specs.Turns.Tree.{Name, bus_of_number, is_named, has_node, has_among, read_in, read_among, of_dir}
-use Rattle.tree_model.specs.Turns.Machine.{named_by, bus_turn_of, answer_here, turn_of, child_count, names_part, is_child_of}
+use Rattle.tree_model.specs.Turns.Machine.{named_by, bus_turn_of, answer_here, turn_of, child_count, is_child_of}
 use Rattle.tree_model.proofs.TurnChanges.{turn-answered}
 use Rattle.jam_laws.specs.GoesOn.{goes_on, SomeTurn}
 use Rattle.jam_laws.proofs.Judged.{goes, goes-answer}

@@ -1,7 +1,7 @@
 -- On a machine with large lists no turn finds a list full.
 -- Letters: n is how many items there are, m a node and w where it stands, d a directory over the nodes ns.
-use Rattle.std.proofs.Common.{◌≡◌, ℕ, zero, suc, ◌+◌, ◌*◌, ◌<◌, ◌≤◌, Bool, true, false, List, [], ◌∷◌, length, Option, Some, None, refl, sym, ap, subst, ◌∙◌, arith}
-use Rattle.std.specs.Prelude.{not, ◌&&◌, nat_le, slice_index_or}
+use Rattle.std.proofs.Common.{◌≡◌, ℕ, zero, suc, ◌+◌, ◌*◌, ◌<◌, ◌≤◌, Bool, true, false, List, [], ◌∷◌, length, Option, Some, None, refl, sym, subst, ◌∙◌, arith}
+use Rattle.std.specs.Prelude.{not, nat_le, slice_index_or}
 use Rattle.std.specs.List.{AllByRecursion, list_all}
 use Rattle.std.proofs.lemmas.Bool.{and_parts, leb-true, not-true, true≢false, false_from_ne_true}
 use Rattle.ddm_types.specs.declared.answers.TurnAnswer.{TurnAnswer}
@@ -12,9 +12,9 @@ use Rattle.ddm_types.specs.CodeMap.{CodeWord}
 use Rattle.ddm_types.specs.ItemTable.{ItemTable}
 use Rattle.tree_model.specs.declared.BusTurn.{BusTurn}
 use Rattle.tree_model.specs.State.States.{is_exclusive}
-use Rattle.tree_model.specs.State.Values.{DirItem, absent_item, LeafValue, DirValue, Node, Nodes, leaf_node, dir_node, no_nodes, more_nodes, children, MachineValue, root_of}
+use Rattle.tree_model.specs.State.Values.{absent_item, LeafValue, DirValue, Node, Nodes, leaf_node, dir_node, no_nodes, more_nodes, children, MachineValue}
 use Rattle.tree_model.specs.State.Leaf.{leaf_replies_full}
-use Rattle.tree_model.specs.State.Directory.{dir_hold, is_answering, down_full, requests_full, replies_full}
+use Rattle.tree_model.specs.State.Directory.{dir_hold, is_answering, down_full}
 use Rattle.tree_model.specs.State.Child.{child_replies}
 use Rattle.tree_model.specs.State.Place.{Where, at_top, at_child, stamp_above, where_path, spot_in, key_at_leaf}
 use Rattle.tree_model.specs.State.Shape.{skeleton, skeletons}
@@ -23,10 +23,10 @@ use Rattle.tree_model.specs.Turns.HartTurn.{Deed, has_halted, waits_for, halts, 
 use Rattle.tree_model.specs.Turns.Tree.{is_named, has_node, read_in, read_among}
 use Rattle.tree_model.specs.Turns.Machine.{named_by, bus_turn_of, victim_of, answer_here, turn_answer, turned_by, turn_root, turn_of}
 use Rattle.tree_rules.specs.Bus.Own.{top_item, top_items}
-use Rattle.tree_rules.specs.Bus.Rules.{IsBusOk, IsChildOk, IsTreeOk, AreTreesOk, IsMachineOk, items_of_machine}
+use Rattle.tree_rules.specs.Bus.Rules.{IsBusOk, IsTreeOk, AreTreesOk, IsMachineOk, items_of_machine}
 use Rattle.bus_laws.proofs.DirParts.{dir-parts}
-use Rattle.jam_laws.specs.GoesOn.{lists_have, lists_have_among, has_large_lists, finds_list_full, HasShortLists}
-use Rattle.jam_laws.proofs.Judged.{full, full-answer}
+use Rattle.jam_laws.specs.GoesOn.{lists_have, lists_have_among, has_large_lists, finds_list_full}
+use Rattle.jam_laws.proofs.Judged.{full-answer}
 use Rattle.jam_laws.proofs.Short.{lists-short}
 use Rattle.jam_laws.proofs.Walk.{children-ok}
 use Rattle.jam_laws.proofs.BusRoom.{HasPlace, HasOwnPlace, turn-room}
@@ -61,12 +61,14 @@ module _ (n : ℕ) where
       let down = down-room d ns bus kids a.0 some in
       let asked : length d.requests ≤ n = (lists-short n d (children ns) bus (children-ok n ns kids)).requests in
       let request_room : 8 * n ≤ d.sizes.request_room = leb-true _ _ b.0 in
-      let reply_room : 8 * n ≤ d.sizes.reply_room = leb-true _ _ c.0 in
-      (down, record {
-        down = down;
-        requests = λ x within shared. less-not-full _ _ (omega (arith, asked, request_room, some));
-        replies = λ x within answering. less-not-full _ _ (omega (arith, short, reply_room, some));
-      })
+      let reply_room : 8 * n ≤ d.sizes.reply_room = leb-true _ _ c.0 in (
+        down,
+        record {
+          down = down;
+          requests = λ x within shared. less-not-full _ _ (omega (arith, asked, request_room, some));
+          replies = λ x within answering. less-not-full _ _ (omega (arith, short, reply_room, some));
+        },
+      )
 
   child-room : (m : Node) → IsTreeOk n m → length (child_replies m) ≤ n → lists_have (8 * n) (skeleton m) ≡ true → ChildRoom n m
   unfolding ChildRoom
@@ -124,6 +126,7 @@ module _ (m : MachineValue) (t : Turn) (n : ℕ) where
 
   mutual
     unfolding ChildRoom
+
     child-finds : (w : Where) (k : Node) → IsTreeOk n k → lists_have (8 * n) (skeleton k) ≡ true → ChildRoom n k → finds (read_in (named_by t) read w k) ≡ false
     child-finds w (leaf_node v) ok large room = by (is_named (named_by t) (leaf_node v)) refl where
       by : (b : Bool) → is_named (named_by t) (leaf_node v) ≡ b → finds (read_in (named_by t) read w (leaf_node v)) ≡ false

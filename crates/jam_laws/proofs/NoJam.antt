@@ -1,6 +1,6 @@
 -- Where a leaf waits, some bus goes on; and the turn that is named is the first that would be granted.
 -- Letters: m is a machine, t a turn.
-use Rattle.std.proofs.Common.{◌≡◌, ℕ, Bool, true, false, List, Option, Some, None, Ok, refl, sym, ap, subst, ◌∙◌}
+use Rattle.std.proofs.Common.{◌≡◌, Bool, true, false, List, Some, None, Ok, refl, sym, ap, ◌∙◌}
 use Rattle.std.specs.Prelude.{◌||◌, is_some, if◌then◌else◌}
 use Rattle.std.proofs.lemmas.Bool.{true≢false}
 use Rattle.ddm_types.specs.declared.answers.TurnAnswer.{TurnAnswer}

@@ -1,20 +1,20 @@
 -- How long the lists of a bus get: of one item at most four entries come down, one is asked for, and a child has one reply.
 -- Letters: x is an item, n how many there are, p the parent, ns its children, m one of them.
-use Rattle.std.proofs.Common.{◌≡◌, ◌≢◌, ℕ, zero, suc, ◌+◌, ◌*◌, ◌<◌, ◌≤◌, Bool, true, false, List, [], ◌∷◌, length, map, refl, sym, ap, subst, ◌∙◌, arith}
+use Rattle.std.proofs.Common.{◌≡◌, ◌≢◌, ℕ, zero, suc, ◌+◌, ◌*◌, ◌<◌, ◌≤◌, Bool, true, false, List, [], ◌∷◌, length, refl, arith}
 use Rattle.std.specs.Prelude.{not, ◌&&◌, ◌||◌, nat_eq, nat_lt, nat_le, filter, if◌then◌else◌}
 use Rattle.std.specs.List.{list_all, AllByRecursion}
 use Rattle.std.specs.Cmp.Derive.{both_true}
-use Rattle.std.proofs.lemmas.Bool.{and_parts, eqb-true, eqb-false, ltb-true, lt-ltb, leb-true, not-true, true≢false}
+use Rattle.std.proofs.lemmas.Bool.{and_parts, eqb-true, eqb-false, ltb-true, lt-ltb, leb-true, true≢false}
 use Rattle.std.proofs.lemmas.List.{length-map}
 use Rattle.tree_model.specs.State.Lists.{names_item}
-use Rattle.tree_model.specs.State.Values.{DownValue, CopyValue, Note, no_note, local, up_read, up_erase, DirValue, Node, Nodes, leaf_node, dir_node, children}
+use Rattle.tree_model.specs.State.Values.{Note, no_note, local, up_read, up_erase, DirValue, Node, leaf_node, dir_node, children}
 use Rattle.tree_model.specs.State.Leaf.{copy_item, words_of_item, is_copy, copy_words}
 use Rattle.tree_model.specs.State.Directory.{is_local, entry_item, entry_kind, queue_of, queue_kinds, request_item, request_kind, request_kinds}
 use Rattle.tree_model.specs.State.Child.{child_replies}
 use Rattle.tree_model.specs.State.Blank.{no_node}
 use Rattle.tree_model.specs.Turns.Children.{child_at}
 use Rattle.tree_rules.specs.Bus.Faces.{ParentFace, ChildFace, parent_face, child_face, faces_of}
-use Rattle.tree_rules.specs.Bus.Own.{copy_fits, request_fits, down_fits, leaf_replies}
+use Rattle.tree_rules.specs.Bus.Own.{copy_fits, down_fits, leaf_replies}
 use Rattle.tree_rules.specs.Bus.Item.{implies, gives_none, gives_one, one_gives, asked_below, Bits, bits_of, giver}
 use Rattle.tree_rules.specs.Bus.Rules.{IsBusOk, IsChildOk}
 use Rattle.bus_laws.proofs.States.{each_state, state-at}
@@ -69,9 +69,9 @@ module _ {X : Type 0} where
     few-of_each most bound step (suc n) xs all few =
         let others : List X = filter (λ e. not (names_item item n e)) xs in
         let rest : length others ≤ bound n = few-of_each most bound step n others (below-others n xs all) (λ x l.
-          let here : length (filter (names_item item x) xs) ≤ most = few x (omega (arith, l)) in
-          let twice : length (filter (names_item item x) others) ≤ length (filter (names_item item x) xs) = twice-length (names_item item x) (λ e. not (names_item item n e)) xs in
-          omega (arith, here, twice)) in
+        let here : length (filter (names_item item x) xs) ≤ most = few x (omega (arith, l)) in
+        let twice : length (filter (names_item item x) others) ≤ length (filter (names_item item x) xs) = twice-length (names_item item x) (λ e. not (names_item item n e)) xs in
+        omega (arith, here, twice)) in
         let mine : length (filter (names_item item n) xs) ≤ most = few n (omega arith) in
         let split : length xs ≡ length (filter (names_item item n) xs) + length others = split-length (names_item item n) xs in
         let more : most + bound n ≤ bound (suc n) = step n in

@@ -1,5 +1,5 @@
 -- Runs on which the turn that goes on is computed; and one that jams, for its lists have one place each.
-use Rattle.std.specs.Prelude.{◌≡◌, ℕ, Bool, true, false, List, [], ◌∷◌, ◌++◌, map, replicate, take, Option, Some, None}
+use Rattle.std.specs.Prelude.{◌≡◌, ℕ, Bool, true, false, List, [], ◌∷◌, ◌++◌, map, replicate, take, Some, None}
 use Rattle.std.specs.List.{list_all}
 use Rattle.ddm_types.specs.declared.answers.TurnAnswer.{TurnAnswer}
 use Rattle.ddm_types.specs.declared.sizes.TreeSizes.{TreeSizes}
@@ -107,5 +107,5 @@ pub record SmallListsJam : Type 0 where
   pub waits : some_leaf_waits (crossing_after 18) ≡ true
   pub jammed : first_granted (crossing_after 18) ≡ None
   pub harts : map (answer_now (crossing_after 18)) (Turn.Hart 0 0 ∷ Turn.Hart 1 0 ∷ Turn.Hart 2 0 ∷ Turn.Hart 3 0 ∷ Turn.Hart 4 0 ∷ Turn.Hart 5 0 ∷ [])
-    ≡ TurnAnswer.Waiting 3 ∷ TurnAnswer.Waiting 9 ∷ TurnAnswer.Waiting 15 ∷ TurnAnswer.Waiting 6 ∷ TurnAnswer.Waiting 12 ∷ TurnAnswer.Waiting 18 ∷ []
+      ≡ TurnAnswer.Waiting 3 ∷ TurnAnswer.Waiting 9 ∷ TurnAnswer.Waiting 15 ∷ TurnAnswer.Waiting 6 ∷ TurnAnswer.Waiting 12 ∷ TurnAnswer.Waiting 18 ∷ []
   pub full : list_all (full_now (crossing_after 18)) (Turn.Reply 0 0 ∷ Turn.Reply 0 1 ∷ Turn.Down 1 ∷ Turn.Reply 1 0 ∷ Turn.Down 2 ∷ Turn.Reply 2 0 ∷ []) ≡ true

@@ -1,7 +1,7 @@
 -- Whether a leaf waits, whether the lists have room, and which turn of a bus would be granted.
 -- Letters: m is a machine, v a leaf, d a directory over the children ns, t a turn.
 -- To be believed with the laws: it is what they speak of.
-use Rattle.std.specs.Prelude.{◌≡◌, ℕ, ◌*◌, ◌≤◌, Bool, true, false, ◌&&◌, ◌||◌, nat_le, List, ◌∷◌, ◌++◌, length, map, find, Option, Some, None, is_some, unwrap_or, if◌then◌else◌}
+use Rattle.std.specs.Prelude.{◌≡◌, ℕ, ◌*◌, ◌≤◌, Bool, true, false, ◌&&◌, ◌||◌, nat_le, List, ◌∷◌, ◌++◌, length, map, find, Option, None, is_some, unwrap_or, if◌then◌else◌}
 use Rattle.std.specs.List.{AllByRecursion, list_any, flat_map, range_with_len}
 use Rattle.ddm_types.specs.declared.answers.BusyCause.{BusyCause}
 use Rattle.ddm_types.specs.declared.answers.TurnAnswer.{TurnAnswer}
