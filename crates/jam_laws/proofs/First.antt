@@ -14,7 +14,7 @@ use Rattle.tree_model.specs.Turns.Tree.{bus_of_number, has_node, of_dir}
 use Rattle.tree_model.specs.Turns.Machine.{named_by, child_count, names_part, is_child_of}
 use Rattle.tree_model.proofs.NamedNode.{read_in-is_some}
 use Rattle.tree_model.proofs.TurnChanges.{turn-changes_nothing}
-use Rattle.jam_laws.specs.GoesOn.{is_granted, would_grant, turns_of_bus, bus_turns, first_granted, goes_on_with, SomeTurn, IsFirstGranted}
+use Rattle.jam_laws.specs.GoesOn.{is_granted, would_grant, turns_of_bus, bus_turns, first_granted, is_down_reply_or_request, SomeTurn, IsFirstGranted}
 use Rattle.jam_laws.proofs.Named.{or-first, number-in}
 
 -- ---- lists
@@ -127,7 +127,7 @@ module _ (m : MachineValue) where
   child-there c None h = absurd (true≢false (sym h))
   child-there c (Some count) h = (refl, ltb-true c count h)
 
-  listed : IsShaped m → (test : Turn → Bool) (t : Turn) → goes_on_with t ≡ true → names_part t m ≡ true → test t ≡ true → list_any test (bus_turns m) ≡ true
+  listed : IsShaped m → (test : Turn → Bool) (t : Turn) → is_down_reply_or_request t ≡ true → names_part t m ≡ true → test t ≡ true → list_any test (bus_turns m) ≡ true
   listed shaped test (Turn.Hart hart victim) kind names h = absurd (true≢false (sym kind))
   listed shaped test (Turn.Leave bus c choice) kind names h = absurd (true≢false (sym kind))
   listed shaped test (Turn.Down bus) kind names h = of-bus shaped test bus names (or-first (test (Turn.Down bus)) _ h)
@@ -146,7 +146,7 @@ module _ (m : MachineValue) where
   -- ---- the turns of a machine name parts of it, those at least that would be granted
 
   IsTurnOf : Turn → Type 0
-  IsTurnOf t = (goes_on_with t ≡ true) × (would_grant m t ≡ true → names_part t m ≡ true)
+  IsTurnOf t = (is_down_reply_or_request t ≡ true) × (would_grant m t ≡ true → names_part t m ≡ true)
 
   granted-there : (t : Turn) → would_grant m t ≡ true → has_node (named_by t) (root_of m) ≡ true
   granted-there t granted = by (has_node (named_by t) (root_of m)) refl where

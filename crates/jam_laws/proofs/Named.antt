@@ -13,7 +13,7 @@ use Rattle.tree_model.specs.Turns.Bus.{bus_judged, bus_step}
 use Rattle.tree_model.specs.Turns.Tree.{Name, bus_of_number, is_named, has_node, has_among, read_in, read_among, of_dir}
 use Rattle.tree_model.specs.Turns.Machine.{named_by, bus_turn_of, answer_here, turn_of, child_count, is_child_of}
 use Rattle.tree_model.proofs.TurnChanges.{turn-answered}
-use Rattle.jam_laws.specs.GoesOn.{goes_on, SomeTurn}
+use Rattle.jam_laws.specs.GoesOn.{granted_or_full, SomeTurn}
 use Rattle.jam_laws.proofs.Judged.{goes, goes-answer}
 use Rattle.jam_laws.proofs.Walk.{is_onward, BusGoes, SomeGoes, SomeGoesAmong}
 
@@ -162,26 +162,26 @@ module _ (m : MachineValue) (r : Reaches at_top (root_of m)) where
   abbrev bus : ℕ
   bus = r.parent.bus
 
-  step-goes : (t : BusTurn) → goes (bus_judged (stamp_above r.place) r.parent (children r.kids) t) ≡ true → goes_on (bus_step (stamp_above r.place) t r.parent (children r.kids)).answer ≡ true
+  step-goes : (t : BusTurn) → goes (bus_judged (stamp_above r.place) r.parent (children r.kids) t) ≡ true → granted_or_full (bus_step (stamp_above r.place) t r.parent (children r.kids)).answer ≡ true
   unfolding bus_step
   step-goes t on = goes-answer bus (bus_judged (stamp_above r.place) r.parent (children r.kids) t) ∙ on
 
-  answers : (t : Turn) → named_by t ≡ bus_of_number bus → goes (bus_judged (stamp_above r.place) r.parent (children r.kids) (bus_turn_of t)) ≡ true → goes_on (turn_of t m).answer ≡ true
+  answers : (t : Turn) → named_by t ≡ bus_of_number bus → goes (bus_judged (stamp_above r.place) r.parent (children r.kids) (bus_turn_of t)) ≡ true → granted_or_full (turn_of t m).answer ≡ true
   answers t named on =
       let read = answer_here m.code m.items t in
       let here : read_in (named_by t) read at_top (root_of m) ≡ Some (read r.place (dir_node r.parent r.kids)) = ap (λ k. read_in k read at_top (root_of m)) named ∙ (read-standing (bus_of_number bus) read at_top (root_of m) ∙ ap (option_map (of_standing (bus_of_number bus) read)) r.stands) in
-      ap (λ o. goes_on o.answer) (turn-answered t m _ here) ∙ step-goes (bus_turn_of t) on
+      ap (λ o. granted_or_full o.answer) (turn-answered t m _ here) ∙ step-goes (bus_turn_of t) on
 
   counted : child_count bus m ≡ Some (length (children r.kids))
   counted = read-standing (bus_of_number bus) (of_dir (λ w d ns. length ns) 0) at_top (root_of m) ∙ ap (option_map (of_standing (bus_of_number bus) (of_dir (λ w d ns. length ns) 0))) r.stands
 
-  turn-at : (t : BusTurn) → is_onward (length (children r.kids)) t ≡ true → goes (bus_judged (stamp_above r.place) r.parent (children r.kids) t) ≡ true → SomeTurn m goes_on
+  turn-at : (t : BusTurn) → is_onward (length (children r.kids)) t ≡ true → goes (bus_judged (stamp_above r.place) r.parent (children r.kids) t) ≡ true → SomeTurn m granted_or_full
   turn-at BusTurn.Down there on = record { turn = Turn.Down bus; kind = refl; names = ap is_some counted; answer = answers (Turn.Down bus) refl on }
   turn-at (BusTurn.Reply c) there on = record { turn = Turn.Reply bus c; kind = refl; names = ap (is_child_of c) counted ∙ there; answer = answers (Turn.Reply bus c) refl on }
   turn-at (BusTurn.Request c) there on = record { turn = Turn.Request bus c; kind = refl; names = ap (is_child_of c) counted ∙ there; answer = answers (Turn.Request bus c) refl on }
   turn-at (BusTurn.Leave c choice) there on = absurd (true≢false (sym there))
 
-pub some-turn : (m : MachineValue) → IsShaped m → SomeGoes at_top (root_of m) → SomeTurn m goes_on
+pub some-turn : (m : MachineValue) → IsShaped m → SomeGoes at_top (root_of m) → SomeTurn m granted_or_full
 some-turn m shaped goes =
     let r = reaches at_top (root_of m) [] (shaped.each buses_differ) goes in
     turn-at m r r.on.turn r.on.onward r.on.on

@@ -15,7 +15,7 @@ use Rattle.tree_rules.specs.Bus.Rules.{IsMachineOk, items_of_machine}
 use Rattle.bus_laws.specs.IsTree.{IsTree}
 use Rattle.bus_laws.proofs.TreeKept.{run-keeps_rules}
 use Rattle.bus_laws.proofs.StartKept.{start-kept}
-use Rattle.jam_laws.specs.GoesOn.{some_leaf_waits, has_large_lists, sizes_are_large, is_granted, finds_list_full, goes_on, first_granted, unjamming_turn, SomeTurn, IsFirstGranted}
+use Rattle.jam_laws.specs.GoesOn.{some_leaf_waits, has_large_lists, sizes_are_large, is_granted, finds_list_full, granted_or_full, first_granted, unjamming_turn, SomeTurn, IsFirstGranted}
 use Rattle.jam_laws.proofs.Walk.{machine-goes}
 use Rattle.jam_laws.proofs.Named.{some-turn}
 use Rattle.jam_laws.proofs.NeverFull.{never-full}
@@ -23,7 +23,7 @@ use Rattle.jam_laws.proofs.First.{first-some, first-is}
 use Rattle.jam_laws.proofs.LargeLists.{run-large, made-large}
 
 -- whatever the lists: a turn is granted, or finds one full
-pub goes-or_full : (m : MachineValue) → IsShaped m → IsMachineOk m → some_leaf_waits m ≡ true → SomeTurn m goes_on
+pub goes-or_full : (m : MachineValue) → IsShaped m → IsMachineOk m → some_leaf_waits m ≡ true → SomeTurn m granted_or_full
 goes-or_full m shaped ok waits = some-turn m shaped (machine-goes m ok waits)
 
 granted-if : (a : TurnAnswer) → (is_granted a || finds_list_full a) ≡ true → finds_list_full a ≡ false → is_granted a ≡ true

@@ -64,8 +64,8 @@ finds_list_full (TurnAnswer.Busy (BusyCause.QueueFull list)) = true
 finds_list_full _ = false
 
 -- one of the two
-abbrev pub goes_on : TurnAnswer → Bool
-goes_on a = is_granted a || finds_list_full a
+abbrev pub granted_or_full : TurnAnswer → Bool
+granted_or_full a = is_granted a || finds_list_full a
 
 abbrev pub would_grant : MachineValue → Turn → Bool
 would_grant m t = is_granted (turn_of t m).answer
@@ -90,16 +90,16 @@ unjamming_turn m = if some_leaf_waits m then first_granted m else None
 -- ---- the law
 
 -- it is a Down, Reply or Request turn
-abbrev pub goes_on_with : Turn → Bool
-goes_on_with (Turn.Down bus) = true
-goes_on_with (Turn.Reply bus child) = true
-goes_on_with (Turn.Request bus child) = true
-goes_on_with _ = false
+abbrev pub is_down_reply_or_request : Turn → Bool
+is_down_reply_or_request (Turn.Down bus) = true
+is_down_reply_or_request (Turn.Reply bus child) = true
+is_down_reply_or_request (Turn.Request bus child) = true
+is_down_reply_or_request _ = false
 
 -- a Down, Reply or Request turn of a bus of the machine's tree passes
 pub record SomeTurn (m : MachineValue) (passes : TurnAnswer → Bool) : Type 0 where
   pub turn : Turn
-  pub kind : goes_on_with turn ≡ true
+  pub kind : is_down_reply_or_request turn ≡ true
   pub names : names_part turn m ≡ true
   pub answer : passes (turn_of turn m).answer ≡ true
 
@@ -111,5 +111,5 @@ pub record IsFirstGranted (m : MachineValue) (t : Turn) : Type 0 where
   pub refused : list_any (would_grant m) before ≡ false
   pub granted : would_grant m t ≡ true
   -- it is a Down, Reply or Request turn of a bus and a child of the machine's tree
-  pub kind : goes_on_with t ≡ true
+  pub kind : is_down_reply_or_request t ≡ true
   pub names : names_part t m ≡ true

@@ -10,7 +10,7 @@ ghost use Rattle.tree_model.specs.Start.Sources.{TreeValue, ImageValue};
 ghost use Rattle.tree_model.specs.Start.Machine.{start_of};
 ghost use Rattle.tree_rules.specs.Bus.Rules.{IsBusOk, IsChildOk, IsMachineOk, items_of_machine};
 ghost use Rattle.bus_laws.specs.IsTree.{IsTree};
-ghost use Rattle.jam_laws.specs.GoesOn.{some_leaf_waits, has_large_lists, sizes_are_large, HasShortLists, is_granted, finds_list_full, goes_on, unjamming_turn, SomeTurn, IsFirstGranted};
+ghost use Rattle.jam_laws.specs.GoesOn.{some_leaf_waits, has_large_lists, sizes_are_large, HasShortLists, is_granted, finds_list_full, granted_or_full, unjamming_turn, SomeTurn, IsFirstGranted};
 
 /// Where the rules of a bus hold, at most four entries of an item come down to its parent, which asks for it once at most, and
 /// each child has one reply of it at most.
@@ -27,7 +27,7 @@ pub fn lists_never_full()
 
 /// Whatever the lists: where a leaf waits, a Down, Reply or Request turn of some bus is granted or finds a list full.
 pub fn only_full_lists_jam()
-    ensures { (m : MachineValue) → IsShaped m → IsMachineOk m → some_leaf_waits m ≡ true → SomeTurn m goes_on }
+    ensures { (m : MachineValue) → IsShaped m → IsMachineOk m → some_leaf_waits m ≡ true → SomeTurn m granted_or_full }
 {}
 
 /// On large lists one of them is granted.
