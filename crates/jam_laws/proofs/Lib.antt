@@ -1,0 +1,11 @@
+pub mod Judged
+pub mod Goes
+pub mod Asks
+pub mod Walk
+pub mod Named
+pub mod Short
+pub mod BusRoom
+pub mod NeverFull
+pub mod First
+pub mod LargeLists
+pub mod NoJam

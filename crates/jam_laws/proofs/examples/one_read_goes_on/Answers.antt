@@ -1,0 +1,7 @@
+use Rattle.std.proofs.Common.{refl}
+use Rattle.tree_rules.specs.Computing.{rules_compute}
+use Rattle.jam_laws.proofs.examples.one_read_goes_on.Goals as goal
+
+pub returns : goal.returns
+unfolding rules_compute
+returns c = record { items = refl; large = refl; asked = refl; given = refl; came = refl; loaded = refl }

@@ -1,0 +1,6 @@
+//! Why a machine of buses with large lists never jams: wherever a leaf waits, some bus goes on. Theorems alone: there is nothing
+//! to run.
+#![tactic(auto)]
+
+pub mod examples;
+pub mod laws;
