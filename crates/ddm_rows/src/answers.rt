@@ -40,7 +40,8 @@ impl Answer {
     }
 }
 
-fn named(alloc: Global, name: &str, bytes: &[u8]) -> Result<NamedFile, Fail>
+/// A file of these bytes, whose reads haven't failed.
+pub fn named(alloc: Global, name: &str, bytes: &[u8]) -> Result<NamedFile, Fail>
     ensures { IfOk result (λ file. file.faults ≡ 0) }
 {
     Ok(NamedFile {

@@ -22,4 +22,6 @@ mod several_leaves;
 #[cfg(test)]
 mod tiny_lists;
 #[cfg(test)]
+mod witnesses;
+#[cfg(test)]
 mod words;
