@@ -69,7 +69,9 @@ fn turn(leaf: &mut Small, code: &Code, items: &Items) -> Option<TurnAnswer>
     if leaf.hart().done() > 99 || items.len() != 3 {
         return None;
     }
-    Some(leaf.hart_turn(code, items, Key::zero(), 0))
+    let mut answer = TurnAnswer::Empty;
+    leaf.hart_turn(code, items, Key::zero(), 0, &mut answer);
+    Some(answer)
 }
 
 fn inject(leaf: &mut Small, item: u32, word: u32)

@@ -21,21 +21,31 @@ use rv_hart::Ask;
 
 impl<const WAYS: usize, const WORDS: usize> Leaf<WAYS, WORDS> {
     /// One try of the hart's next instruction, of which `now` is the key if it completes. `victim` chooses the way that a new
-    /// item takes where its set is full.
-    pub fn hart_turn(&mut self, code: &Code, items: &Items, now: Key, victim: u8) -> TurnAnswer
+    /// item takes where its set is full. The answer is put where the caller wants it, since copying it costs more than a turn of a
+    /// hart that waits.
+    pub fn hart_turn(
+        &mut self,
+        code: &Code,
+        items: &Items,
+        now: Key,
+        victim: u8,
+        answer: &mut TurnAnswer,
+    )
         requires items { item_count items.now ≡ length self.old.ways }
         requires words { items.now.size ≡ 4 * WORDS }
         requires count { self.old.done + 1 < 2 ^ 32 }
-        ensures answer { result ≡ (leaf_step code.now items.now now victim self.old).answer }
+        ensures answer { answer.new ≡ (leaf_step code.now items.now now victim self.old).answer }
         ensures after { self.new ≡ (leaf_step code.now items.now now victim self.old).leaf }
     {
         if let Some(cause) = self.hart.halted() {
-            return TurnAnswer::Halted(cause);
+            *answer = TurnAnswer::Halted(cause);
+            return;
         }
         if let Some(item) = self.entries.waiting() {
-            return TurnAnswer::Waiting(item);
+            *answer = TurnAnswer::Waiting(item);
+            return;
         }
-        self.try_next(code, items, now, victim)
+        *answer = self.try_next(code, items, now, victim);
     }
 
     /// The next instruction of a hart that runs, where no entry waits.
