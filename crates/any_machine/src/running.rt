@@ -17,18 +17,18 @@ fn counted_turn<const WORDS: usize, C: Subtree<WORDS>>(
     machine: &mut Machine<WORDS, C>,
     turn: Turn,
     counts: &mut RunCounts,
-) -> TurnAnswer
+    answer: &mut TurnAnswer,
+)
     requires named { names_part turn machine.old.machine ≡ true }
     requires spare { 0 < machine.old.spare }
     requires turns { machine.old.turns < 4294967295 }
     requires counts { AreBelow 4294967295 counts.old }
-    ensures answer { result ≡ (turn_of turn machine.old.machine).answer }
+    ensures answer { answer.new ≡ (turn_of turn machine.old.machine).answer }
     ensures after { machine.new ≡ state_after turn machine.old }
     ensures counts { counts.new ≡ counted_answer (turn_of turn machine.old.machine).answer counts.old }
 {
-    let answer = machine.turn(turn);
-    count(counts, &answer);
-    answer
+    machine.turn_into(turn, answer);
+    count(counts, answer);
 }
 
 /// Puts an answer behind the others, where there is memory for it.
@@ -69,8 +69,9 @@ fn run_turns<const WORDS: usize, C: Subtree<WORDS>>(
     ensures answers { answers.new.items ≡ (if keep then answers.old.items ++ answers_in turns.now machine.old else answers.old.items) }
 {
     let mut counts = no_counts();
+    let mut answer = TurnAnswer::Empty;
     for turn in turns {
-        let answer = counted_turn(machine, *turn, &mut counts);
+        counted_turn(machine, *turn, &mut counts, &mut answer);
         keep_answer(answers, &answer, keep);
     }
     counts

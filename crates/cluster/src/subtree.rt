@@ -22,8 +22,10 @@ impl<const WAYS: usize, const WORDS: usize> Subtree<WORDS> for Cluster<WAYS, WOR
         rest: &[ChildNo],
         present: Stamp,
         turn: Turn,
-    ) -> TurnAnswer {
-        self.dir.turn(code, items, path, rest, present, turn)
+        answer: &mut TurnAnswer,
+    ) {
+        self.dir
+            .turn(code, items, path, rest, present, turn, answer);
     }
 
     fn path_up(&self, alloc: Global, name: &Named) -> Result<Option<Vec<ChildNo>>, NoMemory> {

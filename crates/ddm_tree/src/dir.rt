@@ -132,7 +132,8 @@ impl<const WORDS: usize, C: Subtree<WORDS>> Subtree<WORDS> for Dir<WORDS, C> {
         rest: &[ChildNo],
         present: Stamp,
         turn: Turn,
-    ) -> TurnAnswer {
+        answer: &mut TurnAnswer,
+    ) {
         turn_under(
             &mut self.state,
             &mut self.children,
@@ -142,7 +143,8 @@ impl<const WORDS: usize, C: Subtree<WORDS>> Subtree<WORDS> for Dir<WORDS, C> {
             rest,
             present,
             turn,
-        )
+            answer,
+        );
     }
 
     fn path_up(&self, alloc: Global, name: &Named) -> Result<Option<Vec<ChildNo>>, NoMemory> {

@@ -25,9 +25,10 @@ impl<const WAYS: usize, const WORDS: usize> Subtree<WORDS> for Leaf<WAYS, WORDS>
         _rest: &[ChildNo],
         present: Stamp,
         turn: Turn,
-    ) -> TurnAnswer {
+        answer: &mut TurnAnswer,
+    ) {
         let now = key_on(present, path, self.hart().done());
-        self.hart_turn(code, items, now, victim(turn))
+        self.hart_turn_into(code, items, now, victim(turn), answer);
     }
 
     fn path_up(&self, alloc: Global, name: &Named) -> Result<Option<Vec<ChildNo>>, NoMemory> {

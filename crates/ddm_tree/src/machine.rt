@@ -111,7 +111,21 @@ impl<const WORDS: usize, C: Subtree<WORDS>> Machine<WORDS, C> {
         ensures after { self.new ≡ state_after turn self.old }
         ensures order { StaysInOrder self.old.machine self.new.machine }
     {
-        let answer = turn_found(
+        let mut answer = TurnAnswer::Empty;
+        self.turn_into(turn, &mut answer);
+        answer
+    }
+
+    /// The same, where the answer is put where the caller wants it: copying it costs more than most turns.
+    pub fn turn_into(&mut self, turn: Turn, answer: &mut TurnAnswer)
+        requires named { names_part turn self.old.machine ≡ true }
+        requires spare { 0 < self.old.spare }
+        requires turns { self.old.turns < 4294967295 }
+        ensures answer { answer.new ≡ (turn_of turn self.old.machine).answer }
+        ensures after { self.new ≡ state_after turn self.old }
+        ensures order { StaysInOrder self.old.machine self.new.machine }
+    {
+        turn_found(
             &mut self.top,
             &mut self.children,
             &self.code,
@@ -119,10 +133,10 @@ impl<const WORDS: usize, C: Subtree<WORDS>> Machine<WORDS, C> {
             &self.leaf_paths,
             &self.bus_paths,
             turn,
+            answer,
         );
         self.turns += 1;
-        record(&answer, &mut self.ops, &mut self.traffic, &mut self.spare);
-        answer
+        record(answer, &mut self.ops, &mut self.traffic, &mut self.spare);
     }
 }
 
@@ -135,15 +149,26 @@ fn turn_found<const WORDS: usize, C: Subtree<WORDS>>(
     leaf_paths: &[Vec<ChildNo>],
     bus_paths: &[Vec<ChildNo>],
     turn: Turn,
-) -> TurnAnswer
+    answer: &mut TurnAnswer,
+)
     requires size { items.now.size ≡ 4 * WORDS }
     requires ready { IsReady (item_count items.now) WORDS (dir_node top.old (nodes (map C.value children.old))) }
     requires found { IsFound turn (dir_node top.old (nodes (map C.value children.old))) (map vec_items leaf_paths.now) (map vec_items bus_paths.now) }
-    ensures answer { (path : List ℕ) → listed_path (named_by turn) (map vec_items leaf_paths.now) (map vec_items bus_paths.now) ≡ Some path → let n = dir_node top.old (nodes (map C.value children.old)) in result ≡ node_answer code.now items.now turn path (present_at path stamp_zero n) (node_at path n) }
+    ensures answer { (path : List ℕ) → listed_path (named_by turn) (map vec_items leaf_paths.now) (map vec_items bus_paths.now) ≡ Some path → let n = dir_node top.old (nodes (map C.value children.old)) in answer.new ≡ node_answer code.now items.now turn path (present_at path stamp_zero n) (node_at path n) }
     ensures after { (path : List ℕ) → listed_path (named_by turn) (map vec_items leaf_paths.now) (map vec_items bus_paths.now) ≡ Some path → let n = dir_node top.old (nodes (map C.value children.old)) in dir_node top.new (nodes (map C.value children.new)) ≡ put_at path (node_turned code.now items.now turn path (present_at path stamp_zero n) (node_at path n)) n }
 {
     let path = path_of(named(&turn), leaf_paths, bus_paths);
-    turn_under(top, children, code, items, path, path, Stamp::zero(), turn)
+    turn_under(
+        top,
+        children,
+        code,
+        items,
+        path,
+        path,
+        Stamp::zero(),
+        turn,
+        answer,
+    );
 }
 
 /// What a turn names.

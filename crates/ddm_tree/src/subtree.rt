@@ -29,7 +29,7 @@ pub trait Subtree<const WORDS: usize>: Agent<WORDS> {
         ensures { result ≡ child_label (Self.value self.now) };
 
     /// One turn of a leaf or a bus: `rest` is the path from here to it, `path` that from the top, and `present` the stamp of the bus
-    /// above this part.
+    /// above this part. The answer is put where the caller wants it: it would be copied at each level.
     fn turn(
         &mut self,
         code: &Code,
@@ -38,12 +38,13 @@ pub trait Subtree<const WORDS: usize>: Agent<WORDS> {
         rest: &[ChildNo],
         present: Stamp,
         turn: Turn,
-    ) -> TurnAnswer
+        answer: &mut TurnAnswer,
+    )
         requires size { items.now.size ≡ 4 * WORDS }
         requires ready { IsReady (item_count items.now) WORDS (Self.value self.old) }
         requires leads { Leads (named_by turn) rest.now (Self.value self.old) }
         requires child { HasChild (bus_turn_of turn) (node_at rest.now (Self.value self.old)) }
-        ensures answer { result ≡ node_answer code.now items.now turn path.now (present_at rest.now present (Self.value self.old)) (node_at rest.now (Self.value self.old)) }
+        ensures answer { answer.new ≡ node_answer code.now items.now turn path.now (present_at rest.now present (Self.value self.old)) (node_at rest.now (Self.value self.old)) }
         ensures after { Self.value self.new ≡ put_at rest.now (node_turned code.now items.now turn path.now (present_at rest.now present (Self.value self.old)) (node_at rest.now (Self.value self.old))) (Self.value self.old) };
 
     /// The path from here to a leaf or a bus, from its end on; None where it isn't in this part.

@@ -21,7 +21,34 @@ use rv_hart::Ask;
 
 impl<const WAYS: usize, const WORDS: usize> Leaf<WAYS, WORDS> {
     /// One try of the hart's next instruction, of which `now` is the key if it completes. `victim` chooses the way that a new
-    /// item takes where its set is full.
+    /// item takes where its set is full. The answer is put where the caller wants it: a copy of it costs more than a turn of a hart
+    /// that waits.
+    pub fn hart_turn_into(
+        &mut self,
+        code: &Code,
+        items: &Items,
+        now: Key,
+        victim: u8,
+        answer: &mut TurnAnswer,
+    )
+        requires items { item_count items.now ≡ length self.old.ways }
+        requires words { items.now.size ≡ 4 * WORDS }
+        requires count { self.old.done + 1 < 2 ^ 32 }
+        ensures answer { answer.new ≡ (leaf_step code.now items.now now victim self.old).answer }
+        ensures after { self.new ≡ (leaf_step code.now items.now now victim self.old).leaf }
+    {
+        if let Some(cause) = self.hart.halted() {
+            *answer = TurnAnswer::Halted(cause);
+            return;
+        }
+        if let Some(item) = self.entries.waiting() {
+            *answer = TurnAnswer::Waiting(item);
+            return;
+        }
+        *answer = self.try_next(code, items, now, victim);
+    }
+
+    /// One try of the hart's next instruction, as `hart_turn_into` makes it.
     pub fn hart_turn(&mut self, code: &Code, items: &Items, now: Key, victim: u8) -> TurnAnswer
         requires items { item_count items.now ≡ length self.old.ways }
         requires words { items.now.size ≡ 4 * WORDS }
@@ -29,13 +56,9 @@ impl<const WAYS: usize, const WORDS: usize> Leaf<WAYS, WORDS> {
         ensures answer { result ≡ (leaf_step code.now items.now now victim self.old).answer }
         ensures after { self.new ≡ (leaf_step code.now items.now now victim self.old).leaf }
     {
-        if let Some(cause) = self.hart.halted() {
-            return TurnAnswer::Halted(cause);
-        }
-        if let Some(item) = self.entries.waiting() {
-            return TurnAnswer::Waiting(item);
-        }
-        self.try_next(code, items, now, victim)
+        let mut answer = TurnAnswer::Empty;
+        self.hart_turn_into(code, items, now, victim, &mut answer);
+        answer
     }
 
     /// The next instruction of a hart that runs, where no entry waits.

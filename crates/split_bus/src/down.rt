@@ -261,16 +261,17 @@ fn down_by_note<const WORDS: usize, P: Parent<WORDS>, C: Agent<WORDS>>(
 pub(crate) fn down<const WORDS: usize, P: Parent<WORDS>, C: Agent<WORDS>>(
     parent: &mut P,
     children: &mut [C],
-) -> TurnAnswer
+    answer: &mut TurnAnswer,
+)
     requires words_fit { WORDS < 2 ^ 32 }
     requires width { (P.state parent.old).sizes.width ≡ WORDS }
     requires count { (P.state parent.old).count + 1 < 2 ^ 32 }
     requires few { length children.old ≤ 16 }
     requires sized { AreSized (P.state parent.old) (map C.value children.old) }
-    ensures { let p = P.state parent.old in let ns = map C.value children.old in IsOutcome (outcome_of p ns (down_turn p ns p.down)) result (P.state parent.new) (map C.value children.new) }
+    ensures { let p = P.state parent.old in let ns = map C.value children.old in IsOutcome (outcome_of p ns (down_turn p ns p.down)) answer.new (P.state parent.new) (map C.value children.new) }
 {
     match parent.first_down() {
-        Some(entry) => down_by_note(parent, children, &entry),
-        None => TurnAnswer::Empty,
+        Some(entry) => *answer = down_by_note(parent, children, &entry),
+        None => *answer = TurnAnswer::Empty,
     }
 }

@@ -16,4 +16,4 @@ mod sought;
 mod told;
 mod turns;
 
-pub use turns::grant;
+pub use turns::{grant, grant_into};

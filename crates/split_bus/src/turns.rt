@@ -75,19 +75,24 @@ fn request_turn<const WORDS: usize, P: Parent<WORDS>, C: Agent<WORDS>>(
     children: &mut [C],
     above: Stamp,
     c: ChildNo,
-) -> TurnAnswer
+    answer: &mut TurnAnswer,
+)
     requires words_fit { WORDS < 2 ^ 32 }
     requires width { (P.state parent.old).sizes.width ≡ WORDS }
     requires count { (P.state parent.old).count + 1 < 2 ^ 32 }
     requires few { length children.old ≤ 16 }
     requires child { c < length children.old }
     requires sized { AreSized (P.state parent.old) (map C.value children.old) }
-    ensures { let p = P.state parent.old in let ns = map C.value children.old in IsOutcome (outcome_of p ns (request_turn above p ns c (child_request (child_at c ns)))) result (P.state parent.new) (map C.value children.new) }
+    ensures { let p = P.state parent.old in let ns = map C.value children.old in IsOutcome (outcome_of p ns (request_turn above p ns c (child_request (child_at c ns)))) answer.new (P.state parent.new) (map C.value children.new) }
 {
     match request_of(parent, children, c) {
-        Some((TxKind::ReadTx, item)) => request_read(parent, children, above, c, item),
-        Some((TxKind::EraseTx, item)) => request_erase(parent, children, above, c, item),
-        Some(_) | None => TurnAnswer::Empty,
+        Some((TxKind::ReadTx, item)) => {
+            *answer = request_read(parent, children, above, c, item);
+        }
+        Some((TxKind::EraseTx, item)) => {
+            *answer = request_erase(parent, children, above, c, item);
+        }
+        Some(_) | None => *answer = TurnAnswer::Empty,
     }
 }
 
@@ -96,18 +101,19 @@ fn reply_turn<const WORDS: usize, P: Parent<WORDS>, C: Agent<WORDS>>(
     parent: &mut P,
     children: &mut [C],
     c: ChildNo,
-) -> TurnAnswer
+    answer: &mut TurnAnswer,
+)
     requires words_fit { WORDS < 2 ^ 32 }
     requires width { (P.state parent.old).sizes.width ≡ WORDS }
     requires count { (P.state parent.old).count + 1 < 2 ^ 32 }
     requires few { length children.old ≤ 16 }
     requires child { c < length children.old }
     requires sized { AreSized (P.state parent.old) (map C.value children.old) }
-    ensures { (above : Stamp) → let p = P.state parent.old in let ns = map C.value children.old in IsOutcome (outcome_of p ns (reply_turn above p ns c (child_reply (child_at c ns)))) result (P.state parent.new) (map C.value children.new) }
+    ensures { (above : Stamp) → let p = P.state parent.old in let ns = map C.value children.old in IsOutcome (outcome_of p ns (reply_turn above p ns c (child_reply (child_at c ns)))) answer.new (P.state parent.new) (map C.value children.new) }
 {
     match reply_of(parent, children, c) {
-        Some((item, words)) => reply(parent, children, c, item, &words),
-        None => TurnAnswer::Empty,
+        Some((item, words)) => *answer = reply(parent, children, c, item, &words),
+        None => *answer = TurnAnswer::Empty,
     }
 }
 
@@ -117,18 +123,44 @@ fn leave_turn<const WORDS: usize, P: Parent<WORDS>, C: Agent<WORDS>>(
     children: &mut [C],
     c: ChildNo,
     choice: u8,
-) -> TurnAnswer
+    answer: &mut TurnAnswer,
+)
     requires words_fit { WORDS < 2 ^ 32 }
     requires width { (P.state parent.old).sizes.width ≡ WORDS }
     requires count { (P.state parent.old).count + 1 < 2 ^ 32 }
     requires few { length children.old ≤ 16 }
     requires child { c < length children.old }
     requires sized { AreSized (P.state parent.old) (map C.value children.old) }
-    ensures { (above : Stamp) → let p = P.state parent.old in let ns = map C.value children.old in IsOutcome (outcome_of p ns (leave_turn above p ns c (child_leaving choice (child_at c ns)))) result (P.state parent.new) (map C.value children.new) }
+    ensures { (above : Stamp) → let p = P.state parent.old in let ns = map C.value children.old in IsOutcome (outcome_of p ns (leave_turn above p ns c (child_leaving choice (child_at c ns)))) answer.new (P.state parent.new) (map C.value children.new) }
 {
     match leaving_of(parent, children, c, choice) {
-        Some(item) => leave(parent, children, c, item),
-        None => TurnAnswer::Empty,
+        Some(item) => *answer = leave(parent, children, c, item),
+        None => *answer = TurnAnswer::Empty,
+    }
+}
+
+/// One turn of one bus, whose answer is put where the caller wants it: a copy of an answer costs more than a turn that finds nothing.
+/// `above` is the present stamp of the bus above.
+pub fn grant_into<const WORDS: usize, P: Parent<WORDS>, C: Agent<WORDS>>(
+    parent: &mut P,
+    children: &mut [C],
+    above: Stamp,
+    turn: BusTurn,
+    answer: &mut TurnAnswer,
+)
+    requires words_fit { WORDS < 2 ^ 32 }
+    requires width { (P.state parent.old).sizes.width ≡ WORDS }
+    requires count { (P.state parent.old).count + 1 < 2 ^ 32 }
+    requires few { length children.old ≤ 16 }
+    requires child { NamesOneOf (length children.old) turn }
+    requires sized { AreSized (P.state parent.old) (map C.value children.old) }
+    ensures { IsOutcome (bus_step above turn (P.state parent.old) (map C.value children.old)) answer.new (P.state parent.new) (map C.value children.new) }
+{
+    match turn {
+        BusTurn::Down => down(parent, children, answer),
+        BusTurn::Request(c) => request_turn(parent, children, above, c, answer),
+        BusTurn::Reply(c) => reply_turn(parent, children, c, answer),
+        BusTurn::Leave(c, choice) => leave_turn(parent, children, c, choice, answer),
     }
 }
 
@@ -147,10 +179,7 @@ pub fn grant<const WORDS: usize, P: Parent<WORDS>, C: Agent<WORDS>>(
     requires sized { AreSized (P.state parent.old) (map C.value children.old) }
     ensures { IsOutcome (bus_step above turn (P.state parent.old) (map C.value children.old)) result (P.state parent.new) (map C.value children.new) }
 {
-    match turn {
-        BusTurn::Down => down(parent, children),
-        BusTurn::Request(c) => request_turn(parent, children, above, c),
-        BusTurn::Reply(c) => reply_turn(parent, children, c),
-        BusTurn::Leave(c, choice) => leave_turn(parent, children, c, choice),
-    }
+    let mut answer = TurnAnswer::Empty;
+    grant_into(parent, children, above, turn, &mut answer);
+    answer
 }

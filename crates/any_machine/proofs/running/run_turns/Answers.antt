@@ -13,8 +13,8 @@ loop-turn-init g c =
     let s = c.args.machine.now in
     (sym (ran-none s), c.no_counts-counts.ensures ∙ sym (counts-none s), subst (AreBelow 1) (sym c.no_counts-counts.ensures) below-none, omega (arith, c.requires.spare), kept-none c.args.keep c.args.answers.now.items s, omega arith)
 
-pub counted_turn-answer-requires : goal.counted_turn-answer-requires
-counted_turn-answer-requires g c =
+pub counted_turn-requires : goal.counted_turn-requires
+counted_turn-requires g c =
     let ts = c.args.turns.now in
     let k = c.loop-turn.turn-index in
     let s = c.args.machine.now in
@@ -65,9 +65,9 @@ loop-turn-preserved g c =
     let before = c.args.answers.now.items in
     let next : take (k + 1) ts ≡ take k ts ++ t ∷ [] = take-next ts k t c.loop-turn-test.true c.turn-item.is in
     let here : MachineState = ran (take k ts) s in
-    let answer : c.counted_turn-answer.result ≡ (turn_of t here.machine).answer = c.counted_turn-answer.ensures.answer ∙ ap (λ r. (turn_of t r.machine).answer) i.0 in
-    let after : c.counted_turn-answer.new.machine ≡ state_after t here = c.counted_turn-answer.ensures.after ∙ ap (state_after t) i.0 in
-    let counts : c.counted_turn-answer.new.counts ≡ counted_answer (turn_of t here.machine).answer c.loop-turn.counts = c.counted_turn-answer.ensures.counts ∙ ap (λ r. counted_answer (turn_of t r.machine).answer c.loop-turn.counts) i.0 in
+    let answer : c.counted_turn.new.answer ≡ (turn_of t here.machine).answer = c.counted_turn.ensures.answer ∙ ap (λ r. (turn_of t r.machine).answer) i.0 in
+    let after : c.counted_turn.new.machine ≡ state_after t here = c.counted_turn.ensures.after ∙ ap (state_after t) i.0 in
+    let counts : c.counted_turn.new.counts ≡ counted_answer (turn_of t here.machine).answer c.loop-turn.counts = c.counted_turn.ensures.counts ∙ ap (λ r. counted_answer (turn_of t r.machine).answer c.loop-turn.counts) i.0 in
     let fall = spare-falls (turn_of t here.machine).answer here.spare in (
       after ∙ sym (ran-more (take k ts) t s) ∙ ap (λ l. ran l s) (sym next),
       counts ∙ ap (counted_answer (turn_of t here.machine).answer) i.1 ∙ sym (counts-more (take k ts) t s) ∙ ap (λ l. counts_in l s) (sym next),

@@ -20,16 +20,16 @@ turn_of_child-requires-clause-leads g c = step-down g.C.Agent.value (g.P.Parent.
 pub turn_of_child-requires-clause-names : goal.turn_of_child-requires-clause-names
 turn_of_child-requires-clause-names g c = subst (HasChild (bus_turn_of c.args.turn)) (node-down g.C.Agent.value (g.P.Parent.state c.args.parent.now) c.args.children.now (named_by c.args.turn) c.args.rest.now c.in-Some.child.now c.in-Some.further.now c.in-Some.ensures.cases.0 c.requires.leads) c.requires.child
 
-pub grant-requires-clause-few : goal.grant-requires-clause-few
-grant-requires-clause-few g c =
+pub grant_into-requires-clause-few : goal.grant_into-requires-clause-few
+grant_into-requires-clause-few g c =
     let r = own-ready g.C.Agent.value (g.P.Parent.state c.args.parent.now) c.args.children.now (item_count c.args.items.now) g.row.WORDS c.requires.ready in
     omega (arith, r.few, length-map c.args.children.now g.C.Agent.value)
 
-pub grant-requires-clause-child : goal.grant-requires-clause-child
-grant-requires-clause-child g c = own-named g.C.Agent.value (g.P.Parent.state c.args.parent.now) c.args.children.now c.args.rest.now (nil_from_length c.args.rest.now c.in-None.ensures.cases) (bus_turn_of c.args.turn) c.on_bus.result c.on_bus.ensures c.requires.child
+pub grant_into-requires-clause-child : goal.grant_into-requires-clause-child
+grant_into-requires-clause-child g c = own-named g.C.Agent.value (g.P.Parent.state c.args.parent.now) c.args.children.now c.args.rest.now (nil_from_length c.args.rest.now c.in-None.ensures.cases) (bus_turn_of c.args.turn) c.on_bus.result c.on_bus.ensures c.requires.child
 
-pub grant-requires-clause-sized : goal.grant-requires-clause-sized
-grant-requires-clause-sized g c = own-sized g.C.Agent.value (g.P.Parent.state c.args.parent.now) c.args.children.now (item_count c.args.items.now) g.row.WORDS c.requires.ready
+pub grant_into-requires-clause-sized : goal.grant_into-requires-clause-sized
+grant_into-requires-clause-sized g c = own-sized g.C.Agent.value (g.P.Parent.state c.args.parent.now) c.args.children.now (item_count c.args.items.now) g.row.WORDS c.requires.ready
 
 pub returns-in-Some-clause-answer : goal.returns-in-Some-clause-answer
 returns-in-Some-clause-answer g c = c.turn_of_child.ensures.answer ∙ answer-down g.C.Agent.value (g.P.Parent.state c.args.parent.now) c.args.children.now (named_by c.args.turn) c.args.rest.now c.in-Some.child.now c.in-Some.further.now c.in-Some.ensures.cases.0 c.requires.leads c.args.code.now c.args.items.now c.args.turn c.args.path.now c.args.present c.stamp-below.result c.stamp-below.ensures
@@ -38,9 +38,9 @@ pub returns-in-Some-clause-after : goal.returns-in-Some-clause-after
 returns-in-Some-clause-after g c = after-down g.C.Agent.value (g.P.Parent.state c.args.parent.now) c.args.children.now (named_by c.args.turn) c.args.rest.now c.in-Some.child.now c.in-Some.further.now c.in-Some.ensures.cases.0 c.requires.leads c.args.code.now c.args.items.now c.args.turn c.args.path.now c.args.present c.stamp-below.result c.stamp-below.ensures (map g.C.Agent.value c.turn_of_child.new.children) c.turn_of_child.ensures.after
 
 pub returns-in-None-clause-answer : goal.returns-in-None-clause-answer
-returns-in-None-clause-answer g c = c.grant.ensures.answer ∙ ap (λ b. (bus_step c.args.present b (g.P.Parent.state c.args.parent.now) (map g.C.Agent.value c.args.children.now)).answer) c.on_bus.ensures ∙ sym (own-answer g.C.Agent.value (g.P.Parent.state c.args.parent.now) c.args.children.now c.args.rest.now (nil_from_length c.args.rest.now c.in-None.ensures.cases) c.args.code.now c.args.items.now c.args.turn c.args.path.now c.args.present)
+returns-in-None-clause-answer g c = c.grant_into.ensures.answer ∙ ap (λ b. (bus_step c.args.present b (g.P.Parent.state c.args.parent.now) (map g.C.Agent.value c.args.children.now)).answer) c.on_bus.ensures ∙ sym (own-answer g.C.Agent.value (g.P.Parent.state c.args.parent.now) c.args.children.now c.args.rest.now (nil_from_length c.args.rest.now c.in-None.ensures.cases) c.args.code.now c.args.items.now c.args.turn c.args.path.now c.args.present)
 
 pub returns-in-None-clause-after : goal.returns-in-None-clause-after
 returns-in-None-clause-after g c =
-    let kids = c.grant.ensures.kids in
-    rw (c.grant.ensures.parent, kids, c.on_bus.ensures) (sym (own-after g.C.Agent.value (g.P.Parent.state c.args.parent.now) c.args.children.now c.args.rest.now (nil_from_length c.args.rest.now c.in-None.ensures.cases) c.args.code.now c.args.items.now c.args.turn c.args.path.now c.args.present))
+    let kids = c.grant_into.ensures.kids in
+    rw (c.grant_into.ensures.parent, kids, c.on_bus.ensures) (sym (own-after g.C.Agent.value (g.P.Parent.state c.args.parent.now) c.args.children.now c.args.rest.now (nil_from_length c.args.rest.now c.in-None.ensures.cases) c.args.code.now c.args.items.now c.args.turn c.args.path.now c.args.present))

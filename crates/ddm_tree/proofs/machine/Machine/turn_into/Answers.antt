@@ -6,11 +6,11 @@ use Rattle.ddm_tree.specs.Machine.{IsMachine, MachineState, machine_of, state_af
 use Rattle.ddm_tree.proofs.MachineKept.{turn-keeps}
 use Rattle.ddm_tree.proofs.RulesKept.{made-order}
 use Rattle.ddm_tree.proofs.TurnMade.{Told, all-traffic-most, items-back, machine-ready, part-found, state-made, told-turn, turn-tree_counts}
-use Rattle.ddm_tree.proofs.machine.Machine.turn.Goals as goal
-use Rattle.ddm_tree.proofs.machine.Machine.turn.Given
+use Rattle.ddm_tree.proofs.machine.Machine.turn_into.Goals as goal
+use Rattle.ddm_tree.proofs.machine.Machine.turn_into.Given
 
-pub turn_found-answer-requires : goal.turn_found-answer-requires
-turn_found-answer-requires g c =
+pub turn_found-requires : goal.turn_found-requires
+turn_found-requires g c =
     let m = machine_of c.self.inside.code c.self.inside.items c.self.inside.top (map g.C.Agent.value c.self.inside.children.items) c.self.inside.ops.items c.self.inside.traffic.items in
     let named : names_part c.args.turn m ≡ true = subst (λ s. names_part c.args.turn s.machine ≡ true) (sym c.self.view_is) c.requires.named in
     let turns : c.self.inside.turns + 1 ≤ 4294967295 = subst (λ s. s.turns + 1 ≤ 4294967295) (sym c.self.view_is) (omega (arith, c.requires.turns)) in
@@ -25,23 +25,23 @@ record-requires-clause-counts g c =
     all-traffic-most c.self.inside.turns 4294967294 (omega (arith, turns)) c.self.inside.traffic.items c.self.invariant.0.granted
 
 -- what the code did, in the tables' words
-told : (g : Given.Over) (c : goal.After-record g) → Told c.args.turn (machine_of c.self.inside.code c.self.inside.items c.self.inside.top (map g.C.Agent.value c.self.inside.children.items) c.self.inside.ops.items c.self.inside.traffic.items) c.turn_found-answer.result c.turn_found-answer.new.top (map g.C.Agent.value c.turn_found-answer.new.children)
+told : (g : Given.Over) (c : goal.After-record g) → Told c.args.turn (machine_of c.self.inside.code c.self.inside.items c.self.inside.top (map g.C.Agent.value c.self.inside.children.items) c.self.inside.ops.items c.self.inside.traffic.items) c.turn_found.new.answer c.turn_found.new.top (map g.C.Agent.value c.turn_found.new.children)
 told g c =
     let m = machine_of c.self.inside.code c.self.inside.items c.self.inside.top (map g.C.Agent.value c.self.inside.children.items) c.self.inside.ops.items c.self.inside.traffic.items in
     let named : names_part c.args.turn m ≡ true = subst (λ s. names_part c.args.turn s.machine ≡ true) (sym c.self.view_is) c.requires.named in
     let leaf_paths = map vec_items c.self.inside.leaf_paths.items in
     let bus_paths = map vec_items c.self.inside.bus_paths.items in
     let found = part-found g.row.WORDS c.self.inside.turns leaf_paths bus_paths c.args.turn m c.self.invariant.0 named in
-    told-turn c.args.turn m leaf_paths bus_paths c.turn_found-answer.result c.turn_found-answer.new.top (map g.C.Agent.value c.turn_found-answer.new.children) found
-    (rw (c.deref_mut.ensures.value, c.deref.ensures.value, c.deref-2.ensures.value) at c.turn_found-answer.ensures.answer)
-    (rw (c.deref_mut.ensures.value, c.deref.ensures.value, c.deref-2.ensures.value) at c.turn_found-answer.ensures.after)
+    told-turn c.args.turn m leaf_paths bus_paths c.turn_found.new.answer c.turn_found.new.top (map g.C.Agent.value c.turn_found.new.children) found
+    (rw (c.deref_mut.ensures.value, c.deref.ensures.value, c.deref-2.ensures.value) at c.turn_found.ensures.answer)
+    (rw (c.deref_mut.ensures.value, c.deref.ensures.value, c.deref-2.ensures.value) at c.turn_found.ensures.after)
 
 -- the machine afterwards
-machine-after : (g : Given.Over) (c : goal.After-record g) → machine_of c.self.inside.code c.self.inside.items c.turn_found-answer.new.top (map g.C.Agent.value (take c.self.inside.children.len (c.turn_found-answer.new.children ++ drop (length c.turn_found-answer.new.children) c.self.inside.children.items))) c.record.new.ops.items c.record.new.traffic.items ≡ (turn_of c.args.turn (machine_of c.self.inside.code c.self.inside.items c.self.inside.top (map g.C.Agent.value c.self.inside.children.items) c.self.inside.ops.items c.self.inside.traffic.items)).machine
+machine-after : (g : Given.Over) (c : goal.After-record g) → machine_of c.self.inside.code c.self.inside.items c.turn_found.new.top (map g.C.Agent.value (take c.self.inside.children.len (c.turn_found.new.children ++ drop (length c.turn_found.new.children) c.self.inside.children.items))) c.record.new.ops.items c.record.new.traffic.items ≡ (turn_of c.args.turn (machine_of c.self.inside.code c.self.inside.items c.self.inside.top (map g.C.Agent.value c.self.inside.children.items) c.self.inside.ops.items c.self.inside.traffic.items)).machine
 machine-after g c =
     let whole : c.self.inside.children.len ≡ length c.self.inside.children.items = sym c.deref_mut.ensures.len ∙ ap length c.deref_mut.ensures.value in
-    let same : length c.turn_found-answer.new.children ≡ length c.self.inside.children.items = c.turn_found-answer.auto.children ∙ ap length c.deref_mut.ensures.value in
-    let back = items-back c.self.inside.children.items c.turn_found-answer.new.children c.self.inside.children.len whole same in
+    let same : length c.turn_found.new.children ≡ length c.self.inside.children.items = c.turn_found.auto.children ∙ ap length c.deref_mut.ensures.value in
+    let back = items-back c.self.inside.children.items c.turn_found.new.children c.self.inside.children.len whole same in
     rw (back, c.record.ensures.ops, c.record.ensures.traffic) (told g c).machine_is
 
 pub invariant_of-self : goal.invariant_of-self
@@ -61,7 +61,7 @@ pub returns-clause-after : goal.returns-clause-after
 returns-clause-after g c =
     let m = machine_of c.self.inside.code c.self.inside.items c.self.inside.top (map g.C.Agent.value c.self.inside.children.items) c.self.inside.ops.items c.self.inside.traffic.items in
     let old : MachineState = record { machine = m; spare = c.self.inside.spare; turns = c.self.inside.turns } in
-    state-made c.args.turn old _ c.turn_found-answer.result c.record.new.spare (machine-after g c) (told g c).answer_is c.record.ensures.spare ∙ ap (state_after c.args.turn) c.self.view_is
+    state-made c.args.turn old _ c.turn_found.new.answer c.record.new.spare (machine-after g c) (told g c).answer_is c.record.ensures.spare ∙ ap (state_after c.args.turn) c.self.view_is
 
 pub returns-clause-order : goal.returns-clause-order
 returns-clause-order g c =

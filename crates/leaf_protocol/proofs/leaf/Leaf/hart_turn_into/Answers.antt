@@ -2,7 +2,7 @@ use Rattle.std.proofs.Common.{refl, sym}
 use Rattle.ddm_types.specs.declared.answers.TurnAnswer.TheVariants.{Halted, Waiting}
 use Rattle.tree_model.specs.Turns.HartTurn.{has_halted, waits_for}
 use Rattle.leaf_protocol.proofs.Deeds.{halted-deed, waiting-deed, next-deed, step-answer, step-leaf}
-use Rattle.leaf_protocol.proofs.leaf.Leaf.hart_turn.Goals as goal
+use Rattle.leaf_protocol.proofs.leaf.Leaf.hart_turn_into.Goals as goal
 
 pub returns-in-Some-clause-answer : goal.returns-in-Some-clause-answer
 returns-in-Some-clause-answer g c = step-answer c.args.code.now c.args.items.now c.args.victim c.args.self.now c.args.now (has_halted c.in-Some.cause) (Halted c.in-Some.cause) c.args.self.now (halted-deed c.args.code.now c.args.items.now c.args.victim c.args.self.now c.in-Some.cause (rw (← c.self.view_is) (sym c.in-Some.ensures))) (record { answers = refl; leaf = refl })

@@ -1,5 +1,5 @@
 use Rattle.tree_model.specs.Turns.Bus.{bus_step}
-use Rattle.split_bus.proofs.turns.grant.Goals as goal
+use Rattle.split_bus.proofs.turns.grant_into.Goals as goal
 
 pub returns-in-Down : goal.returns-in-Down
 unfolding bus_step
