@@ -10,3 +10,4 @@ pub mod EffectTexts
 pub mod LineTexts
 pub mod Accepting
 pub mod Refusing
+pub mod Starts
