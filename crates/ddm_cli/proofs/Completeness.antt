@@ -12,14 +12,17 @@ use Rattle.tree_config.specs.declared.refusal.TreeRefusal.{TreeRefusal}
 use Rattle.run_engine.specs.Build.{build_refusal, refusal_of}
 use Rattle.run_engine.specs.declared.refusal.BuildRefusal.{BuildRefusal}
 use Rattle.text_model.specs.declared.ScheduleRefusal.{ScheduleRefusal}
-use Rattle.ddm_cli.specs.Causes.{IsRefused, IsUnloaded, IsUnscheduled, IsUnstarted}
-use Rattle.ddm_cli.specs.Commands.{Command, Run, to_run, to_list, command_of}
-use Rattle.ddm_cli.specs.Parts.{Parts, if_started, parts_in, parts_of, tree_at, turns_at, turns_of}
+use Rattle.ddm_cli.specs.Causes.{HasNoSetting, IsRefused, IsUnloaded, IsUnstarted}
+use Rattle.witness_check.specs.Start.{Setting, check_of, judged}
+use Rattle.witness_check.specs.declared.refusal.CheckRefusal.{CheckRefusal}
+use Rattle.ddm_cli.specs.Commands.{Check, Command, Run, to_run, to_list, to_check}
+use Rattle.ddm_cli.specs.Parts.{Parts, if_judged, if_started, parts_in, parts_of, setting_at, setting_in, tree_at, turns_at, turns_of}
 use Rattle.ddm_cli.specs.Told.{ScheduleGiven, written, seeded, image_told, schedule_told}
-use Rattle.ddm_cli.specs.Top.{Both, command_text, list_of, text_of, text_with, StatusHasCause, Completes, NoRun, NotAccepted, NothingFailed, RefusesImage}
+use Rattle.ddm_cli.specs.Top.{Both, command_text, list_of, text_of, text_with, verdict_in, verdict_of, IsJudged, StatusHasCause, Completes, NoRun, NotAccepted, NothingFailed, NoVerdict, RefusesImage}
+use Rattle.ddm_cli.proofs.Settings.{start_refused}
 use Rattle.ddm_cli.specs.declared.command.Prints.{Prints}
 use Rattle.ddm_cli.specs.declared.status.Status.{Status}
-use Rattle.ddm_cli.specs.declared.status.Status.TheVariants.{Done, Usage, ImageLoad, ImageBuild, Tree, Schedule, ReadFault, WriteFault, NoMemory}
+use Rattle.ddm_cli.specs.declared.status.Status.TheVariants.{Done, Usage, ImageLoad, ImageBuild, Tree, Schedule, Witness, ReadFault, WriteFault, NoMemory}
 
 -- ---- a file that gives no part gives no text
 
@@ -103,6 +106,47 @@ both_here : (t : Option (List ℕ)) (s : Option ScheduleGiven) (tree : List ℕ)
     → Both t s (λ f k. IfSome (tree_at f) (λ value. P value k)) → IfSome (tree_at tree) (λ value. P value schedule)
 both_here t s tree schedule P is-tree is-schedule both = rw (is-tree, is-schedule) at both
 
+-- ---- a witness that isn't accepted has no line
+
+no_setting : (tree image : List ℕ) → tree_at tree ≡ None → setting_at tree image ≡ None
+unfolding setting_at
+no_setting tree image none = rw none refl
+
+-- an image that gives no setting for the tree
+refused_setting : (tree image : List ℕ) (P : TreeValue → List ℕ → Type 0) → ((t : TreeValue) → P t image → setting_in t image ≡ None) → IfSome (tree_at tree) (λ t. P t image) → setting_at tree image ≡ None
+unfolding setting_at
+refused_setting tree image P none = by_tree (tree_at tree) where
+  by_tree : (o : Option TreeValue) → IfSome o (λ t. P t image) → option_and_then (λ t. setting_in t image) o ≡ None
+  by_tree None p = refl
+  by_tree (Some t) p = none t p
+
+unloaded_setting : (r : ImageRefusal) (t : TreeValue) (image : List ℕ) → IsUnloaded t r image → setting_in t image ≡ None
+unfolding setting_in
+unloaded_setting r t image is = rw is refl
+
+unstarted_setting : (r : BuildRefusal) (t : TreeValue) (image : List ℕ) → HasNoSetting t r image → setting_in t image ≡ None
+unfolding setting_in
+unstarted_setting r t image (of_start, is) = by_result (image_of t.item_bytes image) is where
+  by_result : (x : Result ImageValue ImageRefusal) → IsOkAnd x (λ i. build_refusal t i ≡ Some r) → if_judged t x ≡ None
+  by_result (Ok i) given = rw (start_refused t i r of_start given) refl
+  by_result (Err q) given = absurd given
+
+no_verdict : (t i : Option (List ℕ)) (tree image witness : List ℕ) (text : List ℕ) (P : TreeValue → List ℕ → Type 0) → ((u : TreeValue) → P u image → setting_in u image ≡ None)
+    → t ≡ Some tree → i ≡ Some image → verdict_of tree image witness ≡ Some text → RefusesImage P t i → ⊥
+no_verdict t i tree image witness text P none is-tree is-image has refused =
+    let here : IfSome (tree_at tree) (λ u. P u image) = rw (is-tree, is-image) at refused.1 in
+    let nothing = refused_setting tree image P none here in
+    no_text (sym (rw nothing refl) ∙ has)
+
+judged_otherwise : (t i w : Option (List ℕ)) (tree image witness : List ℕ) (text : List ℕ) (r : CheckRefusal) → t ≡ Some tree → i ≡ Some image → w ≡ Some witness → verdict_of tree image witness ≡ Some text → IsJudged (Err r) t i w → ⊥
+judged_otherwise t i w tree image witness text r is-tree is-image is-witness has judged =
+    let here : IfSome (setting_at tree image) (λ s. check_of s witness ≡ Err r) = rw (is-tree, is-image, is-witness) at judged in
+    by (setting_at tree image) here has
+  where
+    by : (o : Option Setting) → IfSome o (λ s. check_of s witness ≡ Err r) → option_and_then (verdict_in witness) o ≡ Some text → ⊥
+    by None here has = cc has
+    by (Some s) here has = no_text (sym (rw here refl) ∙ has)
+
 -- ---- what is told where a command has a text
 
 and_then_some : {A B : Type 0} (o : Option A) (f : A → Option B) (b : B) → option_and_then f o ≡ Some b → (a : A) × (o ≡ Some a) × (f a ≡ Some b)
@@ -137,6 +181,7 @@ module _ {F K : Type 0} (told : F → List ℕ → Option (List ℕ)) (faults : 
       by_status (Schedule line x) refused =
           let here = both_here (told files r.tree) (schedule_told (told files) r.turns) tree.0 schedule.0 (λ u. IsRefused u.levels line x) tree.1 schedule.1 refused.1 in
           absurd (unscheduled prints tree.0 image.0 schedule.0 text line x here schedule.2)
+      by_status (Witness x) refused = absurd refused
       by_status (ReadFault TreeFile) refused = absurd (calm.0 refused)
       by_status (ReadFault ImageFile) refused = absurd (calm.1 refused.0)
       by_status (ReadFault ScheduleFile) refused = absurd (calm.2 refused.0)
@@ -160,15 +205,47 @@ module _ {F K : Type 0} (told : F → List ℕ → Option (List ℕ)) (faults : 
       by_status (ImageLoad x) refused = absurd refused
       by_status (ImageBuild x) refused = absurd refused
       by_status (Schedule line x) refused = absurd refused
+      by_status (Witness x) refused = absurd refused
       by_status (ReadFault TreeFile) refused = absurd (calm refused)
       by_status (ReadFault ImageFile) refused = absurd refused
       by_status (ReadFault ScheduleFile) refused = absurd refused
       by_status (ReadFault WitnessFile) refused = absurd refused
       by_status (ReadFault CheckpointFile) refused = absurd refused
 
+    check_refused : (c : Check) (text : List ℕ) → command_text (told files) (to_check c) ≡ Some text → NothingFailed told faults files files' (to_check c) → (s : Status) → NoVerdict told faults files files' s c → s ≡ NoMemory
+    check_refused c text has calm = by_status where
+      tree : (t : List ℕ) × (told files c.tree ≡ Some t) × (option_and_then (λ i. option_and_then (verdict_of t i) (told files c.witness)) (told files c.image) ≡ Some text)
+      tree = and_then_some (told files c.tree) _ text has
+
+      image : (i : List ℕ) × (told files c.image ≡ Some i) × (option_and_then (verdict_of tree.0 i) (told files c.witness) ≡ Some text)
+      image = and_then_some (told files c.image) _ text tree.2
+
+      witness : (w : List ℕ) × (told files c.witness ≡ Some w) × (verdict_of tree.0 image.0 w ≡ Some text)
+      witness = and_then_some (told files c.witness) _ text image.2
+
+      by_status : (s : Status) → NoVerdict told faults files files' s c → s ≡ NoMemory
+      by_status NoMemory refused = refl
+      by_status Done refused = absurd refused
+      by_status WriteFault refused = absurd refused
+      by_status (Usage k) refused = absurd refused
+      by_status (Schedule line x) refused = absurd refused
+      by_status (Tree x) refused =
+          let is = tree_here (told files c.tree) tree.0 x tree.1 refused in
+          let nothing = no_setting tree.0 image.0 (refused_tree tree.0 x is) in
+          absurd (no_text (sym (rw nothing refl) ∙ witness.2))
+      by_status (ImageLoad x) refused = absurd (no_verdict (told files c.tree) (told files c.image) tree.0 image.0 witness.0 text (λ u. IsUnloaded u x) (λ u. unloaded_setting x u image.0) tree.1 image.1 witness.2 refused)
+      by_status (ImageBuild x) refused = absurd (no_verdict (told files c.tree) (told files c.image) tree.0 image.0 witness.0 text (λ u. HasNoSetting u x) (λ u. unstarted_setting x u image.0) tree.1 image.1 witness.2 refused)
+      by_status (Witness x) refused = absurd (judged_otherwise (told files c.tree) (told files c.image) (told files c.witness) tree.0 image.0 witness.0 text x tree.1 image.1 witness.1 witness.2 refused.1)
+      by_status (ReadFault TreeFile) refused = absurd (calm.0 refused)
+      by_status (ReadFault ImageFile) refused = absurd (calm.1 refused.0)
+      by_status (ReadFault WitnessFile) refused = absurd (calm.2 refused.0)
+      by_status (ReadFault ScheduleFile) refused = absurd refused
+      by_status (ReadFault CheckpointFile) refused = absurd refused
+
     command_refused : (c : Command) (text : List ℕ) → command_text (told files) c ≡ Some text → NothingFailed told faults files files' c → (s : Status) → NotAccepted told faults files files' s c → s ≡ NoMemory
     command_refused (to_run prints r) text has calm = run_refused prints r text has calm
     command_refused (to_list tree seed count) text has calm = list_refused tree seed count text has calm
+    command_refused (to_check c) text has calm = check_refused c text has calm
 
   pub completes : (words : List (List ℕ)) (files files' : F) (out out' : K) (status : Status) → StatusHasCause told faults held failures words files files' out out' status → Completes told faults held failures words files files' out out' status
   completes words files files' out out' Done came c text said has calm quiet = inl refl
@@ -179,4 +256,5 @@ module _ {F K : Type 0} (told : F → List ℕ → Option (List ℕ)) (faults : 
   completes words files files' out out' (ImageLoad r) came c text said has calm quiet = inr (command_refused files files' c text has calm (ImageLoad r) (rw said at came.0))
   completes words files files' out out' (ImageBuild r) came c text said has calm quiet = inr (command_refused files files' c text has calm (ImageBuild r) (rw said at came.0))
   completes words files files' out out' (Schedule line r) came c text said has calm quiet = inr (command_refused files files' c text has calm (Schedule line r) (rw said at came.0))
+  completes words files files' out out' (Witness r) came c text said has calm quiet = inr (command_refused files files' c text has calm (Witness r) (rw said at came.0))
   completes words files files' out out' (ReadFault role) came c text said has calm quiet = inr (command_refused files files' c text has calm (ReadFault role) (rw said at came.0))

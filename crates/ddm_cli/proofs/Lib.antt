@@ -12,4 +12,7 @@ pub mod OtherKeys
 pub mod InOrder
 pub mod Completeness
 pub mod Keys
+pub mod Settings
+pub mod Images
+pub mod Verdicts
 pub mod RunsInPieces

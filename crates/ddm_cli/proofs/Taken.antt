@@ -29,7 +29,7 @@ use Rattle.ddm_cli.specs.Top.{AcceptsParts, AcceptsRun, Both, HasText, NoRun, li
 use Rattle.ddm_cli.specs.declared.command.Prints.{Prints}
 use Rattle.ddm_cli.specs.declared.command.Prints.TheVariants.{Report, Trace, Summary}
 use Rattle.ddm_cli.specs.declared.status.Status.{Status}
-use Rattle.ddm_cli.specs.declared.status.Status.TheVariants.{Done, Usage, ImageLoad, ImageBuild, Tree, Schedule, ReadFault, WriteFault, NoMemory}
+use Rattle.ddm_cli.specs.declared.status.Status.TheVariants.{Done, Usage, ImageLoad, ImageBuild, Tree, Schedule, Witness, ReadFault, WriteFault, NoMemory}
 use Rattle.report.proofs.Written.{rose_before}
 use Rattle.ddm_cli.proofs.Causes.{takes_parts}
 use Rattle.ddm_cli.proofs.Judged.{both_taken, parts_taken}
@@ -117,6 +117,7 @@ file_caused levels told before now (Usage k) cause = absurd cause
 file_caused levels told before now (ImageLoad r) cause = absurd cause
 file_caused levels told before now (ImageBuild r) cause = absurd cause
 file_caused levels told before now (Tree r) cause = absurd cause
+file_caused levels told before now (Witness r) cause = absurd cause
 file_caused levels told before now WriteFault cause = absurd cause
 
 -- counts that don't fall, from one call to the next
@@ -140,4 +141,5 @@ module _ {F : Type 0} (told : F → List ℕ → Option (List ℕ)) (faults : F 
   schedule_refused (ImageLoad r) cause = absurd cause
   schedule_refused (ImageBuild r) cause = absurd cause
   schedule_refused (Tree r) cause = absurd cause
+  schedule_refused (Witness r) cause = absurd cause
   schedule_refused WriteFault cause = absurd cause

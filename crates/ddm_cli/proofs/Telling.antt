@@ -1,8 +1,8 @@
 -- A line that is written in pieces.
 use Rattle.std.proofs.Common.{◌≡◌, ℕ, ◌+◌, ◌-◌, ◌≤◌, List, ◌++◌, length, map, take, drop, Option, Result, Ok, Err, refl, sym, ap, subst, ◌∙◌, arith, append_assoc}
 use Rattle.std.specs.Prelude.{OnOk, OnErr, codes}
-use Rattle.std.proofs.Math.Seq.{take-add, take-append-add, take-length}
-use Rattle.std.proofs.lemmas.List.{append-nil, map-append, take-append-drop, take-append-le, length-append}
+use Rattle.std.proofs.Math.Seq.{take-add, take-length}
+use Rattle.std.proofs.lemmas.List.{append-nil, map-append, take-append-drop}
 use Rattle.ddm_outside.specs.Causes.{HasCause, Rose}
 use Rattle.report.specs.Appends.{Appends, AppendsPart}
 use Rattle.report.proofs.Written.{appends_more, on_err, part_front, part_more, rose_before}
@@ -13,7 +13,7 @@ use Rattle.ddm_cli.specs.Printed.{Writes}
 use Rattle.ddm_cli.specs.Refusals.{tree_line, tree_line_head, tree_line_rest}
 use Rattle.ddm_cli.specs.Top.{Offers, fault_line, line_head, line_rest}
 use Rattle.ddm_cli.specs.declared.status.Status.{Status}
-use Rattle.ddm_cli.specs.declared.status.Status.TheVariants.{Done, Usage, ImageLoad, ImageBuild, Tree, Schedule, ReadFault, WriteFault, NoMemory}
+use Rattle.ddm_cli.specs.declared.status.Status.TheVariants.{Done, Usage, ImageLoad, ImageBuild, Tree, Schedule, Witness, ReadFault, WriteFault, NoMemory}
 
 -- what two calls in a row wrote
 pub writes_of : {E : Type 0} (old new : Option (List ℕ)) (a : List ℕ) (w : Result (Unit {0}) E) → OnOk w (Appends old new a) → OnErr w (AppendsPart old new a) → Writes old new a w
@@ -51,6 +51,7 @@ line_parts (Usage k) = sym (append-nil _)
 line_parts (ImageLoad r) = sym (append-nil _)
 line_parts (ImageBuild r) = sym (append-nil _)
 line_parts (Schedule line r) = sym (append-nil _)
+line_parts (Witness r) = sym (append-nil _)
 line_parts (ReadFault role) = sym (append-nil _)
 line_parts WriteFault = sym (append-nil _)
 line_parts NoMemory = sym (append-nil _)

@@ -1,19 +1,24 @@
 -- Why a file gave nothing, by the status that says so. A file of which nothing is told may be of any kind.
-use Rattle.std.specs.Prelude.{◌≡◌, ℕ, List, Option, Some, IsSome, IfSome, IsOkAnd, Err}
+use Rattle.std.specs.Prelude.{◌≡◌, ℕ, List, Option, Some, None, IsSome, IfSome, IsOkAnd, Result, Err}
 use Rattle.ddm_outside.specs.Causes.{Rose}
-use Rattle.report.specs.declared.roles.FileRole.TheVariants.{ImageFile, TreeFile, ScheduleFile}
+use Rattle.report.specs.declared.roles.FileRole.TheVariants.{ImageFile, TreeFile, ScheduleFile, WitnessFile}
 use Rattle.tree_model.specs.Start.Sources.{TreeValue, ImageValue}
 use Rattle.elf_load.specs.ElfFile.{image_of}
 use Rattle.elf_load.specs.declared.refusal.ImageRefusal.{ImageRefusal}
 use Rattle.tree_config.specs.TreeFile.{tree_of}
 use Rattle.run_engine.specs.Build.{build_refusal}
 use Rattle.run_engine.specs.declared.refusal.BuildRefusal.{BuildRefusal}
+use Rattle.run_engine.specs.declared.refusal.BuildRefusal.TheVariants.{NoPlace}
 use Rattle.text_model.specs.Schedule.{schedule_of}
 use Rattle.text_model.specs.declared.ScheduleRefusal.{ScheduleRefusal}
 use Rattle.schedule_log.specs.Shapes.{shape_view}
+use Rattle.witness_check.specs.Reader.{ReaderView, begun}
+use Rattle.witness_check.specs.Start as check
+use Rattle.witness_check.specs.Start.{Setting, check_of}
+use Rattle.witness_check.specs.declared.refusal.CheckRefusal.{CheckRefusal}
 use Rattle.ddm_cli.specs.Told.{ScheduleGiven, written, seeded}
 use Rattle.ddm_cli.specs.declared.status.Status.{Status}
-use Rattle.ddm_cli.specs.declared.status.Status.TheVariants.{ImageLoad, ImageBuild, Tree, Schedule, ReadFault, NoMemory}
+use Rattle.ddm_cli.specs.declared.status.Status.TheVariants.{ImageLoad, ImageBuild, Tree, Schedule, Witness, ReadFault, NoMemory}
 
 -- where a file is told, it is accepted
 abbrev pub Accepts : {A B : Type 0} → (A → Option B) → Option A → Type 0
@@ -36,6 +41,13 @@ TreeCause told before now _ = ⊥
 abbrev pub IsUnloaded : TreeValue → ImageRefusal → List ℕ → Type 0
 IsUnloaded t r file = image_of t.item_bytes file ≡ Err r
 
+-- why there is no image
+abbrev pub NoImage : TreeValue → Option (List ℕ) → ℕ → ℕ → Status → Type 0
+NoImage t told before now (ImageLoad r) = IfSome told (IsUnloaded t r)
+NoImage t told before now (ReadFault ImageFile) = Rose before now
+NoImage t told before now NoMemory = Unit {0}
+NoImage t told before now _ = ⊥
+
 -- why there is no machine of a tree and an image
 abbrev pub BuildCause : TreeValue → ImageValue → Status → Type 0
 BuildCause t i (ImageBuild r) = build_refusal t i ≡ Some r
@@ -47,11 +59,8 @@ abbrev pub IsUnstarted : TreeValue → BuildRefusal → List ℕ → Type 0
 IsUnstarted t r file = IsOkAnd (image_of t.item_bytes file) (λ i. build_refusal t i ≡ Some r)
 
 abbrev pub ImageCause : TreeValue → Option (List ℕ) → ℕ → ℕ → Status → Type 0
-ImageCause t told before now (ImageLoad r) = IfSome told (IsUnloaded t r)
 ImageCause t told before now (ImageBuild r) = IfSome told (IsUnstarted t r)
-ImageCause t told before now (ReadFault ImageFile) = Rose before now
-ImageCause t told before now NoMemory = Unit {0}
-ImageCause t told before now _ = ⊥
+ImageCause t told before now s = NoImage t told before now s
 
 -- ---- the schedule, for a tree with these levels
 
@@ -70,3 +79,33 @@ ScheduleCause refused told before now (Schedule line r) = IfSome told (refused l
 ScheduleCause refused told before now (ReadFault ScheduleFile) = Rose before now
 ScheduleCause refused told before now NoMemory = Unit {0}
 ScheduleCause refused told before now _ = ⊥
+
+-- ---- the image and the witness, where a witness is judged
+
+-- whether leaves have places for all items isn't asked
+abbrev pub IsOfStart : BuildRefusal → Type 0
+IsOfStart (NoPlace i) = ⊥
+IsOfStart r = Unit {0}
+
+-- why the flat machine of a tree and an image has no start
+abbrev pub SettingCause : TreeValue → ImageValue → Status → Type 0
+SettingCause t i (ImageBuild r) = IsOfStart r × (build_refusal t i ≡ Some r)
+SettingCause t i NoMemory = Unit {0}
+SettingCause t i _ = ⊥
+
+-- the image is accepted, and its flat machine has no start
+abbrev pub HasNoSetting : TreeValue → BuildRefusal → List ℕ → Type 0
+HasNoSetting t r file = IsOfStart r × IsUnstarted t r file
+
+abbrev pub JudgedImageCause : TreeValue → Option (List ℕ) → ℕ → ℕ → Status → Type 0
+JudgedImageCause t told before now (ImageBuild r) = IfSome told (HasNoSetting t r)
+JudgedImageCause t told before now s = NoImage t told before now s
+
+-- the text comes to this answer from the setting with which a reader of it began
+abbrev pub ComesTo : ReaderView → Result ℕ CheckRefusal → List ℕ → Type 0
+ComesTo first answer text = (s : Setting) → first ≡ begun s → check.start_refusal s ≡ None → check_of s text ≡ answer
+
+abbrev pub WitnessCause : ReaderView → Option (List ℕ) → ℕ → ℕ → Status → Type 0
+WitnessCause first told before now (Witness r) = IfSome told (ComesTo first (Err r))
+WitnessCause first told before now (ReadFault WitnessFile) = Rose before now
+WitnessCause first told before now _ = ⊥

@@ -1,7 +1,7 @@
 -- The commands, and the words that say them.
 -- Letters: k is the index of a word, counted from 0.
 -- To be believed with the contracts: they speak of it.
-use Rattle.std.specs.Prelude.{ℕ, ◌+◌, ◌*◌, ◌≤◌, nat_le, nat_lt, List, [], ◌∷◌, length, Result, Ok, Err, Option, Some, None, slice_get, option_and_then, if◌then◌else◌, bytes_eq, codes}
+use Rattle.std.specs.Prelude.{ℕ, ◌+◌, ◌*◌, ◌≤◌, nat_le, nat_lt, List, length, Result, Ok, Err, Option, Some, None, slice_get, option_and_then, if◌then◌else◌, bytes_eq, codes}
 use Rattle.std.specs.Result.{result_ok}
 use Rattle.ddm_text.specs.Numbers.{number_of}
 use Rattle.ddm_cli.specs.declared.command.Prints.{Prints}
@@ -35,19 +35,31 @@ pub record Run : Type 0 where
   pub tree : List ℕ
   pub turns : TurnsFrom
 
+-- what a witness is judged for: the files of an image, of a tree and of the witness
+pub record Check : Type 0 where
+  pub image : List ℕ
+  pub tree : List ℕ
+  pub witness : List ℕ
+
 pub data Command : Type 0 where
   -- to run a machine and print this of it
   to_run : Prints → Run → Command
   -- to print the schedule of a seed, so many turns for the tree of this file
   to_list : List ℕ → ℕ → ℕ → Command
+  -- to judge a witness
+  to_check : Check → Command
 
 abbrev run_value : ImageFrom → List ℕ → TurnsFrom → Run
 run_value image tree turns = record { image = image; tree = tree; turns = turns }
+
+abbrev check_value : List ℕ → List ℕ → List ℕ → Check
+check_value image tree witness = record { image = image; tree = tree; witness = witness }
 
 -- its numbers are in their ranges
 abbrev pub IsInRange : Command → Type 0
 IsInRange (to_run prints r) = IsMakeable r.image × AreFew r.turns
 IsInRange (to_list tree seed count) = count ≤ 1048576
+IsInRange (to_check c) = Unit {0}
 
 -- ---- words in their order: the command that they say, or the index of the first word at fault or of the first that is missing
 
@@ -101,6 +113,11 @@ made_run words =
     seed_at words 1 (λ seed. number_at words 2 1 50000 (λ rounds. word_at words 3 (λ tree.
     ends_at words 4 (to_run Summary (run_value (image_made seed rounds) tree (turns_seeded seed (20 * rounds + 1000)))))))
 
+-- check IMAGE TREE WITNESS
+unfoldable pub file_check : List (List ℕ) → Result Command ℕ
+file_check words =
+    word_at words 1 (λ image. word_at words 2 (λ tree. word_at words 3 (λ witness. ends_at words 4 (to_check (check_value image tree witness)))))
+
 abbrev pub named_command : List (List ℕ) → List ℕ → Result Command ℕ
 named_command words name =
     if bytes_eq name (codes "run") then file_run Report words
@@ -108,7 +125,8 @@ named_command words name =
     else (if bytes_eq name (codes "seed") then seed_run words
     else (if bytes_eq name (codes "schedule") then seed_list words
     else (if bytes_eq name (codes "make") then made_run words
-    else Err 0))))
+    else (if bytes_eq name (codes "check") then file_check words
+    else Err 0)))))
 
 unfoldable pub command_of : List (List ℕ) → Result Command ℕ
 command_of words = word_at words 0 (named_command words)

@@ -1,5 +1,5 @@
--- What a run is made from: the tree, the image and the schedule of three files.
-use Rattle.std.specs.Prelude.{◌≡◌, ℕ, List, Option, Some, None, is_none, Result, Ok, Err, if◌then◌else◌, option_and_then}
+-- What a run is made from: the tree, the image and the schedule of three files; and what a witness is judged for.
+use Rattle.std.specs.Prelude.{◌≡◌, ℕ, List, Option, Some, None, is_none, Result, Ok, Err, if◌then◌else◌, option_and_then, IfSome}
 use Rattle.std.specs.Result.{result_ok}
 use Rattle.ddm_types.specs.declared.turns.Turn.{Turn}
 use Rattle.tree_model.specs.Start.Sources.{TreeValue, ImageValue}
@@ -12,6 +12,9 @@ use Rattle.run_engine.specs.Started.{started}
 use Rattle.text_model.specs.Schedule.{schedule_of}
 use Rattle.text_model.specs.Seeded.{seeded_turns}
 use Rattle.schedule_log.specs.Shapes.{shape_view}
+use Rattle.witness_check.specs.Reader.{ReaderView, begun, setting_of}
+use Rattle.witness_check.specs.Start as check
+use Rattle.witness_check.specs.Start.{Setting}
 use Rattle.ddm_cli.specs.Told.{ScheduleGiven, written, seeded}
 
 -- what a machine is made from
@@ -51,3 +54,24 @@ turns_at levels file = result_ok (schedule_of (shape_view levels) 0 file)
 abbrev pub turns_of : List (List ℕ) → ScheduleGiven → Option (List Turn)
 turns_of levels (written file) = turns_at levels file
 turns_of levels (seeded seed count) = Some (seeded_turns (shape_view levels) seed count)
+
+-- ---- what a witness is judged for
+
+abbrev pub if_judged : TreeValue → Result ImageValue ImageRefusal → Option Setting
+if_judged t (Ok i) = if is_none (check.start_refusal (setting_of t i)) then Some (setting_of t i) else None
+if_judged t (Err r) = None
+
+-- the flat machine's setting of an image file that is accepted for the tree, where it has a start
+unfoldable pub setting_in : TreeValue → List ℕ → Option Setting
+setting_in t file = if_judged t (image_of t.item_bytes file)
+
+-- the setting that a tree file and an image file give
+unfoldable pub setting_at : List ℕ → List ℕ → Option Setting
+setting_at tree image = option_and_then (λ t. setting_in t image) (tree_at tree)
+
+-- a reader of a witness begins with a setting: that of the image file, where it is told
+pub record BeginsFor (t : TreeValue) (told : Option (List ℕ)) (reader : ReaderView) : Type 0 where
+  pub setting : Setting
+  pub begins : reader ≡ begun setting
+  pub starts : check.start_refusal setting ≡ None
+  pub is : IfSome told (λ file. setting_in t file ≡ Some setting)

@@ -1,6 +1,6 @@
--- What is printed of a run.
+-- What is printed of a run, and of a witness that is accepted.
 -- Letters: m is a machine.
-use Rattle.std.specs.Prelude.{ℕ, Bool, false, true, List, ◌++◌, Option, Result, MatchResult}
+use Rattle.std.specs.Prelude.{ℕ, Bool, false, true, List, ◌++◌, Option, Result, MatchResult, codes, decimal}
 use Rattle.ddm_types.specs.declared.turns.Turn.{Turn}
 use Rattle.tree_model.specs.State.Values.{MachineValue}
 use Rattle.tree_model.specs.State.Shape.{depth_of}
@@ -29,6 +29,10 @@ abbrev pub made_text : Prints → MachineValue → Made → List ℕ
 made_text Summary m made = summary_of (view_of (depth_of m) made.counts m)
 made_text Report m made = trace_text made.turns.items made.answers.items ++ report_of (view_of (depth_of m) made.counts m)
 made_text Trace m made = trace_text made.turns.items made.answers.items ++ report_of (view_of (depth_of m) made.counts m)
+
+-- of a witness of so many lines
+abbrev pub legal_line : ℕ → List ℕ
+legal_line lines = codes "legal " ++ decimal lines ++ codes "\n"
 
 -- a text was written behind what was there, or a first part of it where a write failed
 abbrev pub Writes : {E : Type 0} → Option (List ℕ) → Option (List ℕ) → List ℕ → Result (Unit {0}) E → Type 0

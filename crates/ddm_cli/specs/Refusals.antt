@@ -1,6 +1,6 @@
 -- The fault lines of refusals: each by its name and its numbers, or by a key.
 use Rattle.std.specs.Prelude.{ℕ, List, [], ◌∷◌, ◌++◌, codes}
-use Rattle.text_model.specs.Faults.{image_fault, shown_key, tree_fault, tree_key_fault, unknown_key_fault}
+use Rattle.text_model.specs.Faults.{image_fault, shown_key, tree_fault, tree_key_fault, unknown_key_fault, witness_fault, witness_line_fault}
 use Rattle.elf_load.specs.declared.refusal.ImageRefusal.{ImageRefusal}
 use Rattle.elf_load.specs.declared.refusal.ImageRefusal.TheVariants as image
 use Rattle.tree_config.specs.TreeFile.{key_name}
@@ -8,6 +8,8 @@ use Rattle.tree_config.specs.declared.refusal.TreeRefusal.{TreeRefusal}
 use Rattle.tree_config.specs.declared.refusal.TreeRefusal.TheVariants as tree
 use Rattle.run_engine.specs.declared.refusal.BuildRefusal.{BuildRefusal}
 use Rattle.run_engine.specs.declared.refusal.BuildRefusal.TheVariants as build
+use Rattle.witness_check.specs.declared.refusal.CheckRefusal.{CheckRefusal}
+use Rattle.witness_check.specs.declared.refusal.CheckRefusal.TheVariants as check
 
 abbrev pub image_name : ImageRefusal → List ℕ
 image_name image.TooLong = codes "TooLong"
@@ -64,6 +66,16 @@ tree_line tree.TooWide = tree_fault (codes "TooWide") []
 tree_line tree.TooManyLeaves = tree_fault (codes "TooManyLeaves") []
 tree_line (tree.OutOfRange k) = tree_key_fault (codes "OutOfRange") (key_name k)
 tree_line tree.NoMemory = tree_fault (codes "NoMemory") []
+
+-- of a witness; that it has no start is said of the image
+abbrev pub witness_line : CheckRefusal → List ℕ
+witness_line check.TooLong = witness_fault (codes "TooLong")
+witness_line (check.BadLine n) = witness_line_fault n (codes "BadLine")
+witness_line (check.TooManyLines n) = witness_line_fault n (codes "TooManyLines")
+witness_line (check.NotLegal n) = witness_line_fault n (codes "NotLegal")
+witness_line (check.TooManyItems n) = build_line (build.TooManyItems n)
+witness_line (check.StackOverlap hart header) = build_line (build.StackOverlap hart header)
+witness_line check.NoMemory = witness_fault (codes "NoMemory")
 
 -- ---- the line of an unknown key in two parts, since a key may be as long as its file
 

@@ -1,5 +1,6 @@
 -- What a command answers, and why.
 use Rattle.std.specs.Prelude.{◌≡◌, ◌⊎◌, ℕ, List, [], length, Option, Some, IsSome, IfSome, option_and_then, option_map, IfOk, Result, Ok, Err, IsOkAnd}
+use Rattle.std.specs.Result.{result_ok}
 use Rattle.ddm_types.specs.declared.turns.Turn.{Turn}
 use Rattle.tree_model.specs.Start.Sources.{TreeValue}
 use Rattle.tree_model.specs.Start.Machine.{flat_start_of, start_machine}
@@ -16,15 +17,17 @@ use Rattle.report.specs.declared.roles.FileRole.TheVariants.{ImageFile, TreeFile
 use Rattle.ddm_outside.specs.Causes.{Rose}
 use Rattle.schedule_log.specs.Shapes.{shape_view}
 use Rattle.tree_config.specs.TreeFile.{tree_of}
-use Rattle.ddm_cli.specs.Causes.{Accepts, IsRefused, IsUnloaded, IsUnstarted, TreeCause}
-use Rattle.ddm_cli.specs.Commands.{Command, ImageFrom, Run, TurnsFrom, to_run, to_list, command_of}
-use Rattle.ddm_cli.specs.Parts.{Parts, parts_of, tree_at, turns_of}
-use Rattle.ddm_cli.specs.Printed.{Writes, printed}
-use Rattle.ddm_cli.specs.Refusals.{build_line, image_line, tree_line, tree_line_head, tree_line_rest}
+use Rattle.witness_check.specs.Start.{Setting, check_of}
+use Rattle.witness_check.specs.declared.refusal.CheckRefusal.{CheckRefusal}
+use Rattle.ddm_cli.specs.Causes.{Accepts, HasNoSetting, IsRefused, IsUnloaded, IsUnstarted, TreeCause}
+use Rattle.ddm_cli.specs.Commands.{Check, Command, ImageFrom, Run, TurnsFrom, to_run, to_list, to_check, command_of}
+use Rattle.ddm_cli.specs.Parts.{Parts, parts_of, setting_at, tree_at, turns_of}
+use Rattle.ddm_cli.specs.Printed.{Writes, legal_line, printed}
+use Rattle.ddm_cli.specs.Refusals.{build_line, image_line, tree_line, tree_line_head, tree_line_rest, witness_line}
 use Rattle.ddm_cli.specs.Told.{ScheduleGiven, image_faults, image_told, schedule_faults, schedule_told}
 use Rattle.ddm_cli.specs.declared.command.Prints.{Prints}
 use Rattle.ddm_cli.specs.declared.status.Status.{Status}
-use Rattle.ddm_cli.specs.declared.status.Status.TheVariants.{Done, Usage, ImageLoad, ImageBuild, Tree, Schedule, ReadFault, WriteFault, NoMemory}
+use Rattle.ddm_cli.specs.declared.status.Status.TheVariants.{Done, Usage, ImageLoad, ImageBuild, Tree, Schedule, Witness, ReadFault, WriteFault, NoMemory}
 
 -- ---- the text
 
@@ -47,11 +50,21 @@ list_at seed count t = schedule_text (seeded_turns (shape_view t.levels) seed co
 abbrev pub list_of : ℕ → ℕ → List ℕ → Option (List ℕ)
 list_of seed count tree = option_map (list_at seed count) (tree_at tree)
 
+-- the line of a witness that is accepted in this setting
+abbrev pub verdict_in : List ℕ → Setting → Option (List ℕ)
+verdict_in witness s = option_map legal_line (result_ok (check_of s witness))
+
+-- for the setting of a tree and an image
+abbrev pub verdict_of : List ℕ → List ℕ → List ℕ → Option (List ℕ)
+verdict_of tree image witness = option_and_then (verdict_in witness) (setting_at tree image)
+
 -- what a command prints, where its files are told and accepted
 abbrev pub command_text : (List ℕ → Option (List ℕ)) → Command → Option (List ℕ)
 command_text told (to_run prints r) =
     option_and_then (λ tree. option_and_then (λ image. option_and_then (text_of prints tree image) (schedule_told told r.turns)) (image_told told r.image)) (told r.tree)
 command_text told (to_list tree seed count) = option_and_then (list_of seed count) (told tree)
+command_text told (to_check c) =
+    option_and_then (λ tree. option_and_then (λ image. option_and_then (verdict_of tree image) (told c.witness)) (told c.image)) (told c.tree)
 
 -- ---- order
 
@@ -94,6 +107,14 @@ FilesInOrder tree image schedule = Both tree image (λ t i. IfSome schedule (λ 
 abbrev pub HasText : Prints → Option (List ℕ) → Option (List ℕ) → Option ScheduleGiven → List ℕ → Type 0
 HasText prints tree image schedule text = Both tree image (λ t i. IfSome schedule (λ s. text_of prints t i s ≡ Some text))
 
+-- the tree is accepted, and with it the image, whose flat machine has a start
+abbrev pub AcceptsSetting : Option (List ℕ) → Option (List ℕ) → Type 0
+AcceptsSetting tree image = Accepts tree_at tree × Both tree image (λ t i. IsSome (setting_at t i))
+
+-- where all three are told, the witness comes to this
+abbrev pub IsJudged : Result ℕ CheckRefusal → Option (List ℕ) → Option (List ℕ) → Option (List ℕ) → Type 0
+IsJudged answer tree image witness = Both tree image (λ t i. IfSome witness (λ w. IfSome (setting_at t i) (λ s. check_of s w ≡ answer)))
+
 -- ---- what a command reads
 
 module _ {F : Type 0} (told : F → List ℕ → Option (List ℕ)) where
@@ -103,6 +124,9 @@ module _ {F : Type 0} (told : F → List ℕ → Option (List ℕ)) where
       AcceptsRun (told files r.tree) (image_told (told files) r.image) (schedule_told (told files) r.turns)
       × HasText prints (told files r.tree) (image_told (told files) r.image) (schedule_told (told files) r.turns) text
   HasAccepted files text (to_list tree seed count) = Accepts tree_at (told files tree) × IfSome (told files tree) (λ t. list_of seed count t ≡ Some text)
+  HasAccepted files text (to_check c) =
+      AcceptsSetting (told files c.tree) (told files c.image)
+      × ((lines : ℕ) × (text ≡ legal_line lines) × IsJudged (Ok lines) (told files c.tree) (told files c.image) (told files c.witness))
 
   -- the words are in the grammar, and this is what their command prints
   abbrev pub Accepted : List (List ℕ) → F → List ℕ → Type 0
@@ -112,18 +136,19 @@ module _ {F : Type 0} (told : F → List ℕ → Option (List ℕ)) where
   abbrev pub WritesAccepted : {E : Type 0} → F → Option (List ℕ) → Option (List ℕ) → Command → Result (Unit {0}) E → Type 0
   WritesAccepted files old new c result = (text : List ℕ) × HasAccepted files text c × Writes old new text result
 
-  -- where all that a run is made of is told and accepted, it is in order
+  -- where all that a run is made of is told and accepted, it is in order; other commands make no run
   abbrev pub IsInOrder : F → Command → Type 0
   IsInOrder files (to_run prints r) = FilesInOrder (told files r.tree) (image_told (told files) r.image) (schedule_told (told files) r.turns)
   IsInOrder files (to_list tree seed count) = Unit {0}
+  IsInOrder files (to_check c) = Unit {0}
 
   abbrev pub RunIsWitnessed : List (List ℕ) → F → Type 0
   RunIsWitnessed words files = IfOk (command_of words) (IsInOrder files)
 
   module _ (faults : F → List ℕ → ℕ) (files files' : F) where
     -- the count of failed reads of this source rose in the call
-    abbrev pub TreeFailed : List ℕ → Type 0
-    TreeFailed name = Rose (faults files name) (faults files' name)
+    abbrev pub FileFailed : List ℕ → Type 0
+    FileFailed name = Rose (faults files name) (faults files' name)
 
     abbrev pub ImageFailed : ImageFrom → Type 0
     ImageFailed image = Rose (image_faults (faults files) image) (image_faults (faults files') image)
@@ -133,7 +158,7 @@ module _ {F : Type 0} (told : F → List ℕ → Option (List ℕ)) where
 
     -- a file can't be read: the tree is read first, then the image, then the schedule
     abbrev pub CantRead : FileRole → Run → Type 0
-    CantRead TreeFile r = TreeFailed r.tree
+    CantRead TreeFile r = FileFailed r.tree
     CantRead ImageFile r = ImageFailed r.image × Accepts tree_at (told files r.tree)
     CantRead ScheduleFile r = ScheduleFailed r.turns × AcceptsParts (told files r.tree) (image_told (told files) r.image)
     CantRead WitnessFile r = ⊥
@@ -149,10 +174,30 @@ module _ {F : Type 0} (told : F → List ℕ → Option (List ℕ)) where
     NoRun NoMemory n = Unit {0}
     NoRun _ n = ⊥
 
+    -- a file can't be read: the tree is read first, then the image, then the witness
+    abbrev pub CantReadFor : FileRole → Check → Type 0
+    CantReadFor TreeFile c = FileFailed c.tree
+    CantReadFor ImageFile c = FileFailed c.image × Accepts tree_at (told files c.tree)
+    CantReadFor WitnessFile c = FileFailed c.witness × AcceptsSetting (told files c.tree) (told files c.image)
+    CantReadFor ScheduleFile c = ⊥
+    CantReadFor CheckpointFile c = ⊥
+
+    -- why a witness isn't accepted: that leaves have no places for all items is no reason; the other statuses are no such answers
+    abbrev pub NoVerdict : Status → Check → Type 0
+    NoVerdict (Tree r) c = IfSome (told files c.tree) (λ file. tree_of file ≡ Err r)
+    NoVerdict (ImageLoad r) c = RefusesImage (λ t. IsUnloaded t r) (told files c.tree) (told files c.image)
+    NoVerdict (ImageBuild r) c = RefusesImage (λ t. HasNoSetting t r) (told files c.tree) (told files c.image)
+    NoVerdict (Witness r) c =
+        AcceptsSetting (told files c.tree) (told files c.image) × IsJudged (Err r) (told files c.tree) (told files c.image) (told files c.witness)
+    NoVerdict (ReadFault role) c = CantReadFor role c
+    NoVerdict NoMemory c = Unit {0}
+    NoVerdict _ c = ⊥
+
     -- why a command prints nothing: where it only lists turns, what is said of a tree file
     abbrev pub NotAccepted : Status → Command → Type 0
     NotAccepted s (to_run prints r) = NoRun s r
     NotAccepted s (to_list tree seed count) = TreeCause (told files tree) (faults files tree) (faults files' tree) s
+    NotAccepted s (to_check c) = NoVerdict s c
 
     -- why there is no text
     abbrev pub Refused : List (List ℕ) → Status → Type 0
@@ -161,8 +206,9 @@ module _ {F : Type 0} (told : F → List ℕ → Option (List ℕ)) where
 
     -- no read of the command failed
     abbrev pub NothingFailed : Command → Type 0
-    NothingFailed (to_run prints r) = (¬ TreeFailed r.tree) × (¬ ImageFailed r.image) × (¬ ScheduleFailed r.turns)
-    NothingFailed (to_list tree seed count) = ¬ TreeFailed tree
+    NothingFailed (to_run prints r) = (¬ FileFailed r.tree) × (¬ ImageFailed r.image) × (¬ ScheduleFailed r.turns)
+    NothingFailed (to_list tree seed count) = ¬ FileFailed tree
+    NothingFailed (to_check c) = (¬ FileFailed c.tree) × (¬ FileFailed c.image) × (¬ FileFailed c.witness)
 
 -- ---- the command
 
@@ -183,6 +229,7 @@ module _ {F K : Type 0} (told : F → List ℕ → Option (List ℕ)) (faults : 
   StatusHasCause words files files' out out' (ImageLoad r) = Refused told faults files files' words (ImageLoad r) × (held out' ≡ held out)
   StatusHasCause words files files' out out' (ImageBuild r) = Refused told faults files files' words (ImageBuild r) × (held out' ≡ held out)
   StatusHasCause words files files' out out' (Schedule line r) = Refused told faults files files' words (Schedule line r) × (held out' ≡ held out)
+  StatusHasCause words files files' out out' (Witness r) = Refused told faults files files' words (Witness r) × (held out' ≡ held out)
   StatusHasCause words files files' out out' (ReadFault role) = Refused told faults files files' words (ReadFault role) × (held out' ≡ held out)
   StatusHasCause words files files' out out' NoMemory = Refused told faults files files' words NoMemory × (held out' ≡ held out)
 
@@ -209,6 +256,7 @@ fault_line (Tree r) = tree_line r
 fault_line (ImageLoad r) = image_line r
 fault_line (ImageBuild r) = build_line r
 fault_line (Schedule line r) = schedule_fault line r
+fault_line (Witness r) = witness_line r
 fault_line (ReadFault role) = read_fault (role_text role)
 fault_line WriteFault = write_fault
 fault_line NoMemory = memory_fault

@@ -1,7 +1,8 @@
 -- A command as the code has it, and as it is said.
 use Rattle.ddm_cli.specs.Commands as said
+use Rattle.ddm_cli.specs.declared.command.Check.{Check}
 use Rattle.ddm_cli.specs.declared.command.Command.{Command}
-use Rattle.ddm_cli.specs.declared.command.Command.TheVariants.{Run as ToRun, List as ToList}
+use Rattle.ddm_cli.specs.declared.command.Command.TheVariants.{Run as ToRun, List as ToList, Check as ToCheck}
 use Rattle.ddm_cli.specs.declared.command.ImageSource.{ImageSource}
 use Rattle.ddm_cli.specs.declared.command.ImageSource.TheVariants.{File as ImageFile, Made}
 use Rattle.ddm_cli.specs.declared.command.Run.{Run}
@@ -19,6 +20,10 @@ turns_from (Seeded seed count) = said.turns_seeded seed count
 abbrev pub run_from : Run → said.Run
 run_from r = record { image = image_from r.image; tree = r.tree.now; turns = turns_from r.turns }
 
+abbrev pub check_from : Check → said.Check
+check_from c = record { image = c.image.now; tree = c.tree.now; witness = c.witness.now }
+
 abbrev pub command_from : Command → said.Command
 command_from (ToRun prints run) = said.to_run prints (run_from run)
 command_from (ToList tree seed count) = said.to_list tree.now seed count
+command_from (ToCheck check) = said.to_check (check_from check)

@@ -30,6 +30,14 @@ pub struct Run<'a> {
     pub turns: TurnSource<'a>,
 }
 
+/// What a witness is judged for: the files of an image, of a tree and of the witness.
+#[derive(Clone, Copy)]
+pub struct Check<'a> {
+    pub image: &'a str,
+    pub tree: &'a str,
+    pub witness: &'a str,
+}
+
 /// What the words of a command say.
 #[derive(Clone, Copy)]
 pub enum Command<'a> {
@@ -40,4 +48,6 @@ pub enum Command<'a> {
         seed: u64,
         count: u32,
     },
+    /// Whether a witness is accepted.
+    Check(Check<'a>),
 }

@@ -4,24 +4,25 @@ ghost use Rattle.bus_laws.specs.IsTree.{IsTree};
 ghost use Rattle.elf_load.specs.ElfFile.{image_of};
 ghost use Rattle.made_image.specs.MadeImage.{made_image};
 ghost use Rattle.any_machine.specs.Any.{machine_state};
-ghost use Rattle.ddm_cli.specs.Causes.{ImageCause, AcceptedAs, Accepts, TreeCause};
+ghost use Rattle.ddm_cli.specs.Causes.{ImageCause, AcceptedAs, Accepts, JudgedImageCause, NoImage, TreeCause};
 ghost use Rattle.ddm_cli.specs.Commands.{IsMakeable};
-ghost use Rattle.ddm_cli.specs.Parts.{IsStart, parts_in, tree_at};
+ghost use Rattle.ddm_cli.specs.Parts.{BeginsFor, IsStart, parts_in, tree_at};
 ghost use Rattle.ddm_cli.specs.Told.{image_faults, image_told};
 ghost use Rattle.ddm_cli.specs.Views.{image_from};
 
 use crate::command::ImageSource;
-use crate::judging::{judged_image, judged_tree};
+use crate::judging::{begun, built, judged_tree, loaded};
 use crate::limits::{MOST_IMAGE, MOST_TREE};
 use crate::reading::{ReadError, read_whole};
 use crate::status::Status;
 use ddm_outside::Shelf;
-use elf_load::ImageRefusal;
+use elf_load::{Image, ImageRefusal};
 use made_image::make_image;
 use report::FileRole;
 use run_engine::AnyMachine;
 use std::alloc::Global;
 use tree_config::{TreeConfig, TreeRefusal};
+use witness_check::WitnessReader;
 
 /// The tree of a tree file.
 pub fn tree_file<F: Shelf>(
@@ -45,6 +46,28 @@ pub fn tree_file<F: Shelf>(
     }
 }
 
+// The image of a file.
+fn image_in<F: Shelf>(
+    alloc: Global,
+    files: &mut F,
+    name: &str,
+    buffer: &mut [u8],
+    tree: &TreeConfig,
+) -> Result<Image, Status>
+    requires { 0 < length buffer.old }
+    ensures found { IfOk result (λ i. IfSome (F.told files.old name.now) (λ file. image_of tree.now.item_bytes file ≡ Ok i)) }
+    ensures cause { IfErr result (NoImage tree.now (F.told files.old name.now) (F.faults files.old name.now) (F.faults files.new name.now)) }
+    ensures same { F.told files.new ≡ F.told files.old }
+    ensures later { (other : List ℕ) → F.faults files.old other ≤ F.faults files.new other }
+{
+    match read_whole(alloc, files, name, MOST_IMAGE, buffer) {
+        Ok(bytes) => loaded(alloc, tree, &bytes),
+        Err(ReadError::Failed) => Err(Status::ReadFault(FileRole::ImageFile)),
+        Err(ReadError::TooLong) => Err(Status::ImageLoad(ImageRefusal::TooLong)),
+        Err(ReadError::Memory) => Err(Status::NoMemory),
+    }
+}
+
 /// The machine of a tree and an image file.
 fn image_file<F: Shelf>(
     alloc: Global,
@@ -60,12 +83,8 @@ fn image_file<F: Shelf>(
     ensures same { F.told files.new ≡ F.told files.old }
     ensures later { (other : List ℕ) → F.faults files.old other ≤ F.faults files.new other }
 {
-    match read_whole(alloc, files, name, MOST_IMAGE, buffer) {
-        Ok(bytes) => judged_image(alloc, tree, &bytes),
-        Err(ReadError::Failed) => Err(Status::ReadFault(FileRole::ImageFile)),
-        Err(ReadError::TooLong) => Err(Status::ImageLoad(ImageRefusal::TooLong)),
-        Err(ReadError::Memory) => Err(Status::NoMemory),
-    }
+    let image = image_in(alloc, files, name, buffer, tree)?;
+    built(alloc, tree, &image)
 }
 
 /// The machine of a tree and the made image of a seed.
@@ -82,7 +101,8 @@ fn made_machine(
     ensures cause { IfErr result (ImageCause tree.now (Some (made_image seed rounds)) 0 0) }
 {
     let bytes = make_image(alloc, seed, rounds)?;
-    judged_image(alloc, tree, &bytes)
+    let image = loaded(alloc, tree, &bytes)?;
+    built(alloc, tree, &image)
 }
 
 /// The machine of a tree and an image.
@@ -105,4 +125,22 @@ pub fn image_machine<F: Shelf>(
         ImageSource::File(name) => image_file(alloc, files, name, buffer, tree),
         ImageSource::Made { seed, rounds } => made_machine(alloc, tree, seed, rounds),
     }
+}
+
+/// The reader of a witness for a tree and an image file, of which nothing is kept but the flat machine.
+pub fn setting_file<F: Shelf>(
+    alloc: Global,
+    files: &mut F,
+    name: &str,
+    buffer: &mut [u8],
+    tree: &TreeConfig,
+) -> Result<WitnessReader, Status>
+    requires { 0 < length buffer.old }
+    ensures found { IfOk result (BeginsFor tree.now (F.told files.old name.now)) }
+    ensures cause { IfErr result (JudgedImageCause tree.now (F.told files.old name.now) (F.faults files.old name.now) (F.faults files.new name.now)) }
+    ensures same { F.told files.new ≡ F.told files.old }
+    ensures later { (other : List ℕ) → F.faults files.old other ≤ F.faults files.new other }
+{
+    let image = image_in(alloc, files, name, buffer, tree)?;
+    begun(alloc, tree, &image)
 }

@@ -1,18 +1,22 @@
-ghost use Rattle.std.specs.Prelude.{◌≡◌, None, Ok, Some, IsSome, IfOk, IfErr};
-ghost use Rattle.tree_model.specs.Start.Sources.{ImageValue};
+ghost use Rattle.std.specs.Prelude.{◌≡◌, ◌≤◌, ◌+◌, ◌*◌, None, Ok, Some, IfOk, IfErr};
+ghost use Rattle.tree_model.specs.Start.Sources.{start_of_harts};
+ghost use Rattle.witness_check.specs.Reader.{begun, setting_of};
+ghost use Rattle.witness_check.specs.Start as check;
 ghost use Rattle.bus_laws.specs.IsTree.{IsTree};
 ghost use Rattle.elf_load.specs.ElfFile.{image_of};
 ghost use Rattle.tree_model.specs.Start.Machine.{start_refusal};
 ghost use Rattle.run_engine.specs.Started.{started};
 ghost use Rattle.any_machine.specs.Any.{machine_state};
-ghost use Rattle.ddm_cli.specs.Causes.{BuildCause, ImageCause, TreeCause};
-ghost use Rattle.ddm_cli.specs.Parts.{IsStart, parts_in, tree_at};
+ghost use Rattle.ddm_cli.specs.Causes.{BuildCause, NoImage, SettingCause, TreeCause};
+ghost use Rattle.ddm_cli.specs.Parts.{tree_at};
 
 use crate::status::Status;
+use ddm_types::Start;
 use elf_load::{Image, ImageRefusal, load};
 use run_engine::{AnyMachine, BuildRefusal, build};
 use std::alloc::Global;
 use tree_config::{TreeConfig, TreeRefusal, read_tree};
+use witness_check::{CheckRefusal, WitnessReader};
 
 /// The tree that a file's bytes say.
 pub fn judged_tree(alloc: Global, bytes: &[u8]) -> Result<TreeConfig, Status>
@@ -27,8 +31,20 @@ pub fn judged_tree(alloc: Global, bytes: &[u8]) -> Result<TreeConfig, Status>
     }
 }
 
-// The machine of a tree and an image.
-fn built(alloc: Global, tree: &TreeConfig, image: &Image) -> Result<AnyMachine, Status>
+/// The image that a file's bytes are, for a tree.
+pub fn loaded(alloc: Global, tree: &TreeConfig, bytes: &[u8]) -> Result<Image, Status>
+    ensures image { IfOk result (λ image. image_of tree.now.item_bytes bytes.now ≡ Ok image) }
+    ensures cause { IfErr result (NoImage tree.now (Some bytes.now) 0 0) }
+{
+    match load(alloc, bytes, tree.item_bytes) {
+        Ok(image) => Ok(image),
+        Err(ImageRefusal::NoMemory) => Err(Status::NoMemory),
+        Err(refusal) => Err(Status::ImageLoad(refusal)),
+    }
+}
+
+/// The machine of a tree and an image.
+pub fn built(alloc: Global, tree: &TreeConfig, image: &Image) -> Result<AnyMachine, Status>
     ensures built { IfOk result (λ m. machine_state m ≡ started tree.now image.now) }
     ensures accepted { IfOk result (λ m. start_refusal tree.now image.now ≡ None) }
     ensures cause { IfErr result (BuildCause tree.now image.now) }
@@ -40,15 +56,34 @@ fn built(alloc: Global, tree: &TreeConfig, image: &Image) -> Result<AnyMachine, 
     }
 }
 
-/// The machine of a tree and the image that a file's bytes are.
-pub fn judged_image(alloc: Global, tree: &TreeConfig, bytes: &[u8]) -> Result<AnyMachine, Status>
-    ensures found { IfOk result (λ m. (i : ImageValue) × IsStart tree.now i (machine_state m) × (image_of tree.now.item_bytes bytes.now ≡ Ok i)) }
-    ensures taken { IfOk result (λ m. IsSome (parts_in tree.now bytes.now)) }
-    ensures cause { IfErr result (ImageCause tree.now (Some bytes.now) 0 0) }
+// What the harts begin with.
+fn harts_start(tree: &TreeConfig, image: &Image) -> Start
+    ensures start { result ≡ start_of_harts tree.now image.now }
+    ensures few { result.harts ≤ 64 }
+    ensures stacks { result.stack_base + result.harts * result.stack_bytes ≤ 4294967280 }
 {
-    match load(alloc, bytes, tree.item_bytes) {
-        Ok(image) => built(alloc, tree, &image),
-        Err(ImageRefusal::NoMemory) => Err(Status::NoMemory),
-        Err(refusal) => Err(Status::ImageLoad(refusal)),
+    Start {
+        entry: image.entry,
+        harts: tree.nodes.harts(),
+        stack_base: tree.stack_base,
+        stack_bytes: tree.stack_bytes,
+    }
+}
+
+/// The reader of a witness for a tree and an image.
+pub fn begun(alloc: Global, tree: &TreeConfig, image: &Image) -> Result<WitnessReader, Status>
+    ensures begun { IfOk result (λ reader. reader ≡ begun (setting_of tree.now image.now)) }
+    ensures accepted { IfOk result (λ reader. check.start_refusal (setting_of tree.now image.now) ≡ None) }
+    ensures cause { IfErr result (SettingCause tree.now image.now) }
+{
+    match WitnessReader::new(alloc, image, harts_start(tree, image), tree.item_bytes) {
+        Ok(reader) => Ok(reader),
+        Err(CheckRefusal::TooManyItems(count)) => {
+            Err(Status::ImageBuild(BuildRefusal::TooManyItems(count)))
+        }
+        Err(CheckRefusal::StackOverlap { hart, header }) => {
+            Err(Status::ImageBuild(BuildRefusal::StackOverlap { hart, header }))
+        }
+        Err(_) => Err(Status::NoMemory),
     }
 }

@@ -1,6 +1,7 @@
 //! The command line as a library: from the words of a command and the files that they name to what is printed.
 #![tactic(auto)]
 
+mod checking;
 mod command;
 mod fault;
 mod files;
@@ -20,4 +21,5 @@ pub use report::FileRole;
 pub use schedule_log::ScheduleRefusal;
 pub use status::{Status, code};
 pub use top::ddm_main;
+pub use witness_check::CheckRefusal;
 pub use words::first_fault;

@@ -1,13 +1,14 @@
-ghost use Rattle.std.specs.Prelude.{◌≡◌, ◌+◌, ◌++◌, ◌≤◌, length, codes};
+ghost use Rattle.std.specs.Prelude.{◌≡◌, ◌+◌, ◌++◌, ◌≤◌, length, codes, decimal};
 ghost use Rattle.text_model.specs.Faults.{name_words, number_texts, schedule_fault, schedule_refusal_name};
 ghost use Rattle.tree_config.specs.TreeFile.{key_name};
-ghost use Rattle.ddm_cli.specs.Refusals.{build_line, image_line, tree_line_head};
+ghost use Rattle.ddm_cli.specs.Refusals.{build_line, image_line, tree_line_head, witness_line};
 
 use elf_load::ImageRefusal;
 use report::FaultLine;
 use run_engine::BuildRefusal;
 use text_model::ScheduleRefusal;
 use tree_config::{TreeKey, TreeRefusal};
+use witness_check::CheckRefusal;
 
 // Puts numbers at the end, each behind a space.
 fn push_numbers(line: &mut FaultLine, numbers: &[u64])
@@ -182,4 +183,48 @@ pub fn schedule_line(line: u32, refusal: ScheduleRefusal) -> FaultLine
     text.push(schedule_words(refusal));
     text.push(b"\n");
     text
+}
+
+// The line for a witness that is refused as a whole, by the words of the refusal's name.
+fn witness(name: &[u8]) -> FaultLine
+    requires { length name.now ≤ 14 }
+    ensures { result ≡ codes "ddm: witness: " ++ name.now ++ codes "\n" }
+{
+    let mut text = FaultLine::new();
+    text.push(b"ddm: witness: ");
+    text.push(name);
+    text.push(b"\n");
+    text
+}
+
+// The line for a witness that is refused in a line.
+fn witness_at(line: u32, name: &[u8]) -> FaultLine
+    requires { length name.now ≤ 14 }
+    ensures { result ≡ codes "ddm: witness line " ++ decimal line ++ codes ": " ++ name.now ++ codes "\n" }
+{
+    let mut text = FaultLine::new();
+    text.push(b"ddm: witness line ");
+    text.push_number(u64::from(line));
+    text.push(b": ");
+    text.push(name);
+    text.push(b"\n");
+    text
+}
+
+/// The line for a witness that isn't accepted.
+#[tactic(auto, unfolding(text_model::specs::Faults::witness_fault, text_model::specs::Faults::witness_line_fault, text_model::specs::Faults::name_words))]
+pub fn witness_line(refusal: &CheckRefusal) -> FaultLine
+    ensures { result ≡ witness_line refusal.now }
+{
+    match *refusal {
+        CheckRefusal::TooLong => witness(b"too long"),
+        CheckRefusal::BadLine(n) => witness_at(n, b"bad line"),
+        CheckRefusal::TooManyLines(n) => witness_at(n, b"too many lines"),
+        CheckRefusal::NotLegal(n) => witness_at(n, b"not legal"),
+        CheckRefusal::TooManyItems(n) => build_line(&BuildRefusal::TooManyItems(n)),
+        CheckRefusal::StackOverlap { hart, header } => {
+            build_line(&BuildRefusal::StackOverlap { hart, header })
+        }
+        CheckRefusal::NoMemory => witness(b"no memory"),
+    }
 }

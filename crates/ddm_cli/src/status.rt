@@ -8,6 +8,7 @@ use report::FileRole;
 use run_engine::BuildRefusal;
 use text_model::ScheduleRefusal;
 use tree_config::TreeRefusal;
+use witness_check::CheckRefusal;
 
 /// How a command ended.
 #[derive(Debug, Drop)]
@@ -23,6 +24,8 @@ pub enum Status {
     Tree(TreeRefusal),
     /// The line of the schedule, counted from 1, and why it isn't accepted.
     Schedule(u32, ScheduleRefusal),
+    /// Why the witness isn't accepted. That nothing can be judged, since there is no start, is a refusal of the image.
+    Witness(CheckRefusal),
     ReadFault(FileRole),
     WriteFault,
     NoMemory,
@@ -41,6 +44,7 @@ pub fn code(status: &Status) -> u8
         Status::ReadFault(_) => 6,
         Status::WriteFault => 7,
         Status::NoMemory => 8,
+        Status::Witness(_) => 10,
     }
 }
 

@@ -1,4 +1,4 @@
-ghost use Rattle.std.specs.Prelude.{◌≡◌, ◌≤◌, vec_len, map, IfOk, IfErr, OnErr};
+ghost use Rattle.std.specs.Prelude.{◌≡◌, map, IfOk, IfErr, OnErr};
 ghost use Rattle.ddm_outside.specs.Causes.{HasCause};
 ghost use Rattle.std.specs.String.{string_bytes};
 ghost use Rattle.ddm_cli.specs.Causes.{TreeCause};
@@ -6,27 +6,19 @@ ghost use Rattle.ddm_cli.specs.Commands.{IsInRange, to_list, to_run};
 ghost use Rattle.ddm_cli.specs.Top.{Completes, HasAccepted, NoRun, NotAccepted, Offers, RunIsWitnessed, StatusHasCause, WritesAccepted, fault_line, status_of};
 ghost use Rattle.ddm_cli.specs.Views.{command_from, run_from};
 
+use crate::checking::write_check;
 use crate::command::{Command, Prints, Run};
 use crate::fault::tell;
 use crate::files::{image_machine, tree_file};
 use crate::printing::write_ran;
+use crate::reading::read_buffer;
 use crate::status::Status;
 use crate::words::command_said;
 use any_machine::release;
 use ddm_outside::{Failed, Shelf, Sink};
-use ddm_types::NoMemory;
 use report::write_all;
 use schedule_log::{seeded, write_schedule};
 use std::alloc::Global;
-
-const READ_BYTES: usize = 65_536;
-
-// The buffer that files are read through. Its bytes aren't stated: a proof that sees 65,536 of them computes them all.
-fn read_buffer(alloc: Global) -> Result<Vec<u8>, NoMemory>
-    ensures { IfOk result (λ b. 1024 ≤ vec_len b) }
-{
-    Ok(Vec::from_elem(alloc, 0, READ_BYTES)?)
-}
 
 // Runs a machine and writes what is printed of it, or answers the status without a text.
 #[tactic(auto, using(crate::proofs::Causes::takes_parts))]
@@ -111,6 +103,7 @@ fn write_command<F: Shelf, K: Sink>(
     match command {
         Command::Run(prints, run) => write_run(alloc, files, out, prints, run),
         Command::List { tree, seed, count } => write_list(alloc, files, out, tree, seed, count),
+        Command::Check(check) => write_check(alloc, files, out, check),
     }
 }
 
@@ -134,7 +127,7 @@ fn answer<F: Shelf, K: Sink>(alloc: Global, words: &[String], files: &mut F, out
 }
 
 /// Follows the words of a command: its text goes to `out`, and the line of a fault to `faults_out`. The tree is read first, then the
-/// image, then the schedule, and nothing is written before all that the command names is read.
+/// image, then the schedule or the witness, and nothing is written before all that the command names is read.
 pub fn ddm_main<F: Shelf, K: Sink>(
     alloc: Global,
     words: &[String],

@@ -1,9 +1,9 @@
 ghost use Rattle.std.specs.Prelude.{◌≡◌, ◌≤◌, ◌<◌, ◌*◌, ◌+◌, map, length, Err, IfOk, IfSome, IsOk, MatchResult, None, Ok, Some, option_and_then, slice_get};
 ghost use Rattle.std.specs.String.{string_bytes};
-ghost use Rattle.ddm_cli.specs.Commands.{IsInRange, command_of, file_run, made_run, number_in, seed_list, seed_run};
+ghost use Rattle.ddm_cli.specs.Commands.{IsInRange, command_of, file_check, file_run, made_run, number_in, seed_list, seed_run};
 ghost use Rattle.ddm_cli.specs.Views.{command_from};
 
-use crate::command::{Command, ImageSource, Prints, Run, TurnSource};
+use crate::command::{Check, Command, ImageSource, Prints, Run, TurnSource};
 use ddm_text::read_decimal;
 
 const MOST_TURNS: u64 = 1_048_576;
@@ -152,6 +152,27 @@ fn made_run(words: &[String]) -> Result<Command<'_>, u32>
     ))
 }
 
+/// `check IMAGE TREE WITNESS`.
+#[tactic(auto, unfolding(crate::specs::Commands::file_check))]
+fn file_check(words: &[String]) -> Result<Command<'_>, u32>
+    ensures is { MatchResult result
+        (λ c. file_check (map string_bytes words.now) ≡ Ok (command_from c))
+        (λ k. file_check (map string_bytes words.now) ≡ Err k) }
+    ensures range { IfOk result (λ c. IsInRange (command_from c)) }
+{
+    let image = word(words, 1)?;
+    let tree = word(words, 2)?;
+    let witness = word(words, 3)?;
+    if words.len() > 4 {
+        return Err(4);
+    }
+    Ok(Command::Check(Check {
+        image,
+        tree,
+        witness,
+    }))
+}
+
 /// The command that the words say, or the index of the first word at fault or of the first that is missing.
 #[tactic(auto, unfolding(crate::specs::Commands::command_of))]
 pub fn command_said(words: &[String]) -> Result<Command<'_>, u32>
@@ -166,6 +187,7 @@ pub fn command_said(words: &[String]) -> Result<Command<'_>, u32>
         "seed" => seed_run(words),
         "schedule" => seed_list(words),
         "make" => made_run(words),
+        "check" => file_check(words),
         _ => Err(0),
     }
 }

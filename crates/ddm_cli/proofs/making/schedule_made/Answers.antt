@@ -1,5 +1,4 @@
 use Rattle.std.proofs.Common.{◌+◌, ◌++◌, ◌∙◌, List, [], sym, refl, ap, subst, arith}
-use Rattle.std.specs.Option.{option_map}
 use Rattle.tree_model.specs.Start.Sources.{TreeValue}
 use Rattle.ddm_types.specs.declared.turns.Turn.{Turn}
 use Rattle.any_machine.specs.Any.{machine_state}
