@@ -1,0 +1,5 @@
+pub mod Words
+pub mod FlatWords
+pub mod Stamps
+pub mod StartWords
+pub mod Printed

@@ -1,0 +1,153 @@
+-- The witness of a run is the lines of legal operations.
+use Rattle.std.proofs.Common.{◌≡◌, ℕ, suc, ◌+◌, ◌≤◌, Bool, true, false, List, [], ◌∷◌, ◌++◌, length, None, Ok, refl, sym, ap, subst, ◌∙◌, arith, append_assoc, length-append}
+use Rattle.std.specs.Prelude.{codes, decimal, flat_map, option_and_then}
+use Rattle.std.specs.List.{AllByRecursion}
+use Rattle.std.proofs.Math.Seq.{take-length}
+use Rattle.std.proofs.lemmas.List.Concat.{flat_map-cons}
+use Rattle.ddm_types.specs.declared.answers.TurnAnswer.{TurnAnswer}
+use Rattle.ddm_types.specs.declared.operations.Op.{Op}
+use Rattle.ddm_types.specs.declared.turns.Turn.{Turn}
+use Rattle.ddm_types.specs.CodeMap.{CodeWord}
+use Rattle.ddm_types.specs.ItemTable.{ItemTable}
+use Rattle.flat_model.specs.Legal.{Legal}
+use Rattle.tree_model.specs.State.Shape.{Frame, widths_bounded}
+use Rattle.tree_model.specs.State.Values.{MachineValue}
+use Rattle.tree_model.specs.Start.Sources.{ImageValue, TreeValue}
+use Rattle.tree_model.specs.Start.Memory.{start_code, start_items, start_words}
+use Rattle.tree_model.specs.Start.Machine.{flat_start_of, start_machine, start_of, start_refusal}
+use Rattle.tree_model.specs.Turns.Machine.{run_of, turn_of}
+use Rattle.ddm_types.specs.Keys.{key_less}
+use Rattle.tree_model.specs.Turns.Witness.{sorted_ops, with_op}
+use Rattle.tree_model.proofs.FrameKept.{run-frame}
+use Rattle.tree_rules.specs.Witness.{IsRunWitnessed}
+use Rattle.text_model.specs.Report.{key_text, op_line, op_lines, report_of}
+use Rattle.text_model.specs.Run.{report_text_of, view_of}
+use Rattle.text_model.specs.Words.{effect_text}
+use Rattle.ddm_text.specs.Hex.{hex8}
+use Rattle.bus_laws.specs.IsTree.{IsTree}
+use Rattle.bus_laws.proofs.StartKept.{start-kept}
+use Rattle.order_lists.proofs.Sorted.{sorted-each, with_op-least, with_op-less}
+use Rattle.order_laws.proofs.Hart.HartMachine.{ops_after, ops_with}
+use Rattle.headline.proofs.Runs.{each-turn}
+use Rattle.start_memory.specs.Memory.{memory_items, memory_words}
+use Rattle.witness_check.specs.Reader.{setting_of}
+use Rattle.witness_check.specs.Start.{judged, start_refusal as judged_refusal}
+use Rattle.witness_check.specs.Witness.{AreLegal, BeginsWith, HasWords, IsAccepted, IsOp}
+use Rattle.witness_check.proofs.Starts.{start_refusal-tables}
+use Rattle.witness_laws.specs.Printed.{IsOfBytes, ops_of_run, printed_witness}
+use Rattle.witness_laws.proofs.FlatWords.{IsOfWords, legal_words}
+use Rattle.witness_laws.proofs.Stamps.{run_keys, start_within}
+use Rattle.witness_laws.proofs.StartWords.{leaves_few, start_harts, start_has_words}
+
+-- ---- lines
+
+-- the line of an operation, without its line feed
+abbrev line_text : ℕ → Op → List ℕ
+line_text depth op = codes "op " ++ decimal op.hart ++ codes " " ++ key_text depth op.key ++ codes " " ++ hex8 op.pc ++ codes " " ++ effect_text op.effect
+
+line_is : (depth : ℕ) (op : Op) → line_text depth op ++ 10 ∷ [] ≡ op_line depth op
+unfolding op_line
+line_is depth op = refl
+
+lines_more : (depth : ℕ) (op : Op) (ops : List Op) → op_lines depth (op ∷ ops) ≡ line_text depth op ++ 10 ∷ op_lines depth ops
+unfolding op_lines
+lines_more depth op ops =
+    flat_map-cons (op_line depth) op ops ∙ ap (λ l. l ++ flat_map (op_line depth) ops) (sym (line_is depth op)) ∙ append_assoc (line_text depth op) (10 ∷ []) (flat_map (op_line depth) ops)
+
+begins : (depth : ℕ) → 1 ≤ depth → depth ≤ 4 → (ops : List Op) → AllByRecursion IsOp ops → BeginsWith (op_lines depth ops) ops []
+unfolding op_lines
+begins depth least most [] all = refl
+begins depth least most (op ∷ ops) all = (line_text depth op, op_lines depth ops, lines_more depth op ops, record { depth = depth; least = least; most = most; fits = all.0; is = line_is depth op }, begins depth least most ops all.1)
+
+-- ---- operations
+
+both_fit : (harts : ℕ) → harts ≤ 65536 → (ops : List Op) → AllByRecursion (λ (op : Op). HasWords op.key) ops → AllByRecursion (IsOfWords harts) ops → AllByRecursion IsOp ops
+both_fit harts few [] keys words = tt
+both_fit harts few (op ∷ ops) keys words = (record { key = keys.0; hart = omega (arith, words.0.hart, few); pc = words.0.pc; effect = words.0.effect }, both_fit harts few ops keys.1 words.1)
+
+with_few : (a : TurnAnswer) (ops : List Op) → length (ops_with a ops) ≤ length ops + 1
+with_few (TurnAnswer.Retired op) ops = omega (arith, length-append ops (op ∷ []))
+with_few (TurnAnswer.Issued kind x) ops = omega arith
+with_few (TurnAnswer.Waiting x) ops = omega arith
+with_few (TurnAnswer.Halted cause) ops = omega arith
+with_few (TurnAnswer.Granted e) ops = omega arith
+with_few TurnAnswer.Empty ops = omega arith
+with_few (TurnAnswer.Busy cause) ops = omega arith
+
+-- each turn completes one operation at most
+ops_few : (turns : List Turn) (m : MachineValue) → length (run_of turns m).machine.ops ≤ length m.ops + length turns
+unfolding run_of
+ops_few [] m = omega arith
+ops_few (t ∷ ts) m =
+    let rest = ops_few ts (turn_of t m).machine in
+    let one = with_few (turn_of t m).answer m.ops in
+    omega (arith, rest, one, ap length (ops_after t m))
+
+-- sorting leaves their number
+with_length : (o : Op) (ps : List Op) → length (with_op o ps) ≡ suc (length ps)
+with_length o [] = refl
+with_length o (p ∷ ps) = by (key_less o.key p.key) refl (with_length o ps) where
+  by : (b : Bool) → key_less o.key p.key ≡ b → length (with_op o ps) ≡ suc (length ps) → length (with_op o (p ∷ ps)) ≡ suc (suc (length ps))
+  by true is rest = ap length (with_op-less o p ps is)
+  by false is rest = ap length (with_op-least o p ps is) ∙ ap suc rest
+
+sorted_length : (ops : List Op) → length (sorted_ops ops) ≡ length ops
+unfolding sorted_ops
+sorted_length [] = refl
+sorted_length (o ∷ os) = with_length o (sorted_ops os) ∙ ap suc (sorted_length os)
+
+module _ (t : TreeValue) (i : ImageValue) (turns : List Turn) (tree : IsTree t) (accepted : start_refusal t i ≡ None) where
+  starts : start_of t i ≡ Ok (start_machine t i)
+  unfolding start_of
+  starts = rw accepted refl
+
+  judged_start : judged_refusal (setting_of t i) ≡ None
+  judged_start = start_refusal-tables t i ∙ ap (λ o. option_and_then judged o) accepted
+
+  abbrev after : MachineValue
+  after = (run_of turns (start_machine t i)).machine
+
+  code_is : after.code ≡ start_code i
+  unfolding start_machine
+  code_is = ap (λ (f : Frame). f.code) (run-frame turns (start_machine t i))
+
+  items_are : after.items ≡ start_items t i
+  unfolding start_machine
+  items_are = ap (λ (f : Frame). f.items) (run-frame turns (start_machine t i))
+
+  run_legal : Legal (start_code i) (start_items t i) (flat_start_of t i) (sorted_ops (ops_of_run t i turns))
+  run_legal =
+      let whole : IsRunWitnessed (flat_start_of t i) turns (start_machine t i) = subst (λ ts. IsRunWitnessed (flat_start_of t i) ts (start_machine t i)) (take-length turns) (each-turn t i (start_machine t i) tree starts turns (length turns)) in
+      subst (λ (code : List CodeWord). Legal code (start_items t i) (flat_start_of t i) (sorted_ops (ops_of_run t i turns))) code_is
+      (subst (λ (items : ItemTable). Legal after.code items (flat_start_of t i) (sorted_ops (ops_of_run t i turns))) items_are whole.machine.legal)
+
+  are_legal : AreLegal (setting_of t i) (sorted_ops (ops_of_run t i turns))
+  unfolding start_items start_words memory_items memory_words
+  are_legal = run_legal
+
+  module _ (of_bytes : IsOfBytes i) (few : length turns ≤ 1048576) where
+    keys : AllByRecursion (λ (op : Op). HasWords op.key) (ops_of_run t i turns)
+    unfolding start_machine
+    keys = run_keys turns 0 (start_machine t i) (omega (arith, few)) (start_within t i ((start-kept t i (start_machine t i) tree starts).0.each widths_bounded)) tt
+
+    fit : AllByRecursion IsOp (sorted_ops (ops_of_run t i turns))
+    fit =
+        let words = legal_words (start_code i) (start_items t i) (flat_start_of t i) (sorted_ops (ops_of_run t i turns)) (start_has_words t i tree of_bytes) run_legal in
+        let harts = leaves_few t tree in
+        both_fit (length (flat_start_of t i).harts) (omega (arith, harts, start_harts t i)) (sorted_ops (ops_of_run t i turns)) (sorted-each (λ (op : Op). HasWords op.key) (ops_of_run t i turns) keys) words
+
+    count : length (sorted_ops (ops_of_run t i turns)) ≡ length (ops_of_run t i turns)
+    count = sorted_length (ops_of_run t i turns)
+
+    number : length (ops_of_run t i turns) ≤ 1048576
+    unfolding start_machine
+    number = let most = ops_few turns (start_machine t i) in omega (arith, most, few)
+
+    pub is_accepted : IsAccepted (setting_of t i) (printed_witness t i turns) (length (ops_of_run t i turns))
+    is_accepted = record { start = judged_start; ops = sorted_ops (ops_of_run t i turns); text_is = begins (length t.levels) tree.some tree.depth (sorted_ops (ops_of_run t i turns)) fit; count = count; few = number; legal = are_legal }
+
+-- ---- the report
+
+pub report_ends : (t : TreeValue) (i : ImageValue) (turns : List Turn) → (front : List ℕ) × (report_text_of (length t.levels) turns (start_machine t i) ≡ front ++ printed_witness t i turns ++ codes "end\n")
+unfolding report_text_of report_of view_of
+report_ends t i turns = (_, refl)
