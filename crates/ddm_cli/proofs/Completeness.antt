@@ -12,12 +12,10 @@ use Rattle.tree_config.specs.declared.refusal.TreeRefusal.{TreeRefusal}
 use Rattle.run_engine.specs.Build.{build_refusal, refusal_of}
 use Rattle.run_engine.specs.declared.refusal.BuildRefusal.{BuildRefusal}
 use Rattle.text_model.specs.declared.ScheduleRefusal.{ScheduleRefusal}
-use Rattle.ddm_cli.specs.Causes.{HasNoSetting, IsOfStart, IsRefused, IsUnloaded, IsUnscheduled, IsUnstarted}
-use Rattle.witness_check.specs.Reader.{setting_of}
-use Rattle.witness_check.specs.Start as check
+use Rattle.ddm_cli.specs.Causes.{HasNoSetting, IsRefused, IsUnloaded, IsUnstarted}
 use Rattle.witness_check.specs.Start.{Setting, check_of, judged}
 use Rattle.witness_check.specs.declared.refusal.CheckRefusal.{CheckRefusal}
-use Rattle.ddm_cli.specs.Commands.{Check, Command, Run, to_run, to_list, to_check, command_of}
+use Rattle.ddm_cli.specs.Commands.{Check, Command, Run, to_run, to_list, to_check}
 use Rattle.ddm_cli.specs.Parts.{Parts, if_judged, if_started, parts_in, parts_of, setting_at, setting_in, tree_at, turns_at, turns_of}
 use Rattle.ddm_cli.specs.Told.{ScheduleGiven, written, seeded, image_told, schedule_told}
 use Rattle.ddm_cli.specs.Top.{Both, command_text, list_of, text_of, text_with, verdict_in, verdict_of, IsJudged, StatusHasCause, Completes, NoRun, NotAccepted, NothingFailed, NoVerdict, RefusesImage}

@@ -1,5 +1,5 @@
 -- Why there is no machine and no setting of an image file, from what its image comes to.
-use Rattle.std.proofs.Common.{◌≡◌, ℕ, List, Option, Some, None, Result, Ok, Err, refl}
+use Rattle.std.proofs.Common.{◌≡◌, ℕ, List, Option, Some, None, Result, Ok, Err}
 use Rattle.std.specs.Prelude.{IfOk, IfSome}
 use Rattle.tree_model.specs.Start.Sources.{TreeValue, ImageValue}
 use Rattle.elf_load.specs.ElfFile.{image_of}

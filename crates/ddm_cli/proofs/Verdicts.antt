@@ -1,17 +1,15 @@
 -- What a reader says of a witness that was given to it in pieces, as what the whole file comes to.
 use Rattle.std.proofs.Common.{◌≡◌, ℕ, ◌+◌, ◌≤◌, Bool, true, false, cond, nat_lt, List, [], ◌++◌, length, take, drop, Option, Some, None, Result, Ok, Err, refl, sym, ap, subst, ◌∙◌, arith, append_assoc, length-append}
-use Rattle.std.specs.Prelude.{IfSome, IsSome, is_none}
+use Rattle.std.specs.Prelude.{IfSome}
 use Rattle.std.proofs.lemmas.Bool.Decides.{nat_tests}
 use Rattle.std.proofs.lemmas.List.{append-nil, length-take-le}
-use Rattle.ddm_outside.specs.Causes.{Rose}
 use Rattle.ddm_outside.specs.Telling.{ReadsPart}
 use Rattle.report.proofs.Written.{rose_before}
 use Rattle.report.specs.declared.roles.FileRole.TheVariants.{ImageFile, TreeFile, ScheduleFile, WitnessFile, CheckpointFile}
-use Rattle.tree_model.specs.Start.Sources.{TreeValue, ImageValue}
-use Rattle.elf_load.specs.ElfFile.{image_of}
+use Rattle.tree_model.specs.Start.Sources.{TreeValue}
 use Rattle.witness_check.specs.Judging.{Standing, answer_of, going, lines_of, refused, standing_of, text_limit}
-use Rattle.witness_check.specs.Reader.{ReaderView, begun, fed, feed_answer, reader_after, setting_of}
-use Rattle.witness_check.specs.Start.{Setting, check_of, machine_of, program_of, start_refusal}
+use Rattle.witness_check.specs.Reader.{ReaderView, begun, fed, feed_answer, reader_after}
+use Rattle.witness_check.specs.Start.{Setting, machine_of, program_of}
 use Rattle.witness_check.specs.declared.refusal.CheckRefusal.{CheckRefusal}
 use Rattle.witness_check.specs.declared.refusal.CheckRefusal.TheVariants as refusal
 use Rattle.witness_check.proofs.Pieces.{answer_is, nothing_yet, piece_more, refused_stays}

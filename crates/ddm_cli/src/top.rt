@@ -127,7 +127,7 @@ fn answer<F: Shelf, K: Sink>(alloc: Global, words: &[String], files: &mut F, out
 }
 
 /// Follows the words of a command: its text goes to `out`, and the line of a fault to `faults_out`. The tree is read first, then the
-/// image, then the schedule, and nothing is written before all that the command names is read.
+/// image, then the schedule or the witness, and nothing is written before all that the command names is read.
 pub fn ddm_main<F: Shelf, K: Sink>(
     alloc: Global,
     words: &[String],

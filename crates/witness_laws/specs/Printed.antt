@@ -1,7 +1,7 @@
 -- The witness that a run prints.
 -- Letters: t is a tree, i an image, s a segment.
 -- To be believed: it is what is claimed of every run.
-use Rattle.std.specs.Prelude.{◌≡◌, ℕ, ◌<◌, ◌≤◌, List, ◌++◌, length, None, codes}
+use Rattle.std.specs.Prelude.{◌≡◌, ℕ, ◌<◌, ◌≤◌, List, ◌++◌, length, None, Ok, codes}
 use Rattle.std.specs.List.{AllByRecursion}
 use Rattle.ddm_types.specs.declared.turns.Turn.{Turn}
 use Rattle.ddm_types.specs.declared.operations.Op.{Op}
@@ -13,6 +13,7 @@ use Rattle.text_model.specs.Report.{op_lines}
 use Rattle.text_model.specs.Run.{report_text_of}
 use Rattle.bus_laws.specs.IsTree.{IsTree}
 use Rattle.witness_check.specs.Reader.{setting_of}
+use Rattle.witness_check.specs.Start.{check_of}
 use Rattle.witness_check.specs.Witness.{IsAccepted, IsWord}
 
 -- the image is made of bytes, and begins at an address
@@ -37,3 +38,8 @@ ReportsEndWithTheWitness = (t : TreeValue) (i : ImageValue) (turns : List Turn)
 abbrev pub PrintedWitnessesAreAccepted : Type 0
 PrintedWitnessesAreAccepted = (t : TreeValue) (i : ImageValue) (turns : List Turn) → IsTree t → IsOfBytes i → start_refusal t i ≡ None → length turns ≤ 1048576
     → IsAccepted (setting_of t i) (printed_witness t i turns) (length (ops_of_run t i turns))
+
+-- so that the checker comes to their number
+abbrev pub PrintedWitnessesAreJudgedLegal : Type 0
+PrintedWitnessesAreJudgedLegal = (t : TreeValue) (i : ImageValue) (turns : List Turn) → IsTree t → IsOfBytes i → start_refusal t i ≡ None → length turns ≤ 1048576
+    → check_of (setting_of t i) (printed_witness t i turns) ≡ Ok (length (ops_of_run t i turns))

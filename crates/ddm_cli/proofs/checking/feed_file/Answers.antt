@@ -1,5 +1,5 @@
 use Rattle.std.proofs.Common.{◌+◌, ◌∙◌, sym, refl, arith}
-use Rattle.ddm_cli.proofs.Verdicts.{all_fed, few_fed, long_fed, nothing_fed, piece_fed}
+use Rattle.ddm_cli.proofs.Verdicts.{few_fed, long_fed, nothing_fed, piece_fed}
 use Rattle.ddm_cli.proofs.checking.feed_file.Goals as goal
 
 pub reading-init : goal.reading-init

@@ -1,4 +1,4 @@
-use Rattle.std.proofs.Common.{Ok, Err, sym, ◌∙◌}
+use Rattle.std.proofs.Common.{Ok, Err}
 use Rattle.ddm_cli.proofs.Verdicts.{comes_to}
 use Rattle.ddm_cli.proofs.checking.lines_in.Goals as goal
 
