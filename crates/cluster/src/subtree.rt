@@ -7,7 +7,7 @@ use ddm_types::{
 use item_states::DownEntry;
 use rv_hart::Hart;
 use std::alloc::Global;
-use tree_model::{LeafSpot, TreeChild};
+use tree_model::{BusTurn, LeafSpot, TreeChild};
 
 impl<const WAYS: usize, const WORDS: usize> Subtree<WORDS> for Cluster<WAYS, WORDS> {
     fn label(&self) -> TreeChild {
@@ -26,6 +26,10 @@ impl<const WAYS: usize, const WORDS: usize> Subtree<WORDS> for Cluster<WAYS, WOR
     ) {
         self.dir
             .turn(code, items, path, rest, present, turn, answer);
+    }
+
+    fn grants_below(&self, bus: BusNo, path: &[ChildNo], turn: BusTurn) -> bool {
+        self.dir.grants_below(bus, path, turn)
     }
 
     fn path_up(&self, alloc: Global, name: &Named) -> Result<Option<Vec<ChildNo>>, NoMemory> {

@@ -15,3 +15,4 @@ pub mod FoundCopy
 pub mod Gathered
 pub mod LeafList
 pub mod Places
+pub mod Asking

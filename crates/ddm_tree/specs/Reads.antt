@@ -1,10 +1,13 @@
 -- What is read of a leaf, or of a directory and its children, where a node is known to be one.
 -- Letters: n is a node, v a leaf, d a directory over the nodes ns, x an item, c a child.
 -- To be believed with the contracts: it is what the calls that read give.
-use Rattle.std.specs.Prelude.{ℕ, List, length, Option, Some, None, option_map, slice_get}
+use Rattle.std.specs.Prelude.{ℕ, Bool, true, false, List, length, Option, Some, None, option_map, slice_get}
+use Rattle.ddm_types.specs.declared.keys.Stamp.{Stamp}
 use Rattle.ddm_types.specs.declared.sizes.Hold.{Hold}
 use Rattle.ddm_types.specs.declared.sizes.LeafState.{LeafState}
+use Rattle.ddm_types.specs.declared.turns.Turn.{Turn}
 use Rattle.rv_hart.specs.HartState.{HartState}
+use Rattle.tree_model.specs.declared.BusTurn.{BusTurn}
 use Rattle.tree_model.specs.declared.CopyPlace.{CopyPlace}
 use Rattle.tree_model.specs.declared.LeafSpot.{LeafSpot}
 use Rattle.tree_model.specs.declared.TreeChild.{TreeChild}
@@ -14,9 +17,11 @@ use Rattle.tree_model.specs.State.Blank.{no_hart}
 use Rattle.tree_model.specs.State.Leaf.{LeafEntry, leaf_entry, spot_at}
 use Rattle.tree_model.specs.State.Directory.{parked_words, parked_place, queue_of}
 use Rattle.tree_model.specs.State.Child.{child_label, child_hold}
+use Rattle.tree_model.specs.Turns.Bus.{bus_step}
 use Rattle.tree_model.specs.Turns.Children.{child_at}
 use Rattle.tree_model.specs.Turns.Found.{down_place, queue_words}
 use Rattle.tree_model.specs.Turns.Machine.{ask_leaf, ask_bus}
+use Rattle.split_bus.specs.Outcomes.{is_granted}
 
 -- a leaf's hart, with how many instructions it has completed
 abbrev pub node_hart : Node → HartState
@@ -72,6 +77,19 @@ own_place x d = first_some (option_map (λ k. CopyPlace.DownList d.bus k) (down_
 
 abbrev pub own_words : ℕ → DirValue → Option (List ℕ)
 own_words x d = first_some (queue_words (queue_of x d.down)) (parked_words x d)
+
+-- a turn of the bus below a directory would be granted, where the bus above has this present stamp
+abbrev pub node_grants : Stamp → BusTurn → Node → Bool
+node_grants above t (leaf_node v) = false
+node_grants above t (dir_node d ns) = is_granted (bus_step above t d (children ns)).answer
+
+-- it is a Down, Request or Reply turn
+abbrev pub is_down_request_or_reply : Turn → Bool
+is_down_request_or_reply (Turn.Down bus) = true
+is_down_request_or_reply (Turn.Request bus child) = true
+is_down_request_or_reply (Turn.Reply bus child) = true
+is_down_request_or_reply (Turn.Hart hart victim) = false
+is_down_request_or_reply (Turn.Leave bus child choice) = false
 
 -- ---- what is read of a machine
 

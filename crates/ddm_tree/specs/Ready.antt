@@ -60,3 +60,10 @@ pub record IsItemIn (x : ℕ) (n : Node) : Type 0 where
   pub items : ℕ
   pub within : all_within items n ≡ true
   pub below : x < items
+
+-- the same where a bus is asked what it would do, whatever the counts are
+pub record IsAskable (width : ℕ) (n : Node) : Type 0 where
+  pub fits : width < 2 ^ 32
+  pub items : ℕ
+  pub rooms : all_within items n ≡ true
+  pub buses : widths_fit (skeleton n) ≡ true

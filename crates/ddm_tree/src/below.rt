@@ -8,10 +8,11 @@ ghost use Rattle.tree_model.specs.Turns.Machine.{named_by, bus_turn_of};
 ghost use Rattle.tree_model.specs.Turns.Children.{child_at};
 ghost use Rattle.tree_model.specs.Turns.Tree.{leaf_of_number, bus_of_number};
 ghost use Rattle.item_states.specs.Parts.{node_items};
+ghost use Rattle.split_bus.specs.Outcomes.{goes_on_with};
 ghost use Rattle.ddm_tree.specs.Path.{node_at, present_at, put_at, node_answer, node_turned};
 ghost use Rattle.ddm_tree.specs.Named.{name_of};
-ghost use Rattle.ddm_tree.specs.Ready.{IsReady, Leads, LeadsBelow, HasChild, IsChild, IsItemOf};
-ghost use Rattle.ddm_tree.specs.Reads.{node_hart, node_entry, node_children, node_child, node_child_hold, node_down, node_down_len, node_parked};
+ghost use Rattle.ddm_tree.specs.Ready.{IsAskable, IsReady, Leads, LeadsBelow, HasChild, IsChild, IsItemOf};
+ghost use Rattle.ddm_tree.specs.Reads.{node_hart, node_entry, node_children, node_child, node_child_hold, node_down, node_down_len, node_grants, node_parked};
 
 use crate::named::Named;
 use crate::subtree::Subtree;
@@ -21,8 +22,8 @@ use ddm_types::{
 };
 use item_states::{DownEntry, Parent};
 use rv_hart::Hart;
-use split_bus::grant_into;
-use tree_model::{LeafSpot, TreeChild};
+use split_bus::{grant_into, would_grant};
+use tree_model::{BusTurn, LeafSpot, TreeChild};
 
 /// The child of a directory that a path leads to, and the rest of the path.
 fn next<'a, 'b, const WORDS: usize, P: Parent<WORDS>, C: Subtree<WORDS>>(
@@ -38,6 +39,7 @@ fn next<'a, 'b, const WORDS: usize, P: Parent<WORDS>, C: Subtree<WORDS>>(
     ensures node { node_at path.now (dir_node (P.state parent.now) (nodes (map C.value children.now))) ≡ node_at result.1.now (C.value result.0.now) }
     ensures present { (s : Stamp) → present_at path.now s (dir_node (P.state parent.now) (nodes (map C.value children.now))) ≡ present_at result.1.now (stamp_of (P.state parent.now)) (C.value result.0.now) }
     ensures fits { widths_fit (skeleton (dir_node (P.state parent.now) (nodes (map C.value children.now)))) ≡ true → widths_fit (skeleton (C.value result.0.now)) ≡ true }
+    ensures askable { IsAskable WORDS (dir_node (P.state parent.now) (nodes (map C.value children.now))) → IsAskable WORDS (C.value result.0.now) }
 {
     match path.split_first() {
         Some((child, rest)) => (&children[child.0 as usize], rest),
@@ -96,6 +98,28 @@ pub(crate) fn turn_under<const WORDS: usize, P: Parent<WORDS>, C: Subtree<WORDS>
             );
         }
         None => grant_into(parent, children, present, on_bus(turn), answer),
+    }
+}
+
+/// Whether a Down, Request or Reply turn of a bus, of a directory or below it, would be granted.
+pub(crate) fn grants_under<const WORDS: usize, P: Parent<WORDS>, C: Subtree<WORDS>>(
+    parent: &P,
+    children: &[C],
+    bus: BusNo,
+    path: &[ChildNo],
+    turn: BusTurn,
+) -> bool
+    requires askable { IsAskable WORDS (dir_node (P.state parent.now) (nodes (map C.value children.now))) }
+    requires kind { goes_on_with turn ≡ true }
+    requires leads { Leads (bus_of_number bus) path.now (dir_node (P.state parent.now) (nodes (map C.value children.now))) }
+    requires child { HasChild turn (node_at path.now (dir_node (P.state parent.now) (nodes (map C.value children.now)))) }
+    ensures { (above : Stamp) → result ≡ node_grants above turn (node_at path.now (dir_node (P.state parent.now) (nodes (map C.value children.now)))) }
+{
+    if path.is_empty() {
+        would_grant(parent, children, turn)
+    } else {
+        let (child, rest) = next(parent, children, Named::Bus(bus), path);
+        child.grants_below(bus, rest, turn)
     }
 }
 

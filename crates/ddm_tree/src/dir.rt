@@ -5,8 +5,8 @@ ghost use Rattle.tree_model.specs.State.Child.{child_full_for, child_take_data, 
 ghost use Rattle.item_states.specs.Parts.{node_items};
 
 use crate::below::{
-    child_under, children_under, down_len_under, down_under, entry_under, hart_under, hold_under,
-    parked_under, stamp_under, turn_under,
+    child_under, children_under, down_len_under, down_under, entry_under, grants_under, hart_under,
+    hold_under, parked_under, stamp_under, turn_under,
 };
 use crate::found::{Found, found_among, own_copy};
 use crate::named::Named;
@@ -20,7 +20,7 @@ use directory::DirState;
 use item_states::{Agent, DownEntry, Parent};
 use rv_hart::Hart;
 use std::alloc::Global;
-use tree_model::{LeafSpot, TreeChild};
+use tree_model::{BusTurn, LeafSpot, TreeChild};
 
 /// A directory over its children.
 #[derive(Drop)]
@@ -145,6 +145,10 @@ impl<const WORDS: usize, C: Subtree<WORDS>> Subtree<WORDS> for Dir<WORDS, C> {
             turn,
             answer,
         );
+    }
+
+    fn grants_below(&self, bus: BusNo, path: &[ChildNo], turn: BusTurn) -> bool {
+        grants_under(&self.state, &self.children, bus, path, turn)
     }
 
     fn path_up(&self, alloc: Global, name: &Named) -> Result<Option<Vec<ChildNo>>, NoMemory> {

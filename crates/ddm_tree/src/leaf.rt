@@ -10,7 +10,7 @@ use item_states::DownEntry;
 use leaf_protocol::Leaf;
 use rv_hart::Hart;
 use std::alloc::Global;
-use tree_model::{LeafSpot, TreeChild};
+use tree_model::{BusTurn, LeafSpot, TreeChild};
 
 impl<const WAYS: usize, const WORDS: usize> Subtree<WORDS> for Leaf<WAYS, WORDS> {
     fn label(&self) -> TreeChild {
@@ -29,6 +29,10 @@ impl<const WAYS: usize, const WORDS: usize> Subtree<WORDS> for Leaf<WAYS, WORDS>
     ) {
         let now = key_on(present, path, self.hart().done());
         self.hart_turn_into(code, items, now, victim(turn), answer);
+    }
+
+    fn grants_below(&self, _bus: BusNo, _path: &[ChildNo], _turn: BusTurn) -> bool {
+        false
     }
 
     fn path_up(&self, alloc: Global, name: &Named) -> Result<Option<Vec<ChildNo>>, NoMemory> {

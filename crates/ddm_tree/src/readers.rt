@@ -3,24 +3,25 @@ ghost use Rattle.ddm_types.specs.ItemTable.{item_count};
 ghost use Rattle.tree_model.specs.State.Shape.{IsShaped, tree_counts};
 ghost use Rattle.tree_model.specs.State.Values.{root_of};
 ghost use Rattle.tree_model.specs.Turns.Found.{found_copy};
-ghost use Rattle.tree_model.specs.Turns.Machine.{child_count, child_hold_of, child_of, down_entry_of, granted_of, grants_of, is_child_of, now_of};
+ghost use Rattle.tree_model.specs.Turns.Machine.{child_count, child_hold_of, child_of, down_entry_of, granted_of, grants_of, is_child_of, named_by, names_part, now_of, turn_of};
+ghost use Rattle.split_bus.specs.Outcomes.{is_granted};
 ghost use Rattle.tree_model.specs.Turns.Tree.{leaf_of_number, bus_of_number};
 ghost use Rattle.ddm_tree.specs.Machine.{is_part};
 ghost use Rattle.ddm_tree.specs.Rules.{KeepsRules};
 ghost use Rattle.ddm_tree.specs.Ready.{Leads};
-ghost use Rattle.ddm_tree.specs.Reads.{counted_hart_of, down_len_of, entry_at, parked_at};
+ghost use Rattle.ddm_tree.specs.Reads.{counted_hart_of, down_len_of, entry_at, is_down_request_or_reply, parked_at};
 
 use crate::below::{
-    child_under, children_under, down_len_under, down_under, entry_under, hart_under, hold_under,
-    parked_under, stamp_under,
+    child_under, children_under, down_len_under, down_under, entry_under, grants_under, hart_under,
+    hold_under, parked_under, stamp_under,
 };
 use crate::found::{Found, found_among};
 use crate::machine::Machine;
 use crate::subtree::Subtree;
-use crate::turns::key_on;
+use crate::turns::{key_on, on_bus};
 use ddm_types::{
-    BusNo, ChildNo, HartNo, Hold, ItemId, Items, Key, LeafNo, LeafState, Op, TreeCounts, TxKind,
-    Words,
+    BusNo, ChildNo, HartNo, Hold, ItemId, Items, Key, LeafNo, LeafState, Op, TreeCounts, Turn,
+    TxKind, Words,
 };
 use item_states::{DownEntry, Parent};
 use rv_hart::Hart;
@@ -152,6 +153,17 @@ impl<const WORDS: usize, C: Subtree<WORDS>> Machine<WORDS, C> {
         }
     }
 
+    /// Whether a Down, Request or Reply turn would be granted. It takes no memory.
+    pub fn would_grant(&self, turn: Turn) -> bool
+        requires kind { is_down_request_or_reply turn ≡ true }
+        requires named { names_part turn self.now.machine ≡ true }
+        ensures { result ≡ is_granted (turn_of turn self.now.machine).answer }
+    {
+        let bus = bus_of(&turn);
+        let path = self.bus_path(bus);
+        grants_under(&self.top, &self.children, bus, path, on_bus(turn))
+    }
+
     /// The path from the top to a leaf.
     fn leaf_path(&self, leaf: LeafNo) -> &[ChildNo]
         requires { is_part (leaf_of_number leaf) self.now.machine ≡ true }
@@ -203,5 +215,19 @@ fn granted_of(traffic: &Traffic, kind: TxKind) -> u32
         TxKind::ExclusiveTx => traffic.exclusives,
         TxKind::InjectTx => traffic.injects,
         TxKind::OutTx => traffic.outs,
+    }
+}
+
+/// The bus of a turn.
+fn bus_of(turn: &Turn) -> BusNo
+    requires { is_down_request_or_reply turn.now ≡ true }
+    ensures { named_by turn.now ≡ bus_of_number result }
+{
+    match turn {
+        Turn::Down { bus }
+        | Turn::Request { bus, .. }
+        | Turn::Reply { bus, .. }
+        | Turn::Leave { bus, .. } => *bus,
+        Turn::Hart { .. } => unreachable!(),
     }
 }

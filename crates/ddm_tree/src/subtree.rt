@@ -5,11 +5,13 @@ ghost use Rattle.tree_model.specs.State.Shape.{skeleton, widths_fit};
 ghost use Rattle.tree_model.specs.Turns.Found.{found_of, place_found, words_found};
 ghost use Rattle.tree_model.specs.Turns.Machine.{named_by, bus_turn_of};
 ghost use Rattle.tree_model.specs.Turns.Tree.{leaf_of_number, bus_of_number};
+ghost use Rattle.ddm_types.specs.declared.keys.Stamp.{Stamp};
 ghost use Rattle.item_states.specs.Parts.{node_items};
+ghost use Rattle.split_bus.specs.Outcomes.{goes_on_with};
 ghost use Rattle.ddm_tree.specs.Path.{path_to, node_at, present_at, put_at, node_answer, node_turned};
 ghost use Rattle.ddm_tree.specs.Named.{name_of};
-ghost use Rattle.ddm_tree.specs.Ready.{IsReady, Leads, LeadsBelow, HasChild, IsChild, IsItemIn, IsItemOf};
-ghost use Rattle.ddm_tree.specs.Reads.{node_hart, node_entry, node_children, node_child, node_child_hold, node_down, node_down_len, node_parked};
+ghost use Rattle.ddm_tree.specs.Ready.{IsAskable, IsReady, Leads, LeadsBelow, HasChild, IsChild, IsItemIn, IsItemOf};
+ghost use Rattle.ddm_tree.specs.Reads.{node_hart, node_entry, node_children, node_child, node_child_hold, node_down, node_down_len, node_grants, node_parked};
 
 use crate::found::Found;
 use crate::named::Named;
@@ -20,7 +22,7 @@ use ddm_types::{
 use item_states::{Agent, DownEntry};
 use rv_hart::Hart;
 use std::alloc::Global;
-use tree_model::{LeafSpot, TreeChild};
+use tree_model::{BusTurn, LeafSpot, TreeChild};
 
 /// A part of the tree below a bus. A path has the child numbers from this part down to a leaf or a bus.
 pub trait Subtree<const WORDS: usize>: Agent<WORDS> {
@@ -46,6 +48,14 @@ pub trait Subtree<const WORDS: usize>: Agent<WORDS> {
         requires child { HasChild (bus_turn_of turn) (node_at rest.now (Self.value self.old)) }
         ensures answer { answer.new ≡ node_answer code.now items.now turn path.now (present_at rest.now present (Self.value self.old)) (node_at rest.now (Self.value self.old)) }
         ensures after { Self.value self.new ≡ put_at rest.now (node_turned code.now items.now turn path.now (present_at rest.now present (Self.value self.old)) (node_at rest.now (Self.value self.old))) (Self.value self.old) };
+
+    /// Whether a Down, Request or Reply turn of this bus would be granted.
+    fn grants_below(&self, bus: BusNo, path: &[ChildNo], turn: BusTurn) -> bool
+        requires askable { IsAskable WORDS (Self.value self.now) }
+        requires kind { goes_on_with turn ≡ true }
+        requires leads { LeadsBelow (bus_of_number bus) path.now (Self.value self.now) }
+        requires child { HasChild turn (node_at path.now (Self.value self.now)) }
+        ensures { (above : Stamp) → result ≡ node_grants above turn (node_at path.now (Self.value self.now)) };
 
     /// The path from here to a leaf or a bus, from its end on; None where it isn't in this part.
     fn path_up(&self, alloc: Global, name: &Named) -> Result<Option<Vec<ChildNo>>, NoMemory>

@@ -5,3 +5,4 @@ pub mod Found
 pub mod Erase
 pub mod Ready
 pub mod Outcomes
+pub mod Granting

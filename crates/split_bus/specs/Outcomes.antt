@@ -1,12 +1,12 @@
 -- What a turn of a bus needs to be safe, and its outcome part by part.
 -- To be believed: contracts of code speak of it.
-use Rattle.std.specs.Prelude.{◌≡◌, ℕ, ◌+◌, ◌^◌, ◌<◌, List, length, All, ⊤}
+use Rattle.std.specs.Prelude.{◌≡◌, ℕ, ◌+◌, ◌^◌, ◌<◌, Bool, true, false, List, length, All, ⊤}
 use Rattle.ddm_types.specs.declared.answers.TurnAnswer.{TurnAnswer}
 use Rattle.tree_model.specs.declared.BusTurn.{BusTurn}
 use Rattle.tree_model.specs.State.Lists.{rest_of}
 use Rattle.tree_model.specs.State.Directory.{front_taken}
 use Rattle.tree_model.specs.State.Values.{DownValue, DirValue, Node}
-use Rattle.tree_model.specs.Turns.Grant.{Outcome}
+use Rattle.tree_model.specs.Turns.Grant.{Judged, nothing_there, refused, granted, Outcome}
 use Rattle.item_states.specs.Parts.{node_items}
 
 -- the answer, the parent and the children after a turn are those of the outcome
@@ -41,3 +41,27 @@ NamesOneOf count BusTurn.Down = ⊤
 NamesOneOf count (BusTurn.Request c) = c < count
 NamesOneOf count (BusTurn.Reply c) = c < count
 NamesOneOf count (BusTurn.Leave c choice) = c < count
+
+-- ---- what would be granted
+
+abbrev pub grants : Judged → Bool
+grants nothing_there = false
+grants (refused cause) = false
+grants (granted g) = true
+
+abbrev pub is_granted : TurnAnswer → Bool
+is_granted (TurnAnswer.Granted e) = true
+is_granted _ = false
+
+-- Down, Request or Reply: what is under way goes on
+abbrev pub goes_on_with : BusTurn → Bool
+goes_on_with BusTurn.Down = true
+goes_on_with (BusTurn.Request c) = true
+goes_on_with (BusTurn.Reply c) = true
+goes_on_with (BusTurn.Leave c choice) = false
+
+-- what looks at an item needs: the parent and each child keep something of it
+pub record IsKept (width x : ℕ) (p : DirValue) (ns : List Node) : Type 0 where
+  pub words_fit : width < 2 ^ 32
+  pub in_range : x < length p.items
+  pub have : HaveItem x ns

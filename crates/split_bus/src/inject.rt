@@ -93,7 +93,7 @@ fn inject_to_read<const WORDS: usize, P: Parent<WORDS>, C: Agent<WORDS>>(
 }
 
 /// Who takes an inject where nobody reads: a child with room, the lowest that waits for the item before the others.
-fn inject_taker<const WORDS: usize, P: Parent<WORDS>, C: Agent<WORDS>>(
+pub(crate) fn inject_taker<const WORDS: usize, P: Parent<WORDS>, C: Agent<WORDS>>(
     parent: &P,
     children: &[C],
     entry: &DownEntry<WORDS>,

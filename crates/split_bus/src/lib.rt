@@ -4,6 +4,7 @@
 mod answers;
 mod children;
 mod down;
+mod foreseen;
 mod hearers;
 mod inject;
 mod leave;
@@ -16,4 +17,5 @@ mod sought;
 mod told;
 mod turns;
 
+pub use foreseen::would_grant;
 pub use turns::{grant, grant_into};

@@ -17,7 +17,7 @@ use ddm_types::{ChildNo, ItemId, PendingWhy, Place, QueueName, Stamp, TurnAnswer
 use item_states::{Agent, DownEntry, Parent, ParentList};
 
 /// The first list that needs a place and is full.
-fn full_to_erase<const WORDS: usize, P: Parent<WORDS>, C: Agent<WORDS>>(
+pub(crate) fn full_to_erase<const WORDS: usize, P: Parent<WORDS>, C: Agent<WORDS>>(
     parent: &P,
     children: &[C],
     above: Stamp,

@@ -2,6 +2,7 @@
 use Rattle.std.proofs.Common.{arith}
 use Rattle.ddm_tree.specs.Named.{name_of}
 use Rattle.ddm_tree.proofs.Steps.{step-inside, step-fits, step-leads, step-below, step-node, step-present}
+use Rattle.ddm_tree.proofs.Asking.{step-askable}
 use Rattle.ddm_tree.proofs.below.next.Goals as goal
 
 pub offset_bounds-children-child-inside : goal.offset_bounds-children-child-inside
@@ -33,3 +34,7 @@ returns-clause-fits g c =
 pub returns-clause-below : goal.returns-clause-below
 returns-clause-below g c =
     step-below g.C.Agent.value (g.P.Parent.state c.args.parent.now) c.args.children.now (name_of c.args.name) c.args.path.now c.in-Some.child.now c.in-Some.rest.now c.in-Some.ensures.cases.0 c.requires.leads c.index-children-child.result (rw c.child.view_is at c.index-children-child.is)
+
+pub returns-clause-askable : goal.returns-clause-askable
+returns-clause-askable g c askable =
+    step-askable g.C.Agent.value (g.P.Parent.state c.args.parent.now) c.args.children.now g.row.WORDS askable (name_of c.args.name) c.args.path.now c.in-Some.child.now c.in-Some.rest.now c.in-Some.ensures.cases.0 c.requires.leads c.index-children-child.result (rw c.child.view_is at c.index-children-child.is)
