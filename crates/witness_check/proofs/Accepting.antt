@@ -91,7 +91,7 @@ accepted p machine made front (byte ∷ text) lines few e =
 
 -- ---- and what is so is accepted
 
-other_byte_step : (p : Program) (machine : FlatMachine) (made : ℕ) (front : List ℕ) (byte : ℕ) → made < 1048576 → nat_eq byte 10 ≡ false → length front < 160
+pub other_byte_step : (p : Program) (machine : FlatMachine) (made : ℕ) (front : List ℕ) (byte : ℕ) → made < 1048576 → nat_eq byte 10 ≡ false → length front < 160
     → with_byte p (going machine made front) byte ≡ going machine made (front ++ byte ∷ [])
 unfolding with_byte
 other_byte_step p machine made front byte room other short =
@@ -103,11 +103,11 @@ line_end_step : (p : Program) (machine : FlatMachine) (made : ℕ) (line : List 
 unfolding with_byte
 line_end_step p machine made line room = ap (λ d. in_text d p machine made line 10) (lt-ltb made 1048576 room)
 
-is_other : (d : Bool) → not d ≡ true → d ≡ false
+pub is_other : (d : Bool) → not d ≡ true → d ≡ false
 is_other true e = absurd (cc e)
 is_other false e = refl
 
-going_on : (p : Program) (machine : FlatMachine) (made : ℕ) (front line rest : List ℕ) → made < 1048576 → Lacks 10 line → length front + length line ≤ 160
+pub going_on : (p : Program) (machine : FlatMachine) (made : ℕ) (front line rest : List ℕ) → made < 1048576 → Lacks 10 line → length front + length line ≤ 160
     → lines_of p (going machine made front) (line ++ rest) ≡ lines_of p (going machine made (front ++ line)) rest
 going_on p machine made front [] rest room lacks short = ap (λ (f : List ℕ). lines_of p (going machine made f) rest) (sym (append-nil front))
 going_on p machine made front (byte ∷ line) rest room lacks short =

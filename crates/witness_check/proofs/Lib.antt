@@ -11,3 +11,4 @@ pub mod LineTexts
 pub mod Accepting
 pub mod Refusing
 pub mod Starts
+pub mod Parts

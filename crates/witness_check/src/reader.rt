@@ -1,4 +1,5 @@
-ghost use Rattle.std.specs.Prelude.{◌≡◌, ◌⊎◌, ◌≤◌, ◌+◌, ◌*◌, None, Some, IfErr, IfOk};
+ghost use Rattle.std.specs.Prelude.{◌≡◌, ◌⊎◌, ◌≤◌, ◌+◌, ◌*◌, ◌++◌, None, Some, IfErr, IfOk, length, take};
+ghost use Rattle.text_model.specs.Lines.{Lacks};
 ghost use Rattle.ddm_types.specs.ItemTable.{IsItemSize};
 ghost use Rattle.witness_check.specs.Judging.{answer_of, lines_of, with_byte};
 ghost use Rattle.witness_check.specs.Start.{start_refusal};
@@ -8,6 +9,7 @@ ghost use Rattle.witness_check.specs.declared.refusal.CheckRefusal.TheVariants a
 use crate::judge::Judge;
 use crate::lines::op_of_line;
 use crate::refusal::CheckRefusal;
+use crate::words::place_of;
 use ddm_types::Start;
 use elf_load::Image;
 use std::alloc::Global;
@@ -47,6 +49,14 @@ impl Model for WitnessReader {
     } };
 
     ghost invariant = { λ r. IsReader r.len r.made r.size };
+}
+
+// Puts bytes behind the first ones of a line.
+fn put_part(line: &mut [u8; MOST_BYTES], len: usize, part: &[u8])
+    requires { len + length part.now ≤ 160 }
+    ensures { take (len + length part.now) line.new ≡ take len line.old ++ part.now }
+{
+    line[len..len + part.len()].copy_from_slice(part);
 }
 
 impl WitnessReader {
@@ -93,22 +103,39 @@ impl WitnessReader {
         }
     }
 
+    // The line feed where a line may end, or may not.
     #[tactic(auto, unfolding(crate::specs::Judging::with_byte))]
-    fn take_byte(&mut self, byte: u8)
-        ensures { self.new ≡ with_standing (with_byte self.old.program self.old.standing byte) self.old }
+    fn take_line_feed(&mut self)
+        ensures { self.new ≡ with_standing (with_byte self.old.program self.old.standing 10) self.old }
     {
         if self.refusal.is_some() {
             return;
         }
         if self.made >= MOST_LINES {
             self.refusal = Some(CheckRefusal::TooManyLines(self.made + 1));
-        } else if byte == b'\n' {
-            self.end_line();
-        } else if self.len < MOST_BYTES {
-            self.line[self.len] = byte;
-            self.len += 1;
         } else {
+            self.end_line();
+        }
+    }
+
+    // Bytes of a line, behind those that are there.
+    fn take_part(&mut self, part: &[u8])
+        requires { Lacks 10 part.now }
+        ensures { self.new ≡ with_standing (lines_of self.old.program self.old.standing part.now) self.old }
+    {
+        if self.refusal.is_some() {
+            return;
+        }
+        if part.is_empty() {
+            return;
+        }
+        if self.made >= MOST_LINES {
+            self.refusal = Some(CheckRefusal::TooManyLines(self.made + 1));
+        } else if part.len() > MOST_BYTES - self.len {
             self.refusal = Some(CheckRefusal::BadLine(self.made + 1));
+        } else {
+            put_part(&mut self.line, self.len, part);
+            self.len += part.len();
         }
     }
 
@@ -126,8 +153,20 @@ impl WitnessReader {
     fn take_bytes(&mut self, piece: &[u8])
         ensures { self.new ≡ with_standing (lines_of self.old.program self.old.standing piece.now) self.old }
     {
-        for byte in piece {
-            self.take_byte(*byte);
+        let mut from = 0;
+        'lines: loop {
+            let rest = &piece[from..];
+            match place_of(b'\n', rest) {
+                None => {
+                    self.take_part(rest);
+                    return;
+                }
+                Some(end) => {
+                    self.take_part(&rest[..end]);
+                    self.take_line_feed();
+                    from += end + 1;
+                }
+            }
         }
     }
 

@@ -4,7 +4,8 @@ ghost use Rattle.witness_check.specs.Lines.{key_in, numbers_in};
 
 use ddm_text::read_decimal;
 
-fn place_of(separator: u8, text: &[u8]) -> Option<usize>
+/// The place of the first such byte.
+pub(crate) fn place_of(separator: u8, text: &[u8]) -> Option<usize>
     ensures { result ≡ position (λ byte. nat_eq byte separator) text.now }
 {
     text.iter().position(|byte| *byte == separator)
