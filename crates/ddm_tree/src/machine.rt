@@ -136,12 +136,7 @@ impl<const WORDS: usize, C: Subtree<WORDS>> Machine<WORDS, C> {
             answer,
         );
         self.turns += 1;
-        record(
-            answer,
-            &mut self.ops,
-            &mut self.traffic,
-            &mut self.spare,
-        );
+        record(answer, &mut self.ops, &mut self.traffic, &mut self.spare);
     }
 }
 
