@@ -1,14 +1,14 @@
 -- A seed's turns name parts of the tree that they are made for.
-use Rattle.std.proofs.Common.{◌≡◌, ℕ, zero, suc, ◌+◌, ◌-◌, ◌*◌, ◌/◌, ◌%◌, ◌<◌, ◌≤◌, Bool, true, false, List, [], ◌∷◌, length, get_or, Some, None, refl, ap, ◌∙◌, if◌then◌else◌, arith}
+use Rattle.std.proofs.Common.{◌≡◌, ℕ, zero, suc, ◌+◌, ◌-◌, ◌*◌, ◌/◌, ◌%◌, ◌<◌, Bool, true, false, List, [], ◌∷◌, length, Some, None, refl, ap, ◌∙◌, if◌then◌else◌, arith}
 use Rattle.std.specs.Prelude.{All, nat_eq, nat_lt, slice_get, slice_index_or}
 use Rattle.std.proofs.Math.Nat.{mod-lt}
-use Rattle.std.proofs.lemmas.Bool.{eqb-true, eqb-false, lt-ltb, ltb-true, ltb-false}
+use Rattle.std.proofs.lemmas.Bool.{eqb-false, lt-ltb, ltb-true, ltb-false}
 use Rattle.std.proofs.lemmas.List.Elements.{All-nil, All-cons}
 use Rattle.ddm_types.specs.declared.turns.Turn.{Turn}
 use Rattle.rand_pcg.specs.Lcg.{Lcg}
 use Rattle.rand_pcg.specs.Pcg.{pcg32}
 use Rattle.text_model.specs.Schedule.{ShapeView, child_fault, turn_fault}
-use Rattle.text_model.specs.ReadBack.{IsTurnOf, choice_of}
+use Rattle.text_model.specs.ReadBack.{IsTurnOf}
 use Rattle.text_model.specs.Seeded.{bus_turn_from, seeded_generator, seeded_turn, seeded_turns, turns_of_words, words_of}
 use Rattle.schedule_log.proofs.Seeds.{first_turn, turns_on}
 

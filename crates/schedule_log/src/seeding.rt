@@ -1,4 +1,4 @@
-ghost use Rattle.std.specs.Prelude.{◌≡◌, ◌≤◌, ◌<◌, ◌+◌, ◌*◌, length, All, IfOk};
+ghost use Rattle.std.specs.Prelude.{◌≡◌, ◌≤◌, ◌<◌, ◌+◌, ◌*◌, length, slice_index_or, All, IfOk};
 ghost use Rattle.tree_config.specs.Levels.{leaves_of, widths_of};
 ghost use Rattle.text_model.specs.ReadBack.{IsTurnOf};
 ghost use Rattle.text_model.specs.Seeded.{bus_turn_from, seeded_turn, seeded_turns};
@@ -40,14 +40,48 @@ fn bus_turn(bus: BusNo, children: u32, choice: u8, source: u32) -> Turn
     }
 }
 
+// The number of children of a bus of the tree.
+fn width_at(shape: &Shape, bus: u32) -> u32
+    requires { bus < length (widths_of shape.now) }
+    ensures width { result ≡ slice_index_or (widths_of shape.now) bus 0 }
+    ensures few { result ≤ 16 }
+{
+    shape.children(BusNo(bus)).unwrap_or(0)
+}
+
+// The numbers of children of a tree's buses, by number: a turn asks for one of them.
+fn bus_widths(alloc: Global, shape: &Shape, buses: u32) -> Result<Vec<u32>, NoMemory>
+    requires { buses ≡ length (widths_of shape.now) }
+    ensures widths { IfOk result (λ widths. widths.items ≡ widths_of shape.now) }
+    ensures few { IfOk result (λ widths. All (λ width. width ≤ 16) widths.items) }
+{
+    let mut widths = Vec::with_capacity(alloc, buses as usize)?;
+    for bus in 0..buses {
+        widths.push(width_at(shape, bus))?;
+    }
+    Ok(widths)
+}
+
+// The number of children of a bus.
+fn width_of(widths: &[u32], bus: BusNo) -> u32
+    requires { All (λ width. width ≤ 16) widths.now }
+    ensures width { result ≡ slice_index_or widths.now bus 0 }
+    ensures few { result ≤ 16 }
+{
+    match widths.get(bus.0 as usize) {
+        Some(width) => *width,
+        None => 0,
+    }
+}
+
 // The turn of two words of the generator, for a tree with this many harts and buses.
 #[tactic(auto, unfolding(text_model::specs::Seeded::seeded_turn))]
-fn seeded_turn(shape: &Shape, harts: u32, buses: u32, a: u32, b: u32) -> Turn
-    requires harts { harts ≡ leaves_of shape.now }
-    requires buses { buses ≡ length (widths_of shape.now) }
+fn seeded_turn(widths: &[u32], harts: u32, buses: u32, a: u32, b: u32) -> Turn
+    requires buses { buses ≡ length widths.now }
+    requires few { All (λ width. width ≤ 16) widths.now }
     requires some_harts { 1 ≤ harts }
     requires some_buses { 1 ≤ buses }
-    ensures { result ≡ seeded_turn (shape_view shape.now) a b }
+    ensures { result ≡ seeded_turn (record { harts = harts; buses = widths.now }) a b }
 {
     if a % 4 < 2 {
         Turn::Hart {
@@ -56,7 +90,7 @@ fn seeded_turn(shape: &Shape, harts: u32, buses: u32, a: u32, b: u32) -> Turn
         }
     } else {
         let bus = BusNo(b % buses);
-        let children = shape.children(bus).unwrap_or(0);
+        let children = width_of(widths, bus);
         bus_turn(
             bus,
             children,
@@ -74,13 +108,14 @@ pub fn seeded(alloc: Global, seed: u64, turns: u32, shape: &Shape) -> Result<Vec
 {
     let harts = shape.harts();
     let buses = shape.buses();
+    let widths = bus_widths(alloc, shape, buses)?;
     let mut words = Pcg32::new(seed, STREAM);
-    let mut list = Vec::new(alloc);
+    let mut list = Vec::with_capacity(alloc, turns as usize)?;
     for turn in 0..turns {
         let _ = turn;
         let a = words.next_word();
         let b = words.next_word();
-        list.push(seeded_turn(shape, harts, buses, a, b))?;
+        list.push(seeded_turn(&widths, harts, buses, a, b))?;
     }
     Ok(list)
 }
