@@ -1,0 +1,9 @@
+use Rattle.std.proofs.Common.{refl, arith, length, ◌∙◌}
+use Rattle.tree_model.specs.State.Values.{root_of}
+use Rattle.tree_model.specs.State.Place.{at_top}
+use Rattle.tree_model.specs.Turns.Tree.{bus_of_number, of_dir}
+use Rattle.tree_model.proofs.NamedNode.{read_in-is_some}
+use Rattle.no_jam.proofs.search.down_goes.Goals as goal
+
+pub would_grant-requires : goal.would_grant-requires
+would_grant-requires g c = (omega arith, (refl, read_in-is_some (bus_of_number c.args.bus) (of_dir (λ w d ns. length ns) 0) at_top (root_of c.args.machine.now.machine) ∙ c.requires))
