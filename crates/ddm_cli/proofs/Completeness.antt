@@ -15,7 +15,7 @@ use Rattle.text_model.specs.declared.ScheduleRefusal.{ScheduleRefusal}
 use Rattle.ddm_cli.specs.Causes.{HasNoSetting, IsRefused, IsUnloaded, IsUnstarted}
 use Rattle.witness_check.specs.Start.{Setting, check_of, judged}
 use Rattle.witness_check.specs.declared.refusal.CheckRefusal.{CheckRefusal}
-use Rattle.ddm_cli.specs.Commands.{Check, Command, Run, to_run, to_list, to_check}
+use Rattle.ddm_cli.specs.Commands.{Check, Command, Run, to_run, to_list, to_check, to_say}
 use Rattle.ddm_cli.specs.Parts.{Parts, if_judged, if_started, parts_in, parts_of, setting_at, setting_in, tree_at, turns_at, turns_of}
 use Rattle.ddm_cli.specs.Told.{ScheduleGiven, written, seeded, image_told, schedule_told}
 use Rattle.ddm_cli.specs.Top.{Both, command_text, list_of, text_of, text_with, verdict_in, verdict_of, IsJudged, StatusHasCause, Completes, NoRun, NotAccepted, NothingFailed, NoVerdict, RefusesImage}
@@ -246,6 +246,7 @@ module _ {F K : Type 0} (told : F → List ℕ → Option (List ℕ)) (faults : 
     command_refused (to_run prints r) text has calm = run_refused prints r text has calm
     command_refused (to_list tree seed count) text has calm = list_refused tree seed count text has calm
     command_refused (to_check c) text has calm = check_refused c text has calm
+    command_refused (to_say a) text has calm = λ s refused. absurd refused
 
   pub completes : (words : List (List ℕ)) (files files' : F) (out out' : K) (status : Status) → StatusHasCause told faults held failures words files files' out out' status → Completes told faults held failures words files files' out out' status
   completes words files files' out out' Done came c text said has calm quiet = inl refl

@@ -13,7 +13,7 @@ use Rattle.elf_load.specs.ElfFile.{image_of}
 use Rattle.elf_load.specs.declared.refusal.ImageRefusal.{ImageRefusal}
 use Rattle.tree_config.specs.TreeFile.{tree_of}
 use Rattle.tree_config.specs.declared.refusal.TreeRefusal.{TreeRefusal}
-use Rattle.ddm_cli.specs.Commands.{Command, to_run, to_list, to_check, command_of}
+use Rattle.ddm_cli.specs.Commands.{Command, to_run, to_list, to_check, to_say, command_of}
 use Rattle.ddm_cli.specs.Parts.{Parts, if_started, parts_in, parts_of, tree_at, turns_of}
 use Rattle.ddm_cli.specs.Told.{ScheduleGiven, image_told, schedule_told}
 use Rattle.ddm_cli.specs.Top.{FilesInOrder, IsInOrder, RunsInOrder, RunIsWitnessed}
@@ -76,4 +76,5 @@ in_order {F} told words files = by_command (command_of words) where
   by_command (Ok (to_run prints r)) = told_in_order (told files r.tree) (image_told (told files) r.image) (schedule_told (told files) r.turns)
   by_command (Ok (to_list tree seed count)) = tt
   by_command (Ok (to_check check)) = tt
+  by_command (Ok (to_say about)) = tt
   by_command (Err k) = tt

@@ -4,6 +4,8 @@
 use Rattle.std.specs.Prelude.{ℕ, ◌+◌, ◌*◌, ◌≤◌, nat_le, nat_lt, List, length, Result, Ok, Err, Option, Some, None, slice_get, option_and_then, if◌then◌else◌, bytes_eq, codes}
 use Rattle.std.specs.Result.{result_ok}
 use Rattle.ddm_text.specs.Numbers.{number_of}
+use Rattle.ddm_cli.specs.declared.command.About.{About}
+use Rattle.ddm_cli.specs.declared.command.About.TheVariants as about
 use Rattle.ddm_cli.specs.declared.command.Prints.{Prints}
 use Rattle.ddm_cli.specs.declared.command.Prints.TheVariants.{Report, Trace, Summary}
 
@@ -48,6 +50,8 @@ pub data Command : Type 0 where
   to_list : List ℕ → ℕ → ℕ → Command
   -- to judge a witness
   to_check : Check → Command
+  -- to say something of the program itself
+  to_say : About → Command
 
 abbrev run_value : ImageFrom → List ℕ → TurnsFrom → Run
 run_value image tree turns = record { image = image; tree = tree; turns = turns }
@@ -60,6 +64,7 @@ abbrev pub IsInRange : Command → Type 0
 IsInRange (to_run prints r) = IsMakeable r.image × AreFew r.turns
 IsInRange (to_list tree seed count) = count ≤ 1048576
 IsInRange (to_check c) = Unit {0}
+IsInRange (to_say a) = Unit {0}
 
 -- ---- words in their order: the command that they say, or the index of the first word at fault or of the first that is missing
 
@@ -118,6 +123,21 @@ unfoldable pub file_check : List (List ℕ) → Result Command ℕ
 file_check words =
     word_at words 1 (λ image. word_at words 2 (λ tree. word_at words 3 (λ witness. ends_at words 4 (to_check (check_value image tree witness)))))
 
+-- the command of a name
+unfoldable pub about_named : List ℕ → Option About
+about_named name =
+    if bytes_eq name (codes "run") then Some about.Run
+    else (if bytes_eq name (codes "trace") then Some about.Trace
+    else (if bytes_eq name (codes "seed") then Some about.Seed
+    else (if bytes_eq name (codes "schedule") then Some about.Schedule
+    else (if bytes_eq name (codes "make") then Some about.Make
+    else (if bytes_eq name (codes "check") then Some about.Check
+    else None)))))
+
+-- help COMMAND
+unfoldable pub help_said : List (List ℕ) → Result Command ℕ
+help_said words = on_found 1 (option_and_then about_named (slice_get words 1)) (λ a. ends_at words 2 (to_say a))
+
 abbrev pub named_command : List (List ℕ) → List ℕ → Result Command ℕ
 named_command words name =
     if bytes_eq name (codes "run") then file_run Report words
@@ -126,7 +146,10 @@ named_command words name =
     else (if bytes_eq name (codes "schedule") then seed_list words
     else (if bytes_eq name (codes "make") then made_run words
     else (if bytes_eq name (codes "check") then file_check words
-    else Err 0)))))
+    else (if bytes_eq name (codes "help") then help_said words
+    else (if bytes_eq name (codes "--help") then ends_at words 1 (to_say about.Help)
+    else (if bytes_eq name (codes "--version") then ends_at words 1 (to_say about.Version)
+    else Err 0))))))))
 
 unfoldable pub command_of : List (List ℕ) → Result Command ℕ
 command_of words = word_at words 0 (named_command words)

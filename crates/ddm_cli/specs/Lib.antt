@@ -1,3 +1,4 @@
+pub mod About
 pub mod Causes
 pub mod Code
 pub mod Commands

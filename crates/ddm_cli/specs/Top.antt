@@ -19,8 +19,9 @@ use Rattle.schedule_log.specs.Shapes.{shape_view}
 use Rattle.tree_config.specs.TreeFile.{tree_of}
 use Rattle.witness_check.specs.Start.{Setting, check_of}
 use Rattle.witness_check.specs.declared.refusal.CheckRefusal.{CheckRefusal}
+use Rattle.ddm_cli.specs.About.{about_text}
 use Rattle.ddm_cli.specs.Causes.{Accepts, HasNoSetting, IsRefused, IsUnloaded, IsUnstarted, TreeCause}
-use Rattle.ddm_cli.specs.Commands.{Check, Command, ImageFrom, Run, TurnsFrom, to_run, to_list, to_check, command_of}
+use Rattle.ddm_cli.specs.Commands.{Check, Command, ImageFrom, Run, TurnsFrom, to_run, to_list, to_check, to_say, command_of}
 use Rattle.ddm_cli.specs.Parts.{Parts, parts_of, setting_at, tree_at, turns_of}
 use Rattle.ddm_cli.specs.Printed.{Writes, legal_line, printed}
 use Rattle.ddm_cli.specs.Refusals.{build_line, image_line, tree_line, tree_line_head, tree_line_rest, witness_line}
@@ -65,6 +66,7 @@ command_text told (to_run prints r) =
 command_text told (to_list tree seed count) = option_and_then (list_of seed count) (told tree)
 command_text told (to_check c) =
     option_and_then (λ tree. option_and_then (λ image. option_and_then (verdict_of tree image) (told c.witness)) (told c.image)) (told c.tree)
+command_text told (to_say a) = Some (about_text a)
 
 -- ---- order
 
@@ -127,6 +129,7 @@ module _ {F : Type 0} (told : F → List ℕ → Option (List ℕ)) where
   HasAccepted files text (to_check c) =
       AcceptsSetting (told files c.tree) (told files c.image)
       × ((lines : ℕ) × (text ≡ legal_line lines) × IsJudged (Ok lines) (told files c.tree) (told files c.image) (told files c.witness))
+  HasAccepted files text (to_say a) = text ≡ about_text a
 
   -- the words are in the grammar, and this is what their command prints
   abbrev pub Accepted : List (List ℕ) → F → List ℕ → Type 0
@@ -141,6 +144,7 @@ module _ {F : Type 0} (told : F → List ℕ → Option (List ℕ)) where
   IsInOrder files (to_run prints r) = FilesInOrder (told files r.tree) (image_told (told files) r.image) (schedule_told (told files) r.turns)
   IsInOrder files (to_list tree seed count) = Unit {0}
   IsInOrder files (to_check c) = Unit {0}
+  IsInOrder files (to_say a) = Unit {0}
 
   abbrev pub RunIsWitnessed : List (List ℕ) → F → Type 0
   RunIsWitnessed words files = IfOk (command_of words) (IsInOrder files)
@@ -198,6 +202,7 @@ module _ {F : Type 0} (told : F → List ℕ → Option (List ℕ)) where
     NotAccepted s (to_run prints r) = NoRun s r
     NotAccepted s (to_list tree seed count) = TreeCause (told files tree) (faults files tree) (faults files' tree) s
     NotAccepted s (to_check c) = NoVerdict s c
+    NotAccepted s (to_say a) = ⊥
 
     -- why there is no text
     abbrev pub Refused : List (List ℕ) → Status → Type 0
@@ -209,6 +214,7 @@ module _ {F : Type 0} (told : F → List ℕ → Option (List ℕ)) where
     NothingFailed (to_run prints r) = (¬ FileFailed r.tree) × (¬ ImageFailed r.image) × (¬ ScheduleFailed r.turns)
     NothingFailed (to_list tree seed count) = ¬ FileFailed tree
     NothingFailed (to_check c) = (¬ FileFailed c.tree) × (¬ FileFailed c.image) × (¬ FileFailed c.witness)
+    NothingFailed (to_say a) = Unit {0}
 
 -- ---- the command
 

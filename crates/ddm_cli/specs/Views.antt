@@ -2,7 +2,7 @@
 use Rattle.ddm_cli.specs.Commands as said
 use Rattle.ddm_cli.specs.declared.command.Check.{Check}
 use Rattle.ddm_cli.specs.declared.command.Command.{Command}
-use Rattle.ddm_cli.specs.declared.command.Command.TheVariants.{Run as ToRun, List as ToList, Check as ToCheck}
+use Rattle.ddm_cli.specs.declared.command.Command.TheVariants.{Run as ToRun, List as ToList, Check as ToCheck, About as ToSay}
 use Rattle.ddm_cli.specs.declared.command.ImageSource.{ImageSource}
 use Rattle.ddm_cli.specs.declared.command.ImageSource.TheVariants.{File as ImageFile, Made}
 use Rattle.ddm_cli.specs.declared.command.Run.{Run}
@@ -27,3 +27,4 @@ abbrev pub command_from : Command → said.Command
 command_from (ToRun prints run) = said.to_run prints (run_from run)
 command_from (ToList tree seed count) = said.to_list tree.now seed count
 command_from (ToCheck check) = said.to_check (check_from check)
+command_from (ToSay about) = said.to_say about

@@ -38,6 +38,21 @@ pub struct Check<'a> {
     pub witness: &'a str,
 }
 
+/// What the program says of itself.
+#[derive(Clone, Copy, Debug, PartialEq, Eq)]
+pub enum About {
+    /// Its commands.
+    Help,
+    Version,
+    // How one of them is used.
+    Run,
+    Trace,
+    Seed,
+    Schedule,
+    Make,
+    Check,
+}
+
 /// What the words of a command say.
 #[derive(Clone, Copy)]
 pub enum Command<'a> {
@@ -50,4 +65,5 @@ pub enum Command<'a> {
     },
     /// Whether a witness is accepted.
     Check(Check<'a>),
+    About(About),
 }

@@ -1,6 +1,7 @@
 //! The command line as a library: from the words of a command and the files that they name to what is printed.
 #![tactic(auto)]
 
+mod about;
 mod checking;
 mod command;
 mod fault;

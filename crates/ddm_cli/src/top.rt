@@ -6,6 +6,7 @@ ghost use Rattle.ddm_cli.specs.Commands.{IsInRange, to_list, to_run};
 ghost use Rattle.ddm_cli.specs.Top.{Completes, HasAccepted, NoRun, NotAccepted, Offers, RunIsWitnessed, StatusHasCause, WritesAccepted, fault_line, status_of};
 ghost use Rattle.ddm_cli.specs.Views.{command_from, run_from};
 
+use crate::about::write_about;
 use crate::checking::write_check;
 use crate::command::{Command, Prints, Run};
 use crate::fault::tell;
@@ -104,6 +105,7 @@ fn write_command<F: Shelf, K: Sink>(
         Command::Run(prints, run) => write_run(alloc, files, out, prints, run),
         Command::List { tree, seed, count } => write_list(alloc, files, out, tree, seed, count),
         Command::Check(check) => write_check(alloc, files, out, check),
+        Command::About(about) => Ok(write_about(out, about)),
     }
 }
 

@@ -1,9 +1,9 @@
 ghost use Rattle.std.specs.Prelude.{◌≡◌, ◌≤◌, ◌<◌, ◌*◌, ◌+◌, map, length, Err, IfOk, IfSome, IsOk, MatchResult, None, Ok, Some, option_and_then, slice_get};
 ghost use Rattle.std.specs.String.{string_bytes};
-ghost use Rattle.ddm_cli.specs.Commands.{IsInRange, command_of, file_check, file_run, made_run, number_in, seed_list, seed_run};
+ghost use Rattle.ddm_cli.specs.Commands.{IsInRange, about_named, command_of, ends_at, file_check, file_run, help_said, made_run, number_in, seed_list, seed_run, to_say};
 ghost use Rattle.ddm_cli.specs.Views.{command_from};
 
-use crate::command::{Check, Command, ImageSource, Prints, Run, TurnSource};
+use crate::command::{About, Check, Command, ImageSource, Prints, Run, TurnSource};
 use ddm_text::read_decimal;
 
 const MOST_TURNS: u64 = 1_048_576;
@@ -173,6 +173,52 @@ fn file_check(words: &[String]) -> Result<Command<'_>, u32>
     }))
 }
 
+/// The command of a name.
+#[tactic(auto, unfolding(crate::specs::Commands::about_named))]
+fn about_named(name: &str) -> Option<About>
+    ensures { result ≡ about_named name.now }
+{
+    match name {
+        "run" => Some(About::Run),
+        "trace" => Some(About::Trace),
+        "seed" => Some(About::Seed),
+        "schedule" => Some(About::Schedule),
+        "make" => Some(About::Make),
+        "check" => Some(About::Check),
+        _ => None,
+    }
+}
+
+/// `help COMMAND`.
+#[tactic(auto, unfolding(crate::specs::Commands::help_said))]
+fn help_said(words: &[String]) -> Result<Command<'_>, u32>
+    ensures is { MatchResult result
+        (λ c. help_said (map string_bytes words.now) ≡ Ok (command_from c))
+        (λ k. help_said (map string_bytes words.now) ≡ Err k) }
+    ensures range { IfOk result (λ c. IsInRange (command_from c)) }
+{
+    let Some(about) = about_named(word(words, 1)?) else {
+        return Err(1);
+    };
+    if words.len() > 2 {
+        return Err(2);
+    }
+    Ok(Command::About(about))
+}
+
+/// `--help` and `--version`.
+fn alone(words: &[String], about: About) -> Result<Command<'_>, u32>
+    ensures is { MatchResult result
+        (λ c. ends_at (map string_bytes words.now) 1 (to_say about) ≡ Ok (command_from c))
+        (λ k. ends_at (map string_bytes words.now) 1 (to_say about) ≡ Err k) }
+    ensures range { IfOk result (λ c. IsInRange (command_from c)) }
+{
+    if words.len() > 1 {
+        return Err(1);
+    }
+    Ok(Command::About(about))
+}
+
 /// The command that the words say, or the index of the first word at fault or of the first that is missing.
 #[tactic(auto, unfolding(crate::specs::Commands::command_of))]
 pub fn command_said(words: &[String]) -> Result<Command<'_>, u32>
@@ -188,6 +234,9 @@ pub fn command_said(words: &[String]) -> Result<Command<'_>, u32>
         "schedule" => seed_list(words),
         "make" => made_run(words),
         "check" => file_check(words),
+        "help" => help_said(words),
+        "--help" => alone(words, About::Help),
+        "--version" => alone(words, About::Version),
         _ => Err(0),
     }
 }

@@ -1,12 +1,12 @@
-//! Words that are no command: the first at fault is named, or where one is missing.
+//! Words that are no command: the first at fault is named, or where one is missing. And what the program says of itself.
 
-use crate::answers::ask;
+use crate::answers::{ask, output};
 use crate::files::Files;
 use std::test::Fail;
 
 #[test]
 fn words_at_fault(rt: HostRuntime) -> Result<(), Fail> {
-    let commands: [(&[&str], u32); 21] = [
+    let commands: [(&[&str], u32); 25] = [
         (&[], 0),
         (&["walk"], 0),
         (&["run", "a", "b"], 3),
@@ -28,6 +28,10 @@ fn words_at_fault(rt: HostRuntime) -> Result<(), Fail> {
         (&["make", "1", "1"], 3),
         (&["make", "1", "1", "t", "more"], 4),
         (&["RUN", "a", "b", "c"], 0),
+        (&["help"], 1),
+        (&["help", "walk"], 1),
+        (&["help", "run", "more"], 2),
+        (&["--help", "run"], 1),
     ];
     let alloc = rt.alloc();
     let no_files = Files {
@@ -41,6 +45,26 @@ fn words_at_fault(rt: HostRuntime) -> Result<(), Fail> {
             ask(alloc, words, &no_files)?.is_refusal(2, line.as_str()),
             "{line}"
         );
+    }
+    Ok(())
+}
+
+#[test]
+fn of_itself(rt: HostRuntime) -> Result<(), Fail> {
+    let alloc = rt.alloc();
+    let no_files = Files {
+        tree: Vec::new(alloc),
+        image: Vec::new(alloc),
+        schedule: Vec::new(alloc),
+    };
+    let version = output(alloc, &["--version"], &no_files)?;
+    assert_eq!(rt; version.as_slice(), b"ddm 1\n".as_slice());
+    let help = output(alloc, &["--help"], &no_files)?;
+    for name in ["run", "trace", "seed", "schedule", "make", "check"] {
+        let said = output(alloc, &["help", name], &no_files)?;
+        let line = format!(in alloc; "ddm {name} ")?;
+        assert!(rt; said.starts_with(line.as_bytes()), "{name}");
+        assert!(rt; !said.starts_with(&help), "{name}");
     }
     Ok(())
 }

@@ -1,0 +1,54 @@
+ghost use Rattle.std.specs.Prelude.{◌≡◌};
+ghost use Rattle.ddm_outside.specs.Causes.{HasCause};
+ghost use Rattle.ddm_cli.specs.About.{about_text};
+ghost use Rattle.ddm_cli.specs.Printed.{Writes};
+
+use crate::command::About;
+use ddm_outside::{Failed, Sink};
+use report::write_all;
+
+const HELP: &[u8] =
+    b"ddm runs RV32IA programs on a Data Diffusion Machine; every run is one order of one flat memory.\n\n  ddm run IMAGE TREE SCHEDULE      the report of a run: harts, traffic, items and the witness\n  ddm trace IMAGE TREE SCHEDULE    a line for each turn, and then the report\n  ddm seed IMAGE TREE SEED TURNS   the report of the schedule of a seed\n  ddm schedule TREE SEED TURNS     the schedule of a seed\n  ddm make SEED ROUNDS TREE        the summary of a random program under a seeded schedule\n  ddm check IMAGE TREE WITNESS     whether a witness is one legal run of the flat machine\n  ddm help COMMAND                 more of one of these\n  ddm --help, ddm --version\n";
+
+const VERSION: &[u8] = b"ddm 1\n";
+
+const RUN: &[u8] =
+    b"ddm run IMAGE TREE SCHEDULE\nMakes the turns of a schedule file on the machine of an ELF image and a tree file, and prints the report.\n";
+
+const TRACE: &[u8] =
+    b"ddm trace IMAGE TREE SCHEDULE\nMakes the turns as run does, and prints a line for each with its answer, and then the report.\n";
+
+const SEED: &[u8] =
+    b"ddm seed IMAGE TREE SEED TURNS\nMakes the turns of a seeded schedule, and prints the report. SEED has 64 bits, TURNS is 0 to 1048576.\n";
+
+const SCHEDULE: &[u8] =
+    b"ddm schedule TREE SEED TURNS\nPrints the seeded schedule for a tree. SEED has 64 bits, TURNS is 0 to 1048576.\n";
+
+const MAKE: &[u8] =
+    b"ddm make SEED ROUNDS TREE\nRuns a random program, the same for every hart, under a seeded schedule of 20 turns a round and 1000,\nand prints the summary. SEED has 64 bits, ROUNDS is 1 to 50000.\n";
+
+const CHECK: &[u8] =
+    b"ddm check IMAGE TREE WITNESS\nJudges the operation lines of a report by the flat machine alone, and prints how many are legal.\n";
+
+fn about_text(about: About) -> &'static [u8]
+    ensures { result.now ≡ about_text about }
+{
+    match about {
+        About::Help => HELP,
+        About::Version => VERSION,
+        About::Run => RUN,
+        About::Trace => TRACE,
+        About::Seed => SEED,
+        About::Schedule => SCHEDULE,
+        About::Make => MAKE,
+        About::Check => CHECK,
+    }
+}
+
+/// Writes what the program says of itself.
+pub fn write_about<K: Sink>(out: &mut K, about: About) -> Result<(), Failed>
+    ensures written { Writes (K.held out.old) (K.held out.new) (about_text about) result }
+    ensures cause { HasCause (K.faults out.old) (K.faults out.new) result }
+{
+    write_all(out, about_text(about))
+}
