@@ -1,7 +1,7 @@
 -- A run of turns over a machine as the code has it.
 -- Letters: s is a machine.
 -- To be believed with the contracts: they speak of it.
-use Rattle.std.specs.Prelude.{◌≡◌, ℕ, ◌+◌, ◌-◌, ◌<◌, ◌≤◌, true, List, length, max, All}
+use Rattle.std.specs.Prelude.{◌≡◌, ℕ, ◌+◌, ◌-◌, ◌<◌, ◌≤◌, Bool, true, List, length, max, All, if◌then◌else◌}
 use Rattle.ddm_types.specs.declared.answers.TurnAnswer.{TurnAnswer}
 use Rattle.ddm_types.specs.declared.turns.Turn.{Turn}
 use Rattle.tree_model.specs.State.Values.{MachineValue}
@@ -28,6 +28,10 @@ ran ts s = record { machine = (run_of ts s.machine).machine; spare = s.spare - (
 -- with room for so many operations at least
 abbrev pub with_room : ℕ → MachineState → MachineState
 with_room n s = record s { spare = max s.spare n }
+
+-- the same where the memory for it is had
+abbrev pub roomed : Bool → ℕ → MachineState → MachineState
+roomed had n s = record s { spare = if had then max s.spare n else s.spare }
 
 -- so many turns more can be counted
 abbrev pub CanRun : List Turn → MachineState → Type 0

@@ -2,16 +2,18 @@ ghost use Rattle.std.specs.Prelude.{◌≡◌, ◌<◌, ◌≤◌, Some, true};
 ghost use Rattle.ddm_types.specs.ItemTable.{item_count};
 ghost use Rattle.tree_model.specs.State.Shape.{IsShaped, tree_counts};
 ghost use Rattle.tree_model.specs.Turns.Found.{found_copy};
-ghost use Rattle.tree_model.specs.Turns.Tree.{leaf_of_number};
+ghost use Rattle.tree_model.specs.Turns.Machine.{child_count, names_part, turn_of};
+ghost use Rattle.tree_model.specs.Turns.Tree.{bus_of_number, leaf_of_number};
+ghost use Rattle.split_bus.specs.Outcomes.{is_granted};
 ghost use Rattle.ddm_tree.specs.Machine.{is_part};
-ghost use Rattle.ddm_tree.specs.Reads.{counted_hart_of};
+ghost use Rattle.ddm_tree.specs.Reads.{counted_hart_of, is_down_request_or_reply};
 ghost use Rattle.ddm_tree.specs.Rules.{KeepsRules};
 ghost use Rattle.inspector.specs.States.{state_of};
 ghost use Rattle.any_machine.specs.Any.{depths_state};
 
 use crate::machine::Depths;
 use ddm_tree::{Dir, Found, Machine, Subtree};
-use ddm_types::{HartNo, ItemId, Items, LeafNo, LeafState, Op, TreeCounts};
+use ddm_types::{BusNo, HartNo, ItemId, Items, LeafNo, LeafState, Op, TreeCounts, Turn};
 use inspector::{find, state};
 use rv_hart::Hart;
 use tree_model::Traffic;
@@ -82,6 +84,27 @@ fn state_over<const WORDS: usize, C: Subtree<WORDS>>(
     ensures { Some result ≡ state_of leaf item machine.now.machine }
 {
     state(machine, item, leaf)
+}
+
+fn children_over<const WORDS: usize, C: Subtree<WORDS>>(
+    machine: &Machine<WORDS, Dir<WORDS, C>>,
+    bus: BusNo,
+) -> u32
+    requires { is_part (bus_of_number bus) machine.now.machine ≡ true }
+    ensures { Some result ≡ child_count bus machine.now.machine }
+{
+    machine.children(bus)
+}
+
+fn would_grant_over<const WORDS: usize, C: Subtree<WORDS>>(
+    machine: &Machine<WORDS, Dir<WORDS, C>>,
+    turn: Turn,
+) -> bool
+    requires kind { is_down_request_or_reply turn ≡ true }
+    requires named { names_part turn machine.now.machine ≡ true }
+    ensures { result ≡ is_granted (turn_of turn machine.now.machine).answer }
+{
+    machine.would_grant(turn)
 }
 
 impl<const WAYS: usize, const WORDS: usize> Depths<WAYS, WORDS> {
@@ -171,6 +194,33 @@ impl<const WAYS: usize, const WORDS: usize> Depths<WAYS, WORDS> {
             Depths::D2(machine) => state(machine, item, leaf),
             Depths::D3(machine) => state_over(machine, item, leaf),
             Depths::D4(machine) => state_over(machine, item, leaf),
+        }
+    }
+
+    /// How many children a bus has.
+    pub fn children(&self, bus: BusNo) -> u32
+        requires { is_part (bus_of_number bus) (depths_state self.now).machine ≡ true }
+        ensures { Some result ≡ child_count bus (depths_state self.now).machine }
+    {
+        match self {
+            Depths::D1(machine) => machine.children(bus),
+            Depths::D2(machine) => machine.children(bus),
+            Depths::D3(machine) => children_over(machine, bus),
+            Depths::D4(machine) => children_over(machine, bus),
+        }
+    }
+
+    /// Whether a Down, Request or Reply turn would be granted. It takes no memory.
+    pub fn would_grant(&self, turn: Turn) -> bool
+        requires kind { is_down_request_or_reply turn ≡ true }
+        requires named { names_part turn (depths_state self.now).machine ≡ true }
+        ensures { result ≡ is_granted (turn_of turn (depths_state self.now).machine).answer }
+    {
+        match self {
+            Depths::D1(machine) => machine.would_grant(turn),
+            Depths::D2(machine) => machine.would_grant(turn),
+            Depths::D3(machine) => would_grant_over(machine, turn),
+            Depths::D4(machine) => would_grant_over(machine, turn),
         }
     }
 }

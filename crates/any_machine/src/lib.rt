@@ -2,12 +2,15 @@
 //! the calls of one machine. What has to be said for each kind stands here and nowhere else.
 #![tactic(auto)]
 
+mod copying;
 mod counting;
 mod depths_reading;
 mod machine;
 mod reading;
 mod releasing;
 mod running;
+mod spared;
+mod writing;
 
 pub use machine::{AnyMachine, Depths, Machines};
 pub use releasing::release;

@@ -2,16 +2,18 @@ ghost use Rattle.std.specs.Prelude.{◌≡◌, ◌<◌, ◌≤◌, Some, true};
 ghost use Rattle.ddm_types.specs.ItemTable.{item_count};
 ghost use Rattle.tree_model.specs.State.Shape.{IsShaped, tree_counts};
 ghost use Rattle.tree_model.specs.Turns.Found.{found_copy};
-ghost use Rattle.tree_model.specs.Turns.Tree.{leaf_of_number};
+ghost use Rattle.tree_model.specs.Turns.Machine.{child_count, names_part, turn_of};
+ghost use Rattle.tree_model.specs.Turns.Tree.{bus_of_number, leaf_of_number};
+ghost use Rattle.split_bus.specs.Outcomes.{is_granted};
 ghost use Rattle.ddm_tree.specs.Machine.{is_part};
-ghost use Rattle.ddm_tree.specs.Reads.{counted_hart_of};
+ghost use Rattle.ddm_tree.specs.Reads.{counted_hart_of, is_down_request_or_reply};
 ghost use Rattle.ddm_tree.specs.Rules.{KeepsRules};
 ghost use Rattle.inspector.specs.States.{state_of};
 ghost use Rattle.any_machine.specs.Any.{machine_state, state_in};
 
 use crate::machine::{AnyMachine, Machines};
 use ddm_tree::Found;
-use ddm_types::{HartNo, ItemId, Items, LeafNo, LeafState, Op, TreeCounts};
+use ddm_types::{BusNo, HartNo, ItemId, Items, LeafNo, LeafState, Op, TreeCounts, Turn};
 use rv_hart::Hart;
 use tree_model::Traffic;
 
@@ -97,6 +99,31 @@ impl<const WORDS: usize> Machines<WORDS> {
             Machines::W4(machine) => machine.state(item, leaf),
         }
     }
+
+    /// How many children a bus has.
+    pub fn children(&self, bus: BusNo) -> u32
+        requires { is_part (bus_of_number bus) (state_in self.now).machine ≡ true }
+        ensures { Some result ≡ child_count bus (state_in self.now).machine }
+    {
+        match self {
+            Machines::W1(machine) => machine.children(bus),
+            Machines::W2(machine) => machine.children(bus),
+            Machines::W4(machine) => machine.children(bus),
+        }
+    }
+
+    /// Whether a Down, Request or Reply turn would be granted. It takes no memory.
+    pub fn would_grant(&self, turn: Turn) -> bool
+        requires kind { is_down_request_or_reply turn ≡ true }
+        requires named { names_part turn (state_in self.now).machine ≡ true }
+        ensures { result ≡ is_granted (turn_of turn (state_in self.now).machine).answer }
+    {
+        match self {
+            Machines::W1(machine) => machine.would_grant(turn),
+            Machines::W2(machine) => machine.would_grant(turn),
+            Machines::W4(machine) => machine.would_grant(turn),
+        }
+    }
 }
 
 impl AnyMachine {
@@ -112,6 +139,15 @@ impl AnyMachine {
         }
     }
 
+    pub fn items(&self) -> &Items
+        ensures { result.now ≡ (machine_state self.now).machine.items }
+    {
+        match self {
+            AnyMachine::Narrow(machine) => machine.items(),
+            AnyMachine::Wide(machine) => machine.items(),
+        }
+    }
+
     /// The operations, in order of completion.
     pub fn ops(&self) -> &[Op]
         ensures { result.now ≡ (machine_state self.now).machine.ops }
@@ -119,6 +155,41 @@ impl AnyMachine {
         match self {
             AnyMachine::Narrow(machine) => machine.ops(),
             AnyMachine::Wide(machine) => machine.ops(),
+        }
+    }
+
+    /// The state of a leaf's entry of an item.
+    pub fn state(&self, item: ItemId, leaf: LeafNo) -> Option<LeafState>
+        requires leaf { is_part (leaf_of_number leaf) (machine_state self.now).machine ≡ true }
+        requires item { item < item_count (machine_state self.now).machine.items }
+        ensures { Some result ≡ state_of leaf item (machine_state self.now).machine }
+    {
+        match self {
+            AnyMachine::Narrow(machine) => machine.state(item, leaf),
+            AnyMachine::Wide(machine) => machine.state(item, leaf),
+        }
+    }
+
+    /// How many children a bus has.
+    pub fn children(&self, bus: BusNo) -> u32
+        requires { is_part (bus_of_number bus) (machine_state self.now).machine ≡ true }
+        ensures { Some result ≡ child_count bus (machine_state self.now).machine }
+    {
+        match self {
+            AnyMachine::Narrow(machine) => machine.children(bus),
+            AnyMachine::Wide(machine) => machine.children(bus),
+        }
+    }
+
+    /// Whether a Down, Request or Reply turn would be granted. It takes no memory.
+    pub fn would_grant(&self, turn: Turn) -> bool
+        requires kind { is_down_request_or_reply turn ≡ true }
+        requires named { names_part turn (machine_state self.now).machine ≡ true }
+        ensures { result ≡ is_granted (turn_of turn (machine_state self.now).machine).answer }
+    {
+        match self {
+            AnyMachine::Narrow(machine) => machine.would_grant(turn),
+            AnyMachine::Wide(machine) => machine.would_grant(turn),
         }
     }
 }

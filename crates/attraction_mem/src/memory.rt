@@ -49,6 +49,22 @@ impl<const WAYS: usize, const WORDS: usize> AttractionMem<WAYS, WORDS> {
         Ok(AttractionMem { sets, tags, words })
     }
 
+    /// How many sets it has: so few that all ways can be counted.
+    pub fn sets(&self) -> u32
+        ensures sets { result ≡ self.now.sets }
+        ensures few { result * WAYS ≤ 16384 }
+    {
+        self.sets
+    }
+
+    /// How many ways each set has.
+    pub fn ways(&self) -> u32
+        ensures { result ≡ WAYS }
+    {
+        let _ = &self.sets;
+        WAYS as u32
+    }
+
     /// The item's way and state.
     pub fn find(&self, item: ItemId) -> Option<(u32, LeafState)>
         ensures value { result ≡ option_map way_and_state (entry_of self.now item) }
@@ -151,6 +167,15 @@ impl<const WAYS: usize, const WORDS: usize> AttractionMem<WAYS, WORDS> {
     {
         let (place, _) = find_tag::<WAYS>(self.sets, &self.tags, item).unwrap();
         self.words[place] = words;
+    }
+
+    /// Becomes a copy of another memory with as many sets. It takes no memory.
+    pub fn copy_from(&mut self, other: &Self)
+        requires { self.old.sets ≡ other.now.sets }
+        ensures { self.new ≡ other.now }
+    {
+        self.tags.copy_from_slice(&other.tags);
+        self.words.copy_from_slice(&other.words);
     }
 
     /// A tag for each way of each set, one set after the other: the item that stands there and its state.

@@ -4,6 +4,7 @@
 
 mod agent;
 mod cluster;
+mod copying;
 mod subtree;
 
 pub use cluster::{Cluster, clusters};

@@ -82,6 +82,37 @@ impl<const WAYS: usize, const WORDS: usize> Subtree<WORDS> for Cluster<WAYS, WOR
         self.dir.parked_below(bus, path, item)
     }
 
+    fn ways_below(&self) -> u32 {
+        self.dir.ways_below()
+    }
+
+    fn write_hart_below(
+        &self,
+        leaf: LeafNo,
+        path: &[ChildNo],
+        out: &mut Vec<u32>,
+    ) -> Result<(), NoMemory> {
+        self.dir.write_hart_below(leaf, path, out)
+    }
+
+    fn write_leaf_below(
+        &self,
+        leaf: LeafNo,
+        path: &[ChildNo],
+        out: &mut Vec<u32>,
+    ) -> Result<(), NoMemory> {
+        self.dir.write_leaf_below(leaf, path, out)
+    }
+
+    fn write_part_below(
+        &self,
+        bus: BusNo,
+        path: &[ChildNo],
+        out: &mut Vec<u32>,
+    ) -> Result<(), NoMemory> {
+        self.dir.write_part_below(bus, path, out)
+    }
+
     fn found_below(&self, item: ItemId) -> Option<Found<WORDS>> {
         self.dir.found_below(item)
     }

@@ -16,3 +16,6 @@ pub mod Gathered
 pub mod LeafList
 pub mod Places
 pub mod Asking
+pub mod Copies
+pub mod BusNumbers
+pub mod Written

@@ -7,3 +7,5 @@ pub mod Rules
 pub mod Machine
 pub mod Codes
 pub mod Holders
+pub mod Copying
+pub mod Written

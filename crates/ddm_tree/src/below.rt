@@ -26,7 +26,7 @@ use split_bus::{grant_into, would_grant};
 use tree_model::{BusTurn, LeafSpot, TreeChild};
 
 /// The child of a directory that a path leads to, and the rest of the path.
-fn next<'a, 'b, const WORDS: usize, P: Parent<WORDS>, C: Subtree<WORDS>>(
+pub(crate) fn next<'a, 'b, const WORDS: usize, P: Parent<WORDS>, C: Subtree<WORDS>>(
     parent: &P,
     children: &'a [C],
     name: Named,

@@ -8,10 +8,12 @@ use crate::below::{
     child_under, children_under, down_len_under, down_under, entry_under, grants_under, hart_under,
     hold_under, parked_under, stamp_under, turn_under,
 };
+use crate::copying::{CopyFrom, copy_children};
 use crate::found::{Found, found_among, own_copy};
 use crate::named::Named;
 use crate::paths::path_up_under;
 use crate::subtree::Subtree;
+use crate::writing::{ways_among, write_hart_under, write_leaf_under, write_part_under};
 use ddm_types::{
     BusNo, ChildNo, Code, Hold, ItemId, Items, LeafNo, LeafState, NoMemory, PendingWhy, QueueName,
     Stamp, Turn, TurnAnswer, TxKind, Words,
@@ -215,10 +217,52 @@ impl<const WORDS: usize, C: Subtree<WORDS>> Subtree<WORDS> for Dir<WORDS, C> {
         }
     }
 
+    fn ways_below(&self) -> u32 {
+        ways_among(&self.children)
+    }
+
+    fn write_hart_below(
+        &self,
+        leaf: LeafNo,
+        path: &[ChildNo],
+        out: &mut Vec<u32>,
+    ) -> Result<(), NoMemory> {
+        write_hart_under(&self.state, &self.children, leaf, path, out)
+    }
+
+    fn write_leaf_below(
+        &self,
+        leaf: LeafNo,
+        path: &[ChildNo],
+        out: &mut Vec<u32>,
+    ) -> Result<(), NoMemory> {
+        write_leaf_under(&self.state, &self.children, leaf, path, out)
+    }
+
+    fn write_part_below(
+        &self,
+        bus: BusNo,
+        path: &[ChildNo],
+        out: &mut Vec<u32>,
+    ) -> Result<(), NoMemory> {
+        if path.is_empty() {
+            self.state.write_part(out)
+        } else {
+            write_part_under(&self.state, &self.children, bus, path, out)
+        }
+    }
+
     fn found_below(&self, item: ItemId) -> Option<Found<WORDS>> {
         match own_copy(&self.state, item) {
             Some(found) => Some(found),
             None => found_among(&self.children, item),
         }
+    }
+}
+
+impl<const WORDS: usize, C: CopyFrom<WORDS>> CopyFrom<WORDS> for Dir<WORDS, C> {
+    fn copy_from(&mut self, other: &Self) {
+        self.state.copy_from(&other.state);
+        copy_children(&mut self.children, &other.children);
     }
 }

@@ -88,6 +88,37 @@ impl<const WAYS: usize, const WORDS: usize> Subtree<WORDS> for Leaf<WAYS, WORDS>
         None
     }
 
+    fn ways_below(&self) -> u32 {
+        self.ways()
+    }
+
+    fn write_hart_below(
+        &self,
+        _leaf: LeafNo,
+        _path: &[ChildNo],
+        out: &mut Vec<u32>,
+    ) -> Result<(), NoMemory> {
+        self.write_hart(out)
+    }
+
+    fn write_leaf_below(
+        &self,
+        _leaf: LeafNo,
+        _path: &[ChildNo],
+        out: &mut Vec<u32>,
+    ) -> Result<(), NoMemory> {
+        self.write_part(out)
+    }
+
+    fn write_part_below(
+        &self,
+        _bus: BusNo,
+        _path: &[ChildNo],
+        _out: &mut Vec<u32>,
+    ) -> Result<(), NoMemory> {
+        Ok(())
+    }
+
     fn found_below(&self, item: ItemId) -> Option<Found<WORDS>> {
         let (_, words, spot) = self.entry(item)?;
         let at = place_at(self.number(), spot);

@@ -3,6 +3,7 @@
 #![tactic(auto)]
 
 mod below;
+mod copying;
 mod dir;
 mod found;
 mod leaf;
@@ -14,7 +15,9 @@ mod readers;
 mod record;
 mod subtree;
 mod turns;
+mod writing;
 
+pub use copying::CopyFrom;
 pub use dir::Dir;
 pub use found::{Found, place_at};
 pub use machine::Machine;

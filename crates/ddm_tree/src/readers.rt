@@ -165,7 +165,7 @@ impl<const WORDS: usize, C: Subtree<WORDS>> Machine<WORDS, C> {
     }
 
     /// The path from the top to a leaf.
-    fn leaf_path(&self, leaf: LeafNo) -> &[ChildNo]
+    pub(crate) fn leaf_path(&self, leaf: LeafNo) -> &[ChildNo]
         requires { is_part (leaf_of_number leaf) self.now.machine ≡ true }
         ensures { Leads (leaf_of_number leaf) result.now (root_of self.now.machine) }
     {
@@ -173,7 +173,7 @@ impl<const WORDS: usize, C: Subtree<WORDS>> Machine<WORDS, C> {
     }
 
     /// The path from the top to a bus.
-    fn bus_path(&self, bus: BusNo) -> &[ChildNo]
+    pub(crate) fn bus_path(&self, bus: BusNo) -> &[ChildNo]
         requires { is_part (bus_of_number bus) self.now.machine ≡ true }
         ensures { Leads (bus_of_number bus) result.now (root_of self.now.machine) }
     {

@@ -1,4 +1,4 @@
-ghost use Rattle.std.specs.Prelude.{◌≡◌, ◌*◌, ◌<◌, true, IfOk, option_map, reverse, vec_items};
+ghost use Rattle.std.specs.Prelude.{◌≡◌, ◌*◌, ◌<◌, true, IfOk, OnErr, OnOk, option_map, reverse, vec_items};
 ghost use Rattle.ddm_types.specs.ItemTable.{item_count};
 ghost use Rattle.tree_model.specs.State.Child.{child_label};
 ghost use Rattle.tree_model.specs.State.Shape.{skeleton, widths_fit};
@@ -7,11 +7,16 @@ ghost use Rattle.tree_model.specs.Turns.Machine.{named_by, bus_turn_of};
 ghost use Rattle.tree_model.specs.Turns.Tree.{leaf_of_number, bus_of_number};
 ghost use Rattle.ddm_types.specs.declared.keys.Stamp.{Stamp};
 ghost use Rattle.item_states.specs.Parts.{node_items};
+ghost use Rattle.ddm_text.specs.Adds.{Adds};
+ghost use Rattle.state_words.specs.Begins.{Begins};
+ghost use Rattle.state_words.specs.Parts.{hart_words, leaf_words};
+ghost use Rattle.state_words.specs.Machine.{way_count_of};
 ghost use Rattle.split_bus.specs.Outcomes.{goes_on_with};
 ghost use Rattle.ddm_tree.specs.Path.{path_to, node_at, present_at, put_at, node_answer, node_turned};
 ghost use Rattle.ddm_tree.specs.Named.{name_of};
 ghost use Rattle.ddm_tree.specs.Ready.{IsAskable, IsReady, Leads, LeadsBelow, HasChild, IsChild, IsItemIn, IsItemOf};
 ghost use Rattle.ddm_tree.specs.Reads.{node_hart, node_entry, node_children, node_child, node_child_hold, node_down, node_down_len, node_grants, node_parked};
+ghost use Rattle.ddm_tree.specs.Written.{node_dir_words, node_words};
 
 use crate::found::Found;
 use crate::named::Named;
@@ -122,6 +127,43 @@ pub trait Subtree<const WORDS: usize>: Agent<WORDS> {
         requires leads { LeadsBelow (bus_of_number bus) path.now (Self.value self.now) }
         requires in_range { item < node_items (node_at path.now (Self.value self.now)) }
         ensures { result ≡ node_parked item (node_at path.now (Self.value self.now)) };
+
+    /// How many ways the sets of its leaves have, by the first of these.
+    fn ways_below(&self) -> u32
+        ensures { result ≡ way_count_of (Self.value self.now) };
+
+    /// Puts the words of this leaf's hart at the end.
+    fn write_hart_below(
+        &self,
+        leaf: LeafNo,
+        path: &[ChildNo],
+        out: &mut Vec<u32>,
+    ) -> Result<(), NoMemory>
+        requires { Leads (leaf_of_number leaf) path.now (Self.value self.now) }
+        ensures ok { OnOk result (Adds out.old.items out.new.items (node_words hart_words (node_at path.now (Self.value self.now)))) }
+        ensures err { OnErr result (Begins out.old.items out.new.items) };
+
+    /// Puts the words of this leaf at the end, but those of its hart.
+    fn write_leaf_below(
+        &self,
+        leaf: LeafNo,
+        path: &[ChildNo],
+        out: &mut Vec<u32>,
+    ) -> Result<(), NoMemory>
+        requires { Leads (leaf_of_number leaf) path.now (Self.value self.now) }
+        ensures ok { OnOk result (Adds out.old.items out.new.items (node_words leaf_words (node_at path.now (Self.value self.now)))) }
+        ensures err { OnErr result (Begins out.old.items out.new.items) };
+
+    /// Puts the words of the directory over this bus at the end.
+    fn write_part_below(
+        &self,
+        bus: BusNo,
+        path: &[ChildNo],
+        out: &mut Vec<u32>,
+    ) -> Result<(), NoMemory>
+        requires { LeadsBelow (bus_of_number bus) path.now (Self.value self.now) }
+        ensures ok { OnOk result (Adds out.old.items out.new.items (node_dir_words (node_at path.now (Self.value self.now)))) }
+        ensures err { OnErr result (Begins out.old.items out.new.items) };
 
     /// The found copy of an item in this part.
     fn found_below(&self, item: ItemId) -> Option<Found<WORDS>>

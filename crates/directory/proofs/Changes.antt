@@ -26,6 +26,7 @@ shape-parked width level bus items down requests replies parked n others was sam
       words_fit = was.words_fit;
       below_top = was.below_top;
       deepest = was.deepest;
+      few = was.few;
       bus_below = was.bus_below;
       down = was.down;
       requests = was.requests;

@@ -4,3 +4,4 @@ pub mod LastCopy
 pub mod Leaving
 pub mod Lists
 pub mod Packing
+pub mod Records

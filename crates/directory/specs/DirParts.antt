@@ -16,12 +16,13 @@ copy_of p = record { item = p.0; words = p.1 }
 abbrev pub AreCopiesBelow : ℕ → List CopyValue → Type 0
 AreCopiesBelow n copies = All (λ c. c.item < n) copies
 
--- The bus is no top's, with one to three buses above it. Each list is of the items that there are.
+-- The bus is no top's, with one to three buses above it. Each list is of the items that there are, which a word can count.
 pub record IsDirectory (width level bus items : ℕ) (down_items request_items reply_items : ℕ) (parked : List CopyValue) : Type 0 where
   pub words_fit : width < 2 ^ 32
   pub below_top : 0 < level
   pub deepest : level ≤ 3
   pub bus_below : 0 < bus
+  pub few : items < 2 ^ 32
   pub down : down_items ≡ items
   pub requests : request_items ≡ items
   pub replies : reply_items ≡ items

@@ -2,12 +2,14 @@
 //! below.
 #![tactic(auto)]
 
+mod copying;
 mod last_copy;
 mod lower;
 mod packed;
 mod state;
 mod table;
 mod upper;
+mod writing;
 
 pub use last_copy::brings_copy;
 pub use state::DirState;

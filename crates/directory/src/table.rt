@@ -38,7 +38,15 @@ impl ItemTable {
         Ok(ItemTable { words })
     }
 
-    fn at(&self, item: ItemId) -> PackedItem
+    /// Becomes a copy of another table, of as many items.
+    pub fn copy_from(&mut self, other: &Self)
+        requires { length self.old ≡ length other.now }
+        ensures { self.new ≡ other.now }
+    {
+        self.words.copy_from_slice(&other.words);
+    }
+
+    pub(crate) fn at(&self, item: ItemId) -> PackedItem
         requires { item < length self.now }
         ensures { result ≡ slice_index_or self.now item absent_item }
     {

@@ -1,4 +1,3 @@
-pub mod BusNumbers
 pub mod CopyLists
 pub mod LeafStates
 pub mod OneMore

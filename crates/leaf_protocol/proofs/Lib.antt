@@ -5,3 +5,4 @@ pub mod Reading
 pub mod Changing
 pub mod Told
 pub mod Deeds
+pub mod Standing

@@ -184,14 +184,17 @@ words-here None words is = absurd cc
 words-here (Some e) words is = cc
 
 -- the parts keep to the leaf's items after other entries of as many items, and a reply more
-pub parts-same : {ways width : ℕ} {e : EntriesValue} {slot : Option (TxKind × ℕ)} {q : QueueList (ℕ × List ℕ)} (f : EntriesValue) → AreParts ways width e slot q → length f.ways ≡ length e.ways → AreParts ways width f slot q
-parts-same f parts same = record { some_ways = parts.some_ways; words_fit = parts.words_fit; items = same ∙ parts.items; slot_inside = parts.slot_inside; replies_inside = parts.replies_inside }
+pub parts-same : {ways width : ℕ} {e : EntriesValue} {slot : Option (TxKind × ℕ)} {q : QueueList (ℕ × List ℕ)} {reserved : Option ℕ} (f : EntriesValue) → AreParts ways width e slot q reserved → length f.ways ≡ length e.ways → AreParts ways width f slot q reserved
+parts-same f parts same = record { some_ways = parts.some_ways; words_fit = parts.words_fit; items = same ∙ parts.items; numbered = parts.numbered; slot_inside = parts.slot_inside; replies_inside = parts.replies_inside; reserved_inside = parts.reserved_inside }
 
-pub parts-replied : {ways width : ℕ} {e : EntriesValue} {slot : Option (TxKind × ℕ)} {q : QueueList (ℕ × List ℕ)} (r : QueueList (ℕ × List ℕ)) (c : ℕ × List ℕ) → AreParts ways width e slot q → c.0 < q.items → r ≡ record q { list = q.list ++ c ∷ [] } → AreParts ways width e slot r
-parts-replied r c parts inside is = rw is (record { some_ways = parts.some_ways; words_fit = parts.words_fit; items = parts.items; slot_inside = parts.slot_inside; replies_inside = below-append _ _ c parts.replies_inside inside })
+pub parts-replied : {ways width : ℕ} {e : EntriesValue} {slot : Option (TxKind × ℕ)} {q : QueueList (ℕ × List ℕ)} {reserved : Option ℕ} (r : QueueList (ℕ × List ℕ)) (c : ℕ × List ℕ) → AreParts ways width e slot q reserved → c.0 < q.items → r ≡ record q { list = q.list ++ c ∷ [] } → AreParts ways width e slot r reserved
+parts-replied r c parts inside is = rw is (record { some_ways = parts.some_ways; words_fit = parts.words_fit; items = parts.items; numbered = parts.numbered; slot_inside = parts.slot_inside; replies_inside = below-append _ _ c parts.replies_inside inside; reserved_inside = parts.reserved_inside })
 
-pub parts-asked : {ways width : ℕ} {e : EntriesValue} {slot : Option (TxKind × ℕ)} {q : QueueList (ℕ × List ℕ)} (kind : TxKind) (x : ℕ) → AreParts ways width e slot q → x < q.items → AreParts ways width e (Some (kind, x)) q
-parts-asked kind x parts inside = record { some_ways = parts.some_ways; words_fit = parts.words_fit; items = parts.items; slot_inside = inside; replies_inside = parts.replies_inside }
+pub parts-asked : {ways width : ℕ} {e : EntriesValue} {slot : Option (TxKind × ℕ)} {q : QueueList (ℕ × List ℕ)} {reserved : Option ℕ} (kind : TxKind) (x : ℕ) → AreParts ways width e slot q reserved → x < q.items → AreParts ways width e (Some (kind, x)) q reserved
+parts-asked kind x parts inside = record { some_ways = parts.some_ways; words_fit = parts.words_fit; items = parts.items; numbered = parts.numbered; slot_inside = inside; replies_inside = parts.replies_inside; reserved_inside = parts.reserved_inside }
+
+pub parts-reserved : {ways width : ℕ} {e : EntriesValue} {slot : Option (TxKind × ℕ)} {q : QueueList (ℕ × List ℕ)} {reserved : Option ℕ} (x : ℕ) → AreParts ways width e slot q reserved → x < q.items → AreParts ways width e slot q (Some x)
+parts-reserved x parts inside = record { some_ways = parts.some_ways; words_fit = parts.words_fit; items = parts.items; numbered = parts.numbered; slot_inside = parts.slot_inside; replies_inside = parts.replies_inside; reserved_inside = inside }
 
 -- where the list isn't full
 pub not-full : {X : Type 0} (b : Bool) (q : X) → some_if b q ≡ None → b ≡ false

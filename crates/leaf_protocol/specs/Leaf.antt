@@ -47,13 +47,15 @@ slot_read_struck x slot = if slot_has ReadTx x (option_map request_value slot) t
 abbrev pub copied_item : ℕ × List ℕ → ℕ
 copied_item c = c.0
 
--- the slot and the replies name items of the leaf
-pub record AreParts (way_count width : ℕ) (e : EntriesValue) (slot : Option (TxKind × ℕ)) (replies : QueueList (ℕ × List ℕ)) : Type 0 where
+-- the slot, the replies and the reservation name items of the leaf
+pub record AreParts (way_count width : ℕ) (e : EntriesValue) (slot : Option (TxKind × ℕ)) (replies : QueueList (ℕ × List ℕ)) (reservation : Option ℕ) : Type 0 where
   pub some_ways : 0 < way_count
   pub words_fit : width < 2 ^ 32
   pub items : length e.ways ≡ replies.items
+  pub numbered : replies.items < 2 ^ 32
   pub slot_inside : IfSome slot (λ r. r.1 < replies.items)
   pub replies_inside : AllBelow copied_item replies.items replies.list
+  pub reserved_inside : IfSome reservation (λ x. x < replies.items)
 
 -- the state and the words of an entry
 abbrev pub state_and_words : LeafEntry → LeafState × List ℕ

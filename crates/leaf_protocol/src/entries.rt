@@ -17,8 +17,8 @@ use tree_model::LeafSpot;
 pub(crate) struct Entries<const WAYS: usize, const WORDS: usize> {
     /// How many items there are.
     items: u32,
-    memory: AttractionMem<WAYS, WORDS>,
-    buffer: Buffer<WORDS>,
+    pub(crate) memory: AttractionMem<WAYS, WORDS>,
+    pub(crate) buffer: Buffer<WORDS>,
     waiting: Option<ItemId>,
 }
 
@@ -83,6 +83,18 @@ impl<const WAYS: usize, const WORDS: usize> Entries<WAYS, WORDS> {
             buffer,
             waiting: None,
         })
+    }
+
+    /// Becomes a copy of other entries, of as many items, with as many sets and places. It takes no memory.
+    pub fn copy_from(&mut self, other: &Self)
+        requires sets { self.old.sets ≡ other.now.sets }
+        requires room { self.old.room ≡ other.now.room }
+        ensures { self.new ≡ other.now }
+    {
+        self.items = other.items;
+        self.memory.copy_from(&other.memory);
+        self.buffer.copy_from(&other.buffer);
+        self.waiting = other.waiting;
     }
 
     /// The state of the item's entry.

@@ -33,7 +33,7 @@ impl<const WAYS: usize, const WORDS: usize> Model for Leaf<WAYS, WORDS> {
 
     ghost view = { λ l. leaf_of WAYS WORDS l.number l.entries l.slot l.replies l.reservation l.hart };
 
-    ghost invariant = { λ l. AreParts WAYS WORDS l.entries l.slot l.replies };
+    ghost invariant = { λ l. AreParts WAYS WORDS l.entries l.slot l.replies l.reservation };
 }
 
 impl<const WAYS: usize, const WORDS: usize> Leaf<WAYS, WORDS> {

@@ -3,9 +3,11 @@
 
 mod agent;
 mod asking;
+mod copying;
 mod entries;
 mod leaf;
 mod turn;
+mod writing;
 
 pub use leaf::Leaf;
 

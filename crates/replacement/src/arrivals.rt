@@ -43,6 +43,18 @@ fn add(numbers: &mut Vec<usize>, number: usize)
     }
 }
 
+/// Puts these numbers in place of those that are there, where there is memory for them.
+fn refill(numbers: &mut Vec<usize>, others: &[usize])
+    requires { length others.now ≤ vec_capacity numbers.old }
+    ensures items { numbers.new.items ≡ others.now }
+    ensures capacity { vec_capacity numbers.old ≤ vec_capacity numbers.new }
+{
+    numbers.clear();
+    if numbers.extend_from_slice(others).is_err() {
+        unreachable!();
+    }
+}
+
 /// The numbers of so many places.
 fn numbers_below(alloc: Global, places: usize) -> Result<Vec<usize>, NoMemory>
     ensures once { IfOk result (λ v. (p : ℕ) → times p v.items ≡ (if nat_lt p places then 1 else 0)) }
@@ -123,6 +135,16 @@ impl<T: Copy> Arrivals<T> {
     {
         let place = self.order[index];
         self.places[place] = entry;
+    }
+
+    /// Becomes a copy of another list with as many places. It takes no memory.
+    pub fn copy_from(&mut self, other: &Self)
+        requires { self.old.capacity ≡ other.now.capacity }
+        ensures { self.new ≡ other.now }
+    {
+        self.places.copy_from_slice(&other.places);
+        refill(&mut self.order, &other.order);
+        refill(&mut self.free, &other.free);
     }
 
     /// Takes out the entry with so many before it. Its place is free from now on.

@@ -16,7 +16,7 @@ use std::marker::Model;
 /// The entries of a leaf that had to leave their ways, in order of arrival.
 #[derive(Drop)]
 pub struct Buffer<const WORDS: usize> {
-    entries: Arrivals<BufferEntry<WORDS>>,
+    pub(crate) entries: Arrivals<BufferEntry<WORDS>>,
 }
 
 impl<const WORDS: usize> Model for Buffer<WORDS> {
@@ -110,6 +110,14 @@ impl<const WORDS: usize> Buffer<WORDS> {
     {
         let entries = Arrivals::new(alloc, capacity as usize, BufferEntry::blank())?;
         Ok(Buffer { entries })
+    }
+
+    /// Becomes a copy of another buffer with as many places. It takes no memory.
+    pub fn copy_from(&mut self, other: &Self)
+        requires { self.old.capacity ≡ other.now.capacity }
+        ensures { self.new ≡ other.now }
+    {
+        self.entries.copy_from(&other.entries);
     }
 
     /// Puts an entry behind the others.

@@ -15,7 +15,7 @@ use std::marker::Model;
 /// under way.
 #[derive(Drop)]
 pub struct Parking<const WORDS: usize> {
-    entries: Arrivals<ParkedCopy<WORDS>>,
+    pub(crate) entries: Arrivals<ParkedCopy<WORDS>>,
     reserved: u32,
 }
 
@@ -42,6 +42,15 @@ impl<const WORDS: usize> Parking<WORDS> {
             entries,
             reserved: 0,
         })
+    }
+
+    /// Becomes a copy of another parking with as many places. It takes no memory.
+    pub fn copy_from(&mut self, other: &Self)
+        requires { self.old.capacity ≡ other.now.capacity }
+        ensures { self.new ≡ other.now }
+    {
+        self.entries.copy_from(&other.entries);
+        self.reserved = other.reserved;
     }
 
     /// Whether each place is taken or reserved.

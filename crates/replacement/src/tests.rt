@@ -203,3 +203,31 @@ fn parking_uses_reserved_places(rt: HostRuntime) -> Result<(), Fail> {
     assert_eq!(rt; parking.reserve(), Err(Full));
     Ok(())
 }
+
+#[test]
+fn words_of_entries_and_copies(rt: HostRuntime) -> Result<(), Fail> {
+    let mut buffer = Buffer::<4>::new(rt.alloc(), 3)?;
+    assert!(rt; buffer.find(ItemId(7)).is_none());
+    assert!(rt;
+        buffer
+            .put(ItemId(7), LeafState::Exclusive, words(70))
+            .is_ok()
+    );
+    assert!(rt; buffer.find(ItemId(8)).is_none());
+    assert!(rt;
+        buffer
+            .put(ItemId(8), LeafState::ReadingWaiting, words(0))
+            .is_ok()
+    );
+    let mut parking = Parking::<4>::new(rt.alloc(), 2)?;
+    assert!(rt; parking.find(ItemId(9)).is_none());
+    assert!(rt; parking.put(ItemId(9), words(90)).is_ok());
+    let mut out = Vec::new(rt.alloc());
+    buffer.write(&mut out)?;
+    parking.write(&mut out)?;
+    assert_eq!(rt;
+        out.as_slice(),
+        [2, 7, 2, 70, 0, 0, 0, 8, 5, 0, 0, 0, 0, 1, 9, 90, 0, 0, 0].as_slice()
+    );
+    Ok(())
+}

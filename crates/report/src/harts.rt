@@ -152,8 +152,8 @@ pub fn push_dash<W: TextBuffer>(out: &mut W, hart: HartNo, ops: &[Op]) -> Result
     Ok(())
 }
 
-// A hart's output, or a dash for none.
-fn push_output<W: TextBuffer>(out: &mut W, hart: HartNo, ops: &[Op]) -> Result<(), NoMemory>
+/// Puts at the end a hart's output, or a dash for none, out of operations in order of completion.
+pub fn push_output<W: TextBuffer>(out: &mut W, hart: HartNo, ops: &[Op]) -> Result<(), NoMemory>
     ensures { OnOk result (Adds (W.text out.old) (W.text out.new) (or_dash (put_texts hart ops.now))) }
 {
     push_puts(out, hart, ops)?;

@@ -31,7 +31,9 @@ pub use buffers::TextBuffer;
 pub use buses::push_bus_line;
 pub use effects::{push_effect, push_halt, push_state};
 pub use faults::{memory_line, read_line, unbuilt_line, usage_line, write_line};
-pub use harts::{push_hart_line, push_head, push_out_line, push_regs_line, push_turns_line};
+pub use harts::{
+    push_hart_line, push_head, push_out_line, push_output, push_regs_line, push_turns_line,
+};
 pub use items::{push_copy_place, push_item_line, push_letters};
 pub use line::{LINE_BYTES, Line, Line as FaultLine};
 pub use operations::{push_key, push_op_line, push_op_lines};

@@ -1,7 +1,7 @@
 -- The machine of a tree and an image before its first turn, and the nodes at each level of its buses.
 -- Letters: t is a tree, i an image.
 -- To be believed with the contracts: they speak of it.
-use Rattle.std.specs.Prelude.{◌≡◌, ℕ, ◌*◌, ◌≤◌, List, None, drop, map}
+use Rattle.std.specs.Prelude.{◌≡◌, ℕ, ◌*◌, ◌≤◌, List, None, drop, length, map}
 use Rattle.ddm_types.specs.CodeMap.{CodeWord}
 use Rattle.ddm_types.specs.ItemTable.{ItemTable}
 use Rattle.tree_model.specs.State.Values.{Node, leaf_node}
@@ -10,9 +10,14 @@ use Rattle.tree_model.specs.Start.Memory.{start_code, start_items}
 use Rattle.tree_model.specs.Start.Nodes.{dir_sizes, under_levels}
 use Rattle.tree_model.specs.Start.Machine.{start_leaves, start_machine, start_refusal}
 use Rattle.ddm_tree.specs.Machine.{MachineState}
+use Rattle.any_machine.specs.Kind.{Kind}
 
 abbrev pub started : TreeValue → ImageValue → MachineState
 started t i = record { machine = start_machine t i; spare = 0; turns = 0 }
+
+-- of which kind the machines of a tree are
+abbrev pub kind_of_tree : TreeValue → Kind
+kind_of_tree t = record { levels = length t.levels; ways = t.way_count; width = width_of t }
 
 -- what the leaves of so many ways, and items of so many words, are filled from
 pub record CanFill (ways width : ℕ) (t : TreeValue) (i : ImageValue) (items : ItemTable) : Type 0 where

@@ -1,8 +1,9 @@
 ghost use Rattle.std.specs.Prelude.{◌≡◌, ◌⊎◌, ◌*◌, ◌≤◌, IfErr, IfOk, None, Ok, Some, length};
 ghost use Rattle.tree_model.specs.Start.Machine.{start_machine, start_of, start_refusal};
 ghost use Rattle.any_machine.specs.Any.{depths_state, machine_state, state_in};
+ghost use Rattle.any_machine.specs.Kind.{kind_in, kind_of, levels_in};
 ghost use Rattle.run_engine.specs.Build.{build_refusal};
-ghost use Rattle.run_engine.specs.Started.{CanMake, CanStart, started};
+ghost use Rattle.run_engine.specs.Started.{CanMake, CanStart, kind_of_tree, started};
 ghost use Rattle.run_engine.specs.declared.refusal.BuildRefusal.TheVariants as refusal;
 
 use crate::contents::items;
@@ -24,7 +25,8 @@ fn any_depth<const WAYS: usize, const WORDS: usize>(
     items: Items,
 ) -> Result<Depths<WAYS, WORDS>, NoMemory>
     requires { CanStart WAYS WORDS tree.now image.now code items }
-    ensures { IfOk result (λ m. depths_state m ≡ started tree.now image.now) }
+    ensures built { IfOk result (λ m. depths_state m ≡ started tree.now image.now) }
+    ensures levels { IfOk result (λ m. levels_in m ≡ length tree.now.levels) }
 {
     match tree.nodes.depth() {
         1 => Ok(Depths::D1(one_level(alloc, tree, image, code, items)?)),
@@ -43,7 +45,8 @@ fn any_ways<const WORDS: usize>(
     items: Items,
 ) -> Result<Machines<WORDS>, NoMemory>
     requires { CanMake WORDS tree.now image.now code items }
-    ensures { IfOk result (λ m. state_in m ≡ started tree.now image.now) }
+    ensures built { IfOk result (λ m. state_in m ≡ started tree.now image.now) }
+    ensures kind { IfOk result (λ m. kind_in m ≡ kind_of_tree tree.now) }
 {
     match tree.ways {
         1 => Ok(Machines::W1(any_depth(alloc, tree, image, code, items)?)),
@@ -61,6 +64,7 @@ fn made<const WORDS: usize>(
     requires size { 4 * WORDS ≡ tree.now.item_bytes }
     requires small { WORDS ≤ 16 }
     ensures built { IfOk result (λ m. state_in m ≡ started tree.now image.now) }
+    ensures kind { IfOk result (λ m. kind_in m ≡ kind_of_tree tree.now) }
     ensures accepted { IfOk result (λ m. start_refusal tree.now image.now ≡ None) }
     ensures refused { IfErr result (λ r. (r ≡ refusal.NoMemory) ⊎ (build_refusal tree.now image.now ≡ Some r)) }
 {
@@ -73,6 +77,7 @@ fn made<const WORDS: usize>(
 /// free way in its set, items taken in order of number. It has no room for operations.
 pub fn build(alloc: Global, tree: &TreeConfig, image: &Image) -> Result<AnyMachine, BuildRefusal>
     ensures built { IfOk result (λ m. machine_state m ≡ started tree.now image.now) }
+    ensures kind { IfOk result (λ m. kind_of m ≡ kind_of_tree tree.now) }
     ensures accepted { IfOk result (λ m. start_refusal tree.now image.now ≡ None) }
     ensures refused { IfErr result (λ r. (r ≡ refusal.NoMemory) ⊎ (build_refusal tree.now image.now ≡ Some r)) }
 {

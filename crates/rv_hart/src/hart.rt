@@ -69,6 +69,16 @@ impl Hart {
         }
     }
 
+    /// Becomes a copy of another hart.
+    pub fn copy_from(&mut self, other: &Self)
+        ensures { self.new ≡ other.now }
+    {
+        self.registers = other.registers;
+        self.pc = other.pc;
+        self.halt = other.halt;
+        self.done = other.done;
+    }
+
     /// The value of a register. A register of number 32 or above, which no instruction names, is 0.
     pub fn register(&self, reg: Reg) -> u32
         ensures { result ≡ register self.now.hart reg }

@@ -21,7 +21,8 @@ top_value width items down room count = record {
   epoch = stamp_zero;
 }
 
--- its down list is of the items that there are
+-- its down list is of the items that there are, which a word can count
 pub record IsTop (width items down_items : ℕ) : Type 0 where
   pub words_fit : width < 2 ^ 32
+  pub few : items < 2 ^ 32
   pub down : down_items ≡ items

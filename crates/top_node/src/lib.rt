@@ -2,6 +2,7 @@
 #![tactic(auto)]
 
 mod state;
+mod writing;
 
 pub use state::TopState;
 

@@ -16,9 +16,9 @@ use tx_queue::Queue;
 /// The top, without the children below it. It sends and parks nothing.
 #[derive(Drop)]
 pub struct TopState<const WORDS: usize> {
-    kept: ItemTable,
-    down: Queue<DownEntry<WORDS>>,
-    count: u32,
+    pub(crate) kept: ItemTable,
+    pub(crate) down: Queue<DownEntry<WORDS>>,
+    pub(crate) count: u32,
 }
 
 impl<const WORDS: usize> Model for TopState<WORDS> {
@@ -46,6 +46,17 @@ impl<const WORDS: usize> TopState<WORDS> {
             down,
             count: 0,
         })
+    }
+
+    /// Becomes a copy of another top with the same sizes, of as many items. It takes no memory.
+    pub fn copy_from(&mut self, other: &Self)
+        requires sizes { self.old.sizes ≡ other.now.sizes }
+        requires items { length self.old.items ≡ length other.now.items }
+        ensures { self.new ≡ other.now }
+    {
+        self.kept.copy_from(&other.kept);
+        self.down.copy_from(&other.down);
+        self.count = other.count;
     }
 
     pub fn down_get(&self, place: u32) -> Option<&DownEntry<WORDS>>

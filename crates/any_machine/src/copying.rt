@@ -1,0 +1,92 @@
+ghost use Rattle.std.specs.Prelude.{◌≡◌};
+ghost use Rattle.ddm_tree.specs.Copying.{CanCopy, copied};
+ghost use Rattle.any_machine.specs.Any.{depths_state, machine_state, state_in};
+ghost use Rattle.any_machine.specs.Kind.{kind_in, kind_of, levels_in};
+
+use crate::machine::{AnyMachine, Depths, Machines};
+use ddm_tree::{CopyFrom, Dir, Machine};
+
+// The machine of directories over these children becomes a copy of another one: a check of three types within one another is
+// beyond its limits.
+fn copy_over<const WORDS: usize, C: CopyFrom<WORDS>>(
+    machine: &mut Machine<WORDS, Dir<WORDS, C>>,
+    other: &Machine<WORDS, Dir<WORDS, C>>,
+)
+    requires { CanCopy machine.old other.now }
+    ensures { machine.new ≡ copied machine.old other.now }
+{
+    machine.copy_from(other);
+}
+
+fn copy_depths<const WAYS: usize, const WORDS: usize>(
+    machine: &mut Depths<WAYS, WORDS>,
+    other: &Depths<WAYS, WORDS>,
+)
+    requires levels { levels_in machine.old ≡ levels_in other.now }
+    requires can { CanCopy (depths_state machine.old) (depths_state other.now) }
+    ensures after { depths_state machine.new ≡ copied (depths_state machine.old) (depths_state other.now) }
+    ensures levels { levels_in machine.new ≡ levels_in machine.old }
+{
+    match machine {
+        Depths::D1(machine) => match other {
+            Depths::D1(other) => machine.copy_from(other),
+            _ => unreachable!(),
+        },
+        Depths::D2(machine) => match other {
+            Depths::D2(other) => machine.copy_from(other),
+            _ => unreachable!(),
+        },
+        Depths::D3(machine) => match other {
+            Depths::D3(other) => copy_over(machine, other),
+            _ => unreachable!(),
+        },
+        Depths::D4(machine) => match other {
+            Depths::D4(other) => copy_over(machine, other),
+            _ => unreachable!(),
+        },
+    }
+}
+
+fn copy_machines<const WORDS: usize>(machine: &mut Machines<WORDS>, other: &Machines<WORDS>)
+    requires kind { kind_in machine.old ≡ kind_in other.now }
+    requires can { CanCopy (state_in machine.old) (state_in other.now) }
+    ensures after { state_in machine.new ≡ copied (state_in machine.old) (state_in other.now) }
+    ensures kind { kind_in machine.new ≡ kind_in machine.old }
+{
+    match machine {
+        Machines::W1(machine) => match other {
+            Machines::W1(other) => copy_depths(machine, other),
+            _ => unreachable!(),
+        },
+        Machines::W2(machine) => match other {
+            Machines::W2(other) => copy_depths(machine, other),
+            _ => unreachable!(),
+        },
+        Machines::W4(machine) => match other {
+            Machines::W4(other) => copy_depths(machine, other),
+            _ => unreachable!(),
+        },
+    }
+}
+
+impl AnyMachine {
+    /// Becomes a copy of another machine of the same tree, code and items. It takes no memory, and keeps what it has for
+    /// operations.
+    pub fn copy_from(&mut self, other: &Self)
+        requires kind { kind_of self.old ≡ kind_of other.now }
+        requires can { CanCopy (machine_state self.old) (machine_state other.now) }
+        ensures after { machine_state self.new ≡ copied (machine_state self.old) (machine_state other.now) }
+        ensures kind { kind_of self.new ≡ kind_of self.old }
+    {
+        match self {
+            AnyMachine::Narrow(machine) => match other {
+                AnyMachine::Narrow(other) => copy_machines(machine, other),
+                AnyMachine::Wide(_) => unreachable!(),
+            },
+            AnyMachine::Wide(machine) => match other {
+                AnyMachine::Wide(other) => copy_machines(machine, other),
+                AnyMachine::Narrow(_) => unreachable!(),
+            },
+        }
+    }
+}

@@ -1,0 +1,134 @@
+ghost use Rattle.std.specs.Prelude.{◌≡◌, ◌≤◌, is_ok, length, max, if◌then◌else◌};
+ghost use Rattle.any_machine.specs.Any.{depths_state, machine_state, state_in};
+ghost use Rattle.any_machine.specs.Kind.{kind_in, kind_of, levels_in};
+ghost use Rattle.any_machine.specs.Run.{CanRun, NameParts, ran, roomed};
+
+use crate::machine::{AnyMachine, Depths, Machines};
+use ddm_tree::{Dir, Machine, Subtree};
+use ddm_types::{NoMemory, Turn, TurnAnswer};
+
+fn make_turns<const WORDS: usize, C: Subtree<WORDS>>(
+    machine: &mut Machine<WORDS, C>,
+    turns: &[Turn],
+)
+    requires named { NameParts turns.now machine.old.machine }
+    requires few { CanRun turns.now machine.old }
+    requires spare { length turns.now ≤ machine.old.spare }
+    ensures { machine.new ≡ ran turns.now machine.old }
+{
+    let mut answer = TurnAnswer::Empty;
+    for turn in turns {
+        machine.turn_into(*turn, &mut answer);
+    }
+}
+
+// The same calls of a machine whose directories under bus 0 are over these children: a check of three types within one another is
+// beyond its limits.
+
+fn make_over<const WORDS: usize, C: Subtree<WORDS>>(
+    machine: &mut Machine<WORDS, Dir<WORDS, C>>,
+    turns: &[Turn],
+)
+    requires named { NameParts turns.now machine.old.machine }
+    requires few { CanRun turns.now machine.old }
+    requires spare { length turns.now ≤ machine.old.spare }
+    ensures { machine.new ≡ ran turns.now machine.old }
+{
+    make_turns(machine, turns);
+}
+
+fn reserve_over<const WORDS: usize, C: Subtree<WORDS>>(
+    machine: &mut Machine<WORDS, Dir<WORDS, C>>,
+    count: u32,
+) -> Result<(), NoMemory>
+    ensures { machine.new ≡ roomed (is_ok result) count machine.old }
+{
+    machine.reserve(count)
+}
+
+fn make_depths<const WAYS: usize, const WORDS: usize>(
+    machine: &mut Depths<WAYS, WORDS>,
+    turns: &[Turn],
+)
+    requires named { NameParts turns.now (depths_state machine.old).machine }
+    requires few { CanRun turns.now (depths_state machine.old) }
+    requires spare { length turns.now ≤ (depths_state machine.old).spare }
+    ensures after { depths_state machine.new ≡ ran turns.now (depths_state machine.old) }
+    ensures levels { levels_in machine.new ≡ levels_in machine.old }
+{
+    match machine {
+        Depths::D1(machine) => make_turns(machine, turns),
+        Depths::D2(machine) => make_turns(machine, turns),
+        Depths::D3(machine) => make_over(machine, turns),
+        Depths::D4(machine) => make_over(machine, turns),
+    }
+}
+
+fn reserve_depths<const WAYS: usize, const WORDS: usize>(
+    machine: &mut Depths<WAYS, WORDS>,
+    count: u32,
+) -> Result<(), NoMemory>
+    ensures after { depths_state machine.new ≡ roomed (is_ok result) count (depths_state machine.old) }
+    ensures levels { levels_in machine.new ≡ levels_in machine.old }
+{
+    match machine {
+        Depths::D1(machine) => machine.reserve(count),
+        Depths::D2(machine) => machine.reserve(count),
+        Depths::D3(machine) => reserve_over(machine, count),
+        Depths::D4(machine) => reserve_over(machine, count),
+    }
+}
+
+impl<const WORDS: usize> Machines<WORDS> {
+    fn run_spared(&mut self, turns: &[Turn])
+        requires named { NameParts turns.now (state_in self.old).machine }
+        requires few { CanRun turns.now (state_in self.old) }
+        requires spare { length turns.now ≤ (state_in self.old).spare }
+        ensures after { state_in self.new ≡ ran turns.now (state_in self.old) }
+        ensures kind { kind_in self.new ≡ kind_in self.old }
+    {
+        match self {
+            Machines::W1(machine) => make_depths(machine, turns),
+            Machines::W2(machine) => make_depths(machine, turns),
+            Machines::W4(machine) => make_depths(machine, turns),
+        }
+    }
+
+    fn reserve(&mut self, count: u32) -> Result<(), NoMemory>
+        ensures after { state_in self.new ≡ roomed (is_ok result) count (state_in self.old) }
+        ensures kind { kind_in self.new ≡ kind_in self.old }
+    {
+        match self {
+            Machines::W1(machine) => reserve_depths(machine, count),
+            Machines::W2(machine) => reserve_depths(machine, count),
+            Machines::W4(machine) => reserve_depths(machine, count),
+        }
+    }
+}
+
+impl AnyMachine {
+    /// Makes the turns in order, where there is room for as many operations. It takes no memory.
+    pub fn run_spared(&mut self, turns: &[Turn])
+        requires named { NameParts turns.now (machine_state self.old).machine }
+        requires few { CanRun turns.now (machine_state self.old) }
+        requires spare { length turns.now ≤ (machine_state self.old).spare }
+        ensures after { machine_state self.new ≡ ran turns.now (machine_state self.old) }
+        ensures kind { kind_of self.new ≡ kind_of self.old }
+    {
+        match self {
+            AnyMachine::Narrow(machine) => machine.run_spared(turns),
+            AnyMachine::Wide(machine) => machine.run_spared(turns),
+        }
+    }
+
+    /// Takes memory so that at least `count` more operations need none.
+    pub fn reserve(&mut self, count: u32) -> Result<(), NoMemory>
+        ensures after { machine_state self.new ≡ roomed (is_ok result) count (machine_state self.old) }
+        ensures kind { kind_of self.new ≡ kind_of self.old }
+    {
+        match self {
+            AnyMachine::Narrow(machine) => machine.reserve(count),
+            AnyMachine::Wide(machine) => machine.reserve(count),
+        }
+    }
+}

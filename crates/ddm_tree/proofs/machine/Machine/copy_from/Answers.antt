@@ -1,0 +1,60 @@
+use Rattle.std.proofs.Common.{◌≡◌, ◌∙◌, ◌≤◌, ◌+◌, ◌-◌, min, ap, sym, subst, length, map, vec_items, vec_capacity, arith}
+use Rattle.std.proofs.lemmas.List.{length-map}
+use Rattle.tree_model.specs.State.Shape.{frame_of, tree_counts}
+use Rattle.tree_model.specs.State.Values.{nodes, root_of}
+use Rattle.ddm_tree.specs.Copying.{AreAlike, copied}
+use Rattle.ddm_tree.specs.Machine.{IsMachine, MachineState, machine_of}
+use Rattle.ddm_tree.proofs.Copies.{alike-child, alike-count, copied-is_machine, copied-machine, copied-state, counts-same, roots-alike}
+use Rattle.ddm_tree.proofs.machine.Machine.copy_from.Goals as goal
+
+pub copy_children-requires-clause-alike : goal.copy_children-requires-clause-alike
+copy_children-requires-clause-alike g c =
+    let m = machine_of c.self.inside.code c.self.inside.items c.self.inside.top (map g.C.Agent.value c.self.inside.children.items) c.self.inside.ops.items c.self.inside.traffic.items in
+    let k = machine_of c.other.inside.code c.other.inside.items c.other.inside.top (map g.C.Agent.value c.other.inside.children.items) c.other.inside.ops.items c.other.inside.traffic.items in
+    let frame : frame_of m ≡ frame_of k = ap (λ s. frame_of s.machine) c.self.view_is ∙ c.requires.frame ∙ sym (ap (λ s. frame_of s.machine) c.other.view_is) in
+    let alike : AreAlike (root_of m) (root_of k) = roots-alike m k frame c.self.invariant.0.rooms c.other.invariant.0.rooms in
+    let xs = c.self.inside.children.items in
+    let ys = c.other.inside.children.items in
+    rw (c.deref_mut.ensures.value, c.deref.ensures.value) (λ number inside. alike-child c.self.inside.top c.other.inside.top (map g.C.Agent.value xs) (map g.C.Agent.value ys) alike number (omega (arith, inside, length-map ys g.C.Agent.value)))
+
+pub copy_children-requires-clause-as_many : goal.copy_children-requires-clause-as_many
+copy_children-requires-clause-as_many g c =
+    let m = machine_of c.self.inside.code c.self.inside.items c.self.inside.top (map g.C.Agent.value c.self.inside.children.items) c.self.inside.ops.items c.self.inside.traffic.items in
+    let k = machine_of c.other.inside.code c.other.inside.items c.other.inside.top (map g.C.Agent.value c.other.inside.children.items) c.other.inside.ops.items c.other.inside.traffic.items in
+    let frame : frame_of m ≡ frame_of k = ap (λ s. frame_of s.machine) c.self.view_is ∙ c.requires.frame ∙ sym (ap (λ s. frame_of s.machine) c.other.view_is) in
+    let alike : AreAlike (root_of m) (root_of k) = roots-alike m k frame c.self.invariant.0.rooms c.other.invariant.0.rooms in
+    let xs = c.self.inside.children.items in
+    let ys = c.other.inside.children.items in
+    ap length c.deref_mut.ensures.value ∙ sym (length-map xs g.C.Agent.value) ∙ alike-count c.self.inside.top c.other.inside.top (map g.C.Agent.value xs) (map g.C.Agent.value ys) alike ∙ length-map ys g.C.Agent.value ∙ sym (ap length c.deref.ensures.value)
+
+pub invariant_of-self : goal.invariant_of-self
+invariant_of-self g c =
+    let m = machine_of c.self.inside.code c.self.inside.items c.self.inside.top (map g.C.Agent.value c.self.inside.children.items) c.self.inside.ops.items c.self.inside.traffic.items in
+    let k = machine_of c.other.inside.code c.other.inside.items c.other.inside.top (map g.C.Agent.value c.other.inside.children.items) c.other.inside.ops.items c.other.inside.traffic.items in
+    let frame : frame_of m ≡ frame_of k = ap (λ s. frame_of s.machine) c.self.view_is ∙ c.requires.frame ∙ sym (ap (λ s. frame_of s.machine) c.other.view_is) in
+    let whole : c.self.inside.children.len ≡ length c.self.inside.children.items = sym c.deref_mut.ensures.len ∙ ap length c.deref_mut.ensures.value in
+    let same : length c.copy_children.new.children ≡ length c.self.inside.children.items = c.copy_children.auto.children ∙ ap length c.deref_mut.ensures.value in
+    let after = copied-machine g.C.Agent.value m k frame c.copy_from.new.self c.self.inside.children.items c.copy_children.new.children c.self.inside.children.len c.refill.new.ops.items c.copy_from_slice.new.self.items whole same c.copy_from.ensures (ap nodes (c.copy_children.ensures ∙ ap (map g.C.Agent.value) c.deref.ensures.value)) (c.refill.ensures.items ∙ c.deref-2.ensures.value) (c.copy_from_slice.ensures.items ∙ c.deref-3.ensures.value) in
+    let leaf_paths = map vec_items c.self.inside.leaf_paths.items in
+    let bus_paths = map vec_items c.self.inside.bus_paths.items in
+    let inv = c.self.invariant in
+    let is = copied-is_machine m k frame g.row.WORDS c.self.inside.turns c.other.inside.turns leaf_paths bus_paths (map vec_items c.other.inside.leaf_paths.items) (map vec_items c.other.inside.bus_paths.items) inv.0 c.other.invariant.0 in
+    let others : length c.refill.new.ops.items ≡ length c.other.inside.ops.items = ap length (c.refill.ensures.items ∙ c.deref-2.ensures.value) in
+    let asked : length c.other.inside.ops.items ≤ length c.self.inside.ops.items + c.self.inside.spare = omega (arith, c.requires.room, ap (λ s. length s.machine.ops) c.other.view_is, ap (λ s. length s.machine.ops) c.self.view_is, ap (λ s. s.spare) c.self.view_is) in
+    let room : length c.refill.new.ops.items + c.room_left-self-inside.result ≤ vec_capacity c.refill.new.ops = omega (arith, others, asked, inv.4, c.refill.ensures.capacity, c.room_left-self-inside.ensures, c.len.ensures, c.len-2.ensures, c.self.inside.ops.ok.0, c.other.inside.ops.ok.0) in
+    (subst (λ n. IsMachine g.row.WORDS n c.other.inside.turns leaf_paths bus_paths) (sym after) is, ap tree_counts after ∙ counts-same m k frame ∙ inv.1, inv.2, inv.3, room)
+
+pub returns : goal.returns
+returns g c =
+    let m = machine_of c.self.inside.code c.self.inside.items c.self.inside.top (map g.C.Agent.value c.self.inside.children.items) c.self.inside.ops.items c.self.inside.traffic.items in
+    let k = machine_of c.other.inside.code c.other.inside.items c.other.inside.top (map g.C.Agent.value c.other.inside.children.items) c.other.inside.ops.items c.other.inside.traffic.items in
+    let frame : frame_of m ≡ frame_of k = ap (λ s. frame_of s.machine) c.self.view_is ∙ c.requires.frame ∙ sym (ap (λ s. frame_of s.machine) c.other.view_is) in
+    let whole : c.self.inside.children.len ≡ length c.self.inside.children.items = sym c.deref_mut.ensures.len ∙ ap length c.deref_mut.ensures.value in
+    let same : length c.copy_children.new.children ≡ length c.self.inside.children.items = c.copy_children.auto.children ∙ ap length c.deref_mut.ensures.value in
+    let after = copied-machine g.C.Agent.value m k frame c.copy_from.new.self c.self.inside.children.items c.copy_children.new.children c.self.inside.children.len c.refill.new.ops.items c.copy_from_slice.new.self.items whole same c.copy_from.ensures (ap nodes (c.copy_children.ensures ∙ ap (map g.C.Agent.value) c.deref.ensures.value)) (c.refill.ensures.items ∙ c.deref-2.ensures.value) (c.copy_from_slice.ensures.items ∙ c.deref-3.ensures.value) in
+    let old : MachineState = record { machine = m; spare = c.self.inside.spare; turns = c.self.inside.turns } in
+    let from : MachineState = record { machine = k; spare = c.other.inside.spare; turns = c.other.inside.turns } in
+    let here : c.len.result ≡ length c.self.inside.ops.items = c.len.ensures ∙ c.self.inside.ops.ok.0 in
+    let others : c.len-2.result ≡ length c.other.inside.ops.items = c.len-2.ensures ∙ c.other.inside.ops.ok.0 in
+    let room = c.room_left-self-inside.ensures ∙ ap (λ n. min 4294967295 (n + c.self.inside.spare - c.len-2.result)) here ∙ ap (λ n. min 4294967295 (length c.self.inside.ops.items + c.self.inside.spare - n)) others in
+    copied-state old from _ c.room_left-self-inside.result after room ∙ ap (λ s. copied s from) c.self.view_is ∙ ap (copied c.args.self.now) c.other.view_is

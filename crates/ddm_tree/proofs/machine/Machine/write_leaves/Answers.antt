@@ -1,0 +1,31 @@
+use Rattle.std.proofs.Common.{◌<◌, ◌≤◌, length, ap, arith, rules}
+use Rattle.std.proofs.lemmas.List.{take_all}
+use Rattle.ddm_text.specs.Adds.{◌▸◌}
+use Rattle.state_words.proofs.Nothing.{begins-after, on-err}
+use Rattle.tree_model.specs.State.Shape.{tree_counts}
+use Rattle.tree_model.specs.Turns.Machine.{machine_leaves}
+use Rattle.state_words.specs.Parts.{leaf_words}
+use Rattle.ddm_tree.proofs.LeafList.{leaf-there, leaves-counted}
+use Rattle.ddm_tree.proofs.Written.{leaves-more}
+use Rattle.ddm_tree.proofs.machine.Machine.write_leaves.Goals as goal
+
+pub write_leaf-requires : goal.write_leaf-requires
+write_leaf-requires g c =
+    let leaves = ap (λ n. n.leaves) c.counts-leaf-end.ensures.counts in
+    let below : c.loop-leaf.leaf < (tree_counts c.args.self.now.machine).leaves = omega (arith, leaves, c.loop-leaf-test.true) in
+    (search rules, leaf-there c.loop-leaf.leaf c.args.self.now.machine c.counts-leaf-end.ensures.shape below)
+
+pub loop-leaf-preserved : goal.loop-leaf-preserved
+loop-leaf-preserved g c =
+    let leaves = ap (λ n. n.leaves) c.counts-leaf-end.ensures.counts in
+    let inside : c.loop-leaf.leaf < length (machine_leaves c.args.self.now.machine) = omega (arith, leaves, leaves-counted c.args.self.now.machine, c.loop-leaf-test.true) in
+    rw (leaves-more leaf_words c.args.self.now.machine c.loop-leaf.leaf c.counts-leaf-end.ensures.shape inside) (c.loop-leaf.invariant ▸ c.in_ok-write_leaf.ensures.ok)
+
+pub returns-clause-ok : goal.returns-clause-ok
+returns-clause-ok g c =
+    let leaves = ap (λ n. n.leaves) c.counts-leaf-end.ensures.counts in
+    let past : length (machine_leaves c.args.self.now.machine) ≤ c.loop-leaf.leaf = omega (arith, leaves, leaves-counted c.args.self.now.machine, c.loop-leaf-test.false) in
+    rw (take_all c.loop-leaf.leaf (machine_leaves c.args.self.now.machine) past) at c.loop-leaf.invariant
+
+pub returns-in_err-write_leaf-clause-err : goal.returns-in_err-write_leaf-clause-err
+returns-in_err-write_leaf-clause-err g c = on-err _ (begins-after c.loop-leaf.invariant c.in_err-write_leaf.ensures.err)

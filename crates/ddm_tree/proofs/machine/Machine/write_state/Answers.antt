@@ -1,0 +1,8 @@
+use Rattle.ddm_text.specs.Adds.{◌▸◌}
+use Rattle.state_words.specs.Machine.{state_words}
+use Rattle.ddm_tree.proofs.machine.Machine.write_state.Goals as goal
+
+pub returns-clause-ok : goal.returns-clause-ok
+unfolding state_words
+returns-clause-ok g c =
+    c.in_ok-write_harts.ensures.ok ▸ c.in_ok-write_buses.ensures.ok ▸ c.in_ok-write_leaves.ensures.ok ▸ (rw c.ops.ensures at c.in_ok-push_all.ensures.ok) ▸ c.in_ok-push_words.ensures.ok

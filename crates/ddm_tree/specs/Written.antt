@@ -1,0 +1,25 @@
+-- The words of a checkpoint for a node, where it is known to be a leaf or a directory; and for the leaf or the directory over the bus
+-- of a number.
+-- Letters: v is a leaf, d a directory over the nodes ns, m a machine.
+-- To be believed with the contracts: it is what the calls that write give.
+use Rattle.std.specs.Prelude.{ℕ, List, []}
+use Rattle.tree_model.specs.State.Values.{LeafValue, Node, leaf_node, dir_node, MachineValue}
+use Rattle.tree_model.specs.Turns.Machine.{ask_leaf, ask_bus}
+use Rattle.state_words.specs.Parts.{dir_words}
+use Rattle.state_words.specs.Machine.{words_or_none}
+
+-- these words of a leaf
+abbrev pub node_words : (LeafValue → List ℕ) → Node → List ℕ
+node_words words (leaf_node v) = words v
+node_words words (dir_node d ns) = []
+
+abbrev pub node_dir_words : Node → List ℕ
+node_dir_words (leaf_node v) = []
+node_dir_words (dir_node d ns) = dir_words d
+
+-- the same by number
+abbrev pub words_of_leaf : (LeafValue → List ℕ) → ℕ → MachineValue → List ℕ
+words_of_leaf words leaf m = words_or_none (ask_leaf leaf (λ w v. words v) [] m)
+
+abbrev pub dir_words_of : ℕ → MachineValue → List ℕ
+dir_words_of bus m = words_or_none (ask_bus bus (λ w d ns. dir_words d) [] m)

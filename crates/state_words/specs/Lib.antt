@@ -1,0 +1,5 @@
+pub mod Numbers
+pub mod Begins
+pub mod Parts
+pub mod Machine
+pub mod Computing
