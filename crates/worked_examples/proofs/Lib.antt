@@ -31,3 +31,9 @@ mod Stored029
 mod Stored030
 mod Stored031
 mod Stored032
+mod Saved000
+mod Saved001
+mod Saved002
+mod Saved003
+mod Saved004
+mod Saved005

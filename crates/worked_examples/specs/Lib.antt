@@ -13,3 +13,4 @@ pub mod OneByteOfOutput
 pub mod BuildRefusals
 pub mod SeededSchedule
 pub mod StoredTraces
+pub mod Saved

@@ -13,6 +13,7 @@ ghost use Rattle.worked_examples.specs.AnInjectForSeveralReaders.{AnInjectForSev
 ghost use Rattle.worked_examples.specs.OneByteOfOutput.{OneByteOfOutput};
 ghost use Rattle.worked_examples.specs.BuildRefusals.{BuildRefusals};
 ghost use Rattle.worked_examples.specs.SeededSchedule.{SeededSchedule};
+ghost use Rattle.worked_examples.specs.Saved.{OneLeafSaved};
 
 /// One leaf stores 7, loads it back and exits with it.
 pub fn store_and_load_back()
@@ -72,4 +73,9 @@ pub fn build_refusals()
 /// The schedule of seed 42 on two leaves.
 pub fn seeded_schedule()
     ensures { SeededSchedule }
+{}
+
+/// The words of a machine of one leaf that is saved.
+pub fn one_leaf_saved()
+    ensures { OneLeafSaved }
 {}

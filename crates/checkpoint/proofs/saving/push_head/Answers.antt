@@ -1,0 +1,7 @@
+use Rattle.ddm_text.specs.Adds.{◌▸◌}
+use Rattle.state_words.specs.Machine.{head_words}
+use Rattle.checkpoint.proofs.saving.push_head.Goals as goal
+
+pub returns : goal.returns
+unfolding head_words
+returns c = c.in_ok-push_words.ensures.ok ▸ c.in_ok-push_words-2.ensures.ok ▸ c.in_ok-push_words-3.ensures.ok

@@ -1,0 +1,6 @@
+pub mod Saved
+pub mod Judged
+pub mod Resumed
+pub mod Laws
+pub mod Examples
+pub mod Computing

@@ -1,0 +1,4 @@
+pub mod Reading
+pub mod Parts
+pub mod Machine
+pub mod Computing
