@@ -1,0 +1,78 @@
+-- The outcome of a machine whose witness is one run of the flat machine, and the outcomes of a table of runs from a start.
+use Rattle.std.proofs.Common.{◌≡◌, ℕ, ◌+◌, zero, suc, Bool, true, false, cond, List, [], ◌∷◌, ◌++◌, map, Ok, refl, sym, ap, subst, ◌∙◌}
+use Rattle.std.specs.List.{AllByRecursion, range_with_len}
+use Rattle.ddm_types.specs.declared.operations.Op.{Op}
+use Rattle.ddm_types.specs.declared.turns.Turn.{Turn}
+use Rattle.ddm_types.specs.CodeMap.{CodeWord}
+use Rattle.ddm_types.specs.ItemTable.{ItemTable}
+use Rattle.flat_model.specs.Flat.{FlatMachine}
+use Rattle.tree_model.specs.State.Values.{LeafValue, MachineValue}
+use Rattle.tree_model.specs.State.Shape.{Frame, frame_of}
+use Rattle.tree_model.specs.Start.Sources.{ImageValue, TreeValue}
+use Rattle.tree_model.specs.Start.Machine.{flat_start_of, start_of}
+use Rattle.tree_model.specs.Turns.Machine.{machine_leaves, run_of}
+use Rattle.tree_model.specs.Turns.Witness.{sorted_ops}
+use Rattle.tree_model.proofs.FrameKept.{run-frame}
+use Rattle.tree_rules.specs.Order.Ops.{flat_now}
+use Rattle.tree_rules.specs.Witness.{IsHartOf, IsWitnessed}
+use Rattle.bus_laws.specs.IsTree.{IsTree}
+use Rattle.headline.proofs.Runs.{run-witnessed}
+use Rattle.headline.proofs.StartOrder.{start-orderly}
+use Rattle.text_model.specs.Report.{or_dash, put_texts}
+use Rattle.text_model.specs.Schedule.{ShapeView}
+use Rattle.text_model.specs.Seeded.{seeded_turns}
+use Rattle.text_model.specs.Words.{state_text}
+use Rattle.text_model.proofs.Outputs.{put_texts-same}
+use Rattle.outcome_model.specs.Outcome.{HartEnd, end_of, end_text, ends_text, outcome_of, seed_outcome, seed_outcomes}
+use Rattle.outcome_model.specs.Outcomes.{outcome_table}
+use Rattle.outcome_model.specs.FlatOutcome.{HaltsThere, IsLegalOutcome, OutcomesAreLegal}
+use Rattle.outcome_model.specs.Table.{OutcomeLine}
+use Rattle.outcome_model.proofs.Tables.{table-each}
+
+-- ---- one machine
+
+module _ (s : FlatMachine) (m : MachineValue) (w : IsWitnessed s m) where
+  halts : (vs : List LeafValue) → AllByRecursion (IsHartOf s m) vs → AllByRecursion (HaltsThere m.code m.items (flat_now s m)) (map end_of vs)
+  halts [] h = tt
+  halts (v ∷ vs) h = (h.0.halt, halts vs h.1)
+
+  same_texts : (es : List HartEnd) → ends_text m.ops es ≡ ends_text (sorted_ops m.ops) es
+  unfolding ends_text end_text
+  same_texts [] = refl
+  same_texts (e ∷ es) =
+      let output : put_texts e.number m.ops ≡ put_texts e.number (sorted_ops m.ops) = sym (put_texts-same e.number (sorted_ops m.ops) m.ops (w.own_order e.number)) in
+      rw (output, same_texts es) refl
+
+  pub witnessed-legal : IsLegalOutcome m.code m.items s (outcome_of m)
+  unfolding outcome_of
+  witnessed-legal = record {
+    ops = sorted_ops m.ops;
+    legal = w.legal;
+    ends = map end_of (machine_leaves m);
+    halts = halts (machine_leaves m) w.harts;
+    text = same_texts (map end_of (machine_leaves m));
+  }
+
+-- ---- the runs from a start
+
+module _ (t : TreeValue) (i : ImageValue) (m : MachineValue) (tree : IsTree t) (built : start_of t i ≡ Ok m) where
+  abbrev legal : List ℕ → Type 0
+  legal o = IsLegalOutcome m.code m.items (flat_start_of t i) o
+
+  ran-legal : (ts : List Turn) → legal (outcome_of (run_of ts m).machine)
+  ran-legal ts =
+      let r = run-witnessed (flat_start_of t i) ts m (start-orderly t i m tree built) in
+      let frame : frame_of (run_of ts m).machine ≡ frame_of m = run-frame ts m in
+      let o : List ℕ = outcome_of (run_of ts m).machine in
+      let here : IsLegalOutcome (run_of ts m).machine.code (run_of ts m).machine.items (flat_start_of t i) o = witnessed-legal (flat_start_of t i) (run_of ts m).machine r.machine in
+      subst (λ (f : Frame). IsLegalOutcome f.code f.items (flat_start_of t i) o) frame here
+
+  seeds-legal : (shape : ShapeView) (turns : ℕ) (seeds : List ℕ) → AllByRecursion legal (map (seed_outcome shape turns m) seeds)
+  unfolding seed_outcome
+  seeds-legal shape turns [] = tt
+  seeds-legal shape turns (seed ∷ seeds) = (ran-legal (seeded_turns shape seed turns), seeds-legal shape turns seeds)
+
+pub outcomes-legal : OutcomesAreLegal
+unfolding outcome_table
+outcomes-legal t i m tree built shape turns first count =
+    table-each (legal t i m tree built) first (seed_outcomes shape turns m first count) (seeds-legal t i m tree built shape turns (range_with_len first count))

@@ -1,0 +1,4 @@
+pub mod Tables
+pub mod Legal
+pub mod Halted
+pub mod TableLaws

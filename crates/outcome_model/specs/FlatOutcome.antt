@@ -1,0 +1,35 @@
+-- The outcome of a legal run of the flat machine, and that each outcome of a table is one.
+-- Letters: s is a flat machine, o an outcome, e a hart's end, t a tree, i an image.
+-- To be believed: it is what is claimed of every outcome.
+use Rattle.std.specs.Prelude.{◌≡◌, ℕ, Bool, List, None, Ok, Err, IfSome}
+use Rattle.std.specs.List.{AllByRecursion}
+use Rattle.ddm_types.specs.declared.operations.Op.{Op}
+use Rattle.ddm_types.specs.CodeMap.{CodeWord}
+use Rattle.ddm_types.specs.ItemTable.{ItemTable}
+use Rattle.flat_model.specs.Flat.{FlatMachine, flat_step}
+use Rattle.flat_model.specs.Legal.{Legal, flat_after}
+use Rattle.tree_model.specs.State.Values.{MachineValue}
+use Rattle.tree_model.specs.Start.Sources.{ImageValue, TreeValue}
+use Rattle.tree_model.specs.Start.Machine.{flat_start_of, start_of}
+use Rattle.text_model.specs.Schedule.{ShapeView}
+use Rattle.bus_laws.specs.IsTree.{IsTree}
+use Rattle.outcome_model.specs.Outcome.{HartEnd, ends_text}
+use Rattle.outcome_model.specs.Outcomes.{outcome_table}
+use Rattle.outcome_model.specs.Table.{OutcomeLine}
+
+-- a hart that halted did so at its next step after these operations
+abbrev pub HaltsThere : List CodeWord → ItemTable → FlatMachine → HartEnd → Type 0
+HaltsThere code items after e = IfSome e.halt (λ cause. (sc_ok : Bool) → flat_step code items after e.number sc_ok ≡ Err cause)
+
+-- there are operations that are legal from s, and the outcome says how its harts stand after them and what they put out
+pub record IsLegalOutcome (code : List CodeWord) (items : ItemTable) (s : FlatMachine) (o : List ℕ) : Type 0 where
+  pub ops : List Op
+  pub legal : Legal code items s ops
+  pub ends : List HartEnd
+  pub halts : AllByRecursion (HaltsThere code items (flat_after code items s ops)) ends
+  pub text : o ≡ ends_text ops ends
+
+-- each line of a table of seeds from the start
+abbrev pub OutcomesAreLegal : Type 0
+OutcomesAreLegal = (t : TreeValue) (i : ImageValue) (m : MachineValue) → IsTree t → start_of t i ≡ Ok m → (shape : ShapeView) (turns first count : ℕ)
+    → AllByRecursion (λ (l : OutcomeLine). IsLegalOutcome m.code m.items (flat_start_of t i) l.outcome) (outcome_table shape turns m first count)

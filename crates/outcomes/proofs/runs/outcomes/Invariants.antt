@@ -1,0 +1,9 @@
+use Rattle.std.proofs.Common.{◌≡◌}
+use Rattle.any_machine.specs.Any.{machine_state}
+use Rattle.schedule_log.specs.Shapes.{shape_view}
+use Rattle.outcomes.specs.Runs.{IsTwin}
+use Rattle.outcomes.proofs.Seeds.{tally}
+use Rattle.outcomes.proofs.runs.outcomes.Given as goal
+
+abbrev pub invariant-loop-number : goal.invariant-loop-number
+invariant-loop-number l = IsTwin l.fn.turns l.fn.start l.machine × (l.lines.items ≡ tally (shape_view l.fn.shape) l.fn.turns (machine_state l.fn.start).machine l.fn.first l.number)

@@ -1,0 +1,121 @@
+ghost use Rattle.std.specs.Prelude.{◌≡◌, ◌+◌, ◌≤◌, ◌^◌, ℕ, [], IfOk, OnErr, OnOk, length};
+ghost use Rattle.tree_model.specs.State.Shape.{frame_of};
+ghost use Rattle.tree_model.specs.Turns.Machine.{run_of};
+ghost use Rattle.any_machine.specs.Any.{machine_state};
+ghost use Rattle.any_machine.specs.Kind.{kind_of};
+ghost use Rattle.any_machine.specs.Run.{CanRun, NameParts};
+ghost use Rattle.schedule_log.specs.Shapes.{shape_view};
+ghost use Rattle.outcome_model.specs.Outcome.{outcome_of, seed_outcome};
+ghost use Rattle.outcome_model.specs.Outcomes.{outcome_table};
+ghost use Rattle.outcome_model.specs.Table.{counted};
+ghost use Rattle.outcomes.specs.Runs.{AreFew, HasShape, IsStart, IsTwin, KeepsRoom};
+
+use crate::counting::count_outcome;
+use crate::ending::{all_halted, put_outcome};
+use crate::line::OutcomeLine;
+use crate::ordering::in_order;
+use any_machine::AnyMachine;
+use ddm_types::{NoMemory, Turn};
+use schedule_log::seeded;
+use std::alloc::Global;
+use tree_config::Shape;
+
+/// After so many turns it is asked whether all harts have halted.
+const BLOCK: usize = 64;
+
+// Makes the turns until every hart has halted: those left change no outcome. It takes no memory.
+fn run_until_halted(machine: &mut AnyMachine, turns: &[Turn])
+    requires named { NameParts turns.now (machine_state machine.old).machine }
+    requires few { CanRun turns.now (machine_state machine.old) }
+    requires spare { length turns.now ≤ (machine_state machine.old).spare }
+    ensures outcome { outcome_of (machine_state machine.new).machine ≡ outcome_of (run_of turns.now (machine_state machine.old).machine).machine }
+    ensures keeps { KeepsRoom (machine_state machine.old) (machine_state machine.new) }
+    ensures kind { kind_of machine.new ≡ kind_of machine.old }
+{
+    let mut from = 0;
+    'running: while from < turns.len() {
+        let to = turns.len().min(from + BLOCK);
+        machine.run_spared(&turns[from..to]);
+        from = to;
+        if all_halted(machine) {
+            return;
+        }
+    }
+}
+
+// The outcome of a seed: the machine is put back to its start first.
+fn run_seed(
+    alloc: Global,
+    start: &AnyMachine,
+    machine: &mut AnyMachine,
+    shape: &Shape,
+    turns: u32,
+    seed: u64,
+    text: &mut Vec<u8>,
+) -> Result<(), NoMemory>
+    requires shape { HasShape (shape_view shape.now) (machine_state start.now).machine }
+    requires start { IsStart turns (machine_state start.now) }
+    requires twin { IsTwin turns start.now machine.old }
+    ensures outcome { OnOk result (text.new.items ≡ seed_outcome (shape_view shape.now) turns (machine_state start.now).machine seed) }
+    ensures twin { IsTwin turns start.now machine.new }
+{
+    machine.copy_from(start);
+    let schedule = seeded(alloc, seed, turns, shape)?;
+    run_until_halted(machine, &schedule);
+    put_outcome(text, machine)
+}
+
+// The outcome of one seed more is counted.
+fn count_seed(
+    alloc: Global,
+    start: &AnyMachine,
+    machine: &mut AnyMachine,
+    shape: &Shape,
+    turns: u32,
+    seed: u64,
+    text: &mut Vec<u8>,
+    lines: &mut Vec<OutcomeLine>,
+) -> Result<(), NoMemory>
+    requires shape { HasShape (shape_view shape.now) (machine_state start.now).machine }
+    requires start { IsStart turns (machine_state start.now) }
+    requires twin { IsTwin turns start.now machine.old }
+    requires few { AreFew lines.old.items }
+    ensures counted { OnOk result (lines.new.items ≡ counted seed (seed_outcome (shape_view shape.now) turns (machine_state start.now).machine seed) lines.old.items) }
+    ensures twin { IsTwin turns start.now machine.new }
+{
+    run_seed(alloc, start, machine, shape, turns, seed, text)?;
+    count_outcome(alloc, lines, seed, text)
+}
+
+/// The outcomes of so many seeds from `first` on, each over so many turns from the start: a line for each different one, in the order
+/// in which they are printed. Both machines are of one tree and image, and `start` has made no turn; `machine` makes all turns, and
+/// may be used again whatever the answer is.
+pub fn outcomes(
+    alloc: Global,
+    start: &AnyMachine,
+    machine: &mut AnyMachine,
+    shape: &Shape,
+    turns: u32,
+    first: u64,
+    count: u32,
+) -> Result<Vec<OutcomeLine>, NoMemory>
+    requires shape { HasShape (shape_view shape.now) (machine_state start.now).machine }
+    requires start { IsStart turns (machine_state start.now) }
+    requires kind { kind_of start.now ≡ kind_of machine.old }
+    requires frame { frame_of (machine_state machine.old).machine ≡ frame_of (machine_state start.now).machine }
+    requires seeds { first + count ≤ 2 ^ 64 }
+    ensures table { IfOk result (λ lines. lines.items ≡ outcome_table (shape_view shape.now) turns (machine_state start.now).machine first count) }
+    ensures kind { kind_of machine.new ≡ kind_of start.now }
+    ensures frame { frame_of (machine_state machine.new).machine ≡ frame_of (machine_state start.now).machine }
+{
+    machine.reserve(turns)?;
+    let mut text = Vec::new(alloc);
+    let mut lines = Vec::new(alloc);
+    for number in 0..count {
+        let seed = first + u64::from(number);
+        count_seed(
+            alloc, start, machine, shape, turns, seed, &mut text, &mut lines,
+        )?;
+    }
+    in_order(alloc, lines)
+}
