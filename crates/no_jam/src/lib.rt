@@ -2,5 +2,7 @@
 #![tactic(auto)]
 
 mod search;
+mod unjamming;
+mod waiting;
 
-pub use search::first_granted;
+pub use unjamming::unjam;

@@ -4,10 +4,11 @@ ghost use Rattle.ddm_types.specs.declared.turns.Turn.{Turn};
 ghost use Rattle.tree_model.specs.Turns.Machine.{child_count, is_child_of};
 ghost use Rattle.tree_model.specs.Turns.Tree.{bus_of_number};
 ghost use Rattle.ddm_tree.specs.Machine.{is_part};
+ghost use Rattle.any_machine.specs.Any.{machine_state};
 ghost use Rattle.jam_laws.specs.GoesOn.{first_granted, turns_of_bus, would_grant};
 ghost use Rattle.no_jam.specs.Asked.{child_turn};
 
-use ddm_tree::{Machine, Subtree};
+use any_machine::AnyMachine;
 use ddm_types::{BusNo, ChildNo, Turn};
 
 /// A turn that names a child.
@@ -34,35 +35,25 @@ fn child_turn(asked: &Asked, bus: BusNo, child: u32) -> Turn
 }
 
 /// Whether the turn of a child would be granted.
-fn child_goes<const WORDS: usize, C: Subtree<WORDS>>(
-    machine: &Machine<WORDS, C>,
-    asked: &Asked,
-    bus: BusNo,
-    child: u32,
-) -> bool
-    requires { is_child_of child (child_count bus machine.now.machine) ≡ true }
-    ensures { result ≡ would_grant machine.now.machine (child_turn asked.now bus child) }
+fn child_goes(machine: &AnyMachine, asked: &Asked, bus: BusNo, child: u32) -> bool
+    requires { is_child_of child (child_count bus (machine_state machine.now).machine) ≡ true }
+    ensures { result ≡ would_grant (machine_state machine.now).machine (child_turn asked.now bus child) }
 {
     machine.would_grant(child_turn(asked, bus, child))
 }
 
 /// Whether Down of the bus would be granted.
-fn down_goes<const WORDS: usize, C: Subtree<WORDS>>(machine: &Machine<WORDS, C>, bus: BusNo) -> bool
-    requires { is_part (bus_of_number bus) machine.now.machine ≡ true }
-    ensures { result ≡ would_grant machine.now.machine (Turn.Down bus) }
+fn down_goes(machine: &AnyMachine, bus: BusNo) -> bool
+    requires { is_part (bus_of_number bus) (machine_state machine.now).machine ≡ true }
+    ensures { result ≡ would_grant (machine_state machine.now).machine (Turn.Down bus) }
 {
     machine.would_grant(Turn::Down { bus })
 }
 
 /// The turn of the first child that would be granted.
-fn first_child<const WORDS: usize, C: Subtree<WORDS>>(
-    machine: &Machine<WORDS, C>,
-    asked: &Asked,
-    bus: BusNo,
-    kids: u32,
-) -> Option<Turn>
-    requires { Some kids ≡ child_count bus machine.now.machine }
-    ensures { result ≡ find (would_grant machine.now.machine) (map (child_turn asked.now bus) (range_with_len 0 kids)) }
+fn first_child(machine: &AnyMachine, asked: &Asked, bus: BusNo, kids: u32) -> Option<Turn>
+    requires { Some kids ≡ child_count bus (machine_state machine.now).machine }
+    ensures { result ≡ find (would_grant (machine_state machine.now).machine) (map (child_turn asked.now bus) (range_with_len 0 kids)) }
 {
     for child in 0..kids {
         if child_goes(machine, asked, bus, child) {
@@ -73,12 +64,9 @@ fn first_child<const WORDS: usize, C: Subtree<WORDS>>(
 }
 
 /// The first turn of a bus that would be granted.
-fn first_of_bus<const WORDS: usize, C: Subtree<WORDS>>(
-    machine: &Machine<WORDS, C>,
-    bus: BusNo,
-) -> Option<Turn>
-    requires { is_part (bus_of_number bus) machine.now.machine ≡ true }
-    ensures { result ≡ find (would_grant machine.now.machine) (turns_of_bus bus (unwrap_or (child_count bus machine.now.machine) 0)) }
+fn first_of_bus(machine: &AnyMachine, bus: BusNo) -> Option<Turn>
+    requires { is_part (bus_of_number bus) (machine_state machine.now).machine ≡ true }
+    ensures { result ≡ find (would_grant (machine_state machine.now).machine) (turns_of_bus bus (unwrap_or (child_count bus (machine_state machine.now).machine) 0)) }
 {
     if down_goes(machine, bus) {
         return Some(Turn::Down { bus });
@@ -91,10 +79,8 @@ fn first_of_bus<const WORDS: usize, C: Subtree<WORDS>>(
 }
 
 /// The first turn that would be granted: buses by number, and on a bus Down, then Reply by child, then Request by child.
-pub fn first_granted<const WORDS: usize, C: Subtree<WORDS>>(
-    machine: &Machine<WORDS, C>,
-) -> Option<Turn>
-    ensures { result ≡ first_granted machine.now.machine }
+pub fn first_granted(machine: &AnyMachine) -> Option<Turn>
+    ensures { result ≡ first_granted (machine_state machine.now).machine }
 {
     let buses = machine.counts().buses;
     for bus in 0..buses {
