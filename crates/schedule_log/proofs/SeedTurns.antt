@@ -10,7 +10,8 @@ use Rattle.rand_pcg.specs.Pcg.{pcg32}
 use Rattle.text_model.specs.Schedule.{ShapeView, child_fault, turn_fault}
 use Rattle.text_model.specs.ReadBack.{IsTurnOf}
 use Rattle.text_model.specs.Seeded.{bus_turn_from, seeded_generator, seeded_turn, seeded_turns, turns_of_words, words_of}
-use Rattle.schedule_log.proofs.Seeds.{first_turn, turns_on}
+use Rattle.schedule_log.specs.Seeding.{turns_left}
+use Rattle.schedule_log.proofs.Seeds.{first_turn}
 
 got : (xs : List ℕ) (k : ℕ) → k < length xs → slice_get xs k ≡ Some (slice_index_or xs k 0)
 got [] k l = absurd (omega (arith, l))
@@ -71,10 +72,18 @@ module _ (shape : ShapeView) where
     seeded_known seed count = turns_known _
 
 -- and there are as many as is said
-counted : (shape : ShapeView) (g : Lcg) (n : ℕ) → length (turns_on shape g n) ≡ n
+counted : (shape : ShapeView) (g : Lcg) (n : ℕ) → length (turns_left shape g n) ≡ n
 unfolding turns_of_words words_of
 counted shape g zero = refl
 counted shape g (suc n) = ap length (first_turn shape g n) ∙ ap suc (counted shape (pcg32 (pcg32 g).1).1 n)
+
+-- a generator's turns, for the parts of a tree
+pub seeded_from : (shape : ShapeView) (harts : ℕ) (buses : List ℕ) (g : Lcg) (seed count : ℕ) → harts ≡ shape.harts → buses ≡ shape.buses → g ≡ seeded_generator seed → turns_left (record { harts = harts; buses = buses }) g count ≡ seeded_turns shape seed count
+unfolding seeded_turns
+seeded_from shape harts buses g seed count same_harts same_buses same =
+    ap (λ (h : ℕ). turns_left (record { harts = h; buses = buses }) g count) same_harts
+    ∙ ap (λ (ws : List ℕ). turns_left (record { harts = shape.harts; buses = ws }) g count) same_buses
+    ∙ ap (λ (k : Lcg). turns_left shape k count) same
 
 pub seeded_count : (shape : ShapeView) (seed count : ℕ) → length (seeded_turns shape seed count) ≡ count
 unfolding seeded_turns

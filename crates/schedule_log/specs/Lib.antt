@@ -1,4 +1,5 @@
 pub mod Shapes
+pub mod Seeding
 pub mod Standings
 pub mod Steps
 pub mod Reader

@@ -12,7 +12,7 @@ mod writing;
 
 pub use reading::ScheduleReader;
 pub use refusal::FeedError;
-pub use seeding::seeded;
+pub use seeding::{SeededTurns, seeded};
 pub use text_model::ScheduleRefusal;
 pub use writing::{push_turn, write_schedule};
 

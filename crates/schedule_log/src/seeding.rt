@@ -1,4 +1,5 @@
-ghost use Rattle.std.specs.Prelude.{◌≡◌, ◌≤◌, ◌<◌, ◌+◌, ◌*◌, length, slice_index_or, All, IfOk};
+ghost use Rattle.std.specs.Prelude.{◌≡◌, ◌≤◌, ◌<◌, ◌+◌, ◌*◌, ◌++◌, drop, length, slice_index_or, take, vec_capacity, vec_len, All, IfOk, OnErr, OnOk};
+ghost use Rattle.rand_pcg.specs.Pcg.{pcg32};
 ghost use Rattle.tree_config.specs.Levels.{leaves_of, widths_of};
 ghost use Rattle.text_model.specs.ReadBack.{IsTurnOf};
 ghost use Rattle.text_model.specs.Seeded.{bus_turn_from, seeded_turn, seeded_turns};
@@ -8,6 +9,7 @@ use ddm_types::{BusNo, ChildNo, HartNo, NoMemory, Turn};
 use rand_core::utils::NextWord;
 use rand_pcg::Pcg32;
 use std::alloc::Global;
+use std::marker::Model;
 use tree_config::Shape;
 
 /// The stream of the generator.
@@ -100,22 +102,73 @@ fn seeded_turn(widths: &[u32], harts: u32, buses: u32, a: u32, b: u32) -> Turn
     }
 }
 
+/// The turns of a seed, each made when it is asked for, of two words of the generator. A contract sees those that are left.
+#[derive(Drop)]
+pub struct SeededTurns {
+    words: Pcg32,
+    left: u32,
+    harts: u32,
+    buses: u32,
+    widths: Vec<u32>,
+}
+
+impl Model for SeededTurns {
+    ghost use Rattle.std.specs.Prelude.{List};
+    ghost use Rattle.ddm_types.specs.declared.turns.Turn.{Turn};
+    ghost use Rattle.schedule_log.specs.Seeding.{IsOfTree, turns_left};
+
+    ghost Value = { List Turn };
+
+    ghost view = { λ s. turns_left (record { harts = s.harts; buses = s.widths.items }) s.words s.left };
+
+    ghost invariant = { λ s. IsOfTree s.harts s.buses s.widths.items };
+}
+
+impl SeededTurns {
+    /// So many turns, each of a part of the tree.
+    pub fn new(alloc: Global, seed: u64, turns: u32, shape: &Shape) -> Result<SeededTurns, NoMemory>
+        ensures turns { IfOk result (λ left. left ≡ seeded_turns (shape_view shape.now) seed turns) }
+        ensures known { IfOk result (λ left. All (IsTurnOf (shape_view shape.now)) left) }
+        ensures count { IfOk result (λ left. length left ≡ turns) }
+    {
+        let buses = shape.buses();
+        let widths = bus_widths(alloc, shape, buses)?;
+        Ok(SeededTurns {
+            words: Pcg32::new(seed, STREAM),
+            left: turns,
+            harts: shape.harts(),
+            buses,
+            widths,
+        })
+    }
+
+    /// Puts the next turns in place of those of a list, at most this many. Where the list has room for them it can't fail.
+    pub fn next_block(&mut self, most: u32, block: &mut Vec<Turn>) -> Result<(), NoMemory>
+        ensures block { OnOk result (block.new.items ≡ take most self.old) }
+        ensures left { OnOk result (self.new ≡ drop most self.old) }
+        ensures full { OnErr result (vec_capacity block.old < most) }
+    {
+        block.clear();
+        let count = most.min(self.left);
+        for made in 0..count {
+            let _ = made;
+            let a = self.words.next_word();
+            let b = self.words.next_word();
+            self.left -= 1;
+            block.push(seeded_turn(&self.widths, self.harts, self.buses, a, b))?;
+        }
+        Ok(())
+    }
+}
+
 /// The schedule of a seed: so many turns, each of two words of the generator, and each of a part of the tree.
 pub fn seeded(alloc: Global, seed: u64, turns: u32, shape: &Shape) -> Result<Vec<Turn>, NoMemory>
     ensures turns { IfOk result (λ list. list.items ≡ seeded_turns (shape_view shape.now) seed turns) }
     ensures known { IfOk result (λ list. All (IsTurnOf (shape_view shape.now)) list.items) }
     ensures count { IfOk result (λ list. length list.items ≡ turns) }
 {
-    let harts = shape.harts();
-    let buses = shape.buses();
-    let widths = bus_widths(alloc, shape, buses)?;
-    let mut words = Pcg32::new(seed, STREAM);
+    let mut left = SeededTurns::new(alloc, seed, turns, shape)?;
     let mut list = Vec::with_capacity(alloc, turns as usize)?;
-    for turn in 0..turns {
-        let _ = turn;
-        let a = words.next_word();
-        let b = words.next_word();
-        list.push(seeded_turn(&widths, harts, buses, a, b))?;
-    }
+    left.next_block(turns, &mut list)?;
     Ok(list)
 }
