@@ -1,16 +1,25 @@
 -- The causes of one file, as those of a command.
-use Rattle.std.proofs.Common.{◌≡◌, ℕ, List, Option, Some, None, refl}
-use Rattle.std.specs.Prelude.{IsSome}
-use Rattle.tree_model.specs.Start.Sources.{TreeValue}
-use Rattle.ddm_cli.specs.Causes.{AcceptedAs, Accepts}
-use Rattle.ddm_cli.specs.Parts.{parts_in, parts_of, tree_at}
+use Rattle.std.proofs.Common.{◌≡◌, ℕ, List, Option, Some, None, Ok, refl}
+use Rattle.std.specs.Prelude.{IfSome, IsSome}
+use Rattle.ddm_types.specs.ItemTable.{item_count}
+use Rattle.tree_model.specs.Start.Sources.{TreeValue, ImageValue}
+use Rattle.tree_model.specs.Start.Machine.{start_refusal}
+use Rattle.tree_model.specs.Start.Memory.{start_items}
+use Rattle.elf_load.specs.ElfFile.{image_of}
+use Rattle.ddm_cli.specs.Causes.{AcceptedAs}
+use Rattle.ddm_cli.specs.Lists.{list_refused}
+use Rattle.ddm_cli.specs.Parts.{Parts, parts_for, tree_at}
 use Rattle.ddm_cli.specs.Top.{AcceptsParts}
+use Rattle.ddm_cli.specs.declared.command.Prints.{Prints}
+use Rattle.ddm_cli.proofs.Judged.{both_taken}
 
-parts_at : (tree image : List ℕ) (t : TreeValue) → tree_at tree ≡ Some t → IsSome (parts_in t image) → IsSome (parts_of tree image)
-unfolding parts_of
-parts_at tree image t is some = rw is some
+-- the parts of files that were taken, where no list is refused
+module _ (prints : Prints) (t : TreeValue) (i : ImageValue) (accepted : start_refusal t i ≡ None) (large : list_refused prints t.sizes (item_count (start_items t i)) ≡ None) where
+  pub parts_are : (tree image : List ℕ) → tree_at tree ≡ Some t → image_of t.item_bytes image ≡ Ok i → (let p : Parts = record { tree = t; image = i } in parts_for prints tree image ≡ Some p)
+  unfolding parts_for
+  parts_are tree image is loaded = rw (both_taken tree image t i is loaded accepted, large) refl
 
-pub takes_parts : (tree image : Option (List ℕ)) (t : TreeValue) → AcceptedAs tree_at tree t → Accepts (parts_in t) image → AcceptsParts tree image
-takes_parts None image t taken parts = (tt, tt)
-takes_parts (Some f) None t taken parts = (rw taken refl, tt)
-takes_parts (Some f) (Some g) t taken parts = (rw taken refl, parts_at f g t taken parts)
+  pub takes_parts : (tree image : Option (List ℕ)) → AcceptedAs tree_at tree t → IfSome image (λ f. image_of t.item_bytes f ≡ Ok i) → AcceptsParts prints tree image
+  takes_parts None image taken loaded = (tt, tt)
+  takes_parts (Some f) None taken loaded = (rw taken refl, tt)
+  takes_parts (Some f) (Some g) taken loaded = (rw taken refl, rw (parts_are f g taken loaded) refl)

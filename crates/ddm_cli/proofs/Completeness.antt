@@ -1,6 +1,6 @@
 -- What follows from the causes.
-use Rattle.std.proofs.Common.{◌≡◌, ℕ, Bool, true, false, cond, List, ap, Option, Some, None, Result, Ok, Err, inl, inr, refl, sym, ◌∙◌}
-use Rattle.std.specs.Prelude.{IfSome, IsOkAnd, is_none, option_and_then}
+use Rattle.std.proofs.Common.{◌≡◌, ℕ, Bool, true, false, cond, List, ap, Option, Some, None, Result, Ok, Err, inl, inr, refl, sym, ◌∙◌, arith}
+use Rattle.std.specs.Prelude.{IfSome, IsOkAnd, IsSomeAnd, is_none, option_and_then}
 use Rattle.std.specs.Option.{option_map}
 use Rattle.report.specs.declared.roles.FileRole.TheVariants.{ImageFile, TreeFile, ScheduleFile, WitnessFile, CheckpointFile}
 use Rattle.tree_model.specs.Start.Sources.{TreeValue, ImageValue}
@@ -8,21 +8,24 @@ use Rattle.tree_model.specs.Start.Machine.{StartRefusal, start_refusal}
 use Rattle.elf_load.specs.ElfFile.{image_of}
 use Rattle.elf_load.specs.declared.refusal.ImageRefusal.{ImageRefusal}
 use Rattle.tree_config.specs.TreeFile.{tree_of}
+use Rattle.tree_config.specs.declared.refusal.TreeKey.{TreeKey}
 use Rattle.tree_config.specs.declared.refusal.TreeRefusal.{TreeRefusal}
 use Rattle.run_engine.specs.Build.{build_refusal, refusal_of}
 use Rattle.run_engine.specs.declared.refusal.BuildRefusal.{BuildRefusal}
 use Rattle.text_model.specs.declared.ScheduleRefusal.{ScheduleRefusal}
-use Rattle.ddm_cli.specs.Causes.{HasNoSetting, IsRefused, IsUnloaded, IsUnstarted}
+use Rattle.ddm_cli.specs.Causes.{HasNoSetting, HasSmallList, IsRefused, IsUnloaded, IsUnstarted}
 use Rattle.witness_check.specs.Start.{Setting, check_of, judged}
 use Rattle.witness_check.specs.declared.refusal.CheckRefusal.{CheckRefusal}
-use Rattle.ddm_cli.specs.Commands.{Check, Command, Run, to_run, to_list, to_check, to_say}
-use Rattle.ddm_cli.specs.Parts.{Parts, if_judged, if_started, parts_in, parts_of, setting_at, setting_in, tree_at, turns_at, turns_of}
+use Rattle.ddm_cli.specs.Commands.{Check, Command, Run, Seeds, to_run, to_list, to_check, to_survey, to_say, first_run}
+use Rattle.ddm_cli.specs.Lists.{list_refused}
+use Rattle.ddm_cli.specs.Parts.{Parts, if_judged, if_large, if_started, items_of, parts_for, parts_in, parts_of, setting_at, setting_in, tree_at, turns_at, turns_of}
 use Rattle.ddm_cli.specs.Told.{ScheduleGiven, written, seeded, image_told, schedule_told}
-use Rattle.ddm_cli.specs.Top.{Both, command_text, list_of, text_of, text_with, verdict_in, verdict_of, IsJudged, StatusHasCause, Completes, NoRun, NotAccepted, NothingFailed, NoVerdict, RefusesImage}
+use Rattle.ddm_cli.specs.Top.{Both, command_text, list_of, outcomes_at, outcomes_of, text_of, text_with, verdict_in, verdict_of, IsJudged, StatusHasCause, Completes, NoRun, NotAccepted, NothingFailed, NoVerdict, RefusesImage}
 use Rattle.ddm_cli.proofs.Settings.{start_refused}
 use Rattle.ddm_cli.specs.declared.command.Prints.{Prints}
+use Rattle.ddm_cli.specs.declared.command.Prints.TheVariants.{Report}
 use Rattle.ddm_cli.specs.declared.status.Status.{Status}
-use Rattle.ddm_cli.specs.declared.status.Status.TheVariants.{Done, Usage, ImageLoad, ImageBuild, Tree, Schedule, Witness, ReadFault, WriteFault, NoMemory}
+use Rattle.ddm_cli.specs.declared.status.Status.TheVariants.{Done, Usage, ImageLoad, ImageBuild, Tree, Schedule, Witness, SmallLists, ReadFault, WriteFault, NoMemory}
 
 -- ---- a file that gives no part gives no text
 
@@ -33,32 +36,37 @@ refused_tree : (file : List ℕ) (r : TreeRefusal) → tree_of file ≡ Err r �
 unfolding tree_at
 refused_tree file r is = rw is refl
 
-no_parts : (tree image : List ℕ) → tree_at tree ≡ None → parts_of tree image ≡ None
-unfolding parts_of
-no_parts tree image none = rw none refl
+module _ (prints : Prints) where
+  -- the parts that are large enough, of those that there are
+  abbrev large_of : Option Parts → Option Parts
+  large_of o = option_and_then (if_large prints) o
 
--- an image that gives no part for the tree
-refused_parts : (tree image : List ℕ) (P : TreeValue → List ℕ → Type 0) → ((t : TreeValue) → P t image → parts_in t image ≡ None) → IfSome (tree_at tree) (λ t. P t image) → parts_of tree image ≡ None
-unfolding parts_of
-refused_parts tree image P none = by_tree (tree_at tree) where
-  by_tree : (o : Option TreeValue) → IfSome o (λ t. P t image) → option_and_then (λ t. parts_in t image) o ≡ None
-  by_tree None p = refl
-  by_tree (Some t) p = none t p
+  no_parts : (tree image : List ℕ) → tree_at tree ≡ None → parts_for prints tree image ≡ None
+  unfolding parts_for parts_of
+  no_parts tree image none = rw none refl
 
-unloaded : (r : ImageRefusal) (t : TreeValue) (image : List ℕ) → IsUnloaded t r image → parts_in t image ≡ None
-unfolding parts_in
-unloaded r t image is = rw is refl
+  -- an image that gives no part for the tree
+  refused_parts : (tree image : List ℕ) (P : TreeValue → List ℕ → Type 0) → ((t : TreeValue) → P t image → large_of (parts_in t image) ≡ None) → IfSome (tree_at tree) (λ t. P t image) → parts_for prints tree image ≡ None
+  unfolding parts_for parts_of
+  refused_parts tree image P none = by_tree (tree_at tree) where
+    by_tree : (o : Option TreeValue) → IfSome o (λ t. P t image) → large_of (option_and_then (λ t. parts_in t image) o) ≡ None
+    by_tree None p = refl
+    by_tree (Some t) p = none t p
 
-unstarted : (r : BuildRefusal) (t : TreeValue) (image : List ℕ) → IsUnstarted t r image → parts_in t image ≡ None
-unfolding parts_in
-unstarted r t image = by_result (image_of t.item_bytes image) where
-  by_refusal : (o : Option StartRefusal) → option_map refusal_of o ≡ Some r → is_none o ≡ false
-  by_refusal None e = cc
-  by_refusal (Some q) e = refl
+  unloaded : (r : ImageRefusal) (t : TreeValue) (image : List ℕ) → IsUnloaded t r image → large_of (parts_in t image) ≡ None
+  unfolding parts_in
+  unloaded r t image is = rw is refl
 
-  by_result : (x : Result ImageValue ImageRefusal) → IsOkAnd x (λ i. build_refusal t i ≡ Some r) → if_started t x ≡ None
-  by_result (Ok i) given = rw (by_refusal (start_refusal t i) given) refl
-  by_result (Err q) given = absurd given
+  unstarted : (r : BuildRefusal) (t : TreeValue) (image : List ℕ) → IsUnstarted t r image → large_of (parts_in t image) ≡ None
+  unfolding parts_in
+  unstarted r t image = by_result (image_of t.item_bytes image) where
+    by_refusal : (o : Option StartRefusal) → option_map refusal_of o ≡ Some r → is_none o ≡ false
+    by_refusal None e = cc
+    by_refusal (Some q) e = refl
+
+    by_result : (x : Result ImageValue ImageRefusal) → IsOkAnd x (λ i. build_refusal t i ≡ Some r) → large_of (if_started t x) ≡ None
+    by_result (Ok i) given = rw (by_refusal (start_refusal t i) given) refl
+    by_result (Err q) given = absurd given
 
 -- a schedule that gives no turns for the tree
 no_turns : (levels : List (List ℕ)) (schedule : ScheduleGiven) (line : ℕ) (r : ScheduleRefusal) → IsRefused levels line r schedule → turns_of levels schedule ≡ None
@@ -78,25 +86,52 @@ parts_tree t image p = by_result (image_of t.item_bytes image) where
   by_result (Err q) e = absurd (cc e)
 
 module _ (prints : Prints) where
+  -- a list that is too small for what is to be printed
+  too_small : (key : TreeKey) (t : TreeValue) (image : List ℕ) → HasSmallList prints key t image → large_of prints (parts_in t image) ≡ None
+  too_small key t image = by_parts (parts_in t image) (parts_tree t image) where
+    by_parts : (o : Option Parts) → ((p : Parts) → o ≡ Some p → p.tree ≡ t) → IsSomeAnd o (λ p. list_refused prints t.sizes (items_of p) ≡ Some key) → large_of prints o ≡ None
+    by_parts None of_tree small = refl
+    by_parts (Some p) of_tree small =
+        let refused : list_refused prints p.tree.sizes (items_of p) ≡ Some key = ap (λ (u : TreeValue). list_refused prints u.sizes (items_of p)) (of_tree p refl) ∙ small in
+        rw refused refl
+
+  -- parts that are large enough for a text give that of them
+  large_text : (schedule : ScheduleGiven) (text : List ℕ) (p : Parts) (b : Bool) → option_and_then (text_with prints schedule) (cond b (Some p) None) ≡ Some text → text_with prints schedule p ≡ Some text
+  large_text schedule text p true has = has
+  large_text schedule text p false has = cc has
+
   unscheduled : (tree image : List ℕ) (schedule : ScheduleGiven) (text : List ℕ) (line : ℕ) (r : ScheduleRefusal) → IfSome (tree_at tree) (λ u. IsRefused u.levels line r schedule) → text_of prints tree image schedule ≡ Some text → ⊥
-  unfolding parts_of
+  unfolding parts_for parts_of
   unscheduled tree image schedule text line r = by_tree (tree_at tree) where
-    by_parts : (t : TreeValue) (o : Option Parts) → parts_in t image ≡ o → IsRefused t.levels line r schedule → option_and_then (text_with prints schedule) o ≡ Some text → ⊥
+    by_parts : (t : TreeValue) (o : Option Parts) → parts_in t image ≡ o → IsRefused t.levels line r schedule → option_and_then (text_with prints schedule) (large_of prints o) ≡ Some text → ⊥
     by_parts t None is refused has = cc has
     by_parts t (Some p) is refused has =
         let none : turns_of p.tree.levels schedule ≡ None = ap (λ (u : TreeValue). turns_of u.levels schedule) (parts_tree t image p is) ∙ no_turns t.levels schedule line r refused in
-        no_text (sym (rw none refl) ∙ has)
+        no_text (sym (rw none refl) ∙ large_text schedule text p (is_none (list_refused prints p.tree.sizes (items_of p))) has)
 
-    by_tree : (o : Option TreeValue) → IfSome o (λ u. IsRefused u.levels line r schedule) → option_and_then (text_with prints schedule) (option_and_then (λ t. parts_in t image) o) ≡ Some text → ⊥
+    by_tree : (o : Option TreeValue) → IfSome o (λ u. IsRefused u.levels line r schedule) → option_and_then (text_with prints schedule) (large_of prints (option_and_then (λ t. parts_in t image) o)) ≡ Some text → ⊥
     by_tree None refused has = cc has
     by_tree (Some t) refused has = by_parts t (parts_in t image) refl refused has
 
-  no_image : (t i : Option (List ℕ)) (tree image : List ℕ) (schedule : ScheduleGiven) (text : List ℕ) (P : TreeValue → List ℕ → Type 0) → ((u : TreeValue) → P u image → parts_in u image ≡ None)
+  no_image : (t i : Option (List ℕ)) (tree image : List ℕ) (schedule : ScheduleGiven) (text : List ℕ) (P : TreeValue → List ℕ → Type 0) → ((u : TreeValue) → P u image → large_of prints (parts_in u image) ≡ None)
       → t ≡ Some tree → i ≡ Some image → text_of prints tree image schedule ≡ Some text → RefusesImage P t i → ⊥
   no_image t i tree image schedule text P none is-tree is-image has refused =
       let here : IfSome (tree_at tree) (λ u. P u image) = rw (is-tree, is-image) at refused.1 in
-      let nothing = refused_parts tree image P none here in
+      let nothing = refused_parts prints tree image P none here in
       no_text (sym (rw nothing refl) ∙ has)
+
+-- the first seed of a survey has a report
+first_text : (o : Seeds) (tree image : List ℕ) (text : List ℕ) → outcomes_of o tree image ≡ Some text → (report : List ℕ) × (text_of Report tree image (seeded o.first o.turns) ≡ Some report)
+unfolding parts_for
+first_text o tree image text = by_parts (parts_of tree image) where
+  by_parts : (x : Option Parts) → option_map (outcomes_at o) x ≡ Some text → (report : List ℕ) × (option_and_then (text_with Report (seeded o.first o.turns)) (option_and_then (if_large Report) x) ≡ Some report)
+  by_parts None has = absurd (cc has)
+  by_parts (Some p) has = (_, refl)
+
+-- where the files are told
+first_said : (t i : Option (List ℕ)) (o : Seeds) (tree image report : List ℕ) → t ≡ Some tree → i ≡ Some image → text_of Report tree image (seeded o.first o.turns) ≡ Some report
+    → option_and_then (λ tree. option_and_then (λ image. option_and_then (text_of Report tree image) (Some (seeded o.first o.turns))) i) t ≡ Some report
+first_said t i o tree image report is-tree is-image has = rw (is-tree, is-image) has
 
 -- what holds of a tree that is told, and of a schedule with it
 tree_here : (t : Option (List ℕ)) (tree : List ℕ) (x : TreeRefusal) → t ≡ Some tree → IfSome t (λ f. tree_of f ≡ Err x) → tree_of tree ≡ Err x
@@ -156,7 +191,7 @@ and_then_some (Some a) f b e = (a, refl, e)
 module _ {F K : Type 0} (told : F → List ℕ → Option (List ℕ)) (faults : F → List ℕ → ℕ) (held : K → Option (List ℕ)) (failures : K → ℕ) where
   module _ (files files' : F) where
     -- a run that has a text isn't refused, but for want of memory
-    run_refused : (prints : Prints) (r : Run) (text : List ℕ) → command_text (told files) (to_run prints r) ≡ Some text → NothingFailed told faults files files' (to_run prints r) → (s : Status) → NoRun told faults files files' s r → s ≡ NoMemory
+    run_refused : (prints : Prints) (r : Run) (text : List ℕ) → command_text (told files) (to_run prints r) ≡ Some text → NothingFailed told faults files files' (to_run prints r) → (s : Status) → NoRun told faults files files' prints s r → s ≡ NoMemory
     run_refused prints r text has calm = by_status where
       tree : (t : List ℕ) × (told files r.tree ≡ Some t) × (option_and_then (λ i. option_and_then (text_of prints t i) (schedule_told (told files) r.turns)) (image_told (told files) r.image) ≡ Some text)
       tree = and_then_some (told files r.tree) _ text has
@@ -167,17 +202,18 @@ module _ {F K : Type 0} (told : F → List ℕ → Option (List ℕ)) (faults : 
       schedule : (s : ScheduleGiven) × (schedule_told (told files) r.turns ≡ Some s) × (text_of prints tree.0 image.0 s ≡ Some text)
       schedule = and_then_some (schedule_told (told files) r.turns) _ text image.2
 
-      by_status : (s : Status) → NoRun told faults files files' s r → s ≡ NoMemory
+      by_status : (s : Status) → NoRun told faults files files' prints s r → s ≡ NoMemory
       by_status NoMemory refused = refl
       by_status Done refused = absurd refused
       by_status WriteFault refused = absurd refused
       by_status (Usage k) refused = absurd refused
       by_status (Tree x) refused =
           let is = tree_here (told files r.tree) tree.0 x tree.1 refused in
-          let nothing = no_parts tree.0 image.0 (refused_tree tree.0 x is) in
+          let nothing = no_parts prints tree.0 image.0 (refused_tree tree.0 x is) in
           absurd (no_text (sym (rw nothing refl) ∙ schedule.2))
-      by_status (ImageLoad x) refused = absurd (no_image prints (told files r.tree) (image_told (told files) r.image) tree.0 image.0 schedule.0 text (λ u. IsUnloaded u x) (λ u. unloaded x u image.0) tree.1 image.1 schedule.2 refused)
-      by_status (ImageBuild x) refused = absurd (no_image prints (told files r.tree) (image_told (told files) r.image) tree.0 image.0 schedule.0 text (λ u. IsUnstarted u x) (λ u. unstarted x u image.0) tree.1 image.1 schedule.2 refused)
+      by_status (ImageLoad x) refused = absurd (no_image prints (told files r.tree) (image_told (told files) r.image) tree.0 image.0 schedule.0 text (λ u. IsUnloaded u x) (λ u. unloaded prints x u image.0) tree.1 image.1 schedule.2 refused)
+      by_status (ImageBuild x) refused = absurd (no_image prints (told files r.tree) (image_told (told files) r.image) tree.0 image.0 schedule.0 text (λ u. IsUnstarted u x) (λ u. unstarted prints x u image.0) tree.1 image.1 schedule.2 refused)
+      by_status (SmallLists x) refused = absurd (no_image prints (told files r.tree) (image_told (told files) r.image) tree.0 image.0 schedule.0 text (HasSmallList prints x) (λ u. too_small prints x u image.0) tree.1 image.1 schedule.2 refused)
       by_status (Schedule line x) refused =
           let here = both_here (told files r.tree) (schedule_told (told files) r.turns) tree.0 schedule.0 (λ u. IsRefused u.levels line x) tree.1 schedule.1 refused.1 in
           absurd (unscheduled prints tree.0 image.0 schedule.0 text line x here schedule.2)
@@ -188,9 +224,9 @@ module _ {F K : Type 0} (told : F → List ℕ → Option (List ℕ)) (faults : 
       by_status (ReadFault WitnessFile) refused = absurd refused
       by_status (ReadFault CheckpointFile) refused = absurd refused
 
-    list_refused : (name : List ℕ) (seed count : ℕ) (text : List ℕ) → command_text (told files) (to_list name seed count) ≡ Some text → NothingFailed told faults files files' (to_list name seed count)
+    listing_refused : (name : List ℕ) (seed count : ℕ) (text : List ℕ) → command_text (told files) (to_list name seed count) ≡ Some text → NothingFailed told faults files files' (to_list name seed count)
         → (s : Status) → NotAccepted told faults files files' s (to_list name seed count) → s ≡ NoMemory
-    list_refused name seed count text has calm = by_status where
+    listing_refused name seed count text has calm = by_status where
       tree : (t : List ℕ) × (told files name ≡ Some t) × (list_of seed count t ≡ Some text)
       tree = and_then_some (told files name) _ text has
 
@@ -206,6 +242,7 @@ module _ {F K : Type 0} (told : F → List ℕ → Option (List ℕ)) (faults : 
       by_status (ImageBuild x) refused = absurd refused
       by_status (Schedule line x) refused = absurd refused
       by_status (Witness x) refused = absurd refused
+      by_status (SmallLists x) refused = absurd refused
       by_status (ReadFault TreeFile) refused = absurd (calm refused)
       by_status (ReadFault ImageFile) refused = absurd refused
       by_status (ReadFault ScheduleFile) refused = absurd refused
@@ -229,6 +266,7 @@ module _ {F K : Type 0} (told : F → List ℕ → Option (List ℕ)) (faults : 
       by_status WriteFault refused = absurd refused
       by_status (Usage k) refused = absurd refused
       by_status (Schedule line x) refused = absurd refused
+      by_status (SmallLists x) refused = absurd refused
       by_status (Tree x) refused =
           let is = tree_here (told files c.tree) tree.0 x tree.1 refused in
           let nothing = no_setting tree.0 image.0 (refused_tree tree.0 x is) in
@@ -242,10 +280,20 @@ module _ {F K : Type 0} (told : F → List ℕ → Option (List ℕ)) (faults : 
       by_status (ReadFault ScheduleFile) refused = absurd refused
       by_status (ReadFault CheckpointFile) refused = absurd refused
 
+    -- where there are outcomes, the run of the first seed has a text
+    survey_refused : (o : Seeds) (text : List ℕ) → command_text (told files) (to_survey o) ≡ Some text → NothingFailed told faults files files' (to_survey o) → (s : Status) → NoRun told faults files files' Report s (first_run o) → s ≡ NoMemory
+    survey_refused o text has calm =
+        let tree = and_then_some (told files o.tree) _ text has in
+        let image = and_then_some (told files o.image) _ text tree.2 in
+        let run = first_text o tree.0 image.0 text image.2 in
+        let said = first_said (told files o.tree) (told files o.image) o tree.0 image.0 run.0 tree.1 image.1 run.1 in
+        run_refused Report (first_run o) run.0 said (calm.0, calm.1, λ rose. omega (arith, rose))
+
     command_refused : (c : Command) (text : List ℕ) → command_text (told files) c ≡ Some text → NothingFailed told faults files files' c → (s : Status) → NotAccepted told faults files files' s c → s ≡ NoMemory
     command_refused (to_run prints r) text has calm = run_refused prints r text has calm
-    command_refused (to_list tree seed count) text has calm = list_refused tree seed count text has calm
+    command_refused (to_list tree seed count) text has calm = listing_refused tree seed count text has calm
     command_refused (to_check c) text has calm = check_refused c text has calm
+    command_refused (to_survey o) text has calm = survey_refused o text has calm
     command_refused (to_say a) text has calm = λ s refused. absurd refused
 
   pub completes : (words : List (List ℕ)) (files files' : F) (out out' : K) (status : Status) → StatusHasCause told faults held failures words files files' out out' status → Completes told faults held failures words files files' out out' status
@@ -258,4 +306,5 @@ module _ {F K : Type 0} (told : F → List ℕ → Option (List ℕ)) (faults : 
   completes words files files' out out' (ImageBuild r) came c text said has calm quiet = inr (command_refused files files' c text has calm (ImageBuild r) (rw said at came.0))
   completes words files files' out out' (Schedule line r) came c text said has calm quiet = inr (command_refused files files' c text has calm (Schedule line r) (rw said at came.0))
   completes words files files' out out' (Witness r) came c text said has calm quiet = inr (command_refused files files' c text has calm (Witness r) (rw said at came.0))
+  completes words files files' out out' (SmallLists key) came c text said has calm quiet = inr (command_refused files files' c text has calm (SmallLists key) (rw said at came.0))
   completes words files files' out out' (ReadFault role) came c text said has calm quiet = inr (command_refused files files' c text has calm (ReadFault role) (rw said at came.0))

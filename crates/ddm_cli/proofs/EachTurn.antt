@@ -7,7 +7,7 @@ use Rattle.tree_rules.specs.Witness.{EachTurnWitnessed}
 use Rattle.bus_laws.specs.IsTree.{IsTree}
 use Rattle.headline.proofs.Runs.{each-turn}
 
-starts : (t : TreeValue) (i : ImageValue) → start_refusal t i ≡ None → start_of t i ≡ Ok (start_machine t i)
+pub starts : (t : TreeValue) (i : ImageValue) → start_refusal t i ≡ None → start_of t i ≡ Ok (start_machine t i)
 unfolding start_of
 starts t i accepted = rw accepted refl
 

@@ -13,12 +13,14 @@ use Rattle.elf_load.specs.ElfFile.{image_of}
 use Rattle.elf_load.specs.declared.refusal.ImageRefusal.{ImageRefusal}
 use Rattle.tree_config.specs.TreeFile.{tree_of}
 use Rattle.tree_config.specs.declared.refusal.TreeRefusal.{TreeRefusal}
-use Rattle.ddm_cli.specs.Commands.{Command, to_run, to_list, to_check, to_say, command_of}
+use Rattle.ddm_cli.specs.Commands.{Command, Seeds, to_run, to_list, to_check, to_survey, to_say, command_of}
 use Rattle.ddm_cli.specs.Parts.{Parts, if_started, parts_in, parts_of, tree_at, turns_of}
 use Rattle.ddm_cli.specs.Told.{ScheduleGiven, image_told, schedule_told}
-use Rattle.ddm_cli.specs.Top.{FilesInOrder, IsInOrder, RunsInOrder, RunIsWitnessed}
+use Rattle.ddm_cli.specs.Top.{Both, FilesInOrder, IsInOrder, OutcomesAreRuns, RunsInOrder, RunIsWitnessed}
 use Rattle.ddm_cli.proofs.AcceptedTrees.{accepted_tree}
-use Rattle.ddm_cli.proofs.EachTurn.{each_turn}
+use Rattle.outcome_model.proofs.Legal.{outcomes-legal}
+use Rattle.schedule_log.specs.Shapes.{shape_view}
+use Rattle.ddm_cli.proofs.EachTurn.{each_turn, starts}
 
 -- parts that were taken
 record ArePartsTaken (p : Parts) : Type 0 where
@@ -70,11 +72,22 @@ told_in_order (Some t) None schedule = tt
 told_in_order (Some t) (Some i) None = tt
 told_in_order (Some t) (Some i) (Some s) = files_in_order t i s
 
+outcomes_in_order : (tree image : Option (List ℕ)) (s : Seeds) → Both tree image (λ t i. IfSome (parts_of t i) (OutcomesAreRuns s))
+outcomes_in_order None image s = tt
+outcomes_in_order (Some t) None s = tt
+outcomes_in_order (Some t) (Some i) s = by_parts (parts_of t i) refl where
+  by_parts : (o : Option Parts) → parts_of t i ≡ o → IfSome o (OutcomesAreRuns s)
+  by_parts None is = tt
+  by_parts (Some p) is =
+      let taken = both_taken t i p is in
+      outcomes-legal p.tree p.image (start_machine p.tree p.image) taken.tree (starts p.tree p.image taken.accepted) (shape_view p.tree.levels) s.turns s.first s.count
+
 pub in_order : {F : Type 0} (told : F → List ℕ → Option (List ℕ)) (words : List (List ℕ)) (files : F) → RunIsWitnessed told words files
 in_order {F} told words files = by_command (command_of words) where
   by_command : (r : Result Command ℕ) → IfOk r (IsInOrder told files)
   by_command (Ok (to_run prints r)) = told_in_order (told files r.tree) (image_told (told files) r.image) (schedule_told (told files) r.turns)
   by_command (Ok (to_list tree seed count)) = tt
   by_command (Ok (to_check check)) = tt
+  by_command (Ok (to_survey s)) = outcomes_in_order (told files s.tree) (told files s.image) s
   by_command (Ok (to_say about)) = tt
   by_command (Err k) = tt

@@ -7,8 +7,9 @@ pub mod BusWidths
 pub mod StartNames
 pub mod ScheduleLengths
 pub mod Schedules
-pub mod Taken
 pub mod EachTurn
+pub mod LargeLists
+pub mod Taken
 pub mod InOrder
 pub mod Completeness
 pub mod Keys
@@ -16,3 +17,4 @@ pub mod Settings
 pub mod Images
 pub mod Verdicts
 pub mod RunsInPieces
+pub mod Surveys

@@ -1,8 +1,9 @@
 -- Turns made piece by piece, as one run.
-use Rattle.std.proofs.Common.{◌≡◌, ℕ, suc, ◌+◌, ◌≤◌, Bool, true, false, List, [], ◌∷◌, ◌++◌, length, take, drop, Option, refl, sym, ap, subst, ◌∙◌, arith}
+use Rattle.std.proofs.Common.{◌≡◌, ◌≢◌, ℕ, zero, suc, ◌+◌, ◌-◌, ◌<◌, ◌≤◌, Bool, true, false, List, [], ◌∷◌, ◌++◌, length, take, drop, Option, refl, sym, ap, subst, ◌∙◌, append_assoc, arith}
 use Rattle.std.specs.Prelude.{All, IfSome, Result, if◌then◌else◌}
-use Rattle.std.proofs.lemmas.List.{length-append}
-use Rattle.std.proofs.lemmas.List.Elements.{All-drop, All-weaker}
+use Rattle.std.proofs.lemmas.List.{append-nil, length-append, length-drop, take-append-drop}
+use Rattle.std.proofs.Math.Seq.{take-append_seam, take-nil}
+use Rattle.std.proofs.lemmas.List.Elements.{All-drop, All-take, All-weaker}
 use Rattle.ddm_types.specs.declared.answers.TurnAnswer.{TurnAnswer}
 use Rattle.ddm_types.specs.declared.turns.Turn.{Turn}
 use Rattle.tree_model.specs.State.Values.{MachineValue}
@@ -15,7 +16,11 @@ use Rattle.ddm_outside.specs.Telling.{ReadsPart}
 use Rattle.schedule_log.specs.Reader.{ReaderView, Fed}
 use Rattle.schedule_log.specs.Shapes.{shape_view}
 use Rattle.bus_laws.specs.IsTree.{IsTree}
+use Rattle.jam_laws.specs.GoesOn.{unjamming_turn}
+use Rattle.tree_rules.specs.Witness.{ops_of_answers}
 use Rattle.start_parts.proofs.Names.{run-names}
+use Rattle.headline.proofs.Runs.{run-ops}
+use Rattle.checkpoint.specs.Saved.{saved}
 use Rattle.ddm_tree.specs.Machine.{MachineState}
 use Rattle.any_machine.specs.Run.{AreBelow, CanRun, NameParts, answers_in, counts_in, ran, with_room}
 use Rattle.any_machine.proofs.RunMore.{counted-below, counted-plus, plus, plus-swap, same-counts}
@@ -23,11 +28,11 @@ use Rattle.tree_model.specs.State.Shape.{depth_of}
 use Rattle.text_model.specs.Report.{report_of}
 use Rattle.text_model.specs.Trace.{trace_from, trace_text}
 use Rattle.ddm_cli.specs.Made.{CanCount, HasAllMade, HasMade, counts_plus}
-use Rattle.ddm_cli.specs.Printed.{Writes, is_trace, made_text, printed}
+use Rattle.ddm_cli.specs.Printed.{Writes, is_trace, made_text, printed, unjam_line, unjam_text_of, saved_after}
 use Rattle.ddm_cli.specs.Reads.{HasRead, WritesRan}
 use Rattle.ddm_cli.specs.Told.{ScheduleGiven}
 use Rattle.ddm_cli.specs.declared.command.Prints.{Prints}
-use Rattle.ddm_cli.specs.declared.command.Prints.TheVariants.{Report, Trace, Summary}
+use Rattle.ddm_cli.specs.declared.command.Prints.TheVariants.{Report, Trace, Summary, Unjamming, Checkpoint}
 use Rattle.ddm_cli.proofs.Taken.{ran_report, ran_summary, ran_trace}
 use Rattle.ddm_cli.specs.Parts.{HasStart}
 use Rattle.ddm_cli.specs.declared.making.Made.{Made}
@@ -85,6 +90,13 @@ kept_more false old new before more was is = is ∙ was
 
 -- ---- turns of a tree's machine
 
+-- more turns name parts of the machine, and can be counted
+pub record CanMake (levels : List (List ℕ)) (turns more : List Turn) (now : MachineState) (made : Made) : Type 0 where
+  pub given : GivesTurnsOf (shape_view levels) 0 (turns ++ more)
+  pub named : NameParts more now.machine
+  pub few : CanRun more now
+  pub counted : CanCount made.counts (counts_in more now)
+
 module _ (t : TreeValue) (tree : IsTree t) (s : MachineState) (start : HasStart t s) where
   -- nothing yet
   pub nothing_made : (keep : Bool) (made : Made) → made.counts ≡ no_counts → made.turns.items ≡ [] → made.answers.items ≡ [] → HasMade keep s s made []
@@ -92,8 +104,7 @@ module _ (t : TreeValue) (tree : IsTree t) (s : MachineState) (start : HasStart 
   nothing_made keep made counts turns answers = record { machine = refl; number = omega arith; counts = counts; turns_kept = kept_none keep made.turns.items turns; answers_kept = kept_none keep made.answers.items answers }
 
   module _ (keep : Bool) (now : MachineState) (made : Made) (turns more : List Turn) (has : HasMade keep s now made turns) (given : GivesTurnsOf (shape_view t.levels) 0 (turns ++ more)) where
-    -- the next turns name parts of the machine, and can be counted
-    pub more_named : NameParts more now.machine
+    more_named : NameParts more now.machine
     more_named = subst (λ (m : MachineValue). NameParts more m) (sym has.machine) (All-weaker (λ u. names_part u s.machine ≡ true) (λ u. names_part u (run_of turns s.machine).machine ≡ true) (λ u here. run-names u turns s.machine ∙ here) more at_start) where
       each : All (IsTurnOf (shape_view t.levels)) more
       each = subst (All (IsTurnOf (shape_view t.levels))) (drop_front turns more) (All-drop (IsTurnOf (shape_view t.levels)) (length turns) (turns ++ more) given.each)
@@ -104,15 +115,18 @@ module _ (t : TreeValue) (tree : IsTree t) (s : MachineState) (start : HasStart 
     few_turns : length turns + length more ≤ 1048576
     few_turns = omega (arith, given.room, length-append turns more)
 
-    pub more_counted : CanRun more now
+    more_counted : CanRun more now
     more_counted = let none : s.turns ≡ 0 = ap (λ (r : MachineState). r.turns) start.1.machine in omega (arith, none, has.number, few_turns)
 
-    pub can_count : CanCount made.counts (counts_in more now)
+    can_count : CanCount made.counts (counts_in more now)
     can_count =
         let a = run_counts_few turns s.machine in
         let b = run_counts_few more now.machine in
         let c = subst (AreBelow (length turns + 1)) (sym has.counts) a in
         record { turns = omega (arith, c.turns, b.turns, few_turns); retired = omega (arith, c.retired, b.retired, few_turns); granted = omega (arith, c.granted, b.granted, few_turns); busy = omega (arith, c.busy, b.busy, few_turns) }
+
+    pub can_make : CanMake t.levels turns more now made
+    can_make = record { given = given; named = more_named; few = more_counted; counted = can_count }
 
     -- and were made
     module _ (after : MachineState) (made' : Made) (is : after ≡ ran more (with_room (length more) now)) (counts : made'.counts ≡ counts_plus made.counts (counts_in more now))
@@ -138,6 +152,25 @@ pub answers_kept : (keep : Bool) (s now : MachineState) (made : Made) (turns : L
 answers_kept true s now made turns has = ap length has.turns_kept ∙ sym (answers_counted turns s.machine) ∙ sym (ap length has.answers_kept)
 answers_kept false s now made turns has = ap length has.turns_kept ∙ sym (ap length has.answers_kept)
 
+-- of these answers so many complete an instruction
+retired_ops : (answers : List TurnAnswer) → length (ops_of_answers answers) ≡ (counts_of answers).retired
+unfolding counts_of
+retired_ops [] = refl
+retired_ops (TurnAnswer.Retired op ∷ answers) = omega (arith, retired_ops answers)
+retired_ops (TurnAnswer.Issued kind item ∷ answers) = retired_ops answers
+retired_ops (TurnAnswer.Waiting item ∷ answers) = retired_ops answers
+retired_ops (TurnAnswer.Halted cause ∷ answers) = retired_ops answers
+retired_ops (TurnAnswer.Granted entry ∷ answers) = retired_ops answers
+retired_ops (TurnAnswer.Busy cause ∷ answers) = retired_ops answers
+retired_ops (TurnAnswer.Empty ∷ answers) = retired_ops answers
+
+-- as many as there are operations, where there was none
+pub retired_counted : (keep : Bool) (s now : MachineState) (made : Made) (turns : List Turn) → s.machine.ops ≡ [] → HasMade keep s now made turns → made.counts.retired ≡ length now.machine.ops
+retired_counted keep s now made turns none has =
+    let answers = (run_of turns s.machine).answers in
+    let ops : now.machine.ops ≡ ops_of_answers answers = ap (λ (m : MachineValue). m.ops) has.machine ∙ run-ops turns s.machine ∙ ap (λ ops. ops ++ ops_of_answers answers) none in
+    ap (λ (c : RunCounts). c.retired) has.counts ∙ sym (retired_ops answers) ∙ ap length (sym ops)
+
 -- no turns have an empty trace
 no_trace : (t : List ℕ) → trace_text [] [] ++ t ≡ t
 unfolding trace_text trace_from
@@ -145,6 +178,9 @@ no_trace t = refl
 
 -- what is printed of them is what is printed of their run
 pub made_printed : (prints : Prints) (s now : MachineState) (made : Made) (turns : List Turn) → HasMade (is_trace prints) s now made turns → made_text prints now.machine made ≡ printed prints (depth_of s.machine) turns s.machine
+unfolding unjam_text_of saved_after
+made_printed Checkpoint s now made turns has = ap (λ (m : MachineValue). saved m made.counts) has.machine ∙ ap (saved (run_of turns s.machine).machine) has.counts
+made_printed Unjamming s now made turns has = ap (λ (m : MachineValue). unjam_line (unjamming_turn m)) has.machine
 made_printed Summary s now made turns has = ran_summary turns s.machine now.machine made.counts has.counts has.machine
 made_printed Trace s now made turns has =
     ap (λ ts. trace_text ts made.answers.items ++ report_of (view_of (depth_of now.machine) made.counts now.machine)) has.turns_kept ∙ ran_trace turns s.machine now.machine made.counts has.counts has.machine made.answers.items has.answers_kept
@@ -160,18 +196,40 @@ made_written prints levels told s now made old new w has writes =
 
 -- ---- the turns of a seed
 
-pub seed_given : (levels levels' : List (List ℕ)) (ts : List Turn) → levels ≡ levels' → All (IsTurnOf (shape_view levels)) ts → length ts ≤ 1048576 → GivesTurnsOf (shape_view levels') 0 ts
-seed_given levels levels' ts same known few = record { each = subst (λ ls. All (IsTurnOf (shape_view ls)) ts) same known; room = omega (arith, few) }
+-- a block of them: those before it, it, and those that are left are all
+block_given : (levels levels' : List (List ℕ)) (turns block left all : List Turn) → levels ≡ levels' → (turns ++ block) ++ left ≡ all → All (IsTurnOf (shape_view levels)) all → length all ≤ 1048576 → GivesTurnsOf (shape_view levels') 0 (turns ++ block)
+block_given levels levels' turns block left all same whole known few =
+    let front : take (length (turns ++ block)) all ≡ turns ++ block = ap (take (length (turns ++ block))) (sym whole) ∙ take-append_seam (turns ++ block) left in
+    let each : All (IsTurnOf (shape_view levels)) (turns ++ block) = subst (All (IsTurnOf (shape_view levels))) front (All-take (IsTurnOf (shape_view levels)) (length (turns ++ block)) all known) in
+    record { each = subst (λ ls. All (IsTurnOf (shape_view ls)) (turns ++ block)) same each; room = omega (arith, few, ap length whole, length-append (turns ++ block) left) }
+
+module _ (t : TreeValue) (tree : IsTree t) (s : MachineState) (start : HasStart t s) (keep : Bool) (now : MachineState) (made : Made) (turns : List Turn) (has : HasMade keep s now made turns) where
+  -- the next block can be made
+  pub next_block : (levels : List (List ℕ)) (block left rest all : List Turn) (most : ℕ) → levels ≡ t.levels → turns ++ rest ≡ all → block ≡ take most rest → left ≡ drop most rest → All (IsTurnOf (shape_view levels)) all → length all ≤ 1048576
+      → ((turns ++ block) ++ left ≡ all) × CanMake t.levels turns block now made
+  next_block levels block left rest all most same so_far front back known few =
+      let parts : block ++ left ≡ rest = ap (λ l. l ++ left) front ∙ ap (λ l. take most rest ++ l) back ∙ take-append-drop most rest in
+      let whole : (turns ++ block) ++ left ≡ all = append_assoc turns block left ∙ ap (λ l. turns ++ l) parts ∙ so_far in
+      (whole, can_make t tree s start keep now made turns block has (block_given levels t.levels turns block left all same whole known few))
+
+-- a block of none is the last
+pub all_made : (most : ℕ) (turns rest all : List Turn) → 0 < most → turns ++ rest ≡ all → take most rest ≡ [] → all ≡ turns
+all_made most turns [] all some so_far none = sym so_far ∙ append-nil turns
+all_made zero turns (x ∷ xs) all some so_far none = absurd (omega (arith, some))
+all_made (suc n) turns (x ∷ xs) all some so_far none = let longer : suc (length (take n xs)) ≡ 0 = ap length none in absurd (omega (arith, longer))
+
+-- and behind another one fewer are left
+pub fewer_left : (most : ℕ) (rest block left : List Turn) → block ≡ take most rest → left ≡ drop most rest → 0 < length block → length left < length rest
+fewer_left most [] block left front back some = absurd (omega (arith, some, ap length (front ∙ take-nil most)))
+fewer_left zero (x ∷ xs) block left front back some = absurd (omega (arith, some, ap length front))
+fewer_left (suc n) (x ∷ xs) block left front back some = omega (arith, ap length back, length-drop (suc n) (x ∷ xs))
 
 -- ---- the pieces of a file
 
 -- a piece more that was read, and whose turns can be made
 pub record IsNext (levels : List (List ℕ)) (told : Option (List ℕ)) (count : ℕ) (reader : ReaderView) (turns more : List Turn) (now : MachineState) (made : Made) : Type 0 where
   pub read : HasRead levels told count reader (turns ++ more)
-  pub given : GivesTurnsOf (shape_view levels) 0 (turns ++ more)
-  pub named : NameParts more now.machine
-  pub few : CanRun more now
-  pub counted : CanCount made.counts (counts_in more now)
+  pub can : CanMake levels turns more now made
 
 module _ (t : TreeValue) (tree : IsTree t) (s : MachineState) (start : HasStart t s) (keep : Bool) (told : Option (List ℕ)) (count : ℕ) (reader : ReaderView) (now : MachineState) (made : Made) (turns : List Turn)
     (read : HasRead t.levels told count reader turns) (has : HasMade keep s now made turns) where
@@ -181,4 +239,4 @@ module _ (t : TreeValue) (tree : IsTree t) (s : MachineState) (start : HasStart 
       let here = subst (λ ls. Fed (shape_view ls) reader (take n into) new none more) same fed in
       let next = more_read t.levels told count reader turns read n into new none more is few part here in
       let given = given_so_far t.levels told (count + n) new (turns ++ more) next in
-      record { read = next; given = given; named = more_named t tree s start keep now made turns more has given; few = more_counted t tree s start keep now made turns more has given; counted = can_count t tree s start keep now made turns more has given }
+      record { read = next; can = can_make t tree s start keep now made turns more has given }

@@ -26,10 +26,12 @@ use Rattle.text_model.specs.declared.ScheduleRefusal.{ScheduleRefusal}
 use Rattle.text_model.specs.Schedule.{child_fault, turn_fault}
 use Rattle.text_model.specs.ReadBack.{IsTurnOf}
 use Rattle.schedule_log.specs.Shapes.{shape_view}
+use Rattle.ddm_tree.specs.Machine.{MachineState}
 use Rattle.start_parts.specs.Parts.{start_kids}
 use Rattle.start_parts.proofs.Levels.{HasFirst, has-first, levels-length}
 use Rattle.start_parts.proofs.NewLeaves.{leaves-length}
 use Rattle.start_parts.proofs.StartNew.{start-new}
+use Rattle.ddm_cli.specs.Parts.{HasStart}
 use Rattle.ddm_cli.proofs.BusWidths.{HasWidths, HaveWidths, flat, flat_cons, drop_cons, or_second, kids_wide, levels_named, width_read}
 
 -- ---- tests
@@ -173,3 +175,8 @@ module _ (t : TreeValue) (i : ImageValue) (tree : IsTree t) where
 
     pub named_parts : (us : List Turn) → All (IsTurnOf (shape_view t.levels)) us → All (λ u. names_part u (start_machine t i) ≡ true) us
     named_parts us given = All-weaker (IsTurnOf (shape_view t.levels)) (λ u. names_part u (start_machine t i) ≡ true) (λ u is. named_part u is.of_shape) us given
+
+-- and no operation is there
+pub start_ops : (t : TreeValue) (s : MachineState) → HasStart t s → s.machine.ops ≡ []
+unfolding start_machine
+start_ops t s start = ap (λ (r : MachineState). r.machine.ops) start.1.machine

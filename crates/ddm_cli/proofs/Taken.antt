@@ -1,13 +1,15 @@
 -- Where all three files were taken, the report of the run is their text.
-use Rattle.std.proofs.Common.{◌≡◌, ℕ, ◌≤◌, List, ◌++◌, Option, Some, None, Ok, refl, sym, ap, ◌∙◌, arith}
-use Rattle.std.specs.Prelude.{IfSome, IsSome}
+use Rattle.std.proofs.Common.{◌≡◌, ℕ, ◌≤◌, List, ◌++◌, Option, Some, None, Result, Ok, Err, refl, sym, ap, ◌∙◌, arith}
+use Rattle.std.specs.Prelude.{IfOk, IfSome, IsSome, OnOk}
 use Rattle.std.specs.Option.{option_map}
+use Rattle.ddm_types.specs.ItemTable.{item_count}
 use Rattle.ddm_types.specs.declared.answers.TurnAnswer.{TurnAnswer}
 use Rattle.ddm_types.specs.declared.turns.Turn.{Turn}
 use Rattle.tree_model.specs.State.Shape.{Frame, depth_of, levels_of}
 use Rattle.tree_model.specs.State.Values.{MachineValue}
 use Rattle.tree_model.specs.Start.Sources.{TreeValue, ImageValue}
-use Rattle.tree_model.specs.Start.Machine.{start_machine}
+use Rattle.tree_model.specs.Start.Memory.{start_items}
+use Rattle.tree_model.specs.Start.Machine.{start_machine, start_refusal}
 use Rattle.tree_model.specs.Turns.Machine.{run_of}
 use Rattle.tree_model.proofs.FrameKept.{run-frame}
 use Rattle.text_model.specs.declared.RunCounts.{RunCounts}
@@ -18,21 +20,24 @@ use Rattle.text_model.specs.declared.ScheduleRefusal.{ScheduleRefusal}
 use Rattle.bus_laws.specs.IsTree.{IsTree}
 use Rattle.ddm_tree.specs.Machine.{MachineState}
 use Rattle.elf_load.specs.ElfFile.{image_of}
+use Rattle.tree_config.specs.declared.refusal.TreeKey.{TreeKey}
 use Rattle.report.specs.declared.roles.FileRole.TheVariants.{ImageFile, TreeFile, ScheduleFile, WitnessFile, CheckpointFile}
-use Rattle.ddm_cli.specs.Causes.{AcceptedAs, Accepts, IsRefused, IsUnscheduled, ScheduleCause}
+use Rattle.ddm_cli.specs.Causes.{AcceptedAs, Accepts, HasSmallList, IsRefused, IsUnscheduled, RanCause, ScheduleCause}
 use Rattle.ddm_cli.specs.Commands.{Run, TurnsFrom, schedule_named, turns_seeded}
-use Rattle.ddm_cli.specs.Parts.{IsStart, Parts, parts_in, tree_at, turns_at, turns_of}
+use Rattle.ddm_cli.specs.Lists.{list_refused}
+use Rattle.ddm_cli.specs.Parts.{IsStart, Parts, tree_at, turns_at, turns_of}
 use Rattle.ddm_cli.specs.Printed.{printed}
 use Rattle.ddm_cli.specs.Reads.{IsRanBy}
 use Rattle.ddm_cli.specs.Told.{ScheduleGiven, written, image_told, schedule_faults, schedule_told}
-use Rattle.ddm_cli.specs.Top.{AcceptsParts, AcceptsRun, Both, HasText, NoRun, list_at, list_of, text_at}
+use Rattle.ddm_cli.specs.Top.{AcceptsParts, AcceptsRun, Both, HasText, NoRun, RefusesImage, list_at, list_of, text_at}
 use Rattle.ddm_cli.specs.declared.command.Prints.{Prints}
 use Rattle.ddm_cli.specs.declared.command.Prints.TheVariants.{Report, Trace, Summary}
 use Rattle.ddm_cli.specs.declared.status.Status.{Status}
-use Rattle.ddm_cli.specs.declared.status.Status.TheVariants.{Done, Usage, ImageLoad, ImageBuild, Tree, Schedule, Witness, ReadFault, WriteFault, NoMemory}
+use Rattle.ddm_cli.specs.declared.status.Status.TheVariants.{Done, Usage, ImageLoad, ImageBuild, Tree, Schedule, Witness, SmallLists, ReadFault, WriteFault, NoMemory}
 use Rattle.report.proofs.Written.{rose_before}
-use Rattle.ddm_cli.proofs.Causes.{takes_parts}
-use Rattle.ddm_cli.proofs.Judged.{both_taken, parts_taken}
+use Rattle.ddm_cli.proofs.Causes.{parts_are, takes_parts}
+use Rattle.ddm_cli.proofs.Judged.{parts_taken}
+use Rattle.ddm_cli.proofs.LargeLists.{items_started, started_large}
 use Rattle.ddm_cli.proofs.StartNames.{start_depth}
 
 -- what the machine that these turns made shows
@@ -68,10 +73,6 @@ text_is prints t i s turns text tree start is =
     let machine : s.machine ≡ start_machine t i = ap (λ (s : MachineState). s.machine) start.machine in
     sym (is ∙ ap (λ (m : MachineValue). printed prints (depth_of m) turns m) machine ∙ ap (λ n. printed prints n turns (start_machine t i)) (start_depth t i tree start.accepted))
 
-takes_image : (image : Option (List ℕ)) (t : TreeValue) (i : ImageValue) (s : MachineState) → IsStart t i s → IfSome image (λ f. image_of t.item_bytes f ≡ Ok i) → Accepts (parts_in t) image
-takes_image None t i s start loaded = tt
-takes_image (Some f) t i s start loaded = rw (parts_taken f t i loaded start.accepted) refl
-
 -- what holds of a schedule for the levels of the tree that was taken
 pub with_tree : {A : Type 0} (tree : Option (List ℕ)) (schedule : Option A) (t : TreeValue) (P : List (List ℕ) → A → Type 0) → AcceptedAs tree_at tree t → IfSome schedule (P t.levels) → Both tree schedule (λ f s. IfSome (tree_at f) (λ value. P value.levels s))
 with_tree None schedule t P taken holds = tt
@@ -83,16 +84,22 @@ takes_turns None levels turns taken = tt
 takes_turns (Some s) levels turns taken = rw taken refl
 
 has_text : (prints : Prints) (tree image : Option (List ℕ)) (schedule : Option ScheduleGiven) (t : TreeValue) (i : ImageValue) (s : MachineState) (turns : List Turn) (text : List ℕ) → AcceptedAs tree_at tree t → IfSome image (λ f. image_of t.item_bytes f ≡ Ok i)
-    → AcceptedAs (turns_of t.levels) schedule turns → IsTree t → IsStart t i s → text ≡ printed prints (depth_of s.machine) turns s.machine → HasText prints tree image schedule text
-has_text prints None image schedule t i s turns text a b c is start shown = tt
-has_text prints (Some f) None schedule t i s turns text a b c is start shown = tt
-has_text prints (Some f) (Some h) None t i s turns text a b c is start shown = tt
-has_text prints (Some f) (Some h) (Some k) t i s turns text a b c is start shown = rw (both_taken f h t i a b start.accepted, c) (ap Some (text_is prints t i s turns text is start shown))
+    → AcceptedAs (turns_of t.levels) schedule turns → IsTree t → IsStart t i s → list_refused prints t.sizes (item_count (start_items t i)) ≡ None → text ≡ printed prints (depth_of s.machine) turns s.machine → HasText prints tree image schedule text
+has_text prints None image schedule t i s turns text a b c is start large shown = tt
+has_text prints (Some f) None schedule t i s turns text a b c is start large shown = tt
+has_text prints (Some f) (Some h) None t i s turns text a b c is start large shown = tt
+has_text prints (Some f) (Some h) (Some k) t i s turns text a b c is start large shown = rw (parts_are prints t i start.accepted large f h a b, c) (ap Some (text_is prints t i s turns text is start shown))
 
 pub all_taken : (prints : Prints) (tree image : Option (List ℕ)) (schedule : Option ScheduleGiven) (t : TreeValue) (i : ImageValue) (s : MachineState) (text : List ℕ) → AcceptedAs tree_at tree t → IfSome image (λ f. image_of t.item_bytes f ≡ Ok i)
-    → IsTree t → IsStart t i s → IsRanBy prints t.levels schedule s.machine text → AcceptsRun tree image schedule × HasText prints tree image schedule text
-all_taken prints tree image schedule t i s text a b is start ran =
-    ((takes_parts tree image t a (takes_image image t i s start b), with_tree tree schedule t (λ levels k. IsSome (turns_of levels k)) a (takes_turns schedule t.levels ran.turns ran.accepted)), has_text prints tree image schedule t i s ran.turns text a b ran.accepted is start ran.text_is)
+    → IsTree t → IsStart t i s → list_refused prints t.sizes (item_count s.machine.items) ≡ None → IsRanBy prints t.levels schedule s.machine text → AcceptsRun prints tree image schedule × HasText prints tree image schedule text
+all_taken prints tree image schedule t i s text a b is start large ran =
+    let few = started_large prints t i s start large in
+    ((takes_parts prints t i start.accepted few tree image a b, with_tree tree schedule t (λ levels k. IsSome (turns_of levels k)) a (takes_turns schedule t.levels ran.turns ran.accepted)), has_text prints tree image schedule t i s ran.turns text a b ran.accepted is start few ran.text_is)
+
+-- what holds of a call that succeeded, by a fact that holds then
+pub ok_besides : {A E : Type 0} (r : Result A E) (P Q : A → Type 0) (L : Type 0) → (L → (a : A) → P a → Q a) → IfOk r P → OnOk r L → IfOk r Q
+ok_besides (Ok a) P Q L f holds large = f large a holds
+ok_besides (Err e) P Q L f holds large = tt
 
 -- ---- a schedule file as the source of turns
 
@@ -118,6 +125,7 @@ file_caused levels told before now (ImageLoad r) cause = absurd cause
 file_caused levels told before now (ImageBuild r) cause = absurd cause
 file_caused levels told before now (Tree r) cause = absurd cause
 file_caused levels told before now (Witness r) cause = absurd cause
+file_caused levels told before now (SmallLists key) cause = absurd cause
 file_caused levels told before now WriteFault cause = absurd cause
 
 -- counts that don't fall, from one call to the next
@@ -125,21 +133,34 @@ pub later_faults : (turns : TurnsFrom) (f g h : List ℕ → ℕ) → ((name : L
 later_faults (schedule_named name) f g h first second = omega (arith, first name, second name)
 later_faults (turns_seeded seed count) f g h first second = omega arith
 
--- why there are no turns, as a cause of the command: the count rose since the image was read, or before
-module _ {F : Type 0} (told : F → List ℕ → Option (List ℕ)) (faults : F → List ℕ → ℕ) (files files' : F) (n : Run) (t : TreeValue) (before : ℕ) (tree : AcceptedAs tree_at (told files n.tree) t)
-    (accepted : AcceptsParts (told files n.tree) (image_told (told files) n.image)) (earlier : schedule_faults (faults files) n.turns ≤ before) where
-  pub schedule_refused : (s : Status) → ScheduleCause (IsRefused t.levels) (schedule_told (told files) n.turns) before (schedule_faults (faults files') n.turns) s → NoRun told faults files files' s n
-  schedule_refused (Schedule line r) cause = (accepted, with_tree (told files n.tree) (schedule_told (told files) n.turns) t (λ levels. IsRefused levels line r) tree cause)
-  schedule_refused (ReadFault ScheduleFile) cause = (rose_before (schedule_faults (faults files) n.turns) before (schedule_faults (faults files') n.turns) earlier cause, accepted)
-  schedule_refused (ReadFault TreeFile) cause = absurd cause
-  schedule_refused (ReadFault ImageFile) cause = absurd cause
-  schedule_refused (ReadFault WitnessFile) cause = absurd cause
-  schedule_refused (ReadFault CheckpointFile) cause = absurd cause
-  schedule_refused NoMemory cause = tt
-  schedule_refused Done cause = absurd cause
-  schedule_refused (Usage k) cause = absurd cause
-  schedule_refused (ImageLoad r) cause = absurd cause
-  schedule_refused (ImageBuild r) cause = absurd cause
-  schedule_refused (Tree r) cause = absurd cause
-  schedule_refused (Witness r) cause = absurd cause
-  schedule_refused WriteFault cause = absurd cause
+-- ---- why nothing is printed of turns, as a cause of the command
+
+-- a list that is refused is one of the machine of the told files
+small_list_of : (prints : Prints) (tree image : Option (List ℕ)) (t : TreeValue) (i : ImageValue) (key : TreeKey) → AcceptedAs tree_at tree t → IfSome image (λ f. image_of t.item_bytes f ≡ Ok i) → start_refusal t i ≡ None
+    → list_refused prints t.sizes (item_count (start_items t i)) ≡ Some key → RefusesImage (HasSmallList prints key) tree image
+small_list_of prints None image t i key taken loaded accepted small = (tt, tt)
+small_list_of prints (Some f) None t i key taken loaded accepted small = (rw taken refl, tt)
+small_list_of prints (Some f) (Some g) t i key taken loaded accepted small = (rw taken refl, rw (taken, parts_taken g t i loaded accepted) small)
+
+-- the count of failed reads of the schedule rose since the image was read, or before
+module _ {F : Type 0} (told : F → List ℕ → Option (List ℕ)) (faults : F → List ℕ → ℕ) (files files' : F) (prints : Prints) (n : Run) (t : TreeValue) (i : ImageValue) (s : MachineState) (before : ℕ) (tree : AcceptedAs tree_at (told files n.tree) t)
+    (image : IfSome (image_told (told files) n.image) (λ f. image_of t.item_bytes f ≡ Ok i)) (start : IsStart t i s) (earlier : schedule_faults (faults files) n.turns ≤ before) where
+  accepted : list_refused prints t.sizes (item_count s.machine.items) ≡ None → AcceptsParts prints (told files n.tree) (image_told (told files) n.image)
+  accepted large = takes_parts prints t i start.accepted (started_large prints t i s start large) (told files n.tree) (image_told (told files) n.image) tree image
+
+  pub ran_refused : (status : Status) → RanCause prints t (item_count s.machine.items) (schedule_told (told files) n.turns) before (schedule_faults (faults files') n.turns) status → NoRun told faults files files' prints status n
+  ran_refused (SmallLists key) cause = small_list_of prints (told files n.tree) (image_told (told files) n.image) t i key tree image start.accepted (ap (λ k. list_refused prints t.sizes k) (sym (items_started t i s start)) ∙ cause)
+  ran_refused (Schedule line r) cause = (accepted cause.0, with_tree (told files n.tree) (schedule_told (told files) n.turns) t (λ levels. IsRefused levels line r) tree cause.1)
+  ran_refused (ReadFault ScheduleFile) cause = (rose_before (schedule_faults (faults files) n.turns) before (schedule_faults (faults files') n.turns) earlier cause.1, accepted cause.0)
+  ran_refused (ReadFault TreeFile) cause = absurd cause.1
+  ran_refused (ReadFault ImageFile) cause = absurd cause.1
+  ran_refused (ReadFault WitnessFile) cause = absurd cause.1
+  ran_refused (ReadFault CheckpointFile) cause = absurd cause.1
+  ran_refused NoMemory cause = tt
+  ran_refused Done cause = absurd cause.1
+  ran_refused (Usage k) cause = absurd cause.1
+  ran_refused (ImageLoad r) cause = absurd cause.1
+  ran_refused (ImageBuild r) cause = absurd cause.1
+  ran_refused (Tree r) cause = absurd cause.1
+  ran_refused (Witness r) cause = absurd cause.1
+  ran_refused WriteFault cause = absurd cause.1

@@ -18,6 +18,10 @@ about_text about.Help = lines_of (
     codes "  ddm schedule TREE SEED TURNS     the schedule of a seed" ∷
     codes "  ddm make SEED ROUNDS TREE        the summary of a random program under a seeded schedule" ∷
     codes "  ddm check IMAGE TREE WITNESS     whether a witness is one legal run of the flat machine" ∷
+    codes "  ddm unjam IMAGE TREE SCHEDULE    the turn of a bus that goes on where a leaf waits" ∷
+    codes "  ddm save IMAGE TREE SCHEDULE     the checkpoint of the machine after a run" ∷
+    codes "  ddm outcomes IMAGE TREE FIRST COUNT TURNS" ∷
+    codes "                                   what the runs of many seeds come to" ∷
     codes "  ddm help COMMAND                 more of one of these" ∷
     codes "  ddm --help, ddm --version" ∷
     [])
@@ -48,4 +52,19 @@ about_text about.Make = lines_of (
 about_text about.Check = lines_of (
     codes "ddm check IMAGE TREE WITNESS" ∷
     codes "Judges the operation lines of a report by the flat machine alone, and prints how many are legal." ∷
+    [])
+about_text about.Unjam = lines_of (
+    codes "ddm unjam IMAGE TREE SCHEDULE" ∷
+    codes "Makes the turns as run does, and prints the first turn of a bus that would be granted where a leaf waits, or none." ∷
+    codes "Down, requests and replies need at least eight places for each item." ∷
+    [])
+about_text about.Save = lines_of (
+    codes "ddm save IMAGE TREE SCHEDULE" ∷
+    codes "Makes the turns as run does, and puts out the checkpoint: the bytes of a file that tells the machine and its counts." ∷
+    [])
+about_text about.Outcomes = lines_of (
+    codes "ddm outcomes IMAGE TREE FIRST COUNT TURNS" ∷
+    codes "Runs the seeded schedules of COUNT seeds from FIRST on, of TURNS turns each, and prints each different outcome:" ∷
+    codes "how many seeds gave it, the smallest of these, and of each hart how it ended and what it put out." ∷
+    codes "FIRST has 64 bits, COUNT is 1 to 1000000, TURNS is 0 to 1048576." ∷
     [])

@@ -1,11 +1,12 @@
 -- Why a file gave nothing, by the status that says so. A file of which nothing is told may be of any kind.
-use Rattle.std.specs.Prelude.{◌≡◌, ℕ, List, Option, Some, None, IsSome, IfSome, IsOkAnd, Result, Err}
+use Rattle.std.specs.Prelude.{◌≡◌, ℕ, List, Option, Some, None, IsSome, IfSome, IsSomeAnd, IsOkAnd, Result, Err}
 use Rattle.ddm_outside.specs.Causes.{Rose}
 use Rattle.report.specs.declared.roles.FileRole.TheVariants.{ImageFile, TreeFile, ScheduleFile, WitnessFile}
 use Rattle.tree_model.specs.Start.Sources.{TreeValue, ImageValue}
 use Rattle.elf_load.specs.ElfFile.{image_of}
 use Rattle.elf_load.specs.declared.refusal.ImageRefusal.{ImageRefusal}
 use Rattle.tree_config.specs.TreeFile.{tree_of}
+use Rattle.tree_config.specs.declared.refusal.TreeKey.{TreeKey}
 use Rattle.run_engine.specs.Build.{build_refusal}
 use Rattle.run_engine.specs.declared.refusal.BuildRefusal.{BuildRefusal}
 use Rattle.run_engine.specs.declared.refusal.BuildRefusal.TheVariants.{NoPlace}
@@ -16,9 +17,12 @@ use Rattle.witness_check.specs.Reader.{ReaderView, begun}
 use Rattle.witness_check.specs.Start as check
 use Rattle.witness_check.specs.Start.{Setting, check_of}
 use Rattle.witness_check.specs.declared.refusal.CheckRefusal.{CheckRefusal}
+use Rattle.ddm_cli.specs.Lists.{list_refused}
+use Rattle.ddm_cli.specs.Parts.{items_of, parts_in}
 use Rattle.ddm_cli.specs.Told.{ScheduleGiven, written, seeded}
+use Rattle.ddm_cli.specs.declared.command.Prints.{Prints}
 use Rattle.ddm_cli.specs.declared.status.Status.{Status}
-use Rattle.ddm_cli.specs.declared.status.Status.TheVariants.{ImageLoad, ImageBuild, Tree, Schedule, Witness, ReadFault, NoMemory}
+use Rattle.ddm_cli.specs.declared.status.Status.TheVariants.{ImageLoad, ImageBuild, Tree, Schedule, Witness, SmallLists, ReadFault, NoMemory}
 
 -- where a file is told, it is accepted
 abbrev pub Accepts : {A B : Type 0} → (A → Option B) → Option A → Type 0
@@ -79,6 +83,17 @@ ScheduleCause refused told before now (Schedule line r) = IfSome told (refused l
 ScheduleCause refused told before now (ReadFault ScheduleFile) = Rose before now
 ScheduleCause refused told before now NoMemory = Unit {0}
 ScheduleCause refused told before now _ = ⊥
+
+-- ---- the lists, which are judged before the schedule
+
+-- the machine has a start, and this is the first of its lists that is too small for what is to be printed
+abbrev pub HasSmallList : Prints → TreeKey → TreeValue → List ℕ → Type 0
+HasSmallList prints key t file = IsSomeAnd (parts_in t file) (λ p. list_refused prints t.sizes (items_of p) ≡ Some key)
+
+-- why nothing is printed of turns of a machine with so many items
+abbrev pub RanCause : Prints → TreeValue → ℕ → Option ScheduleGiven → ℕ → ℕ → Status → Type 0
+RanCause prints t items told before now (SmallLists key) = list_refused prints t.sizes items ≡ Some key
+RanCause prints t items told before now s = (list_refused prints t.sizes items ≡ None) × ScheduleCause (IsRefused t.levels) told before now s
 
 -- ---- the image and the witness, where a witness is judged
 

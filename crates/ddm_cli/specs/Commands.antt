@@ -1,13 +1,13 @@
 -- The commands, and the words that say them.
 -- Letters: k is the index of a word, counted from 0.
 -- To be believed with the contracts: they speak of it.
-use Rattle.std.specs.Prelude.{ℕ, ◌+◌, ◌*◌, ◌≤◌, nat_le, nat_lt, List, length, Result, Ok, Err, Option, Some, None, slice_get, option_and_then, if◌then◌else◌, bytes_eq, codes}
+use Rattle.std.specs.Prelude.{ℕ, ◌+◌, ◌-◌, ◌*◌, ◌≤◌, min, nat_le, nat_lt, List, length, Result, Ok, Err, Option, Some, None, slice_get, option_and_then, if◌then◌else◌, bytes_eq, codes}
 use Rattle.std.specs.Result.{result_ok}
 use Rattle.ddm_text.specs.Numbers.{number_of}
 use Rattle.ddm_cli.specs.declared.command.About.{About}
 use Rattle.ddm_cli.specs.declared.command.About.TheVariants as about
 use Rattle.ddm_cli.specs.declared.command.Prints.{Prints}
-use Rattle.ddm_cli.specs.declared.command.Prints.TheVariants.{Report, Trace, Summary}
+use Rattle.ddm_cli.specs.declared.command.Prints.TheVariants.{Report, Trace, Summary, Unjamming, Checkpoint}
 
 -- ---- what a command is
 
@@ -43,6 +43,14 @@ pub record Check : Type 0 where
   pub tree : List ℕ
   pub witness : List ℕ
 
+-- whose outcomes are counted: the files of an image and of a tree, the first seed, how many there are, and how many turns each makes
+pub record Seeds : Type 0 where
+  pub image : List ℕ
+  pub tree : List ℕ
+  pub first : ℕ
+  pub count : ℕ
+  pub turns : ℕ
+
 pub data Command : Type 0 where
   -- to run a machine and print this of it
   to_run : Prints → Run → Command
@@ -50,6 +58,8 @@ pub data Command : Type 0 where
   to_list : List ℕ → ℕ → ℕ → Command
   -- to judge a witness
   to_check : Check → Command
+  -- to count the outcomes of many seeds
+  to_survey : Seeds → Command
   -- to say something of the program itself
   to_say : About → Command
 
@@ -59,11 +69,23 @@ run_value image tree turns = record { image = image; tree = tree; turns = turns 
 abbrev check_value : List ℕ → List ℕ → List ℕ → Check
 check_value image tree witness = record { image = image; tree = tree; witness = witness }
 
+abbrev seeds_value : List ℕ → List ℕ → ℕ → ℕ → ℕ → Seeds
+seeds_value image tree first count turns = record { image = image; tree = tree; first = first; count = count; turns = turns }
+
+-- the run of the first of them
+abbrev pub first_run : Seeds → Run
+first_run s = run_value (image_named s.image) s.tree (turns_seeded s.first s.turns)
+
+-- a seed has 64 bits
+abbrev pub most_seeds : ℕ → ℕ
+most_seeds first = min 1000000 (18446744073709551616 - first)
+
 -- its numbers are in their ranges
 abbrev pub IsInRange : Command → Type 0
 IsInRange (to_run prints r) = IsMakeable r.image × AreFew r.turns
 IsInRange (to_list tree seed count) = count ≤ 1048576
 IsInRange (to_check c) = Unit {0}
+IsInRange (to_survey s) = (1 ≤ s.count) × (s.count ≤ 1000000) × (s.first + s.count ≤ 18446744073709551616) × (s.turns ≤ 1048576)
 IsInRange (to_say a) = Unit {0}
 
 -- ---- words in their order: the command that they say, or the index of the first word at fault or of the first that is missing
@@ -95,7 +117,7 @@ count_at words k next = number_at words k 0 1048576 next
 abbrev pub ends_at : List (List ℕ) → ℕ → Command → Result Command ℕ
 ends_at words k command = if nat_lt k (length words) then Err k else Ok command
 
--- run IMAGE TREE SCHEDULE, and trace IMAGE TREE SCHEDULE
+-- run IMAGE TREE SCHEDULE, and so trace, unjam and save
 unfoldable pub file_run : Prints → List (List ℕ) → Result Command ℕ
 file_run prints words =
     word_at words 1 (λ image. word_at words 2 (λ tree. word_at words 3 (λ schedule.
@@ -123,6 +145,12 @@ unfoldable pub file_check : List (List ℕ) → Result Command ℕ
 file_check words =
     word_at words 1 (λ image. word_at words 2 (λ tree. word_at words 3 (λ witness. ends_at words 4 (to_check (check_value image tree witness)))))
 
+-- outcomes IMAGE TREE FIRST COUNT TURNS
+unfoldable pub seeds_survey : List (List ℕ) → Result Command ℕ
+seeds_survey words =
+    word_at words 1 (λ image. word_at words 2 (λ tree. seed_at words 3 (λ first. number_at words 4 1 (most_seeds first) (λ count. count_at words 5 (λ turns.
+    ends_at words 6 (to_survey (seeds_value image tree first count turns)))))))
+
 -- the command of a name
 unfoldable pub about_named : List ℕ → Option About
 about_named name =
@@ -132,7 +160,10 @@ about_named name =
     else (if bytes_eq name (codes "schedule") then Some about.Schedule
     else (if bytes_eq name (codes "make") then Some about.Make
     else (if bytes_eq name (codes "check") then Some about.Check
-    else None)))))
+    else (if bytes_eq name (codes "unjam") then Some about.Unjam
+    else (if bytes_eq name (codes "save") then Some about.Save
+    else (if bytes_eq name (codes "outcomes") then Some about.Outcomes
+    else None))))))))
 
 -- help COMMAND
 unfoldable pub help_said : List (List ℕ) → Result Command ℕ
@@ -146,10 +177,13 @@ named_command words name =
     else (if bytes_eq name (codes "schedule") then seed_list words
     else (if bytes_eq name (codes "make") then made_run words
     else (if bytes_eq name (codes "check") then file_check words
+    else (if bytes_eq name (codes "unjam") then file_run Unjamming words
+    else (if bytes_eq name (codes "save") then file_run Checkpoint words
+    else (if bytes_eq name (codes "outcomes") then seeds_survey words
     else (if bytes_eq name (codes "help") then help_said words
     else (if bytes_eq name (codes "--help") then ends_at words 1 (to_say about.Help)
     else (if bytes_eq name (codes "--version") then ends_at words 1 (to_say about.Version)
-    else Err 0))))))))
+    else Err 0)))))))))))
 
 unfoldable pub command_of : List (List ℕ) → Result Command ℕ
 command_of words = word_at words 0 (named_command words)

@@ -2,7 +2,9 @@
 use Rattle.std.specs.Prelude.{◌≡◌, ℕ, List, Option, Some, None, is_none, Result, Ok, Err, if◌then◌else◌, option_and_then, IfSome}
 use Rattle.std.specs.Result.{result_ok}
 use Rattle.ddm_types.specs.declared.turns.Turn.{Turn}
+use Rattle.ddm_types.specs.ItemTable.{item_count}
 use Rattle.tree_model.specs.Start.Sources.{TreeValue, ImageValue}
+use Rattle.tree_model.specs.Start.Memory.{start_items}
 use Rattle.tree_model.specs.Start.Machine.{start_refusal}
 use Rattle.ddm_tree.specs.Machine.{MachineState}
 use Rattle.elf_load.specs.ElfFile.{image_of}
@@ -15,7 +17,9 @@ use Rattle.schedule_log.specs.Shapes.{shape_view}
 use Rattle.witness_check.specs.Reader.{ReaderView, begun, setting_of}
 use Rattle.witness_check.specs.Start as check
 use Rattle.witness_check.specs.Start.{Setting}
+use Rattle.ddm_cli.specs.Lists.{list_refused}
 use Rattle.ddm_cli.specs.Told.{ScheduleGiven, written, seeded}
+use Rattle.ddm_cli.specs.declared.command.Prints.{Prints}
 
 -- what a machine is made from
 pub record Parts : Type 0 where
@@ -37,6 +41,17 @@ parts_in t file = if_started t (image_of t.item_bytes file)
 -- the parts that a tree file and an image file give
 unfoldable pub parts_of : List ℕ → List ℕ → Option Parts
 parts_of tree image = option_and_then (λ t. parts_in t image) (tree_at tree)
+
+-- how many items its machine has
+abbrev pub items_of : Parts → ℕ
+items_of p = item_count (start_items p.tree p.image)
+
+abbrev pub if_large : Prints → Parts → Option Parts
+if_large prints p = if is_none (list_refused prints p.tree.sizes (items_of p)) then Some p else None
+
+-- those whose lists are large enough for what is to be printed
+unfoldable pub parts_for : Prints → List ℕ → List ℕ → Option Parts
+parts_for prints tree image = option_and_then (if_large prints) (parts_of tree image)
 
 -- the machine of a tree and an image, before its first turn
 pub record IsStart (t : TreeValue) (i : ImageValue) (s : MachineState) : Type 0 where

@@ -1,32 +1,55 @@
 -- What is printed of a run, and of a witness that is accepted.
--- Letters: m is a machine.
-use Rattle.std.specs.Prelude.{ℕ, Bool, false, true, List, ◌++◌, Option, Result, MatchResult, codes, decimal}
+-- Letters: m is a machine, t a turn.
+use Rattle.std.specs.Prelude.{ℕ, Bool, false, true, List, ◌++◌, Option, Some, None, Result, MatchResult, codes, decimal}
 use Rattle.ddm_types.specs.declared.turns.Turn.{Turn}
 use Rattle.tree_model.specs.State.Values.{MachineValue}
 use Rattle.tree_model.specs.State.Shape.{depth_of}
+use Rattle.tree_model.specs.Turns.Machine.{run_of}
 use Rattle.text_model.specs.Report.{report_of, summary_of}
-use Rattle.text_model.specs.Run.{report_text_of, summary_text_of, trace_and_report_of, view_of}
+use Rattle.text_model.specs.Run.{counts_of, report_text_of, summary_text_of, trace_and_report_of, view_of}
+use Rattle.text_model.specs.Schedule.{turn_text}
 use Rattle.text_model.specs.Trace.{trace_text}
+use Rattle.jam_laws.specs.GoesOn.{unjamming_turn}
 use Rattle.report.specs.Appends.{Appends, AppendsPart}
+use Rattle.checkpoint.specs.Saved.{saved}
 use Rattle.ddm_cli.specs.declared.command.Prints.{Prints}
 use Rattle.ddm_cli.specs.declared.making.Made.{Made}
-use Rattle.ddm_cli.specs.declared.command.Prints.TheVariants.{Report, Trace, Summary}
+use Rattle.ddm_cli.specs.declared.command.Prints.TheVariants.{Report, Trace, Summary, Unjamming, Checkpoint}
+
+-- the turn of a bus that goes on, if a leaf waits
+abbrev pub unjam_line : Option Turn → List ℕ
+unjam_line None = codes "none\n"
+unjam_line (Some t) = codes "turn " ++ turn_text t ++ codes "\n"
+
+-- after these turns
+unfoldable pub unjam_text_of : List Turn → MachineValue → List ℕ
+unjam_text_of turns m = unjam_line (unjamming_turn (run_of turns m).machine)
+
+-- the checkpoint after these turns
+unfoldable pub saved_after : List Turn → MachineValue → List ℕ
+saved_after turns m = let run = run_of turns m in saved run.machine (counts_of run.answers)
 
 -- of these turns from a machine, whose keys are as long as the tree is deep
 abbrev pub printed : Prints → ℕ → List Turn → MachineValue → List ℕ
 printed Report depth turns m = report_text_of depth turns m
 printed Trace depth turns m = trace_and_report_of depth turns m
 printed Summary depth turns m = summary_text_of depth turns m
+printed Unjamming depth turns m = unjam_text_of turns m
+printed Checkpoint depth turns m = saved_after turns m
 
 -- a trace needs the turns and their answers
 abbrev pub is_trace : Prints → Bool
 is_trace Report = false
 is_trace Trace = true
 is_trace Summary = false
+is_trace Unjamming = false
+is_trace Checkpoint = false
 
 -- the same of turns that were made, and are kept for a trace
 abbrev pub made_text : Prints → MachineValue → Made → List ℕ
 made_text Summary m made = summary_of (view_of (depth_of m) made.counts m)
+made_text Unjamming m made = unjam_line (unjamming_turn m)
+made_text Checkpoint m made = saved m made.counts
 made_text Report m made = trace_text made.turns.items made.answers.items ++ report_of (view_of (depth_of m) made.counts m)
 made_text Trace m made = trace_text made.turns.items made.answers.items ++ report_of (view_of (depth_of m) made.counts m)
 

@@ -4,6 +4,7 @@ use Rattle.text_model.specs.Faults.{image_fault, shown_key, tree_fault, tree_key
 use Rattle.elf_load.specs.declared.refusal.ImageRefusal.{ImageRefusal}
 use Rattle.elf_load.specs.declared.refusal.ImageRefusal.TheVariants as image
 use Rattle.tree_config.specs.TreeFile.{key_name}
+use Rattle.tree_config.specs.declared.refusal.TreeKey.{TreeKey}
 use Rattle.tree_config.specs.declared.refusal.TreeRefusal.{TreeRefusal}
 use Rattle.tree_config.specs.declared.refusal.TreeRefusal.TheVariants as tree
 use Rattle.run_engine.specs.declared.refusal.BuildRefusal.{BuildRefusal}
@@ -76,6 +77,10 @@ witness_line (check.NotLegal n) = witness_line_fault n (codes "NotLegal")
 witness_line (check.TooManyItems n) = build_line (build.TooManyItems n)
 witness_line (check.StackOverlap hart header) = build_line (build.StackOverlap hart header)
 witness_line check.NoMemory = witness_fault (codes "NoMemory")
+
+-- of lists that are too small, by the key of the first
+abbrev pub small_lists_line : TreeKey → List ℕ
+small_lists_line k = codes "ddm: small lists: " ++ key_name k ++ codes "\n"
 
 -- ---- the line of an unknown key in two parts, since a key may be as long as its file
 

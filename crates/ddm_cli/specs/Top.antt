@@ -1,5 +1,6 @@
 -- What a command answers, and why.
 use Rattle.std.specs.Prelude.{◌≡◌, ◌⊎◌, ℕ, List, [], length, Option, Some, IsSome, IfSome, option_and_then, option_map, IfOk, Result, Ok, Err, IsOkAnd}
+use Rattle.std.specs.List.{AllByRecursion}
 use Rattle.std.specs.Result.{result_ok}
 use Rattle.ddm_types.specs.declared.turns.Turn.{Turn}
 use Rattle.tree_model.specs.Start.Sources.{TreeValue}
@@ -20,15 +21,19 @@ use Rattle.tree_config.specs.TreeFile.{tree_of}
 use Rattle.witness_check.specs.Start.{Setting, check_of}
 use Rattle.witness_check.specs.declared.refusal.CheckRefusal.{CheckRefusal}
 use Rattle.ddm_cli.specs.About.{about_text}
-use Rattle.ddm_cli.specs.Causes.{Accepts, HasNoSetting, IsRefused, IsUnloaded, IsUnstarted, TreeCause}
-use Rattle.ddm_cli.specs.Commands.{Check, Command, ImageFrom, Run, TurnsFrom, to_run, to_list, to_check, to_say, command_of}
-use Rattle.ddm_cli.specs.Parts.{Parts, parts_of, setting_at, tree_at, turns_of}
+use Rattle.ddm_cli.specs.Causes.{Accepts, HasNoSetting, HasSmallList, IsRefused, IsUnloaded, IsUnstarted, TreeCause}
+use Rattle.outcome_model.specs.FlatOutcome.{IsLegalOutcome}
+use Rattle.outcome_model.specs.Outcomes.{outcome_table, outcomes_text}
+use Rattle.outcome_model.specs.Table.{OutcomeLine}
+use Rattle.ddm_cli.specs.Commands.{Check, Command, ImageFrom, Run, Seeds, TurnsFrom, to_run, to_list, to_check, to_survey, to_say, command_of, first_run}
+use Rattle.ddm_cli.specs.Parts.{Parts, parts_for, parts_of, setting_at, tree_at, turns_of}
 use Rattle.ddm_cli.specs.Printed.{Writes, legal_line, printed}
-use Rattle.ddm_cli.specs.Refusals.{build_line, image_line, tree_line, tree_line_head, tree_line_rest, witness_line}
+use Rattle.ddm_cli.specs.Refusals.{build_line, image_line, small_lists_line, tree_line, tree_line_head, tree_line_rest, witness_line}
 use Rattle.ddm_cli.specs.Told.{ScheduleGiven, image_faults, image_told, schedule_faults, schedule_told}
 use Rattle.ddm_cli.specs.declared.command.Prints.{Prints}
+use Rattle.ddm_cli.specs.declared.command.Prints.TheVariants.{Report}
 use Rattle.ddm_cli.specs.declared.status.Status.{Status}
-use Rattle.ddm_cli.specs.declared.status.Status.TheVariants.{Done, Usage, ImageLoad, ImageBuild, Tree, Schedule, Witness, ReadFault, WriteFault, NoMemory}
+use Rattle.ddm_cli.specs.declared.status.Status.TheVariants.{Done, Usage, ImageLoad, ImageBuild, Tree, Schedule, Witness, SmallLists, ReadFault, WriteFault, NoMemory}
 
 -- ---- the text
 
@@ -42,7 +47,7 @@ text_with prints schedule p = option_map (text_at prints p) (turns_of p.tree.lev
 
 -- what a tree, an image and a schedule give
 abbrev pub text_of : Prints → List ℕ → List ℕ → ScheduleGiven → Option (List ℕ)
-text_of prints tree image schedule = option_and_then (text_with prints schedule) (parts_of tree image)
+text_of prints tree image schedule = option_and_then (text_with prints schedule) (parts_for prints tree image)
 
 -- the schedule of a seed for a tree
 unfoldable pub list_at : ℕ → ℕ → TreeValue → List ℕ
@@ -59,6 +64,13 @@ verdict_in witness s = option_map legal_line (result_ok (check_of s witness))
 abbrev pub verdict_of : List ℕ → List ℕ → List ℕ → Option (List ℕ)
 verdict_of tree image witness = option_and_then (verdict_in witness) (setting_at tree image)
 
+-- the outcomes of seeds of the machine of a tree and an image
+unfoldable pub outcomes_at : Seeds → Parts → List ℕ
+outcomes_at s p = outcomes_text (shape_view p.tree.levels) s.turns (start_machine p.tree p.image) s.first s.count
+
+abbrev pub outcomes_of : Seeds → List ℕ → List ℕ → Option (List ℕ)
+outcomes_of s tree image = option_map (outcomes_at s) (parts_of tree image)
+
 -- what a command prints, where its files are told and accepted
 abbrev pub command_text : (List ℕ → Option (List ℕ)) → Command → Option (List ℕ)
 command_text told (to_run prints r) =
@@ -66,6 +78,7 @@ command_text told (to_run prints r) =
 command_text told (to_list tree seed count) = option_and_then (list_of seed count) (told tree)
 command_text told (to_check c) =
     option_and_then (λ tree. option_and_then (λ image. option_and_then (verdict_of tree image) (told c.witness)) (told c.image)) (told c.tree)
+command_text told (to_survey s) = option_and_then (λ tree. option_and_then (outcomes_of s tree) (told s.image)) (told s.tree)
 command_text told (to_say a) = Some (about_text a)
 
 -- ---- order
@@ -79,27 +92,34 @@ TurnsInOrder p turns = EachTurnWitnessed (flat_start_of p.tree p.image) turns (s
 abbrev pub RunsInOrder : ScheduleGiven → Parts → Type 0
 RunsInOrder schedule p = IfSome (turns_of p.tree.levels schedule) (TurnsInOrder p)
 
+-- each outcome of these seeds is that of a legal run of the flat machine from its start
+abbrev pub OutcomesAreRuns : Seeds → Parts → Type 0
+OutcomesAreRuns s p =
+    let m = start_machine p.tree p.image in
+    AllByRecursion (λ (l : OutcomeLine). IsLegalOutcome m.code m.items (flat_start_of p.tree p.image) l.outcome) (outcome_table (shape_view p.tree.levels) s.turns m s.first s.count)
+
 -- ---- the files
 
 -- what holds of a tree and something else, where both are told
 abbrev pub Both : {A : Type 0} → Option (List ℕ) → Option A → (List ℕ → A → Type 0) → Type 0
 Both tree other P = IfSome tree (λ t. IfSome other (P t))
 
--- the tree is accepted, and with it the image, from which the machine has a start
-abbrev pub AcceptsParts : Option (List ℕ) → Option (List ℕ) → Type 0
-AcceptsParts tree image = Accepts tree_at tree × Both tree image (λ t i. IsSome (parts_of t i))
+-- the tree is accepted, and with it the image, from which the machine has a start, with lists that are large enough for what is
+-- to be printed
+abbrev pub AcceptsParts : Prints → Option (List ℕ) → Option (List ℕ) → Type 0
+AcceptsParts prints tree image = Accepts tree_at tree × Both tree image (λ t i. IsSome (parts_for prints t i))
 
 -- the image is refused for the tree, which is accepted
 abbrev pub RefusesImage : (TreeValue → List ℕ → Type 0) → Option (List ℕ) → Option (List ℕ) → Type 0
 RefusesImage refused tree image = Accepts tree_at tree × Both tree image (λ t i. IfSome (tree_at t) (λ value. refused value i))
 
 -- the tree and the image are accepted, and with the tree the schedule
-abbrev pub AcceptsRun : Option (List ℕ) → Option (List ℕ) → Option ScheduleGiven → Type 0
-AcceptsRun tree image schedule = AcceptsParts tree image × Both tree schedule (λ t s. IfSome (tree_at t) (λ value. IsSome (turns_of value.levels s)))
+abbrev pub AcceptsRun : Prints → Option (List ℕ) → Option (List ℕ) → Option ScheduleGiven → Type 0
+AcceptsRun prints tree image schedule = AcceptsParts prints tree image × Both tree schedule (λ t s. IfSome (tree_at t) (λ value. IsSome (turns_of value.levels s)))
 
 -- the schedule is refused in a line for the tree, which is accepted with the image
-abbrev pub RefusesSchedule : ℕ → ScheduleRefusal → Option (List ℕ) → Option (List ℕ) → Option ScheduleGiven → Type 0
-RefusesSchedule line r tree image schedule = AcceptsParts tree image × Both tree schedule (λ t s. IfSome (tree_at t) (λ value. IsRefused value.levels line r s))
+abbrev pub RefusesSchedule : Prints → ℕ → ScheduleRefusal → Option (List ℕ) → Option (List ℕ) → Option ScheduleGiven → Type 0
+RefusesSchedule prints line r tree image schedule = AcceptsParts prints tree image × Both tree schedule (λ t s. IfSome (tree_at t) (λ value. IsRefused value.levels line r s))
 
 -- where all three are told and accepted, their run is in order
 abbrev pub FilesInOrder : Option (List ℕ) → Option (List ℕ) → Option ScheduleGiven → Type 0
@@ -123,12 +143,14 @@ module _ {F : Type 0} (told : F → List ℕ → Option (List ℕ)) where
   -- the files that a command read are accepted, and this is what it prints
   abbrev pub HasAccepted : F → List ℕ → Command → Type 0
   HasAccepted files text (to_run prints r) =
-      AcceptsRun (told files r.tree) (image_told (told files) r.image) (schedule_told (told files) r.turns)
+      AcceptsRun prints (told files r.tree) (image_told (told files) r.image) (schedule_told (told files) r.turns)
       × HasText prints (told files r.tree) (image_told (told files) r.image) (schedule_told (told files) r.turns) text
   HasAccepted files text (to_list tree seed count) = Accepts tree_at (told files tree) × IfSome (told files tree) (λ t. list_of seed count t ≡ Some text)
   HasAccepted files text (to_check c) =
       AcceptsSetting (told files c.tree) (told files c.image)
       × ((lines : ℕ) × (text ≡ legal_line lines) × IsJudged (Ok lines) (told files c.tree) (told files c.image) (told files c.witness))
+  HasAccepted files text (to_survey s) =
+      AcceptsParts Report (told files s.tree) (told files s.image) × Both (told files s.tree) (told files s.image) (λ t i. outcomes_of s t i ≡ Some text)
   HasAccepted files text (to_say a) = text ≡ about_text a
 
   -- the words are in the grammar, and this is what their command prints
@@ -139,11 +161,12 @@ module _ {F : Type 0} (told : F → List ℕ → Option (List ℕ)) where
   abbrev pub WritesAccepted : {E : Type 0} → F → Option (List ℕ) → Option (List ℕ) → Command → Result (Unit {0}) E → Type 0
   WritesAccepted files old new c result = (text : List ℕ) × HasAccepted files text c × Writes old new text result
 
-  -- where all that a run is made of is told and accepted, it is in order; other commands make no run
+  -- where all that a run is made of is told and accepted, it is in order, and so are the runs of many seeds; other commands make none
   abbrev pub IsInOrder : F → Command → Type 0
   IsInOrder files (to_run prints r) = FilesInOrder (told files r.tree) (image_told (told files) r.image) (schedule_told (told files) r.turns)
   IsInOrder files (to_list tree seed count) = Unit {0}
   IsInOrder files (to_check c) = Unit {0}
+  IsInOrder files (to_survey s) = Both (told files s.tree) (told files s.image) (λ t i. IfSome (parts_of t i) (OutcomesAreRuns s))
   IsInOrder files (to_say a) = Unit {0}
 
   abbrev pub RunIsWitnessed : List (List ℕ) → F → Type 0
@@ -161,22 +184,23 @@ module _ {F : Type 0} (told : F → List ℕ → Option (List ℕ)) where
     ScheduleFailed turns = Rose (schedule_faults (faults files) turns) (schedule_faults (faults files') turns)
 
     -- a file can't be read: the tree is read first, then the image, then the schedule
-    abbrev pub CantRead : FileRole → Run → Type 0
-    CantRead TreeFile r = FileFailed r.tree
-    CantRead ImageFile r = ImageFailed r.image × Accepts tree_at (told files r.tree)
-    CantRead ScheduleFile r = ScheduleFailed r.turns × AcceptsParts (told files r.tree) (image_told (told files) r.image)
-    CantRead WitnessFile r = ⊥
-    CantRead CheckpointFile r = ⊥
+    abbrev pub CantRead : Prints → FileRole → Run → Type 0
+    CantRead prints TreeFile r = FileFailed r.tree
+    CantRead prints ImageFile r = ImageFailed r.image × Accepts tree_at (told files r.tree)
+    CantRead prints ScheduleFile r = ScheduleFailed r.turns × AcceptsParts prints (told files r.tree) (image_told (told files) r.image)
+    CantRead prints WitnessFile r = ⊥
+    CantRead prints CheckpointFile r = ⊥
 
-    -- why there is no run; the other statuses are no such answers
-    abbrev pub NoRun : Status → Run → Type 0
-    NoRun (Tree r) n = IfSome (told files n.tree) (λ file. tree_of file ≡ Err r)
-    NoRun (ImageLoad r) n = RefusesImage (λ t. IsUnloaded t r) (told files n.tree) (image_told (told files) n.image)
-    NoRun (ImageBuild r) n = RefusesImage (λ t. IsUnstarted t r) (told files n.tree) (image_told (told files) n.image)
-    NoRun (Schedule line r) n = RefusesSchedule line r (told files n.tree) (image_told (told files) n.image) (schedule_told (told files) n.turns)
-    NoRun (ReadFault role) n = CantRead role n
-    NoRun NoMemory n = Unit {0}
-    NoRun _ n = ⊥
+    -- why nothing is printed of a run; the other statuses are no such answers
+    abbrev pub NoRun : Prints → Status → Run → Type 0
+    NoRun prints (Tree r) n = IfSome (told files n.tree) (λ file. tree_of file ≡ Err r)
+    NoRun prints (ImageLoad r) n = RefusesImage (λ t. IsUnloaded t r) (told files n.tree) (image_told (told files) n.image)
+    NoRun prints (ImageBuild r) n = RefusesImage (λ t. IsUnstarted t r) (told files n.tree) (image_told (told files) n.image)
+    NoRun prints (SmallLists key) n = RefusesImage (HasSmallList prints key) (told files n.tree) (image_told (told files) n.image)
+    NoRun prints (Schedule line r) n = RefusesSchedule prints line r (told files n.tree) (image_told (told files) n.image) (schedule_told (told files) n.turns)
+    NoRun prints (ReadFault role) n = CantRead prints role n
+    NoRun prints NoMemory n = Unit {0}
+    NoRun prints _ n = ⊥
 
     -- a file can't be read: the tree is read first, then the image, then the witness
     abbrev pub CantReadFor : FileRole → Check → Type 0
@@ -197,11 +221,13 @@ module _ {F : Type 0} (told : F → List ℕ → Option (List ℕ)) where
     NoVerdict NoMemory c = Unit {0}
     NoVerdict _ c = ⊥
 
-    -- why a command prints nothing: where it only lists turns, what is said of a tree file
+    -- why a command prints nothing: where it only lists turns, what is said of a tree file; where it runs many seeds, what is said
+    -- of the run of the first
     abbrev pub NotAccepted : Status → Command → Type 0
-    NotAccepted s (to_run prints r) = NoRun s r
+    NotAccepted s (to_run prints r) = NoRun prints s r
     NotAccepted s (to_list tree seed count) = TreeCause (told files tree) (faults files tree) (faults files' tree) s
     NotAccepted s (to_check c) = NoVerdict s c
+    NotAccepted s (to_survey o) = NoRun Report s (first_run o)
     NotAccepted s (to_say a) = ⊥
 
     -- why there is no text
@@ -214,6 +240,7 @@ module _ {F : Type 0} (told : F → List ℕ → Option (List ℕ)) where
     NothingFailed (to_run prints r) = (¬ FileFailed r.tree) × (¬ ImageFailed r.image) × (¬ ScheduleFailed r.turns)
     NothingFailed (to_list tree seed count) = ¬ FileFailed tree
     NothingFailed (to_check c) = (¬ FileFailed c.tree) × (¬ FileFailed c.image) × (¬ FileFailed c.witness)
+    NothingFailed (to_survey s) = (¬ FileFailed s.tree) × (¬ FileFailed s.image)
     NothingFailed (to_say a) = Unit {0}
 
 -- ---- the command
@@ -236,6 +263,7 @@ module _ {F K : Type 0} (told : F → List ℕ → Option (List ℕ)) (faults : 
   StatusHasCause words files files' out out' (ImageBuild r) = Refused told faults files files' words (ImageBuild r) × (held out' ≡ held out)
   StatusHasCause words files files' out out' (Schedule line r) = Refused told faults files files' words (Schedule line r) × (held out' ≡ held out)
   StatusHasCause words files files' out out' (Witness r) = Refused told faults files files' words (Witness r) × (held out' ≡ held out)
+  StatusHasCause words files files' out out' (SmallLists key) = Refused told faults files files' words (SmallLists key) × (held out' ≡ held out)
   StatusHasCause words files files' out out' (ReadFault role) = Refused told faults files files' words (ReadFault role) × (held out' ≡ held out)
   StatusHasCause words files files' out out' NoMemory = Refused told faults files files' words NoMemory × (held out' ≡ held out)
 
@@ -263,6 +291,7 @@ fault_line (ImageLoad r) = image_line r
 fault_line (ImageBuild r) = build_line r
 fault_line (Schedule line r) = schedule_fault line r
 fault_line (Witness r) = witness_line r
+fault_line (SmallLists key) = small_lists_line key
 fault_line (ReadFault role) = read_fault (role_text role)
 fault_line WriteFault = write_fault
 fault_line NoMemory = memory_fault

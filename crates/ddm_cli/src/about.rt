@@ -8,7 +8,7 @@ use ddm_outside::{Failed, Sink};
 use report::write_all;
 
 const HELP: &[u8] =
-    b"ddm runs RV32IA programs on a Data Diffusion Machine; every run is one order of one flat memory.\n\n  ddm run IMAGE TREE SCHEDULE      the report of a run: harts, traffic, items and the witness\n  ddm trace IMAGE TREE SCHEDULE    a line for each turn, and then the report\n  ddm seed IMAGE TREE SEED TURNS   the report of the schedule of a seed\n  ddm schedule TREE SEED TURNS     the schedule of a seed\n  ddm make SEED ROUNDS TREE        the summary of a random program under a seeded schedule\n  ddm check IMAGE TREE WITNESS     whether a witness is one legal run of the flat machine\n  ddm help COMMAND                 more of one of these\n  ddm --help, ddm --version\n";
+    b"ddm runs RV32IA programs on a Data Diffusion Machine; every run is one order of one flat memory.\n\n  ddm run IMAGE TREE SCHEDULE      the report of a run: harts, traffic, items and the witness\n  ddm trace IMAGE TREE SCHEDULE    a line for each turn, and then the report\n  ddm seed IMAGE TREE SEED TURNS   the report of the schedule of a seed\n  ddm schedule TREE SEED TURNS     the schedule of a seed\n  ddm make SEED ROUNDS TREE        the summary of a random program under a seeded schedule\n  ddm check IMAGE TREE WITNESS     whether a witness is one legal run of the flat machine\n  ddm unjam IMAGE TREE SCHEDULE    the turn of a bus that goes on where a leaf waits\n  ddm save IMAGE TREE SCHEDULE     the checkpoint of the machine after a run\n  ddm outcomes IMAGE TREE FIRST COUNT TURNS\n                                   what the runs of many seeds come to\n  ddm help COMMAND                 more of one of these\n  ddm --help, ddm --version\n";
 
 const VERSION: &[u8] = b"ddm 1\n";
 
@@ -30,6 +30,15 @@ const MAKE: &[u8] =
 const CHECK: &[u8] =
     b"ddm check IMAGE TREE WITNESS\nJudges the operation lines of a report by the flat machine alone, and prints how many are legal.\n";
 
+const UNJAM: &[u8] =
+    b"ddm unjam IMAGE TREE SCHEDULE\nMakes the turns as run does, and prints the first turn of a bus that would be granted where a leaf waits, or none.\nDown, requests and replies need at least eight places for each item.\n";
+
+const SAVE: &[u8] =
+    b"ddm save IMAGE TREE SCHEDULE\nMakes the turns as run does, and puts out the checkpoint: the bytes of a file that tells the machine and its counts.\n";
+
+const OUTCOMES: &[u8] =
+    b"ddm outcomes IMAGE TREE FIRST COUNT TURNS\nRuns the seeded schedules of COUNT seeds from FIRST on, of TURNS turns each, and prints each different outcome:\nhow many seeds gave it, the smallest of these, and of each hart how it ended and what it put out.\nFIRST has 64 bits, COUNT is 1 to 1000000, TURNS is 0 to 1048576.\n";
+
 fn about_text(about: About) -> &'static [u8]
     ensures { result.now ≡ about_text about }
 {
@@ -42,6 +51,9 @@ fn about_text(about: About) -> &'static [u8]
         About::Schedule => SCHEDULE,
         About::Make => MAKE,
         About::Check => CHECK,
+        About::Unjam => UNJAM,
+        About::Save => SAVE,
+        About::Outcomes => OUTCOMES,
     }
 }
 

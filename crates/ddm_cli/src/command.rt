@@ -5,6 +5,10 @@ pub enum Prints {
     /// A line for each turn, and then the report.
     Trace,
     Summary,
+    /// The turn of a bus that goes on where a leaf waits, of a machine with large lists.
+    Unjamming,
+    /// The machine and what its turns came to, as bytes of a file.
+    Checkpoint,
 }
 
 /// Where an image comes from.
@@ -38,6 +42,17 @@ pub struct Check<'a> {
     pub witness: &'a str,
 }
 
+/// Whose outcomes are counted: the machine of the files of an image and of a tree, over the schedules of so many seeds from the
+/// first on, each with so many turns.
+#[derive(Clone, Copy)]
+pub struct Seeds<'a> {
+    pub image: &'a str,
+    pub tree: &'a str,
+    pub first: u64,
+    pub count: u32,
+    pub turns: u32,
+}
+
 /// What the program says of itself.
 #[derive(Clone, Copy, Debug, PartialEq, Eq)]
 pub enum About {
@@ -51,6 +66,9 @@ pub enum About {
     Schedule,
     Make,
     Check,
+    Unjam,
+    Save,
+    Outcomes,
 }
 
 /// What the words of a command say.
@@ -65,5 +83,7 @@ pub enum Command<'a> {
     },
     /// Whether a witness is accepted.
     Check(Check<'a>),
+    /// The different outcomes of many seeds.
+    Outcomes(Seeds<'a>),
     About(About),
 }

@@ -4,6 +4,7 @@ ghost use Rattle.bus_laws.specs.IsTree.{IsTree};
 ghost use Rattle.elf_load.specs.ElfFile.{image_of};
 ghost use Rattle.made_image.specs.MadeImage.{made_image};
 ghost use Rattle.any_machine.specs.Any.{machine_state};
+ghost use Rattle.any_machine.specs.Kind.{kind_of};
 ghost use Rattle.ddm_cli.specs.Causes.{ImageCause, AcceptedAs, Accepts, JudgedImageCause, NoImage, TreeCause};
 ghost use Rattle.ddm_cli.specs.Commands.{IsMakeable};
 ghost use Rattle.ddm_cli.specs.Parts.{BeginsFor, IsStart, parts_in, tree_at};
@@ -11,7 +12,7 @@ ghost use Rattle.ddm_cli.specs.Told.{image_faults, image_told};
 ghost use Rattle.ddm_cli.specs.Views.{image_from};
 
 use crate::command::ImageSource;
-use crate::judging::{begun, built, judged_tree, loaded};
+use crate::judging::{begun, built, built_twice, judged_tree, loaded};
 use crate::limits::{MOST_IMAGE, MOST_TREE};
 use crate::reading::{ReadError, read_whole};
 use crate::status::Status;
@@ -85,6 +86,26 @@ fn image_file<F: Shelf>(
 {
     let image = image_in(alloc, files, name, buffer, tree)?;
     built(alloc, tree, &image)
+}
+
+/// Two machines of a tree and an image file.
+pub fn image_machines<F: Shelf>(
+    alloc: Global,
+    files: &mut F,
+    name: &str,
+    buffer: &mut [u8],
+    tree: &TreeConfig,
+) -> Result<(AnyMachine, AnyMachine), Status>
+    requires { 0 < length buffer.old }
+    ensures found { IfOk result (λ ms. (i : ImageValue) × IsStart tree.now i (machine_state ms.0) × IfSome (F.told files.old name.now) (λ file. image_of tree.now.item_bytes file ≡ Ok i)) }
+    ensures alike { IfOk result (λ ms. machine_state ms.1 ≡ machine_state ms.0) }
+    ensures kind { IfOk result (λ ms. kind_of ms.1 ≡ kind_of ms.0) }
+    ensures cause { IfErr result (ImageCause tree.now (F.told files.old name.now) (F.faults files.old name.now) (F.faults files.new name.now)) }
+    ensures same { F.told files.new ≡ F.told files.old }
+    ensures later { (other : List ℕ) → F.faults files.old other ≤ F.faults files.new other }
+{
+    let image = image_in(alloc, files, name, buffer, tree)?;
+    built_twice(alloc, tree, &image)
 }
 
 /// The machine of a tree and the made image of a seed.

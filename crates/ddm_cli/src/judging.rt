@@ -5,12 +5,14 @@ ghost use Rattle.witness_check.specs.Start as check;
 ghost use Rattle.bus_laws.specs.IsTree.{IsTree};
 ghost use Rattle.elf_load.specs.ElfFile.{image_of};
 ghost use Rattle.tree_model.specs.Start.Machine.{start_refusal};
-ghost use Rattle.run_engine.specs.Started.{started};
+ghost use Rattle.run_engine.specs.Started.{kind_of_tree, started};
 ghost use Rattle.any_machine.specs.Any.{machine_state};
+ghost use Rattle.any_machine.specs.Kind.{kind_of};
 ghost use Rattle.ddm_cli.specs.Causes.{BuildCause, NoImage, SettingCause, TreeCause};
 ghost use Rattle.ddm_cli.specs.Parts.{tree_at};
 
 use crate::status::Status;
+use any_machine::release;
 use ddm_types::Start;
 use elf_load::{Image, ImageRefusal, load};
 use run_engine::{AnyMachine, BuildRefusal, build};
@@ -46,6 +48,7 @@ pub fn loaded(alloc: Global, tree: &TreeConfig, bytes: &[u8]) -> Result<Image, S
 /// The machine of a tree and an image.
 pub fn built(alloc: Global, tree: &TreeConfig, image: &Image) -> Result<AnyMachine, Status>
     ensures built { IfOk result (λ m. machine_state m ≡ started tree.now image.now) }
+    ensures kind { IfOk result (λ m. kind_of m ≡ kind_of_tree tree.now) }
     ensures accepted { IfOk result (λ m. start_refusal tree.now image.now ≡ None) }
     ensures cause { IfErr result (BuildCause tree.now image.now) }
 {
@@ -53,6 +56,28 @@ pub fn built(alloc: Global, tree: &TreeConfig, image: &Image) -> Result<AnyMachi
         Ok(machine) => Ok(machine),
         Err(BuildRefusal::NoMemory) => Err(Status::NoMemory),
         Err(refusal) => Err(Status::ImageBuild(refusal)),
+    }
+}
+
+/// Two machines of a tree and an image.
+pub fn built_twice(
+    alloc: Global,
+    tree: &TreeConfig,
+    image: &Image,
+) -> Result<(AnyMachine, AnyMachine), Status>
+    ensures first { IfOk result (λ ms. machine_state ms.0 ≡ started tree.now image.now) }
+    ensures second { IfOk result (λ ms. machine_state ms.1 ≡ started tree.now image.now) }
+    ensures kind { IfOk result (λ ms. kind_of ms.1 ≡ kind_of ms.0) }
+    ensures accepted { IfOk result (λ ms. start_refusal tree.now image.now ≡ None) }
+    ensures cause { IfErr result (BuildCause tree.now image.now) }
+{
+    let first = built(alloc, tree, image)?;
+    match built(alloc, tree, image) {
+        Ok(second) => Ok((first, second)),
+        Err(status) => {
+            release(first);
+            Err(status)
+        }
     }
 }
 

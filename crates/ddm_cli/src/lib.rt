@@ -13,7 +13,9 @@ mod printing;
 mod reading;
 mod refusal_lines;
 mod status;
+mod surveying;
 mod top;
+mod unjamming;
 mod unknown_key;
 mod words;
 

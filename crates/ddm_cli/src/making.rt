@@ -13,12 +13,13 @@ ghost use Rattle.ddm_cli.specs.Told.{schedule_faults, schedule_told, written};
 ghost use Rattle.ddm_cli.specs.Views.{turns_from};
 
 use crate::command::TurnSource;
+use crate::limits::BLOCK_TURNS;
 use crate::status::Status;
 use ddm_outside::Shelf;
 use ddm_types::{NoMemory, Turn, TurnAnswer};
 use report::FileRole;
 use run_engine::{AnyMachine, run};
-use schedule_log::{FeedError, ScheduleReader, seeded};
+use schedule_log::{FeedError, ScheduleReader, SeededTurns};
 use std::alloc::Global;
 use text_model::RunCounts;
 use tree_config::TreeConfig;
@@ -123,7 +124,7 @@ fn schedule_made<F: Shelf>(
     }
 }
 
-// Makes the turns of a seed.
+// Makes the turns of a seed, those of each block before the next one is asked for.
 fn seed_made(
     alloc: Global,
     tree: &TreeConfig,
@@ -137,10 +138,16 @@ fn seed_made(
     requires start { HasStart tree.now (machine_state machine.old) }
     ensures { IfOk result (λ made. HasAllMade tree.now.levels (Some (Told.seeded seed count)) keep (machine_state machine.old) (machine_state machine.new) made) }
 {
-    let turns = seeded(alloc, seed, count, &tree.nodes)?;
+    let mut left = SeededTurns::new(alloc, seed, count, &tree.nodes)?;
+    let mut block = Vec::with_capacity(alloc, BLOCK_TURNS as usize)?;
     let mut made = nothing_made(alloc);
-    make_turns(machine, &turns, &mut made, keep)?;
-    Ok(made)
+    'making: loop {
+        left.next_block(BLOCK_TURNS, &mut block)?;
+        if block.is_empty() {
+            return Ok(made);
+        }
+        make_turns(machine, &block, &mut made, keep)?;
+    }
 }
 
 /// Makes the turns of a run on the machine of a tree.

@@ -1,4 +1,5 @@
-ghost use Rattle.std.specs.Prelude.{◌≡◌, ◌≤◌, ◌++◌, ℕ, List, length, IfOk, IfErr, OnErr};
+ghost use Rattle.std.specs.Prelude.{◌≡◌, ◌≤◌, ◌++◌, ℕ, List, None, true, length, IfOk, IfErr, OnOk, OnErr};
+ghost use Rattle.ddm_types.specs.ItemTable.{item_count};
 ghost use Rattle.tree_model.specs.State.Shape.{depth_of};
 ghost use Rattle.tree_model.specs.Turns.Witness.{sorted_ops};
 ghost use Rattle.text_model.specs.Report.{report_of, summary_of};
@@ -8,17 +9,22 @@ ghost use Rattle.bus_laws.specs.IsTree.{IsTree};
 ghost use Rattle.any_machine.specs.Any.{machine_state};
 ghost use Rattle.ddm_outside.specs.Causes.{HasCause};
 ghost use Rattle.report.specs.Appends.{Appends, AppendsPart};
-ghost use Rattle.ddm_cli.specs.Causes.{IsRefused, ScheduleCause};
+ghost use Rattle.jam_laws.specs.GoesOn.{has_large_lists};
+ghost use Rattle.ddm_cli.specs.Causes.{RanCause};
 ghost use Rattle.ddm_cli.specs.Commands.{AreFew};
+ghost use Rattle.ddm_cli.specs.Lists.{list_refused};
 ghost use Rattle.ddm_cli.specs.Parts.{HasStart};
 ghost use Rattle.ddm_cli.specs.Printed.{Writes, is_trace, made_text};
 ghost use Rattle.ddm_cli.specs.Reads.{WritesRan};
 ghost use Rattle.ddm_cli.specs.Told.{schedule_faults, schedule_told};
 ghost use Rattle.ddm_cli.specs.Views.{turns_from};
+ghost use Rattle.ddm_cli.specs.declared.command.Prints.TheVariants.{Unjamming};
 
 use crate::command::{Prints, TurnSource};
 use crate::making::{Made, turns_made};
 use crate::status::Status;
+use crate::unjamming::{list_refused, write_unjamming};
+use checkpoint::save;
 use ddm_outside::{Failed, Shelf, Sink};
 use ddm_types::{NoMemory, Op};
 use report::{ReportPieces, TracePieces, summary_text, witness, write_all, write_pieces};
@@ -31,7 +37,7 @@ fn is_trace(prints: Prints) -> bool
 {
     match prints {
         Prints::Trace => true,
-        Prints::Report | Prints::Summary => false,
+        Prints::Report | Prints::Summary | Prints::Unjamming | Prints::Checkpoint => false,
     }
 }
 
@@ -72,14 +78,21 @@ fn write_made<K: Sink>(
 ) -> Result<Result<(), Failed>, NoMemory>
     requires room { 1024 ≤ length buffer.old }
     requires answers { length made.now.turns.items ≡ length made.now.answers.items }
+    requires counted { made.now.counts.retired ≡ length (machine_state machine.now).machine.ops }
+    requires large { prints ≡ Unjamming → has_large_lists (machine_state machine.now).machine ≡ true }
     ensures written { IfOk result (Writes (K.held out.old) (K.held out.new) (made_text prints (machine_state machine.now).machine made.now)) }
     ensures cause { IfOk result (HasCause (K.faults out.old) (K.faults out.new)) }
     ensures same { OnErr result (K.held out.new ≡ K.held out.old) }
 {
     match prints {
+        Prints::Unjamming => Ok(write_unjamming(out, machine)),
         Prints::Summary => {
             let text = summary_text(alloc, machine, made.counts)?;
             Ok(write_all(out, &text))
+        }
+        Prints::Checkpoint => {
+            let bytes = save(alloc, machine, made.counts)?;
+            Ok(write_all(out, &bytes))
         }
         Prints::Report | Prints::Trace => {
             let witness = witness(alloc, machine)?;
@@ -88,7 +101,8 @@ fn write_made<K: Sink>(
     }
 }
 
-/// Makes the turns of a run on a tree's machine, and writes what is printed of it.
+/// Makes the turns of a run on a tree's machine, and writes what is printed of it. Its lists are judged before the turns are asked
+/// for.
 pub fn write_ran<F: Shelf, K: Sink>(
     alloc: Global,
     files: &mut F,
@@ -105,10 +119,14 @@ pub fn write_ran<F: Shelf, K: Sink>(
     requires start { HasStart tree.now (machine_state machine.old) }
     ensures ran { IfOk result (WritesRan prints tree.now.levels (schedule_told (F.told files.old) (turns_from turns.entry)) (machine_state machine.old).machine (K.held out.old) (K.held out.new)) }
     ensures failed { IfOk result (HasCause (K.faults out.old) (K.faults out.new)) }
-    ensures cause { IfErr result (ScheduleCause (IsRefused tree.now.levels) (schedule_told (F.told files.old) (turns_from turns.entry)) (schedule_faults (F.faults files.old) (turns_from turns.entry)) (schedule_faults (F.faults files.new) (turns_from turns.entry))) }
+    ensures large { OnOk result (list_refused prints tree.now.sizes (item_count (machine_state machine.old).machine.items) ≡ None) }
+    ensures cause { IfErr result (RanCause prints tree.now (item_count (machine_state machine.old).machine.items) (schedule_told (F.told files.old) (turns_from turns.entry)) (schedule_faults (F.faults files.old) (turns_from turns.entry)) (schedule_faults (F.faults files.new) (turns_from turns.entry))) }
     ensures same { OnErr result (K.held out.new ≡ K.held out.old) }
     ensures later { (other : List ℕ) → F.faults files.old other ≤ F.faults files.new other }
 {
+    if let Some(key) = list_refused(prints, &tree.sizes(), machine.items().len()) {
+        return Err(Status::SmallLists(key));
+    }
     let keep = is_trace(prints);
     let made = turns_made(alloc, files, turns, buffer, tree, machine, keep)?;
     Ok(write_made(alloc, out, machine, &made, prints, buffer)?)

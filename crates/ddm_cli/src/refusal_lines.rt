@@ -1,7 +1,7 @@
 ghost use Rattle.std.specs.Prelude.{◌≡◌, ◌+◌, ◌++◌, ◌≤◌, length, codes, decimal};
 ghost use Rattle.text_model.specs.Faults.{name_words, number_texts, schedule_fault, schedule_refusal_name};
 ghost use Rattle.tree_config.specs.TreeFile.{key_name};
-ghost use Rattle.ddm_cli.specs.Refusals.{build_line, image_line, tree_line_head, witness_line};
+ghost use Rattle.ddm_cli.specs.Refusals.{build_line, image_line, small_lists_line, tree_line_head, witness_line};
 
 use elf_load::ImageRefusal;
 use report::FaultLine;
@@ -227,4 +227,15 @@ pub fn witness_line(refusal: &CheckRefusal) -> FaultLine
         }
         CheckRefusal::NoMemory => witness(b"no memory"),
     }
+}
+
+/// The line for lists that are too small, by the key of the first.
+pub fn small_lists_line(key: TreeKey) -> FaultLine
+    ensures { result ≡ small_lists_line key }
+{
+    let mut text = FaultLine::new();
+    text.push(b"ddm: small lists: ");
+    text.push(key_name(key));
+    text.push(b"\n");
+    text
 }

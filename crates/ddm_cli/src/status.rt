@@ -7,7 +7,7 @@ use elf_load::ImageRefusal;
 use report::FileRole;
 use run_engine::BuildRefusal;
 use text_model::ScheduleRefusal;
-use tree_config::TreeRefusal;
+use tree_config::{TreeKey, TreeRefusal};
 use witness_check::CheckRefusal;
 
 /// How a command ended.
@@ -26,6 +26,8 @@ pub enum Status {
     Schedule(u32, ScheduleRefusal),
     /// Why the witness isn't accepted. That nothing can be judged, since there is no start, is a refusal of the image.
     Witness(CheckRefusal),
+    /// The key of the first list that is too small for the turn that goes on to be named.
+    SmallLists(TreeKey),
     ReadFault(FileRole),
     WriteFault,
     NoMemory,
@@ -45,6 +47,7 @@ pub fn code(status: &Status) -> u8
         Status::WriteFault => 7,
         Status::NoMemory => 8,
         Status::Witness(_) => 10,
+        Status::SmallLists(_) => 12,
     }
 }
 

@@ -14,6 +14,7 @@ use crate::files::{image_machine, tree_file};
 use crate::printing::write_ran;
 use crate::reading::read_buffer;
 use crate::status::Status;
+use crate::surveying::write_outcomes;
 use crate::words::command_said;
 use any_machine::release;
 use ddm_outside::{Failed, Shelf, Sink};
@@ -22,7 +23,6 @@ use schedule_log::{seeded, write_schedule};
 use std::alloc::Global;
 
 // Runs a machine and writes what is printed of it, or answers the status without a text.
-#[tactic(auto, using(crate::proofs::Causes::takes_parts))]
 fn write_run<F: Shelf, K: Sink>(
     alloc: Global,
     files: &mut F,
@@ -33,7 +33,7 @@ fn write_run<F: Shelf, K: Sink>(
     requires range { IsInRange (to_run prints (run_from run)) }
     ensures written { IfOk result (WritesAccepted F.told files.old (K.held out.old) (K.held out.new) (to_run prints (run_from run.entry))) }
     ensures failed { IfOk result (HasCause (K.faults out.old) (K.faults out.new)) }
-    ensures refused { IfErr result (λ status. NoRun F.told F.faults files.old files.new status (run_from run.entry)) }
+    ensures refused { IfErr result (λ status. NoRun F.told F.faults files.old files.new prints status (run_from run.entry)) }
     ensures same { OnErr result (K.held out.new ≡ K.held out.old) }
 {
     let mut buffer = read_buffer(alloc)?;
@@ -105,6 +105,7 @@ fn write_command<F: Shelf, K: Sink>(
         Command::Run(prints, run) => write_run(alloc, files, out, prints, run),
         Command::List { tree, seed, count } => write_list(alloc, files, out, tree, seed, count),
         Command::Check(check) => write_check(alloc, files, out, check),
+        Command::Outcomes(seeds) => write_outcomes(alloc, files, out, seeds),
         Command::About(about) => Ok(write_about(out, about)),
     }
 }

@@ -1,14 +1,16 @@
 ghost use Rattle.std.specs.Prelude.{◌≡◌, ◌≤◌, ◌<◌, ◌*◌, ◌+◌, map, length, Err, IfOk, IfSome, IsOk, MatchResult, None, Ok, Some, option_and_then, slice_get};
 ghost use Rattle.std.specs.String.{string_bytes};
-ghost use Rattle.ddm_cli.specs.Commands.{IsInRange, about_named, command_of, ends_at, file_check, file_run, help_said, made_run, number_in, seed_list, seed_run, to_say};
+ghost use Rattle.ddm_cli.specs.Commands.{IsInRange, about_named, command_of, ends_at, file_check, file_run, help_said, made_run, number_in, seed_list, seed_run, seeds_survey, to_say};
 ghost use Rattle.ddm_cli.specs.Views.{command_from};
 
-use crate::command::{About, Check, Command, ImageSource, Prints, Run, TurnSource};
+use crate::command::{About, Check, Command, ImageSource, Prints, Run, Seeds, TurnSource};
 use ddm_text::read_decimal;
 
 const MOST_TURNS: u64 = 1_048_576;
 
 const MOST_ROUNDS: u64 = 50_000;
+
+const MOST_SEEDS: u64 = 1_000_000;
 
 /// The number that a word spells, if it is at least and at most so much.
 #[tactic(auto, unfolding(crate::specs::Commands::number_in))]
@@ -25,7 +27,7 @@ fn number_in(word: &str, least: u64, most: u64) -> Option<u64>
 
 /// The word at an index, or this index where there is none.
 fn word(words: &[String], k: usize) -> Result<&str, u32>
-    requires { k ≤ 4 }
+    requires { k ≤ 5 }
     ensures { MatchResult result
         (λ word. slice_get (map string_bytes words.now) k ≡ Some word.now)
         (λ at. (at ≡ k) × (slice_get (map string_bytes words.now) k ≡ None)) }
@@ -38,7 +40,7 @@ fn word(words: &[String], k: usize) -> Result<&str, u32>
 
 /// The number that the word there spells.
 fn number(words: &[String], k: usize, least: u64, most: u64) -> Result<u64, u32>
-    requires { k ≤ 4 }
+    requires { k ≤ 5 }
     ensures is { MatchResult result
         (λ n. option_and_then (number_in least most) (slice_get (map string_bytes words.now) k) ≡ Some n)
         (λ at. (at ≡ k) × (option_and_then (number_in least most) (slice_get (map string_bytes words.now) k) ≡ None)) }
@@ -50,7 +52,7 @@ fn number(words: &[String], k: usize, least: u64, most: u64) -> Result<u64, u32>
 
 /// A number of at most 32 bits.
 fn small_number(words: &[String], k: usize, least: u64, most: u64) -> Result<u32, u32>
-    requires index { k ≤ 4 }
+    requires index { k ≤ 5 }
     requires small { most ≤ 1048576 }
     ensures is { MatchResult result
         (λ n. option_and_then (number_in least most) (slice_get (map string_bytes words.now) k) ≡ Some n)
@@ -61,7 +63,7 @@ fn small_number(words: &[String], k: usize, least: u64, most: u64) -> Result<u32
     Ok(number(words, k, least, most)? as u32)
 }
 
-/// `run IMAGE TREE SCHEDULE` and `trace IMAGE TREE SCHEDULE`.
+/// `run IMAGE TREE SCHEDULE`, and so `trace`, `unjam` and `save`.
 #[tactic(auto, unfolding(crate::specs::Commands::file_run))]
 fn file_run(words: &[String], prints: Prints) -> Result<Command<'_>, u32>
     ensures is { MatchResult result
@@ -173,6 +175,32 @@ fn file_check(words: &[String]) -> Result<Command<'_>, u32>
     }))
 }
 
+/// `outcomes IMAGE TREE FIRST COUNT TURNS`.
+#[tactic(auto, unfolding(crate::specs::Commands::seeds_survey))]
+fn seeds_survey(words: &[String]) -> Result<Command<'_>, u32>
+    ensures is { MatchResult result
+        (λ c. seeds_survey (map string_bytes words.now) ≡ Ok (command_from c))
+        (λ k. seeds_survey (map string_bytes words.now) ≡ Err k) }
+    ensures range { IfOk result (λ c. IsInRange (command_from c)) }
+{
+    let image = word(words, 1)?;
+    let tree = word(words, 2)?;
+    let first = number(words, 3, 0, u64::MAX)?;
+    let most = (MOST_SEEDS - 1).min(u64::MAX - first) + 1;
+    let count = small_number(words, 4, 1, most)?;
+    let turns = small_number(words, 5, 0, MOST_TURNS)?;
+    if words.len() > 6 {
+        return Err(6);
+    }
+    Ok(Command::Outcomes(Seeds {
+        image,
+        tree,
+        first,
+        count,
+        turns,
+    }))
+}
+
 /// The command of a name.
 #[tactic(auto, unfolding(crate::specs::Commands::about_named))]
 fn about_named(name: &str) -> Option<About>
@@ -185,6 +213,9 @@ fn about_named(name: &str) -> Option<About>
         "schedule" => Some(About::Schedule),
         "make" => Some(About::Make),
         "check" => Some(About::Check),
+        "unjam" => Some(About::Unjam),
+        "save" => Some(About::Save),
+        "outcomes" => Some(About::Outcomes),
         _ => None,
     }
 }
@@ -234,6 +265,9 @@ pub fn command_said(words: &[String]) -> Result<Command<'_>, u32>
         "schedule" => seed_list(words),
         "make" => made_run(words),
         "check" => file_check(words),
+        "unjam" => file_run(words, Prints::Unjamming),
+        "save" => file_run(words, Prints::Checkpoint),
+        "outcomes" => seeds_survey(words),
         "help" => help_said(words),
         "--help" => alone(words, About::Help),
         "--version" => alone(words, About::Version),

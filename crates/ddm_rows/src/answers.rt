@@ -11,6 +11,8 @@ pub const RUN: &[&str] = &["run", "image", "tree", "schedule"];
 
 pub const TRACE: &[&str] = &["trace", "image", "tree", "schedule"];
 
+pub const UNJAM: &[&str] = &["unjam", "image", "tree", "schedule"];
+
 /// The most bytes that a sink holds, and that it takes at a time.
 const ROOM: usize = 1 << 18;
 

@@ -189,6 +189,21 @@ pub fn load_two_words(alloc: Global) -> Result<Vec<u8>, Fail> {
     image(alloc, &code, &[5], 16)
 }
 
+/// Adds one to the word at the front of the data, a hundred times, and asks to exit.
+pub fn add_to_one_word(alloc: Global) -> Result<Vec<u8>, Fail> {
+    let code = [
+        0x000202b7, // lui x5,0x20
+        0x06400313, // addi x6,x0,100
+        0x00100393, // addi x7,x0,1
+        0x0072a42f, // amoadd.w x8,x7,(x5)
+        0xfff30313, // addi x6,x6,-1
+        0xfe031ce3, // bne x6,x0,-8
+        0x05d00893, // addi x17,x0,93
+        0x00000073, // ecall
+    ];
+    image(alloc, &code, &[], 16)
+}
+
 /// The file with other bytes at a place.
 pub fn changed(alloc: Global, file: &[u8], place: usize, bytes: &[u8]) -> Result<Vec<u8>, Fail> {
     if place > file.len() || bytes.len() > file.len() - place {

@@ -20,7 +20,11 @@ mod refused_trees;
 #[cfg(test)]
 mod several_leaves;
 #[cfg(test)]
+mod surveys;
+#[cfg(test)]
 mod tiny_lists;
+#[cfg(test)]
+mod turns_that_go_on;
 #[cfg(test)]
 mod witnesses;
 #[cfg(test)]

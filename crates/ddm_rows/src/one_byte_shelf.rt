@@ -32,12 +32,15 @@ fn every_command(rt: HostRuntime) -> Result<(), Fail> {
         image: load_and_exit(alloc)?,
         schedule: schedule(alloc, &["h 0 0", "h 0 0", "g 0 q 0", "g 0 r 1", "h 0 0"], 1)?,
     };
-    let commands: [&[&str]; 5] = [
+    let commands: [&[&str]; 8] = [
         &["run", "image", "tree", "schedule"],
         &["trace", "image", "tree", "schedule"],
         &["seed", "image", "tree", "42", "500"],
         &["schedule", "tree", "42", "500"],
         &["make", "42", "2", "tree"],
+        &["unjam", "image", "tree", "schedule"],
+        &["save", "image", "tree", "schedule"],
+        &["outcomes", "image", "tree", "1", "3", "200"],
     ];
     for words in commands {
         let mut bytes = OneByteShelf {

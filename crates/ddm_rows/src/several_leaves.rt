@@ -2,7 +2,7 @@
 
 use crate::answers::{RUN, Turn, has_start, line_number, missing, output, traced};
 use crate::files::{
-    Files, TreeFile, image, load_and_exit, load_two_words, schedule, text_of, tree,
+    Files, TreeFile, add_to_one_word, image, load_and_exit, load_two_words, schedule, text_of, tree,
 };
 use std::alloc::Global;
 use std::test::Fail;
@@ -311,23 +311,13 @@ fn the_flag_behind_a_full_list(rt: HostRuntime) -> Result<(), Fail> {
 #[test]
 fn four_counters(rt: HostRuntime) -> Result<(), Fail> {
     let alloc = rt.alloc();
-    let code = [
-        0x000202b7, // lui x5,0x20
-        0x06400313, // addi x6,x0,100
-        0x00100393, // addi x7,x0,1
-        0x0072a42f, // amoadd.w x8,x7,(x5)
-        0xfff30313, // addi x6,x6,-1
-        0xfe031ce3, // bne x6,x0,-8
-        0x05d00893, // addi x17,x0,93
-        0x00000073, // ecall
-    ];
     let round = [
         "h 0 0", "h 1 0", "h 2 0", "h 3 0", "g 0 q 0", "g 0 q 1", "g 0 q 2", "g 0 q 3", "g 0 r 0",
         "g 0 r 1", "g 0 r 2", "g 0 r 3", "g 0 d",
     ];
     let files = Files {
         tree: tree("(LLLL)", [2, 8, 1, 1]).bytes(alloc)?,
-        image: image(alloc, &code, &[], 16)?,
+        image: add_to_one_word(alloc)?,
         schedule: schedule(alloc, &round, 5000)?,
     };
     let lines = [

@@ -6,7 +6,7 @@ use std::test::Fail;
 
 #[test]
 fn words_at_fault(rt: HostRuntime) -> Result<(), Fail> {
-    let commands: [(&[&str], u32); 25] = [
+    let commands: [(&[&str], u32); 35] = [
         (&[], 0),
         (&["walk"], 0),
         (&["run", "a", "b"], 3),
@@ -27,6 +27,16 @@ fn words_at_fault(rt: HostRuntime) -> Result<(), Fail> {
         (&["make", "1", "50001", "t"], 2),
         (&["make", "1", "1"], 3),
         (&["make", "1", "1", "t", "more"], 4),
+        (&["unjam", "a", "b"], 3),
+        (&["unjam", "a", "b", "c", "d"], 4),
+        (&["save", "a", "b"], 3),
+        (&["save", "a", "b", "c", "d"], 4),
+        (&["outcomes", "i", "t", "0", "1"], 5),
+        (&["outcomes", "i", "t", "0", "0", "1"], 4),
+        (&["outcomes", "i", "t", "0", "1000001", "1"], 4),
+        (&["outcomes", "i", "t", "18446744073709551616", "1", "1"], 3),
+        (&["outcomes", "i", "t", "0", "1", "1048577"], 5),
+        (&["outcomes", "i", "t", "0", "1", "1", "more"], 6),
         (&["RUN", "a", "b", "c"], 0),
         (&["help"], 1),
         (&["help", "walk"], 1),
@@ -60,7 +70,9 @@ fn of_itself(rt: HostRuntime) -> Result<(), Fail> {
     let version = output(alloc, &["--version"], &no_files)?;
     assert_eq!(rt; version.as_slice(), b"ddm 1\n".as_slice());
     let help = output(alloc, &["--help"], &no_files)?;
-    for name in ["run", "trace", "seed", "schedule", "make", "check"] {
+    for name in [
+        "run", "trace", "seed", "schedule", "make", "check", "unjam", "save", "outcomes",
+    ] {
         let said = output(alloc, &["help", name], &no_files)?;
         let line = format!(in alloc; "ddm {name} ")?;
         assert!(rt; said.starts_with(line.as_bytes()), "{name}");

@@ -24,7 +24,7 @@ make_turns-requires-clause-named g c =
     let (turns, read, has) = c.reading.invariant.all in
     let levels = ap (λ (u : TreeValue). u.levels) c.tree.view_is in
     let next = next_piece c.args.tree.now c.requires.tree (machine_state c.args.machine.now) c.requires.start c.args.keep told c.reading.at c.reading.reader (machine_state c.reading.machine) c.reading.made turns read has _ c.in-Ok.n c.read.new.into c.feed.new.self c.reading.turns.items c.feed.new.turns.items levels c.reading.invariant.none c.in-Ok.ensures.bound (rw c.reading.invariant.same at c.in-Ok.ensures.told) c.in-Ok-feed.ensures.0 in
-    subst (λ (ts : List Turn). NameParts ts (machine_state c.reading.machine).machine) (sym c.deref.ensures.value) next.named
+    subst (λ (ts : List Turn). NameParts ts (machine_state c.reading.machine).machine) (sym c.deref.ensures.value) next.can.named
 
 pub make_turns-requires-clause-few : goal.make_turns-requires-clause-few
 make_turns-requires-clause-few g c =
@@ -32,7 +32,7 @@ make_turns-requires-clause-few g c =
     let (turns, read, has) = c.reading.invariant.all in
     let levels = ap (λ (u : TreeValue). u.levels) c.tree.view_is in
     let next = next_piece c.args.tree.now c.requires.tree (machine_state c.args.machine.now) c.requires.start c.args.keep told c.reading.at c.reading.reader (machine_state c.reading.machine) c.reading.made turns read has _ c.in-Ok.n c.read.new.into c.feed.new.self c.reading.turns.items c.feed.new.turns.items levels c.reading.invariant.none c.in-Ok.ensures.bound (rw c.reading.invariant.same at c.in-Ok.ensures.told) c.in-Ok-feed.ensures.0 in
-    subst (λ (ts : List Turn). CanRun ts (machine_state c.reading.machine)) (sym c.deref.ensures.value) next.few
+    subst (λ (ts : List Turn). CanRun ts (machine_state c.reading.machine)) (sym c.deref.ensures.value) next.can.few
 
 pub make_turns-requires-clause-counted : goal.make_turns-requires-clause-counted
 make_turns-requires-clause-counted g c =
@@ -40,7 +40,7 @@ make_turns-requires-clause-counted g c =
     let (turns, read, has) = c.reading.invariant.all in
     let levels = ap (λ (u : TreeValue). u.levels) c.tree.view_is in
     let next = next_piece c.args.tree.now c.requires.tree (machine_state c.args.machine.now) c.requires.start c.args.keep told c.reading.at c.reading.reader (machine_state c.reading.machine) c.reading.made turns read has _ c.in-Ok.n c.read.new.into c.feed.new.self c.reading.turns.items c.feed.new.turns.items levels c.reading.invariant.none c.in-Ok.ensures.bound (rw c.reading.invariant.same at c.in-Ok.ensures.told) c.in-Ok-feed.ensures.0 in
-    subst (λ (ts : List Turn). CanCount c.reading.made.counts (counts_in ts (machine_state c.reading.machine))) (sym c.deref.ensures.value) next.counted
+    subst (λ (ts : List Turn). CanCount c.reading.made.counts (counts_in ts (machine_state c.reading.machine))) (sym c.deref.ensures.value) next.can.counted
 
 pub reading-preserved : goal.reading-preserved
 reading-preserved g c =
@@ -52,7 +52,7 @@ reading-preserved g c =
     let done = c.in_ok-make_turns.ensures in
     let more = c.feed.new.turns.items in
     record {
-      all = (turns ++ more, next.read, more_made c.args.tree.now c.requires.tree (machine_state c.args.machine.now) c.requires.start c.args.keep (machine_state c.reading.machine) c.reading.made turns more has next.given (machine_state c.make_turns.new.machine) c.make_turns.new.made (rw value at done.after) (rw value at done.counts) (rw value at done.turns) (rw value at done.answers));
+      all = (turns ++ more, next.read, more_made c.args.tree.now c.requires.tree (machine_state c.args.machine.now) c.requires.start c.args.keep (machine_state c.reading.machine) c.reading.made turns more has next.can.given (machine_state c.make_turns.new.machine) c.make_turns.new.made (rw value at done.after) (rw value at done.counts) (rw value at done.turns) (rw value at done.answers));
       none = c.clear.ensures.items;
       few = few_read c.args.tree.now.levels told (c.reading.at + c.in-Ok.n) c.feed.new.self (turns ++ more) next.read c.in-Ok-feed.ensures.1;
       same = c.read.ensures.same ∙ c.reading.invariant.same;

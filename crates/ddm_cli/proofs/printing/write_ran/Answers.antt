@@ -1,13 +1,29 @@
+use Rattle.std.proofs.Common.{◌≡◌, None, rules}
+use Rattle.ddm_types.specs.ItemTable.{item_count}
 use Rattle.any_machine.specs.Any.{machine_state}
+use Rattle.ddm_cli.specs.Lists.{list_refused}
 use Rattle.ddm_cli.specs.Told.{schedule_told}
 use Rattle.ddm_cli.specs.Views.{turns_from}
-use Rattle.ddm_cli.proofs.RunsInPieces.{answers_kept, made_written}
+use Rattle.ddm_cli.proofs.LargeLists.{stay_large}
+use Rattle.ddm_cli.proofs.RunsInPieces.{answers_kept, made_written, retired_counted}
+use Rattle.ddm_cli.proofs.StartNames.{start_ops}
 use Rattle.ddm_cli.proofs.printing.write_ran.Goals as goal
 
 pub write_made-requires-clause-answers : goal.write_made-requires-clause-answers
 write_made-requires-clause-answers g c =
     let all = c.in_ok-made.ensures.all in
     answers_kept _ (machine_state c.args.machine.now) (machine_state c.turns_made.new.machine) c.in_ok-made.made all.turns all.all
+
+pub write_made-requires-clause-large : goal.write_made-requires-clause-large
+write_made-requires-clause-large g c =
+    let all = c.in_ok-made.ensures.all in
+    let none : list_refused c.args.prints c.args.tree.now.sizes (item_count (machine_state c.args.machine.now).machine.items) ≡ None = search rules in
+    stay_large c.args.prints c.args.tree.now (machine_state c.args.machine.now) (machine_state c.turns_made.new.machine).machine all.turns c.requires.start all.all.machine none
+
+pub write_made-requires-clause-counted : goal.write_made-requires-clause-counted
+write_made-requires-clause-counted g c =
+    let all = c.in_ok-made.ensures.all in
+    retired_counted _ (machine_state c.args.machine.now) (machine_state c.turns_made.new.machine) c.in_ok-made.made all.turns (start_ops c.args.tree.now (machine_state c.args.machine.now) c.requires.start) all.all
 
 pub returns-clause-ran : goal.returns-clause-ran
 returns-clause-ran g c =

@@ -1,0 +1,95 @@
+ghost use Rattle.std.specs.Prelude.{◌≡◌, ◌+◌, ◌≤◌, IfErr, IfOk, OnErr};
+ghost use Rattle.bus_laws.specs.IsTree.{IsTree};
+ghost use Rattle.any_machine.specs.Any.{machine_state};
+ghost use Rattle.any_machine.specs.Kind.{kind_of};
+ghost use Rattle.ddm_outside.specs.Causes.{HasCause};
+ghost use Rattle.schedule_log.specs.Shapes.{shape_view};
+ghost use Rattle.outcome_model.specs.Outcomes.{outcomes_text};
+ghost use Rattle.ddm_cli.specs.Commands.{IsInRange, first_run, to_survey};
+ghost use Rattle.ddm_cli.specs.Parts.{HasStart};
+ghost use Rattle.ddm_cli.specs.Top.{HasAccepted, NoRun, WritesAccepted};
+ghost use Rattle.ddm_cli.specs.Views.{seeds_from};
+ghost use Rattle.ddm_cli.specs.declared.command.Prints.TheVariants.{Report};
+
+use crate::command::Seeds;
+use crate::files::{image_machines, tree_file};
+use crate::reading::read_buffer;
+use crate::status::Status;
+use any_machine::release;
+use ddm_outside::{Failed, Shelf, Sink};
+use ddm_types::NoMemory;
+use outcomes::{outcomes, push_table};
+use report::write_all;
+use run_engine::AnyMachine;
+use std::alloc::Global;
+use tree_config::TreeConfig;
+
+// The text of the outcomes, with one machine at its start and another one that makes the turns.
+#[tactic(auto, unfolding(outcome_model::specs::Outcomes::outcomes_text))]
+fn table_text(
+    alloc: Global,
+    tree: &TreeConfig,
+    start: &AnyMachine,
+    machine: &mut AnyMachine,
+    seeds: Seeds<'_>,
+) -> Result<Vec<u8>, NoMemory>
+    requires tree { IsTree tree.now }
+    requires start { HasStart tree.now (machine_state start.now) }
+    requires alike { machine_state machine.old ≡ machine_state start.now }
+    requires kind { kind_of machine.old ≡ kind_of start.now }
+    requires seeds { seeds.first + seeds.count ≤ 18446744073709551616 }
+    requires turns { seeds.turns ≤ 1048576 }
+    ensures { IfOk result (λ text. text.items ≡ outcomes_text (shape_view tree.now.levels) seeds.entry.turns (machine_state start.now).machine seeds.entry.first seeds.entry.count) }
+{
+    let lines = outcomes(
+        alloc,
+        start,
+        machine,
+        &tree.nodes,
+        seeds.turns,
+        seeds.first,
+        seeds.count,
+    )?;
+    let mut text = Vec::new(alloc);
+    push_table(&mut text, seeds.count, &lines)?;
+    Ok(text)
+}
+
+// The text of the outcomes of a tree file and an image file, or the status without it.
+fn outcomes_said<F: Shelf>(
+    alloc: Global,
+    files: &mut F,
+    seeds: Seeds<'_>,
+) -> Result<Vec<u8>, Status>
+    requires range { IsInRange (to_survey (seeds_from seeds)) }
+    ensures taken { IfOk result (λ text. HasAccepted F.told files.old text.items (to_survey (seeds_from seeds.entry))) }
+    ensures refused { IfErr result (λ status. NoRun F.told F.faults files.old files.new Report status (first_run (seeds_from seeds.entry))) }
+{
+    let mut buffer = read_buffer(alloc)?;
+    let tree = tree_file(alloc, files, seeds.tree, &mut buffer)?;
+    let (start, mut machine) = image_machines(alloc, files, seeds.image, &mut buffer, &tree)?;
+    let text = table_text(alloc, &tree, &start, &mut machine, seeds);
+    release(start);
+    release(machine);
+    match text {
+        Ok(text) => Ok(text),
+        Err(_) => Err(Status::NoMemory),
+    }
+}
+
+/// Counts the outcomes of many seeds and writes them, or answers the status without a text.
+pub fn write_outcomes<F: Shelf, K: Sink>(
+    alloc: Global,
+    files: &mut F,
+    out: &mut K,
+    seeds: Seeds<'_>,
+) -> Result<Result<(), Failed>, Status>
+    requires range { IsInRange (to_survey (seeds_from seeds)) }
+    ensures written { IfOk result (WritesAccepted F.told files.old (K.held out.old) (K.held out.new) (to_survey (seeds_from seeds.entry))) }
+    ensures failed { IfOk result (HasCause (K.faults out.old) (K.faults out.new)) }
+    ensures refused { IfErr result (λ status. NoRun F.told F.faults files.old files.new Report status (first_run (seeds_from seeds.entry))) }
+    ensures same { OnErr result (K.held out.new ≡ K.held out.old) }
+{
+    let text = outcomes_said(alloc, files, seeds)?;
+    Ok(write_all(out, &text))
+}
