@@ -49,6 +49,13 @@ impl<const WAYS: usize, const WORDS: usize> AttractionMem<WAYS, WORDS> {
         Ok(AttractionMem { sets, tags, words })
     }
 
+    /// Takes all items out.
+    pub fn clear(&mut self)
+        ensures { self.new ≡ empty_memory self.old.sets }
+    {
+        self.tags.fill(None);
+    }
+
     /// How many sets it has: so few that all ways can be counted.
     pub fn sets(&self) -> u32
         ensures sets { result ≡ self.now.sets }
