@@ -138,6 +138,14 @@ impl<const WAYS: usize, const WORDS: usize> AttractionMem<WAYS, WORDS> {
         Some(item)
     }
 
+    /// The item in that way of this item's set.
+    pub fn beside(&self, item: ItemId, way: u32) -> Option<ItemId>
+        requires { way < WAYS }
+        ensures { (other : ℕ) → (result ≡ Some other) ↔ StandsIn self.now (item % self.now.sets) way other }
+    {
+        self.at(item.0 % self.sets, way)
+    }
+
     /// Puts the item into that way of its set.
     pub fn place_at(&mut self, item: ItemId, way: u32, state: LeafState, words: Words<WORDS>)
         requires absent { entry_of self.old item ≡ None }
