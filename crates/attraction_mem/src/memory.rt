@@ -49,6 +49,13 @@ impl<const WAYS: usize, const WORDS: usize> AttractionMem<WAYS, WORDS> {
         Ok(AttractionMem { sets, tags, words })
     }
 
+    /// Takes all items out.
+    pub fn clear(&mut self)
+        ensures { self.new ≡ empty_memory self.old.sets }
+    {
+        self.tags.fill(None);
+    }
+
     /// How many sets it has: so few that all ways can be counted.
     pub fn sets(&self) -> u32
         ensures sets { result ≡ self.now.sets }
@@ -129,6 +136,14 @@ impl<const WAYS: usize, const WORDS: usize> AttractionMem<WAYS, WORDS> {
     {
         let (item, _) = self.tags[set as usize * WAYS + way as usize]?;
         Some(item)
+    }
+
+    /// The item in that way of this item's set.
+    pub fn beside(&self, item: ItemId, way: u32) -> Option<ItemId>
+        requires { way < WAYS }
+        ensures { (other : ℕ) → (result ≡ Some other) ↔ StandsIn self.now (item % self.now.sets) way other }
+    {
+        self.at(item.0 % self.sets, way)
     }
 
     /// Puts the item into that way of its set.

@@ -1,4 +1,4 @@
-ghost use Rattle.std.specs.Prelude.{◌≡◌, ℕ, ◌<◌, ◌≤◌, ◌++◌, ◌∷◌, [], true, not, length, map, filter, find, position, remove, option_map, nat_le, nat_lt, slice_get, slice_index_or, slice_set, if◌then◌else◌, IfOk, IfSome, vec_capacity, vec_len};
+ghost use Rattle.std.specs.Prelude.{◌≡◌, ℕ, ◌+◌, ◌<◌, ◌≤◌, ◌++◌, ◌∷◌, [], true, not, length, map, filter, find, position, remove, option_map, nat_le, nat_lt, slice_get, slice_index_or, slice_set, if◌then◌else◌, IfOk, IfSome, vec_capacity, vec_len};
 ghost use Rattle.tree_model.specs.State.Shape.{are_distinct};
 ghost use Rattle.tree_model.specs.State.Lists.{names_item};
 ghost use Rattle.replacement.specs.Places.{times};
@@ -43,6 +43,17 @@ fn add(numbers: &mut Vec<usize>, number: usize)
     }
 }
 
+/// Puts these numbers behind the others, where there is memory for them.
+fn add_all(numbers: &mut Vec<usize>, others: &[usize])
+    requires { vec_len numbers.old + length others.now ≤ vec_capacity numbers.old }
+    ensures items { numbers.new.items ≡ numbers.old.items ++ others.now }
+    ensures capacity { vec_capacity numbers.old ≤ vec_capacity numbers.new }
+{
+    if numbers.extend_from_slice(others).is_err() {
+        unreachable!();
+    }
+}
+
 /// Puts these numbers in place of those that are there, where there is memory for them.
 fn refill(numbers: &mut Vec<usize>, others: &[usize])
     requires { length others.now ≤ vec_capacity numbers.old }
@@ -50,9 +61,7 @@ fn refill(numbers: &mut Vec<usize>, others: &[usize])
     ensures capacity { vec_capacity numbers.old ≤ vec_capacity numbers.new }
 {
     numbers.clear();
-    if numbers.extend_from_slice(others).is_err() {
-        unreachable!();
-    }
+    add_all(numbers, others);
 }
 
 /// The numbers of so many places.
@@ -145,6 +154,14 @@ impl<T: Copy> Arrivals<T> {
         self.places.copy_from_slice(&other.places);
         refill(&mut self.order, &other.order);
         refill(&mut self.free, &other.free);
+    }
+
+    /// Takes all entries out. Their places are free from now on.
+    pub fn clear(&mut self)
+        ensures { self.new ≡ record self.old { list = [] } }
+    {
+        add_all(&mut self.free, &self.order);
+        self.order.clear();
     }
 
     /// Takes out the entry with so many before it. Its place is free from now on.

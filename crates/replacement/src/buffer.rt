@@ -120,6 +120,13 @@ impl<const WORDS: usize> Buffer<WORDS> {
         self.entries.copy_from(&other.entries);
     }
 
+    /// Takes all entries out.
+    pub fn clear(&mut self)
+        ensures { self.new ≡ record self.old { list = [] } }
+    {
+        self.entries.clear();
+    }
+
     /// Puts an entry behind the others.
     pub fn put(&mut self, item: ItemId, state: LeafState, words: Words<WORDS>) -> Result<(), Full>
         requires fresh { find (is_buffered item) self.old.list ≡ None }

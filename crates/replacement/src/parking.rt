@@ -53,6 +53,14 @@ impl<const WORDS: usize> Parking<WORDS> {
         self.reserved = other.reserved;
     }
 
+    /// Takes all copies out and gives all reserved places back.
+    pub fn clear(&mut self)
+        ensures { self.new ≡ record self.old { list = []; reserved = 0 } }
+    {
+        self.entries.clear();
+        self.reserved = 0;
+    }
+
     /// Whether each place is taken or reserved.
     pub fn is_full(&self) -> bool
         ensures full { result ≡ nat_le self.now.capacity (length self.now.list + self.now.reserved) }

@@ -127,6 +127,14 @@ impl<T: Named> Queue<T> {
 }
 
 impl<T: Named + Copy> Queue<T> {
+    /// Takes all entries out.
+    pub fn clear(&mut self)
+        ensures { self.new ≡ record self.old { list = [] } }
+    {
+        self.ring.clear();
+        self.counts.fill(0);
+    }
+
     /// Puts an entry behind the others, where there is a place.
     pub fn put(&mut self, entry: T)
         requires names { T.named entry < self.old.items }
