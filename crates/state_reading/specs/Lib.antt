@@ -1,4 +1,5 @@
 pub mod Reading
+pub mod Gives
 pub mod Parts
 pub mod Machine
 pub mod Computing

@@ -2,6 +2,15 @@
 //! they are judged.
 #![tactic(auto)]
 
+mod numbers;
+mod words;
+
+pub use numbers::{halt_of, hold_of, kind_of, state_of};
+pub use words::{
+    MOST_COUNTED, any_word, count_word, item_words, keep, look, stamp_words, word_below,
+    word_from_1, word_if, word_to, words_if,
+};
+
 /// Why the words of a state are refused. Words are counted from the first one of a checkpoint.
 #[derive(Clone, Copy, Debug, PartialEq, Eq)]
 pub enum StateRefusal {
