@@ -89,6 +89,13 @@ impl<T: Named> Queue<T> {
         self.ring.len() as u32
     }
 
+    /// How many entries there may be.
+    pub fn capacity(&self) -> u32
+        ensures { result ≡ self.now.capacity }
+    {
+        self.ring.capacity() as u32
+    }
+
     pub fn full(&self) -> bool
         ensures full { IsTrue result ↔ (length self.now.list ≡ self.now.capacity) }
         ensures test { result ≡ nat_le self.now.capacity (length self.now.list) }
