@@ -59,6 +59,7 @@ impl<const WAYS: usize, const WORDS: usize> AttractionMem<WAYS, WORDS> {
     /// How many sets it has: so few that all ways can be counted.
     pub fn sets(&self) -> u32
         ensures sets { result ≡ self.now.sets }
+        ensures some { 0 < result }
         ensures few { result * WAYS ≤ 16384 }
     {
         self.sets

@@ -34,7 +34,7 @@ empty-ways n sets = ways_of-empty n (empty_memory sets) (empty-none sets)
 
 -- ---- words
 
-words_in-twice : (s : LeafState) (width : ℕ) (words : List ℕ) → words_in s width words ≡ words_in s width (words_in s width words)
+pub words_in-twice : (s : LeafState) (width : ℕ) (words : List ℕ) → words_in s width words ≡ words_in s width (words_in s width words)
 words_in-twice LeafState.Shared width words = refl
 words_in-twice LeafState.Exclusive width words = refl
 words_in-twice LeafState.Waiting width words = refl
@@ -64,7 +64,7 @@ no-buffer-entry (Some e) o h = absurd cc
 
 module _ {ways width n : ℕ} {m : MemoryValue} {b : List BufferValue} {w : Option ℕ} (kept : AreEntries ways width n m b w) (x : ℕ) where
   -- what the item has, by the parts
-  way_none : entry_at x (ways_of n m) b ≡ None → way_of m x ≡ None
+  pub way_none : entry_at x (ways_of n m) b ≡ None → way_of m x ≡ None
   way_none absent = no-way-entry (way_of m x) (buffered x b) (sym (entry-is kept x) ∙ absent)
 
   pub entry_none : entry_at x (ways_of n m) b ≡ None → entry_of m x ≡ None

@@ -6,3 +6,4 @@ pub mod Changing
 pub mod Told
 pub mod Deeds
 pub mod Standing
+pub mod Putting

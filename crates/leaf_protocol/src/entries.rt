@@ -1,4 +1,4 @@
-ghost use Rattle.std.specs.Prelude.{◌≡◌, ◌%◌, ◌<◌, ◌≤◌, ◌^◌, [], true, false, Option, Some, None, IfOk, IfErr, IfSome, IsSome, is_some, length, nat_le, option_map, replicate, unwrap_or};
+ghost use Rattle.std.specs.Prelude.{◌≡◌, ◌++◌, ◌∷◌, ◌%◌, ◌<◌, ◌≤◌, ◌^◌, [], true, false, Option, Some, None, IfOk, IfErr, IfSome, IsSome, is_some, length, nat_le, option_map, replicate, unwrap_or};
 ghost use Rattle.ddm_types.specs.declared.sizes.LeafState.TheVariants.{Exclusive};
 ghost use Rattle.tree_model.specs.State.States.{is_reading, is_waiting};
 ghost use Rattle.tree_model.specs.State.Leaf.{LeafEntry, blank, becomes, ends, enters, enters_free, entry_at, entry_state, entry_words, item_in_way, leaf_leaving, spot_at, waiting_item, words_in, buffered};
@@ -97,6 +97,15 @@ impl<const WAYS: usize, const WORDS: usize> Entries<WAYS, WORDS> {
         self.waiting = other.waiting;
     }
 
+    /// All entries end.
+    pub fn clear(&mut self)
+        ensures { self.new ≡ record self.old { ways = replicate (length self.old.ways) None; buffer = [] } }
+    {
+        self.memory.clear();
+        self.buffer.clear();
+        self.waiting = None;
+    }
+
     /// The state of the item's entry.
     pub fn state(&self, item: ItemId) -> Option<LeafState>
         ensures { result ≡ option_map entry_state (entry_at item self.now.ways self.now.buffer) }
@@ -146,6 +155,14 @@ impl<const WAYS: usize, const WORDS: usize> Entries<WAYS, WORDS> {
         ensures exists { IfSome result (λ way. way < WAYS) }
     {
         self.memory.free_way(item)
+    }
+
+    /// Whether an entry stands in that way of the item's set.
+    pub fn is_taken(&self, item: ItemId, way: u32) -> bool
+        requires { way < WAYS }
+        ensures { result ≡ is_some (item_in_way self.now.sets item way self.now.ways) }
+    {
+        self.memory.beside(item, way).is_some()
     }
 
     /// The words of the item's entry in the buffer.
@@ -234,6 +251,34 @@ impl<const WAYS: usize, const WORDS: usize> Entries<WAYS, WORDS> {
         }
         self.memory.remove(other);
         Some((usize::from(victim) % WAYS) as u32)
+    }
+
+    /// An entry of the item comes into a free way of its set.
+    pub fn stand(&mut self, item: ItemId, way: u32, state: LeafState, words: Words<WORDS>)
+        requires inside { item < length self.old.ways }
+        requires exists { way < WAYS }
+        requires absent { entry_at item self.old.ways self.old.buffer ≡ None }
+        requires free { item_in_way self.old.sets item way self.old.ways ≡ None }
+        requires alone { may_be state None (waiting_item self.old.ways self.old.buffer) ≡ true }
+        ensures { self.new ≡ with_fate item (enters way state (words_in state WORDS words.entry)) self.old }
+    {
+        self.memory
+            .place_at(item, way, state, words_in(state, words));
+        self.waiting = waiting_after(item, waits(state), self.waiting);
+    }
+
+    /// An entry of the item comes to the end of the buffer, which has a place.
+    pub fn put(&mut self, item: ItemId, state: LeafState, words: Words<WORDS>)
+        requires inside { item < length self.old.ways }
+        requires room { length self.old.buffer < self.old.room }
+        requires absent { entry_at item self.old.ways self.old.buffer ≡ None }
+        requires alone { may_be state None (waiting_item self.old.ways self.old.buffer) ≡ true }
+        ensures { self.new ≡ record self.old { buffer = self.old.buffer ++ record { item = item; state = state; words = words_in state WORDS words.entry } ∷ [] } }
+    {
+        if self.buffer.put(item, state, words_in(state, words)).is_err() {
+            unreachable!();
+        }
+        self.waiting = waiting_after(item, waits(state), self.waiting);
     }
 
     /// An entry of the item that waits for data comes into a free way of its set.

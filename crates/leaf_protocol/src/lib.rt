@@ -6,6 +6,7 @@ mod asking;
 mod copying;
 mod entries;
 mod leaf;
+mod read_back;
 mod turn;
 mod writing;
 

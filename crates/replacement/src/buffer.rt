@@ -120,6 +120,13 @@ impl<const WORDS: usize> Buffer<WORDS> {
         self.entries.copy_from(&other.entries);
     }
 
+    /// How many entries there may be.
+    pub fn capacity(&self) -> u32
+        ensures { result ≡ self.now.capacity }
+    {
+        self.entries.capacity() as u32
+    }
+
     /// Takes all entries out.
     pub fn clear(&mut self)
         ensures { self.new ≡ record self.old { list = [] } }
