@@ -2,19 +2,10 @@ ghost use Rattle.std.specs.Prelude.{◌≡◌, ◌<◌, ◌&&◌, Some, length, 
 ghost use Rattle.tree_model.specs.State.Kinds.{brings_copy};
 ghost use Rattle.tree_model.specs.State.Values.{DownValue};
 
-use ddm_types::{ItemId, TxKind, Words};
+use ddm_types::{ItemId, Words};
 use item_states::DownEntry;
+use state_reading::brings_copy;
 use tx_queue::Queue;
-
-/// Whether a transaction of this kind brings a copy down.
-pub fn brings_copy(kind: TxKind) -> bool
-    ensures { result ≡ brings_copy kind }
-{
-    match kind {
-        TxKind::DataTx | TxKind::InjectTx => true,
-        TxKind::ReadTx | TxKind::EraseTx | TxKind::ExclusiveTx | TxKind::OutTx => false,
-    }
-}
 
 /// The copy at this place of a down list, where it is one of the item; else what was found before.
 pub(crate) fn later_copy<const WORDS: usize>(

@@ -12,8 +12,8 @@ mod table;
 mod upper;
 mod writing;
 
-pub use last_copy::brings_copy;
 pub use state::DirState;
+pub use state_reading::brings_copy;
 pub use table::ItemTable;
 pub use upper::pending_by;
 

@@ -1,3 +1,4 @@
+pub mod Absent
 pub mod Chosen
 pub mod Finds
 pub mod First

@@ -6,6 +6,7 @@ mod arrivals;
 mod buffer;
 mod entries;
 mod parking;
+mod reading;
 mod writing;
 
 pub use buffer::Buffer;

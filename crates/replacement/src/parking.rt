@@ -109,6 +109,13 @@ impl<const WORDS: usize> Parking<WORDS> {
         self.reserved = kept;
     }
 
+    /// How many copies and reserved places there may be.
+    pub fn capacity(&self) -> u32
+        ensures { result ≡ self.now.capacity }
+    {
+        self.entries.capacity() as u32
+    }
+
     /// How many places are reserved.
     pub fn reserved(&self) -> u32
         ensures { result ≡ self.now.reserved }

@@ -47,6 +47,15 @@ module _ {A : Type 0} (step : A → ℕ → List ℕ → Result (Read A) StateRe
   pub times_begun : (n : ℕ) (a : A) (k : ℕ) (ws : List ℕ) → times step n a k ws ≡ times step (n - 0) a k ws
   times_begun n a k ws = let all : n ≡ n - 0 = omega arith in ap (λ m. times step m a k ws) all
 
+  -- what is left of n steps, i of which were made, says what all come to
+  pub one_step_more : (n i : ℕ) (a : A) (k : ℕ) (ws : List ℕ) (b : A) (j : ℕ) (vs : List ℕ) (all : Result (Read A) StateRefusal) → i < n
+      → all ≡ times step (n - i) a k ws → step a k ws ≡ Ok (record { value = b; at = j; rest = vs }) → all ≡ times step (n - (i + 1)) b j vs
+  one_step_more n i a k ws b j vs all below left is = left ∙ times_went_on n i a k ws b j vs below is
+
+  pub one_step_refused : (n i : ℕ) (a : A) (k : ℕ) (ws : List ℕ) (e : StateRefusal) (all : Result (Read A) StateRefusal) → i < n
+      → all ≡ times step (n - i) a k ws → step a k ws ≡ Err e → all ≡ Err e
+  one_step_refused n i a k ws e all below left is = left ∙ times_refused n i a k ws e below is
+
   pub times_done : (n i : ℕ) (a : A) (k : ℕ) (ws : List ℕ) → n ≤ i → times step (n - i) a k ws ≡ given a k ws
   unfolding times
   times_done n i a k ws all = let none : n - i ≡ 0 = omega arith in ap (λ m. times step m a k ws) none

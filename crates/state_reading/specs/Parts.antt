@@ -38,6 +38,11 @@ count_word k ws = word_that (λ w. nat_le w most_counted) k ws
 abbrev pub word_to : ℕ → ℕ → List ℕ → Result (Read ℕ) StateRefusal
 word_to most k ws = word_that (λ w. nat_le w most) k ws
 
+module _ {A : Type 0} where
+  -- a list: how many entries it has, up to its room, and then each
+  abbrev pub listed : ℕ → (List A → ℕ → List ℕ → Result (Read (List A)) StateRefusal) → ℕ → List ℕ → Result (Read (List A)) StateRefusal
+  listed room step k ws = and_then (word_to room k ws) (λ count k ws. times step count [] k ws)
+
 -- a number below this: of an item, a leaf, a way, a child
 abbrev pub word_below : ℕ → ℕ → List ℕ → Result (Read ℕ) StateRefusal
 word_below bound k ws = word_that (λ w. nat_lt w bound) k ws

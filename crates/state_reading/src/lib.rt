@@ -5,7 +5,7 @@
 mod numbers;
 mod words;
 
-pub use numbers::{halt_of, hold_of, kind_of, state_of};
+pub use numbers::{brings_copy, halt_of, hold_of, kind_of, state_of};
 pub use words::{
     MOST_COUNTED, any_word, count_word, item_words, keep, look, stamp_words, word_below,
     word_from_1, word_if, word_to, words_if,

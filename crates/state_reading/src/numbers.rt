@@ -1,4 +1,5 @@
 ghost use Rattle.std.specs.Prelude.{◌≡◌, ◌≤◌};
+ghost use Rattle.tree_model.specs.State.Kinds.{brings_copy};
 ghost use Rattle.state_reading.specs.Parts.{halt_of, hold_of, kind_of, state_of};
 
 use ddm_types::{HaltCause, Hold, LeafState, TxKind};
@@ -59,5 +60,15 @@ pub fn halt_of(code: u32, number: u32) -> Option<HaltCause>
         8 => Some(HaltCause::LoadOutside(number)),
         9 => Some(HaltCause::StoreOutside(number)),
         _ => None,
+    }
+}
+
+/// Whether a transaction of this kind brings a copy down, so that its entry has words.
+pub fn brings_copy(kind: TxKind) -> bool
+    ensures { result ≡ brings_copy kind }
+{
+    match kind {
+        TxKind::DataTx | TxKind::InjectTx => true,
+        TxKind::ReadTx | TxKind::EraseTx | TxKind::ExclusiveTx | TxKind::OutTx => false,
     }
 }

@@ -1,5 +1,5 @@
 -- The table of counts after one write, as the code makes it: v is what the table has at n.
-use Rattle.std.proofs.Common.{◌≡◌, ◌∙◌, ap, sym, refl, ℕ, zero, suc, ◌<◌, ◌≤◌, ◌+◌, ◌-◌, ◌^◌, Bool, true, false, ◌&&◌, ◌||◌, nat_eq, nat_lt, List, [], ◌∷◌, ◌++◌, length, get_or, drop, Some, arith}
+use Rattle.std.proofs.Common.{◌≡◌, ◌∙◌, ap, sym, refl, ℕ, zero, suc, ◌<◌, ◌≤◌, ◌+◌, ◌-◌, ◌^◌, Bool, true, false, ◌&&◌, ◌||◌, nat_eq, nat_lt, List, [], ◌∷◌, ◌++◌, length, get_or, drop, map, Some, arith}
 use Rattle.std.proofs.Math.ListN.{set}
 use Rattle.std.specs.List.{slice_get, list_any}
 use Rattle.std.proofs.lemmas.Bool.{eqb-true}
@@ -86,3 +86,8 @@ remove_counted counts list capacity kind item n v was same lt is some =
     let below : item < length counts = omega arith in
     let read : v ≡ get_or counts item 0 = is ∙ any_default counts n v 0 lt ∙ ap (λ k. get_or counts k 0) same in
     rw (read, same) (counted_without named_by counts list capacity (is_request kind item) item (request_item kind item) was below some)
+
+-- one more at the end of a list that is seen another way
+pub map_more : {X Y : Type 0} (f : X → Y) (xs : List X) (x : X) → map f (xs ++ x ∷ []) ≡ map f xs ++ f x ∷ []
+map_more f [] x = refl
+map_more f (y ∷ xs) x = ap (λ l. f y ∷ l) (map_more f xs x)

@@ -1,2 +1,3 @@
 pub mod Requests
 pub mod QueueList
+pub mod Read

@@ -3,6 +3,7 @@
 
 mod copying;
 mod queue;
+mod reading;
 mod requests;
 mod writing;
 

@@ -1,0 +1,17 @@
+use Rattle.std.proofs.Common.{◌≡◌, ◌-◌, ◌≤◌, [], drop, length, map}
+use Rattle.state_reading.specs.Reading.{times}
+use Rattle.state_reading.specs.Parts.{read_request}
+use Rattle.tx_queue.specs.Read.{request_value}
+use Rattle.tx_queue.proofs.reading.«Queue+tuple2+TxKind+ItemId».read_requests.Given as goal
+
+-- the requests so far, and those that are left
+abbrev pub invariant-loop-number : goal.invariant-loop-number
+invariant-loop-number l = record {
+  left : times (read_request l.fn.self.items) l.count [] l.initial.at (drop l.initial.at l.words)
+      ≡ times (read_request l.fn.self.items) (l.count - l._number) (map request_value l.self.list) l.at (drop l.at l.words);
+  many : length l.self.list ≡ l._number;
+  room : l.count ≤ l.fn.self.capacity;
+  inside : l.at ≤ length l.words;
+  capacity : l.self.capacity ≡ l.fn.self.capacity;
+  items : l.self.items ≡ l.fn.self.items;
+}
