@@ -2,11 +2,12 @@ ghost use Rattle.std.specs.Prelude.{◌≡◌, ◌<◌, ◌≤◌, ◌^◌, ◌+
 ghost use Rattle.std.specs.Bool.{OnTrue};
 ghost use Rattle.state_words.specs.Parts.{StandingValue};
 ghost use Rattle.tree_model.specs.State.States.{is_reading};
+ghost use Rattle.tree_model.specs.State.Values.{BufferValue};
 ghost use Rattle.tree_model.specs.State.Leaf.{words_in};
 ghost use Rattle.state_reading.specs.Gives.{Gives, IsRead};
-ghost use Rattle.state_reading.specs.Reading.{any_word, word_that, words_that};
-ghost use Rattle.state_reading.specs.Parts.{halt_has_number, last_of, not_before, read_hart, read_standing, way_not_before};
-ghost use Rattle.leaf_protocol.specs.ReadBack.{AreThere, IsSized, bare, entry_read, may_come, may_stand};
+ghost use Rattle.state_reading.specs.Reading.{any_word, times, word_that, words_that};
+ghost use Rattle.state_reading.specs.Parts.{halt_has_number, last_of, not_before, read_buffered, read_hart, read_standing, way_not_before};
+ghost use Rattle.leaf_protocol.specs.ReadBack.{AreThere, BufferRead, IsSized, StandingRead, bare, buffered_read, entry_read, may_come, may_stand};
 
 use crate::entries::{Entries, waits};
 use crate::leaf::Leaf;
@@ -14,8 +15,8 @@ use crate::writing::Standing;
 use ddm_types::{ItemId, LeafState, Words};
 use rv_hart::Hart;
 use state_reading::{
-    StateRefusal, any_word, count_word, halt_of, item_words, keep, look, state_of, word_from_1,
-    word_if, word_to, words_if,
+    StateRefusal, any_word, count_word, halt_of, item_words, keep, look, state_of, word_below,
+    word_from_1, word_if, word_to, words_if,
 };
 
 /// Whether an entry in this state has words.
@@ -170,6 +171,128 @@ impl<const WAYS: usize, const WORDS: usize> Entries<WAYS, WORDS> {
             self.put(item, state, *words);
         }
         fits
+    }
+}
+
+impl<const WAYS: usize, const WORDS: usize> Entries<WAYS, WORDS> {
+    /// Reads one more entry in a way, and puts it beside the others: it, and whether they are whole with it.
+    fn read_one_standing(
+        &mut self,
+        words: &[u32],
+        at: &mut u32,
+        last: &Option<Standing<WORDS>>,
+        whole: bool,
+    ) -> Result<(Standing<WORDS>, bool), StateRefusal>
+        requires few { length words.now < 2 ^ 32 }
+        requires inside { at.old ≤ length words.now }
+        requires words_fit { WORDS < 2 ^ 32 }
+        ensures read { (ss : List StandingValue) → last.now ≡ last_of ss → IfOk result (λ r.
+            read_standing (length self.old.ways) (bare WAYS WORDS self.old.sets) ss at.old (drop at.old words.now) ≡ Ok (record { value = r.0 ∷ ss; at = at.new; rest = drop at.new words.now })) }
+        ensures there { (ss : List StandingValue) → AreThere (length self.old.ways) ss [] self.old whole → IfOk result (λ r. AreThere (length self.old.ways) (r.0 ∷ ss) [] self.new r.1) }
+        ensures refused { (ss : List StandingValue) → last.now ≡ last_of ss → IfErr result (λ e.
+            read_standing (length self.old.ways) (bare WAYS WORDS self.old.sets) ss at.old (drop at.old words.now) ≡ Err e) }
+        ensures sizes { IsSized self.old self.new }
+        ensures inside { at.new ≤ length words.now }
+    {
+        let entry = self.read_entry(words, at, last)?;
+        let fits = self.stand_beside(&entry, whole);
+        Ok((entry, fits))
+    }
+
+    /// Reads so many entries in ways, where there are none. Whether they can be together.
+    fn read_standing(
+        &mut self,
+        words: &[u32],
+        at: &mut u32,
+        count: u32,
+    ) -> Result<bool, StateRefusal>
+        requires few { length words.now < 2 ^ 32 }
+        requires inside { at.old ≤ length words.now }
+        requires words_fit { WORDS < 2 ^ 32 }
+        requires ways { self.old.ways ≡ replicate (length self.old.ways) None }
+        requires buffer { self.old.buffer ≡ [] }
+        ensures read { IfOk result (StandingRead (length self.old.ways) (times (read_standing (length self.old.ways) (bare WAYS WORDS self.old.sets)) count [] at.old (drop at.old words.now)) words.now at.new self.new) }
+        ensures refused { IfErr result (λ e. times (read_standing (length self.old.ways) (bare WAYS WORDS self.old.sets)) count [] at.old (drop at.old words.now) ≡ Err e) }
+        ensures sizes { IsSized self.old self.new }
+        ensures inside { at.new ≤ length words.now }
+    {
+        let mut whole = true;
+        let mut last = None;
+        'entries: for done in 0..count {
+            let (entry, fits) = self.read_one_standing(words, at, &last, whole)?;
+            whole = fits;
+            last = Some(entry);
+        }
+        Ok(whole)
+    }
+
+    /// The next entry in the buffer.
+    fn read_buffer_entry(
+        &self,
+        words: &[u32],
+        at: &mut u32,
+    ) -> Result<(ItemId, LeafState, Words<WORDS>), StateRefusal>
+        requires few { length words.now < 2 ^ 32 }
+        requires inside { at.old ≤ length words.now }
+        requires words_fit { WORDS < 2 ^ 32 }
+        ensures read { IfOk result (λ b. buffered_read (length self.now.ways) WORDS at.old (drop at.old words.now) ≡ Ok (record { value = record { item = b.0; state = b.1; words = b.2 }; at = at.new; rest = drop at.new words.now })) }
+        ensures refused { IfErr result (λ e. buffered_read (length self.now.ways) WORDS at.old (drop at.old words.now) ≡ Err e) }
+        ensures item { IfOk result (λ b. b.0 < length self.now.ways) }
+        ensures words { IfOk result (λ b. b.2 ≡ words_in b.1 WORDS b.2) }
+        ensures inside { at.new ≤ length words.now }
+    {
+        let item = word_below(words, at, self.items())?;
+        let state = state_of(word_from_1(words, at, 5)?);
+        let words = item_words(words, at, has_words(state))?;
+        Ok((ItemId(item), state, words))
+    }
+
+    /// Reads one more entry in the buffer, and puts it beside the others. Whether they are whole with it.
+    fn read_one_buffered(
+        &mut self,
+        words: &[u32],
+        at: &mut u32,
+        whole: bool,
+    ) -> Result<bool, StateRefusal>
+        requires few { length words.now < 2 ^ 32 }
+        requires inside { at.old ≤ length words.now }
+        requires words_fit { WORDS < 2 ^ 32 }
+        requires room { length self.old.buffer < self.old.room }
+        ensures read { (ss : List StandingValue) (bs : List BufferValue) → AreThere (length self.old.ways) ss bs self.old whole →
+            IfOk result (BufferRead (length self.old.ways) ss (read_buffered (length self.old.ways) (bare WAYS WORDS self.old.sets) bs at.old (drop at.old words.now)) words.now at.new self.new) }
+        ensures refused { (bs : List BufferValue) → IfErr result (λ e. read_buffered (length self.old.ways) (bare WAYS WORDS self.old.sets) bs at.old (drop at.old words.now) ≡ Err e) }
+        ensures count { length self.new.buffer ≤ length self.old.buffer + 1 }
+        ensures sizes { IsSized self.old self.new }
+        ensures inside { at.new ≤ length words.now }
+    {
+        let (item, state, read) = self.read_buffer_entry(words, at)?;
+        Ok(self.put_beside(item, state, &read, whole))
+    }
+
+    /// Reads so many entries in the buffer, where there are those in ways alone. Whether they can be together.
+    fn read_buffered(
+        &mut self,
+        words: &[u32],
+        at: &mut u32,
+        count: u32,
+        whole: bool,
+    ) -> Result<bool, StateRefusal>
+        requires few { length words.now < 2 ^ 32 }
+        requires inside { at.old ≤ length words.now }
+        requires words_fit { WORDS < 2 ^ 32 }
+        requires room { length self.old.buffer + count ≤ self.old.room }
+        ensures read { (ss : List StandingValue) → AreThere (length self.old.ways) ss [] self.old whole →
+            IfOk result (BufferRead (length self.old.ways) ss (times (read_buffered (length self.old.ways) (bare WAYS WORDS self.old.sets)) count [] at.old (drop at.old words.now)) words.now at.new self.new) }
+        ensures refused { (ss : List StandingValue) → AreThere (length self.old.ways) ss [] self.old whole →
+            IfErr result (λ e. times (read_buffered (length self.old.ways) (bare WAYS WORDS self.old.sets)) count [] at.old (drop at.old words.now) ≡ Err e) }
+        ensures sizes { IsSized self.old self.new }
+        ensures inside { at.new ≤ length words.now }
+    {
+        let mut now = whole;
+        'entries: for done in 0..count {
+            now = self.read_one_buffered(words, at, now)?;
+        }
+        Ok(now)
     }
 }
 
