@@ -3,6 +3,7 @@
 use Rattle.std.proofs.Common.{◌≡◌, ℕ, zero, suc, ◌+◌, ◌%◌, ◌<◌, ◌≤◌, Bool, true, false, cond, not, ◌&&◌, ◌||◌, nat_eq, nat_le, List, [], ◌∷◌, ◌++◌, map, length, get_or, set, Option, Some, None, refl, sym, ap, ap₂, subst, ◌∙◌, ◌⊎◌, inl, inr, arith, append_assoc, length-set}
 use Rattle.std.specs.Prelude.{replicate, find, is_some, is_none, option_map}
 use Rattle.std.specs.List.{list_any}
+use Rattle.std.specs.Bool.{OnTrue}
 use Rattle.std.proofs.lemmas.Bool.{eqb-true, eq-eqb, ne_eqb}
 use Rattle.std.proofs.lemmas.Bool.Decides.{nat_tests}
 use Rattle.std.proofs.lemmas.List.{length-replicate, get_or-replicate, get_or-set_same, get_or-set_other, map-append}
@@ -292,3 +293,7 @@ module _ {n : ℕ} {ss : List StandingValue} {bs : List BufferValue} {e : Entrie
 -- none yet
 pub none-there : (n : ℕ) (e : EntriesValue) → e.ways ≡ replicate n None → e.buffer ≡ [] → AreThere n [] [] e true
 none-there n e ways buffer = record { judged = refl; inside = tt; ways = λ h. ways; buffer = λ h. buffer }
+
+pub on-true : (b : Bool) {P : Type 0} → OnTrue b P → b ≡ true → P
+on-true true p h = p
+on-true false p h = absurd cc
