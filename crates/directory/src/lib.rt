@@ -6,6 +6,7 @@ mod copying;
 mod last_copy;
 mod lower;
 mod packed;
+mod reading;
 mod state;
 mod table;
 mod upper;

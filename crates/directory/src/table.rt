@@ -38,6 +38,14 @@ impl ItemTable {
         Ok(ItemTable { words })
     }
 
+    /// Each item is held so from now on, and nothing is under way.
+    pub(crate) fn clear(&mut self, hold: Hold)
+        ensures { self.new ≡ replicate (length self.old) (record absent_item { hold = hold }) }
+    {
+        let blank = PackedItem::new(hold, None, 0, false);
+        self.words.fill(blank.word());
+    }
+
     /// Becomes a copy of another table, of as many items.
     pub fn copy_from(&mut self, other: &Self)
         requires { length self.old ≡ length other.now }
@@ -53,7 +61,7 @@ impl ItemTable {
         PackedItem::of_word(self.words[item.0 as usize])
     }
 
-    fn put(&mut self, item: ItemId, kept: PackedItem)
+    pub(crate) fn put(&mut self, item: ItemId, kept: PackedItem)
         requires { item < length self.old }
         ensures { self.new ≡ slice_set self.old item kept }
     {
@@ -124,6 +132,13 @@ impl ItemTable {
         ensures { self.new ≡ slice_set self.old item (record (slice_index_or self.old item absent_item) { answering = answering }) }
     {
         self.put(item, self.at(item).with_answering(answering));
+    }
+
+    /// How many items there are.
+    pub(crate) fn len(&self) -> usize
+        ensures { result ≡ length self.now }
+    {
+        self.words.len()
     }
 
     /// Each item as one word.

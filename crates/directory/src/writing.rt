@@ -41,7 +41,7 @@ impl PackedItem {
     }
 
     /// Whether a directory, or the top, has a record of it.
-    fn is_recorded(self, top: bool) -> bool
+    pub(crate) fn is_recorded(self, top: bool) -> bool
         ensures { result ≡ is_recorded top self }
     {
         if top {

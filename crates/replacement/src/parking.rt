@@ -116,6 +116,21 @@ impl<const WORDS: usize> Parking<WORDS> {
         self.reserved
     }
 
+    /// So many places are reserved from now on.
+    pub fn keep(&mut self, places: u32)
+        requires { length self.old.list + places ≤ self.old.capacity }
+        ensures { self.new ≡ record self.old { reserved = places } }
+    {
+        self.reserved = places;
+    }
+
+    /// How many places have no copy, reserved or not.
+    pub fn room(&self) -> u32
+        ensures { result ≡ self.now.capacity - length self.now.list }
+    {
+        (self.entries.capacity() - self.entries.len()) as u32
+    }
+
     /// Gives a reserved place back.
     pub fn release(&mut self)
         requires { 0 < self.old.reserved }

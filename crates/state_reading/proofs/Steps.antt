@@ -14,6 +14,19 @@ module _ {A B : Type 0} where
   pub refused : (read : Result (Read A) StateRefusal) (f : A → ℕ → List ℕ → Result (Read B) StateRefusal) (e : StateRefusal) → read ≡ Err e → and_then read f ≡ Err e
   refused read f e is = ap (λ r. and_then r f) is
 
+module _ {A B C : Type 0} (f : A → ℕ → List ℕ → Result (Read B) StateRefusal) (g : B → ℕ → List ℕ → Result (Read C) StateRefusal) where
+  after_both : (r : Result (Read A) StateRefusal) → and_then r (λ a k ws. and_then (f a k ws) g) ≡ and_then (and_then r f) g
+  after_both (Ok r) = refl
+  after_both (Err e) = refl
+
+  -- two that went on, which were read by one call
+  pub both_went_on : (r : Result (Read A) StateRefusal) (b : B) (k : ℕ) (ws : List ℕ) → and_then r f ≡ Ok (record { value = b; at = k; rest = ws })
+      → and_then r (λ a k ws. and_then (f a k ws) g) ≡ g b k ws
+  both_went_on r b k ws is = after_both r ∙ went_on (and_then r f) g b k ws is
+
+  pub both_refused : (r : Result (Read A) StateRefusal) (e : StateRefusal) → and_then r f ≡ Err e → and_then r (λ a k ws. and_then (f a k ws) g) ≡ Err e
+  both_refused r e is = after_both r ∙ refused (and_then r f) g e is
+
 module _ {A : Type 0} (step : A → ℕ → List ℕ → Result (Read A) StateRefusal) where
   times_more : (n : ℕ) (a : A) (k : ℕ) (ws : List ℕ) → times step (suc n) a k ws ≡ and_then (step a k ws) (times step n)
   unfolding times
@@ -31,9 +44,12 @@ module _ {A : Type 0} (step : A → ℕ → List ℕ → Result (Read A) StateRe
       let left : n - i ≡ suc (n - (i + 1)) = omega arith in
       ap (λ m. times step m a k ws) left ∙ times_more (n - (i + 1)) a k ws ∙ refused _ (times step (n - (i + 1))) e is
 
-  pub times_done : (n : ℕ) (a : A) (k : ℕ) (ws : List ℕ) → times step (n - n) a k ws ≡ given a k ws
+  pub times_begun : (n : ℕ) (a : A) (k : ℕ) (ws : List ℕ) → times step n a k ws ≡ times step (n - 0) a k ws
+  times_begun n a k ws = let all : n ≡ n - 0 = omega arith in ap (λ m. times step m a k ws) all
+
+  pub times_done : (n i : ℕ) (a : A) (k : ℕ) (ws : List ℕ) → n ≤ i → times step (n - i) a k ws ≡ given a k ws
   unfolding times
-  times_done n a k ws = let none : n - n ≡ 0 = omega arith in ap (λ m. times step m a k ws) none
+  times_done n i a k ws all = let none : n - i ≡ 0 = omega arith in ap (λ m. times step m a k ws) none
 
 -- ---- words in a row, behind those that were read
 

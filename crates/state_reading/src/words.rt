@@ -1,4 +1,5 @@
 ghost use Rattle.std.specs.Prelude.{◌≡◌, ◌<◌, ◌≤◌, ◌+◌, ◌∷◌, ◌^◌, true, false, [], drop, length, nat_eq, nat_le, nat_lt, ◌||◌, OnOk, IfOk, IfErr, Ok, Err, ◌&&◌};
+ghost use Rattle.ddm_types.specs.Keys.{stamp_zero};
 ghost use Rattle.state_reading.specs.declared.StateRefusal.TheVariants.{BadWord, Cut};
 ghost use Rattle.state_reading.specs.Gives.{Gives};
 ghost use Rattle.state_reading.specs.Reading.{any_word, word_that, words_that};
@@ -53,6 +54,7 @@ pub fn word_to(words: &[u32], at: &mut u32, most: u32) -> Result<u32, StateRefus
     requires few { length words.now < 2 ^ 32 }
     requires inside { at.old ≤ length words.now }
     ensures read { Gives (word_to most at.old (drop at.old words.now)) words.now at.new result }
+    ensures most { IfOk result (λ w. w ≤ most) }
     ensures inside { at.new ≤ length words.now }
 {
     let word = look(words, *at)?;
@@ -86,6 +88,7 @@ pub fn word_from_1(words: &[u32], at: &mut u32, most: u32) -> Result<u32, StateR
     requires few { length words.now < 2 ^ 32 }
     requires inside { at.old ≤ length words.now }
     ensures read { Gives (word_from_1 most at.old (drop at.old words.now)) words.now at.new result }
+    ensures most { IfOk result (λ w. w ≤ most) }
     ensures inside { at.new ≤ length words.now }
 {
     let word = look(words, *at)?;
@@ -97,6 +100,7 @@ pub fn word_if(words: &[u32], at: &mut u32, means: bool) -> Result<u32, StateRef
     requires few { length words.now < 2 ^ 32 }
     requires inside { at.old ≤ length words.now }
     ensures read { Gives (word_if means at.old (drop at.old words.now)) words.now at.new result }
+    ensures zero { means ≡ false → IfOk result (λ w. w ≡ 0) }
     ensures inside { at.new ≤ length words.now }
 {
     let word = look(words, *at)?;
@@ -143,6 +147,7 @@ pub fn stamp_words(words: &[u32], at: &mut u32, level: u32) -> Result<Stamp, Sta
     requires few { length words.now < 2 ^ 32 }
     requires inside { at.old ≤ length words.now }
     ensures read { Gives (stamp_words level at.old (drop at.old words.now)) words.now at.new result }
+    ensures zero { level ≡ 0 → IfOk result (λ s. s ≡ stamp_zero) }
     ensures inside { at.new ≤ length words.now }
 {
     let s0 = word_if(words, at, 0 < level)?;
