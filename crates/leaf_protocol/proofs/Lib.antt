@@ -7,3 +7,5 @@ pub mod Told
 pub mod Deeds
 pub mod Standing
 pub mod Putting
+pub mod Together
+pub mod ReadBack

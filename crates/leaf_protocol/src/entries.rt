@@ -33,7 +33,7 @@ impl<const WAYS: usize, const WORDS: usize> Model for Entries<WAYS, WORDS> {
 }
 
 /// Whether an entry in this state waits for a transaction.
-fn waits(state: LeafState) -> bool
+pub(crate) fn waits(state: LeafState) -> bool
     ensures { result ≡ is_waiting state }
 {
     match state {
@@ -104,6 +104,13 @@ impl<const WAYS: usize, const WORDS: usize> Entries<WAYS, WORDS> {
         self.memory.clear();
         self.buffer.clear();
         self.waiting = None;
+    }
+
+    /// How many items there are.
+    pub fn items(&self) -> u32
+        ensures { result ≡ length self.now.ways }
+    {
+        self.items
     }
 
     /// The state of the item's entry.

@@ -14,11 +14,11 @@ use std::marker::Model;
 
 /// An entry that stands in a way, with its item.
 #[derive(Clone, Copy)]
-struct Standing<const WORDS: usize> {
-    item: ItemId,
-    way: u32,
-    state: LeafState,
-    words: Words<WORDS>,
+pub(crate) struct Standing<const WORDS: usize> {
+    pub item: ItemId,
+    pub way: u32,
+    pub state: LeafState,
+    pub words: Words<WORDS>,
 }
 
 impl<const WORDS: usize> Model for Standing<WORDS> {

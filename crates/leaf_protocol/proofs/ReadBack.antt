@@ -1,0 +1,168 @@
+-- One entry read as a step of many, and the words of one that waits for data.
+use Rattle.std.proofs.Common.{◌≡◌, ℕ, zero, suc, ◌+◌, ◌-◌, ◌<◌, ◌≤◌, Bool, true, false, cond, not, ◌&&◌, ◌||◌, nat_eq, nat_lt, List, [], ◌∷◌, ◌++◌, length, drop, Option, Some, None, refl, sym, subst, ap, ap₂, ◌∙◌}
+use Rattle.std.specs.Prelude.{replicate, Result, Ok, Err}
+use Rattle.std.proofs.lemmas.Bool.{eqb-true}
+use Rattle.ddm_types.specs.declared.sizes.LeafState.{LeafState}
+use Rattle.tree_model.specs.State.States.{is_reading}
+use Rattle.tree_model.specs.State.Values.{BufferValue}
+use Rattle.tree_model.specs.State.Leaf.{words_in}
+use Rattle.state_words.specs.Parts.{StandingValue}
+use Rattle.state_reading.specs.declared.StateRefusal.{StateRefusal}
+use Rattle.state_reading.specs.declared.StateRefusal.TheVariants.{BadWord}
+use Rattle.state_reading.specs.Reading.{Read, and_then, given, times, word_that, words_that}
+use Rattle.state_reading.specs.Parts.{not_before, way_not_before, word_below, word_from_1, item_words, state_of, last_of, read_standing, read_buffered}
+use Rattle.state_reading.proofs.Steps.{times_begun, times_went_on, times_refused, times_done}
+use Rattle.leaf_protocol.specs.Entries.{EntriesValue}
+use Rattle.leaf_protocol.specs.ReadBack.{AreThere, BufferRead, IsSized, StandingRead, bare, entry_read, buffered_read}
+use Rattle.leaf_protocol.proofs.Together.{none-there}
+
+module _ {A B C : Type 0} where
+  chained : (r : Result (Read A) StateRefusal) (f : A → ℕ → List ℕ → Result (Read C) StateRefusal) (h : A → ℕ → List ℕ → Result (Read B) StateRefusal) (g : B → ℕ → List ℕ → Result (Read C) StateRefusal)
+      → ((a : A) (k : ℕ) (ws : List ℕ) → f a k ws ≡ and_then (h a k ws) g) → and_then r f ≡ and_then (and_then r h) g
+  chained (Ok r) f h g each = each r.value r.at r.rest
+  chained (Err e) f h g each = refl
+
+-- an entry more in ways
+pub standing-read : (n way_count width sets : ℕ) (ss : List StandingValue) (k : ℕ) (ws : List ℕ)
+    → read_standing n (bare way_count width sets) ss k ws ≡ and_then (entry_read n sets way_count width (last_of ss) k ws) (λ s k ws. given (s ∷ ss) k ws)
+standing-read n way_count width sets ss k ws =
+    chained (word_that (λ x. nat_lt x n && not_before sets x (last_of ss)) k ws) _ _ (λ s k ws. given (s ∷ ss) k ws) (λ x k ws.
+    chained (word_that (λ way. nat_lt way way_count && way_not_before sets x way (last_of ss)) k ws) _ _ (λ s k ws. given (s ∷ ss) k ws) (λ way k ws.
+    chained (word_from_1 5 k ws) _ _ (λ s k ws. given (s ∷ ss) k ws) (λ code k ws.
+    chained (item_words (not (is_reading (state_of code))) width k ws) _ _ (λ s k ws. given (s ∷ ss) k ws) (λ words k ws. refl))))
+
+-- an entry more in the buffer
+pub buffered-read : (n way_count width sets : ℕ) (bs : List BufferValue) (k : ℕ) (ws : List ℕ)
+    → read_buffered n (bare way_count width sets) bs k ws ≡ and_then (buffered_read n width k ws) (λ b k ws. given (bs ++ b ∷ []) k ws)
+buffered-read n way_count width sets bs k ws =
+    chained (word_below n k ws) _ _ (λ b k ws. given (bs ++ b ∷ []) k ws) (λ x k ws.
+    chained (word_from_1 5 k ws) _ _ (λ b k ws. given (bs ++ b ∷ []) k ws) (λ code k ws.
+    chained (item_words (not (is_reading (state_of code))) width k ws) _ _ (λ b k ws. given (bs ++ b ∷ []) k ws) (λ words k ws. refl)))
+
+-- ---- words that are all 0
+
+abbrev value_of : Result (Read (List ℕ)) StateRefusal → List ℕ
+value_of (Ok r) = r.value
+value_of (Err e) = []
+
+zeros : (n k : ℕ) (ws words : List ℕ) (at : ℕ) (rest : List ℕ) → words_that (λ w. false || nat_eq w 0) n k ws ≡ Ok (record { value = words; at = at; rest = rest }) → words ≡ replicate n 0
+unfolding words_that
+zeros zero k ws words at rest is = sym (ap value_of is)
+zeros (suc n) k [] words at rest is = absurd cc
+zeros (suc n) k (w ∷ ws) words at rest is =
+    elim (nat_eq w 0) as (λ b. nat_eq w 0 ≡ b → and_then (cond b (given w (k + 1) ws) (Err (BadWord k))) (λ w k ws. and_then (words_that (λ w. false || nat_eq w 0) n k ws) (λ more k ws. given (w ∷ more) k ws)) ≡ Ok (record { value = words; at = at; rest = rest }) → words ≡ 0 ∷ replicate n 0) [
+      | true ↦ λ zero_here go. later (words_that (λ w. false || nat_eq w 0) n (k + 1) ws) (zeros n (k + 1) ws) (eqb-true w 0 zero_here) go
+      | false ↦ λ other go. absurd cc
+    ] refl is
+  where
+    later : (r : Result (Read (List ℕ)) StateRefusal) → ((more : List ℕ) (at : ℕ) (rest : List ℕ) → r ≡ Ok (record { value = more; at = at; rest = rest }) → more ≡ replicate n 0) → w ≡ 0
+        → and_then r (λ more k ws. given (w ∷ more) k ws) ≡ Ok (record { value = words; at = at; rest = rest }) → words ≡ 0 ∷ replicate n 0
+    later (Ok r) each here go =
+        let all : r.value ≡ replicate n 0 = each r.value r.at r.rest refl in
+        sym (ap value_of go) ∙ ap₂ (λ v vs. v ∷ vs) here all
+    later (Err e) each here go = absurd cc
+
+-- the words that were read of an entry suit its state
+pub suiting : (s : LeafState) (width k : ℕ) (ws words : List ℕ) (at : ℕ) (rest : List ℕ) → item_words (not (is_reading s)) width k ws ≡ Ok (record { value = words; at = at; rest = rest }) → words ≡ words_in s width words
+suiting LeafState.Shared width k ws words at rest is = refl
+suiting LeafState.Exclusive width k ws words at rest is = refl
+suiting LeafState.Waiting width k ws words at rest is = refl
+suiting LeafState.Reading width k ws words at rest is = zeros width k ws words at rest is
+suiting LeafState.ReadingWaiting width k ws words at rest is = zeros width k ws words at rest is
+
+-- ---- entries one by one
+
+-- so many entries in ways were read since `start`, from word `first` on
+pub record StandingSoFar (way_count width : ℕ) (words : List ℕ) (start : EntriesValue) (count first done at : ℕ) (e : EntriesValue) (last : Option StandingValue) (whole : Bool) : Type 0 where
+  pub entries : List StandingValue
+  pub left : times (read_standing (length start.ways) (bare way_count width start.sets)) count [] first (drop first words) ≡ times (read_standing (length start.ways) (bare way_count width start.sets)) (count - done) entries at (drop at words)
+  pub newest : last ≡ last_of entries
+  pub there : AreThere (length start.ways) entries [] e whole
+  pub sizes : IsSized start e
+
+pub sized-same : (e : EntriesValue) → IsSized e e
+sized-same e = record { sets = refl; room = refl; items = refl }
+
+pub sized-on : {e f g : EntriesValue} → IsSized e f → IsSized f g → IsSized e g
+sized-on one two = record { sets = two.sets ∙ one.sets; room = two.room ∙ one.room; items = two.items ∙ one.items }
+
+module _ (way_count width : ℕ) (words : List ℕ) (start : EntriesValue) (count first : ℕ) where
+  pub standing-begun : start.ways ≡ replicate (length start.ways) None → start.buffer ≡ [] → StandingSoFar way_count width words start count first 0 first start None true
+  standing-begun ways buffer = record {
+    entries = [];
+    left = times_begun (read_standing (length start.ways) (bare way_count width start.sets)) count [] first (drop first words);
+    newest = refl;
+    there = none-there (length start.ways) start ways buffer;
+    sizes = sized-same start;
+  }
+
+  module _ {done at : ℕ} {e : EntriesValue} {last : Option StandingValue} {whole : Bool} (before : StandingSoFar way_count width words start count first done at e last whole) (more : done < count) where
+    -- the step is that of the start
+    step-here : (ss : List StandingValue) → read_standing (length e.ways) (bare way_count width e.sets) ss at (drop at words) ≡ read_standing (length start.ways) (bare way_count width start.sets) ss at (drop at words)
+    step-here ss = ap₂ (λ n sets. read_standing n (bare way_count width sets) ss at (drop at words)) before.sizes.items before.sizes.sets
+
+    pub standing-more : (s : StandingValue) (now : Bool) (f : EntriesValue) (next : ℕ)
+        → ((ss : List StandingValue) → last ≡ last_of ss → read_standing (length e.ways) (bare way_count width e.sets) ss at (drop at words) ≡ Ok (record { value = s ∷ ss; at = next; rest = drop next words }))
+        → ((ss : List StandingValue) → AreThere (length e.ways) ss [] e whole → AreThere (length e.ways) (s ∷ ss) [] f now) → IsSized e f
+        → StandingSoFar way_count width words start count first (done + 1) next f (Some s) now
+    standing-more s now f next read there sizes = record {
+      entries = s ∷ before.entries;
+      left = before.left ∙ times_went_on (read_standing (length start.ways) (bare way_count width start.sets)) count done before.entries at (drop at words) (s ∷ before.entries) next (drop next words) more (sym (step-here before.entries) ∙ read before.entries before.newest);
+      newest = refl;
+      there = let P : ℕ → Type 0 = λ n. AreThere n before.entries [] e whole → AreThere n (s ∷ before.entries) [] f now in subst P before.sizes.items (there before.entries) before.there;
+      sizes = sized-on before.sizes sizes;
+    }
+
+    pub standing-refused : (r : StateRefusal) → ((ss : List StandingValue) → last ≡ last_of ss → read_standing (length e.ways) (bare way_count width e.sets) ss at (drop at words) ≡ Err r)
+        → times (read_standing (length start.ways) (bare way_count width start.sets)) count [] first (drop first words) ≡ Err r
+    standing-refused r refused =
+        before.left ∙ times_refused (read_standing (length start.ways) (bare way_count width start.sets)) count done before.entries at (drop at words) r more (sym (step-here before.entries) ∙ refused before.entries before.newest)
+
+  pub standing-done : {done at : ℕ} {e : EntriesValue} {last : Option StandingValue} {whole : Bool} → StandingSoFar way_count width words start count first done at e last whole → count ≤ done
+      → StandingRead (length start.ways) (times (read_standing (length start.ways) (bare way_count width start.sets)) count [] first (drop first words)) words at e whole
+  standing-done {done} {at} before all = record {
+    entries = before.entries;
+    is = before.left ∙ times_done (read_standing (length start.ways) (bare way_count width start.sets)) count done before.entries at (drop at words) all;
+    there = before.there;
+  }
+
+-- so many entries in the buffer were read since `start`, from word `first` on, behind these in ways
+pub record BufferedSoFar (way_count width : ℕ) (words : List ℕ) (start : EntriesValue) (ss : List StandingValue) (count first done at : ℕ) (e : EntriesValue) (whole : Bool) : Type 0 where
+  pub entries : List BufferValue
+  pub left : times (read_buffered (length start.ways) (bare way_count width start.sets)) count [] first (drop first words) ≡ times (read_buffered (length start.ways) (bare way_count width start.sets)) (count - done) entries at (drop at words)
+  pub there : AreThere (length start.ways) ss entries e whole
+
+module _ (way_count width : ℕ) (words : List ℕ) (start : EntriesValue) (ss : List StandingValue) (count first : ℕ) where
+  pub buffered-begun : {whole : Bool} → AreThere (length start.ways) ss [] start whole → BufferedSoFar way_count width words start ss count first 0 first start whole
+  buffered-begun there = record { entries = []; left = times_begun (read_buffered (length start.ways) (bare way_count width start.sets)) count [] first (drop first words); there = there }
+
+  module _ {done at : ℕ} {e : EntriesValue} {whole : Bool} (before : BufferedSoFar way_count width words start ss count first done at e whole) (sizes : IsSized start e) (more : done < count) where
+    buffer-step : (bs : List BufferValue) → read_buffered (length e.ways) (bare way_count width e.sets) bs at (drop at words) ≡ read_buffered (length start.ways) (bare way_count width start.sets) bs at (drop at words)
+    buffer-step bs = ap₂ (λ n sets. read_buffered n (bare way_count width sets) bs at (drop at words)) sizes.items sizes.sets
+
+    there-here : AreThere (length e.ways) ss before.entries e whole
+    there-here = let P : ℕ → Type 0 = λ n. AreThere n ss before.entries e whole in subst P (sym sizes.items) before.there
+
+    pub buffered-more : (now : Bool) (f : EntriesValue) (next : ℕ)
+        → ((ss : List StandingValue) (bs : List BufferValue) → AreThere (length e.ways) ss bs e whole → BufferRead (length e.ways) ss (read_buffered (length e.ways) (bare way_count width e.sets) bs at (drop at words)) words next f now)
+        → BufferedSoFar way_count width words start ss count first (done + 1) next f now
+    buffered-more now f next read =
+        let one = read ss before.entries there-here in
+        record {
+          entries = one.entries;
+          left = before.left ∙ times_went_on (read_buffered (length start.ways) (bare way_count width start.sets)) count done before.entries at (drop at words) one.entries next (drop next words) more (sym (buffer-step before.entries) ∙ one.is);
+          there = let P : ℕ → Type 0 = λ n. AreThere n ss one.entries f now in subst P sizes.items one.there;
+        }
+
+    pub buffered-refused : (r : StateRefusal) → ((bs : List BufferValue) → read_buffered (length e.ways) (bare way_count width e.sets) bs at (drop at words) ≡ Err r)
+        → times (read_buffered (length start.ways) (bare way_count width start.sets)) count [] first (drop first words) ≡ Err r
+    buffered-refused r refused =
+        before.left ∙ times_refused (read_buffered (length start.ways) (bare way_count width start.sets)) count done before.entries at (drop at words) r more (sym (buffer-step before.entries) ∙ refused before.entries)
+
+  pub buffered-done : {done at : ℕ} {e : EntriesValue} {whole : Bool} → BufferedSoFar way_count width words start ss count first done at e whole → count ≤ done
+      → BufferRead (length start.ways) ss (times (read_buffered (length start.ways) (bare way_count width start.sets)) count [] first (drop first words)) words at e whole
+  buffered-done {done} {at} before all = record {
+    entries = before.entries;
+    is = before.left ∙ times_done (read_buffered (length start.ways) (bare way_count width start.sets)) count done before.entries at (drop at words) all;
+    there = before.there;
+  }
