@@ -4,14 +4,14 @@ ghost use Rattle.item_states.specs.Parts.{note_of, NamesChild};
 ghost use Rattle.state_words.specs.Parts.{is_recorded};
 ghost use Rattle.state_reading.specs.Gives.{Gives, IsRead};
 ghost use Rattle.state_reading.specs.Reading.{and_then, any_word, times, word_that};
-ghost use Rattle.state_reading.specs.Parts.{at_rest, comes_after, hold_of, joins_fit, note_of_words, read_dir, read_record, word_to};
+ghost use Rattle.state_reading.specs.Parts.{at_rest, comes_after, hold_of, joins_fit, note_of_words, read_dir, read_record, read_records, word_to};
 ghost use Rattle.directory.specs.Packed.{note_with};
 
 use crate::packed::PackedItem;
 use crate::state::DirState;
 use crate::table::ItemTable;
 use ddm_types::{ChildNo, Hold, ItemId, PendingWhy};
-use state_reading::{StateRefusal, any_word, hold_of, keep, look, word_to};
+use state_reading::{StateRefusal, any_word, count_word, hold_of, keep, look, stamp_words, word_to};
 
 /// The note by its number, 0 to 3, and its child.
 fn note_of_words(kind: u32, child: u32) -> Option<PendingWhy>
@@ -200,8 +200,8 @@ impl ItemTable {
         requires inside { at.old ≤ length words.now }
         requires items { length self.old < 2 ^ 32 }
         requires children { children ≤ 16 }
-        ensures read { IfOk result (λ last. and_then (word_that any_word at.old (drop at.old words.now)) (λ n k ws. times (read_record (length self.old) children top) n (record { last = None; items = replicate (length self.old) (at_rest top) }) k ws) ≡ Ok (record { value = record { last = last; items = self.new }; at = at.new; rest = drop at.new words.now })) }
-        ensures refused { IfErr result (λ e. and_then (word_that any_word at.old (drop at.old words.now)) (λ n k ws. times (read_record (length self.old) children top) n (record { last = None; items = replicate (length self.old) (at_rest top) }) k ws) ≡ Err e) }
+        ensures read { IfOk result (λ last. read_records (length self.old) children top at.old (drop at.old words.now) ≡ Ok (record { value = record { last = last; items = self.new }; at = at.new; rest = drop at.new words.now })) }
+        ensures refused { IfErr result (λ e. read_records (length self.old) children top at.old (drop at.old words.now) ≡ Err e) }
         ensures inside { at.new ≤ length words.now }
         ensures items { length self.new ≡ length self.old }
     {
@@ -212,5 +212,35 @@ impl ItemTable {
             last = Some(self.read_record(words, at, children, top, last)?);
         }
         Ok(last)
+    }
+}
+
+impl<const WORDS: usize> DirState<WORDS> {
+    /// Reads its words, from number `from` on, in place of all that it has, where its bus has so many children. Gives the number of
+    /// the word behind them. After a refusal it has some of them.
+    pub fn read_part(
+        &mut self,
+        words: &[u32],
+        from: u32,
+        children: u32,
+    ) -> Result<u32, StateRefusal>
+        requires few { length words.now < 2 ^ 32 }
+        requires inside { from ≤ length words.now }
+        requires children { children ≤ 16 }
+        ensures read { IsRead (read_dir (length self.old.items) children self.old from (drop from words.now)) words.now self.new result }
+        ensures inside { IfOk result (λ at. at ≤ length words.now) }
+    {
+        let mut at = from;
+        let items = self.kept.len() as u32;
+        self.count = count_word(words, &mut at)?;
+        self.epoch = stamp_words(words, &mut at, self.level)?;
+        self.kept.read(words, &mut at, children, false)?;
+        self.down.read_entries(words, &mut at, self.level)?;
+        self.requests.read_requests(words, &mut at)?;
+        self.replies.read_copies(words, &mut at)?;
+        self.parking.read(words, &mut at, items)?;
+        let reserved = word_to(words, &mut at, self.parking.room())?;
+        self.parking.keep(reserved);
+        Ok(at)
     }
 }

@@ -125,7 +125,7 @@ impl<const WORDS: usize> Parking<WORDS> {
 
     /// So many places are reserved from now on.
     pub fn keep(&mut self, places: u32)
-        requires { length self.old.list + places ≤ self.old.capacity }
+        requires { places ≤ self.old.capacity - length self.old.list }
         ensures { self.new ≡ record self.old { reserved = places } }
     {
         self.reserved = places;

@@ -69,12 +69,12 @@ impl<const WORDS: usize> Parking<WORDS> {
         ensures read { OnOk result (listed self.old.capacity (read_copy WORDS (λ x cs. nat_lt x items && not (list_any (is_copy x) cs))) at.old (drop at.old words.now) ≡ Ok (record { value = self.new.list; at = at.new; rest = drop at.new words.now })) }
         ensures refused { IfErr result (λ e. listed self.old.capacity (read_copy WORDS (λ x cs. nat_lt x items && not (list_any (is_copy x) cs))) at.old (drop at.old words.now) ≡ Err e) }
         ensures inside { at.new ≤ length words.now }
-        ensures below { OnOk result (All (λ c. c.item < items) self.new.list) }
+        ensures below { All (λ c. c.item < items) self.new.list }
         ensures capacity { self.new.capacity ≡ self.old.capacity }
-        ensures reserved { OnOk result (self.new.reserved ≡ 0) }
+        ensures reserved { self.new.reserved ≡ 0 }
     {
-        let count = word_to(words, at, self.capacity())?;
         self.clear();
+        let count = word_to(words, at, self.capacity())?;
         for _number in 0..count {
             self.read_copy(words, at, items)?;
         }

@@ -253,23 +253,24 @@ read_request n rs k ws =
 abbrev pub at_rest : Bool → DirItem
 at_rest top = if top then held_exclusive else absent_item
 
+-- the records of a directory, or of the top, over so many children: how many there are, and then each; other items are at rest
+abbrev pub read_records : ℕ → ℕ → Bool → ℕ → List ℕ → Result (Read Recorded) StateRefusal
+read_records n kids top k ws =
+    and_then (word_that any_word k ws) (λ count k ws.
+    times (read_record n kids top) count (record { last = None; items = replicate n (at_rest top) }) k ws)
+
 -- a directory, or the top, over so many children
 unfoldable pub read_dir : ℕ → ℕ → DirValue → ℕ → List ℕ → Result (Read DirValue) StateRefusal
 read_dir n kids d k ws =
     and_then (count_word k ws) (λ count k ws.
     and_then (stamp_words d.level k ws) (λ epoch k ws.
-    and_then (word_that any_word k ws) (λ recorded k ws.
-    and_then (times (read_record n kids (is_top d)) recorded (record { last = None; items = replicate n (at_rest (is_top d)) }) k ws) (λ items k ws.
-    and_then (word_to d.sizes.down_room k ws) (λ told k ws.
-    and_then (times (read_down n d.level d.sizes.width) told [] k ws) (λ down k ws.
-    and_then (word_to d.sizes.request_room k ws) (λ asked k ws.
-    and_then (times (read_request n) asked [] k ws) (λ requests k ws.
-    and_then (word_to d.sizes.reply_room k ws) (λ replied k ws.
-    and_then (times (read_copy d.sizes.width (λ x cs. nat_lt x n)) replied [] k ws) (λ replies k ws.
-    and_then (word_to d.sizes.parking_room k ws) (λ parking k ws.
-    and_then (times (read_copy d.sizes.width (λ x cs. nat_lt x n && not (list_any (is_copy x) cs))) parking [] k ws) (λ parked k ws.
+    and_then (read_records n kids (is_top d) k ws) (λ items k ws.
+    and_then (listed d.sizes.down_room (read_down n d.level d.sizes.width) k ws) (λ down k ws.
+    and_then (listed d.sizes.request_room (read_request n) k ws) (λ requests k ws.
+    and_then (listed d.sizes.reply_room (read_copy d.sizes.width (λ x cs. nat_lt x n)) k ws) (λ replies k ws.
+    and_then (listed d.sizes.parking_room (read_copy d.sizes.width (λ x cs. nat_lt x n && not (list_any (is_copy x) cs))) k ws) (λ parked k ws.
     and_then (word_to (d.sizes.parking_room - length parked) k ws) (λ reserved k ws.
-    given (record d { items = items.items; down = down; requests = requests; replies = replies; parked = parked; reserved = reserved; count = count; epoch = epoch }) k ws)))))))))))))
+    given (record d { items = items.items; down = down; requests = requests; replies = replies; parked = parked; reserved = reserved; count = count; epoch = epoch }) k ws))))))))
 
 -- ---- traffic and operations
 

@@ -21,12 +21,14 @@ pub returns-in_err-read_copy-clause-refused : goal.returns-in_err-read_copy-clau
 returns-in_err-read_copy-clause-refused g c =
     let e = c.in_err-read_copy.field-0.0 in
     let is : c.from_residual-in_err-read_copy.result ≡ Err e = search rules in
+    let room : c.capacity.result ≡ c.args.self.now.capacity = c.capacity.ensures ∙ ap (λ p. p.capacity) c.clear.ensures in
     let step = read_copy g.row.WORDS (λ x cs. nat_lt x c.args.items && not (list_any (is_copy x) cs)) in
-    rw is (went_on _ (λ count k ws. times step count [] k ws) c.in_ok-count.count c.word_to.new.at (drop c.word_to.new.at c.args.words.now) (rw c.capacity.ensures at c.in_ok-count.ensures.read)
+    rw is (went_on _ (λ count k ws. times step count [] k ws) c.in_ok-count.count c.word_to.new.at (drop c.word_to.new.at c.args.words.now) (rw room at c.in_ok-count.ensures.read)
     ∙ one_step_refused step c.in_ok-count.count c.loop-number._number _ c.loop-number.at (drop c.loop-number.at c.args.words.now) e _ (omega arith) c.loop-number.invariant.left c.in_err-read_copy.ensures.refused)
 
 pub returns-clause-read : goal.returns-clause-read
 returns-clause-read g c =
+    let room : c.capacity.result ≡ c.args.self.now.capacity = c.capacity.ensures ∙ ap (λ p. p.capacity) c.clear.ensures in
     let step = read_copy g.row.WORDS (λ x cs. nat_lt x c.args.items && not (list_any (is_copy x) cs)) in
-    went_on _ (λ count k ws. times step count [] k ws) c.in_ok-count.count c.word_to.new.at (drop c.word_to.new.at c.args.words.now) (rw c.capacity.ensures at c.in_ok-count.ensures.read)
+    went_on _ (λ count k ws. times step count [] k ws) c.in_ok-count.count c.word_to.new.at (drop c.word_to.new.at c.args.words.now) (rw room at c.in_ok-count.ensures.read)
     ∙ (c.loop-number.invariant.left ∙ times_done step c.in_ok-count.count c.loop-number._number _ c.loop-number.at (drop c.loop-number.at c.args.words.now) (omega arith))
