@@ -1,19 +1,20 @@
 -- One entry read as a step of many, and the words of one that waits for data.
-use Rattle.std.proofs.Common.{◌≡◌, ℕ, zero, suc, ◌+◌, ◌-◌, ◌<◌, ◌≤◌, Bool, true, false, cond, not, ◌&&◌, ◌||◌, nat_eq, nat_lt, List, [], ◌∷◌, ◌++◌, length, drop, Option, Some, None, refl, sym, subst, ap, ap₂, ◌∙◌}
+use Rattle.std.proofs.Common.{◌≡◌, ℕ, zero, suc, ◌+◌, ◌-◌, ◌<◌, ◌≤◌, Bool, true, false, cond, not, ◌&&◌, ◌||◌, nat_eq, nat_le, nat_lt, List, [], ◌∷◌, ◌++◌, length, map, drop, Option, Some, None, refl, sym, subst, ap, ap₂, ◌∙◌}
 use Rattle.std.specs.Prelude.{replicate, Result, Ok, Err}
 use Rattle.std.proofs.lemmas.Bool.{eqb-true}
 use Rattle.ddm_types.specs.declared.sizes.LeafState.{LeafState}
 use Rattle.tree_model.specs.State.States.{is_reading}
-use Rattle.tree_model.specs.State.Values.{BufferValue}
+use Rattle.tree_model.specs.State.Shape.{are_distinct}
+use Rattle.tree_model.specs.State.Values.{BufferValue, LeafValue}
 use Rattle.tree_model.specs.State.Leaf.{words_in}
 use Rattle.state_words.specs.Parts.{StandingValue}
 use Rattle.state_reading.specs.declared.StateRefusal.{StateRefusal}
-use Rattle.state_reading.specs.declared.StateRefusal.TheVariants.{BadWord}
+use Rattle.state_reading.specs.declared.StateRefusal.TheVariants.{BadWord, BrokenLeaf}
 use Rattle.state_reading.specs.Reading.{Read, and_then, given, times, word_that, words_that}
-use Rattle.state_reading.specs.Parts.{not_before, way_not_before, word_below, word_from_1, item_words, state_of, last_of, read_standing, read_buffered}
+use Rattle.state_reading.specs.Parts.{not_before, way_not_before, word_below, word_from_1, item_words, state_of, last_of, read_standing, read_buffered, standing_item, item_of_buffer, standing_state, buffer_state, places_differ, waiting_states, slot_fits, is_whole_leaf, unless_broken}
 use Rattle.state_reading.proofs.Steps.{times_begun, times_went_on, times_refused, times_done}
 use Rattle.leaf_protocol.specs.Entries.{EntriesValue}
-use Rattle.leaf_protocol.specs.ReadBack.{AreThere, BufferRead, IsSized, StandingRead, bare, entry_read, buffered_read}
+use Rattle.leaf_protocol.specs.ReadBack.{AreThere, BufferRead, IsSized, StandingRead, are_together, bare, entry_read, buffered_read}
 use Rattle.leaf_protocol.proofs.Together.{none-there}
 
 module _ {A B C : Type 0} where
@@ -166,3 +167,28 @@ module _ (way_count width : ℕ) (words : List ℕ) (start : EntriesValue) (ss :
     is = before.left ∙ times_done (read_buffered (length start.ways) (bare way_count width start.sets)) count done before.entries at (drop at words) all;
     there = before.there;
   }
+
+-- ---- a whole leaf
+
+all_four : (a b c d : Bool) → (a && (b && (c && d))) ≡ ((a && (b && c)) && d)
+all_four true true c d = refl
+all_four true false c d = refl
+all_four false b c d = refl
+
+judged : (ss : List StandingValue) (v : LeafValue) → is_whole_leaf ss v ≡ (are_together v.sizes.sets ss v.buffer && slot_fits v v.slot)
+judged ss v =
+    all_four (are_distinct (map standing_item ss ++ map item_of_buffer v.buffer)) (places_differ v.sizes.sets ss) (nat_le (waiting_states (map standing_state ss ++ map buffer_state v.buffer)) 1) (slot_fits v v.slot)
+
+module _ {n : ℕ} {ss : List StandingValue} {bs : List BufferValue} {e : EntriesValue} {whole : Bool} (there : AreThere n ss bs e whole) (v : LeafValue) (sets : v.sizes.sets ≡ e.sets) (buffer : v.buffer ≡ bs) (k : ℕ) (ws : List ℕ) where
+  judged-here : is_whole_leaf ss v ≡ (whole && slot_fits v v.slot)
+  judged-here = judged ss v ∙ ap (λ b. b && slot_fits v v.slot) (ap₂ (λ s b. are_together s ss b) sets buffer ∙ sym there.judged)
+
+  -- whole, or broken by its entries or by its slot
+  pub leaf-whole : whole ≡ true → slot_fits v v.slot ≡ true → unless_broken ss v k ws ≡ given v k ws
+  leaf-whole all fits = ap (λ b. cond b (given v k ws) (Err (BrokenLeaf v.number))) (judged-here ∙ ap₂ (λ a b. a && b) all fits)
+
+  pub entries-broken : whole ≡ false → unless_broken ss v k ws ≡ Err (BrokenLeaf v.number)
+  entries-broken broken = ap (λ b. cond b (given v k ws) (Err (BrokenLeaf v.number))) (judged-here ∙ ap (λ a. a && slot_fits v v.slot) broken)
+
+  pub slot-broken : whole ≡ true → slot_fits v v.slot ≡ false → unless_broken ss v k ws ≡ Err (BrokenLeaf v.number)
+  slot-broken all broken = ap (λ b. cond b (given v k ws) (Err (BrokenLeaf v.number))) (judged-here ∙ ap₂ (λ a b. a && b) all broken)
