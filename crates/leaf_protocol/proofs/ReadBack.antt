@@ -1,7 +1,8 @@
 -- One entry read as a step of many, and the words of one that waits for data.
 use Rattle.std.proofs.Common.{◌≡◌, ℕ, zero, suc, ◌+◌, ◌-◌, ◌<◌, ◌≤◌, Bool, true, false, cond, not, ◌&&◌, ◌||◌, nat_eq, nat_le, nat_lt, List, [], ◌∷◌, ◌++◌, length, map, drop, Option, Some, None, refl, sym, subst, ap, ap₂, ◌∙◌}
-use Rattle.std.specs.Prelude.{replicate, Result, Ok, Err}
+use Rattle.std.specs.Prelude.{replicate, if◌then◌else◌, Result, Ok, Err}
 use Rattle.std.proofs.lemmas.Bool.{eqb-true}
+use Rattle.std.proofs.lemmas.List.{length-replicate}
 use Rattle.ddm_types.specs.declared.sizes.LeafState.{LeafState}
 use Rattle.tree_model.specs.State.States.{is_reading}
 use Rattle.tree_model.specs.State.Shape.{are_distinct}
@@ -10,11 +11,11 @@ use Rattle.tree_model.specs.State.Leaf.{words_in}
 use Rattle.state_words.specs.Parts.{StandingValue}
 use Rattle.state_reading.specs.declared.StateRefusal.{StateRefusal}
 use Rattle.state_reading.specs.declared.StateRefusal.TheVariants.{BadWord, BrokenLeaf}
-use Rattle.state_reading.specs.Reading.{Read, and_then, given, times, word_that, words_that}
-use Rattle.state_reading.specs.Parts.{not_before, way_not_before, word_below, word_from_1, item_words, state_of, last_of, read_standing, read_buffered, standing_item, item_of_buffer, standing_state, buffer_state, places_differ, waiting_states, slot_fits, is_whole_leaf, unless_broken}
+use Rattle.state_reading.specs.Reading.{Read, and_then, given, times, word_that, any_word, words_that}
+use Rattle.state_reading.specs.Parts.{not_before, way_not_before, word_to, word_below, word_from_1, item_words, state_of, slot_of, reserved_of, ways_with, last_of, read_standing, read_buffered, read_copy, read_leaf, standing_item, item_of_buffer, standing_state, buffer_state, places_differ, waiting_states, slot_fits, is_whole_leaf, unless_broken}
 use Rattle.state_reading.proofs.Steps.{times_begun, times_went_on, times_refused, times_done}
 use Rattle.leaf_protocol.specs.Entries.{EntriesValue}
-use Rattle.leaf_protocol.specs.ReadBack.{AreThere, BufferRead, IsSized, StandingRead, are_together, bare, entry_read, buffered_read}
+use Rattle.leaf_protocol.specs.ReadBack.{AreThere, BufferRead, IsSized, StandingRead, are_together, bare, entries_read, entry_read, buffered_read}
 use Rattle.leaf_protocol.proofs.Together.{none-there}
 
 module _ {A B C : Type 0} where
@@ -88,13 +89,13 @@ pub sized-on : {e f g : EntriesValue} → IsSized e f → IsSized f g → IsSize
 sized-on one two = record { sets = two.sets ∙ one.sets; room = two.room ∙ one.room; items = two.items ∙ one.items }
 
 module _ (way_count width : ℕ) (words : List ℕ) (start : EntriesValue) (count first : ℕ) where
-  pub standing-begun : start.ways ≡ replicate (length start.ways) None → start.buffer ≡ [] → StandingSoFar way_count width words start count first 0 first start None true
-  standing-begun ways buffer = record {
+  pub standing-begun : (e : EntriesValue) → e ≡ record start { ways = replicate (length start.ways) None; buffer = [] } → StandingSoFar way_count width words start count first 0 first e None true
+  standing-begun e is = record {
     entries = [];
     left = times_begun (read_standing (length start.ways) (bare way_count width start.sets)) count [] first (drop first words);
     newest = refl;
-    there = none-there (length start.ways) start ways buffer;
-    sizes = sized-same start;
+    there = rw is (none-there (length start.ways) (record start { ways = replicate (length start.ways) None; buffer = [] }) refl refl);
+    sizes = rw is (record { sets = refl; room = refl; items = length-replicate (length start.ways) None });
   }
 
   module _ {done at : ℕ} {e : EntriesValue} {last : Option StandingValue} {whole : Bool} (before : StandingSoFar way_count width words start count first done at e last whole) (more : done < count) where
@@ -192,3 +193,28 @@ module _ {n : ℕ} {ss : List StandingValue} {bs : List BufferValue} {e : Entrie
 
   pub slot-broken : whole ≡ true → slot_fits v v.slot ≡ false → unless_broken ss v k ws ≡ Err (BrokenLeaf v.number)
   slot-broken all broken = ap (λ b. cond b (given v k ws) (Err (BrokenLeaf v.number))) (judged-here ∙ ap₂ (λ a b. a && b) all broken)
+
+-- ---- a whole part of a leaf, by the reading of all its entries
+
+module _ {A B : Type 0} where
+  after : (r : Result (Read A) StateRefusal) (f g : A → ℕ → List ℕ → Result (Read B) StateRefusal) → ((a : A) (k : ℕ) (ws : List ℕ) → f a k ws ≡ g a k ws) → and_then r f ≡ and_then r g
+  after (Ok r) f g each = each r.value r.at r.rest
+  after (Err e) f g each = refl
+
+-- what stands behind the entries: the replies, and whether the leaf is whole
+abbrev pub behind_entries : ℕ → LeafValue → ℕ → ℕ → ℕ → List StandingValue × List BufferValue → ℕ → List ℕ → Result (Read LeafValue) StateRefusal
+behind_entries n v reserved code asked both k ws =
+    and_then (word_to v.sizes.reply_room k ws) (λ replied k ws.
+    and_then (times (read_copy v.sizes.width (λ x cs. nat_lt x n)) replied [] k ws) (λ replies k ws.
+    unless_broken both.0 (record v { ways = ways_with both.0 (replicate n None); buffer = both.1; slot = slot_of code asked; replies = replies; reservation = reserved_of reserved }) k ws))
+
+pub leaf-read : (n : ℕ) (v : LeafValue) (k : ℕ) (ws : List ℕ) → read_leaf n v k ws
+    ≡ and_then (word_to n k ws) (λ reserved k ws. and_then (word_to 2 k ws) (λ code k ws. and_then (word_that (λ x. if nat_eq code 0 then nat_eq x 0 else nat_lt x n) k ws) (λ asked k ws.
+    and_then (entries_read n v.sizes.way_count v.sizes.width v.sizes.sets v.sizes.buffer_room k ws) (behind_entries n v reserved code asked))))
+unfolding read_leaf
+leaf-read n v k ws =
+    after (word_to n k ws) _ _ (λ reserved k ws. after (word_to 2 k ws) _ _ (λ code k ws. after (word_that (λ x. if nat_eq code 0 then nat_eq x 0 else nat_lt x n) k ws) _ _ (λ asked k ws.
+    chained (word_that any_word k ws) _ _ (behind_entries n v reserved code asked) (λ standing k ws.
+    chained (times (read_standing n v) standing [] k ws) _ _ (behind_entries n v reserved code asked) (λ ss k ws.
+    chained (word_to v.sizes.buffer_room k ws) _ _ (behind_entries n v reserved code asked) (λ buffered k ws.
+    chained (times (read_buffered n v) buffered [] k ws) _ _ (behind_entries n v reserved code asked) (λ bs k ws. refl)))))))

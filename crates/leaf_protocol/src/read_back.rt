@@ -181,13 +181,7 @@ impl<const WAYS: usize, const WORDS: usize> Leaf<WAYS, WORDS> {
         let reserved = word_to(words, &mut at, items)?;
         let code = word_to(words, &mut at, 2)?;
         let asked = asked_word(words, &mut at, items, code)?;
-        let standing = any_word(words, &mut at)?;
-        self.entries.clear();
-        let together = self.entries.read_standing(words, &mut at, standing)?;
-        let buffered = word_to(words, &mut at, self.entries.room())?;
-        let whole = self
-            .entries
-            .read_buffered(words, &mut at, buffered, together)?;
+        let whole = self.entries.read(words, &mut at)?;
         let replied = word_to(words, &mut at, self.replies.capacity())?;
         read_replies(words, &mut at, items, replied, &mut self.replies)?;
         self.slot = slot_of(code, asked);

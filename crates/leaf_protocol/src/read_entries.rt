@@ -1,4 +1,4 @@
-ghost use Rattle.std.specs.Prelude.{◌≡◌, ◌<◌, ◌≤◌, ◌^◌, ◌+◌, ◌∷◌, ◌++◌, ◌&&◌, [], Ok, Err, List, None, Some, drop, length, nat_lt, replicate, slice_set, not, IfErr, IfOk};
+ghost use Rattle.std.specs.Prelude.{◌≡◌, ◌<◌, ◌≤◌, ◌^◌, ◌+◌, ◌∷◌, ◌++◌, ◌&&◌, [], Ok, Err, List, Some, drop, length, nat_lt, slice_set, not, IfErr, IfOk};
 ghost use Rattle.std.specs.Bool.{OnTrue};
 ghost use Rattle.state_words.specs.Parts.{StandingValue};
 ghost use Rattle.tree_model.specs.State.States.{is_reading};
@@ -7,12 +7,14 @@ ghost use Rattle.tree_model.specs.State.Leaf.{words_in};
 ghost use Rattle.state_reading.specs.Gives.{Gives};
 ghost use Rattle.state_reading.specs.Reading.{times, word_that};
 ghost use Rattle.state_reading.specs.Parts.{last_of, not_before, read_buffered, read_standing, way_not_before};
-ghost use Rattle.leaf_protocol.specs.ReadBack.{AreThere, BufferRead, IsSized, StandingRead, bare, buffered_read, entry_read, may_come, may_stand};
+ghost use Rattle.leaf_protocol.specs.ReadBack.{AreThere, BufferRead, IsSized, StandingRead, EntriesRead, bare, buffered_read, entries_read, entry_read, may_come, may_stand};
 
 use crate::entries::{Entries, waits};
 use crate::writing::Standing;
 use ddm_types::{ItemId, LeafState, Words};
-use state_reading::{StateRefusal, item_words, keep, look, state_of, word_below, word_from_1};
+use state_reading::{
+    StateRefusal, any_word, item_words, keep, look, state_of, word_below, word_from_1, word_to,
+};
 
 /// Whether an entry in this state has words.
 fn has_words(state: LeafState) -> bool
@@ -191,6 +193,7 @@ impl<const WAYS: usize, const WORDS: usize> Entries<WAYS, WORDS> {
         ensures there { (ss : List StandingValue) → AreThere (length self.old.ways) ss [] self.old whole → IfOk result (λ r. AreThere (length self.old.ways) (r.0 ∷ ss) [] self.new r.1) }
         ensures refused { (ss : List StandingValue) → last.now ≡ last_of ss → IfErr result (λ e.
             read_standing (length self.old.ways) (bare WAYS WORDS self.old.sets) ss at.old (drop at.old words.now) ≡ Err e) }
+        ensures buffer { self.new.buffer ≡ self.old.buffer }
         ensures sizes { IsSized self.old self.new }
         ensures inside { at.new ≤ length words.now }
     {
@@ -199,8 +202,8 @@ impl<const WAYS: usize, const WORDS: usize> Entries<WAYS, WORDS> {
         Ok((entry, fits))
     }
 
-    /// Reads so many entries in ways, where there are none. Whether they can be together.
-    pub fn read_standing(
+    /// Reads so many entries in ways, in place of all that are there. Whether they can be together.
+    fn read_standing(
         &mut self,
         words: &[u32],
         at: &mut u32,
@@ -209,13 +212,13 @@ impl<const WAYS: usize, const WORDS: usize> Entries<WAYS, WORDS> {
         requires few { length words.now < 2 ^ 32 }
         requires inside { at.old ≤ length words.now }
         requires words_fit { WORDS < 2 ^ 32 }
-        requires ways { self.old.ways ≡ replicate (length self.old.ways) None }
-        requires buffer { self.old.buffer ≡ [] }
         ensures read { IfOk result (StandingRead (length self.old.ways) (times (read_standing (length self.old.ways) (bare WAYS WORDS self.old.sets)) count [] at.old (drop at.old words.now)) words.now at.new self.new) }
         ensures refused { IfErr result (λ e. times (read_standing (length self.old.ways) (bare WAYS WORDS self.old.sets)) count [] at.old (drop at.old words.now) ≡ Err e) }
+        ensures buffer { self.new.buffer ≡ [] }
         ensures sizes { IsSized self.old self.new }
         ensures inside { at.new ≤ length words.now }
     {
+        self.clear();
         let mut whole = true;
         let mut last = None;
         'entries: for done in 0..count {
@@ -270,7 +273,7 @@ impl<const WAYS: usize, const WORDS: usize> Entries<WAYS, WORDS> {
     }
 
     /// Reads so many entries in the buffer, where there are those in ways alone. Whether they can be together.
-    pub fn read_buffered(
+    fn read_buffered(
         &mut self,
         words: &[u32],
         at: &mut u32,
@@ -293,5 +296,21 @@ impl<const WAYS: usize, const WORDS: usize> Entries<WAYS, WORDS> {
             now = self.read_one_buffered(words, at, now)?;
         }
         Ok(now)
+    }
+
+    /// Reads the entries in ways and in the buffer, in place of those that are there. Whether they can be together.
+    pub fn read(&mut self, words: &[u32], at: &mut u32) -> Result<bool, StateRefusal>
+        requires few { length words.now < 2 ^ 32 }
+        requires inside { at.old ≤ length words.now }
+        requires words_fit { WORDS < 2 ^ 32 }
+        ensures read { IfOk result (EntriesRead (length self.old.ways) (entries_read (length self.old.ways) WAYS WORDS self.old.sets self.old.room at.old (drop at.old words.now)) words.now at.new self.new) }
+        ensures refused { IfErr result (λ e. entries_read (length self.old.ways) WAYS WORDS self.old.sets self.old.room at.old (drop at.old words.now) ≡ Err e) }
+        ensures sizes { IsSized self.old self.new }
+        ensures inside { at.new ≤ length words.now }
+    {
+        let standing = any_word(words, at)?;
+        let together = self.read_standing(words, at, standing)?;
+        let buffered = word_to(words, at, self.room())?;
+        self.read_buffered(words, at, buffered, together)
     }
 }
