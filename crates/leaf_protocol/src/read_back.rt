@@ -158,6 +158,13 @@ impl<const WAYS: usize, const WORDS: usize> Leaf<WAYS, WORDS> {
         Ok(at)
     }
 
+    /// How many items there are.
+    fn items(&self) -> u32
+        ensures { result ≡ length self.now.ways }
+    {
+        self.entries.items()
+    }
+
     /// Whether its slot asks for what its item's entry waits for.
     fn slot_fits(&self) -> bool
         ensures { result ≡ slot_fits self.now self.now.slot }
@@ -169,7 +176,7 @@ impl<const WAYS: usize, const WORDS: usize> Leaf<WAYS, WORDS> {
     }
 
     /// Reads its words but those of its hart, and answers the number of the word behind them.
-    #[tactic(auto, unfolding(state_reading::specs::Parts::read_leaf))]
+    #[tactic(auto, using(crate::proofs::ReadBack::leaf_read))]
     pub fn read_part(&mut self, words: &[u32], from: u32) -> Result<u32, StateRefusal>
         requires few { length words.now < 2 ^ 32 }
         requires inside { from ≤ length words.now }
@@ -177,7 +184,7 @@ impl<const WAYS: usize, const WORDS: usize> Leaf<WAYS, WORDS> {
         ensures inside { IfOk result (λ at. at ≤ length words.now) }
     {
         let mut at = from;
-        let items = self.entries.items();
+        let items = self.items();
         let reserved = word_to(words, &mut at, items)?;
         let code = word_to(words, &mut at, 2)?;
         let asked = asked_word(words, &mut at, items, code)?;
