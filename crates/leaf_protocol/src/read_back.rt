@@ -194,7 +194,7 @@ impl<const WAYS: usize, const WORDS: usize> Leaf<WAYS, WORDS> {
         self.slot = slot_of(code, asked);
         self.reservation = reserved_of(reserved);
         if !whole || !self.slot_fits() {
-            return Err(StateRefusal::BrokenLeaf(self.number.0));
+            return Err(StateRefusal::BrokenLeaf(self.number().0));
         }
         Ok(at)
     }
