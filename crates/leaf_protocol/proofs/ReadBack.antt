@@ -244,9 +244,9 @@ module _ (way_count width number : ℕ) (e : EntriesValue) (slot : Option (TxKin
     to_replies : read_leaf (length v.ways) v first (drop first words)
         ≡ and_then (times (read_copy width (λ x cs. nat_lt x (length v.ways))) replied [] k₅ (drop k₅ words)) (λ cs k ws. unless_broken head.entries.standing (refilled head.entries.standing head.entries.buffered cs) k ws)
     to_replies = rw (← view) (
-      leaf_read (length e.ways) (leaf_of way_count width number e slot replies reservation h) first (drop first words)
-      ∙ (rw (rw (← view) at head.reservation_read, head.kind_read, rw (← view) at head.item_read, head.entries.is, head.count_read) refl)
-    )
+        leaf_read (length e.ways) (leaf_of way_count width number e slot replies reservation h) first (drop first words)
+        ∙ (rw (rw (← view) at head.reservation_read, head.kind_read, rw (← view) at head.item_read, head.entries.is, head.count_read) refl)
+        )
 
     pub refused_by_replies : (r : StateRefusal) → times (read_copy width (λ x cs. nat_lt x (length v.ways))) replied [] k₅ (drop k₅ words) ≡ Err r → read_leaf (length v.ways) v first (drop first words) ≡ Err r
     refused_by_replies r refused = to_replies ∙ rw refused refl
