@@ -10,8 +10,8 @@ use Rattle.tree_model.specs.State.Values.{BufferValue, LeafValue}
 use Rattle.tree_model.specs.State.Leaf.{entry_at, item_in_way, waiting_item}
 use Rattle.state_words.specs.Parts.{StandingValue}
 use Rattle.state_reading.specs.declared.StateRefusal.{StateRefusal}
-use Rattle.state_reading.specs.Reading.{Read, and_then, given, word_that}
-use Rattle.state_reading.specs.Parts.{not_before, way_not_before, word_below, word_from_1, item_words, state_of, ways_with, standing_item, item_of_buffer, places_differ, waiting_states, standing_state, buffer_state}
+use Rattle.state_reading.specs.Reading.{Read, and_then, given, times, word_that, any_word}
+use Rattle.state_reading.specs.Parts.{not_before, way_not_before, word_to, word_below, word_from_1, item_words, state_of, read_standing, read_buffered, ways_with, standing_item, item_of_buffer, places_differ, waiting_states, standing_state, buffer_state}
 use Rattle.leaf_protocol.specs.Entries.{EntriesValue, may_be}
 use Rattle.leaf_protocol.specs.Leaf.{leaf_of}
 
@@ -38,6 +38,15 @@ buffered_read n width k ws =
     and_then (word_from_1 5 k ws) (λ code k ws.
     and_then (item_words (not (is_reading (state_of code))) width k ws) (λ words k ws.
     given (record { item = x; state = state_of code; words = words }) k ws)))
+
+-- all in ways and all in the buffer
+abbrev pub entries_read : ℕ → ℕ → ℕ → ℕ → ℕ → ℕ → List ℕ → Result (Read (List StandingValue × List BufferValue)) StateRefusal
+entries_read n way_count width sets room k ws =
+    and_then (word_that any_word k ws) (λ standing k ws.
+    and_then (times (read_standing n (bare way_count width sets)) standing [] k ws) (λ ss k ws.
+    and_then (word_to room k ws) (λ buffered k ws.
+    and_then (times (read_buffered n (bare way_count width sets)) buffered [] k ws) (λ bs k ws.
+    given (ss, bs) k ws))))
 
 -- ---- beside others
 
@@ -81,3 +90,10 @@ pub record BufferRead (n : ℕ) (ss : List StandingValue) (read : Result (Read (
   pub entries : List BufferValue
   pub is : read ≡ Ok (record { value = entries; at = at; rest = drop at words })
   pub there : AreThere n ss entries e whole
+
+-- what was read of both
+pub record EntriesRead (n : ℕ) (read : Result (Read (List StandingValue × List BufferValue)) StateRefusal) (words : List ℕ) (at : ℕ) (e : EntriesValue) (whole : Bool) : Type 0 where
+  pub standing : List StandingValue
+  pub buffered : List BufferValue
+  pub is : read ≡ Ok (record { value = (standing, buffered); at = at; rest = drop at words })
+  pub there : AreThere n standing buffered e whole

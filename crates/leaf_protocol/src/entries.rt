@@ -113,6 +113,13 @@ impl<const WAYS: usize, const WORDS: usize> Entries<WAYS, WORDS> {
         self.items
     }
 
+    /// How many entries there may be in the buffer.
+    pub fn room(&self) -> u32
+        ensures { result ≡ self.now.room }
+    {
+        self.buffer.capacity()
+    }
+
     /// The state of the item's entry.
     pub fn state(&self, item: ItemId) -> Option<LeafState>
         ensures { result ≡ option_map entry_state (entry_at item self.now.ways self.now.buffer) }
@@ -282,7 +289,11 @@ impl<const WAYS: usize, const WORDS: usize> Entries<WAYS, WORDS> {
         requires alone { may_be state None (waiting_item self.old.ways self.old.buffer) ≡ true }
         ensures { self.new ≡ record self.old { buffer = self.old.buffer ++ record { item = item; state = state; words = words_in state WORDS words.entry } ∷ [] } }
     {
-        if self.buffer.put(item, state, words_in(state, words)).is_err() {
+        if self
+            .buffer
+            .put(item, state, words_in(state, words))
+            .is_err()
+        {
             unreachable!();
         }
         self.waiting = waiting_after(item, waits(state), self.waiting);

@@ -1,4 +1,4 @@
-ghost use Rattle.std.specs.Prelude.{◌≡◌, ◌%◌, ◌+◌, ◌*◌, ◌<◌, ◌≤◌, ◌^◌, Some, None, IfOk, IfErr, length, option_map};
+ghost use Rattle.std.specs.Prelude.{◌≡◌, ◌%◌, ◌+◌, ◌*◌, ◌<◌, ◌≤◌, ◌^◌, Some, None, IfOk, IfErr, length, option_map, slice_get};
 ghost use Rattle.tree_model.specs.State.Leaf.{free_way, leaf_entry, spot_at};
 ghost use Rattle.tree_model.specs.Start.Nodes.{leaf_sizes, new_leaf, placed};
 ghost use Rattle.leaf_protocol.specs.Leaf.{state_and_words};
@@ -88,6 +88,13 @@ impl<const WAYS: usize, const WORDS: usize> Leaf<WAYS, WORDS> {
         let words = self.entries.words(item)?;
         let spot = self.entries.spot(item)?;
         Some((state, words, spot))
+    }
+
+    /// The reply with so many before it: its item, and the words of that.
+    pub fn reply_get(&self, place: u32) -> Option<(ItemId, Words<WORDS>)>
+        ensures { result ≡ option_map (λ c. (c.item, c.words)) (slice_get self.now.replies place) }
+    {
+        self.replies.get(place).copied()
     }
 
     /// The item comes, Exclusive, into the lowest free way of its set, before the run.

@@ -7,6 +7,7 @@ mod copying;
 mod entries;
 mod leaf;
 mod read_back;
+mod read_entries;
 mod turn;
 mod writing;
 

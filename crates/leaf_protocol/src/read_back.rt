@@ -1,299 +1,121 @@
-ghost use Rattle.std.specs.Prelude.{◌≡◌, ◌<◌, ◌≤◌, ◌^◌, ◌+◌, ◌∷◌, ◌++◌, ◌&&◌, [], Ok, Err, List, None, Some, drop, length, nat_lt, replicate, slice_index, slice_set, not, IfErr, IfOk};
-ghost use Rattle.std.specs.Bool.{OnTrue};
-ghost use Rattle.state_words.specs.Parts.{StandingValue};
-ghost use Rattle.tree_model.specs.State.States.{is_reading};
-ghost use Rattle.tree_model.specs.State.Values.{BufferValue};
-ghost use Rattle.tree_model.specs.State.Leaf.{words_in};
+ghost use Rattle.std.specs.Prelude.{◌≡◌, ℕ, ◌<◌, ◌≤◌, ◌^◌, ◌+◌, [], Ok, Err, drop, length, map, nat_eq, nat_lt, option_map, slice_index, if◌then◌else◌, IfErr, IfOk, IfSome, OnOk};
+ghost use Rattle.tx_queue.specs.QueueList.{AllBelow};
 ghost use Rattle.state_reading.specs.Gives.{Gives, IsRead};
 ghost use Rattle.state_reading.specs.Reading.{any_word, times, word_that, words_that};
-ghost use Rattle.state_reading.specs.Parts.{halt_has_number, last_of, not_before, read_buffered, read_hart, read_standing, way_not_before};
-ghost use Rattle.leaf_protocol.specs.ReadBack.{AreThere, BufferRead, IsSized, StandingRead, bare, buffered_read, entry_read, may_come, may_stand};
+ghost use Rattle.state_reading.specs.Parts.{halt_has_number, read_copy, read_hart, read_leaf, reserved_of, slot_fits, slot_of, slot_state_fits};
+ghost use Rattle.leaf_protocol.specs.Leaf.{copied_item, copy_value, request_value};
 
-use crate::entries::{Entries, waits};
 use crate::leaf::Leaf;
-use crate::writing::Standing;
-use ddm_types::{ItemId, LeafState, Words};
+use ddm_types::{ItemId, LeafState, TxKind, Words};
+use reservations::Reservation;
 use rv_hart::Hart;
 use state_reading::{
-    StateRefusal, any_word, count_word, halt_of, item_words, keep, look, state_of, word_below,
-    word_from_1, word_if, word_to, words_if,
+    StateRefusal, any_word, count_word, halt_of, item_words, keep, look, word_below, word_if,
+    word_to, words_if,
 };
+use tx_queue::Queue;
 
-/// Whether an entry in this state has words.
-fn has_words(state: LeafState) -> bool
-    ensures { result ≡ not (is_reading state) }
+/// The item of a reservation by its word, which is the item plus 1, or 0 for none.
+fn reserved_of(word: u32) -> Reservation
+    ensures value { result ≡ reserved_of word }
+    ensures inside { (n : ℕ) → word ≤ n → IfSome result (λ x. x < n) }
 {
-    match state {
-        LeafState::Shared | LeafState::Exclusive | LeafState::Waiting => true,
-        LeafState::Reading | LeafState::ReadingWaiting => false,
+    let mut reservation = Reservation::new();
+    if word > 0 {
+        reservation.set(ItemId(word - 1));
     }
+    reservation
 }
 
-/// Whether the item's set is no earlier one than that of the last entry.
-fn not_before<const WORDS: usize>(sets: u32, item: u32, last: &Option<Standing<WORDS>>) -> bool
-    requires { 0 < sets }
-    ensures { result ≡ not_before sets item last.now }
+/// The next word, the item of a slot with this number.
+fn asked_word(words: &[u32], at: &mut u32, items: u32, code: u32) -> Result<u32, StateRefusal>
+    requires few { length words.now < 2 ^ 32 }
+    requires inside { at.old ≤ length words.now }
+    ensures read { Gives (word_that (λ x. if nat_eq code 0 then nat_eq x 0 else nat_lt x items) at.old (drop at.old words.now)) words.now at.new result }
+    ensures below { IfOk result (λ x. 0 < code → x < items) }
+    ensures inside { at.new ≤ length words.now }
 {
-    match last {
-        Some(last) => last.item.0 % sets <= item % sets,
-        None => true,
-    }
+    let item = look(words, *at)?;
+    let fits = if code == 0 { item == 0 } else { item < items };
+    keep(item, fits, at)
 }
 
-/// Whether, in the set of the last entry, the way is no earlier one than its.
-fn way_not_before<const WORDS: usize>(
-    sets: u32,
-    item: u32,
-    way: u32,
-    last: &Option<Standing<WORDS>>,
-) -> bool
-    requires { 0 < sets }
-    ensures { result ≡ way_not_before sets item way last.now }
+/// The slot by its number, 0 to 2, and its item.
+fn slot_of(code: u32, item: u32) -> Option<(TxKind, ItemId)>
+    requires { code ≤ 2 }
+    ensures value { option_map request_value result ≡ slot_of code item }
+    ensures inside { (n : ℕ) → (0 < code → item < n) → IfSome result (λ r. r.1 < n) }
 {
-    match last {
-        Some(last) => last.item.0 % sets < item % sets || last.way <= way,
-        None => true,
+    match code {
+        1 => Some((TxKind::ReadTx, ItemId(item))),
+        2 => Some((TxKind::EraseTx, ItemId(item))),
+        _ => None,
     }
 }
 
-impl<const WAYS: usize, const WORDS: usize> Entries<WAYS, WORDS> {
-    /// The next word, the item of an entry that may stand behind the last one.
-    fn item_word(
-        &self,
-        words: &[u32],
-        at: &mut u32,
-        last: &Option<Standing<WORDS>>,
-    ) -> Result<u32, StateRefusal>
-        requires few { length words.now < 2 ^ 32 }
-        requires inside { at.old ≤ length words.now }
-        ensures read { Gives (word_that (λ x. nat_lt x (length self.now.ways) && not_before self.now.sets x last.now) at.old (drop at.old words.now)) words.now at.new result }
-        ensures below { IfOk result (λ x. x < length self.now.ways) }
-        ensures inside { at.new ≤ length words.now }
-    {
-        let item = look(words, *at)?;
-        let fits = item < self.items() && not_before(self.memory.sets(), item, last);
-        keep(item, fits, at)
-    }
-
-    /// The next word, the way of an entry of this item that may stand behind the last one.
-    fn way_word(
-        &self,
-        words: &[u32],
-        at: &mut u32,
-        item: u32,
-        last: &Option<Standing<WORDS>>,
-    ) -> Result<u32, StateRefusal>
-        requires few { length words.now < 2 ^ 32 }
-        requires inside { at.old ≤ length words.now }
-        ensures read { Gives (word_that (λ way. nat_lt way WAYS && way_not_before self.now.sets item way last.now) at.old (drop at.old words.now)) words.now at.new result }
-        ensures below { IfOk result (λ way. way < WAYS) }
-        ensures inside { at.new ≤ length words.now }
-    {
-        let way = look(words, *at)?;
-        let fits =
-            way < self.memory.ways() && way_not_before(self.memory.sets(), item, way, last);
-        keep(way, fits, at)
-    }
-
-    /// The next entry in a way, behind the last one.
-    fn read_entry(
-        &self,
-        words: &[u32],
-        at: &mut u32,
-        last: &Option<Standing<WORDS>>,
-    ) -> Result<Standing<WORDS>, StateRefusal>
-        requires few { length words.now < 2 ^ 32 }
-        requires inside { at.old ≤ length words.now }
-        requires words_fit { WORDS < 2 ^ 32 }
-        ensures read { Gives (entry_read (length self.now.ways) self.now.sets WAYS WORDS last.now at.old (drop at.old words.now)) words.now at.new result }
-        ensures item { IfOk result (λ s. s.item < length self.now.ways) }
-        ensures way { IfOk result (λ s. s.entry.way < WAYS) }
-        ensures words { IfOk result (λ s. s.entry.words ≡ words_in s.entry.state WORDS s.entry.words) }
-        ensures inside { at.new ≤ length words.now }
-    {
-        let item = self.item_word(words, at, last)?;
-        let way = self.way_word(words, at, item, last)?;
-        let state = state_of(word_from_1(words, at, 5)?);
-        let words = item_words(words, at, has_words(state))?;
-        Ok(Standing {
-            item: ItemId(item),
-            way,
-            state,
-            words,
-        })
-    }
-
-    /// Whether the item has no entry, and one in this state may come.
-    fn may_come(&self, item: ItemId, state: LeafState) -> bool
-        ensures { result ≡ may_come item state self.now }
-    {
-        self.state(item).is_none() && (!waits(state) || self.waiting().is_none())
-    }
-
-    /// Whether the entry may come into its way.
-    fn may_stand(&self, entry: &Standing<WORDS>) -> bool
-        requires { entry.now.entry.way < WAYS }
-        ensures { result ≡ may_stand entry.now self.now }
-    {
-        !self.is_taken(entry.item, entry.way) && self.may_come(entry.item, entry.state)
-    }
-
-    /// The entry comes into its way, if the others are whole and it may. Whether they are whole with it.
-    fn stand_beside(&mut self, entry: &Standing<WORDS>, whole: bool) -> bool
-        requires inside { entry.now.item < length self.old.ways }
-        requires exists { entry.now.entry.way < WAYS }
-        requires words { entry.now.entry.words ≡ words_in entry.now.entry.state WORDS entry.now.entry.words }
-        ensures value { result ≡ (whole && may_stand entry.now self.old) }
-        ensures ways { OnTrue result (self.new.ways ≡ slice_set self.old.ways entry.now.item (Some entry.now.entry)) }
-        ensures buffer { self.new.buffer ≡ self.old.buffer }
-        ensures sizes { IsSized self.old self.new }
-    {
-        let fits = whole && self.may_stand(entry);
-        if fits {
-            self.stand(entry.item, entry.way, entry.state, entry.words);
-        }
-        fits
-    }
-
-    /// The entry comes to the end of the buffer, if the others are whole and it may. Whether they are whole with it.
-    fn put_beside(&mut self, item: ItemId, state: LeafState, words: &Words<WORDS>, whole: bool) -> bool
-        requires inside { item < length self.old.ways }
-        requires room { length self.old.buffer < self.old.room }
-        requires words { words.now ≡ words_in state WORDS words.now }
-        ensures value { result ≡ (whole && may_come item state self.old) }
-        ensures buffer { OnTrue result (self.new.buffer ≡ self.old.buffer ++ record { item = item; state = state; words = words.now } ∷ []) }
-        ensures count { length self.new.buffer ≤ length self.old.buffer + 1 }
-        ensures ways { self.new.ways ≡ self.old.ways }
-        ensures sizes { IsSized self.old self.new }
-    {
-        let fits = whole && self.may_come(item, state);
-        if fits {
-            self.put(item, state, *words);
-        }
-        fits
+/// Whether an entry in this state waits for what is asked for.
+fn slot_state_fits(kind: TxKind, state: Option<LeafState>) -> bool
+    ensures { result ≡ slot_state_fits kind state }
+{
+    match (kind, state) {
+        (TxKind::ReadTx, Some(LeafState::Reading | LeafState::ReadingWaiting)) => true,
+        (TxKind::EraseTx, Some(LeafState::Waiting)) => true,
+        _ => false,
     }
 }
 
-impl<const WAYS: usize, const WORDS: usize> Entries<WAYS, WORDS> {
-    /// Reads one more entry in a way, and puts it beside the others: it, and whether they are whole with it.
-    fn read_one_standing(
-        &mut self,
-        words: &[u32],
-        at: &mut u32,
-        last: &Option<Standing<WORDS>>,
-        whole: bool,
-    ) -> Result<(Standing<WORDS>, bool), StateRefusal>
-        requires few { length words.now < 2 ^ 32 }
-        requires inside { at.old ≤ length words.now }
-        requires words_fit { WORDS < 2 ^ 32 }
-        ensures read { (ss : List StandingValue) → last.now ≡ last_of ss → IfOk result (λ r.
-            read_standing (length self.old.ways) (bare WAYS WORDS self.old.sets) ss at.old (drop at.old words.now) ≡ Ok (record { value = r.0 ∷ ss; at = at.new; rest = drop at.new words.now })) }
-        ensures there { (ss : List StandingValue) → AreThere (length self.old.ways) ss [] self.old whole → IfOk result (λ r. AreThere (length self.old.ways) (r.0 ∷ ss) [] self.new r.1) }
-        ensures refused { (ss : List StandingValue) → last.now ≡ last_of ss → IfErr result (λ e.
-            read_standing (length self.old.ways) (bare WAYS WORDS self.old.sets) ss at.old (drop at.old words.now) ≡ Err e) }
-        ensures sizes { IsSized self.old self.new }
-        ensures inside { at.new ≤ length words.now }
-    {
-        let entry = self.read_entry(words, at, last)?;
-        let fits = self.stand_beside(&entry, whole);
-        Ok((entry, fits))
-    }
+/// Reads one more copy, and puts it behind the others.
+fn read_reply<const WORDS: usize>(
+    words: &[u32],
+    at: &mut u32,
+    items: u32,
+    replies: &mut Queue<(ItemId, Words<WORDS>)>,
+) -> Result<(), StateRefusal>
+    requires few { length words.now < 2 ^ 32 }
+    requires inside { at.old ≤ length words.now }
+    requires words_fit { WORDS < 2 ^ 32 }
+    requires items { replies.old.items ≡ items }
+    requires place { length replies.old.list < replies.old.capacity }
+    requires below { AllBelow copied_item items replies.old.list }
+    ensures read { OnOk result (read_copy WORDS (λ x cs. nat_lt x items) (map copy_value replies.old.list) at.old (drop at.old words.now) ≡ Ok (record { value = map copy_value replies.new.list; at = at.new; rest = drop at.new words.now })) }
+    ensures refused { IfErr result (λ e. read_copy WORDS (λ x cs. nat_lt x items) (map copy_value replies.old.list) at.old (drop at.old words.now) ≡ Err e) }
+    ensures below { AllBelow copied_item items replies.new.list }
+    ensures count { length replies.new.list ≤ length replies.old.list + 1 }
+    ensures capacity { replies.new.capacity ≡ replies.old.capacity }
+    ensures items { replies.new.items ≡ replies.old.items }
+    ensures inside { at.new ≤ length words.now }
+{
+    let item = word_below(words, at, items)?;
+    let copy = item_words(words, at, true)?;
+    replies.put((ItemId(item), copy));
+    Ok(())
+}
 
-    /// Reads so many entries in ways, where there are none. Whether they can be together.
-    fn read_standing(
-        &mut self,
-        words: &[u32],
-        at: &mut u32,
-        count: u32,
-    ) -> Result<bool, StateRefusal>
-        requires few { length words.now < 2 ^ 32 }
-        requires inside { at.old ≤ length words.now }
-        requires words_fit { WORDS < 2 ^ 32 }
-        requires ways { self.old.ways ≡ replicate (length self.old.ways) None }
-        requires buffer { self.old.buffer ≡ [] }
-        ensures read { IfOk result (StandingRead (length self.old.ways) (times (read_standing (length self.old.ways) (bare WAYS WORDS self.old.sets)) count [] at.old (drop at.old words.now)) words.now at.new self.new) }
-        ensures refused { IfErr result (λ e. times (read_standing (length self.old.ways) (bare WAYS WORDS self.old.sets)) count [] at.old (drop at.old words.now) ≡ Err e) }
-        ensures sizes { IsSized self.old self.new }
-        ensures inside { at.new ≤ length words.now }
-    {
-        let mut whole = true;
-        let mut last = None;
-        'entries: for done in 0..count {
-            let (entry, fits) = self.read_one_standing(words, at, &last, whole)?;
-            whole = fits;
-            last = Some(entry);
-        }
-        Ok(whole)
+/// Reads so many copies, in place of those that are there.
+fn read_replies<const WORDS: usize>(
+    words: &[u32],
+    at: &mut u32,
+    items: u32,
+    count: u32,
+    replies: &mut Queue<(ItemId, Words<WORDS>)>,
+) -> Result<(), StateRefusal>
+    requires few { length words.now < 2 ^ 32 }
+    requires inside { at.old ≤ length words.now }
+    requires words_fit { WORDS < 2 ^ 32 }
+    requires items { replies.old.items ≡ items }
+    requires places { count ≤ replies.old.capacity }
+    ensures read { OnOk result (times (read_copy WORDS (λ x cs. nat_lt x items)) count [] at.old (drop at.old words.now) ≡ Ok (record { value = map copy_value replies.new.list; at = at.new; rest = drop at.new words.now })) }
+    ensures refused { IfErr result (λ e. times (read_copy WORDS (λ x cs. nat_lt x items)) count [] at.old (drop at.old words.now) ≡ Err e) }
+    ensures below { AllBelow copied_item items replies.new.list }
+    ensures capacity { replies.new.capacity ≡ replies.old.capacity }
+    ensures items { replies.new.items ≡ replies.old.items }
+    ensures inside { at.new ≤ length words.now }
+{
+    replies.clear();
+    'copies: for done in 0..count {
+        read_reply(words, at, items, replies)?;
     }
-
-    /// The next entry in the buffer.
-    fn read_buffer_entry(
-        &self,
-        words: &[u32],
-        at: &mut u32,
-    ) -> Result<(ItemId, LeafState, Words<WORDS>), StateRefusal>
-        requires few { length words.now < 2 ^ 32 }
-        requires inside { at.old ≤ length words.now }
-        requires words_fit { WORDS < 2 ^ 32 }
-        ensures read { IfOk result (λ b. buffered_read (length self.now.ways) WORDS at.old (drop at.old words.now) ≡ Ok (record { value = record { item = b.0; state = b.1; words = b.2 }; at = at.new; rest = drop at.new words.now })) }
-        ensures refused { IfErr result (λ e. buffered_read (length self.now.ways) WORDS at.old (drop at.old words.now) ≡ Err e) }
-        ensures item { IfOk result (λ b. b.0 < length self.now.ways) }
-        ensures words { IfOk result (λ b. b.2 ≡ words_in b.1 WORDS b.2) }
-        ensures inside { at.new ≤ length words.now }
-    {
-        let item = word_below(words, at, self.items())?;
-        let state = state_of(word_from_1(words, at, 5)?);
-        let words = item_words(words, at, has_words(state))?;
-        Ok((ItemId(item), state, words))
-    }
-
-    /// Reads one more entry in the buffer, and puts it beside the others. Whether they are whole with it.
-    fn read_one_buffered(
-        &mut self,
-        words: &[u32],
-        at: &mut u32,
-        whole: bool,
-    ) -> Result<bool, StateRefusal>
-        requires few { length words.now < 2 ^ 32 }
-        requires inside { at.old ≤ length words.now }
-        requires words_fit { WORDS < 2 ^ 32 }
-        requires room { length self.old.buffer < self.old.room }
-        ensures read { (ss : List StandingValue) (bs : List BufferValue) → AreThere (length self.old.ways) ss bs self.old whole →
-            IfOk result (BufferRead (length self.old.ways) ss (read_buffered (length self.old.ways) (bare WAYS WORDS self.old.sets) bs at.old (drop at.old words.now)) words.now at.new self.new) }
-        ensures refused { (bs : List BufferValue) → IfErr result (λ e. read_buffered (length self.old.ways) (bare WAYS WORDS self.old.sets) bs at.old (drop at.old words.now) ≡ Err e) }
-        ensures count { length self.new.buffer ≤ length self.old.buffer + 1 }
-        ensures sizes { IsSized self.old self.new }
-        ensures inside { at.new ≤ length words.now }
-    {
-        let (item, state, read) = self.read_buffer_entry(words, at)?;
-        Ok(self.put_beside(item, state, &read, whole))
-    }
-
-    /// Reads so many entries in the buffer, where there are those in ways alone. Whether they can be together.
-    fn read_buffered(
-        &mut self,
-        words: &[u32],
-        at: &mut u32,
-        count: u32,
-        whole: bool,
-    ) -> Result<bool, StateRefusal>
-        requires few { length words.now < 2 ^ 32 }
-        requires inside { at.old ≤ length words.now }
-        requires words_fit { WORDS < 2 ^ 32 }
-        requires room { length self.old.buffer + count ≤ self.old.room }
-        ensures read { (ss : List StandingValue) → AreThere (length self.old.ways) ss [] self.old whole →
-            IfOk result (BufferRead (length self.old.ways) ss (times (read_buffered (length self.old.ways) (bare WAYS WORDS self.old.sets)) count [] at.old (drop at.old words.now)) words.now at.new self.new) }
-        ensures refused { (ss : List StandingValue) → AreThere (length self.old.ways) ss [] self.old whole →
-            IfErr result (λ e. times (read_buffered (length self.old.ways) (bare WAYS WORDS self.old.sets)) count [] at.old (drop at.old words.now) ≡ Err e) }
-        ensures sizes { IsSized self.old self.new }
-        ensures inside { at.new ≤ length words.now }
-    {
-        let mut now = whole;
-        'entries: for done in 0..count {
-            now = self.read_one_buffered(words, at, now)?;
-        }
-        Ok(now)
-    }
+    Ok(())
 }
 
 /// The registers of a hart but the first, which is always 0.
@@ -333,6 +155,47 @@ impl<const WAYS: usize, const WORDS: usize> Leaf<WAYS, WORDS> {
         let code = word_to(words, &mut at, 9)?;
         let number = word_if(words, &mut at, has_number(code))?;
         self.hart = Hart::restore(registers, pc, done, halt_of(code, number));
+        Ok(at)
+    }
+
+    /// How many items there are.
+    fn items(&self) -> u32
+        ensures { result ≡ length self.now.ways }
+    {
+        self.entries.items()
+    }
+
+    /// Whether its slot asks for what its item's entry waits for.
+    fn slot_fits(&self) -> bool
+        ensures { result ≡ slot_fits self.now self.now.slot }
+    {
+        match self.slot {
+            Some((kind, item)) => slot_state_fits(kind, self.entries.state(item)),
+            None => true,
+        }
+    }
+
+    /// Reads its words but those of its hart, and answers the number of the word behind them.
+    #[tactic(auto, using(crate::proofs::ReadBack::leaf_read))]
+    pub fn read_part(&mut self, words: &[u32], from: u32) -> Result<u32, StateRefusal>
+        requires few { length words.now < 2 ^ 32 }
+        requires inside { from ≤ length words.now }
+        ensures read { IsRead (read_leaf (length self.old.ways) self.old from (drop from words.now)) words.now self.new result }
+        ensures inside { IfOk result (λ at. at ≤ length words.now) }
+    {
+        let mut at = from;
+        let items = self.items();
+        let reserved = word_to(words, &mut at, items)?;
+        let code = word_to(words, &mut at, 2)?;
+        let asked = asked_word(words, &mut at, items, code)?;
+        let whole = self.entries.read(words, &mut at)?;
+        let replied = word_to(words, &mut at, self.replies.capacity())?;
+        read_replies(words, &mut at, items, replied, &mut self.replies)?;
+        self.slot = slot_of(code, asked);
+        self.reservation = reserved_of(reserved);
+        if !whole || !self.slot_fits() {
+            return Err(StateRefusal::BrokenLeaf(self.number().0));
+        }
         Ok(at)
     }
 }
