@@ -20,8 +20,8 @@ impl<const WAYS: usize, const WORDS: usize> Subtree<WORDS> for Cluster<WAYS, WOR
         items: &Items,
         path: &[ChildNo],
         rest: &[ChildNo],
-        present: Stamp,
-        turn: Turn,
+        present: &Stamp,
+        turn: &Turn,
         answer: &mut TurnAnswer,
     ) {
         self.dir

@@ -19,3 +19,4 @@ pub mod Asking
 pub mod Copies
 pub mod BusNumbers
 pub mod Written
+pub mod IdleHarts

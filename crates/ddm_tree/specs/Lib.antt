@@ -9,3 +9,4 @@ pub mod Codes
 pub mod Holders
 pub mod Copying
 pub mod Written
+pub mod Idle

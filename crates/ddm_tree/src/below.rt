@@ -55,17 +55,17 @@ fn turn_of_child<const WORDS: usize, C: Subtree<WORDS>>(
     items: &Items,
     path: &[ChildNo],
     rest: &[ChildNo],
-    present: Stamp,
-    turn: Turn,
+    present: &Stamp,
+    turn: &Turn,
     answer: &mut TurnAnswer,
 )
     requires child { c < length children.old }
     requires size { items.now.size ≡ 4 * WORDS }
     requires ready { IsReady (item_count items.now) WORDS (child_at c (map C.value children.old)) }
-    requires leads { Leads (named_by turn) rest.now (child_at c (map C.value children.old)) }
-    requires names { HasChild (bus_turn_of turn) (node_at rest.now (child_at c (map C.value children.old))) }
-    ensures answer { let n = child_at c (map C.value children.old) in answer.new ≡ node_answer code.now items.now turn path.now (present_at rest.now present n) (node_at rest.now n) }
-    ensures after { let n = child_at c (map C.value children.old) in map C.value children.new ≡ slice_set (map C.value children.old) c (put_at rest.now (node_turned code.now items.now turn path.now (present_at rest.now present n) (node_at rest.now n)) n) }
+    requires leads { Leads (named_by turn.now) rest.now (child_at c (map C.value children.old)) }
+    requires names { HasChild (bus_turn_of turn.now) (node_at rest.now (child_at c (map C.value children.old))) }
+    ensures answer { let n = child_at c (map C.value children.old) in answer.new ≡ node_answer code.now items.now turn.now path.now (present_at rest.now present.now n) (node_at rest.now n) }
+    ensures after { let n = child_at c (map C.value children.old) in map C.value children.new ≡ slice_set (map C.value children.old) c (put_at rest.now (node_turned code.now items.now turn.now path.now (present_at rest.now present.now n) (node_at rest.now n)) n) }
 {
     children[c.0 as usize].turn(code, items, path, rest, present, turn, answer);
 }
@@ -79,25 +79,25 @@ pub(crate) fn turn_under<const WORDS: usize, P: Parent<WORDS>, C: Subtree<WORDS>
     items: &Items,
     path: &[ChildNo],
     rest: &[ChildNo],
-    present: Stamp,
-    turn: Turn,
+    present: &Stamp,
+    turn: &Turn,
     answer: &mut TurnAnswer,
 )
     requires size { items.now.size ≡ 4 * WORDS }
     requires ready { IsReady (item_count items.now) WORDS (dir_node (P.state parent.old) (nodes (map C.value children.old))) }
-    requires leads { Leads (named_by turn) rest.now (dir_node (P.state parent.old) (nodes (map C.value children.old))) }
-    requires child { HasChild (bus_turn_of turn) (node_at rest.now (dir_node (P.state parent.old) (nodes (map C.value children.old)))) }
-    ensures answer { let n = dir_node (P.state parent.old) (nodes (map C.value children.old)) in answer.new ≡ node_answer code.now items.now turn path.now (present_at rest.now present n) (node_at rest.now n) }
-    ensures after { let n = dir_node (P.state parent.old) (nodes (map C.value children.old)) in dir_node (P.state parent.new) (nodes (map C.value children.new)) ≡ put_at rest.now (node_turned code.now items.now turn path.now (present_at rest.now present n) (node_at rest.now n)) n }
+    requires leads { Leads (named_by turn.now) rest.now (dir_node (P.state parent.old) (nodes (map C.value children.old))) }
+    requires child { HasChild (bus_turn_of turn.now) (node_at rest.now (dir_node (P.state parent.old) (nodes (map C.value children.old)))) }
+    ensures answer { let n = dir_node (P.state parent.old) (nodes (map C.value children.old)) in answer.new ≡ node_answer code.now items.now turn.now path.now (present_at rest.now present.now n) (node_at rest.now n) }
+    ensures after { let n = dir_node (P.state parent.old) (nodes (map C.value children.old)) in dir_node (P.state parent.new) (nodes (map C.value children.new)) ≡ put_at rest.now (node_turned code.now items.now turn.now path.now (present_at rest.now present.now n) (node_at rest.now n)) n }
 {
     match rest.split_first() {
         Some((child, further)) => {
             let below = parent.stamp();
             turn_of_child(
-                children, *child, code, items, path, further, below, turn, answer,
+                children, *child, code, items, path, further, &below, turn, answer,
             );
         }
-        None => grant_into(parent, children, present, on_bus(turn), answer),
+        None => grant_into(parent, children, *present, on_bus(turn), answer),
     }
 }
 

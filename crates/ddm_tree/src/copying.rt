@@ -3,6 +3,7 @@ ghost use Rattle.tree_model.specs.State.Values.{dir_node, nodes};
 ghost use Rattle.tree_model.specs.Turns.Children.{child_at};
 ghost use Rattle.ddm_tree.specs.Copying.{AreAlike, CanCopy, copied};
 
+use crate::idle::forget_all;
 use crate::machine::Machine;
 use crate::subtree::Subtree;
 use ddm_types::Op;
@@ -85,5 +86,6 @@ impl<const WORDS: usize, C: CopyFrom<WORDS>> Machine<WORDS, C> {
         refill(&mut self.ops, &other.ops);
         self.traffic.copy_from_slice(&other.traffic);
         self.turns = other.turns;
+        forget_all(&mut self.idle);
     }
 }

@@ -132,8 +132,8 @@ impl<const WORDS: usize, C: Subtree<WORDS>> Subtree<WORDS> for Dir<WORDS, C> {
         items: &Items,
         path: &[ChildNo],
         rest: &[ChildNo],
-        present: Stamp,
-        turn: Turn,
+        present: &Stamp,
+        turn: &Turn,
         answer: &mut TurnAnswer,
     ) {
         turn_under(

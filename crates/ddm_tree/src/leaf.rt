@@ -23,11 +23,11 @@ impl<const WAYS: usize, const WORDS: usize> Subtree<WORDS> for Leaf<WAYS, WORDS>
         items: &Items,
         path: &[ChildNo],
         _rest: &[ChildNo],
-        present: Stamp,
-        turn: Turn,
+        present: &Stamp,
+        turn: &Turn,
         answer: &mut TurnAnswer,
     ) {
-        let now = key_on(present, path, self.hart().done());
+        let now = key_on(*present, path, self.hart().done());
         self.hart_turn_into(code, items, now, victim(turn), answer);
     }
 

@@ -1,15 +1,18 @@
-ghost use Rattle.std.specs.Prelude.{◌≡◌, ℕ, List, ◌+◌, ◌*◌, ◌<◌, ◌≤◌, ◌^◌, [], Some, true, is_ok, length, map, max, vec_items, IfOk, if◌then◌else◌};
+ghost use Rattle.std.specs.Prelude.{◌≡◌, ℕ, List, ◌+◌, ◌*◌, ◌<◌, ◌≤◌, ◌^◌, [], Some, true, is_ok, length, map, max, slice_get, vec_items, IfOk, if◌then◌else◌};
 ghost use Rattle.tree_model.specs.Turns.Machine.{named_by, names_part, no_traffic, turn_of};
 ghost use Rattle.ddm_types.specs.Keys.{stamp_zero};
 ghost use Rattle.ddm_types.specs.ItemTable.{item_count};
 ghost use Rattle.tree_model.specs.State.Values.{dir_node, nodes};
 ghost use Rattle.ddm_tree.specs.Named.{name_of};
 ghost use Rattle.ddm_tree.specs.Path.{node_at, present_at, put_at, node_answer, node_turned};
-ghost use Rattle.ddm_tree.specs.Ready.{IsReady};
+ghost use Rattle.ddm_tree.specs.Ready.{IsReady, Leads};
+ghost use Rattle.tree_model.specs.Turns.Tree.{leaf_of_number};
 ghost use Rattle.ddm_tree.specs.Rules.{StaysInOrder};
+ghost use Rattle.ddm_tree.specs.Idle.{AreIdle};
 ghost use Rattle.ddm_tree.specs.Machine.{IsFound, IsNew, has_path, listed_path, new_machine, state_after};
 
 use crate::below::turn_under;
+use crate::idle::{Idle, idle_answer, idle_for, note, nothing_known};
 use crate::named::Named;
 use crate::paths::{bus_paths, leaf_paths};
 use crate::record::record;
@@ -33,6 +36,8 @@ pub struct Machine<const WORDS: usize, C: Subtree<WORDS>> {
     /// For each leaf and for each bus its path.
     pub(crate) leaf_paths: Vec<Vec<ChildNo>>,
     pub(crate) bus_paths: Vec<Vec<ChildNo>>,
+    /// For each leaf why its hart is idle, where that is known.
+    pub(crate) idle: Vec<Option<Idle>>,
     /// How many operations can still be taken without memory.
     pub(crate) spare: u32,
     /// How many turns were made.
@@ -42,7 +47,9 @@ pub struct Machine<const WORDS: usize, C: Subtree<WORDS>> {
 impl<const WORDS: usize, C: Subtree<WORDS>> Model for Machine<WORDS, C> {
     ghost use Rattle.std.specs.Prelude.{◌≡◌, ℕ, List, ◌+◌, ◌*◌, ◌≤◌, ◌^◌, ◌<◌, length, map, vec_capacity, vec_items};
     ghost use Rattle.tree_model.specs.State.Shape.{tree_counts};
+    ghost use Rattle.ddm_tree.specs.Idle.{AreIdle};
     ghost use Rattle.ddm_tree.specs.Machine.{MachineState, IsMachine, machine_of};
+    ghost use Rattle.tree_model.specs.State.Values.{dir_node, nodes};
     ghost use Rattle.ddm_tree.specs.Codes.{machine_code};
 
     ghost Value = { MachineState };
@@ -53,7 +60,8 @@ impl<const WORDS: usize, C: Subtree<WORDS>> Model for Machine<WORDS, C> {
 
     ghost invariant = { λ m. IsMachine WORDS (machine_of m.code m.items m.top (map C.value m.children.items) m.ops.items m.traffic.items) m.turns (map vec_items m.leaf_paths.items) (map vec_items m.bus_paths.items)
         × (tree_counts (machine_of m.code m.items m.top (map C.value m.children.items) m.ops.items m.traffic.items) ≡ m.counts)
-        × (WORDS < 2 ^ 32) × (m.items.size ≡ 4 * WORDS) × (length m.ops.items + m.spare ≤ vec_capacity m.ops) };
+        × (WORDS < 2 ^ 32) × (m.items.size ≡ 4 * WORDS) × (length m.ops.items + m.spare ≤ vec_capacity m.ops)
+        × AreIdle m.code m.items m.idle.items (dir_node m.top (nodes (map C.value m.children.items))) (dir_node m.top (nodes (map C.value m.children.items))) };
 }
 
 impl<const WORDS: usize, C: Subtree<WORDS> + Drop> Machine<WORDS, C> {
@@ -74,6 +82,7 @@ impl<const WORDS: usize, C: Subtree<WORDS> + Drop> Machine<WORDS, C> {
         let leaf_paths = leaf_paths(alloc, &top, &children, counts.leaves)?;
         let bus_paths = bus_paths(alloc, &top, &children, counts.buses)?;
         let traffic = vec![in alloc; no_traffic(); counts.buses as usize]?;
+        let idle = nothing_known(alloc, counts.leaves)?;
         Ok(Machine {
             top,
             children,
@@ -84,6 +93,7 @@ impl<const WORDS: usize, C: Subtree<WORDS> + Drop> Machine<WORDS, C> {
             counts,
             leaf_paths,
             bus_paths,
+            idle,
             spare: 0,
             turns: 0,
         })
@@ -125,14 +135,15 @@ impl<const WORDS: usize, C: Subtree<WORDS>> Machine<WORDS, C> {
         ensures after { self.new ≡ state_after turn self.old }
         ensures order { StaysInOrder self.old.machine self.new.machine }
     {
-        turn_found(
+        turn_made(
             &mut self.top,
             &mut self.children,
             &self.code,
             &self.items,
             &self.leaf_paths,
             &self.bus_paths,
-            turn,
+            &mut self.idle,
+            &turn,
             answer,
         );
         self.turns += 1;
@@ -148,16 +159,16 @@ fn turn_found<const WORDS: usize, C: Subtree<WORDS>>(
     items: &Items,
     leaf_paths: &[Vec<ChildNo>],
     bus_paths: &[Vec<ChildNo>],
-    turn: Turn,
+    turn: &Turn,
     answer: &mut TurnAnswer,
 )
     requires size { items.now.size ≡ 4 * WORDS }
     requires ready { IsReady (item_count items.now) WORDS (dir_node top.old (nodes (map C.value children.old))) }
-    requires found { IsFound turn (dir_node top.old (nodes (map C.value children.old))) (map vec_items leaf_paths.now) (map vec_items bus_paths.now) }
-    ensures answer { (path : List ℕ) → listed_path (named_by turn) (map vec_items leaf_paths.now) (map vec_items bus_paths.now) ≡ Some path → let n = dir_node top.old (nodes (map C.value children.old)) in answer.new ≡ node_answer code.now items.now turn path (present_at path stamp_zero n) (node_at path n) }
-    ensures after { (path : List ℕ) → listed_path (named_by turn) (map vec_items leaf_paths.now) (map vec_items bus_paths.now) ≡ Some path → let n = dir_node top.old (nodes (map C.value children.old)) in dir_node top.new (nodes (map C.value children.new)) ≡ put_at path (node_turned code.now items.now turn path (present_at path stamp_zero n) (node_at path n)) n }
+    requires found { IsFound turn.now (dir_node top.old (nodes (map C.value children.old))) (map vec_items leaf_paths.now) (map vec_items bus_paths.now) }
+    ensures answer { (path : List ℕ) → listed_path (named_by turn.now) (map vec_items leaf_paths.now) (map vec_items bus_paths.now) ≡ Some path → let n = dir_node top.old (nodes (map C.value children.old)) in answer.new ≡ node_answer code.now items.now turn.now path (present_at path stamp_zero n) (node_at path n) }
+    ensures after { (path : List ℕ) → listed_path (named_by turn.now) (map vec_items leaf_paths.now) (map vec_items bus_paths.now) ≡ Some path → let n = dir_node top.old (nodes (map C.value children.old)) in dir_node top.new (nodes (map C.value children.new)) ≡ put_at path (node_turned code.now items.now turn.now path (present_at path stamp_zero n) (node_at path n)) n }
 {
-    let path = path_of(named(&turn), leaf_paths, bus_paths);
+    let path = path_of(named(turn), leaf_paths, bus_paths);
     turn_under(
         top,
         children,
@@ -165,14 +176,46 @@ fn turn_found<const WORDS: usize, C: Subtree<WORDS>>(
         items,
         path,
         path,
-        Stamp::zero(),
+        &Stamp::zero(),
         turn,
         answer,
     );
 }
 
+/// The same, without a look at the tree where the hart is known to be idle.
+fn turn_made<const WORDS: usize, C: Subtree<WORDS>>(
+    top: &mut TopState<WORDS>,
+    children: &mut [C],
+    code: &Code,
+    items: &Items,
+    leaf_paths: &[Vec<ChildNo>],
+    bus_paths: &[Vec<ChildNo>],
+    idle: &mut [Option<Idle>],
+    turn: &Turn,
+    answer: &mut TurnAnswer,
+)
+    requires size { items.now.size ≡ 4 * WORDS }
+    requires ready { IsReady (item_count items.now) WORDS (dir_node top.old (nodes (map C.value children.old))) }
+    requires found { IsFound turn.now (dir_node top.old (nodes (map C.value children.old))) (map vec_items leaf_paths.now) (map vec_items bus_paths.now) }
+    requires paths { (k : ℕ) (path : List ℕ) → Leads (leaf_of_number k) path (dir_node top.old (nodes (map C.value children.old))) → slice_get (map vec_items leaf_paths.now) k ≡ Some path }
+    requires idle { AreIdle code.now items.now idle.old (dir_node top.old (nodes (map C.value children.old))) (dir_node top.old (nodes (map C.value children.old))) }
+    ensures answer { (path : List ℕ) → listed_path (named_by turn.now) (map vec_items leaf_paths.now) (map vec_items bus_paths.now) ≡ Some path → let n = dir_node top.old (nodes (map C.value children.old)) in answer.new ≡ node_answer code.now items.now turn.now path (present_at path stamp_zero n) (node_at path n) }
+    ensures after { (path : List ℕ) → listed_path (named_by turn.now) (map vec_items leaf_paths.now) (map vec_items bus_paths.now) ≡ Some path → let n = dir_node top.old (nodes (map C.value children.old)) in dir_node top.new (nodes (map C.value children.new)) ≡ put_at path (node_turned code.now items.now turn.now path (present_at path stamp_zero n) (node_at path n)) n }
+    ensures idle { AreIdle code.now items.now idle.new (dir_node top.old (nodes (map C.value children.old))) (dir_node top.new (nodes (map C.value children.new))) }
+{
+    match idle_for(turn, idle) {
+        Some(known) => *answer = idle_answer(known),
+        None => {
+            turn_found(
+                top, children, code, items, leaf_paths, bus_paths, turn, answer,
+            );
+            note(idle, leaf_paths, bus_paths, turn, answer);
+        }
+    }
+}
+
 /// What a turn names.
-fn named(turn: &Turn) -> Named
+pub(crate) fn named(turn: &Turn) -> Named
     ensures { name_of result ≡ named_by turn.now }
 {
     match turn {
@@ -185,7 +228,7 @@ fn named(turn: &Turn) -> Named
 }
 
 /// The path to a leaf or bus.
-fn path_of<'a>(
+pub(crate) fn path_of<'a>(
     name: Named,
     leaf_paths: &'a [Vec<ChildNo>],
     bus_paths: &'a [Vec<ChildNo>],

@@ -161,7 +161,7 @@ impl<const WORDS: usize, C: Subtree<WORDS>> Machine<WORDS, C> {
     {
         let bus = bus_of(&turn);
         let path = self.bus_path(bus);
-        grants_under(&self.top, &self.children, bus, path, on_bus(turn))
+        grants_under(&self.top, &self.children, bus, path, on_bus(&turn))
     }
 
     /// The path from the top to a leaf.

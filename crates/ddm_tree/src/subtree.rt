@@ -43,16 +43,16 @@ pub trait Subtree<const WORDS: usize>: Agent<WORDS> {
         items: &Items,
         path: &[ChildNo],
         rest: &[ChildNo],
-        present: Stamp,
-        turn: Turn,
+        present: &Stamp,
+        turn: &Turn,
         answer: &mut TurnAnswer,
     )
         requires size { items.now.size ≡ 4 * WORDS }
         requires ready { IsReady (item_count items.now) WORDS (Self.value self.old) }
-        requires leads { Leads (named_by turn) rest.now (Self.value self.old) }
-        requires child { HasChild (bus_turn_of turn) (node_at rest.now (Self.value self.old)) }
-        ensures answer { answer.new ≡ node_answer code.now items.now turn path.now (present_at rest.now present (Self.value self.old)) (node_at rest.now (Self.value self.old)) }
-        ensures after { Self.value self.new ≡ put_at rest.now (node_turned code.now items.now turn path.now (present_at rest.now present (Self.value self.old)) (node_at rest.now (Self.value self.old))) (Self.value self.old) };
+        requires leads { Leads (named_by turn.now) rest.now (Self.value self.old) }
+        requires child { HasChild (bus_turn_of turn.now) (node_at rest.now (Self.value self.old)) }
+        ensures answer { answer.new ≡ node_answer code.now items.now turn.now path.now (present_at rest.now present.now (Self.value self.old)) (node_at rest.now (Self.value self.old)) }
+        ensures after { Self.value self.new ≡ put_at rest.now (node_turned code.now items.now turn.now path.now (present_at rest.now present.now (Self.value self.old)) (node_at rest.now (Self.value self.old))) (Self.value self.old) };
 
     /// Whether a Down, Request or Reply turn of this bus would be granted.
     fn grants_below(&self, bus: BusNo, path: &[ChildNo], turn: BusTurn) -> bool

@@ -6,23 +6,23 @@ use ddm_types::{ChildNo, Key, Stamp, Turn};
 use tree_model::BusTurn;
 
 /// A turn as its bus sees it.
-pub(crate) fn on_bus(turn: Turn) -> BusTurn
-    ensures { result ≡ bus_turn_of turn }
+pub(crate) fn on_bus(turn: &Turn) -> BusTurn
+    ensures { result ≡ bus_turn_of turn.now }
 {
     match turn {
         Turn::Hart { .. } | Turn::Down { .. } => BusTurn::Down,
-        Turn::Request { child, .. } => BusTurn::Request(child),
-        Turn::Reply { child, .. } => BusTurn::Reply(child),
-        Turn::Leave { child, choice, .. } => BusTurn::Leave(child, choice),
+        Turn::Request { child, .. } => BusTurn::Request(*child),
+        Turn::Reply { child, .. } => BusTurn::Reply(*child),
+        Turn::Leave { child, choice, .. } => BusTurn::Leave(*child, *choice),
     }
 }
 
 /// The way that a hart's turn may clear.
-pub(crate) fn victim(turn: Turn) -> u8
-    ensures { result ≡ victim_of turn }
+pub(crate) fn victim(turn: &Turn) -> u8
+    ensures { result ≡ victim_of turn.now }
 {
     match turn {
-        Turn::Hart { victim, .. } => victim,
+        Turn::Hart { victim, .. } => *victim,
         Turn::Down { .. } | Turn::Request { .. } | Turn::Reply { .. } | Turn::Leave { .. } => 0,
     }
 }

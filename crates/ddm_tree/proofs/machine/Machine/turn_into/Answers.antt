@@ -1,23 +1,37 @@
 -- One turn of the machine.
 use Rattle.std.proofs.Common.{◌≡◌, ◌≤◌, ◌+◌, length, map, take, drop, ◌++◌, true, vec_items, sym, ap, subst, ◌∙◌, arith}
 use Rattle.tree_model.specs.State.Shape.{tree_counts}
+use Rattle.tree_model.specs.State.Values.{dir_node, nodes, root_of}
 use Rattle.tree_model.specs.Turns.Machine.{names_part, turn_of}
+use Rattle.tree_model.specs.Turns.Tree.{leaf_of_number}
 use Rattle.ddm_tree.specs.Machine.{IsMachine, MachineState, machine_of, state_after}
+use Rattle.ddm_tree.proofs.IdleHarts.{idle-after}
 use Rattle.ddm_tree.proofs.MachineKept.{turn-keeps}
 use Rattle.ddm_tree.proofs.RulesKept.{made-order}
 use Rattle.ddm_tree.proofs.TurnMade.{Told, all-traffic-most, items-back, machine-ready, part-found, state-made, told-turn, turn-tree_counts}
 use Rattle.ddm_tree.proofs.machine.Machine.turn_into.Goals as goal
 use Rattle.ddm_tree.proofs.machine.Machine.turn_into.Given
 
-pub turn_found-requires : goal.turn_found-requires
-turn_found-requires g c =
+pub turn_made-requires : goal.turn_made-requires
+turn_made-requires g c =
     let m = machine_of c.self.inside.code c.self.inside.items c.self.inside.top (map g.C.Agent.value c.self.inside.children.items) c.self.inside.ops.items c.self.inside.traffic.items in
     let named : names_part c.args.turn m ≡ true = subst (λ s. names_part c.args.turn s.machine ≡ true) (sym c.self.view_is) c.requires.named in
     let turns : c.self.inside.turns + 1 ≤ 4294967295 = subst (λ s. s.turns + 1 ≤ 4294967295) (sym c.self.view_is) (omega (arith, c.requires.turns)) in
     let inv = c.self.invariant in
     let ready = machine-ready g.row.WORDS c.self.inside.turns (map vec_items c.self.inside.leaf_paths.items) (map vec_items c.self.inside.bus_paths.items) m inv.0 inv.2 (omega (arith, turns)) in
-    let found = part-found g.row.WORDS c.self.inside.turns (map vec_items c.self.inside.leaf_paths.items) (map vec_items c.self.inside.bus_paths.items) c.args.turn m inv.0 named in
-    (omega arith, (inv.3, (rw (c.deref_mut.ensures.value) ready, rw (c.deref_mut.ensures.value, c.deref.ensures.value, c.deref-2.ensures.value) found)))
+    let found = part-found g.row.WORDS c.self.inside.turns (map vec_items c.self.inside.leaf_paths.items) (map vec_items c.self.inside.bus_paths.items) c.args.turn m inv.0 named in (
+      omega arith,
+      (
+        inv.3,
+        (
+          rw (c.deref_mut.ensures.value) ready,
+          (
+            rw (c.deref_mut.ensures.value, c.deref.ensures.value, c.deref-2.ensures.value) found,
+            (rw (c.deref_mut.ensures.value, c.deref.ensures.value) (λ k path leads. inv.0.paths (leaf_of_number k) path leads), rw (c.deref_mut.ensures.value, c.deref_mut-2.ensures.value) inv.5),
+          ),
+        ),
+      ),
+    )
 
 pub record-requires-clause-counts : goal.record-requires-clause-counts
 record-requires-clause-counts g c =
@@ -25,24 +39,34 @@ record-requires-clause-counts g c =
     all-traffic-most c.self.inside.turns 4294967294 (omega (arith, turns)) c.self.inside.traffic.items c.self.invariant.0.granted
 
 -- what the code did, in the tables' words
-told : (g : Given.Over) (c : goal.After-record g) → Told c.args.turn (machine_of c.self.inside.code c.self.inside.items c.self.inside.top (map g.C.Agent.value c.self.inside.children.items) c.self.inside.ops.items c.self.inside.traffic.items) c.turn_found.new.answer c.turn_found.new.top (map g.C.Agent.value c.turn_found.new.children)
+told : (g : Given.Over) (c : goal.After-record g) → Told c.args.turn (machine_of c.self.inside.code c.self.inside.items c.self.inside.top (map g.C.Agent.value c.self.inside.children.items) c.self.inside.ops.items c.self.inside.traffic.items) c.turn_made.new.answer c.turn_made.new.top (map g.C.Agent.value c.turn_made.new.children)
 told g c =
     let m = machine_of c.self.inside.code c.self.inside.items c.self.inside.top (map g.C.Agent.value c.self.inside.children.items) c.self.inside.ops.items c.self.inside.traffic.items in
     let named : names_part c.args.turn m ≡ true = subst (λ s. names_part c.args.turn s.machine ≡ true) (sym c.self.view_is) c.requires.named in
     let leaf_paths = map vec_items c.self.inside.leaf_paths.items in
     let bus_paths = map vec_items c.self.inside.bus_paths.items in
     let found = part-found g.row.WORDS c.self.inside.turns leaf_paths bus_paths c.args.turn m c.self.invariant.0 named in
-    told-turn c.args.turn m leaf_paths bus_paths c.turn_found.new.answer c.turn_found.new.top (map g.C.Agent.value c.turn_found.new.children) found
-    (rw (c.deref_mut.ensures.value, c.deref.ensures.value, c.deref-2.ensures.value) at c.turn_found.ensures.answer)
-    (rw (c.deref_mut.ensures.value, c.deref.ensures.value, c.deref-2.ensures.value) at c.turn_found.ensures.after)
+    told-turn c.args.turn m leaf_paths bus_paths c.turn_made.new.answer c.turn_made.new.top (map g.C.Agent.value c.turn_made.new.children) found
+    (rw (c.deref_mut.ensures.value, c.deref.ensures.value, c.deref-2.ensures.value) at c.turn_made.ensures.answer)
+    (rw (c.deref_mut.ensures.value, c.deref.ensures.value, c.deref-2.ensures.value) at c.turn_made.ensures.after)
+
+-- the children are put back
+children-back : (g : Given.Over) (c : goal.After-record g) → take c.self.inside.children.len (c.turn_made.new.children ++ drop (length c.turn_made.new.children) c.self.inside.children.items) ≡ c.turn_made.new.children
+children-back g c =
+    let whole : c.self.inside.children.len ≡ length c.self.inside.children.items = sym c.deref_mut.ensures.len ∙ ap length c.deref_mut.ensures.value in
+    let same : length c.turn_made.new.children ≡ length c.self.inside.children.items = c.turn_made.auto.children ∙ ap length c.deref_mut.ensures.value in
+    items-back c.self.inside.children.items c.turn_made.new.children c.self.inside.children.len whole same
+
+-- and so is what is remembered
+idle-back : (g : Given.Over) (c : goal.After-record g) → take c.self.inside.idle.len (c.turn_made.new.idle ++ drop (length c.turn_made.new.idle) c.self.inside.idle.items) ≡ c.turn_made.new.idle
+idle-back g c =
+    let whole : c.self.inside.idle.len ≡ length c.self.inside.idle.items = sym c.deref_mut-2.ensures.len ∙ ap length c.deref_mut-2.ensures.value in
+    let same : length c.turn_made.new.idle ≡ length c.self.inside.idle.items = c.turn_made.auto.idle ∙ ap length c.deref_mut-2.ensures.value in
+    items-back c.self.inside.idle.items c.turn_made.new.idle c.self.inside.idle.len whole same
 
 -- the machine afterwards
-machine-after : (g : Given.Over) (c : goal.After-record g) → machine_of c.self.inside.code c.self.inside.items c.turn_found.new.top (map g.C.Agent.value (take c.self.inside.children.len (c.turn_found.new.children ++ drop (length c.turn_found.new.children) c.self.inside.children.items))) c.record.new.ops.items c.record.new.traffic.items ≡ (turn_of c.args.turn (machine_of c.self.inside.code c.self.inside.items c.self.inside.top (map g.C.Agent.value c.self.inside.children.items) c.self.inside.ops.items c.self.inside.traffic.items)).machine
-machine-after g c =
-    let whole : c.self.inside.children.len ≡ length c.self.inside.children.items = sym c.deref_mut.ensures.len ∙ ap length c.deref_mut.ensures.value in
-    let same : length c.turn_found.new.children ≡ length c.self.inside.children.items = c.turn_found.auto.children ∙ ap length c.deref_mut.ensures.value in
-    let back = items-back c.self.inside.children.items c.turn_found.new.children c.self.inside.children.len whole same in
-    rw (back, c.record.ensures.ops, c.record.ensures.traffic) (told g c).machine_is
+machine-after : (g : Given.Over) (c : goal.After-record g) → machine_of c.self.inside.code c.self.inside.items c.turn_made.new.top (map g.C.Agent.value (take c.self.inside.children.len (c.turn_made.new.children ++ drop (length c.turn_made.new.children) c.self.inside.children.items))) c.record.new.ops.items c.record.new.traffic.items ≡ (turn_of c.args.turn (machine_of c.self.inside.code c.self.inside.items c.self.inside.top (map g.C.Agent.value c.self.inside.children.items) c.self.inside.ops.items c.self.inside.traffic.items)).machine
+machine-after g c = rw (children-back g c, c.record.ensures.ops, c.record.ensures.traffic) (told g c).machine_is
 
 pub invariant_of-self : goal.invariant_of-self
 invariant_of-self g c =
@@ -51,8 +75,10 @@ invariant_of-self g c =
     let leaf_paths = map vec_items c.self.inside.leaf_paths.items in
     let bus_paths = map vec_items c.self.inside.bus_paths.items in
     let inv = c.self.invariant in
+    let left = dir_node c.turn_made.new.top (nodes (map g.C.Agent.value c.turn_made.new.children)) in
+    let idle = idle-after c.self.inside.code c.self.inside.items c.args.turn m c.turn_made.new.idle _ left _ (idle-back g c) (ap root_of after) (ap (λ cs. dir_node c.turn_made.new.top (nodes (map g.C.Agent.value cs))) (children-back g c)) (rw (c.deref_mut.ensures.value) at c.turn_made.ensures.idle) in
     let keeps = turn-keeps g.row.WORDS c.self.inside.turns leaf_paths bus_paths c.args.turn m inv.0 in
-    (subst (λ n. IsMachine g.row.WORDS n (c.self.inside.turns + 1) leaf_paths bus_paths) (sym after) keeps, ap tree_counts after ∙ turn-tree_counts c.args.turn m ∙ inv.1, inv.2, inv.3, c.record.ensures.room)
+    (subst (λ n. IsMachine g.row.WORDS n (c.self.inside.turns + 1) leaf_paths bus_paths) (sym after) keeps, ap tree_counts after ∙ turn-tree_counts c.args.turn m ∙ inv.1, inv.2, inv.3, c.record.ensures.room, idle)
 
 pub returns-clause-answer : goal.returns-clause-answer
 returns-clause-answer g c = (told g c).answer_is ∙ ap (λ s. (turn_of c.args.turn s.machine).answer) c.self.view_is
@@ -61,7 +87,7 @@ pub returns-clause-after : goal.returns-clause-after
 returns-clause-after g c =
     let m = machine_of c.self.inside.code c.self.inside.items c.self.inside.top (map g.C.Agent.value c.self.inside.children.items) c.self.inside.ops.items c.self.inside.traffic.items in
     let old : MachineState = record { machine = m; spare = c.self.inside.spare; turns = c.self.inside.turns } in
-    state-made c.args.turn old _ c.turn_found.new.answer c.record.new.spare (machine-after g c) (told g c).answer_is c.record.ensures.spare ∙ ap (state_after c.args.turn) c.self.view_is
+    state-made c.args.turn old _ c.turn_made.new.answer c.record.new.spare (machine-after g c) (told g c).answer_is c.record.ensures.spare ∙ ap (state_after c.args.turn) c.self.view_is
 
 pub returns-clause-order : goal.returns-clause-order
 returns-clause-order g c =

@@ -1,0 +1,39 @@
+-- One turn, spared where the hart is known to be idle.
+use Rattle.std.proofs.Common.{◌≡◌, map, vec_items, Some, sym, subst, ◌∙◌}
+use Rattle.ddm_types.specs.Keys.{stamp_zero}
+use Rattle.tree_model.specs.State.Values.{dir_node, nodes}
+use Rattle.tree_model.specs.Turns.Machine.{named_by}
+use Rattle.ddm_tree.specs.Idle.{AreIdle, AreNoted, idle_for}
+use Rattle.ddm_tree.specs.Path.{present_at}
+use Rattle.ddm_tree.specs.Ready.{Leads}
+use Rattle.ddm_tree.proofs.IdleHarts.{noted-idle, spared}
+use Rattle.ddm_tree.proofs.TurnMade.{same-path}
+use Rattle.ddm_tree.proofs.machine.turn_made.Goals as goal
+
+pub returns-in-Some-clause-answer : goal.returns-in-Some-clause-answer
+returns-in-Some-clause-answer g c = λ path listed.
+    let n = dir_node c.args.top.now (nodes (map g.C.Agent.value c.args.children.now)) in
+    let found = c.requires.found in
+    let same : path ≡ found.path = same-path _ found.path path (sym found.listed) listed in
+    let leads : Leads (named_by c.args.turn.now) path n = subst (λ p. Leads (named_by c.args.turn.now) p n) (sym same) found.leads in
+    let known : idle_for c.args.turn.now c.args.idle.now ≡ Some c.in-Some.known = sym c.idle_for.ensures ∙ c.in-Some.is in
+    c.idle_answer.ensures ∙ sym (spared c.args.code.now c.args.items.now n c.args.idle.now c.requires.idle (present_at path stamp_zero n) path c.in-Some.known c.args.turn.now leads known).answers
+
+pub returns-in-Some-clause-after : goal.returns-in-Some-clause-after
+returns-in-Some-clause-after g c = λ path listed.
+    let n = dir_node c.args.top.now (nodes (map g.C.Agent.value c.args.children.now)) in
+    let found = c.requires.found in
+    let same : path ≡ found.path = same-path _ found.path path (sym found.listed) listed in
+    let leads : Leads (named_by c.args.turn.now) path n = subst (λ p. Leads (named_by c.args.turn.now) p n) (sym same) found.leads in
+    let known : idle_for c.args.turn.now c.args.idle.now ≡ Some c.in-Some.known = sym c.idle_for.ensures ∙ c.in-Some.is in
+    sym (spared c.args.code.now c.args.items.now n c.args.idle.now c.requires.idle (present_at path stamp_zero n) path c.in-Some.known c.args.turn.now leads known).leaves
+
+pub returns-in-None-clause-idle : goal.returns-in-None-clause-idle
+returns-in-None-clause-idle g c =
+    let n = dir_node c.args.top.now (nodes (map g.C.Agent.value c.args.children.now)) in
+    let found = c.requires.found in
+    let leaf_paths = map vec_items c.args.leaf_paths.now in
+    let bus_paths = map vec_items c.args.bus_paths.now in
+    let noted = subst (λ a. AreNoted c.args.turn.now a leaf_paths bus_paths c.args.idle.now c.note.new.idle) (c.turn_found.ensures.answer found.path found.listed) c.note.ensures in
+    let idle = noted-idle c.args.code.now c.args.items.now c.args.turn.now found.path (present_at found.path stamp_zero n) n found.leads leaf_paths bus_paths c.args.idle.now found.listed c.requires.paths c.requires.idle c.note.new.idle noted in
+    subst (AreIdle c.args.code.now c.args.items.now c.note.new.idle n) (sym (c.turn_found.ensures.after found.path found.listed)) idle
