@@ -1,9 +1,9 @@
 -- A run in blocks of turns, which may end where all harts have halted.
 -- Letters: m is a machine, s one as the code has it.
-use Rattle.std.proofs.Common.{◌≡◌, ◌∙◌, ap, sym, subst, refl, ℕ, ◌+◌, ◌≤◌, true, List, [], ◌∷◌, ◌++◌, length, append_assoc, arith}
+use Rattle.std.proofs.Common.{◌≡◌, ◌∙◌, ap, sym, subst, refl, ℕ, ◌+◌, ◌≤◌, true, List, [], ◌∷◌, ◌++◌, length, take, drop, append_assoc, arith}
 use Rattle.std.specs.Prelude.{All}
 use Rattle.std.proofs.Math.Seq.{drop-append_seam, take-append_seam}
-use Rattle.std.proofs.lemmas.List.{append-nil, length-append}
+use Rattle.std.proofs.lemmas.List.{append-nil, length-append, take-append-drop}
 use Rattle.std.proofs.lemmas.List.Elements.{All-drop, All-take, All-weaker}
 use Rattle.ddm_types.specs.declared.answers.TurnAnswer.{TurnAnswer}
 use Rattle.ddm_types.specs.declared.turns.Turn.{Turn}
@@ -78,6 +78,10 @@ pub record AfterBlocks (turns left : List Turn) (before after : AnyMachine) : Ty
 pub no-blocks : (turns : List Turn) (before : AnyMachine) → length turns ≤ (machine_state before).spare → AfterBlocks turns turns before before
 unfolding run_of
 no-blocks turns before spare = record { made = []; parts = refl; machine = refl; counted = omega arith; room = omega arith; spare = spare; kind = refl }
+
+-- a block, and those behind it
+pub next-parts : (count : ℕ) (block left rest : List Turn) → take count block ≡ take count left → rest ≡ drop count left → take count block ++ rest ≡ left
+next-parts count block left rest front back = ap (λ us. us ++ rest) front ∙ ap (λ us. take count left ++ us) back ∙ take-append-drop count left
 
 module _ (turns left : List Turn) (before here : AnyMachine) (is : AfterBlocks turns left before here) where
   -- one block more
