@@ -212,17 +212,13 @@ module _ (t : TreeValue) (tree : IsTree t) (s : MachineState) (start : HasStart 
       let whole : (turns ++ block) ++ left ≡ all = append_assoc turns block left ∙ ap (λ l. turns ++ l) parts ∙ so_far in
       (whole, can_make t tree s start keep now made turns block has (block_given levels t.levels turns block left all same whole known few))
 
--- a block of none is the last
-pub all_made : (most : ℕ) (turns rest all : List Turn) → 0 < most → turns ++ rest ≡ all → take most rest ≡ [] → all ≡ turns
-all_made most turns [] all some so_far none = sym so_far ∙ append-nil turns
-all_made zero turns (x ∷ xs) all some so_far none = absurd (omega (arith, some))
-all_made (suc n) turns (x ∷ xs) all some so_far none = let longer : suc (length (take n xs)) ≡ 0 = ap length none in absurd (omega (arith, longer))
+-- where none is left, all were made
+pub all_made : (turns rest all : List Turn) → turns ++ rest ≡ all → rest ≡ [] → all ≡ turns
+all_made turns rest all so_far none = sym so_far ∙ ap (λ l. turns ++ l) none ∙ append-nil turns
 
--- and behind another one fewer are left
-pub fewer_left : (most : ℕ) (rest block left : List Turn) → block ≡ take most rest → left ≡ drop most rest → 0 < length block → length left < length rest
-fewer_left most [] block left front back some = absurd (omega (arith, some, ap length (front ∙ take-nil most)))
-fewer_left zero (x ∷ xs) block left front back some = absurd (omega (arith, some, ap length front))
-fewer_left (suc n) (x ∷ xs) block left front back some = omega (arith, ap length back, length-drop (suc n) (x ∷ xs))
+-- a block that is as long as the list it is put into is that list
+pub block_kept : (size : ℕ) (block behind : List Turn) → length block ≡ size → take size (block ++ behind) ≡ block
+block_kept size block behind same = ap (λ n. take n (block ++ behind)) (sym same) ∙ take-append_seam block behind
 
 -- ---- the pieces of a file
 

@@ -5,4 +5,4 @@ pub const MOST_IMAGE: u64 = 4_194_304;
 pub const MOST_TREE: u64 = 65_536;
 
 /// How many turns of a seed are made at a time.
-pub const BLOCK_TURNS: u32 = 4096;
+pub const BLOCK_TURNS: usize = 4096;

@@ -1,4 +1,4 @@
-ghost use Rattle.std.specs.Prelude.{◌≡◌, ◌<◌, ◌≤◌, ◌+◌, ◌++◌, [], ℕ, List, Some, length, IfOk, IfErr, OnOk, if◌then◌else◌};
+ghost use Rattle.std.specs.Prelude.{◌≡◌, ◌<◌, ◌≤◌, ◌+◌, ◌++◌, [], ℕ, List, Some, length, vec_len, IfOk, IfErr, OnOk, if◌then◌else◌};
 ghost use Rattle.std.specs.Option.{option_map};
 ghost use Rattle.text_model.specs.Run.{no_counts};
 ghost use Rattle.bus_laws.specs.IsTree.{IsTree};
@@ -16,7 +16,7 @@ use crate::command::TurnSource;
 use crate::limits::BLOCK_TURNS;
 use crate::status::Status;
 use ddm_outside::Shelf;
-use ddm_types::{NoMemory, Turn, TurnAnswer};
+use ddm_types::{BusNo, NoMemory, Turn, TurnAnswer};
 use report::FileRole;
 use run_engine::{AnyMachine, run};
 use schedule_log::{FeedError, ScheduleReader, SeededTurns};
@@ -124,6 +124,13 @@ fn schedule_made<F: Shelf>(
     }
 }
 
+// Places for the turns of a block.
+fn turn_block(alloc: Global) -> Result<Vec<Turn>, NoMemory>
+    ensures { IfOk result (λ block. 0 < vec_len block) }
+{
+    Ok(Vec::from_elem(alloc, Turn::Down { bus: BusNo(0) }, BLOCK_TURNS)?)
+}
+
 // Makes the turns of a seed, those of each block before the next one is asked for.
 fn seed_made(
     alloc: Global,
@@ -138,15 +145,16 @@ fn seed_made(
     requires start { HasStart tree.now (machine_state machine.old) }
     ensures { IfOk result (λ made. HasAllMade tree.now.levels (Some (Told.seeded seed count)) keep (machine_state machine.old) (machine_state machine.new) made) }
 {
-    let mut left = SeededTurns::new(alloc, seed, count, &tree.nodes)?;
-    let mut block = Vec::with_capacity(alloc, BLOCK_TURNS as usize)?;
+    let mut left = SeededTurns::new(alloc, &tree.nodes)?;
+    left.begin(seed, count);
+    let mut block = turn_block(alloc)?;
     let mut made = nothing_made(alloc);
     'making: loop {
-        left.next_block(BLOCK_TURNS, &mut block)?;
-        if block.is_empty() {
+        let size = left.next_block(&mut block);
+        if size == 0 {
             return Ok(made);
         }
-        make_turns(machine, &block, &mut made, keep)?;
+        make_turns(machine, &block[..size], &mut made, keep)?;
     }
 }
 

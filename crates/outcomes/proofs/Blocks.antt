@@ -1,8 +1,9 @@
 -- A run in blocks of turns, which may end where all harts have halted.
 -- Letters: m is a machine, s one as the code has it.
-use Rattle.std.proofs.Common.{◌≡◌, ◌∙◌, ap, sym, refl, ℕ, ◌+◌, ◌-◌, ◌≤◌, true, List, [], ◌∷◌, length, take, drop, arith}
-use Rattle.std.proofs.Math.Seq.{take-add}
-use Rattle.std.proofs.lemmas.List.{length-append, length-drop, length-take-le, take-append-drop}
+use Rattle.std.proofs.Common.{◌≡◌, ◌∙◌, ap, sym, subst, refl, ℕ, ◌+◌, ◌≤◌, true, List, [], ◌∷◌, ◌++◌, length, take, drop, append_assoc, arith}
+use Rattle.std.specs.Prelude.{All}
+use Rattle.std.proofs.Math.Seq.{drop-append_seam, take-append_seam}
+use Rattle.std.proofs.lemmas.List.{append-nil, length-append, take-append-drop}
 use Rattle.std.proofs.lemmas.List.Elements.{All-drop, All-take, All-weaker}
 use Rattle.ddm_types.specs.declared.answers.TurnAnswer.{TurnAnswer}
 use Rattle.ddm_types.specs.declared.turns.Turn.{Turn}
@@ -14,7 +15,7 @@ use Rattle.text_model.specs.Run.{counts_of}
 use Rattle.ddm_tree.specs.Machine.{MachineState}
 use Rattle.any_machine.specs.Any.{machine_state}
 use Rattle.any_machine.specs.Kind.{kind_of}
-use Rattle.any_machine.specs.Run.{NameParts, answers_in, ran}
+use Rattle.any_machine.specs.Run.{CanRun, NameParts, answers_in, ran}
 use Rattle.any_machine.specs.declared.machine.AnyMachine.{AnyMachine}
 use Rattle.start_parts.proofs.Names.{run-names}
 use Rattle.any_machine.proofs.RunMore.{answers-length}
@@ -62,57 +63,79 @@ room-after ts s =
     let size = answers-length ts s.machine in
     record { all = omega (arith, ops); left = omega (arith, most, size) }
 
--- ---- the outcome
-
--- the machine after some of the turns, where all harts have halted, has the outcome of all of them
-pub halted-early : (ts : List Turn) (k : ℕ) (m : MachineValue) → all_halted (run_of (take k ts) m).machine ≡ true → outcome_of (run_of (take k ts) m).machine ≡ outcome_of (run_of ts m).machine
-halted-early ts k m h = sym (later-turns-change-nothing (take k ts) (drop k ts) m h) ∙ ap (λ us. outcome_of (run_of us m).machine) (take-append-drop k ts)
-
--- one block more
-pub block-ran : (ts : List Turn) (from count : ℕ) (m : MachineValue) → (run_of (take count (drop from ts)) (run_of (take from ts) m).machine).machine ≡ (run_of (take (from + count) ts) m).machine
-block-ran ts from count m = sym (joined (take from ts) (take count (drop from ts)) m) ∙ ap (λ us. (run_of us m).machine) (sym (take-add from count ts))
-
 -- ---- the machine after some of the turns
 
-pub record AfterBlocks (turns : List Turn) (from : ℕ) (before after : AnyMachine) : Type 0 where
-  pub machine : (machine_state after).machine ≡ (run_of (take from turns) (machine_state before).machine).machine
-  pub counted : (machine_state after).turns ≡ (machine_state before).turns + from
+-- some turns were made, and the others are left
+pub record AfterBlocks (turns left : List Turn) (before after : AnyMachine) : Type 0 where
+  pub made : List Turn
+  pub parts : made ++ left ≡ turns
+  pub machine : (machine_state after).machine ≡ (run_of made (machine_state before).machine).machine
+  pub counted : (machine_state after).turns ≡ (machine_state before).turns + length made
   pub room : length (machine_state before).machine.ops + (machine_state before).spare ≤ length (machine_state after).machine.ops + (machine_state after).spare
-  pub left : length turns ≤ (machine_state after).spare + from
+  pub spare : length left ≤ (machine_state after).spare
   pub kind : kind_of after ≡ kind_of before
-  pub within : from ≤ length turns
 
-pub no-blocks : (turns : List Turn) (before : AnyMachine) → length turns ≤ (machine_state before).spare → AfterBlocks turns 0 before before
+pub no-blocks : (turns : List Turn) (before : AnyMachine) → length turns ≤ (machine_state before).spare → AfterBlocks turns turns before before
 unfolding run_of
-no-blocks turns before spare = record { machine = refl; counted = omega arith; room = omega arith; left = omega (arith, spare); kind = refl; within = omega arith }
+no-blocks turns before spare = record { made = []; parts = refl; machine = refl; counted = omega arith; room = omega arith; spare = spare; kind = refl }
 
--- one block more, of so many turns
-pub more-blocks : (turns : List Turn) (from to : ℕ) (before here after : AnyMachine) → AfterBlocks turns from before here → from ≤ to → to ≤ length turns
-    → machine_state after ≡ ran (take (to - from) (drop from turns)) (machine_state here) → kind_of after ≡ kind_of here → AfterBlocks turns to before after
-more-blocks turns from to before here after is forward within made kind =
-    let count : ℕ = to - from in
-    let next : from + count ≡ to = omega arith in
-    let block : List Turn = take count (drop from turns) in
-    let size : length block ≡ count = length-take-le count (drop from turns) (omega (arith, length-drop from turns, within)) in
-    let room = room-after block (machine_state here) in
-    let machine : (machine_state after).machine ≡ (run_of (take to turns) (machine_state before).machine).machine = ap (λ s. s.machine) made ∙ ap (λ m. (run_of block m).machine) is.machine ∙ block-ran turns from count (machine_state before).machine ∙ ap (λ k. (run_of (take k turns) (machine_state before).machine).machine) next in
-    let turns_made = ap (λ s. s.turns) made in
-    let ops_made = ap (λ s. length s.machine.ops) made in
-    let spare_made = ap (λ s. s.spare) made in
-    record {
-      machine = machine;
-      counted = omega (arith, turns_made, size, is.counted, next);
-      room = omega (arith, ops_made, spare_made, room.all, is.room);
-      left = omega (arith, spare_made, room.left, size, is.left, next);
-      kind = kind ∙ is.kind;
-      within = within;
-    }
+-- a block, and those behind it
+pub next-parts : (count : ℕ) (block left rest : List Turn) → take count block ≡ take count left → rest ≡ drop count left → take count block ++ rest ≡ left
+next-parts count block left rest front back = ap (λ us. us ++ rest) front ∙ ap (λ us. take count left ++ us) back ∙ take-append-drop count left
 
--- what the next block needs
-pub block-named : (turns : List Turn) (from count : ℕ) (before here : AnyMachine) → AfterBlocks turns from before here → NameParts turns (machine_state before).machine → NameParts (take count (drop from turns)) (machine_state here).machine
-block-named turns from count before here is named =
-    let each : NameParts (take count (drop from turns)) (machine_state before).machine = All-take (λ t. names_part t (machine_state before).machine ≡ true) count (drop from turns) (All-drop (λ t. names_part t (machine_state before).machine ≡ true) from turns named) in
-    All-weaker (λ t. names_part t (machine_state before).machine ≡ true) (λ t. names_part t (machine_state here).machine ≡ true) (λ t name. ap (names_part t) is.machine ∙ run-names t (take from turns) (machine_state before).machine ∙ name) (take count (drop from turns)) each
+module _ (turns left : List Turn) (before here : AnyMachine) (is : AfterBlocks turns left before here) where
+  -- one block more
+  pub more-blocks : (block rest : List Turn) (after : AnyMachine) → block ++ rest ≡ left → machine_state after ≡ ran block (machine_state here) → kind_of after ≡ kind_of here → AfterBlocks turns rest before after
+  more-blocks block rest after parts came kind =
+      let room = room-after block (machine_state here) in
+      let ops_made = ap (λ s. length s.machine.ops) came in
+      let spare_made = ap (λ s. s.spare) came in
+      let turns_made = ap (λ s. s.turns) came in
+      let sizes : length block + length rest ≡ length left = sym (length-append block rest) ∙ ap length parts in
+      let all : length (is.made ++ block) ≡ length is.made + length block = length-append is.made block in
+      record {
+        made = is.made ++ block;
+        parts = append_assoc is.made block rest ∙ ap (λ us. is.made ++ us) parts ∙ is.parts;
+        machine = ap (λ s. s.machine) came ∙ ap (λ m. (run_of block m).machine) is.machine ∙ sym (joined is.made block (machine_state before).machine);
+        counted = omega (arith, turns_made, all, is.counted);
+        room = omega (arith, ops_made, spare_made, room.all, is.room);
+        spare = omega (arith, spare_made, room.left, sizes, is.spare);
+        kind = kind ∙ is.kind;
+      }
 
-pub blocks-keep : (turns : List Turn) (from : ℕ) (before after : AnyMachine) → AfterBlocks turns from before after → KeepsRoom (machine_state before) (machine_state after)
-blocks-keep turns from before after is = record { frame = ap frame_of is.machine ∙ run-frame (take from turns) (machine_state before).machine; room = is.room }
+  -- what the next block needs
+  pub block-named : (block rest : List Turn) → block ++ rest ≡ left → NameParts turns (machine_state before).machine → NameParts block (machine_state here).machine
+  block-named block rest parts named =
+      let P : Turn → Type 0 = λ t. names_part t (machine_state before).machine ≡ true in
+      let whole : is.made ++ (block ++ rest) ≡ turns = ap (λ us. is.made ++ us) parts ∙ is.parts in
+      let behind : All P (block ++ rest) = subst (All P) (drop-append_seam is.made (block ++ rest)) (All-drop P (length is.made) (is.made ++ (block ++ rest)) (subst (All P) (sym whole) named)) in
+      let each : All P block = subst (All P) (take-append_seam block rest) (All-take P (length block) (block ++ rest) behind) in
+      All-weaker P (λ t. names_part t (machine_state here).machine ≡ true) (λ t name. ap (names_part t) is.machine ∙ run-names t is.made (machine_state before).machine ∙ name) block each
+
+  pub block-few : (block rest : List Turn) → block ++ rest ≡ left → CanRun turns (machine_state before) → CanRun block (machine_state here)
+  block-few block rest parts few =
+      let sizes : length block + length rest ≡ length left = sym (length-append block rest) ∙ ap length parts in
+      let all : length is.made + length left ≡ length turns = sym (length-append is.made left) ∙ ap length is.parts in
+      omega (arith, sizes, all, is.counted, few)
+
+  pub block-spared : (block rest : List Turn) → block ++ rest ≡ left → length block ≤ (machine_state here).spare
+  block-spared block rest parts =
+      let sizes : length block + length rest ≡ length left = sym (length-append block rest) ∙ ap length parts in
+      omega (arith, sizes, is.spare)
+
+  pub blocks-keep : KeepsRoom (machine_state before) (machine_state here)
+  blocks-keep = record { frame = ap frame_of is.machine ∙ run-frame is.made (machine_state before).machine; room = is.room }
+
+  -- ---- the outcome
+
+  -- the machine after some of the turns, where all harts have halted, has the outcome of all of them
+  pub halted-early : all_halted (machine_state here).machine ≡ true → outcome_of (machine_state here).machine ≡ outcome_of (run_of turns (machine_state before).machine).machine
+  halted-early halted =
+      let m = (machine_state before).machine in
+      ap outcome_of is.machine ∙ sym (later-turns-change-nothing is.made left m (ap all_halted (sym is.machine) ∙ halted)) ∙ ap (λ us. outcome_of (run_of us m).machine) is.parts
+
+  -- and so has the one after all of them
+  pub all-made : left ≡ [] → outcome_of (machine_state here).machine ≡ outcome_of (run_of turns (machine_state before).machine).machine
+  all-made none =
+      let whole : is.made ≡ turns = sym (append-nil is.made) ∙ ap (λ us. is.made ++ us) (sym none) ∙ is.parts in
+      ap outcome_of is.machine ∙ ap (λ us. outcome_of (run_of us (machine_state before).machine).machine) whole

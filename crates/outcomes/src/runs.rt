@@ -15,75 +15,79 @@ use crate::ending::{all_halted, put_outcome};
 use crate::line::OutcomeLine;
 use crate::ordering::in_order;
 use any_machine::AnyMachine;
-use ddm_types::{NoMemory, Turn};
-use schedule_log::seeded;
+use ddm_types::{BusNo, NoMemory, Turn};
+use schedule_log::SeededTurns;
 use std::alloc::Global;
 use tree_config::Shape;
 
-/// After so many turns it is asked whether all harts have halted.
+/// So many turns are made at a time; then it is asked whether all harts have halted.
 const BLOCK: usize = 64;
 
-// Makes the turns until every hart has halted: those left change no outcome. It takes no memory.
-fn run_until_halted(machine: &mut AnyMachine, turns: &[Turn])
-    requires named { NameParts turns.now (machine_state machine.old).machine }
-    requires few { CanRun turns.now (machine_state machine.old) }
-    requires spare { length turns.now ≤ (machine_state machine.old).spare }
-    ensures outcome { outcome_of (machine_state machine.new).machine ≡ outcome_of (run_of turns.now (machine_state machine.old).machine).machine }
+// Makes the turns of a seed that are left until every hart has halted: further ones change no outcome. It takes no memory.
+fn run_until_halted(machine: &mut AnyMachine, seeds: &mut SeededTurns)
+    requires named { NameParts seeds.old.left (machine_state machine.old).machine }
+    requires few { CanRun seeds.old.left (machine_state machine.old) }
+    requires spare { length seeds.old.left ≤ (machine_state machine.old).spare }
+    ensures outcome { outcome_of (machine_state machine.new).machine ≡ outcome_of (run_of seeds.old.left (machine_state machine.old).machine).machine }
     ensures keeps { KeepsRoom (machine_state machine.old) (machine_state machine.new) }
     ensures kind { kind_of machine.new ≡ kind_of machine.old }
+    ensures shape { seeds.new.shape ≡ seeds.old.shape }
 {
-    let mut from = 0;
-    'running: while from < turns.len() {
-        let to = turns.len().min(from + BLOCK);
-        machine.run_spared(&turns[from..to]);
-        from = to;
+    let mut block = [Turn::Down { bus: BusNo(0) }; BLOCK];
+    'running: loop {
+        let count = seeds.next_block(&mut block);
+        if count == 0 {
+            return;
+        }
+        machine.run_spared(&block[..count]);
         if all_halted(machine) {
             return;
         }
     }
 }
 
-// The outcome of a seed: the machine is put back to its start first.
+// Makes the run of a seed: the machine is put back to its start first. It takes no memory.
 fn run_seed(
-    alloc: Global,
     start: &AnyMachine,
     machine: &mut AnyMachine,
-    shape: &Shape,
+    seeds: &mut SeededTurns,
     turns: u32,
     seed: u64,
-    text: &mut Vec<u8>,
-) -> Result<(), NoMemory>
-    requires shape { HasShape (shape_view shape.now) (machine_state start.now).machine }
+)
+    requires shape { HasShape seeds.old.shape (machine_state start.now).machine }
     requires start { IsStart turns (machine_state start.now) }
     requires twin { IsTwin turns start.now machine.old }
-    ensures outcome { OnOk result (text.new.items ≡ seed_outcome (shape_view shape.now) turns (machine_state start.now).machine seed) }
+    ensures outcome { outcome_of (machine_state machine.new).machine ≡ seed_outcome seeds.old.shape turns (machine_state start.now).machine seed }
     ensures twin { IsTwin turns start.now machine.new }
+    ensures shape { seeds.new.shape ≡ seeds.old.shape }
 {
     machine.copy_from(start);
-    let schedule = seeded(alloc, seed, turns, shape)?;
-    run_until_halted(machine, &schedule);
-    put_outcome(text, machine)
+    seeds.begin(seed, turns);
+    run_until_halted(machine, seeds);
 }
 
-// The outcome of one seed more is counted.
+// The outcome of one seed more is counted. Memory is taken for the line of a new outcome alone, and for the text of an outcome that
+// is longer than all before.
 fn count_seed(
     alloc: Global,
     start: &AnyMachine,
     machine: &mut AnyMachine,
-    shape: &Shape,
+    seeds: &mut SeededTurns,
     turns: u32,
     seed: u64,
     text: &mut Vec<u8>,
     lines: &mut Vec<OutcomeLine>,
 ) -> Result<(), NoMemory>
-    requires shape { HasShape (shape_view shape.now) (machine_state start.now).machine }
+    requires shape { HasShape seeds.old.shape (machine_state start.now).machine }
     requires start { IsStart turns (machine_state start.now) }
     requires twin { IsTwin turns start.now machine.old }
     requires few { AreFew lines.old.items }
-    ensures counted { OnOk result (lines.new.items ≡ counted seed (seed_outcome (shape_view shape.now) turns (machine_state start.now).machine seed) lines.old.items) }
+    ensures counted { OnOk result (lines.new.items ≡ counted seed (seed_outcome seeds.old.shape turns (machine_state start.now).machine seed) lines.old.items) }
     ensures twin { IsTwin turns start.now machine.new }
+    ensures shape { seeds.new.shape ≡ seeds.old.shape }
 {
-    run_seed(alloc, start, machine, shape, turns, seed, text)?;
+    run_seed(start, machine, seeds, turns, seed);
+    put_outcome(text, machine)?;
     count_outcome(alloc, lines, seed, text)
 }
 
@@ -109,12 +113,13 @@ pub fn outcomes(
     ensures frame { frame_of (machine_state machine.new).machine ≡ frame_of (machine_state start.now).machine }
 {
     machine.reserve(turns)?;
+    let mut seeds = SeededTurns::new(alloc, shape)?;
     let mut text = Vec::new(alloc);
     let mut lines = Vec::new(alloc);
     for number in 0..count {
         let seed = first + u64::from(number);
         count_seed(
-            alloc, start, machine, shape, turns, seed, &mut text, &mut lines,
+            alloc, start, machine, &mut seeds, turns, seed, &mut text, &mut lines,
         )?;
     }
     in_order(alloc, lines)

@@ -1,5 +1,5 @@
 -- A seed's turns name parts of the tree that they are made for.
-use Rattle.std.proofs.Common.{◌≡◌, ℕ, zero, suc, ◌+◌, ◌-◌, ◌*◌, ◌/◌, ◌%◌, ◌<◌, Bool, true, false, List, [], ◌∷◌, length, Some, None, refl, ap, ◌∙◌, if◌then◌else◌, arith}
+use Rattle.std.proofs.Common.{◌≡◌, ℕ, zero, suc, ◌+◌, ◌-◌, ◌*◌, ◌/◌, ◌%◌, ◌<◌, Bool, true, false, List, [], ◌∷◌, length, Some, None, refl, ap, subst, sym, ◌∙◌, if◌then◌else◌, arith}
 use Rattle.std.specs.Prelude.{All, nat_eq, nat_lt, slice_get, slice_index_or}
 use Rattle.std.proofs.Math.Nat.{mod-lt}
 use Rattle.std.proofs.lemmas.Bool.{eqb-false, lt-ltb, ltb-true, ltb-false}
@@ -10,8 +10,8 @@ use Rattle.rand_pcg.specs.Pcg.{pcg32}
 use Rattle.text_model.specs.Schedule.{ShapeView, child_fault, turn_fault}
 use Rattle.text_model.specs.ReadBack.{IsTurnOf}
 use Rattle.text_model.specs.Seeded.{bus_turn_from, seeded_generator, seeded_turn, seeded_turns, turns_of_words, words_of}
-use Rattle.schedule_log.specs.Seeding.{turns_left}
-use Rattle.schedule_log.proofs.Seeds.{first_turn}
+use Rattle.schedule_log.specs.Seeding.{SeededView, seeded_view, turns_left}
+use Rattle.schedule_log.proofs.Seeds.{left_counted, none_left}
 
 got : (xs : List ℕ) (k : ℕ) → k < length xs → slice_get xs k ≡ Some (slice_index_or xs k 0)
 got [] k l = absurd (omega (arith, l))
@@ -71,20 +71,33 @@ module _ (shape : ShapeView) where
     unfolding seeded_turns
     seeded_known seed count = turns_known _
 
--- and there are as many as is said
-counted : (shape : ShapeView) (g : Lcg) (n : ℕ) → length (turns_left shape g n) ≡ n
-unfolding turns_of_words words_of
-counted shape g zero = refl
-counted shape g (suc n) = ap length (first_turn shape g n) ∙ ap suc (counted shape (pcg32 (pcg32 g).1).1 n)
-
--- a generator's turns, for the parts of a tree
-pub seeded_from : (shape : ShapeView) (harts : ℕ) (buses : List ℕ) (g : Lcg) (seed count : ℕ) → harts ≡ shape.harts → buses ≡ shape.buses → g ≡ seeded_generator seed → turns_left (record { harts = harts; buses = buses }) g count ≡ seeded_turns shape seed count
+-- a generator's turns
+seeded_from : (shape : ShapeView) (g : Lcg) (seed count : ℕ) → g ≡ seeded_generator seed → turns_left shape g count ≡ seeded_turns shape seed count
 unfolding seeded_turns
-seeded_from shape harts buses g seed count same_harts same_buses same =
-    ap (λ (h : ℕ). turns_left (record { harts = h; buses = buses }) g count) same_harts
-    ∙ ap (λ (ws : List ℕ). turns_left (record { harts = shape.harts; buses = ws }) g count) same_buses
-    ∙ ap (λ (k : Lcg). turns_left shape k count) same
+seeded_from shape g seed count same = ap (λ (k : Lcg). turns_left shape k count) same
 
 pub seeded_count : (shape : ShapeView) (seed count : ℕ) → length (seeded_turns shape seed count) ≡ count
 unfolding seeded_turns
-seeded_count shape seed count = counted shape (seeded_generator seed) count
+seeded_count shape seed count = left_counted shape (seeded_generator seed) count
+
+-- a seed begins
+pub begun : (shape : ShapeView) (g : Lcg) (seed count : ℕ) (before : SeededView) → g ≡ seeded_generator seed → shape ≡ before.shape
+    → seeded_view shape.harts shape.buses g count ≡ record before { left = seeded_turns before.shape seed count }
+begun shape g seed count before same of = ap (λ (ts : List Turn). viewed shape ts) (seeded_from shape g seed count same) ∙ ap (λ (t : ShapeView). viewed t (seeded_turns t seed count)) of
+  where
+    viewed : ShapeView → List Turn → SeededView
+    viewed shape turns = record { shape = shape; left = turns }
+
+-- and its turns name parts of the tree
+pub begun_known : (shape : ShapeView) (g : Lcg) (seed count : ℕ) (before : SeededView) → g ≡ seeded_generator seed → shape ≡ before.shape → 0 < shape.harts → 0 < length shape.buses
+    → All (IsTurnOf before.shape) (turns_left shape g count)
+begun_known shape g seed count before same of harts buses =
+    subst (All (IsTurnOf before.shape)) (sym (seeded_from shape g seed count same)) (subst (λ (t : ShapeView). All (IsTurnOf t) (seeded_turns shape seed count)) of (seeded_known shape harts buses seed count))
+
+-- no turn is left before
+pub none_begun : (shape : ShapeView) (harts : ℕ) (buses : List ℕ) (g : Lcg) → harts ≡ shape.harts → buses ≡ shape.buses → seeded_view harts buses g 0 ≡ record { shape = shape; left = [] }
+none_begun shape harts buses g same_harts same_buses =
+    ap (λ (h : ℕ). seeded_view h buses g 0) same_harts ∙ ap (λ (ws : List ℕ). seeded_view shape.harts ws g 0) same_buses ∙ ap (viewed shape) (none_left shape g)
+  where
+    viewed : ShapeView → List Turn → SeededView
+    viewed shape turns = record { shape = shape; left = turns }

@@ -1,4 +1,4 @@
-ghost use Rattle.std.specs.Prelude.{◌≡◌, ◌≤◌, ◌<◌, ◌+◌, ◌*◌, ◌++◌, drop, length, slice_index_or, take, vec_capacity, vec_len, All, IfOk, OnErr, OnOk};
+ghost use Rattle.std.specs.Prelude.{◌≡◌, ◌≤◌, ◌<◌, ◌+◌, ◌*◌, [], ◌∷◌, drop, length, min, slice_index_or, take, All, IfOk};
 ghost use Rattle.rand_pcg.specs.Pcg.{pcg32};
 ghost use Rattle.tree_config.specs.Levels.{leaves_of, widths_of};
 ghost use Rattle.text_model.specs.ReadBack.{IsTurnOf};
@@ -102,7 +102,8 @@ fn seeded_turn(widths: &[u32], harts: u32, buses: u32, a: u32, b: u32) -> Turn
     }
 }
 
-/// The turns of a seed, each made when it is asked for, of two words of the generator. A contract sees those that are left.
+/// The turns of a seed for the parts of a tree, each made when it is asked for, of two words of the generator. A contract sees the
+/// tree's parts and the turns that are left.
 #[derive(Drop)]
 pub struct SeededTurns {
     words: Pcg32,
@@ -113,51 +114,73 @@ pub struct SeededTurns {
 }
 
 impl Model for SeededTurns {
-    ghost use Rattle.std.specs.Prelude.{List};
-    ghost use Rattle.ddm_types.specs.declared.turns.Turn.{Turn};
-    ghost use Rattle.schedule_log.specs.Seeding.{IsOfTree, turns_left};
+    ghost use Rattle.schedule_log.specs.Seeding.{IsOfTree, SeededView, seeded_view};
 
-    ghost Value = { List Turn };
+    ghost Value = { SeededView };
 
-    ghost view = { λ s. turns_left (record { harts = s.harts; buses = s.widths.items }) s.words s.left };
+    ghost view = { λ s. seeded_view s.harts s.widths.items s.words s.left };
 
     ghost invariant = { λ s. IsOfTree s.harts s.buses s.widths.items };
 }
 
 impl SeededTurns {
-    /// So many turns, each of a part of the tree.
-    pub fn new(alloc: Global, seed: u64, turns: u32, shape: &Shape) -> Result<SeededTurns, NoMemory>
-        ensures turns { IfOk result (λ left. left ≡ seeded_turns (shape_view shape.now) seed turns) }
-        ensures known { IfOk result (λ left. All (IsTurnOf (shape_view shape.now)) left) }
-        ensures count { IfOk result (λ left. length left ≡ turns) }
+    /// For the parts of a tree. No turn is left before a seed has begun.
+    pub fn new(alloc: Global, shape: &Shape) -> Result<SeededTurns, NoMemory>
+        ensures { IfOk result (λ seeds. seeds ≡ record { shape = shape_view shape.now; left = [] }) }
     {
         let buses = shape.buses();
         let widths = bus_widths(alloc, shape, buses)?;
         Ok(SeededTurns {
-            words: Pcg32::new(seed, STREAM),
-            left: turns,
+            words: Pcg32::new(0, STREAM),
+            left: 0,
             harts: shape.harts(),
             buses,
             widths,
         })
     }
 
-    /// Puts the next turns in place of those of a list, at most this many. Where the list has room for them it can't fail.
-    pub fn next_block(&mut self, most: u32, block: &mut Vec<Turn>) -> Result<(), NoMemory>
-        ensures block { OnOk result (block.new.items ≡ take most self.old) }
-        ensures left { OnOk result (self.new ≡ drop most self.old) }
-        ensures full { OnErr result (vec_capacity block.old < most) }
+    /// A seed begins: so many turns of it are left, whatever was left before. It takes no memory.
+    pub fn begin(&mut self, seed: u64, turns: u32)
+        ensures turns { self.new ≡ record self.old { left = seeded_turns self.old.shape seed turns } }
+        ensures known { All (IsTurnOf self.old.shape) self.new.left }
+        ensures count { length self.new.left ≡ turns }
     {
-        block.clear();
-        let count = most.min(self.left);
+        self.words = Pcg32::new(seed, STREAM);
+        self.left = turns;
+    }
+
+    // How many turns are left.
+    fn len(&self) -> usize
+        ensures { result ≡ length self.now.left }
+    {
+        self.left as usize
+    }
+
+    // The next turn.
+    fn next_turn(&mut self) -> Turn
+        requires { 0 < length self.old.left }
+        ensures turn { self.old.left ≡ result ∷ self.new.left }
+        ensures shape { self.new.shape ≡ self.old.shape }
+    {
+        let a = self.words.next_word();
+        let b = self.words.next_word();
+        self.left -= 1;
+        seeded_turn(&self.widths, self.harts, self.buses, a, b)
+    }
+
+    /// Puts the next turns at the front of a block, as many as are left and find place there, and answers how many these are. The
+    /// places behind them stay. It takes no memory.
+    pub fn next_block(&mut self, block: &mut [Turn]) -> usize
+        ensures count { result ≡ min (length block.old) (length self.old.left) }
+        ensures block { take result block.new ≡ take result self.old.left }
+        ensures behind { drop result block.new ≡ drop result block.old }
+        ensures left { self.new ≡ record self.old { left = drop result self.old.left } }
+    {
+        let count = block.len().min(self.len());
         for made in 0..count {
-            let _ = made;
-            let a = self.words.next_word();
-            let b = self.words.next_word();
-            self.left -= 1;
-            block.push(seeded_turn(&self.widths, self.harts, self.buses, a, b))?;
+            block[made] = self.next_turn();
         }
-        Ok(())
+        count
     }
 }
 
@@ -167,8 +190,9 @@ pub fn seeded(alloc: Global, seed: u64, turns: u32, shape: &Shape) -> Result<Vec
     ensures known { IfOk result (λ list. All (IsTurnOf (shape_view shape.now)) list.items) }
     ensures count { IfOk result (λ list. length list.items ≡ turns) }
 {
-    let mut left = SeededTurns::new(alloc, seed, turns, shape)?;
-    let mut list = Vec::with_capacity(alloc, turns as usize)?;
-    left.next_block(turns, &mut list)?;
+    let mut left = SeededTurns::new(alloc, shape)?;
+    left.begin(seed, turns);
+    let mut list = Vec::from_elem(alloc, Turn::Down { bus: BusNo(0) }, turns as usize)?;
+    left.next_block(&mut list);
     Ok(list)
 }

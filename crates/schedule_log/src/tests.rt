@@ -1,4 +1,4 @@
-use crate::{FeedError, ScheduleReader, ScheduleRefusal, seeded, write_schedule};
+use crate::{FeedError, ScheduleReader, ScheduleRefusal, SeededTurns, seeded, write_schedule};
 use ddm_types::{BusNo, ChildNo, HartNo, Turn};
 use std::alloc::Global;
 use std::process::Abort;
@@ -23,6 +23,24 @@ fn two_leaves(rt: &impl Abort, alloc: Global) -> Shape {
 fn seeds(rt: HostRuntime) -> Result<(), Fail> {
     let shape = two_leaves(&rt, rt.alloc());
     let turns = seeded(rt.alloc(), 42, 3, &shape)?;
+    let text = write_schedule(rt.alloc(), &turns)?;
+    assert_eq!(rt; text.as_slice(), SEEDED.as_bytes());
+    Ok(())
+}
+
+#[test]
+fn another_seed_in_blocks(rt: HostRuntime) -> Result<(), Fail> {
+    let shape = two_leaves(&rt, rt.alloc());
+    let mut seeds = SeededTurns::new(rt.alloc(), &shape)?;
+    let mut block = [Turn::Down { bus: BusNo(0) }; 2];
+    seeds.begin(7, 100);
+    assert_eq!(rt; seeds.next_block(&mut block), 2);
+    seeds.begin(42, 3);
+    let mut turns = Vec::new(rt.alloc());
+    for size in [2, 1, 0] {
+        assert_eq!(rt; seeds.next_block(&mut block), size);
+        turns.extend_from_slice(&block[..size])?;
+    }
     let text = write_schedule(rt.alloc(), &turns)?;
     assert_eq!(rt; text.as_slice(), SEEDED.as_bytes());
     Ok(())

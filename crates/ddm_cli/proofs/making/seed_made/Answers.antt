@@ -1,70 +1,87 @@
-use Rattle.std.proofs.Common.{◌≡◌, ◌≤◌, ◌<◌, ◌++◌, List, [], length, ap, refl, sym, subst, ◌∙◌, arith}
-use Rattle.std.specs.Prelude.{Some, vec_len}
-use Rattle.std.proofs.lemmas.Bool.{eqb-false, eqb-true}
+use Rattle.std.proofs.Common.{◌≡◌, ◌≤◌, ◌<◌, ◌++◌, List, [], length, take, ap, refl, sym, subst, ◌∙◌, arith}
+use Rattle.std.specs.Prelude.{All, Some, vec_len}
 use Rattle.std.proofs.lemmas.List.{nil_from_length}
-use Rattle.ddm_types.specs.declared.turns.Turn.{Turn}
 use Rattle.tree_model.specs.Start.Sources.{TreeValue}
+use Rattle.text_model.specs.ReadBack.{IsTurnOf}
+use Rattle.text_model.specs.Schedule.{ShapeView}
 use Rattle.text_model.specs.Seeded.{seeded_turns}
+use Rattle.schedule_log.specs.Seeding.{SeededView}
 use Rattle.schedule_log.specs.Shapes.{shape_view}
 use Rattle.any_machine.specs.Any.{machine_state}
-use Rattle.any_machine.specs.Run.{CanRun, NameParts, counts_in}
-use Rattle.ddm_cli.specs.Made.{CanCount}
-use Rattle.ddm_cli.proofs.RunsInPieces.{all_made, fewer_left, more_made, next_block, nothing_made}
+use Rattle.ddm_cli.proofs.RunsInPieces.{all_made, block_kept, more_made, next_block, nothing_made}
 use Rattle.ddm_cli.proofs.making.seed_made.Goals as goal
 
 pub making-init : goal.making-init
-making-init c = ([], refl, nothing_made c.args.tree.now c.requires.tree (machine_state c.args.machine.now) c.requires.start c.args.keep c.nothing_made-made.result c.nothing_made-made.ensures.counts c.nothing_made-made.ensures.turns c.nothing_made-made.ensures.answers)
+making-init c = record {
+  made = ([], refl, nothing_made c.args.tree.now c.requires.tree (machine_state c.args.machine.now) c.requires.start c.args.keep c.nothing_made-made.result c.nothing_made-made.ensures.counts c.nothing_made-made.ensures.turns c.nothing_made-made.ensures.answers);
+  places = c.in_ok-block.ensures;
+}
 
 pub make_turns-requires-clause-named : goal.make_turns-requires-clause-named
 make_turns-requires-clause-named c =
-    let (turns, so_far, has) = c.making.invariant in
+    let (turns, so_far, has) = c.making.invariant.made in
     let levels = ap (λ (u : TreeValue). u.levels) c.tree.view_is in
-    let few : length c.in_ok-left.left ≤ 1048576 = omega (arith, c.in_ok-left.ensures.count, c.requires.few) in
-    let next = next_block c.args.tree.now c.requires.tree (machine_state c.args.machine.now) c.requires.start c.args.keep (machine_state c.making.machine) c.making.made turns has _ c.next_block.new.block.items c.next_block.new.self c.making.left c.in_ok-left.left 4096 levels so_far c.in_ok-next_block.ensures.block c.in_ok-next_block.ensures.left c.in_ok-left.ensures.known few in
-    subst (λ (ts : List Turn). NameParts ts (machine_state c.making.machine).machine) (sym c.deref.ensures.value) next.1.named
+    let few : length c.begin.new.self.left ≤ 1048576 = omega (arith, c.begin.ensures.count, c.requires.few) in
+    let known = subst (λ (v : ShapeView). All (IsTurnOf v) c.begin.new.self.left) (ap (λ (v : SeededView). v.shape) c.in_ok-left.ensures) c.begin.ensures.known in
+    let whole = block_kept c.making.block.len c.next_block-size.new.block _ (c.next_block-size.auto.block ∙ c.deref_mut.ensures.len) in
+    let front = ap (take c.next_block-size.result) (c.deref.ensures.value ∙ whole) ∙ c.next_block-size.ensures.block in
+    let back = ap (λ (v : SeededView). v.left) c.next_block-size.ensures.left in
+    let next = next_block c.args.tree.now c.requires.tree (machine_state c.args.machine.now) c.requires.start c.args.keep (machine_state c.making.machine) c.making.made turns has _ (take c.next_block-size.result c.deref.result.now) c.next_block-size.new.self.left c.making.left.left c.begin.new.self.left c.next_block-size.result levels so_far front back known few in
+    next.1.named
 
 pub make_turns-requires-clause-few : goal.make_turns-requires-clause-few
 make_turns-requires-clause-few c =
-    let (turns, so_far, has) = c.making.invariant in
+    let (turns, so_far, has) = c.making.invariant.made in
     let levels = ap (λ (u : TreeValue). u.levels) c.tree.view_is in
-    let few : length c.in_ok-left.left ≤ 1048576 = omega (arith, c.in_ok-left.ensures.count, c.requires.few) in
-    let next = next_block c.args.tree.now c.requires.tree (machine_state c.args.machine.now) c.requires.start c.args.keep (machine_state c.making.machine) c.making.made turns has _ c.next_block.new.block.items c.next_block.new.self c.making.left c.in_ok-left.left 4096 levels so_far c.in_ok-next_block.ensures.block c.in_ok-next_block.ensures.left c.in_ok-left.ensures.known few in
-    subst (λ (ts : List Turn). CanRun ts (machine_state c.making.machine)) (sym c.deref.ensures.value) next.1.few
+    let few : length c.begin.new.self.left ≤ 1048576 = omega (arith, c.begin.ensures.count, c.requires.few) in
+    let known = subst (λ (v : ShapeView). All (IsTurnOf v) c.begin.new.self.left) (ap (λ (v : SeededView). v.shape) c.in_ok-left.ensures) c.begin.ensures.known in
+    let whole = block_kept c.making.block.len c.next_block-size.new.block _ (c.next_block-size.auto.block ∙ c.deref_mut.ensures.len) in
+    let front = ap (take c.next_block-size.result) (c.deref.ensures.value ∙ whole) ∙ c.next_block-size.ensures.block in
+    let back = ap (λ (v : SeededView). v.left) c.next_block-size.ensures.left in
+    let next = next_block c.args.tree.now c.requires.tree (machine_state c.args.machine.now) c.requires.start c.args.keep (machine_state c.making.machine) c.making.made turns has _ (take c.next_block-size.result c.deref.result.now) c.next_block-size.new.self.left c.making.left.left c.begin.new.self.left c.next_block-size.result levels so_far front back known few in
+    next.1.few
 
 pub make_turns-requires-clause-counted : goal.make_turns-requires-clause-counted
 make_turns-requires-clause-counted c =
-    let (turns, so_far, has) = c.making.invariant in
+    let (turns, so_far, has) = c.making.invariant.made in
     let levels = ap (λ (u : TreeValue). u.levels) c.tree.view_is in
-    let few : length c.in_ok-left.left ≤ 1048576 = omega (arith, c.in_ok-left.ensures.count, c.requires.few) in
-    let next = next_block c.args.tree.now c.requires.tree (machine_state c.args.machine.now) c.requires.start c.args.keep (machine_state c.making.machine) c.making.made turns has _ c.next_block.new.block.items c.next_block.new.self c.making.left c.in_ok-left.left 4096 levels so_far c.in_ok-next_block.ensures.block c.in_ok-next_block.ensures.left c.in_ok-left.ensures.known few in
-    subst (λ (ts : List Turn). CanCount c.making.made.counts (counts_in ts (machine_state c.making.machine))) (sym c.deref.ensures.value) next.1.counted
+    let few : length c.begin.new.self.left ≤ 1048576 = omega (arith, c.begin.ensures.count, c.requires.few) in
+    let known = subst (λ (v : ShapeView). All (IsTurnOf v) c.begin.new.self.left) (ap (λ (v : SeededView). v.shape) c.in_ok-left.ensures) c.begin.ensures.known in
+    let whole = block_kept c.making.block.len c.next_block-size.new.block _ (c.next_block-size.auto.block ∙ c.deref_mut.ensures.len) in
+    let front = ap (take c.next_block-size.result) (c.deref.ensures.value ∙ whole) ∙ c.next_block-size.ensures.block in
+    let back = ap (λ (v : SeededView). v.left) c.next_block-size.ensures.left in
+    let next = next_block c.args.tree.now c.requires.tree (machine_state c.args.machine.now) c.requires.start c.args.keep (machine_state c.making.machine) c.making.made turns has _ (take c.next_block-size.result c.deref.result.now) c.next_block-size.new.self.left c.making.left.left c.begin.new.self.left c.next_block-size.result levels so_far front back known few in
+    next.1.counted
 
 pub making-preserved : goal.making-preserved
 making-preserved c =
-    let (turns, so_far, has) = c.making.invariant in
+    let (turns, so_far, has) = c.making.invariant.made in
     let levels = ap (λ (u : TreeValue). u.levels) c.tree.view_is in
-    let few : length c.in_ok-left.left ≤ 1048576 = omega (arith, c.in_ok-left.ensures.count, c.requires.few) in
-    let next = next_block c.args.tree.now c.requires.tree (machine_state c.args.machine.now) c.requires.start c.args.keep (machine_state c.making.machine) c.making.made turns has _ c.next_block.new.block.items c.next_block.new.self c.making.left c.in_ok-left.left 4096 levels so_far c.in_ok-next_block.ensures.block c.in_ok-next_block.ensures.left c.in_ok-left.ensures.known few in
-    let value = c.deref.ensures.value in
+    let few : length c.begin.new.self.left ≤ 1048576 = omega (arith, c.begin.ensures.count, c.requires.few) in
+    let known = subst (λ (v : ShapeView). All (IsTurnOf v) c.begin.new.self.left) (ap (λ (v : SeededView). v.shape) c.in_ok-left.ensures) c.begin.ensures.known in
+    let whole = block_kept c.making.block.len c.next_block-size.new.block _ (c.next_block-size.auto.block ∙ c.deref_mut.ensures.len) in
+    let front = ap (take c.next_block-size.result) (c.deref.ensures.value ∙ whole) ∙ c.next_block-size.ensures.block in
+    let back = ap (λ (v : SeededView). v.left) c.next_block-size.ensures.left in
+    let next = next_block c.args.tree.now c.requires.tree (machine_state c.args.machine.now) c.requires.start c.args.keep (machine_state c.making.machine) c.making.made turns has _ (take c.next_block-size.result c.deref.result.now) c.next_block-size.new.self.left c.making.left.left c.begin.new.self.left c.next_block-size.result levels so_far front back known few in
     let done = c.in_ok-make_turns.ensures in
-    let more = c.next_block.new.block.items in
-    (turns ++ more, next.0, more_made c.args.tree.now c.requires.tree (machine_state c.args.machine.now) c.requires.start c.args.keep (machine_state c.making.machine) c.making.made turns more has next.1.given (machine_state c.make_turns.new.machine) c.make_turns.new.made (rw value at done.after) (rw value at done.counts) (rw value at done.turns) (rw value at done.answers))
-
-pub returns-then-is_empty : goal.returns-then-is_empty
-returns-then-is_empty c =
-    let (turns, so_far, has) = c.making.invariant in
-    let levels = ap (λ (u : TreeValue). u.levels) c.tree.view_is in
-    let all = c.in_ok-left.left in
-    let block = c.next_block.new.block in
-    let none : length block.items ≡ 0 = omega (arith, block.ok.0, eqb-true (vec_len block) 0 (sym c.is_empty.ensures ∙ c.if-is_empty.true)) in
+    let more = take c.next_block-size.result c.deref.result.now in
+    let places : 0 < vec_len c.making.block = c.making.invariant.places in
     record {
-      turns = turns;
-      accepted = ap (λ ls. Some (seeded_turns (shape_view ls) c.args.seed c.args.count)) (sym levels) ∙ ap Some (sym c.in_ok-left.ensures.turns) ∙ ap Some (all_made 4096 turns c.making.left all (omega arith) so_far (sym c.in_ok-next_block.ensures.block ∙ nil_from_length block.items none));
-      all = has;
+      made = (turns ++ more, next.0, more_made c.args.tree.now c.requires.tree (machine_state c.args.machine.now) c.requires.start c.args.keep (machine_state c.making.machine) c.making.made turns more has next.1.given (machine_state c.make_turns.new.machine) c.make_turns.new.made done.after done.counts done.turns done.answers);
+      places = places;
     }
 
-pub making-smaller : goal.making-smaller
-making-smaller c =
-    let block = c.next_block.new.block in
-    let some : 0 < length block.items = omega (arith, block.ok.0, eqb-false (vec_len block) 0 (sym c.is_empty.ensures ∙ c.if-is_empty.false)) in
-    fewer_left 4096 c.making.left block.items c.next_block.new.self c.in_ok-next_block.ensures.block c.in_ok-next_block.ensures.left some
+pub returns-then-size-eq0 : goal.returns-then-size-eq0
+returns-then-size-eq0 c =
+    let (turns, so_far, has) = c.making.invariant.made in
+    let levels = ap (λ (u : TreeValue). u.levels) c.tree.view_is in
+    let all = c.begin.new.self.left in
+    let left = c.making.left.left in
+    let places : 0 < length c.deref_mut.result.now = omega (arith, c.making.invariant.places, c.deref_mut.ensures.len) in
+    let none : length left ≡ 0 = omega (arith, c.next_block-size.ensures.count, c.if-size-eq0.true, places) in
+    let seeded = ap (λ (v : SeededView). v.left) c.begin.ensures.turns ∙ ap (λ (v : SeededView). seeded_turns v.shape c.args.seed c.args.count) c.in_ok-left.ensures in
+    record {
+      turns = turns;
+      accepted = ap (λ ls. Some (seeded_turns (shape_view ls) c.args.seed c.args.count)) (sym levels) ∙ ap Some (sym seeded) ∙ ap Some (all_made turns left all so_far (nil_from_length left none));
+      all = has;
+    }

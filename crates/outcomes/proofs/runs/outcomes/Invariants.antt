@@ -6,4 +6,8 @@ use Rattle.outcomes.proofs.Seeds.{tally}
 use Rattle.outcomes.proofs.runs.outcomes.Given as goal
 
 abbrev pub invariant-loop-number : goal.invariant-loop-number
-invariant-loop-number l = IsTwin l.fn.turns l.fn.start l.machine × (l.lines.items ≡ tally (shape_view l.fn.shape) l.fn.turns (machine_state l.fn.start).machine l.fn.first l.number)
+invariant-loop-number l = record {
+  twin : IsTwin l.fn.turns l.fn.start l.machine;
+  lines : l.lines.items ≡ tally (shape_view l.fn.shape) l.fn.turns (machine_state l.fn.start).machine l.fn.first l.number;
+  shape : l.seeds.shape ≡ shape_view l.fn.shape;
+}

@@ -1,12 +1,11 @@
-use Rattle.std.proofs.Common.{◌≡◌, ◌≤◌, ◌+◌, ◌++◌, length, vec_capacity}
-use Rattle.schedule_log.specs.Seeding.{IsOfTree, turns_left}
+use Rattle.std.proofs.Common.{◌≡◌, drop, take}
 use Rattle.schedule_log.proofs.seeding.SeededTurns.next_block.Given as goal
 
--- the turns so far, and those that are left
+-- the turns so far stand in front, and the others are left
 abbrev pub invariant-loop-made : goal.invariant-loop-made
-invariant-loop-made l =
-    (l.block.items ++ turns_left (record { harts = l.self-inside.harts; buses = l.self-inside.widths.items }) l.self-inside.words l.self-inside.left ≡ l.fn.self)
-    × (length l.block.items ≡ l.made)
-    × (l.self-inside.left + l.made ≡ l.initial.self-inside.left)
-    × (vec_capacity l.fn.block ≤ vec_capacity l.block)
-    × IsOfTree l.self-inside.harts l.self-inside.buses l.self-inside.widths.items
+invariant-loop-made l = record {
+  block : take l.made l.block ≡ take l.made l.fn.self.left;
+  behind : drop l.made l.block ≡ drop l.made l.fn.block;
+  left : l.self.left ≡ drop l.made l.fn.self.left;
+  shape : l.self.shape ≡ l.fn.self.shape;
+}
