@@ -18,7 +18,8 @@ use Rattle.leaf_protocol.specs.Leaf.{leaf_of}
 -- a leaf with these sizes and nothing else
 abbrev pub bare : ℕ → ℕ → ℕ → LeafValue
 bare way_count width sets =
-    leaf_of way_count width 0 (record { sets = sets; ways = []; buffer = []; room = 0 }) None (record { list = []; capacity = 0; items = 0 }) None (record { hart = record { registers = []; pc = 0; halt = None }; done = 0 })
+    leaf_of way_count width 0 (record { sets = sets; ways = []; buffer = []; room = 0 }) None (record { list = []; capacity = 0; items = 0 }) None
+    (record { hart = record { registers = []; pc = 0; halt = None }; done = 0 })
 
 -- ---- one entry
 
