@@ -1,16 +1,16 @@
 -- What the calls that put an entry leave, and whether a way is taken.
-use Rattle.std.proofs.Common.{◌≡◌, ◌≢◌, ℕ, ◌%◌, ◌<◌, true, false, cond, List, [], ◌∷◌, ◌++◌, Option, Some, None, refl, sym, ap, subst, ◌∙◌, ◌↔◌}
-use Rattle.std.specs.Prelude.{replicate, is_some}
+use Rattle.std.proofs.Common.{◌≡◌, ◌≢◌, ℕ, ◌%◌, ◌<◌, true, cond, List, [], ◌∷◌, ◌++◌, Option, Some, None, refl, ap, subst, ◌∙◌, ◌↔◌}
+use Rattle.std.specs.Prelude.{is_some}
 use Rattle.std.proofs.lemmas.Bool.{eq-eqb, ne_eqb}
 use Rattle.std.proofs.lemmas.Option.{none-some, same_Some}
 use Rattle.ddm_types.specs.declared.sizes.LeafState.{LeafState}
 use Rattle.flat_model.specs.Flat.{has_reserved}
 use Rattle.tree_model.specs.State.States.{is_waiting}
-use Rattle.tree_model.specs.State.Values.{WayValue, BufferValue}
+use Rattle.tree_model.specs.State.Values.{BufferValue}
 use Rattle.tree_model.specs.State.Leaf.{entry_at, buffer_item, buffered, is_buffered, words_in, waiting_item, item_in_way}
 use Rattle.attraction_mem.specs.Memory.{MemoryValue, StandsIn, with_entry}
 use Rattle.replacement.proofs.Once.{once-append}
-use Rattle.leaf_protocol.specs.Entries.{way_of, ways_of, EntryFits, AreEntries, waiting_after, waits_now, may_be}
+use Rattle.leaf_protocol.specs.Entries.{ways_of, EntryFits, AreEntries, waiting_after, waits_now, may_be}
 use Rattle.leaf_protocol.proofs.Ways.{put-entry, item_in_way-only, item_in_way-none}
 use Rattle.leaf_protocol.proofs.Buffered.{buffered-append}
 use Rattle.leaf_protocol.proofs.Fits.{after-same, after-named, are-below, entry-named, kept-at, waiting-is}

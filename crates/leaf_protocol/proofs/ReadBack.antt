@@ -78,10 +78,17 @@ suiting LeafState.ReadingWaiting width k ws words at rest is = zeros width k ws 
 
 -- ---- entries one by one
 
+-- one entry more where there are as many items and sets as in these entries: in a way, and in the buffer
+abbrev pub standing_of : ℕ → ℕ → EntriesValue → List StandingValue → ℕ → List ℕ → Result (Read (List StandingValue)) StateRefusal
+standing_of way_count width e = read_standing (length e.ways) (bare way_count width e.sets)
+
+abbrev pub buffered_of : ℕ → ℕ → EntriesValue → List BufferValue → ℕ → List ℕ → Result (Read (List BufferValue)) StateRefusal
+buffered_of way_count width e = read_buffered (length e.ways) (bare way_count width e.sets)
+
 -- so many entries in ways were read since `start`, from word `first` on
 pub record StandingSoFar (way_count width : ℕ) (words : List ℕ) (start : EntriesValue) (count first done at : ℕ) (e : EntriesValue) (last : Option StandingValue) (whole : Bool) : Type 0 where
   pub entries : List StandingValue
-  pub left : times (read_standing (length start.ways) (bare way_count width start.sets)) count [] first (drop first words) ≡ times (read_standing (length start.ways) (bare way_count width start.sets)) (count - done) entries at (drop at words)
+  pub left : times (standing_of way_count width start) count [] first (drop first words) ≡ times (standing_of way_count width start) (count - done) entries at (drop at words)
   pub newest : last ≡ last_of entries
   pub there : AreThere (length start.ways) entries [] e whole
   pub sizes : IsSized start e
@@ -96,7 +103,7 @@ module _ (way_count width : ℕ) (words : List ℕ) (start : EntriesValue) (coun
   pub standing-begun : (e : EntriesValue) → e ≡ record start { ways = replicate (length start.ways) None; buffer = [] } → StandingSoFar way_count width words start count first 0 first e None true
   standing-begun e is = record {
     entries = [];
-    left = times_begun (read_standing (length start.ways) (bare way_count width start.sets)) count [] first (drop first words);
+    left = times_begun (standing_of way_count width start) count [] first (drop first words);
     newest = refl;
     there = rw is (none-there (length start.ways) (record start { ways = replicate (length start.ways) None; buffer = [] }) refl refl);
     sizes = rw is (record { sets = refl; room = refl; items = length-replicate (length start.ways) None });
@@ -104,72 +111,72 @@ module _ (way_count width : ℕ) (words : List ℕ) (start : EntriesValue) (coun
 
   module _ {done at : ℕ} {e : EntriesValue} {last : Option StandingValue} {whole : Bool} (before : StandingSoFar way_count width words start count first done at e last whole) (more : done < count) where
     -- the step is that of the start
-    step-here : (ss : List StandingValue) → read_standing (length e.ways) (bare way_count width e.sets) ss at (drop at words) ≡ read_standing (length start.ways) (bare way_count width start.sets) ss at (drop at words)
+    step-here : (ss : List StandingValue) → standing_of way_count width e ss at (drop at words) ≡ standing_of way_count width start ss at (drop at words)
     step-here ss = ap₂ (λ n sets. read_standing n (bare way_count width sets) ss at (drop at words)) before.sizes.items before.sizes.sets
 
     pub standing-more : (s : StandingValue) (now : Bool) (f : EntriesValue) (next : ℕ)
-        → ((ss : List StandingValue) → last ≡ last_of ss → read_standing (length e.ways) (bare way_count width e.sets) ss at (drop at words) ≡ Ok (record { value = s ∷ ss; at = next; rest = drop next words }))
+        → ((ss : List StandingValue) → last ≡ last_of ss → standing_of way_count width e ss at (drop at words) ≡ Ok (record { value = s ∷ ss; at = next; rest = drop next words }))
         → ((ss : List StandingValue) → AreThere (length e.ways) ss [] e whole → AreThere (length e.ways) (s ∷ ss) [] f now) → IsSized e f
         → StandingSoFar way_count width words start count first (done + 1) next f (Some s) now
     standing-more s now f next read there sizes = record {
       entries = s ∷ before.entries;
-      left = before.left ∙ times_went_on (read_standing (length start.ways) (bare way_count width start.sets)) count done before.entries at (drop at words) (s ∷ before.entries) next (drop next words) more (sym (step-here before.entries) ∙ read before.entries before.newest);
+      left = before.left ∙ times_went_on (standing_of way_count width start) count done before.entries at (drop at words) (s ∷ before.entries) next (drop next words) more (sym (step-here before.entries) ∙ read before.entries before.newest);
       newest = refl;
       there = let P : ℕ → Type 0 = λ n. AreThere n before.entries [] e whole → AreThere n (s ∷ before.entries) [] f now in subst P before.sizes.items (there before.entries) before.there;
       sizes = sized-on before.sizes sizes;
     }
 
-    pub standing-refused : (r : StateRefusal) → ((ss : List StandingValue) → last ≡ last_of ss → read_standing (length e.ways) (bare way_count width e.sets) ss at (drop at words) ≡ Err r)
-        → times (read_standing (length start.ways) (bare way_count width start.sets)) count [] first (drop first words) ≡ Err r
+    pub standing-refused : (r : StateRefusal) → ((ss : List StandingValue) → last ≡ last_of ss → standing_of way_count width e ss at (drop at words) ≡ Err r)
+        → times (standing_of way_count width start) count [] first (drop first words) ≡ Err r
     standing-refused r refused =
-        before.left ∙ times_refused (read_standing (length start.ways) (bare way_count width start.sets)) count done before.entries at (drop at words) r more (sym (step-here before.entries) ∙ refused before.entries before.newest)
+        before.left ∙ times_refused (standing_of way_count width start) count done before.entries at (drop at words) r more (sym (step-here before.entries) ∙ refused before.entries before.newest)
 
   pub standing-done : {done at : ℕ} {e : EntriesValue} {last : Option StandingValue} {whole : Bool} → StandingSoFar way_count width words start count first done at e last whole → count ≤ done
-      → StandingRead (length start.ways) (times (read_standing (length start.ways) (bare way_count width start.sets)) count [] first (drop first words)) words at e whole
+      → StandingRead (length start.ways) (times (standing_of way_count width start) count [] first (drop first words)) words at e whole
   standing-done {done} {at} before all = record {
     entries = before.entries;
-    is = before.left ∙ times_done (read_standing (length start.ways) (bare way_count width start.sets)) count done before.entries at (drop at words) all;
+    is = before.left ∙ times_done (standing_of way_count width start) count done before.entries at (drop at words) all;
     there = before.there;
   }
 
 -- so many entries in the buffer were read since `start`, from word `first` on, behind these in ways
 pub record BufferedSoFar (way_count width : ℕ) (words : List ℕ) (start : EntriesValue) (ss : List StandingValue) (count first done at : ℕ) (e : EntriesValue) (whole : Bool) : Type 0 where
   pub entries : List BufferValue
-  pub left : times (read_buffered (length start.ways) (bare way_count width start.sets)) count [] first (drop first words) ≡ times (read_buffered (length start.ways) (bare way_count width start.sets)) (count - done) entries at (drop at words)
+  pub left : times (buffered_of way_count width start) count [] first (drop first words) ≡ times (buffered_of way_count width start) (count - done) entries at (drop at words)
   pub there : AreThere (length start.ways) ss entries e whole
 
 module _ (way_count width : ℕ) (words : List ℕ) (start : EntriesValue) (ss : List StandingValue) (count first : ℕ) where
   pub buffered-begun : {whole : Bool} → AreThere (length start.ways) ss [] start whole → BufferedSoFar way_count width words start ss count first 0 first start whole
-  buffered-begun there = record { entries = []; left = times_begun (read_buffered (length start.ways) (bare way_count width start.sets)) count [] first (drop first words); there = there }
+  buffered-begun there = record { entries = []; left = times_begun (buffered_of way_count width start) count [] first (drop first words); there = there }
 
   module _ {done at : ℕ} {e : EntriesValue} {whole : Bool} (before : BufferedSoFar way_count width words start ss count first done at e whole) (sizes : IsSized start e) (more : done < count) where
-    buffer-step : (bs : List BufferValue) → read_buffered (length e.ways) (bare way_count width e.sets) bs at (drop at words) ≡ read_buffered (length start.ways) (bare way_count width start.sets) bs at (drop at words)
+    buffer-step : (bs : List BufferValue) → buffered_of way_count width e bs at (drop at words) ≡ buffered_of way_count width start bs at (drop at words)
     buffer-step bs = ap₂ (λ n sets. read_buffered n (bare way_count width sets) bs at (drop at words)) sizes.items sizes.sets
 
     there-here : AreThere (length e.ways) ss before.entries e whole
     there-here = let P : ℕ → Type 0 = λ n. AreThere n ss before.entries e whole in subst P (sym sizes.items) before.there
 
     pub buffered-more : (now : Bool) (f : EntriesValue) (next : ℕ)
-        → ((ss : List StandingValue) (bs : List BufferValue) → AreThere (length e.ways) ss bs e whole → BufferRead (length e.ways) ss (read_buffered (length e.ways) (bare way_count width e.sets) bs at (drop at words)) words next f now)
+        → ((ss : List StandingValue) (bs : List BufferValue) → AreThere (length e.ways) ss bs e whole → BufferRead (length e.ways) ss (buffered_of way_count width e bs at (drop at words)) words next f now)
         → BufferedSoFar way_count width words start ss count first (done + 1) next f now
     buffered-more now f next read =
         let one = read ss before.entries there-here in
         record {
           entries = one.entries;
-          left = before.left ∙ times_went_on (read_buffered (length start.ways) (bare way_count width start.sets)) count done before.entries at (drop at words) one.entries next (drop next words) more (sym (buffer-step before.entries) ∙ one.is);
+          left = before.left ∙ times_went_on (buffered_of way_count width start) count done before.entries at (drop at words) one.entries next (drop next words) more (sym (buffer-step before.entries) ∙ one.is);
           there = let P : ℕ → Type 0 = λ n. AreThere n ss one.entries f now in subst P sizes.items one.there;
         }
 
-    pub buffered-refused : (r : StateRefusal) → ((bs : List BufferValue) → read_buffered (length e.ways) (bare way_count width e.sets) bs at (drop at words) ≡ Err r)
-        → times (read_buffered (length start.ways) (bare way_count width start.sets)) count [] first (drop first words) ≡ Err r
+    pub buffered-refused : (r : StateRefusal) → ((bs : List BufferValue) → buffered_of way_count width e bs at (drop at words) ≡ Err r)
+        → times (buffered_of way_count width start) count [] first (drop first words) ≡ Err r
     buffered-refused r refused =
-        before.left ∙ times_refused (read_buffered (length start.ways) (bare way_count width start.sets)) count done before.entries at (drop at words) r more (sym (buffer-step before.entries) ∙ refused before.entries)
+        before.left ∙ times_refused (buffered_of way_count width start) count done before.entries at (drop at words) r more (sym (buffer-step before.entries) ∙ refused before.entries)
 
   pub buffered-done : {done at : ℕ} {e : EntriesValue} {whole : Bool} → BufferedSoFar way_count width words start ss count first done at e whole → count ≤ done
-      → BufferRead (length start.ways) ss (times (read_buffered (length start.ways) (bare way_count width start.sets)) count [] first (drop first words)) words at e whole
+      → BufferRead (length start.ways) ss (times (buffered_of way_count width start) count [] first (drop first words)) words at e whole
   buffered-done {done} {at} before all = record {
     entries = before.entries;
-    is = before.left ∙ times_done (read_buffered (length start.ways) (bare way_count width start.sets)) count done before.entries at (drop at words) all;
+    is = before.left ∙ times_done (buffered_of way_count width start) count done before.entries at (drop at words) all;
     there = before.there;
   }
 

@@ -1,10 +1,10 @@
 -- Whether entries can be together, as one more comes.
 -- Letters: n is how many items there are, ss are entries in ways and bs entries in the buffer, s and b one of them.
-use Rattle.std.proofs.Common.{◌≡◌, ℕ, zero, suc, ◌+◌, ◌%◌, ◌<◌, ◌≤◌, Bool, true, false, cond, not, ◌&&◌, ◌||◌, nat_eq, nat_le, List, [], ◌∷◌, ◌++◌, map, length, get_or, set, Option, Some, None, refl, sym, ap, ap₂, subst, ◌∙◌, ◌⊎◌, inl, inr, arith, append_assoc, length-set}
+use Rattle.std.proofs.Common.{◌≡◌, ℕ, zero, suc, ◌+◌, ◌%◌, ◌<◌, Bool, true, false, cond, not, ◌&&◌, ◌||◌, nat_eq, nat_le, List, [], ◌∷◌, ◌++◌, map, length, get_or, set, Option, Some, None, refl, sym, ap, ap₂, subst, ◌∙◌, ◌⊎◌, inl, inr, arith, append_assoc, length-set}
 use Rattle.std.specs.Prelude.{replicate, find, is_some, is_none, option_map}
 use Rattle.std.specs.List.{list_any}
 use Rattle.std.specs.Bool.{OnTrue}
-use Rattle.std.proofs.lemmas.Bool.{eqb-true, eq-eqb, ne_eqb}
+use Rattle.std.proofs.lemmas.Bool.{eq-eqb, ne_eqb}
 use Rattle.std.proofs.lemmas.Bool.Decides.{nat_tests}
 use Rattle.std.proofs.lemmas.List.{length-replicate, get_or-replicate, get_or-set_same, get_or-set_other, map-append}
 use Rattle.std.proofs.lemmas.List.Folds.{list_any-append}
@@ -13,11 +13,11 @@ use Rattle.tree_model.specs.State.States.{is_waiting}
 use Rattle.tree_model.specs.State.Shape.{are_distinct}
 use Rattle.tree_model.specs.State.Lists.{find_from, first_some}
 use Rattle.tree_model.specs.State.Values.{WayValue, BufferValue}
-use Rattle.tree_model.specs.State.Leaf.{LeafEntry, entry_at, way_at, way_entry, buffer_entry, buffered, is_buffered, item_in_way, stands_in, waiting_item, way_waits, buffer_waits, buffer_item}
+use Rattle.tree_model.specs.State.Leaf.{entry_at, way_at, way_entry, buffer_entry, buffered, is_buffered, item_in_way, stands_in, waiting_item, way_waits, buffer_waits, buffer_item}
 use Rattle.attraction_mem.proofs.Holding.{equal_or_not}
 use Rattle.state_words.specs.Parts.{StandingValue}
 use Rattle.state_reading.specs.Parts.{ways_with, standing_item, item_of_buffer, same_place, places_differ, waiting_states, standing_state, buffer_state}
-use Rattle.leaf_protocol.specs.Entries.{EntriesValue, may_be}
+use Rattle.leaf_protocol.specs.Entries.{EntriesValue}
 use Rattle.leaf_protocol.specs.ReadBack.{AreThere, AllInside, are_together, may_come, may_stand}
 use Rattle.leaf_protocol.proofs.Ways.{find_from-none}
 

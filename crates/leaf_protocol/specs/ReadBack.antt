@@ -2,7 +2,7 @@
 -- Letters: n is how many items there are, k the number of the next word, ws are the words from it on; s is an entry in a way, b one
 -- in the buffer.
 -- Proofs alone need it.
-use Rattle.std.specs.Prelude.{◌≡◌, ℕ, ◌<◌, Bool, true, false, not, ◌&&◌, nat_le, nat_lt, List, [], ◌∷◌, ◌++◌, drop, map, replicate, length, Option, Some, None, is_some, is_none, Result, Ok}
+use Rattle.std.specs.Prelude.{◌≡◌, ℕ, ◌<◌, Bool, true, not, ◌&&◌, nat_le, nat_lt, List, [], ◌∷◌, ◌++◌, drop, map, replicate, length, Option, None, is_some, is_none, Result, Ok}
 use Rattle.ddm_types.specs.declared.sizes.LeafState.{LeafState}
 use Rattle.tree_model.specs.State.States.{is_reading}
 use Rattle.tree_model.specs.State.Shape.{are_distinct}
@@ -18,7 +18,8 @@ use Rattle.leaf_protocol.specs.Leaf.{leaf_of}
 -- a leaf with these sizes and nothing else
 abbrev pub bare : ℕ → ℕ → ℕ → LeafValue
 bare way_count width sets =
-    leaf_of way_count width 0 (record { sets = sets; ways = []; buffer = []; room = 0 }) None (record { list = []; capacity = 0; items = 0 }) None (record { hart = record { registers = []; pc = 0; halt = None }; done = 0 })
+    leaf_of way_count width 0 (record { sets = sets; ways = []; buffer = []; room = 0 }) None (record { list = []; capacity = 0; items = 0 }) None
+    (record { hart = record { registers = []; pc = 0; halt = None }; done = 0 })
 
 -- ---- one entry
 

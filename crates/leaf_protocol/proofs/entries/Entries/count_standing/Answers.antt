@@ -1,4 +1,4 @@
-use Rattle.std.proofs.Common.{refl, sym, ◌∙◌, arith, length-append, ap, length}
+use Rattle.std.proofs.Common.{arith, length-append}
 use Rattle.leaf_protocol.proofs.Standing.{one_set_more, row_more}
 use Rattle.leaf_protocol.proofs.entries.Entries.count_standing.Goals as goal
 

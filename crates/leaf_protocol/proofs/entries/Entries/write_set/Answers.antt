@@ -1,4 +1,4 @@
-use Rattle.std.proofs.Common.{refl, sym}
+use Rattle.std.proofs.Common.{sym}
 use Rattle.ddm_text.specs.Adds.{◌▸◌}
 use Rattle.leaf_protocol.proofs.Standing.{words_of_way, free_way}
 use Rattle.leaf_protocol.proofs.entries.Entries.write_set.Goals as goal

@@ -1,6 +1,5 @@
-use Rattle.std.proofs.Common.{rules, ◌≡◌, ◌∙◌, Err, sym, true, false}
-use Rattle.state_reading.specs.declared.StateRefusal.TheVariants.{BrokenLeaf}
-use Rattle.leaf_protocol.proofs.ReadBack.{HeadRead, refused_by_replies, whole_read, broken_by_entries, broken_by_slot}
+use Rattle.std.proofs.Common.{rules, ◌≡◌, ◌∙◌, Err, sym}
+use Rattle.leaf_protocol.proofs.ReadBack.{refused_by_replies, whole_read, broken_by_entries, broken_by_slot}
 use Rattle.leaf_protocol.proofs.leaf.Leaf.read_part.Goals as goal
 use Rattle.leaf_protocol.proofs.leaf.Leaf.read_part.Goals.{then-not-whole-via-then-not-whole, then-not-whole-via-else-not-whole+then-not-slot_fits}
 
