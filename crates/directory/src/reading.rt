@@ -11,7 +11,9 @@ use crate::packed::PackedItem;
 use crate::state::DirState;
 use crate::table::ItemTable;
 use ddm_types::{ChildNo, Hold, ItemId, PendingWhy};
-use state_reading::{StateRefusal, any_word, count_word, hold_of, keep, look, stamp_words, word_to};
+use state_reading::{
+    StateRefusal, any_word, count_word, hold_of, keep, look, stamp_words, word_to,
+};
 
 /// The note by its number, 0 to 3, and its child.
 fn note_of_words(kind: u32, child: u32) -> Option<PendingWhy>
