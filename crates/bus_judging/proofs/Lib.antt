@@ -1,0 +1,4 @@
+pub mod Gathered
+pub mod Among
+pub mod Asked
+pub mod Agree

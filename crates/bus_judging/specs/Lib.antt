@@ -1,0 +1,4 @@
+pub mod Queue
+pub mod Children
+pub mod Parent
+pub mod Tests

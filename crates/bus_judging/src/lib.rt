@@ -1,0 +1,11 @@
+//! The rules of a bus, of one item, as tests in code: what they ask of the entries in a down list and of the children of a bus is
+//! gathered one by one, without memory.
+#![tactic(auto)]
+
+mod children;
+mod parent;
+mod queue;
+
+pub use children::{ChildFace, ChildrenFacts};
+pub use parent::{ParentFacts, RequestFacts};
+pub use queue::QueueFacts;
