@@ -3,7 +3,7 @@
 use Rattle.tree_rules.specs.Computing.{rules_compute}
 use Rattle.text_model.specs.Run.{counts_of}
 use Rattle.state_reading.specs.Computing.{reading_computes}
-use Rattle.checkpoint.specs.Judged.{judged, read_state}
+use Rattle.state_judging.specs.Judged.{judged, read_state}
 use Rattle.checkpoint.specs.Resumed.{resumed}
 use Rattle.checkpoint.specs.Examples.{untouched, judgement}
 

@@ -10,7 +10,7 @@ use Rattle.text_model.specs.Run.{counts_of}
 use Rattle.state_words.specs.Machine.{state_words}
 use Rattle.state_reading.specs.declared.StateRefusal.{StateRefusal}
 use Rattle.state_reading.specs.Reading.{Read}
-use Rattle.checkpoint.specs.Judged.{read_state}
+use Rattle.state_judging.specs.Judged.{read_state}
 use Rattle.checkpoint.specs.Saved.{saved}
 use Rattle.checkpoint.specs.Resumed.{Resumed, resumed}
 

@@ -1,5 +1,4 @@
 pub mod Saved
-pub mod Judged
 pub mod Resumed
 pub mod Laws
 pub mod Examples

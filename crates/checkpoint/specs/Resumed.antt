@@ -13,7 +13,7 @@ use Rattle.state_reading.specs.declared.StateRefusal.{StateRefusal}
 use Rattle.state_reading.specs.Parts.{most_counted}
 use Rattle.state_reading.specs.Reading.{Read}
 use Rattle.checkpoint.specs.declared.ResumeRefusal.{ResumeRefusal}
-use Rattle.checkpoint.specs.Judged.{read_state}
+use Rattle.state_judging.specs.Judged.{read_state}
 
 -- the words of which all four bytes are there
 abbrev pub whole_words : List ℕ → List ℕ

@@ -1,0 +1,3 @@
+pub mod Judged
+pub mod Read
+pub mod Computing
