@@ -4,3 +4,4 @@ pub mod BusesJudged
 pub mod StampsJudged
 pub mod KeysJudged
 pub mod Judging
+pub mod Inverted
