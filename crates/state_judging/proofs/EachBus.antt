@@ -10,6 +10,7 @@ use Rattle.tree_model.specs.State.Shape.{IsShaped, skeleton, skeletons, buses_of
 use Rattle.tree_model.specs.Turns.Machine.{ask_bus}
 use Rattle.tree_model.specs.Turns.Tree.{bus_of_number, has_node, has_among, read_in, read_among, of_dir}
 use Rattle.tree_model.proofs.Tests.{and-first, and-second, not-true}
+use Rattle.state_judging.proofs.Lists.{same-test}
 
 -- ---- what holds at every directory of a tree
 
@@ -24,13 +25,6 @@ module _ (Q : DirValue → List Node → Type 0) where
     AtDirsAmong (more_nodes n ns) = AtDirs n × AtDirsAmong ns
 
 -- ---- the numbers in a part of a tree
-
-same-test : (a b : ℕ) → nat_eq a b ≡ nat_eq b a
-same-test a b =
-    elim (nat_eq a b) as (λ t. nat_eq a b ≡ t → t ≡ nat_eq b a) [
-      | true ↦ λ e. sym (eq-eqb b a (sym (eqb-true a b e)))
-      | false ↦ λ e. sym (ne_eqb b a (λ same. true≢false (sym (eq-eqb a b (sym same)) ∙ e)))
-    ] refl
 
 or-behind : (a b c : Bool) → (a || (b || c)) ≡ ((a || b) || c)
 or-behind true b c = refl

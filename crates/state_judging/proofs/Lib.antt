@@ -5,3 +5,5 @@ pub mod StampsJudged
 pub mod KeysJudged
 pub mod Judging
 pub mod Inverted
+pub mod Lists
+pub mod WaysRead
