@@ -7,3 +7,4 @@ pub mod Judging
 pub mod Inverted
 pub mod Lists
 pub mod WaysRead
+pub mod OneWaits
