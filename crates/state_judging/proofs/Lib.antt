@@ -8,3 +8,4 @@ pub mod Inverted
 pub mod Lists
 pub mod WaysRead
 pub mod OneWaits
+pub mod LeafRead
