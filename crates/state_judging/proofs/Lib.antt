@@ -9,3 +9,4 @@ pub mod Lists
 pub mod WaysRead
 pub mod OneWaits
 pub mod LeafRead
+pub mod DirRead
