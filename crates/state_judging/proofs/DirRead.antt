@@ -277,3 +277,139 @@ module _ (n : ℕ) where
 
   pub parked-ok : (width room k : ℕ) (ws : List ℕ) (r : Read (List CopyValue)) → listed room (read_copy width may_park) k ws ≡ Ok r → (i : ℕ) × (i ≤ room) × AreParked i r.value
   parked-ok width room k ws r e = listed-ok (read_copy width may_park) AreParked (parked-next width) room k ws r (record { copies = no_copies n; differ = refl }) e
+
+-- ---- the whole directory
+
+module _ (n kids : ℕ) (d : DirValue) where
+  -- the bus, the level and the sizes stay
+  pub record DirRead (e : DirValue) : Type 0 where
+    pub bus : e.bus ≡ d.bus
+    pub level : e.level ≡ d.level
+    pub sizes : e.sizes ≡ d.sizes
+    pub holds : dir_holds n kids e ≡ true
+    pub counted : nat_le e.count most_counted ≡ true
+    pub epoch : stamp_ends d.level e.epoch ≡ true
+    pub stamps : list_all (λ (x : DownValue). stamp_ends d.level x.stamp) e.down ≡ true
+    pub exclusive : is_top d ≡ true → list_all top_item e.items ≡ true
+
+  abbrev dir_of : ℕ → Stamp → Recorded → List DownValue → List RequestValue → List CopyValue → List CopyValue → ℕ → DirValue
+  dir_of count epoch items down requests replies parked reserved = record d { items = items.items; down = down; requests = requests; replies = replies; parked = parked; reserved = reserved; count = count; epoch = epoch }
+
+  abbrev p8 : ℕ → Stamp → Recorded → List DownValue → List RequestValue → List CopyValue → List CopyValue → ℕ → ℕ → List ℕ → Result (Read DirValue) StateRefusal
+  p8 count epoch items down requests replies parked reserved k ws = given (dir_of count epoch items down requests replies parked reserved) k ws
+
+  abbrev p7 : ℕ → Stamp → Recorded → List DownValue → List RequestValue → List CopyValue → List CopyValue → ℕ → List ℕ → Result (Read DirValue) StateRefusal
+  p7 count epoch items down requests replies parked k ws = and_then (word_to (d.sizes.parking_room - length parked) k ws) (p8 count epoch items down requests replies parked)
+
+  abbrev p6 : ℕ → Stamp → Recorded → List DownValue → List RequestValue → List CopyValue → ℕ → List ℕ → Result (Read DirValue) StateRefusal
+  p6 count epoch items down requests replies k ws = and_then (listed d.sizes.parking_room (read_copy d.sizes.width (may_park n)) k ws) (p7 count epoch items down requests replies)
+
+  abbrev p5 : ℕ → Stamp → Recorded → List DownValue → List RequestValue → ℕ → List ℕ → Result (Read DirValue) StateRefusal
+  p5 count epoch items down requests k ws = and_then (listed d.sizes.reply_room (read_copy d.sizes.width (λ x cs. nat_lt x n)) k ws) (p6 count epoch items down requests)
+
+  abbrev p4 : ℕ → Stamp → Recorded → List DownValue → ℕ → List ℕ → Result (Read DirValue) StateRefusal
+  p4 count epoch items down k ws = and_then (listed d.sizes.request_room (read_request n) k ws) (p5 count epoch items down)
+
+  abbrev p3 : ℕ → Stamp → Recorded → ℕ → List ℕ → Result (Read DirValue) StateRefusal
+  p3 count epoch items k ws = and_then (listed d.sizes.down_room (read_down n d.level d.sizes.width) k ws) (p4 count epoch items)
+
+  abbrev p2 : ℕ → Stamp → ℕ → List ℕ → Result (Read DirValue) StateRefusal
+  p2 count epoch k ws = and_then (read_records n kids (is_top d) k ws) (p3 count epoch)
+
+  abbrev p1 : ℕ → ℕ → List ℕ → Result (Read DirValue) StateRefusal
+  p1 count k ws = and_then (stamp_words d.level k ws) (p2 count)
+
+  -- its lists within their room
+  record ListsRead (items : List DirItem) (down : List DownValue) (requests : List RequestValue) (replies : List CopyValue) (parked : List CopyValue) (reserved : ℕ) : Type 0 where
+    recorded : AreItems n kids (is_top d) items
+    down_fit : list_all (down_fits n) down ≡ true
+    down_stamps : list_all (λ (x : DownValue). stamp_ends d.level x.stamp) down ≡ true
+    down_room : length down ≤ d.sizes.down_room
+    requests_fit : list_all (request_fits n) requests ≡ true
+    request_room : length requests ≤ d.sizes.request_room
+    replies_fit : list_all (copy_fits n) replies ≡ true
+    reply_room : length replies ≤ d.sizes.reply_room
+    parked_fits : list_all (copy_fits n) parked ≡ true
+    parked_differ : are_distinct (map copy_item parked) ≡ true
+    parking_room : length parked + reserved ≤ d.sizes.parking_room
+
+  module _ (count : ℕ) (epoch : Stamp) (items : Recorded) (down : List DownValue) (requests : List RequestValue) (replies parked : List CopyValue) (reserved : ℕ) (p : ListsRead items.items down requests replies parked reserved) where
+    dir-rule : (q : DirRule) → dir_test q n kids (dir_of count epoch items down requests replies parked reserved) ≡ true
+    dir-rule dir_lists =
+        both_true (eq-eqb (length items.items) n p.recorded.count)
+        (both_true (le-leb (length down) d.sizes.down_room p.down_room)
+        (both_true (le-leb (length requests) d.sizes.request_room p.request_room)
+        (both_true (le-leb (length replies) d.sizes.reply_room p.reply_room) (le-leb (length parked + reserved) d.sizes.parking_room p.parking_room))))
+    dir-rule notes_fit = p.recorded.fit
+    dir-rule down_entries = p.down_fit
+    dir-rule dir_requests = p.requests_fit
+    dir-rule dir_replies = p.replies_fit
+    dir-rule parked_fit = p.parked_fits
+    dir-rule parked_once = p.parked_differ
+
+    dir-given : nat_le count most_counted ≡ true → stamp_ends d.level epoch ≡ true → (k : ℕ) (ws : List ℕ) (r : Read DirValue) → p8 count epoch items down requests replies parked reserved k ws ≡ Ok r → DirRead r.value
+    dir-given counted ends k ws r e =
+        given-so DirRead (dir_of count epoch items down requests replies parked reserved) k ws r e (record {
+          bus = refl;
+          level = refl;
+          sizes = refl;
+          holds = all-pass (λ q. dir_test q n kids (dir_of count epoch items down requests replies parked reserved)) dir_rules dir-rule;
+          counted = counted;
+          epoch = ends;
+          stamps = p.down_stamps;
+          exclusive = p.recorded.exclusive;
+        })
+
+  -- step by step, from the last one on
+  module _ (count : ℕ) (epoch : Stamp) (items : Recorded) (counted : nat_le count most_counted ≡ true) (ends : stamp_ends d.level epoch ≡ true) (recorded : AreItems n kids (is_top d) items.items) (r : Read DirValue) where
+    parking-ok : (down : List DownValue) (requests : List RequestValue) (replies : List CopyValue) (i j l k : ℕ) (ws : List ℕ) → i ≤ d.sizes.down_room → AreDown n d.level d.sizes.width i down → j ≤ d.sizes.request_room → AreRequests n j requests → l ≤ d.sizes.reply_room → AreCopies n l replies
+        → p6 count epoch items down requests replies k ws ≡ Ok r → DirRead r.value
+    parking-ok down requests replies i j l k ws i_most all_down j_most all_requests l_most all_replies e =
+        let parked = and_then-ok (listed d.sizes.parking_room (read_copy d.sizes.width (may_park n)) k ws) (p7 count epoch items down requests replies) r e in
+        let park = parked-ok n d.sizes.width d.sizes.parking_room k ws parked.0 parked.1 in
+        last parked.0.value park.0 parked.0.at parked.0.rest park.1 park.2 parked.2
+      where
+        last : (parked : List CopyValue) (c k : ℕ) (ws : List ℕ) → c ≤ d.sizes.parking_room → AreParked n c parked → p7 count epoch items down requests replies parked k ws ≡ Ok r → DirRead r.value
+        last parked c k ws c_most all e =
+            let reserved = and_then-ok (word_to (d.sizes.parking_room - length parked) k ws) (p8 count epoch items down requests replies parked) r e in
+            let most : reserved.0.value ≤ d.sizes.parking_room - length parked = leb-true reserved.0.value (d.sizes.parking_room - length parked) (word_that-ok (λ w. nat_le w (d.sizes.parking_room - length parked)) k ws reserved.0 reserved.1) in
+            let room : length parked + reserved.0.value ≤ d.sizes.parking_room = omega (arith, most, c_most, all.copies.count) in
+            dir-given count epoch items down requests replies parked reserved.0.value (record {
+              recorded = recorded;
+              down_fit = all_down.fit;
+              down_stamps = all_down.stamps;
+              down_room = subst (λ c. c ≤ d.sizes.down_room) (sym all_down.count) i_most;
+              requests_fit = all_requests.fit;
+              request_room = subst (λ c. c ≤ d.sizes.request_room) (sym all_requests.count) j_most;
+              replies_fit = all_replies.fit;
+              reply_room = subst (λ c. c ≤ d.sizes.reply_room) (sym all_replies.count) l_most;
+              parked_fits = all.copies.fit;
+              parked_differ = all.differ;
+              parking_room = room;
+            }) counted ends reserved.0.at reserved.0.rest r reserved.2
+
+    sends-ok : (down : List DownValue) (i k : ℕ) (ws : List ℕ) → i ≤ d.sizes.down_room → AreDown n d.level d.sizes.width i down → p4 count epoch items down k ws ≡ Ok r → DirRead r.value
+    sends-ok down i k ws i_most all_down e =
+        let requests = and_then-ok (listed d.sizes.request_room (read_request n) k ws) (p5 count epoch items down) r e in
+        let asks = requests-ok n d.sizes.request_room k ws requests.0 requests.1 in
+        replied requests.0.value asks.0 requests.0.at requests.0.rest asks.1 asks.2 requests.2
+      where
+        replied : (requests : List RequestValue) (j k : ℕ) (ws : List ℕ) → j ≤ d.sizes.request_room → AreRequests n j requests → p5 count epoch items down requests k ws ≡ Ok r → DirRead r.value
+        replied requests j k ws j_most all_requests e =
+            let replies = and_then-ok (listed d.sizes.reply_room (read_copy d.sizes.width (λ x cs. nat_lt x n)) k ws) (p6 count epoch items down requests) r e in
+            let answers = replies-ok n d.sizes.width d.sizes.reply_room k ws replies.0 replies.1 in
+            parking-ok down requests replies.0.value i j answers.0 replies.0.at replies.0.rest i_most all_down j_most all_requests answers.1 answers.2 replies.2
+
+    lists-ok : (k : ℕ) (ws : List ℕ) → p3 count epoch items k ws ≡ Ok r → DirRead r.value
+    lists-ok k ws e =
+        let down = and_then-ok (listed d.sizes.down_room (read_down n d.level d.sizes.width) k ws) (p4 count epoch items) r e in
+        let comes = down-ok n d.level d.sizes.width d.sizes.down_room k ws down.0 down.1 in
+        sends-ok down.0.value comes.0 down.0.at down.0.rest comes.1 comes.2 down.2
+
+  pub dir-ok : (k : ℕ) (ws : List ℕ) (r : Read DirValue) → read_dir n kids d k ws ≡ Ok r → DirRead r.value
+  unfolding read_dir
+  dir-ok k ws r e =
+      let count = and_then-ok (count_word k ws) p1 r e in
+      let epoch = and_then-ok (stamp_words d.level count.0.at count.0.rest) (p2 count.0.value) r count.2 in
+      let items = and_then-ok (read_records n kids (is_top d) epoch.0.at epoch.0.rest) (p3 count.0.value epoch.0.value) r epoch.2 in
+      lists-ok count.0.value epoch.0.value items.0.value (word_that-ok (λ w. nat_le w most_counted) k ws count.0 count.1) (stamp-ok d.level count.0.at count.0.rest epoch.0 epoch.1) (records-ok n kids (is_top d) epoch.0.at epoch.0.rest items.0 items.1) r items.0.at items.0.rest items.2
