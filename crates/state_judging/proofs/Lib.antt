@@ -10,3 +10,4 @@ pub mod WaysRead
 pub mod OneWaits
 pub mod LeafRead
 pub mod DirRead
+pub mod OpsRead
