@@ -11,3 +11,5 @@ pub mod OneWaits
 pub mod LeafRead
 pub mod DirRead
 pub mod OpsRead
+pub mod BusNumbers
+pub mod BusesRead
