@@ -13,3 +13,5 @@ pub mod DirRead
 pub mod OpsRead
 pub mod BusNumbers
 pub mod BusesRead
+pub mod LeavesRead
+pub mod Refilled
