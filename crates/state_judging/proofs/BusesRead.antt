@@ -1,20 +1,18 @@
 -- What the buses are that were read: at each number the directory over that bus, and its traffic.
 -- Letters: n is how many items there are, m the machine before, b what was read of a bus, k a number of a bus or of the next word, ws
 -- are the words.
-use Rattle.std.specs.Prelude.{◌≡◌, ◌<◌, ◌≤◌, ℕ, zero, suc, ◌+◌, Bool, true, List, [], ◌∷◌, ◌++◌, length, map, Option, Some, None, is_some, slice_index_or, Result, Ok, Err, refl}
+use Rattle.std.specs.Prelude.{◌≡◌, ◌<◌, ◌≤◌, ℕ, zero, suc, ◌+◌, Bool, true, List, [], ◌∷◌, ◌++◌, length, map, Option, Some, None, is_some, slice_index_or, Ok, refl}
 use Rattle.std.specs.List.{list_all, range_with_len, AllByRecursion}
 use Rattle.std.proofs.Common.{sym, ap, subst, ◌∙◌, arith, append_assoc, append-nil}
 use Rattle.std.specs.Cmp.Derive.{both_true}
-use Rattle.tree_model.specs.declared.Traffic.{Traffic}
 use Rattle.tree_model.specs.State.Shape.{IsShaped}
 use Rattle.tree_model.specs.State.Values.{DirValue, Node, MachineValue, root_of}
 use Rattle.tree_model.specs.Turns.Machine.{ask_bus}
-use Rattle.state_reading.specs.declared.StateRefusal.{StateRefusal}
 use Rattle.state_reading.specs.Reading.{Read, and_then, given}
 use Rattle.state_reading.specs.Parts.{read_dir, read_traffic}
 use Rattle.state_reading.specs.Machine.{BusRead, bus_dir, bus_traffic, read_bus_of, read_bus, read_buses}
 use Rattle.state_judging.specs.Read.{is_counted}
-use Rattle.state_judging.proofs.Inverted.{and_then-ok, given-ok, given-so, Beside}
+use Rattle.state_judging.proofs.Inverted.{and_then-ok, given-ok, Beside}
 use Rattle.state_judging.proofs.DirRead.{DirRead, dir-ok}
 use Rattle.state_judging.proofs.OpsRead.{traffic-ok}
 use Rattle.state_judging.proofs.EachBus.{AtDirs, asked-everywhere}
@@ -68,8 +66,7 @@ module _ (n : ℕ) (m : MachineValue) where
   bus-given bus None is there k ws r e = cc
   bus-given bus (Some a) is there k ws r e =
       let d = and_then-ok (read_dir n a.1 a.0 k ws) (λ d k ws. and_then (read_traffic k ws) (λ t k ws. given (record { dir = d; traffic = t } ∷ []) k ws)) r e in
-      let t = and_then-ok (read_traffic d.0.at d.0.rest) (λ t k ws. given (record { dir = d.0.value; traffic = t } ∷ []) k ws) r d.2 in
-      (
+      let t = and_then-ok (read_traffic d.0.at d.0.rest) (λ t k ws. given (record { dir = d.0.value; traffic = t } ∷ []) k ws) r d.2 in (
         record { dir = d.0.value; traffic = t.0.value },
         record { before = a; is = is; dir = dir-ok n a.1 a.0 k ws d.0 d.1; traffic = traffic-ok d.0.at d.0.rest t.0 t.1 },
         sym (given-ok (record { dir = d.0.value; traffic = t.0.value } ∷ []) t.0.at t.0.rest r t.2),

@@ -1,18 +1,16 @@
 -- What a directory, or the top, is that was read: all that it keeps by itself.
 -- Letters: n is how many items there are, kids how many children its bus has, d the directory before, e the one that was read, k the
 -- number of the next word, ws are the words.
-use Rattle.std.specs.Prelude.{◌≡◌, ◌<◌, ◌≤◌, ℕ, zero, suc, ◌+◌, ◌-◌, ◌^◌, Bool, true, false, not, ◌&&◌, ◌||◌, nat_eq, nat_lt, nat_le, List, [], ◌∷◌, ◌++◌, length, map, replicate, slice_set, Option, Some, None, Result, Ok, Err, refl, if◌then◌else◌}
+use Rattle.std.specs.Prelude.{◌≡◌, ◌≤◌, ℕ, zero, suc, ◌+◌, ◌-◌, Bool, true, false, not, ◌&&◌, ◌||◌, nat_eq, nat_lt, nat_le, List, [], ◌∷◌, ◌++◌, length, map, replicate, slice_set, Some, None, Result, Ok, refl, if◌then◌else◌}
 use Rattle.std.specs.List.{list_any, list_all}
 use Rattle.std.proofs.Common.{sym, ap, subst, ◌∙◌, arith}
-use Rattle.std.proofs.lemmas.Bool.{and_parts, eqb-true, eq-eqb, leb-true, le-leb, ltb-true}
+use Rattle.std.proofs.lemmas.Bool.{and_parts, eqb-true, eq-eqb, leb-true, le-leb}
 use Rattle.std.proofs.lemmas.List.{length_push, length-set, length-replicate, map-append}
 use Rattle.std.specs.Cmp.Derive.{both_true}
-use Rattle.ddm_types.specs.declared.answers.TxKind.{TxKind}
 use Rattle.ddm_types.specs.declared.keys.Stamp.{Stamp}
-use Rattle.ddm_types.specs.Keys.{stamp_numbers}
 use Rattle.tree_model.specs.State.Kinds.{brings_copy}
 use Rattle.tree_model.specs.State.Shape.{are_distinct}
-use Rattle.tree_model.specs.State.Values.{RequestValue, CopyValue, DownValue, Note, no_note, local, up_read, up_erase, DirItem, DirValue}
+use Rattle.tree_model.specs.State.Values.{RequestValue, CopyValue, DownValue, Note, DirItem, DirValue}
 use Rattle.tree_model.specs.State.Leaf.{copy_item, is_copy}
 use Rattle.tree_model.specs.State.Directory.{is_top}
 use Rattle.tree_rules.specs.Bus.Own.{are_zero, copy_fits, down_fits, request_fits, note_fits, item_fits, top_item, DirRule, dir_lists, notes_fit, down_entries, dir_requests, dir_replies, parked_fit, parked_once, dir_test, dir_rules, dir_holds}
@@ -21,9 +19,9 @@ use Rattle.tree_rules.specs.Order.Time.{stamp_ends}
 use Rattle.tree_rules.proofs.Lists.{all-pass}
 use Rattle.state_words.specs.Parts.{is_recorded}
 use Rattle.state_reading.specs.declared.StateRefusal.{StateRefusal}
-use Rattle.state_reading.specs.Reading.{Read, and_then, given, times, word_that, any_word, words_that}
+use Rattle.state_reading.specs.Reading.{Read, and_then, given, times, word_that, any_word}
 use Rattle.state_reading.specs.Parts.{most_counted, count_word, word_to, word_below, word_from_1, word_if, item_words, listed, stamp_words, hold_of, note_of_words, joins_fit, Recorded, comes_after, read_record, kind_of, read_down, read_request, read_copy, at_rest, read_records, read_dir}
-use Rattle.state_judging.proofs.Inverted.{and_then-ok, given-ok, given-so, word_that-ok, words_that-ok, times-begun, listed-ok}
+use Rattle.state_judging.proofs.Inverted.{and_then-ok, given-so, word_that-ok, words_that-ok, times-begun, listed-ok}
 use Rattle.state_judging.proofs.Lists.{same-test, pass-set, pass-pushed, pass-replicate, distinct-pushed, any-map}
 use Rattle.state_judging.proofs.LeafRead.{zero-unless, read_copy-ok, AreCopies, no_copies, copies-next}
 

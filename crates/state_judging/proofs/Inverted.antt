@@ -1,12 +1,12 @@
 -- What a reading that came to its end says of its steps.
 -- Letters: k is the number of the next word, ws are the words from it on, r is what was read.
-use Rattle.std.specs.Prelude.{◌≡◌, ◌≤◌, ℕ, zero, suc, ◌+◌, Bool, true, false, ◌&&◌, nat_le, List, [], ◌∷◌, length, Result, Ok, Err, refl, if◌then◌else◌, ⊤}
+use Rattle.std.specs.Prelude.{◌≡◌, ◌≤◌, ℕ, zero, suc, ◌+◌, Bool, true, false, nat_le, List, [], ◌∷◌, Result, Ok, Err, refl, if◌then◌else◌, ⊤}
 use Rattle.std.specs.List.{list_all}
-use Rattle.std.proofs.Common.{sym, ap, ◌∙◌, arith, subst}
+use Rattle.std.proofs.Common.{ap, arith, subst}
 use Rattle.std.proofs.lemmas.Bool.{leb-true}
 use Rattle.std.specs.Cmp.Derive.{both_true}
 use Rattle.state_reading.specs.declared.StateRefusal.{StateRefusal}
-use Rattle.state_reading.specs.declared.StateRefusal.TheVariants.{Cut, BadWord}
+use Rattle.state_reading.specs.declared.StateRefusal.TheVariants.{BadWord}
 use Rattle.state_reading.specs.Reading.{Read, and_then, given, times, word_that, words_that}
 use Rattle.state_reading.specs.Parts.{listed, word_to}
 use Rattle.state_reading.specs.Machine.{read_each}

@@ -1,9 +1,9 @@
 -- What a leaf is that was read: its hart, and then what it keeps of items, which is all that a leaf keeps by itself.
 -- Letters: n is how many items there are, v the leaf before, u the one that was read, k the number of the next word, ws are the words.
-use Rattle.std.specs.Prelude.{◌≡◌, ◌<◌, ◌≤◌, ℕ, zero, suc, ◌+◌, ◌-◌, Bool, true, false, not, ◌&&◌, ◌||◌, nat_eq, nat_lt, nat_le, List, [], ◌∷◌, ◌++◌, length, map, replicate, Option, Some, None, is_none, Result, Ok, Err, refl, if◌then◌else◌}
-use Rattle.std.specs.List.{list_any, list_all, range_with_len, AllByRecursion}
+use Rattle.std.specs.Prelude.{◌≡◌, ◌≤◌, ℕ, ◌+◌, ◌-◌, Bool, true, false, not, ◌&&◌, ◌||◌, nat_eq, nat_lt, nat_le, List, [], ◌∷◌, ◌++◌, length, map, Option, Some, None, is_none, Result, Ok, Err, refl, if◌then◌else◌}
+use Rattle.std.specs.List.{list_any, list_all}
 use Rattle.std.proofs.Common.{sym, ap, subst, ◌∙◌, arith}
-use Rattle.std.proofs.lemmas.Bool.{and_parts, eqb-true, eq-eqb, leb-true, le-leb, ltb-true, lt-ltb}
+use Rattle.std.proofs.lemmas.Bool.{and_parts, eq-eqb, leb-true, le-leb, lt-ltb}
 use Rattle.std.proofs.lemmas.Bool.Decides.{nat_tests}
 use Rattle.std.proofs.lemmas.List.{length_push}
 use Rattle.std.specs.Cmp.Derive.{both_true}
@@ -12,8 +12,8 @@ use Rattle.ddm_types.specs.declared.answers.TxKind.TheVariants.{ReadTx, DataTx, 
 use Rattle.ddm_types.specs.declared.sizes.LeafState.{LeafState}
 use Rattle.tree_model.specs.State.States.{is_reading}
 use Rattle.tree_model.specs.State.Shape.{are_distinct}
-use Rattle.tree_model.specs.State.Values.{RequestValue, CopyValue, WayValue, BufferValue, LeafSizes, LeafValue}
-use Rattle.tree_model.specs.State.Leaf.{way_at, state_at, copy_item, buffer_item}
+use Rattle.tree_model.specs.State.Values.{RequestValue, CopyValue, BufferValue, LeafValue}
+use Rattle.tree_model.specs.State.Leaf.{way_at, state_at}
 use Rattle.tree_rules.specs.Bus.Own.{are_zero, copy_fits, words_suit, buffer_fits, request_suits, slot_suits, reserves_below, LeafRule, has_ways, leaf_lists, ways_fit, ways_alone, buffer_fit, buffered_once, one_waiting, slot_fits, leaf_replies, reservation_fits, leaf_test, leaf_rules, leaf_holds}
 use Rattle.tree_rules.specs.Bus.Item.{implies}
 use Rattle.tree_rules.proofs.Implying.{implies-true, implies-false}

@@ -1,16 +1,15 @@
 -- What the leaves are that were read, each at its number: leaves are numbered from left to right.
 -- Letters: n is how many items there are, m the machine before, v a leaf of it, u the one that was read, ws are words.
-use Rattle.std.specs.Prelude.{◌≡◌, ℕ, ◌+◌, Bool, true, ◌&&◌, nat_eq, nat_lt, nat_le, List, [], ◌∷◌, ◌++◌, length, map, slice_index_or, Result, Ok, Err, refl, ⊤}
+use Rattle.std.specs.Prelude.{◌≡◌, ℕ, ◌+◌, Bool, true, ◌&&◌, nat_eq, nat_lt, nat_le, List, [], ◌∷◌, ◌++◌, length, map, slice_index_or, Ok, refl, ⊤}
 use Rattle.std.specs.List.{AllByRecursion}
-use Rattle.std.proofs.Common.{sym, ap, subst, ◌∙◌, arith, append_assoc}
+use Rattle.std.proofs.Common.{sym, ap, subst, ◌∙◌, append_assoc}
 use Rattle.std.proofs.lemmas.Bool.{and_parts, eqb-true}
 use Rattle.std.proofs.lemmas.List.{get_or_at, length_push}
 use Rattle.tree_model.specs.State.Shape.{IsShaped, skeleton, skeletons, leaf_numbers_of, leaf_numbers_among, count_from, leaves_numbered}
 use Rattle.tree_model.specs.State.Values.{LeafSizes, LeafValue, Node, Nodes, leaf_node, dir_node, no_nodes, more_nodes, MachineValue, root_of}
 use Rattle.tree_model.specs.Turns.Machine.{leaves_of, leaves_among, machine_leaves}
 use Rattle.tree_rules.specs.Bus.Own.{leaf_holds}
-use Rattle.state_reading.specs.declared.StateRefusal.{StateRefusal}
-use Rattle.state_reading.specs.Reading.{Read, and_then, given}
+use Rattle.state_reading.specs.Reading.{Read}
 use Rattle.state_reading.specs.Parts.{most_counted, read_hart, read_leaf}
 use Rattle.state_reading.specs.Machine.{read_each}
 use Rattle.state_judging.specs.Read.{ways_exist, ways_exist_among}
@@ -104,7 +103,7 @@ module _ (n : ℕ) where
     pub counted : nat_le u.done most_counted ≡ true
     pub holds : leaf_holds n u ≡ true
 
-  abbrev FromHart : LeafValue → LeafValue → Type 0
+  abbrev pub FromHart : LeafValue → LeafValue → Type 0
   FromHart h u = has_ways h.sizes ≡ true → LeafRead n h u
 
   abbrev FromLeaf : LeafValue → LeafValue → Type 0

@@ -15,3 +15,5 @@ pub mod BusNumbers
 pub mod BusesRead
 pub mod LeavesRead
 pub mod Refilled
+pub mod TimeRead
+pub mod MachineRead

@@ -1,10 +1,10 @@
 -- Lists that are made entry by entry: what each entry passes, which numbers differ, and what stands at an index.
-use Rattle.std.specs.Prelude.{◌≡◌, ◌≢◌, ◌<◌, ◌≤◌, ℕ, zero, suc, ◌+◌, Bool, true, false, not, ◌&&◌, ◌||◌, nat_eq, List, [], ◌∷◌, ◌++◌, length, map, replicate, slice_set, slice_index_or, Option, Some, None, option_map, find, refl}
+use Rattle.std.specs.Prelude.{◌≡◌, ℕ, zero, suc, ◌+◌, Bool, true, false, not, ◌||◌, nat_eq, List, [], ◌∷◌, ◌++◌, map, replicate, slice_set, slice_index_or, Some, find, refl}
 use Rattle.std.specs.List.{list_any, list_all, AllByRecursion}
 use Rattle.std.proofs.Common.{sym, ap, subst, ◌∙◌, arith, cond, true≢false}
 use Rattle.std.proofs.lemmas.Bool.{and_parts, eqb-true, eq-eqb, ne_eqb}
 use Rattle.std.specs.Cmp.Derive.{both_true}
-use Rattle.tree_model.specs.State.Lists.{all_from, find_from}
+use Rattle.tree_model.specs.State.Lists.{all_from}
 use Rattle.tree_model.specs.State.Shape.{are_distinct}
 use Rattle.tree_model.proofs.Tests.{not-true, or-false_first, or-false_second}
 use Rattle.state_judging.proofs.Searches.{each-so}

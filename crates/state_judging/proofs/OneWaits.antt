@@ -1,8 +1,8 @@
 -- Where at most one of a leaf's entries waits, an item whose entry waits is the first that does.
 -- Letters: ss are the entries that stand in ways, bs those of the buffer, x and y items, n how many items there are.
-use Rattle.std.specs.Prelude.{◌≡◌, ◌<◌, ◌≤◌, ℕ, zero, suc, ◌+◌, Bool, true, false, ◌&&◌, ◌||◌, nat_eq, nat_le, List, [], ◌∷◌, ◌++◌, length, map, Option, Some, None, option_map, refl, if◌then◌else◌}
+use Rattle.std.specs.Prelude.{◌≡◌, ◌<◌, ◌≤◌, ℕ, ◌+◌, Bool, true, false, ◌&&◌, nat_eq, nat_le, List, [], ◌∷◌, ◌++◌, length, map, Option, Some, None, option_map, refl, if◌then◌else◌}
 use Rattle.std.specs.List.{list_any, list_all, find, range_with_len, AllByRecursion}
-use Rattle.std.proofs.Common.{sym, ap, subst, ◌∙◌, arith, cond, true≢false}
+use Rattle.std.proofs.Common.{sym, ap, ◌∙◌, arith, cond, true≢false}
 use Rattle.std.proofs.lemmas.Bool.{and_parts, eqb-true, eq-eqb, leb-true, leb-false}
 use Rattle.std.proofs.lemmas.Bool.Decides.{nat_tests}
 use Rattle.std.proofs.lemmas.List.{get_or_past}
@@ -12,7 +12,7 @@ use Rattle.flat_model.specs.Flat.{has_reserved}
 use Rattle.tree_model.specs.State.Lists.{first_some, find_from}
 use Rattle.tree_model.specs.State.States.{is_waiting}
 use Rattle.tree_model.specs.State.Values.{WayValue, BufferValue, LeafValue}
-use Rattle.tree_model.specs.State.Leaf.{LeafEntry, way_at, way_entry, buffer_entry, buffered, is_buffered, buffer_item, entry_at, entry_state, state_at, way_waits, buffer_waits, waiting_item}
+use Rattle.tree_model.specs.State.Leaf.{way_at, way_entry, buffer_entry, buffered, is_buffered, buffer_item, entry_at, entry_state, state_at, way_waits, buffer_waits, waiting_item}
 use Rattle.tree_model.proofs.Children.{found-passes, none-passes}
 use Rattle.tree_rules.specs.Bus.Own.{state_waits, waits_alone}
 use Rattle.tree_rules.proofs.Implying.{implies-by}
@@ -20,7 +20,7 @@ use Rattle.tree_rules.proofs.Lists.{range-from_each}
 use Rattle.state_words.specs.Parts.{StandingValue}
 use Rattle.state_reading.specs.Parts.{waiting_states, standing_state, buffer_state}
 use Rattle.state_judging.proofs.Lists.{find-passes}
-use Rattle.state_judging.proofs.WaysRead.{ways_of, AllWithin, Apart, standing_one, found-in, one-item, length-ways}
+use Rattle.state_judging.proofs.WaysRead.{ways_of, AllWithin, Apart, found-in, one-item}
 
 -- ---- how many wait
 

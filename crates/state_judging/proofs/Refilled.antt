@@ -1,29 +1,23 @@
 -- A tree with other leaves and directories at their numbers, which have the same numbers, levels and sizes: it has the same skeleton,
 -- and what holds of the parts holds in it.
 -- Letters: us are leaves, ds directories, n is how many items there are, v a leaf and d a directory of the tree before.
-use Rattle.std.specs.Prelude.{◌≡◌, ◌<◌, ◌≤◌, ℕ, zero, suc, ◌+◌, Bool, true, false, ◌&&◌, ◌||◌, nat_eq, nat_lt, nat_le, List, [], ◌∷◌, ◌++◌, length, map, slice_index_or, refl}
-use Rattle.std.specs.List.{list_any, list_all, AllByRecursion}
-use Rattle.std.proofs.Common.{sym, ap, subst, ◌∙◌, arith, append_assoc, append-nil}
-use Rattle.std.proofs.lemmas.Bool.{and_parts, eqb-true, eq-eqb}
-use Rattle.std.proofs.lemmas.List.{length_push}
+use Rattle.std.specs.Prelude.{◌≡◌, ℕ, suc, true, List, length, slice_index_or, refl}
+use Rattle.std.specs.List.{list_all}
+use Rattle.std.proofs.Common.{sym, ap, subst, ◌∙◌}
 use Rattle.std.specs.Cmp.Derive.{both_true}
-use Rattle.ddm_types.specs.declared.operations.Op.{Op}
-use Rattle.tree_model.specs.State.Place.{Spot, spot_path, spot_in}
-use Rattle.tree_model.specs.State.Shape.{skeleton, skeletons, leaf_bone, dir_bone, leaf_numbers_of, leaf_numbers_among, count_from, levels_fit, levels_fit_among}
-use Rattle.tree_model.specs.State.Values.{LeafValue, DownValue, DirValue, Node, Nodes, leaf_node, dir_node, no_nodes, more_nodes, children, MachineValue, root_of}
-use Rattle.tree_rules.specs.Statements.{Holds, is_so, each}
-use Rattle.tree_rules.specs.Bus.Own.{leaf_holds, dir_holds}
-use Rattle.tree_rules.specs.Order.Places.{LeafAt, leaves_in, placed_leaves, leaves_at, DirAt, dir_path, dirs_in, placed_dirs, dirs_at}
-use Rattle.tree_rules.specs.Order.Time.{is_leaf_of, stamp_ends, entry_ends, epoch_ends}
-use Rattle.tree_rules.proofs.Statements.{facts-each}
-use Rattle.state_reading.specs.Parts.{most_counted}
+use Rattle.tree_model.specs.State.Shape.{skeleton, skeletons}
+use Rattle.tree_model.specs.State.Values.{LeafValue, DownValue, DirValue, Node, Nodes, leaf_node, dir_node, no_nodes, more_nodes, children}
+use Rattle.tree_rules.specs.Bus.Own.{dir_holds}
+use Rattle.tree_rules.specs.Order.Time.{stamp_ends}
 use Rattle.state_reading.specs.Machine.{refilled, refilled_among}
 use Rattle.state_judging.specs.Read.{parts_hold, parts_hold_among}
 use Rattle.state_judging.proofs.DirRead.{DirRead}
 use Rattle.state_judging.proofs.EachBus.{AtDirs, AtDirsAmong}
 use Rattle.state_judging.proofs.LeavesRead.{AtLeaves, AtLeavesAmong, WholeRead}
-use Rattle.state_judging.proofs.Lists.{any-map, pass-each}
-use Rattle.state_judging.proofs.Searches.{each-append}
+
+-- stamps have no number of a level that isn't there, by the level that the directory knows
+abbrev pub Ends : DirValue → List Node → Type 0
+Ends d ns = (stamp_ends d.level d.epoch ≡ true) × (list_all (λ (e : DownValue). stamp_ends d.level e.stamp) d.down ≡ true)
 
 module _ (n : ℕ) (us : List LeafValue) (ds : List DirValue) where
   abbrev pub LeafStands : LeafValue → Type 0
@@ -62,22 +56,14 @@ module _ (n : ℕ) (us : List LeafValue) (ds : List DirValue) where
 
   -- ---- its stamps
 
-  -- by the level that the directory knows
-  abbrev pub Ends : DirValue → List Node → Type 0
-  Ends d ns = (stamp_ends d.level d.epoch ≡ true) × (list_all (λ (e : DownValue). stamp_ends d.level e.stamp) d.down ≡ true)
-
   mutual
     pub ends-refilled : (t : Node) → AtDirs DirStands t → AtDirs Ends (refilled us ds t)
     ends-refilled (leaf_node v) dirs = tt
     ends-refilled (dir_node d ns) dirs = (here, ends-refilled_among ns dirs.1)
       where
-        e : DirValue
-        e = slice_index_or ds d.bus d
-
         here : (stamp_ends (slice_index_or ds d.bus d).level (slice_index_or ds d.bus d).epoch ≡ true) × (list_all (λ (x : DownValue). stamp_ends (slice_index_or ds d.bus d).level x.stamp) (slice_index_or ds d.bus d).down ≡ true)
         here =
-            let level = sym dirs.0.level in
-            (
+            let level = sym dirs.0.level in (
               subst (λ l. stamp_ends l (slice_index_or ds d.bus d).epoch ≡ true) level dirs.0.epoch,
               subst (λ l. list_all (λ (x : DownValue). stamp_ends l x.stamp) (slice_index_or ds d.bus d).down ≡ true) level dirs.0.stamps,
             )

@@ -1,9 +1,9 @@
 -- The ways of a leaf that are made of a list of standing entries: each item has the entry that the list says, if it says one.
 -- Letters: n is how many items there are, s and t standing entries, ss the list of them, x and y items, e and o their entries.
-use Rattle.std.specs.Prelude.{◌≡◌, ◌≢◌, ◌<◌, ◌≤◌, ℕ, zero, suc, ◌+◌, ◌%◌, Bool, true, false, not, ◌&&◌, ◌||◌, nat_eq, nat_lt, nat_le, List, [], ◌∷◌, ◌++◌, length, map, replicate, slice_set, slice_index_or, Option, Some, None, is_none, refl, if◌then◌else◌, ⊤}
+use Rattle.std.specs.Prelude.{◌≡◌, ◌<◌, ℕ, zero, suc, ◌%◌, Bool, true, false, not, ◌&&◌, nat_eq, nat_lt, List, [], ◌∷◌, length, replicate, Option, Some, None, refl, ⊤}
 use Rattle.std.specs.List.{list_any, list_all, AllByRecursion}
 use Rattle.std.proofs.Common.{sym, ap, subst, ◌∙◌, arith, true≢false}
-use Rattle.std.proofs.lemmas.Bool.{and_parts, eqb-true, eq-eqb, ltb-true, ne_eqb}
+use Rattle.std.proofs.lemmas.Bool.{and_parts, eqb-true, eq-eqb, ltb-true}
 use Rattle.std.proofs.lemmas.List.{get_or-set_same, get_or-set_other, length-set, length-replicate}
 use Rattle.std.specs.Cmp.Derive.{both_true}
 use Rattle.tree_model.specs.State.Lists.{all_from}
@@ -118,8 +118,8 @@ module _ (n sets : ℕ) (ss : List StandingValue) (within : AllWithin n ss) (dif
   alone-there x e is y None that = implies-false (nat_eq x y)
   alone-there x e is y (Some o) that =
       implies-by (stands_in sets x e.way y (Some o)) (nat_eq x y) (λ stands.
-          let parts = and_parts (nat_eq (y % sets) (x % sets)) (nat_eq o.way e.way) stands in
-          eq-eqb x y (one-item (same_place sets) n (places-swap sets) ss within (places-apart sets ss differ) x y e o is that (both_true (swapped (y % sets) (x % sets) parts.0) (swapped o.way e.way parts.1))))
+      let parts = and_parts (nat_eq (y % sets) (x % sets)) (nat_eq o.way e.way) stands in
+      eq-eqb x y (one-item (same_place sets) n (places-swap sets) ss within (places-apart sets ss differ) x y e o is that (both_true (swapped (y % sets) (x % sets) parts.0) (swapped o.way e.way parts.1))))
 
   alone-or : (v : LeafValue) → v.sizes.sets ≡ sets → v.ways ≡ ways_of n ss → (x : ℕ) (o : Option WayValue) → way_at x (ways_of n ss) ≡ o → has_way_alone v x o ≡ true
   alone-or v size ways x None is = refl
