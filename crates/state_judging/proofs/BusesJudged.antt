@@ -1,6 +1,6 @@
 -- Judged bus by bus, no item breaks a rule: just where every bus of the machine keeps its rules.
 -- Letters: m is a machine, n how many items there are, p and d directories over children ns.
-use Rattle.std.specs.Prelude.{◌≡◌, ◌<◌, ◌≤◌, ℕ, zero, suc, ◌+◌, Bool, true, not, ◌&&◌, ◌||◌, nat_eq, List, length, Option, Some, None, refl}
+use Rattle.std.specs.Prelude.{find, if◌then◌else◌, ◌≡◌, ◌<◌, ◌≤◌, ℕ, zero, suc, ◌+◌, Bool, true, false, not, ◌&&◌, ◌||◌, nat_eq, List, length, Option, Some, None, refl}
 use Rattle.std.specs.List.{range_with_len}
 use Rattle.std.proofs.Common.{arith, inl, inr, subst}
 use Rattle.std.proofs.lemmas.Bool.{eqb-true, eq-eqb, and_parts}
@@ -16,7 +16,7 @@ use Rattle.tree_rules.specs.Bus.Rules.{IsBusOk, IsTreeOk, AreTreesOk, IsMachineO
 use Rattle.tree_rules.specs.Bus.Faces.{parent_face, faces_of}
 use Rattle.tree_rules.proofs.BusTests.{IsDirOk-from_test, IsLeafOk-from_test, ItemRules-from_test, test-from_ItemRules}
 use Rattle.state_reading.specs.declared.StateRefusal.TheVariants.{BrokenRule}
-use Rattle.state_judging.specs.Judged.{keeps_rules_at, keeps_places_at, broken_item, broken_at, broken_among, or_none}
+use Rattle.state_judging.specs.Judged.{keeps_rules_at, keeps_places, broken_item, broken_at, broken_among, or_none}
 use Rattle.state_judging.specs.Read.{parts_hold, parts_hold_among}
 use Rattle.state_judging.proofs.EachBus.{AtDirs, AtDirsAmong, asked-everywhere, asked-anywhere}
 use Rattle.state_judging.proofs.Searches.{each-unbroken, unbroken-each, mapped_none, none_mapped, or-other, or-by}
@@ -68,46 +68,52 @@ module _ (m : MachineValue) (p : DirValue) (ns : List Node) where
   abbrev n : ℕ
   n = items_of_machine m
 
-  abbrev keeps_all : ℕ → Bool
-  keeps_all x = keeps_rules_at m p ns x && keeps_places_at m p x
+  record Unbroken : Type 0 where
+    places : keeps_places m p ≡ true
+    rules : find (λ x. not (keeps_rules_at m p ns x)) (range_with_len 0 n) ≡ None
 
-  kept-at : broken_item m p ns ≡ None → (x : ℕ) → x < n → (keeps_rules_at m p ns x ≡ true) × (keeps_places_at m p x ≡ true)
-  kept-at e x below = and_parts (keeps_rules_at m p ns x) (keeps_places_at m p x) (each-unbroken keeps_all n e x below)
+  parted : (b : Bool) (o : Option ℕ) → (if b then o else Some 0) ≡ None → (b ≡ true) × (o ≡ None)
+  parted true o e = (refl, e)
+  parted false o e = cc
+
+  unbroken : broken_item m p ns ≡ None → Unbroken
+  unbroken e =
+      let both = parted (keeps_places m p) _ e in
+      record { places = both.0; rules = both.1 }
+
+  kept-at : broken_item m p ns ≡ None → (x : ℕ) → x < n → keeps_rules_at m p ns x ≡ true
+  kept-at e x below = each-unbroken (keeps_rules_at m p ns) n (unbroken e).rules x below
 
   item-kept : broken_item m p ns ≡ None → (x : ℕ) → x < n → item_holds_at p ns x ≡ true
-  item-kept e x below = (and_parts (item_holds_at p ns x) (not (is_top p) || held_at_top m x) (kept-at e x below).0).0
+  item-kept e x below = (and_parts (item_holds_at p ns x) (not (is_top p) || held_at_top m x) (kept-at e x below)).0
 
   pub top-kept : is_top p ≡ true → broken_item m p ns ≡ None → (x : ℕ) → x < n → held_at_top m x ≡ true
-  top-kept top e x below = or-other (is_top p) (held_at_top m x) (and_parts (item_holds_at p ns x) (not (is_top p) || held_at_top m x) (kept-at e x below).0).1 top
+  top-kept top e x below = or-other (is_top p) (held_at_top m x) (and_parts (item_holds_at p ns x) (not (is_top p) || held_at_top m x) (kept-at e x below)).1 top
 
-  places-kept : 0 < n → broken_item m p ns ≡ None → p.reserved ≡ kept_places p (range_with_len 0 n)
-  places-kept some e = eqb-true _ _ (or-other (nat_eq 0 0) _ (kept-at e 0 some).1 refl)
-
-  pub bus-kept : 0 < n → dir_holds n (length ns) p ≡ true → broken_item m p ns ≡ None → IsBusOk n p ns
-  bus-kept some own e = record {
+  pub bus-kept : dir_holds n (length ns) p ≡ true → broken_item m p ns ≡ None → IsBusOk n p ns
+  bus-kept own e = record {
     own = IsDirOk-from_test n (length ns) p own;
     rules = λ x below. ItemRules-from_test (parent_face x p) (faces_of x ns) (item-kept e x below);
-    reserved = places-kept some e;
+    reserved = eqb-true _ _ (unbroken e).places;
   }
 
   -- the rules of the top are asked on its own bus alone
   pub kept-bus : IsBusOk n p ns → (is_top p ≡ true → (x : ℕ) → x < n → held_at_top m x ≡ true) → broken_item m p ns ≡ None
   kept-bus ok held =
-      unbroken-each keeps_all n (λ x below.
-      both_true
-      (both_true (test-from_ItemRules (parent_face x p) (faces_of x ns) (ok.rules x below)) (or-by (is_top p) (held_at_top m x) (λ top. held top x below)))
-      (or-by (nat_eq x 0) (nat_eq p.reserved (kept_places p (range_with_len 0 n))) (λ first. eq-eqb _ _ ok.reserved)))
+      let places : keeps_places m p ≡ true = eq-eqb _ _ ok.reserved in
+      rw places
+      (unbroken-each (keeps_rules_at m p ns) n (λ x below. both_true (test-from_ItemRules (parent_face x p) (faces_of x ns) (ok.rules x below)) (or-by (is_top p) (held_at_top m x) (λ top. held top x below))))
 
 -- ---- every bus
 
-module _ (m : MachineValue) (some : 0 < items_of_machine m) where
+module _ (m : MachineValue) where
   mutual
     pub tree-kept : (n : Node) → parts_hold (items_of_machine m) n ≡ true → AtDirs (IsUnbroken m) n → IsTreeOk (items_of_machine m) n
     tree-kept (leaf_node v) parts all = IsLeafOk-from_test (items_of_machine m) v (and_parts (leaf_holds (items_of_machine m) v) _ parts).0
     tree-kept (dir_node d ns) parts all =
         let both = and_parts _ (parts_hold_among (items_of_machine m) ns) parts in
         let own = and_parts (dir_holds (items_of_machine m) (length (children ns)) d) _ both.0 in
-        (bus-kept m d (children ns) some own.0 all.0, trees-kept ns both.1 all.1)
+        (bus-kept m d (children ns) own.0 all.0, trees-kept ns both.1 all.1)
 
     pub trees-kept : (ns : Nodes) → parts_hold_among (items_of_machine m) ns ≡ true → AtDirsAmong (IsUnbroken m) ns → AreTreesOk (items_of_machine m) ns
     trees-kept no_nodes parts all = tt
@@ -130,11 +136,11 @@ top-is_top m shaped = (and_parts (nat_eq m.top.level 0) _ (shaped.each levels_kn
 
 -- ---- both ways
 
-pub buses-keep : (m : MachineValue) → IsShaped m → 0 < items_of_machine m → parts_hold (items_of_machine m) (root_of m) ≡ true → IsTopOk m.top → broken_among m (range_with_len 0 (length m.traffic)) ≡ None → IsMachineOk m
-buses-keep m shaped some parts top e =
+pub buses-keep : (m : MachineValue) → IsShaped m → parts_hold (items_of_machine m) (root_of m) ≡ true → IsTopOk m.top → broken_among m (range_with_len 0 (length m.traffic)) ≡ None → IsMachineOk m
+buses-keep m shaped parts top e =
     let all = buses-unbroken m shaped e in
     record {
-      tree = tree-kept m some (root_of m) parts all;
+      tree = tree-kept m (root_of m) parts all;
       top = top;
       held = top-kept m m.top (children m.kids) (top-is_top m shaped) all.0;
     }

@@ -63,7 +63,7 @@ timed-each m read stamps keys epochs_end = read.epochs
 pub judged_states_keep_the_rules : (m : MachineValue) → IsShaped m → IsRead m → judged m ≡ None → IsMachineOk m × IsTimed m
 judged_states_keep_the_rules m shaped read e =
     let b = none_broken m e in (
-      buses-keep m shaped read.items read.parts read.top b.buses,
+      buses-keep m shaped read.parts read.top b.buses,
       record { each = timed-each m read (stamps-timed m shaped b.stamps) (keys-timed m b.keys) },
     )
 

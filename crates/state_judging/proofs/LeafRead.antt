@@ -74,6 +74,9 @@ pub record HartRead (v u : LeafValue) : Type 0 where
   pub number : u.number ≡ v.number
   pub sizes : u.sizes ≡ v.sizes
   pub counted : nat_le u.done most_counted ≡ true
+  pub ways : u.ways ≡ v.ways
+  pub buffer : u.buffer ≡ v.buffer
+  pub replies : u.replies ≡ v.replies
 
 module _ (v : LeafValue) where
   abbrev h5 : List ℕ → ℕ → ℕ → ℕ → ℕ → ℕ → List ℕ → Result (Read LeafValue) StateRefusal
@@ -93,7 +96,7 @@ module _ (v : LeafValue) where
 
   hart-given : (registers : List ℕ) (pc done code number k : ℕ) (ws : List ℕ) (r : Read LeafValue) → nat_le done most_counted ≡ true → h5 registers pc done code number k ws ≡ Ok r → HartRead v r.value
   hart-given registers pc done code number k ws r counted e =
-      given-so (HartRead v) (record v { hart = record { registers = 0 ∷ registers; pc = pc; halt = halt_of code number }; done = done }) k ws r e (record { number = refl; sizes = refl; counted = counted })
+      given-so (HartRead v) (record v { hart = record { registers = 0 ∷ registers; pc = pc; halt = halt_of code number }; done = done }) k ws r e (record { number = refl; sizes = refl; counted = counted; ways = refl; buffer = refl; replies = refl })
 
   pub hart-ok : (k : ℕ) (ws : List ℕ) (r : Read LeafValue) → read_hart v k ws ≡ Ok r → HartRead v r.value
   unfolding read_hart

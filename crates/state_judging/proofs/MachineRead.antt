@@ -119,7 +119,6 @@ module _ (f : MachineValue) (can : CanRead f) (us : List LeafValue) (bs : List B
 
     is_read : IsRead m
     is_read = record {
-      items = can.items;
       parts = parts-refilled n us ds (root_of f) leaves buses.dirs;
       top = top-read n (length (children f.kids)) f.top (slice_index_or ds f.top.bus f.top) can.top (top-is_top f can.shaped) buses.dirs.0;
       traffic = buses.traffic;

@@ -32,8 +32,6 @@ is_top_alone d = nat_eq d.bus 0 && (nat_eq d.sizes.request_room 0 && (nat_eq d.s
 -- Words can be read into the machine. It looks at what no turn and no word changes.
 pub record CanRead (m : MachineValue) : Type 0 where
   pub shaped : IsShaped m
-  -- there is an item: the places that are kept are judged with the first one
-  pub items : 0 < items_of_machine m
   pub ways : ways_exist (skeleton (root_of m)) ≡ true
   pub top : is_top_alone m.top ≡ true
 
@@ -55,7 +53,6 @@ is_counted t =
     && (nat_le t.outs most_counted && nat_le t.injects most_counted))))
 
 pub record IsRead (m : MachineValue) : Type 0 where
-  pub items : 0 < items_of_machine m
   pub parts : parts_hold (items_of_machine m) (root_of m) ≡ true
   pub top : IsTopOk m.top
   pub traffic : list_all is_counted m.traffic ≡ true
