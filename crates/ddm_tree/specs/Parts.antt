@@ -6,22 +6,25 @@ use Rattle.std.specs.List.{range_with_len}
 use Rattle.ddm_types.specs.declared.operations.Op.{Op}
 use Rattle.ddm_types.specs.ItemTable.{item_count}
 use Rattle.tree_model.specs.State.Values.{LeafValue, MachineValue, root_of}
-use Rattle.tree_model.specs.State.Shape.{IsShaped, skeleton}
+use Rattle.tree_model.specs.State.Rooms.{all_within}
+use Rattle.tree_model.specs.State.Shape.{skeleton}
 use Rattle.tree_model.specs.Turns.Machine.{machine_leaves, with_root}
 use Rattle.tree_model.specs.Turns.Tree.{Name}
 use Rattle.state_reading.specs.declared.StateRefusal.{StateRefusal}
 use Rattle.state_reading.specs.Reading.{Read}
 use Rattle.state_reading.specs.Parts.{read_hart, read_leaf}
 use Rattle.state_reading.specs.Machine.{BusRead, bus_dir, bus_traffic, read_buses, read_each, refilled}
+use Rattle.state_judging.specs.Read.{CanRead}
 use Rattle.ddm_tree.specs.declared.section.Section.{Section}
 use Rattle.ddm_tree.specs.Machine.{listed_path}
 use Rattle.ddm_tree.specs.Path.{node_at}
 use Rattle.ddm_tree.specs.ReadBack.{IsPut, node_read, section_name}
 use Rattle.ddm_tree.specs.Ready.{words_are, Leads}
 
--- its shape, items of this width, and the path to each leaf and to each bus
+-- its shape, each list within its room, items of this width, and the path to each leaf and to each bus
 pub record IsParts (width : ℕ) (m : MachineValue) (leaf_paths bus_paths : List (List ℕ)) : Type 0 where
-  pub shaped : IsShaped m
+  pub readable : CanRead m
+  pub rooms : all_within (item_count m.items) (root_of m) ≡ true
   pub words : words_are width (skeleton (root_of m)) ≡ true
   pub paths : (name : Name) (path : List ℕ) → Leads name path (root_of m) → listed_path name leaf_paths bus_paths ≡ Some path
 
