@@ -42,6 +42,8 @@ impl<const WORDS: usize, C: Subtree<WORDS> + Drop> Parts<WORDS, C> {
         let mut parts = self;
         let mut at = from;
         for leaf in 0..leaves {
+            // What its type keeps, for the proof.
+            parts.counts();
             let section = leaf_section(harts, LeafNo(leaf));
             let (next, after) = parts.read_section(section, words, at)?;
             parts = next;
