@@ -5,6 +5,7 @@
 mod below;
 mod copying;
 mod dir;
+mod expected;
 mod found;
 mod idle;
 mod leaf;
