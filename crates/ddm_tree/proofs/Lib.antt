@@ -25,3 +25,4 @@ pub mod NamedOnce
 pub mod Refilled
 pub mod PartsKept
 pub mod LeavesInOrder
+pub mod StateRead
