@@ -1,11 +1,10 @@
 -- The kinds of an item's entries in a list, while a loop goes over the list.
-use Rattle.std.proofs.Common.{◌≡◌, ◌<◌, ℕ, zero, suc, ◌+◌, ◌++◌, Bool, true, false, cond, nat_eq, List, [], ◌∷◌, length, take, map, filter, Option, Some, refl, sym, ap, ◌∙◌, arith, add-one, is_some}
+use Rattle.std.proofs.Common.{◌≡◌, ◌<◌, ℕ, zero, suc, ◌+◌, ◌++◌, Bool, true, false, cond, nat_eq, List, [], ◌∷◌, length, take, map, filter, Some, refl, sym, ap, ◌∙◌, arith, add-one}
 use Rattle.std.specs.Prelude.{slice_get, if◌then◌else◌}
 use Rattle.std.specs.List.{list_any}
 use Rattle.ddm_types.specs.declared.answers.TxKind.{TxKind}
-use Rattle.tree_model.specs.State.Lists.{first_of, has_some, names_item}
-use Rattle.tree_model.specs.State.Values.{CopyValue, DownValue}
-use Rattle.tree_model.specs.State.Leaf.{words_of_item}
+use Rattle.tree_model.specs.State.Lists.{has_some, names_item}
+use Rattle.tree_model.specs.State.Values.{DownValue}
 use Rattle.tree_model.specs.State.Directory.{entry_item, entry_kind, queue_of, queue_kinds, request_item, request_kind, request_kinds}
 use Rattle.bus_judging.specs.Parent.{RequestFacts, request_facts}
 use Rattle.bus_judging.specs.Queue.{QueueFacts, facts_of}
@@ -83,12 +82,3 @@ requests-kinds x (r ∷ rs) = by_test (nat_eq x r.1) (requests-kinds x rs)
 pub requests-further : (x i : ℕ) (l : List (TxKind × ℕ)) (before next : RequestFacts) → i < length l → before ≡ request_facts (passing pair_kind (names_item pair_item x) (take i l))
     → ((r : TxKind × ℕ) (rs : List TxKind) → slice_get l i ≡ Some r → before ≡ request_facts rs → next ≡ request_facts (if nat_eq x r.1 then rs ++ r.0 ∷ [] else rs)) → next ≡ request_facts (passing pair_kind (names_item pair_item x) (take (i + 1) l))
 requests-further x i l before next inside is told = further pair_kind (names_item pair_item x) request_facts i l before next inside is told
-
--- ---- parked copies
-
-pub parked-there : (o : Option (List ℕ)) (x : ℕ) (parked : List CopyValue) → o ≡ first_of (words_of_item x parked) → is_some o ≡ has_some (words_of_item x parked)
-parked-there o x parked is = ap is_some is ∙ by_first (words_of_item x parked)
-  where
-    by_first : (cs : List (List ℕ)) → is_some (first_of cs) ≡ has_some cs
-    by_first [] = refl
-    by_first (c ∷ cs) = refl
