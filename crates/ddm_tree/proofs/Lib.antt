@@ -20,3 +20,4 @@ pub mod Copies
 pub mod BusNumbers
 pub mod Written
 pub mod IdleHarts
+pub mod JudgedItems

@@ -1,5 +1,5 @@
-ghost use Rattle.std.specs.Prelude.{◌≡◌, ◌<◌, ◌≤◌, ◌+◌, ◌^◌, ◌++◌, ◌∷◌, [], List, All, length, map};
-ghost use Rattle.tree_model.specs.State.Directory.{dir_note, is_eraser, is_reader, note_why};
+ghost use Rattle.std.specs.Prelude.{◌≡◌, ◌||◌, ◌<◌, ◌≤◌, ◌+◌, ◌^◌, ◌++◌, ◌∷◌, [], List, All, length, map, nat_eq};
+ghost use Rattle.tree_model.specs.State.Directory.{dir_note, in_set, is_eraser, is_reader, is_up_erase, note_why};
 ghost use Rattle.tree_model.specs.State.Values.{Note, dir_node, nodes};
 ghost use Rattle.tree_model.specs.Turns.Tree.{bus_of_number};
 ghost use Rattle.tree_rules.specs.Bus.Faces.{ChildFace as Face, child_face, faces_of};
@@ -16,25 +16,42 @@ use bus_judging::ChildrenFacts;
 use ddm_types::{BusNo, ChildNo, ItemId, PendingWhy};
 use directory::JudgedParent;
 
-/// Whether the note joins this child's read.
-fn is_reader(note: Option<PendingWhy>, joined: u16, child: u32) -> bool
+/// Whether child 0, 1 .. is the first reader or joined it.
+fn is_among(first: ChildNo, joined: u16, child: u32) -> bool
     requires { child < 16 }
-    ensures { (n : Note) → note ≡ note_why n → joined ≡ joined_in n → result ≡ is_reader n child }
+    ensures { result ≡ (nat_eq child first || in_set child joined) }
+{
+    child == first.0 || joined >> child & 1 == 1
+}
+
+/// Whether the note joins this child's read.
+fn is_reader(note: &Option<PendingWhy>, joined: u16, child: u32) -> bool
+    requires { child < 16 }
+    ensures { (n : Note) → note.now ≡ note_why n → joined ≡ joined_in n → result ≡ is_reader n child }
 {
     match note {
-        Some(PendingWhy::Local(first) | PendingWhy::UpRead(first)) => {
-            child == first.0 || joined >> child & 1 == 1
-        }
+        Some(PendingWhy::Local(first)) => is_among(*first, joined, child),
+        Some(PendingWhy::UpRead(first)) => is_among(*first, joined, child),
         _ => false,
     }
 }
 
 /// Whether the note is this child's erase.
-fn is_eraser(note: Option<PendingWhy>, child: u32) -> bool
-    ensures { (n : Note) → note ≡ note_why n → result ≡ is_eraser n child }
+fn is_eraser(note: &Option<PendingWhy>, child: u32) -> bool
+    ensures { (n : Note) → note.now ≡ note_why n → result ≡ is_eraser n child }
 {
     match note {
         Some(PendingWhy::UpErase(first)) => child == first.0,
+        _ => false,
+    }
+}
+
+/// Whether the note is an erase.
+fn is_up_erase(note: &Option<PendingWhy>) -> bool
+    ensures { (n : Note) → note.now ≡ note_why n → result ≡ is_up_erase n }
+{
+    match note {
+        Some(PendingWhy::UpErase(_)) => true,
         _ => false,
     }
 }
@@ -44,14 +61,14 @@ fn with_child<const WORDS: usize, C: Subtree<WORDS>>(
     facts: &mut ChildrenFacts,
     child: &C,
     item: ItemId,
-    note: Option<PendingWhy>,
+    note: &Option<PendingWhy>,
     joined: u16,
     number: u32,
 )
     requires in_range { item < node_items (C.value child.now) }
     requires number { number < 16 }
     requires counted { facts.old.count + 1 < 2 ^ 32 }
-    ensures { (n : Note) (cs : List Face) → note ≡ note_why n → joined ≡ joined_in n → length cs ≡ number → facts.old ≡ facts_among n cs → facts.new ≡ facts_among n (cs ++ child_face item (C.value child.now) ∷ []) }
+    ensures { (n : Note) (cs : List Face) → note.now ≡ note_why n → joined ≡ joined_in n → length cs ≡ number → facts.old ≡ facts_among n cs → facts.new ≡ facts_among n (cs ++ child_face item (C.value child.now) ∷ []) }
 {
     let reader = is_reader(note, joined, number);
     let eraser = is_eraser(note, number);
@@ -71,10 +88,9 @@ fn children_facts<const WORDS: usize, P: JudgedParent<WORDS>, C: Subtree<WORDS>>
 {
     let note = parent.note(item);
     let joined = parent.joined(item);
-    let up_erase = matches!(note, Some(PendingWhy::UpErase(_)));
-    let mut facts = ChildrenFacts::none(up_erase);
+    let mut facts = ChildrenFacts::none(is_up_erase(&note));
     for i in 0..children.len() {
-        with_child(&mut facts, &children[i], item, note, joined, i as u32);
+        with_child(&mut facts, &children[i], item, &note, joined, i as u32);
     }
     facts
 }
