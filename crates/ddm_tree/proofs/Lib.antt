@@ -21,3 +21,7 @@ pub mod BusNumbers
 pub mod Written
 pub mod IdleHarts
 pub mod JudgedItems
+pub mod SectionRead
+pub mod NamedOnce
+pub mod Refilled
+pub mod PartsKept

@@ -11,3 +11,5 @@ pub mod Copying
 pub mod Written
 pub mod Idle
 pub mod Judging
+pub mod ReadBack
+pub mod Parts
