@@ -19,7 +19,7 @@ use Rattle.tree_model.specs.State.Kinds.{has_kind}
 use Rattle.tree_rules.specs.Bus.Item.{bits_of, kept_place, starts_with_inject, top_holds}
 use Rattle.tree_rules.specs.Bus.Rules.{item_holds_at, kept_places}
 use Rattle.item_states.specs.Parts.{node_items}
-use Rattle.ddm_tree.specs.Judging.{IsJudged, first_broken, keeps_all, keeps_rules, node_broken}
+use Rattle.ddm_tree.specs.Judging.{IsJudged, first_broken, keeps_places, keeps_rules, node_broken}
 use Rattle.ddm_tree.specs.Path.{node_at}
 use Rattle.ddm_tree.specs.Ready.{Leads}
 use Rattle.ddm_tree.proofs.Descend.{within-child}
@@ -75,19 +75,28 @@ one-place p i more is =
 
 -- ---- the least item that is broken
 
-module _ (n : ℕ) (test : ℕ → Bool) (i : ℕ) (inside : i < n) (found : Option ℕ) (so_far : found ≡ find (λ x. not (test x)) (drop i (range_with_len 0 n))) where
-  pub broken-here : (kept : Bool) → kept ≡ test i → kept ≡ false → Some i ≡ found
-  broken-here kept is out =
-      let e : test i ≡ false = sym is ∙ out in
-      sym (so_far ∙ ap (find (λ x. not (test x))) (item-at n i inside) ∙ ap (λ b. cond (not b) (Some i) (find (λ x. not (test x)) (drop (i + 1) (range_with_len 0 n)))) e)
+module _ (items : ℕ) (p : DirValue) (ns : List Node) where
+  abbrev pub broken_from : ℕ → Option ℕ
+  broken_from i = find (λ x. not (keeps_rules p ns x)) (drop i (range_with_len 0 items))
 
-  pub broken-past : (kept : Bool) → kept ≡ test i → kept ≡ true → found ≡ find (λ x. not (test x)) (drop (i + 1) (range_with_len 0 n))
-  broken-past kept is passed =
-      let e : test i ≡ true = sym is ∙ passed in
-      so_far ∙ ap (find (λ x. not (test x))) (item-at n i inside) ∙ ap (λ b. cond (not b) (Some i) (find (λ x. not (test x)) (drop (i + 1) (range_with_len 0 n)))) e
+  pub places-broken : (kept : Bool) → kept ≡ keeps_places items p → kept ≡ false → Some 0 ≡ first_broken items p ns
+  places-broken kept is out = ap (λ b. if b then broken_from 0 else Some 0) (sym out ∙ is)
 
-pub none-broken : (n : ℕ) (test : ℕ → Bool) (i : ℕ) (found : Option ℕ) → n ≤ i → found ≡ find (λ x. not (test x)) (drop i (range_with_len 0 n)) → None ≡ found
-none-broken n test i found past so_far = sym (so_far ∙ ap (find (λ x. not (test x))) (none-left n i past))
+  pub places-hold : (kept : Bool) → kept ≡ keeps_places items p → kept ≡ true → first_broken items p ns ≡ broken_from 0
+  places-hold kept is passed = ap (λ b. if b then broken_from 0 else Some 0) (sym is ∙ passed)
+
+  module _ (i : ℕ) (inside : i < items) (found : Option ℕ) (so_far : found ≡ broken_from i) (kept : Bool) (is : kept ≡ keeps_rules p ns i) where
+    here : found ≡ (if not kept then Some i else broken_from (i + 1))
+    here = so_far ∙ ap (find (λ x. not (keeps_rules p ns x))) (item-at items i inside) ∙ ap (λ b. if not b then Some i else broken_from (i + 1)) (sym is)
+
+    pub broken-here : kept ≡ false → Some i ≡ found
+    broken-here out = sym (here ∙ ap (λ b. if not b then Some i else broken_from (i + 1)) out)
+
+    pub broken-past : kept ≡ true → found ≡ broken_from (i + 1)
+    broken-past passed = here ∙ ap (λ b. if not b then Some i else broken_from (i + 1)) passed
+
+  pub none-broken : (i : ℕ) (found : Option ℕ) → items ≤ i → found ≡ broken_from i → None ≡ found
+  none-broken i found past so_far = sym (so_far ∙ ap (find (λ x. not (keeps_rules p ns x))) (none-left items i past))
 
 -- ---- the children
 

@@ -1,7 +1,7 @@
 -- A bus judged by its rules, item by item: the least item that breaks one of them.
 -- Letters: p is the directory over a bus and ns its children, x an item.
 -- To be believed with the contracts: it is what a read state is judged by.
-use Rattle.std.specs.Prelude.{◌≡◌, ℕ, Bool, true, not, ◌&&◌, ◌||◌, nat_eq, List, find, Option, None}
+use Rattle.std.specs.Prelude.{◌≡◌, ℕ, Bool, true, not, ◌&&◌, ◌||◌, nat_eq, List, find, Option, Some, None, if◌then◌else◌}
 use Rattle.std.specs.List.{range_with_len}
 use Rattle.tree_model.specs.State.Values.{DirValue, Node, leaf_node, dir_node, children}
 use Rattle.tree_model.specs.State.Directory.{is_top}
@@ -19,12 +19,9 @@ keeps_rules p ns x = item_holds_at p ns x && (not (is_top p) || top_holds (paren
 unfoldable pub keeps_places : ℕ → DirValue → Bool
 keeps_places items p = nat_eq p.reserved (kept_places p (range_with_len 0 items))
 
--- places are judged at item 0
-abbrev pub keeps_all : ℕ → DirValue → List Node → ℕ → Bool
-keeps_all items p ns x = keeps_rules p ns x && (not (nat_eq x 0) || keeps_places items p)
-
+-- where they aren't, the bus is broken at item 0
 abbrev pub first_broken : ℕ → DirValue → List Node → Option ℕ
-first_broken items p ns = find (λ x. not (keeps_all items p ns x)) (range_with_len 0 items)
+first_broken items p ns = if keeps_places items p then find (λ x. not (keeps_rules p ns x)) (range_with_len 0 items) else Some 0
 
 abbrev pub node_broken : ℕ → Node → Option ℕ
 node_broken items (leaf_node v) = None

@@ -5,7 +5,7 @@ ghost use Rattle.tree_model.specs.Turns.Tree.{bus_of_number};
 ghost use Rattle.tree_rules.specs.Bus.Faces.{ChildFace as Face, child_face, faces_of};
 ghost use Rattle.item_states.specs.Parts.{joined_in, node_items};
 ghost use Rattle.bus_judging.specs.Children.{facts_among};
-ghost use Rattle.ddm_tree.specs.Judging.{IsJudged, first_broken, keeps_all, keeps_places, keeps_rules, node_broken};
+ghost use Rattle.ddm_tree.specs.Judging.{IsJudged, first_broken, keeps_places, keeps_rules, node_broken};
 ghost use Rattle.ddm_tree.specs.Path.{node_at};
 ghost use Rattle.ddm_tree.specs.Ready.{Leads};
 
@@ -126,23 +126,7 @@ fn keeps_places<const WORDS: usize, P: JudgedParent<WORDS>>(parent: &P, items: u
     parent.reserved() == kept
 }
 
-/// Whether an item keeps the rules, and item 0 also that of the places.
-fn keeps_all<const WORDS: usize, P: JudgedParent<WORDS>, C: Subtree<WORDS>>(
-    parent: &P,
-    children: &[C],
-    items: u32,
-    item: ItemId,
-) -> bool
-    requires items { length (P.state parent.now).items ≡ items }
-    requires in_range { item < items }
-    requires kept { All (λ n. item < node_items n) (map C.value children.now) }
-    requires few { length children.now ≤ 16 }
-    ensures { result ≡ keeps_all items (P.state parent.now) (map C.value children.now) item }
-{
-    keeps_rules(parent, children, item) && (item.0 != 0 || keeps_places(parent, items))
-}
-
-/// The least item that breaks a rule of the bus below a parent.
+/// The least item that breaks a rule of the bus below a parent: item 0 where places aren't kept.
 pub(crate) fn broken_item<const WORDS: usize, P: JudgedParent<WORDS>, C: Subtree<WORDS>>(
     parent: &P,
     children: &[C],
@@ -151,8 +135,11 @@ pub(crate) fn broken_item<const WORDS: usize, P: JudgedParent<WORDS>, C: Subtree
     requires { IsJudged items (dir_node (P.state parent.now) (nodes (map C.value children.now))) }
     ensures { result ≡ first_broken items (P.state parent.now) (map C.value children.now) }
 {
+    if !keeps_places(parent, items) {
+        return Some(ItemId(0));
+    }
     for item in 0..items {
-        if !keeps_all(parent, children, items, ItemId(item)) {
+        if !keeps_rules(parent, children, ItemId(item)) {
             return Some(ItemId(item));
         }
     }

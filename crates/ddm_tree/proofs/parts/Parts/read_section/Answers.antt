@@ -15,9 +15,19 @@ read_into-requires g c =
     let name = section_name c.args.section in
     let there = subst (λ n. is_part name n ≡ _) (sym c.parts.view_is) c.requires.there in
     let found = parts-listed g.row.WORDS leaf_paths bus_paths m name c.parts.invariant.0 there in
-    rw (c.deref_mut.ensures.value, c.deref.ensures.value, c.deref-2.ensures.value)
-    (lit< tt, (c.requires.few, (c.requires.inside, (c.parts.invariant.0.readable.shaped.each widths_bounded,
-    (listed-has_path vec_items name c.parts.inside.leaf_paths.items c.parts.inside.bus_paths.items found.path found.listed, listed-leads name m leaf_paths bus_paths found)))))
+    rw (c.deref_mut.ensures.value, c.deref.ensures.value, c.deref-2.ensures.value) (
+      lit< tt,
+      (
+        c.requires.few,
+        (
+          c.requires.inside,
+          (
+            c.parts.invariant.0.readable.shaped.each widths_bounded,
+            (listed-has_path vec_items name c.parts.inside.leaf_paths.items c.parts.inside.bus_paths.items found.path found.listed, listed-leads name m leaf_paths bus_paths found),
+          ),
+        ),
+      ),
+    )
 
 pub invariant_of-parts : goal.invariant_of-parts
 invariant_of-parts g c =
