@@ -25,3 +25,4 @@ pub mod SectionRead
 pub mod NamedOnce
 pub mod Refilled
 pub mod PartsKept
+pub mod PartsJudged

@@ -7,6 +7,7 @@ mod copying;
 mod dir;
 mod found;
 mod idle;
+mod judged_parts;
 mod judging;
 mod leaf;
 mod machine;
