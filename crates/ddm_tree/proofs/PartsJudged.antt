@@ -1,13 +1,16 @@
 -- What is judged at the end of a path is what the tables judge of the bus of that name.
 -- Letters: m is a machine, n a node, d a directory over the nodes ns, x an item.
-use Rattle.std.proofs.Common.{◌≡◌, ◌<◌, ℕ, zero, suc, ◌+◌, Bool, true, false, not, cond, List, [], ◌∷◌, length, find, Option, Some, None, refl, sym, ap, ◌∙◌, arith}
+use Rattle.std.proofs.Common.{◌≡◌, ◌<◌, ◌≤◌, ℕ, zero, suc, ◌+◌, Bool, true, false, not, cond, List, [], ◌∷◌, length, drop, find, Option, Some, None, option_map, refl, sym, ap, ◌∙◌, arith}
 use Rattle.std.specs.Prelude.{◌&&◌, ◌||◌, nat_eq, nat_le, if◌then◌else◌}
 use Rattle.std.specs.List.{range_with_len}
 use Rattle.std.proofs.lemmas.Bool.{eqb-true, ne_eqb}
+use Rattle.state_reading.specs.declared.StateRefusal.{StateRefusal}
+use Rattle.state_reading.specs.declared.StateRefusal.TheVariants.{BrokenRule}
+use Rattle.tree_model.specs.State.Lists.{first_some}
 use Rattle.tree_model.specs.State.Values.{DirValue, Node, Nodes, leaf_node, dir_node, no_nodes, more_nodes, children, MachineValue, root_of}
 use Rattle.tree_model.specs.State.Directory.{is_top}
 use Rattle.tree_model.specs.State.Place.{Where, at_top}
-use Rattle.tree_model.specs.State.Shape.{IsShaped, levels_fit, levels_fit_among, levels_known, levels_of, skeleton, skeletons}
+use Rattle.tree_model.specs.State.Shape.{IsShaped, are_below, buses_of, levels_fit, levels_fit_among, levels_known, levels_of, skeleton, skeletons, traffic_counted, tree_counts}
 use Rattle.tree_model.specs.Turns.Children.{child_at}
 use Rattle.tree_model.specs.Turns.Machine.{ask_bus}
 use Rattle.tree_model.specs.Turns.Tree.{Name, bus_of_number, of_dir}
@@ -15,12 +18,16 @@ use Rattle.tree_model.proofs.Tests.{and-first, and-second}
 use Rattle.tree_rules.specs.Bus.Faces.{parent_face, faces_of}
 use Rattle.tree_rules.specs.Bus.Item.{bits_of, top_holds}
 use Rattle.tree_rules.specs.Bus.Rules.{held_at_top, item_holds_at, items_of_machine}
-use Rattle.state_judging.specs.Judged.{broken_item, keeps_rules_at, or_none}
+use Rattle.state_judging.specs.Judged.{broken_among, broken_item, keeps_rules_at, or_none}
+use Rattle.ddm_types.specs.declared.sizes.TreeCounts.{TreeCounts}
+use Rattle.ddm_tree.specs.Machine.{is_part}
 use Rattle.ddm_tree.specs.Judging.{first_broken, keeps_places, keeps_rules, node_broken}
 use Rattle.ddm_tree.specs.Path.{node_at}
 use Rattle.ddm_tree.specs.Ready.{Leads}
 use Rattle.ddm_tree.proofs.Along.{some_if-same, where_end}
+use Rattle.ddm_tree.proofs.BusNumbers.{numbered-bus}
 use Rattle.ddm_tree.proofs.Descend.{leads-child}
+use Rattle.ddm_tree.proofs.JudgedItems.{item-at, none-left}
 use Rattle.ddm_tree.proofs.Reading.{read-is}
 
 -- ---- below the top no directory is the top
@@ -95,3 +102,34 @@ module _ (m : MachineValue) where
   module _ (bus : ℕ) (path : List ℕ) (leads : Leads (bus_of_number bus) path (root_of m)) (shaped : IsShaped m) where
     pub judged-is : node_broken (items_of_machine m) (node_at path (root_of m)) ≡ or_none m (ask_bus bus (λ w d ns. broken_item m d ns) None m)
     judged-is = end-broken (bus_of_number bus) path leads shaped (where_end at_top path (root_of m)) ∙ ap (or_none m) (read-is m (bus_of_number bus) path leads (of_dir (λ w d ns. broken_item m d ns) None))
+
+-- ---- bus by bus
+
+module _ (m : MachineValue) (n i : ℕ) (inside : i < n) (found : Option StateRefusal) (so_far : found ≡ broken_among m (drop i (range_with_len 0 n))) (item : Option ℕ) (is : item ≡ or_none m (ask_bus i (λ w d ns. broken_item m d ns) None m)) where
+  here : found ≡ first_some (option_map (λ x. BrokenRule i x) item) (broken_among m (drop (i + 1) (range_with_len 0 n)))
+  here = so_far ∙ ap (broken_among m) (item-at n i inside) ∙ ap (λ o. first_some (option_map (λ x. BrokenRule i x) o) (broken_among m (drop (i + 1) (range_with_len 0 n)))) (sym is)
+
+  pub bus-broken : (x : ℕ) → item ≡ Some x → Some (BrokenRule i x) ≡ found
+  bus-broken x e = sym (here ∙ ap (λ o. first_some (option_map (λ x. BrokenRule i x) o) (broken_among m (drop (i + 1) (range_with_len 0 n)))) e)
+
+  pub bus-holds : item ≡ None → found ≡ broken_among m (drop (i + 1) (range_with_len 0 n))
+  bus-holds e = here ∙ ap (λ o. first_some (option_map (λ x. BrokenRule i x) o) (broken_among m (drop (i + 1) (range_with_len 0 n)))) e
+
+pub buses-hold : (m : MachineValue) (n i : ℕ) (found : Option StateRefusal) → n ≤ i → found ≡ broken_among m (drop i (range_with_len 0 n)) → None ≡ found
+buses-hold m n i found past so_far = sym (so_far ∙ ap (broken_among m) (none-left n i past))
+
+-- as many buses as traffic is counted for
+module _ (m : MachineValue) (counts : TreeCounts) (bus : ℕ) (shaped : IsShaped m) (counted : tree_counts m ≡ counts) where
+  buses-counted : counts.buses ≡ length m.traffic
+  buses-counted = ap (λ n. n.buses) (sym counted) ∙ eqb-true _ _ (and-first _ (are_below (length m.traffic) (buses_of (skeleton (root_of m)) [])) (shaped.each traffic_counted))
+
+  pub bus-there : bus < counts.buses → is_part (bus_of_number bus) m ≡ true
+  bus-there l =
+      let same : (tree_counts m).buses ≡ counts.buses = ap (λ n. n.buses) counted in
+      numbered-bus m bus shaped (omega (arith, l, same))
+
+  pub bus-inside : bus < counts.buses → bus < length m.traffic
+  bus-inside l = omega (arith, l, buses-counted)
+
+  pub past-buses : counts.buses ≤ bus → length m.traffic ≤ bus
+  past-buses l = omega (arith, l, buses-counted)
