@@ -26,3 +26,4 @@ pub mod NamedOnce
 pub mod Refilled
 pub mod PartsKept
 pub mod PartsJudged
+pub mod LeavesInOrder

@@ -16,6 +16,7 @@ mod over;
 mod parts;
 mod paths;
 mod read_back;
+mod read_parts;
 mod read_records;
 mod readers;
 mod record;

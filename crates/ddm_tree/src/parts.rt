@@ -1,6 +1,8 @@
 ghost use Rattle.std.specs.Prelude.{◌≡◌, ◌<◌, ◌≤◌, ◌^◌, ℕ, List, Some, true, length, map, vec_items, IfErr, IfOk};
-ghost use Rattle.tree_model.specs.State.Shape.{skeleton, widths_fit};
-ghost use Rattle.tree_model.specs.State.Values.{dir_node, nodes};
+ghost use Rattle.ddm_types.specs.ItemTable.{item_count};
+ghost use Rattle.tree_model.specs.State.Rooms.{all_within};
+ghost use Rattle.tree_model.specs.State.Shape.{skeleton, tree_counts, widths_fit};
+ghost use Rattle.tree_model.specs.State.Values.{dir_node, nodes, root_of};
 ghost use Rattle.state_judging.specs.Read.{CanRead};
 ghost use Rattle.ddm_tree.specs.Machine.{has_path, is_part, listed_path};
 ghost use Rattle.ddm_tree.specs.Named.{name_of};
@@ -110,6 +112,17 @@ impl<const WORDS: usize, C: Subtree<WORDS>> Machine<WORDS, C> {
             bus_paths: self.bus_paths,
             idle: self.idle,
         }
+    }
+}
+
+impl<const WORDS: usize, C: Subtree<WORDS>> Parts<WORDS, C> {
+    /// How many leaves, buses and levels of buses the tree has.
+    pub fn counts(&self) -> TreeCounts
+        ensures counts { result ≡ tree_counts self.now }
+        ensures readable { CanRead self.now }
+        ensures rooms { all_within (item_count self.now.items) (root_of self.now) ≡ true }
+    {
+        self.counts
     }
 }
 
