@@ -20,9 +20,11 @@ pub mod Copies
 pub mod BusNumbers
 pub mod Written
 pub mod IdleHarts
+pub mod JudgedItems
 pub mod SectionRead
 pub mod NamedOnce
 pub mod Refilled
 pub mod PartsKept
+pub mod PartsJudged
 pub mod LeavesInOrder
 pub mod StateRead

@@ -10,5 +10,6 @@ pub mod Holders
 pub mod Copying
 pub mod Written
 pub mod Idle
+pub mod Judging
 pub mod ReadBack
 pub mod Parts

@@ -8,6 +8,8 @@ mod dir;
 mod expected;
 mod found;
 mod idle;
+mod judged_parts;
+mod judging;
 mod leaf;
 mod machine;
 mod named;
