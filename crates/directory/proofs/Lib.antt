@@ -5,3 +5,4 @@ pub mod Leaving
 pub mod Lists
 pub mod Packing
 pub mod Records
+pub mod StampOrder
