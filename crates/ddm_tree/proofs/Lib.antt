@@ -20,3 +20,5 @@ pub mod Copies
 pub mod BusNumbers
 pub mod Written
 pub mod IdleHarts
+pub mod StampsInOrder
+pub mod StampsJudged

@@ -10,3 +10,4 @@ pub mod Holders
 pub mod Copying
 pub mod Written
 pub mod Idle
+pub mod Stamps

@@ -14,6 +14,7 @@ mod over;
 mod paths;
 mod readers;
 mod record;
+mod stamps;
 mod subtree;
 mod turns;
 mod writing;
