@@ -22,3 +22,4 @@ pub mod Written
 pub mod IdleHarts
 pub mod StampsInOrder
 pub mod StampsJudged
+pub mod KeysJudged

@@ -11,3 +11,4 @@ pub mod Copying
 pub mod Written
 pub mod Idle
 pub mod Stamps
+pub mod Keys

@@ -7,6 +7,7 @@ mod copying;
 mod dir;
 mod found;
 mod idle;
+mod keys;
 mod leaf;
 mod machine;
 mod named;
