@@ -23,3 +23,4 @@ pub mod IdleHarts
 pub mod StampsInOrder
 pub mod StampsJudged
 pub mod KeysJudged
+pub mod TimedParts

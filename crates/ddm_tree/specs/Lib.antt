@@ -12,3 +12,4 @@ pub mod Written
 pub mod Idle
 pub mod Stamps
 pub mod Keys
+pub mod Parts
