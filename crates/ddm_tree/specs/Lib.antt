@@ -12,4 +12,3 @@ pub mod Written
 pub mod Idle
 pub mod Stamps
 pub mod Keys
-pub mod Parts
