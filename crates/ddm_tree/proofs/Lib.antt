@@ -24,3 +24,7 @@ pub mod StampsInOrder
 pub mod StampsJudged
 pub mod KeysJudged
 pub mod TimedParts
+pub mod SectionRead
+pub mod NamedOnce
+pub mod Refilled
+pub mod PartsKept

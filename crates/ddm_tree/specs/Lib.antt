@@ -12,3 +12,5 @@ pub mod Written
 pub mod Idle
 pub mod Stamps
 pub mod Keys
+pub mod ReadBack
+pub mod Parts
