@@ -3,36 +3,25 @@
 -- Letters: m is a machine, o an operation.
 use Rattle.std.proofs.Common.{◌≡◌, ℕ, ◌<◌, ◌≤◌, Bool, true, false, nat_eq, List, [], ◌∷◌, length, map, Option, Some, refl, sym, ap, ◌∙◌, subst, arith, true≢false}
 use Rattle.std.specs.Prelude.{vec_items}
+use Rattle.std.proofs.lemmas.Bool.{eqb-true}
 use Rattle.ddm_types.specs.declared.operations.Op.{Op}
 use Rattle.tree_model.specs.State.Values.{MachineValue, root_of}
-use Rattle.tree_model.specs.State.Shape.{IsShaped, leaves_numbered, skeleton, tree_counts}
+use Rattle.tree_model.specs.State.Shape.{IsShaped, are_below, buses_of, leaves_numbered, skeleton, traffic_counted, tree_counts}
 use Rattle.tree_model.specs.Turns.Tree.{Name, leaf_of_number, bus_of_number, has_node}
+use Rattle.tree_model.proofs.Tests.{and-first}
 use Rattle.state_judging.specs.Judged.{is_key_of_leaf}
 use Rattle.ddm_tree.specs.Machine.{has_path, is_part, listed_path}
-use Rattle.ddm_tree.specs.Parts.{IsParts}
-use Rattle.ddm_tree.specs.Ready.{Leads}
 use Rattle.ddm_tree.proofs.KeysJudged.{key-without_leaf}
 use Rattle.ddm_tree.proofs.LeafList.{leaf-there}
 use Rattle.ddm_tree.proofs.Names.{path-there}
 use Rattle.ddm_tree.proofs.Numbered.{leaf-numbered}
-use Rattle.ddm_tree.proofs.Reading.{Listed, listed-inside}
+use Rattle.ddm_tree.proofs.Reading.{listed-inside}
 
 -- ---- paths
-
-pub parts-path : (width : ℕ) (leaf_paths bus_paths : List (List ℕ)) (m : MachineValue) (name : Name) → IsParts width m leaf_paths bus_paths → is_part name m ≡ true → Listed name m leaf_paths bus_paths
-parts-path width leaf_paths bus_paths m name is there =
-    let found = path-there name (root_of m) there in
-    record { path = found.0; leads = found.1; listed = is.paths name found.0 found.1 }
 
 pub path-inside : {X : Type 0} (f : X → List ℕ) (xs ys : List X) (name : Name) (path : List ℕ) → listed_path name (map f xs) (map f ys) ≡ Some path → has_path name (length xs) (length ys)
 path-inside f xs ys (leaf_of_number k) path e = listed-inside f xs k path e
 path-inside f xs ys (bus_of_number k) path e = listed-inside f ys k path e
-
-pub path-leads : (name : Name) (m : MachineValue) (leaf_paths bus_paths : List (List ℕ)) (path : List ℕ) → Listed name m leaf_paths bus_paths → Some path ≡ listed_path name leaf_paths bus_paths → Leads name path (root_of m)
-path-leads name m leaf_paths bus_paths path there is =
-    let whole : Some path ≡ Some there.path = is ∙ there.listed in
-    let same : path ≡ there.path = cc in
-    subst (λ p. Leads name p (root_of m)) (sym same) there.leads
 
 pub path-on : (path : List ℕ) → nat_eq (length path) 0 ≡ false → 0 < length path
 path-on [] e = absurd (true≢false e)
@@ -55,3 +44,10 @@ passes-past m o shaped past = key-without_leaf m o shaped (no-leaf m o.hart shap
 
 pub leaf-part : (m : MachineValue) (k leaves : ℕ) → IsShaped m → (tree_counts m).leaves ≡ leaves → k < leaves → is_part (leaf_of_number k) m ≡ true
 leaf-part m k leaves shaped size below = leaf-there k m shaped (omega (arith, size, below))
+
+-- ---- buses are as many as traffic is counted for
+
+pub buses-counted : (m : MachineValue) → IsShaped m → (tree_counts m).buses ≡ length m.traffic
+buses-counted m shaped =
+    let ns = buses_of (skeleton (root_of m)) [] in
+    eqb-true _ _ (and-first (nat_eq (length ns) (length m.traffic)) (are_below (length m.traffic) ns) (shaped.each traffic_counted))

@@ -8,6 +8,7 @@ mod dir;
 mod found;
 mod idle;
 mod keys;
+mod keys_judged;
 mod leaf;
 mod machine;
 mod named;

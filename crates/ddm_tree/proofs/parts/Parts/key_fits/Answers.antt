@@ -8,14 +8,14 @@ use Rattle.ddm_tree.proofs.parts.Parts.key_fits.Goals as goal
 
 pub returns-then-op-self : goal.returns-then-op-self
 returns-then-op-self g c =
-    let shaped : IsShaped c.args.self.now = subst IsShaped c.self.view_is c.self.invariant.0.shaped in
+    let shaped : IsShaped c.args.self.now = subst IsShaped c.self.view_is c.self.invariant.0.readable.shaped in
     let size : tree_counts c.args.self.now ≡ c.self.inside.counts = ap tree_counts (sym c.self.view_is) ∙ c.self.invariant.1 in
     let hart = ap (λ o. o.hart) c.op.view_is in
     passes-past c.args.self.now c.args.op.now shaped (omega (arith, c.if-op-self.true, hart, ap (λ n. n.leaves) size))
 
 pub leaf_now-now-requires : goal.leaf_now-now-requires
 leaf_now-now-requires g c =
-    let shaped : IsShaped c.args.self.now = subst IsShaped c.self.view_is c.self.invariant.0.shaped in
+    let shaped : IsShaped c.args.self.now = subst IsShaped c.self.view_is c.self.invariant.0.readable.shaped in
     let size : tree_counts c.args.self.now ≡ c.self.inside.counts = ap tree_counts (sym c.self.view_is) ∙ c.self.invariant.1 in
     (omega arith, leaf-part c.args.self.now _ c.self.inside.counts.leaves shaped (ap (λ n. n.leaves) size) (omega (arith, c.if-op-self.false)))
 
