@@ -1,6 +1,6 @@
 -- Keys that were seen, as a set of them: whether one of an operation before has this operation's key.
 -- Letters: a and b are keys, o and p operations.
-use Rattle.std.proofs.Common.{◌≡◌, ℕ, zero, suc, ◌+◌, ◌-◌, ◌<◌, ◌≤◌, Bool, true, false, not, ◌&&◌, ◌||◌, nat_eq, nat_lt, cond, List, [], ◌∷◌, length, drop, Option, Some, None, option_map, refl, sym, ap, ◌∙◌, arith, Ordering, nat_cmp, if◌then◌else◌}
+use Rattle.std.proofs.Common.{◌≡◌, ℕ, zero, suc, ◌+◌, ◌-◌, ◌<◌, ◌≤◌, Bool, true, false, not, ◌&&◌, ◌||◌, nat_eq, nat_lt, cond, List, [], ◌∷◌, length, drop, Option, Some, None, option_map, refl, sym, ap, ◌∙◌, arith, Ordering, nat_cmp, get_or, true≢false, if◌then◌else◌}
 use Rattle.std.specs.Prelude.{slice_get}
 use Rattle.std.specs.List.{list_any, range_with_len, find}
 use Rattle.std.specs.Ordering.{ordering_then, eq_by_cmp, is_eq}
@@ -116,3 +116,22 @@ module _ (t : ℕ → Bool) (n i : ℕ) (so_far : find t (range_with_len i (n - 
   found-none past =
       let none : 0 ≡ n - i = omega arith in
       ap (λ j. option_map (λ bus. BrokenStamp bus) (find t (range_with_len i j))) none ∙ ap (option_map (λ bus. BrokenStamp bus)) so_far
+
+-- ---- what a loop's step says
+
+at-index : {X : Type 0} (xs : List X) (k : ℕ) (x : X) → k < length xs → x ≡ get_or xs k x → slice_get xs k ≡ Some x
+at-index [] k x below e = absurd (omega (arith, below))
+at-index (y ∷ ys) zero x below e = ap Some (sym e)
+at-index (y ∷ ys) (suc k) x below e = at-index ys k x (omega (arith, below)) e
+
+-- the operation of this number, where the list was moved
+pub op-there : (inside ops : List Op) (k : ℕ) (o : Op) → inside ≡ ops → k < length inside → o ≡ get_or inside k o → slice_get ops k ≡ Some o
+op-there inside ops k o same below e = ap (λ xs. slice_get xs k) (sym same) ∙ at-index inside k o below e
+
+pub was-there : (b : Bool) → not b ≡ false → b ≡ true
+was-there true e = refl
+was-there false e = absurd (true≢false e)
+
+pub was-new : (b : Bool) → not b ≡ true → b ≡ false
+was-new true e = absurd (true≢false (sym e))
+was-new false e = refl

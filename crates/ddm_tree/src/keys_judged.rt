@@ -32,7 +32,11 @@ impl<const WORDS: usize, C: Subtree<WORDS>> Parts<WORDS, C> {
         let mut seen = BTreeSet::new(alloc);
         for k in 0..self.ops.len() {
             let op = &self.ops[k];
-            if !self.key_fits(op) || !seen.insert(op.key)? {
+            if !self.key_fits(op) {
+                return Ok(Some(StateRefusal::BrokenKey(k as u32)));
+            }
+            let new = seen.insert(op.key)?;
+            if !new {
                 return Ok(Some(StateRefusal::BrokenKey(k as u32)));
             }
         }
