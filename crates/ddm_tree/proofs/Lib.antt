@@ -21,6 +21,10 @@ pub mod BusNumbers
 pub mod Written
 pub mod IdleHarts
 pub mod JudgedItems
+pub mod StampsInOrder
+pub mod StampsJudged
+pub mod KeysJudged
+pub mod TimedParts
 pub mod SectionRead
 pub mod NamedOnce
 pub mod Refilled
@@ -28,3 +32,4 @@ pub mod PartsKept
 pub mod PartsJudged
 pub mod LeavesInOrder
 pub mod StateRead
+pub mod KeysSeen

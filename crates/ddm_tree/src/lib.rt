@@ -10,6 +10,8 @@ mod found;
 mod idle;
 mod judged_parts;
 mod judging;
+mod keys;
+mod keys_judged;
 mod leaf;
 mod machine;
 mod named;
@@ -22,7 +24,9 @@ mod read_records;
 mod readers;
 mod record;
 mod section;
+mod stamps;
 mod subtree;
+mod timed_parts;
 mod turns;
 mod writing;
 
