@@ -21,6 +21,7 @@ mod paths;
 mod read_back;
 mod read_parts;
 mod read_records;
+mod read_state;
 mod readers;
 mod record;
 mod section;
