@@ -24,3 +24,4 @@ pub mod SectionRead
 pub mod NamedOnce
 pub mod Refilled
 pub mod PartsKept
+pub mod BusesRead

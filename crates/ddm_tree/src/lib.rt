@@ -14,6 +14,7 @@ mod over;
 mod parts;
 mod paths;
 mod read_back;
+mod read_buses;
 mod read_parts;
 mod read_records;
 mod readers;
