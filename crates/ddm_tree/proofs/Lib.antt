@@ -33,3 +33,4 @@ pub mod PartsJudged
 pub mod LeavesInOrder
 pub mod StateRead
 pub mod KeysSeen
+pub mod BusesRead

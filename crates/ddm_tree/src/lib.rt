@@ -19,6 +19,7 @@ mod over;
 mod parts;
 mod paths;
 mod read_back;
+mod read_buses;
 mod read_parts;
 mod read_records;
 mod read_state;
