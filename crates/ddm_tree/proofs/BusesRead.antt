@@ -275,7 +275,7 @@ module _ (words : List ℕ) (from : ℕ) (m now : MachineValue) (bus at : ℕ) (
       let none : drop bus (range_with_len 0 (length m.traffic)) ≡ [] = drop-all (range_with_len 0 (length m.traffic)) bus (omega (arith, all, length-range_with_len 0 (length m.traffic))) in
       let read = so.left ∙ ap (λ l. read_buses (item_count m.items) m l so.buses at (drop at words)) none in
       let last : map bus_traffic so.buses ++ drop bus m.traffic ≡ map bus_traffic so.buses = ap (λ l. map bus_traffic so.buses ++ l) (drop-all m.traffic bus all) ∙ append-nil (map bus_traffic so.buses) in
-      record { buses = so.buses; read = read; is = so.is ∙ ap (λ t. record (with_root (refilled [] dirs (root_of m)) m) { traffic = t }) last }
+      record { buses = so.buses; read = read; is = so.is ∙ ap (λ t. record (with_root (refilled [] dirs (root_of m)) m) { traffic = t }) last; frame = so.frame }
 
   module _ (readable : CanRead m) (rooms : all_within (item_count m.items) (root_of m) ≡ true) (inside : bus < length m.traffic) where
     next-left : read_buses (item_count m.items) m (range_with_len 0 (length m.traffic)) [] from (drop from words) ≡ and_then (read_bus (item_count m.items) m so.buses bus at (drop at words)) (read_buses (item_count m.items) m (drop (bus + 1) (range_with_len 0 (length m.traffic))))

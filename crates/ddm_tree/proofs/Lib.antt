@@ -32,5 +32,6 @@ pub mod PartsKept
 pub mod PartsJudged
 pub mod LeavesInOrder
 pub mod StateRead
+pub mod StateJudged
 pub mod KeysSeen
 pub mod BusesRead

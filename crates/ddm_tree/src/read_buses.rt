@@ -1,4 +1,4 @@
-ghost use Rattle.std.specs.Prelude.{◌≡◌, ◌<◌, ◌≤◌, ◌^◌, ◌≢◌, [], true, Ok, Err, drop, length, IfErr, IfOk, OnOk};
+ghost use Rattle.std.specs.Prelude.{◌≡◌, ◌+◌, ◌<◌, ◌≤◌, ◌^◌, ◌≢◌, [], true, Ok, Err, drop, length, IfErr, IfOk, OnOk};
 ghost use Rattle.std.specs.List.{range_with_len};
 ghost use Rattle.ddm_types.specs.ItemTable.{item_count};
 ghost use Rattle.tree_model.specs.State.Shape.{depth_of, frame_of, tree_counts};
@@ -30,6 +30,7 @@ fn add_op(
     ensures read { OnOk result (read_op depth leaves ops.old.items at.old (drop at.old words.now) ≡ Ok (record { value = ops.new.items; at = at.new; rest = drop at.new words.now })) }
     ensures refused { IfErr result (λ e. e ≢ NoMemory → read_op depth leaves ops.old.items at.old (drop at.old words.now) ≡ Err e) }
     ensures inside { at.new ≤ length words.now }
+    ensures more { OnOk result (length ops.new.items ≡ length ops.old.items + 1) }
 {
     let op = read_op(words, at, depth, leaves)?;
     match ops.push(op) {
@@ -52,6 +53,7 @@ fn fill_ops(
     ensures read { OnOk result (times (read_op counts.depth counts.leaves) retired [] at.old (drop at.old words.now) ≡ Ok (record { value = ops.new.items; at = at.new; rest = drop at.new words.now })) }
     ensures refused { IfErr result (λ e. e ≢ NoMemory → times (read_op counts.depth counts.leaves) retired [] at.old (drop at.old words.now) ≡ Err e) }
     ensures inside { at.new ≤ length words.now }
+    ensures many { OnOk result (length ops.new.items ≡ retired) }
 {
     ops.clear();
     for _number in 0..retired {
@@ -81,11 +83,7 @@ impl<const WORDS: usize, C: Subtree<WORDS> + Drop> Parts<WORDS, C> {
     }
 
     /// Reads all buses, in order of number: the directory over each and what it has granted.
-    pub(crate) fn read_buses(
-        self,
-        words: &[u32],
-        from: u32,
-    ) -> Result<(Self, u32), StateRefusal>
+    pub(crate) fn read_buses(self, words: &[u32], from: u32) -> Result<(Self, u32), StateRefusal>
         requires few { length words.now < 2 ^ 32 }
         requires inside { from ≤ length words.now }
         ensures read { IfOk result (λ r. BusesAreRead words.now from self r.0 r.1) }
@@ -115,6 +113,7 @@ impl<const WORDS: usize, C: Subtree<WORDS> + Drop> Parts<WORDS, C> {
         ensures read { IfOk result (λ r. OpsAreRead retired words.now from self r.0 r.1) }
         ensures refused { IfErr result (λ e. e ≢ NoMemory → times (read_op (depth_of self) (tree_counts self).leaves) retired [] from (drop from words.now) ≡ Err e) }
         ensures inside { IfOk result (λ r. r.1 ≤ length words.now) }
+        ensures many { IfOk result (λ r. length r.0.ops ≡ retired) }
     {
         let counts = self.counts();
         let mut parts = self;

@@ -14,6 +14,7 @@ pub loop-number-preserved : goal.loop-number-preserved
 loop-number-preserved c = record {
   left = one_step_more (read_op c.args.counts.depth c.args.counts.leaves) c.args.retired c.loop-number._number c.loop-number.ops.items c.loop-number.at (drop c.loop-number.at c.args.words.now) _ _ _ _ (omega arith) c.loop-number.invariant.left c.in_ok-add_op.ensures.read;
   inside = c.in_ok-add_op.ensures.inside;
+  many = omega (arith, c.in_ok-add_op.ensures.more, c.loop-number.invariant.many);
 }
 
 pub returns-clause-read : goal.returns-clause-read

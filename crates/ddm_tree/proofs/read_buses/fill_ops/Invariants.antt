@@ -9,4 +9,5 @@ invariant-loop-number l = record {
   left : times (read_op l.counts.depth l.counts.leaves) l.retired [] l.initial.at (drop l.initial.at l.words)
       ≡ times (read_op l.counts.depth l.counts.leaves) (l.retired - l._number) l.ops.items l.at (drop l.at l.words);
   inside : l.at ≤ length l.words;
+  many : length l.ops.items ≡ l._number;
 }
