@@ -271,6 +271,7 @@ leaves-done harts words from m now leaf at past s = record {
   leaves = s.leaves;
   read = s.left ∙ ap (λ vs. each_behind (leaf_read harts) s.leaves vs at (drop at words)) (drop_all leaf (machine_leaves m) past) ∙ each-done (leaf_read harts) s.leaves at (drop at words) ∙ ap (λ vs. given vs at (drop at words)) (append-nil s.leaves);
   is = s.is;
+  frame = s.frame;
 }
 
 -- ---- a section keeps the frame, and a leaf by its number is there

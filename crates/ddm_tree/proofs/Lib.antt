@@ -21,9 +21,17 @@ pub mod BusNumbers
 pub mod Written
 pub mod IdleHarts
 pub mod JudgedItems
+pub mod StampsInOrder
+pub mod StampsJudged
+pub mod KeysJudged
+pub mod TimedParts
 pub mod SectionRead
 pub mod NamedOnce
 pub mod Refilled
 pub mod PartsKept
 pub mod PartsJudged
 pub mod LeavesInOrder
+pub mod StateRead
+pub mod StateJudged
+pub mod KeysSeen
+pub mod BusesRead

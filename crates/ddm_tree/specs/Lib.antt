@@ -11,5 +11,7 @@ pub mod Copying
 pub mod Written
 pub mod Idle
 pub mod Judging
+pub mod Stamps
+pub mod Keys
 pub mod ReadBack
 pub mod Parts

@@ -8,7 +8,7 @@ use Rattle.ddm_types.specs.ItemTable.{item_count}
 use Rattle.tree_model.specs.declared.Traffic.{Traffic}
 use Rattle.tree_model.specs.State.Values.{LeafValue, MachineValue, root_of}
 use Rattle.tree_model.specs.State.Rooms.{all_within}
-use Rattle.tree_model.specs.State.Shape.{depth_of, skeleton, tree_counts}
+use Rattle.tree_model.specs.State.Shape.{depth_of, frame_of, skeleton, tree_counts}
 use Rattle.tree_model.specs.Turns.Machine.{machine_leaves, with_root}
 use Rattle.tree_model.specs.Turns.Tree.{Name}
 use Rattle.state_reading.specs.declared.StateRefusal.{StateRefusal}
@@ -56,6 +56,7 @@ pub record LeavesRead (harts : Bool) (words : List ℕ) (from : ℕ) (m after : 
   pub leaves : List LeafValue
   pub read : read_each (leaf_read harts) (machine_leaves m) from (drop from words) ≡ Ok (record { value = leaves; at = at; rest = drop at words })
   pub is : after ≡ with_root (refilled leaves [] (root_of m)) m
+  pub frame : frame_of after ≡ frame_of m
 
 -- one bus was read: its directory and its traffic
 pub record BusIsRead (bus : ℕ) (words : List ℕ) (from : ℕ) (m after : MachineValue) (at : ℕ) : Type 0 where
@@ -76,6 +77,7 @@ pub record BusesAreRead (words : List ℕ) (from : ℕ) (m after : MachineValue)
   pub buses : List BusRead
   pub read : read_buses (item_count m.items) m (range_with_len 0 (length m.traffic)) [] from (drop from words) ≡ Ok (record { value = buses; at = at; rest = drop at words })
   pub is : after ≡ record (with_root (refilled [] (map bus_dir buses) (root_of m)) m) { traffic = map bus_traffic buses }
+  pub frame : frame_of after ≡ frame_of m
 
 -- the operations were read, in place of those that were there
 pub record OpsAreRead (retired : ℕ) (words : List ℕ) (from : ℕ) (m after : MachineValue) (at : ℕ) : Type 0 where

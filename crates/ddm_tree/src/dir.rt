@@ -15,6 +15,7 @@ use crate::named::Named;
 use crate::paths::path_up_under;
 use crate::read_back::read_under;
 use crate::section::Section;
+use crate::stamps::stamps_fit_under;
 use crate::subtree::Subtree;
 use crate::writing::{ways_among, write_hart_under, write_leaf_under, write_part_under};
 use bus_judging::ChildFace;
@@ -204,6 +205,14 @@ impl<const WORDS: usize, C: Subtree<WORDS>> Subtree<WORDS> for Dir<WORDS, C> {
             self.state.down_len()
         } else {
             down_len_under(&self.state, &self.children, bus, path)
+        }
+    }
+
+    fn stamps_fit_below(&self, bus: BusNo, path: &[ChildNo], present: &Stamp) -> bool {
+        if path.is_empty() {
+            self.state.stamps_fit(present)
+        } else {
+            stamps_fit_under(&self.state, &self.children, bus, path)
         }
     }
 

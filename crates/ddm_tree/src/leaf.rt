@@ -82,6 +82,10 @@ impl<const WAYS: usize, const WORDS: usize> Subtree<WORDS> for Leaf<WAYS, WORDS>
         0
     }
 
+    fn stamps_fit_below(&self, _bus: BusNo, _path: &[ChildNo], _present: &Stamp) -> bool {
+        true
+    }
+
     fn parked_below(
         &self,
         _bus: BusNo,

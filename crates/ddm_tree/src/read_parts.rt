@@ -31,7 +31,12 @@ fn leaf_section(harts: bool, leaf: LeafNo) -> Section
 
 impl<const WORDS: usize, C: Subtree<WORDS> + Drop> Parts<WORDS, C> {
     /// Reads a section of each leaf, in order of number: their harts, or the rest.
-    fn read_leaves(self, harts: bool, words: &[u32], from: u32) -> Result<(Self, u32), StateRefusal>
+    pub(crate) fn read_leaves(
+        self,
+        harts: bool,
+        words: &[u32],
+        from: u32,
+    ) -> Result<(Self, u32), StateRefusal>
         requires few { length words.now < 2 ^ 32 }
         requires inside { from ≤ length words.now }
         ensures read { IfOk result (λ r. LeavesRead harts words.now from self r.0 r.1) }

@@ -18,6 +18,7 @@ ghost use Rattle.ddm_tree.specs.Judging.{IsJudged, node_broken};
 ghost use Rattle.ddm_tree.specs.Named.{name_of};
 ghost use Rattle.ddm_tree.specs.Ready.{IsAskable, IsReady, Leads, LeadsBelow, HasChild, IsChild, IsItemIn, IsItemOf};
 ghost use Rattle.ddm_tree.specs.Reads.{node_hart, node_entry, node_children, node_child, node_child_hold, node_down, node_down_len, node_grants, node_parked};
+ghost use Rattle.ddm_tree.specs.Stamps.{node_stamps_fit};
 ghost use Rattle.ddm_tree.specs.ReadBack.{PartRead, section_name};
 ghost use Rattle.ddm_tree.specs.Written.{node_dir_words, node_words};
 
@@ -122,6 +123,11 @@ pub trait Subtree<const WORDS: usize>: Agent<WORDS> {
     fn down_len_below(&self, bus: BusNo, path: &[ChildNo]) -> u32
         requires { LeadsBelow (bus_of_number bus) path.now (Self.value self.now) }
         ensures { result ≡ node_down_len (node_at path.now (Self.value self.now)) };
+
+    /// Whether the stamps are in order that the directory over this bus keeps, where the bus above this part has this present stamp.
+    fn stamps_fit_below(&self, bus: BusNo, path: &[ChildNo], present: &Stamp) -> bool
+        requires { LeadsBelow (bus_of_number bus) path.now (Self.value self.now) }
+        ensures { result ≡ node_stamps_fit (present_at path.now present.now (Self.value self.now)) (node_at path.now (Self.value self.now)) };
 
     /// The copy of an item that is parked at this bus, with its place.
     fn parked_below(

@@ -6,3 +6,4 @@ pub mod Lists
 pub mod Packing
 pub mod Records
 pub mod EntryKinds
+pub mod StampOrder

@@ -9,6 +9,7 @@ mod last_copy;
 mod lower;
 mod packed;
 mod reading;
+mod stamps;
 mod state;
 mod table;
 mod upper;
