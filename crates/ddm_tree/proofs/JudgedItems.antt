@@ -1,12 +1,11 @@
 -- A bus is judged item by item: what a loop over the items or over the children has come to, and what is judged below a bus.
-use Rattle.std.proofs.Common.{◌≡◌, ◌<◌, ◌≤◌, ◌+◌, ◌++◌, ◌∙◌, ℕ, zero, suc, Bool, true, false, not, cond, List, [], ◌∷◌, length, map, take, drop, get_or, find, Option, Some, None, refl, sym, ap, subst, arith, add-one, All}
+use Rattle.std.proofs.Common.{◌≡◌, ◌<◌, ◌≤◌, ◌+◌, ◌++◌, ◌∙◌, ℕ, zero, suc, Bool, true, false, not, List, [], ◌∷◌, length, map, take, drop, get_or, find, Option, Some, None, refl, sym, ap, subst, arith, add-one, All}
 use Rattle.std.specs.Prelude.{◌&&◌, ◌||◌, if◌then◌else◌}
 use Rattle.std.specs.List.{range_with_len}
-use Rattle.std.proofs.lemmas.List.{length-map, get_or-map, drop_all, take_all, take_more}
-use Rattle.tree_model.specs.State.Values.{DirValue, Node, leaf_node, dir_node, nodes, children}
+use Rattle.std.proofs.lemmas.List.{length-map, get_or-map, drop_all, take_more}
+use Rattle.tree_model.specs.State.Values.{DirValue, Node, dir_node, nodes, children}
 use Rattle.tree_model.specs.State.Blank.{no_node}
 use Rattle.tree_model.specs.State.Rooms.{dir_within, all_within, all_within_among}
-use Rattle.tree_model.specs.State.Shape.{skeleton, widths_fit}
 use Rattle.tree_model.specs.Turns.Children.{child_at}
 use Rattle.tree_model.specs.Turns.Tree.{Name}
 use Rattle.tree_model.proofs.Children.{children-nodes}

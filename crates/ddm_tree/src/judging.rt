@@ -16,7 +16,7 @@ use bus_judging::ChildrenFacts;
 use ddm_types::{BusNo, ChildNo, ItemId, PendingWhy};
 use directory::JudgedParent;
 
-/// Whether child 0, 1 .. is the first reader or joined it.
+/// Whether the child is the first reader or one that joined it.
 fn is_among(first: ChildNo, joined: u16, child: u32) -> bool
     requires { child < 16 }
     ensures { result ≡ (nat_eq child first || in_set child joined) }

@@ -1,4 +1,4 @@
-use Rattle.std.proofs.Common.{◌<◌, map, sym, subst, length}
+use Rattle.std.proofs.Common.{◌<◌, map, sym, subst}
 use Rattle.ddm_tree.specs.Judging.{first_broken}
 use Rattle.ddm_tree.proofs.JudgedItems.{broken-here, broken-past, judged-few, judged-kids, judged-own, none-broken, places-broken, places-hold}
 use Rattle.ddm_tree.proofs.judging.broken_item.Goals as goal
