@@ -21,6 +21,7 @@ use Rattle.tree_rules.specs.Order.Time.{is_leaf_of, has_leaf_path, is_before_now
 use Rattle.tree_rules.proofs.KeysNow.{key-now}
 use Rattle.order_lists.proofs.Filters.{each-append, each-both}
 use Rattle.order_lists.proofs.Keys.{key_less-numbers}
+use Rattle.order_lists.proofs.Moments.{same_numbers-true}
 use Rattle.order_laws.proofs.Hart.LeafPlaces.{IsOnlyOf, one_of_number}
 use Rattle.state_judging.specs.Judged.{is_key_of_leaf}
 use Rattle.ddm_tree.specs.Keys.{is_key_before, key_cut}
@@ -276,3 +277,30 @@ module _ (m : MachineValue) (o : Op) (shaped : IsShaped m) where
   pub key-without_leaf : has_node (leaf_of_number o.hart) (root_of m) ≡ false → true ≡ is_key_of_leaf m o
   unfolding leaves_at
   key-without_leaf none = sym (all-fit (depth_of m) o (leaves_at m) ∙ others-fit (leaves_at m) (others-among [] m.top 0 m.kids none))
+
+  -- ---- its leaf, where its hart has one, with what is known of each leaf
+
+  pub record OwnLeaf (Q : LeafAt → Type 0) : Type 0 where
+    pub leaf : LeafAt
+    pub number : leaf.leaf.number ≡ o.hart
+    pub path : op_path (depth_of m) o ≡ leaf_path leaf
+    pub known : Q leaf
+
+  pub own-leaf : (Q : LeafAt → Type 0) → AllByRecursion Q (leaves_at m) → (now : Key) → Some now ≡ now_of o.hart m → is_key_of_leaf m o ≡ true → OwnLeaf Q
+  unfolding leaves_at
+  own-leaf Q all now read fit = own-path (member (IsRead o.hart now) Q fits (placed_leaves [] m.top 0 m.kids) (read-placed o.hart now [] m.top 0 m.kids read) all)
+    where
+      all-pass : list_all fits (placed_leaves [] m.top 0 m.kids) ≡ true
+      all-pass = sym (all-fit (depth_of m) o (placed_leaves [] m.top 0 m.kids)) ∙ fit
+
+      own-path : Member (IsRead o.hart now) Q fits (placed_leaves [] m.top 0 m.kids) → OwnLeaf Q
+      own-path there = by (fits there.leaf) refl
+        where
+          own : is_leaf_of o there.leaf ≡ true
+          own = eq-eqb o.hart there.leaf.leaf.number (sym (eqb-true there.leaf.leaf.number o.hart there.told.0))
+
+          by : (t : Bool) → fits there.leaf ≡ t → OwnLeaf Q
+          by true is =
+              let path = rw own at (and_parts (test_of (has_leaf_path (depth_of m) o there.leaf)) (test_of (is_before_now (depth_of m) o there.leaf)) is).0 in
+              record { leaf = there.leaf; number = eqb-true there.leaf.leaf.number o.hart there.told.0; path = same_numbers-true (op_path (depth_of m) o) (leaf_path there.leaf) path; known = there.known }
+          by false is = absurd (true≢false (sym all-pass ∙ there.fails is))

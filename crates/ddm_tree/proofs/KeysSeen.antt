@@ -60,7 +60,7 @@ either-way : (s t u : Bool) → s ≡ t → cond s true u ≡ (t || u)
 either-way true t u e = rw (sym e) refl
 either-way false t u e = rw (sym e) refl
 
-dropped : {X : Type 0} (xs : List X) (k : ℕ) (x : X) → slice_get xs k ≡ Some x → drop k xs ≡ x ∷ drop (k + 1) xs
+pub dropped : {X : Type 0} (xs : List X) (k : ℕ) (x : X) → slice_get xs k ≡ Some x → drop k xs ≡ x ∷ drop (k + 1) xs
 dropped [] k x e = cc
 dropped (y ∷ ys) zero x e =
     let same : y ≡ x = cc in

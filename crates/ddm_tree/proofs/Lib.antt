@@ -29,3 +29,4 @@ pub mod NamedOnce
 pub mod Refilled
 pub mod PartsKept
 pub mod KeysSeen
+pub mod KeysRising
