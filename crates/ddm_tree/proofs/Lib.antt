@@ -20,6 +20,7 @@ pub mod Copies
 pub mod BusNumbers
 pub mod Written
 pub mod IdleHarts
+pub mod JudgedItems
 pub mod StampsInOrder
 pub mod StampsJudged
 pub mod KeysJudged
@@ -28,5 +29,10 @@ pub mod SectionRead
 pub mod NamedOnce
 pub mod Refilled
 pub mod PartsKept
+pub mod PartsJudged
+pub mod LeavesInOrder
+pub mod StateRead
+pub mod StateJudged
 pub mod KeysSeen
 pub mod KeysRising
+pub mod BusesRead

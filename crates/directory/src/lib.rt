@@ -3,6 +3,8 @@
 #![tactic(auto)]
 
 mod copying;
+mod gathered;
+mod judged;
 mod last_copy;
 mod lower;
 mod packed;
@@ -13,6 +15,8 @@ mod table;
 mod upper;
 mod writing;
 
+pub use gathered::down_facts;
+pub use judged::JudgedParent;
 pub use state::DirState;
 pub use state_reading::brings_copy;
 pub use table::ItemTable;
