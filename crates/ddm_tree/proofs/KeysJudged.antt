@@ -1,7 +1,7 @@
 -- An operation's key is one of its leaf where it has that leaf's path and is less than the leaf's present key: the leaf of a number
 -- is the one that is read by that number.
 -- Letters: m is a machine, o an operation, a a leaf with its spot, now the present key there.
-use Rattle.std.proofs.Common.{◌≡◌, ◌≢◌, ℕ, zero, suc, ◌+◌, ◌*◌, ◌<◌, ◌≤◌, Bool, true, false, true≢false, ◌&&◌, ◌||◌, ◌⊎◌, inl, inr, nat_eq, nat_le, List, [], ◌∷◌, ◌++◌, length, Option, Some, None, refl, sym, ap, ◌∙◌, subst, arith, if◌then◌else◌}
+use Rattle.std.proofs.Common.{◌≡◌, ℕ, zero, suc, ◌+◌, ◌<◌, ◌≤◌, Bool, true, false, true≢false, ◌&&◌, ◌||◌, ◌⊎◌, inl, inr, nat_eq, nat_le, List, [], ◌∷◌, ◌++◌, length, Some, None, refl, sym, ap, ◌∙◌, arith, if◌then◌else◌}
 use Rattle.std.specs.List.{list_all, AllByRecursion}
 use Rattle.std.proofs.lemmas.Bool.{and_parts, eqb-true, eq-eqb, ne_eqb, leb-true}
 use Rattle.std.proofs.lemmas.List.{length-append}
@@ -9,11 +9,11 @@ use Rattle.ddm_types.specs.declared.keys.Key.{Key}
 use Rattle.ddm_types.specs.declared.operations.Op.{Op}
 use Rattle.ddm_types.specs.Keys.{key_numbers, key_less, key_zero}
 use Rattle.tree_model.specs.State.Values.{DirValue, Node, Nodes, leaf_node, dir_node, no_nodes, more_nodes, MachineValue, root_of}
-use Rattle.tree_model.specs.State.Place.{Spot, Where, at_top, at_child, spot_path, spot_in, where_path, key_at_leaf}
+use Rattle.tree_model.specs.State.Place.{Spot, Where, at_child, spot_path, spot_in, key_at_leaf}
 use Rattle.tree_model.specs.State.Shape.{IsShaped, skeleton, skeletons, depth_of, levels_fit, levels_fit_among, levels_known}
 use Rattle.tree_model.specs.Turns.Machine.{now_of}
 use Rattle.tree_model.specs.Turns.Tree.{leaf_of_number, has_node, has_among, read_in, read_among, of_leaf}
-use Rattle.tree_rules.specs.Statements.{Statement, test_of, each}
+use Rattle.tree_rules.specs.Statements.{test_of, each}
 use Rattle.tree_rules.specs.Order.Moments.{less, key_path, same_numbers}
 use Rattle.tree_rules.specs.Order.Ops.{op_key, op_path}
 use Rattle.tree_rules.specs.Order.Places.{LeafAt, leaf_path, leaf_now, leaves_in, placed_leaves, leaves_at}

@@ -22,11 +22,10 @@ use Rattle.tree_rules.specs.Order.Places.{LeafAt, leaf_path, leaves_at}
 use Rattle.order_lists.proofs.Filters.{each-weaker}
 use Rattle.order_lists.proofs.Moments.{least-less}
 use Rattle.order_lists.proofs.OneLeaf.{IsSameLeaf, one_at_path}
-use Rattle.state_reading.specs.declared.StateRefusal.{StateRefusal}
 use Rattle.state_reading.specs.declared.StateRefusal.TheVariants.{BrokenKey}
 use Rattle.state_judging.specs.Judged.{is_key_of_leaf, same_key, broken_key}
 use Rattle.ddm_tree.specs.Keys.{comes_behind, IsTaken}
-use Rattle.ddm_tree.proofs.KeysJudged.{OwnLeaf, own-leaf}
+use Rattle.ddm_tree.proofs.KeysJudged.{own-leaf}
 use Rattle.ddm_tree.proofs.KeysSeen.{dropped}
 use Rattle.ddm_tree.proofs.LeafList.{leaf-there}
 

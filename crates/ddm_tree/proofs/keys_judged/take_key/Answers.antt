@@ -1,5 +1,4 @@
-use Rattle.std.proofs.Common.{◌≡◌, true, None, get_or, sym, ap, ◌∙◌}
-use Rattle.ddm_tree.specs.Keys.{comes_behind}
+use Rattle.std.proofs.Common.{sym, ap, ◌∙◌}
 use Rattle.ddm_tree.proofs.KeysRising.{taken}
 use Rattle.ddm_tree.proofs.keys_judged.take_key.Goals as goal
 
