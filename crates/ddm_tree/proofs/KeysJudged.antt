@@ -1,7 +1,7 @@
 -- An operation's key is one of its leaf where it has that leaf's path and is less than the leaf's present key: the leaf of a number
 -- is the one that is read by that number.
 -- Letters: m is a machine, o an operation, a a leaf with its spot, now the present key there.
-use Rattle.std.proofs.Common.{◌≡◌, ◌≢◌, ℕ, zero, suc, ◌+◌, ◌*◌, ◌<◌, ◌≤◌, Bool, true, false, true≢false, ◌&&◌, ◌||◌, ◌⊎◌, inl, inr, nat_eq, nat_le, List, [], ◌∷◌, ◌++◌, length, Option, Some, None, refl, sym, ap, ◌∙◌, subst, arith, if◌then◌else◌}
+use Rattle.std.proofs.Common.{◌≡◌, ℕ, zero, suc, ◌+◌, ◌<◌, ◌≤◌, Bool, true, false, true≢false, ◌&&◌, ◌||◌, ◌⊎◌, inl, inr, nat_eq, nat_le, List, [], ◌∷◌, ◌++◌, length, Some, None, refl, sym, ap, ◌∙◌, arith, if◌then◌else◌}
 use Rattle.std.specs.List.{list_all, AllByRecursion}
 use Rattle.std.proofs.lemmas.Bool.{and_parts, eqb-true, eq-eqb, ne_eqb, leb-true}
 use Rattle.std.proofs.lemmas.List.{length-append}
@@ -9,11 +9,11 @@ use Rattle.ddm_types.specs.declared.keys.Key.{Key}
 use Rattle.ddm_types.specs.declared.operations.Op.{Op}
 use Rattle.ddm_types.specs.Keys.{key_numbers, key_less, key_zero}
 use Rattle.tree_model.specs.State.Values.{DirValue, Node, Nodes, leaf_node, dir_node, no_nodes, more_nodes, MachineValue, root_of}
-use Rattle.tree_model.specs.State.Place.{Spot, Where, at_top, at_child, spot_path, spot_in, where_path, key_at_leaf}
+use Rattle.tree_model.specs.State.Place.{Spot, Where, at_child, spot_path, spot_in, key_at_leaf}
 use Rattle.tree_model.specs.State.Shape.{IsShaped, skeleton, skeletons, depth_of, levels_fit, levels_fit_among, levels_known}
 use Rattle.tree_model.specs.Turns.Machine.{now_of}
 use Rattle.tree_model.specs.Turns.Tree.{leaf_of_number, has_node, has_among, read_in, read_among, of_leaf}
-use Rattle.tree_rules.specs.Statements.{Statement, test_of, each}
+use Rattle.tree_rules.specs.Statements.{test_of, each}
 use Rattle.tree_rules.specs.Order.Moments.{less, key_path, same_numbers}
 use Rattle.tree_rules.specs.Order.Ops.{op_key, op_path}
 use Rattle.tree_rules.specs.Order.Places.{LeafAt, leaf_path, leaf_now, leaves_in, placed_leaves, leaves_at}
@@ -21,6 +21,7 @@ use Rattle.tree_rules.specs.Order.Time.{is_leaf_of, has_leaf_path, is_before_now
 use Rattle.tree_rules.proofs.KeysNow.{key-now}
 use Rattle.order_lists.proofs.Filters.{each-append, each-both}
 use Rattle.order_lists.proofs.Keys.{key_less-numbers}
+use Rattle.order_lists.proofs.Moments.{same_numbers-true}
 use Rattle.order_laws.proofs.Hart.LeafPlaces.{IsOnlyOf, one_of_number}
 use Rattle.state_judging.specs.Judged.{is_key_of_leaf}
 use Rattle.ddm_tree.specs.Keys.{is_key_before, key_cut}
@@ -276,3 +277,30 @@ module _ (m : MachineValue) (o : Op) (shaped : IsShaped m) where
   pub key-without_leaf : has_node (leaf_of_number o.hart) (root_of m) ≡ false → true ≡ is_key_of_leaf m o
   unfolding leaves_at
   key-without_leaf none = sym (all-fit (depth_of m) o (leaves_at m) ∙ others-fit (leaves_at m) (others-among [] m.top 0 m.kids none))
+
+  -- ---- its leaf, where its hart has one, with what is known of each leaf
+
+  pub record OwnLeaf (Q : LeafAt → Type 0) : Type 0 where
+    pub leaf : LeafAt
+    pub number : leaf.leaf.number ≡ o.hart
+    pub path : op_path (depth_of m) o ≡ leaf_path leaf
+    pub known : Q leaf
+
+  pub own-leaf : (Q : LeafAt → Type 0) → AllByRecursion Q (leaves_at m) → (now : Key) → Some now ≡ now_of o.hart m → is_key_of_leaf m o ≡ true → OwnLeaf Q
+  unfolding leaves_at
+  own-leaf Q all now read fit = own-path (member (IsRead o.hart now) Q fits (placed_leaves [] m.top 0 m.kids) (read-placed o.hart now [] m.top 0 m.kids read) all)
+    where
+      all-pass : list_all fits (placed_leaves [] m.top 0 m.kids) ≡ true
+      all-pass = sym (all-fit (depth_of m) o (placed_leaves [] m.top 0 m.kids)) ∙ fit
+
+      own-path : Member (IsRead o.hart now) Q fits (placed_leaves [] m.top 0 m.kids) → OwnLeaf Q
+      own-path there = by (fits there.leaf) refl
+        where
+          own : is_leaf_of o there.leaf ≡ true
+          own = eq-eqb o.hart there.leaf.leaf.number (sym (eqb-true there.leaf.leaf.number o.hart there.told.0))
+
+          by : (t : Bool) → fits there.leaf ≡ t → OwnLeaf Q
+          by true is =
+              let path = rw own at (and_parts (test_of (has_leaf_path (depth_of m) o there.leaf)) (test_of (is_before_now (depth_of m) o there.leaf)) is).0 in
+              record { leaf = there.leaf; number = eqb-true there.leaf.leaf.number o.hart there.told.0; path = same_numbers-true (op_path (depth_of m) o) (leaf_path there.leaf) path; known = there.known }
+          by false is = absurd (true≢false (sym all-pass ∙ there.fails is))

@@ -1,6 +1,6 @@
 -- Keys that were seen, as a set of them: whether one of an operation before has this operation's key.
 -- Letters: a and b are keys, o and p operations.
-use Rattle.std.proofs.Common.{◌≡◌, ℕ, zero, suc, ◌+◌, ◌-◌, ◌<◌, ◌≤◌, Bool, true, false, not, ◌&&◌, ◌||◌, nat_eq, nat_lt, cond, List, [], ◌∷◌, length, drop, Option, Some, None, option_map, refl, sym, ap, ◌∙◌, arith, Ordering, nat_cmp, get_or, true≢false, if◌then◌else◌}
+use Rattle.std.proofs.Common.{◌≡◌, ℕ, zero, suc, ◌+◌, ◌-◌, ◌<◌, ◌≤◌, Bool, true, false, not, ◌&&◌, ◌||◌, nat_eq, nat_lt, cond, List, [], ◌∷◌, length, drop, Some, None, option_map, refl, sym, ap, ◌∙◌, arith, Ordering, nat_cmp, get_or, true≢false, if◌then◌else◌}
 use Rattle.std.specs.Prelude.{slice_get}
 use Rattle.std.specs.List.{list_any, range_with_len, find}
 use Rattle.std.specs.Ordering.{ordering_then, eq_by_cmp, is_eq}
@@ -12,7 +12,6 @@ use Rattle.ddm_types.specs.declared.operations.Op.{Op}
 use Rattle.ddm_types.specs.Keys.{key_less}
 use Rattle.tree_model.specs.State.Lists.{first_some}
 use Rattle.tree_model.specs.State.Values.{MachineValue}
-use Rattle.state_reading.specs.declared.StateRefusal.{StateRefusal}
 use Rattle.state_reading.specs.declared.StateRefusal.TheVariants.{BrokenKey, BrokenStamp}
 use Rattle.state_judging.specs.Judged.{is_key_of_leaf, same_key, broken_key}
 
@@ -60,7 +59,7 @@ either-way : (s t u : Bool) → s ≡ t → cond s true u ≡ (t || u)
 either-way true t u e = rw (sym e) refl
 either-way false t u e = rw (sym e) refl
 
-dropped : {X : Type 0} (xs : List X) (k : ℕ) (x : X) → slice_get xs k ≡ Some x → drop k xs ≡ x ∷ drop (k + 1) xs
+pub dropped : {X : Type 0} (xs : List X) (k : ℕ) (x : X) → slice_get xs k ≡ Some x → drop k xs ≡ x ∷ drop (k + 1) xs
 dropped [] k x e = cc
 dropped (y ∷ ys) zero x e =
     let same : y ≡ x = cc in

@@ -34,4 +34,5 @@ pub mod LeavesInOrder
 pub mod StateRead
 pub mod StateJudged
 pub mod KeysSeen
+pub mod KeysRising
 pub mod BusesRead

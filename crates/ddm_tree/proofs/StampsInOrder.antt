@@ -1,6 +1,6 @@
 -- Whether the stamps are in order that a directory keeps: compared in the numbers of the bus above it, or as moments on its path.
 -- Letters: c is a directory with its spot, above its path's, a and b are stamps, e and f entries of its down list.
-use Rattle.std.proofs.Common.{◌≡◌, ℕ, ◌+◌, ◌-◌, ◌<◌, ◌≤◌, Bool, true, not, ◌&&◌, List, [], ◌∷◌, length, refl, sym, ap, ◌∙◌, arith, if◌then◌else◌}
+use Rattle.std.proofs.Common.{◌≡◌, ℕ, ◌+◌, ◌-◌, ◌<◌, List, [], ◌∷◌, length, refl, ap, ◌∙◌, arith}
 use Rattle.std.proofs.lemmas.List.{length-append, length-take-le}
 use Rattle.ddm_types.specs.declared.keys.Stamp.{Stamp}
 use Rattle.ddm_types.specs.Keys.{stamp_numbers}
@@ -8,7 +8,7 @@ use Rattle.tree_model.specs.State.Values.{DownValue}
 use Rattle.tree_rules.specs.Statements.{Statement, test_of, each, each_pair}
 use Rattle.tree_rules.specs.Order.Moments.{less, moment_at}
 use Rattle.tree_rules.specs.Order.Places.{DirAt, dir_path}
-use Rattle.tree_rules.specs.Order.Time.{comes_later, lies_between, may_stand_behind}
+use Rattle.tree_rules.specs.Order.Time.{lies_between, may_stand_behind}
 use Rattle.order_lists.proofs.Levels.{IsLevelled}
 use Rattle.order_lists.proofs.Stamps.{moment-less}
 use Rattle.state_judging.specs.Judged.{stamps_in_order}

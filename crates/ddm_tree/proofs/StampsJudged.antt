@@ -1,7 +1,7 @@
 -- The stamps of the bus that a path leads to are broken just where those of the directory at the path's end aren't in order: no
 -- other directory is over a bus of this number. The top keeps no stamps that could be broken.
 -- Letters: c is where a node hangs, n a node, d a directory over the nodes ns, b the number of a bus.
-use Rattle.std.proofs.Common.{◌≡◌, ℕ, ◌+◌, Bool, true, false, true≢false, not, ◌&&◌, ◌||◌, nat_eq, List, [], ◌∷◌, length, ◌<◌, arith, Option, Some, None, refl, sym, ap, ◌∙◌, subst, if◌then◌else◌}
+use Rattle.std.proofs.Common.{◌≡◌, ℕ, ◌+◌, Bool, true, false, true≢false, not, ◌&&◌, ◌||◌, nat_eq, List, [], length, ◌<◌, arith, Option, Some, None, refl, sym, ap, ◌∙◌, subst, if◌then◌else◌}
 use Rattle.std.specs.List.{list_any, AllByRecursion}
 use Rattle.std.proofs.lemmas.Bool.{and_parts, eqb-true}
 use Rattle.std.proofs.lemmas.List.Folds.{list_any-append}
@@ -10,16 +10,15 @@ use Rattle.tree_model.specs.State.Values.{DirValue, Node, Nodes, leaf_node, dir_
 use Rattle.tree_model.specs.State.Place.{Spot, Where, at_top, at_child, stamp_above, spot_path, spot_in}
 use Rattle.tree_model.specs.State.Shape.{IsShaped, skeleton, skeletons, buses_of, buses_among, are_distinct, buses_differ}
 use Rattle.tree_model.specs.Turns.Tree.{bus_of_number, has_node, has_among, read_in, read_among}
-use Rattle.tree_rules.specs.Order.Places.{DirAt, dirs_in, placed_dirs, dirs_at}
+use Rattle.tree_rules.specs.Order.Places.{dirs_in, placed_dirs, dirs_at}
 use Rattle.order_lists.proofs.Filters.{each-left, each-right}
 use Rattle.order_lists.proofs.Levels.{IsLevelled, all_levelled}
 use Rattle.state_judging.specs.Judged.{stamps_in_order, is_over, stamps_broken}
-use Rattle.directory.specs.Stamps.{stamps_fit}
 use Rattle.ddm_tree.specs.Path.{node_at, present_at}
 use Rattle.ddm_tree.specs.Ready.{Leads}
 use Rattle.ddm_tree.specs.Stamps.{node_stamps_fit}
 use Rattle.ddm_tree.proofs.Along.{Along, along, where_end, where_end-present}
-use Rattle.ddm_tree.proofs.BusNumbers.{numbered-in, numbered-among}
+use Rattle.ddm_tree.proofs.BusNumbers.{numbered-among}
 use Rattle.ddm_tree.proofs.StampsInOrder.{in_order-fits}
 
 not-true : (t : Bool) → not t ≡ true → t ≡ false

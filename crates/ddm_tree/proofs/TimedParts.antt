@@ -1,8 +1,7 @@
 -- A machine taken apart, judged by the rules of time: the path to each leaf and bus is in its lists, and what is read at a path's end
 -- is what the rules speak of.
 -- Letters: m is a machine, o an operation.
-use Rattle.std.proofs.Common.{◌≡◌, ℕ, ◌<◌, ◌≤◌, Bool, true, false, nat_eq, List, [], ◌∷◌, length, map, Option, Some, refl, sym, ap, ◌∙◌, subst, arith, true≢false}
-use Rattle.std.specs.Prelude.{vec_items}
+use Rattle.std.proofs.Common.{◌≡◌, ℕ, ◌<◌, ◌≤◌, Bool, true, false, nat_eq, List, [], ◌∷◌, length, map, Some, refl, arith, true≢false}
 use Rattle.std.proofs.lemmas.Bool.{eqb-true}
 use Rattle.ddm_types.specs.declared.operations.Op.{Op}
 use Rattle.tree_model.specs.State.Values.{MachineValue, root_of}

@@ -1,4 +1,4 @@
-use Rattle.std.proofs.Common.{◌≡◌, ◌<◌, ◌≤◌, Some, sym, subst, ap, ◌∙◌, arith}
+use Rattle.std.proofs.Common.{◌≡◌, Some, sym, subst, ap, ◌∙◌, arith}
 use Rattle.tree_model.specs.State.Shape.{IsShaped, tree_counts}
 use Rattle.tree_model.specs.Turns.Machine.{now_of}
 use Rattle.ddm_tree.specs.Keys.{is_key_before}

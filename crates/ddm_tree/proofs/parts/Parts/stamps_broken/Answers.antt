@@ -1,4 +1,4 @@
-use Rattle.std.proofs.Common.{◌≡◌, [], map, not, sym, ap, ◌∙◌}
+use Rattle.std.proofs.Common.{◌≡◌, map, not, sym, ap, ◌∙◌}
 use Rattle.ddm_types.specs.Keys.{stamp_zero}
 use Rattle.tree_model.specs.State.Values.{dir_node, nodes, root_of}
 use Rattle.ddm_tree.specs.Path.{node_at, present_at}

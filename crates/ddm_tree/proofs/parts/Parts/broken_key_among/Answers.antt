@@ -3,7 +3,7 @@ use Rattle.std.specs.Prelude.{slice_get}
 use Rattle.std.specs.BTreeSet.{contains}
 use Rattle.state_judging.specs.Judged.{is_key_of_leaf}
 use Rattle.ddm_tree.proofs.KeysSeen.{key_cmp, op-there, seen-unfit, seen-again, seen-next, was-there, was-new}
-use Rattle.ddm_tree.proofs.parts.Parts.broken_key.Goals as goal
+use Rattle.ddm_tree.proofs.parts.Parts.broken_key_among.Goals as goal
 
 pub returns-then-not-key_fits : goal.returns-then-not-key_fits
 returns-then-not-key_fits g c =
