@@ -71,6 +71,7 @@ impl<const WORDS: usize, C: Subtree<WORDS> + Drop> Parts<WORDS, C> {
         ensures frame { IfOk result (λ r. frame_of r.0 ≡ frame_of self) }
         ensures inside { IfOk result (λ r. r.1 ≤ length words.now) }
     {
+        // Its shape, of which the proof speaks.
         let _ = self.counts();
         let (next, behind) = self.read_section(Section::Bus(bus), words, from)?;
         let mut parts = next;
@@ -81,11 +82,7 @@ impl<const WORDS: usize, C: Subtree<WORDS> + Drop> Parts<WORDS, C> {
     }
 
     /// Reads all buses, in order of number: the directory over each and what it has granted.
-    pub(crate) fn read_buses(
-        self,
-        words: &[u32],
-        from: u32,
-    ) -> Result<(Self, u32), StateRefusal>
+    pub(crate) fn read_buses(self, words: &[u32], from: u32) -> Result<(Self, u32), StateRefusal>
         requires few { length words.now < 2 ^ 32 }
         requires inside { from ≤ length words.now }
         ensures read { IfOk result (λ r. BusesAreRead words.now from self r.0 r.1) }
