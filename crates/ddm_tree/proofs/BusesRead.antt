@@ -1,6 +1,6 @@
 -- Buses of a machine that is taken apart are read one after the other: what one of them changes, and what all come to.
 -- Letters: m is the machine before the first of them, now is it before the next, ds are the directories that were read.
-use Rattle.std.proofs.Common.{◌≡◌, ◌≢◌, ◌<◌, ◌≤◌, ℕ, zero, suc, ◌+◌, Bool, true, false, List, [], ◌∷◌, ◌++◌, length, map, drop, get_or, Option, Some, None, refl, sym, ap, subst, ◌∙◌, arith, true≢false, drop-cons, append-nil, append_assoc, length-append}
+use Rattle.std.proofs.Common.{◌≡◌, ◌≢◌, ◌<◌, ◌≤◌, ℕ, zero, suc, ◌+◌, true, false, List, [], ◌∷◌, ◌++◌, length, map, drop, get_or, Some, refl, sym, ap, subst, ◌∙◌, arith, true≢false, drop-cons, append-nil, append_assoc, length-append}
 use Rattle.std.specs.Prelude.{is_some, nat_eq, slice_set, slice_index_or, Result, Ok, Err}
 use Rattle.std.specs.List.{range_with_len}
 use Rattle.std.proofs.lemmas.Bool.{eqb-true, eq-eqb}
@@ -14,7 +14,7 @@ use Rattle.tree_model.specs.State.Rooms.{all_within}
 use Rattle.tree_model.specs.State.Shape.{IsShaped, are_below, buses_of, frame_of, skeleton, tree_counts, traffic_counted}
 use Rattle.tree_model.specs.State.Values.{LeafValue, DirValue, Node, Nodes, leaf_node, dir_node, no_nodes, more_nodes, children, MachineValue, root_of}
 use Rattle.tree_model.specs.Turns.Machine.{ask_bus, with_root}
-use Rattle.tree_model.specs.Turns.Tree.{Name, bus_of_number, is_named, has_node, of_dir}
+use Rattle.tree_model.specs.Turns.Tree.{Name, bus_of_number, is_named, of_dir}
 use Rattle.tree_model.proofs.Tests.{and-first}
 use Rattle.state_reading.specs.declared.StateRefusal.{StateRefusal}
 use Rattle.state_reading.specs.Machine.{BusRead, bus_dir, bus_traffic, read_bus, read_bus_of, read_buses, refilled, refilled_among}
@@ -23,7 +23,7 @@ use Rattle.state_reading.specs.Reading.{Read, and_then, given}
 use Rattle.state_judging.specs.Read.{CanRead}
 use Rattle.ddm_tree.specs.declared.section.Section.{Section}
 use Rattle.ddm_tree.specs.Machine.{is_part}
-use Rattle.ddm_tree.specs.Parts.{BusesAreRead, BusIsRead, BusIsRefused, IsParts, SectionRead, SectionRefused, dir_refused, traffic_refused}
+use Rattle.ddm_tree.specs.Parts.{BusesAreRead, BusIsRead, BusIsRefused, IsParts, SectionRead, dir_refused, traffic_refused}
 use Rattle.ddm_tree.specs.Path.{node_at, path_to, put_at}
 use Rattle.ddm_tree.specs.ReadBack.{node_read}
 use Rattle.ddm_tree.specs.Ready.{Leads}

@@ -73,6 +73,7 @@ impl<const WORDS: usize, C: Subtree<WORDS> + Drop> Parts<WORDS, C> {
         ensures frame { IfOk result (λ r. frame_of r.0 ≡ frame_of self) }
         ensures inside { IfOk result (λ r. r.1 ≤ length words.now) }
     {
+        // Its shape, of which the proof speaks.
         let _ = self.counts();
         let (next, behind) = self.read_section(Section::Bus(bus), words, from)?;
         let mut parts = next;

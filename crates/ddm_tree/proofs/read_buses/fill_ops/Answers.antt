@@ -1,6 +1,5 @@
-use Rattle.std.proofs.Common.{rules, ◌≡◌, ◌∙◌, ◌-◌, Err, arith, [], drop, length}
+use Rattle.std.proofs.Common.{rules, ◌≡◌, ◌∙◌, Err, arith, drop}
 use Rattle.state_reading.specs.Parts.{read_op}
-use Rattle.state_reading.specs.Reading.{times}
 use Rattle.state_reading.proofs.Steps.{one_step_more, one_step_refused, times_done}
 use Rattle.ddm_tree.proofs.read_buses.fill_ops.Goals as goal
 

@@ -1,8 +1,8 @@
-use Rattle.std.proofs.Common.{rules, ◌≡◌, ◌<◌, ap, sym, subst, ◌∙◌, refl, true, arith, Err, length, map, vec_items}
+use Rattle.std.proofs.Common.{rules, ◌≡◌, ap, ◌∙◌, arith, Err, map, vec_items}
 use Rattle.tree_model.specs.State.Shape.{frame_of}
 use Rattle.tree_model.specs.Turns.Tree.{bus_of_number}
-use Rattle.ddm_tree.specs.Machine.{is_part, machine_of}
-use Rattle.ddm_tree.specs.Parts.{BusIsRefused, traffic_refused}
+use Rattle.ddm_tree.specs.Machine.{machine_of}
+use Rattle.ddm_tree.specs.Parts.{traffic_refused}
 use Rattle.ddm_tree.specs.declared.section.Section.{Section}
 use Rattle.ddm_tree.proofs.BusesRead.{read-frame, same-part, set-counts, set-frame, set-parts}
 use Rattle.ddm_tree.proofs.Reading.{bus-counted}

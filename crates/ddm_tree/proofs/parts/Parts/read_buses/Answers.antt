@@ -1,4 +1,4 @@
-use Rattle.std.proofs.Common.{rules, ◌≡◌, ◌<◌, ◌≤◌, ap, ◌∙◌, arith, lit<, length, Err}
+use Rattle.std.proofs.Common.{rules, ◌≡◌, ◌<◌, ◌≤◌, ap, ◌∙◌, arith, lit<, Err}
 use Rattle.tree_model.specs.Turns.Tree.{bus_of_number}
 use Rattle.ddm_tree.proofs.BusNumbers.{numbered-bus}
 use Rattle.ddm_tree.proofs.BusesRead.{buses-begun, buses-counted, buses-done, buses-more, buses-refused, same-part}
