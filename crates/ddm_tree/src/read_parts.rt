@@ -1,21 +1,12 @@
-ghost use Rattle.std.specs.Prelude.{◌≡◌, ◌<◌, ◌≤◌, ◌^◌, ◌≢◌, [], Err, drop, length, IfErr, IfOk};
-ghost use Rattle.std.specs.List.{range_with_len};
-ghost use Rattle.ddm_types.specs.ItemTable.{item_count};
-ghost use Rattle.tree_model.specs.State.Shape.{depth_of, tree_counts};
+ghost use Rattle.std.specs.Prelude.{◌≡◌, ◌<◌, ◌≤◌, ◌^◌, Err, drop, length, IfErr, IfOk};
 ghost use Rattle.tree_model.specs.Turns.Machine.{machine_leaves};
-ghost use Rattle.tree_model.specs.Turns.Tree.{bus_of_number};
-ghost use Rattle.state_reading.specs.declared.StateRefusal.TheVariants.{NoMemory};
-ghost use Rattle.state_reading.specs.Machine.{read_buses, read_each};
-ghost use Rattle.state_reading.specs.Parts.{read_op};
-ghost use Rattle.state_reading.specs.Reading.{times};
-ghost use Rattle.ddm_tree.specs.Machine.{is_part};
-ghost use Rattle.ddm_tree.specs.Parts.{BusesAreRead, BusIsRead, BusIsRefused, LeavesRead, OpsAreRead, leaf_read, leaf_section};
+ghost use Rattle.state_reading.specs.Machine.{read_each};
+ghost use Rattle.ddm_tree.specs.Parts.{LeavesRead, leaf_read, leaf_section};
 
 use crate::parts::Parts;
-use crate::read_records::{read_op, read_traffic};
 use crate::section::Section;
 use crate::subtree::Subtree;
-use ddm_types::{BusNo, LeafNo, NoMemory};
+use ddm_types::LeafNo;
 use state_reading::StateRefusal;
 
 /// A section of a leaf: that of its hart, or the rest.

@@ -24,10 +24,19 @@ into_machine-requires g c =
     let ws = drop c.args.from c.args.words.now in
     let rest = drop c.in_ok-parts.at c.args.words.now in
     let read = rw c.into_parts.ensures.value at c.in_ok-parts.ensures.read in
-    let retired = slice_index c.args.words.now 8 in
-    (lit< tt, (lit< tt, (state-rules c.args.fresh.machine retired c.args.from ws c.in_ok-parts.parts c.in_ok-parts.at rest read c.into_parts.ensures.readable c.in_ok-judge.ensures.ok,
-    (state-counts c.args.fresh.machine retired c.args.from ws c.in_ok-parts.parts c.in_ok-parts.at rest read c.into_parts.ensures.readable,
-    state-granted c.args.fresh.machine retired c.args.from ws c.in_ok-parts.parts c.in_ok-parts.at rest read c.into_parts.ensures.readable))))
+    let retired = slice_index c.args.words.now 8 in (
+      lit< tt,
+      (
+        lit< tt,
+        (
+          state-rules c.args.fresh.machine retired c.args.from ws c.in_ok-parts.parts c.in_ok-parts.at rest read c.into_parts.ensures.readable c.in_ok-judge.ensures.ok,
+          (
+            state-counts c.args.fresh.machine retired c.args.from ws c.in_ok-parts.parts c.in_ok-parts.at rest read c.into_parts.ensures.readable,
+            state-granted c.args.fresh.machine retired c.args.from ws c.in_ok-parts.parts c.in_ok-parts.at rest read c.into_parts.ensures.readable,
+          ),
+        ),
+      ),
+    )
 
 pub returns-clause-read : goal.returns-clause-read
 returns-clause-read g c =
