@@ -3,3 +3,5 @@ pub mod Words
 pub mod Instructions
 pub mod LeafForm
 pub mod DirForm
+pub mod ChildForm
+pub mod BusForm

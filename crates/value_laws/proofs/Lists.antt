@@ -1,5 +1,5 @@
 -- What each element of a list has, each has after a change of the list.
-use Rattle.std.proofs.Common.{◌≡◌, ℕ, zero, suc, ◌+◌, subst, Bool, true, false, cond, List, [], ◌∷◌, ◌++◌, map, replicate, Option, Some, None}
+use Rattle.std.proofs.Common.{◌≡◌, ℕ, zero, suc, ◌+◌, subst, Bool, true, false, cond, List, [], ◌∷◌, ◌++◌, map, replicate, Option, Some, None, refl}
 use Rattle.std.specs.Prelude.{filter, find, slice_get, slice_set}
 use Rattle.std.specs.List.{AllByRecursion}
 use Rattle.tree_model.specs.State.Lists.{map_from, rest_of, without_first, first_of}
@@ -70,3 +70,11 @@ module _ {X Y : Type 0} (P : X → Type 0) (Q : Y → Type 0) where
   pub all-map : (f : X → Y) → ((x : X) → P x → Q (f x)) → (xs : List X) → AllByRecursion P xs → AllByRecursion Q (map f xs)
   all-map f gives [] all = tt
   all-map f gives (x ∷ xs) all = (gives x all.0, all-map f gives xs all.1)
+
+-- where none passes, each fails
+pub none-found : {X : Type 0} (t : X → Bool) (xs : List X) → find t xs ≡ None → AllByRecursion (λ x. t x ≡ false) xs
+none-found t [] none = tt
+none-found t (x ∷ xs) none = by (t x) refl none (λ later. none-found t xs later) where
+  by : (b : Bool) → t x ≡ b → cond b (Some x) (find t xs) ≡ None → (find t xs ≡ None → AllByRecursion (λ x. t x ≡ false) xs) → (t x ≡ false) × AllByRecursion (λ x. t x ≡ false) xs
+  by true is none rest = cc
+  by false is none rest = (is, rest none)
