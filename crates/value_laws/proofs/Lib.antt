@@ -5,3 +5,4 @@ pub mod LeafForm
 pub mod DirForm
 pub mod ChildForm
 pub mod BusForm
+pub mod HartForm
