@@ -6,3 +6,4 @@ pub mod DirForm
 pub mod ChildForm
 pub mod BusForm
 pub mod HartForm
+pub mod TurnForm
