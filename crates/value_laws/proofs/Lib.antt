@@ -7,3 +7,4 @@ pub mod ChildForm
 pub mod BusForm
 pub mod HartForm
 pub mod TurnForm
+pub mod StartForm

@@ -24,6 +24,7 @@ use Rattle.tree_model.specs.Turns.HartTurn.{Deed, has_halted, waits_for, halts, 
 use Rattle.tree_model.specs.Turns.Machine.{no_traffic, one_more, traffic_with, answer_here, bus_turn_of, named_by, node_after, recorded, run_of, turn_answer, turn_of, turn_root, victim_of, with_root}
 use Rattle.tree_model.specs.Laws.{TurnsHere}
 use Rattle.tree_model.proofs.Changed.{changed-holds}
+use Rattle.tree_model.proofs.FrameKept.{turn-shape}
 use Rattle.tree_model.proofs.NamedNode.{turned}
 use Rattle.tree_model.proofs.Tests.{and-first, and-second}
 use Rattle.tree_model.proofs.TurnChanges.{turn-answered, turn-unanswered}
@@ -200,3 +201,12 @@ turn-form t most m shaped has = by (turn_answer t m) refl where
       let fit : widths_fit (skeleton (root_of m)) ≡ true = shaped.each widths_bounded in
       let parts = changed-form m.top.sizes.width most t m has.code a at.0 (root_of m) (turn_root t m) at.1 (top-place most) fit has.parts in
       subst (λ o. HasForm (most + 1) o.machine) (sym (turn-answered t m a some)) (recorded-form most m has a (turn_root t m) parts.1 parts.0)
+
+pub run-form : (ts : List Turn) (most : ℕ) (m : MachineValue) → IsShaped m → HasForm most m → HasForm (most + length ts) (run_of ts m).machine
+unfolding run_of
+run-form [] most m shaped has = let same : most ≡ most + 0 = omega arith in subst (λ n. HasForm n m) same has
+run-form (t ∷ ts) most m shaped has =
+    let next = (turn_of t m).machine in
+    let rest = run-form ts (most + 1) next (turn-shape t m shaped) (turn-form t most m shaped has) in
+    let same : most + 1 + length ts ≡ most + length (t ∷ ts) = omega arith in
+    subst (λ n. HasForm n (run_of ts next).machine) same rest
