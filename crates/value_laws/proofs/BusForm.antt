@@ -1,5 +1,5 @@
 -- A turn of a bus keeps the form of its parent and of its children, whatever is granted.
-use Rattle.std.proofs.Common.{◌≡◌, ℕ, ◌+◌, Bool, true, false, cond, List, [], ◌∷◌, Some, None, refl, subst}
+use Rattle.std.proofs.Common.{◌≡◌, ℕ, ◌+◌, Bool, true, false, cond, List, ◌∷◌, Some, refl, subst}
 use Rattle.std.specs.Prelude.{IfSome, nat_eq}
 use Rattle.std.specs.List.{AllByRecursion}
 use Rattle.ddm_types.specs.declared.answers.TxKind.{TxKind}
@@ -9,10 +9,10 @@ use Rattle.ddm_types.specs.declared.keys.Stamp.{Stamp}
 use Rattle.tree_model.specs.declared.BusTurn.{BusTurn}
 use Rattle.tree_model.specs.State.Lists.{map_from}
 use Rattle.tree_model.specs.State.States.{is_exclusive}
-use Rattle.tree_model.specs.State.Values.{CopyValue, DownValue, Note, no_note, local, up_read, up_erase, DirItem, DirValue, Node}
+use Rattle.tree_model.specs.State.Values.{DownValue, Note, no_note, local, up_read, up_erase, DirItem, DirValue, Node}
 use Rattle.tree_model.specs.State.Leaf.{blank}
-use Rattle.tree_model.specs.State.Directory.{is_reader, dir_hold, dir_note, joined_by, parked_words, with_note, with_hold, with_answering, without_parked, place_released, pushed_down, stamp_of, counted, front_taken}
-use Rattle.tree_model.specs.State.Child.{child_lose, child_take_data, child_take_exclusive, child_answer, child_take_inject, child_request_taken, child_reply_taken, child_given, child_give_up, child_leaving, child_reply}
+use Rattle.tree_model.specs.State.Directory.{is_reader, dir_hold, dir_note, joined_by, parked_words, with_note, with_hold, with_answering, without_parked, place_released, stamp_of, counted, front_taken}
+use Rattle.tree_model.specs.State.Child.{child_lose, child_take_data, child_take_exclusive, child_answer, child_take_inject, child_request_taken, child_reply_taken, child_given, child_give_up, child_leaving}
 use Rattle.tree_model.specs.Turns.Children.{child_at, only, read_from, erased_by, loses, reader_takes, replied_by, passed_on}
 use Rattle.tree_model.specs.Turns.Grant.{Grant, Judged, nothing_there, refused, granted, outcome_of}
 use Rattle.tree_model.specs.Turns.RequestRead.{joins, read_of_child, read_of_parked, read_of_parent}

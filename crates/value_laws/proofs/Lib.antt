@@ -8,3 +8,4 @@ pub mod BusForm
 pub mod HartForm
 pub mod TurnForm
 pub mod StartForm
+pub mod RunForm

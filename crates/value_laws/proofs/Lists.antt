@@ -1,5 +1,5 @@
 -- What each element of a list has, each has after a change of the list.
-use Rattle.std.proofs.Common.{◌≡◌, ℕ, zero, suc, ◌+◌, subst, Bool, true, false, cond, List, [], ◌∷◌, ◌++◌, map, replicate, Option, Some, None, refl}
+use Rattle.std.proofs.Common.{◌≡◌, ℕ, zero, suc, ◌+◌, subst, Bool, true, false, cond, List, [], ◌∷◌, ◌++◌, map, replicate, Some, None, refl}
 use Rattle.std.specs.Prelude.{filter, find, slice_get, slice_set}
 use Rattle.std.specs.List.{AllByRecursion}
 use Rattle.tree_model.specs.State.Lists.{map_from, rest_of, without_first, first_of}

@@ -7,16 +7,15 @@ use Rattle.std.proofs.lemmas.List.FromFn.{length-map-range_with_len}
 use Rattle.ddm_types.specs.declared.sizes.LeafState.{LeafState}
 use Rattle.ddm_types.specs.declared.sizes.Start.{Start}
 use Rattle.ddm_types.specs.ItemTable.{ItemRow, item_count}
-use Rattle.ddm_types.specs.CodeMap.{CodeWord, words_from}
-use Rattle.flat_model.specs.Hart.{HartValue, hart_start}
-use Rattle.tree_model.specs.State.Lists.{map_from}
-use Rattle.tree_model.specs.State.Values.{LeafValue, DirItem, DirSizes, DirValue, Node, leaf_node, dir_node, nodes, MachineValue}
+use Rattle.ddm_types.specs.CodeMap.{words_from}
+use Rattle.flat_model.specs.Hart.{hart_start}
+use Rattle.tree_model.specs.State.Values.{LeafValue, DirItem, DirSizes, Node, leaf_node, MachineValue}
 use Rattle.tree_model.specs.State.Leaf.{free_way, enters_free}
 use Rattle.tree_model.specs.Turns.Machine.{no_traffic}
 use Rattle.tree_model.specs.Start.Sources.{ImageValue, SegmentValue, TreeValue, bus_widths, is_executable, last_level, leaf_count, start_of_harts, width_of}
 use Rattle.tree_model.specs.Start.Memory.{byte_at, byte_of, has_byte, first_word, past_word, item_words, memory_word, put_segment, segment_code, start_code, start_items, start_words}
 use Rattle.tree_model.specs.Start.Nodes.{cut_in, dir_sizes, dirs_over, held_below, held_if, leaf_for, new_dir, placed, placed_at, placed_in, placed_items, under_levels}
-use Rattle.tree_model.specs.Start.Machine.{StartRefusal, start_leaf, start_leaves, start_machine, start_of, start_refusal}
+use Rattle.tree_model.specs.Start.Machine.{start_leaf, start_leaves, start_machine, start_of, start_refusal}
 use Rattle.tree_model.proofs.Tests.{and-first, and-second}
 use Rattle.bus_laws.specs.IsTree.{AreUnder, IsTree, is_width}
 use Rattle.bus_laws.proofs.StartLevels.{each-drop, each-take, sum-more, width-parts}

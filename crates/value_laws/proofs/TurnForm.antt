@@ -1,6 +1,6 @@
 -- A turn of the machine, and so a run, keeps the form, and counts one more at most.
-use Rattle.std.proofs.Common.{◌≡◌, ℕ, zero, suc, ◌+◌, ◌<◌, ◌≤◌, Bool, true, false, List, [], ◌∷◌, ◌++◌, length, Option, Some, None, refl, sym, ap, subst, ◌∙◌, arith}
-use Rattle.std.specs.Prelude.{nat_le, nat_lt, IsTrue, slice_index, slice_index_or}
+use Rattle.std.proofs.Common.{◌≡◌, ℕ, zero, suc, ◌+◌, ◌<◌, ◌≤◌, true, List, [], ◌∷◌, ◌++◌, length, Option, Some, None, refl, sym, subst, arith}
+use Rattle.std.specs.Prelude.{nat_le, nat_lt, slice_index, slice_index_or}
 use Rattle.std.specs.List.{AllByRecursion}
 use Rattle.std.proofs.lemmas.Bool.{leb-true}
 use Rattle.ddm_types.specs.declared.answers.TurnAnswer.{TurnAnswer}
@@ -14,7 +14,7 @@ use Rattle.ddm_types.specs.ItemTable.{ItemTable}
 use Rattle.ddm_types.specs.CodeMap.{CodeWord}
 use Rattle.tree_model.specs.declared.BusTurn.{BusTurn}
 use Rattle.tree_model.specs.declared.Traffic.{Traffic}
-use Rattle.tree_model.specs.State.Values.{LeafValue, DirValue, Node, Nodes, leaf_node, dir_node, no_nodes, more_nodes, nodes, children, MachineValue, root_of}
+use Rattle.tree_model.specs.State.Values.{LeafValue, DirValue, Node, Nodes, leaf_node, dir_node, children, MachineValue, root_of}
 use Rattle.tree_model.specs.State.Place.{Where, at_child, at_top, key_at_leaf, spot_in, stamp_above, where_path}
 use Rattle.tree_model.specs.State.Shape.{bone_count, skeleton, skeletons, widths_fit, widths_fit_among, widths_bounded, IsShaped}
 use Rattle.tree_model.specs.Turns.Tree.{ChangedAt}
@@ -126,8 +126,8 @@ module _ (width most : ℕ) (t : Turn) (m : MachineValue) (code_has : AllByRecur
       (λ w n k r place fit has. let x = node-form width most m.code m.items t code_has w n place has in (subst (PartsHaveForm width (most + 1)) (sym r.becomes) x.0, subst (AnswerHasForm most) r.reads x.1))
       (λ w d i path ns ms kept place fit has. let few = few-below d ns fit in let x = kept place.path has.0 (omega (arith, few.0)) few.1 has.1 in ((dir-more width most d has.0, x.0), x.1))
       (λ above d k path n ms ns kept are dir count fit all.
-        let x = kept (child-place width most above d k are dir (omega (arith, count))) (and-first _ (widths_fit_among (skeletons ns)) fit) all.0 in
-        ((x.0, among-more width most ns all.1), x.1))
+      let x = kept (child-place width most above d k are dir (omega (arith, count))) (and-first _ (widths_fit_among (skeletons ns)) fit) all.0 in
+      ((x.0, among-more width most ns all.1), x.1))
       (λ above d k i path n ns ms kept are dir count fit all. let x = kept are dir (omega (arith, count)) (and-second (widths_fit (skeleton n)) _ fit) all.1 in ((parts-more width most n all.0, x.0), x.1))
       at_top path n k changed
 
@@ -165,7 +165,7 @@ module _ (most : ℕ) (m : MachineValue) (has : HasForm most m) where
   traffic-now : AllByRecursion (TrafficHasForm (most + 1)) m.traffic
   traffic-now = all-more (TrafficHasForm most) (TrafficHasForm (most + 1)) (traffic-more most) m.traffic has.traffic
 
-  more-form : HasForm (most + 1) m
+  pub more-form : HasForm (most + 1) m
   more-form = record { code = has.code; parts = parts-more m.top.sizes.width most (root_of m) has.parts; ops = ops-now; traffic = traffic-now }
 
   -- with another tree

@@ -1,7 +1,7 @@
 -- What a machine whose numbers are words needs of its image.
 -- Letters: i is an image, s a segment.
 -- To be believed with the laws: it is what they speak of.
-use Rattle.std.specs.Prelude.{ℕ, ◌<◌}
+use Rattle.std.specs.Prelude.{◌<◌}
 use Rattle.std.specs.List.{AllByRecursion}
 use Rattle.tree_model.specs.Start.Sources.{ImageValue, SegmentValue}
 use Rattle.value_laws.specs.Values.{IsWord}
