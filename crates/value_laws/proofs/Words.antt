@@ -1,9 +1,11 @@
 -- Numbers of 32 bits: what instructions make of them are such numbers.
-use Rattle.std.proofs.Common.{ℕ, zero, suc, ℤ, pos, negsuc, ◌+◌, ◌-◌, ◌*◌, ◌/◌, ◌%◌, ◌^◌, ◌<◌, ◌≤◌, Bool, true, false, cond, List, [], ◌∷◌, arith}
+use Rattle.std.proofs.Common.{◌≡◌, ℕ, zero, suc, ℤ, pos, negsuc, ◌+◌, ◌-◌, ◌*◌, ◌/◌, ◌%◌, ◌^◌, ◌<◌, ◌≤◌, Bool, true, false, cond, List, [], ◌∷◌, length, refl, ap, ◌∙◌, arith}
 use Rattle.std.specs.Prelude.{nat_lt, int_lt, slice_index, slice_set}
+use Rattle.std.specs.List.{AllByRecursion}
 use Rattle.std.specs.Int.{w32, cast_unsigned, int_shr, to_le_bytes, from_le_bytes, from_bool}
 use native.Mathlib.Nat.{div-le_self}
 use Rattle.std.proofs.lemmas.Nat.{and_le_l, or_lt, xor_lt}
+use Rattle.std.proofs.lemmas.List.{length-set}
 use Rattle.rv_decode.specs.declared.instructions.RegOp.{RegOp}
 use Rattle.rv_decode.specs.declared.instructions.RegOp.TheVariants.{Add, Sub, Sll, Slt, Sltu, Xor, Srl, Sra, Or, And}
 use Rattle.rv_decode.specs.declared.instructions.AmoOp.{AmoOp}
@@ -14,24 +16,27 @@ use Rattle.rv_decode.specs.declared.instructions.StoreOp.{StoreOp}
 use Rattle.rv_decode.specs.declared.instructions.StoreOp.TheVariants.{Sb, Sh, Sw}
 use Rattle.rv_decode.specs.Table.{signed}
 use Rattle.flat_model.specs.Hart.{amo_result, byte_in, half_in, loaded_value, register_result, signed_word, stored_word}
-use Rattle.witness_check.specs.Witness.{IsWord}
+use Rattle.tree_model.specs.State.Leaf.{blank}
+use Rattle.value_laws.specs.Values.{IsWord, AreWords}
+use Rattle.value_laws.proofs.Lists.{all-set, all-replicate}
 
--- ---- lists of numbers, where one past the end counts as 0
+-- ---- lists of words
 
-abbrev pub AreWords : List ℕ → Type 0
-AreWords xs = (k : ℕ) → IsWord (slice_index xs k)
+-- one past the end counts as 0
+pub word-at : (ws : List ℕ) (k : ℕ) → AllByRecursion IsWord ws → IsWord (slice_index ws k)
+word-at [] k all = omega arith
+word-at (w ∷ ws) zero all = all.0
+word-at (w ∷ ws) (suc k) all = word-at ws k all.1
 
-pub no_words : AreWords []
-no_words k = omega arith
+pub words-set : (width : ℕ) (ws : List ℕ) (k w : ℕ) → AreWords width ws → IsWord w → AreWords width (slice_set ws k w)
+words-set width ws k w are is = record { count = length-set ws k w ∙ are.count; each = all-set IsWord ws k w are.each is }
 
-pub words_more : (x : ℕ) (xs : List ℕ) → IsWord x → AreWords xs → AreWords (x ∷ xs)
-words_more x xs here rest zero = here
-words_more x xs here rest (suc k) = rest k
+zeros : (n : ℕ) → length (blank n) ≡ n
+zeros zero = refl
+zeros (suc n) = ap suc (zeros n)
 
-pub words_set : (xs : List ℕ) (k v : ℕ) → AreWords xs → IsWord v → AreWords (slice_set xs k v)
-words_set [] k v are is = are
-words_set (x ∷ xs) zero v are is = words_more v xs is (λ j. are (suc j))
-words_set (x ∷ xs) (suc k) v are is = words_more x (slice_set xs k v) (are zero) (words_set xs k v (λ j. are (suc j)) is)
+pub blank-words : (width : ℕ) → AreWords width (blank width)
+blank-words width = record { count = zeros width; each = all-replicate IsWord width 0 (omega arith) }
 
 -- ---- results
 
