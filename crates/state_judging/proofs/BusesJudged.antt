@@ -1,6 +1,6 @@
 -- Judged bus by bus, no item breaks a rule: just where every bus of the machine keeps its rules.
 -- Letters: m is a machine, n how many items there are, p and d directories over children ns.
-use Rattle.std.specs.Prelude.{find, if◌then◌else◌, ◌≡◌, ◌<◌, ◌≤◌, ℕ, zero, suc, ◌+◌, Bool, true, false, not, ◌&&◌, ◌||◌, nat_eq, List, length, Option, Some, None, refl}
+use Rattle.std.specs.Prelude.{find, if◌then◌else◌, ◌≡◌, ◌<◌, ◌≤◌, ℕ, zero, suc, ◌+◌, Bool, true, false, not, ◌||◌, nat_eq, List, length, Option, Some, None, refl}
 use Rattle.std.specs.List.{range_with_len}
 use Rattle.std.proofs.Common.{arith, inl, inr, subst}
 use Rattle.std.proofs.lemmas.Bool.{eqb-true, eq-eqb, and_parts}
@@ -12,7 +12,7 @@ use Rattle.tree_model.specs.State.Shape.{IsShaped, levels_known}
 use Rattle.tree_model.specs.Turns.Machine.{ask_bus}
 use Rattle.tree_model.proofs.Tests.{first_some-none_first, first_some-none_second}
 use Rattle.tree_rules.specs.Bus.Own.{dir_holds, leaf_holds, IsTopOk}
-use Rattle.tree_rules.specs.Bus.Rules.{IsBusOk, IsTreeOk, AreTreesOk, IsMachineOk, items_of_machine, item_holds_at, kept_places, held_at_top}
+use Rattle.tree_rules.specs.Bus.Rules.{IsBusOk, IsTreeOk, AreTreesOk, IsMachineOk, items_of_machine, item_holds_at, held_at_top}
 use Rattle.tree_rules.specs.Bus.Faces.{parent_face, faces_of}
 use Rattle.tree_rules.proofs.BusTests.{IsDirOk-from_test, IsLeafOk-from_test, ItemRules-from_test, test-from_ItemRules}
 use Rattle.state_reading.specs.declared.StateRefusal.TheVariants.{BrokenRule}

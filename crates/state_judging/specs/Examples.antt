@@ -1,9 +1,8 @@
 -- Machines that are judged: after each turn of three runs, and changed by hand.
 -- Letters: m is a machine, d a directory, ns are nodes.
-use Rattle.std.specs.Prelude.{◌≡◌, Bool, true, false, [], ◌∷◌, ◌++◌, Some, None, is_none}
+use Rattle.std.specs.Prelude.{◌≡◌, Bool, true, [], ◌∷◌, ◌++◌, Some, None, is_none}
 use Rattle.ddm_types.specs.Keys.{stamp_zero}
 use Rattle.tree_model.specs.State.Values.{LeafValue, DirValue, Node, Nodes, leaf_node, dir_node, no_nodes, more_nodes, MachineValue}
-use Rattle.tree_rules.specs.Bus.Rules.{machine_holds}
 use Rattle.tree_rules.specs.Examples.{two_writers_turns, two_writers_start, two_writers_after, stale_load_all, stale_load_start, last_copy_turns, last_copy_start, run_keeps}
 use Rattle.state_reading.specs.declared.StateRefusal.TheVariants.{BrokenRule, BrokenStamp, BrokenKey}
 use Rattle.state_judging.specs.Judged.{judged}
@@ -71,7 +70,6 @@ pub record Judgements : Type 0 where
   pub taken_early : judged (with_first with_early_stamp same_leaf stale_load_start) ≡ Some (BrokenStamp 1)
   -- the second operation has the key of the first one
   pub same_key : judged (record (two_writers_after 1) { ops = (two_writers_after 1).ops ++ (two_writers_after 1).ops }) ≡ Some (BrokenKey 1)
-  -- Without items nothing is judged at the first one: so there has to be one where what is judged well keeps the rules.
-  pub nothing_kept : machine_holds (without_items stale_load_start) ≡ true
-  pub nothing_judged : judged (with_first with_place_kept same_leaf (without_items stale_load_start)) ≡ None
-  pub broken : machine_holds (with_first with_place_kept same_leaf (without_items stale_load_start)) ≡ false
+  -- without items too a place that is kept for nothing breaks the rules of a bus
+  pub nothing_kept : judged (without_items stale_load_start) ≡ None
+  pub kept_for_nothing : judged (with_first with_place_kept same_leaf (without_items stale_load_start)) ≡ Some (BrokenRule 1 0)

@@ -2,7 +2,7 @@
 -- machine has whose places were filled.
 -- Letters: m is a machine, n how many items there are, v a leaf, d the directory over a bus.
 -- To be believed with the contracts: laws speak of it.
-use Rattle.std.specs.Prelude.{◌≡◌, ◌<◌, ℕ, Bool, true, ◌&&◌, nat_eq, nat_le, nat_lt, length}
+use Rattle.std.specs.Prelude.{◌≡◌, ℕ, Bool, true, ◌&&◌, nat_eq, nat_le, nat_lt, length}
 use Rattle.std.specs.List.{list_all}
 use Rattle.tree_model.specs.declared.Traffic.{Traffic}
 use Rattle.tree_model.specs.State.Values.{DirValue, Node, Nodes, leaf_node, dir_node, no_nodes, more_nodes, children, MachineValue, root_of}

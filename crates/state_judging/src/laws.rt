@@ -12,11 +12,9 @@ ghost use Rattle.state_reading.specs.Machine.{read_words};
 ghost use Rattle.state_judging.specs.Judged.{judged};
 ghost use Rattle.state_judging.specs.Read.{CanRead, IsRead};
 
-/// Words can be read into a machine before its first turn, if it has an item; and it has one where the image has memory.
+/// Words can be read into a machine before its first turn.
 pub fn started_machines_can_be_read()
-    ensures words { (t : TreeValue) (i : ImageValue) (m : MachineValue) → IsTree t → start_of t i ≡ Ok m → 0 < items_of_machine m → CanRead m }
-    ensures items { (t : TreeValue) (i : ImageValue) (m : MachineValue) (s : SegmentValue) (ss : List SegmentValue) → IsTree t → start_of t i ≡ Ok m → i.segments ≡ s ∷ ss → 0 < s.memsz
-        → 0 < items_of_machine m }
+    ensures { (t : TreeValue) (i : ImageValue) (m : MachineValue) → IsTree t → start_of t i ≡ Ok m → CanRead m }
 {}
 
 /// What is read into a machine before its first turn keeps, whatever the words are, what each part keeps by itself; and nothing that

@@ -13,6 +13,5 @@ returns c = record {
   taken_early = refl;
   same_key = refl;
   nothing_kept = refl;
-  nothing_judged = refl;
-  broken = refl;
+  kept_for_nothing = refl;
 }
