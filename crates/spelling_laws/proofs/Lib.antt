@@ -5,3 +5,6 @@ pub mod Ops
 pub mod Lists
 pub mod Records
 pub mod Dir
+pub mod Rows
+pub mod Standing
+pub mod Leaf
