@@ -1,7 +1,6 @@
 -- What is read of a directory is what is spelled of it.
-use Rattle.std.specs.Prelude.{◌≡◌, ℕ, ◌+◌, ◌-◌, Bool, not, nat_lt, ◌&&◌, List, [], ◌∷◌, ◌++◌, length, Ok, refl}
+use Rattle.std.specs.Prelude.{◌≡◌, ℕ, ◌-◌, Bool, not, nat_lt, ◌&&◌, List, length, Ok, refl}
 use Rattle.std.specs.List.{list_any}
-use Rattle.std.proofs.Common.{ap}
 use Rattle.tree_model.specs.State.Values.{CopyValue, DirValue}
 use Rattle.tree_model.specs.State.Leaf.{is_copy}
 use Rattle.tree_model.specs.State.Directory.{is_top}
@@ -39,21 +38,21 @@ dir-read n kids d k ws q e =
     step (listed d.sizes.parking_room (read_copy d.sizes.width (other_item n)) replies.at replies.rest) _ q e (λ parked is_parked e.
     word-step (is_to (d.sizes.parking_room - length parked.value)) parked.at parked.rest _ q e (λ reserved k8 ws8 w8 p8 e.
     ended (DirRead d k ws) (record {
-        value = record d { items = items.value.items; down = down.value; requests = requests.value; replies = replies.value; parked = parked.value; reserved = reserved; count = count; epoch = epoch.value };
-        at = k8;
-        rest = ws8;
-      }) q
-      (record {
-        spells =
-            spells-both w1 (spells-both (spells-both (spells-both (spells-both (spells-both (spells-both
-            (stamp-read d.level k1 ws1 epoch stamped)
-            ((records-read n kids (is_top d) epoch.at epoch.rest items recorded).spells))
-            (list-read down_words (read_down n d.level d.sizes.width) (down-read n d.level d.sizes.width) d.sizes.down_room items.at items.rest down is_down))
-            (list-read request_words (read_request n) (request-read n) d.sizes.request_room down.at down.rest requests is_requests))
-            (list-read item_and_words (read_copy d.sizes.width (any_item n)) (copy-read d.sizes.width (any_item n)) d.sizes.reply_room requests.at requests.rest replies is_replies))
-            (list-read item_and_words (read_copy d.sizes.width (other_item n)) (copy-read d.sizes.width (other_item n)) d.sizes.parking_room replies.at replies.rest parked is_parked))
-            w8);
-        bus = refl;
-        level = refl;
-        sizes = refl;
-      }) e))))))))
+      value = record d { items = items.value.items; down = down.value; requests = requests.value; replies = replies.value; parked = parked.value; reserved = reserved; count = count; epoch = epoch.value };
+      at = k8;
+      rest = ws8;
+    }) q
+    (record {
+      spells =
+          spells-both w1 (spells-both (spells-both (spells-both (spells-both (spells-both (spells-both
+          (stamp-read d.level k1 ws1 epoch stamped)
+          ((records-read n kids (is_top d) epoch.at epoch.rest items recorded).spells))
+          (list-read down_words (read_down n d.level d.sizes.width) (down-read n d.level d.sizes.width) d.sizes.down_room items.at items.rest down is_down))
+          (list-read request_words (read_request n) (request-read n) d.sizes.request_room down.at down.rest requests is_requests))
+          (list-read item_and_words (read_copy d.sizes.width (any_item n)) (copy-read d.sizes.width (any_item n)) d.sizes.reply_room requests.at requests.rest replies is_replies))
+          (list-read item_and_words (read_copy d.sizes.width (other_item n)) (copy-read d.sizes.width (other_item n)) d.sizes.parking_room replies.at replies.rest parked is_parked))
+          w8);
+      bus = refl;
+      level = refl;
+      sizes = refl;
+    }) e))))))))

@@ -1,12 +1,10 @@
 -- What is read of a hart is what is spelled of it.
-use Rattle.std.specs.Prelude.{◌≡◌, ℕ, zero, suc, ◌+◌, Bool, true, nat_eq, nat_le, ◌||◌, List, [], ◌∷◌, ◌++◌, length, Result, Ok, Err, refl}
-use Rattle.std.proofs.Common.{sym, ap, subst, arith}
-use Rattle.std.proofs.lemmas.Bool.{eqb-true, leb-true}
+use Rattle.std.specs.Prelude.{◌≡◌, ℕ, List, ◌∷◌, ◌++◌, Ok, refl}
+use Rattle.std.proofs.Common.{ap}
 use Rattle.tree_model.specs.State.Values.{LeafValue}
-use Rattle.state_reading.specs.Reading.{Read, any_word, words_that, word_that}
+use Rattle.state_reading.specs.Reading.{Read, any_word, words_that}
 use Rattle.state_reading.specs.Parts.{read_hart, halt_of, halt_has_number}
 use Rattle.state_words.specs.Parts.{hart_words}
-use Rattle.state_words.specs.Numbers.{halt_words}
 use Rattle.spelling_laws.specs.Spells.{Spells}
 use Rattle.spelling_laws.proofs.Numbers.{halt-spelled}
 use Rattle.spelling_laws.proofs.Steps.{is_count, is_to, is_if, step, word-step, ended, many-read, spells-both, spells-as}
@@ -26,12 +24,9 @@ hart-read v k ws q e =
     word-step (is_to 9) k2 ws2 _ q e (λ code k3 ws3 w3 p3 e.
     word-step (is_if (halt_has_number code)) k3 ws3 _ q e (λ number k4 ws4 w4 p4 e.
     ended (HartRead v k ws) (record { value = record v { hart = record { registers = 0 ∷ registers.value; pc = pc; halt = halt_of code number }; done = done }; at = k4; rest = ws4 }) q
-      (record {
-        spells = spells-as (ap (λ h. registers.value ++ pc ∷ done ∷ h) (halt-spelled code number p3 p4))
-            (spells-both (many-read any_word 31 k ws registers is) (spells-both w1 (spells-both w2 (spells-both w3 w4))));
-        number = refl;
-        sizes = refl;
-      }) e)))))
-
-pub hart-spelled : (v w : LeafValue) (k at : ℕ) (ws rest : List ℕ) → read_hart v k ws ≡ Ok (record { value = w; at = at; rest = rest }) → Spells k ws (hart_words w) at rest
-hart-spelled v w k at ws rest e = (hart-read v k ws (record { value = w; at = at; rest = rest }) e).spells
+    (record {
+      spells = spells-as (ap (λ h. registers.value ++ pc ∷ done ∷ h) (halt-spelled code number p3 p4))
+          (spells-both (many-read any_word 31 k ws registers is) (spells-both w1 (spells-both w2 (spells-both w3 w4))));
+      number = refl;
+      sizes = refl;
+    }) e)))))

@@ -1,21 +1,20 @@
 -- What is read of a leaf is what is spelled of it.
-use Rattle.std.specs.Prelude.{◌≡◌, ℕ, zero, suc, ◌+◌, ◌<◌, Bool, true, false, not, nat_eq, nat_lt, ◌&&◌, ◌||◌, List, [], ◌∷◌, ◌++◌, length, map, replicate, Option, None, Ok, Err, refl, if◌then◌else◌}
+use Rattle.std.specs.Prelude.{◌≡◌, ℕ, zero, suc, ◌+◌, ◌<◌, true, false, not, nat_eq, nat_lt, ◌&&◌, List, [], ◌∷◌, ◌++◌, length, map, replicate, None, Ok, Err, refl, if◌then◌else◌}
 use Rattle.std.specs.List.{flat_map, list_any}
 use Rattle.std.proofs.Common.{ap, sym, ◌∙◌, subst, arith, append-nil, append_assoc, length-append}
 use Rattle.std.proofs.lemmas.Bool.{and_parts, and_from, or_parts, not-true, not_from_false, ltb-true}
 use Rattle.std.proofs.lemmas.List.Concat.{flat_map-append}
 use Rattle.tree_model.specs.State.States.{is_reading}
 use Rattle.tree_model.specs.State.Shape.{are_distinct}
-use Rattle.tree_model.specs.State.Values.{BufferValue, CopyValue, LeafValue}
+use Rattle.tree_model.specs.State.Values.{BufferValue, LeafValue}
 use Rattle.state_reading.specs.declared.StateRefusal.TheVariants.{BrokenLeaf}
 use Rattle.state_reading.specs.Reading.{Read, any_word, given, times}
 use Rattle.state_reading.specs.Parts.{not_before, way_not_before, last_of, state_of, item_words, read_standing, read_buffered, read_copy, ways_with, standing_item, item_of_buffer, places_differ, is_whole_leaf, unless_broken, slot_of, reserved_of, read_leaf}
-use Rattle.state_words.specs.Numbers.{reserved_word, slot_words}
 use Rattle.state_words.specs.Parts.{StandingValue, counted, standing, standing_words, buffer_words, item_and_words, leaf_words}
 use Rattle.spelling_laws.specs.Spells.{Spells}
 use Rattle.spelling_laws.proofs.Numbers.{state-spelled, slot-spelled, reserved-spelled}
 use Rattle.spelling_laws.proofs.Lists.{item-words-read, copy-read}
-use Rattle.spelling_laws.proofs.Standing.{backwards, ways_of, InOrder, all-placed, standing-listed}
+use Rattle.spelling_laws.proofs.Standing.{backwards, InOrder, all-placed, standing-listed}
 use Rattle.spelling_laws.proofs.Steps.{Added, is_to, is_below, is_from_1, step, word-step, listed-read, ended, spells-none, spells-both, spells-as}
 
 -- ---- entries in ways
@@ -38,19 +37,19 @@ module _ (n : ℕ) (v : LeafValue) where
       let x_fits = and_parts (nat_lt x n) (not_before v.sizes.sets x (last_of ss)) p1 in
       let way_fits = and_parts (nat_lt way v.sizes.way_count) (way_not_before v.sizes.sets x way (last_of ss)) p2 in
       ended (StandingRead 1 ss k ws) (record { value = s ∷ ss; at = words.at; rest = words.rest }) q
-        (record {
-          words = standing_words s;
-          spells = spells-as (ap (λ c. x ∷ way ∷ c ∷ words.value) (state-spelled code p3)) (spells-both w1 (spells-both w2 (spells-both w3 (item-words-read (not (is_reading (state_of code))) v.sizes.width k3 ws3 words is))));
-          listed = flat_map-append standing_words (backwards ss) (s ∷ []) ∙ ap (λ l. flat_map standing_words (backwards ss) ++ l) (append-nil (standing_words s));
-          many = omega arith;
-          order = (record { inside = ltb-true x n x_fits.0; way = ltb-true way v.sizes.way_count way_fits.0; set_fits = x_fits.1; way_fits = way_fits.1 }, order);
-        }) e))))
+      (record {
+        words = standing_words s;
+        spells = spells-as (ap (λ c. x ∷ way ∷ c ∷ words.value) (state-spelled code p3)) (spells-both w1 (spells-both w2 (spells-both w3 (item-words-read (not (is_reading (state_of code))) v.sizes.width k3 ws3 words is))));
+        listed = flat_map-append standing_words (backwards ss) (s ∷ []) ∙ ap (λ l. flat_map standing_words (backwards ss) ++ l) (append-nil (standing_words s));
+        many = omega arith;
+        order = (record { inside = ltb-true x n x_fits.0; way = ltb-true way v.sizes.way_count way_fits.0; set_fits = x_fits.1; way_fits = way_fits.1 }, order);
+      }) e))))
 
   standing-times : (steps : ℕ) (ss : List StandingValue) (k : ℕ) (ws : List ℕ) (q : Read (List StandingValue)) → InOrder v.sizes.sets n v.sizes.way_count ss → times (read_standing n v) steps ss k ws ≡ Ok q → StandingRead steps ss k ws q
   unfolding times
   standing-times zero ss k ws q order e =
       ended (StandingRead zero ss k ws) (record { value = ss; at = k; rest = ws }) q
-        (record { words = []; spells = spells-none k ws; listed = sym (append-nil (flat_map standing_words (backwards ss))); many = omega arith; order = order }) e
+      (record { words = []; spells = spells-none k ws; listed = sym (append-nil (flat_map standing_words (backwards ss))); many = omega arith; order = order }) e
   standing-times (suc steps) ss k ws q order e =
       step (read_standing n v ss k ws) _ q e (λ one is e.
       let a = standing-read ss k ws one order is in
@@ -69,11 +68,11 @@ module _ (n : ℕ) (v : LeafValue) where
       step (item_words (not (is_reading (state_of code))) v.sizes.width k2 ws2) _ q e (λ words is e.
       let entry : BufferValue = record { item = x; state = state_of code; words = words.value } in
       ended (Added buffer_words es k ws) (record { value = es ++ entry ∷ []; at = words.at; rest = words.rest }) q
-        (record {
-          entry = entry;
-          value = refl;
-          spells = spells-as (ap (λ c. x ∷ c ∷ words.value) (state-spelled code p2)) (spells-both w1 (spells-both w2 (item-words-read (not (is_reading (state_of code))) v.sizes.width k2 ws2 words is)));
-        }) e)))
+      (record {
+        entry = entry;
+        value = refl;
+        spells = spells-as (ap (λ c. x ∷ c ∷ words.value) (state-spelled code p2)) (spells-both w1 (spells-both w2 (item-words-read (not (is_reading (state_of code))) v.sizes.width k2 ws2 words is)));
+      }) e)))
 
 -- ---- what was looked at last
 
@@ -139,7 +138,7 @@ leaf-read n v k ws q some_sets e =
     let list = standing-listed v.sizes.sets n v.sizes.way_count some_sets ss.value all in
     let count : many ≡ length (backwards ss.value) = omega (arith, s.many, backwards-many ss.value) in
     let standing_are : many ∷ s.words ≡ counted standing_words (standing v.sizes.sets w.ways v.sizes.way_count) =
-        ap (λ c. c ∷ s.words) count ∙ ap (λ l. length (backwards ss.value) ∷ l) (sym s.listed) ∙ ap (counted standing_words) (sym list) in
+    ap (λ c. c ∷ s.words) count ∙ ap (λ l. length (backwards ss.value) ∷ l) (sym s.listed) ∙ ap (counted standing_words) (sym list) in
     subst (LeafRead v k ws) whole.value (record {
       spells =
           spells-both (spells-as (ap (λ r. r ∷ []) (reserved-spelled reserved)) w1)

@@ -8,3 +8,7 @@ pub mod Dir
 pub mod Rows
 pub mod Standing
 pub mod Leaf
+pub mod BusNumbers
+pub mod Each
+pub mod Refilled
+pub mod Machine

@@ -1,7 +1,7 @@
 -- The numbers that stand for one of several, read and spelled again.
-use Rattle.std.specs.Prelude.{◌≡◌, ℕ, zero, suc, ◌+◌, ◌-◌, Bool, true, false, nat_eq, nat_lt, nat_le, ◌&&◌, ◌||◌, List, [], ◌∷◌, ◌++◌, Option, Some, None, refl, if◌then◌else◌}
-use Rattle.std.proofs.Common.{sym, ap, ◌∙◌, arith, inl, inr}
-use Rattle.std.proofs.lemmas.Bool.{eqb-true, eqb-false, leb-true, ltb-true, and_parts, or_cases}
+use Rattle.std.specs.Prelude.{◌≡◌, ℕ, zero, suc, ◌-◌, Bool, true, false, nat_eq, nat_lt, nat_le, ◌||◌, [], ◌∷◌, Some, None, refl, if◌then◌else◌}
+use Rattle.std.proofs.Common.{ap, arith, inl, inr}
+use Rattle.std.proofs.lemmas.Bool.{eqb-true, eqb-false, leb-true, and_parts, or_cases}
 use Rattle.tree_model.specs.State.Kinds.{kind_number}
 use Rattle.state_reading.specs.Parts.{halt_of, halt_has_number, state_of, slot_of, reserved_of, hold_of, note_of_words, kind_of, effect_size, effect_of}
 use Rattle.state_words.specs.Numbers.{halt_words, state_number, slot_words, reserved_word, hold_number, note_words, flag_number, effect_words}

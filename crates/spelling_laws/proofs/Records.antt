@@ -2,14 +2,13 @@
 use Rattle.std.specs.Prelude.{◌≡◌, ℕ, zero, suc, ◌+◌, ◌-◌, ◌<◌, ◌≤◌, Bool, true, false, not, nat_eq, nat_lt, nat_le, ◌&&◌, ◌||◌, List, [], ◌∷◌, ◌++◌, length, drop, replicate, slice_set, count_by, Option, Some, None, Ok, refl, if◌then◌else◌}
 use Rattle.std.specs.List.{list_all}
 use Rattle.std.proofs.Common.{ap, sym, ◌∙◌, subst, arith, append_assoc, append-nil, length-set, add-one, zero-add}
-use Rattle.std.proofs.lemmas.Bool.{eqb-true, eqb-false, leb-true, ltb-true, and_parts, and_from, cases_Bool}
+use Rattle.std.proofs.lemmas.Bool.{eqb-true, ltb-true, and_parts, and_from}
 use Rattle.std.proofs.lemmas.List.{drop-drop, length-replicate}
 use Rattle.std.proofs.lemmas.List.Sums.{sum_by-cons}
-use Rattle.ddm_types.specs.declared.sizes.Hold.{Hold}
-use Rattle.tree_model.specs.State.Values.{Note, DirItem, absent_item}
+use Rattle.tree_model.specs.State.Values.{DirItem}
 use Rattle.state_reading.specs.Reading.{Read, any_word, times}
 use Rattle.state_reading.specs.Parts.{hold_of, note_of_words, joins_fit, Recorded, comes_after, read_record, at_rest, read_records}
-use Rattle.state_words.specs.Numbers.{hold_number, note_words, flag_number}
+use Rattle.state_words.specs.Numbers.{hold_number, note_words}
 use Rattle.state_words.specs.Parts.{is_recorded, record_words, record_of, records_from, records}
 use Rattle.spelling_laws.specs.Spells.{Spells}
 use Rattle.spelling_laws.proofs.Numbers.{hold-spelled, note-spelled, flag-spelled}
@@ -150,23 +149,23 @@ module _ (n kids : ℕ) (top : Bool) where
       let all = and_parts (nat_le answering 1 && (not top || nat_eq answering 0)) (is_recorded top i) p6 in
       let few = (and_parts (nat_le answering 1) (not top || nat_eq answering 0) all.0).0 in
       let spelled : x ∷ hold ∷ note ∷ child ∷ joined ∷ answering ∷ [] ≡ record_words x i =
-          ap (λ h. x ∷ h ∷ note ∷ child ∷ joined ∷ answering ∷ []) (hold-spelled hold (hold-fits top hold p2))
-          ∙ ap (λ ns. x ∷ hold_number (hold_of hold) ∷ ns ++ answering ∷ []) (note-spelled note child joined p3 (λ none. eqb-true child 0 (if-then (nat_eq note 0) _ _ p4 none)) (λ alone. eqb-true joined 0 (if-else (nat_eq note 1 || nat_eq note 2) _ _ p5 alone)))
-          ∙ ap (λ f. x ∷ hold_number (hold_of hold) ∷ note_words (note_of_words note child joined) ++ f ∷ []) (flag-spelled answering few) in
+      ap (λ h. x ∷ h ∷ note ∷ child ∷ joined ∷ answering ∷ []) (hold-spelled hold (hold-fits top hold p2))
+      ∙ ap (λ ns. x ∷ hold_number (hold_of hold) ∷ ns ++ answering ∷ []) (note-spelled note child joined p3 (λ none. eqb-true child 0 (if-then (nat_eq note 0) _ _ p4 none)) (λ alone. eqb-true joined 0 (if-else (nat_eq note 1 || nat_eq note 2) _ _ p5 alone)))
+      ∙ ap (λ f. x ∷ hold_number (hold_of hold) ∷ note_words (note_of_words note child joined) ++ f ∷ []) (flag-spelled answering few) in
       ended (RecordsRead 1 r k ws) (record { value = record { last = Some x; items = slice_set r.items x i }; at = k6; rest = ws6 }) q
-        (record {
-          words = record_words x i;
-          spells = spells-as spelled (spells-both w1 (spells-both w2 (spells-both w3 (spells-both w4 (spells-both w5 w6)))));
-          items = record-more top 0 x r.items i inside at all.1 ∙ ap (λ y. records_from top 0 r.items ++ record_words y i) (zero-add x);
-          counts = count-more top x r.items i inside at all.1;
-          whole = record { many = length-set r.items x i ∙ ok.many; behind = subst (λ y. all_rest top (drop y (slice_set r.items x i)) ≡ true) (sym (add-one x)) (drop-past top x r.items i at) };
-        }) e))))))
+      (record {
+        words = record_words x i;
+        spells = spells-as spelled (spells-both w1 (spells-both w2 (spells-both w3 (spells-both w4 (spells-both w5 w6)))));
+        items = record-more top 0 x r.items i inside at all.1 ∙ ap (λ y. records_from top 0 r.items ++ record_words y i) (zero-add x);
+        counts = count-more top x r.items i inside at all.1;
+        whole = record { many = length-set r.items x i ∙ ok.many; behind = subst (λ y. all_rest top (drop y (slice_set r.items x i)) ≡ true) (sym (add-one x)) (drop-past top x r.items i at) };
+      }) e))))))
 
   records-times : (steps : ℕ) (r : Recorded) (k : ℕ) (ws : List ℕ) (q : Read Recorded) → IsRecorded r → times (read_record n kids top) steps r k ws ≡ Ok q → RecordsRead steps r k ws q
   unfolding times
   records-times zero r k ws q ok e =
       ended (RecordsRead zero r k ws) (record { value = r; at = k; rest = ws }) q
-        (record { words = []; spells = spells-none k ws; items = sym (append-nil (records_from top 0 r.items)); counts = omega arith; whole = ok }) e
+      (record { words = []; spells = spells-none k ws; items = sym (append-nil (records_from top 0 r.items)); counts = omega arith; whole = ok }) e
   records-times (suc steps) r k ws q ok e =
       step (read_record n kids top r k ws) _ q e (λ one is e.
       let a = record-read r k ws one ok is in

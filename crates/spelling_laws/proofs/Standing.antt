@@ -1,8 +1,8 @@
 -- Entries that were read in order of their sets and ways stand in the ways, and are listed from there in that order.
 -- Letters: s and t are entries with their items, ss those that were read, the last one first.
-use Rattle.std.specs.Prelude.{◌≡◌, ℕ, zero, suc, ◌+◌, ◌%◌, ◌<◌, ◌≤◌, Bool, true, false, not, nat_eq, nat_lt, nat_le, ◌&&◌, ◌||◌, List, [], ◌∷◌, ◌++◌, length, map, replicate, find, filter_map, option_to_list, option_map, slice_set, slice_index_or, Option, Some, None, Ok, refl, if◌then◌else◌}
+use Rattle.std.specs.Prelude.{◌≡◌, ℕ, zero, suc, ◌+◌, ◌%◌, ◌<◌, ◌≤◌, Bool, true, false, not, nat_eq, nat_lt, nat_le, ◌&&◌, List, [], ◌∷◌, ◌++◌, length, map, replicate, find, option_to_list, option_map, slice_set, slice_index_or, Option, Some, None, refl, if◌then◌else◌}
 use Rattle.std.specs.List.{list_any, flat_map, range_with_len}
-use Rattle.std.proofs.Common.{ap, sym, ◌∙◌, subst, arith, append_assoc, append-nil, length-set, get_or-set_same, get_or-set_other, cond, inl, inr, zero-add}
+use Rattle.std.proofs.Common.{ap, sym, ◌∙◌, subst, arith, length-set, get_or-set_same, get_or-set_other, cond, inl, inr, zero-add}
 use Rattle.std.proofs.Math.Path.{fun_ext}
 use Rattle.std.proofs.Math.Nat.{mod-eq_of_lt}
 use Rattle.std.proofs.lemmas.List.{length-replicate, get_or-replicate, get_or_past}
@@ -12,8 +12,8 @@ use Rattle.tree_model.specs.State.Values.{WayValue}
 use Rattle.tree_model.specs.State.Shape.{are_distinct}
 use Rattle.tree_model.specs.State.Leaf.{way_at, stands_in, item_in_way}
 use Rattle.state_words.specs.Parts.{StandingValue, standing_of, standing_at, standing_in, standing}
-use Rattle.state_reading.specs.Parts.{not_before, way_not_before, last_of, with_standing, ways_with, standing_item, same_place, places_differ}
-use Rattle.spelling_laws.proofs.Rows.{filter_map-flat, nothing-along, OneGrows, one-grows}
+use Rattle.state_reading.specs.Parts.{not_before, way_not_before, last_of, ways_with, standing_item, same_place, places_differ}
+use Rattle.spelling_laws.proofs.Rows.{filter_map-flat, nothing-along, one-grows}
 
 abbrev pub backwards : List StandingValue → List StandingValue
 backwards [] = []
@@ -132,11 +132,11 @@ module _ (sets n way_count : ℕ) where
       let o = or_parts (same_place sets s t) (list_any (same_place sets s) ss) alone in
       let p = and_parts (nat_eq (s.item % sets) (set % sets)) (nat_eq s.entry.way way) there in
       let other : at_place set way t ≡ false = false_from_ne_true _ (λ e.
-          let r = and_parts (nat_eq (t.item % sets) (set % sets)) (nat_eq t.entry.way way) e in
-          let same_set : s.item % sets ≡ t.item % sets = eqb-true _ _ p.0 ∙ sym (eqb-true _ _ r.0) in
-          let same_way : s.entry.way ≡ t.entry.way = eqb-true _ _ p.1 ∙ sym (eqb-true _ _ r.1) in
-          let both : same_place sets s t ≡ true = and_from _ _ (eq-eqb _ _ same_set) (eq-eqb _ _ same_way) in
-          let no = o.0 in cc) in
+      let r = and_parts (nat_eq (t.item % sets) (set % sets)) (nat_eq t.entry.way way) e in
+      let same_set : s.item % sets ≡ t.item % sets = eqb-true _ _ p.0 ∙ sym (eqb-true _ _ r.0) in
+      let same_way : s.entry.way ≡ t.entry.way = eqb-true _ _ p.1 ∙ sym (eqb-true _ _ r.1) in
+      let both : same_place sets s t ≡ true = and_from _ _ (eq-eqb _ _ same_set) (eq-eqb _ _ same_way) in
+      let no = o.0 in cc) in
       rw other (alone-there set way s ss o.1 there)
 
   absent : (x : ℕ) (ss : List StandingValue) → list_any (nat_eq x) (map standing_item ss) ≡ false → way_at x (ways_of n ss) ≡ None
@@ -210,15 +210,15 @@ module _ (sets n way_count : ℕ) where
       let o = or_parts (same_place sets s t) (list_any (same_place sets s) ss) alone in
       let p = order.0 in
       let other : at_place set way t ≡ false = false_from_ne_true _ (λ e.
-          let r = and_parts (nat_eq (t.item % sets) (set % sets)) (nat_eq t.entry.way way) e in
-          let t_set : t.item % sets ≡ set = eqb-true _ _ r.0 ∙ whole in
-          let t_way : t.entry.way ≡ way = eqb-true _ _ r.1 in
-          let same_set : s.item % sets ≡ t.item % sets = omega (arith, t_set, p.set, after) in
-          let below : s.entry.way ≤ way = behind (omega (arith, same_set, t_set)) in
-          let above : t.entry.way ≤ s.entry.way = p.way (omega (arith, same_set)) in
-          let same_way : s.entry.way ≡ t.entry.way = omega (arith, t_way, below, above) in
-          let both : same_place sets s t ≡ true = and_from _ _ (eq-eqb _ _ same_set) (eq-eqb _ _ same_way) in
-          let no = o.0 in cc) in
+      let r = and_parts (nat_eq (t.item % sets) (set % sets)) (nat_eq t.entry.way way) e in
+      let t_set : t.item % sets ≡ set = eqb-true _ _ r.0 ∙ whole in
+      let t_way : t.entry.way ≡ way = eqb-true _ _ r.1 in
+      let same_set : s.item % sets ≡ t.item % sets = omega (arith, t_set, p.set, after) in
+      let below : s.entry.way ≤ way = behind (omega (arith, same_set, t_set)) in
+      let above : t.entry.way ≤ s.entry.way = p.way (omega (arith, same_set)) in
+      let same_way : s.entry.way ≡ t.entry.way = omega (arith, t_way, below, above) in
+      let both : same_place sets s t ≡ true = and_from _ _ (eq-eqb _ _ same_set) (eq-eqb _ _ same_way) in
+      let no = o.0 in cc) in
       rw other (none-at set way s ss order.1 o.1 whole after behind)
 
   module _ (some_sets : 0 < sets) where
@@ -232,8 +232,8 @@ module _ (sets n way_count : ℕ) where
     elsewhere : (set way : ℕ) (s : StandingValue) (ss : List StandingValue) → (s.item % sets ≡ set % sets → s.entry.way ≡ way → ⊥) → at (s ∷ ss) set way ≡ at ss set way
     elsewhere set way s ss other =
         let no : at_place set way s ≡ false = false_from_ne_true _ (λ e.
-            let r = and_parts (nat_eq (s.item % sets) (set % sets)) (nat_eq s.entry.way way) e in
-            other (eqb-true _ _ r.0) (eqb-true _ _ r.1)) in
+        let r = and_parts (nat_eq (s.item % sets) (set % sets)) (nat_eq s.entry.way way) e in
+        other (eqb-true _ _ r.0) (eqb-true _ _ r.1)) in
         rw no refl
 
     abbrev in_row : List StandingValue → ℕ → ℕ → List StandingValue
@@ -281,5 +281,5 @@ module _ (sets n way_count : ℕ) where
     unfolding standing standing_in
     standing-listed ss all =
         let each : (set : ℕ) → standing_in sets (ways_of n ss) way_count set ≡ row ss set = λ set.
-            filter_map-flat (standing_at sets (ways_of n ss) set) (range_with_len 0 way_count) ∙ ap (λ f. flat_map f (range_with_len 0 way_count)) (fun_ext (λ way. ap (λ o. option_to_list o) (standing-there ss all set way))) in
+        filter_map-flat (standing_at sets (ways_of n ss) set) (range_with_len 0 way_count) ∙ ap (λ f. flat_map f (range_with_len 0 way_count)) (fun_ext (λ way. ap (λ o. option_to_list o) (standing-there ss all set way))) in
         ap (λ f. flat_map f (range_with_len 0 sets)) (fun_ext each) ∙ rows-listed ss all

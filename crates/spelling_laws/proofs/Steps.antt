@@ -6,7 +6,7 @@ use Rattle.std.proofs.Common.{sym, ◌∙◌, ap, subst, append_assoc, append-ni
 use Rattle.state_reading.specs.declared.StateRefusal.{StateRefusal}
 use Rattle.state_reading.specs.declared.StateRefusal.TheVariants.{BadWord}
 use Rattle.state_reading.specs.Reading.{Read, and_then, given, times, word_that, words_that}
-use Rattle.state_reading.specs.Parts.{most_counted, word_to, listed}
+use Rattle.state_reading.specs.Parts.{most_counted, listed}
 use Rattle.state_words.specs.Parts.{counted}
 use Rattle.spelling_laws.specs.Spells.{Spells}
 

@@ -1,12 +1,14 @@
 //! The words of a checkpoint and a machine determine each other, as theorems: there is nothing to run.
 
-ghost use Rattle.std.specs.Prelude.{◌≡◌, ℕ, List, Ok, length};
-ghost use Rattle.tree_model.specs.State.Values.{LeafValue};
-ghost use Rattle.state_reading.specs.Parts.{read_hart};
-ghost use Rattle.state_words.specs.Parts.{hart_words};
-ghost use Rattle.spelling_laws.specs.Spells.{Spells};
+ghost use Rattle.std.specs.Prelude.{◌≡◌, ℕ, ◌+◌, List, ◌++◌, length, Ok};
+ghost use Rattle.tree_model.specs.State.Values.{MachineValue};
+ghost use Rattle.state_words.specs.Machine.{state_words};
+ghost use Rattle.state_reading.specs.Machine.{read_words};
+ghost use Rattle.state_judging.specs.Read.{CanRead};
 
-/// The words of a hart that is read are those of the hart.
-pub fn read_harts_are_spelled()
-    ensures { (v w : LeafValue) (k at : ℕ) (ws rest : List ℕ) → read_hart v k ws ≡ Ok (record { value = w; at = at; rest = rest }) → Spells k ws (hart_words w) at rest }
+/// Words that are read into a machine are those that are spelled of what was read: a state has one spelling.
+pub fn accepted_words_are_spelled()
+    ensures words { (fresh m : MachineValue) (retired k at : ℕ) (ws rest : List ℕ) → CanRead fresh → read_words fresh retired k ws ≡ Ok (record { value = m; at = at; rest = rest }) → ws ≡ state_words m ++ rest }
+    ensures next { (fresh m : MachineValue) (retired k at : ℕ) (ws rest : List ℕ) → CanRead fresh → read_words fresh retired k ws ≡ Ok (record { value = m; at = at; rest = rest }) → at ≡ k + length (state_words m) }
+    ensures completed { (fresh m : MachineValue) (retired k at : ℕ) (ws rest : List ℕ) → CanRead fresh → read_words fresh retired k ws ≡ Ok (record { value = m; at = at; rest = rest }) → length m.ops ≡ retired }
 {}
