@@ -1,0 +1,11 @@
+pub mod Lists
+pub mod Words
+pub mod Instructions
+pub mod LeafForm
+pub mod DirForm
+pub mod ChildForm
+pub mod BusForm
+pub mod HartForm
+pub mod TurnForm
+pub mod StartForm
+pub mod RunForm
