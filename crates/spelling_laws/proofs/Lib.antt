@@ -12,3 +12,10 @@ pub mod BusNumbers
 pub mod Each
 pub mod Refilled
 pub mod Machine
+pub mod Taken
+pub mod Codes
+pub mod HartTaken
+pub mod OpsTaken
+pub mod ListsTaken
+pub mod RecordsTaken
+pub mod DirTaken
