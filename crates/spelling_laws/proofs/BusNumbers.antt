@@ -11,7 +11,7 @@ use Rattle.tree_model.proofs.Tests.{and-first, and-second}
 
 -- ---- the numbers in the tree
 
-same-test : (a b : ℕ) → nat_eq a b ≡ nat_eq b a
+pub same-test : (a b : ℕ) → nat_eq a b ≡ nat_eq b a
 same-test a b =
     elim (nat_eq a b) as (λ t. nat_eq a b ≡ t → t ≡ nat_eq b a) [
       | true ↦ λ e. sym (eq-eqb b a (sym (eqb-true a b e)))

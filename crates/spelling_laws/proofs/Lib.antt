@@ -19,3 +19,4 @@ pub mod OpsTaken
 pub mod ListsTaken
 pub mod RecordsTaken
 pub mod DirTaken
+pub mod Grouped
