@@ -20,3 +20,6 @@ pub mod ListsTaken
 pub mod RecordsTaken
 pub mod DirTaken
 pub mod Grouped
+pub mod Listed
+pub mod LeafWhole
+pub mod LeafTaken
