@@ -23,3 +23,5 @@ pub mod Grouped
 pub mod Listed
 pub mod LeafWhole
 pub mod LeafTaken
+pub mod ByNumber
+pub mod Frames
