@@ -1,10 +1,10 @@
 -- The leaves and directories of a tree as lists: each one is found by its number, and what holds of each in the list holds of each in the
 -- tree.
 -- Letters: n is a node, ns are nodes, o is a directory with the number of its children.
-use Rattle.std.specs.Prelude.{◌≡◌, ℕ, zero, suc, ◌+◌, ◌<◌, Bool, true, false, not, nat_eq, nat_lt, ◌&&◌, ◌||◌, List, [], ◌∷◌, ◌++◌, length, map, find, Option, Some, None, is_some, slice_index_or, refl, if◌then◌else◌}
-use Rattle.std.specs.List.{AllByRecursion, list_any, list_all, range_with_len}
-use Rattle.std.proofs.Common.{ap, sym, ◌∙◌, subst, arith, append_assoc, length-append, cond, true≢false}
-use Rattle.std.proofs.lemmas.List.{get_or_at, length-map, ext_get_or, get_or_default}
+use Rattle.std.specs.Prelude.{◌≡◌, ℕ, zero, suc, ◌+◌, ◌<◌, Bool, true, false, not, nat_eq, nat_lt, List, [], ◌∷◌, ◌++◌, length, map, find, Option, Some, None, is_some, slice_index_or, refl, if◌then◌else◌}
+use Rattle.std.specs.List.{AllByRecursion, list_any, range_with_len}
+use Rattle.std.proofs.Common.{ap, sym, ◌∙◌, subst, arith, append_assoc, length-append, cond}
+use Rattle.std.proofs.lemmas.List.{get_or_at, ext_get_or}
 use Rattle.std.proofs.lemmas.Bool.{eqb-true, eq-eqb, ltb-true, and_parts, or_parts, not-true}
 use Rattle.tree_model.specs.State.Lists.{first_some}
 use Rattle.tree_model.specs.State.Values.{LeafValue, DirValue, Node, Nodes, leaf_node, dir_node, no_nodes, more_nodes, children, MachineValue, root_of}
@@ -13,7 +13,6 @@ use Rattle.tree_model.specs.State.Shape.{IsShaped, skeleton, skeletons, buses_of
 use Rattle.tree_model.specs.Turns.Tree.{bus_of_number, has_node, of_dir, read_in, read_among}
 use Rattle.tree_model.specs.Turns.Machine.{leaves_of, leaves_among, machine_leaves}
 use Rattle.tree_model.proofs.NamedNode.{read_in-is_some}
-use Rattle.spelling_laws.proofs.BusNumbers.{same-test}
 use Rattle.spelling_laws.proofs.Refilled.{DirOver, bus_asked, number_of, leaves-counted}
 
 abbrev pub over_bus : DirOver → ℕ
@@ -102,9 +101,10 @@ dirs-found : (m : MachineValue) (before after : List DirOver) → before ++ afte
 dirs-found m before [] is differ below = tt
 dirs-found m before (o ∷ after) is differ below =
     let p = and_parts (nat_lt o.0.bus (length m.traffic)) (are_below (length m.traffic) (map over_bus after)) below in
-    let found = found-behind before o after (subst (λ l. are_distinct (map over_bus l) ≡ true) (sym is) differ) in
-    (record { asked = sym (asked-named m o.0.bus) ∙ subst (λ l. find (λ p. nat_eq p.0.bus o.0.bus) l ≡ Some o) is found; below = ltb-true o.0.bus (length m.traffic) p.0 },
-     dirs-found m (before ++ o ∷ []) after (append_assoc before (o ∷ []) after ∙ is) differ p.1)
+    let found = found-behind before o after (subst (λ l. are_distinct (map over_bus l) ≡ true) (sym is) differ) in (
+      record { asked = sym (asked-named m o.0.bus) ∙ subst (λ l. find (λ p. nat_eq p.0.bus o.0.bus) l ≡ Some o) is found; below = ltb-true o.0.bus (length m.traffic) p.0 },
+      dirs-found m (before ++ o ∷ []) after (append_assoc before (o ∷ []) after ∙ is) differ p.1,
+    )
 
 pub all-dirs-found : (m : MachineValue) → IsShaped m → AllByRecursion (DirFound m) (machine_dirs m)
 all-dirs-found m shaped =
@@ -122,9 +122,10 @@ leaves-placed : (m : MachineValue) (before after : List LeafValue) (j : ℕ) →
 leaves-placed m before [] j size is counted = tt
 leaves-placed m before (v ∷ after) j size is counted =
     let p = and_parts (nat_eq v.number j) (count_from (j + 1) (map number_of after)) counted in
-    let at : length before ≡ v.number = size ∙ sym (eqb-true v.number j p.0) in
-    ((λ d. subst (λ l. slice_index_or l v.number d ≡ v) is (get_or_at before v after d v.number at)),
-     leaves-placed m (before ++ v ∷ []) after (j + 1) (omega (arith, size, length-append before (v ∷ []))) (append_assoc before (v ∷ []) after ∙ is) p.1)
+    let at : length before ≡ v.number = size ∙ sym (eqb-true v.number j p.0) in (
+      (λ d. subst (λ l. slice_index_or l v.number d ≡ v) is (get_or_at before v after d v.number at)),
+      leaves-placed m (before ++ v ∷ []) after (j + 1) (omega (arith, size, length-append before (v ∷ []))) (append_assoc before (v ∷ []) after ∙ is) p.1,
+    )
 
 pub all-leaves-placed : (m : MachineValue) → IsShaped m → AllByRecursion (IsPlaced m) (machine_leaves m)
 all-leaves-placed m shaped = leaves-placed m [] (machine_leaves m) 0 refl refl (leaves-counted m shaped)

@@ -1,7 +1,7 @@
 -- A directory that is spelled is read again, into one of its bus, level and sizes.
-use Rattle.std.specs.Prelude.{◌≡◌, ℕ, ◌+◌, ◌-◌, ◌≤◌, Bool, true, false, not, nat_eq, nat_lt, nat_le, ◌&&◌, ◌||◌, List, [], ◌∷◌, ◌++◌, length, map, Option, Ok, refl}
+use Rattle.std.specs.Prelude.{◌≡◌, ℕ, ◌+◌, ◌-◌, ◌≤◌, Bool, true, false, not, nat_eq, nat_lt, nat_le, List, [], ◌∷◌, ◌++◌, length, map, refl}
 use Rattle.std.specs.List.{AllByRecursion, list_all, list_any}
-use Rattle.std.proofs.Common.{ap, sym, ◌∙◌, subst, arith, append_assoc}
+use Rattle.std.proofs.Common.{ap, ◌∙◌, subst, arith, append_assoc}
 use Rattle.std.proofs.lemmas.Bool.{eqb-true, le-leb, leb-true, and_parts, and_from, or_parts, not-true, not_from_false}
 use Rattle.tree_model.specs.State.Kinds.{brings_copy}
 use Rattle.tree_model.specs.State.Values.{RequestValue, CopyValue, DownValue, DirItem, DirValue}
@@ -16,14 +16,13 @@ use Rattle.state_reading.specs.Parts.{most_counted, listed, read_records, read_d
 use Rattle.state_words.specs.Numbers.{stamp_words}
 use Rattle.state_words.specs.Parts.{counted, dir_words, down_words, request_words, item_and_words, records}
 use Rattle.value_laws.specs.Values.{DirHasForm, DownHasForm, RequestHasForm, CopyHasForm}
-use Rattle.spelling_laws.specs.Spells.{Spells}
 use Rattle.spelling_laws.proofs.BusNumbers.{same-test}
 use Rattle.spelling_laws.proofs.Dir.{any_item, other_item}
 use Rattle.spelling_laws.proofs.Grouped.{seven-grouped}
 use Rattle.spelling_laws.proofs.ListsTaken.{stamp-taken, copy-taken, request-taken, down-taken}
 use Rattle.spelling_laws.proofs.RecordsTaken.{suits_top, ItemSuits, items-taken}
 use Rattle.spelling_laws.proofs.Steps.{is_count, is_to, spells-as}
-use Rattle.spelling_laws.proofs.Taken.{Takes, AllTaken, take, take-part, take-word, taken-all, list-taken}
+use Rattle.spelling_laws.proofs.Taken.{Takes, AllTaken, take-part, take-word, taken-all, list-taken}
 
 -- ---- the entries of lists
 
@@ -118,13 +117,13 @@ module _ (n kids : ℕ) (d : DirValue) (spelled : DirSpelled n kids d) where
       take-part (reading.stamp_words d.level) k1 ws1 _ _ (stamp_words d.epoch) d.epoch (stamp-taken d.level d.epoch spelled.epoch) epoch_end at rest s1 (λ k2 ws2 s2.
       take-part (read_records n kids (is_top d)) k2 ws2 _ _ (records (is_top d) d.items) (record { last = items.last; items = d.items }) items.takes items_end at rest s2 (λ k3 ws3 s3.
       take-part (listed d.sizes.down_room (read_down n d.level d.sizes.width)) k3 ws3 _ _ (counted down_words d.down) d.down
-        (list-taken down_words (read_down n d.level d.sizes.width) d.sizes.down_room d.down (leb-true _ _ l1.0) (downs-taken n d.sizes.width d.level most_counted [] d.down (ok.each down_entries) form.down spelled.stamps)) down_end at rest s3 (λ k4 ws4 s4.
+      (list-taken down_words (read_down n d.level d.sizes.width) d.sizes.down_room d.down (leb-true _ _ l1.0) (downs-taken n d.sizes.width d.level most_counted [] d.down (ok.each down_entries) form.down spelled.stamps)) down_end at rest s3 (λ k4 ws4 s4.
       take-part (listed d.sizes.request_room (read_request n)) k4 ws4 _ _ (counted request_words d.requests) d.requests
-        (list-taken request_words (read_request n) d.sizes.request_room d.requests (leb-true _ _ l2.0) (requests-taken n d.sizes.width [] d.requests (ok.each dir_requests) form.requests)) requests_end at rest s4 (λ k5 ws5 s5.
+      (list-taken request_words (read_request n) d.sizes.request_room d.requests (leb-true _ _ l2.0) (requests-taken n d.sizes.width [] d.requests (ok.each dir_requests) form.requests)) requests_end at rest s4 (λ k5 ws5 s5.
       take-part (listed d.sizes.reply_room (read_copy d.sizes.width (any_item n))) k5 ws5 _ _ (counted item_and_words d.replies) d.replies
-        (list-taken item_and_words (read_copy d.sizes.width (any_item n)) d.sizes.reply_room d.replies (leb-true _ _ l3.0) (copies-taken n d.sizes.width [] d.replies (ok.each dir_replies) form.replies)) replies_end at rest s5 (λ k6 ws6 s6.
+      (list-taken item_and_words (read_copy d.sizes.width (any_item n)) d.sizes.reply_room d.replies (leb-true _ _ l3.0) (copies-taken n d.sizes.width [] d.replies (ok.each dir_replies) form.replies)) replies_end at rest s5 (λ k6 ws6 s6.
       take-part (listed d.sizes.parking_room (read_copy d.sizes.width (other_item n))) k6 ws6 _ _ (counted item_and_words d.parked) d.parked
-        (list-taken item_and_words (read_copy d.sizes.width (other_item n)) d.sizes.parking_room d.parked (omega (arith, room)) (parked-taken n d.sizes.width [] d.parked (ok.each parked_fit) form.parked (ok.each parked_once))) parked_end at rest s6 (λ k7 ws7 s7.
+      (list-taken item_and_words (read_copy d.sizes.width (other_item n)) d.sizes.parking_room d.parked (omega (arith, room)) (parked-taken n d.sizes.width [] d.parked (ok.each parked_fit) form.parked (ok.each parked_once))) parked_end at rest s6 (λ k7 ws7 s7.
       take-word (is_to (d.sizes.parking_room - length d.parked)) k7 ws7 _ _ d.reserved (le-leb _ _ (omega (arith, room))) [] at rest s7 (λ k8 ws8 s8. taken-all _ k8 at ws8 rest s8))))))))
 
   pub dir-taken : (e : DirValue) → d.bus ≡ e.bus → d.level ≡ e.level → d.sizes ≡ e.sizes → Takes (read_dir n kids e) (dir_words d) d

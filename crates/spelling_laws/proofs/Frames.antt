@@ -1,8 +1,8 @@
 -- Two trees of one skeleton: their leaves have the same numbers and sizes one by one, and so have their directories by their numbers.
 -- Letters: n and p are nodes, ns and ps are nodes in a row.
-use Rattle.std.specs.Prelude.{◌≡◌, ℕ, zero, suc, ◌+◌, ◌<◌, Bool, true, false, nat_eq, ◌&&◌, ◌||◌, List, [], ◌∷◌, length, map, Option, Some, None, option_map, slice_index_or, refl, if◌then◌else◌}
-use Rattle.std.proofs.Common.{ap, sym, ◌∙◌, subst, arith}
-use Rattle.tree_model.specs.State.Values.{LeafValue, DirValue, LeafSizes, DirSizes, Node, Nodes, leaf_node, dir_node, no_nodes, more_nodes, children, MachineValue, root_of}
+use Rattle.std.specs.Prelude.{◌≡◌, ℕ, ◌+◌, Bool, true, false, nat_eq, ◌||◌, List, [], ◌∷◌, length, Option, Some, None, option_map, slice_index_or, refl, if◌then◌else◌}
+use Rattle.std.proofs.Common.{ap, sym, ◌∙◌, arith}
+use Rattle.tree_model.specs.State.Values.{LeafValue, DirValue, DirSizes, Node, Nodes, leaf_node, dir_node, no_nodes, more_nodes, children}
 use Rattle.tree_model.specs.State.Place.{Where, at_top, at_child, where_path, spot_in}
 use Rattle.tree_model.specs.State.Shape.{Skeleton, Skeletons, leaf_bone, dir_bone, no_bones, more_bones, skeleton, skeletons, bone_count}
 use Rattle.tree_model.specs.Turns.Tree.{bus_of_number, has_node, has_among, of_dir, read_in, read_among}
@@ -84,7 +84,7 @@ module _ (k : ℕ) where
     face-asked other w (leaf_node v) = refl
     face-asked other w (dir_node d ns) =
         elim (nat_eq d.bus k) as (λ b. option_map face_of (if b then Some (d, length (children ns)) else read_among (bus_of_number k) (asked other) (where_path w) d 0 ns)
-            ≡ (if b then Some (record { bus = d.bus; level = d.level; sizes = d.sizes; kids = bone_count (skeletons ns) }) else bones_face (skeletons ns))) [
+        ≡ (if b then Some (record { bus = d.bus; level = d.level; sizes = d.sizes; kids = bone_count (skeletons ns) }) else bones_face (skeletons ns))) [
           | true ↦ ap (λ c. Some (record { bus = d.bus; level = d.level; sizes = d.sizes; kids = c })) (kids-counted ns)
           | false ↦ face-asked_among other (where_path w) d 0 ns
         ]
@@ -94,7 +94,7 @@ module _ (k : ℕ) where
     face-asked_among other path d i (more_nodes n ns) =
         ap (λ b. option_map face_of (if b then read_in (bus_of_number k) (asked other) (at_child (spot_in path d i)) n else read_among (bus_of_number k) (asked other) path d (i + 1) ns)) (has-bone n)
         ∙ (elim (bone_has (skeleton n)) as (λ b. option_map face_of (if b then read_in (bus_of_number k) (asked other) (at_child (spot_in path d i)) n else read_among (bus_of_number k) (asked other) path d (i + 1) ns)
-            ≡ (if b then bone_face (skeleton n) else bones_face (skeletons ns))) [
+        ≡ (if b then bone_face (skeleton n) else bones_face (skeletons ns))) [
           | true ↦ face-asked other (at_child (spot_in path d i)) n
           | false ↦ face-asked_among other path d (i + 1) ns
         ])

@@ -1,14 +1,13 @@
 -- A hart that is spelled is read again.
-use Rattle.std.specs.Prelude.{◌≡◌, ℕ, zero, suc, ◌+◌, ◌≤◌, Bool, true, List, [], ◌∷◌, ◌++◌, length, drop, slice_index, Ok, refl}
+use Rattle.std.specs.Prelude.{◌≡◌, ℕ, ◌≤◌, true, List, [], ◌∷◌, ◌++◌, length, drop, slice_index, Ok, refl}
 use Rattle.std.specs.List.{list_all}
-use Rattle.std.proofs.Common.{sym, ap, ◌∙◌, subst, arith}
+use Rattle.std.proofs.Common.{sym, ap, ◌∙◌, arith}
 use Rattle.std.proofs.lemmas.Bool.{le-leb}
 use Rattle.tree_model.specs.State.Values.{LeafValue}
 use Rattle.state_reading.specs.Reading.{any_word, words_that}
 use Rattle.state_reading.specs.Parts.{most_counted, read_hart, halt_of, halt_has_number}
 use Rattle.state_words.specs.Parts.{hart_words}
 use Rattle.value_laws.specs.Values.{HartHasForm}
-use Rattle.spelling_laws.specs.Spells.{Spells}
 use Rattle.spelling_laws.proofs.Codes.{halt-coded}
 use Rattle.spelling_laws.proofs.Steps.{is_count, is_to, is_if, spells-as}
 use Rattle.spelling_laws.proofs.Taken.{Takes, take-part, take-word, taken-all, words-taken}

@@ -1,8 +1,8 @@
 -- A leaf that is spelled is read again, into one of its number and sizes with its hart.
-use Rattle.std.specs.Prelude.{◌≡◌, ℕ, zero, suc, ◌+◌, ◌<◌, ◌≤◌, Bool, true, false, not, nat_eq, nat_lt, nat_le, ◌&&◌, ◌||◌, List, [], ◌∷◌, ◌++◌, length, map, replicate, Option, Some, None, is_none, Ok, Err, refl, if◌then◌else◌}
+use Rattle.std.specs.Prelude.{◌≡◌, ℕ, zero, suc, ◌+◌, ◌<◌, ◌≤◌, true, not, nat_eq, nat_lt, nat_le, ◌&&◌, List, [], ◌∷◌, ◌++◌, length, replicate, Option, Some, None, is_none, Ok, Err, refl, if◌then◌else◌}
 use Rattle.std.specs.List.{AllByRecursion, flat_map, list_all}
-use Rattle.std.proofs.Common.{ap, sym, ◌∙◌, subst, arith, append_assoc}
-use Rattle.std.proofs.lemmas.Bool.{eqb-true, ltb-true, lt-ltb, le-leb, leb-true, and_parts, and_from, not-false}
+use Rattle.std.proofs.Common.{ap, sym, ◌∙◌, subst, arith}
+use Rattle.std.proofs.lemmas.Bool.{ltb-true, lt-ltb, le-leb, and_parts, and_from, not-false}
 use Rattle.ddm_types.specs.declared.sizes.LeafState.{LeafState}
 use Rattle.tree_model.specs.State.States.{is_reading}
 use Rattle.tree_model.specs.State.Lists.{all_from}
@@ -10,12 +10,11 @@ use Rattle.tree_model.specs.State.Values.{RequestValue, WayValue, BufferValue, L
 use Rattle.tree_model.specs.State.Leaf.{way_at}
 use Rattle.tree_rules.specs.Bus.Own.{are_zero, words_suit, way_fits, buffer_fits, same_if_there, has_way_alone, reserves_below, IsLeafOk, has_ways, leaf_lists, ways_fit, ways_alone, buffer_fit, leaf_replies, reservation_fits}
 use Rattle.state_reading.specs.declared.StateRefusal.TheVariants.{BrokenLeaf}
-use Rattle.state_reading.specs.Reading.{Read, any_word, given, times}
-use Rattle.state_reading.specs.Parts.{most_counted, not_before, way_not_before, last_of, state_of, item_words, read_standing, read_buffered, read_copy, ways_with, is_whole_leaf, unless_broken, slot_of, reserved_of, read_leaf}
+use Rattle.state_reading.specs.Reading.{any_word, given, times}
+use Rattle.state_reading.specs.Parts.{most_counted, not_before, way_not_before, last_of, state_of, item_words, read_standing, read_buffered, read_copy, ways_with, unless_broken, slot_of, reserved_of, read_leaf}
 use Rattle.state_words.specs.Numbers.{state_number, reserved_word, slot_words}
 use Rattle.state_words.specs.Parts.{StandingValue, counted, standing, standing_words, buffer_words, item_and_words, leaf_words}
 use Rattle.value_laws.specs.Values.{AreWords, WayHasForm, BufferHasForm, SlotHasForm, LeafHasForm}
-use Rattle.spelling_laws.specs.Spells.{Spells}
 use Rattle.spelling_laws.proofs.Codes.{SlotCoded, none-coded, some-coded, state-fits, state-back, reserved-back}
 use Rattle.spelling_laws.proofs.DirTaken.{copies-taken}
 use Rattle.spelling_laws.proofs.Grouped.{four-grouped}
@@ -62,8 +61,8 @@ module _ (n : ℕ) (v : LeafValue) (spelled : LeafSpelled n v) (e : LeafValue) w
       take-word (λ way. nat_lt way v.sizes.way_count && way_not_before v.sizes.sets s.item way (last_of ss)) k1 ws1 _ _ s.entry.way (and_from _ _ fit.0 (way-passes v.sizes.sets v.sizes.way_count v.ways bound s ss stands le below)) (state_number s.entry.state ∷ s.entry.words) at rest s1 (λ k2 ws2 s2.
       take-word (is_from_1 5) k2 ws2 _ _ (state_number s.entry.state) (state-fits s.entry.state) s.entry.words at rest s2 (λ k3 ws3 s3.
       take (item_words (not (is_reading (state_of (state_number s.entry.state)))) v.sizes.width k3 ws3) _ _ (record { value = s.entry.words; at = at; rest = rest })
-        (state-words-taken v.sizes.width s.entry.state s.entry.words form.count fit.1 k3 at ws3 rest s3)
-        (ap (λ state. Ok (record { value = record { item = s.item; entry = record { way = s.entry.way; state = state; words = s.entry.words } } ∷ ss; at = at; rest = rest })) (state-back s.entry.state)))))
+      (state-words-taken v.sizes.width s.entry.state s.entry.words form.count fit.1 k3 at ws3 rest s3)
+      (ap (λ state. Ok (record { value = record { item = s.item; entry = record { way = s.entry.way; state = state; words = s.entry.words } } ∷ ss; at = at; rest = rest })) (state-back s.entry.state)))))
 
   standing-taken : (least : ℕ) (ss st : List StandingValue) → Ascending v.sizes.sets v.sizes.way_count v.ways least st → AllBelow v.sizes.sets v.sizes.way_count v.ways least ss
       → Takes (times (read_standing n into) (length st) ss) (flat_map standing_words st) (onto ss st)
@@ -82,14 +81,15 @@ module _ (n : ℕ) (v : LeafValue) (spelled : LeafSpelled n v) (e : LeafValue) w
   buffer-taken es (b ∷ bs) fit form =
       let p = and_parts (buffer_fits n v b) (list_all (buffer_fits n v) bs) fit in
       let q = and_parts (nat_lt b.item n) (is_none (way_at b.item v.ways) && words_suit b.state b.words) p.0 in
-      let r = and_parts (is_none (way_at b.item v.ways)) (words_suit b.state b.words) q.1 in
-      ((λ k at ws rest spells.
-        take-word (is_below n) k ws _ _ b.item q.0 (state_number b.state ∷ b.words) at rest spells (λ k1 ws1 s1.
-        take-word (is_from_1 5) k1 ws1 _ _ (state_number b.state) (state-fits b.state) b.words at rest s1 (λ k2 ws2 s2.
-        take (item_words (not (is_reading (state_of (state_number b.state)))) v.sizes.width k2 ws2) _ _ (record { value = b.words; at = at; rest = rest })
-          (state-words-taken v.sizes.width b.state b.words form.0.count r.1 k2 at ws2 rest s2)
-          (ap (λ state. Ok (record { value = es ++ record { item = b.item; state = state; words = b.words } ∷ []; at = at; rest = rest })) (state-back b.state))))),
-       buffer-taken (es ++ b ∷ []) bs p.1 form.1)
+      let r = and_parts (is_none (way_at b.item v.ways)) (words_suit b.state b.words) q.1 in (
+        (λ k at ws rest spells.
+            take-word (is_below n) k ws _ _ b.item q.0 (state_number b.state ∷ b.words) at rest spells (λ k1 ws1 s1.
+            take-word (is_from_1 5) k1 ws1 _ _ (state_number b.state) (state-fits b.state) b.words at rest s1 (λ k2 ws2 s2.
+            take (item_words (not (is_reading (state_of (state_number b.state)))) v.sizes.width k2 ws2) _ _ (record { value = b.words; at = at; rest = rest })
+            (state-words-taken v.sizes.width b.state b.words form.0.count r.1 k2 at ws2 rest s2)
+            (ap (λ state. Ok (record { value = es ++ record { item = b.item; state = state; words = b.words } ∷ []; at = at; rest = rest })) (state-back b.state))))),
+        buffer-taken (es ++ b ∷ []) bs p.1 form.1,
+      )
 
   -- ---- the slot and the reservation
 
@@ -146,9 +146,9 @@ module _ (n : ℕ) (v : LeafValue) (spelled : LeafSpelled n v) (e : LeafValue) w
       take-part (times (read_buffered n into) (length v.buffer) []) k6 ws6 _ _ (flat_map buffer_words v.buffer) v.buffer (times-taken buffer_words (read_buffered n into) [] v.buffer (buffer-taken [] v.buffer (ok.each buffer_fit) form.buffer)) replies_end at rest s6 (λ k7 ws7 s7.
       take-word (is_to v.sizes.reply_room) k7 ws7 _ _ (length v.replies) rooms.1 (flat_map item_and_words v.replies) at rest s7 (λ k8 ws8 s8.
       take (times (read_copy v.sizes.width (λ x cs. nat_lt x n)) (length v.replies) [] k8 ws8) _ _ (record { value = v.replies; at = at; rest = rest })
-        (times-taken item_and_words (read_copy v.sizes.width (λ x cs. nat_lt x n)) [] v.replies (copies-taken n v.sizes.width [] v.replies (ok.each leaf_replies) form.replies) k8 at ws8 rest s8)
-        (let same : record into { ways = ways_with ss (replicate n None); buffer = v.buffer; slot = slot_of c.code c.asked; replies = v.replies; reservation = reserved_of (reserved_word v.reservation) } ≡ v = rw (ways-back, c.back, reserved-back v.reservation) refl in
-        ap (λ w. unless_broken ss w at rest) same ∙ ap (λ b. if b then given v at rest else Err (BrokenLeaf v.number)) (leaf-whole n v ok ss descends))))))))))
+      (times-taken item_and_words (read_copy v.sizes.width (λ x cs. nat_lt x n)) [] v.replies (copies-taken n v.sizes.width [] v.replies (ok.each leaf_replies) form.replies) k8 at ws8 rest s8)
+      (let same : record into { ways = ways_with ss (replicate n None); buffer = v.buffer; slot = slot_of c.code c.asked; replies = v.replies; reservation = reserved_of (reserved_word v.reservation) } ≡ v = rw (ways-back, c.back, reserved-back v.reservation) refl in
+      ap (λ w. unless_broken ss w at rest) same ∙ ap (λ b. if b then given v at rest else Err (BrokenLeaf v.number)) (leaf-whole n v ok ss descends))))))))))
 
   pub leaf-taken : v.number ≡ e.number → v.sizes ≡ e.sizes → Takes (read_leaf n (record e { hart = v.hart; done = v.done })) (leaf_words v) v
   leaf-taken number sizes =

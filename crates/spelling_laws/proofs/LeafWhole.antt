@@ -1,6 +1,6 @@
 -- A leaf that keeps what a leaf keeps passes what is looked at after it was read: no item stands twice, no place is taken twice, at most
 -- one entry waits, and the slot asks for what its item's entry waits for.
-use Rattle.std.specs.Prelude.{◌≡◌, ℕ, zero, suc, ◌+◌, ◌<◌, ◌≤◌, Bool, true, false, not, nat_eq, nat_lt, nat_le, ◌&&◌, ◌||◌, List, [], ◌∷◌, ◌++◌, length, map, find, option_map, Option, Some, None, is_none, refl, if◌then◌else◌}
+use Rattle.std.specs.Prelude.{◌≡◌, ℕ, zero, suc, ◌+◌, ◌<◌, ◌≤◌, Bool, true, false, not, nat_eq, nat_lt, ◌&&◌, ◌||◌, List, [], ◌∷◌, ◌++◌, length, map, find, option_map, Option, Some, None, is_none, refl, if◌then◌else◌}
 use Rattle.std.specs.List.{list_any, list_all, range_with_len}
 use Rattle.std.proofs.Common.{ap, sym, ◌∙◌, subst, arith, append_assoc, inl, inr, true≢false, cond}
 use Rattle.std.proofs.lemmas.List.{get_or_past}
@@ -11,14 +11,14 @@ use Rattle.tree_model.specs.State.Lists.{first_some}
 use Rattle.tree_model.specs.State.States.{is_waiting}
 use Rattle.tree_model.specs.State.Shape.{are_distinct}
 use Rattle.tree_model.specs.State.Values.{RequestValue, WayValue, BufferValue, LeafValue}
-use Rattle.tree_model.specs.State.Leaf.{way_at, buffer_item, is_buffered, buffered, way_entry, buffer_entry, entry_state, entry_at, leaf_entry, state_at, waiting_item}
+use Rattle.tree_model.specs.State.Leaf.{way_at, buffer_item, is_buffered, buffered, way_entry, buffer_entry, entry_state, entry_at, state_at, waiting_item}
 use Rattle.flat_model.specs.Flat.{has_reserved}
 use Rattle.tree_rules.specs.Bus.Own.{words_suit, buffer_fits, state_waits, waits_alone, request_suits, slot_suits, IsLeafOk, leaf_lists, buffer_fit, buffered_once, one_waiting, slot_fits}
 use Rattle.state_words.specs.Parts.{StandingValue}
 use Rattle.state_reading.specs.Parts as reading
 use Rattle.state_reading.specs.Parts.{standing_item, item_of_buffer, places_differ, waiting_states, standing_state, buffer_state, slot_state_fits, is_whole_leaf}
 use Rattle.spelling_laws.proofs.BusNumbers.{same-test}
-use Rattle.spelling_laws.proofs.Listed.{implied, Stands, Descending, items-differ, places-all-differ}
+use Rattle.spelling_laws.proofs.Listed.{implied, Descending, items-differ, places-all-differ}
 
 -- ---- lists of items
 
@@ -32,6 +32,7 @@ both-differ (x ∷ a) b first second apart =
     any-both : (x : ℕ) (a b : List ℕ) → list_any (nat_eq x) a ≡ false → list_any (nat_eq x) b ≡ false → list_any (nat_eq x) (a ++ b) ≡ false
     any-both x [] b e f = f
     any-both x (y ∷ a) b e f = let o = or_parts (nat_eq x y) (list_any (nat_eq x) a) e in or_from _ _ o.0 (any-both x a b o.1 f)
+
     later : (y : ℕ) → list_any (nat_eq y) a ≡ true → (nat_eq y x || list_any (nat_eq y) a) ≡ true
     later y there = elim (nat_eq y x) as (λ t. (t || list_any (nat_eq y) a) ≡ true) [ true ↦ refl | false ↦ there ]
 

@@ -25,3 +25,5 @@ pub mod LeafWhole
 pub mod LeafTaken
 pub mod ByNumber
 pub mod Frames
+pub mod SpelledTree
+pub mod MachineTaken

@@ -1,21 +1,21 @@
 -- The entries in a leaf's ways, listed by set and way: each of them is listed once, in order, and put in by their items they give the
 -- ways again.
 -- Letters: s and t are entries with their items, ss those that were read, the last one first, st those to be read.
-use Rattle.std.specs.Prelude.{◌≡◌, ℕ, zero, suc, ◌+◌, ◌*◌, ◌%◌, ◌<◌, ◌≤◌, Bool, true, false, not, nat_eq, nat_lt, nat_le, ◌&&◌, ◌||◌, List, [], ◌∷◌, ◌++◌, length, map, replicate, filter_map, option_to_list, option_map, slice_set, slice_index_or, Option, Some, None, is_some, Ok, refl, if◌then◌else◌}
-use Rattle.std.specs.List.{AllByRecursion, list_any, list_all, flat_map, range_with_len}
-use Rattle.std.proofs.Common.{ap, sym, ◌∙◌, subst, arith, append_assoc, append-nil, length-set, get_or-set_same, get_or-set_other, inl, inr, zero-add, true≢false}
+use Rattle.std.specs.Prelude.{◌≡◌, ℕ, zero, suc, ◌+◌, ◌*◌, ◌%◌, ◌<◌, ◌≤◌, Bool, true, false, nat_eq, nat_lt, nat_le, ◌&&◌, ◌||◌, List, [], ◌∷◌, ◌++◌, length, map, option_to_list, option_map, slice_set, slice_index_or, Option, Some, None, is_some, refl, if◌then◌else◌}
+use Rattle.std.specs.List.{list_any, flat_map, range_with_len}
+use Rattle.std.proofs.Common.{ap, sym, ◌∙◌, subst, arith, get_or-set_same, get_or-set_other, inl, inr, zero-add, true≢false}
 use Rattle.std.proofs.Math.Path.{fun_ext}
 use Rattle.std.proofs.Math.Nat.{mod-eq_of_lt, mod-mod, mul-le-mul_right}
-use Rattle.std.proofs.lemmas.List.{length-replicate, get_or-replicate, ext_get_or}
-use Rattle.std.proofs.lemmas.Bool.{eqb-true, eqb-false, eq-eqb, ltb-true, leb-true, lt-ltb, le-leb, le-ltb, and_parts, and_from, or_parts, or_right, not_from_false, cases_lt, false_from_ne_true}
+use Rattle.std.proofs.lemmas.List.{get_or-replicate, ext_get_or}
+use Rattle.std.proofs.lemmas.Bool.{eqb-true, eqb-false, eq-eqb, lt-ltb, le-leb, and_parts, and_from, or_right, not_from_false, cases_lt, false_from_ne_true}
 use Rattle.tree_model.specs.State.Lists.{find_from, all_from}
-use Rattle.tree_model.specs.State.Values.{WayValue, LeafValue}
+use Rattle.tree_model.specs.State.Values.{WayValue}
 use Rattle.tree_model.specs.State.Shape.{are_distinct}
 use Rattle.tree_model.specs.State.Leaf.{way_at, stands_in, item_in_way}
 use Rattle.tree_rules.specs.Bus.Item.{implies}
-use Rattle.tree_rules.specs.Bus.Own.{same_if_there, has_way_alone, IsLeafOk, has_ways, leaf_lists, ways_alone}
+use Rattle.tree_rules.specs.Bus.Own.{same_if_there}
 use Rattle.state_words.specs.Parts.{StandingValue, standing_of, standing_at, standing_in, standing}
-use Rattle.state_reading.specs.Parts.{not_before, way_not_before, last_of, ways_with, standing_item, same_place, places_differ}
+use Rattle.state_reading.specs.Parts.{not_before, way_not_before, last_of, standing_item, same_place, places_differ}
 use Rattle.spelling_laws.proofs.Rows.{filter_map-flat}
 use Rattle.spelling_laws.proofs.Standing.{ways_of, ways-many}
 
@@ -191,9 +191,11 @@ module _ (sets way_count : ℕ) (ways : List (Option WayValue)) where
         | Some s ↦ λ is.
             let a = stands-at set way s is in
             let set_is : s.item % sets ≡ set = a.set_is ∙ whole in
-            let place : place_of s ≡ set * way_count + way = ap (λ k. k * way_count + s.entry.way) set_is ∙ ap (λ w. set * way_count + w) a.way_is in
-            (record { inside = a.inside; way = omega (arith, a.way_is, size); there = a.there }, omega (arith, place),
-             ascending-from (place_of s + 1) (set * way_count + (way + 1)) (flat_map (at_way set) (range_with_len (way + 1) count) ++ more) (omega (arith, place)) later)
+            let place : place_of s ≡ set * way_count + way = ap (λ k. k * way_count + s.entry.way) set_is ∙ ap (λ w. set * way_count + w) a.way_is in (
+              record { inside = a.inside; way = omega (arith, a.way_is, size); there = a.there },
+              omega (arith, place),
+              ascending-from (place_of s + 1) (set * way_count + (way + 1)) (flat_map (at_way set) (range_with_len (way + 1) count) ++ more) (omega (arith, place)) later,
+            )
       ] refl
 
   rows-ascend : (set count : ℕ) → set + count ≡ sets → Ascending (set * way_count) (flat_map in_set (range_with_len set count))
@@ -223,14 +225,14 @@ module _ (sets way_count : ℕ) (ways : List (Option WayValue)) where
   order-of : (t s : StandingValue) → place_of t < place_of s → t.entry.way < way_count → s.entry.way < way_count → InOrderOf t s
   order-of t s less t_way s_way =
       let set : t.item % sets ≤ s.item % sets =
-          elim (cases_lt (s.item % sets) (t.item % sets)) [
-            | inl later ↦
-                let next : s.item % sets + 1 ≤ t.item % sets = omega (arith, later) in
-                let far : (s.item % sets + 1) * way_count ≤ t.item % sets * way_count = mul-le-mul_right way_count next in
-                let product : (s.item % sets + 1) * way_count ≡ s.item % sets * way_count + way_count = omega arith in
-                absurd (omega (arith, less, far, product, s_way))
-            | inr le ↦ le
-          ] in
+      elim (cases_lt (s.item % sets) (t.item % sets)) [
+        | inl later ↦
+            let next : s.item % sets + 1 ≤ t.item % sets = omega (arith, later) in
+            let far : (s.item % sets + 1) * way_count ≤ t.item % sets * way_count = mul-le-mul_right way_count next in
+            let product : (s.item % sets + 1) * way_count ≡ s.item % sets * way_count + way_count = omega arith in
+            absurd (omega (arith, less, far, product, s_way))
+        | inr le ↦ le
+      ] in
       record {
         set = set;
         way = λ le.
@@ -270,21 +272,21 @@ module _ (sets way_count : ℕ) (ways : List (Option WayValue)) where
   other-item s [] stands below = refl
   other-item s (t ∷ ss) stands below =
       let here : nat_eq s.item t.item ≡ false = false_from_ne_true _ (λ e.
-          let same : s.item ≡ t.item = eqb-true _ _ e in
-          let entries : Some s.entry ≡ Some t.entry = sym stands.there ∙ ap (λ x. way_at x ways) same ∙ below.0.there in
-          let entry : s.entry ≡ t.entry = cc in
-          let way : s.entry.way ≡ t.entry.way = ap (λ e. e.way) entry in
-          let place : s.item % sets * way_count ≡ t.item % sets * way_count = ap (λ x. x % sets * way_count) same in
-          omega (arith, below.1, way, place)) in
+      let same : s.item ≡ t.item = eqb-true _ _ e in
+      let entries : Some s.entry ≡ Some t.entry = sym stands.there ∙ ap (λ x. way_at x ways) same ∙ below.0.there in
+      let entry : s.entry ≡ t.entry = cc in
+      let way : s.entry.way ≡ t.entry.way = ap (λ e. e.way) entry in
+      let place : s.item % sets * way_count ≡ t.item % sets * way_count = ap (λ x. x % sets * way_count) same in
+      omega (arith, below.1, way, place)) in
       rw here (other-item s ss stands below.2)
 
   other-place : (s : StandingValue) (ss : List StandingValue) → AllBelow (place_of s) ss → list_any (same_place sets s) ss ≡ false
   other-place s [] below = refl
   other-place s (t ∷ ss) below =
       let here : same_place sets s t ≡ false = false_from_ne_true _ (λ e.
-          let p = and_parts (nat_eq (s.item % sets) (t.item % sets)) (nat_eq s.entry.way t.entry.way) e in
-          let place : s.item % sets * way_count ≡ t.item % sets * way_count = ap (λ k. k * way_count) (eqb-true _ _ p.0) in
-          omega (arith, below.1, eqb-true _ _ p.1, place)) in
+      let p = and_parts (nat_eq (s.item % sets) (t.item % sets)) (nat_eq s.entry.way t.entry.way) e in
+      let place : s.item % sets * way_count ≡ t.item % sets * way_count = ap (λ k. k * way_count) (eqb-true _ _ p.0) in
+      omega (arith, below.1, eqb-true _ _ p.1, place)) in
       rw here (other-place s ss below.2)
 
   pub items-differ : (ss : List StandingValue) → Descending ss → are_distinct (map standing_item ss) ≡ true

@@ -1,20 +1,18 @@
 -- Stamps, copies, requests and entries of down lists that are spelled are read again.
-use Rattle.std.specs.Prelude.{◌≡◌, ℕ, ◌+◌, ◌<◌, Bool, true, false, not, nat_eq, nat_lt, ◌&&◌, ◌||◌, List, [], ◌∷◌, ◌++◌, length, Ok, refl}
+use Rattle.std.specs.Prelude.{◌≡◌, ℕ, Bool, true, false, nat_eq, nat_lt, ◌||◌, List, [], ◌∷◌, ◌++◌, length, Ok, refl}
 use Rattle.std.specs.List.{list_all}
-use Rattle.std.proofs.Common.{sym, ap, ◌∙◌, arith}
-use Rattle.std.proofs.lemmas.Bool.{eqb-true, eq-eqb, and_parts, and_from}
+use Rattle.std.proofs.Common.{sym, ap, ◌∙◌}
+use Rattle.std.proofs.lemmas.Bool.{eqb-true, and_parts, and_from}
 use Rattle.ddm_types.specs.declared.keys.Stamp.{Stamp}
 use Rattle.tree_model.specs.State.Kinds.{kind_number, brings_copy, goes_up}
 use Rattle.tree_model.specs.State.Values.{RequestValue, CopyValue, DownValue}
 use Rattle.tree_rules.specs.Bus.Own.{are_zero}
 use Rattle.tree_rules.specs.Order.Time.{stamp_ends}
-use Rattle.state_reading.specs.Reading.{Read}
 use Rattle.state_reading.specs.Parts as reading
 use Rattle.state_reading.specs.Parts.{item_words, kind_of, read_copy, read_request, read_down}
 use Rattle.state_words.specs.Numbers.{stamp_words}
 use Rattle.state_words.specs.Parts.{item_and_words, request_words, down_words}
 use Rattle.value_laws.specs.Values.{comes_down}
-use Rattle.spelling_laws.specs.Spells.{Spells}
 use Rattle.spelling_laws.proofs.Codes.{kind-fits, kind-back, asked-fits, asked-back}
 use Rattle.spelling_laws.proofs.OpsTaken.{if-zero, end-fits}
 use Rattle.spelling_laws.proofs.Steps.{is_below, is_from_1, is_if}
@@ -56,5 +54,5 @@ down-taken n level width es e down below ends size zero k at ws rest s =
     take-word (is_below n) k1 ws1 _ _ e.item below (stamp_words e.stamp ++ e.words) at rest s1 (λ k2 ws2 s2.
     take-part (reading.stamp_words level) k2 ws2 _ _ (stamp_words e.stamp) e.stamp (stamp-taken level e.stamp ends) e.words at rest s2 (λ k3 ws3 s3.
     take (item_words (brings_copy (kind_of (kind_number e.kind))) width k3 ws3) _ _ (record { value = e.words; at = at; rest = rest })
-      (item-words-taken (brings_copy (kind_of (kind_number e.kind))) width e.words size (λ none. zero (ap brings_copy (sym kind) ∙ none)) k3 at ws3 rest s3)
-      (ap (λ kind. Ok (record { value = es ++ record { kind = kind; item = e.item; words = e.words; stamp = e.stamp } ∷ []; at = at; rest = rest })) kind))))
+    (item-words-taken (brings_copy (kind_of (kind_number e.kind))) width e.words size (λ none. zero (ap brings_copy (sym kind) ∙ none)) k3 at ws3 rest s3)
+    (ap (λ kind. Ok (record { value = es ++ record { kind = kind; item = e.item; words = e.words; stamp = e.stamp } ∷ []; at = at; rest = rest })) kind))))

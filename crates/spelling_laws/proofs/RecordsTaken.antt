@@ -1,23 +1,22 @@
 -- The items of a directory that are spelled by records are read again: those without a record are at rest.
-use Rattle.std.specs.Prelude.{◌≡◌, ℕ, zero, suc, ◌+◌, ◌^◌, ◌<◌, ◌≤◌, Bool, true, false, not, nat_eq, nat_lt, nat_le, ◌&&◌, ◌||◌, List, [], ◌∷◌, ◌++◌, length, replicate, slice_set, count_by, Option, Some, None, Ok, refl, if◌then◌else◌}
+use Rattle.std.specs.Prelude.{◌≡◌, ℕ, suc, ◌+◌, ◌^◌, ◌<◌, Bool, true, false, not, nat_eq, nat_lt, nat_le, ◌&&◌, ◌||◌, List, [], ◌∷◌, ◌++◌, length, replicate, slice_set, count_by, Option, Some, None, Ok, refl, if◌then◌else◌}
 use Rattle.std.specs.List.{list_all}
-use Rattle.std.proofs.Common.{ap, sym, ◌∙◌, subst, arith, append_assoc, append-nil, length-append, zero-add}
-use Rattle.std.proofs.lemmas.Bool.{eq-eqb, lt-ltb, ltb-true, and_parts, and_from, or_parts}
+use Rattle.std.proofs.Common.{ap, sym, ◌∙◌, subst, arith, append_assoc, length-append, zero-add}
+use Rattle.std.proofs.lemmas.Bool.{lt-ltb, and_parts, and_from, or_parts}
 use Rattle.std.proofs.lemmas.List.{set_at}
 use Rattle.std.proofs.lemmas.List.Sums.{sum_by-cons}
 use Rattle.ddm_types.specs.declared.sizes.Hold.{Hold}
 use Rattle.tree_model.specs.State.States.{is_held, is_exclusive}
 use Rattle.tree_model.specs.State.Values.{Note, no_note, local, up_read, up_erase, DirItem}
 use Rattle.tree_model.specs.State.Directory.{in_set}
-use Rattle.tree_rules.specs.Bus.Own.{item_fits, note_fits, readers_fit, top_item}
-use Rattle.state_reading.specs.Reading.{Read, any_word, times}
+use Rattle.tree_rules.specs.Bus.Own.{item_fits, note_fits, top_item}
+use Rattle.state_reading.specs.Reading.{any_word, times}
 use Rattle.state_reading.specs.Parts.{hold_of, note_of_words, joins_fit, Recorded, comes_after, read_record, at_rest, read_records}
-use Rattle.state_words.specs.Numbers.{hold_number, note_words, flag_number}
-use Rattle.state_words.specs.Parts.{is_noted, is_recorded, record_words, record_of, records_from, records}
-use Rattle.spelling_laws.specs.Spells.{Spells}
+use Rattle.state_words.specs.Numbers.{hold_number, flag_number}
+use Rattle.state_words.specs.Parts.{is_noted, is_recorded, record_words, records_from, records}
 use Rattle.spelling_laws.proofs.Codes.{NoteCoded, hold-fits, hold-back, flag-fits, flag-back}
 use Rattle.spelling_laws.proofs.Steps.{is_to, spells-as}
-use Rattle.spelling_laws.proofs.Taken.{Takes, take, take-part, take-word, taken-all}
+use Rattle.spelling_laws.proofs.Taken.{Takes, take-part, take-word, taken-all}
 
 -- ---- what an item has
 
@@ -112,7 +111,7 @@ module _ (n kids : ℕ) (top : Bool) where
       take-word (λ w. if nat_eq c.code 0 then nat_eq w 0 else nat_lt w kids) k3 ws3 _ _ c.child c.child_fits (c.joined ∷ flag_number i.answering ∷ []) at rest s3 (λ k4 ws4 s4.
       take-word (λ w. if nat_eq c.code 1 || nat_eq c.code 2 then joins_fit kids c.child w else nat_eq w 0) k4 ws4 _ _ c.joined c.joined_fits (flag_number i.answering ∷ []) at rest s4 (λ k5 ws5 s5.
       take-word (λ w. nat_le w 1 && (not top || nat_eq w 0) && is_recorded top (record { hold = hold_of (hold_number i.hold); note = note_of_words c.code c.child c.joined; answering = nat_eq w 1 })) k5 ws5 _ _ (flag_number i.answering)
-        (and_from _ _ (and_from _ _ (flag-fits i.answering) (answering-passes top i.answering i p.1 refl)) (ap (is_recorded top) same ∙ recorded)) [] at rest s5 (λ k6 ws6 s6.
+      (and_from _ _ (and_from _ _ (flag-fits i.answering) (answering-passes top i.answering i p.1 refl)) (ap (is_recorded top) same ∙ recorded)) [] at rest s5 (λ k6 ws6 s6.
       taken-all _ k6 at ws6 rest s6 ∙ ap (λ i. Ok (record { value = record { last = Some x; items = slice_set r.items x i }; at = at; rest = rest })) same))))))
 
   abbrev count : List DirItem → ℕ
@@ -147,12 +146,12 @@ module _ (n kids : ℕ) (top : Bool) where
               takes = λ k at ws rest s.
                   ap (λ c. times (read_record n kids top) c (record { last = last; items = before ++ at_rest top ∷ resting items }) k ws) many
                   ∙ take-part (read_record n kids top (record { last = last; items = before ++ at_rest top ∷ resting items })) k ws (times (read_record n kids top) (count items)) _ (record_words x i)
-                    (record { last = Some x; items = slice_set (before ++ at_rest top ∷ resting items) x i })
-                    (record-taken (record { last = last; items = before ++ at_rest top ∷ resting items }) x i (omega (arith, size)) below p.0 is)
-                    (records_from top (length (before ++ i ∷ [])) items) at rest (spells-as words s) (λ k1 ws1 s1.
-                    ap (λ l. times (read_record n kids top) (count items) (record { last = Some x; items = l }) k1 ws1) set
-                    ∙ more.takes k1 at ws1 rest s1
-                    ∙ ap (λ l. Ok (record { value = record { last = more.then_last; items = l }; at = at; rest = rest })) (append_assoc before (i ∷ []) items));
+                  (record { last = Some x; items = slice_set (before ++ at_rest top ∷ resting items) x i })
+                  (record-taken (record { last = last; items = before ++ at_rest top ∷ resting items }) x i (omega (arith, size)) below p.0 is)
+                  (records_from top (length (before ++ i ∷ [])) items) at rest (spells-as words s) (λ k1 ws1 s1.
+                  ap (λ l. times (read_record n kids top) (count items) (record { last = Some x; items = l }) k1 ws1) set
+                  ∙ more.takes k1 at ws1 rest s1
+                  ∙ ap (λ l. Ok (record { value = record { last = more.then_last; items = l }; at = at; rest = rest })) (append_assoc before (i ∷ []) items));
             }
         | false ↦ λ is.
             let later : is_last_below (length (before ++ i ∷ [])) last = subst (λ y. is_last_below y last) (sym next) (last-later x last below) in

@@ -2,13 +2,21 @@
 
 ghost use Rattle.std.specs.Prelude.{◌≡◌, ℕ, ◌+◌, List, ◌++◌, length, Ok};
 ghost use Rattle.tree_model.specs.State.Values.{MachineValue};
+ghost use Rattle.tree_model.specs.State.Shape.{frame_of};
 ghost use Rattle.state_words.specs.Machine.{state_words};
 ghost use Rattle.state_reading.specs.Machine.{read_words};
 ghost use Rattle.state_judging.specs.Read.{CanRead};
+ghost use Rattle.spelling_laws.specs.Spelled.{IsSpelled};
 
 /// Words that are read into a machine are those that are spelled of what was read: a state has one spelling.
 pub fn accepted_words_are_spelled()
     ensures words { (fresh m : MachineValue) (retired k at : ℕ) (ws rest : List ℕ) → CanRead fresh → read_words fresh retired k ws ≡ Ok (record { value = m; at = at; rest = rest }) → ws ≡ state_words m ++ rest }
     ensures next { (fresh m : MachineValue) (retired k at : ℕ) (ws rest : List ℕ) → CanRead fresh → read_words fresh retired k ws ≡ Ok (record { value = m; at = at; rest = rest }) → at ≡ k + length (state_words m) }
     ensures completed { (fresh m : MachineValue) (retired k at : ℕ) (ws rest : List ℕ) → CanRead fresh → read_words fresh retired k ws ≡ Ok (record { value = m; at = at; rest = rest }) → length m.ops ≡ retired }
+{}
+
+/// The words that are spelled of a machine are read as that machine, into one before its first turn of the same frame; what stands
+/// behind them is left.
+pub fn spelled_words_are_read()
+    ensures { (fresh m : MachineValue) (k : ℕ) (rest : List ℕ) → CanRead fresh → frame_of m ≡ frame_of fresh → IsSpelled m → read_words fresh (length m.ops) k (state_words m ++ rest) ≡ Ok (record { value = m; at = k + length (state_words m); rest = rest }) }
 {}
