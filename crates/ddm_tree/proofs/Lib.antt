@@ -20,3 +20,7 @@ pub mod Copies
 pub mod BusNumbers
 pub mod Written
 pub mod IdleHarts
+pub mod SectionRead
+pub mod NamedOnce
+pub mod Refilled
+pub mod PartsKept

@@ -1,12 +1,13 @@
 -- How a proof stores a machine: as the tree under the top, and the rest beside it.
 use Rattle.std.specs.Prelude.{◌≡◌, ℕ, List, refl}
+use Rattle.std.proofs.Common.{ap}
 use Rattle.std.specs.Coded.{Coded, codes}
 use base.Stored.{Gv}
 use Rattle.ddm_types.specs.declared.operations.Op.{Op}
 use Rattle.ddm_types.specs.ItemTable.{ItemTable}
 use Rattle.ddm_types.specs.CodeMap.{CodeWord}
 use Rattle.tree_model.specs.declared.Traffic.{Traffic}
-use Rattle.tree_model.specs.State.Values.{DirValue, Nodes, dir_node, root_of}
+use Rattle.tree_model.specs.State.Values.{DirValue, Nodes, dir_node, root_of, MachineValue}
 use Rattle.tree_model.specs.State.Codes.{stored_node, stored_node-injective}
 use Rattle.ddm_tree.specs.Machine.{MachineState}
 
@@ -49,3 +50,13 @@ stored_machine-injective x y e =
 
 abbrev pub machine_code : Coded MachineState
 machine_code = record { code = stored_machine; inj = stored_machine-injective }
+
+-- the tables' machine alone
+abbrev pub stored_value : MachineValue → Gv
+stored_value m = stored_machine (record { machine = m; spare = 0; turns = 0 })
+
+pub stored_value-injective : (x y : MachineValue) → stored_value x ≡ stored_value y → x ≡ y
+stored_value-injective x y e = ap (λ (s : MachineState). s.machine) (stored_machine-injective (record { machine = x; spare = 0; turns = 0 }) (record { machine = y; spare = 0; turns = 0 }) e)
+
+abbrev pub value_code : Coded MachineValue
+value_code = record { code = stored_value; inj = stored_value-injective }

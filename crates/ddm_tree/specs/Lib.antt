@@ -10,3 +10,5 @@ pub mod Holders
 pub mod Copying
 pub mod Written
 pub mod Idle
+pub mod ReadBack
+pub mod Parts

@@ -12,6 +12,8 @@ use crate::copying::{CopyFrom, copy_children};
 use crate::found::{Found, found_among, own_copy};
 use crate::named::Named;
 use crate::paths::path_up_under;
+use crate::read_back::read_under;
+use crate::section::Section;
 use crate::subtree::Subtree;
 use crate::writing::{ways_among, write_hart_under, write_leaf_under, write_part_under};
 use ddm_types::{
@@ -21,6 +23,7 @@ use ddm_types::{
 use directory::DirState;
 use item_states::{Agent, DownEntry, Parent};
 use rv_hart::Hart;
+use state_reading::StateRefusal;
 use std::alloc::Global;
 use tree_model::{BusTurn, LeafSpot, TreeChild};
 
@@ -249,6 +252,21 @@ impl<const WORDS: usize, C: Subtree<WORDS>> Subtree<WORDS> for Dir<WORDS, C> {
             self.state.write_part(out)
         } else {
             write_part_under(&self.state, &self.children, bus, path, out)
+        }
+    }
+
+    fn read_below(
+        &mut self,
+        section: Section,
+        path: &[ChildNo],
+        words: &[u32],
+        from: u32,
+    ) -> Result<u32, StateRefusal> {
+        if path.is_empty() {
+            self.state
+                .read_part(words, from, self.children.len() as u32)
+        } else {
+            read_under(&self.state, &mut self.children, section, path, words, from)
         }
     }
 

@@ -1,5 +1,6 @@
 use crate::found::{Found, place_at};
 use crate::named::Named;
+use crate::section::Section;
 use crate::subtree::Subtree;
 use crate::turns::{key_on, victim};
 use ddm_types::{
@@ -9,6 +10,7 @@ use ddm_types::{
 use item_states::DownEntry;
 use leaf_protocol::Leaf;
 use rv_hart::Hart;
+use state_reading::StateRefusal;
 use std::alloc::Global;
 use tree_model::{BusTurn, LeafSpot, TreeChild};
 
@@ -117,6 +119,20 @@ impl<const WAYS: usize, const WORDS: usize> Subtree<WORDS> for Leaf<WAYS, WORDS>
         _out: &mut Vec<u32>,
     ) -> Result<(), NoMemory> {
         Ok(())
+    }
+
+    fn read_below(
+        &mut self,
+        section: Section,
+        _path: &[ChildNo],
+        words: &[u32],
+        from: u32,
+    ) -> Result<u32, StateRefusal> {
+        match section {
+            Section::Hart(_) => self.read_hart(words, from),
+            Section::Leaf(_) => self.read_part(words, from),
+            Section::Bus(_) => Ok(from),
+        }
     }
 
     fn found_below(&self, item: ItemId) -> Option<Found<WORDS>> {

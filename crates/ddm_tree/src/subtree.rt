@@ -1,4 +1,4 @@
-ghost use Rattle.std.specs.Prelude.{◌≡◌, ◌*◌, ◌<◌, true, IfOk, OnErr, OnOk, option_map, reverse, vec_items};
+ghost use Rattle.std.specs.Prelude.{◌≡◌, ◌*◌, ◌<◌, ◌≤◌, ◌^◌, true, length, IfOk, OnErr, OnOk, option_map, reverse, vec_items};
 ghost use Rattle.ddm_types.specs.ItemTable.{item_count};
 ghost use Rattle.tree_model.specs.State.Child.{child_label};
 ghost use Rattle.tree_model.specs.State.Shape.{skeleton, widths_fit};
@@ -16,16 +16,19 @@ ghost use Rattle.ddm_tree.specs.Path.{path_to, node_at, present_at, put_at, node
 ghost use Rattle.ddm_tree.specs.Named.{name_of};
 ghost use Rattle.ddm_tree.specs.Ready.{IsAskable, IsReady, Leads, LeadsBelow, HasChild, IsChild, IsItemIn, IsItemOf};
 ghost use Rattle.ddm_tree.specs.Reads.{node_hart, node_entry, node_children, node_child, node_child_hold, node_down, node_down_len, node_grants, node_parked};
+ghost use Rattle.ddm_tree.specs.ReadBack.{PartRead, section_name};
 ghost use Rattle.ddm_tree.specs.Written.{node_dir_words, node_words};
 
 use crate::found::Found;
 use crate::named::Named;
+use crate::section::Section;
 use ddm_types::{
     BusNo, ChildNo, Code, Hold, ItemId, Items, LeafNo, LeafState, NoMemory, Stamp, Turn,
     TurnAnswer, Words,
 };
 use item_states::{Agent, DownEntry};
 use rv_hart::Hart;
+use state_reading::StateRefusal;
 use std::alloc::Global;
 use tree_model::{BusTurn, LeafSpot, TreeChild};
 
@@ -164,6 +167,22 @@ pub trait Subtree<const WORDS: usize>: Agent<WORDS> {
         requires { LeadsBelow (bus_of_number bus) path.now (Self.value self.now) }
         ensures ok { OnOk result (Adds out.old.items out.new.items (node_dir_words (node_at path.now (Self.value self.now)))) }
         ensures err { OnErr result (Begins out.old.items out.new.items) };
+
+    /// Reads the words of a section, from this one on, into the leaf or the directory at the path's end, and gives the number of the
+    /// next word. After a refusal that node has some of them.
+    fn read_below(
+        &mut self,
+        section: Section,
+        path: &[ChildNo],
+        words: &[u32],
+        from: u32,
+    ) -> Result<u32, StateRefusal>
+        requires few { length words.now < 2 ^ 32 }
+        requires inside { from ≤ length words.now }
+        requires buses { widths_fit (skeleton (Self.value self.old)) ≡ true }
+        requires leads { Leads (section_name section) path.now (Self.value self.old) }
+        ensures read { PartRead section path.now words.now from (Self.value self.old) (Self.value self.new) result }
+        ensures inside { IfOk result (λ at. at ≤ length words.now) };
 
     /// The found copy of an item in this part.
     fn found_below(&self, item: ItemId) -> Option<Found<WORDS>>

@@ -26,12 +26,13 @@ module _ (m : MachineValue) where
   abbrev pub keeps_rules_at : DirValue → List Node → ℕ → Bool
   keeps_rules_at p ns x = item_holds_at p ns x && (not (is_top p) || held_at_top m x)
 
-  -- that as many places are reserved as are kept is judged at item 0
-  abbrev pub keeps_places_at : DirValue → ℕ → Bool
-  keeps_places_at p x = not (nat_eq x 0) || nat_eq p.reserved (kept_places p (range_with_len 0 (items_of_machine m)))
+  -- as many places are reserved as are kept
+  abbrev pub keeps_places : DirValue → Bool
+  keeps_places p = nat_eq p.reserved (kept_places p (range_with_len 0 (items_of_machine m)))
 
+  -- where they aren't, the bus is broken at item 0
   abbrev pub broken_item : DirValue → List Node → Option ℕ
-  broken_item p ns = find (λ x. not (keeps_rules_at p ns x && keeps_places_at p x)) (range_with_len 0 (items_of_machine m))
+  broken_item p ns = if keeps_places p then find (λ x. not (keeps_rules_at p ns x)) (range_with_len 0 (items_of_machine m)) else Some 0
 
   abbrev pub or_none : Option (Option ℕ) → Option ℕ
   or_none None = None

@@ -72,6 +72,13 @@ impl<const WORDS: usize> TopState<WORDS> {
         self.down.len()
     }
 
+    /// How many places its down list has, which are all that it has.
+    pub fn capacity(&self) -> u32
+        ensures { self.now.sizes ≡ top_sizes result WORDS }
+    {
+        self.down.capacity()
+    }
+
     /// The place of an item's parked copy: the top parks nothing.
     pub fn parked_at(&self, _item: ItemId) -> Option<u32>
         ensures { result ≡ parked_place _item self.now }

@@ -1,0 +1,20 @@
+use Rattle.std.proofs.Common.{◌≡◌, ◌≤◌, length, List, [], map, Some, vec_items, lit<, arith, refl, sym, subst, ap, ◌∙◌}
+use Rattle.tree_model.specs.State.Values.{dir_node, nodes}
+use Rattle.ddm_tree.specs.ReadBack.{section_name}
+use Rattle.ddm_tree.proofs.Steps.{own-few, own-path}
+use Rattle.ddm_tree.proofs.SectionRead.{own-put}
+use Rattle.ddm_tree.proofs.TurnMade.{same-path}
+use Rattle.ddm_tree.proofs.parts.read_into.Goals as goal
+
+pub overflow_cast-children : goal.overflow_cast-children
+overflow_cast-children g c =
+    let few : length c.args.children.now ≤ 16 = own-few g.C.Agent.value c.args.top.now c.args.children.now [] refl c.requires.buses in
+    omega (arith, few)
+
+pub read_part-requires : goal.read_part-requires
+read_part-requires g c = (lit< tt, (c.requires.few, (c.requires.inside, own-few g.C.Agent.value c.args.top.now c.args.children.now [] refl c.requires.buses)))
+
+pub returns-then-is_empty-clause-read : goal.returns-then-is_empty-clause-read
+returns-then-is_empty-clause-read g c = λ path listed.
+    let own = own-path c.path_of-path.result.now c.is_empty.result c.is_empty.ensures c.if-is_empty.true in
+    ?

@@ -1,0 +1,144 @@
+ghost use Rattle.std.specs.Prelude.{◌≡◌, ◌<◌, ◌≤◌, ◌^◌, ℕ, List, Some, true, length, map, vec_items, IfErr, IfOk};
+ghost use Rattle.tree_model.specs.State.Shape.{skeleton, widths_fit};
+ghost use Rattle.tree_model.specs.State.Values.{dir_node, nodes};
+ghost use Rattle.state_judging.specs.Read.{CanRead};
+ghost use Rattle.ddm_tree.specs.Machine.{has_path, is_part, listed_path};
+ghost use Rattle.ddm_tree.specs.Named.{name_of};
+ghost use Rattle.ddm_tree.specs.Parts.{SectionRead, SectionRefused};
+ghost use Rattle.ddm_tree.specs.ReadBack.{PartRead, section_name};
+ghost use Rattle.ddm_tree.specs.Ready.{Leads};
+
+use crate::idle::Idle;
+use crate::machine::{Machine, path_of};
+use crate::named::Named;
+use crate::read_back::read_under;
+use crate::section::Section;
+use crate::subtree::Subtree;
+use ddm_types::{ChildNo, Code, Items, Op, TreeCounts};
+use state_reading::StateRefusal;
+use std::marker::Model;
+use top_node::TopState;
+use tree_model::Traffic;
+
+/// A machine taken apart, so that words can be read into it. It keeps its shape, and no rule of a bus.
+#[derive(Drop)]
+pub struct Parts<const WORDS: usize, C: Subtree<WORDS>> {
+    pub(crate) top: TopState<WORDS>,
+    pub(crate) children: Vec<C>,
+    pub(crate) code: Code,
+    pub(crate) items: Items,
+    pub(crate) ops: Vec<Op>,
+    pub(crate) traffic: Vec<Traffic>,
+    pub(crate) counts: TreeCounts,
+    pub(crate) leaf_paths: Vec<Vec<ChildNo>>,
+    pub(crate) bus_paths: Vec<Vec<ChildNo>>,
+    /// A place for each leaf, for the machine that is put together.
+    pub(crate) idle: Vec<Option<Idle>>,
+}
+
+impl<const WORDS: usize, C: Subtree<WORDS>> Model for Parts<WORDS, C> {
+    ghost use Rattle.std.specs.Prelude.{◌≡◌, ◌*◌, ◌^◌, ◌<◌, map, vec_items};
+    ghost use Rattle.tree_model.specs.State.Shape.{tree_counts};
+    ghost use Rattle.tree_model.specs.State.Values.{MachineValue};
+    ghost use Rattle.ddm_tree.specs.Codes.{value_code};
+    ghost use Rattle.ddm_tree.specs.Machine.{machine_of};
+    ghost use Rattle.ddm_tree.specs.Parts.{IsParts};
+
+    ghost Value = { MachineValue };
+
+    ghost coded = { value_code };
+
+    ghost view = { λ m. machine_of m.code m.items m.top (map C.value m.children.items) m.ops.items m.traffic.items };
+
+    ghost invariant = { λ m. IsParts WORDS (machine_of m.code m.items m.top (map C.value m.children.items) m.ops.items m.traffic.items) (map vec_items m.leaf_paths.items) (map vec_items m.bus_paths.items)
+        × (tree_counts (machine_of m.code m.items m.top (map C.value m.children.items) m.ops.items m.traffic.items) ≡ m.counts)
+        × (WORDS < 2 ^ 32) × (m.items.size ≡ 4 * WORDS) };
+}
+
+/// What a section is named by.
+fn section_name(section: &Section) -> Named
+    ensures { name_of result ≡ section_name section.now }
+{
+    match section {
+        Section::Hart(leaf) | Section::Leaf(leaf) => Named::Leaf(*leaf),
+        Section::Bus(bus) => Named::Bus(*bus),
+    }
+}
+
+/// Reads a section into the leaf or the directory that it is of, whose path is listed.
+fn read_into<const WORDS: usize, C: Subtree<WORDS>>(
+    top: &mut TopState<WORDS>,
+    children: &mut [C],
+    leaf_paths: &[Vec<ChildNo>],
+    bus_paths: &[Vec<ChildNo>],
+    section: Section,
+    words: &[u32],
+    from: u32,
+) -> Result<u32, StateRefusal>
+    requires few { length words.now < 2 ^ 32 }
+    requires inside { from ≤ length words.now }
+    requires buses { widths_fit (skeleton (dir_node top.old (nodes (map C.value children.old)))) ≡ true }
+    requires listed { has_path (section_name section) (length leaf_paths.now) (length bus_paths.now) }
+    requires leads { (path : List ℕ) → listed_path (section_name section) (map vec_items leaf_paths.now) (map vec_items bus_paths.now) ≡ Some path → Leads (section_name section) path (dir_node top.old (nodes (map C.value children.old))) }
+    ensures read { (path : List ℕ) → listed_path (section_name section) (map vec_items leaf_paths.now) (map vec_items bus_paths.now) ≡ Some path → PartRead section path words.now from (dir_node top.old (nodes (map C.value children.old))) (dir_node top.new (nodes (map C.value children.new))) result }
+    ensures inside { IfOk result (λ at. at ≤ length words.now) }
+{
+    let path = path_of(section_name(&section), leaf_paths, bus_paths);
+    if path.is_empty() {
+        top.read_part(words, from, children.len() as u32)
+    } else {
+        read_under(top, children, section, path, words, from)
+    }
+}
+
+impl<const WORDS: usize, C: Subtree<WORDS>> Machine<WORDS, C> {
+    /// The machine taken apart.
+    pub fn into_parts(self) -> Parts<WORDS, C>
+        ensures value { result ≡ self.machine }
+        ensures readable { CanRead self.machine }
+    {
+        let _ = self.top.capacity();
+        Parts {
+            top: self.top,
+            children: self.children,
+            code: self.code,
+            items: self.items,
+            ops: self.ops,
+            traffic: self.traffic,
+            counts: self.counts,
+            leaf_paths: self.leaf_paths,
+            bus_paths: self.bus_paths,
+            idle: self.idle,
+        }
+    }
+}
+
+impl<const WORDS: usize, C: Subtree<WORDS> + Drop> Parts<WORDS, C> {
+    /// Reads the words of a section, from this one on, into the leaf or the directory that it is of, and gives the number of the next
+    /// word.
+    pub(crate) fn read_section(
+        self,
+        section: Section,
+        words: &[u32],
+        from: u32,
+    ) -> Result<(Self, u32), StateRefusal>
+        requires few { length words.now < 2 ^ 32 }
+        requires inside { from ≤ length words.now }
+        requires there { is_part (section_name section) self ≡ true }
+        ensures read { IfOk result (λ r. SectionRead section words.now from self r.0 r.1) }
+        ensures refused { IfErr result (λ e. SectionRefused section words.now from self e) }
+        ensures inside { IfOk result (λ r. r.1 ≤ length words.now) }
+    {
+        let mut parts = self;
+        let at = read_into(
+            &mut parts.top,
+            &mut parts.children,
+            &parts.leaf_paths,
+            &parts.bus_paths,
+            section,
+            words,
+            from,
+        )?;
+        Ok((parts, at))
+    }
+}
