@@ -1,6 +1,7 @@
--- The two laws of checkpoints, as statements and as a test of one state. They are not proved yet.
+-- The two laws of checkpoints, as statements and as a test of one state. The first is not proved yet.
 -- Letters: m is a machine, fresh the one before its first turn of the same tree and image.
-use Rattle.std.specs.Prelude.{◌≡◌, ◌≤◌, ℕ, Bool, true, false, ◌&&◌, nat_eq, List, [], ◌∷◌, length, Result, Ok, Err}
+use Rattle.std.specs.Prelude.{◌≡◌, ◌<◌, ◌≤◌, ℕ, Bool, true, false, ◌&&◌, nat_eq, List, [], ◌∷◌, length, Result, Ok, Err}
+use Rattle.std.specs.List.{AllByRecursion}
 use Rattle.ddm_types.specs.declared.turns.Turn.{Turn}
 use Rattle.tree_model.specs.State.Values.{MachineValue}
 use Rattle.tree_model.specs.Turns.Machine.{run_of}
@@ -11,6 +12,7 @@ use Rattle.state_words.specs.Machine.{state_words}
 use Rattle.state_reading.specs.declared.StateRefusal.{StateRefusal}
 use Rattle.state_reading.specs.Reading.{Read}
 use Rattle.state_judging.specs.Judged.{read_state}
+use Rattle.state_judging.specs.Read.{CanRead}
 use Rattle.checkpoint.specs.Saved.{saved}
 use Rattle.checkpoint.specs.Resumed.{Resumed, resumed}
 
@@ -22,7 +24,7 @@ SavedIsReadBack =
 
 -- a file that is accepted is what is saved of the machine that it gives: so a state has one spelling
 abbrev pub AcceptedIsSaved : Type 0
-AcceptedIsSaved = (fresh : MachineValue) (bytes : List ℕ) (r : Resumed) → resumed fresh bytes ≡ Ok r → saved r.machine r.counts ≡ bytes
+AcceptedIsSaved = (fresh : MachineValue) (bytes : List ℕ) (r : Resumed) → CanRead fresh → AllByRecursion (λ b. b < 256) bytes → resumed fresh bytes ≡ Ok r → saved r.machine r.counts ≡ bytes
 
 -- ---- the first law in one state, as a test: its words are read to their end, and what was read is spelled by the same words
 
