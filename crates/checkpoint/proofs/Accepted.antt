@@ -168,10 +168,10 @@ mutual
   ways-first no_nodes = refl
   ways-first (more_nodes n ns) = ways-bone n
 
-abbrev frame_sizes : Frame → MachineSizes
+abbrev pub frame_sizes : Frame → MachineSizes
 frame_sizes f = record { leaves = length (leaf_numbers_of f.bones []); buses = length (buses_of f.bones []); items = item_count f.items; item_words = f.items.size / 4; ways = bone_ways f.bones }
 
-sizes-framed : (m : MachineValue) → sizes_of m ≡ frame_sizes (frame_of m)
+pub sizes-framed : (m : MachineValue) → sizes_of m ≡ frame_sizes (frame_of m)
 sizes-framed m = ap (λ w. record { leaves = length (leaf_numbers_of (skeleton (root_of m)) []); buses = length (buses_of (skeleton (root_of m)) []); items = item_count m.items; item_words = m.items.size / 4; ways = w }) (ways-bone (root_of m))
 
 head-long : (s : MachineSizes) (turns retired granted busy : ℕ) → length (head_words s turns retired granted busy) ≡ 11
