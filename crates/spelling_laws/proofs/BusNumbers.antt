@@ -46,7 +46,7 @@ not-any : (b : Bool) → not b ≡ true → b ≡ false
 not-any true e = absurd (true≢false (sym e))
 not-any false e = refl
 
-all-differ : (ns : List ℕ) → are_distinct ns ≡ true → IsDistinct nat_eq ns
+pub all-differ : (ns : List ℕ) → are_distinct ns ≡ true → IsDistinct nat_eq ns
 unfolding IsDistinct
 all-differ [] e = tt
 all-differ (n ∷ ns) e = (none-like n ns (not-any (list_any (nat_eq n) ns) (and-first (not (list_any (nat_eq n) ns)) (are_distinct ns) e)), all-differ ns (and-second (not (list_any (nat_eq n) ns)) (are_distinct ns) e))

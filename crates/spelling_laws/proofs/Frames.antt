@@ -72,7 +72,7 @@ module _ (k : ℕ) where
     have-bones no_nodes = refl
     have-bones (more_nodes n ns) = ap (λ b. b || has_among (bus_of_number k) ns) (has-bone n) ∙ ap (λ b. bone_has (skeleton n) || b) (have-bones ns)
 
-  kids-counted : (ns : Nodes) → length (children ns) ≡ bone_count (skeletons ns)
+  pub kids-counted : (ns : Nodes) → length (children ns) ≡ bone_count (skeletons ns)
   kids-counted no_nodes = refl
   kids-counted (more_nodes n ns) = omega (arith, kids-counted ns)
 

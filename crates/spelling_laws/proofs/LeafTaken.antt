@@ -29,7 +29,7 @@ pub record LeafSpelled (n : ℕ) (v : LeafValue) : Type 0 where
   pub ok : IsLeafOk n v
   pub form : LeafHasForm v.sizes.width most_counted v
 
-way-form : (width x : ℕ) (e : WayValue) (ways : List (Option WayValue)) → AllByRecursion (WayHasForm width) ways → way_at x ways ≡ Some e → AreWords width e.words
+pub way-form : (width x : ℕ) (e : WayValue) (ways : List (Option WayValue)) → AllByRecursion (WayHasForm width) ways → way_at x ways ≡ Some e → AreWords width e.words
 way-form width x e [] form is = cc
 way-form width zero e (o ∷ ways) form is = subst (WayHasForm width) is form.0
 way-form width (suc x) e (o ∷ ways) form is = way-form width x e ways form.1 is

@@ -27,3 +27,5 @@ pub mod ByNumber
 pub mod Frames
 pub mod SpelledTree
 pub mod MachineTaken
+pub mod SmallParts
+pub mod SmallWords

@@ -118,7 +118,7 @@ any-onto p ss (s ∷ st) e = any-onto p (s ∷ ss) st (moved (list_any p ss) (p 
     moved false true c e = refl
     moved false false c e = e
 
-onto-many : (ss st : List StandingValue) → length (onto ss st) ≡ length ss + length st
+pub onto-many : (ss st : List StandingValue) → length (onto ss st) ≡ length ss + length st
 onto-many ss [] = omega arith
 onto-many ss (s ∷ st) = onto-many (s ∷ ss) st ∙ omega arith
 

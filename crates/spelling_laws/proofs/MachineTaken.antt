@@ -71,7 +71,7 @@ mutual
   filled-none_among (more_nodes n ns) = ap (λ p. more_nodes p (refilled_among [] [] ns)) (filled-none n) ∙ ap (more_nodes n) (filled-none_among ns)
 
 -- what is asked of a directory alone
-dir-asked : (m : MachineValue) (bus : ℕ) (words : DirValue → List ℕ) → ask_bus bus (λ w d ns. words d) [] m ≡ option_map (λ o. words o.0) (bus_asked bus m)
+pub dir-asked : (m : MachineValue) (bus : ℕ) (words : DirValue → List ℕ) → ask_bus bus (λ w d ns. words d) [] m ≡ option_map (λ o. words o.0) (bus_asked bus m)
 dir-asked m bus words = subst (λ n. read_in (bus_of_number bus) (of_dir (λ w d ns. words d) []) at_top n ≡ option_map (λ o. words o.0) (bus_asked bus m)) (filled-none (root_of m)) (read-put [] [] (λ d. refl) bus words [] (m.top, 0) at_top at_top (root_of m))
 
 abbrev pub dir_or : DirValue → Option DirOver → DirValue
@@ -82,7 +82,7 @@ dir_or top (Some o) = o.0
 abbrev pub bus_at : MachineValue → ℕ → BusRead
 bus_at m bus = record { dir = dir_or m.top (bus_asked bus m); traffic = slice_index_or m.traffic bus no_traffic }
 
-traffic-form : (most : ℕ) (ts : List Traffic) (i : ℕ) → AllByRecursion (TrafficHasForm most) ts → i < length ts → TrafficHasForm most (slice_index_or ts i no_traffic)
+pub traffic-form : (most : ℕ) (ts : List Traffic) (i : ℕ) → AllByRecursion (TrafficHasForm most) ts → i < length ts → TrafficHasForm most (slice_index_or ts i no_traffic)
 traffic-form most [] i all inside = absurd (omega (arith, inside))
 traffic-form most (t ∷ ts) zero all inside = all.0
 traffic-form most (t ∷ ts) (suc i) all inside = traffic-form most ts i all.1 (omega (arith, inside))

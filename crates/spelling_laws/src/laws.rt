@@ -1,11 +1,15 @@
 //! The words of a checkpoint and a machine determine each other, as theorems: there is nothing to run.
 
-ghost use Rattle.std.specs.Prelude.{◌≡◌, ℕ, ◌+◌, List, ◌++◌, length, Ok};
+ghost use Rattle.std.specs.Prelude.{◌≡◌, ℕ, ◌+◌, ◌≤◌, List, ◌++◌, length, Ok};
+ghost use Rattle.std.specs.List.{AllByRecursion};
 ghost use Rattle.tree_model.specs.State.Values.{MachineValue};
-ghost use Rattle.tree_model.specs.State.Shape.{frame_of};
-ghost use Rattle.state_words.specs.Machine.{state_words};
+ghost use Rattle.tree_model.specs.State.Shape.{IsShaped, frame_of};
+ghost use Rattle.state_words.specs.Machine.{checkpoint_words, state_words};
 ghost use Rattle.state_reading.specs.Machine.{read_words};
+ghost use Rattle.state_reading.specs.Parts.{most_counted};
 ghost use Rattle.state_judging.specs.Read.{CanRead};
+ghost use Rattle.value_laws.specs.Values.{IsWord};
+ghost use Rattle.spelling_laws.specs.Small.{IsSmall};
 ghost use Rattle.spelling_laws.specs.Spelled.{IsSpelled};
 
 /// Words that are read into a machine are those that are spelled of what was read: a state has one spelling.
@@ -19,4 +23,12 @@ pub fn accepted_words_are_spelled()
 /// behind them is left.
 pub fn spelled_words_are_read()
     ensures { (fresh m : MachineValue) (k : ℕ) (rest : List ℕ) → CanRead fresh → frame_of m ≡ frame_of fresh → IsSpelled m → read_words fresh (length m.ops) k (state_words m ++ rest) ≡ Ok (record { value = m; at = k + length (state_words m); rest = rest }) }
+{}
+
+/// The words that are spelled of a machine, and those of its checkpoint, are numbers of 32 bits, where there are so few items, places
+/// and operations that their numbers are.
+pub fn spelled_words_are_small()
+    ensures state { (m : MachineValue) → IsShaped m → IsSpelled m → IsSmall m → AllByRecursion IsWord (state_words m) }
+    ensures checkpoint { (m : MachineValue) (turns retired granted busy : ℕ) → IsShaped m → IsSpelled m → IsSmall m → turns ≤ most_counted → retired ≤ most_counted → granted ≤ most_counted → busy ≤ most_counted
+        → AllByRecursion IsWord (checkpoint_words m turns retired granted busy) }
 {}
