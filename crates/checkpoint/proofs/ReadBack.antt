@@ -3,11 +3,11 @@
 use Rattle.std.specs.Prelude.{◌≡◌, ℕ, ◌+◌, ◌*◌, ◌≤◌, true, false, nat_eq, nat_lt, nat_le, List, [], ◌∷◌, ◌++◌, length, Some, None, Ok, Err, refl, if◌then◌else◌}
 use Rattle.std.specs.List.{flat_map}
 use Rattle.std.specs.Int.{w32, to_le_bytes}
-use Rattle.std.proofs.Common.{ap, sym, ◌∙◌, arith, append-nil}
+use Rattle.std.proofs.Common.{ap, sym, ◌∙◌, subst, arith, append-nil}
 use Rattle.std.proofs.lemmas.Bool.{eq-eqb, le-leb, le-ltb}
 use Rattle.tree_model.specs.State.Lists.{first_some}
 use Rattle.tree_model.specs.State.Values.{MachineValue}
-use Rattle.tree_model.specs.State.Shape.{frame_of}
+use Rattle.tree_model.specs.State.Shape.{frame_of, shape_test, IsShaped}
 use Rattle.text_model.specs.declared.RunCounts.{RunCounts}
 use Rattle.state_words.specs.declared.MachineSizes.{MachineSizes}
 use Rattle.state_words.specs.Machine.{sizes_of, state_words, head_words, checkpoint_words, checkpoint_bytes}
@@ -16,11 +16,13 @@ use Rattle.state_reading.specs.Reading.{and_then}
 use Rattle.state_reading.specs.Machine.{read_words}
 use Rattle.state_judging.specs.Judged.{judged, unless_judged, read_state}
 use Rattle.state_judging.specs.Read.{CanRead}
+use Rattle.spelling_laws.specs.Small.{IsSmall}
 use Rattle.spelling_laws.specs.Spelled.{IsSpelled}
 use Rattle.spelling_laws.proofs.MachineTaken.{spelled-read}
+use Rattle.spelling_laws.proofs.SmallWords.{checkpoint-small}
 use Rattle.checkpoint.specs.declared.ResumeRefusal.{ResumeRefusal}
 use Rattle.checkpoint.specs.Saved.{saved}
-use Rattle.checkpoint.specs.Fits.{CountsFit, AreSmall}
+use Rattle.checkpoint.specs.Fits.{CountsFit}
 use Rattle.checkpoint.specs.Resumed.{whole_words, size_words, other_machine, bad_count, bad_head, resumed_by, resumed_unless, bad_name, resumed}
 use Rattle.checkpoint.proofs.Accepted.{sizes-framed, frame_sizes}
 use Rattle.checkpoint.proofs.Bytes.{words-again}
@@ -71,10 +73,12 @@ state-fits fresh m can frame spelled none =
 
 -- ---- the file
 
-pub saved-read : (fresh m : MachineValue) (c : RunCounts) → CanRead fresh → frame_of m ≡ frame_of fresh → IsSpelled m → judged m ≡ None → c.retired ≡ length m.ops → CountsFit c
-    → AreSmall (checkpoint_words m c.turns c.retired c.granted c.busy) → length (saved m c) ≤ 536870912 → resumed fresh (saved m c) ≡ Ok (record { machine = m; counts = c })
+pub saved-read : (fresh m : MachineValue) (c : RunCounts) → CanRead fresh → frame_of m ≡ frame_of fresh → IsSpelled m → IsSmall m → judged m ≡ None → c.retired ≡ length m.ops → CountsFit c
+    → length (saved m c) ≤ 536870912 → resumed fresh (saved m c) ≡ Ok (record { machine = m; counts = c })
 unfolding resumed checkpoint_bytes checkpoint_words head_words
-saved-read fresh m c can frame spelled none retired fit small most =
+saved-read fresh m c can frame spelled few none retired fit most =
+    let shaped : IsShaped m = record { each = λ r. subst (λ f. shape_test r f ≡ true) (sym frame) (can.shaped.each r) } in
+    let small = checkpoint-small m shaped spelled few c.turns c.retired c.granted c.busy fit.turns fit.retired fit.granted fit.busy in
     let s = sizes_of fresh in
     let state = state_words m in
     let size = length (saved m c) in

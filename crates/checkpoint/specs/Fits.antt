@@ -1,7 +1,6 @@
--- Counts that a checkpoint may have, and numbers that are words of it.
+-- Counts that a checkpoint may have.
 -- To be believed with the laws: it is what they speak of.
-use Rattle.std.specs.Prelude.{◌≤◌, ◌<◌, ℕ, List}
-use Rattle.std.specs.List.{AllByRecursion}
+use Rattle.std.specs.Prelude.{◌≤◌}
 use Rattle.text_model.specs.declared.RunCounts.{RunCounts}
 use Rattle.state_reading.specs.Parts.{most_counted}
 
@@ -11,7 +10,3 @@ pub record CountsFit (c : RunCounts) : Type 0 where
   pub retired : c.retired ≤ most_counted
   pub granted : c.granted ≤ most_counted
   pub busy : c.busy ≤ most_counted
-
--- each is a number of 32 bits
-abbrev pub AreSmall : List ℕ → Type 0
-AreSmall ws = AllByRecursion (λ w. w < 4294967296) ws
