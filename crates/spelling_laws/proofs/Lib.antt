@@ -29,3 +29,4 @@ pub mod SpelledTree
 pub mod MachineTaken
 pub mod SmallParts
 pub mod SmallWords
+pub mod Ruled

@@ -4,11 +4,13 @@ ghost use Rattle.std.specs.Prelude.{◌≡◌, ℕ, ◌+◌, ◌≤◌, List, �
 ghost use Rattle.std.specs.List.{AllByRecursion};
 ghost use Rattle.tree_model.specs.State.Values.{MachineValue};
 ghost use Rattle.tree_model.specs.State.Shape.{IsShaped, frame_of};
+ghost use Rattle.tree_rules.specs.Bus.Rules.{IsMachineOk};
+ghost use Rattle.tree_rules.specs.Order.Rules.{IsTimed};
 ghost use Rattle.state_words.specs.Machine.{checkpoint_words, state_words};
 ghost use Rattle.state_reading.specs.Machine.{read_words};
 ghost use Rattle.state_reading.specs.Parts.{most_counted};
 ghost use Rattle.state_judging.specs.Read.{CanRead};
-ghost use Rattle.value_laws.specs.Values.{IsWord};
+ghost use Rattle.value_laws.specs.Values.{HasForm, IsWord};
 ghost use Rattle.spelling_laws.specs.Small.{IsSmall};
 ghost use Rattle.spelling_laws.specs.Spelled.{IsSpelled};
 
@@ -31,4 +33,10 @@ pub fn spelled_words_are_small()
     ensures state { (m : MachineValue) → IsShaped m → IsSpelled m → IsSmall m → AllByRecursion IsWord (state_words m) }
     ensures checkpoint { (m : MachineValue) (turns retired granted busy : ℕ) → IsShaped m → IsSpelled m → IsSmall m → turns ≤ most_counted → retired ≤ most_counted → granted ≤ most_counted → busy ≤ most_counted
         → AllByRecursion IsWord (checkpoint_words m turns retired granted busy) }
+{}
+
+/// A machine that keeps the rules of every bus and of time, whose values have their form and of which no count is above what a
+/// checkpoint may say, is one whose words are read again.
+pub fn ruled_machines_are_spelled()
+    ensures { (m : MachineValue) → IsMachineOk m → IsTimed m → HasForm most_counted m → IsSpelled m }
 {}
