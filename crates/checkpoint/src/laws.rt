@@ -11,7 +11,7 @@ ghost use Rattle.spelling_laws.specs.Spelled.{IsSpelled};
 ghost use Rattle.checkpoint.specs.Saved.{saved};
 ghost use Rattle.checkpoint.specs.Resumed.{resumed};
 ghost use Rattle.checkpoint.specs.Fits.{CountsFit};
-ghost use Rattle.checkpoint.specs.Laws.{AcceptedIsSaved};
+ghost use Rattle.checkpoint.specs.Laws.{AcceptedIsSaved, SavedIsReadBack};
 
 /// A file that is accepted is what is saved of the machine that it gives: so a state has one spelling.
 pub fn accepted_is_saved()
@@ -23,4 +23,9 @@ pub fn accepted_is_saved()
 pub fn saved_machines_are_read_back()
     ensures { (fresh m : MachineValue) (c : RunCounts) → CanRead fresh → frame_of m ≡ frame_of fresh → IsSpelled m → IsSmall m → judged m ≡ None → c.retired ≡ length m.ops → CountsFit c
         → length (saved m c) ≤ 536870912 → resumed fresh (saved m c) ≡ Ok (record { machine = m; counts = c }) }
+{}
+
+/// So what is saved of a run is read back.
+pub fn saved_is_read_back()
+    ensures { SavedIsReadBack }
 {}
