@@ -30,3 +30,4 @@ pub mod MachineTaken
 pub mod SmallParts
 pub mod SmallWords
 pub mod Ruled
+pub mod StartSmall

@@ -3,6 +3,7 @@
 use Rattle.std.specs.Prelude.{◌≡◌, ◌/◌, ℕ, Bool, true, nat_lt, ◌&&◌, length}
 use Rattle.tree_model.specs.State.Values.{MachineValue, root_of}
 use Rattle.tree_model.specs.State.Shape.{Skeleton, Skeletons, leaf_bone, dir_bone, no_bones, more_bones, skeleton, tree_counts}
+use Rattle.tree_model.specs.Start.Sources.{TreeValue}
 use Rattle.tree_rules.specs.Bus.Rules.{items_of_machine}
 use Rattle.value_laws.specs.Values.{IsWord}
 
@@ -26,3 +27,12 @@ pub record IsSmall (m : MachineValue) : Type 0 where
   pub buses : IsWord (tree_counts m).buses
   pub rooms : rooms_small (skeleton (root_of m)) ≡ true
   pub ops : IsWord (length m.ops)
+
+-- the sizes of a tree are words
+pub record HasSmallSizes (t : TreeValue) : Type 0 where
+  pub ways : IsWord t.way_count
+  pub buffer : IsWord t.sizes.buffer
+  pub parking : IsWord t.sizes.parking
+  pub down : IsWord t.sizes.down
+  pub requests : IsWord t.sizes.requests
+  pub replies : IsWord t.sizes.replies

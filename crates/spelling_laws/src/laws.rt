@@ -4,6 +4,9 @@ ghost use Rattle.std.specs.Prelude.{◌≡◌, ℕ, ◌+◌, ◌≤◌, List, �
 ghost use Rattle.std.specs.List.{AllByRecursion};
 ghost use Rattle.tree_model.specs.State.Values.{MachineValue};
 ghost use Rattle.tree_model.specs.State.Shape.{IsShaped, frame_of};
+ghost use Rattle.tree_model.specs.Start.Sources.{ImageValue, TreeValue};
+ghost use Rattle.tree_model.specs.Start.Machine.{start_of};
+ghost use Rattle.bus_laws.specs.IsTree.{IsTree};
 ghost use Rattle.tree_rules.specs.Bus.Rules.{IsMachineOk};
 ghost use Rattle.tree_rules.specs.Order.Rules.{IsTimed};
 ghost use Rattle.state_words.specs.Machine.{checkpoint_words, state_words};
@@ -11,7 +14,7 @@ ghost use Rattle.state_reading.specs.Machine.{read_words};
 ghost use Rattle.state_reading.specs.Parts.{most_counted};
 ghost use Rattle.state_judging.specs.Read.{CanRead};
 ghost use Rattle.value_laws.specs.Values.{HasForm, IsWord};
-ghost use Rattle.spelling_laws.specs.Small.{IsSmall};
+ghost use Rattle.spelling_laws.specs.Small.{HasSmallSizes, IsSmall};
 ghost use Rattle.spelling_laws.specs.Spelled.{IsSpelled};
 
 /// Words that are read into a machine are those that are spelled of what was read: a state has one spelling.
@@ -39,4 +42,9 @@ pub fn spelled_words_are_small()
 /// checkpoint may say, is one whose words are read again.
 pub fn ruled_machines_are_spelled()
     ensures { (m : MachineValue) → IsMachineOk m → IsTimed m → HasForm most_counted m → IsSpelled m }
+{}
+
+/// A machine of a tree whose sizes are words has so few items, leaves, buses and places that their numbers are.
+pub fn started_machines_are_small()
+    ensures { (t : TreeValue) (i : ImageValue) (m : MachineValue) → IsTree t → HasSmallSizes t → start_of t i ≡ Ok m → IsSmall m }
 {}
