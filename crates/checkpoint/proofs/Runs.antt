@@ -20,8 +20,9 @@ use Rattle.headline.proofs.Runs.{run-in_order}
 use Rattle.state_reading.specs.Parts.{most_counted}
 use Rattle.state_judging.specs.Read.{CanRead}
 use Rattle.state_judging.proofs.Judging.{kept_rules_are_judged_so}
-use Rattle.spelling_laws.specs.Small.{rooms_small, IsSmall}
+use Rattle.spelling_laws.specs.Small.{rooms_small, IsSmall, HasSmallSizes}
 use Rattle.spelling_laws.proofs.Ruled.{ruled-spelled}
+use Rattle.spelling_laws.proofs.StartSmall.{started-small}
 use Rattle.checkpoint.specs.Saved.{saved}
 use Rattle.checkpoint.specs.Resumed.{resumed}
 use Rattle.checkpoint.proofs.ReadBack.{saved-read}
@@ -116,10 +117,11 @@ still-small fresh m frame small ops =
 
 -- ---- the run
 
-pub run-read : (t : TreeValue) (i : ImageValue) (fresh : MachineValue) (ts : List Turn) → IsTree t → IsOfBytes i → start_of t i ≡ Ok fresh → CanRead fresh → IsSmall fresh → length ts ≤ most_counted
+pub run-read : (t : TreeValue) (i : ImageValue) (fresh : MachineValue) (ts : List Turn) → IsTree t → IsOfBytes i → start_of t i ≡ Ok fresh → CanRead fresh → HasSmallSizes t → length ts ≤ most_counted
     → length (saved (run_of ts fresh).machine (counts_of (run_of ts fresh).answers)) ≤ 536870912
     → resumed fresh (saved (run_of ts fresh).machine (counts_of (run_of ts fresh).answers)) ≡ Ok (record { machine = (run_of ts fresh).machine; counts = counts_of (run_of ts fresh).answers })
-run-read t i fresh ts tree of_bytes built can small few most =
+run-read t i fresh ts tree of_bytes built can sizes few most =
+    let small = started-small t i fresh tree sizes built in
     let m = (run_of ts fresh).machine in
     let c = counts_of (run_of ts fresh).answers in
     let rules = run-in_order t i fresh tree built ts in
