@@ -150,6 +150,10 @@ filled-is fresh m shaped same =
     ∙ ap (λ code. record fresh { code = code; top = m.top; kids = m.kids; ops = m.ops; traffic = m.traffic }) code
     ∙ ap (λ items. record m { items = items }) items
 
+-- from as many buses as there are before the first turn
+filled-from : (fresh m : MachineValue) → IsShaped m → frame_of m ≡ frame_of fresh → length m.traffic ≡ length fresh.traffic → refilled_machine fresh (machine_leaves m) (map (bus_at m) (range_with_len 0 (length fresh.traffic))) m.ops ≡ m
+filled-from fresh m shaped same many = ap (λ c. refilled_machine fresh (machine_leaves m) (map (bus_at m) (range_with_len 0 c)) m.ops) (sym many) ∙ filled-is fresh m shaped same
+
 -- ---- the whole
 
 pub machine-taken : (fresh m : MachineValue) → CanRead fresh → frame_of m ≡ frame_of fresh → IsSpelled m → Takes (read_words fresh (length m.ops)) (state_words m) m
@@ -180,9 +184,7 @@ machine-taken fresh m can same spelled k at ws rest s =
     take-part (times (read_op (depth_of fresh) (tree_counts fresh).leaves) (length m.ops) []) k4 ws4 _ _ (flat_map op_words m.ops) m.ops
     (times-taken op_words (read_op (depth_of fresh) (tree_counts fresh).leaves) [] m.ops (ops-taken m shaped (depth_of fresh) (tree_counts fresh).leaves [] m.ops depth leaf_count spelled.parts.keys spelled.parts.leaves spelled.form.ops)) (0x454d4444 ∷ []) at rest s4 (λ k5 ws5 s5.
     take-word (λ w. nat_eq w 0x454d4444) k5 ws5 _ _ 0x454d4444 refl [] at rest s5 (λ k6 ws6 s6.
-    taken-all _ k6 at ws6 rest s6
-    ∙ ap (λ c. Ok (record { value = refilled_machine fresh (machine_leaves m) (map (bus_at m) (range_with_len 0 c)) m.ops; at = at; rest = rest })) (sym many)
-    ∙ ap (λ m. Ok (record { value = m; at = at; rest = rest })) (filled-is fresh m shaped same)))))))
+    taken-all _ k6 at ws6 rest s6 ∙ ap (λ m. Ok (record { value = m; at = at; rest = rest })) (filled-from fresh m shaped same many)))))))
 
 -- as the law says it
 pub spelled-read : (fresh m : MachineValue) (k : ℕ) (rest : List ℕ) → CanRead fresh → frame_of m ≡ frame_of fresh → IsSpelled m → read_words fresh (length m.ops) k (state_words m ++ rest) ≡ Ok (record { value = m; at = k + length (state_words m); rest = rest })
