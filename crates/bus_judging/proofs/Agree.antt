@@ -1,20 +1,21 @@
 -- The tests by what is gathered are the rules' own.
 -- Letters: p is the face of a parent, k are the bits of its bus, q are kinds.
-use Rattle.std.proofs.Common.{◌≡◌, ◌∙◌, ap, sym, refl, Bool, true, false, ◌&&◌, List, [], ◌∷◌, is_some}
+use Rattle.std.proofs.Common.{◌≡◌, ◌∙◌, ap, sym, refl, ℕ, Bool, true, false, not, ◌&&◌, ◌||◌, List, [], ◌∷◌, is_some}
 use Rattle.std.specs.List.{list_all}
 use Rattle.std.specs.Bool.{beq}
 use Rattle.ddm_types.specs.declared.answers.TxKind.{TxKind}
-use Rattle.tree_model.specs.State.Kinds.{brings_copy}
+use Rattle.ddm_types.specs.declared.answers.TxKind.TheVariants.{EraseTx, ExclusiveTx}
+use Rattle.tree_model.specs.State.Kinds.{brings_copy, has_kind}
 use Rattle.tree_model.specs.State.Lists.{has_some}
-use Rattle.tree_model.specs.State.States.{is_held, is_exclusive}
+use Rattle.tree_model.specs.State.States.{is_held, is_exclusive, is_shared}
 use Rattle.tree_model.specs.State.Values.{Note, no_note, local, up_read, up_erase}
 use Rattle.tree_model.specs.State.Directory.{is_local, is_up_read, is_up_erase, note_why}
-use Rattle.tree_rules.specs.Bus.Faces.{ParentFace}
+use Rattle.tree_rules.specs.Bus.Faces.{ParentFace, face_above}
 use Rattle.tree_rules.specs.Bus.Item.{Bits, ItemRule, item_test, item_holds, implies, copies_in, starts_for, ends_with_inject, held_after, answering_held, exclusive_alone, parked_alone, exclusive_covered, queue_in_order, queue_start, inject_covered, erased_shared, hold_follows, local_noted, up_read_noted, data_read, up_erase_noted, erase_end, reads_noted, erases_noted, granted_held, exclusive_noted, giver, givers_held, read_answered, asked_alone, one_request, request_open, request_noted}
 use Rattle.bus_judging.specs.Queue.{first_kind, last_kind}
 use Rattle.bus_judging.specs.Parent.{facts_at, starts_with, ends_in_inject, held_behind}
 use Rattle.bus_judging.proofs.Gathered.{last-some}
-use Rattle.bus_judging.specs.Tests.{notes_local, notes_read, notes_erase, test_by_facts, five_by_facts}
+use Rattle.bus_judging.specs.Tests.{notes_local, notes_read, notes_erase, granted_read, granted_erase, test_by_facts, five_by_facts}
 
 starts-agree : (q : List TxKind) (held : Bool) → starts_for held q ≡ starts_with (first_kind q) held
 starts-agree [] held = refl
@@ -51,6 +52,26 @@ erase-agrees (up_erase d) = refl
 some-agrees : (q : List TxKind) → has_some q ≡ is_some (first_kind q)
 some-agrees [] = refl
 some-agrees (k ∷ q) = refl
+
+-- ---- what the bus above sees
+
+erase-seen : (shared noted asked erased ended : Bool) → (shared && (noted && (not asked && (not erased && not ended)))) ≡ (noted && ((shared && not (ended || erased)) && not asked))
+erase-seen false false asked erased ended = refl
+erase-seen false true asked erased ended = refl
+erase-seen true false asked erased ended = refl
+erase-seen true true false false false = refl
+erase-seen true true false false true = refl
+erase-seen true true false true false = refl
+erase-seen true true false true true = refl
+erase-seen true true true false false = refl
+erase-seen true true true false true = refl
+erase-seen true true true true false = refl
+erase-seen true true true true true = refl
+
+pub face_by_facts : (p : ParentFace) (n : ℕ) → face_above p n ≡ record { hold = p.hold; reads = granted_read (facts_at p); erases = granted_erase (facts_at p); replies = n; answers = p.answering }
+face_by_facts p n = rw (read-agrees p.note, erase-agrees p.note, some-agrees p.queue, erase-seen (is_shared p.hold) (notes_erase (note_why p.note)) (has_kind EraseTx p.requests) (has_kind EraseTx p.queue) (has_kind ExclusiveTx p.queue)) refl
+
+-- ---- the tests
 
 by_facts : (r : ItemRule) (p : ParentFace) (k : Bits) → item_test r p k ≡ test_by_facts r (facts_at p) k
 by_facts answering_held p k = refl

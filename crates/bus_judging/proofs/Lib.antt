@@ -2,3 +2,4 @@ pub mod Gathered
 pub mod Among
 pub mod Asked
 pub mod Agree
+pub mod Copies

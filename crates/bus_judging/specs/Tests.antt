@@ -45,6 +45,13 @@ erase_is_due f = is_shared f.hold && not (f.queue.exclusives || f.queue.erases)
 abbrev pub is_asked : ParentFacts → Bool
 is_asked f = f.answering && not f.queue.reads
 
+-- what the bus above sees
+abbrev pub granted_read : ParentFacts → Bool
+granted_read f = notes_read f.note && (not (any_comes f.queue) && not f.requests.reads)
+
+abbrev pub granted_erase : ParentFacts → Bool
+granted_erase f = notes_erase f.note && (erase_is_due f && not f.requests.erases)
+
 abbrev pub test_by_facts : ItemRule → ParentFacts → Bits → Bool
 test_by_facts answering_held f k = implies f.answering (is_held f.hold)
 test_by_facts exclusive_alone f k = implies k.exclusive k.sole

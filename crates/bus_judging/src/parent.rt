@@ -1,13 +1,15 @@
 ghost use Rattle.std.specs.Prelude.{◌≡◌, ◌++◌, ◌∷◌, [], List};
 ghost use Rattle.ddm_types.specs.declared.answers.TxKind.{TxKind};
 ghost use Rattle.tree_model.specs.State.Kinds.{brings_copy, goes_up, is_kind};
-ghost use Rattle.tree_rules.specs.Bus.Faces.{ChildFace as Face, ParentFace};
+ghost use Rattle.tree_rules.specs.Bus.Faces.{ChildFace as Face, ParentFace, face_above};
 ghost use Rattle.tree_rules.specs.Bus.Item.{bits_of, item_holds, kept_place, one_of_three, top_holds, answering_held, exclusive_alone, parked_alone, exclusive_covered, queue_in_order, queue_start, inject_covered, erased_shared, hold_follows, local_noted, up_read_noted, data_read, up_erase_noted, erase_end, reads_noted, erases_noted, granted_held, exclusive_noted, giver, givers_held, read_answered, asked_alone, one_request, request_open, request_noted};
 ghost use Rattle.bus_judging.specs.Children.{facts_among};
 ghost use Rattle.bus_judging.specs.Parent.{ends_in_inject, facts_at, held_behind, request_facts, starts_with};
-ghost use Rattle.bus_judging.specs.Tests.{any_comes, erase_is_due, exclusive_is_due, five_by_facts, is_asked, notes_erase, notes_local, notes_read};
+ghost use Rattle.bus_judging.specs.Tests.{any_comes, erase_is_due, exclusive_is_due, five_by_facts, granted_erase, granted_read, is_asked, notes_erase, notes_local, notes_read};
 
-use crate::children::{Bits, ChildrenFacts, either, implies, is_exclusive, is_held, is_shared};
+use crate::children::{
+    Bits, ChildFace, ChildrenFacts, either, implies, is_exclusive, is_held, is_shared,
+};
 use crate::queue::{QueueFacts, is_kind};
 use ddm_types::{Hold, PendingWhy, TxKind};
 use std::marker::Model;
@@ -287,5 +289,34 @@ impl ParentFacts {
     {
         let bits = children.bits(self.parked);
         bits.held & (!self.parked & self.queue.only_exclusives)
+    }
+
+    /// It has an open read, and no read of the item among its requests.
+    fn was_granted_a_read(&self) -> bool
+        ensures { result ≡ granted_read self.now }
+    {
+        let none_comes = !self.any_comes();
+        notes_read(self.note) & (none_comes & !self.requests.reads)
+    }
+
+    /// Its erase was granted, and neither that nor its end comes down yet.
+    fn was_granted_an_erase(&self) -> bool
+        ensures { result ≡ granted_erase self.now }
+    {
+        let due = self.erase_is_due() & !self.requests.erases;
+        notes_erase(self.note) & due
+    }
+
+    /// What the bus above sees of it, where it has so many replies of the item.
+    pub fn face(&self, replies: u32) -> ChildFace
+        ensures { (p : ParentFace) → self.now ≡ facts_at p → result ≡ face_above p replies }
+    {
+        ChildFace {
+            hold: self.hold,
+            reads: self.was_granted_a_read(),
+            erases: self.was_granted_an_erase(),
+            replies,
+            answers: self.answering,
+        }
     }
 }

@@ -1,11 +1,13 @@
 use crate::cluster::Cluster;
-use ddm_tree::{Found, Named, Subtree};
+use bus_judging::ChildFace;
+use ddm_tree::{Found, Named, Section, Subtree};
 use ddm_types::{
     BusNo, ChildNo, Code, Hold, ItemId, Items, LeafNo, LeafState, NoMemory, Stamp, Turn,
     TurnAnswer, Words,
 };
 use item_states::DownEntry;
 use rv_hart::Hart;
+use state_reading::StateRefusal;
 use std::alloc::Global;
 use tree_model::{BusTurn, LeafSpot, TreeChild};
 
@@ -73,6 +75,10 @@ impl<const WAYS: usize, const WORDS: usize> Subtree<WORDS> for Cluster<WAYS, WOR
         self.dir.down_len_below(bus, path)
     }
 
+    fn stamps_fit_below(&self, bus: BusNo, path: &[ChildNo], present: &Stamp) -> bool {
+        self.dir.stamps_fit_below(bus, path, present)
+    }
+
     fn parked_below(
         &self,
         bus: BusNo,
@@ -80,6 +86,14 @@ impl<const WAYS: usize, const WORDS: usize> Subtree<WORDS> for Cluster<WAYS, WOR
         item: ItemId,
     ) -> Option<(u32, Words<WORDS>)> {
         self.dir.parked_below(bus, path, item)
+    }
+
+    fn face(&self, item: ItemId) -> ChildFace {
+        self.dir.face(item)
+    }
+
+    fn broken_below(&self, bus: BusNo, path: &[ChildNo], items: u32) -> Option<ItemId> {
+        self.dir.broken_below(bus, path, items)
     }
 
     fn ways_below(&self) -> u32 {
@@ -111,6 +125,16 @@ impl<const WAYS: usize, const WORDS: usize> Subtree<WORDS> for Cluster<WAYS, WOR
         out: &mut Vec<u32>,
     ) -> Result<(), NoMemory> {
         self.dir.write_part_below(bus, path, out)
+    }
+
+    fn read_below(
+        &mut self,
+        section: Section,
+        path: &[ChildNo],
+        words: &[u32],
+        from: u32,
+    ) -> Result<u32, StateRefusal> {
+        self.dir.read_below(section, path, words, from)
     }
 
     fn found_below(&self, item: ItemId) -> Option<Found<WORDS>> {

@@ -25,11 +25,11 @@ or-behind false b c = refl
 
 module _ (k : ℕ) where
   mutual
-    numbered-in : (n : Node) (rest : List ℕ) → list_any (nat_eq k) (buses_of (skeleton n) rest) ≡ (has_node (bus_of_number k) n || list_any (nat_eq k) rest)
+    pub numbered-in : (n : Node) (rest : List ℕ) → list_any (nat_eq k) (buses_of (skeleton n) rest) ≡ (has_node (bus_of_number k) n || list_any (nat_eq k) rest)
     numbered-in (leaf_node v) rest = refl
     numbered-in (dir_node d ns) rest = ap (λ b. nat_eq k d.bus || b) (numbered-among ns rest) ∙ or-behind (nat_eq k d.bus) (has_among (bus_of_number k) ns) (list_any (nat_eq k) rest) ∙ ap (λ b. (b || has_among (bus_of_number k) ns) || list_any (nat_eq k) rest) (same-test k d.bus)
 
-    numbered-among : (ns : Nodes) (rest : List ℕ) → list_any (nat_eq k) (buses_among (skeletons ns) rest) ≡ (has_among (bus_of_number k) ns || list_any (nat_eq k) rest)
+    pub numbered-among : (ns : Nodes) (rest : List ℕ) → list_any (nat_eq k) (buses_among (skeletons ns) rest) ≡ (has_among (bus_of_number k) ns || list_any (nat_eq k) rest)
     numbered-among no_nodes rest = refl
     numbered-among (more_nodes n ns) rest = numbered-in n (buses_among (skeletons ns) rest) ∙ ap (λ b. has_node (bus_of_number k) n || b) (numbered-among ns rest) ∙ or-behind (has_node (bus_of_number k) n) (has_among (bus_of_number k) ns) (list_any (nat_eq k) rest)
 

@@ -1,23 +1,25 @@
 -- What a machine that is taken apart keeps while words are read into it.
-use Rattle.std.proofs.Common.{◌≡◌, ◌<◌, ℕ, zero, suc, Bool, true, false, List, [], ◌∷◌, length, map, drop, Option, Some, refl, sym, ap, ◌∙◌, subst}
-use Rattle.std.specs.Prelude.{nat_eq, nat_lt, ◌&&◌, slice_set, Result, Ok, Err, if◌then◌else◌, ⊤}
+use Rattle.std.proofs.Common.{◌≡◌, ◌<◌, ℕ, zero, suc, Bool, true, false, List, [], ◌∷◌, length, map, drop, Option, Some, refl, sym, ap, ◌∙◌, subst, arith}
+use Rattle.std.specs.Prelude.{IsTrue, nat_eq, nat_lt, ◌&&◌, slice_set, Result, Ok, Err}
+use Rattle.std.proofs.lemmas.Bool.{eqb-true}
+use Rattle.ddm_types.specs.ItemTable.{item_count}
+use Rattle.tree_model.specs.State.Rooms.{all_within, all_within_among, dir_within, leaf_within}
 use Rattle.tree_model.specs.State.Blank.{no_node}
 use Rattle.tree_model.specs.State.Values.{LeafValue, DirValue, Node, Nodes, leaf_node, dir_node, no_nodes, more_nodes, nodes, children, MachineValue, root_of}
-use Rattle.tree_model.specs.State.Shape.{IsShaped, Skeletons, ShapeRule, dir_bone, leaf_bone, frame_of, skeleton, skeletons, tree_counts}
+use Rattle.tree_model.specs.State.Shape.{IsShaped, dir_bone, frame_of, shape_test, skeleton, skeletons, tree_counts}
 use Rattle.tree_model.specs.Turns.Children.{child_at}
 use Rattle.tree_model.specs.Turns.Tree.{Name}
 use Rattle.tree_model.specs.Turns.Machine.{with_root}
 use Rattle.tree_model.proofs.Children.{nodes-children}
 use Rattle.tree_model.specs.Start.Nodes.{top_sizes}
-use Rattle.tree_model.proofs.Tests.{and-both}
-use Rattle.tree_rules.specs.Bus.Own.{LeafRule, has_ways, top_bus}
+use Rattle.tree_model.proofs.Tests.{and-both, and-first, and-second}
+use Rattle.tree_rules.specs.Bus.Own.{dir_lists, leaf_lists, top_bus}
+use Rattle.tree_rules.specs.Bus.Own as own
 use Rattle.tree_rules.specs.Bus.Rules.{IsTreeOk, AreTreesOk, items_of_machine}
 use Rattle.state_judging.specs.Read.{CanRead, ways_exist, ways_exist_among}
 use Rattle.state_reading.specs.declared.StateRefusal.{StateRefusal}
-use Rattle.state_reading.specs.declared.StateRefusal.TheVariants.{BrokenLeaf}
 use Rattle.state_reading.specs.Reading.{Read, and_then, given}
-use Rattle.state_reading.specs.Parts.{is_whole_leaf, read_dir, read_hart, read_leaf, unless_broken}
-use Rattle.state_words.specs.Parts.{StandingValue}
+use Rattle.state_reading.specs.Parts.{read_dir, read_hart, read_leaf}
 use Rattle.ddm_tree.specs.declared.section.Section.{Section}
 use Rattle.ddm_tree.specs.Machine.{has_path, is_part, listed_path, machine_of}
 use Rattle.ddm_tree.specs.Parts.{IsParts, SectionRead, SectionRefused}
@@ -25,14 +27,21 @@ use Rattle.ddm_tree.specs.Path.{node_at, path_to, put_at}
 use Rattle.ddm_tree.specs.ReadBack.{IsPut, PartRead, node_read, section_name}
 use Rattle.ddm_tree.specs.Ready.{words_are, Leads}
 use Rattle.ddm_tree.specs.Rules.{KeepsRules}
+use Rattle.tree_rules.proofs.BusTests.{dir-at, leaf-at}
+use Rattle.state_judging.proofs.Inverted.{and_then-ok, given-so}
+use Rattle.state_judging.proofs.DirRead.{dir-ok}
+use Rattle.state_judging.proofs.LeafRead.{hart-ok, leaf-ok}
+use Rattle.state_judging.proofs.LeavesRead.{has_ways}
+use Rattle.ddm_tree.proofs.Along.{some_if-same}
 use Rattle.ddm_tree.proofs.Copies.{counts-same}
+use Rattle.ddm_tree.proofs.Descend.{leads-child, within-child}
 use Rattle.ddm_tree.proofs.Names.{path-there}
-use Rattle.ddm_tree.proofs.Reading.{Listed}
+use Rattle.ddm_tree.proofs.Reading.{Listed, within-at}
 use Rattle.ddm_tree.proofs.RulesKept.{rules-buses}
 
 mutual
   ways-there : (n : ℕ) (m : Node) → IsTreeOk n m → ways_exist (skeleton m) ≡ true
-  ways-there n (leaf_node v) is = is.each has_ways
+  ways-there n (leaf_node v) is = is.each own.has_ways
   ways-there n (dir_node d ns) is = ways-there-among n ns is.1
 
   ways-there-among : (n : ℕ) (ns : Nodes) → AreTreesOk n ns → ways_exist_among (skeletons ns) ≡ true
@@ -44,78 +53,53 @@ can-read m down width shaped rules sizes =
     let ok = rules-buses m rules in
     record { shaped = shaped; ways = ways-there (items_of_machine m) (root_of m) ok.tree; top = and-both _ _ (ok.top.each top_bus) (rw sizes refl) }
 
--- ---- what is read keeps the numbers and sizes of its node
+-- ---- what is read keeps the numbers, the sizes and the rooms of its node
 
-module _ {A : Type 0} (P : A → Type 0) where
-  abbrev Keeps : Result (Read A) StateRefusal → Type 0
-  Keeps (Ok r) = P r.value
-  Keeps (Err e) = ⊤
+abbrev to_leaf : LeafValue → ℕ → List ℕ → Result (Read Node) StateRefusal
+to_leaf v k ws = given (leaf_node v) k ws
 
-  then-keeps : {B : Type 0} (r : Result (Read B) StateRefusal) (f : B → ℕ → List ℕ → Result (Read A) StateRefusal) → ((b : B) (k : ℕ) (ws : List ℕ) → Keeps (f b k ws)) → Keeps (and_then r f)
-  then-keeps (Ok r) f each = each r.value r.at r.rest
-  then-keeps (Err e) f each = tt
+abbrev to_dir : Nodes → DirValue → ℕ → List ℕ → Result (Read Node) StateRefusal
+to_dir ns d k ws = given (dir_node d ns) k ws
 
-  kept-so : (r : Result (Read A) StateRefusal) (a : A) (k : ℕ) (ws : List ℕ) → r ≡ Ok (record { value = a; at = k; rest = ws }) → Keeps r → P a
-  kept-so r a k ws is keeps = let at : Keeps (Ok (record { value = a; at = k; rest = ws })) = subst Keeps is keeps in at
+-- a node in place of another one: the same numbers and sizes, and each list within its room
+record Fits (items : ℕ) (n m : Node) : Type 0 where
+  bones : skeleton m ≡ skeleton n
+  rooms : all_within items m ≡ true
 
-record SameLeaf (v u : LeafValue) : Type 0 where
-  number : u.number ≡ v.number
-  sizes : u.sizes ≡ v.sizes
+module _ (items : ℕ) where
+  own-fits : (n : Node) (k : ℕ) (ws : List ℕ) (r : Read Node) → all_within items n ≡ true → given n k ws ≡ Ok r → Fits items n r.value
+  own-fits n k ws r within e = given-so (Fits items n) n k ws r e (record { bones = refl; rooms = within })
 
-record SameDir (d e : DirValue) : Type 0 where
-  bus : e.bus ≡ d.bus
-  level : e.level ≡ d.level
-  sizes : e.sizes ≡ d.sizes
+  hart-fits : (v : LeafValue) (k : ℕ) (ws : List ℕ) (r : Read Node) → all_within items (leaf_node v) ≡ true → and_then (read_hart v k ws) to_leaf ≡ Ok r → Fits items (leaf_node v) r.value
+  hart-fits v k ws r within e =
+      let u = and_then-ok (read_hart v k ws) to_leaf r e in
+      let h = hart-ok v k ws u.0 u.1 in
+      given-so (Fits items (leaf_node v)) (leaf_node u.0.value) u.0.at u.0.rest r u.2 (record { bones = rw (h.number, h.sizes) refl; rooms = rw (h.ways, h.buffer, h.replies, h.sizes) within })
 
-hart-keeps : (v : LeafValue) (k : ℕ) (ws : List ℕ) → Keeps (SameLeaf v) (read_hart v k ws)
-unfolding read_hart
-hart-keeps v k ws =
-    then-keeps (SameLeaf v) _ _ (λ registers k ws. then-keeps (SameLeaf v) _ _ (λ pc k ws. then-keeps (SameLeaf v) _ _ (λ done k ws.
-    then-keeps (SameLeaf v) _ _ (λ code k ws. then-keeps (SameLeaf v) _ _ (λ number k ws. record { number = refl; sizes = refl })))))
+  leaf-fits : (v : LeafValue) (k : ℕ) (ws : List ℕ) (r : Read Node) → has_ways v.sizes ≡ true → all_within items (leaf_node v) ≡ true → and_then (read_leaf (length v.ways) v k ws) to_leaf ≡ Ok r → Fits items (leaf_node v) r.value
+  leaf-fits v k ws r some within e =
+      let u = and_then-ok (read_leaf (length v.ways) v k ws) to_leaf r e in
+      let count : length v.ways ≡ items = eqb-true _ _ (and-first (nat_eq (length v.ways) items) _ within) in
+      let l = leaf-ok (length v.ways) v some k ws u.0 u.1 in
+      let own : leaf_within (length v.ways) u.0.value ≡ true = leaf-at leaf_lists (length v.ways) u.0.value l.holds in
+      given-so (Fits items (leaf_node v)) (leaf_node u.0.value) u.0.at u.0.rest r u.2 (record { bones = rw (l.number, l.sizes) refl; rooms = subst (λ k. leaf_within k u.0.value ≡ true) count own })
 
-unless-keeps : (v u : LeafValue) (ss : List StandingValue) (k : ℕ) (ws : List ℕ) → SameLeaf v u → Keeps (SameLeaf v) (unless_broken ss u k ws)
-unless-keeps v u ss k ws same =
-    elim (is_whole_leaf ss u) as (λ b. Keeps (SameLeaf v) (if b then given u k ws else Err (BrokenLeaf u.number))) [ true ↦ same | false ↦ tt ]
+  dir-fits : (d : DirValue) (ns : Nodes) (k : ℕ) (ws : List ℕ) (r : Read Node) → all_within items (dir_node d ns) ≡ true → and_then (read_dir (length d.items) (length (children ns)) d k ws) (to_dir ns) ≡ Ok r → Fits items (dir_node d ns) r.value
+  dir-fits d ns k ws r within e =
+      let u = and_then-ok (read_dir (length d.items) (length (children ns)) d k ws) (to_dir ns) r e in
+      let count : length d.items ≡ items = eqb-true _ _ (and-first (nat_eq (length d.items) items) _ (and-first (dir_within items d) _ within)) in
+      let l = dir-ok (length d.items) (length (children ns)) d k ws u.0 u.1 in
+      let own : dir_within (length d.items) u.0.value ≡ true = dir-at dir_lists (length d.items) (length (children ns)) u.0.value l.holds in
+      given-so (Fits items (dir_node d ns)) (dir_node u.0.value ns) u.0.at u.0.rest r u.2
+      (record { bones = rw (l.bus, l.level, l.sizes) refl; rooms = and-both _ _ (subst (λ k. dir_within k u.0.value ≡ true) count own) (and-second (dir_within items d) _ within) })
 
-leaf-keeps : (n : ℕ) (v : LeafValue) (k : ℕ) (ws : List ℕ) → Keeps (SameLeaf v) (read_leaf n v k ws)
-unfolding read_leaf
-leaf-keeps n v k ws =
-    then-keeps (SameLeaf v) _ _ (λ reserved k ws. then-keeps (SameLeaf v) _ _ (λ code k ws. then-keeps (SameLeaf v) _ _ (λ asked k ws.
-    then-keeps (SameLeaf v) _ _ (λ standing k ws. then-keeps (SameLeaf v) _ _ (λ ss k ws. then-keeps (SameLeaf v) _ _ (λ buffered k ws.
-    then-keeps (SameLeaf v) _ _ (λ buffer k ws. then-keeps (SameLeaf v) _ _ (λ replied k ws. then-keeps (SameLeaf v) _ _ (λ replies k ws.
-    unless-keeps v _ ss k ws (record { number = refl; sizes = refl }))))))))))
-
-dir-keeps : (n kids : ℕ) (d : DirValue) (k : ℕ) (ws : List ℕ) → Keeps (SameDir d) (read_dir n kids d k ws)
-unfolding read_dir
-dir-keeps n kids d k ws =
-    then-keeps (SameDir d) _ _ (λ count k ws. then-keeps (SameDir d) _ _ (λ epoch k ws. then-keeps (SameDir d) _ _ (λ items k ws.
-    then-keeps (SameDir d) _ _ (λ down k ws. then-keeps (SameDir d) _ _ (λ requests k ws. then-keeps (SameDir d) _ _ (λ replies k ws.
-    then-keeps (SameDir d) _ _ (λ parked k ws. then-keeps (SameDir d) _ _ (λ reserved k ws. record { bus = refl; level = refl; sizes = refl }))))))))
-
-abbrev Bones : Node → Node → Type 0
-Bones n m = skeleton m ≡ skeleton n
-
-leaf-bones : (v u : LeafValue) → SameLeaf v u → Bones (leaf_node v) (leaf_node u)
-leaf-bones v u same = rw (same.number, same.sizes) refl
-
-dir-bones : (d e : DirValue) (ns : Nodes) → SameDir d e → Bones (dir_node d ns) (dir_node e ns)
-dir-bones d e ns same = rw (same.bus, same.level, same.sizes) refl
-
-leaf-then : (v : LeafValue) (r : Result (Read LeafValue) StateRefusal) → Keeps (SameLeaf v) r → Keeps (Bones (leaf_node v)) (and_then r (λ v k ws. given (leaf_node v) k ws))
-leaf-then v (Ok r) keeps = leaf-bones v r.value keeps
-leaf-then v (Err e) keeps = tt
-
-dir-then : (d : DirValue) (ns : Nodes) (r : Result (Read DirValue) StateRefusal) → Keeps (SameDir d) r → Keeps (Bones (dir_node d ns)) (and_then r (λ d k ws. given (dir_node d ns) k ws))
-dir-then d ns (Ok r) keeps = dir-bones d r.value ns keeps
-dir-then d ns (Err e) keeps = tt
-
-node-keeps : (section : Section) (n : Node) (k : ℕ) (ws : List ℕ) → Keeps (Bones n) (node_read section n k ws)
-node-keeps (Section.Hart leaf) (leaf_node v) k ws = leaf-then v (read_hart v k ws) (hart-keeps v k ws)
-node-keeps (Section.Hart leaf) (dir_node d ns) k ws = refl
-node-keeps (Section.Leaf leaf) (leaf_node v) k ws = leaf-then v (read_leaf (length v.ways) v k ws) (leaf-keeps (length v.ways) v k ws)
-node-keeps (Section.Leaf leaf) (dir_node d ns) k ws = refl
-node-keeps (Section.Bus bus) (leaf_node v) k ws = refl
-node-keeps (Section.Bus bus) (dir_node d ns) k ws = dir-then d ns (read_dir (length d.items) (length (children ns)) d k ws) (dir-keeps (length d.items) (length (children ns)) d k ws)
+  node-fits : (section : Section) (n : Node) (k : ℕ) (ws : List ℕ) (r : Read Node) → ways_exist (skeleton n) ≡ true → all_within items n ≡ true → node_read section n k ws ≡ Ok r → Fits items n r.value
+  node-fits (Section.Hart leaf) (leaf_node v) k ws r some within e = hart-fits v k ws r within e
+  node-fits (Section.Hart leaf) (dir_node d ns) k ws r some within e = own-fits (dir_node d ns) k ws r within e
+  node-fits (Section.Leaf leaf) (leaf_node v) k ws r some within e = leaf-fits v k ws r some within e
+  node-fits (Section.Leaf leaf) (dir_node d ns) k ws r some within e = own-fits (dir_node d ns) k ws r within e
+  node-fits (Section.Bus bus) (leaf_node v) k ws r some within e = own-fits (leaf_node v) k ws r within e
+  node-fits (Section.Bus bus) (dir_node d ns) k ws r some within e = dir-fits d ns k ws r within e
 
 -- ---- and so the tree keeps them
 
@@ -129,19 +113,59 @@ put-bones [] new n e = e
 put-bones (i ∷ path) new (leaf_node v) e = refl
 put-bones (i ∷ path) new (dir_node d ns) e = ap (dir_bone d.bus d.level d.sizes) (set-bones ns i (put_at path new (child_at i (children ns))) (put-bones path new (child_at i (children ns)) e))
 
-pub section-bones : (section : Section) (path words : List ℕ) (from at : ℕ) (old new : Node) → IsPut section path words from at old new → skeleton new ≡ skeleton old
-section-bones section path words from at old new is =
-    let kept = kept-so (Bones (node_at path old)) (node_read section (node_at path old) from (drop from words)) is.node at (drop at words) is.read (node-keeps section (node_at path old) from (drop from words)) in
-    ap skeleton is.put ∙ put-bones path is.node old kept
+module _ (items : ℕ) where
+  set-within : (ns : Nodes) (i : ℕ) (m : Node) → all_within_among items ns ≡ true → all_within items m ≡ true → all_within_among items (nodes (slice_set (children ns) i m)) ≡ true
+  set-within no_nodes i m within e = refl
+  set-within (more_nodes n ns) zero m within e = and-both _ _ e (rw (nodes-children ns) (and-second (all_within items n) _ within))
+  set-within (more_nodes n ns) (suc i) m within e = and-both _ _ (and-first (all_within items n) _ within) (set-within ns i m (and-second (all_within items n) _ within) e)
+
+  put-within : (name : Name) (path : List ℕ) (new n : Node) → Leads name path n → all_within items n ≡ true → all_within items new ≡ true → all_within items (put_at path new n) ≡ true
+  put-within name [] new n leads within e = e
+  put-within name (i ∷ path) new (leaf_node v) leads within e = within
+  put-within name (i ∷ path) new (dir_node d ns) leads within e =
+      let next = leads-child name d ns i path leads in
+      let below = and-second (dir_within items d) _ within in
+      let kid = put-within name path new (child_at i (children ns)) next.leads (within-child items ns i below next.there) e in
+      and-both _ _ (and-first (dir_within items d) _ within) (set-within ns i (put_at path new (child_at i (children ns))) below kid)
+
+ways-child : (ns : Nodes) (i : ℕ) → ways_exist_among (skeletons ns) ≡ true → i < length (children ns) → ways_exist (skeleton (child_at i (children ns))) ≡ true
+ways-child no_nodes i e l = absurd (omega (arith, l))
+ways-child (more_nodes m ns) zero e l = and-first _ (ways_exist_among (skeletons ns)) e
+ways-child (more_nodes m ns) (suc i) e l = ways-child ns i (and-second (ways_exist (skeleton m)) _ e) (omega (arith, l))
+
+ways-at : (name : Name) (path : List ℕ) (n : Node) → Leads name path n → ways_exist (skeleton n) ≡ true → ways_exist (skeleton (node_at path n)) ≡ true
+ways-at name [] n leads e = e
+ways-at name (i ∷ path) (leaf_node v) leads e =
+    let none = some_if-same _ (i ∷ path) leads in
+    cc
+ways-at name (i ∷ path) (dir_node d ns) leads e =
+    let next = leads-child name d ns i path leads in
+    ways-at name path (child_at i (children ns)) next.leads (ways-child ns i e next.there)
+
+module _ (section : Section) (path words : List ℕ) (from at items : ℕ) (old new : Node) (is : IsPut section path words from at old new) (leads : Leads (section_name section) path old) (some : ways_exist (skeleton old) ≡ true) (within : all_within items old ≡ true) where
+  fits : Fits items (node_at path old) is.node
+  fits =
+      node-fits items section (node_at path old) from (drop from words) (record { value = is.node; at = at; rest = drop at words }) (ways-at (section_name section) path old leads some) (within-at items (section_name section) path old leads within) is.read
+
+  pub section-bones : skeleton new ≡ skeleton old
+  section-bones = ap skeleton is.put ∙ put-bones path is.node old fits.bones
+
+  pub section-rooms : all_within items new ≡ true
+  section-rooms = rw is.put (put-within items (section_name section) path is.node old leads within fits.rooms)
 
 -- ---- what the parts keep
 
-pub kept-parts : (width : ℕ) (m n : MachineValue) (leaf_paths bus_paths : List (List ℕ)) → frame_of n ≡ frame_of m → IsParts width m leaf_paths bus_paths → IsParts width n leaf_paths bus_paths
-kept-parts width m n leaf_paths bus_paths same is =
+same-shape : (m n : MachineValue) → frame_of n ≡ frame_of m → IsShaped m → IsShaped n
+same-shape m n same shaped = record { each = λ r. subst (λ f. IsTrue (shape_test r f)) (sym same) (shaped.each r) }
+
+pub kept-parts : (width : ℕ) (m n : MachineValue) (leaf_paths bus_paths : List (List ℕ)) → frame_of n ≡ frame_of m → n.top.bus ≡ m.top.bus → n.top.sizes ≡ m.top.sizes → all_within (item_count m.items) (root_of n) ≡ true → IsParts width m leaf_paths bus_paths → IsParts width n leaf_paths bus_paths
+kept-parts width m n leaf_paths bus_paths same bus sizes within is =
     let bones : skeleton (root_of n) ≡ skeleton (root_of m) = ap (λ f. f.bones) same in
+    let items : n.items ≡ m.items = ap (λ f. f.items) same in
     record {
-      shaped = record { each = λ r. rw same (is.shaped.each r) };
-      words = rw bones is.words;
+      readable = record { shaped = same-shape m n same is.readable.shaped; ways = subst (λ b. ways_exist b ≡ true) (sym bones) is.readable.ways; top = rw (bus, sizes) is.readable.top };
+      rooms = subst (λ t. all_within (item_count t) (root_of n) ≡ true) (sym items) within;
+      words = subst (λ b. words_are width b ≡ true) (sym bones) is.words;
       paths = λ name path leads. is.paths name path (subst (λ b. path_to name b ≡ Some path) bones leads);
     }
 
@@ -165,8 +189,25 @@ listed-leads name m leaf_paths bus_paths found path listed =
 -- ---- a section of a machine
 
 module _ (section : Section) (words : List ℕ) (from : ℕ) (m : MachineValue) (path : List ℕ) (leads : Leads (section_name section) path (root_of m)) where
-  pub section-frame : (at : ℕ) (top : DirValue) (kids : List Node) → IsPut section path words from at (root_of m) (dir_node top (nodes kids)) → frame_of (machine_of m.code m.items top kids m.ops m.traffic) ≡ frame_of m
-  section-frame at top kids is = rw (section-bones section path words from at (root_of m) (dir_node top (nodes kids)) is) refl
+  module _ (width at : ℕ) (leaf_paths bus_paths : List (List ℕ)) (is_parts : IsParts width m leaf_paths bus_paths) (top : DirValue) (kids : List Node) (is : IsPut section path words from at (root_of m) (dir_node top (nodes kids))) where
+    abbrev after : MachineValue
+    after = machine_of m.code m.items top kids m.ops m.traffic
+
+    bones : skeleton (dir_node top (nodes kids)) ≡ skeleton (root_of m)
+    bones = section-bones section path words from at (item_count m.items) (root_of m) (dir_node top (nodes kids)) is leads is_parts.readable.ways is_parts.rooms
+
+    frame : frame_of after ≡ frame_of m
+    frame = ap (λ b. record { bones = b; code = m.code; items = m.items; counted = length m.traffic }) bones
+
+    pub section-parts : IsParts width after leaf_paths bus_paths
+    section-parts =
+        let parts : dir_bone top.bus top.level top.sizes (skeletons (nodes kids)) ≡ dir_bone m.top.bus m.top.level m.top.sizes (skeletons m.kids) = bones in
+        let bus : top.bus ≡ m.top.bus = cc in
+        let sizes : top.sizes ≡ m.top.sizes = cc in
+        kept-parts width m after leaf_paths bus_paths frame bus sizes (section-rooms section path words from at (item_count m.items) (root_of m) (dir_node top (nodes kids)) is leads is_parts.readable.ways is_parts.rooms) is_parts
+
+    pub section-counts : tree_counts after ≡ tree_counts m
+    section-counts = kept-counts m after frame
 
   pub section-made : (at : ℕ) (top : DirValue) (kids : List Node) → IsPut section path words from at (root_of m) (dir_node top (nodes kids)) → SectionRead section words from m (machine_of m.code m.items top kids m.ops m.traffic) at
   section-made at top kids is = record { path = path; leads = leads; is_put = is; same = refl }

@@ -10,5 +10,8 @@ pub mod Holders
 pub mod Copying
 pub mod Written
 pub mod Idle
+pub mod Judging
+pub mod Stamps
+pub mod Keys
 pub mod ReadBack
 pub mod Parts

@@ -1,4 +1,4 @@
-ghost use Rattle.std.specs.Prelude.{◌≡◌, ◌*◌, ◌<◌, ◌≤◌, true, length, map, slice_set};
+ghost use Rattle.std.specs.Prelude.{◌≡◌, ℕ, ◌*◌, ◌<◌, ◌≤◌, true, length, map, slice_set};
 ghost use Rattle.ddm_types.specs.declared.keys.Stamp.{Stamp};
 ghost use Rattle.tree_model.specs.State.Values.{DirValue, dir_node, nodes};
 ghost use Rattle.tree_model.specs.State.Shape.{skeleton, widths_fit};
@@ -10,6 +10,7 @@ ghost use Rattle.tree_model.specs.Turns.Tree.{leaf_of_number, bus_of_number};
 ghost use Rattle.item_states.specs.Parts.{node_items};
 ghost use Rattle.split_bus.specs.Outcomes.{goes_on_with};
 ghost use Rattle.ddm_tree.specs.Path.{node_at, present_at, put_at, node_answer, node_turned};
+ghost use Rattle.ddm_tree.specs.Judging.{IsJudged};
 ghost use Rattle.ddm_tree.specs.Named.{name_of};
 ghost use Rattle.ddm_tree.specs.Ready.{IsAskable, IsReady, Leads, LeadsBelow, HasChild, IsChild, IsItemOf};
 ghost use Rattle.ddm_tree.specs.Reads.{node_hart, node_entry, node_children, node_child, node_child_hold, node_down, node_down_len, node_grants, node_parked};
@@ -40,6 +41,7 @@ pub(crate) fn next<'a, 'b, const WORDS: usize, P: Parent<WORDS>, C: Subtree<WORD
     ensures present { (s : Stamp) → present_at path.now s (dir_node (P.state parent.now) (nodes (map C.value children.now))) ≡ present_at result.1.now (stamp_of (P.state parent.now)) (C.value result.0.now) }
     ensures fits { widths_fit (skeleton (dir_node (P.state parent.now) (nodes (map C.value children.now)))) ≡ true → widths_fit (skeleton (C.value result.0.now)) ≡ true }
     ensures askable { IsAskable WORDS (dir_node (P.state parent.now) (nodes (map C.value children.now))) → IsAskable WORDS (C.value result.0.now) }
+    ensures judged { (items : ℕ) → IsJudged items (dir_node (P.state parent.now) (nodes (map C.value children.now))) → IsJudged items (C.value result.0.now) }
 {
     match path.split_first() {
         Some((child, rest)) => (&children[child.0 as usize], rest),

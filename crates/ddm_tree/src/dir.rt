@@ -10,12 +10,15 @@ use crate::below::{
 };
 use crate::copying::{CopyFrom, copy_children};
 use crate::found::{Found, found_among, own_copy};
+use crate::judging::broken_under;
 use crate::named::Named;
 use crate::paths::path_up_under;
 use crate::read_back::read_under;
 use crate::section::Section;
+use crate::stamps::stamps_fit_under;
 use crate::subtree::Subtree;
 use crate::writing::{ways_among, write_hart_under, write_leaf_under, write_part_under};
+use bus_judging::ChildFace;
 use ddm_types::{
     BusNo, ChildNo, Code, Hold, ItemId, Items, LeafNo, LeafState, NoMemory, PendingWhy, QueueName,
     Stamp, Turn, TurnAnswer, TxKind, Words,
@@ -205,6 +208,14 @@ impl<const WORDS: usize, C: Subtree<WORDS>> Subtree<WORDS> for Dir<WORDS, C> {
         }
     }
 
+    fn stamps_fit_below(&self, bus: BusNo, path: &[ChildNo], present: &Stamp) -> bool {
+        if path.is_empty() {
+            self.state.stamps_fit(present)
+        } else {
+            stamps_fit_under(&self.state, &self.children, bus, path)
+        }
+    }
+
     fn parked_below(
         &self,
         bus: BusNo,
@@ -218,6 +229,14 @@ impl<const WORDS: usize, C: Subtree<WORDS>> Subtree<WORDS> for Dir<WORDS, C> {
         } else {
             parked_under(&self.state, &self.children, bus, path, item)
         }
+    }
+
+    fn face(&self, item: ItemId) -> ChildFace {
+        self.state.face(item)
+    }
+
+    fn broken_below(&self, bus: BusNo, path: &[ChildNo], items: u32) -> Option<ItemId> {
+        broken_under(&self.state, &self.children, bus, path, items)
     }
 
     fn ways_below(&self) -> u32 {

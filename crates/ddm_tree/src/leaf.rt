@@ -3,6 +3,7 @@ use crate::named::Named;
 use crate::section::Section;
 use crate::subtree::Subtree;
 use crate::turns::{key_on, victim};
+use bus_judging::ChildFace;
 use ddm_types::{
     BusNo, ChildNo, Code, Hold, ItemId, Items, LeafNo, LeafState, NoMemory, Stamp, Turn,
     TurnAnswer, Words,
@@ -81,12 +82,24 @@ impl<const WAYS: usize, const WORDS: usize> Subtree<WORDS> for Leaf<WAYS, WORDS>
         0
     }
 
+    fn stamps_fit_below(&self, _bus: BusNo, _path: &[ChildNo], _present: &Stamp) -> bool {
+        true
+    }
+
     fn parked_below(
         &self,
         _bus: BusNo,
         _path: &[ChildNo],
         _item: ItemId,
     ) -> Option<(u32, Words<WORDS>)> {
+        None
+    }
+
+    fn face(&self, item: ItemId) -> ChildFace {
+        self.face(item)
+    }
+
+    fn broken_below(&self, _bus: BusNo, _path: &[ChildNo], _items: u32) -> Option<ItemId> {
         None
     }
 

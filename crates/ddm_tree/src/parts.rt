@@ -1,14 +1,19 @@
 ghost use Rattle.std.specs.Prelude.{◌≡◌, ◌<◌, ◌≤◌, ◌^◌, ℕ, List, Some, true, length, map, vec_items, IfErr, IfOk};
-ghost use Rattle.tree_model.specs.State.Shape.{skeleton, widths_fit};
-ghost use Rattle.tree_model.specs.State.Values.{dir_node, nodes};
+ghost use Rattle.std.specs.List.{list_all};
+ghost use Rattle.ddm_types.specs.ItemTable.{item_count};
+ghost use Rattle.tree_model.specs.State.Rooms.{all_within};
+ghost use Rattle.tree_model.specs.State.Shape.{skeleton, tree_counts, widths_fit};
+ghost use Rattle.tree_model.specs.State.Values.{dir_node, nodes, root_of};
 ghost use Rattle.state_judging.specs.Read.{CanRead};
-ghost use Rattle.ddm_tree.specs.Machine.{has_path, is_part, listed_path};
+ghost use Rattle.ddm_tree.specs.Counts.{counts_within};
+ghost use Rattle.ddm_tree.specs.Machine.{has_path, is_part, listed_path, traffic_within};
 ghost use Rattle.ddm_tree.specs.Named.{name_of};
 ghost use Rattle.ddm_tree.specs.Parts.{SectionRead, SectionRefused};
 ghost use Rattle.ddm_tree.specs.ReadBack.{PartRead, section_name};
 ghost use Rattle.ddm_tree.specs.Ready.{Leads};
+ghost use Rattle.ddm_tree.specs.Rules.{KeepsRules};
 
-use crate::idle::Idle;
+use crate::idle::{Idle, forget_all};
 use crate::machine::{Machine, path_of};
 use crate::named::Named;
 use crate::read_back::read_under;
@@ -110,6 +115,45 @@ impl<const WORDS: usize, C: Subtree<WORDS>> Machine<WORDS, C> {
             bus_paths: self.bus_paths,
             idle: self.idle,
         }
+    }
+}
+
+impl<const WORDS: usize, C: Subtree<WORDS> + Drop> Parts<WORDS, C> {
+    /// The machine put together, with no memory for operations but for those that it has. However many turns there were, they are
+    /// taken to be 1,048,576, which no count is above.
+    pub fn into_machine(self) -> Machine<WORDS, C>
+        requires rules { KeepsRules self }
+        requires counts { counts_within 1048576 (root_of self) ≡ true }
+        requires granted { list_all (traffic_within 1048576) self.traffic ≡ true }
+        ensures { result ≡ record { machine = self; spare = 0; turns = 1048576 } }
+    {
+        let mut idle = self.idle;
+        forget_all(&mut idle);
+        Machine {
+            top: self.top,
+            children: self.children,
+            code: self.code,
+            items: self.items,
+            ops: self.ops,
+            traffic: self.traffic,
+            counts: self.counts,
+            leaf_paths: self.leaf_paths,
+            bus_paths: self.bus_paths,
+            idle,
+            spare: 0,
+            turns: 1_048_576,
+        }
+    }
+}
+
+impl<const WORDS: usize, C: Subtree<WORDS>> Parts<WORDS, C> {
+    /// How many leaves, buses and levels of buses the tree has.
+    pub fn counts(&self) -> TreeCounts
+        ensures counts { result ≡ tree_counts self.now }
+        ensures readable { CanRead self.now }
+        ensures rooms { all_within (item_count self.now.items) (root_of self.now) ≡ true }
+    {
+        self.counts
     }
 }
 

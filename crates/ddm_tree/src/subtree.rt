@@ -13,15 +13,19 @@ ghost use Rattle.state_words.specs.Parts.{hart_words, leaf_words};
 ghost use Rattle.state_words.specs.Machine.{way_count_of};
 ghost use Rattle.split_bus.specs.Outcomes.{goes_on_with};
 ghost use Rattle.ddm_tree.specs.Path.{path_to, node_at, present_at, put_at, node_answer, node_turned};
+ghost use Rattle.tree_rules.specs.Bus.Faces.{child_face};
+ghost use Rattle.ddm_tree.specs.Judging.{IsJudged, node_broken};
 ghost use Rattle.ddm_tree.specs.Named.{name_of};
 ghost use Rattle.ddm_tree.specs.Ready.{IsAskable, IsReady, Leads, LeadsBelow, HasChild, IsChild, IsItemIn, IsItemOf};
 ghost use Rattle.ddm_tree.specs.Reads.{node_hart, node_entry, node_children, node_child, node_child_hold, node_down, node_down_len, node_grants, node_parked};
+ghost use Rattle.ddm_tree.specs.Stamps.{node_stamps_fit};
 ghost use Rattle.ddm_tree.specs.ReadBack.{PartRead, section_name};
 ghost use Rattle.ddm_tree.specs.Written.{node_dir_words, node_words};
 
 use crate::found::Found;
 use crate::named::Named;
 use crate::section::Section;
+use bus_judging::ChildFace;
 use ddm_types::{
     BusNo, ChildNo, Code, Hold, ItemId, Items, LeafNo, LeafState, NoMemory, Stamp, Turn,
     TurnAnswer, Words,
@@ -120,6 +124,11 @@ pub trait Subtree<const WORDS: usize>: Agent<WORDS> {
         requires { LeadsBelow (bus_of_number bus) path.now (Self.value self.now) }
         ensures { result ≡ node_down_len (node_at path.now (Self.value self.now)) };
 
+    /// Whether the stamps are in order that the directory over this bus keeps, where the bus above this part has this present stamp.
+    fn stamps_fit_below(&self, bus: BusNo, path: &[ChildNo], present: &Stamp) -> bool
+        requires { LeadsBelow (bus_of_number bus) path.now (Self.value self.now) }
+        ensures { result ≡ node_stamps_fit (present_at path.now present.now (Self.value self.now)) (node_at path.now (Self.value self.now)) };
+
     /// The copy of an item that is parked at this bus, with its place.
     fn parked_below(
         &self,
@@ -130,6 +139,17 @@ pub trait Subtree<const WORDS: usize>: Agent<WORDS> {
         requires leads { LeadsBelow (bus_of_number bus) path.now (Self.value self.now) }
         requires in_range { item < node_items (node_at path.now (Self.value self.now)) }
         ensures { result ≡ node_parked item (node_at path.now (Self.value self.now)) };
+
+    /// What its bus sees of it, of this item.
+    fn face(&self, item: ItemId) -> ChildFace
+        requires { item < node_items (Self.value self.now) }
+        ensures { result ≡ child_face item (Self.value self.now) };
+
+    /// The least item that breaks a rule of this bus, of so many items.
+    fn broken_below(&self, bus: BusNo, path: &[ChildNo], items: u32) -> Option<ItemId>
+        requires judged { IsJudged items (Self.value self.now) }
+        requires leads { LeadsBelow (bus_of_number bus) path.now (Self.value self.now) }
+        ensures { result ≡ node_broken items (node_at path.now (Self.value self.now)) };
 
     /// How many ways the sets of its leaves have, by the first of these.
     fn ways_below(&self) -> u32

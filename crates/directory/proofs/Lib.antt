@@ -5,3 +5,5 @@ pub mod Leaving
 pub mod Lists
 pub mod Packing
 pub mod Records
+pub mod EntryKinds
+pub mod StampOrder

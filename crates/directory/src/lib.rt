@@ -3,15 +3,20 @@
 #![tactic(auto)]
 
 mod copying;
+mod gathered;
+mod judged;
 mod last_copy;
 mod lower;
 mod packed;
 mod reading;
+mod stamps;
 mod state;
 mod table;
 mod upper;
 mod writing;
 
+pub use gathered::down_facts;
+pub use judged::JudgedParent;
 pub use state::DirState;
 pub use state_reading::brings_copy;
 pub use table::ItemTable;

@@ -5,6 +5,7 @@ mod agent;
 mod asking;
 mod copying;
 mod entries;
+mod faces;
 mod leaf;
 mod read_back;
 mod read_entries;

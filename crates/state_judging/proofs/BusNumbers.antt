@@ -1,8 +1,8 @@
 -- Each number below the count of buses is that of a bus, and what is read by a number is of the bus that has it.
-use Rattle.std.specs.Prelude.{◌≡◌, ◌<◌, ◌≤◌, ℕ, ◌+◌, Bool, true, false, not, ◌||◌, nat_eq, nat_lt, List, [], ◌∷◌, length, Some, is_some, refl}
+use Rattle.std.specs.Prelude.{◌≡◌, ◌<◌, ◌≤◌, ℕ, ◌+◌, Bool, true, false, not, ◌||◌, nat_eq, List, [], ◌∷◌, length, Some, is_some, refl}
 use Rattle.std.specs.List.{list_any, AllByRecursion, IsDistinct}
 use Rattle.std.proofs.Common.{sym, ap, ◌∙◌, arith, true≢false}
-use Rattle.std.proofs.lemmas.Bool.{and_parts, eqb-true, ltb-true}
+use Rattle.std.proofs.lemmas.Bool.{and_parts, eqb-true}
 use Rattle.std.proofs.lemmas.Map.Steps.{length-le_from_distinct_below}
 use Rattle.tree_model.specs.State.Place.{Where, at_top, at_child, where_path, spot_in}
 use Rattle.tree_model.specs.State.Values.{DirValue, Node, Nodes, leaf_node, dir_node, no_nodes, more_nodes, children, MachineValue, root_of}
@@ -11,7 +11,7 @@ use Rattle.tree_model.specs.Turns.Machine.{ask_bus}
 use Rattle.tree_model.specs.Turns.Tree.{bus_of_number, has_node, read_in, read_among, of_dir}
 use Rattle.tree_model.proofs.NamedNode.{read_in-is_some}
 use Rattle.tree_model.proofs.Tests.{not-true}
-use Rattle.state_judging.proofs.EachBus.{numbered-in, shaped-below}
+use Rattle.state_judging.proofs.EachBus.{numbered-in, below-any, shaped-below}
 
 -- ---- as many numbers as there can be
 
@@ -34,17 +34,6 @@ one-more-differs : (k : ℕ) (ns : List ℕ) → list_any (nat_eq k) ns ≡ fals
 unfolding IsDistinct
 one-more-differs k ns e differ = (none-like k ns e, all-differ ns differ)
 
-below-all : (most : ℕ) (ns : List ℕ) → are_below most ns ≡ true → (q : ℕ) → list_any (nat_eq q) ns ≡ true → q < most
-below-all most [] e q there = absurd (true≢false (sym there))
-below-all most (n ∷ ns) e q there =
-    elim (nat_eq q n) as (λ b. nat_eq q n ≡ b → (b || list_any (nat_eq q) ns) ≡ true → q < most) [
-      | true ↦ λ is there.
-          let here : q ≡ n = eqb-true q n is in
-          let below : n < most = ltb-true n most (and_parts (nat_lt n most) (are_below most ns) e).0 in
-          omega (arith, here, below)
-      | false ↦ λ is there. below-all most ns (and_parts (nat_lt n most) (are_below most ns) e).1 q there
-    ] refl there
-
 among-all : (most k : ℕ) (ns : List ℕ) → are_distinct ns ≡ true → are_below most ns ≡ true → length ns ≡ most → k < most → list_any (nat_eq k) ns ≡ true
 among-all most k ns differ below size l =
     elim (list_any (nat_eq k) ns) as (λ b. list_any (nat_eq k) ns ≡ b → b ≡ true) [
@@ -60,7 +49,7 @@ among-all most k ns differ below size l =
           | true ↦ λ is there.
               let here : q ≡ k = eqb-true q k is in
               omega (arith, here, l)
-          | false ↦ λ is there. below-all most ns below q there
+          | false ↦ λ is there. below-any most q ns below there
         ] refl there
 
 or-nothing : (b : Bool) → (b || false) ≡ b

@@ -1,4 +1,5 @@
 -- What a directory, or the top, is that was read: all that it keeps by itself.
+-- `behind_x` is what is read behind x, and `x_made` what is made of all that was read.
 -- Letters: n is how many items there are, kids how many children its bus has, d the directory before, e the one that was read, k the
 -- number of the next word, ws are the words.
 use Rattle.std.specs.Prelude.{◌≡◌, ◌≤◌, ℕ, zero, suc, ◌+◌, ◌-◌, Bool, true, false, not, ◌&&◌, ◌||◌, nat_eq, nat_lt, nat_le, List, [], ◌∷◌, ◌++◌, length, map, replicate, slice_set, Some, None, Result, Ok, refl, if◌then◌else◌}
@@ -43,33 +44,33 @@ stamp-ends (suc (suc (suc (suc level)))) s0 s1 s2 s3 e0 e1 e2 e3 = none-left lev
     none-left (suc level) = refl
 
 module _ (level : ℕ) where
-  abbrev t4 : ℕ → ℕ → ℕ → ℕ → ℕ → List ℕ → Result (Read Stamp) StateRefusal
-  t4 s0 s1 s2 s3 k ws = given (record { s0 = s0; s1 = s1; s2 = s2; s3 = s3 }) k ws
+  abbrev stamp_made : ℕ → ℕ → ℕ → ℕ → ℕ → List ℕ → Result (Read Stamp) StateRefusal
+  stamp_made s0 s1 s2 s3 k ws = given (record { s0 = s0; s1 = s1; s2 = s2; s3 = s3 }) k ws
 
-  abbrev t3 : ℕ → ℕ → ℕ → ℕ → List ℕ → Result (Read Stamp) StateRefusal
-  t3 s0 s1 s2 k ws = and_then (word_if (nat_lt 3 level) k ws) (t4 s0 s1 s2)
+  abbrev behind_s2 : ℕ → ℕ → ℕ → ℕ → List ℕ → Result (Read Stamp) StateRefusal
+  behind_s2 s0 s1 s2 k ws = and_then (word_if (nat_lt 3 level) k ws) (stamp_made s0 s1 s2)
 
-  abbrev t2 : ℕ → ℕ → ℕ → List ℕ → Result (Read Stamp) StateRefusal
-  t2 s0 s1 k ws = and_then (word_if (nat_lt 2 level) k ws) (t3 s0 s1)
+  abbrev behind_s1 : ℕ → ℕ → ℕ → List ℕ → Result (Read Stamp) StateRefusal
+  behind_s1 s0 s1 k ws = and_then (word_if (nat_lt 2 level) k ws) (behind_s2 s0 s1)
 
-  abbrev t1 : ℕ → ℕ → List ℕ → Result (Read Stamp) StateRefusal
-  t1 s0 k ws = and_then (word_if (nat_lt 1 level) k ws) (t2 s0)
+  abbrev behind_s0 : ℕ → ℕ → List ℕ → Result (Read Stamp) StateRefusal
+  behind_s0 s0 k ws = and_then (word_if (nat_lt 1 level) k ws) (behind_s1 s0)
 
-  later-ok : (s0 s1 k : ℕ) (ws : List ℕ) (r : Read Stamp) → (nat_lt 0 level || nat_eq s0 0) ≡ true → (nat_lt 1 level || nat_eq s1 0) ≡ true → t2 s0 s1 k ws ≡ Ok r → stamp_ends level r.value ≡ true
+  later-ok : (s0 s1 k : ℕ) (ws : List ℕ) (r : Read Stamp) → (nat_lt 0 level || nat_eq s0 0) ≡ true → (nat_lt 1 level || nat_eq s1 0) ≡ true → behind_s1 s0 s1 k ws ≡ Ok r → stamp_ends level r.value ≡ true
   later-ok s0 s1 k ws r e0 e1 e =
-      let s2 = and_then-ok (word_if (nat_lt 2 level) k ws) (t3 s0 s1) r e in
-      let s3 = and_then-ok (word_if (nat_lt 3 level) s2.0.at s2.0.rest) (t4 s0 s1 s2.0.value) r s2.2 in
+      let s2 = and_then-ok (word_if (nat_lt 2 level) k ws) (behind_s2 s0 s1) r e in
+      let s3 = and_then-ok (word_if (nat_lt 3 level) s2.0.at s2.0.rest) (stamp_made s0 s1 s2.0.value) r s2.2 in
       let e2 = word_that-ok (λ w. nat_lt 2 level || nat_eq w 0) k ws s2.0 s2.1 in
       let e3 = word_that-ok (λ w. nat_lt 3 level || nat_eq w 0) s2.0.at s2.0.rest s3.0 s3.1 in
       all s2.0.value s3.0.value s3.0.at s3.0.rest e2 e3 s3.2
     where
-      all : (s2 s3 k : ℕ) (ws : List ℕ) → (nat_lt 2 level || nat_eq s2 0) ≡ true → (nat_lt 3 level || nat_eq s3 0) ≡ true → t4 s0 s1 s2 s3 k ws ≡ Ok r → stamp_ends level r.value ≡ true
+      all : (s2 s3 k : ℕ) (ws : List ℕ) → (nat_lt 2 level || nat_eq s2 0) ≡ true → (nat_lt 3 level || nat_eq s3 0) ≡ true → stamp_made s0 s1 s2 s3 k ws ≡ Ok r → stamp_ends level r.value ≡ true
       all s2 s3 k ws e2 e3 e = given-so (λ s. stamp_ends level s ≡ true) (record { s0 = s0; s1 = s1; s2 = s2; s3 = s3 }) k ws r e (stamp-ends level s0 s1 s2 s3 e0 e1 e2 e3)
 
   pub stamp-ok : (k : ℕ) (ws : List ℕ) (r : Read Stamp) → stamp_words level k ws ≡ Ok r → stamp_ends level r.value ≡ true
   stamp-ok k ws r e =
-      let s0 = and_then-ok (word_if (nat_lt 0 level) k ws) t1 r e in
-      let s1 = and_then-ok (word_if (nat_lt 1 level) s0.0.at s0.0.rest) (t2 s0.0.value) r s0.2 in
+      let s0 = and_then-ok (word_if (nat_lt 0 level) k ws) behind_s0 r e in
+      let s1 = and_then-ok (word_if (nat_lt 1 level) s0.0.at s0.0.rest) (behind_s1 s0.0.value) r s0.2 in
       later-ok s0.0.value s1.0.value s1.0.at s1.0.rest r (word_that-ok (λ w. nat_lt 0 level || nat_eq w 0) k ws s0.0 s0.1) (word_that-ok (λ w. nat_lt 1 level || nat_eq w 0) s0.0.at s0.0.rest s1.0 s1.1) s1.2
 
 -- ---- records of items
@@ -105,39 +106,39 @@ module _ (n kids : ℕ) (top : Bool) where
   abbrev answers : ℕ → ℕ → ℕ → ℕ → ℕ → Bool
   answers hold note child joined w = nat_le w 1 && (not top || nat_eq w 0) && is_recorded top (record { hold = hold_of hold; note = note_of_words note child joined; answering = nat_eq w 1 })
 
-  abbrev i6 : Recorded → ℕ → ℕ → ℕ → ℕ → ℕ → ℕ → ℕ → List ℕ → Result (Read Recorded) StateRefusal
-  i6 q x hold note child joined answering k ws = given (record { last = Some x; items = slice_set q.items x (record { hold = hold_of hold; note = note_of_words note child joined; answering = nat_eq answering 1 }) }) k ws
+  abbrev record_made : Recorded → ℕ → ℕ → ℕ → ℕ → ℕ → ℕ → ℕ → List ℕ → Result (Read Recorded) StateRefusal
+  record_made q x hold note child joined answering k ws = given (record { last = Some x; items = slice_set q.items x (record { hold = hold_of hold; note = note_of_words note child joined; answering = nat_eq answering 1 }) }) k ws
 
-  abbrev i5 : Recorded → ℕ → ℕ → ℕ → ℕ → ℕ → ℕ → List ℕ → Result (Read Recorded) StateRefusal
-  i5 q x hold note child joined k ws = and_then (word_that (answers hold note child joined) k ws) (i6 q x hold note child joined)
+  abbrev behind_joined : Recorded → ℕ → ℕ → ℕ → ℕ → ℕ → ℕ → List ℕ → Result (Read Recorded) StateRefusal
+  behind_joined q x hold note child joined k ws = and_then (word_that (answers hold note child joined) k ws) (record_made q x hold note child joined)
 
   abbrev joins : ℕ → ℕ → ℕ → Bool
   joins note child w = if nat_eq note 1 || nat_eq note 2 then joins_fit kids child w else nat_eq w 0
 
-  abbrev i4 : Recorded → ℕ → ℕ → ℕ → ℕ → ℕ → List ℕ → Result (Read Recorded) StateRefusal
-  i4 q x hold note child k ws = and_then (word_that (joins note child) k ws) (i5 q x hold note child)
+  abbrev behind_child : Recorded → ℕ → ℕ → ℕ → ℕ → ℕ → List ℕ → Result (Read Recorded) StateRefusal
+  behind_child q x hold note child k ws = and_then (word_that (joins note child) k ws) (behind_joined q x hold note child)
 
   abbrev is_child : ℕ → ℕ → Bool
   is_child note w = if nat_eq note 0 then nat_eq w 0 else nat_lt w kids
 
-  abbrev i3 : Recorded → ℕ → ℕ → ℕ → ℕ → List ℕ → Result (Read Recorded) StateRefusal
-  i3 q x hold note k ws = and_then (word_that (is_child note) k ws) (i4 q x hold note)
+  abbrev behind_note : Recorded → ℕ → ℕ → ℕ → ℕ → List ℕ → Result (Read Recorded) StateRefusal
+  behind_note q x hold note k ws = and_then (word_that (is_child note) k ws) (behind_child q x hold note)
 
-  abbrev i2 : Recorded → ℕ → ℕ → ℕ → List ℕ → Result (Read Recorded) StateRefusal
-  i2 q x hold k ws = and_then (word_to 3 k ws) (i3 q x hold)
+  abbrev behind_hold : Recorded → ℕ → ℕ → ℕ → List ℕ → Result (Read Recorded) StateRefusal
+  behind_hold q x hold k ws = and_then (word_to 3 k ws) (behind_note q x hold)
 
   abbrev holds : ℕ → Bool
   holds w = if top then nat_eq w 2 else nat_le w 2
 
-  abbrev i1 : Recorded → ℕ → ℕ → List ℕ → Result (Read Recorded) StateRefusal
-  i1 q x k ws = and_then (word_that holds k ws) (i2 q x)
+  abbrev behind_item : Recorded → ℕ → ℕ → List ℕ → Result (Read Recorded) StateRefusal
+  behind_item q x k ws = and_then (word_that holds k ws) (behind_hold q x)
 
-  answering-ok : (q : Recorded) (x hold note child joined k : ℕ) (ws : List ℕ) (r : Read Recorded) → AreItems q.items → holds hold ≡ true → is_child note child ≡ true → joins note child joined ≡ true → i5 q x hold note child joined k ws ≡ Ok r → AreItems r.value.items
+  answering-ok : (q : Recorded) (x hold note child joined k : ℕ) (ws : List ℕ) (r : Read Recorded) → AreItems q.items → holds hold ≡ true → is_child note child ≡ true → joins note child joined ≡ true → behind_joined q x hold note child joined k ws ≡ Ok r → AreItems r.value.items
   answering-ok q x hold note child joined k ws r all h c j e =
-      let answering = and_then-ok (word_that (answers hold note child joined) k ws) (i6 q x hold note child joined) r e in
+      let answering = and_then-ok (word_that (answers hold note child joined) k ws) (record_made q x hold note child joined) r e in
       last answering.0.value answering.0.at answering.0.rest (word_that-ok (answers hold note child joined) k ws answering.0 answering.1) answering.2
     where
-      last : (answering k : ℕ) (ws : List ℕ) → answers hold note child joined answering ≡ true → i6 q x hold note child joined answering k ws ≡ Ok r → AreItems r.value.items
+      last : (answering k : ℕ) (ws : List ℕ) → answers hold note child joined answering ≡ true → record_made q x hold note child joined answering k ws ≡ Ok r → AreItems r.value.items
       last answering k ws a e =
           let parts = and_parts (nat_le answering 1 && (not top || nat_eq answering 0)) (is_recorded top (record { hold = hold_of hold; note = note_of_words note child joined; answering = nat_eq answering 1 })) a in
           given-so (λ (q : Recorded). AreItems q.items) (record { last = Some x; items = slice_set q.items x (record { hold = hold_of hold; note = note_of_words note child joined; answering = nat_eq answering 1 }) }) k ws r e
@@ -145,15 +146,15 @@ module _ (n kids : ℕ) (top : Bool) where
 
   record-ok : (q : Recorded) (k : ℕ) (ws : List ℕ) (r : Read Recorded) → AreItems q.items → read_record n kids top q k ws ≡ Ok r → AreItems r.value.items
   record-ok q k ws r all e =
-      let x = and_then-ok (word_that (λ x. nat_lt x n && comes_after x q.last) k ws) (i1 q) r e in
-      let hold = and_then-ok (word_that holds x.0.at x.0.rest) (i2 q x.0.value) r x.2 in
+      let x = and_then-ok (word_that (λ x. nat_lt x n && comes_after x q.last) k ws) (behind_item q) r e in
+      let hold = and_then-ok (word_that holds x.0.at x.0.rest) (behind_hold q x.0.value) r x.2 in
       noted x.0.value hold.0.value hold.0.at hold.0.rest (word_that-ok holds x.0.at x.0.rest hold.0 hold.1) hold.2
     where
-      noted : (x hold k : ℕ) (ws : List ℕ) → holds hold ≡ true → i2 q x hold k ws ≡ Ok r → AreItems r.value.items
+      noted : (x hold k : ℕ) (ws : List ℕ) → holds hold ≡ true → behind_hold q x hold k ws ≡ Ok r → AreItems r.value.items
       noted x hold k ws h e =
-          let note = and_then-ok (word_to 3 k ws) (i3 q x hold) r e in
-          let child = and_then-ok (word_that (is_child note.0.value) note.0.at note.0.rest) (i4 q x hold note.0.value) r note.2 in
-          let joined = and_then-ok (word_that (joins note.0.value child.0.value) child.0.at child.0.rest) (i5 q x hold note.0.value child.0.value) r child.2 in
+          let note = and_then-ok (word_to 3 k ws) (behind_note q x hold) r e in
+          let child = and_then-ok (word_that (is_child note.0.value) note.0.at note.0.rest) (behind_child q x hold note.0.value) r note.2 in
+          let joined = and_then-ok (word_that (joins note.0.value child.0.value) child.0.at child.0.rest) (behind_joined q x hold note.0.value child.0.value) r child.2 in
           answering-ok q x hold note.0.value child.0.value joined.0.value joined.0.at joined.0.rest r all h (word_that-ok (is_child note.0.value) note.0.at note.0.rest child.0 child.1) (word_that-ok (joins note.0.value child.0.value) child.0.at child.0.rest joined.0 joined.1) joined.2
 
   resting : (b : Bool) → item_fits kids (at_rest b) ≡ true
@@ -184,20 +185,20 @@ module _ (n level width : ℕ) where
     pub fit : list_all (down_fits n) es ≡ true
     pub stamps : list_all (λ e. stamp_ends level e.stamp) es ≡ true
 
-  abbrev d4 : List DownValue → ℕ → ℕ → Stamp → List ℕ → ℕ → List ℕ → Result (Read (List DownValue)) StateRefusal
-  d4 es code x stamp words k ws = given (es ++ record { kind = kind_of code; item = x; words = words; stamp = stamp } ∷ []) k ws
+  abbrev down_made : List DownValue → ℕ → ℕ → Stamp → List ℕ → ℕ → List ℕ → Result (Read (List DownValue)) StateRefusal
+  down_made es code x stamp words k ws = given (es ++ record { kind = kind_of code; item = x; words = words; stamp = stamp } ∷ []) k ws
 
-  abbrev d3 : List DownValue → ℕ → ℕ → Stamp → ℕ → List ℕ → Result (Read (List DownValue)) StateRefusal
-  d3 es code x stamp k ws = and_then (item_words (brings_copy (kind_of code)) width k ws) (d4 es code x stamp)
+  abbrev behind_stamp : List DownValue → ℕ → ℕ → Stamp → ℕ → List ℕ → Result (Read (List DownValue)) StateRefusal
+  behind_stamp es code x stamp k ws = and_then (item_words (brings_copy (kind_of code)) width k ws) (down_made es code x stamp)
 
-  abbrev d2 : List DownValue → ℕ → ℕ → ℕ → List ℕ → Result (Read (List DownValue)) StateRefusal
-  d2 es code x k ws = and_then (stamp_words level k ws) (d3 es code x)
+  abbrev behind_down_item : List DownValue → ℕ → ℕ → ℕ → List ℕ → Result (Read (List DownValue)) StateRefusal
+  behind_down_item es code x k ws = and_then (stamp_words level k ws) (behind_stamp es code x)
 
-  abbrev d1 : List DownValue → ℕ → ℕ → List ℕ → Result (Read (List DownValue)) StateRefusal
-  d1 es code k ws = and_then (word_below n k ws) (d2 es code)
+  abbrev behind_kind : List DownValue → ℕ → ℕ → List ℕ → Result (Read (List DownValue)) StateRefusal
+  behind_kind es code k ws = and_then (word_below n k ws) (behind_down_item es code)
 
   down-given : (i : ℕ) (es : List DownValue) (code x : ℕ) (stamp : Stamp) (words : List ℕ) (k : ℕ) (ws : List ℕ) (r : Read (List DownValue)) → AreDown i es → nat_lt x n ≡ true → stamp_ends level stamp ≡ true → implies (not (brings_copy (kind_of code))) (are_zero words) ≡ true
-      → d4 es code x stamp words k ws ≡ Ok r → AreDown (i + 1) r.value
+      → down_made es code x stamp words k ws ≡ Ok r → AreDown (i + 1) r.value
   down-given i es code x stamp words k ws r all item ends suit e =
       given-so (AreDown (i + 1)) (es ++ record { kind = kind_of code; item = x; words = words; stamp = stamp } ∷ []) k ws r e (record {
         count = length_push es (record { kind = kind_of code; item = x; words = words; stamp = stamp }) ∙ ap (λ j. j + 1) all.count;
@@ -207,14 +208,14 @@ module _ (n level width : ℕ) where
 
   down-next : (i : ℕ) (es : List DownValue) (k : ℕ) (ws : List ℕ) (r : Read (List DownValue)) → AreDown i es → read_down n level width es k ws ≡ Ok r → AreDown (i + 1) r.value
   down-next i es k ws r all e =
-      let code = and_then-ok (word_from_1 5 k ws) (d1 es) r e in
-      let x = and_then-ok (word_below n code.0.at code.0.rest) (d2 es code.0.value) r code.2 in
+      let code = and_then-ok (word_from_1 5 k ws) (behind_kind es) r e in
+      let x = and_then-ok (word_below n code.0.at code.0.rest) (behind_down_item es code.0.value) r code.2 in
       stamped code.0.value x.0.value x.0.at x.0.rest (word_that-ok (λ w. nat_lt w n) code.0.at code.0.rest x.0 x.1) x.2
     where
-      stamped : (code x k : ℕ) (ws : List ℕ) → nat_lt x n ≡ true → d2 es code x k ws ≡ Ok r → AreDown (i + 1) r.value
+      stamped : (code x k : ℕ) (ws : List ℕ) → nat_lt x n ≡ true → behind_down_item es code x k ws ≡ Ok r → AreDown (i + 1) r.value
       stamped code x k ws item e =
-          let stamp = and_then-ok (stamp_words level k ws) (d3 es code x) r e in
-          let words = and_then-ok (item_words (brings_copy (kind_of code)) width stamp.0.at stamp.0.rest) (d4 es code x stamp.0.value) r stamp.2 in
+          let stamp = and_then-ok (stamp_words level k ws) (behind_stamp es code x) r e in
+          let words = and_then-ok (item_words (brings_copy (kind_of code)) width stamp.0.at stamp.0.rest) (down_made es code x stamp.0.value) r stamp.2 in
           let suit = zero-unless (brings_copy (kind_of code)) words.0.value (words_that-ok (λ w. brings_copy (kind_of code) || nat_eq w 0) width stamp.0.at stamp.0.rest words.0 words.1) in
           down-given i es code x stamp.0.value words.0.value words.0.at words.0.rest r all item (stamp-ok level k ws stamp.0 stamp.1) suit words.2
 
@@ -293,29 +294,29 @@ module _ (n kids : ℕ) (d : DirValue) where
   abbrev dir_of : ℕ → Stamp → Recorded → List DownValue → List RequestValue → List CopyValue → List CopyValue → ℕ → DirValue
   dir_of count epoch items down requests replies parked reserved = record d { items = items.items; down = down; requests = requests; replies = replies; parked = parked; reserved = reserved; count = count; epoch = epoch }
 
-  abbrev p8 : ℕ → Stamp → Recorded → List DownValue → List RequestValue → List CopyValue → List CopyValue → ℕ → ℕ → List ℕ → Result (Read DirValue) StateRefusal
-  p8 count epoch items down requests replies parked reserved k ws = given (dir_of count epoch items down requests replies parked reserved) k ws
+  abbrev dir_made : ℕ → Stamp → Recorded → List DownValue → List RequestValue → List CopyValue → List CopyValue → ℕ → ℕ → List ℕ → Result (Read DirValue) StateRefusal
+  dir_made count epoch items down requests replies parked reserved k ws = given (dir_of count epoch items down requests replies parked reserved) k ws
 
-  abbrev p7 : ℕ → Stamp → Recorded → List DownValue → List RequestValue → List CopyValue → List CopyValue → ℕ → List ℕ → Result (Read DirValue) StateRefusal
-  p7 count epoch items down requests replies parked k ws = and_then (word_to (d.sizes.parking_room - length parked) k ws) (p8 count epoch items down requests replies parked)
+  abbrev behind_parked : ℕ → Stamp → Recorded → List DownValue → List RequestValue → List CopyValue → List CopyValue → ℕ → List ℕ → Result (Read DirValue) StateRefusal
+  behind_parked count epoch items down requests replies parked k ws = and_then (word_to (d.sizes.parking_room - length parked) k ws) (dir_made count epoch items down requests replies parked)
 
-  abbrev p6 : ℕ → Stamp → Recorded → List DownValue → List RequestValue → List CopyValue → ℕ → List ℕ → Result (Read DirValue) StateRefusal
-  p6 count epoch items down requests replies k ws = and_then (listed d.sizes.parking_room (read_copy d.sizes.width (may_park n)) k ws) (p7 count epoch items down requests replies)
+  abbrev behind_replies : ℕ → Stamp → Recorded → List DownValue → List RequestValue → List CopyValue → ℕ → List ℕ → Result (Read DirValue) StateRefusal
+  behind_replies count epoch items down requests replies k ws = and_then (listed d.sizes.parking_room (read_copy d.sizes.width (may_park n)) k ws) (behind_parked count epoch items down requests replies)
 
-  abbrev p5 : ℕ → Stamp → Recorded → List DownValue → List RequestValue → ℕ → List ℕ → Result (Read DirValue) StateRefusal
-  p5 count epoch items down requests k ws = and_then (listed d.sizes.reply_room (read_copy d.sizes.width (λ x cs. nat_lt x n)) k ws) (p6 count epoch items down requests)
+  abbrev behind_requests : ℕ → Stamp → Recorded → List DownValue → List RequestValue → ℕ → List ℕ → Result (Read DirValue) StateRefusal
+  behind_requests count epoch items down requests k ws = and_then (listed d.sizes.reply_room (read_copy d.sizes.width (λ x cs. nat_lt x n)) k ws) (behind_replies count epoch items down requests)
 
-  abbrev p4 : ℕ → Stamp → Recorded → List DownValue → ℕ → List ℕ → Result (Read DirValue) StateRefusal
-  p4 count epoch items down k ws = and_then (listed d.sizes.request_room (read_request n) k ws) (p5 count epoch items down)
+  abbrev behind_down : ℕ → Stamp → Recorded → List DownValue → ℕ → List ℕ → Result (Read DirValue) StateRefusal
+  behind_down count epoch items down k ws = and_then (listed d.sizes.request_room (read_request n) k ws) (behind_requests count epoch items down)
 
-  abbrev p3 : ℕ → Stamp → Recorded → ℕ → List ℕ → Result (Read DirValue) StateRefusal
-  p3 count epoch items k ws = and_then (listed d.sizes.down_room (read_down n d.level d.sizes.width) k ws) (p4 count epoch items)
+  abbrev behind_records : ℕ → Stamp → Recorded → ℕ → List ℕ → Result (Read DirValue) StateRefusal
+  behind_records count epoch items k ws = and_then (listed d.sizes.down_room (read_down n d.level d.sizes.width) k ws) (behind_down count epoch items)
 
-  abbrev p2 : ℕ → Stamp → ℕ → List ℕ → Result (Read DirValue) StateRefusal
-  p2 count epoch k ws = and_then (read_records n kids (is_top d) k ws) (p3 count epoch)
+  abbrev behind_epoch : ℕ → Stamp → ℕ → List ℕ → Result (Read DirValue) StateRefusal
+  behind_epoch count epoch k ws = and_then (read_records n kids (is_top d) k ws) (behind_records count epoch)
 
-  abbrev p1 : ℕ → ℕ → List ℕ → Result (Read DirValue) StateRefusal
-  p1 count k ws = and_then (stamp_words d.level k ws) (p2 count)
+  abbrev behind_count : ℕ → ℕ → List ℕ → Result (Read DirValue) StateRefusal
+  behind_count count k ws = and_then (stamp_words d.level k ws) (behind_epoch count)
 
   -- its lists within their room
   record ListsRead (items : List DirItem) (down : List DownValue) (requests : List RequestValue) (replies : List CopyValue) (parked : List CopyValue) (reserved : ℕ) : Type 0 where
@@ -345,7 +346,7 @@ module _ (n kids : ℕ) (d : DirValue) where
     dir-rule parked_fit = p.parked_fits
     dir-rule parked_once = p.parked_differ
 
-    dir-given : nat_le count most_counted ≡ true → stamp_ends d.level epoch ≡ true → (k : ℕ) (ws : List ℕ) (r : Read DirValue) → p8 count epoch items down requests replies parked reserved k ws ≡ Ok r → DirRead r.value
+    dir-given : nat_le count most_counted ≡ true → stamp_ends d.level epoch ≡ true → (k : ℕ) (ws : List ℕ) (r : Read DirValue) → dir_made count epoch items down requests replies parked reserved k ws ≡ Ok r → DirRead r.value
     dir-given counted ends k ws r e =
         given-so DirRead (dir_of count epoch items down requests replies parked reserved) k ws r e (record {
           bus = refl;
@@ -361,15 +362,15 @@ module _ (n kids : ℕ) (d : DirValue) where
   -- step by step, from the last one on
   module _ (count : ℕ) (epoch : Stamp) (items : Recorded) (counted : nat_le count most_counted ≡ true) (ends : stamp_ends d.level epoch ≡ true) (recorded : AreItems n kids (is_top d) items.items) (r : Read DirValue) where
     parking-ok : (down : List DownValue) (requests : List RequestValue) (replies : List CopyValue) (i j l k : ℕ) (ws : List ℕ) → i ≤ d.sizes.down_room → AreDown n d.level d.sizes.width i down → j ≤ d.sizes.request_room → AreRequests n j requests → l ≤ d.sizes.reply_room → AreCopies n l replies
-        → p6 count epoch items down requests replies k ws ≡ Ok r → DirRead r.value
+        → behind_replies count epoch items down requests replies k ws ≡ Ok r → DirRead r.value
     parking-ok down requests replies i j l k ws i_most all_down j_most all_requests l_most all_replies e =
-        let parked = and_then-ok (listed d.sizes.parking_room (read_copy d.sizes.width (may_park n)) k ws) (p7 count epoch items down requests replies) r e in
+        let parked = and_then-ok (listed d.sizes.parking_room (read_copy d.sizes.width (may_park n)) k ws) (behind_parked count epoch items down requests replies) r e in
         let park = parked-ok n d.sizes.width d.sizes.parking_room k ws parked.0 parked.1 in
         last parked.0.value park.0 parked.0.at parked.0.rest park.1 park.2 parked.2
       where
-        last : (parked : List CopyValue) (c k : ℕ) (ws : List ℕ) → c ≤ d.sizes.parking_room → AreParked n c parked → p7 count epoch items down requests replies parked k ws ≡ Ok r → DirRead r.value
+        last : (parked : List CopyValue) (c k : ℕ) (ws : List ℕ) → c ≤ d.sizes.parking_room → AreParked n c parked → behind_parked count epoch items down requests replies parked k ws ≡ Ok r → DirRead r.value
         last parked c k ws c_most all e =
-            let reserved = and_then-ok (word_to (d.sizes.parking_room - length parked) k ws) (p8 count epoch items down requests replies parked) r e in
+            let reserved = and_then-ok (word_to (d.sizes.parking_room - length parked) k ws) (dir_made count epoch items down requests replies parked) r e in
             let most : reserved.0.value ≤ d.sizes.parking_room - length parked = leb-true reserved.0.value (d.sizes.parking_room - length parked) (word_that-ok (λ w. nat_le w (d.sizes.parking_room - length parked)) k ws reserved.0 reserved.1) in
             let room : length parked + reserved.0.value ≤ d.sizes.parking_room = omega (arith, most, c_most, all.copies.count) in
             dir-given count epoch items down requests replies parked reserved.0.value (record {
@@ -386,28 +387,28 @@ module _ (n kids : ℕ) (d : DirValue) where
               parking_room = room;
             }) counted ends reserved.0.at reserved.0.rest r reserved.2
 
-    sends-ok : (down : List DownValue) (i k : ℕ) (ws : List ℕ) → i ≤ d.sizes.down_room → AreDown n d.level d.sizes.width i down → p4 count epoch items down k ws ≡ Ok r → DirRead r.value
+    sends-ok : (down : List DownValue) (i k : ℕ) (ws : List ℕ) → i ≤ d.sizes.down_room → AreDown n d.level d.sizes.width i down → behind_down count epoch items down k ws ≡ Ok r → DirRead r.value
     sends-ok down i k ws i_most all_down e =
-        let requests = and_then-ok (listed d.sizes.request_room (read_request n) k ws) (p5 count epoch items down) r e in
+        let requests = and_then-ok (listed d.sizes.request_room (read_request n) k ws) (behind_requests count epoch items down) r e in
         let asks = requests-ok n d.sizes.request_room k ws requests.0 requests.1 in
         replied requests.0.value asks.0 requests.0.at requests.0.rest asks.1 asks.2 requests.2
       where
-        replied : (requests : List RequestValue) (j k : ℕ) (ws : List ℕ) → j ≤ d.sizes.request_room → AreRequests n j requests → p5 count epoch items down requests k ws ≡ Ok r → DirRead r.value
+        replied : (requests : List RequestValue) (j k : ℕ) (ws : List ℕ) → j ≤ d.sizes.request_room → AreRequests n j requests → behind_requests count epoch items down requests k ws ≡ Ok r → DirRead r.value
         replied requests j k ws j_most all_requests e =
-            let replies = and_then-ok (listed d.sizes.reply_room (read_copy d.sizes.width (λ x cs. nat_lt x n)) k ws) (p6 count epoch items down requests) r e in
+            let replies = and_then-ok (listed d.sizes.reply_room (read_copy d.sizes.width (λ x cs. nat_lt x n)) k ws) (behind_replies count epoch items down requests) r e in
             let answers = replies-ok n d.sizes.width d.sizes.reply_room k ws replies.0 replies.1 in
             parking-ok down requests replies.0.value i j answers.0 replies.0.at replies.0.rest i_most all_down j_most all_requests answers.1 answers.2 replies.2
 
-    lists-ok : (k : ℕ) (ws : List ℕ) → p3 count epoch items k ws ≡ Ok r → DirRead r.value
+    lists-ok : (k : ℕ) (ws : List ℕ) → behind_records count epoch items k ws ≡ Ok r → DirRead r.value
     lists-ok k ws e =
-        let down = and_then-ok (listed d.sizes.down_room (read_down n d.level d.sizes.width) k ws) (p4 count epoch items) r e in
+        let down = and_then-ok (listed d.sizes.down_room (read_down n d.level d.sizes.width) k ws) (behind_down count epoch items) r e in
         let comes = down-ok n d.level d.sizes.width d.sizes.down_room k ws down.0 down.1 in
         sends-ok down.0.value comes.0 down.0.at down.0.rest comes.1 comes.2 down.2
 
   pub dir-ok : (k : ℕ) (ws : List ℕ) (r : Read DirValue) → read_dir n kids d k ws ≡ Ok r → DirRead r.value
   unfolding read_dir
   dir-ok k ws r e =
-      let count = and_then-ok (count_word k ws) p1 r e in
-      let epoch = and_then-ok (stamp_words d.level count.0.at count.0.rest) (p2 count.0.value) r count.2 in
-      let items = and_then-ok (read_records n kids (is_top d) epoch.0.at epoch.0.rest) (p3 count.0.value epoch.0.value) r epoch.2 in
+      let count = and_then-ok (count_word k ws) behind_count r e in
+      let epoch = and_then-ok (stamp_words d.level count.0.at count.0.rest) (behind_epoch count.0.value) r count.2 in
+      let items = and_then-ok (read_records n kids (is_top d) epoch.0.at epoch.0.rest) (behind_records count.0.value epoch.0.value) r epoch.2 in
       lists-ok count.0.value epoch.0.value items.0.value (word_that-ok (λ w. nat_le w most_counted) k ws count.0 count.1) (stamp-ok d.level count.0.at count.0.rest epoch.0 epoch.1) (records-ok n kids (is_top d) epoch.0.at epoch.0.rest items.0 items.1) r items.0.at items.0.rest items.2

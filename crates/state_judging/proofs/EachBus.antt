@@ -153,7 +153,7 @@ module _ {A : Type 0} (f : DirValue → List Node → A) (other : A) (Q : A → 
 
 -- ---- a number in a machine's tree is below how many buses it has
 
-below-any : (most k : ℕ) (ns : List ℕ) → are_below most ns ≡ true → list_any (nat_eq k) ns ≡ true → k < most
+pub below-any : (most k : ℕ) (ns : List ℕ) → are_below most ns ≡ true → list_any (nat_eq k) ns ≡ true → k < most
 below-any most k [] below there = cc
 below-any most k (n ∷ ns) below there =
     elim (nat_eq k n) as (λ b. nat_eq k n ≡ b → (b || list_any (nat_eq k) ns) ≡ true → k < most) [

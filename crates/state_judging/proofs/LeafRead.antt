@@ -1,4 +1,5 @@
 -- What a leaf is that was read: its hart, and then what it keeps of items, which is all that a leaf keeps by itself.
+-- `behind_x` is what is read behind x, and `x_made` what is made of all that was read.
 -- Letters: n is how many items there are, v the leaf before, u the one that was read, k the number of the next word, ws are the words.
 use Rattle.std.specs.Prelude.{◌≡◌, ◌≤◌, ℕ, ◌+◌, ◌-◌, Bool, true, false, not, ◌&&◌, ◌||◌, nat_eq, nat_lt, nat_le, List, [], ◌∷◌, ◌++◌, length, map, Option, Some, None, is_none, Result, Ok, Err, refl, if◌then◌else◌}
 use Rattle.std.specs.List.{list_any, list_all}
@@ -79,63 +80,63 @@ pub record HartRead (v u : LeafValue) : Type 0 where
   pub replies : u.replies ≡ v.replies
 
 module _ (v : LeafValue) where
-  abbrev h5 : List ℕ → ℕ → ℕ → ℕ → ℕ → ℕ → List ℕ → Result (Read LeafValue) StateRefusal
-  h5 registers pc done code number k ws = given (record v { hart = record { registers = 0 ∷ registers; pc = pc; halt = halt_of code number }; done = done }) k ws
+  abbrev hart_made : List ℕ → ℕ → ℕ → ℕ → ℕ → ℕ → List ℕ → Result (Read LeafValue) StateRefusal
+  hart_made registers pc done code number k ws = given (record v { hart = record { registers = 0 ∷ registers; pc = pc; halt = halt_of code number }; done = done }) k ws
 
-  abbrev h4 : List ℕ → ℕ → ℕ → ℕ → ℕ → List ℕ → Result (Read LeafValue) StateRefusal
-  h4 registers pc done code k ws = and_then (word_if (halt_has_number code) k ws) (h5 registers pc done code)
+  abbrev behind_halt : List ℕ → ℕ → ℕ → ℕ → ℕ → List ℕ → Result (Read LeafValue) StateRefusal
+  behind_halt registers pc done code k ws = and_then (word_if (halt_has_number code) k ws) (hart_made registers pc done code)
 
-  abbrev h3 : List ℕ → ℕ → ℕ → ℕ → List ℕ → Result (Read LeafValue) StateRefusal
-  h3 registers pc done k ws = and_then (word_to 9 k ws) (h4 registers pc done)
+  abbrev behind_done : List ℕ → ℕ → ℕ → ℕ → List ℕ → Result (Read LeafValue) StateRefusal
+  behind_done registers pc done k ws = and_then (word_to 9 k ws) (behind_halt registers pc done)
 
-  abbrev h2 : List ℕ → ℕ → ℕ → List ℕ → Result (Read LeafValue) StateRefusal
-  h2 registers pc k ws = and_then (count_word k ws) (h3 registers pc)
+  abbrev behind_pc : List ℕ → ℕ → ℕ → List ℕ → Result (Read LeafValue) StateRefusal
+  behind_pc registers pc k ws = and_then (count_word k ws) (behind_done registers pc)
 
-  abbrev h1 : List ℕ → ℕ → List ℕ → Result (Read LeafValue) StateRefusal
-  h1 registers k ws = and_then (word_that any_word k ws) (h2 registers)
+  abbrev behind_registers : List ℕ → ℕ → List ℕ → Result (Read LeafValue) StateRefusal
+  behind_registers registers k ws = and_then (word_that any_word k ws) (behind_pc registers)
 
-  hart-given : (registers : List ℕ) (pc done code number k : ℕ) (ws : List ℕ) (r : Read LeafValue) → nat_le done most_counted ≡ true → h5 registers pc done code number k ws ≡ Ok r → HartRead v r.value
+  hart-given : (registers : List ℕ) (pc done code number k : ℕ) (ws : List ℕ) (r : Read LeafValue) → nat_le done most_counted ≡ true → hart_made registers pc done code number k ws ≡ Ok r → HartRead v r.value
   hart-given registers pc done code number k ws r counted e =
       given-so (HartRead v) (record v { hart = record { registers = 0 ∷ registers; pc = pc; halt = halt_of code number }; done = done }) k ws r e (record { number = refl; sizes = refl; counted = counted; ways = refl; buffer = refl; replies = refl })
 
   pub hart-ok : (k : ℕ) (ws : List ℕ) (r : Read LeafValue) → read_hart v k ws ≡ Ok r → HartRead v r.value
   unfolding read_hart
   hart-ok k ws r e =
-      let registers = and_then-ok (words_that any_word 31 k ws) h1 r e in
-      let pc = and_then-ok (word_that any_word registers.0.at registers.0.rest) (h2 registers.0.value) r registers.2 in
-      let done = and_then-ok (count_word pc.0.at pc.0.rest) (h3 registers.0.value pc.0.value) r pc.2 in
-      let code = and_then-ok (word_to 9 done.0.at done.0.rest) (h4 registers.0.value pc.0.value done.0.value) r done.2 in
-      let number = and_then-ok (word_if (halt_has_number code.0.value) code.0.at code.0.rest) (h5 registers.0.value pc.0.value done.0.value code.0.value) r code.2 in
+      let registers = and_then-ok (words_that any_word 31 k ws) behind_registers r e in
+      let pc = and_then-ok (word_that any_word registers.0.at registers.0.rest) (behind_pc registers.0.value) r registers.2 in
+      let done = and_then-ok (count_word pc.0.at pc.0.rest) (behind_done registers.0.value pc.0.value) r pc.2 in
+      let code = and_then-ok (word_to 9 done.0.at done.0.rest) (behind_halt registers.0.value pc.0.value done.0.value) r done.2 in
+      let number = and_then-ok (word_if (halt_has_number code.0.value) code.0.at code.0.rest) (hart_made registers.0.value pc.0.value done.0.value code.0.value) r code.2 in
       hart-given registers.0.value pc.0.value done.0.value code.0.value number.0.value number.0.at number.0.rest r (word_that-ok (λ w. nat_le w most_counted) pc.0.at pc.0.rest done.0 done.1) number.2
 
 -- ---- entries in ways
 
 module _ (n : ℕ) (v : LeafValue) where
-  abbrev s4 : List StandingValue → ℕ → ℕ → ℕ → List ℕ → ℕ → List ℕ → Result (Read (List StandingValue)) StateRefusal
-  s4 ss x way code words k ws = given (record { item = x; entry = record { way = way; state = state_of code; words = words } } ∷ ss) k ws
+  abbrev standing_made : List StandingValue → ℕ → ℕ → ℕ → List ℕ → ℕ → List ℕ → Result (Read (List StandingValue)) StateRefusal
+  standing_made ss x way code words k ws = given (record { item = x; entry = record { way = way; state = state_of code; words = words } } ∷ ss) k ws
 
-  abbrev s3 : List StandingValue → ℕ → ℕ → ℕ → ℕ → List ℕ → Result (Read (List StandingValue)) StateRefusal
-  s3 ss x way code k ws = and_then (item_words (not (is_reading (state_of code))) v.sizes.width k ws) (s4 ss x way code)
+  abbrev behind_state : List StandingValue → ℕ → ℕ → ℕ → ℕ → List ℕ → Result (Read (List StandingValue)) StateRefusal
+  behind_state ss x way code k ws = and_then (item_words (not (is_reading (state_of code))) v.sizes.width k ws) (standing_made ss x way code)
 
-  abbrev s2 : List StandingValue → ℕ → ℕ → ℕ → List ℕ → Result (Read (List StandingValue)) StateRefusal
-  s2 ss x way k ws = and_then (word_from_1 5 k ws) (s3 ss x way)
+  abbrev behind_way : List StandingValue → ℕ → ℕ → ℕ → List ℕ → Result (Read (List StandingValue)) StateRefusal
+  behind_way ss x way k ws = and_then (word_from_1 5 k ws) (behind_state ss x way)
 
-  abbrev s1 : List StandingValue → ℕ → ℕ → List ℕ → Result (Read (List StandingValue)) StateRefusal
-  s1 ss x k ws = and_then (word_that (λ way. nat_lt way v.sizes.way_count && way_not_before v.sizes.sets x way (last_of ss)) k ws) (s2 ss x)
+  abbrev behind_item : List StandingValue → ℕ → ℕ → List ℕ → Result (Read (List StandingValue)) StateRefusal
+  behind_item ss x k ws = and_then (word_that (λ way. nat_lt way v.sizes.way_count && way_not_before v.sizes.sets x way (last_of ss)) k ws) (behind_way ss x)
 
   abbrev Stand : List StandingValue → Type 0
   Stand ss = list_all (standing_fits n v.sizes.way_count) ss ≡ true
 
-  standing-given : (ss : List StandingValue) (x way code : ℕ) (words : List ℕ) (k : ℕ) (ws : List ℕ) (r : Read (List StandingValue)) → Stand ss → nat_lt x n ≡ true → nat_lt way v.sizes.way_count ≡ true → words_suit (state_of code) words ≡ true → s4 ss x way code words k ws ≡ Ok r → Stand r.value
+  standing-given : (ss : List StandingValue) (x way code : ℕ) (words : List ℕ) (k : ℕ) (ws : List ℕ) (r : Read (List StandingValue)) → Stand ss → nat_lt x n ≡ true → nat_lt way v.sizes.way_count ≡ true → words_suit (state_of code) words ≡ true → standing_made ss x way code words k ws ≡ Ok r → Stand r.value
   standing-given ss x way code words k ws r all item place suit e =
       given-so Stand (record { item = x; entry = record { way = way; state = state_of code; words = words } } ∷ ss) k ws r e (both_true (both_true item (both_true place suit)) all)
 
   standing-next : (i : ℕ) (ss : List StandingValue) (k : ℕ) (ws : List ℕ) (r : Read (List StandingValue)) → Stand ss → read_standing n v ss k ws ≡ Ok r → Stand r.value
   standing-next i ss k ws r all e =
-      let x = and_then-ok (word_that (λ x. nat_lt x n && not_before v.sizes.sets x (last_of ss)) k ws) (s1 ss) r e in
-      let way = and_then-ok (word_that (λ way. nat_lt way v.sizes.way_count && way_not_before v.sizes.sets x.0.value way (last_of ss)) x.0.at x.0.rest) (s2 ss x.0.value) r x.2 in
-      let code = and_then-ok (word_from_1 5 way.0.at way.0.rest) (s3 ss x.0.value way.0.value) r way.2 in
-      let words = and_then-ok (item_words (not (is_reading (state_of code.0.value))) v.sizes.width code.0.at code.0.rest) (s4 ss x.0.value way.0.value code.0.value) r code.2 in
+      let x = and_then-ok (word_that (λ x. nat_lt x n && not_before v.sizes.sets x (last_of ss)) k ws) (behind_item ss) r e in
+      let way = and_then-ok (word_that (λ way. nat_lt way v.sizes.way_count && way_not_before v.sizes.sets x.0.value way (last_of ss)) x.0.at x.0.rest) (behind_way ss x.0.value) r x.2 in
+      let code = and_then-ok (word_from_1 5 way.0.at way.0.rest) (behind_state ss x.0.value way.0.value) r way.2 in
+      let words = and_then-ok (item_words (not (is_reading (state_of code.0.value))) v.sizes.width code.0.at code.0.rest) (standing_made ss x.0.value way.0.value code.0.value) r code.2 in
       let item = and_parts (nat_lt x.0.value n) (not_before v.sizes.sets x.0.value (last_of ss)) (word_that-ok (λ x. nat_lt x n && not_before v.sizes.sets x (last_of ss)) k ws x.0 x.1) in
       let place = and_parts (nat_lt way.0.value v.sizes.way_count) (way_not_before v.sizes.sets x.0.value way.0.value (last_of ss)) (word_that-ok (λ way. nat_lt way v.sizes.way_count && way_not_before v.sizes.sets x.0.value way (last_of ss)) x.0.at x.0.rest way.0 way.1) in
       let suit = zero-where (is_reading (state_of code.0.value)) words.0.value (words_that-ok (λ w. not (is_reading (state_of code.0.value)) || nat_eq w 0) v.sizes.width code.0.at code.0.rest words.0 words.1) in
@@ -143,14 +144,14 @@ module _ (n : ℕ) (v : LeafValue) where
 
   -- ---- entries in the buffer
 
-  abbrev b3 : List BufferValue → ℕ → ℕ → List ℕ → ℕ → List ℕ → Result (Read (List BufferValue)) StateRefusal
-  b3 es x code words k ws = given (es ++ record { item = x; state = state_of code; words = words } ∷ []) k ws
+  abbrev buffered_made : List BufferValue → ℕ → ℕ → List ℕ → ℕ → List ℕ → Result (Read (List BufferValue)) StateRefusal
+  buffered_made es x code words k ws = given (es ++ record { item = x; state = state_of code; words = words } ∷ []) k ws
 
-  abbrev b2 : List BufferValue → ℕ → ℕ → ℕ → List ℕ → Result (Read (List BufferValue)) StateRefusal
-  b2 es x code k ws = and_then (item_words (not (is_reading (state_of code))) v.sizes.width k ws) (b3 es x code)
+  abbrev behind_buffered_state : List BufferValue → ℕ → ℕ → ℕ → List ℕ → Result (Read (List BufferValue)) StateRefusal
+  behind_buffered_state es x code k ws = and_then (item_words (not (is_reading (state_of code))) v.sizes.width k ws) (buffered_made es x code)
 
-  abbrev b1 : List BufferValue → ℕ → ℕ → List ℕ → Result (Read (List BufferValue)) StateRefusal
-  b1 es x k ws = and_then (word_from_1 5 k ws) (b2 es x)
+  abbrev behind_buffered_item : List BufferValue → ℕ → ℕ → List ℕ → Result (Read (List BufferValue)) StateRefusal
+  behind_buffered_item es x k ws = and_then (word_from_1 5 k ws) (behind_buffered_state es x)
 
   abbrev buffered_fits : BufferValue → Bool
   buffered_fits e = nat_lt e.item n && words_suit e.state e.words
@@ -159,7 +160,7 @@ module _ (n : ℕ) (v : LeafValue) where
     count : length es ≡ i
     fit : list_all buffered_fits es ≡ true
 
-  buffered-given : (i : ℕ) (es : List BufferValue) (x code : ℕ) (words : List ℕ) (k : ℕ) (ws : List ℕ) (r : Read (List BufferValue)) → AreBuffered i es → nat_lt x n ≡ true → words_suit (state_of code) words ≡ true → b3 es x code words k ws ≡ Ok r → AreBuffered (i + 1) r.value
+  buffered-given : (i : ℕ) (es : List BufferValue) (x code : ℕ) (words : List ℕ) (k : ℕ) (ws : List ℕ) (r : Read (List BufferValue)) → AreBuffered i es → nat_lt x n ≡ true → words_suit (state_of code) words ≡ true → buffered_made es x code words k ws ≡ Ok r → AreBuffered (i + 1) r.value
   buffered-given i es x code words k ws r all item suit e =
       given-so (AreBuffered (i + 1)) (es ++ record { item = x; state = state_of code; words = words } ∷ []) k ws r e (record {
         count = length_push es (record { item = x; state = state_of code; words = words }) ∙ ap (λ j. j + 1) all.count;
@@ -168,9 +169,9 @@ module _ (n : ℕ) (v : LeafValue) where
 
   buffered-next : (i : ℕ) (es : List BufferValue) (k : ℕ) (ws : List ℕ) (r : Read (List BufferValue)) → AreBuffered i es → read_buffered n v es k ws ≡ Ok r → AreBuffered (i + 1) r.value
   buffered-next i es k ws r all e =
-      let x = and_then-ok (word_below n k ws) (b1 es) r e in
-      let code = and_then-ok (word_from_1 5 x.0.at x.0.rest) (b2 es x.0.value) r x.2 in
-      let words = and_then-ok (item_words (not (is_reading (state_of code.0.value))) v.sizes.width code.0.at code.0.rest) (b3 es x.0.value code.0.value) r code.2 in
+      let x = and_then-ok (word_below n k ws) (behind_buffered_item es) r e in
+      let code = and_then-ok (word_from_1 5 x.0.at x.0.rest) (behind_buffered_state es x.0.value) r x.2 in
+      let words = and_then-ok (item_words (not (is_reading (state_of code.0.value))) v.sizes.width code.0.at code.0.rest) (buffered_made es x.0.value code.0.value) r code.2 in
       let suit = zero-where (is_reading (state_of code.0.value)) words.0.value (words_that-ok (λ w. not (is_reading (state_of code.0.value)) || nat_eq w 0) v.sizes.width code.0.at code.0.rest words.0 words.1) in
       buffered-given i es x.0.value code.0.value words.0.value words.0.at words.0.rest r all (word_that-ok (λ x. nat_lt x n) k ws x.0 x.1) suit words.2
 
@@ -180,35 +181,35 @@ module _ (n : ℕ) (v : LeafValue) where
   abbrev leaf_of : ℕ → ℕ → ℕ → List StandingValue → List BufferValue → List CopyValue → LeafValue
   leaf_of reserved code asked ss buffer replies = record v { ways = ways_of n ss; buffer = buffer; slot = slot_of code asked; replies = replies; reservation = reserved_of reserved }
 
-  abbrev l9 : ℕ → ℕ → ℕ → List StandingValue → List BufferValue → List CopyValue → ℕ → List ℕ → Result (Read LeafValue) StateRefusal
-  l9 reserved code asked ss buffer replies k ws = unless_broken ss (leaf_of reserved code asked ss buffer replies) k ws
+  abbrev leaf_made : ℕ → ℕ → ℕ → List StandingValue → List BufferValue → List CopyValue → ℕ → List ℕ → Result (Read LeafValue) StateRefusal
+  leaf_made reserved code asked ss buffer replies k ws = unless_broken ss (leaf_of reserved code asked ss buffer replies) k ws
 
-  abbrev l8 : ℕ → ℕ → ℕ → List StandingValue → List BufferValue → ℕ → ℕ → List ℕ → Result (Read LeafValue) StateRefusal
-  l8 reserved code asked ss buffer replied k ws = and_then (times (read_copy v.sizes.width (λ x cs. nat_lt x n)) replied [] k ws) (l9 reserved code asked ss buffer)
+  abbrev behind_reply_count : ℕ → ℕ → ℕ → List StandingValue → List BufferValue → ℕ → ℕ → List ℕ → Result (Read LeafValue) StateRefusal
+  behind_reply_count reserved code asked ss buffer replied k ws = and_then (times (read_copy v.sizes.width (λ x cs. nat_lt x n)) replied [] k ws) (leaf_made reserved code asked ss buffer)
 
-  abbrev l7 : ℕ → ℕ → ℕ → List StandingValue → List BufferValue → ℕ → List ℕ → Result (Read LeafValue) StateRefusal
-  l7 reserved code asked ss buffer k ws = and_then (word_to v.sizes.reply_room k ws) (l8 reserved code asked ss buffer)
+  abbrev behind_buffer : ℕ → ℕ → ℕ → List StandingValue → List BufferValue → ℕ → List ℕ → Result (Read LeafValue) StateRefusal
+  behind_buffer reserved code asked ss buffer k ws = and_then (word_to v.sizes.reply_room k ws) (behind_reply_count reserved code asked ss buffer)
 
-  abbrev l6 : ℕ → ℕ → ℕ → List StandingValue → ℕ → ℕ → List ℕ → Result (Read LeafValue) StateRefusal
-  l6 reserved code asked ss buffered k ws = and_then (times (read_buffered n v) buffered [] k ws) (l7 reserved code asked ss)
+  abbrev behind_buffer_count : ℕ → ℕ → ℕ → List StandingValue → ℕ → ℕ → List ℕ → Result (Read LeafValue) StateRefusal
+  behind_buffer_count reserved code asked ss buffered k ws = and_then (times (read_buffered n v) buffered [] k ws) (behind_buffer reserved code asked ss)
 
-  abbrev l5 : ℕ → ℕ → ℕ → List StandingValue → ℕ → List ℕ → Result (Read LeafValue) StateRefusal
-  l5 reserved code asked ss k ws = and_then (word_to v.sizes.buffer_room k ws) (l6 reserved code asked ss)
+  abbrev behind_standing : ℕ → ℕ → ℕ → List StandingValue → ℕ → List ℕ → Result (Read LeafValue) StateRefusal
+  behind_standing reserved code asked ss k ws = and_then (word_to v.sizes.buffer_room k ws) (behind_buffer_count reserved code asked ss)
 
-  abbrev l4 : ℕ → ℕ → ℕ → ℕ → ℕ → List ℕ → Result (Read LeafValue) StateRefusal
-  l4 reserved code asked standing k ws = and_then (times (read_standing n v) standing [] k ws) (l5 reserved code asked)
+  abbrev behind_standing_count : ℕ → ℕ → ℕ → ℕ → ℕ → List ℕ → Result (Read LeafValue) StateRefusal
+  behind_standing_count reserved code asked standing k ws = and_then (times (read_standing n v) standing [] k ws) (behind_standing reserved code asked)
 
-  abbrev l3 : ℕ → ℕ → ℕ → ℕ → List ℕ → Result (Read LeafValue) StateRefusal
-  l3 reserved code asked k ws = and_then (word_that any_word k ws) (l4 reserved code asked)
+  abbrev behind_asked : ℕ → ℕ → ℕ → ℕ → List ℕ → Result (Read LeafValue) StateRefusal
+  behind_asked reserved code asked k ws = and_then (word_that any_word k ws) (behind_standing_count reserved code asked)
 
   abbrev asked_fits : ℕ → ℕ → Bool
   asked_fits code x = if nat_eq code 0 then nat_eq x 0 else nat_lt x n
 
-  abbrev l2 : ℕ → ℕ → ℕ → List ℕ → Result (Read LeafValue) StateRefusal
-  l2 reserved code k ws = and_then (word_that (asked_fits code) k ws) (l3 reserved code)
+  abbrev behind_slot : ℕ → ℕ → ℕ → List ℕ → Result (Read LeafValue) StateRefusal
+  behind_slot reserved code k ws = and_then (word_that (asked_fits code) k ws) (behind_asked reserved code)
 
-  abbrev l1 : ℕ → ℕ → List ℕ → Result (Read LeafValue) StateRefusal
-  l1 reserved k ws = and_then (word_to 2 k ws) (l2 reserved)
+  abbrev behind_reserved : ℕ → ℕ → List ℕ → Result (Read LeafValue) StateRefusal
+  behind_reserved reserved k ws = and_then (word_to 2 k ws) (behind_slot reserved)
 
   -- what its parts were read with
   record PartsRead (reserved code asked : ℕ) (ss : List StandingValue) (buffer : List BufferValue) (replies : List CopyValue) : Type 0 where
@@ -291,7 +292,7 @@ module _ (n : ℕ) (v : LeafValue) where
     leaf-given k ws r some e = given-so LeafRead u k ws r e (record { number = refl; sizes = refl; done = refl; holds = all-pass (λ q. leaf_test q n u) leaf_rules (leaf-rule some) })
 
   unless-ok : (reserved code asked : ℕ) (ss : List StandingValue) (buffer : List BufferValue) (replies : List CopyValue) (k : ℕ) (ws : List ℕ) (r : Read LeafValue) → (nat_lt 0 v.sizes.sets && nat_lt 0 v.sizes.way_count) ≡ true
-      → (is_whole_leaf ss (leaf_of reserved code asked ss buffer replies) ≡ true → PartsRead reserved code asked ss buffer replies) → l9 reserved code asked ss buffer replies k ws ≡ Ok r → LeafRead r.value
+      → (is_whole_leaf ss (leaf_of reserved code asked ss buffer replies) ≡ true → PartsRead reserved code asked ss buffer replies) → leaf_made reserved code asked ss buffer replies k ws ≡ Ok r → LeafRead r.value
   unless-ok reserved code asked ss buffer replies k ws r some p e =
       elim (is_whole_leaf ss (leaf_of reserved code asked ss buffer replies)) as (λ b. is_whole_leaf ss (leaf_of reserved code asked ss buffer replies) ≡ b → (if b then given (leaf_of reserved code asked ss buffer replies) k ws else Err (BrokenLeaf v.number)) ≡ Ok r → LeafRead r.value) [
         | true ↦ λ whole e. leaf-given reserved code asked ss buffer replies (p whole) k ws r some e
@@ -304,15 +305,15 @@ module _ (n : ℕ) (v : LeafValue) where
   -- step by step, from the last one on
   module _ (some : (nat_lt 0 v.sizes.sets && nat_lt 0 v.sizes.way_count) ≡ true) where
     replies-ok : (reserved code asked : ℕ) (ss : List StandingValue) (buffer : List BufferValue) (k : ℕ) (ws : List ℕ) (r : Read LeafValue) → nat_le reserved n ≡ true → Stand ss → list_all buffered_fits buffer ≡ true → length buffer ≤ v.sizes.buffer_room
-        → l7 reserved code asked ss buffer k ws ≡ Ok r → LeafRead r.value
+        → behind_buffer reserved code asked ss buffer k ws ≡ Ok r → LeafRead r.value
     replies-ok reserved code asked ss buffer k ws r reserves stand held room e =
-        let replied = and_then-ok (word_to v.sizes.reply_room k ws) (l8 reserved code asked ss buffer) r e in
+        let replied = and_then-ok (word_to v.sizes.reply_room k ws) (behind_reply_count reserved code asked ss buffer) r e in
         let most : replied.0.value ≤ v.sizes.reply_room = leb-true replied.0.value v.sizes.reply_room (word_that-ok (λ w. nat_le w v.sizes.reply_room) k ws replied.0 replied.1) in
         filled replied.0.value replied.0.at replied.0.rest most replied.2
       where
-        filled : (count k : ℕ) (ws : List ℕ) → count ≤ v.sizes.reply_room → l8 reserved code asked ss buffer count k ws ≡ Ok r → LeafRead r.value
+        filled : (count k : ℕ) (ws : List ℕ) → count ≤ v.sizes.reply_room → behind_reply_count reserved code asked ss buffer count k ws ≡ Ok r → LeafRead r.value
         filled count k ws most e =
-            let replies = and_then-ok (times (read_copy v.sizes.width (λ x cs. nat_lt x n)) count [] k ws) (l9 reserved code asked ss buffer) r e in
+            let replies = and_then-ok (times (read_copy v.sizes.width (λ x cs. nat_lt x n)) count [] k ws) (leaf_made reserved code asked ss buffer) r e in
             let copies = times-begun (read_copy v.sizes.width (λ x cs. nat_lt x n)) (AreCopies n) (copies-next n v.sizes.width) count [] k ws replies.0 (no_copies n) replies.1 in
             unless-ok reserved code asked ss buffer replies.0.value replies.0.at replies.0.rest r some (λ whole. record {
               reserves = reserves;
@@ -324,36 +325,36 @@ module _ (n : ℕ) (v : LeafValue) where
               whole = whole;
             }) replies.2
 
-    buffer-ok : (reserved code asked : ℕ) (ss : List StandingValue) (k : ℕ) (ws : List ℕ) (r : Read LeafValue) → nat_le reserved n ≡ true → Stand ss → l5 reserved code asked ss k ws ≡ Ok r → LeafRead r.value
+    buffer-ok : (reserved code asked : ℕ) (ss : List StandingValue) (k : ℕ) (ws : List ℕ) (r : Read LeafValue) → nat_le reserved n ≡ true → Stand ss → behind_standing reserved code asked ss k ws ≡ Ok r → LeafRead r.value
     buffer-ok reserved code asked ss k ws r reserves stand e =
-        let buffered = and_then-ok (word_to v.sizes.buffer_room k ws) (l6 reserved code asked ss) r e in
+        let buffered = and_then-ok (word_to v.sizes.buffer_room k ws) (behind_buffer_count reserved code asked ss) r e in
         let most : buffered.0.value ≤ v.sizes.buffer_room = leb-true buffered.0.value v.sizes.buffer_room (word_that-ok (λ w. nat_le w v.sizes.buffer_room) k ws buffered.0 buffered.1) in
         filled buffered.0.value buffered.0.at buffered.0.rest most buffered.2
       where
-        filled : (count k : ℕ) (ws : List ℕ) → count ≤ v.sizes.buffer_room → l6 reserved code asked ss count k ws ≡ Ok r → LeafRead r.value
+        filled : (count k : ℕ) (ws : List ℕ) → count ≤ v.sizes.buffer_room → behind_buffer_count reserved code asked ss count k ws ≡ Ok r → LeafRead r.value
         filled count k ws most e =
-            let buffer = and_then-ok (times (read_buffered n v) count [] k ws) (l7 reserved code asked ss) r e in
+            let buffer = and_then-ok (times (read_buffered n v) count [] k ws) (behind_buffer reserved code asked ss) r e in
             let held = times-begun (read_buffered n v) AreBuffered buffered-next count [] k ws buffer.0 none_buffered buffer.1 in
             replies-ok reserved code asked ss buffer.0.value buffer.0.at buffer.0.rest r reserves stand held.fit (subst (λ c. c ≤ v.sizes.buffer_room) (sym held.count) most) buffer.2
 
-    standing-ok : (reserved code asked : ℕ) (k : ℕ) (ws : List ℕ) (r : Read LeafValue) → nat_le reserved n ≡ true → l3 reserved code asked k ws ≡ Ok r → LeafRead r.value
+    standing-ok : (reserved code asked : ℕ) (k : ℕ) (ws : List ℕ) (r : Read LeafValue) → nat_le reserved n ≡ true → behind_asked reserved code asked k ws ≡ Ok r → LeafRead r.value
     standing-ok reserved code asked k ws r reserves e =
-        let count = and_then-ok (word_that any_word k ws) (l4 reserved code asked) r e in
+        let count = and_then-ok (word_that any_word k ws) (behind_standing_count reserved code asked) r e in
         filled count.0.value count.0.at count.0.rest count.2
       where
-        filled : (count k : ℕ) (ws : List ℕ) → l4 reserved code asked count k ws ≡ Ok r → LeafRead r.value
+        filled : (count k : ℕ) (ws : List ℕ) → behind_standing_count reserved code asked count k ws ≡ Ok r → LeafRead r.value
         filled count k ws e =
-            let ss = and_then-ok (times (read_standing n v) count [] k ws) (l5 reserved code asked) r e in
+            let ss = and_then-ok (times (read_standing n v) count [] k ws) (behind_standing reserved code asked) r e in
             buffer-ok reserved code asked ss.0.value ss.0.at ss.0.rest r reserves (times-begun (read_standing n v) (λ i. Stand) standing-next count [] k ws ss.0 refl ss.1) ss.2
 
     pub leaf-ok : (k : ℕ) (ws : List ℕ) (r : Read LeafValue) → read_leaf n v k ws ≡ Ok r → LeafRead r.value
     unfolding read_leaf
     leaf-ok k ws r e =
-        let reserved = and_then-ok (word_to n k ws) l1 r e in
+        let reserved = and_then-ok (word_to n k ws) behind_reserved r e in
         asked reserved.0.value reserved.0.at reserved.0.rest (word_that-ok (λ w. nat_le w n) k ws reserved.0 reserved.1) reserved.2
       where
-        asked : (reserved k : ℕ) (ws : List ℕ) → nat_le reserved n ≡ true → l1 reserved k ws ≡ Ok r → LeafRead r.value
+        asked : (reserved k : ℕ) (ws : List ℕ) → nat_le reserved n ≡ true → behind_reserved reserved k ws ≡ Ok r → LeafRead r.value
         asked reserved k ws reserves e =
-            let code = and_then-ok (word_to 2 k ws) (l2 reserved) r e in
-            let item = and_then-ok (word_that (asked_fits code.0.value) code.0.at code.0.rest) (l3 reserved code.0.value) r code.2 in
+            let code = and_then-ok (word_to 2 k ws) (behind_slot reserved) r e in
+            let item = and_then-ok (word_that (asked_fits code.0.value) code.0.at code.0.rest) (behind_asked reserved code.0.value) r code.2 in
             standing-ok reserved code.0.value item.0.value item.0.at item.0.rest r reserves item.2

@@ -55,11 +55,11 @@ module _ (Q R S : LeafValue → Type 0) (both : (v : LeafValue) → Q v → R v 
 
 -- ---- numbers from left to right
 
-abbrev number_of : LeafValue → ℕ
+abbrev pub number_of : LeafValue → ℕ
 number_of v = v.number
 
 mutual
-  numbers-in : (n : Node) (rest : List LeafValue) → leaf_numbers_of (skeleton n) (map number_of rest) ≡ map number_of (leaves_of n rest)
+  pub numbers-in : (n : Node) (rest : List LeafValue) → leaf_numbers_of (skeleton n) (map number_of rest) ≡ map number_of (leaves_of n rest)
   numbers-in (leaf_node v) rest = refl
   numbers-in (dir_node d ns) rest = numbers-among ns rest
 
@@ -69,7 +69,7 @@ mutual
 
 module _ (R : LeafValue → LeafValue → Type 0) where
   -- behind those before them, each stands at its number
-  at-numbers : (before us vs : List LeafValue) (i : ℕ) → length before ≡ i → count_from i (map number_of vs) ≡ true → Beside R vs us → AllByRecursion (λ v. R v (slice_index_or (before ++ us) v.number v)) vs
+  pub at-numbers : (before us vs : List LeafValue) (i : ℕ) → length before ≡ i → count_from i (map number_of vs) ≡ true → Beside R vs us → AllByRecursion (λ v. R v (slice_index_or (before ++ us) v.number v)) vs
   at-numbers before us [] i size counted beside = tt
   at-numbers before [] (v ∷ vs) i size counted beside = absurd beside
   at-numbers before (u ∷ us) (v ∷ vs) i size counted beside =

@@ -17,3 +17,4 @@ pub mod LeavesRead
 pub mod Refilled
 pub mod TimeRead
 pub mod MachineRead
+pub mod Started

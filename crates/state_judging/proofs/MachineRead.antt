@@ -1,4 +1,5 @@
 -- What a machine is that was read, whatever the words were: all but the rules of its buses and of time that look at more than a part.
+-- `behind_x` is what is read behind x.
 -- Letters: f is the machine before its first turn, m the one that was read.
 use Rattle.std.specs.Prelude.{◌≡◌, ◌≤◌, ℕ, ◌+◌, true, not, nat_eq, nat_le, List, [], ◌∷◌, length, map, slice_index_or, Result, Ok, refl, IsTrue}
 use Rattle.std.specs.List.{list_all, range_with_len}
@@ -140,46 +141,46 @@ module _ (f : MachineValue) (can : CanRead f) (retired : ℕ) (r : Read MachineV
   abbrev items : ℕ
   items = item_count f.items
 
-  abbrev w6 : List LeafValue → List BusRead → List LeafValue → List Op → ℕ → ℕ → List ℕ → Result (Read MachineValue) StateRefusal
-  w6 harts buses leaves ops end k ws = given (refilled_machine f leaves buses ops) k ws
+  abbrev machine_made : List LeafValue → List BusRead → List LeafValue → List Op → ℕ → ℕ → List ℕ → Result (Read MachineValue) StateRefusal
+  machine_made harts buses leaves ops end k ws = given (refilled_machine f leaves buses ops) k ws
 
-  abbrev w5 : List LeafValue → List BusRead → List LeafValue → List Op → ℕ → List ℕ → Result (Read MachineValue) StateRefusal
-  w5 harts buses leaves ops k ws = and_then (word_that (λ w. nat_eq w 0x454d4444) k ws) (w6 harts buses leaves ops)
+  abbrev behind_ops : List LeafValue → List BusRead → List LeafValue → List Op → ℕ → List ℕ → Result (Read MachineValue) StateRefusal
+  behind_ops harts buses leaves ops k ws = and_then (word_that (λ w. nat_eq w 0x454d4444) k ws) (machine_made harts buses leaves ops)
 
-  abbrev w4 : List LeafValue → List BusRead → List LeafValue → ℕ → ℕ → List ℕ → Result (Read MachineValue) StateRefusal
-  w4 harts buses leaves count k ws = and_then (times (read_op (depth_of f) (tree_counts f).leaves) count [] k ws) (w5 harts buses leaves)
+  abbrev behind_retired : List LeafValue → List BusRead → List LeafValue → ℕ → ℕ → List ℕ → Result (Read MachineValue) StateRefusal
+  behind_retired harts buses leaves count k ws = and_then (times (read_op (depth_of f) (tree_counts f).leaves) count [] k ws) (behind_ops harts buses leaves)
 
-  abbrev w3 : List LeafValue → List BusRead → List LeafValue → ℕ → List ℕ → Result (Read MachineValue) StateRefusal
-  w3 harts buses leaves k ws = and_then (word_that (λ w. nat_eq w retired) k ws) (w4 harts buses leaves)
+  abbrev behind_leaves : List LeafValue → List BusRead → List LeafValue → ℕ → List ℕ → Result (Read MachineValue) StateRefusal
+  behind_leaves harts buses leaves k ws = and_then (word_that (λ w. nat_eq w retired) k ws) (behind_retired harts buses leaves)
 
-  abbrev w2 : List LeafValue → List BusRead → ℕ → List ℕ → Result (Read MachineValue) StateRefusal
-  w2 harts buses k ws = and_then (read_each (read_leaf items) harts k ws) (w3 harts buses)
+  abbrev behind_buses : List LeafValue → List BusRead → ℕ → List ℕ → Result (Read MachineValue) StateRefusal
+  behind_buses harts buses k ws = and_then (read_each (read_leaf items) harts k ws) (behind_leaves harts buses)
 
-  abbrev w1 : List LeafValue → ℕ → List ℕ → Result (Read MachineValue) StateRefusal
-  w1 harts k ws = and_then (read_buses items f (range_with_len 0 (length f.traffic)) [] k ws) (w2 harts)
+  abbrev behind_harts : List LeafValue → ℕ → List ℕ → Result (Read MachineValue) StateRefusal
+  behind_harts harts k ws = and_then (read_buses items f (range_with_len 0 (length f.traffic)) [] k ws) (behind_buses harts)
 
-  last-ok : (harts leaves : List LeafValue) (buses : List BusRead) (k : ℕ) (ws : List ℕ) → Beside HartRead (machine_leaves f) harts → Beside (FromHart items) harts leaves → BusesReads items f buses → w3 harts buses leaves k ws ≡ Ok r → Answer r.value
+  last-ok : (harts leaves : List LeafValue) (buses : List BusRead) (k : ℕ) (ws : List ℕ) → Beside HartRead (machine_leaves f) harts → Beside (FromHart items) harts leaves → BusesReads items f buses → behind_leaves harts buses leaves k ws ≡ Ok r → Answer r.value
   last-ok harts leaves buses k ws first second over e =
-      let count = and_then-ok (word_that (λ w. nat_eq w retired) k ws) (w4 harts buses leaves) r e in
+      let count = and_then-ok (word_that (λ w. nat_eq w retired) k ws) (behind_retired harts buses leaves) r e in
       filled count.0.value count.0.at count.0.rest count.2
     where
-      filled : (count k : ℕ) (ws : List ℕ) → w4 harts buses leaves count k ws ≡ Ok r → Answer r.value
+      filled : (count k : ℕ) (ws : List ℕ) → behind_retired harts buses leaves count k ws ≡ Ok r → Answer r.value
       filled count k ws e =
-          let ops = and_then-ok (times (read_op (depth_of f) (tree_counts f).leaves) count [] k ws) (w5 harts buses leaves) r e in
-          let end = and_then-ok (word_that (λ w. nat_eq w 0x454d4444) ops.0.at ops.0.rest) (w6 harts buses leaves ops.0.value) r ops.2 in
+          let ops = and_then-ok (times (read_op (depth_of f) (tree_counts f).leaves) count [] k ws) (behind_ops harts buses leaves) r e in
+          let end = and_then-ok (word_that (λ w. nat_eq w 0x454d4444) ops.0.at ops.0.rest) (machine_made harts buses leaves ops.0.value) r ops.2 in
           let standing = leaves-stand items f harts leaves can.shaped can.ways first second in
           given-so Answer (refilled_machine f leaves buses ops.0.value) end.0.at end.0.rest r end.2 (machine-read f can leaves buses ops.0.value standing over (ops-ok (depth_of f) (tree_counts f).leaves count k ws ops.0 ops.1))
 
   pub words-ok : (k : ℕ) (ws : List ℕ) → read_words f retired k ws ≡ Ok r → Answer r.value
   unfolding read_words
   words-ok k ws e =
-      let harts = and_then-ok (read_each read_hart (machine_leaves f) k ws) w1 r e in
+      let harts = and_then-ok (read_each read_hart (machine_leaves f) k ws) behind_harts r e in
       between harts.0.value harts.0.at harts.0.rest (harts-ok items f k ws harts.0 harts.1) harts.2
     where
-      between : (harts : List LeafValue) (k : ℕ) (ws : List ℕ) → Beside HartRead (machine_leaves f) harts → w1 harts k ws ≡ Ok r → Answer r.value
+      between : (harts : List LeafValue) (k : ℕ) (ws : List ℕ) → Beside HartRead (machine_leaves f) harts → behind_harts harts k ws ≡ Ok r → Answer r.value
       between harts k ws first e =
-          let buses = and_then-ok (read_buses items f (range_with_len 0 (length f.traffic)) [] k ws) (w2 harts) r e in
-          let leaves = and_then-ok (read_each (read_leaf items) harts buses.0.at buses.0.rest) (w3 harts buses.0.value) r buses.2 in
+          let buses = and_then-ok (read_buses items f (range_with_len 0 (length f.traffic)) [] k ws) (behind_buses harts) r e in
+          let leaves = and_then-ok (read_each (read_leaf items) harts buses.0.at buses.0.rest) (behind_leaves harts buses.0.value) r buses.2 in
           last-ok harts leaves.0.value buses.0.value leaves.0.at leaves.0.rest first (leaves-ok items f harts buses.0.at buses.0.rest leaves.0 leaves.1) (all-buses items f can.shaped k ws buses.0 buses.1) leaves.2
 
 pub what_is_read : (fresh m : MachineValue) (retired k at : ℕ) (ws rest : List ℕ) → CanRead fresh → read_words fresh retired k ws ≡ Ok (record { value = m; at = at; rest = rest }) → IsRead m × (frame_of m ≡ frame_of fresh)

@@ -78,7 +78,6 @@ mutual
   numbers-among : (path : List ℕ) (d : DirValue) (i : ℕ) (ns : Nodes) (rest : List ℕ) → leaf_numbers_among (skeletons ns) rest ≡ map number_at (placed_leaves path d i ns) ++ rest
   numbers-among path d i no_nodes rest = refl
   numbers-among path d i (more_nodes n ns) rest =
-      let c = spot_in path d i in
       numbers-in (spot_in path d i) n (leaf_numbers_among (skeletons ns) rest)
       ∙ ap (λ ns. map number_at (leaves_in (spot_in path d i) n) ++ ns) (numbers-among path d (i + 1) ns rest)
       ∙ sym (append_assoc (map number_at (leaves_in (spot_in path d i) n)) (map number_at (placed_leaves path d (i + 1) ns)) rest)

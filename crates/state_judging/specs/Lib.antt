@@ -1,3 +1,4 @@
 pub mod Judged
 pub mod Read
+pub mod Examples
 pub mod Computing

@@ -1,13 +1,23 @@
 //! What was read and is judged well keeps the rules, and what keeps them is judged well, as theorems: there is nothing to run.
 
-ghost use Rattle.std.specs.Prelude.{◌≡◌, ℕ, List, None, Ok};
+ghost use Rattle.std.specs.Prelude.{◌≡◌, ◌<◌, ℕ, List, ◌∷◌, None, Ok};
 ghost use Rattle.tree_model.specs.State.Values.{MachineValue};
 ghost use Rattle.tree_model.specs.State.Shape.{IsShaped, frame_of};
-ghost use Rattle.tree_rules.specs.Bus.Rules.{IsMachineOk};
+ghost use Rattle.tree_model.specs.Start.Sources.{SegmentValue, ImageValue, TreeValue};
+ghost use Rattle.tree_model.specs.Start.Machine.{start_of};
+ghost use Rattle.tree_rules.specs.Bus.Rules.{IsMachineOk, items_of_machine};
 ghost use Rattle.tree_rules.specs.Order.Rules.{IsTimed};
+ghost use Rattle.bus_laws.specs.IsTree.{IsTree};
 ghost use Rattle.state_reading.specs.Machine.{read_words};
 ghost use Rattle.state_judging.specs.Judged.{judged};
 ghost use Rattle.state_judging.specs.Read.{CanRead, IsRead};
+
+/// Words can be read into a machine before its first turn, if it has an item; and it has one where the image has memory.
+pub fn started_machines_can_be_read()
+    ensures words { (t : TreeValue) (i : ImageValue) (m : MachineValue) → IsTree t → start_of t i ≡ Ok m → 0 < items_of_machine m → CanRead m }
+    ensures items { (t : TreeValue) (i : ImageValue) (m : MachineValue) (s : SegmentValue) (ss : List SegmentValue) → IsTree t → start_of t i ≡ Ok m → i.segments ≡ s ∷ ss → 0 < s.memsz
+        → 0 < items_of_machine m }
+{}
 
 /// What is read into a machine before its first turn keeps, whatever the words are, what each part keeps by itself; and nothing that
 /// no turn changes is changed.

@@ -2,4 +2,5 @@
 //! why a state in which none is keeps them all. Definitions and theorems: there is nothing to run.
 #![tactic(auto)]
 
+pub mod examples;
 pub mod laws;

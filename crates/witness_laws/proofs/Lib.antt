@@ -1,5 +1,1 @@
-pub mod Words
-pub mod FlatWords
-pub mod Stamps
-pub mod StartWords
 pub mod Printed

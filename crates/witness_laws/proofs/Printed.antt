@@ -5,12 +5,13 @@ use Rattle.std.specs.List.{AllByRecursion}
 use Rattle.std.proofs.Math.Seq.{take-length}
 use Rattle.std.proofs.lemmas.List.Concat.{flat_map-cons}
 use Rattle.ddm_types.specs.declared.answers.TurnAnswer.{TurnAnswer}
+use Rattle.ddm_types.specs.declared.operations.Effect.{Effect}
 use Rattle.ddm_types.specs.declared.operations.Op.{Op}
 use Rattle.ddm_types.specs.declared.turns.Turn.{Turn}
 use Rattle.ddm_types.specs.CodeMap.{CodeWord}
 use Rattle.ddm_types.specs.ItemTable.{ItemTable}
 use Rattle.flat_model.specs.Legal.{Legal}
-use Rattle.tree_model.specs.State.Shape.{Frame, widths_bounded}
+use Rattle.tree_model.specs.State.Shape.{Frame}
 use Rattle.tree_model.specs.State.Values.{MachineValue}
 use Rattle.tree_model.specs.Start.Sources.{ImageValue, TreeValue}
 use Rattle.tree_model.specs.Start.Memory.{start_code, start_items, start_words}
@@ -25,19 +26,19 @@ use Rattle.text_model.specs.Run.{report_text_of, view_of}
 use Rattle.text_model.specs.Words.{effect_text}
 use Rattle.ddm_text.specs.Hex.{hex8}
 use Rattle.bus_laws.specs.IsTree.{IsTree}
-use Rattle.bus_laws.proofs.StartKept.{start-kept}
 use Rattle.order_lists.proofs.Sorted.{sorted-each, with_op-least, with_op-less}
 use Rattle.order_laws.proofs.Hart.HartMachine.{ops_after, ops_with}
 use Rattle.headline.proofs.Runs.{each-turn}
+use Rattle.value_laws.specs.Images.{IsOfBytes}
+use Rattle.value_laws.specs.Values.{EffectHasForm, OpHasForm}
+use Rattle.value_laws.proofs.Lists.{all-more}
+use Rattle.value_laws.proofs.RunForm.{every-run-form}
 use Rattle.start_memory.specs.Memory.{memory_items, memory_words}
 use Rattle.witness_check.specs.Reader.{setting_of}
 use Rattle.witness_check.specs.Start.{judged, start_refusal as judged_refusal}
-use Rattle.witness_check.specs.Witness.{AreLegal, BeginsWith, HasWords, IsAccepted, IsOp}
+use Rattle.witness_check.specs.Witness.{AreLegal, BeginsWith, IsAccepted, IsEffect, IsOp}
 use Rattle.witness_check.proofs.Starts.{start_refusal-tables}
-use Rattle.witness_laws.specs.Printed.{IsOfBytes, ops_of_run, printed_witness}
-use Rattle.witness_laws.proofs.FlatWords.{IsOfWords, legal_words}
-use Rattle.witness_laws.proofs.Stamps.{run_keys, start_within}
-use Rattle.witness_laws.proofs.StartWords.{leaves_few, start_harts, start_has_words}
+use Rattle.witness_laws.specs.Printed.{ops_of_run, printed_witness}
 
 -- ---- lines
 
@@ -61,9 +62,29 @@ begins depth least most (op ∷ ops) all = (line_text depth op, op_lines depth o
 
 -- ---- operations
 
-both_fit : (harts : ℕ) → harts ≤ 65536 → (ops : List Op) → AllByRecursion (λ (op : Op). HasWords op.key) ops → AllByRecursion (IsOfWords harts) ops → AllByRecursion IsOp ops
-both_fit harts few [] keys words = tt
-both_fit harts few (op ∷ ops) keys words = (record { key = keys.0; hart = omega (arith, words.0.hart, few); pc = words.0.pc; effect = words.0.effect }, both_fit harts few ops keys.1 words.1)
+effect_fits : (e : Effect) → EffectHasForm e → IsEffect e
+effect_fits Effect.Plain has = tt
+effect_fits (Effect.Put byte) has = omega (arith, has)
+effect_fits (Effect.Load address word) has = has
+effect_fits (Effect.Store address before after) has = has
+effect_fits (Effect.Lr address word) has = has
+effect_fits (Effect.ScOk address before after) has = has
+effect_fits (Effect.ScFail address) has = has
+effect_fits (Effect.Amo address before after) has = has
+
+op_fits : (most : ℕ) → most ≤ 1048576 → (op : Op) → OpHasForm most op → IsOp op
+op_fits most few op has = record {
+  key = record {
+    level0 = (omega (arith, has.key.s0, few), omega (arith, has.key.c0));
+    level1 = (omega (arith, has.key.s1, few), omega (arith, has.key.c1));
+    level2 = (omega (arith, has.key.s2, few), omega (arith, has.key.c2));
+    level3 = (omega (arith, has.key.s3, few), omega (arith, has.key.c3));
+    last = omega (arith, has.key.i, few);
+  };
+  hart = has.hart;
+  pc = has.pc;
+  effect = effect_fits op.effect has.effect;
+}
 
 with_few : (a : TurnAnswer) (ops : List Op) → length (ops_with a ops) ≤ length ops + 1
 with_few (TurnAnswer.Retired op) ops = omega (arith, length-append ops (op ∷ []))
@@ -126,15 +147,10 @@ module _ (t : TreeValue) (i : ImageValue) (turns : List Turn) (tree : IsTree t) 
   are_legal = run_legal
 
   module _ (of_bytes : IsOfBytes i) (few : length turns ≤ 1048576) where
-    keys : AllByRecursion (λ (op : Op). HasWords op.key) (ops_of_run t i turns)
-    unfolding start_machine
-    keys = run_keys turns 0 (start_machine t i) (omega (arith, few)) (start_within t i ((start-kept t i (start_machine t i) tree starts).0.each widths_bounded)) tt
-
     fit : AllByRecursion IsOp (sorted_ops (ops_of_run t i turns))
     fit =
-        let words = legal_words (start_code i) (start_items t i) (flat_start_of t i) (sorted_ops (ops_of_run t i turns)) (start_has_words t i tree of_bytes) run_legal in
-        let harts = leaves_few t tree in
-        both_fit (length (flat_start_of t i).harts) (omega (arith, harts, start_harts t i)) (sorted_ops (ops_of_run t i turns)) (sorted-each (λ (op : Op). HasWords op.key) (ops_of_run t i turns) keys) words
+        let all = every-run-form t i (start_machine t i) tree of_bytes starts turns in
+        sorted-each IsOp (ops_of_run t i turns) (all-more (OpHasForm (length turns)) IsOp (op_fits (length turns) few) (ops_of_run t i turns) all.ops)
 
     count : length (sorted_ops (ops_of_run t i turns)) ≡ length (ops_of_run t i turns)
     count = sorted_length (ops_of_run t i turns)

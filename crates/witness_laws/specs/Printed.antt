@@ -1,25 +1,20 @@
 -- The witness that a run prints.
--- Letters: t is a tree, i an image, s a segment.
+-- Letters: t is a tree, i an image.
 -- To be believed: it is what is claimed of every run.
-use Rattle.std.specs.Prelude.{◌≡◌, ℕ, ◌<◌, ◌≤◌, List, ◌++◌, length, None, Ok, codes}
-use Rattle.std.specs.List.{AllByRecursion}
+use Rattle.std.specs.Prelude.{◌≡◌, ℕ, ◌≤◌, List, ◌++◌, length, None, Ok, codes}
 use Rattle.ddm_types.specs.declared.turns.Turn.{Turn}
 use Rattle.ddm_types.specs.declared.operations.Op.{Op}
-use Rattle.tree_model.specs.Start.Sources.{ImageValue, SegmentValue, TreeValue}
+use Rattle.tree_model.specs.Start.Sources.{ImageValue, TreeValue}
 use Rattle.tree_model.specs.Start.Machine.{start_machine, start_refusal}
 use Rattle.tree_model.specs.Turns.Machine.{run_of}
 use Rattle.tree_model.specs.Turns.Witness.{sorted_ops}
 use Rattle.text_model.specs.Report.{op_lines}
 use Rattle.text_model.specs.Run.{report_text_of}
 use Rattle.bus_laws.specs.IsTree.{IsTree}
+use Rattle.value_laws.specs.Images.{IsOfBytes}
 use Rattle.witness_check.specs.Reader.{setting_of}
 use Rattle.witness_check.specs.Start.{check_of}
-use Rattle.witness_check.specs.Witness.{IsAccepted, IsWord}
-
--- the image is made of bytes, and begins at an address
-pub record IsOfBytes (i : ImageValue) : Type 0 where
-  pub entry : IsWord i.entry
-  pub bytes : AllByRecursion (λ (s : SegmentValue). AllByRecursion (λ byte. byte < 256) s.bytes) i.segments
+use Rattle.witness_check.specs.Witness.{IsAccepted}
 
 -- the operations of a run from a tree and an image
 abbrev pub ops_of_run : TreeValue → ImageValue → List Turn → List Op

@@ -3,6 +3,7 @@ use Rattle.std.proofs.Common.{arith}
 use Rattle.ddm_tree.specs.Named.{name_of}
 use Rattle.ddm_tree.proofs.Steps.{step-inside, step-fits, step-leads, step-below, step-node, step-present}
 use Rattle.ddm_tree.proofs.Asking.{step-askable}
+use Rattle.ddm_tree.proofs.JudgedItems.{step-judged}
 use Rattle.ddm_tree.proofs.below.next.Goals as goal
 
 pub offset_bounds-children-child-inside : goal.offset_bounds-children-child-inside
@@ -38,3 +39,7 @@ returns-clause-below g c =
 pub returns-clause-askable : goal.returns-clause-askable
 returns-clause-askable g c askable =
     step-askable g.C.Agent.value (g.P.Parent.state c.args.parent.now) c.args.children.now g.row.WORDS askable (name_of c.args.name) c.args.path.now c.in-Some.child.now c.in-Some.rest.now c.in-Some.ensures.cases.0 c.requires.leads c.index-children-child.result (rw c.child.view_is at c.index-children-child.is)
+
+pub returns-clause-judged : goal.returns-clause-judged
+returns-clause-judged g c items judged =
+    step-judged g.C.Agent.value (g.P.Parent.state c.args.parent.now) c.args.children.now items judged (name_of c.args.name) c.args.path.now c.in-Some.child.now c.in-Some.rest.now c.in-Some.ensures.cases.0 c.requires.leads c.index-children-child.result (rw c.child.view_is at c.index-children-child.is)

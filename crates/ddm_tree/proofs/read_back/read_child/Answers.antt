@@ -1,5 +1,3 @@
-use Rattle.ddm_tree.proofs.Refilled.{put-mapped, refilled-mapped, mapped-at}
-use Rattle.ddm_tree.proofs.NamedOnce.{leaf-once, bus-once}
 use Rattle.ddm_tree.proofs.SectionRead.{child-read}
 use Rattle.ddm_tree.proofs.read_back.read_child.Goals as goal
 

@@ -1,4 +1,4 @@
-use Rattle.std.proofs.Common.{◌≡◌, false, nat_eq, arith, sym}
+use Rattle.std.proofs.Common.{◌≡◌, false, nat_eq, arith}
 use Rattle.std.proofs.lemmas.Bool.{ne_eqb}
 use Rattle.ddm_text.specs.Adds.{◌▸◌}
 use Rattle.state_words.specs.Parts.{dir_words, item_and_words, request_words}

@@ -1,4 +1,4 @@
-use Rattle.std.proofs.Common.{◌≡◌, ◌∙◌, ◌-◌, ap, sym, rules, Err, arith, drop, length, replicate, None, Some}
+use Rattle.std.proofs.Common.{◌≡◌, ◌∙◌, ◌-◌, ap, sym, rules, Err, arith, drop, length, replicate, None}
 use Rattle.std.proofs.lemmas.List.{length-replicate}
 use Rattle.state_reading.specs.Reading.{times}
 use Rattle.state_reading.specs.Parts.{at_rest, read_record}

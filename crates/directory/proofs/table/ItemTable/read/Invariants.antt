@@ -1,4 +1,4 @@
-use Rattle.std.proofs.Common.{◌≡◌, ◌-◌, ◌<◌, ◌≤◌, ◌^◌, drop, length, replicate, None}
+use Rattle.std.proofs.Common.{◌≡◌, ◌-◌, ◌≤◌, drop, length, replicate, None}
 use Rattle.state_reading.specs.Reading.{times}
 use Rattle.state_reading.specs.Parts.{at_rest, read_record}
 use Rattle.directory.proofs.table.ItemTable.read.Given as goal

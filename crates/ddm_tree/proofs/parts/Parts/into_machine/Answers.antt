@@ -1,0 +1,29 @@
+use Rattle.std.proofs.Common.{◌≡◌, ◌≤◌, ◌∙◌, ◌+◌, true, ap, sym, subst, length, map, vec_capacity, vec_items, arith}
+use Rattle.std.specs.List.{list_all}
+use Rattle.tree_model.specs.State.Values.{MachineValue, dir_node, nodes, root_of}
+use Rattle.ddm_tree.specs.Counts.{counts_within}
+use Rattle.ddm_tree.specs.Machine.{IsMachine, machine_of, traffic_within}
+use Rattle.ddm_tree.specs.Rules.{KeepsRules}
+use Rattle.ddm_tree.proofs.IdleHarts.{nothing-idle}
+use Rattle.ddm_tree.proofs.TurnMade.{items-back}
+use Rattle.ddm_tree.proofs.parts.Parts.into_machine.Goals as goal
+
+pub invariant_of-result : goal.invariant_of-result
+invariant_of-result g c =
+    let root = dir_node c.self.inside.top (nodes (map g.C.Agent.value c.self.inside.children.items)) in
+    let m : MachineValue = machine_of c.self.inside.code c.self.inside.items c.self.inside.top (map g.C.Agent.value c.self.inside.children.items) c.self.inside.ops.items c.self.inside.traffic.items in
+    let inv = c.self.invariant in
+    let same : m ≡ c.args.self = c.self.view_is in
+    let all : c.self.inside.idle.len ≡ length c.self.inside.idle.items = sym c.deref_mut.ensures.len ∙ ap length c.deref_mut.ensures.value in
+    let back = items-back c.self.inside.idle.items c.forget_all.new.idle c.self.inside.idle.len all (c.forget_all.auto.idle ∙ ap length c.deref_mut.ensures.value) in
+    let is : IsMachine g.row.WORDS m 1048576 (map vec_items c.self.inside.leaf_paths.items) (map vec_items c.self.inside.bus_paths.items) = record {
+      shaped = inv.0.readable.shaped;
+      rules = subst KeepsRules (sym same) c.requires.rules;
+      rooms = inv.0.rooms;
+      words = inv.0.words;
+      counts = subst (λ n. counts_within 1048576 (root_of n) ≡ true) (sym same) c.requires.counts;
+      granted = subst (λ n. list_all (traffic_within 1048576) n.traffic ≡ true) (sym same) c.requires.granted;
+      paths = inv.0.paths;
+    } in
+    let room : length c.self.inside.ops.items + 0 ≤ vec_capacity c.self.inside.ops = omega (arith, c.self.inside.ops.ok.0, c.self.inside.ops.ok.1) in
+    (is, inv.1, inv.2, inv.3, room, nothing-idle c.self.inside.code c.self.inside.items c.forget_all.new.idle _ root root back c.forget_all.ensures)

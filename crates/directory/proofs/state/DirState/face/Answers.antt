@@ -1,0 +1,6 @@
+use Rattle.std.proofs.Common.{ap, ◌∙◌}
+use Rattle.tree_rules.specs.Bus.Faces.{face_above, parent_face}
+use Rattle.directory.proofs.state.DirState.face.Goals as goal
+
+pub returns : goal.returns
+returns g c = c.face.ensures (parent_face c.args.item c.args.self.now) c.facts.ensures ∙ ap (face_above (parent_face c.args.item c.args.self.now)) c.reply_count.ensures
