@@ -1,28 +1,33 @@
--- The two laws of checkpoints, as statements and as a test of one state. They are not proved yet.
+-- The two laws of checkpoints, as statements and as a test of one state.
 -- Letters: m is a machine, fresh the one before its first turn of the same tree and image.
-use Rattle.std.specs.Prelude.{◌≡◌, ◌≤◌, ℕ, Bool, true, false, ◌&&◌, nat_eq, List, [], ◌∷◌, length, Result, Ok, Err}
+use Rattle.std.specs.Prelude.{◌≡◌, ◌<◌, ◌≤◌, ℕ, Bool, true, false, ◌&&◌, nat_eq, List, [], ◌∷◌, length, Result, Ok, Err}
+use Rattle.std.specs.List.{AllByRecursion}
 use Rattle.ddm_types.specs.declared.turns.Turn.{Turn}
 use Rattle.tree_model.specs.State.Values.{MachineValue}
 use Rattle.tree_model.specs.Turns.Machine.{run_of}
 use Rattle.tree_model.specs.Start.Sources.{ImageValue, TreeValue}
 use Rattle.tree_model.specs.Start.Machine.{start_of}
+use Rattle.bus_laws.specs.IsTree.{IsTree}
+use Rattle.value_laws.specs.Images.{IsOfBytes}
 use Rattle.text_model.specs.Run.{counts_of}
 use Rattle.state_words.specs.Machine.{state_words}
 use Rattle.state_reading.specs.declared.StateRefusal.{StateRefusal}
 use Rattle.state_reading.specs.Reading.{Read}
 use Rattle.state_judging.specs.Judged.{read_state}
+use Rattle.state_judging.specs.Read.{CanRead}
+use Rattle.spelling_laws.specs.Small.{HasSmallSizes}
 use Rattle.checkpoint.specs.Saved.{saved}
 use Rattle.checkpoint.specs.Resumed.{Resumed, resumed}
 
--- what is saved of a run of at most so many turns is read back
+-- what is saved of a run of at most so many turns is read back, where the sizes of the tree are words and the file isn't too long
 abbrev pub SavedIsReadBack : Type 0
 SavedIsReadBack =
-    (t : TreeValue) (i : ImageValue) (fresh : MachineValue) (turns : List Turn) → start_of t i ≡ Ok fresh → length turns ≤ 1048576
-    → let r = run_of turns fresh in resumed fresh (saved r.machine (counts_of r.answers)) ≡ Ok (record { machine = r.machine; counts = counts_of r.answers })
+    (t : TreeValue) (i : ImageValue) (fresh : MachineValue) (turns : List Turn) → IsTree t → IsOfBytes i → start_of t i ≡ Ok fresh → CanRead fresh → HasSmallSizes t → length turns ≤ 1048576
+    → let r = run_of turns fresh in length (saved r.machine (counts_of r.answers)) ≤ 536870912 → resumed fresh (saved r.machine (counts_of r.answers)) ≡ Ok (record { machine = r.machine; counts = counts_of r.answers })
 
 -- a file that is accepted is what is saved of the machine that it gives: so a state has one spelling
 abbrev pub AcceptedIsSaved : Type 0
-AcceptedIsSaved = (fresh : MachineValue) (bytes : List ℕ) (r : Resumed) → resumed fresh bytes ≡ Ok r → saved r.machine r.counts ≡ bytes
+AcceptedIsSaved = (fresh : MachineValue) (bytes : List ℕ) (r : Resumed) → CanRead fresh → AllByRecursion (λ b. b < 256) bytes → resumed fresh bytes ≡ Ok r → saved r.machine r.counts ≡ bytes
 
 -- ---- the first law in one state, as a test: its words are read to their end, and what was read is spelled by the same words
 

@@ -1,5 +1,6 @@
 pub mod Saved
 pub mod Resumed
 pub mod Laws
+pub mod Fits
 pub mod Examples
 pub mod Computing

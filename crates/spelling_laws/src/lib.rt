@@ -1,0 +1,5 @@
+//! The words of a checkpoint and a machine determine each other: what is read is what is spelled, and what is spelled is read.
+//! Theorems alone: there is nothing to run.
+#![tactic(auto)]
+
+pub mod laws;
