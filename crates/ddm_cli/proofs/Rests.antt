@@ -107,9 +107,10 @@ module _ (t : TreeValue) (i : ImageValue) (accepted : start_refusal t i ≡ None
 
     pub rest_taken : (tree image checkpoint schedule : Option (List ℕ)) (text : List ℕ) → AcceptedAs tree_at tree t → HasImage t image i → Gives t i checkpoint r → IsRestBy t.levels schedule r text
         → AcceptsRest tree image checkpoint schedule × HasResumedText tree image checkpoint schedule text
-    rest_taken tree image checkpoint schedule text a b c ran =
-        ((takes_checkpoint tree image checkpoint a b c, with_resumed tree image checkpoint schedule (λ p m s. IsSome (turns_at p.tree.levels m.counts.turns s)) a b c (takes_turns schedule ran.turns ran.accepted)),
-        subst (HasResumedText tree image checkpoint schedule) (sym ran.text_is) (has_text tree image checkpoint schedule ran.turns a b c ran.accepted))
+    rest_taken tree image checkpoint schedule text a b c ran = (
+      (takes_checkpoint tree image checkpoint a b c, with_resumed tree image checkpoint schedule (λ p m s. IsSome (turns_at p.tree.levels m.counts.turns s)) a b c (takes_turns schedule ran.turns ran.accepted)),
+      subst (HasResumedText tree image checkpoint schedule) (sym ran.text_is) (has_text tree image checkpoint schedule ran.turns a b c ran.accepted),
+    )
 
 -- ---- no text
 

@@ -112,9 +112,7 @@ fn write_made<K: Sink>(
             let bytes = save(alloc, machine, made.counts)?;
             Ok(write_all(out, &bytes))
         }
-        Prints::Report | Prints::Trace => {
-            write_report(alloc, out, machine, made, buffer)
-        }
+        Prints::Report | Prints::Trace => { write_report(alloc, out, machine, made, buffer) }
     }
 }
 

@@ -120,8 +120,13 @@ pub fn write_resumed<F: Shelf, K: Sink>(
     let mut buffer = read_buffer(alloc)?;
     let tree = tree_file(alloc, files, resumption.tree, &mut buffer)?;
     let fresh = image_file(alloc, files, resumption.image, &mut buffer, &tree)?;
-    let (mut machine, first) =
-        resumed_file(alloc, files, resumption.checkpoint, &mut buffer, fresh)?;
+    let (mut machine, first) = resumed_file(
+        alloc,
+        files,
+        resumption.checkpoint,
+        &mut buffer,
+        fresh,
+    )?;
     let written = write_rest(
         alloc,
         files,

@@ -3,7 +3,9 @@ ghost use Rattle.std.specs.String.{string_bytes};
 ghost use Rattle.ddm_cli.specs.Commands.{IsInRange, about_named, command_of, ends_at, file_check, file_resume, file_run, help_said, made_run, number_in, seed_list, seed_run, seeds_survey, to_say};
 ghost use Rattle.ddm_cli.specs.Views.{command_from};
 
-use crate::command::{About, Check, Command, ImageSource, Prints, Resumption, Run, Seeds, TurnSource};
+use crate::command::{
+    About, Check, Command, ImageSource, Prints, Resumption, Run, Seeds, TurnSource,
+};
 use ddm_text::read_decimal;
 
 const MOST_TURNS: u64 = 1_048_576;
