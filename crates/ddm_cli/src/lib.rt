@@ -19,7 +19,6 @@ mod top;
 mod unjamming;
 mod unknown_key;
 mod words;
-pub mod zz;
 
 pub use checkpoint::ResumeRefusal;
 pub use fault::tell;
