@@ -26,7 +26,10 @@ use Rattle.ddm_cli.specs.Commands.{Resumption}
 use Rattle.ddm_cli.specs.Made.{CanGoOn}
 use Rattle.ddm_cli.specs.Parts.{HasStart, IsStart, Parts, parts_of, resumed_at, tree_at, turns_at}
 use Rattle.ddm_cli.specs.Printed.{resumed_report}
-use Rattle.ddm_cli.specs.Reads.{IsRestBy}
+use Rattle.ddm_cli.specs.Reads.{IsRestBy, ReadCause, checkpoint_status, unread}
+use Rattle.ddm_cli.specs.declared.reading.ReadError.{ReadError}
+use Rattle.ddm_cli.specs.declared.reading.ReadError.TheVariants as read
+use Rattle.std.proofs.lemmas.Option.{IfSome_then}
 use Rattle.ddm_cli.specs.Top.{AcceptsCheckpoint, AcceptsParts, AcceptsRest, HasResumedText, NoRest, RefusesCheckpoint, RefusesRest, WithParts, WithResumed, resumed_text}
 use Rattle.ddm_cli.specs.declared.command.Prints.TheVariants.{Report}
 use Rattle.ddm_cli.specs.declared.status.Status.{Status}
@@ -40,6 +43,26 @@ use Rattle.ddm_cli.proofs.RunsInPieces.{starts_on}
 pub resumed-long : (m : MachineValue) (file : List ℕ) → 536870912 < length file → resumed m file ≡ Err resume.TooLong
 unfolding resumed
 resumed-long m file long = rw (lt-ltb 536870912 (length file) long) refl
+
+pub unread_caused : (m : MachineValue) (told : Option (List ℕ)) (before now : ℕ) (e : ReadError) → ReadCause told 536870912 before now e → CheckpointCause m told before now (unread e)
+unread_caused m told before now read.Failed cause = cause
+unread_caused m told before now read.TooLong cause = IfSome_then told cause (resumed-long m)
+unread_caused m told before now read.Memory cause = tt
+
+-- a refusal is the file's, but for want of memory
+pub refusal_caused : (m : MachineValue) (file : List ℕ) (r : ResumeRefusal) → ((r ≡ resume.NoMemory → ⊥) → resumed m file ≡ Err r) → CheckpointCause m (Some file) 0 0 (checkpoint_status r)
+refusal_caused m file resume.NoMemory is = tt
+refusal_caused m file resume.TooLong is = is (λ e. cc e)
+refusal_caused m file resume.NotCheckpoint is = is (λ e. cc e)
+refusal_caused m file (resume.WrongVersion n) is = is (λ e. cc e)
+refusal_caused m file (resume.Cut k) is = is (λ e. cc e)
+refusal_caused m file (resume.OtherMachine k) is = is (λ e. cc e)
+refusal_caused m file (resume.BadWord k) is = is (λ e. cc e)
+refusal_caused m file resume.AfterEnd is = is (λ e. cc e)
+refusal_caused m file (resume.BrokenLeaf leaf) is = is (λ e. cc e)
+refusal_caused m file (resume.BrokenRule bus item) is = is (λ e. cc e)
+refusal_caused m file (resume.BrokenStamp bus) is = is (λ e. cc e)
+refusal_caused m file (resume.BrokenKey op) is = is (λ e. cc e)
 
 -- ---- the machine of a checkpoint has the parts of the one before its first turn
 
@@ -61,6 +84,10 @@ HasImage t image i = IfSome image (λ f. image_of t.item_bytes f ≡ Ok i)
 -- the checkpoint gives this, where it is told
 abbrev Gives : TreeValue → ImageValue → Option (List ℕ) → Resumed → Type 0
 Gives t i checkpoint r = IfSome checkpoint (λ c. resumed (start_machine t i) c ≡ Ok r)
+
+-- from the machine before its first turn
+pub gives_from : (t : TreeValue) (i : ImageValue) (fresh : MachineState) (checkpoint : Option (List ℕ)) (r : Resumed) → IsStart t i fresh → IfSome checkpoint (λ c. resumed fresh.machine c ≡ Ok r) → Gives t i checkpoint r
+gives_from t i fresh checkpoint r start found = subst (λ (m : MachineValue). IfSome checkpoint (λ c. resumed m c ≡ Ok r)) (ap (λ (s : MachineState). s.machine) start.machine) found
 
 module _ (t : TreeValue) (i : ImageValue) (accepted : start_refusal t i ≡ None) where
   -- what holds of the parts of files that were taken

@@ -1,6 +1,6 @@
 -- Turns made piece by piece, as one run.
 use Rattle.std.proofs.Common.{◌≡◌, ◌≢◌, ℕ, suc, ◌+◌, ◌<◌, ◌≤◌, Bool, true, false, List, [], ◌∷◌, ◌++◌, length, take, drop, Option, refl, sym, ap, subst, ◌∙◌, append_assoc, arith}
-use Rattle.std.specs.Prelude.{All, IfSome, Result, if◌then◌else◌}
+use Rattle.std.specs.Prelude.{All, IfOk, IfSome, Result, if◌then◌else◌}
 use Rattle.std.proofs.lemmas.List.{append-nil, length-append, take-append-drop}
 use Rattle.std.proofs.Math.Seq.{take-append_seam}
 use Rattle.std.proofs.lemmas.List.Elements.{All-drop, All-take, All-weaker}
@@ -31,10 +31,12 @@ use Rattle.text_model.specs.Trace.{trace_from, trace_text}
 use Rattle.ddm_cli.specs.Made.{CanCount, CanGoOn, HasAllMade, HasMade, counts_plus}
 use Rattle.ddm_cli.specs.Printed.{Writes, is_trace, made_text, printed, resumed_report, unjam_line, unjam_text_of, saved_after}
 use Rattle.ddm_cli.specs.Reads.{HasRead, WritesRan, WritesRest}
-use Rattle.ddm_cli.specs.Told.{ScheduleGiven}
+use Rattle.ddm_cli.specs.Told.{ScheduleGiven, written}
 use Rattle.ddm_cli.specs.declared.command.Prints.{Prints}
 use Rattle.ddm_cli.specs.declared.command.Prints.TheVariants.{Report, Trace, Summary, Unjamming, Checkpoint}
-use Rattle.ddm_cli.proofs.Taken.{ran_report, ran_summary, ran_trace}
+use Rattle.std.specs.Option.{option_map}
+use Rattle.std.proofs.lemmas.Result.{IfOk-weaker}
+use Rattle.ddm_cli.proofs.Taken.{file_accepted, ran_report, ran_summary, ran_trace}
 use Rattle.ddm_cli.specs.Parts.{HasStart, turns_at, turns_of}
 use Rattle.ddm_cli.specs.declared.making.Made.{Made}
 use Rattle.ddm_cli.proofs.Schedules.{given_so_far, more_read}
@@ -249,6 +251,12 @@ pub rest_written : {E : Type 0} (levels : List (List ℕ)) (told : Option (List 
     → HasAllMade (turns_at levels first.turns) told first false s now made → Writes old new (trace_text made.turns.items made.answers.items ++ report_of (view_of (depth_of now.machine) made.counts now.machine)) w
     → WritesRest levels told (record { machine = s.machine; counts = first }) old new w
 rest_written levels told first s now made old new w has writes = (_, record { turns = has.turns; accepted = has.accepted; text_is = rest_printed first s now made has.turns has.all }, writes)
+
+-- ---- the turns of a schedule file, as those of a run
+
+pub file_made : {E : Type 0} (levels : List (List ℕ)) (told : Option (List ℕ)) (keep : Bool) (s now : MachineState) (r : Result Made E) → IfOk r (λ made. HasAllMade (turns_at levels 0) told no_counts keep s now made)
+    → IfOk r (λ made. HasAllMade (turns_of levels) (option_map written told) no_counts keep s now made)
+file_made levels told keep s now r made = IfOk-weaker r _ _ (λ m has. record { turns = has.turns; accepted = file_accepted levels told has.turns has.accepted; all = has.all }) made
 
 -- ---- the turns of a seed
 

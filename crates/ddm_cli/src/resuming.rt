@@ -7,7 +7,7 @@ ghost use Rattle.ddm_outside.specs.Causes.{HasCause};
 ghost use Rattle.ddm_cli.specs.Causes.{CheckpointCause, IsUnscheduled, ScheduleCause};
 ghost use Rattle.ddm_cli.specs.Commands.{to_resume};
 ghost use Rattle.ddm_cli.specs.Made.{CanGoOn};
-ghost use Rattle.ddm_cli.specs.Reads.{WritesRest, unread};
+ghost use Rattle.ddm_cli.specs.Reads.{WritesRest, checkpoint_status, unread};
 ghost use Rattle.ddm_cli.specs.Top.{NoRest, WritesAccepted};
 ghost use Rattle.ddm_cli.specs.Views.{resumption_from};
 
@@ -40,8 +40,17 @@ fn resumed(
 {
     match resume(alloc, fresh, bytes) {
         Ok(resumed) => Ok(resumed),
-        Err(ResumeRefusal::NoMemory) => Err(Status::NoMemory),
-        Err(refusal) => Err(Status::Checkpoint(refusal)),
+        Err(refusal) => Err(refused(refusal)),
+    }
+}
+
+// How a command ends whose checkpoint is refused.
+fn refused(refusal: ResumeRefusal) -> Status
+    ensures { result ≡ checkpoint_status refusal }
+{
+    match refusal {
+        ResumeRefusal::NoMemory => Status::NoMemory,
+        refusal => Status::Checkpoint(refusal),
     }
 }
 
