@@ -8,10 +8,12 @@ mod depths_reading;
 mod machine;
 mod reading;
 mod releasing;
+mod resuming;
 mod running;
 mod spared;
 mod writing;
 
 pub use machine::{AnyMachine, Depths, Machines};
 pub use releasing::release;
+pub use resuming::read_state;
 pub use running::run;

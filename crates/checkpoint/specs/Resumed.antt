@@ -73,5 +73,9 @@ bad_name bytes ws =
     else (if nat_eq (slice_index ws 0) 0x434d4444 then (if nat_eq (slice_index ws 1) 1 then None else Some (ResumeRefusal.WrongVersion (slice_index ws 1)))
     else Some ResumeRefusal.NotCheckpoint))
 
+-- a file's length, its name and its head, for a machine of these sizes
+abbrev pub judged_head : MachineSizes → List ℕ → Option ResumeRefusal
+judged_head s bytes = first_some (bad_name (length bytes) (whole_words bytes)) (bad_head s (whole_words bytes))
+
 unfoldable pub resumed : MachineValue → List ℕ → Result Resumed ResumeRefusal
-resumed m bytes = let ws = whole_words bytes in resumed_unless (first_some (bad_name (length bytes) ws) (bad_head (sizes_of m) ws)) m (length bytes) ws
+resumed m bytes = resumed_unless (judged_head (sizes_of m) bytes) m (length bytes) (whole_words bytes)

@@ -1,11 +1,18 @@
 //! Checkpoints: a machine and what its turns came to, as the bytes of a file.
 #![tactic(auto)]
 
+ghost use Rattle.std.specs.Prelude.{◌≡◌};
+ghost use Rattle.checkpoint.specs.declared.ResumeRefusal.TheVariants.{NoMemory};
+
 pub mod examples;
 pub mod laws;
+mod resuming;
 mod saving;
 
+pub use resuming::{MOST_BYTES, resume};
 pub use saving::save;
+
+use ddm_types::NoMemory;
 
 /// Why a file is no checkpoint of a machine of this tree and image. Words are counted from 0.
 #[derive(Clone, Copy, Debug, PartialEq, Eq)]
@@ -33,4 +40,12 @@ pub enum ResumeRefusal {
     /// The key of this operation, counted from 0, isn't one of its leaf.
     BrokenKey(u32),
     NoMemory,
+}
+
+impl From<NoMemory> for ResumeRefusal {
+    ghost from_gives = { λ _ r. r ≡ NoMemory };
+
+    fn from(_: NoMemory) -> Self {
+        ResumeRefusal::NoMemory
+    }
 }

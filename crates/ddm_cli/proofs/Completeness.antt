@@ -4,7 +4,9 @@ use Rattle.std.specs.Prelude.{IfSome, IsOkAnd, IsSomeAnd, is_none, option_and_th
 use Rattle.std.specs.Option.{option_map}
 use Rattle.report.specs.declared.roles.FileRole.TheVariants.{ImageFile, TreeFile, ScheduleFile, WitnessFile, CheckpointFile}
 use Rattle.tree_model.specs.Start.Sources.{TreeValue, ImageValue}
-use Rattle.tree_model.specs.Start.Machine.{StartRefusal, start_refusal}
+use Rattle.tree_model.specs.Start.Machine.{StartRefusal, start_machine, start_refusal}
+use Rattle.checkpoint.specs.Resumed.{Resumed}
+use Rattle.checkpoint.specs.declared.ResumeRefusal.{ResumeRefusal}
 use Rattle.elf_load.specs.ElfFile.{image_of}
 use Rattle.elf_load.specs.declared.refusal.ImageRefusal.{ImageRefusal}
 use Rattle.tree_config.specs.TreeFile.{tree_of}
@@ -13,19 +15,19 @@ use Rattle.tree_config.specs.declared.refusal.TreeRefusal.{TreeRefusal}
 use Rattle.run_engine.specs.Build.{build_refusal, refusal_of}
 use Rattle.run_engine.specs.declared.refusal.BuildRefusal.{BuildRefusal}
 use Rattle.text_model.specs.declared.ScheduleRefusal.{ScheduleRefusal}
-use Rattle.ddm_cli.specs.Causes.{HasNoSetting, HasSmallList, IsRefused, IsUnloaded, IsUnstarted}
+use Rattle.ddm_cli.specs.Causes.{HasNoSetting, HasSmallList, IsRefused, IsUnloaded, IsUnresumed, IsUnscheduled, IsUnstarted}
 use Rattle.witness_check.specs.Start.{Setting, check_of, judged}
 use Rattle.witness_check.specs.declared.refusal.CheckRefusal.{CheckRefusal}
-use Rattle.ddm_cli.specs.Commands.{Check, Command, Run, Seeds, to_run, to_list, to_check, to_survey, to_say, first_run}
+use Rattle.ddm_cli.specs.Commands.{Check, Command, Resumption, Run, Seeds, to_run, to_list, to_check, to_resume, to_survey, to_say, first_run}
 use Rattle.ddm_cli.specs.Lists.{list_refused}
-use Rattle.ddm_cli.specs.Parts.{Parts, if_judged, if_large, if_started, items_of, parts_for, parts_in, parts_of, setting_at, setting_in, tree_at, turns_at, turns_of}
+use Rattle.ddm_cli.specs.Parts.{Parts, if_judged, if_large, if_started, items_of, parts_for, parts_in, parts_of, resumed_at, setting_at, setting_in, tree_at, turns_at, turns_of}
 use Rattle.ddm_cli.specs.Told.{ScheduleGiven, written, seeded, image_told, schedule_told}
-use Rattle.ddm_cli.specs.Top.{Both, command_text, list_of, outcomes_at, outcomes_of, text_of, text_with, verdict_in, verdict_of, IsJudged, StatusHasCause, Completes, NoRun, NotAccepted, NothingFailed, NoVerdict, RefusesImage}
+use Rattle.ddm_cli.specs.Top.{Both, command_text, list_of, outcomes_at, outcomes_of, rest_with, resumed_text, resumed_with, text_of, text_with, verdict_in, verdict_of, IsJudged, StatusHasCause, Completes, NoRest, NoRun, NotAccepted, NothingFailed, NoVerdict, RefusesImage, WithParts, WithResumed}
 use Rattle.ddm_cli.proofs.Settings.{start_refused}
 use Rattle.ddm_cli.specs.declared.command.Prints.{Prints}
 use Rattle.ddm_cli.specs.declared.command.Prints.TheVariants.{Report}
 use Rattle.ddm_cli.specs.declared.status.Status.{Status}
-use Rattle.ddm_cli.specs.declared.status.Status.TheVariants.{Done, Usage, ImageLoad, ImageBuild, Tree, Schedule, Witness, SmallLists, ReadFault, WriteFault, NoMemory}
+use Rattle.ddm_cli.specs.declared.status.Status.TheVariants.{Done, Usage, ImageLoad, ImageBuild, Tree, Schedule, Witness, Checkpoint, SmallLists, ReadFault, WriteFault, NoMemory}
 
 -- ---- a file that gives no part gives no text
 
@@ -182,6 +184,64 @@ judged_otherwise t i w tree image witness text r is-tree is-image is-witness has
     by None here has = cc has
     by (Some s) here has = no_text (sym (rw here refl) ∙ has)
 
+-- ---- a run that goes on
+
+-- a checkpoint that is refused for the parts gives no machine
+unresumed : (p : Parts) (checkpoint : List ℕ) (r : ResumeRefusal) → IsUnresumed (start_machine p.tree p.image) r checkpoint → resumed_at p checkpoint ≡ None
+unfolding resumed_at
+unresumed p checkpoint r is = rw is refl
+
+-- a schedule that is refused behind so many turns gives none
+no_rest : (levels : List (List ℕ)) (made line : ℕ) (r : ScheduleRefusal) (schedule : List ℕ) → IsUnscheduled levels made line r schedule → turns_at levels made schedule ≡ None
+unfolding turns_at
+no_rest levels made line r schedule is = rw is refl
+
+-- the image is refused: no parts
+no_start : (tree image checkpoint schedule : List ℕ) (text : List ℕ) (P : TreeValue → List ℕ → Type 0) → ((t : TreeValue) → P t image → large_of Report (parts_in t image) ≡ None) → IfSome (tree_at tree) (λ t. P t image) → resumed_text tree image checkpoint schedule ≡ Some text → ⊥
+unfolding parts_of
+no_start tree image checkpoint schedule text P none = by_tree (tree_at tree) where
+  by_parts : (o : Option Parts) → large_of Report o ≡ None → option_and_then (resumed_with checkpoint schedule) o ≡ Some text → ⊥
+  by_parts None nothing has = cc has
+  by_parts (Some p) nothing has = cc nothing
+
+  by_tree : (o : Option TreeValue) → IfSome o (λ t. P t image) → option_and_then (resumed_with checkpoint schedule) (option_and_then (λ t. parts_in t image) o) ≡ Some text → ⊥
+  by_tree None p has = cc has
+  by_tree (Some t) p has = by_parts (parts_in t image) (none t p) has
+
+no_tree : (tree image checkpoint schedule : List ℕ) (text : List ℕ) → tree_at tree ≡ None → resumed_text tree image checkpoint schedule ≡ Some text → ⊥
+unfolding parts_of
+no_tree tree image checkpoint schedule text none has = no_text (sym (rw none refl) ∙ has)
+
+refused_start : (t i : Option (List ℕ)) (tree image checkpoint schedule : List ℕ) (text : List ℕ) (P : TreeValue → List ℕ → Type 0) → ((u : TreeValue) → P u image → large_of Report (parts_in u image) ≡ None)
+    → t ≡ Some tree → i ≡ Some image → resumed_text tree image checkpoint schedule ≡ Some text → RefusesImage P t i → ⊥
+refused_start t i tree image checkpoint schedule text P none is-tree is-image has refused =
+    let here : IfSome (tree_at tree) (λ u. P u image) = rw (is-tree, is-image) at refused.1 in
+    no_start tree image checkpoint schedule text P none here has
+
+refused_checkpoint : (t i c : Option (List ℕ)) (tree image checkpoint schedule : List ℕ) (text : List ℕ) (r : ResumeRefusal) → t ≡ Some tree → i ≡ Some image → c ≡ Some checkpoint
+    → resumed_text tree image checkpoint schedule ≡ Some text → WithParts t i c (λ c p. IsUnresumed (start_machine p.tree p.image) r c) → ⊥
+refused_checkpoint t i c tree image checkpoint schedule text r is-tree is-image is-checkpoint has refused =
+    let here : IfSome (parts_of tree image) (λ p. IsUnresumed (start_machine p.tree p.image) r checkpoint) = rw (is-tree, is-image, is-checkpoint) at refused in
+    by (parts_of tree image) here has
+  where
+    by : (o : Option Parts) → IfSome o (λ p. IsUnresumed (start_machine p.tree p.image) r checkpoint) → option_and_then (resumed_with checkpoint schedule) o ≡ Some text → ⊥
+    by None here has = cc has
+    by (Some p) here has = no_text (sym (rw (unresumed p checkpoint r here) refl) ∙ has)
+
+refused_rest : (t i c s : Option (List ℕ)) (tree image checkpoint schedule : List ℕ) (text : List ℕ) (line : ℕ) (r : ScheduleRefusal) → t ≡ Some tree → i ≡ Some image → c ≡ Some checkpoint → s ≡ Some schedule
+    → resumed_text tree image checkpoint schedule ≡ Some text → WithResumed t i c s (λ p m k. IsUnscheduled p.tree.levels m.counts.turns line r k) → ⊥
+refused_rest t i c s tree image checkpoint schedule text line r is-tree is-image is-checkpoint is-schedule has refused =
+    let here : IfSome (parts_of tree image) (λ p. IfSome (resumed_at p checkpoint) (λ m. IsUnscheduled p.tree.levels m.counts.turns line r schedule)) = rw (is-tree, is-image, is-checkpoint, is-schedule) at refused in
+    by (parts_of tree image) here has
+  where
+    by_resumed : (p : Parts) (o : Option Resumed) → IfSome o (λ m. IsUnscheduled p.tree.levels m.counts.turns line r schedule) → option_and_then (rest_with schedule p.tree.levels) o ≡ Some text → ⊥
+    by_resumed p None here has = cc has
+    by_resumed p (Some m) here has = no_text (sym (rw (no_rest p.tree.levels m.counts.turns line r schedule here) refl) ∙ has)
+
+    by : (o : Option Parts) → IfSome o (λ p. IfSome (resumed_at p checkpoint) (λ m. IsUnscheduled p.tree.levels m.counts.turns line r schedule)) → option_and_then (resumed_with checkpoint schedule) o ≡ Some text → ⊥
+    by None here has = cc has
+    by (Some p) here has = by_resumed p (resumed_at p checkpoint) here has
+
 -- ---- what is told where a command has a text
 
 and_then_some : {A B : Type 0} (o : Option A) (f : A → Option B) (b : B) → option_and_then f o ≡ Some b → (a : A) × (o ≡ Some a) × (f a ≡ Some b)
@@ -213,6 +273,7 @@ module _ {F K : Type 0} (told : F → List ℕ → Option (List ℕ)) (faults : 
           absurd (no_text (sym (rw nothing refl) ∙ schedule.2))
       by_status (ImageLoad x) refused = absurd (no_image prints (told files r.tree) (image_told (told files) r.image) tree.0 image.0 schedule.0 text (λ u. IsUnloaded u x) (λ u. unloaded prints x u image.0) tree.1 image.1 schedule.2 refused)
       by_status (ImageBuild x) refused = absurd (no_image prints (told files r.tree) (image_told (told files) r.image) tree.0 image.0 schedule.0 text (λ u. IsUnstarted u x) (λ u. unstarted prints x u image.0) tree.1 image.1 schedule.2 refused)
+      by_status (Checkpoint x) refused = absurd refused
       by_status (SmallLists x) refused = absurd (no_image prints (told files r.tree) (image_told (told files) r.image) tree.0 image.0 schedule.0 text (HasSmallList prints x) (λ u. too_small prints x u image.0) tree.1 image.1 schedule.2 refused)
       by_status (Schedule line x) refused =
           let here = both_here (told files r.tree) (schedule_told (told files) r.turns) tree.0 schedule.0 (λ u. IsRefused u.levels line x) tree.1 schedule.1 refused.1 in
@@ -242,6 +303,7 @@ module _ {F K : Type 0} (told : F → List ℕ → Option (List ℕ)) (faults : 
       by_status (ImageBuild x) refused = absurd refused
       by_status (Schedule line x) refused = absurd refused
       by_status (Witness x) refused = absurd refused
+      by_status (Checkpoint x) refused = absurd refused
       by_status (SmallLists x) refused = absurd refused
       by_status (ReadFault TreeFile) refused = absurd (calm refused)
       by_status (ReadFault ImageFile) refused = absurd refused
@@ -266,6 +328,7 @@ module _ {F K : Type 0} (told : F → List ℕ → Option (List ℕ)) (faults : 
       by_status WriteFault refused = absurd refused
       by_status (Usage k) refused = absurd refused
       by_status (Schedule line x) refused = absurd refused
+      by_status (Checkpoint x) refused = absurd refused
       by_status (SmallLists x) refused = absurd refused
       by_status (Tree x) refused =
           let is = tree_here (told files c.tree) tree.0 x tree.1 refused in
@@ -280,6 +343,41 @@ module _ {F K : Type 0} (told : F → List ℕ → Option (List ℕ)) (faults : 
       by_status (ReadFault ScheduleFile) refused = absurd refused
       by_status (ReadFault CheckpointFile) refused = absurd refused
 
+    rest_refused : (n : Resumption) (text : List ℕ) → command_text (told files) (to_resume n) ≡ Some text → NothingFailed told faults files files' (to_resume n) → (s : Status) → NoRest told faults files files' s n → s ≡ NoMemory
+    rest_refused n text has calm = by_status where
+      tree : (t : List ℕ) × (told files n.tree ≡ Some t) × (option_and_then (λ i. option_and_then (λ c. option_and_then (resumed_text t i c) (told files n.schedule)) (told files n.checkpoint)) (told files n.image) ≡ Some text)
+      tree = and_then_some (told files n.tree) _ text has
+
+      image : (i : List ℕ) × (told files n.image ≡ Some i) × (option_and_then (λ c. option_and_then (resumed_text tree.0 i c) (told files n.schedule)) (told files n.checkpoint) ≡ Some text)
+      image = and_then_some (told files n.image) _ text tree.2
+
+      checkpoint : (c : List ℕ) × (told files n.checkpoint ≡ Some c) × (option_and_then (resumed_text tree.0 image.0 c) (told files n.schedule) ≡ Some text)
+      checkpoint = and_then_some (told files n.checkpoint) _ text image.2
+
+      schedule : (k : List ℕ) × (told files n.schedule ≡ Some k) × (resumed_text tree.0 image.0 checkpoint.0 k ≡ Some text)
+      schedule = and_then_some (told files n.schedule) _ text checkpoint.2
+
+      by_status : (s : Status) → NoRest told faults files files' s n → s ≡ NoMemory
+      by_status NoMemory refused = refl
+      by_status Done refused = absurd refused
+      by_status WriteFault refused = absurd refused
+      by_status (Usage k) refused = absurd refused
+      by_status (Witness x) refused = absurd refused
+      by_status (SmallLists x) refused = absurd refused
+      by_status (Tree x) refused =
+          let is = tree_here (told files n.tree) tree.0 x tree.1 refused in
+          absurd (no_tree tree.0 image.0 checkpoint.0 schedule.0 text (refused_tree tree.0 x is) schedule.2)
+      by_status (ImageLoad x) refused = absurd (refused_start (told files n.tree) (told files n.image) tree.0 image.0 checkpoint.0 schedule.0 text (λ u. IsUnloaded u x) (λ u. unloaded Report x u image.0) tree.1 image.1 schedule.2 refused)
+      by_status (ImageBuild x) refused = absurd (refused_start (told files n.tree) (told files n.image) tree.0 image.0 checkpoint.0 schedule.0 text (λ u. IsUnstarted u x) (λ u. unstarted Report x u image.0) tree.1 image.1 schedule.2 refused)
+      by_status (Checkpoint x) refused = absurd (refused_checkpoint (told files n.tree) (told files n.image) (told files n.checkpoint) tree.0 image.0 checkpoint.0 schedule.0 text x tree.1 image.1 checkpoint.1 schedule.2 refused.1)
+      by_status (Schedule line x) refused =
+          absurd (refused_rest (told files n.tree) (told files n.image) (told files n.checkpoint) (told files n.schedule) tree.0 image.0 checkpoint.0 schedule.0 text line x tree.1 image.1 checkpoint.1 schedule.1 schedule.2 refused.1)
+      by_status (ReadFault TreeFile) refused = absurd (calm.0 refused)
+      by_status (ReadFault ImageFile) refused = absurd (calm.1 refused.0)
+      by_status (ReadFault CheckpointFile) refused = absurd (calm.2 refused.0)
+      by_status (ReadFault ScheduleFile) refused = absurd (calm.3 refused.0)
+      by_status (ReadFault WitnessFile) refused = absurd refused
+
     -- where there are outcomes, the run of the first seed has a text
     survey_refused : (o : Seeds) (text : List ℕ) → command_text (told files) (to_survey o) ≡ Some text → NothingFailed told faults files files' (to_survey o) → (s : Status) → NoRun told faults files files' Report s (first_run o) → s ≡ NoMemory
     survey_refused o text has calm =
@@ -293,6 +391,7 @@ module _ {F K : Type 0} (told : F → List ℕ → Option (List ℕ)) (faults : 
     command_refused (to_run prints r) text has calm = run_refused prints r text has calm
     command_refused (to_list tree seed count) text has calm = listing_refused tree seed count text has calm
     command_refused (to_check c) text has calm = check_refused c text has calm
+    command_refused (to_resume r) text has calm = rest_refused r text has calm
     command_refused (to_survey o) text has calm = survey_refused o text has calm
     command_refused (to_say a) text has calm = λ s refused. absurd refused
 
@@ -306,5 +405,6 @@ module _ {F K : Type 0} (told : F → List ℕ → Option (List ℕ)) (faults : 
   completes words files files' out out' (ImageBuild r) came c text said has calm quiet = inr (command_refused files files' c text has calm (ImageBuild r) (rw said at came.0))
   completes words files files' out out' (Schedule line r) came c text said has calm quiet = inr (command_refused files files' c text has calm (Schedule line r) (rw said at came.0))
   completes words files files' out out' (Witness r) came c text said has calm quiet = inr (command_refused files files' c text has calm (Witness r) (rw said at came.0))
+  completes words files files' out out' (Checkpoint r) came c text said has calm quiet = inr (command_refused files files' c text has calm (Checkpoint r) (rw said at came.0))
   completes words files files' out out' (SmallLists key) came c text said has calm quiet = inr (command_refused files files' c text has calm (SmallLists key) (rw said at came.0))
   completes words files files' out out' (ReadFault role) came c text said has calm quiet = inr (command_refused files files' c text has calm (ReadFault role) (rw said at came.0))

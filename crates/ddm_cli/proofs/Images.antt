@@ -11,7 +11,7 @@ use Rattle.witness_check.specs.Start as check
 use Rattle.ddm_cli.specs.Causes.{Accepts, BuildCause, HasNoSetting, ImageCause, IsOfStart, IsUnstarted, JudgedImageCause, NoImage, SettingCause}
 use Rattle.ddm_cli.specs.Parts.{BeginsFor, parts_in, setting_in}
 use Rattle.ddm_cli.specs.declared.status.Status.{Status}
-use Rattle.ddm_cli.specs.declared.status.Status.TheVariants.{Done, Usage, ImageLoad, ImageBuild, Tree, Schedule, Witness, SmallLists, ReadFault, WriteFault, NoMemory}
+use Rattle.ddm_cli.specs.declared.status.Status.TheVariants.{Done, Usage, ImageLoad, ImageBuild, Tree, Schedule, Witness, Checkpoint, SmallLists, ReadFault, WriteFault, NoMemory}
 use Rattle.ddm_cli.proofs.Judged.{some_parts}
 use Rattle.ddm_cli.proofs.Settings.{setting_started}
 
@@ -30,6 +30,7 @@ module _ (t : TreeValue) (told : Option (List ℕ)) (before now : ℕ) where
   no_machine (Tree r) cause = absurd cause
   no_machine (Schedule line r) cause = absurd cause
   no_machine (Witness r) cause = absurd cause
+  no_machine (Checkpoint r) cause = absurd cause
   no_machine (SmallLists key) cause = absurd cause
   no_machine WriteFault cause = absurd cause
 
@@ -43,6 +44,7 @@ module _ (t : TreeValue) (told : Option (List ℕ)) (before now : ℕ) where
   no_reader (Tree r) cause = absurd cause
   no_reader (Schedule line r) cause = absurd cause
   no_reader (Witness r) cause = absurd cause
+  no_reader (Checkpoint r) cause = absurd cause
   no_reader (SmallLists key) cause = absurd cause
   no_reader WriteFault cause = absurd cause
 
@@ -69,6 +71,7 @@ module _ (t : TreeValue) (told : Option (List ℕ)) (before now : ℕ) where
     not_built (Tree r) cause = absurd cause
     not_built (Schedule line r) cause = absurd cause
     not_built (Witness r) cause = absurd cause
+    not_built (Checkpoint r) cause = absurd cause
     not_built (SmallLists key) cause = absurd cause
     not_built WriteFault cause = absurd cause
 
@@ -82,6 +85,7 @@ module _ (t : TreeValue) (told : Option (List ℕ)) (before now : ℕ) where
     not_begun (Tree r) cause = absurd cause
     not_begun (Schedule line r) cause = absurd cause
     not_begun (Witness r) cause = absurd cause
+    not_begun (Checkpoint r) cause = absurd cause
     not_begun (SmallLists key) cause = absurd cause
     not_begun WriteFault cause = absurd cause
 

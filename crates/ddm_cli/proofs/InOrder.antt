@@ -1,26 +1,32 @@
 -- The run of accepted files is in order.
-use Rattle.std.proofs.Common.{◌≡◌, ℕ, List, Option, Some, None, Result, Ok, Err, refl, cond}
+use Rattle.std.proofs.Common.{◌≡◌, ℕ, List, ◌++◌, length, take, Option, Some, None, Result, Ok, Err, refl, sym, ap, subst, ◌∙◌, cond}
+use Rattle.std.proofs.Math.Seq.{take-length}
 use Rattle.std.specs.Prelude.{IfOk, IfSome, is_none, option_and_then}
 use Rattle.std.specs.Result.{result_ok}
 use Rattle.ddm_types.specs.declared.turns.Turn.{Turn}
 use Rattle.tree_model.specs.Start.Sources.{TreeValue, ImageValue}
 use Rattle.tree_model.specs.Start.Machine.{flat_start_of, start_machine, start_refusal}
-use Rattle.text_model.specs.Run.{EachOutputWitnessed}
+use Rattle.text_model.specs.Run.{EachOutputWitnessed, HasWitnessedOutput}
+use Rattle.tree_model.specs.State.Values.{MachineValue}
+use Rattle.tree_model.specs.Turns.Machine.{run_of}
+use Rattle.ddm_tree.proofs.RulesKept.{run-order}
+use Rattle.checkpoint.specs.Resumed.{Resumed}
 use Rattle.text_model.proofs.Outputs.{put_texts-same}
-use Rattle.tree_rules.specs.Witness.{EachTurnWitnessed}
+use Rattle.tree_rules.specs.Witness.{EachTurnWitnessed, IsWitnessed}
 use Rattle.bus_laws.specs.IsTree.{IsTree}
 use Rattle.elf_load.specs.ElfFile.{image_of}
 use Rattle.elf_load.specs.declared.refusal.ImageRefusal.{ImageRefusal}
 use Rattle.tree_config.specs.TreeFile.{tree_of}
 use Rattle.tree_config.specs.declared.refusal.TreeRefusal.{TreeRefusal}
-use Rattle.ddm_cli.specs.Commands.{Command, Seeds, to_run, to_list, to_check, to_survey, to_say, command_of}
-use Rattle.ddm_cli.specs.Parts.{Parts, if_started, parts_in, parts_of, tree_at, turns_of}
+use Rattle.ddm_cli.specs.Commands.{Command, Seeds, to_run, to_list, to_check, to_resume, to_survey, to_say, command_of}
+use Rattle.ddm_cli.specs.Parts.{Parts, if_started, parts_in, parts_of, resumed_at, tree_at, turns_at, turns_of}
 use Rattle.ddm_cli.specs.Told.{ScheduleGiven, image_told, schedule_told}
-use Rattle.ddm_cli.specs.Top.{Both, FilesInOrder, IsInOrder, OutcomesAreRuns, RunsInOrder, RunIsWitnessed}
+use Rattle.ddm_cli.specs.Top.{Both, FilesInOrder, GoesOnInOrder, IsInOrder, OutcomesAreRuns, RestInOrder, RunsInOrder, RunIsWitnessed}
 use Rattle.ddm_cli.proofs.AcceptedTrees.{accepted_tree}
 use Rattle.outcome_model.proofs.Legal.{outcomes-legal}
 use Rattle.schedule_log.specs.Shapes.{shape_view}
 use Rattle.ddm_cli.proofs.EachTurn.{each_turn, starts}
+use Rattle.ddm_cli.proofs.RunsInPieces.{machine_append}
 
 -- parts that were taken
 record ArePartsTaken (p : Parts) : Type 0 where
@@ -72,6 +78,36 @@ told_in_order (Some t) None schedule = tt
 told_in_order (Some t) (Some i) None = tt
 told_in_order (Some t) (Some i) (Some s) = files_in_order t i s
 
+-- ---- a run that goes on
+
+-- where a run from the start comes to the machine, the turns behind it are those of a longer run
+of_run : (p : Parts) → ArePartsTaken p → (m : MachineValue) (turns first : List Turn) → m ≡ (run_of first (start_machine p.tree p.image)).machine → (k : ℕ)
+    → IsWitnessed (flat_start_of p.tree p.image) (run_of (take k turns) m).machine × HasWitnessedOutput (run_of (take k turns) m).machine
+of_run p taken m turns first is k =
+    let all = first ++ take k turns in
+    let start = start_machine p.tree p.image in
+    let same : (run_of (take (length all) all) start).machine ≡ (run_of (take k turns) m).machine = ap (λ ts. (run_of ts start).machine) (take-length all) ∙ machine_append first (take k turns) start ∙ ap (λ n. (run_of (take k turns) n).machine) (sym is) in
+    let here = subst (IsWitnessed (flat_start_of p.tree p.image)) same (each_turn p.tree p.image taken.tree taken.accepted all (length all)).machine in
+    (here, λ h. put_texts-same h _ _ (here.own_order h))
+
+rest_in_order : (tree image checkpoint schedule : Option (List ℕ)) → RestInOrder tree image checkpoint schedule
+rest_in_order tree image checkpoint None = tt
+rest_in_order None image checkpoint (Some s) = tt
+rest_in_order (Some t) None checkpoint (Some s) = tt
+rest_in_order (Some t) (Some i) None (Some s) = tt
+rest_in_order (Some t) (Some i) (Some c) (Some s) = by_parts (parts_of t i) refl where
+  by_turns : (p : Parts) → ArePartsTaken p → (r : Resumed) (o : Option (List Turn)) → IfSome o (GoesOnInOrder p r)
+  by_turns p taken r None = tt
+  by_turns p taken r (Some turns) = record { of_run = of_run p taken r.machine turns; stays = λ shaped rules k. run-order (take k turns) r.machine shaped rules }
+
+  by_resumed : (p : Parts) → ArePartsTaken p → (o : Option Resumed) → IfSome o (λ r. IfSome (turns_at p.tree.levels r.counts.turns s) (GoesOnInOrder p r))
+  by_resumed p taken None = tt
+  by_resumed p taken (Some r) = by_turns p taken r (turns_at p.tree.levels r.counts.turns s)
+
+  by_parts : (o : Option Parts) → parts_of t i ≡ o → IfSome o (λ p. IfSome (resumed_at p c) (λ r. IfSome (turns_at p.tree.levels r.counts.turns s) (GoesOnInOrder p r)))
+  by_parts None is = tt
+  by_parts (Some p) is = by_resumed p (both_taken t i p is) (resumed_at p c)
+
 outcomes_in_order : (tree image : Option (List ℕ)) (s : Seeds) → Both tree image (λ t i. IfSome (parts_of t i) (OutcomesAreRuns s))
 outcomes_in_order None image s = tt
 outcomes_in_order (Some t) None s = tt
@@ -88,6 +124,7 @@ in_order {F} told words files = by_command (command_of words) where
   by_command (Ok (to_run prints r)) = told_in_order (told files r.tree) (image_told (told files) r.image) (schedule_told (told files) r.turns)
   by_command (Ok (to_list tree seed count)) = tt
   by_command (Ok (to_check check)) = tt
+  by_command (Ok (to_resume r)) = rest_in_order (told files r.tree) (told files r.image) (told files r.checkpoint) (told files r.schedule)
   by_command (Ok (to_survey s)) = outcomes_in_order (told files s.tree) (told files s.image) s
   by_command (Ok (to_say about)) = tt
   by_command (Err k) = tt

@@ -12,6 +12,7 @@ pub mod LargeLists
 pub mod Taken
 pub mod InOrder
 pub mod Completeness
+pub mod Rests
 pub mod Keys
 pub mod Settings
 pub mod Images

@@ -1,6 +1,6 @@
 -- Turns made piece by piece, as one run.
 use Rattle.std.proofs.Common.{◌≡◌, ◌≢◌, ℕ, suc, ◌+◌, ◌<◌, ◌≤◌, Bool, true, false, List, [], ◌∷◌, ◌++◌, length, take, drop, Option, refl, sym, ap, subst, ◌∙◌, append_assoc, arith}
-use Rattle.std.specs.Prelude.{All, IfSome, Result, if◌then◌else◌}
+use Rattle.std.specs.Prelude.{All, IfOk, IfSome, Result, if◌then◌else◌}
 use Rattle.std.proofs.lemmas.List.{append-nil, length-append, take-append-drop}
 use Rattle.std.proofs.Math.Seq.{take-append_seam}
 use Rattle.std.proofs.lemmas.List.Elements.{All-drop, All-take, All-weaker}
@@ -24,17 +24,20 @@ use Rattle.checkpoint.specs.Saved.{saved}
 use Rattle.ddm_tree.specs.Machine.{MachineState}
 use Rattle.any_machine.specs.Run.{AreBelow, CanRun, NameParts, answers_in, counts_in, ran, with_room}
 use Rattle.any_machine.proofs.RunMore.{counted-below, counted-plus, plus, plus-swap, same-counts}
-use Rattle.tree_model.specs.State.Shape.{depth_of}
+use Rattle.tree_model.specs.State.Shape.{Frame, depth_of, levels_of}
+use Rattle.tree_model.proofs.FrameKept.{run-frame}
 use Rattle.text_model.specs.Report.{report_of}
 use Rattle.text_model.specs.Trace.{trace_from, trace_text}
-use Rattle.ddm_cli.specs.Made.{CanCount, HasAllMade, HasMade, counts_plus}
-use Rattle.ddm_cli.specs.Printed.{Writes, is_trace, made_text, printed, unjam_line, unjam_text_of, saved_after}
-use Rattle.ddm_cli.specs.Reads.{HasRead, WritesRan}
-use Rattle.ddm_cli.specs.Told.{ScheduleGiven}
+use Rattle.ddm_cli.specs.Made.{CanCount, CanGoOn, HasAllMade, HasMade, counts_plus}
+use Rattle.ddm_cli.specs.Printed.{Writes, is_trace, made_text, printed, resumed_report, unjam_line, unjam_text_of, saved_after}
+use Rattle.ddm_cli.specs.Reads.{HasRead, WritesRan, WritesRest}
+use Rattle.ddm_cli.specs.Told.{ScheduleGiven, written}
 use Rattle.ddm_cli.specs.declared.command.Prints.{Prints}
 use Rattle.ddm_cli.specs.declared.command.Prints.TheVariants.{Report, Trace, Summary, Unjamming, Checkpoint}
-use Rattle.ddm_cli.proofs.Taken.{ran_report, ran_summary, ran_trace}
-use Rattle.ddm_cli.specs.Parts.{HasStart}
+use Rattle.std.specs.Option.{option_map}
+use Rattle.std.proofs.lemmas.Result.{IfOk-weaker}
+use Rattle.ddm_cli.proofs.Taken.{file_accepted, ran_report, ran_summary, ran_trace}
+use Rattle.ddm_cli.specs.Parts.{HasStart, turns_at, turns_of}
 use Rattle.ddm_cli.specs.declared.making.Made.{Made}
 use Rattle.ddm_cli.proofs.Schedules.{given_so_far, more_read}
 use Rattle.ddm_cli.proofs.StartNames.{named_parts}
@@ -50,7 +53,7 @@ unfolding run_of
 answers_append [] us m = refl
 answers_append (t ∷ ts) us m = ap (λ l. (turn_of t m).answer ∷ l) (answers_append ts us (turn_of t m).machine)
 
-machine_append : (ts us : List Turn) (m : MachineValue) → (run_of (ts ++ us) m).machine ≡ (run_of us (run_of ts m).machine).machine
+pub machine_append : (ts us : List Turn) (m : MachineValue) → (run_of (ts ++ us) m).machine ≡ (run_of us (run_of ts m).machine).machine
 unfolding run_of
 machine_append [] us m = refl
 machine_append (t ∷ ts) us m = machine_append ts us (turn_of t m).machine
@@ -88,57 +91,87 @@ kept_more : {A : Type 0} (keep : Bool) (old new before more : List A) → old �
 kept_more true old new before more was is = is ∙ ap (λ l. l ++ more) was
 kept_more false old new before more was is = is ∙ was
 
--- ---- turns of a tree's machine
+-- ---- counts of turns, and of those before them
+
+nothing_more : (c : RunCounts) → counts_plus c no_counts ≡ c
+nothing_more c = same-counts (counts_plus c no_counts) c (omega arith) (omega arith) (omega arith) (omega arith)
+
+nothing_before : (c : RunCounts) → counts_plus no_counts c ≡ c
+nothing_before c = same-counts (counts_plus no_counts c) c (omega arith) (omega arith) (omega arith) (omega arith)
+
+counts_assoc : (a b c : RunCounts) → counts_plus (counts_plus a b) c ≡ counts_plus a (counts_plus b c)
+counts_assoc a b c = same-counts (counts_plus (counts_plus a b) c) (counts_plus a (counts_plus b c)) (omega arith) (omega arith) (omega arith) (omega arith)
+
+-- where none were before, the counts are those of the run
+pub counts_run : (keep : Bool) (s now : MachineState) (made : Made) (turns : List Turn) → HasMade no_counts keep s now made turns → made.counts ≡ counts_of (run_of turns s.machine).answers
+counts_run keep s now made turns has = has.counts ∙ nothing_before (counts_of (run_of turns s.machine).answers)
+
+-- ---- turns of a machine that can go on with them
 
 -- more turns name parts of the machine, and can be counted
-pub record CanMake (levels : List (List ℕ)) (turns more : List Turn) (now : MachineState) (made : Made) : Type 0 where
-  pub given : GivesTurnsOf (shape_view levels) 0 (turns ++ more)
+pub record CanMake (levels : List (List ℕ)) (first : RunCounts) (turns more : List Turn) (now : MachineState) (made : Made) : Type 0 where
+  pub given : GivesTurnsOf (shape_view levels) first.turns (turns ++ more)
   pub named : NameParts more now.machine
   pub few : CanRun more now
   pub counted : CanCount made.counts (counts_in more now)
 
-module _ (t : TreeValue) (tree : IsTree t) (s : MachineState) (start : HasStart t s) where
+-- each turn of its tree names a part of a machine at its start, and all can be counted
+pub starts_on : (t : TreeValue) (tree : IsTree t) (s : MachineState) → HasStart t s → CanGoOn t.levels no_counts s
+starts_on t tree s start = record {
+  names = λ more each. subst (λ (m : MachineValue). NameParts more m) (sym (ap (λ (r : MachineState). r.machine) start.1.machine)) (named_parts t start.0 tree start.1.accepted more each);
+  few = (let none : s.turns ≡ 0 = ap (λ (r : MachineState). r.turns) start.1.machine in omega (arith, none));
+  counted = record { turns = omega arith; retired = omega arith; granted = omega arith; busy = omega arith };
+}
+
+module _ (levels : List (List ℕ)) (first : RunCounts) (s : MachineState) (start : CanGoOn levels first s) where
   -- nothing yet
-  pub nothing_made : (keep : Bool) (made : Made) → made.counts ≡ no_counts → made.turns.items ≡ [] → made.answers.items ≡ [] → HasMade keep s s made []
+  pub nothing_made : (keep : Bool) (made : Made) → made.counts ≡ first → made.turns.items ≡ [] → made.answers.items ≡ [] → HasMade first keep s s made []
   unfolding run_of counts_of
-  nothing_made keep made counts turns answers = record { machine = refl; number = omega arith; counts = counts; turns_kept = kept_none keep made.turns.items turns; answers_kept = kept_none keep made.answers.items answers }
+  nothing_made keep made counts turns answers = record { machine = refl; number = omega arith; counts = counts ∙ sym (nothing_more first); turns_kept = kept_none keep made.turns.items turns; answers_kept = kept_none keep made.answers.items answers }
 
-  module _ (keep : Bool) (now : MachineState) (made : Made) (turns more : List Turn) (has : HasMade keep s now made turns) (given : GivesTurnsOf (shape_view t.levels) 0 (turns ++ more)) where
+  module _ (keep : Bool) (now : MachineState) (made : Made) (turns more : List Turn) (has : HasMade first keep s now made turns) (given : GivesTurnsOf (shape_view levels) first.turns (turns ++ more)) where
     more_named : NameParts more now.machine
-    more_named = subst (λ (m : MachineValue). NameParts more m) (sym has.machine) (All-weaker (λ u. names_part u s.machine ≡ true) (λ u. names_part u (run_of turns s.machine).machine ≡ true) (λ u here. run-names u turns s.machine ∙ here) more at_start) where
-      each : All (IsTurnOf (shape_view t.levels)) more
-      each = subst (All (IsTurnOf (shape_view t.levels))) (drop_front turns more) (All-drop (IsTurnOf (shape_view t.levels)) (length turns) (turns ++ more) given.each)
-
-      at_start : NameParts more s.machine
-      at_start = subst (λ (m : MachineValue). NameParts more m) (sym (ap (λ (r : MachineState). r.machine) start.1.machine)) (named_parts t start.0 tree start.1.accepted more each)
+    more_named = subst (λ (m : MachineValue). NameParts more m) (sym has.machine) (All-weaker (λ u. names_part u s.machine ≡ true) (λ u. names_part u (run_of turns s.machine).machine ≡ true) (λ u here. run-names u turns s.machine ∙ here) more (start.names more each)) where
+      each : All (IsTurnOf (shape_view levels)) more
+      each = subst (All (IsTurnOf (shape_view levels))) (drop_front turns more) (All-drop (IsTurnOf (shape_view levels)) (length turns) (turns ++ more) given.each)
 
     few_turns : length turns + length more ≤ 1048576
     few_turns = omega (arith, given.room, length-append turns more)
 
     more_counted : CanRun more now
-    more_counted = let none : s.turns ≡ 0 = ap (λ (r : MachineState). r.turns) start.1.machine in omega (arith, none, has.number, few_turns)
+    more_counted = omega (arith, start.few, has.number, few_turns)
 
     can_count : CanCount made.counts (counts_in more now)
     can_count =
         let a = run_counts_few turns s.machine in
         let b = run_counts_few more now.machine in
-        let c = subst (AreBelow (length turns + 1)) (sym has.counts) a in
-        record { turns = omega (arith, c.turns, b.turns, few_turns); retired = omega (arith, c.retired, b.retired, few_turns); granted = omega (arith, c.granted, b.granted, few_turns); busy = omega (arith, c.busy, b.busy, few_turns) }
+        record {
+          turns = omega (arith, ap (λ (c : RunCounts). c.turns) has.counts, a.turns, b.turns, few_turns, start.counted.turns);
+          retired = omega (arith, ap (λ (c : RunCounts). c.retired) has.counts, a.retired, b.retired, few_turns, start.counted.retired);
+          granted = omega (arith, ap (λ (c : RunCounts). c.granted) has.counts, a.granted, b.granted, few_turns, start.counted.granted);
+          busy = omega (arith, ap (λ (c : RunCounts). c.busy) has.counts, a.busy, b.busy, few_turns, start.counted.busy);
+        }
 
-    pub can_make : CanMake t.levels turns more now made
+    pub can_make : CanMake levels first turns more now made
     can_make = record { given = given; named = more_named; few = more_counted; counted = can_count }
 
     -- and were made
     module _ (after : MachineState) (made' : Made) (is : after ≡ ran more (with_room (length more) now)) (counts : made'.counts ≡ counts_plus made.counts (counts_in more now))
         (kept : made'.turns.items ≡ (if keep then made.turns.items ++ more else made.turns.items)) (answers : made'.answers.items ≡ (if keep then made.answers.items ++ answers_in more now else made.answers.items)) where
-      pub more_made : HasMade keep s after made' (turns ++ more)
+      counts_are : made'.counts ≡ counts_plus first (counts_of (run_of (turns ++ more) s.machine).answers)
+      counts_are =
+          let of_turns = counts_of (run_of turns s.machine).answers in
+          counts ∙ ap (λ (c : RunCounts). counts_plus c (counts_in more now)) has.counts ∙ counts_assoc first of_turns (counts_in more now)
+          ∙ ap (counts_plus first) (ap (λ (m : MachineValue). counts_plus of_turns (counts_of (run_of more m).answers)) has.machine ∙ sym (counts_append (run_of turns s.machine).answers (run_of more (run_of turns s.machine).machine).answers) ∙ ap counts_of (sym (answers_append turns more s.machine)))
+
+      pub more_made : HasMade first keep s after made' (turns ++ more)
       more_made =
           let machine : after.machine ≡ (run_of more now.machine).machine = ap (λ (r : MachineState). r.machine) is in
           let number : after.turns ≡ now.turns + length more = ap (λ (r : MachineState). r.turns) is in
           record {
             machine = machine ∙ ap (λ (m : MachineValue). (run_of more m).machine) has.machine ∙ sym (machine_append turns more s.machine);
             number = omega (arith, number, has.number, length-append turns more);
-            counts = counts ∙ ap (λ (c : RunCounts). counts_plus c (counts_in more now)) has.counts ∙ ap (λ (m : MachineValue). counts_plus (counts_of (run_of turns s.machine).answers) (counts_of (run_of more m).answers)) has.machine ∙ sym (counts_append (run_of turns s.machine).answers (run_of more (run_of turns s.machine).machine).answers) ∙ ap counts_of (sym (answers_append turns more s.machine));
+            counts = counts_are;
             turns_kept = kept_more keep made.turns.items made'.turns.items turns more has.turns_kept kept;
             answers_kept =
                 let both = kept_more keep made.answers.items made'.answers.items (run_of turns s.machine).answers (answers_in more now) has.answers_kept answers in
@@ -148,9 +181,9 @@ module _ (t : TreeValue) (tree : IsTree t) (s : MachineState) (start : HasStart 
 -- ---- turns that were made
 
 -- for a trace there is an answer for each turn
-pub answers_kept : (keep : Bool) (s now : MachineState) (made : Made) (turns : List Turn) → HasMade keep s now made turns → length made.turns.items ≡ length made.answers.items
-answers_kept true s now made turns has = ap length has.turns_kept ∙ sym (answers_counted turns s.machine) ∙ sym (ap length has.answers_kept)
-answers_kept false s now made turns has = ap length has.turns_kept ∙ sym (ap length has.answers_kept)
+pub answers_kept : (first : RunCounts) (keep : Bool) (s now : MachineState) (made : Made) (turns : List Turn) → HasMade first keep s now made turns → length made.turns.items ≡ length made.answers.items
+answers_kept first true s now made turns has = ap length has.turns_kept ∙ sym (answers_counted turns s.machine) ∙ sym (ap length has.answers_kept)
+answers_kept first false s now made turns has = ap length has.turns_kept ∙ sym (ap length has.answers_kept)
 
 -- of these answers so many complete an instruction
 retired_ops : (answers : List TurnAnswer) → length (ops_of_answers answers) ≡ (counts_of answers).retired
@@ -165,34 +198,65 @@ retired_ops (TurnAnswer.Busy cause ∷ answers) = retired_ops answers
 retired_ops (TurnAnswer.Empty ∷ answers) = retired_ops answers
 
 -- as many as there are operations, where there was none
-pub retired_counted : (keep : Bool) (s now : MachineState) (made : Made) (turns : List Turn) → s.machine.ops ≡ [] → HasMade keep s now made turns → made.counts.retired ≡ length now.machine.ops
+pub retired_counted : (keep : Bool) (s now : MachineState) (made : Made) (turns : List Turn) → s.machine.ops ≡ [] → HasMade no_counts keep s now made turns → made.counts.retired ≡ length now.machine.ops
 retired_counted keep s now made turns none has =
     let answers = (run_of turns s.machine).answers in
     let ops : now.machine.ops ≡ ops_of_answers answers = ap (λ (m : MachineValue). m.ops) has.machine ∙ run-ops turns s.machine ∙ ap (λ ops. ops ++ ops_of_answers answers) none in
-    ap (λ (c : RunCounts). c.retired) has.counts ∙ sym (retired_ops answers) ∙ ap length (sym ops)
+    ap (λ (c : RunCounts). c.retired) (counts_run keep s now made turns has) ∙ sym (retired_ops answers) ∙ ap length (sym ops)
 
 -- no turns have an empty trace
 no_trace : (t : List ℕ) → trace_text [] [] ++ t ≡ t
 unfolding trace_text trace_from
 no_trace t = refl
 
--- what is printed of them is what is printed of their run
-pub made_printed : (prints : Prints) (s now : MachineState) (made : Made) (turns : List Turn) → HasMade (is_trace prints) s now made turns → made_text prints now.machine made ≡ printed prints (depth_of s.machine) turns s.machine
-unfolding unjam_text_of saved_after
-made_printed Checkpoint s now made turns has = ap (λ (m : MachineValue). saved m made.counts) has.machine ∙ ap (saved (run_of turns s.machine).machine) has.counts
-made_printed Unjamming s now made turns has = ap (λ (m : MachineValue). unjam_line (unjamming_turn m)) has.machine
-made_printed Summary s now made turns has = ran_summary turns s.machine now.machine made.counts has.counts has.machine
-made_printed Trace s now made turns has =
-    ap (λ ts. trace_text ts made.answers.items ++ report_of (view_of (depth_of now.machine) made.counts now.machine)) has.turns_kept ∙ ran_trace turns s.machine now.machine made.counts has.counts has.machine made.answers.items has.answers_kept
-made_printed Report s now made turns has =
+-- nor have turns that aren't kept
+report_alone : (first : RunCounts) (s now : MachineState) (made : Made) (turns : List Turn) → HasMade first false s now made turns
+    → trace_text made.turns.items made.answers.items ++ report_of (view_of (depth_of now.machine) made.counts now.machine) ≡ report_of (view_of (depth_of now.machine) made.counts now.machine)
+report_alone first s now made turns has =
     ap (λ ts. trace_text ts made.answers.items ++ report_of (view_of (depth_of now.machine) made.counts now.machine)) has.turns_kept
     ∙ ap (λ answers. trace_text [] answers ++ report_of (view_of (depth_of now.machine) made.counts now.machine)) has.answers_kept
-    ∙ no_trace (report_of (view_of (depth_of now.machine) made.counts now.machine)) ∙ ran_report turns s.machine now.machine made.counts has.counts has.machine
+    ∙ no_trace (report_of (view_of (depth_of now.machine) made.counts now.machine))
+
+-- what is printed of them is what is printed of their run
+pub made_printed : (prints : Prints) (s now : MachineState) (made : Made) (turns : List Turn) → HasMade no_counts (is_trace prints) s now made turns → made_text prints now.machine made ≡ printed prints (depth_of s.machine) turns s.machine
+unfolding unjam_text_of saved_after
+made_printed Checkpoint s now made turns has = ap (λ (m : MachineValue). saved m made.counts) has.machine ∙ ap (saved (run_of turns s.machine).machine) (counts_run false s now made turns has)
+made_printed Unjamming s now made turns has = ap (λ (m : MachineValue). unjam_line (unjamming_turn m)) has.machine
+made_printed Summary s now made turns has = ran_summary turns s.machine now.machine made.counts (counts_run false s now made turns has) has.machine
+made_printed Trace s now made turns has =
+    ap (λ ts. trace_text ts made.answers.items ++ report_of (view_of (depth_of now.machine) made.counts now.machine)) has.turns_kept
+    ∙ ran_trace turns s.machine now.machine made.counts (counts_run true s now made turns has) has.machine made.answers.items has.answers_kept
+made_printed Report s now made turns has =
+    report_alone no_counts s now made turns has ∙ ran_report turns s.machine now.machine made.counts (counts_run false s now made turns has) has.machine
 
 pub made_written : {E : Type 0} (prints : Prints) (levels : List (List ℕ)) (told : Option ScheduleGiven) (s now : MachineState) (made : Made) (old new : Option (List ℕ)) (w : Result (Unit {0}) E)
-    → HasAllMade levels told (is_trace prints) s now made → Writes old new (made_text prints now.machine made) w → WritesRan prints levels told s.machine old new w
+    → HasAllMade (turns_of levels) told no_counts (is_trace prints) s now made → Writes old new (made_text prints now.machine made) w → WritesRan prints levels told s.machine old new w
 made_written prints levels told s now made old new w has writes =
     (made_text prints now.machine made, record { turns = has.turns; accepted = has.accepted; text_is = made_printed prints s now made has.turns has.all }, writes)
+
+-- ---- turns behind those of a checkpoint
+
+rest_printed : (first : RunCounts) (s now : MachineState) (made : Made) (turns : List Turn) → HasMade first false s now made turns
+    → trace_text made.turns.items made.answers.items ++ report_of (view_of (depth_of now.machine) made.counts now.machine) ≡ resumed_report turns (record { machine = s.machine; counts = first })
+unfolding resumed_report
+rest_printed first s now made turns has =
+    let after = (run_of turns s.machine).machine in
+    let depth : depth_of now.machine ≡ depth_of s.machine = ap depth_of has.machine ∙ ap (λ (f : Frame). levels_of f.bones) (run-frame turns s.machine) in
+    report_alone first s now made turns has
+    ∙ ap (λ n. report_of (view_of n made.counts now.machine)) depth
+    ∙ ap (λ c. report_of (view_of (depth_of s.machine) c now.machine)) has.counts
+    ∙ ap (λ m. report_of (view_of (depth_of s.machine) (counts_plus first (counts_of (run_of turns s.machine).answers)) m)) has.machine
+
+pub rest_written : {E : Type 0} (levels : List (List ℕ)) (told : Option (List ℕ)) (first : RunCounts) (s now : MachineState) (made : Made) (old new : Option (List ℕ)) (w : Result (Unit {0}) E)
+    → HasAllMade (turns_at levels first.turns) told first false s now made → Writes old new (trace_text made.turns.items made.answers.items ++ report_of (view_of (depth_of now.machine) made.counts now.machine)) w
+    → WritesRest levels told (record { machine = s.machine; counts = first }) old new w
+rest_written levels told first s now made old new w has writes = (_, record { turns = has.turns; accepted = has.accepted; text_is = rest_printed first s now made has.turns has.all }, writes)
+
+-- ---- the turns of a schedule file, as those of a run
+
+pub file_made : {E : Type 0} (levels : List (List ℕ)) (told : Option (List ℕ)) (keep : Bool) (s now : MachineState) (r : Result Made E) → IfOk r (λ made. HasAllMade (turns_at levels 0) told no_counts keep s now made)
+    → IfOk r (λ made. HasAllMade (turns_of levels) (option_map written told) no_counts keep s now made)
+file_made levels told keep s now r made = IfOk-weaker r _ _ (λ m has. record { turns = has.turns; accepted = file_accepted levels told has.turns has.accepted; all = has.all }) made
 
 -- ---- the turns of a seed
 
@@ -203,14 +267,14 @@ block_given levels levels' turns block left all same whole known few =
     let each : All (IsTurnOf (shape_view levels)) (turns ++ block) = subst (All (IsTurnOf (shape_view levels))) front (All-take (IsTurnOf (shape_view levels)) (length (turns ++ block)) all known) in
     record { each = subst (λ ls. All (IsTurnOf (shape_view ls)) (turns ++ block)) same each; room = omega (arith, few, ap length whole, length-append (turns ++ block) left) }
 
-module _ (t : TreeValue) (tree : IsTree t) (s : MachineState) (start : HasStart t s) (keep : Bool) (now : MachineState) (made : Made) (turns : List Turn) (has : HasMade keep s now made turns) where
+module _ (tree_levels : List (List ℕ)) (s : MachineState) (start : CanGoOn tree_levels no_counts s) (keep : Bool) (now : MachineState) (made : Made) (turns : List Turn) (has : HasMade no_counts keep s now made turns) where
   -- the next block can be made
-  pub next_block : (levels : List (List ℕ)) (block left rest all : List Turn) (most : ℕ) → levels ≡ t.levels → turns ++ rest ≡ all → block ≡ take most rest → left ≡ drop most rest → All (IsTurnOf (shape_view levels)) all → length all ≤ 1048576
-      → ((turns ++ block) ++ left ≡ all) × CanMake t.levels turns block now made
+  pub next_block : (levels : List (List ℕ)) (block left rest all : List Turn) (most : ℕ) → levels ≡ tree_levels → turns ++ rest ≡ all → block ≡ take most rest → left ≡ drop most rest → All (IsTurnOf (shape_view levels)) all → length all ≤ 1048576
+      → ((turns ++ block) ++ left ≡ all) × CanMake tree_levels no_counts turns block now made
   next_block levels block left rest all most same so_far front back known few =
       let parts : block ++ left ≡ rest = ap (λ l. l ++ left) front ∙ ap (λ l. take most rest ++ l) back ∙ take-append-drop most rest in
       let whole : (turns ++ block) ++ left ≡ all = append_assoc turns block left ∙ ap (λ l. turns ++ l) parts ∙ so_far in
-      (whole, can_make t tree s start keep now made turns block has (block_given levels t.levels turns block left all same whole known few))
+      (whole, can_make tree_levels no_counts s start keep now made turns block has (block_given levels tree_levels turns block left all same whole known few))
 
 -- where none is left, all were made
 pub all_made : (turns rest all : List Turn) → turns ++ rest ≡ all → rest ≡ [] → all ≡ turns
@@ -223,16 +287,16 @@ block_kept size block behind same = ap (λ n. take n (block ++ behind)) (sym sam
 -- ---- the pieces of a file
 
 -- a piece more that was read, and whose turns can be made
-pub record IsNext (levels : List (List ℕ)) (told : Option (List ℕ)) (count : ℕ) (reader : ReaderView) (turns more : List Turn) (now : MachineState) (made : Made) : Type 0 where
-  pub read : HasRead levels told count reader (turns ++ more)
-  pub can : CanMake levels turns more now made
+pub record IsNext (levels : List (List ℕ)) (first : RunCounts) (told : Option (List ℕ)) (count : ℕ) (reader : ReaderView) (turns more : List Turn) (now : MachineState) (made : Made) : Type 0 where
+  pub read : HasRead levels first.turns told count reader (turns ++ more)
+  pub can : CanMake levels first turns more now made
 
-module _ (t : TreeValue) (tree : IsTree t) (s : MachineState) (start : HasStart t s) (keep : Bool) (told : Option (List ℕ)) (count : ℕ) (reader : ReaderView) (now : MachineState) (made : Made) (turns : List Turn)
-    (read : HasRead t.levels told count reader turns) (has : HasMade keep s now made turns) where
-  pub next_piece : (levels : List (List ℕ)) (n : ℕ) (into : List ℕ) (new : ReaderView) (none more : List Turn) → levels ≡ t.levels → none ≡ [] → n ≤ length into → IfSome told (λ file. ReadsPart file count n into) → Fed (shape_view levels) reader (take n into) new none more
-      → IsNext t.levels told (count + n) new turns more now made
+module _ (tree_levels : List (List ℕ)) (first : RunCounts) (s : MachineState) (start : CanGoOn tree_levels first s) (keep : Bool) (told : Option (List ℕ)) (count : ℕ) (reader : ReaderView) (now : MachineState) (made : Made) (turns : List Turn)
+    (read : HasRead tree_levels first.turns told count reader turns) (has : HasMade first keep s now made turns) where
+  pub next_piece : (levels : List (List ℕ)) (n : ℕ) (into : List ℕ) (new : ReaderView) (none more : List Turn) → levels ≡ tree_levels → none ≡ [] → n ≤ length into → IfSome told (λ file. ReadsPart file count n into) → Fed (shape_view levels) reader (take n into) new none more
+      → IsNext tree_levels first told (count + n) new turns more now made
   next_piece levels n into new none more same is few part fed =
       let here = subst (λ ls. Fed (shape_view ls) reader (take n into) new none more) same fed in
-      let next = more_read t.levels told count reader turns read n into new none more is few part here in
-      let given = given_so_far t.levels told (count + n) new (turns ++ more) next in
-      record { read = next; can = can_make t tree s start keep now made turns more has given }
+      let next = more_read tree_levels first.turns told count reader turns read n into new none more is few part here in
+      let given = given_so_far tree_levels first.turns told (count + n) new (turns ++ more) next (omega (arith, start.counted.turns)) in
+      record { read = next; can = can_make tree_levels first s start keep now made turns more has given }

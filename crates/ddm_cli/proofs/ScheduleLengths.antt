@@ -88,10 +88,10 @@ short_from shape line made (piece ∷ next ∷ pieces) on =
 
 -- ---- a text
 
-pub short_text : (shape : ShapeView) (text : List ℕ) → GoesOn (reading_of shape 0 text).standing → length text ≤ 26214425
+pub short_text : (shape : ShapeView) (made : ℕ) (text : List ℕ) → made ≤ 1048576 → GoesOn (reading_of shape made text).standing → length text ≤ 26214425
 unfolding reading_of
-short_text shape text on =
-    let given = turns-reading_on shape 1 0 text (omega arith) in
-    let bytes = short_from shape 1 0 (pieces_at 10 text) on in
+short_text shape made text few on =
+    let given = turns-reading_on shape 1 made text few in
+    let bytes = short_from shape 1 made (pieces_at 10 text) on in
     let size = total_pieces 10 text in
     omega (arith, bytes, size, given.room)

@@ -7,9 +7,9 @@ use Rattle.ddm_outside.specs.Telling.{ReadsPart}
 use Rattle.text_model.specs.declared.ScheduleRefusal.{ScheduleRefusal}
 use Rattle.text_model.specs.Schedule.{ShapeView, Standing, in_line, at_end, refused_at, pieces_at, reading_from, reading_of, resumed, schedule_of}
 use Rattle.text_model.specs.ReadBack.{GivesTurnsOf}
-use Rattle.text_model.proofs.Given.{turns-reading_on, turns-schedule_of}
+use Rattle.text_model.proofs.Given.{turns-reading_on}
 use Rattle.schedule_log.specs.Pieces.{reader_after, turns_of}
-use Rattle.schedule_log.specs.Reader.{ReaderView, Fed, answer_of, begun, fed, finish_of, given}
+use Rattle.schedule_log.specs.Reader.{ReaderView, Fed, answer_of, begun_behind, fed, finish_of, given}
 use Rattle.schedule_log.specs.Shapes.{shape_view}
 use Rattle.schedule_log.specs.declared.refusal.FeedError.TheVariants as error
 use Rattle.schedule_log.proofs.Cuttings.{finish_accepts, finish_refuses, no_piece, reader_cut, turns_cut}
@@ -20,14 +20,14 @@ use Rattle.ddm_cli.proofs.ScheduleLengths.{GoesOn, short_text}
 
 -- ---- a refused text with more behind it
 
-refused_stays : (shape : ShapeView) (text more : List ℕ) (line : ℕ) (refusal : ScheduleRefusal) → (reading_of shape 0 text).standing ≡ refused_at line refusal → (reading_of shape 0 (text ++ more)).standing ≡ refused_at line refusal
+refused_stays : (shape : ShapeView) (made : ℕ) (text more : List ℕ) (line : ℕ) (refusal : ScheduleRefusal) → (reading_of shape made text).standing ≡ refused_at line refusal → (reading_of shape made (text ++ more)).standing ≡ refused_at line refusal
 unfolding resumed
-refused_stays shape text more line refusal is =
-    let reader = reader_after shape text in
-    sym (ap (λ (r : ReaderView). r.standing) (reader_cut shape text more)) ∙ ap (λ s. (resumed shape reader.made reader.held more [] s).standing) is
+refused_stays shape made text more line refusal is =
+    let reader = reader_after shape made text in
+    sym (ap (λ (r : ReaderView). r.standing) (reader_cut shape made text more)) ∙ ap (λ s. (resumed shape reader.made reader.held more [] s).standing) is
 
-refused_text : (shape : ShapeView) (text : List ℕ) (line : ℕ) (refusal : ScheduleRefusal) → (reading_of shape 0 text).standing ≡ refused_at line refusal → schedule_of shape 0 text ≡ Err (line, refusal)
-refused_text shape text line refusal is = finish_refuses shape text line refusal (ap finish_of is)
+refused_text : (shape : ShapeView) (made : ℕ) (text : List ℕ) (line : ℕ) (refusal : ScheduleRefusal) → (reading_of shape made text).standing ≡ refused_at line refusal → schedule_of shape made text ≡ Err (line, refusal)
+refused_text shape made text line refusal is = finish_refuses shape made text line refusal (ap finish_of is)
 
 answer_refused : (s : Standing) (line : ℕ) (refusal : ScheduleRefusal) → answer_of s ≡ Err (error.Refused line refusal) → s ≡ refused_at line refusal
 answer_refused (in_line n) line refusal e = absurd (cc e)
@@ -41,19 +41,19 @@ answer_goes_on (refused_at n r) e = absurd (cc e)
 
 -- ---- pieces of a file
 
-module _ (levels : List (List ℕ)) (told : Option (List ℕ)) where
+module _ (levels : List (List ℕ)) (made : ℕ) (told : Option (List ℕ)) where
   -- before the first
-  pub nothing_read : (reader : ReaderView) (turns : List Turn) → reader ≡ begun → turns ≡ [] → HasRead levels told 0 reader turns
+  pub nothing_read : (reader : ReaderView) (turns : List Turn) → reader ≡ begun_behind made → turns ≡ [] → HasRead levels made told 0 reader turns
   unfolding reading_of reading_from pieces_at
-  nothing_read reader turns is none = record { text = []; size = refl; reader_is = is ∙ no_piece (shape_view levels); turns_are = none; front = front told } where
+  nothing_read reader turns is none = record { text = []; size = refl; reader_is = is ∙ no_piece (shape_view levels) made; turns_are = none; front = front told } where
     front : (o : Option (List ℕ)) → IfSome o (λ file. file ≡ file)
     front None = tt
     front (Some file) = refl
 
-  module _ (count : ℕ) (reader : ReaderView) (turns : List Turn) (read : HasRead levels told count reader turns) where
+  module _ (count : ℕ) (reader : ReaderView) (turns : List Turn) (read : HasRead levels made told count reader turns) where
     -- one more
     pub piece_read : (n : ℕ) (into : List ℕ) (new : ReaderView) (after : List Turn) → n ≤ length into → IfSome told (λ file. ReadsPart file count n into) → Fed (shape_view levels) reader (take n into) new turns after
-        → HasRead levels told (count + n) new after
+        → HasRead levels made told (count + n) new after
     piece_read n into new after few part f =
         let shape = shape_view levels in
         let piece = take n into in
@@ -61,8 +61,8 @@ module _ (levels : List (List ℕ)) (told : Option (List ℕ)) where
         record {
           text = read.text ++ piece;
           size = length-append read.text piece ∙ sizes read.size size;
-          reader_is = f.reader ∙ ap (λ r. fed shape r piece) read.reader_is ∙ reader_cut shape read.text piece;
-          turns_are = f.turns ∙ ap (λ ts. ts ++ (given shape reader piece).turns) read.turns_are ∙ ap (λ r. turns_of shape read.text ++ (given shape r piece).turns) read.reader_is ∙ turns_cut shape read.text piece;
+          reader_is = f.reader ∙ ap (λ r. fed shape r piece) read.reader_is ∙ reader_cut shape made read.text piece;
+          turns_are = f.turns ∙ ap (λ ts. ts ++ (given shape reader piece).turns) read.turns_are ∙ ap (λ r. turns_of shape made read.text ++ (given shape r piece).turns) read.reader_is ∙ turns_cut shape made read.text piece;
           front = front told read.front part;
         }
       where
@@ -75,39 +75,39 @@ module _ (levels : List (List ℕ)) (told : Option (List ℕ)) where
 
     -- one more, of which the reader gave the turns behind none
     pub more_read : (n : ℕ) (into : List ℕ) (new : ReaderView) (none more : List Turn) → none ≡ [] → n ≤ length into → IfSome told (λ file. ReadsPart file count n into) → Fed (shape_view levels) reader (take n into) new none more
-        → HasRead levels told (count + n) new (turns ++ more)
+        → HasRead levels made told (count + n) new (turns ++ more)
     more_read n into new none more is few part f =
         let given : more ≡ (given (shape_view levels) reader (take n into)).turns = f.turns ∙ ap (λ ts. ts ++ (given (shape_view levels) reader (take n into)).turns) is in
         piece_read n into new (turns ++ more) few part (record { reader = f.reader; turns = ap (λ ts. turns ++ ts) given })
 
-    standing_is : reader.standing ≡ (reading_of (shape_view levels) 0 read.text).standing
+    standing_is : reader.standing ≡ (reading_of (shape_view levels) made read.text).standing
     standing_is = ap (λ (r : ReaderView). r.standing) read.reader_is
 
     -- they are turns of the tree
-    pub given_so_far : GivesTurnsOf (shape_view levels) 0 turns
+    pub given_so_far : made ≤ 1048576 → GivesTurnsOf (shape_view levels) made turns
     unfolding reading_of
-    given_so_far = subst (GivesTurnsOf (shape_view levels) 0) (sym read.turns_are) (turns-reading_on (shape_view levels) 1 0 read.text (omega arith))
+    given_so_far few = subst (GivesTurnsOf (shape_view levels) made) (sym read.turns_are) (turns-reading_on (shape_view levels) 1 made read.text few)
 
     -- a schedule that isn't refused yet
-    pub few_read : answer_of reader.standing ≡ Ok tt → count ≤ 26214425
-    few_read e =
-        let on : GoesOn (reading_of (shape_view levels) 0 read.text).standing = subst GoesOn standing_is (answer_goes_on reader.standing e) in
-        omega (arith, short_text (shape_view levels) read.text on, read.size)
+    pub few_read : made ≤ 1048576 → answer_of reader.standing ≡ Ok tt → count ≤ 26214425
+    few_read few e =
+        let on : GoesOn (reading_of (shape_view levels) made read.text).standing = subst GoesOn standing_is (answer_goes_on reader.standing e) in
+        omega (arith, short_text (shape_view levels) made read.text few on, read.size)
 
     -- a line is refused, whatever is behind
-    pub refused_read : (line : ℕ) (refusal : ScheduleRefusal) → answer_of reader.standing ≡ Err (error.Refused line refusal) → IfSome told (IsUnscheduled levels line refusal)
+    pub refused_read : (line : ℕ) (refusal : ScheduleRefusal) → answer_of reader.standing ≡ Err (error.Refused line refusal) → IfSome told (IsUnscheduled levels made line refusal)
     refused_read line refusal e = by told read.front where
       shape : ShapeView
       shape = shape_view levels
 
-      here : (reading_of (shape_view levels) 0 read.text).standing ≡ refused_at line refusal
+      here : (reading_of (shape_view levels) made read.text).standing ≡ refused_at line refusal
       here = sym standing_is ∙ answer_refused reader.standing line refusal e
 
-      by : (o : Option (List ℕ)) → IfSome o (λ file. file ≡ read.text ++ drop count file) → IfSome o (IsUnscheduled levels line refusal)
+      by : (o : Option (List ℕ)) → IfSome o (λ file. file ≡ read.text ++ drop count file) → IfSome o (IsUnscheduled levels made line refusal)
       by None front = tt
       by (Some file) front =
-          let refused : schedule_of (shape_view levels) 0 (read.text ++ drop count file) ≡ Err (line, refusal) = refused_text (shape_view levels) (read.text ++ drop count file) line refusal (refused_stays (shape_view levels) read.text (drop count file) line refusal here) in
-          subst (IsUnscheduled levels line refusal) (sym front) refused
+          let refused : schedule_of (shape_view levels) made (read.text ++ drop count file) ≡ Err (line, refusal) = refused_text (shape_view levels) made (read.text ++ drop count file) line refusal (refused_stays (shape_view levels) made read.text (drop count file) line refusal here) in
+          subst (IsUnscheduled levels made line refusal) (sym front) refused
 
     -- ---- the end of the file
 
@@ -118,21 +118,18 @@ module _ (levels : List (List ℕ)) (told : Option (List ℕ)) where
         by None front part = tt
         by (Some file) front part = front ∙ ap (λ t. read.text ++ t) (part.ends none) ∙ append-nil read.text
 
-      accepts : finish_of reader.standing ≡ Ok tt → schedule_of (shape_view levels) 0 read.text ≡ Ok turns
-      accepts e = finish_accepts (shape_view levels) read.text (ap finish_of (sym standing_is) ∙ e) ∙ ap Ok (sym read.turns_are)
+      accepts : finish_of reader.standing ≡ Ok tt → schedule_of (shape_view levels) made read.text ≡ Ok turns
+      accepts e = finish_accepts (shape_view levels) made read.text (ap finish_of (sym standing_is) ∙ e) ∙ ap Ok (sym read.turns_are)
 
-      pub accepted_read : finish_of reader.standing ≡ Ok tt → AcceptedAs (turns_at levels) told turns
+      pub accepted_read : finish_of reader.standing ≡ Ok tt → AcceptedAs (turns_at levels made) told turns
       unfolding turns_at
       accepted_read e = by told whole where
-        by : (o : Option (List ℕ)) → IfSome o (λ file. file ≡ read.text) → AcceptedAs (turns_at levels) o turns
+        by : (o : Option (List ℕ)) → IfSome o (λ file. file ≡ read.text) → AcceptedAs (turns_at levels made) o turns
         by None same = tt
         by (Some file) same = rw (same, accepts e) refl
 
-      pub given_read : finish_of reader.standing ≡ Ok tt → GivesTurnsOf (shape_view levels) 0 turns
-      given_read e = turns-schedule_of (shape_view levels) 0 read.text turns (omega arith) (accepts e)
-
-      pub unended_read : (line : ℕ) (refusal : ScheduleRefusal) → finish_of reader.standing ≡ Err (line, refusal) → IfSome told (IsUnscheduled levels line refusal)
+      pub unended_read : (line : ℕ) (refusal : ScheduleRefusal) → finish_of reader.standing ≡ Err (line, refusal) → IfSome told (IsUnscheduled levels made line refusal)
       unended_read line refusal e = by told whole where
-        by : (o : Option (List ℕ)) → IfSome o (λ file. file ≡ read.text) → IfSome o (IsUnscheduled levels line refusal)
+        by : (o : Option (List ℕ)) → IfSome o (λ file. file ≡ read.text) → IfSome o (IsUnscheduled levels made line refusal)
         by None same = tt
-        by (Some file) same = rw same (finish_refuses (shape_view levels) read.text line refusal (ap finish_of (sym standing_is) ∙ e))
+        by (Some file) same = rw same (finish_refuses (shape_view levels) made read.text line refusal (ap finish_of (sym standing_is) ∙ e))

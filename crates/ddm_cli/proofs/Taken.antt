@@ -33,7 +33,7 @@ use Rattle.ddm_cli.specs.Top.{AcceptsParts, AcceptsRun, Both, HasText, NoRun, Re
 use Rattle.ddm_cli.specs.declared.command.Prints.{Prints}
 use Rattle.ddm_cli.specs.declared.command.Prints.TheVariants.{Report, Trace, Summary}
 use Rattle.ddm_cli.specs.declared.status.Status.{Status}
-use Rattle.ddm_cli.specs.declared.status.Status.TheVariants.{Done, Usage, ImageLoad, ImageBuild, Tree, Schedule, Witness, SmallLists, ReadFault, WriteFault, NoMemory}
+use Rattle.ddm_cli.specs.declared.status.Status.TheVariants.{Done, Usage, ImageLoad, ImageBuild, Tree, Schedule, Witness, Checkpoint, SmallLists, ReadFault, WriteFault, NoMemory}
 use Rattle.report.proofs.Written.{rose_before}
 use Rattle.ddm_cli.proofs.Causes.{parts_are, takes_parts}
 use Rattle.ddm_cli.proofs.Judged.{parts_taken}
@@ -103,15 +103,15 @@ ok_besides (Err e) P Q L f holds large = tt
 
 -- ---- a schedule file as the source of turns
 
-pub file_accepted : (levels : List (List ℕ)) (told : Option (List ℕ)) (turns : List Turn) → AcceptedAs (turns_at levels) told turns → AcceptedAs (turns_of levels) (option_map written told) turns
+pub file_accepted : (levels : List (List ℕ)) (told : Option (List ℕ)) (turns : List Turn) → AcceptedAs (turns_at levels 0) told turns → AcceptedAs (turns_of levels) (option_map written told) turns
 file_accepted levels None turns taken = tt
 file_accepted levels (Some f) turns taken = taken
 
-pub file_refused : (levels : List (List ℕ)) (told : Option (List ℕ)) (line : ℕ) (r : ScheduleRefusal) → IfSome told (IsUnscheduled levels line r) → IfSome (option_map written told) (IsRefused levels line r)
+pub file_refused : (levels : List (List ℕ)) (told : Option (List ℕ)) (line : ℕ) (r : ScheduleRefusal) → IfSome told (IsUnscheduled levels 0 line r) → IfSome (option_map written told) (IsRefused levels line r)
 file_refused levels None line r refused = tt
 file_refused levels (Some f) line r refused = refused
 
-pub file_caused : (levels : List (List ℕ)) (told : Option (List ℕ)) (before now : ℕ) (s : Status) → ScheduleCause (IsUnscheduled levels) told before now s → ScheduleCause (IsRefused levels) (option_map written told) before now s
+pub file_caused : (levels : List (List ℕ)) (told : Option (List ℕ)) (before now : ℕ) (s : Status) → ScheduleCause (IsUnscheduled levels 0) told before now s → ScheduleCause (IsRefused levels) (option_map written told) before now s
 file_caused levels told before now (Schedule line r) cause = file_refused levels told line r cause
 file_caused levels told before now (ReadFault ScheduleFile) cause = cause
 file_caused levels told before now (ReadFault TreeFile) cause = absurd cause
@@ -125,6 +125,7 @@ file_caused levels told before now (ImageLoad r) cause = absurd cause
 file_caused levels told before now (ImageBuild r) cause = absurd cause
 file_caused levels told before now (Tree r) cause = absurd cause
 file_caused levels told before now (Witness r) cause = absurd cause
+file_caused levels told before now (Checkpoint r) cause = absurd cause
 file_caused levels told before now (SmallLists key) cause = absurd cause
 file_caused levels told before now WriteFault cause = absurd cause
 
@@ -163,4 +164,5 @@ module _ {F : Type 0} (told : F → List ℕ → Option (List ℕ)) (faults : F 
   ran_refused (ImageBuild r) cause = absurd cause.1
   ran_refused (Tree r) cause = absurd cause.1
   ran_refused (Witness r) cause = absurd cause.1
+  ran_refused (Checkpoint r) cause = absurd cause.1
   ran_refused WriteFault cause = absurd cause.1

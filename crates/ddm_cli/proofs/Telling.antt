@@ -13,7 +13,7 @@ use Rattle.ddm_cli.specs.Printed.{Writes}
 use Rattle.ddm_cli.specs.Refusals.{tree_line, tree_line_head, tree_line_rest}
 use Rattle.ddm_cli.specs.Top.{Offers, fault_line, line_head, line_rest}
 use Rattle.ddm_cli.specs.declared.status.Status.{Status}
-use Rattle.ddm_cli.specs.declared.status.Status.TheVariants.{Done, Usage, ImageLoad, ImageBuild, Tree, Schedule, Witness, SmallLists, ReadFault, WriteFault, NoMemory}
+use Rattle.ddm_cli.specs.declared.status.Status.TheVariants.{Done, Usage, ImageLoad, ImageBuild, Tree, Schedule, Witness, Checkpoint, SmallLists, ReadFault, WriteFault, NoMemory}
 
 -- what two calls in a row wrote
 pub writes_of : {E : Type 0} (old new : Option (List ℕ)) (a : List ℕ) (w : Result (Unit {0}) E) → OnOk w (Appends old new a) → OnErr w (AppendsPart old new a) → Writes old new a w
@@ -52,6 +52,7 @@ line_parts (ImageLoad r) = sym (append-nil _)
 line_parts (ImageBuild r) = sym (append-nil _)
 line_parts (Schedule line r) = sym (append-nil _)
 line_parts (Witness r) = sym (append-nil _)
+line_parts (Checkpoint r) = sym (append-nil _)
 line_parts (SmallLists key) = sym (append-nil _)
 line_parts (ReadFault role) = sym (append-nil _)
 line_parts WriteFault = sym (append-nil _)

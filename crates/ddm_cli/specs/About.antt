@@ -20,6 +20,8 @@ about_text about.Help = lines_of (
     codes "  ddm check IMAGE TREE WITNESS     whether a witness is one legal run of the flat machine" ∷
     codes "  ddm unjam IMAGE TREE SCHEDULE    the turn of a bus that goes on where a leaf waits" ∷
     codes "  ddm save IMAGE TREE SCHEDULE     the checkpoint of the machine after a run" ∷
+    codes "  ddm resume IMAGE TREE CHECKPOINT SCHEDULE" ∷
+    codes "                                   the report of a run that goes on from a checkpoint" ∷
     codes "  ddm outcomes IMAGE TREE FIRST COUNT TURNS" ∷
     codes "                                   what the runs of many seeds come to" ∷
     codes "  ddm help COMMAND                 more of one of these" ∷
@@ -61,6 +63,11 @@ about_text about.Unjam = lines_of (
 about_text about.Save = lines_of (
     codes "ddm save IMAGE TREE SCHEDULE" ∷
     codes "Makes the turns as run does, and puts out the checkpoint: the bytes of a file that tells the machine and its counts." ∷
+    [])
+about_text about.Resume = lines_of (
+    codes "ddm resume IMAGE TREE CHECKPOINT SCHEDULE" ∷
+    codes "Makes the turns of a schedule file on the machine of a checkpoint of the same image and tree, and prints the report" ∷
+    codes "of all turns together: those before the checkpoint are counted, and with them there are at most 1048576." ∷
     [])
 about_text about.Outcomes = lines_of (
     codes "ddm outcomes IMAGE TREE FIRST COUNT TURNS" ∷

@@ -1,8 +1,9 @@
 -- Why a file gave nothing, by the status that says so. A file of which nothing is told may be of any kind.
 use Rattle.std.specs.Prelude.{◌≡◌, ℕ, List, Option, Some, None, IsSome, IfSome, IsSomeAnd, IsOkAnd, Result, Err}
 use Rattle.ddm_outside.specs.Causes.{Rose}
-use Rattle.report.specs.declared.roles.FileRole.TheVariants.{ImageFile, TreeFile, ScheduleFile, WitnessFile}
+use Rattle.report.specs.declared.roles.FileRole.TheVariants.{ImageFile, TreeFile, ScheduleFile, WitnessFile, CheckpointFile}
 use Rattle.tree_model.specs.Start.Sources.{TreeValue, ImageValue}
+use Rattle.tree_model.specs.State.Values.{MachineValue}
 use Rattle.elf_load.specs.ElfFile.{image_of}
 use Rattle.elf_load.specs.declared.refusal.ImageRefusal.{ImageRefusal}
 use Rattle.tree_config.specs.TreeFile.{tree_of}
@@ -10,6 +11,8 @@ use Rattle.tree_config.specs.declared.refusal.TreeKey.{TreeKey}
 use Rattle.run_engine.specs.Build.{build_refusal}
 use Rattle.run_engine.specs.declared.refusal.BuildRefusal.{BuildRefusal}
 use Rattle.run_engine.specs.declared.refusal.BuildRefusal.TheVariants.{NoPlace}
+use Rattle.checkpoint.specs.Resumed.{resumed}
+use Rattle.checkpoint.specs.declared.ResumeRefusal.{ResumeRefusal}
 use Rattle.text_model.specs.Schedule.{schedule_of}
 use Rattle.text_model.specs.declared.ScheduleRefusal.{ScheduleRefusal}
 use Rattle.schedule_log.specs.Shapes.{shape_view}
@@ -22,7 +25,7 @@ use Rattle.ddm_cli.specs.Parts.{items_of, parts_in}
 use Rattle.ddm_cli.specs.Told.{ScheduleGiven, written, seeded}
 use Rattle.ddm_cli.specs.declared.command.Prints.{Prints}
 use Rattle.ddm_cli.specs.declared.status.Status.{Status}
-use Rattle.ddm_cli.specs.declared.status.Status.TheVariants.{ImageLoad, ImageBuild, Tree, Schedule, Witness, SmallLists, ReadFault, NoMemory}
+use Rattle.ddm_cli.specs.declared.status.Status.TheVariants.{ImageLoad, ImageBuild, Tree, Schedule, Witness, Checkpoint, SmallLists, ReadFault, NoMemory}
 
 -- where a file is told, it is accepted
 abbrev pub Accepts : {A B : Type 0} → (A → Option B) → Option A → Type 0
@@ -68,13 +71,13 @@ ImageCause t told before now s = NoImage t told before now s
 
 -- ---- the schedule, for a tree with these levels
 
--- a schedule file is refused in this line
-abbrev pub IsUnscheduled : List (List ℕ) → ℕ → ScheduleRefusal → List ℕ → Type 0
-IsUnscheduled levels line r file = schedule_of (shape_view levels) 0 file ≡ Err (line, r)
+-- a schedule file is refused in this line, where so many turns were made before
+abbrev pub IsUnscheduled : List (List ℕ) → ℕ → ℕ → ScheduleRefusal → List ℕ → Type 0
+IsUnscheduled levels made line r file = schedule_of (shape_view levels) made file ≡ Err (line, r)
 
 -- a seeded schedule never is
 abbrev pub IsRefused : List (List ℕ) → ℕ → ScheduleRefusal → ScheduleGiven → Type 0
-IsRefused levels line r (written file) = IsUnscheduled levels line r file
+IsRefused levels line r (written file) = IsUnscheduled levels 0 line r file
 IsRefused levels line r (seeded seed count) = ⊥
 
 -- what is said of a schedule, with the way it is refused
@@ -83,6 +86,17 @@ ScheduleCause refused told before now (Schedule line r) = IfSome told (refused l
 ScheduleCause refused told before now (ReadFault ScheduleFile) = Rose before now
 ScheduleCause refused told before now NoMemory = Unit {0}
 ScheduleCause refused told before now _ = ⊥
+
+-- ---- the checkpoint, for a machine before its first turn
+
+abbrev pub IsUnresumed : MachineValue → ResumeRefusal → List ℕ → Type 0
+IsUnresumed m r file = resumed m file ≡ Err r
+
+abbrev pub CheckpointCause : MachineValue → Option (List ℕ) → ℕ → ℕ → Status → Type 0
+CheckpointCause m told before now (Checkpoint r) = IfSome told (IsUnresumed m r)
+CheckpointCause m told before now (ReadFault CheckpointFile) = Rose before now
+CheckpointCause m told before now NoMemory = Unit {0}
+CheckpointCause m told before now _ = ⊥
 
 -- ---- the lists, which are judged before the schedule
 

@@ -1,6 +1,6 @@
 use Rattle.std.specs.Prelude.{ℕ}
 use Rattle.ddm_cli.specs.declared.status.Status.{Status}
-use Rattle.ddm_cli.specs.declared.status.Status.TheVariants.{Done, Usage, ImageLoad, ImageBuild, Tree, Schedule, Witness, SmallLists, ReadFault, WriteFault, NoMemory}
+use Rattle.ddm_cli.specs.declared.status.Status.TheVariants.{Done, Usage, ImageLoad, ImageBuild, Tree, Schedule, Witness, Checkpoint, SmallLists, ReadFault, WriteFault, NoMemory}
 
 -- the number of each status
 abbrev pub exit_code : Status → ℕ
@@ -14,4 +14,5 @@ exit_code (ReadFault role) = 6
 exit_code WriteFault = 7
 exit_code NoMemory = 8
 exit_code (Witness r) = 10
+exit_code (Checkpoint r) = 11
 exit_code (SmallLists key) = 12

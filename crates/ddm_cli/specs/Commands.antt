@@ -43,6 +43,13 @@ pub record Check : Type 0 where
   pub tree : List ℕ
   pub witness : List ℕ
 
+-- what a run goes on from: the files of an image, of a tree, of a checkpoint and of a schedule with the rest of the turns
+pub record Resumption : Type 0 where
+  pub image : List ℕ
+  pub tree : List ℕ
+  pub checkpoint : List ℕ
+  pub schedule : List ℕ
+
 -- whose outcomes are counted: the files of an image and of a tree, the first seed, how many there are, and how many turns each makes
 pub record Seeds : Type 0 where
   pub image : List ℕ
@@ -58,6 +65,8 @@ pub data Command : Type 0 where
   to_list : List ℕ → ℕ → ℕ → Command
   -- to judge a witness
   to_check : Check → Command
+  -- to go on with a run
+  to_resume : Resumption → Command
   -- to count the outcomes of many seeds
   to_survey : Seeds → Command
   -- to say something of the program itself
@@ -68,6 +77,9 @@ run_value image tree turns = record { image = image; tree = tree; turns = turns 
 
 abbrev check_value : List ℕ → List ℕ → List ℕ → Check
 check_value image tree witness = record { image = image; tree = tree; witness = witness }
+
+abbrev resumption_value : List ℕ → List ℕ → List ℕ → List ℕ → Resumption
+resumption_value image tree checkpoint schedule = record { image = image; tree = tree; checkpoint = checkpoint; schedule = schedule }
 
 abbrev seeds_value : List ℕ → List ℕ → ℕ → ℕ → ℕ → Seeds
 seeds_value image tree first count turns = record { image = image; tree = tree; first = first; count = count; turns = turns }
@@ -85,6 +97,7 @@ abbrev pub IsInRange : Command → Type 0
 IsInRange (to_run prints r) = IsMakeable r.image × AreFew r.turns
 IsInRange (to_list tree seed count) = count ≤ 1048576
 IsInRange (to_check c) = Unit {0}
+IsInRange (to_resume r) = Unit {0}
 IsInRange (to_survey s) = (1 ≤ s.count) × (s.count ≤ 1000000) × (s.first + s.count ≤ 18446744073709551616) × (s.turns ≤ 1048576)
 IsInRange (to_say a) = Unit {0}
 
@@ -145,6 +158,12 @@ unfoldable pub file_check : List (List ℕ) → Result Command ℕ
 file_check words =
     word_at words 1 (λ image. word_at words 2 (λ tree. word_at words 3 (λ witness. ends_at words 4 (to_check (check_value image tree witness)))))
 
+-- resume IMAGE TREE CHECKPOINT SCHEDULE
+unfoldable pub file_resume : List (List ℕ) → Result Command ℕ
+file_resume words =
+    word_at words 1 (λ image. word_at words 2 (λ tree. word_at words 3 (λ checkpoint. word_at words 4 (λ schedule.
+    ends_at words 5 (to_resume (resumption_value image tree checkpoint schedule))))))
+
 -- outcomes IMAGE TREE FIRST COUNT TURNS
 unfoldable pub seeds_survey : List (List ℕ) → Result Command ℕ
 seeds_survey words =
@@ -162,8 +181,9 @@ about_named name =
     else (if bytes_eq name (codes "check") then Some about.Check
     else (if bytes_eq name (codes "unjam") then Some about.Unjam
     else (if bytes_eq name (codes "save") then Some about.Save
+    else (if bytes_eq name (codes "resume") then Some about.Resume
     else (if bytes_eq name (codes "outcomes") then Some about.Outcomes
-    else None))))))))
+    else None)))))))))
 
 -- help COMMAND
 unfoldable pub help_said : List (List ℕ) → Result Command ℕ
@@ -179,11 +199,12 @@ named_command words name =
     else (if bytes_eq name (codes "check") then file_check words
     else (if bytes_eq name (codes "unjam") then file_run Unjamming words
     else (if bytes_eq name (codes "save") then file_run Checkpoint words
+    else (if bytes_eq name (codes "resume") then file_resume words
     else (if bytes_eq name (codes "outcomes") then seeds_survey words
     else (if bytes_eq name (codes "help") then help_said words
     else (if bytes_eq name (codes "--help") then ends_at words 1 (to_say about.Help)
     else (if bytes_eq name (codes "--version") then ends_at words 1 (to_say about.Version)
-    else Err 0)))))))))))
+    else Err 0))))))))))))
 
 unfoldable pub command_of : List (List ℕ) → Result Command ℕ
 command_of words = word_at words 0 (named_command words)

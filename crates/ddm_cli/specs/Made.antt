@@ -1,14 +1,15 @@
 -- What turns came to that were made piece by piece.
 -- Letters: s is a machine before them.
-use Rattle.std.specs.Prelude.{◌≡◌, ℕ, ◌+◌, ◌≤◌, Bool, List, [], length, Option, if◌then◌else◌}
+use Rattle.std.specs.Prelude.{◌≡◌, ℕ, ◌+◌, ◌≤◌, All, Bool, List, [], length, Option, if◌then◌else◌}
 use Rattle.ddm_types.specs.declared.turns.Turn.{Turn}
 use Rattle.tree_model.specs.Turns.Machine.{run_of}
 use Rattle.text_model.specs.declared.RunCounts.{RunCounts}
+use Rattle.text_model.specs.ReadBack.{IsTurnOf}
 use Rattle.text_model.specs.Run.{counts_of}
+use Rattle.any_machine.specs.Run.{AreBelow, NameParts}
+use Rattle.schedule_log.specs.Shapes.{shape_view}
 use Rattle.ddm_tree.specs.Machine.{MachineState}
 use Rattle.ddm_cli.specs.Causes.{AcceptedAs}
-use Rattle.ddm_cli.specs.Parts.{turns_of}
-use Rattle.ddm_cli.specs.Told.{ScheduleGiven}
 use Rattle.ddm_cli.specs.declared.making.Made.{Made}
 
 -- the counts of turns and of more turns
@@ -22,16 +23,24 @@ pub record CanCount (c d : RunCounts) : Type 0 where
   pub granted : c.granted + d.granted ≤ 4294967295
   pub busy : c.busy + d.busy ≤ 4294967295
 
--- These turns were made of a machine: machine and counts are those of their run, and for a trace turns and answers are kept.
-pub record HasMade (keep : Bool) (s after : MachineState) (made : Made) (turns : List Turn) : Type 0 where
+-- A machine can go on with turns of a tree with these levels, where the turns so far came to this: each turn of the tree names a part
+-- of it, and all of them can be counted.
+pub record CanGoOn (levels : List (List ℕ)) (first : RunCounts) (s : MachineState) : Type 0 where
+  pub names : (turns : List Turn) → All (IsTurnOf (shape_view levels)) turns → NameParts turns s.machine
+  pub few : s.turns ≤ 1048576
+  pub counted : AreBelow 1048577 first
+
+-- These turns were made of a machine, whose turns before came to `first`: machine and counts are those of their run, and for a trace
+-- turns and answers are kept.
+pub record HasMade (first : RunCounts) (keep : Bool) (s after : MachineState) (made : Made) (turns : List Turn) : Type 0 where
   pub machine : after.machine ≡ (run_of turns s.machine).machine
   pub number : after.turns ≡ s.turns + length turns
-  pub counts : made.counts ≡ counts_of (run_of turns s.machine).answers
+  pub counts : made.counts ≡ counts_plus first (counts_of (run_of turns s.machine).answers)
   pub turns_kept : made.turns.items ≡ (if keep then turns else [])
   pub answers_kept : made.answers.items ≡ (if keep then (run_of turns s.machine).answers else [])
 
 -- and they are all that the schedule has, where it is told
-pub record HasAllMade (levels : List (List ℕ)) (told : Option ScheduleGiven) (keep : Bool) (s after : MachineState) (made : Made) : Type 0 where
+pub record HasAllMade {A : Type 0} (judge : A → Option (List Turn)) (told : Option A) (first : RunCounts) (keep : Bool) (s after : MachineState) (made : Made) : Type 0 where
   pub turns : List Turn
-  pub accepted : AcceptedAs (turns_of levels) told turns
-  pub all : HasMade keep s after made turns
+  pub accepted : AcceptedAs judge told turns
+  pub all : HasMade first keep s after made turns

@@ -5,12 +5,13 @@ use Rattle.ddm_types.specs.declared.turns.Turn.{Turn}
 use Rattle.ddm_types.specs.ItemTable.{item_count}
 use Rattle.tree_model.specs.Start.Sources.{TreeValue, ImageValue}
 use Rattle.tree_model.specs.Start.Memory.{start_items}
-use Rattle.tree_model.specs.Start.Machine.{start_refusal}
+use Rattle.tree_model.specs.Start.Machine.{start_machine, start_refusal}
 use Rattle.ddm_tree.specs.Machine.{MachineState}
 use Rattle.elf_load.specs.ElfFile.{image_of}
 use Rattle.elf_load.specs.declared.refusal.ImageRefusal.{ImageRefusal}
 use Rattle.tree_config.specs.TreeFile.{tree_of}
 use Rattle.run_engine.specs.Started.{started}
+use Rattle.checkpoint.specs.Resumed.{Resumed, resumed}
 use Rattle.text_model.specs.Schedule.{schedule_of}
 use Rattle.text_model.specs.Seeded.{seeded_turns}
 use Rattle.schedule_log.specs.Shapes.{shape_view}
@@ -61,13 +62,17 @@ pub record IsStart (t : TreeValue) (i : ImageValue) (s : MachineState) : Type 0 
 abbrev pub HasStart : TreeValue → MachineState → Type 0
 HasStart t s = (i : ImageValue) × IsStart t i s
 
--- the turns of a schedule file that is accepted for a tree with these levels
-unfoldable pub turns_at : List (List ℕ) → List ℕ → Option (List Turn)
-turns_at levels file = result_ok (schedule_of (shape_view levels) 0 file)
+-- the machine and the counts of a checkpoint that is accepted for these parts
+unfoldable pub resumed_at : Parts → List ℕ → Option Resumed
+resumed_at p checkpoint = result_ok (resumed (start_machine p.tree p.image) checkpoint)
+
+-- the turns of a schedule file that is accepted for a tree with these levels, where so many turns were made before
+unfoldable pub turns_at : List (List ℕ) → ℕ → List ℕ → Option (List Turn)
+turns_at levels made file = result_ok (schedule_of (shape_view levels) made file)
 
 -- the turns of a schedule, a seeded one too
 abbrev pub turns_of : List (List ℕ) → ScheduleGiven → Option (List Turn)
-turns_of levels (written file) = turns_at levels file
+turns_of levels (written file) = turns_at levels 0 file
 turns_of levels (seeded seed count) = Some (seeded_turns (shape_view levels) seed count)
 
 -- ---- what a witness is judged for

@@ -11,7 +11,9 @@ use Rattle.text_model.specs.Schedule.{turn_text}
 use Rattle.text_model.specs.Trace.{trace_text}
 use Rattle.jam_laws.specs.GoesOn.{unjamming_turn}
 use Rattle.report.specs.Appends.{Appends, AppendsPart}
+use Rattle.checkpoint.specs.Resumed.{Resumed}
 use Rattle.checkpoint.specs.Saved.{saved}
+use Rattle.ddm_cli.specs.Made.{counts_plus}
 use Rattle.ddm_cli.specs.declared.command.Prints.{Prints}
 use Rattle.ddm_cli.specs.declared.making.Made.{Made}
 use Rattle.ddm_cli.specs.declared.command.Prints.TheVariants.{Report, Trace, Summary, Unjamming, Checkpoint}
@@ -36,6 +38,12 @@ printed Trace depth turns m = trace_and_report_of depth turns m
 printed Summary depth turns m = summary_text_of depth turns m
 printed Unjamming depth turns m = unjam_text_of turns m
 printed Checkpoint depth turns m = saved_after turns m
+
+-- the report after these turns of a machine that a checkpoint gave, with what its turns before came to
+unfoldable pub resumed_report : List Turn → Resumed → List ℕ
+resumed_report turns r =
+    let run = run_of turns r.machine in
+    report_of (view_of (depth_of r.machine) (counts_plus r.counts (counts_of run.answers)) run.machine)
 
 -- a trace needs the turns and their answers
 abbrev pub is_trace : Prints → Bool

@@ -1,6 +1,6 @@
 -- The fault lines of refusals: each by its name and its numbers, or by a key.
 use Rattle.std.specs.Prelude.{ℕ, List, [], ◌∷◌, ◌++◌, codes}
-use Rattle.text_model.specs.Faults.{image_fault, shown_key, tree_fault, tree_key_fault, unknown_key_fault, witness_fault, witness_line_fault}
+use Rattle.text_model.specs.Faults.{checkpoint_fault, image_fault, shown_key, tree_fault, tree_key_fault, unknown_key_fault, witness_fault, witness_line_fault}
 use Rattle.elf_load.specs.declared.refusal.ImageRefusal.{ImageRefusal}
 use Rattle.elf_load.specs.declared.refusal.ImageRefusal.TheVariants as image
 use Rattle.tree_config.specs.TreeFile.{key_name}
@@ -9,6 +9,8 @@ use Rattle.tree_config.specs.declared.refusal.TreeRefusal.{TreeRefusal}
 use Rattle.tree_config.specs.declared.refusal.TreeRefusal.TheVariants as tree
 use Rattle.run_engine.specs.declared.refusal.BuildRefusal.{BuildRefusal}
 use Rattle.run_engine.specs.declared.refusal.BuildRefusal.TheVariants as build
+use Rattle.checkpoint.specs.declared.ResumeRefusal.{ResumeRefusal}
+use Rattle.checkpoint.specs.declared.ResumeRefusal.TheVariants as resume
 use Rattle.witness_check.specs.declared.refusal.CheckRefusal.{CheckRefusal}
 use Rattle.witness_check.specs.declared.refusal.CheckRefusal.TheVariants as check
 
@@ -77,6 +79,21 @@ witness_line (check.NotLegal n) = witness_line_fault n (codes "NotLegal")
 witness_line (check.TooManyItems n) = build_line (build.TooManyItems n)
 witness_line (check.StackOverlap hart header) = build_line (build.StackOverlap hart header)
 witness_line check.NoMemory = witness_fault (codes "NoMemory")
+
+-- of a checkpoint
+abbrev pub checkpoint_line : ResumeRefusal → List ℕ
+checkpoint_line resume.TooLong = checkpoint_fault (codes "TooLong") []
+checkpoint_line resume.NotCheckpoint = checkpoint_fault (codes "NotCheckpoint") []
+checkpoint_line (resume.WrongVersion n) = checkpoint_fault (codes "WrongVersion") (n ∷ [])
+checkpoint_line (resume.Cut k) = checkpoint_fault (codes "Cut") (k ∷ [])
+checkpoint_line (resume.OtherMachine k) = checkpoint_fault (codes "OtherMachine") (k ∷ [])
+checkpoint_line (resume.BadWord k) = checkpoint_fault (codes "BadWord") (k ∷ [])
+checkpoint_line resume.AfterEnd = checkpoint_fault (codes "AfterEnd") []
+checkpoint_line (resume.BrokenLeaf leaf) = checkpoint_fault (codes "BrokenLeaf") (leaf ∷ [])
+checkpoint_line (resume.BrokenRule bus item) = checkpoint_fault (codes "BrokenRule") (bus ∷ item ∷ [])
+checkpoint_line (resume.BrokenStamp bus) = checkpoint_fault (codes "BrokenStamp") (bus ∷ [])
+checkpoint_line (resume.BrokenKey op) = checkpoint_fault (codes "BrokenKey") (op ∷ [])
+checkpoint_line resume.NoMemory = checkpoint_fault (codes "NoMemory") []
 
 -- of lists that are too small, by the key of the first
 abbrev pub small_lists_line : TreeKey → List ℕ

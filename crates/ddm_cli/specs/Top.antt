@@ -1,13 +1,15 @@
 -- What a command answers, and why.
-use Rattle.std.specs.Prelude.{◌≡◌, ◌⊎◌, ℕ, List, [], length, Option, Some, IsSome, IfSome, option_and_then, option_map, IfOk, Result, Ok, Err, IsOkAnd}
+use Rattle.std.specs.Prelude.{◌≡◌, ◌⊎◌, ℕ, List, [], length, take, Option, Some, IsSome, IfSome, option_and_then, option_map, IfOk, Result, Ok, Err, IsOkAnd}
 use Rattle.std.specs.List.{AllByRecursion}
 use Rattle.std.specs.Result.{result_ok}
 use Rattle.ddm_types.specs.declared.turns.Turn.{Turn}
 use Rattle.tree_model.specs.Start.Sources.{TreeValue}
+use Rattle.tree_model.specs.State.Shape.{IsShaped}
+use Rattle.tree_model.specs.Turns.Machine.{run_of}
 use Rattle.tree_model.specs.Start.Machine.{flat_start_of, start_machine}
-use Rattle.tree_rules.specs.Witness.{EachTurnWitnessed}
+use Rattle.tree_rules.specs.Witness.{EachTurnWitnessed, IsWitnessed}
 use Rattle.text_model.specs.Faults.{usage_fault, schedule_fault, read_fault, write_fault, memory_fault}
-use Rattle.text_model.specs.Run.{EachOutputWitnessed}
+use Rattle.text_model.specs.Run.{EachOutputWitnessed, HasWitnessedOutput}
 use Rattle.text_model.specs.Schedule.{schedule_text}
 use Rattle.text_model.specs.Seeded.{seeded_turns}
 use Rattle.text_model.specs.declared.ScheduleRefusal.{ScheduleRefusal}
@@ -18,22 +20,25 @@ use Rattle.report.specs.declared.roles.FileRole.TheVariants.{ImageFile, TreeFile
 use Rattle.ddm_outside.specs.Causes.{Rose}
 use Rattle.schedule_log.specs.Shapes.{shape_view}
 use Rattle.tree_config.specs.TreeFile.{tree_of}
+use Rattle.ddm_tree.specs.Rules.{KeepsRules, StaysInOrder}
+use Rattle.checkpoint.specs.Resumed.{Resumed}
+use Rattle.checkpoint.specs.declared.ResumeRefusal.{ResumeRefusal}
 use Rattle.witness_check.specs.Start.{Setting, check_of}
 use Rattle.witness_check.specs.declared.refusal.CheckRefusal.{CheckRefusal}
 use Rattle.ddm_cli.specs.About.{about_text}
-use Rattle.ddm_cli.specs.Causes.{Accepts, HasNoSetting, HasSmallList, IsRefused, IsUnloaded, IsUnstarted, TreeCause}
+use Rattle.ddm_cli.specs.Causes.{Accepts, HasNoSetting, HasSmallList, IsRefused, IsUnloaded, IsUnresumed, IsUnscheduled, IsUnstarted, TreeCause}
 use Rattle.outcome_model.specs.FlatOutcome.{IsLegalOutcome}
 use Rattle.outcome_model.specs.Outcomes.{outcome_table, outcomes_text}
 use Rattle.outcome_model.specs.Table.{OutcomeLine}
-use Rattle.ddm_cli.specs.Commands.{Check, Command, ImageFrom, Run, Seeds, TurnsFrom, to_run, to_list, to_check, to_survey, to_say, command_of, first_run}
-use Rattle.ddm_cli.specs.Parts.{Parts, parts_for, parts_of, setting_at, tree_at, turns_of}
-use Rattle.ddm_cli.specs.Printed.{Writes, legal_line, printed}
-use Rattle.ddm_cli.specs.Refusals.{build_line, image_line, small_lists_line, tree_line, tree_line_head, tree_line_rest, witness_line}
+use Rattle.ddm_cli.specs.Commands.{Check, Command, ImageFrom, Resumption, Run, Seeds, TurnsFrom, to_run, to_list, to_check, to_resume, to_survey, to_say, command_of, first_run}
+use Rattle.ddm_cli.specs.Parts.{Parts, parts_for, parts_of, resumed_at, setting_at, tree_at, turns_at, turns_of}
+use Rattle.ddm_cli.specs.Printed.{Writes, legal_line, printed, resumed_report}
+use Rattle.ddm_cli.specs.Refusals.{build_line, checkpoint_line, image_line, small_lists_line, tree_line, tree_line_head, tree_line_rest, witness_line}
 use Rattle.ddm_cli.specs.Told.{ScheduleGiven, image_faults, image_told, schedule_faults, schedule_told}
 use Rattle.ddm_cli.specs.declared.command.Prints.{Prints}
 use Rattle.ddm_cli.specs.declared.command.Prints.TheVariants.{Report}
 use Rattle.ddm_cli.specs.declared.status.Status.{Status}
-use Rattle.ddm_cli.specs.declared.status.Status.TheVariants.{Done, Usage, ImageLoad, ImageBuild, Tree, Schedule, Witness, SmallLists, ReadFault, WriteFault, NoMemory}
+use Rattle.ddm_cli.specs.declared.status.Status.TheVariants.{Done, Usage, ImageLoad, ImageBuild, Tree, Schedule, Witness, Checkpoint, SmallLists, ReadFault, WriteFault, NoMemory}
 
 -- ---- the text
 
@@ -64,6 +69,18 @@ verdict_in witness s = option_map legal_line (result_ok (check_of s witness))
 abbrev pub verdict_of : List ℕ → List ℕ → List ℕ → Option (List ℕ)
 verdict_of tree image witness = option_and_then (verdict_in witness) (setting_at tree image)
 
+-- what is printed of the turns of a schedule that goes on from a machine and what its turns came to
+abbrev pub rest_with : List ℕ → List (List ℕ) → Resumed → Option (List ℕ)
+rest_with schedule levels r = option_map (λ turns. resumed_report turns r) (turns_at levels r.counts.turns schedule)
+
+-- of a checkpoint that is accepted for the parts
+abbrev pub resumed_with : List ℕ → List ℕ → Parts → Option (List ℕ)
+resumed_with checkpoint schedule p = option_and_then (rest_with schedule p.tree.levels) (resumed_at p checkpoint)
+
+-- what a tree, an image, a checkpoint and a schedule give
+abbrev pub resumed_text : List ℕ → List ℕ → List ℕ → List ℕ → Option (List ℕ)
+resumed_text tree image checkpoint schedule = option_and_then (resumed_with checkpoint schedule) (parts_of tree image)
+
 -- the outcomes of seeds of the machine of a tree and an image
 unfoldable pub outcomes_at : Seeds → Parts → List ℕ
 outcomes_at s p = outcomes_text (shape_view p.tree.levels) s.turns (start_machine p.tree p.image) s.first s.count
@@ -78,6 +95,8 @@ command_text told (to_run prints r) =
 command_text told (to_list tree seed count) = option_and_then (list_of seed count) (told tree)
 command_text told (to_check c) =
     option_and_then (λ tree. option_and_then (λ image. option_and_then (verdict_of tree image) (told c.witness)) (told c.image)) (told c.tree)
+command_text told (to_resume r) =
+    option_and_then (λ tree. option_and_then (λ image. option_and_then (λ checkpoint. option_and_then (resumed_text tree image checkpoint) (told r.schedule)) (told r.checkpoint)) (told r.image)) (told r.tree)
 command_text told (to_survey s) = option_and_then (λ tree. option_and_then (outcomes_of s tree) (told s.image)) (told s.tree)
 command_text told (to_say a) = Some (about_text a)
 
@@ -97,6 +116,14 @@ abbrev pub OutcomesAreRuns : Seeds → Parts → Type 0
 OutcomesAreRuns s p =
     let m = start_machine p.tree p.image in
     AllByRecursion (λ (l : OutcomeLine). IsLegalOutcome m.code m.items (flat_start_of p.tree p.image) l.outcome) (outcome_table (shape_view p.tree.levels) s.turns m s.first s.count)
+
+-- after each turn that a machine of a checkpoint makes
+pub record GoesOnInOrder (p : Parts) (r : Resumed) (turns : List Turn) : Type 0 where
+  -- where a run from the start comes to that machine, the operations of both together are in order
+  pub of_run : (first : List Turn) → r.machine ≡ (run_of first (start_machine p.tree p.image)).machine → (k : ℕ)
+      → IsWitnessed (flat_start_of p.tree p.image) (run_of (take k turns) r.machine).machine × HasWitnessedOutput (run_of (take k turns) r.machine).machine
+  -- and whatever it is, if it keeps the rules that every machine keeps: from whatever start its operations are in order, they stay so
+  pub stays : IsShaped r.machine → KeepsRules r.machine → (k : ℕ) → StaysInOrder r.machine (run_of (take k turns) r.machine).machine
 
 -- ---- the files
 
@@ -137,6 +164,40 @@ AcceptsSetting tree image = Accepts tree_at tree × Both tree image (λ t i. IsS
 abbrev pub IsJudged : Result ℕ CheckRefusal → Option (List ℕ) → Option (List ℕ) → Option (List ℕ) → Type 0
 IsJudged answer tree image witness = Both tree image (λ t i. IfSome witness (λ w. IfSome (setting_at t i) (λ s. check_of s w ≡ answer)))
 
+-- what holds of the parts of a tree and an image and of something else, where all are told
+abbrev pub WithParts : {A : Type 0} → Option (List ℕ) → Option (List ℕ) → Option A → (A → Parts → Type 0) → Type 0
+WithParts tree image other P = Both tree image (λ t i. IfSome other (λ o. IfSome (parts_of t i) (P o)))
+
+-- the tree and the image are accepted, and with them the checkpoint
+abbrev pub AcceptsCheckpoint : Option (List ℕ) → Option (List ℕ) → Option (List ℕ) → Type 0
+AcceptsCheckpoint tree image checkpoint = AcceptsParts Report tree image × WithParts tree image checkpoint (λ c p. IsSome (resumed_at p c))
+
+-- what holds of the parts, of the machine of a checkpoint that is accepted for them, and of a schedule, where all are told
+abbrev pub WithResumed : Option (List ℕ) → Option (List ℕ) → Option (List ℕ) → Option (List ℕ) → (Parts → Resumed → List ℕ → Type 0) → Type 0
+WithResumed tree image checkpoint schedule P = IfSome schedule (λ s. WithParts tree image checkpoint (λ c p. IfSome (resumed_at p c) (λ r. P p r s)))
+
+-- and with it the schedule, which goes on from its turns
+abbrev pub AcceptsRest : Option (List ℕ) → Option (List ℕ) → Option (List ℕ) → Option (List ℕ) → Type 0
+AcceptsRest tree image checkpoint schedule =
+    AcceptsCheckpoint tree image checkpoint × WithResumed tree image checkpoint schedule (λ p r s. IsSome (turns_at p.tree.levels r.counts.turns s))
+
+-- where all four are told, this is their text
+abbrev pub HasResumedText : Option (List ℕ) → Option (List ℕ) → Option (List ℕ) → Option (List ℕ) → List ℕ → Type 0
+HasResumedText tree image checkpoint schedule text = Both tree image (λ t i. IfSome checkpoint (λ c. IfSome schedule (λ s. resumed_text t i c s ≡ Some text)))
+
+-- the checkpoint is refused for the tree and the image, which are accepted
+abbrev pub RefusesCheckpoint : ResumeRefusal → Option (List ℕ) → Option (List ℕ) → Option (List ℕ) → Type 0
+RefusesCheckpoint r tree image checkpoint = AcceptsParts Report tree image × WithParts tree image checkpoint (λ c p. IsUnresumed (start_machine p.tree p.image) r c)
+
+-- the schedule is refused in a line, where it goes on from the turns of the checkpoint, which is accepted
+abbrev pub RefusesRest : ℕ → ScheduleRefusal → Option (List ℕ) → Option (List ℕ) → Option (List ℕ) → Option (List ℕ) → Type 0
+RefusesRest line refusal tree image checkpoint schedule =
+    AcceptsCheckpoint tree image checkpoint × WithResumed tree image checkpoint schedule (λ p r s. IsUnscheduled p.tree.levels r.counts.turns line refusal s)
+
+-- where all four are told and accepted, the run goes on in order
+abbrev pub RestInOrder : Option (List ℕ) → Option (List ℕ) → Option (List ℕ) → Option (List ℕ) → Type 0
+RestInOrder tree image checkpoint schedule = WithResumed tree image checkpoint schedule (λ p r s. IfSome (turns_at p.tree.levels r.counts.turns s) (GoesOnInOrder p r))
+
 -- ---- what a command reads
 
 module _ {F : Type 0} (told : F → List ℕ → Option (List ℕ)) where
@@ -149,6 +210,9 @@ module _ {F : Type 0} (told : F → List ℕ → Option (List ℕ)) where
   HasAccepted files text (to_check c) =
       AcceptsSetting (told files c.tree) (told files c.image)
       × ((lines : ℕ) × (text ≡ legal_line lines) × IsJudged (Ok lines) (told files c.tree) (told files c.image) (told files c.witness))
+  HasAccepted files text (to_resume r) =
+      AcceptsRest (told files r.tree) (told files r.image) (told files r.checkpoint) (told files r.schedule)
+      × HasResumedText (told files r.tree) (told files r.image) (told files r.checkpoint) (told files r.schedule) text
   HasAccepted files text (to_survey s) =
       AcceptsParts Report (told files s.tree) (told files s.image) × Both (told files s.tree) (told files s.image) (λ t i. outcomes_of s t i ≡ Some text)
   HasAccepted files text (to_say a) = text ≡ about_text a
@@ -161,11 +225,13 @@ module _ {F : Type 0} (told : F → List ℕ → Option (List ℕ)) where
   abbrev pub WritesAccepted : {E : Type 0} → F → Option (List ℕ) → Option (List ℕ) → Command → Result (Unit {0}) E → Type 0
   WritesAccepted files old new c result = (text : List ℕ) × HasAccepted files text c × Writes old new text result
 
-  -- where all that a run is made of is told and accepted, it is in order, and so are the runs of many seeds; other commands make none
+  -- where all that a run is made of is told and accepted, it is in order, and so are the runs of many seeds; one that goes on stays so;
+  -- other commands make none
   abbrev pub IsInOrder : F → Command → Type 0
   IsInOrder files (to_run prints r) = FilesInOrder (told files r.tree) (image_told (told files) r.image) (schedule_told (told files) r.turns)
   IsInOrder files (to_list tree seed count) = Unit {0}
   IsInOrder files (to_check c) = Unit {0}
+  IsInOrder files (to_resume r) = RestInOrder (told files r.tree) (told files r.image) (told files r.checkpoint) (told files r.schedule)
   IsInOrder files (to_survey s) = Both (told files s.tree) (told files s.image) (λ t i. IfSome (parts_of t i) (OutcomesAreRuns s))
   IsInOrder files (to_say a) = Unit {0}
 
@@ -221,12 +287,32 @@ module _ {F : Type 0} (told : F → List ℕ → Option (List ℕ)) where
     NoVerdict NoMemory c = Unit {0}
     NoVerdict _ c = ⊥
 
+    -- a file can't be read: the tree is read first, then the image, then the checkpoint, then the schedule
+    abbrev pub CantReadRest : FileRole → Resumption → Type 0
+    CantReadRest TreeFile r = FileFailed r.tree
+    CantReadRest ImageFile r = FileFailed r.image × Accepts tree_at (told files r.tree)
+    CantReadRest CheckpointFile r = FileFailed r.checkpoint × AcceptsParts Report (told files r.tree) (told files r.image)
+    CantReadRest ScheduleFile r = FileFailed r.schedule × AcceptsCheckpoint (told files r.tree) (told files r.image) (told files r.checkpoint)
+    CantReadRest WitnessFile r = ⊥
+
+    -- why nothing is printed of a run that goes on; the other statuses are no such answers
+    abbrev pub NoRest : Status → Resumption → Type 0
+    NoRest (Tree r) n = IfSome (told files n.tree) (λ file. tree_of file ≡ Err r)
+    NoRest (ImageLoad r) n = RefusesImage (λ t. IsUnloaded t r) (told files n.tree) (told files n.image)
+    NoRest (ImageBuild r) n = RefusesImage (λ t. IsUnstarted t r) (told files n.tree) (told files n.image)
+    NoRest (Checkpoint r) n = RefusesCheckpoint r (told files n.tree) (told files n.image) (told files n.checkpoint)
+    NoRest (Schedule line r) n = RefusesRest line r (told files n.tree) (told files n.image) (told files n.checkpoint) (told files n.schedule)
+    NoRest (ReadFault role) n = CantReadRest role n
+    NoRest NoMemory n = Unit {0}
+    NoRest _ n = ⊥
+
     -- why a command prints nothing: where it only lists turns, what is said of a tree file; where it runs many seeds, what is said
     -- of the run of the first
     abbrev pub NotAccepted : Status → Command → Type 0
     NotAccepted s (to_run prints r) = NoRun prints s r
     NotAccepted s (to_list tree seed count) = TreeCause (told files tree) (faults files tree) (faults files' tree) s
     NotAccepted s (to_check c) = NoVerdict s c
+    NotAccepted s (to_resume r) = NoRest s r
     NotAccepted s (to_survey o) = NoRun Report s (first_run o)
     NotAccepted s (to_say a) = ⊥
 
@@ -240,6 +326,7 @@ module _ {F : Type 0} (told : F → List ℕ → Option (List ℕ)) where
     NothingFailed (to_run prints r) = (¬ FileFailed r.tree) × (¬ ImageFailed r.image) × (¬ ScheduleFailed r.turns)
     NothingFailed (to_list tree seed count) = ¬ FileFailed tree
     NothingFailed (to_check c) = (¬ FileFailed c.tree) × (¬ FileFailed c.image) × (¬ FileFailed c.witness)
+    NothingFailed (to_resume r) = (¬ FileFailed r.tree) × (¬ FileFailed r.image) × (¬ FileFailed r.checkpoint) × (¬ FileFailed r.schedule)
     NothingFailed (to_survey s) = (¬ FileFailed s.tree) × (¬ FileFailed s.image)
     NothingFailed (to_say a) = Unit {0}
 
@@ -263,6 +350,7 @@ module _ {F K : Type 0} (told : F → List ℕ → Option (List ℕ)) (faults : 
   StatusHasCause words files files' out out' (ImageBuild r) = Refused told faults files files' words (ImageBuild r) × (held out' ≡ held out)
   StatusHasCause words files files' out out' (Schedule line r) = Refused told faults files files' words (Schedule line r) × (held out' ≡ held out)
   StatusHasCause words files files' out out' (Witness r) = Refused told faults files files' words (Witness r) × (held out' ≡ held out)
+  StatusHasCause words files files' out out' (Checkpoint r) = Refused told faults files files' words (Checkpoint r) × (held out' ≡ held out)
   StatusHasCause words files files' out out' (SmallLists key) = Refused told faults files files' words (SmallLists key) × (held out' ≡ held out)
   StatusHasCause words files files' out out' (ReadFault role) = Refused told faults files files' words (ReadFault role) × (held out' ≡ held out)
   StatusHasCause words files files' out out' NoMemory = Refused told faults files files' words NoMemory × (held out' ≡ held out)
@@ -291,6 +379,7 @@ fault_line (ImageLoad r) = image_line r
 fault_line (ImageBuild r) = build_line r
 fault_line (Schedule line r) = schedule_fault line r
 fault_line (Witness r) = witness_line r
+fault_line (Checkpoint r) = checkpoint_line r
 fault_line (SmallLists key) = small_lists_line key
 fault_line (ReadFault role) = read_fault (role_text role)
 fault_line WriteFault = write_fault

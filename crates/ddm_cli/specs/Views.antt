@@ -2,10 +2,11 @@
 use Rattle.ddm_cli.specs.Commands as said
 use Rattle.ddm_cli.specs.declared.command.Check.{Check}
 use Rattle.ddm_cli.specs.declared.command.Command.{Command}
-use Rattle.ddm_cli.specs.declared.command.Command.TheVariants.{Run as ToRun, List as ToList, Check as ToCheck, Outcomes as ToSurvey, About as ToSay}
+use Rattle.ddm_cli.specs.declared.command.Command.TheVariants.{Run as ToRun, List as ToList, Check as ToCheck, Resume as ToResume, Outcomes as ToSurvey, About as ToSay}
 use Rattle.ddm_cli.specs.declared.command.ImageSource.{ImageSource}
 use Rattle.ddm_cli.specs.declared.command.ImageSource.TheVariants.{File as ImageFile, Made}
 use Rattle.ddm_cli.specs.declared.command.Run.{Run}
+use Rattle.ddm_cli.specs.declared.command.Resumption.{Resumption}
 use Rattle.ddm_cli.specs.declared.command.Seeds.{Seeds}
 use Rattle.ddm_cli.specs.declared.command.TurnSource.{TurnSource}
 use Rattle.ddm_cli.specs.declared.command.TurnSource.TheVariants.{File as ScheduleFile, Seeded}
@@ -24,6 +25,9 @@ run_from r = record { image = image_from r.image; tree = r.tree.now; turns = tur
 abbrev pub check_from : Check → said.Check
 check_from c = record { image = c.image.now; tree = c.tree.now; witness = c.witness.now }
 
+abbrev pub resumption_from : Resumption → said.Resumption
+resumption_from r = record { image = r.image.now; tree = r.tree.now; checkpoint = r.checkpoint.now; schedule = r.schedule.now }
+
 abbrev pub seeds_from : Seeds → said.Seeds
 seeds_from s = record { image = s.image.now; tree = s.tree.now; first = s.first; count = s.count; turns = s.turns }
 
@@ -31,5 +35,6 @@ abbrev pub command_from : Command → said.Command
 command_from (ToRun prints run) = said.to_run prints (run_from run)
 command_from (ToList tree seed count) = said.to_list tree.now seed count
 command_from (ToCheck check) = said.to_check (check_from check)
+command_from (ToResume resumption) = said.to_resume (resumption_from resumption)
 command_from (ToSurvey seeds) = said.to_survey (seeds_from seeds)
 command_from (ToSay about) = said.to_say about

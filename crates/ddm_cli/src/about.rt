@@ -8,7 +8,7 @@ use ddm_outside::{Failed, Sink};
 use report::write_all;
 
 const HELP: &[u8] =
-    b"ddm runs RV32IA programs on a Data Diffusion Machine; every run is one order of one flat memory.\n\n  ddm run IMAGE TREE SCHEDULE      the report of a run: harts, traffic, items and the witness\n  ddm trace IMAGE TREE SCHEDULE    a line for each turn, and then the report\n  ddm seed IMAGE TREE SEED TURNS   the report of the schedule of a seed\n  ddm schedule TREE SEED TURNS     the schedule of a seed\n  ddm make SEED ROUNDS TREE        the summary of a random program under a seeded schedule\n  ddm check IMAGE TREE WITNESS     whether a witness is one legal run of the flat machine\n  ddm unjam IMAGE TREE SCHEDULE    the turn of a bus that goes on where a leaf waits\n  ddm save IMAGE TREE SCHEDULE     the checkpoint of the machine after a run\n  ddm outcomes IMAGE TREE FIRST COUNT TURNS\n                                   what the runs of many seeds come to\n  ddm help COMMAND                 more of one of these\n  ddm --help, ddm --version\n";
+    b"ddm runs RV32IA programs on a Data Diffusion Machine; every run is one order of one flat memory.\n\n  ddm run IMAGE TREE SCHEDULE      the report of a run: harts, traffic, items and the witness\n  ddm trace IMAGE TREE SCHEDULE    a line for each turn, and then the report\n  ddm seed IMAGE TREE SEED TURNS   the report of the schedule of a seed\n  ddm schedule TREE SEED TURNS     the schedule of a seed\n  ddm make SEED ROUNDS TREE        the summary of a random program under a seeded schedule\n  ddm check IMAGE TREE WITNESS     whether a witness is one legal run of the flat machine\n  ddm unjam IMAGE TREE SCHEDULE    the turn of a bus that goes on where a leaf waits\n  ddm save IMAGE TREE SCHEDULE     the checkpoint of the machine after a run\n  ddm resume IMAGE TREE CHECKPOINT SCHEDULE\n                                   the report of a run that goes on from a checkpoint\n  ddm outcomes IMAGE TREE FIRST COUNT TURNS\n                                   what the runs of many seeds come to\n  ddm help COMMAND                 more of one of these\n  ddm --help, ddm --version\n";
 
 const VERSION: &[u8] = b"ddm 1\n";
 
@@ -36,6 +36,9 @@ const UNJAM: &[u8] =
 const SAVE: &[u8] =
     b"ddm save IMAGE TREE SCHEDULE\nMakes the turns as run does, and puts out the checkpoint: the bytes of a file that tells the machine and its counts.\n";
 
+const RESUME: &[u8] =
+    b"ddm resume IMAGE TREE CHECKPOINT SCHEDULE\nMakes the turns of a schedule file on the machine of a checkpoint of the same image and tree, and prints the report\nof all turns together: those before the checkpoint are counted, and with them there are at most 1048576.\n";
+
 const OUTCOMES: &[u8] =
     b"ddm outcomes IMAGE TREE FIRST COUNT TURNS\nRuns the seeded schedules of COUNT seeds from FIRST on, of TURNS turns each, and prints each different outcome:\nhow many seeds gave it, the smallest of these, and of each hart how it ended and what it put out.\nFIRST has 64 bits, COUNT is 1 to 1000000, TURNS is 0 to 1048576.\n";
 
@@ -53,6 +56,7 @@ fn about_text(about: About) -> &'static [u8]
         About::Check => CHECK,
         About::Unjam => UNJAM,
         About::Save => SAVE,
+        About::Resume => RESUME,
         About::Outcomes => OUTCOMES,
     }
 }

@@ -42,6 +42,15 @@ pub struct Check<'a> {
     pub witness: &'a str,
 }
 
+/// What a run goes on from: the files of an image, of a tree, of a checkpoint and of a schedule with the rest of the turns.
+#[derive(Clone, Copy)]
+pub struct Resumption<'a> {
+    pub image: &'a str,
+    pub tree: &'a str,
+    pub checkpoint: &'a str,
+    pub schedule: &'a str,
+}
+
 /// Whose outcomes are counted: the machine of the files of an image and of a tree, over the schedules of so many seeds from the
 /// first on, each with so many turns.
 #[derive(Clone, Copy)]
@@ -68,6 +77,7 @@ pub enum About {
     Check,
     Unjam,
     Save,
+    Resume,
     Outcomes,
 }
 
@@ -83,6 +93,8 @@ pub enum Command<'a> {
     },
     /// Whether a witness is accepted.
     Check(Check<'a>),
+    /// A run that goes on.
+    Resume(Resumption<'a>),
     /// The different outcomes of many seeds.
     Outcomes(Seeds<'a>),
     About(About),

@@ -2,7 +2,8 @@ ghost use Rattle.std.specs.Prelude.{◌≡◌};
 ghost use Rattle.ddm_cli.specs.Top.{fault_line, line_head, Offers};
 
 use crate::refusal_lines::{
-    build_line, image_line, schedule_line, small_lists_line, tree_line_head, witness_line,
+    build_line, checkpoint_line, image_line, schedule_line, small_lists_line, tree_line_head,
+    witness_line,
 };
 use crate::status::Status;
 use crate::unknown_key::tell_rest;
@@ -22,6 +23,7 @@ fn line_head(status: &Status) -> FaultLine
         Status::Tree(refusal) => tree_line_head(refusal),
         Status::Schedule(line, refusal) => schedule_line(*line, *refusal),
         Status::Witness(refusal) => witness_line(refusal),
+        Status::Checkpoint(refusal) => checkpoint_line(refusal),
         Status::SmallLists(key) => small_lists_line(*key),
         Status::ReadFault(role) => read_line(*role),
         Status::WriteFault => write_line(),

@@ -70,7 +70,7 @@ fn image_in<F: Shelf>(
 }
 
 /// The machine of a tree and an image file.
-fn image_file<F: Shelf>(
+pub fn image_file<F: Shelf>(
     alloc: Global,
     files: &mut F,
     name: &str,

@@ -12,6 +12,7 @@ mod making;
 mod printing;
 mod reading;
 mod refusal_lines;
+mod resuming;
 mod status;
 mod surveying;
 mod top;
@@ -19,6 +20,7 @@ mod unjamming;
 mod unknown_key;
 mod words;
 
+pub use checkpoint::ResumeRefusal;
 pub use fault::tell;
 pub use report::FileRole;
 pub use schedule_log::ScheduleRefusal;

@@ -1,15 +1,14 @@
 ghost use Rattle.std.specs.Prelude.{◌≡◌, ◌<◌, ◌≤◌, ◌+◌, ◌++◌, [], ℕ, List, Some, length, vec_len, IfOk, IfErr, OnOk, if◌then◌else◌};
-ghost use Rattle.std.specs.Option.{option_map};
 ghost use Rattle.text_model.specs.Run.{no_counts};
 ghost use Rattle.bus_laws.specs.IsTree.{IsTree};
 ghost use Rattle.any_machine.specs.Any.{machine_state};
 ghost use Rattle.any_machine.specs.Run.{CanRun, NameParts, answers_in, counts_in, ran, with_room};
-ghost use Rattle.ddm_cli.specs.Causes.{IsRefused, ScheduleCause};
+ghost use Rattle.ddm_cli.specs.Causes.{IsRefused, IsUnscheduled, ScheduleCause};
 ghost use Rattle.ddm_cli.specs.Commands.{AreFew};
-ghost use Rattle.ddm_cli.specs.Made.{CanCount, HasAllMade, counts_plus};
-ghost use Rattle.ddm_cli.specs.Parts.{HasStart};
+ghost use Rattle.ddm_cli.specs.Made.{CanCount, CanGoOn, HasAllMade, counts_plus};
+ghost use Rattle.ddm_cli.specs.Parts.{turns_at, turns_of};
 ghost use Rattle.ddm_cli.specs.Told as Told;
-ghost use Rattle.ddm_cli.specs.Told.{schedule_faults, schedule_told, written};
+ghost use Rattle.ddm_cli.specs.Told.{schedule_faults, schedule_told};
 ghost use Rattle.ddm_cli.specs.Views.{turns_from};
 
 use crate::command::TurnSource;
@@ -32,18 +31,24 @@ pub struct Made {
     pub answers: Vec<TurnAnswer>,
 }
 
-fn nothing_made(alloc: Global) -> Made
-    ensures counts { result.counts ≡ no_counts }
+fn nothing_counted() -> RunCounts
+    ensures { result ≡ no_counts }
+{
+    RunCounts {
+        turns: 0,
+        retired: 0,
+        granted: 0,
+        busy: 0,
+    }
+}
+
+fn nothing_made(alloc: Global, first: RunCounts) -> Made
+    ensures counts { result.counts ≡ first }
     ensures turns { result.turns.items ≡ [] }
     ensures answers { result.answers.items ≡ [] }
 {
     Made {
-        counts: RunCounts {
-            turns: 0,
-            retired: 0,
-            granted: 0,
-            busy: 0,
-        },
+        counts: first,
         turns: Vec::new(alloc),
         answers: Vec::new(alloc),
     }
@@ -82,26 +87,26 @@ fn make_turns(
     Ok(())
 }
 
-/// Makes the turns of a schedule file, those of each piece that is read before the next one is asked for. So a line that is refused
-/// is answered before any byte is asked for that comes behind the piece with its end.
-fn schedule_made<F: Shelf>(
+/// Makes the turns of a schedule file on a machine whose turns before came to `first`, those of each piece that is read before the
+/// next one is asked for. So a line that is refused is answered before any byte is asked for that comes behind the piece with its end.
+pub fn schedule_made<F: Shelf>(
     alloc: Global,
     files: &mut F,
     name: &str,
     buffer: &mut [u8],
     tree: &TreeConfig,
+    first: RunCounts,
     machine: &mut AnyMachine,
     keep: bool,
 ) -> Result<Made, Status>
     requires room { 0 < length buffer.old }
-    requires tree { IsTree tree.now }
-    requires start { HasStart tree.now (machine_state machine.old) }
-    ensures all { IfOk result (λ made. HasAllMade tree.now.levels (option_map written (F.told files.old name.now)) keep (machine_state machine.old) (machine_state machine.new) made) }
-    ensures cause { IfErr result (ScheduleCause (IsRefused tree.now.levels) (option_map written (F.told files.old name.now)) (F.faults files.old name.now) (F.faults files.new name.now)) }
+    requires start { CanGoOn tree.now.levels first (machine_state machine.old) }
+    ensures all { IfOk result (λ made. HasAllMade (turns_at tree.now.levels first.turns) (F.told files.old name.now) first keep (machine_state machine.old) (machine_state machine.new) made) }
+    ensures cause { IfErr result (ScheduleCause (IsUnscheduled tree.now.levels first.turns) (F.told files.old name.now) (F.faults files.old name.now) (F.faults files.new name.now)) }
     ensures later { (other : List ℕ) → F.faults files.old other ≤ F.faults files.new other }
 {
-    let mut reader = ScheduleReader::new(alloc)?;
-    let mut made = nothing_made(alloc);
+    let mut reader = ScheduleReader::after(alloc, first.turns)?;
+    let mut made = nothing_made(alloc, first);
     let mut turns = Vec::new(alloc);
     let mut at = 0;
     'reading: loop {
@@ -142,13 +147,13 @@ fn seed_made(
 ) -> Result<Made, NoMemory>
     requires few { count ≤ 1048576 }
     requires tree { IsTree tree.now }
-    requires start { HasStart tree.now (machine_state machine.old) }
-    ensures { IfOk result (λ made. HasAllMade tree.now.levels (Some (Told.seeded seed count)) keep (machine_state machine.old) (machine_state machine.new) made) }
+    requires start { CanGoOn tree.now.levels no_counts (machine_state machine.old) }
+    ensures { IfOk result (λ made. HasAllMade (turns_of tree.now.levels) (Some (Told.seeded seed count)) no_counts keep (machine_state machine.old) (machine_state machine.new) made) }
 {
     let mut left = SeededTurns::new(alloc, &tree.nodes)?;
     left.begin(seed, count);
     let mut block = turn_block(alloc)?;
-    let mut made = nothing_made(alloc);
+    let mut made = nothing_made(alloc, nothing_counted());
     'making: loop {
         let size = left.next_block(&mut block);
         if size == 0 {
@@ -171,13 +176,22 @@ pub fn turns_made<F: Shelf>(
     requires room { 0 < length buffer.old }
     requires few { AreFew (turns_from turns) }
     requires tree { IsTree tree.now }
-    requires start { HasStart tree.now (machine_state machine.old) }
-    ensures all { IfOk result (λ made. HasAllMade tree.now.levels (schedule_told (F.told files.old) (turns_from turns.entry)) keep (machine_state machine.old) (machine_state machine.new) made) }
+    requires start { CanGoOn tree.now.levels no_counts (machine_state machine.old) }
+    ensures all { IfOk result (λ made. HasAllMade (turns_of tree.now.levels) (schedule_told (F.told files.old) (turns_from turns.entry)) no_counts keep (machine_state machine.old) (machine_state machine.new) made) }
     ensures cause { IfErr result (ScheduleCause (IsRefused tree.now.levels) (schedule_told (F.told files.old) (turns_from turns.entry)) (schedule_faults (F.faults files.old) (turns_from turns.entry)) (schedule_faults (F.faults files.new) (turns_from turns.entry))) }
     ensures later { (other : List ℕ) → F.faults files.old other ≤ F.faults files.new other }
 {
     match turns {
-        TurnSource::File(name) => { schedule_made(alloc, files, name, buffer, tree, machine, keep) }
+        TurnSource::File(name) => schedule_made(
+            alloc,
+            files,
+            name,
+            buffer,
+            tree,
+            nothing_counted(),
+            machine,
+            keep,
+        ),
         TurnSource::Seeded { seed, count } => {
             Ok(seed_made(alloc, tree, seed, count, machine, keep)?)
         }

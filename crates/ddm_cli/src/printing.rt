@@ -67,6 +67,24 @@ fn write_run<K: Sink>(
     )
 }
 
+/// Writes the trace of the turns that are kept, and then the report. All memory is taken before the first write.
+pub fn write_report<K: Sink>(
+    alloc: Global,
+    out: &mut K,
+    machine: &AnyMachine,
+    made: &Made,
+    buffer: &mut [u8],
+) -> Result<Result<(), Failed>, NoMemory>
+    requires room { 1024 ≤ length buffer.old }
+    requires answers { length made.now.turns.items ≡ length made.now.answers.items }
+    ensures written { let m = (machine_state machine.now).machine in IfOk result (Writes (K.held out.old) (K.held out.new) (trace_text made.now.turns.items made.now.answers.items ++ report_of (view_of (depth_of m) made.now.counts m))) }
+    ensures cause { IfOk result (HasCause (K.faults out.old) (K.faults out.new)) }
+    ensures same { OnErr result (K.held out.new ≡ K.held out.old) }
+{
+    let witness = witness(alloc, machine)?;
+    Ok(write_run(out, machine, &witness, made, buffer))
+}
+
 // Writes what is printed of turns that were made. All memory is taken before the first write.
 fn write_made<K: Sink>(
     alloc: Global,
@@ -94,10 +112,7 @@ fn write_made<K: Sink>(
             let bytes = save(alloc, machine, made.counts)?;
             Ok(write_all(out, &bytes))
         }
-        Prints::Report | Prints::Trace => {
-            let witness = witness(alloc, machine)?;
-            Ok(write_run(out, machine, &witness, made, buffer))
-        }
+        Prints::Report | Prints::Trace => { write_report(alloc, out, machine, made, buffer) }
     }
 }
 

@@ -1,8 +1,9 @@
 ghost use Rattle.std.specs.Prelude.{◌≡◌, ◌+◌, ◌++◌, ◌≤◌, length, codes, decimal};
 ghost use Rattle.text_model.specs.Faults.{name_words, number_texts, schedule_fault, schedule_refusal_name};
 ghost use Rattle.tree_config.specs.TreeFile.{key_name};
-ghost use Rattle.ddm_cli.specs.Refusals.{build_line, image_line, small_lists_line, tree_line_head, witness_line};
+ghost use Rattle.ddm_cli.specs.Refusals.{build_line, checkpoint_line, image_line, small_lists_line, tree_line_head, witness_line};
 
+use checkpoint::ResumeRefusal;
 use elf_load::ImageRefusal;
 use report::FaultLine;
 use run_engine::BuildRefusal;
@@ -25,8 +26,7 @@ fn push_numbers(line: &mut FaultLine, numbers: &[u64])
 
 // A line that ends with numbers.
 fn numbered(head: &[u8], name: &[u8], numbers: &[u64]) -> FaultLine
-    requires head { length head.now ≤ 12 }
-    requires name { length name.now ≤ 20 }
+    requires room { length head.now + length name.now ≤ 32 }
     requires numbers { length numbers.now ≤ 2 }
     ensures { result ≡ head.now ++ (name.now ++ number_texts numbers.now) ++ codes "\n" }
 {
@@ -226,6 +226,38 @@ pub fn witness_line(refusal: &CheckRefusal) -> FaultLine
             build_line(&BuildRefusal::StackOverlap { hart, header })
         }
         CheckRefusal::NoMemory => witness(b"no memory"),
+    }
+}
+
+// The line for a checkpoint, by the words of a refusal's name and its numbers.
+fn checkpoint(name: &[u8], numbers: &[u64]) -> FaultLine
+    requires name { length name.now ≤ 14 }
+    requires numbers { length numbers.now ≤ 2 }
+    ensures { result ≡ codes "ddm: checkpoint: " ++ (name.now ++ number_texts numbers.now) ++ codes "\n" }
+{
+    numbered(b"ddm: checkpoint: ", name, numbers)
+}
+
+/// The line for a checkpoint that isn't accepted.
+#[tactic(auto, unfolding(text_model::specs::Faults::checkpoint_fault, text_model::specs::Faults::refusal_text, text_model::specs::Faults::name_words))]
+pub fn checkpoint_line(refusal: &ResumeRefusal) -> FaultLine
+    ensures { result ≡ checkpoint_line refusal.now }
+{
+    match *refusal {
+        ResumeRefusal::TooLong => checkpoint(b"too long", &[]),
+        ResumeRefusal::NotCheckpoint => checkpoint(b"not checkpoint", &[]),
+        ResumeRefusal::WrongVersion(n) => checkpoint(b"wrong version", &[u64::from(n)]),
+        ResumeRefusal::Cut(word) => checkpoint(b"cut", &[u64::from(word)]),
+        ResumeRefusal::OtherMachine(word) => checkpoint(b"other machine", &[u64::from(word)]),
+        ResumeRefusal::BadWord(word) => checkpoint(b"bad word", &[u64::from(word)]),
+        ResumeRefusal::AfterEnd => checkpoint(b"after end", &[]),
+        ResumeRefusal::BrokenLeaf(leaf) => checkpoint(b"broken leaf", &[u64::from(leaf)]),
+        ResumeRefusal::BrokenRule { bus, item } => {
+            checkpoint(b"broken rule", &[u64::from(bus), u64::from(item)])
+        }
+        ResumeRefusal::BrokenStamp(bus) => checkpoint(b"broken stamp", &[u64::from(bus)]),
+        ResumeRefusal::BrokenKey(op) => checkpoint(b"broken key", &[u64::from(op)]),
+        ResumeRefusal::NoMemory => checkpoint(b"no memory", &[]),
     }
 }
 

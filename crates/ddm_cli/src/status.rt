@@ -2,6 +2,7 @@ ghost use Rattle.std.specs.Prelude.{◌≡◌};
 ghost use Rattle.ddm_cli.specs.Code.{exit_code};
 ghost use Rattle.ddm_cli.specs.declared.status.Status.TheVariants.{NoMemory};
 
+use checkpoint::ResumeRefusal;
 use ddm_types::NoMemory;
 use elf_load::ImageRefusal;
 use report::FileRole;
@@ -26,6 +27,8 @@ pub enum Status {
     Schedule(u32, ScheduleRefusal),
     /// Why the witness isn't accepted. That nothing can be judged, since there is no start, is a refusal of the image.
     Witness(CheckRefusal),
+    /// Why the checkpoint isn't accepted.
+    Checkpoint(ResumeRefusal),
     /// The key of the first list that is too small for the turn that goes on to be named.
     SmallLists(TreeKey),
     ReadFault(FileRole),
@@ -47,6 +50,7 @@ pub fn code(status: &Status) -> u8
         Status::WriteFault => 7,
         Status::NoMemory => 8,
         Status::Witness(_) => 10,
+        Status::Checkpoint(_) => 11,
         Status::SmallLists(_) => 12,
     }
 }

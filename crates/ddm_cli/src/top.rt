@@ -13,6 +13,7 @@ use crate::fault::tell;
 use crate::files::{image_machine, tree_file};
 use crate::printing::write_ran;
 use crate::reading::read_buffer;
+use crate::resuming::write_resumed;
 use crate::status::Status;
 use crate::surveying::write_outcomes;
 use crate::words::command_said;
@@ -105,6 +106,7 @@ fn write_command<F: Shelf, K: Sink>(
         Command::Run(prints, run) => write_run(alloc, files, out, prints, run),
         Command::List { tree, seed, count } => write_list(alloc, files, out, tree, seed, count),
         Command::Check(check) => write_check(alloc, files, out, check),
+        Command::Resume(resumption) => write_resumed(alloc, files, out, resumption),
         Command::Outcomes(seeds) => write_outcomes(alloc, files, out, seeds),
         Command::About(about) => Ok(write_about(out, about)),
     }
@@ -130,7 +132,7 @@ fn answer<F: Shelf, K: Sink>(alloc: Global, words: &[String], files: &mut F, out
 }
 
 /// Follows the words of a command: its text goes to `out`, and the line of a fault to `faults_out`. The tree is read first, then the
-/// image, then the schedule or the witness, and nothing is written before all that the command names is read.
+/// image, then the checkpoint, then the schedule or the witness, and nothing is written before all that the command names is read.
 pub fn ddm_main<F: Shelf, K: Sink>(
     alloc: Global,
     words: &[String],

@@ -1,9 +1,11 @@
 ghost use Rattle.std.specs.Prelude.{◌≡◌, ◌≤◌, ◌<◌, ◌*◌, ◌+◌, map, length, Err, IfOk, IfSome, IsOk, MatchResult, None, Ok, Some, option_and_then, slice_get};
 ghost use Rattle.std.specs.String.{string_bytes};
-ghost use Rattle.ddm_cli.specs.Commands.{IsInRange, about_named, command_of, ends_at, file_check, file_run, help_said, made_run, number_in, seed_list, seed_run, seeds_survey, to_say};
+ghost use Rattle.ddm_cli.specs.Commands.{IsInRange, about_named, command_of, ends_at, file_check, file_resume, file_run, help_said, made_run, number_in, seed_list, seed_run, seeds_survey, to_say};
 ghost use Rattle.ddm_cli.specs.Views.{command_from};
 
-use crate::command::{About, Check, Command, ImageSource, Prints, Run, Seeds, TurnSource};
+use crate::command::{
+    About, Check, Command, ImageSource, Prints, Resumption, Run, Seeds, TurnSource,
+};
 use ddm_text::read_decimal;
 
 const MOST_TURNS: u64 = 1_048_576;
@@ -175,6 +177,29 @@ fn file_check(words: &[String]) -> Result<Command<'_>, u32>
     }))
 }
 
+/// `resume IMAGE TREE CHECKPOINT SCHEDULE`.
+#[tactic(auto, unfolding(crate::specs::Commands::file_resume))]
+fn file_resume(words: &[String]) -> Result<Command<'_>, u32>
+    ensures is { MatchResult result
+        (λ c. file_resume (map string_bytes words.now) ≡ Ok (command_from c))
+        (λ k. file_resume (map string_bytes words.now) ≡ Err k) }
+    ensures range { IfOk result (λ c. IsInRange (command_from c)) }
+{
+    let image = word(words, 1)?;
+    let tree = word(words, 2)?;
+    let checkpoint = word(words, 3)?;
+    let schedule = word(words, 4)?;
+    if words.len() > 5 {
+        return Err(5);
+    }
+    Ok(Command::Resume(Resumption {
+        image,
+        tree,
+        checkpoint,
+        schedule,
+    }))
+}
+
 /// `outcomes IMAGE TREE FIRST COUNT TURNS`.
 #[tactic(auto, unfolding(crate::specs::Commands::seeds_survey))]
 fn seeds_survey(words: &[String]) -> Result<Command<'_>, u32>
@@ -215,6 +240,7 @@ fn about_named(name: &str) -> Option<About>
         "check" => Some(About::Check),
         "unjam" => Some(About::Unjam),
         "save" => Some(About::Save),
+        "resume" => Some(About::Resume),
         "outcomes" => Some(About::Outcomes),
         _ => None,
     }
@@ -267,6 +293,7 @@ pub fn command_said(words: &[String]) -> Result<Command<'_>, u32>
         "check" => file_check(words),
         "unjam" => file_run(words, Prints::Unjamming),
         "save" => file_run(words, Prints::Checkpoint),
+        "resume" => file_resume(words),
         "outcomes" => seeds_survey(words),
         "help" => help_said(words),
         "--help" => alone(words, About::Help),

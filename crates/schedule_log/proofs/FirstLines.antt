@@ -132,44 +132,44 @@ fits_room shape made turn true o below e = grind (arith, nat_tests)
 fits_room shape made turn false o below e = absurd (cc e)
 
 -- the first line is a turn
-pub turn_step : (shape : ShapeView) (made : ℕ) (text : List ℕ) (n : ℕ) (turn : Turn) (o : Option ScheduleRefusal) → IsLine text n → bytes_eq (take n text) (codes "end") ≡ false → turn_of_words (pieces_at 32 (take n text)) ≡ Some turn → refusal_of_turn shape made turn ≡ o
-    → StepGives shape made text (step_by o made turn (n + 1))
-turn_step shape made text n turn None cut other is_turn fits = record {
-  reading = by_turn shape (made + 1) made text n turn cut other is_turn fits;
+pub turn_step : (shape : ShapeView) (lines made : ℕ) (text : List ℕ) (n : ℕ) (turn : Turn) (o : Option ScheduleRefusal) → IsLine text n → bytes_eq (take n text) (codes "end") ≡ false → turn_of_words (pieces_at 32 (take n text)) ≡ Some turn → refusal_of_turn shape made turn ≡ o
+    → StepGives shape lines made text (step_by o lines turn (n + 1))
+turn_step shape lines made text n turn None cut other is_turn fits = record {
+  reading = by_turn shape (lines + 1) made text n turn cut other is_turn fits;
   held = held_behind text n cut;
   some = omega arith;
   within = omega (arith, cut.inside);
   room = fits_room shape made turn (nat_lt made 1048576) (turn_fault shape turn) refl fits;
 }
-turn_step shape made text n turn (Some refusal) cut other is_turn refused = record {
-  reading = by_refused_turn shape (made + 1) made text n turn refusal cut other is_turn refused;
+turn_step shape lines made text n turn (Some refusal) cut other is_turn refused = record {
+  reading = by_refused_turn shape (lines + 1) made text n turn refusal cut other is_turn refused;
   held = tt;
 }
 
 -- the first line is neither a turn nor the end
-pub no_turn_step : (shape : ShapeView) (made : ℕ) (text : List ℕ) (n : ℕ) → IsLine text n → bytes_eq (take n text) (codes "end") ≡ false → turn_of_words (pieces_at 32 (take n text)) ≡ None
-    → StopsAt shape made text (Refused (made + 1) BadTurn)
-no_turn_step shape made text n cut other none = record { reading = by_no_turn shape (made + 1) made text n cut other none; held = tt }
+pub no_turn_step : (shape : ShapeView) (lines made : ℕ) (text : List ℕ) (n : ℕ) → IsLine text n → bytes_eq (take n text) (codes "end") ≡ false → turn_of_words (pieces_at 32 (take n text)) ≡ None
+    → StopsAt shape lines made text (Refused (lines + 1) BadTurn)
+no_turn_step shape lines made text n cut other none = record { reading = by_no_turn shape (lines + 1) made text n cut other none; held = tt }
 
-holds_end : (made : ℕ) (standing : Place) (more text : List ℕ) → standing_of made standing ≡ end_with (made + 1 + 1) more → HoldsAll standing text
-holds_end made InLine [] text e = absurd (cc e)
-holds_end made InLine (byte ∷ more) text e = absurd (cc e)
-holds_end made AtEnd more text e = tt
-holds_end made (Refused line refusal) more text e = tt
+holds_end : (lines : ℕ) (standing : Place) (more text : List ℕ) → standing_of lines standing ≡ end_with (lines + 1 + 1) more → HoldsAll standing text
+holds_end lines InLine [] text e = absurd (cc e)
+holds_end lines InLine (byte ∷ more) text e = absurd (cc e)
+holds_end lines AtEnd more text e = tt
+holds_end lines (Refused line refusal) more text e = tt
 
 -- the first line is the end
-pub end_step : (shape : ShapeView) (made : ℕ) (text : List ℕ) (n : ℕ) (standing : Place) → IsLine text n → bytes_eq (take n text) (codes "end") ≡ true → standing_of made standing ≡ end_with (made + 1 + 1) (drop (n + 1) text)
-    → StopsAt shape made text standing
-end_step shape made text n standing cut same is = record {
-  reading = by_end shape (made + 1) made text n cut same ∙ ap (λ s. nothing_but s) (sym is);
-  held = holds_end made standing (drop (n + 1) text) text is;
+pub end_step : (shape : ShapeView) (lines made : ℕ) (text : List ℕ) (n : ℕ) (standing : Place) → IsLine text n → bytes_eq (take n text) (codes "end") ≡ true → standing_of lines standing ≡ end_with (lines + 1 + 1) (drop (n + 1) text)
+    → StopsAt shape lines made text standing
+end_step shape lines made text n standing cut same is = record {
+  reading = by_end shape (lines + 1) made text n cut same ∙ ap (λ s. nothing_but s) (sym is);
+  held = holds_end lines standing (drop (n + 1) text) text is;
 }
 
 -- no line is whole
-pub open_step : (shape : ShapeView) (made : ℕ) (text : List ℕ) → first_line text 24 ≡ NoEndOfLine → StopsAt shape made text InLine
-open_step shape made text e =
+pub open_step : (shape : ShapeView) (lines made : ℕ) (text : List ℕ) → first_line text 24 ≡ NoEndOfLine → StopsAt shape lines made text InLine
+open_step shape lines made text e =
     let facts = open_text text e in
-    record { reading = reading_on-open shape (made + 1) made text facts.0 facts.1; held = held_all text facts.0 }
+    record { reading = reading_on-open shape (lines + 1) made text facts.0 facts.1; held = held_all text facts.0 }
 
-pub long_step : (shape : ShapeView) (made : ℕ) (text : List ℕ) → first_line text 24 ≡ LineTooLong → StopsAt shape made text (Refused (made + 1) BadTurn)
-long_step shape made text e = record { reading = long_text shape (made + 1) made text e; held = tt }
+pub long_step : (shape : ShapeView) (lines made : ℕ) (text : List ℕ) → first_line text 24 ≡ LineTooLong → StopsAt shape lines made text (Refused (lines + 1) BadTurn)
+long_step shape lines made text e = record { reading = long_text shape (lines + 1) made text e; held = tt }

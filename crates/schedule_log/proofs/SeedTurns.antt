@@ -6,10 +6,9 @@ use Rattle.std.proofs.lemmas.Bool.{eqb-false, lt-ltb, ltb-true, ltb-false}
 use Rattle.std.proofs.lemmas.List.Elements.{All-nil, All-cons}
 use Rattle.ddm_types.specs.declared.turns.Turn.{Turn}
 use Rattle.rand_pcg.specs.Lcg.{Lcg}
-use Rattle.rand_pcg.specs.Pcg.{pcg32}
 use Rattle.text_model.specs.Schedule.{ShapeView, child_fault, turn_fault}
 use Rattle.text_model.specs.ReadBack.{IsTurnOf}
-use Rattle.text_model.specs.Seeded.{bus_turn_from, seeded_generator, seeded_turn, seeded_turns, turns_of_words, words_of}
+use Rattle.text_model.specs.Seeded.{bus_turn_from, seeded_generator, seeded_turn, seeded_turns, turns_of_words}
 use Rattle.schedule_log.specs.Seeding.{SeededView, seeded_view, turns_left}
 use Rattle.schedule_log.proofs.Seeds.{left_counted, none_left}
 

@@ -13,15 +13,21 @@ use Rattle.schedule_log.specs.Standings.{standing_of, held_in}
 
 -- what a contract sees of a reader
 pub record ReaderView : Type 0 where
-  -- how many turns the lines so far were
+  -- how many turns there are, with those that were made before the text
   pub made : ℕ
+  -- how many of them are lines of the text
+  pub lines : ℕ
   -- the bytes of the line that isn't whole
   pub held : List ℕ
   pub standing : Standing
 
--- before the first byte
+-- before the first byte of a text that comes behind so many turns
+abbrev pub begun_behind : ℕ → ReaderView
+begun_behind made = record { made = made; lines = 0; held = []; standing = in_line 1 }
+
+-- before the first byte of a whole schedule
 abbrev pub begun : ReaderView
-begun = record { made = 0; held = []; standing = in_line 1 }
+begun = begun_behind 0
 
 -- what a reader gives for more bytes: their turns, and how far the text has come
 abbrev pub given : ShapeView → ReaderView → List ℕ → Reading
@@ -31,6 +37,7 @@ given shape reader more = resumed shape reader.made reader.held more [] reader.s
 abbrev pub fed : ShapeView → ReaderView → List ℕ → ReaderView
 fed shape reader more = let reading = given shape reader more in record {
   made = reader.made + length reading.turns;
+  lines = reader.lines + length reading.turns;
   held = held_in reading.standing (reader.held ++ more);
   standing = reading.standing;
 }
@@ -77,11 +84,13 @@ KeepsHeld InLine text rest = held_of text ≡ rest
 KeepsHeld AtEnd text rest = Unit {0}
 KeepsHeld (Refused line refusal) text rest = Unit {0}
 
--- the lines of a text were read behind `made` turns
-pub record LinesRead (shape : ShapeView) (made : ℕ) (text : List ℕ) (before after : List Turn) (lines : Lines) : Type 0 where
-  pub turns : after ≡ before ++ (reading_on shape (made + 1) made text).turns
-  pub standing : standing_of lines.made lines.standing ≡ (reading_on shape (made + 1) made text).standing
-  pub count : lines.made ≡ made + length (reading_on shape (made + 1) made text).turns
+-- the lines of a text were read where `made` turns were there, of which so many were lines before it
+pub record LinesRead (shape : ShapeView) (before_lines made : ℕ) (text : List ℕ) (before after : List Turn) (lines : Lines) : Type 0 where
+  pub turns : after ≡ before ++ (reading_on shape (before_lines + 1) made text).turns
+  pub standing : standing_of lines.lines lines.standing ≡ (reading_on shape (before_lines + 1) made text).standing
+  pub count : lines.made ≡ made + length (reading_on shape (before_lines + 1) made text).turns
+  pub count_lines : lines.lines ≡ before_lines + length (reading_on shape (before_lines + 1) made text).turns
   pub held : KeepsHeld lines.standing text (drop lines.kept text)
   pub within : lines.kept ≤ length text
+  pub of_text : lines.lines ≤ lines.made
   pub few : lines.made ≤ 1048576

@@ -17,9 +17,9 @@ pub record IsLine (text : List ℕ) (end : ℕ) : Type 0 where
   pub lacks : Lacks 10 (take end text)
   pub is : text ≡ take end text ++ 10 ∷ drop (end + 1) text
 
--- behind `made` turns a text begins with the line of a turn, with so many bytes
-pub record BeginsWithTurn (shape : ShapeView) (made : ℕ) (text : List ℕ) (turn : OneTurn) (used : ℕ) : Type 0 where
-  pub reading : reading_on shape (made + 1) made text ≡ with_turn turn (reading_on shape (made + 1 + 1) (made + 1) (drop used text))
+-- where `made` turns are there, of which so many are lines before it, a text begins with the line of a turn, with so many bytes
+pub record BeginsWithTurn (shape : ShapeView) (lines made : ℕ) (text : List ℕ) (turn : OneTurn) (used : ℕ) : Type 0 where
+  pub reading : reading_on shape (lines + 1) made text ≡ with_turn turn (reading_on shape (lines + 1 + 1) (made + 1) (drop used text))
   pub held : held_of text ≡ held_of (drop used text)
   pub some : 0 < used
   pub within : used ≤ length text
@@ -31,17 +31,17 @@ HoldsAll InLine text = held_of text ≡ text
 HoldsAll AtEnd text = Unit {0}
 HoldsAll (Refused line refusal) text = Unit {0}
 
--- behind `made` turns a text begins with no turn, and stands so
-pub record StopsAt (shape : ShapeView) (made : ℕ) (text : List ℕ) (standing : Standing) : Type 0 where
-  pub reading : reading_on shape (made + 1) made text ≡ nothing_but (standing_of made standing)
+-- there it begins with no turn, and stands so
+pub record StopsAt (shape : ShapeView) (lines made : ℕ) (text : List ℕ) (standing : Standing) : Type 0 where
+  pub reading : reading_on shape (lines + 1) made text ≡ nothing_but (standing_of lines standing)
   pub held : HoldsAll standing text
 
 -- what a text begins with
-abbrev pub StepGives : ShapeView → ℕ → List ℕ → Step → Type 0
-StepGives shape made text (Turn turn used) = BeginsWithTurn shape made text turn used
-StepGives shape made text (Stop standing) = StopsAt shape made text standing
+abbrev pub StepGives : ShapeView → ℕ → ℕ → List ℕ → Step → Type 0
+StepGives shape lines made text (Turn turn used) = BeginsWithTurn shape lines made text turn used
+StepGives shape lines made text (Stop standing) = StopsAt shape lines made text standing
 
 -- the step of a turn that may be refused
 abbrev pub step_by : Option ScheduleRefusal → ℕ → OneTurn → ℕ → Step
-step_by None made turn used = Turn turn used
-step_by (Some refusal) made turn used = Stop (Refused (made + 1) refusal)
+step_by None lines turn used = Turn turn used
+step_by (Some refusal) lines turn used = Stop (Refused (lines + 1) refusal)

@@ -1,5 +1,5 @@
 ghost use Rattle.std.specs.Prelude.{◌≡◌, ◌≤◌, IfOk, OnErr, length, take};
-ghost use Rattle.schedule_log.specs.Reader.{FeedGives, IsInLine, LinesRead, begun, finish_of};
+ghost use Rattle.schedule_log.specs.Reader.{FeedGives, IsInLine, LinesRead, begun, begun_behind, finish_of};
 ghost use Rattle.schedule_log.specs.Shapes.{shape_view};
 
 use crate::refusal::FeedError;
@@ -11,11 +11,12 @@ use std::marker::Model;
 use text_model::ScheduleRefusal;
 use tree_config::Shape;
 
-/// What the lines of a text come to: the number of turns so far, where the line begins that isn't whole, and how far the
-/// text has come.
+/// What the lines of a text come to: the number of turns so far, how many of them are lines of the text, where the line begins
+/// that isn't whole, and how far the text has come.
 #[derive(Clone, Copy)]
 pub(crate) struct Lines {
     made: u32,
+    lines: u32,
     kept: usize,
     standing: Standing,
 }
@@ -23,26 +24,31 @@ pub(crate) struct Lines {
 // Puts the turns of a text's whole lines at the end, up to the first that is refused.
 fn read_lines(
     shape: &Shape,
+    first_lines: u32,
     first: u32,
     text: &[u8],
     turns: &mut Vec<Turn>,
 ) -> Result<Lines, NoMemory>
-    requires { first ≤ 1048576 }
-    ensures ok { IfOk result (LinesRead (shape_view shape.now) first text.now turns.old.items turns.new.items) }
+    requires lines { first_lines ≤ first }
+    requires made { first ≤ 1048576 }
+    ensures ok { IfOk result (LinesRead (shape_view shape.now) first_lines first text.now turns.old.items turns.new.items) }
     ensures err { OnErr result (take (length turns.old.items) turns.new.items ≡ turns.old.items) }
 {
     let mut made = first;
+    let mut lines = first_lines;
     let mut kept = 0;
     'lines: loop {
-        match first_step(shape, made, &text[kept..]) {
+        match first_step(shape, lines, made, &text[kept..]) {
             Step::Turn { turn, used } => {
                 turns.push(turn)?;
                 made += 1;
+                lines += 1;
                 kept += used;
             }
             Step::Stop(standing) => {
                 return Ok(Lines {
                     made,
+                    lines,
                     kept,
                     standing,
                 });
@@ -51,12 +57,13 @@ fn read_lines(
     }
 }
 
-/// Reads the text of a schedule, in pieces of any lengths. A contract sees how many turns the lines so far were, the
-/// bytes of the line that isn't whole, and how far the text has come.
+/// Reads the text of a schedule, in pieces of any lengths. A contract sees how many turns there are, how many of them are lines so
+/// far, the bytes of the line that isn't whole, and how far the text has come.
 #[derive(Drop)]
 pub struct ScheduleReader {
     held: Vec<u8>,
     made: u32,
+    lines: u32,
     standing: Standing,
 }
 
@@ -67,19 +74,29 @@ impl Model for ScheduleReader {
 
     ghost Value = { ReaderView };
 
-    ghost view = { λ r. record { made = r.made; held = held_by r.standing r.held.items; standing = standing_of r.made r.standing } };
+    ghost view = { λ r. record { made = r.made; lines = r.lines; held = held_by r.standing r.held.items; standing = standing_of r.lines r.standing } };
 
-    ghost invariant = { λ r. r.made ≤ 1048576 };
+    ghost invariant = { λ r. (r.lines ≤ r.made) × (r.made ≤ 1048576) };
 }
 
 impl ScheduleReader {
-    /// Before the first byte of a text.
+    /// Before the first byte of a whole schedule.
     pub fn new(alloc: Global) -> Result<ScheduleReader, NoMemory>
         ensures { IfOk result (λ r. r ≡ begun) }
     {
+        ScheduleReader::after(alloc, 0)
+    }
+
+    /// Before the first byte of a text that goes on where so many turns were made: its first turn is one more. Lines are counted
+    /// from 1 all the same.
+    pub fn after(alloc: Global, made: u32) -> Result<ScheduleReader, NoMemory>
+        requires { made ≤ 1048576 }
+        ensures { IfOk result (λ r. r ≡ begun_behind made) }
+    {
         Ok(ScheduleReader {
             held: Vec::new(alloc),
-            made: 0,
+            made,
+            lines: 0,
             standing: Standing::InLine,
         })
     }
@@ -99,9 +116,10 @@ impl ScheduleReader {
         if self.held.extend_from_slice(piece).is_err() {
             return Err(FeedError::NoMemory);
         }
-        match read_lines(shape, self.made, &self.held, turns) {
+        match read_lines(shape, self.lines, self.made, &self.held, turns) {
             Ok(lines) => {
                 self.made = lines.made;
+                self.lines = lines.lines;
                 self.standing = lines.standing;
                 self.held.drain(..lines.kept);
                 lines.standing.answer()
@@ -128,8 +146,8 @@ impl ScheduleReader {
             Standing::InLine => self.feed_lines(shape, piece, turns),
             Standing::AtEnd if piece.is_empty() => Ok(()),
             Standing::AtEnd => {
-                self.standing = Standing::Refused(self.made + 2, ScheduleRefusal::AfterEnd);
-                Err(FeedError::Refused(self.made + 2, ScheduleRefusal::AfterEnd))
+                self.standing = Standing::Refused(self.lines + 2, ScheduleRefusal::AfterEnd);
+                Err(FeedError::Refused(self.lines + 2, ScheduleRefusal::AfterEnd))
             }
             Standing::Refused(line, refusal) => Err(FeedError::Refused(line, refusal)),
         }
@@ -140,7 +158,7 @@ impl ScheduleReader {
         ensures { result ≡ finish_of self.standing }
     {
         match self.standing {
-            Standing::InLine => Err((self.made + 1, ScheduleRefusal::NoEnd)),
+            Standing::InLine => Err((self.lines + 1, ScheduleRefusal::NoEnd)),
             Standing::AtEnd => Ok(()),
             Standing::Refused(line, refusal) => Err((line, refusal)),
         }

@@ -17,7 +17,7 @@ pub(crate) enum Standing {
 impl Standing {
     /// What the call answers that comes so far.
     pub(crate) fn answer(self) -> Result<(), FeedError>
-        ensures { (made : ℕ) → result ≡ answer_of (standing_of made self) }
+        ensures { (lines : ℕ) → result ≡ answer_of (standing_of lines self) }
     {
         match self {
             Standing::InLine => Ok(()),

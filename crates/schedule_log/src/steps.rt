@@ -63,55 +63,55 @@ fn refusal_of_turn(shape: &Shape, made: u32, turn: Turn) -> Option<ScheduleRefus
     }
 }
 
-// Nothing may come behind the end.
-fn after_end(made: u32, behind: &[u8]) -> Standing
-    requires { made ≤ 1048576 }
-    ensures { standing_of made result ≡ end_with (made + 1 + 1) behind.now }
+// Nothing may come behind the end, which is the line behind so many others.
+fn after_end(lines: u32, behind: &[u8]) -> Standing
+    requires { lines ≤ 1048576 }
+    ensures { standing_of lines result ≡ end_with (lines + 1 + 1) behind.now }
 {
     if behind.is_empty() {
         Standing::AtEnd
     } else {
-        Standing::Refused(made + 2, ScheduleRefusal::AfterEnd)
+        Standing::Refused(lines + 2, ScheduleRefusal::AfterEnd)
     }
 }
 
 // The step of a line that is a turn, with so many bytes.
-fn step_of_turn(shape: &Shape, made: u32, turn: Turn, used: usize) -> Step
-    requires { made ≤ 1048576 }
-    ensures { result ≡ step_by (refusal_of_turn (shape_view shape.now) made turn) made turn used }
+fn step_of_turn(shape: &Shape, lines: u32, made: u32, turn: Turn, used: usize) -> Step
+    requires { lines ≤ 1048576 }
+    ensures { result ≡ step_by (refusal_of_turn (shape_view shape.now) made turn) lines turn used }
 {
     // A value that was handed on isn't put into another one.
     let judged = turn;
     match refusal_of_turn(shape, made, judged) {
         None => Step::Turn { turn, used },
-        Some(refusal) => Step::Stop(Standing::Refused(made + 1, refusal)),
+        Some(refusal) => Step::Stop(Standing::Refused(lines + 1, refusal)),
     }
 }
 
 // What a text begins with whose first line has `end` bytes.
-fn step_of_line(shape: &Shape, made: u32, text: &[u8], end: usize) -> Step
-    requires made { made ≤ 1048576 }
+fn step_of_line(shape: &Shape, lines: u32, made: u32, text: &[u8], end: usize) -> Step
+    requires lines { lines ≤ 1048576 }
     requires line { IsLine text.now end }
-    ensures { StepGives (shape_view shape.now) made text.now result }
+    ensures { StepGives (shape_view shape.now) lines made text.now result }
 {
     let line = &text[..end];
     if line == END {
-        return Step::Stop(after_end(made, &text[end + 1..]));
+        return Step::Stop(after_end(lines, &text[end + 1..]));
     }
     match turn_of_line(line) {
-        None => Step::Stop(Standing::Refused(made + 1, ScheduleRefusal::BadTurn)),
-        Some(turn) => step_of_turn(shape, made, turn, end + 1),
+        None => Step::Stop(Standing::Refused(lines + 1, ScheduleRefusal::BadTurn)),
+        Some(turn) => step_of_turn(shape, lines, made, turn, end + 1),
     }
 }
 
-/// What a text begins with that comes behind `made` turns.
-pub(crate) fn first_step(shape: &Shape, made: u32, text: &[u8]) -> Step
-    requires { made ≤ 1048576 }
-    ensures { StepGives (shape_view shape.now) made text.now result }
+/// What a text begins with where `made` turns are there, of which so many are lines before it.
+pub(crate) fn first_step(shape: &Shape, lines: u32, made: u32, text: &[u8]) -> Step
+    requires { lines ≤ 1048576 }
+    ensures { StepGives (shape_view shape.now) lines made text.now result }
 {
     match cut_line(text, 0, MOST_BYTES) {
-        LineCut::Line(end) => step_of_line(shape, made, text, end),
-        LineCut::LineTooLong => Step::Stop(Standing::Refused(made + 1, ScheduleRefusal::BadTurn)),
+        LineCut::Line(end) => step_of_line(shape, lines, made, text, end),
+        LineCut::LineTooLong => Step::Stop(Standing::Refused(lines + 1, ScheduleRefusal::BadTurn)),
         LineCut::NoEndOfLine => Step::Stop(Standing::InLine),
     }
 }

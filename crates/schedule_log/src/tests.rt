@@ -113,3 +113,27 @@ fn refuses_no_end(rt: HostRuntime) -> Result<(), Fail> {
     assert_eq!(rt; reader.finish(), Err((2, ScheduleRefusal::NoEnd)));
     Ok(())
 }
+
+#[test]
+fn goes_on_behind_others(rt: HostRuntime) -> Result<(), Fail> {
+    let shape = two_leaves(&rt, rt.alloc());
+    let mut reader = ScheduleReader::after(rt.alloc(), 1_048_574)?;
+    let mut turns = Vec::new(rt.alloc());
+    assert!(rt; reader.feed(&shape, b"h 0 0\nh 1 0\n", &mut turns).is_ok());
+    assert_eq!(rt; turns.len(), 2);
+    assert_eq!(rt;
+        reader.feed(&shape, b"h 0 0\nend\n", &mut turns),
+        Err(FeedError::Refused(3, ScheduleRefusal::TooManyTurns))
+    );
+    Ok(())
+}
+
+#[test]
+fn ends_behind_the_last_turn(rt: HostRuntime) -> Result<(), Fail> {
+    let shape = two_leaves(&rt, rt.alloc());
+    let mut reader = ScheduleReader::after(rt.alloc(), 1_048_576)?;
+    let mut turns = Vec::new(rt.alloc());
+    assert!(rt; reader.feed(&shape, b"end\n", &mut turns).is_ok());
+    assert!(rt; reader.finish().is_ok());
+    Ok(())
+}

@@ -5,7 +5,7 @@ use Rattle.ddm_types.specs.declared.turns.Turn.{Turn}
 use Rattle.ddm_types.specs.Keys.{key_zero}
 use Rattle.tree_model.specs.State.Values.{DirValue, Node, Nodes, leaf_node, dir_node, no_nodes, more_nodes, children, MachineValue, root_of}
 use Rattle.tree_model.specs.State.Place.{Where, at_top, at_child, where_path, spot_in, key_at_leaf}
-use Rattle.tree_model.specs.State.Shape.{Skeleton, Skeletons, leaf_bone, dir_bone, no_bones, more_bones, skeleton, skeletons, bone_count}
+use Rattle.tree_model.specs.State.Shape.{Skeleton, Skeletons, leaf_bone, dir_bone, no_bones, more_bones, skeleton, skeletons, bone_count, frame_of}
 use Rattle.tree_model.specs.Turns.Machine.{is_child_of, names_part, turn_of, run_of}
 use Rattle.tree_model.specs.Turns.Tree.{leaf_of_number, bus_of_number, read_in, read_among, of_leaf, of_dir}
 use Rattle.tree_model.proofs.NamedNode.{read_in-is_some}
@@ -57,8 +57,12 @@ part-bones (Turn.Request bus child) m = ap (is_child_of child) (counted-in bus a
 part-bones (Turn.Reply bus child) m = ap (is_child_of child) (counted-in bus at_top (root_of m))
 part-bones (Turn.Leave bus child choice) m = ap (is_child_of child) (counted-in bus at_top (root_of m))
 
+-- machines of one skeleton have the same parts
+pub frame-names : (u : Turn) (m n : MachineValue) → frame_of m ≡ frame_of n → names_part u m ≡ names_part u n
+frame-names u m n same = part-bones u m ∙ ap (λ f. bones_named u f.bones) same ∙ sym (part-bones u n)
+
 pub turn-names : (u t : Turn) (m : MachineValue) → names_part u (turn_of t m).machine ≡ names_part u m
-turn-names u t m = part-bones u (turn_of t m).machine ∙ ap (λ f. bones_named u f.bones) (turn-frame t m) ∙ sym (part-bones u m)
+turn-names u t m = frame-names u (turn_of t m).machine m (turn-frame t m)
 
 pub run-names : (u : Turn) (ts : List Turn) (m : MachineValue) → names_part u (run_of ts m).machine ≡ names_part u m
-run-names u ts m = part-bones u (run_of ts m).machine ∙ ap (λ f. bones_named u f.bones) (run-frame ts m) ∙ sym (part-bones u m)
+run-names u ts m = frame-names u (run_of ts m).machine m (run-frame ts m)

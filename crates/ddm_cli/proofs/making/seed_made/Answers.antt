@@ -3,6 +3,7 @@ use Rattle.std.specs.Prelude.{All, Some, vec_len}
 use Rattle.std.proofs.lemmas.List.{nil_from_length}
 use Rattle.tree_model.specs.Start.Sources.{TreeValue}
 use Rattle.text_model.specs.ReadBack.{IsTurnOf}
+use Rattle.text_model.specs.Run.{no_counts}
 use Rattle.text_model.specs.Schedule.{ShapeView}
 use Rattle.text_model.specs.Seeded.{seeded_turns}
 use Rattle.schedule_log.specs.Seeding.{SeededView}
@@ -13,7 +14,7 @@ use Rattle.ddm_cli.proofs.making.seed_made.Goals as goal
 
 pub making-init : goal.making-init
 making-init c = record {
-  made = ([], refl, nothing_made c.args.tree.now c.requires.tree (machine_state c.args.machine.now) c.requires.start c.args.keep c.nothing_made-made.result c.nothing_made-made.ensures.counts c.nothing_made-made.ensures.turns c.nothing_made-made.ensures.answers);
+  made = ([], refl, nothing_made c.args.tree.now.levels no_counts (machine_state c.args.machine.now) c.requires.start c.args.keep c.nothing_made-made.result (c.nothing_made-made.ensures.counts ∙ c.nothing_counted.ensures) c.nothing_made-made.ensures.turns c.nothing_made-made.ensures.answers);
   places = c.in_ok-block.ensures;
 }
 
@@ -26,7 +27,7 @@ make_turns-requires-clause-named c =
     let whole = block_kept c.making.block.len c.next_block-size.new.block _ (c.next_block-size.auto.block ∙ c.deref_mut.ensures.len) in
     let front = ap (take c.next_block-size.result) (c.deref.ensures.value ∙ whole) ∙ c.next_block-size.ensures.block in
     let back = ap (λ (v : SeededView). v.left) c.next_block-size.ensures.left in
-    let next = next_block c.args.tree.now c.requires.tree (machine_state c.args.machine.now) c.requires.start c.args.keep (machine_state c.making.machine) c.making.made turns has _ (take c.next_block-size.result c.deref.result.now) c.next_block-size.new.self.left c.making.left.left c.begin.new.self.left c.next_block-size.result levels so_far front back known few in
+    let next = next_block c.args.tree.now.levels (machine_state c.args.machine.now) c.requires.start c.args.keep (machine_state c.making.machine) c.making.made turns has _ (take c.next_block-size.result c.deref.result.now) c.next_block-size.new.self.left c.making.left.left c.begin.new.self.left c.next_block-size.result levels so_far front back known few in
     next.1.named
 
 pub make_turns-requires-clause-few : goal.make_turns-requires-clause-few
@@ -38,7 +39,7 @@ make_turns-requires-clause-few c =
     let whole = block_kept c.making.block.len c.next_block-size.new.block _ (c.next_block-size.auto.block ∙ c.deref_mut.ensures.len) in
     let front = ap (take c.next_block-size.result) (c.deref.ensures.value ∙ whole) ∙ c.next_block-size.ensures.block in
     let back = ap (λ (v : SeededView). v.left) c.next_block-size.ensures.left in
-    let next = next_block c.args.tree.now c.requires.tree (machine_state c.args.machine.now) c.requires.start c.args.keep (machine_state c.making.machine) c.making.made turns has _ (take c.next_block-size.result c.deref.result.now) c.next_block-size.new.self.left c.making.left.left c.begin.new.self.left c.next_block-size.result levels so_far front back known few in
+    let next = next_block c.args.tree.now.levels (machine_state c.args.machine.now) c.requires.start c.args.keep (machine_state c.making.machine) c.making.made turns has _ (take c.next_block-size.result c.deref.result.now) c.next_block-size.new.self.left c.making.left.left c.begin.new.self.left c.next_block-size.result levels so_far front back known few in
     next.1.few
 
 pub make_turns-requires-clause-counted : goal.make_turns-requires-clause-counted
@@ -50,7 +51,7 @@ make_turns-requires-clause-counted c =
     let whole = block_kept c.making.block.len c.next_block-size.new.block _ (c.next_block-size.auto.block ∙ c.deref_mut.ensures.len) in
     let front = ap (take c.next_block-size.result) (c.deref.ensures.value ∙ whole) ∙ c.next_block-size.ensures.block in
     let back = ap (λ (v : SeededView). v.left) c.next_block-size.ensures.left in
-    let next = next_block c.args.tree.now c.requires.tree (machine_state c.args.machine.now) c.requires.start c.args.keep (machine_state c.making.machine) c.making.made turns has _ (take c.next_block-size.result c.deref.result.now) c.next_block-size.new.self.left c.making.left.left c.begin.new.self.left c.next_block-size.result levels so_far front back known few in
+    let next = next_block c.args.tree.now.levels (machine_state c.args.machine.now) c.requires.start c.args.keep (machine_state c.making.machine) c.making.made turns has _ (take c.next_block-size.result c.deref.result.now) c.next_block-size.new.self.left c.making.left.left c.begin.new.self.left c.next_block-size.result levels so_far front back known few in
     next.1.counted
 
 pub making-preserved : goal.making-preserved
@@ -62,12 +63,12 @@ making-preserved c =
     let whole = block_kept c.making.block.len c.next_block-size.new.block _ (c.next_block-size.auto.block ∙ c.deref_mut.ensures.len) in
     let front = ap (take c.next_block-size.result) (c.deref.ensures.value ∙ whole) ∙ c.next_block-size.ensures.block in
     let back = ap (λ (v : SeededView). v.left) c.next_block-size.ensures.left in
-    let next = next_block c.args.tree.now c.requires.tree (machine_state c.args.machine.now) c.requires.start c.args.keep (machine_state c.making.machine) c.making.made turns has _ (take c.next_block-size.result c.deref.result.now) c.next_block-size.new.self.left c.making.left.left c.begin.new.self.left c.next_block-size.result levels so_far front back known few in
+    let next = next_block c.args.tree.now.levels (machine_state c.args.machine.now) c.requires.start c.args.keep (machine_state c.making.machine) c.making.made turns has _ (take c.next_block-size.result c.deref.result.now) c.next_block-size.new.self.left c.making.left.left c.begin.new.self.left c.next_block-size.result levels so_far front back known few in
     let done = c.in_ok-make_turns.ensures in
     let more = take c.next_block-size.result c.deref.result.now in
     let places : 0 < vec_len c.making.block = c.making.invariant.places in
     record {
-      made = (turns ++ more, next.0, more_made c.args.tree.now c.requires.tree (machine_state c.args.machine.now) c.requires.start c.args.keep (machine_state c.making.machine) c.making.made turns more has next.1.given (machine_state c.make_turns.new.machine) c.make_turns.new.made done.after done.counts done.turns done.answers);
+      made = (turns ++ more, next.0, more_made c.args.tree.now.levels no_counts (machine_state c.args.machine.now) c.requires.start c.args.keep (machine_state c.making.machine) c.making.made turns more has next.1.given (machine_state c.make_turns.new.machine) c.make_turns.new.made done.after done.counts done.turns done.answers);
       places = places;
     }
 

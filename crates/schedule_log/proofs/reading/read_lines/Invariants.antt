@@ -6,11 +6,13 @@ use Rattle.schedule_log.proofs.reading.read_lines.Given as goal
 -- the turns so far and those of the bytes to come are all
 abbrev pub invariant-lines : goal.invariant-lines
 invariant-lines l = record {
-  turns : l.turns.items ++ (reading_on (shape_view l.shape) (l.made + 1) l.made (drop l.kept l.text)).turns ≡ l.initial.turns.items ++ (reading_on (shape_view l.shape) (l.first + 1) l.first l.text).turns;
-  standing : (reading_on (shape_view l.shape) (l.made + 1) l.made (drop l.kept l.text)).standing ≡ (reading_on (shape_view l.shape) (l.first + 1) l.first l.text).standing;
-  count : l.made + length (reading_on (shape_view l.shape) (l.made + 1) l.made (drop l.kept l.text)).turns ≡ l.first + length (reading_on (shape_view l.shape) (l.first + 1) l.first l.text).turns;
+  turns : l.turns.items ++ (reading_on (shape_view l.shape) (l.lines + 1) l.made (drop l.kept l.text)).turns ≡ l.initial.turns.items ++ (reading_on (shape_view l.shape) (l.first_lines + 1) l.first l.text).turns;
+  standing : (reading_on (shape_view l.shape) (l.lines + 1) l.made (drop l.kept l.text)).standing ≡ (reading_on (shape_view l.shape) (l.first_lines + 1) l.first l.text).standing;
+  count : l.made + length (reading_on (shape_view l.shape) (l.lines + 1) l.made (drop l.kept l.text)).turns ≡ l.first + length (reading_on (shape_view l.shape) (l.first_lines + 1) l.first l.text).turns;
+  count_lines : l.lines + length (reading_on (shape_view l.shape) (l.lines + 1) l.made (drop l.kept l.text)).turns ≡ l.first_lines + length (reading_on (shape_view l.shape) (l.first_lines + 1) l.first l.text).turns;
   held : held_of l.text ≡ held_of (drop l.kept l.text);
   within : l.kept ≤ length l.text;
+  of_text : l.lines ≤ l.made;
   few : l.made ≤ 1048576;
   front : take (length l.initial.turns.items) l.turns.items ≡ l.initial.turns.items;
 }

@@ -7,7 +7,7 @@ pub step_of_line-requires-clause-line : goal.step_of_line-requires-clause-line
 step_of_line-requires-clause-line c = line_of c.args.text.now c.in-Line.end (sym c.cut_line.ensures ∙ c.in-Line.is)
 
 pub returns-in-LineTooLong : goal.returns-in-LineTooLong
-returns-in-LineTooLong c = long_step (shape_view c.args.shape.now) c.args.made c.args.text.now (sym c.cut_line.ensures ∙ c.in-LineTooLong.is)
+returns-in-LineTooLong c = long_step (shape_view c.args.shape.now) c.args.lines c.args.made c.args.text.now (sym c.cut_line.ensures ∙ c.in-LineTooLong.is)
 
 pub returns-in-NoEndOfLine : goal.returns-in-NoEndOfLine
-returns-in-NoEndOfLine c = open_step (shape_view c.args.shape.now) c.args.made c.args.text.now (sym c.cut_line.ensures ∙ c.in-NoEndOfLine.is)
+returns-in-NoEndOfLine c = open_step (shape_view c.args.shape.now) c.args.lines c.args.made c.args.text.now (sym c.cut_line.ensures ∙ c.in-NoEndOfLine.is)

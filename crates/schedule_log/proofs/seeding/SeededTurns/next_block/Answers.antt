@@ -1,7 +1,5 @@
-use Rattle.std.proofs.Common.{◌≡◌, ◌<◌, ◌+◌, List, [], ◌∷◌, ◌++◌, length, drop, take, ap, sym, ◌∙◌, arith}
-use Rattle.std.specs.Prelude.{slice_set}
-use Rattle.ddm_types.specs.declared.turns.Turn.{Turn}
-use Rattle.schedule_log.proofs.Seeds.{left_before, left_behind, put_before, put_behind}
+use Rattle.std.proofs.Common.{◌≡◌, ◌<◌, ◌∷◌, length, drop, sym, ◌∙◌, arith}
+use Rattle.schedule_log.proofs.Seeds.{left_behind, put_before, put_behind}
 use Rattle.schedule_log.proofs.seeding.SeededTurns.next_block.Goals as goal
 
 pub loop-made-preserved : goal.loop-made-preserved

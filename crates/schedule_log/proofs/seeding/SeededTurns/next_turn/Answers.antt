@@ -1,4 +1,4 @@
-use Rattle.std.proofs.Common.{◌≡◌, ◌<◌, ◌-◌, List, ◌∷◌, ℕ, length, ap, sym, ◌∙◌, arith}
+use Rattle.std.proofs.Common.{◌<◌, ◌-◌, List, ◌∷◌, ℕ, length, ap, sym, ◌∙◌, arith}
 use Rattle.text_model.specs.Schedule.{ShapeView}
 use Rattle.text_model.specs.Seeded.{seeded_turn}
 use Rattle.schedule_log.specs.Seeding.{SeededView, turns_left}
