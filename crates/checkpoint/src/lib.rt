@@ -9,10 +9,9 @@ pub mod laws;
 mod resuming;
 mod saving;
 
+use ddm_types::NoMemory;
 pub use resuming::{MOST_BYTES, resume};
 pub use saving::save;
-
-use ddm_types::NoMemory;
 
 /// Why a file is no checkpoint of a machine of this tree and image. Words are counted from 0.
 #[derive(Clone, Copy, Debug, PartialEq, Eq)]

@@ -27,12 +27,7 @@ fn words_in(alloc: Global, bytes: &[u8]) -> Result<Vec<u32>, NoMemory>
     let mut words = Vec::with_capacity(alloc, bytes.len() / 4)?;
     let mut at = 0;
     'words: while bytes.len() - at >= 4 {
-        words.push(u32::from_le_bytes([
-            bytes[at],
-            bytes[at + 1],
-            bytes[at + 2],
-            bytes[at + 3],
-        ]))?;
+        words.push(u32::from_le_bytes([bytes[at], bytes[at + 1], bytes[at + 2], bytes[at + 3]]))?;
         at += 4;
     }
     Ok(words)
