@@ -18,8 +18,8 @@ use Rattle.value_laws.specs.Images.{IsOfBytes}
 use Rattle.value_laws.proofs.RunForm.{every-run-form, greater-form}
 use Rattle.headline.proofs.Runs.{run-in_order}
 use Rattle.state_reading.specs.Parts.{most_counted}
-use Rattle.state_judging.specs.Read.{CanRead}
 use Rattle.state_judging.proofs.Judging.{kept_rules_are_judged_so}
+use Rattle.state_judging.proofs.Started.{started_machines_can_be_read}
 use Rattle.spelling_laws.specs.Small.{rooms_small, IsSmall, HasSmallSizes}
 use Rattle.spelling_laws.proofs.Ruled.{ruled-spelled}
 use Rattle.spelling_laws.proofs.StartSmall.{started-small}
@@ -117,10 +117,11 @@ still-small fresh m frame small ops =
 
 -- ---- the run
 
-pub run-read : (t : TreeValue) (i : ImageValue) (fresh : MachineValue) (ts : List Turn) → IsTree t → IsOfBytes i → start_of t i ≡ Ok fresh → CanRead fresh → HasSmallSizes t → length ts ≤ most_counted
+pub run-read : (t : TreeValue) (i : ImageValue) (fresh : MachineValue) (ts : List Turn) → IsTree t → IsOfBytes i → start_of t i ≡ Ok fresh → HasSmallSizes t → length ts ≤ most_counted
     → length (saved (run_of ts fresh).machine (counts_of (run_of ts fresh).answers)) ≤ 536870912
     → resumed fresh (saved (run_of ts fresh).machine (counts_of (run_of ts fresh).answers)) ≡ Ok (record { machine = (run_of ts fresh).machine; counts = counts_of (run_of ts fresh).answers })
-run-read t i fresh ts tree of_bytes built can sizes few most =
+run-read t i fresh ts tree of_bytes built sizes few most =
+    let can = started_machines_can_be_read t i fresh tree built in
     let small = started-small t i fresh tree sizes built in
     let m = (run_of ts fresh).machine in
     let c = counts_of (run_of ts fresh).answers in
