@@ -204,6 +204,22 @@ pub fn add_to_one_word(alloc: Global) -> Result<Vec<u8>, Fail> {
     image(alloc, &code, &[], 16)
 }
 
+/// Hart 0 stores to the word at 0x20000 and then to the flag at 0x20010. Another hart reads the word, reads it once more, and then
+/// the flag.
+pub fn word_and_flag(alloc: Global) -> Result<Vec<u8>, Fail> {
+    let code = [
+        0x000202b7, // lui x5,0x20
+        0x0002a383, // lw x7,0(x5)
+        0x00050863, // beq x10,x0,16: hart 0 goes on with its stores
+        0x0002a403, // lw x8,0(x5)
+        0x0102a483, // lw x9,16(x5)
+        0x0002a603, // lw x12,0(x5)
+        0x00b2a023, // sw x11,0(x5)
+        0x00b2a823, // sw x11,16(x5)
+    ];
+    image(alloc, &code, &[5], 32)
+}
+
 /// The file with other bytes at a place.
 pub fn changed(alloc: Global, file: &[u8], place: usize, bytes: &[u8]) -> Result<Vec<u8>, Fail> {
     if place > file.len() || bytes.len() > file.len() - place {

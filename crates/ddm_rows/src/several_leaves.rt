@@ -2,7 +2,8 @@
 
 use crate::answers::{RUN, Turn, has_start, line_number, missing, output, traced};
 use crate::files::{
-    Files, TreeFile, add_to_one_word, image, load_and_exit, load_two_words, schedule, text_of, tree,
+    Files, TreeFile, add_to_one_word, image, load_and_exit, load_two_words, schedule, text_of,
+    tree, word_and_flag,
 };
 use std::alloc::Global;
 use std::test::Fail;
@@ -170,24 +171,8 @@ fn a_reservation_is_lost(rt: HostRuntime) -> Result<(), Fail> {
     Ok(())
 }
 
-// Hart 0 stores to the word at 0x20000 and then to the flag at 0x20010. Another hart reads the word, reads it once more, and then
-// the flag.
-fn word_and_flag(alloc: Global) -> Result<Vec<u8>, Fail> {
-    let code = [
-        0x000202b7, // lui x5,0x20
-        0x0002a383, // lw x7,0(x5)
-        0x00050863, // beq x10,x0,16: hart 0 goes on with its stores
-        0x0002a403, // lw x8,0(x5)
-        0x0102a483, // lw x9,16(x5)
-        0x0002a603, // lw x12,0(x5)
-        0x00b2a023, // sw x11,0(x5)
-        0x00b2a823, // sw x11,16(x5)
-    ];
-    image(alloc, &code, &[5], 32)
-}
-
-// The word reaches harts 0 and 3, and hart 0 is granted its store.
-const WORD_READ: [Turn; 21] = [
+/// The word reaches harts 0 and 3, and hart 0 is granted its store.
+pub const WORD_READ: [Turn; 21] = [
     ("h 3 0", "retired plain"),
     ("h 3 0", "issued read 2"),
     ("g 2 q 1", "granted read 2 from child 1 to child 0"),
@@ -211,19 +196,20 @@ const WORD_READ: [Turn; 21] = [
     ("g 1 d", "granted exclusive 2 from parent to child 0"),
 ];
 
-// Hart 0 stores, and hart 3, which the erase hasn't reached, still reads the old word.
-const WORD_STORED: [Turn; 2] = [
+/// Hart 0 stores, and hart 3, which the erase hasn't reached, still reads the old word.
+pub const WORD_STORED: [Turn; 2] = [
     ("h 0 0", "retired store 00020000 00000005 00000004"),
     ("h 3 0", "retired load 00020000 00000005"),
 ];
 
-// Hart 0 asks for the flag: its read waits behind the erase on the way to bus 2.
-const FLAG_ASKED: [Turn; 2] = [
+/// Hart 0 asks for the flag: its read waits behind the erase on the way to bus 2.
+pub const FLAG_ASKED: [Turn; 2] = [
     ("h 0 0", "issued read 3"),
     ("g 1 q 0", "granted read 3 from child 0 to parent"),
 ];
 
-const FLAG_READ: [Turn; 21] = [
+/// Hart 0 gets the flag and stores to it, and hart 3 reads it.
+pub const FLAG_READ: [Turn; 21] = [
     ("g 0 q 0", "granted read 3 from child 0 to child 1"),
     ("g 2 d", "granted erase 2 from parent to all"),
     ("g 2 d", "granted read 3 from parent to child 1"),

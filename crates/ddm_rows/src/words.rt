@@ -31,6 +31,8 @@ fn words_at_fault(rt: HostRuntime) -> Result<(), Fail> {
         (&["unjam", "a", "b", "c", "d"], 4),
         (&["save", "a", "b"], 3),
         (&["save", "a", "b", "c", "d"], 4),
+        (&["resume", "a", "b", "c"], 4),
+        (&["resume", "a", "b", "c", "d", "e"], 5),
         (&["outcomes", "i", "t", "0", "1"], 5),
         (&["outcomes", "i", "t", "0", "0", "1"], 4),
         (&["outcomes", "i", "t", "0", "1000001", "1"], 4),
@@ -71,7 +73,7 @@ fn of_itself(rt: HostRuntime) -> Result<(), Fail> {
     assert_eq!(rt; version.as_slice(), b"ddm 1\n".as_slice());
     let help = output(alloc, &["--help"], &no_files)?;
     for name in [
-        "run", "trace", "seed", "schedule", "make", "check", "unjam", "save", "outcomes",
+        "run", "trace", "seed", "schedule", "make", "check", "unjam", "save", "resume", "outcomes",
     ] {
         let said = output(alloc, &["help", name], &no_files)?;
         let line = format!(in alloc; "ddm {name} ")?;
