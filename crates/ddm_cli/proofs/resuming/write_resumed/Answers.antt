@@ -6,8 +6,8 @@ use Rattle.ddm_cli.specs.Views.{resumption_from}
 use Rattle.ddm_cli.proofs.Rests.{checkpoint_refused, gives_from, goes_on, rest_refused, rest_taken}
 use Rattle.ddm_cli.proofs.resuming.write_resumed.Goals as goal
 
-pub write_rest-requires-clause-start : goal.write_rest-requires-clause-start
-write_rest-requires-clause-start g c =
+pub write_rest-written-requires-clause-start : goal.write_rest-written-requires-clause-start
+write_rest-written-requires-clause-start g c =
     let found = c.in_ok-fresh.ensures.found in
     let more = c.in_ok-machine.ensures in
     goes_on c.in_ok-tree.tree c.in_ok-tree.ensures.tree (machine_state c.in_ok-fresh.fresh) (machine_state c.in_ok-machine.machine) c.in_ok-machine.first (found.0, found.1) more.frame more.turns more.few
