@@ -22,7 +22,8 @@ const STATE: u32 = 11;
 
 /// The words of which all four bytes are there. They take as much memory as the file.
 fn words_in(alloc: Global, bytes: &[u8]) -> Result<Vec<u32>, NoMemory>
-    ensures { IfOk result (λ words. words.items ≡ whole_words bytes.now) }
+    ensures words { IfOk result (λ words. words.items ≡ whole_words bytes.now) }
+    ensures few { IfOk result (λ words. length words.items ≤ length bytes.now) }
 {
     let mut words = Vec::with_capacity(alloc, bytes.len() / 4)?;
     let mut at = 0;
@@ -157,6 +158,7 @@ fn head_of(
     ensures few { IfOk result (λ r. AreBelow 1048577 r.1) }
     ensures whole { OnOk result (10 < length (whole_words bytes.now)) }
     ensures short { OnOk result (length bytes.now ≤ 536870912) }
+    ensures few_words { IfOk result (λ r. length r.0.items ≤ 536870912) }
     ensures ok { OnOk result (judged_head sizes bytes.now ≡ None) }
     ensures refused { IfErr result (λ e. e ≢ refusal.NoMemory → judged_head sizes bytes.now ≡ Some e) }
 {

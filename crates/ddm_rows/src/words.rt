@@ -6,7 +6,7 @@ use std::test::Fail;
 
 #[test]
 fn words_at_fault(rt: HostRuntime) -> Result<(), Fail> {
-    let commands: [(&[&str], u32); 35] = [
+    let commands: [(&[&str], u32); 37] = [
         (&[], 0),
         (&["walk"], 0),
         (&["run", "a", "b"], 3),

@@ -7,6 +7,7 @@ abbrev pub invariant-words : goal.invariant-words
 invariant-words l = record {
   words : l.words.items ++ whole_words (drop l.at l.bytes) ≡ whole_words l.bytes;
   inside : l.at ≤ length l.bytes;
+  few : length l.words.items ≤ l.at;
 }
 
 abbrev pub decreases-words : goal.decreases-words
