@@ -1,7 +1,7 @@
 -- Reading a section of each leaf in order of number: what is read so far, and the tree with it at its places.
 -- Letters: m is the machine before, now after some leaves, us are the leaves that were read.
-use Rattle.std.proofs.Common.{◌≡◌, ◌<◌, ◌≤◌, ℕ, zero, suc, ◌+◌, ◌++◌, Bool, true, false, List, [], ◌∷◌, length, map, drop, Option, Some, None, refl, sym, ap, ◌∙◌, subst, arith, true≢false, add-one}
-use Rattle.std.specs.Prelude.{nat_eq, slice_get, slice_index_or, Result, Ok, Err, if◌then◌else◌}
+use Rattle.std.proofs.Common.{◌≡◌, ◌<◌, ◌≤◌, ℕ, zero, suc, ◌+◌, ◌++◌, Bool, true, false, List, [], ◌∷◌, length, map, drop, Some, refl, sym, ap, ◌∙◌, subst, arith, true≢false, add-one}
+use Rattle.std.specs.Prelude.{slice_get, slice_index_or, Result, Ok, Err}
 use Rattle.std.proofs.lemmas.Bool.{eqb-true, eq-eqb}
 use Rattle.std.proofs.lemmas.List.{append_assoc, append-nil, length_push, drop_all}
 use Rattle.ddm_types.specs.ItemTable.{item_count}
@@ -13,14 +13,13 @@ use Rattle.tree_model.specs.Turns.Machine.{machine_leaves, with_root}
 use Rattle.tree_model.specs.Turns.Tree.{leaf_of_number, is_named, of_leaf}
 use Rattle.state_reading.specs.declared.StateRefusal.{StateRefusal}
 use Rattle.state_reading.specs.Reading.{Read, and_then, given}
-use Rattle.state_reading.specs.Parts.{read_hart, read_leaf}
 use Rattle.state_reading.specs.Machine.{read_each, refilled, refilled_among}
 use Rattle.state_judging.specs.Read.{CanRead}
 use Rattle.state_judging.proofs.Inverted.{and_then-ok}
 use Rattle.ddm_tree.specs.declared.section.Section.{Section}
 use Rattle.ddm_tree.specs.Parts.{LeavesRead, SectionRead, SectionRefused, leaf_read, leaf_section}
 use Rattle.ddm_tree.specs.Path.{node_at, path_to, put_at}
-use Rattle.ddm_tree.specs.ReadBack.{IsPut, node_read, section_name}
+use Rattle.ddm_tree.specs.ReadBack.{node_read, section_name}
 use Rattle.ddm_tree.specs.Ready.{Leads}
 use Rattle.ddm_tree.proofs.Along.{where_end}
 use Rattle.ddm_tree.proofs.LeafList.{leaf-listed, leaf-number}

@@ -1,15 +1,13 @@
 -- What a machine that is taken apart keeps while words are read into it.
-use Rattle.std.proofs.Common.{◌≡◌, ◌<◌, ℕ, zero, suc, Bool, true, false, List, [], ◌∷◌, length, map, drop, Option, Some, refl, sym, ap, ◌∙◌, subst, arith}
-use Rattle.std.specs.Prelude.{IsTrue, nat_eq, nat_lt, ◌&&◌, slice_set, Result, Ok, Err}
+use Rattle.std.proofs.Common.{◌≡◌, ◌<◌, ℕ, zero, suc, true, List, [], ◌∷◌, length, drop, Some, refl, sym, ap, ◌∙◌, subst, arith}
+use Rattle.std.specs.Prelude.{IsTrue, nat_eq, slice_set, Result, Ok, Err}
 use Rattle.std.proofs.lemmas.Bool.{eqb-true}
 use Rattle.ddm_types.specs.ItemTable.{item_count}
 use Rattle.tree_model.specs.State.Rooms.{all_within, all_within_among, dir_within, leaf_within}
-use Rattle.tree_model.specs.State.Blank.{no_node}
 use Rattle.tree_model.specs.State.Values.{LeafValue, DirValue, Node, Nodes, leaf_node, dir_node, no_nodes, more_nodes, nodes, children, MachineValue, root_of}
 use Rattle.tree_model.specs.State.Shape.{IsShaped, dir_bone, frame_of, shape_test, skeleton, skeletons, tree_counts}
 use Rattle.tree_model.specs.Turns.Children.{child_at}
 use Rattle.tree_model.specs.Turns.Tree.{Name}
-use Rattle.tree_model.specs.Turns.Machine.{with_root}
 use Rattle.tree_model.proofs.Children.{nodes-children}
 use Rattle.tree_model.specs.Start.Nodes.{top_sizes}
 use Rattle.tree_model.proofs.Tests.{and-both, and-first, and-second}
@@ -21,7 +19,7 @@ use Rattle.state_reading.specs.declared.StateRefusal.{StateRefusal}
 use Rattle.state_reading.specs.Reading.{Read, and_then, given}
 use Rattle.state_reading.specs.Parts.{read_dir, read_hart, read_leaf}
 use Rattle.ddm_tree.specs.declared.section.Section.{Section}
-use Rattle.ddm_tree.specs.Machine.{has_path, is_part, listed_path, machine_of}
+use Rattle.ddm_tree.specs.Machine.{is_part, listed_path, machine_of}
 use Rattle.ddm_tree.specs.Parts.{IsParts, SectionRead, SectionRefused}
 use Rattle.ddm_tree.specs.Path.{node_at, path_to, put_at}
 use Rattle.ddm_tree.specs.ReadBack.{IsPut, PartRead, node_read, section_name}

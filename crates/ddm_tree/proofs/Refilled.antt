@@ -1,19 +1,15 @@
 -- A tree of which leaves and directories were replaced, each by its number; one more of them is replaced where it stands at the end of
 -- the path to it.
 -- Letters: f and g say what becomes of leaves and of directories, f' and g' what becomes of them with one more replaced.
-use Rattle.std.proofs.Common.{◌≡◌, ◌<◌, ℕ, zero, suc, ◌+◌, Bool, true, false, List, [], ◌∷◌, ◌++◌, length, map, get_or, Option, Some, None, refl, sym, ap, ◌∙◌, subst, arith, true≢false, option_map}
-use Rattle.std.specs.Prelude.{is_some, slice_set, slice_index_or, ◌||◌, if◌then◌else◌}
-use Rattle.std.proofs.lemmas.List.{get_or-map, length-map}
-use Rattle.tree_model.specs.State.Blank.{no_node}
-use Rattle.tree_model.specs.State.Lists.{first_some}
-use Rattle.tree_model.specs.State.Values.{LeafValue, DirValue, Node, Nodes, leaf_node, dir_node, no_nodes, more_nodes, nodes, children}
+use Rattle.std.proofs.Common.{◌≡◌, ◌<◌, ℕ, zero, suc, ◌+◌, Bool, true, false, List, [], ◌∷◌, length, map, refl, sym, ap, ◌∙◌, arith, true≢false}
+use Rattle.std.specs.Prelude.{is_some, slice_index_or, ◌||◌, if◌then◌else◌}
+use Rattle.tree_model.specs.State.Values.{LeafValue, DirValue, Node, Nodes, leaf_node, dir_node, no_nodes, more_nodes, children}
 use Rattle.tree_model.specs.State.Place.{Where, at_top, at_child, where_path, spot_in}
 use Rattle.tree_model.specs.State.Shape.{skeleton, skeletons}
 use Rattle.tree_model.specs.Turns.Children.{child_at}
 use Rattle.tree_model.specs.Turns.Tree.{Name, is_named, has_node, has_among, changed_in, changed_among}
-use Rattle.tree_model.proofs.Children.{nodes-children, children-nodes}
 use Rattle.state_reading.specs.Machine.{refilled, refilled_among}
-use Rattle.ddm_tree.specs.Path.{is_bone, step_down, path_to, path_among, node_at, put_at}
+use Rattle.ddm_tree.specs.Path.{is_bone, path_to, node_at, put_at}
 use Rattle.ddm_tree.specs.Ready.{Leads}
 use Rattle.ddm_tree.proofs.Along.{along, bone-named, path_to-there, some_if-same}
 use Rattle.ddm_tree.proofs.Descend.{leads-child}

@@ -1,20 +1,20 @@
 -- A section is read into the node at the end of a path: at the node itself, at one child of a directory, and one step further up.
-use Rattle.std.proofs.Common.{◌≡◌, ◌<◌, ℕ, true, List, [], ◌∷◌, length, map, get_or, Some, drop, refl, sym, ap, subst, ◌∙◌, arith}
+use Rattle.std.proofs.Common.{◌≡◌, ◌<◌, ℕ, true, List, [], ◌∷◌, length, map, get_or, drop, refl, sym, ap, ◌∙◌, arith}
 use Rattle.std.specs.Prelude.{slice_set, Result, Ok, Err}
 use Rattle.std.proofs.lemmas.List.{get_or-map, length-map}
 use Rattle.tree_model.specs.State.Blank.{no_node}
 use Rattle.tree_model.specs.State.Shape.{skeleton, widths_fit}
-use Rattle.tree_model.specs.State.Values.{LeafValue, DirValue, Node, Nodes, leaf_node, dir_node, nodes, children}
+use Rattle.tree_model.specs.State.Values.{LeafValue, DirValue, Node, leaf_node, dir_node, nodes, children}
 use Rattle.tree_model.specs.Turns.Children.{child_at}
-use Rattle.tree_model.specs.Turns.Tree.{Name, leaf_of_number, bus_of_number}
+use Rattle.tree_model.specs.Turns.Tree.{Name}
 use Rattle.tree_model.proofs.Children.{children-nodes}
 use Rattle.state_reading.specs.declared.StateRefusal.{StateRefusal}
 use Rattle.state_reading.specs.Gives.{IsRead}
 use Rattle.state_reading.specs.Reading.{Read, and_then, given}
 use Rattle.state_reading.specs.Parts.{read_hart, read_leaf, read_dir}
 use Rattle.ddm_tree.specs.declared.section.Section.{Section}
-use Rattle.ddm_tree.specs.Path.{node_at, put_at, path_to}
-use Rattle.ddm_tree.specs.ReadBack.{ChildRead, IsPut, PartRead, node_read, section_name}
+use Rattle.ddm_tree.specs.Path.{put_at}
+use Rattle.ddm_tree.specs.ReadBack.{ChildRead, PartRead, node_read, section_name}
 use Rattle.ddm_tree.specs.Ready.{Leads}
 use Rattle.ddm_tree.proofs.Along.{some_if-same}
 use Rattle.ddm_tree.proofs.Steps.{kids-fit, leaf-on, node-down, put-down, set-child, step-inside}

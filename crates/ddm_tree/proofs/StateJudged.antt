@@ -1,6 +1,6 @@
 -- A state is judged by the rules of the buses first, then by the stamps, then by the keys.
 use Rattle.std.proofs.Common.{◌≡◌, ℕ, true, length, [], List, Option, Some, None, option_map, refl, sym, ap, ◌∙◌}
-use Rattle.std.specs.Prelude.{find, nat_le, ◌&&◌, Result, Ok, Err}
+use Rattle.std.specs.Prelude.{find, nat_le, ◌&&◌, Ok, Err}
 use Rattle.std.specs.List.{list_all, range_with_len}
 use Rattle.tree_model.specs.State.Lists.{first_some}
 use Rattle.tree_model.specs.State.Shape.{frame_of}
@@ -13,7 +13,7 @@ use Rattle.state_reading.specs.declared.StateRefusal.{StateRefusal}
 use Rattle.state_reading.specs.declared.StateRefusal.TheVariants.{BrokenStamp}
 use Rattle.state_reading.specs.Machine.{read_words}
 use Rattle.state_reading.specs.Parts.{most_counted}
-use Rattle.state_reading.specs.Reading.{Read, and_then}
+use Rattle.state_reading.specs.Reading.{and_then}
 use Rattle.state_judging.specs.Judged.{broken_among, broken_key, judged, read_state, stamps_broken, unless_judged}
 use Rattle.state_judging.specs.Read.{CanRead, IsRead, parts_hold, parts_hold_among}
 use Rattle.state_judging.proofs.Judging.{judged_states_keep_the_rules}

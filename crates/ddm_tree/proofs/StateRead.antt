@@ -2,29 +2,28 @@
 -- the tables read into the machine before all of them.
 -- Letters: m is the machine before, hs are the harts that were read, us the leaves, bs the buses, ds their directories, n is how many
 -- items there are.
-use Rattle.std.proofs.Common.{◌≡◌, ◌<◌, ◌≤◌, ℕ, zero, suc, ◌+◌, ◌++◌, Bool, true, false, List, [], ◌∷◌, length, map, drop, Option, Some, None, refl, sym, ap, ◌∙◌, subst, arith}
+use Rattle.std.proofs.Common.{◌≡◌, ◌<◌, ◌≤◌, ℕ, suc, ◌+◌, ◌++◌, true, false, List, [], ◌∷◌, length, map, drop, Option, Some, refl, sym, ap, ◌∙◌, arith}
 use Rattle.std.specs.Prelude.{nat_eq, slice_index_or, ◌||◌, Result, Ok, Err, if◌then◌else◌}
 use Rattle.std.specs.List.{AllByRecursion, range_with_len}
 use Rattle.std.proofs.lemmas.Bool.{and_parts, eqb-true}
-use Rattle.std.proofs.lemmas.List.{append_assoc, get_or_at, length-map, length_push}
+use Rattle.std.proofs.lemmas.List.{append_assoc, get_or_at, length_push}
 use Rattle.ddm_types.specs.declared.operations.Op.{Op}
 use Rattle.ddm_types.specs.ItemTable.{item_count}
-use Rattle.tree_model.specs.declared.Traffic.{Traffic}
 use Rattle.tree_model.specs.State.Place.{Where, at_top, at_child, where_path, spot_in}
 use Rattle.tree_model.specs.State.Rooms.{all_within, all_within_among, dir_within}
-use Rattle.tree_model.specs.State.Shape.{IsShaped, count_from, depth_of, frame_of, leaves_numbered, leaf_numbers_of, levels_of, skeleton, tree_counts}
+use Rattle.tree_model.specs.State.Shape.{IsShaped, count_from, depth_of, frame_of, leaves_numbered, leaf_numbers_of, levels_of, tree_counts}
 use Rattle.tree_model.specs.State.Values.{LeafValue, DirValue, Node, Nodes, leaf_node, dir_node, no_nodes, more_nodes, children, MachineValue, root_of}
 use Rattle.tree_model.specs.Turns.Machine.{ask_bus, leaves_among, leaves_of, machine_leaves, with_root}
-use Rattle.tree_model.specs.Turns.Tree.{bus_of_number, has_among, has_node, is_named, of_dir, read_among, read_in}
+use Rattle.tree_model.specs.Turns.Tree.{bus_of_number, has_among, has_node, of_dir, read_among, read_in}
 use Rattle.tree_model.proofs.Tests.{and-first, and-second}
 use Rattle.state_reading.specs.declared.StateRefusal.{StateRefusal}
 use Rattle.state_reading.specs.Reading.{Read, and_then, given, times, word_that}
-use Rattle.state_reading.specs.Parts.{read_hart, read_leaf, read_op}
+use Rattle.state_reading.specs.Parts.{read_leaf, read_op}
 use Rattle.state_reading.specs.Machine.{BusRead, bus_dir, bus_traffic, read_bus, read_bus_of, read_buses, read_each, read_words, refilled, refilled_among, refilled_machine}
 use Rattle.state_reading.proofs.Steps.{went_on, refused}
 use Rattle.state_judging.specs.Read.{CanRead}
-use Rattle.state_judging.proofs.Inverted.{Beside, read_each-ok}
-use Rattle.state_judging.proofs.LeafRead.{HartRead, hart-ok, LeafRead}
+use Rattle.state_judging.proofs.Inverted.{Beside}
+use Rattle.state_judging.proofs.LeafRead.{HartRead}
 use Rattle.state_judging.proofs.LeavesRead.{AtLeaves, AtLeavesAmong, FromHart, all-leaves, at-numbers, harts-ok, leaves-ok, leaves-both, number_of, numbers-in}
 use Rattle.ddm_tree.specs.Parts.{BusesAreRead, LeavesRead, OpsAreRead, leaf_read}
 use Rattle.ddm_tree.proofs.Reading.{any-default}

@@ -1,7 +1,7 @@
 -- A machine taken apart, into which a checkpoint's words are read: what it keeps meanwhile, and what becomes of it, section by section.
 -- Letters: m and after are machines before and after a call, k is the number of the next word.
 -- To be believed with the contracts: it is what the calls that read give.
-use Rattle.std.specs.Prelude.{◌≡◌, ℕ, Bool, true, List, [], drop, length, map, slice_set, Option, Some, Result, Ok, Err, if◌then◌else◌}
+use Rattle.std.specs.Prelude.{◌≡◌, ℕ, Bool, true, List, [], drop, length, map, slice_set, Some, Result, Ok, Err, if◌then◌else◌}
 use Rattle.std.specs.List.{range_with_len}
 use Rattle.ddm_types.specs.declared.operations.Op.{Op}
 use Rattle.ddm_types.specs.ItemTable.{item_count}

@@ -2,7 +2,7 @@
 -- Letters: n is a node, v a leaf, d the directory over the nodes ns, k the number of the next word, ws are the words from it on.
 -- To be believed with the contracts: it is what the calls that read give.
 use Rattle.std.specs.Prelude.{◌≡◌, ℕ, List, drop, length, slice_set, Result, Ok, Err}
-use Rattle.tree_model.specs.State.Values.{LeafValue, DirValue, Node, leaf_node, dir_node, children}
+use Rattle.tree_model.specs.State.Values.{Node, leaf_node, dir_node, children}
 use Rattle.tree_model.specs.Turns.Children.{child_at}
 use Rattle.tree_model.specs.Turns.Tree.{Name, leaf_of_number, bus_of_number}
 use Rattle.state_reading.specs.declared.StateRefusal.{StateRefusal}

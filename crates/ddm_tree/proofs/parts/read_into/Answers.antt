@@ -1,5 +1,4 @@
-use Rattle.std.proofs.Common.{◌≡◌, ◌≤◌, length, List, [], map, Some, vec_items, lit<, arith, refl, sym, subst, ap, ◌∙◌}
-use Rattle.tree_model.specs.State.Values.{dir_node, nodes}
+use Rattle.std.proofs.Common.{◌≡◌, ◌≤◌, length, [], map, vec_items, lit<, arith, refl, ◌∙◌}
 use Rattle.ddm_tree.specs.Machine.{listed_path}
 use Rattle.ddm_tree.specs.ReadBack.{section_name}
 use Rattle.ddm_tree.proofs.Steps.{own-few, own-path}

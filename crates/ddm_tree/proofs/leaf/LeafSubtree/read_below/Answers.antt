@@ -1,5 +1,5 @@
 use Rattle.ddm_tree.specs.ReadBack.{section_name}
-use Rattle.ddm_tree.proofs.SectionRead.{hart-put, leaf-ends, none-put, rest-put}
+use Rattle.ddm_tree.proofs.SectionRead.{hart-put, leaf-ends, rest-put}
 use Rattle.ddm_tree.proofs.leaf.LeafSubtree.read_below.Goals as goal
 
 pub returns-in-Hart-clause-read : goal.returns-in-Hart-clause-read

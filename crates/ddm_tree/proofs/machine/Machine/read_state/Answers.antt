@@ -1,6 +1,5 @@
-use Rattle.std.proofs.Common.{◌≡◌, drop, rules, Ok, Err, lit<}
+use Rattle.std.proofs.Common.{◌≡◌, drop, rules, Err, lit<}
 use Rattle.std.specs.Prelude.{slice_index}
-use Rattle.state_reading.specs.Machine.{read_words}
 use Rattle.ddm_tree.proofs.StateJudged.{judge-refused, judged-read, state-counts, state-frame, state-granted, state-rules, words-refused}
 use Rattle.ddm_tree.proofs.machine.Machine.read_state.Goals as goal
 

@@ -1,6 +1,5 @@
 use Rattle.std.proofs.Common.{◌≡◌, ◌<◌, ◌≤◌, ◌∙◌, true, length, sym, ap, subst, lit<, arith, rules, Err}
 use Rattle.tree_model.specs.State.Shape.{tree_counts}
-use Rattle.tree_model.specs.State.Values.{MachineValue, root_of}
 use Rattle.tree_model.specs.Turns.Machine.{machine_leaves}
 use Rattle.tree_model.specs.Turns.Tree.{leaf_of_number}
 use Rattle.ddm_tree.specs.Machine.{is_part}
