@@ -4,8 +4,6 @@
 #[cfg(test)]
 mod answers;
 #[cfg(test)]
-mod checkpoints;
-#[cfg(test)]
 mod commands;
 #[cfg(test)]
 mod faults;
