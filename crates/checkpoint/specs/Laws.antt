@@ -23,11 +23,13 @@ use Rattle.checkpoint.specs.Resumed.{Resumed, resumed}
 abbrev pub SavedIsReadBack : Type 0
 SavedIsReadBack =
     (t : TreeValue) (i : ImageValue) (fresh : MachineValue) (turns : List Turn) → IsTree t → IsOfBytes i → start_of t i ≡ Ok fresh → HasSmallSizes t → length turns ≤ 1048576
-    → let r = run_of turns fresh in length (saved r.machine (counts_of r.answers)) ≤ 536870912 → resumed fresh (saved r.machine (counts_of r.answers)) ≡ Ok (record { machine = r.machine; counts = counts_of r.answers })
+    → let r = run_of turns fresh in length (saved r.machine (counts_of r.answers)) ≤ 536870912
+    → resumed fresh (saved r.machine (counts_of r.answers)) ≡ Ok (record { machine = r.machine; counts = counts_of r.answers })
 
 -- a file that is accepted is what is saved of the machine that it gives: so a state has one spelling
 abbrev pub AcceptedIsSaved : Type 0
-AcceptedIsSaved = (fresh : MachineValue) (bytes : List ℕ) (r : Resumed) → CanRead fresh → AllByRecursion (λ b. b < 256) bytes → resumed fresh bytes ≡ Ok r → saved r.machine r.counts ≡ bytes
+AcceptedIsSaved = (fresh : MachineValue) (bytes : List ℕ) (r : Resumed) → CanRead fresh → AllByRecursion (λ b. b < 256) bytes
+    → resumed fresh bytes ≡ Ok r → saved r.machine r.counts ≡ bytes
 
 -- ---- the first law in one state, as a test: its words are read to their end, and what was read is spelled by the same words
 

@@ -17,7 +17,6 @@ pub mod LeafList
 pub mod Places
 pub mod Asking
 pub mod Copies
-pub mod BusNumbers
 pub mod Written
 pub mod IdleHarts
 pub mod JudgedItems

@@ -25,7 +25,7 @@ use Rattle.ddm_tree.specs.Judging.{first_broken, keeps_places, keeps_rules, node
 use Rattle.ddm_tree.specs.Path.{node_at}
 use Rattle.ddm_tree.specs.Ready.{Leads}
 use Rattle.ddm_tree.proofs.Along.{some_if-same, where_end}
-use Rattle.ddm_tree.proofs.BusNumbers.{numbered-bus}
+use Rattle.state_judging.proofs.BusNumbers.{numbered-bus}
 use Rattle.ddm_tree.proofs.Descend.{leads-child}
 use Rattle.ddm_tree.proofs.JudgedItems.{item-at, none-left}
 use Rattle.ddm_tree.proofs.Reading.{read-is}

@@ -18,7 +18,7 @@ use Rattle.ddm_tree.specs.Path.{node_at, present_at}
 use Rattle.ddm_tree.specs.Ready.{Leads}
 use Rattle.ddm_tree.specs.Stamps.{node_stamps_fit}
 use Rattle.ddm_tree.proofs.Along.{Along, along, where_end, where_end-present}
-use Rattle.ddm_tree.proofs.BusNumbers.{numbered-among}
+use Rattle.state_judging.proofs.EachBus.{numbered-among}
 use Rattle.ddm_tree.proofs.StampsInOrder.{in_order-fits}
 
 not-true : (t : Bool) → not t ≡ true → t ≡ false

@@ -25,7 +25,8 @@ stored_machine s = parts_code.code (machine_parts (stored_node (root_of s.machin
 abbrev made_of : List CodeWord → ItemTable → DirValue → Nodes → List Op → List Traffic → ℕ → ℕ → MachineState
 made_of code items top kids ops traffic spare turns = record { machine = record { code = code; items = items; top = top; kids = kids; ops = ops; traffic = traffic }; spare = spare; turns = turns }
 
-same_parts : (a b : List CodeWord) (c d : ItemTable) (e f : DirValue) (g h : Nodes) (i j : List Op) (k l : List Traffic) (m n o p : ℕ) → a ≡ b → c ≡ d → e ≡ f → g ≡ h → i ≡ j → k ≡ l → m ≡ n → o ≡ p → made_of a c e g i k m o ≡ made_of b d f h j l n p
+same_parts : (a b : List CodeWord) (c d : ItemTable) (e f : DirValue) (g h : Nodes) (i j : List Op) (k l : List Traffic) (m n o p : ℕ)
+    → a ≡ b → c ≡ d → e ≡ f → g ≡ h → i ≡ j → k ≡ l → m ≡ n → o ≡ p → made_of a c e g i k m o ≡ made_of b d f h j l n p
 same_parts a b c d e f g h i j k l m n o p code items top kids ops traffic spare turns = rw (code, items, top, kids, ops, traffic, spare, turns) refl
 
 top_same : (d e : DirValue) (ns ms : Nodes) → dir_node d ns ≡ dir_node e ms → d ≡ e
@@ -46,7 +47,9 @@ stored_machine-injective x y e =
     let traffic : x.machine.traffic ≡ y.machine.traffic = cc in
     let spare : x.spare ≡ y.spare = cc in
     let turns : x.turns ≡ y.turns = cc in
-    same_parts x.machine.code y.machine.code x.machine.items y.machine.items x.machine.top y.machine.top x.machine.kids y.machine.kids x.machine.ops y.machine.ops x.machine.traffic y.machine.traffic x.spare y.spare x.turns y.turns code items (top_same x.machine.top y.machine.top x.machine.kids y.machine.kids root) (kids_same x.machine.top y.machine.top x.machine.kids y.machine.kids root) ops traffic spare turns
+    same_parts x.machine.code y.machine.code x.machine.items y.machine.items x.machine.top y.machine.top x.machine.kids y.machine.kids
+        x.machine.ops y.machine.ops x.machine.traffic y.machine.traffic x.spare y.spare x.turns y.turns
+        code items (top_same x.machine.top y.machine.top x.machine.kids y.machine.kids root) (kids_same x.machine.top y.machine.top x.machine.kids y.machine.kids root) ops traffic spare turns
 
 abbrev pub machine_code : Coded MachineState
 machine_code = record { code = stored_machine; inj = stored_machine-injective }

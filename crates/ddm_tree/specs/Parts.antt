@@ -70,7 +70,8 @@ pub record BusIsRead (bus : ℕ) (words : List ℕ) (from : ℕ) (m after : Mach
 -- its words are refused, those of its directory or those of its traffic
 pub data BusIsRefused (bus : ℕ) (words : List ℕ) (from : ℕ) (m : MachineValue) (e : StateRefusal) : Type 0 where
   dir_refused : SectionRefused (Section.Bus bus) words from m e → BusIsRefused bus words from m e
-  traffic_refused : (middle : MachineValue) (behind : ℕ) → SectionRead (Section.Bus bus) words from m middle behind → read_traffic behind (drop behind words) ≡ Err e → BusIsRefused bus words from m e
+  traffic_refused : (middle : MachineValue) (behind : ℕ) → SectionRead (Section.Bus bus) words from m middle behind
+      → read_traffic behind (drop behind words) ≡ Err e → BusIsRefused bus words from m e
 
 -- all buses were read
 pub record BusesAreRead (words : List ℕ) (from : ℕ) (m after : MachineValue) (at : ℕ) : Type 0 where

@@ -16,7 +16,7 @@ use Rattle.state_reading.specs.Parts.{most_counted, listed, read_records, read_d
 use Rattle.state_words.specs.Numbers.{stamp_words}
 use Rattle.state_words.specs.Parts.{counted, dir_words, down_words, request_words, item_and_words, records}
 use Rattle.value_laws.specs.Values.{DirHasForm, DownHasForm, RequestHasForm, CopyHasForm}
-use Rattle.spelling_laws.proofs.BusNumbers.{same-test}
+use Rattle.state_judging.proofs.Lists.{same-test}
 use Rattle.spelling_laws.proofs.Dir.{any_item, other_item}
 use Rattle.spelling_laws.proofs.Grouped.{seven-grouped}
 use Rattle.spelling_laws.proofs.ListsTaken.{stamp-taken, copy-taken, request-taken, down-taken}

@@ -17,7 +17,7 @@ use Rattle.tree_rules.specs.Bus.Own.{words_suit, buffer_fits, state_waits, waits
 use Rattle.state_words.specs.Parts.{StandingValue}
 use Rattle.state_reading.specs.Parts as reading
 use Rattle.state_reading.specs.Parts.{standing_item, item_of_buffer, places_differ, waiting_states, standing_state, buffer_state, slot_state_fits, is_whole_leaf}
-use Rattle.spelling_laws.proofs.BusNumbers.{same-test}
+use Rattle.state_judging.proofs.Lists.{same-test}
 use Rattle.spelling_laws.proofs.Listed.{implied, Descending, items-differ, places-all-differ}
 
 -- ---- lists of items

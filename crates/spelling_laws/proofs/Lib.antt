@@ -8,7 +8,6 @@ pub mod Dir
 pub mod Rows
 pub mod Standing
 pub mod Leaf
-pub mod BusNumbers
 pub mod Each
 pub mod Refilled
 pub mod Machine

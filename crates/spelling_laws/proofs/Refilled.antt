@@ -13,7 +13,7 @@ use Rattle.tree_model.specs.Turns.Machine.{ask_bus, leaves_of, leaves_among, mac
 use Rattle.tree_model.proofs.NamedNode.{read_in-is_some}
 use Rattle.state_reading.specs.Machine.{refilled, refilled_among}
 use Rattle.state_judging.specs.Read.{ways_exist, ways_exist_among}
-use Rattle.spelling_laws.proofs.BusNumbers.{numbered-bus, buses-counted}
+use Rattle.state_judging.proofs.BusNumbers.{numbered-bus, buses-counted}
 
 abbrev pub number_of : LeafValue → ℕ
 number_of v = v.number

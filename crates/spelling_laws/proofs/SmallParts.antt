@@ -26,7 +26,7 @@ use Rattle.state_words.specs.Numbers.{hold_number, note_words, flag_number, stat
 use Rattle.state_words.specs.Parts.{StandingValue, counted, hart_words, standing, standing_words, buffer_words, item_and_words, leaf_words, is_recorded, record_words, record_of, records_from, records, down_words, request_words, dir_words, traffic_words, op_words}
 use Rattle.state_reading.specs.Parts.{most_counted, standing_item}
 use Rattle.value_laws.specs.Values.{IsWord, HaltHasForm, HartHasForm, BufferHasForm, CopyHasForm, StampHasForm, DownHasForm, KeyHasForm, EffectHasForm, OpHasForm, TrafficHasForm}
-use Rattle.spelling_laws.proofs.BusNumbers.{all-differ}
+use Rattle.state_judging.proofs.BusNumbers.{all-differ}
 use Rattle.spelling_laws.proofs.DirTaken.{DirSpelled}
 use Rattle.spelling_laws.proofs.LeafTaken.{LeafSpelled, way-form}
 use Rattle.spelling_laws.proofs.LeafWhole.{ways-long, slot-inside}

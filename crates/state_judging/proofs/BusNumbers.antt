@@ -6,7 +6,7 @@ use Rattle.std.proofs.lemmas.Bool.{and_parts, eqb-true}
 use Rattle.std.proofs.lemmas.Map.Steps.{length-le_from_distinct_below}
 use Rattle.tree_model.specs.State.Place.{Where, at_top, at_child, where_path, spot_in}
 use Rattle.tree_model.specs.State.Values.{DirValue, Node, Nodes, leaf_node, dir_node, no_nodes, more_nodes, children, MachineValue, root_of}
-use Rattle.tree_model.specs.State.Shape.{IsShaped, skeleton, buses_of, are_distinct, are_below, buses_differ, traffic_counted}
+use Rattle.tree_model.specs.State.Shape.{IsShaped, skeleton, buses_of, are_distinct, are_below, tree_counts, buses_differ, traffic_counted}
 use Rattle.tree_model.specs.Turns.Machine.{ask_bus}
 use Rattle.tree_model.specs.Turns.Tree.{bus_of_number, has_node, read_in, read_among, of_dir}
 use Rattle.tree_model.proofs.NamedNode.{read_in-is_some}
@@ -23,7 +23,7 @@ none-like k (n ∷ ns) e =
       | false ↦ λ is e. (is, none-like k ns e)
     ] refl e
 
-all-differ : (ns : List ℕ) → are_distinct ns ≡ true → IsDistinct nat_eq ns
+pub all-differ : (ns : List ℕ) → are_distinct ns ≡ true → IsDistinct nat_eq ns
 unfolding IsDistinct
 all-differ [] e = tt
 all-differ (n ∷ ns) e =
@@ -56,11 +56,19 @@ or-nothing : (b : Bool) → (b || false) ≡ b
 or-nothing true = refl
 or-nothing false = refl
 
+-- traffic is counted for each bus
+pub buses-counted : (m : MachineValue) → IsShaped m → (tree_counts m).buses ≡ length m.traffic
+buses-counted m shaped =
+    let ns = buses_of (skeleton (root_of m)) [] in
+    eqb-true _ _ (and_parts (nat_eq (length ns) (length m.traffic)) (are_below (length m.traffic) ns) (shaped.each traffic_counted)).0
+
 pub bus-there : (m : MachineValue) (k : ℕ) → IsShaped m → k < length m.traffic → has_node (bus_of_number k) (root_of m) ≡ true
 bus-there m k shaped l =
-    let ns = buses_of (skeleton (root_of m)) [] in
-    let size : length ns ≡ length m.traffic = eqb-true _ _ (and_parts (nat_eq (length ns) (length m.traffic)) (are_below (length m.traffic) ns) (shaped.each traffic_counted)).0 in
-    sym (numbered-in k (root_of m) [] ∙ or-nothing (has_node (bus_of_number k) (root_of m))) ∙ among-all (length m.traffic) k ns (shaped.each buses_differ) (shaped-below m shaped) size l
+    sym (numbered-in k (root_of m) [] ∙ or-nothing (has_node (bus_of_number k) (root_of m)))
+    ∙ among-all (length m.traffic) k (buses_of (skeleton (root_of m)) []) (shaped.each buses_differ) (shaped-below m shaped) (buses-counted m shaped) l
+
+pub numbered-bus : (m : MachineValue) (k : ℕ) → IsShaped m → k < (tree_counts m).buses → has_node (bus_of_number k) (root_of m) ≡ true
+numbered-bus m k shaped l = bus-there m k shaped (omega (arith, l, buses-counted m shaped))
 
 module _ {A : Type 0} (f : DirValue → List Node → A) (other : A) where
   -- what is asked of it is there

@@ -18,12 +18,13 @@ use Rattle.tree_rules.specs.Bus.Own.{are_zero, copy_fits, down_fits, request_fit
 use Rattle.tree_rules.specs.Bus.Item.{implies}
 use Rattle.tree_rules.specs.Order.Time.{stamp_ends}
 use Rattle.tree_rules.proofs.Lists.{all-pass}
+use Rattle.bus_laws.proofs.Lists.{pass-set, pass-pushed}
 use Rattle.state_words.specs.Parts.{is_recorded}
 use Rattle.state_reading.specs.declared.StateRefusal.{StateRefusal}
 use Rattle.state_reading.specs.Reading.{Read, and_then, given, times, word_that, any_word}
 use Rattle.state_reading.specs.Parts.{most_counted, count_word, word_to, word_below, word_from_1, word_if, item_words, listed, stamp_words, hold_of, note_of_words, joins_fit, Recorded, comes_after, read_record, kind_of, read_down, read_request, read_copy, at_rest, read_records, read_dir}
 use Rattle.state_judging.proofs.Inverted.{and_then-ok, given-so, word_that-ok, words_that-ok, times-begun, listed-ok}
-use Rattle.state_judging.proofs.Lists.{same-test, pass-set, pass-pushed, pass-replicate, distinct-pushed, any-map}
+use Rattle.state_judging.proofs.Lists.{same-test, pass-replicate, distinct-pushed, any-map}
 use Rattle.state_judging.proofs.LeafRead.{zero-unless, read_copy-ok, AreCopies, no_copies, copies-next}
 
 -- ---- a stamp has no number of a level that isn't there

@@ -19,6 +19,7 @@ use Rattle.tree_rules.specs.Bus.Own.{are_zero, copy_fits, words_suit, buffer_fit
 use Rattle.tree_rules.specs.Bus.Item.{implies}
 use Rattle.tree_rules.proofs.Implying.{implies-true, implies-false}
 use Rattle.tree_rules.proofs.Lists.{all-pass}
+use Rattle.bus_laws.proofs.Lists.{pass-pushed}
 use Rattle.state_words.specs.Parts.{StandingValue}
 use Rattle.state_reading.specs.declared.StateRefusal.{StateRefusal}
 use Rattle.state_reading.specs.declared.StateRefusal.TheVariants.{BrokenLeaf}
@@ -26,7 +27,7 @@ use Rattle.state_reading.specs.Reading.{Read, and_then, given, times, word_that,
 use Rattle.state_reading.specs.Parts as parts
 use Rattle.state_reading.specs.Parts.{most_counted, count_word, word_to, word_below, word_from_1, word_if, item_words, halt_has_number, halt_of, read_hart, state_of, slot_of, reserved_of, not_before, way_not_before, last_of, read_standing, read_buffered, read_copy, ways_with, standing_item, item_of_buffer, places_differ, waiting_states, standing_state, buffer_state, slot_state_fits, is_whole_leaf, unless_broken, read_leaf}
 use Rattle.state_judging.proofs.Inverted.{and_then-ok, given-ok, given-so, word_that-ok, words_that-ok, times-begun}
-use Rattle.state_judging.proofs.Lists.{same-test, pass-pushed, distinct-rest, distinct-apart, any-map, each-there, pass-each, each-pass}
+use Rattle.state_judging.proofs.Lists.{same-test, distinct-rest, distinct-apart, any-map, each-there, pass-each, each-pass}
 use Rattle.state_judging.proofs.Searches.{each-both}
 use Rattle.state_judging.proofs.WaysRead.{ways_of, AllWithin, length-ways, standing_fits, standing-within, ways-fit, ways-alone, not-there}
 use Rattle.state_judging.proofs.OneWaits.{waits-alone}

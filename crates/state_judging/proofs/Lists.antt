@@ -12,15 +12,6 @@ use Rattle.state_judging.proofs.Searches.{each-so}
 -- ---- every entry passes
 
 module _ {X : Type 0} (t : X → Bool) where
-  pub pass-set : (xs : List X) (i : ℕ) (v : X) → list_all t xs ≡ true → t v ≡ true → list_all t (slice_set xs i v) ≡ true
-  pass-set [] i v h e = refl
-  pass-set (x ∷ xs) zero v h e = both_true e (and_parts (t x) (list_all t xs) h).1
-  pass-set (x ∷ xs) (suc i) v h e = both_true (and_parts (t x) (list_all t xs) h).0 (pass-set xs i v (and_parts (t x) (list_all t xs) h).1 e)
-
-  pub pass-pushed : (xs : List X) (v : X) → list_all t xs ≡ true → t v ≡ true → list_all t (xs ++ v ∷ []) ≡ true
-  pass-pushed [] v h e = both_true e refl
-  pass-pushed (x ∷ xs) v h e = both_true (and_parts (t x) (list_all t xs) h).0 (pass-pushed xs v (and_parts (t x) (list_all t xs) h).1 e)
-
   pub pass-replicate : (n : ℕ) (v : X) → t v ≡ true → list_all t (replicate n v) ≡ true
   pass-replicate zero v e = refl
   pass-replicate (suc n) v e = both_true e (pass-replicate n v e)

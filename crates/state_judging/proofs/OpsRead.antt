@@ -11,12 +11,13 @@ use Rattle.ddm_types.specs.declared.operations.Op.{Op}
 use Rattle.tree_model.specs.declared.Traffic.{Traffic}
 use Rattle.tree_rules.specs.Bus.Own.{are_zero}
 use Rattle.tree_rules.specs.Order.Time.{key_ends}
+use Rattle.bus_laws.proofs.Lists.{pass-pushed}
 use Rattle.state_reading.specs.declared.StateRefusal.{StateRefusal}
 use Rattle.state_reading.specs.Reading.{Read, and_then, given, times, word_that, any_word}
 use Rattle.state_reading.specs.Parts.{most_counted, count_word, word_to, word_below, word_if, read_traffic, effect_size, effect_of, read_key, read_op}
 use Rattle.state_judging.specs.Read.{is_counted}
 use Rattle.state_judging.proofs.Inverted.{and_then-ok, given-so, word_that-ok, times-begun}
-use Rattle.state_judging.proofs.Lists.{same-test, pass-pushed}
+use Rattle.state_judging.proofs.Lists.{same-test}
 
 -- ---- traffic
 

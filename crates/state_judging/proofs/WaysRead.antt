@@ -12,9 +12,10 @@ use Rattle.tree_model.specs.State.Leaf.{way_at, stands_in}
 use Rattle.tree_model.proofs.Tests.{not-true, or-false_first, or-false_second}
 use Rattle.tree_rules.specs.Bus.Own.{words_suit, way_fits, same_if_there, has_way_alone}
 use Rattle.tree_rules.proofs.Implying.{implies-by, implies-false}
+use Rattle.bus_laws.proofs.Lists.{pass-set}
 use Rattle.state_words.specs.Parts.{StandingValue}
 use Rattle.state_reading.specs.Parts.{ways_with, same_place, places_differ}
-use Rattle.state_judging.proofs.Lists.{pass-set, pass-replicate, all-from}
+use Rattle.state_judging.proofs.Lists.{pass-replicate, all-from}
 
 -- ---- what the list says
 

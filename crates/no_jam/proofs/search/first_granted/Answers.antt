@@ -4,7 +4,7 @@ use Rattle.tree_model.specs.State.Shape.{tree_counts}
 use Rattle.tree_model.specs.Turns.Machine.{child_count}
 use Rattle.any_machine.specs.Any.{machine_state}
 use Rattle.jam_laws.specs.GoesOn.{first_granted, turns_of_bus, would_grant}
-use Rattle.ddm_tree.proofs.BusNumbers.{numbered-bus}
+use Rattle.state_judging.proofs.BusNumbers.{numbered-bus}
 use Rattle.no_jam.proofs.Searching.{given-start, given-past, given-here, none-there}
 use Rattle.no_jam.proofs.search.first_granted.Goals as goal
 

@@ -7,7 +7,7 @@ use Rattle.tree_model.specs.State.Shape.{tree_counts, skeleton, buses_of, are_be
 use Rattle.tree_model.proofs.Tests.{and-first}
 use Rattle.state_words.specs.Machine.{bus_words}
 use Rattle.state_words.proofs.OneMore.{flat_map-more}
-use Rattle.ddm_tree.proofs.BusNumbers.{numbered-bus}
+use Rattle.state_judging.proofs.BusNumbers.{numbered-bus}
 use Rattle.ddm_tree.proofs.machine.Machine.write_buses.Goals as goal
 
 pub write_bus-requires : goal.write_bus-requires

@@ -3,7 +3,7 @@ use Rattle.std.specs.List.{find, range_with_len}
 use Rattle.tree_model.specs.State.Shape.{IsShaped, tree_counts}
 use Rattle.tree_rules.specs.Order.Places.{dirs_at}
 use Rattle.state_judging.specs.Judged.{stamps_broken}
-use Rattle.ddm_tree.proofs.BusNumbers.{numbered-bus}
+use Rattle.state_judging.proofs.BusNumbers.{numbered-bus}
 use Rattle.ddm_tree.proofs.KeysSeen.{found-here, found-later, found-none}
 use Rattle.ddm_tree.proofs.TimedParts.{buses-counted}
 use Rattle.ddm_tree.proofs.parts.Parts.broken_stamp.Goals as goal
