@@ -4,3 +4,5 @@ pub mod Standings
 pub mod Steps
 pub mod Reader
 pub mod Pieces
+pub mod Divisors
+pub mod Spelled

@@ -1,10 +1,14 @@
-ghost use Rattle.std.specs.Prelude.{◌≡◌, ◌≤◌, ◌<◌, ◌+◌, ◌*◌, [], ◌∷◌, drop, length, min, slice_index_or, take, All, IfOk};
+ghost use Rattle.std.specs.Prelude.{◌≡◌, ◌≤◌, ◌<◌, ◌+◌, ◌*◌, ◌%◌, [], ◌∷◌, drop, length, min, slice_index_or, take, All, IfOk};
 ghost use Rattle.rand_pcg.specs.Pcg.{pcg32};
 ghost use Rattle.tree_config.specs.Levels.{leaves_of, widths_of};
 ghost use Rattle.text_model.specs.ReadBack.{IsTurnOf};
 ghost use Rattle.text_model.specs.Seeded.{bus_turn_from, seeded_turn, seeded_turns};
+ghost use Rattle.schedule_log.specs.Seeding.{buses_of, widths_in};
 ghost use Rattle.schedule_log.specs.Shapes.{shape_view};
 
+use crate::bus_turns::BusTurns;
+use crate::divisor::Divisor;
+use crate::parts::width_at;
 use ddm_types::{BusNo, ChildNo, HartNo, NoMemory, Turn};
 use rand_core::utils::NextWord;
 use rand_pcg::Pcg32;
@@ -15,91 +19,37 @@ use tree_config::Shape;
 /// The stream of the generator.
 const STREAM: u64 = 54;
 
-// The turn of a bus with this number of children, by the number of its source.
-fn bus_turn(bus: BusNo, children: u32, choice: u8, source: u32) -> Turn
-    requires few { children ≤ 16 }
-    requires within { source < 1 + 3 * children }
-    ensures { result ≡ bus_turn_from bus children choice source }
-{
-    if source == 0 {
-        Turn::Down { bus }
-    } else if source < children + 1 {
-        Turn::Request {
-            bus,
-            child: ChildNo(source - 1),
-        }
-    } else if source < 2 * children + 1 {
-        Turn::Reply {
-            bus,
-            child: ChildNo(source - children - 1),
-        }
-    } else {
-        Turn::Leave {
-            bus,
-            child: ChildNo(source - 2 * children - 1),
-            choice,
-        }
-    }
-}
-
-// The number of children of a bus of the tree.
-fn width_at(shape: &Shape, bus: u32) -> u32
-    requires { bus < length (widths_of shape.now) }
-    ensures width { result ≡ slice_index_or (widths_of shape.now) bus 0 }
-    ensures few { result ≤ 16 }
-{
-    shape.children(BusNo(bus)).unwrap_or(0)
-}
-
-// The numbers of children of a tree's buses, by number: a turn asks for one of them.
-fn bus_widths(alloc: Global, shape: &Shape, buses: u32) -> Result<Vec<u32>, NoMemory>
+// The turns of a tree's buses, by number: a turn asks for one of them.
+fn all_bus_turns(alloc: Global, shape: &Shape, buses: u32) -> Result<Vec<BusTurns>, NoMemory>
     requires { buses ≡ length (widths_of shape.now) }
-    ensures widths { IfOk result (λ widths. widths.items ≡ widths_of shape.now) }
-    ensures few { IfOk result (λ widths. All (λ width. width ≤ 16) widths.items) }
+    ensures { IfOk result (λ list. list.items ≡ buses_of (widths_of shape.now)) }
 {
-    let mut widths = Vec::with_capacity(alloc, buses as usize)?;
+    let mut list = Vec::with_capacity(alloc, buses as usize)?;
     for bus in 0..buses {
-        widths.push(width_at(shape, bus))?;
+        let children = width_at(shape, bus);
+        list.push(BusTurns::new(alloc, BusNo(bus), children)?)?;
     }
-    Ok(widths)
-}
-
-// The number of children of a bus.
-fn width_of(widths: &[u32], bus: BusNo) -> u32
-    requires { All (λ width. width ≤ 16) widths.now }
-    ensures width { result ≡ slice_index_or widths.now bus 0 }
-    ensures few { result ≤ 16 }
-{
-    match widths.get(bus.0 as usize) {
-        Some(width) => *width,
-        None => 0,
-    }
+    Ok(list)
 }
 
 // The turn of two words of the generator, for a tree with this many harts and buses.
 #[tactic(auto, unfolding(text_model::specs::Seeded::seeded_turn))]
-fn seeded_turn(widths: &[u32], harts: u32, buses: u32, a: u32, b: u32) -> Turn
-    requires buses { buses ≡ length widths.now }
-    requires few { All (λ width. width ≤ 16) widths.now }
-    requires some_harts { 1 ≤ harts }
-    requires some_buses { 1 ≤ buses }
-    ensures { result ≡ seeded_turn (record { harts = harts; buses = widths.now }) a b }
+#[inline]
+fn seeded_turn(list: &[BusTurns], harts: &Divisor, buses: &Divisor, a: u32, b: u32) -> Turn
+    requires number { buses.now ≡ length list.now }
+    requires some { 1 ≤ buses.now }
+    requires each { list.now ≡ buses_of (widths_in list.now) }
+    ensures { result ≡ seeded_turn (record { harts = harts.now; buses = widths_in list.now }) a b }
 {
-    if a % 4 < 2 {
-        Turn::Hart {
-            hart: HartNo(b % harts),
-            victim: (b / harts % 256) as u8,
-        }
-    } else {
-        let bus = BusNo(b % buses);
-        let children = width_of(widths, bus);
-        bus_turn(
-            bus,
-            children,
-            (a / 4 % 16) as u8,
-            b / buses % (1 + 3 * children),
-        )
-    }
+    // Both are at hand before one is taken, so that no branch has to be guessed.
+    let (victim, hart) = harts.divide(b);
+    let of_hart = Turn::Hart {
+        hart: HartNo(hart),
+        victim: (victim % 256) as u8,
+    };
+    let (word, bus) = buses.divide(b);
+    let of_bus = list[bus as usize].turn(a / 4 % 16, word);
+    if a % 4 < 2 { of_hart } else { *of_bus }
 }
 
 /// The turns of a seed for the parts of a tree, each made when it is asked for, of two words of the generator. A contract sees the
@@ -108,19 +58,19 @@ fn seeded_turn(widths: &[u32], harts: u32, buses: u32, a: u32, b: u32) -> Turn
 pub struct SeededTurns {
     words: Pcg32,
     left: u32,
-    harts: u32,
-    buses: u32,
-    widths: Vec<u32>,
+    harts: Divisor,
+    buses: Divisor,
+    bus_turns: Vec<BusTurns>,
 }
 
 impl Model for SeededTurns {
-    ghost use Rattle.schedule_log.specs.Seeding.{IsOfTree, SeededView, seeded_view};
+    ghost use Rattle.schedule_log.specs.Seeding.{IsOfTree, SeededView, seeded_view, widths_in};
 
     ghost Value = { SeededView };
 
-    ghost view = { λ s. seeded_view s.harts s.widths.items s.words s.left };
+    ghost view = { λ s. seeded_view s.harts (widths_in s.bus_turns.items) s.words s.left };
 
-    ghost invariant = { λ s. IsOfTree s.harts s.buses s.widths.items };
+    ghost invariant = { λ s. IsOfTree s.harts s.buses s.bus_turns.items };
 }
 
 impl SeededTurns {
@@ -129,13 +79,13 @@ impl SeededTurns {
         ensures { IfOk result (λ seeds. seeds ≡ record { shape = shape_view shape.now; left = [] }) }
     {
         let buses = shape.buses();
-        let widths = bus_widths(alloc, shape, buses)?;
+        let bus_turns = all_bus_turns(alloc, shape, buses)?;
         Ok(SeededTurns {
             words: Pcg32::new(0, STREAM),
             left: 0,
-            harts: shape.harts(),
-            buses,
-            widths,
+            harts: Divisor::new(shape.harts()),
+            buses: Divisor::new(buses),
+            bus_turns,
         })
     }
 
@@ -165,7 +115,7 @@ impl SeededTurns {
         let a = self.words.next_word();
         let b = self.words.next_word();
         self.left -= 1;
-        seeded_turn(&self.widths, self.harts, self.buses, a, b)
+        seeded_turn(&self.bus_turns, &self.harts, &self.buses, a, b)
     }
 
     /// Puts the next turns at the front of a block, as many as are left and find place there, and answers how many these are. The
