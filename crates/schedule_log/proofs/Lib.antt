@@ -4,3 +4,4 @@ pub mod FirstLines
 pub mod Readers
 pub mod Cuttings
 pub mod SeedTurns
+pub mod Reciprocals

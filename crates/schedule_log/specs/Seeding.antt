@@ -1,5 +1,5 @@
 -- The turns of a seed that are still to come.
-use Rattle.std.specs.Prelude.{◌≡◌, ℕ, ◌*◌, ◌≤◌, List, All, length}
+use Rattle.std.specs.Prelude.{◌≡◌, ℕ, ◌*◌, ◌≤◌, List, length}
 use Rattle.ddm_types.specs.declared.turns.Turn.{Turn}
 use Rattle.rand_pcg.specs.Lcg.{Lcg}
 use Rattle.text_model.specs.Schedule.{ShapeView}
@@ -17,9 +17,8 @@ pub record SeededView : Type 0 where
 abbrev pub seeded_view : ℕ → List ℕ → Lcg → ℕ → SeededView
 seeded_view harts buses g n = let shape : ShapeView = record { harts = harts; buses = buses } in record { shape = shape; left = turns_left shape g n }
 
--- there are a hart and a bus, and no bus has more than 16 children
+-- there are a hart and a bus
 pub record IsOfTree (harts buses : ℕ) (widths : List ℕ) : Type 0 where
   pub some_harts : 1 ≤ harts
   pub some_buses : 1 ≤ buses
   pub number : buses ≡ length widths
-  pub few : All (λ width. width ≤ 16) widths

@@ -1,10 +1,11 @@
-ghost use Rattle.std.specs.Prelude.{◌≡◌, ◌≤◌, ◌<◌, ◌+◌, ◌*◌, [], ◌∷◌, drop, length, min, slice_index_or, take, All, IfOk};
+ghost use Rattle.std.specs.Prelude.{◌≡◌, ◌≤◌, ◌<◌, ◌+◌, ◌*◌, ◌%◌, [], ◌∷◌, drop, length, min, slice_index_or, take, All, IfOk};
 ghost use Rattle.rand_pcg.specs.Pcg.{pcg32};
 ghost use Rattle.tree_config.specs.Levels.{leaves_of, widths_of};
 ghost use Rattle.text_model.specs.ReadBack.{IsTurnOf};
 ghost use Rattle.text_model.specs.Seeded.{bus_turn_from, seeded_turn, seeded_turns};
 ghost use Rattle.schedule_log.specs.Shapes.{shape_view};
 
+use crate::divisor::Divisor;
 use ddm_types::{BusNo, ChildNo, HartNo, NoMemory, Turn};
 use rand_core::utils::NextWord;
 use rand_pcg::Pcg32;
@@ -42,6 +43,44 @@ fn bus_turn(bus: BusNo, children: u32, choice: u8, source: u32) -> Turn
     }
 }
 
+/// How many children a bus has, with the divisor that draws one of its sources. A contract sees the number of children.
+#[derive(Drop)]
+pub(crate) struct Width {
+    children: u32,
+    sources: Divisor,
+}
+
+impl Model for Width {
+    ghost use Rattle.std.specs.Prelude.{◌≡◌, ℕ, ◌+◌, ◌*◌, ◌≤◌};
+
+    ghost Value = { ℕ };
+
+    ghost view = { λ w. w.children };
+
+    ghost invariant = { λ w. (w.children ≤ 16) × (w.sources ≡ 1 + 3 * w.children) };
+}
+
+impl Width {
+    fn new(children: u32) -> Width
+        requires { children ≤ 16 }
+        ensures { result ≡ children }
+    {
+        Width {
+            children,
+            sources: Divisor::new(1 + 3 * children),
+        }
+    }
+
+    // The turn of the bus by a word that draws the source.
+    #[inline]
+    fn turn(&self, bus: BusNo, choice: u8, word: u32) -> Turn
+        ensures { result ≡ bus_turn_from bus self.now choice (word % (1 + 3 * self.now)) }
+    {
+        let (_, source) = self.sources.divide(word);
+        bus_turn(bus, self.children, choice, source)
+    }
+}
+
 // The number of children of a bus of the tree.
 fn width_at(shape: &Shape, bus: u32) -> u32
     requires { bus < length (widths_of shape.now) }
@@ -51,54 +90,35 @@ fn width_at(shape: &Shape, bus: u32) -> u32
     shape.children(BusNo(bus)).unwrap_or(0)
 }
 
-// The numbers of children of a tree's buses, by number: a turn asks for one of them.
-fn bus_widths(alloc: Global, shape: &Shape, buses: u32) -> Result<Vec<u32>, NoMemory>
+// The widths of a tree's buses, by number: a turn asks for one of them.
+fn bus_widths(alloc: Global, shape: &Shape, buses: u32) -> Result<Vec<Width>, NoMemory>
     requires { buses ≡ length (widths_of shape.now) }
-    ensures widths { IfOk result (λ widths. widths.items ≡ widths_of shape.now) }
-    ensures few { IfOk result (λ widths. All (λ width. width ≤ 16) widths.items) }
+    ensures { IfOk result (λ widths. widths.items ≡ widths_of shape.now) }
 {
     let mut widths = Vec::with_capacity(alloc, buses as usize)?;
     for bus in 0..buses {
-        widths.push(width_at(shape, bus))?;
+        widths.push(Width::new(width_at(shape, bus)))?;
     }
     Ok(widths)
 }
 
-// The number of children of a bus.
-fn width_of(widths: &[u32], bus: BusNo) -> u32
-    requires { All (λ width. width ≤ 16) widths.now }
-    ensures width { result ≡ slice_index_or widths.now bus 0 }
-    ensures few { result ≤ 16 }
-{
-    match widths.get(bus.0 as usize) {
-        Some(width) => *width,
-        None => 0,
-    }
-}
-
 // The turn of two words of the generator, for a tree with this many harts and buses.
 #[tactic(auto, unfolding(text_model::specs::Seeded::seeded_turn))]
-fn seeded_turn(widths: &[u32], harts: u32, buses: u32, a: u32, b: u32) -> Turn
-    requires buses { buses ≡ length widths.now }
-    requires few { All (λ width. width ≤ 16) widths.now }
-    requires some_harts { 1 ≤ harts }
-    requires some_buses { 1 ≤ buses }
-    ensures { result ≡ seeded_turn (record { harts = harts; buses = widths.now }) a b }
+#[inline]
+fn seeded_turn(widths: &[Width], harts: &Divisor, buses: &Divisor, a: u32, b: u32) -> Turn
+    requires number { buses.now ≡ length widths.now }
+    requires some { 1 ≤ buses.now }
+    ensures { result ≡ seeded_turn (record { harts = harts.now; buses = widths.now }) a b }
 {
     if a % 4 < 2 {
+        let (rest, hart) = harts.divide(b);
         Turn::Hart {
-            hart: HartNo(b % harts),
-            victim: (b / harts % 256) as u8,
+            hart: HartNo(hart),
+            victim: (rest % 256) as u8,
         }
     } else {
-        let bus = BusNo(b % buses);
-        let children = width_of(widths, bus);
-        bus_turn(
-            bus,
-            children,
-            (a / 4 % 16) as u8,
-            b / buses % (1 + 3 * children),
-        )
+        let (rest, bus) = buses.divide(b);
+        widths[bus as usize].turn(BusNo(bus), (a / 4 % 16) as u8, rest)
     }
 }
 
@@ -108,9 +128,9 @@ fn seeded_turn(widths: &[u32], harts: u32, buses: u32, a: u32, b: u32) -> Turn
 pub struct SeededTurns {
     words: Pcg32,
     left: u32,
-    harts: u32,
-    buses: u32,
-    widths: Vec<u32>,
+    harts: Divisor,
+    buses: Divisor,
+    widths: Vec<Width>,
 }
 
 impl Model for SeededTurns {
@@ -133,8 +153,8 @@ impl SeededTurns {
         Ok(SeededTurns {
             words: Pcg32::new(0, STREAM),
             left: 0,
-            harts: shape.harts(),
-            buses,
+            harts: Divisor::new(shape.harts()),
+            buses: Divisor::new(buses),
             widths,
         })
     }
@@ -165,7 +185,7 @@ impl SeededTurns {
         let a = self.words.next_word();
         let b = self.words.next_word();
         self.left -= 1;
-        seeded_turn(&self.widths, self.harts, self.buses, a, b)
+        seeded_turn(&self.widths, &self.harts, &self.buses, a, b)
     }
 
     /// Puts the next turns at the front of a block, as many as are left and find place there, and answers how many these are. The

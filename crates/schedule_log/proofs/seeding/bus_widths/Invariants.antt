@@ -1,10 +1,7 @@
-use Rattle.std.proofs.Common.{◌≡◌, ◌≤◌, take}
-use Rattle.std.specs.Prelude.{All}
+use Rattle.std.proofs.Common.{◌≡◌, take}
 use Rattle.tree_config.specs.Levels.{widths_of}
 use Rattle.schedule_log.proofs.seeding.bus_widths.Given as goal
 
 -- the numbers of the buses so far
 abbrev pub invariant-loop-bus : goal.invariant-loop-bus
-invariant-loop-bus l =
-    (l.widths.items ≡ take l.bus (widths_of l.fn.shape))
-    × All (λ width. width ≤ 16) l.widths.items
+invariant-loop-bus l = l.widths.items ≡ take l.bus (widths_of l.fn.shape)

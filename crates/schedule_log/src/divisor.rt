@@ -1,0 +1,52 @@
+ghost use Rattle.std.specs.Prelude.{◌≡◌, ◌≤◌, ◌/◌, ◌%◌};
+
+use std::marker::Model;
+
+/// A number that others are divided by, with what makes a division by it a multiplication. A contract sees the number.
+#[derive(Drop)]
+pub(crate) struct Divisor {
+    by: u32,
+    reciprocal: u64,
+}
+
+impl Model for Divisor {
+    ghost use Rattle.std.specs.Prelude.{ℕ};
+    ghost use Rattle.schedule_log.specs.Divisors.{IsReciprocal};
+
+    ghost Value = { ℕ };
+
+    ghost view = { λ d. d.by };
+
+    ghost invariant = { λ d. IsReciprocal d.by d.reciprocal };
+}
+
+impl Divisor {
+    pub(crate) fn new(by: u32) -> Divisor
+        requires { 1 ≤ by }
+        ensures { result ≡ by }
+    {
+        Divisor {
+            by,
+            reciprocal: u64::MAX / u64::from(by),
+        }
+    }
+
+    // The quotient alone.
+    #[inline]
+    fn quotient(&self, n: u32) -> u32
+        ensures { result ≡ n / self.now }
+    {
+        let scaled = (u128::from(n) + 1) * u128::from(self.reciprocal);
+        (scaled >> 64) as u32
+    }
+
+    /// The quotient and the remainder.
+    #[inline]
+    pub(crate) fn divide(&self, n: u32) -> (u32, u32)
+        ensures quotient { result.0 ≡ n / self.now }
+        ensures remainder { result.1 ≡ n % self.now }
+    {
+        let quotient = self.quotient(n);
+        (quotient, n - quotient * self.by)
+    }
+}
