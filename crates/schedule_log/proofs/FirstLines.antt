@@ -1,5 +1,5 @@
 -- The first line of a text, and what the text gives by it.
-use Rattle.std.proofs.Common.{◌≡◌, ℕ, suc, ◌+◌, ◌<◌, ◌≤◌, Bool, true, false, nat_le, nat_lt, List, [], ◌∷◌, ◌++◌, length, take, drop, Option, Some, None, cond, refl, sym, ap, ◌∙◌, subst, arith}
+use Rattle.std.proofs.Common.{◌≡◌, ℕ, suc, ◌+◌, ◌-◌, ◌<◌, ◌≤◌, Bool, true, false, nat_le, nat_lt, List, [], ◌∷◌, ◌++◌, length, take, drop, Option, Some, None, cond, refl, sym, ap, ◌∙◌, subst, append_assoc, length-append, arith}
 use Rattle.std.specs.Prelude.{position, bytes_eq, codes}
 use Rattle.std.proofs.lemmas.Bool.{le-ltb}
 use Rattle.std.proofs.lemmas.Bool.Decides.{nat_tests}
@@ -9,13 +9,14 @@ use Rattle.ddm_text.specs.Lines.{first_line, cut_at, is_line_feed}
 use Rattle.ddm_text.specs.declared.lines.LineCut.TheVariants.{Line, LineTooLong, NoEndOfLine}
 use Rattle.text_model.specs.declared.ScheduleRefusal.{ScheduleRefusal}
 use Rattle.text_model.specs.declared.ScheduleRefusal.TheVariants.{BadTurn, TooManyTurns}
-use Rattle.text_model.specs.Schedule.{ShapeView, pieces_at, turn_of_words, line_of_turn, meaning_of, LineMeaning, turn_line_of, end_line, no_line, turn_fault, refusal_of_turn, refused_at, nothing_but, with_turn, unless_refused, reading_on, reading_of_line, end_with, held_of, last_piece}
+use Rattle.text_model.specs.Schedule.{ShapeView, pieces_at, turn_of_words, turn_text, line_of_turn, meaning_of, LineMeaning, turn_line_of, end_line, no_line, turn_fault, refusal_of_turn, refused_at, nothing_but, with_turn, unless_refused, reading_on, reading_of_line, end_with, held_of, last_piece}
 use Rattle.text_model.specs.Lines.{Lacks}
 use Rattle.text_model.proofs.Pieces.{pieces_at-whole, pieces_at-append, some_piece}
 use Rattle.text_model.proofs.Parts.{reading_on-open, reading_on-long, reading_on-line}
 use Rattle.schedule_log.specs.declared.standing.Standing.{Standing as Place}
 use Rattle.schedule_log.specs.declared.standing.Standing.TheVariants.{InLine, AtEnd, Refused}
 use Rattle.schedule_log.specs.Standings.{standing_of}
+use Rattle.schedule_log.specs.Spelled.{BeginsWithLine}
 use Rattle.schedule_log.specs.Steps.{IsLine, HoldsAll, StopsAt, StepGives, step_by}
 use Rattle.schedule_log.proofs.Cuts.{split_at, cut_of, uncut_of}
 
@@ -173,3 +174,47 @@ open_step shape lines made text e =
 
 pub long_step : (shape : ShapeView) (lines made : ℕ) (text : List ℕ) → first_line text 24 ≡ LineTooLong → StopsAt shape lines made text (Refused (lines + 1) BadTurn)
 long_step shape lines made text e = record { reading = long_text shape (lines + 1) made text e; held = tt }
+
+-- ---- the spelling of a turn
+
+text_is : (text : List ℕ) (turn : Turn) (rest : List ℕ) → BeginsWithLine text turn rest → text ≡ turn_text turn ++ 10 ∷ rest
+text_is text turn rest begins = begins.front.is ∙ append_assoc (turn_text turn) (10 ∷ []) rest
+
+-- the line has the bytes that aren't behind it
+pub lengths : (text : List ℕ) (turn : Turn) (rest : List ℕ) → BeginsWithLine text turn rest → length text ≡ length (turn_text turn) + 1 + length rest
+lengths text turn rest begins = ap length (text_is text turn rest begins) ∙ length-append (turn_text turn) (10 ∷ rest) ∙ one_more (length (turn_text turn)) (length rest) where
+  one_more : (m n : ℕ) → m + suc n ≡ m + 1 + n
+  one_more m n = omega arith
+
+behind_line : (line rest : List ℕ) → drop (length line + 1) (line ++ 10 ∷ rest) ≡ rest
+behind_line [] rest = refl
+behind_line (byte ∷ line) rest = ap (λ n. drop n (byte ∷ (line ++ 10 ∷ rest))) (shift (length line)) ∙ behind_line line rest where
+  shift : (n : ℕ) → suc n + 1 ≡ suc (n + 1)
+  shift n = omega arith
+
+-- the first line spells a turn
+pub spelled_step : (shape : ShapeView) (lines made : ℕ) (text : List ℕ) (turn : Turn) (rest : List ℕ) (used : ℕ) (o : Option ScheduleRefusal) → BeginsWithLine text turn rest → used ≡ length text - length rest → refusal_of_turn shape made turn ≡ o
+    → StepGives shape lines made text (step_by o lines turn used)
+spelled_step shape lines made text turn rest used o begins so_many judged =
+    let line = turn_text turn in
+    let is = text_is text turn rest begins in
+    let many : used ≡ length line + 1 = omega (arith, so_many, lengths text turn rest begins) in
+    let behind : drop used text ≡ rest = ap (λ n. drop n text) many ∙ ap (λ (t : List ℕ). drop (length line + 1) t) is ∙ behind_line line rest in
+    let gives : reading_on shape (lines + 1) made text ≡ unless_refused (lines + 1) o (with_turn turn (reading_on shape (lines + 1 + 1) (made + 1) rest)) =
+    ap (λ t. reading_on shape (lines + 1) made t) is ∙ reading_on-line shape (lines + 1) made line rest begins.lacks
+    ∙ ap (λ m. reading_of_line shape (lines + 1) made m rest) begins.says
+    ∙ ap (λ o. unless_refused (lines + 1) o (with_turn turn (reading_on shape (lines + 1 + 1) (made + 1) rest))) judged in
+    by_judgement o judged gives (ap held_of is ∙ held_line line rest begins.lacks) behind (omega (arith, many)) (omega (arith, many, lengths text turn rest begins))
+  where
+    by_judgement : (o : Option ScheduleRefusal) → refusal_of_turn shape made turn ≡ o
+        → reading_on shape (lines + 1) made text ≡ unless_refused (lines + 1) o (with_turn turn (reading_on shape (lines + 1 + 1) (made + 1) rest))
+        → held_of text ≡ held_of rest → drop used text ≡ rest → 0 < used → used ≤ length text
+        → StepGives shape lines made text (step_by o lines turn used)
+    by_judgement None judged gives held behind some within = record {
+      reading = gives ∙ ap (λ (t : List ℕ). with_turn turn (reading_on shape (lines + 1 + 1) (made + 1) t)) (sym behind);
+      held = held ∙ ap held_of (sym behind);
+      some = some;
+      within = within;
+      room = fits_room shape made turn (nat_lt made 1048576) (turn_fault shape turn) refl judged;
+    }
+    by_judgement (Some refusal) judged gives held behind some within = record { reading = gives; held = tt }

@@ -5,3 +5,4 @@ pub mod Readers
 pub mod Cuttings
 pub mod SeedTurns
 pub mod Reciprocals
+pub mod Spellings

@@ -3,9 +3,11 @@
 
 mod divisor;
 pub mod laws;
+mod parts;
 mod reading;
 mod refusal;
 mod seeding;
+mod spelled;
 mod standing;
 mod steps;
 mod words;

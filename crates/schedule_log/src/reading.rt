@@ -2,6 +2,7 @@ ghost use Rattle.std.specs.Prelude.{◌≡◌, ◌≤◌, IfOk, OnErr, length, t
 ghost use Rattle.schedule_log.specs.Reader.{FeedGives, IsInLine, LinesRead, begun, begun_behind, finish_of};
 ghost use Rattle.schedule_log.specs.Shapes.{shape_view};
 
+use crate::parts::Parts;
 use crate::refusal::FeedError;
 use crate::standing::Standing;
 use crate::steps::{Step, first_step};
@@ -23,7 +24,7 @@ pub(crate) struct Lines {
 
 // Puts the turns of a text's whole lines at the end, up to the first that is refused.
 fn read_lines(
-    shape: &Shape,
+    parts: &Parts,
     first_lines: u32,
     first: u32,
     text: &[u8],
@@ -31,14 +32,14 @@ fn read_lines(
 ) -> Result<Lines, NoMemory>
     requires lines { first_lines ≤ first }
     requires made { first ≤ 1048576 }
-    ensures ok { IfOk result (LinesRead (shape_view shape.now) first_lines first text.now turns.old.items turns.new.items) }
+    ensures ok { IfOk result (LinesRead parts.now first_lines first text.now turns.old.items turns.new.items) }
     ensures err { OnErr result (take (length turns.old.items) turns.new.items ≡ turns.old.items) }
 {
     let mut made = first;
     let mut lines = first_lines;
     let mut kept = 0;
     'lines: loop {
-        match first_step(shape, lines, made, &text[kept..]) {
+        match first_step(parts, lines, made, &text[kept..]) {
             Step::Turn { turn, used } => {
                 turns.push(turn)?;
                 made += 1;
@@ -116,7 +117,7 @@ impl ScheduleReader {
         if self.held.extend_from_slice(piece).is_err() {
             return Err(FeedError::NoMemory);
         }
-        match read_lines(shape, self.lines, self.made, &self.held, turns) {
+        match read_lines(&Parts::new(shape), self.lines, self.made, &self.held, turns) {
             Ok(lines) => {
                 self.made = lines.made;
                 self.lines = lines.lines;

@@ -6,6 +6,7 @@ ghost use Rattle.text_model.specs.Seeded.{bus_turn_from, seeded_turn, seeded_tur
 ghost use Rattle.schedule_log.specs.Shapes.{shape_view};
 
 use crate::divisor::Divisor;
+use crate::parts::width_at;
 use ddm_types::{BusNo, ChildNo, HartNo, NoMemory, Turn};
 use rand_core::utils::NextWord;
 use rand_pcg::Pcg32;
@@ -79,15 +80,6 @@ impl Width {
         let (_, source) = self.sources.divide(word);
         bus_turn(bus, self.children, choice, source)
     }
-}
-
-// The number of children of a bus of the tree.
-fn width_at(shape: &Shape, bus: u32) -> u32
-    requires { bus < length (widths_of shape.now) }
-    ensures width { result ≡ slice_index_or (widths_of shape.now) bus 0 }
-    ensures few { result ≤ 16 }
-{
-    shape.children(BusNo(bus)).unwrap_or(0)
 }
 
 // The widths of a tree's buses, by number: a turn asks for one of them.

@@ -1,16 +1,15 @@
 ghost use Rattle.std.specs.Prelude.{◌≡◌, ◌≤◌, ◌+◌, slice_get};
-ghost use Rattle.tree_config.specs.Levels.{widths_of};
 ghost use Rattle.text_model.specs.Schedule.{child_fault, end_with, refusal_of_turn, turn_fault};
-ghost use Rattle.schedule_log.specs.Shapes.{shape_view};
 ghost use Rattle.schedule_log.specs.Standings.{standing_of};
 ghost use Rattle.schedule_log.specs.Steps.{IsLine, StepGives, step_by};
 
+use crate::parts::Parts;
+use crate::spelled::spelled_line;
 use crate::standing::Standing;
 use crate::words::turn_of_line;
 use ddm_text::{LineCut, cut_line};
 use ddm_types::{BusNo, ChildNo, Turn};
 use text_model::ScheduleRefusal;
-use tree_config::Shape;
 
 /// The most turns of a schedule.
 const MOST_TURNS: u32 = 1_048_576;
@@ -26,10 +25,10 @@ pub(crate) enum Step {
     Stop(Standing),
 }
 
-fn child_fault(shape: &Shape, bus: BusNo, child: ChildNo) -> Option<ScheduleRefusal>
-    ensures { result ≡ child_fault child (slice_get (widths_of shape.now) bus) }
+fn child_fault(parts: &Parts, bus: BusNo, child: ChildNo) -> Option<ScheduleRefusal>
+    ensures { result ≡ child_fault child (slice_get parts.now.buses bus) }
 {
-    match shape.children(bus) {
+    match parts.children(bus) {
         None => Some(ScheduleRefusal::NoSuchBus),
         Some(children) if child.0 < children => None,
         Some(_) => Some(ScheduleRefusal::NoSuchChild),
@@ -38,26 +37,26 @@ fn child_fault(shape: &Shape, bus: BusNo, child: ChildNo) -> Option<ScheduleRefu
 
 // What a turn names that the tree doesn't have.
 #[tactic(auto, unfolding(text_model::specs::Schedule::turn_fault))]
-fn turn_fault(shape: &Shape, turn: Turn) -> Option<ScheduleRefusal>
-    ensures { result ≡ turn_fault (shape_view shape.now) turn }
+fn turn_fault(parts: &Parts, turn: Turn) -> Option<ScheduleRefusal>
+    ensures { result ≡ turn_fault parts.now turn }
 {
     match turn {
-        Turn::Hart { hart, .. } if hart.0 < shape.harts() => None,
+        Turn::Hart { hart, .. } if hart.0 < parts.harts() => None,
         Turn::Hart { .. } => Some(ScheduleRefusal::NoSuchHart),
-        Turn::Down { bus } if bus.0 < shape.buses() => None,
+        Turn::Down { bus } if bus.0 < parts.buses() => None,
         Turn::Down { .. } => Some(ScheduleRefusal::NoSuchBus),
-        Turn::Request { bus, child } => child_fault(shape, bus, child),
-        Turn::Reply { bus, child } => child_fault(shape, bus, child),
-        Turn::Leave { bus, child, .. } => child_fault(shape, bus, child),
+        Turn::Request { bus, child } => child_fault(parts, bus, child),
+        Turn::Reply { bus, child } => child_fault(parts, bus, child),
+        Turn::Leave { bus, child, .. } => child_fault(parts, bus, child),
     }
 }
 
 // Why a turn is refused that comes behind `made` others.
-fn refusal_of_turn(shape: &Shape, made: u32, turn: Turn) -> Option<ScheduleRefusal>
-    ensures { result ≡ refusal_of_turn (shape_view shape.now) made turn }
+fn refusal_of_turn(parts: &Parts, made: u32, turn: Turn) -> Option<ScheduleRefusal>
+    ensures { result ≡ refusal_of_turn parts.now made turn }
 {
     if made < MOST_TURNS {
-        turn_fault(shape, turn)
+        turn_fault(parts, turn)
     } else {
         Some(ScheduleRefusal::TooManyTurns)
     }
@@ -76,23 +75,23 @@ fn after_end(lines: u32, behind: &[u8]) -> Standing
 }
 
 // The step of a line that is a turn, with so many bytes.
-fn step_of_turn(shape: &Shape, lines: u32, made: u32, turn: Turn, used: usize) -> Step
+fn step_of_turn(parts: &Parts, lines: u32, made: u32, turn: Turn, used: usize) -> Step
     requires { lines ≤ 1048576 }
-    ensures { result ≡ step_by (refusal_of_turn (shape_view shape.now) made turn) lines turn used }
+    ensures { result ≡ step_by (refusal_of_turn parts.now made turn) lines turn used }
 {
     // A value that was handed on isn't put into another one.
     let judged = turn;
-    match refusal_of_turn(shape, made, judged) {
+    match refusal_of_turn(parts, made, judged) {
         None => Step::Turn { turn, used },
         Some(refusal) => Step::Stop(Standing::Refused(lines + 1, refusal)),
     }
 }
 
 // What a text begins with whose first line has `end` bytes.
-fn step_of_line(shape: &Shape, lines: u32, made: u32, text: &[u8], end: usize) -> Step
+fn step_of_line(parts: &Parts, lines: u32, made: u32, text: &[u8], end: usize) -> Step
     requires lines { lines ≤ 1048576 }
     requires line { IsLine text.now end }
-    ensures { StepGives (shape_view shape.now) lines made text.now result }
+    ensures { StepGives parts.now lines made text.now result }
 {
     let line = &text[..end];
     if line == END {
@@ -100,18 +99,30 @@ fn step_of_line(shape: &Shape, lines: u32, made: u32, text: &[u8], end: usize) -
     }
     match turn_of_line(line) {
         None => Step::Stop(Standing::Refused(lines + 1, ScheduleRefusal::BadTurn)),
-        Some(turn) => step_of_turn(shape, lines, made, turn, end + 1),
+        Some(turn) => step_of_turn(parts, lines, made, turn, end + 1),
+    }
+}
+
+// The same, of a text whose first line may be spelled in any way.
+fn any_step(parts: &Parts, lines: u32, made: u32, text: &[u8]) -> Step
+    requires { lines ≤ 1048576 }
+    ensures { StepGives parts.now lines made text.now result }
+{
+    match cut_line(text, 0, MOST_BYTES) {
+        LineCut::Line(end) => step_of_line(parts, lines, made, text, end),
+        LineCut::LineTooLong => Step::Stop(Standing::Refused(lines + 1, ScheduleRefusal::BadTurn)),
+        LineCut::NoEndOfLine => Step::Stop(Standing::InLine),
     }
 }
 
 /// What a text begins with where `made` turns are there, of which so many are lines before it.
-pub(crate) fn first_step(shape: &Shape, lines: u32, made: u32, text: &[u8]) -> Step
+#[inline]
+pub(crate) fn first_step(parts: &Parts, lines: u32, made: u32, text: &[u8]) -> Step
     requires { lines ≤ 1048576 }
-    ensures { StepGives (shape_view shape.now) lines made text.now result }
+    ensures { StepGives parts.now lines made text.now result }
 {
-    match cut_line(text, 0, MOST_BYTES) {
-        LineCut::Line(end) => step_of_line(shape, lines, made, text, end),
-        LineCut::LineTooLong => Step::Stop(Standing::Refused(lines + 1, ScheduleRefusal::BadTurn)),
-        LineCut::NoEndOfLine => Step::Stop(Standing::InLine),
+    match spelled_line(text) {
+        Some((turn, rest)) => step_of_turn(parts, lines, made, turn, text.len() - rest.len()),
+        None => any_step(parts, lines, made, text),
     }
 }

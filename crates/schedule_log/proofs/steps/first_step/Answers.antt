@@ -1,13 +1,9 @@
-use Rattle.std.proofs.Common.{sym, ◌∙◌}
-use Rattle.schedule_log.specs.Shapes.{shape_view}
-use Rattle.schedule_log.proofs.FirstLines.{line_of, open_step, long_step}
+use Rattle.std.proofs.Common.{refl, sym, subst}
+use Rattle.schedule_log.specs.Steps.{StepGives}
+use Rattle.schedule_log.proofs.FirstLines.{spelled_step}
 use Rattle.schedule_log.proofs.steps.first_step.Goals as goal
 
-pub step_of_line-requires-clause-line : goal.step_of_line-requires-clause-line
-step_of_line-requires-clause-line c = line_of c.args.text.now c.in-Line.end (sym c.cut_line.ensures ∙ c.in-Line.is)
-
-pub returns-in-LineTooLong : goal.returns-in-LineTooLong
-returns-in-LineTooLong c = long_step (shape_view c.args.shape.now) c.args.lines c.args.made c.args.text.now (sym c.cut_line.ensures ∙ c.in-LineTooLong.is)
-
-pub returns-in-NoEndOfLine : goal.returns-in-NoEndOfLine
-returns-in-NoEndOfLine c = open_step (shape_view c.args.shape.now) c.args.lines c.args.made c.args.text.now (sym c.cut_line.ensures ∙ c.in-NoEndOfLine.is)
+pub returns-in-Some : goal.returns-in-Some
+returns-in-Some c =
+    subst (λ step. StepGives c.args.parts.now c.args.lines c.args.made c.args.text.now step) (sym c.step_of_turn.ensures)
+    (spelled_step c.args.parts.now c.args.lines c.args.made c.args.text.now c.in-Some.turn c.in-Some.rest.now _ _ c.in-Some.ensures refl refl)
