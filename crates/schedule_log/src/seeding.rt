@@ -3,8 +3,10 @@ ghost use Rattle.rand_pcg.specs.Pcg.{pcg32};
 ghost use Rattle.tree_config.specs.Levels.{leaves_of, widths_of};
 ghost use Rattle.text_model.specs.ReadBack.{IsTurnOf};
 ghost use Rattle.text_model.specs.Seeded.{bus_turn_from, seeded_turn, seeded_turns};
+ghost use Rattle.schedule_log.specs.Seeding.{buses_of, widths_in};
 ghost use Rattle.schedule_log.specs.Shapes.{shape_view};
 
+use crate::bus_turns::BusTurns;
 use crate::divisor::Divisor;
 use crate::parts::width_at;
 use ddm_types::{BusNo, ChildNo, HartNo, NoMemory, Turn};
@@ -17,101 +19,37 @@ use tree_config::Shape;
 /// The stream of the generator.
 const STREAM: u64 = 54;
 
-// The turn of a bus with this number of children, by the number of its source.
-fn bus_turn(bus: BusNo, children: u32, choice: u8, source: u32) -> Turn
-    requires few { children ≤ 16 }
-    requires within { source < 1 + 3 * children }
-    ensures { result ≡ bus_turn_from bus children choice source }
-{
-    if source == 0 {
-        Turn::Down { bus }
-    } else if source < children + 1 {
-        Turn::Request {
-            bus,
-            child: ChildNo(source - 1),
-        }
-    } else if source < 2 * children + 1 {
-        Turn::Reply {
-            bus,
-            child: ChildNo(source - children - 1),
-        }
-    } else {
-        Turn::Leave {
-            bus,
-            child: ChildNo(source - 2 * children - 1),
-            choice,
-        }
-    }
-}
-
-/// How many children a bus has, with the divisor that draws one of its sources. A contract sees the number of children.
-#[derive(Drop)]
-pub(crate) struct Width {
-    children: u32,
-    sources: Divisor,
-}
-
-impl Model for Width {
-    ghost use Rattle.std.specs.Prelude.{◌≡◌, ℕ, ◌+◌, ◌*◌, ◌≤◌};
-
-    ghost Value = { ℕ };
-
-    ghost view = { λ w. w.children };
-
-    ghost invariant = { λ w. (w.children ≤ 16) × (w.sources ≡ 1 + 3 * w.children) };
-}
-
-impl Width {
-    fn new(children: u32) -> Width
-        requires { children ≤ 16 }
-        ensures { result ≡ children }
-    {
-        Width {
-            children,
-            sources: Divisor::new(1 + 3 * children),
-        }
-    }
-
-    // The turn of the bus by a word that draws the source.
-    #[inline]
-    fn turn(&self, bus: BusNo, choice: u8, word: u32) -> Turn
-        ensures { result ≡ bus_turn_from bus self.now choice (word % (1 + 3 * self.now)) }
-    {
-        let (_, source) = self.sources.divide(word);
-        bus_turn(bus, self.children, choice, source)
-    }
-}
-
-// The widths of a tree's buses, by number: a turn asks for one of them.
-fn bus_widths(alloc: Global, shape: &Shape, buses: u32) -> Result<Vec<Width>, NoMemory>
+// The turns of a tree's buses, by number: a turn asks for one of them.
+fn all_bus_turns(alloc: Global, shape: &Shape, buses: u32) -> Result<Vec<BusTurns>, NoMemory>
     requires { buses ≡ length (widths_of shape.now) }
-    ensures { IfOk result (λ widths. widths.items ≡ widths_of shape.now) }
+    ensures { IfOk result (λ list. list.items ≡ buses_of (widths_of shape.now)) }
 {
-    let mut widths = Vec::with_capacity(alloc, buses as usize)?;
+    let mut list = Vec::with_capacity(alloc, buses as usize)?;
     for bus in 0..buses {
-        widths.push(Width::new(width_at(shape, bus)))?;
+        let children = width_at(shape, bus);
+        list.push(BusTurns::new(alloc, BusNo(bus), children)?)?;
     }
-    Ok(widths)
+    Ok(list)
 }
 
 // The turn of two words of the generator, for a tree with this many harts and buses.
 #[tactic(auto, unfolding(text_model::specs::Seeded::seeded_turn))]
 #[inline]
-fn seeded_turn(widths: &[Width], harts: &Divisor, buses: &Divisor, a: u32, b: u32) -> Turn
-    requires number { buses.now ≡ length widths.now }
+fn seeded_turn(list: &[BusTurns], harts: &Divisor, buses: &Divisor, a: u32, b: u32) -> Turn
+    requires number { buses.now ≡ length list.now }
     requires some { 1 ≤ buses.now }
-    ensures { result ≡ seeded_turn (record { harts = harts.now; buses = widths.now }) a b }
+    requires each { list.now ≡ buses_of (widths_in list.now) }
+    ensures { result ≡ seeded_turn (record { harts = harts.now; buses = widths_in list.now }) a b }
 {
-    if a % 4 < 2 {
-        let (rest, hart) = harts.divide(b);
-        Turn::Hart {
-            hart: HartNo(hart),
-            victim: (rest % 256) as u8,
-        }
-    } else {
-        let (rest, bus) = buses.divide(b);
-        widths[bus as usize].turn(BusNo(bus), (a / 4 % 16) as u8, rest)
-    }
+    // Both are at hand before one is taken, so that no branch has to be guessed.
+    let (victim, hart) = harts.divide(b);
+    let of_hart = Turn::Hart {
+        hart: HartNo(hart),
+        victim: (victim % 256) as u8,
+    };
+    let (word, bus) = buses.divide(b);
+    let of_bus = list[bus as usize].turn(a / 4 % 16, word);
+    if a % 4 < 2 { of_hart } else { *of_bus }
 }
 
 /// The turns of a seed for the parts of a tree, each made when it is asked for, of two words of the generator. A contract sees the
@@ -122,17 +60,17 @@ pub struct SeededTurns {
     left: u32,
     harts: Divisor,
     buses: Divisor,
-    widths: Vec<Width>,
+    bus_turns: Vec<BusTurns>,
 }
 
 impl Model for SeededTurns {
-    ghost use Rattle.schedule_log.specs.Seeding.{IsOfTree, SeededView, seeded_view};
+    ghost use Rattle.schedule_log.specs.Seeding.{IsOfTree, SeededView, seeded_view, widths_in};
 
     ghost Value = { SeededView };
 
-    ghost view = { λ s. seeded_view s.harts s.widths.items s.words s.left };
+    ghost view = { λ s. seeded_view s.harts (widths_in s.bus_turns.items) s.words s.left };
 
-    ghost invariant = { λ s. IsOfTree s.harts s.buses s.widths.items };
+    ghost invariant = { λ s. IsOfTree s.harts s.buses s.bus_turns.items };
 }
 
 impl SeededTurns {
@@ -141,13 +79,13 @@ impl SeededTurns {
         ensures { IfOk result (λ seeds. seeds ≡ record { shape = shape_view shape.now; left = [] }) }
     {
         let buses = shape.buses();
-        let widths = bus_widths(alloc, shape, buses)?;
+        let bus_turns = all_bus_turns(alloc, shape, buses)?;
         Ok(SeededTurns {
             words: Pcg32::new(0, STREAM),
             left: 0,
             harts: Divisor::new(shape.harts()),
             buses: Divisor::new(buses),
-            widths,
+            bus_turns,
         })
     }
 
@@ -177,7 +115,7 @@ impl SeededTurns {
         let a = self.words.next_word();
         let b = self.words.next_word();
         self.left -= 1;
-        seeded_turn(&self.widths, &self.harts, &self.buses, a, b)
+        seeded_turn(&self.bus_turns, &self.harts, &self.buses, a, b)
     }
 
     /// Puts the next turns at the front of a block, as many as are left and find place there, and answers how many these are. The
