@@ -34,7 +34,8 @@ fn bus_turn(bus: BusNo, children: u32, choice: u8, source: u32) -> Turn
     }
 }
 
-/// The turns of a bus, each with its choices, so that one is drawn by a look. A contract sees the bus.
+/// The turns of a bus with their choices, so that one is drawn by a look. A contract sees which bus it is, and how many children it
+/// has.
 #[derive(Drop)]
 pub(crate) struct BusTurns {
     bus: BusNo,

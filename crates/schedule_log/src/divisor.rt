@@ -2,7 +2,8 @@ ghost use Rattle.std.specs.Prelude.{◌≡◌, ◌≤◌, ◌/◌, ◌%◌};
 
 use std::marker::Model;
 
-/// A number that others are divided by, with what makes a division by it a multiplication. A contract sees the number.
+/// A number by which others are divided, with the whole part of 2^64 - 1 by it: so a division is a multiplication. A contract sees
+/// the number.
 #[derive(Drop)]
 pub(crate) struct Divisor {
     by: u32,
@@ -31,7 +32,7 @@ impl Divisor {
         }
     }
 
-    // The quotient alone.
+    // The quotient alone: that whole part times one more than the number, without its last 64 bits.
     #[inline]
     fn quotient(&self, n: u32) -> u32
         ensures { result ≡ n / self.now }

@@ -41,7 +41,7 @@ fn seeded_turn(list: &[BusTurns], harts: &Divisor, buses: &Divisor, a: u32, b: u
     requires each { list.now ≡ buses_of (widths_in list.now) }
     ensures { result ≡ seeded_turn (record { harts = harts.now; buses = widths_in list.now }) a b }
 {
-    // Both are at hand before one is taken, so that no branch has to be guessed.
+    // Both stand ready before one is taken, so that the processor has no branch to guess.
     let (victim, hart) = harts.divide(b);
     let of_hart = Turn::Hart {
         hart: HartNo(hart),

@@ -118,7 +118,7 @@ fn bus_line(text: &[u8]) -> Option<(Turn, &[u8])>
 pub(crate) fn spelled_line(text: &[u8]) -> Option<(Turn, &[u8])>
     ensures { IfSome result (λ r. BeginsWithLine text.now r.0 r.1.now) }
 {
-    if text.is_empty() || text[0] == b'g' {
+    if !text.is_empty() && text[0] == b'g' {
         bus_line(text)
     } else {
         hart_line(text)
