@@ -1,4 +1,5 @@
 pub mod Saved
+pub mod PiecesLeft
 pub mod Resumed
 pub mod Laws
 pub mod Fits

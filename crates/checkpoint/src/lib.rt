@@ -5,11 +5,14 @@ ghost use Rattle.std.specs.Prelude.{◌≡◌};
 ghost use Rattle.checkpoint.specs.declared.ResumeRefusal.TheVariants.{NoMemory};
 
 pub mod examples;
+mod front;
 pub mod laws;
+mod pieces;
 mod resuming;
 mod saving;
 
 use ddm_types::NoMemory;
+pub use pieces::CheckpointPieces;
 pub use resuming::{MOST_BYTES, resume};
 pub use saving::save;
 

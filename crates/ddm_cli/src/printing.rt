@@ -24,7 +24,7 @@ use crate::command::{Prints, TurnSource};
 use crate::making::{Made, turns_made};
 use crate::status::Status;
 use crate::unjamming::{list_refused, write_unjamming};
-use checkpoint::save;
+use checkpoint::CheckpointPieces;
 use ddm_outside::{Failed, Shelf, Sink};
 use ddm_types::{NoMemory, Op};
 use report::{ReportPieces, TracePieces, summary_text, witness, write_all, write_pieces};
@@ -109,8 +109,8 @@ fn write_made<K: Sink>(
             Ok(write_all(out, &text))
         }
         Prints::Checkpoint => {
-            let bytes = save(alloc, machine, made.counts)?;
-            Ok(write_all(out, &bytes))
+            let mut pieces = CheckpointPieces::new(alloc, machine, made.counts)?;
+            Ok(write_pieces(out, &mut pieces, buffer))
         }
         Prints::Report | Prints::Trace => { write_report(alloc, out, machine, made, buffer) }
     }

@@ -1,12 +1,13 @@
--- The words of a checkpoint for a node, where it is known to be a leaf or a directory; and for the leaf or the directory over the bus
--- of a number.
+-- The words of a checkpoint for a node, where it is known to be a leaf or a directory; for the leaf or the directory over the bus of a
+-- number; and for a tree.
 -- Letters: v is a leaf, d a directory over the nodes ns, m a machine.
 -- To be believed with the contracts: it is what the calls that write give.
-use Rattle.std.specs.Prelude.{ℕ, List, []}
+use Rattle.std.specs.Prelude.{ℕ, List, [], ◌++◌, length}
+use Rattle.std.specs.List.{flat_map, range_with_len}
 use Rattle.tree_model.specs.State.Values.{LeafValue, Node, leaf_node, dir_node, MachineValue}
-use Rattle.tree_model.specs.Turns.Machine.{ask_leaf, ask_bus}
-use Rattle.state_words.specs.Parts.{dir_words}
-use Rattle.state_words.specs.Machine.{words_or_none}
+use Rattle.tree_model.specs.Turns.Machine.{ask_leaf, ask_bus, machine_leaves}
+use Rattle.state_words.specs.Parts.{dir_words, hart_words, leaf_words}
+use Rattle.state_words.specs.Machine.{bus_words, words_or_none}
 
 -- these words of a leaf
 abbrev pub node_words : (LeafValue → List ℕ) → Node → List ℕ
@@ -23,3 +24,7 @@ words_of_leaf words leaf m = words_or_none (ask_leaf leaf (λ w v. words v) [] m
 
 abbrev pub dir_words_of : ℕ → MachineValue → List ℕ
 dir_words_of bus m = words_or_none (ask_bus bus (λ w d ns. dir_words d) [] m)
+
+-- of the harts, the buses and the leaves, each in order of number
+abbrev pub tree_words : MachineValue → List ℕ
+tree_words m = flat_map hart_words (machine_leaves m) ++ flat_map (bus_words m) (range_with_len 0 (length m.traffic)) ++ flat_map leaf_words (machine_leaves m)

@@ -17,6 +17,9 @@ use crate::subtree::Subtree;
 use ddm_types::{BusNo, Op, TreeCounts};
 use state_reading::StateRefusal;
 
+/// How many words an operation has.
+const OP_WORDS: usize = 15;
+
 /// Reads one operation more, in a tree of so many levels of buses and so many leaves.
 fn add_op(
     ops: &mut Vec<Op>,
@@ -39,8 +42,22 @@ fn add_op(
     }
 }
 
-/// Reads so many operations in place of those that are there. Memory is taken one by one, so a count that is false takes no more than
-/// the words that are there.
+/// Takes memory for so many operations at once, if there are words enough for them: a count that is false takes none.
+fn make_room(ops: &mut Vec<Op>, retired: u32, words: usize) -> Result<(), StateRefusal>
+    ensures same { ops.new.items ≡ ops.old.items }
+    ensures refused { IfErr result (λ e. e ≡ NoMemory) }
+{
+    let many = retired as usize;
+    if words / OP_WORDS < many {
+        return Ok(());
+    }
+    match ops.reserve_exact(many) {
+        Ok(()) => Ok(()),
+        Err(_) => Err(StateRefusal::NoMemory),
+    }
+}
+
+/// Reads so many operations in place of those that are there. Where the words are too few, memory is taken one by one.
 fn fill_ops(
     ops: &mut Vec<Op>,
     retired: u32,
@@ -56,6 +73,7 @@ fn fill_ops(
     ensures many { OnOk result (length ops.new.items ≡ retired) }
 {
     ops.clear();
+    make_room(ops, retired, words.len() - *at as usize)?;
     for _number in 0..retired {
         add_op(ops, words, at, counts.depth, counts.leaves)?;
     }

@@ -10,7 +10,7 @@ ghost use Rattle.state_words.specs.Parts.{hart_words, leaf_words};
 ghost use Rattle.ddm_tree.specs.Machine.{is_part};
 ghost use Rattle.ddm_tree.specs.Path.{node_at};
 ghost use Rattle.ddm_tree.specs.Ready.{Leads};
-ghost use Rattle.ddm_tree.specs.Written.{dir_words_of, node_dir_words, node_words, words_of_leaf};
+ghost use Rattle.ddm_tree.specs.Written.{dir_words_of, node_dir_words, node_words, tree_words, words_of_leaf};
 
 use crate::below::next;
 use crate::machine::Machine;
@@ -172,16 +172,25 @@ impl<const WORDS: usize, C: Subtree<WORDS>> Machine<WORDS, C> {
         Ok(())
     }
 
-    /// Puts the words of its state at the end: of the harts, the buses, the leaves and the operations, and the end word. After
-    /// `NoMemory` some of them stand there.
-    pub fn write_state(&self, out: &mut Vec<u32>) -> Result<(), NoMemory>
-        requires { length self.now.machine.ops < 2 ^ 32 }
-        ensures ok { OnOk result (Adds out.old.items out.new.items (state_words self.now.machine)) }
+    /// Puts the words of its tree at the end: of the harts, the buses and the leaves. After `NoMemory` some of them stand there.
+    pub fn write_tree(&self, out: &mut Vec<u32>) -> Result<(), NoMemory>
+        ensures ok { OnOk result (Adds out.old.items out.new.items (tree_words self.now.machine)) }
         ensures err { OnErr result (Begins out.old.items out.new.items) }
     {
         self.write_harts(out)?;
         self.write_buses(out)?;
         self.write_leaves(out)?;
+        Ok(())
+    }
+
+    /// Puts the words of its state at the end: of the tree and of the operations, and the end word. After `NoMemory` some of them
+    /// stand there.
+    pub fn write_state(&self, out: &mut Vec<u32>) -> Result<(), NoMemory>
+        requires { length self.now.machine.ops < 2 ^ 32 }
+        ensures ok { OnOk result (Adds out.old.items out.new.items (state_words self.now.machine)) }
+        ensures err { OnErr result (Begins out.old.items out.new.items) }
+    {
+        self.write_tree(out)?;
         push_all(out, self.ops())?;
         push_words(out, &[END])?;
         Ok(())

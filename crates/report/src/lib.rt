@@ -37,7 +37,7 @@ pub use harts::{
 pub use items::{push_copy_place, push_item_line, push_letters};
 pub use line::{LINE_BYTES, Line, Line as FaultLine};
 pub use operations::{push_key, push_op_line, push_op_lines};
-pub use parts::{LEAST_PIECE, Parts};
+pub use parts::{LEAST_PIECE, Parts, joined};
 pub use pieces::{push_bytes, push_number, push_words};
 pub use report_pieces::{ReportPieces, report_text, witness};
 pub use roles::FileRole;

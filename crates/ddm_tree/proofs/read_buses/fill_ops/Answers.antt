@@ -6,7 +6,7 @@ use Rattle.ddm_tree.proofs.read_buses.fill_ops.Goals as goal
 pub returns-in_err-add_op-clause-refused : goal.returns-in_err-add_op-clause-refused
 returns-in_err-add_op-clause-refused c =
     let e = c.in_err-add_op.field-0.0 in
-    let is : c.from_residual.result ≡ Err e = search rules in
+    let is : c.from_residual-in_err-add_op.result ≡ Err e = search rules in
     rw is (λ other. one_step_refused (read_op c.args.counts.depth c.args.counts.leaves) c.args.retired c.loop-number._number c.loop-number.ops.items c.loop-number.at (drop c.loop-number.at c.args.words.now) e _ (omega arith) c.loop-number.invariant.left (c.in_err-add_op.ensures.refused other))
 
 pub loop-number-preserved : goal.loop-number-preserved

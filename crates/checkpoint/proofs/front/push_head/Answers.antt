@@ -1,6 +1,6 @@
 use Rattle.ddm_text.specs.Adds.{◌▸◌}
 use Rattle.state_words.specs.Machine.{head_words}
-use Rattle.checkpoint.proofs.saving.push_head.Goals as goal
+use Rattle.checkpoint.proofs.front.push_head.Goals as goal
 
 pub returns : goal.returns
 unfolding head_words

@@ -1,0 +1,14 @@
+use Rattle.std.proofs.Common.{[], ◌∷◌, ◌++◌, ap, ◌∙◌}
+use Rattle.ddm_text.specs.Adds.{◌▸◌, alone}
+use Rattle.any_machine.specs.Any.{machine_state}
+use Rattle.state_words.specs.Machine.{head_words, sizes_of}
+use Rattle.ddm_tree.specs.Written.{tree_words}
+use Rattle.checkpoint.proofs.front.front_of.Goals as goal
+
+pub returns : goal.returns
+returns c =
+    let counts = c.args.counts in
+    let tree = tree_words (machine_state c.args.machine.now).machine in
+    alone (c.in_ok-push_head.ensures ▸ c.in_ok-write_tree.ensures.ok ▸ c.in_ok-push_words.ensures.ok) c.new-words.ensures.items
+    ∙ ap (λ sizes. head_words sizes counts.turns counts.retired counts.granted counts.busy ++ tree ++ counts.retired ∷ []) c.sizes.ensures
+    ∙ ap (λ n. head_words (sizes_of (machine_state c.args.machine.now).machine) counts.turns counts.retired counts.granted counts.busy ++ tree ++ n ∷ []) c.requires

@@ -1,0 +1,103 @@
+ghost use Rattle.std.specs.Prelude.{◌≡◌, ◌+◌, ◌*◌, ◌≤◌, [], ◌++◌, length, IfOk};
+ghost use Rattle.std.specs.List.{flat_map};
+ghost use Rattle.std.specs.Int.{w32, to_le_bytes};
+ghost use Rattle.state_words.specs.Parts.{op_words};
+ghost use Rattle.any_machine.specs.Any.{machine_state};
+ghost use Rattle.checkpoint.specs.Saved.{saved};
+
+use crate::front::front_of;
+use any_machine::AnyMachine;
+use ddm_types::{NoMemory, Op};
+use report::{LINE_BYTES, Line, Parts};
+use state_words::{effect_words, key_words};
+use std::alloc::Global;
+use std::marker::Model;
+use text_model::RunCounts;
+
+/// The word behind all others.
+const END: u32 = 0x454d_4444;
+
+/// The most words of which a line has the bytes.
+const LINE_WORDS: usize = LINE_BYTES / 4;
+
+/// The checkpoint of a machine, given piece by piece. A contract sees the bytes that are left.
+#[derive(Drop)]
+pub struct CheckpointPieces<'a> {
+    // The words before those of the operations.
+    front: Vec<u32>,
+    ops: &'a [Op],
+    // How many of these words and how many operations were given, and whether the end word was.
+    words_given: usize,
+    ops_given: usize,
+    is_ended: bool,
+}
+
+impl<'a> Model for CheckpointPieces<'a> {
+    ghost use Rattle.std.specs.Prelude.{ℕ, List};
+
+    ghost Value = { List ℕ };
+
+    ghost use Rattle.checkpoint.specs.PiecesLeft.{checkpoint_left};
+
+    ghost view = { checkpoint_left };
+}
+
+/// Puts the bytes of words at the end, of each the least first.
+fn put_words(line: &mut Line, words: &[u32])
+    requires { length line.old + 4 * length words.now ≤ LINE_BYTES }
+    ensures { line.new ≡ line.old ++ flat_map (to_le_bytes w32) words.now }
+{
+    for word in words {
+        line.push(&word.to_le_bytes());
+    }
+}
+
+/// Puts the bytes of an operation at the end.
+fn put_operation(line: &mut Line, op: Op)
+    requires { line.old ≡ [] }
+    ensures { line.new ≡ flat_map (to_le_bytes w32) (op_words op) }
+{
+    put_words(line, &key_words(op.key));
+    put_words(line, &[op.hart.0, op.pc]);
+    put_words(line, &effect_words(op.effect));
+}
+
+impl<'a> CheckpointPieces<'a> {
+    /// The checkpoint of a machine whose turns so far came to these counts, of which nothing is given yet. All memory that it needs is
+    /// taken here: for the words before those of the operations.
+    pub fn new(
+        alloc: Global,
+        machine: &'a AnyMachine,
+        counts: RunCounts,
+    ) -> Result<CheckpointPieces<'a>, NoMemory>
+        requires { counts.retired ≡ length (machine_state machine.now).machine.ops }
+        ensures { IfOk result (λ bytes. bytes ≡ saved (machine_state machine.now).machine counts) }
+    {
+        let front = front_of(alloc, machine, counts)?;
+        Ok(CheckpointPieces {
+            front,
+            ops: machine.ops(),
+            words_given: 0,
+            ops_given: 0,
+            is_ended: false,
+        })
+    }
+}
+
+impl<'a> Parts for CheckpointPieces<'a> {
+    ghost left = { λ bytes. bytes };
+
+    fn put_next(&mut self, line: &mut Line) {
+        if self.words_given < self.front.len() {
+            let end = self.front.len().min(self.words_given + LINE_WORDS);
+            put_words(line, &self.front[self.words_given..end]);
+            self.words_given = end;
+        } else if self.ops_given < self.ops.len() {
+            put_operation(line, self.ops[self.ops_given]);
+            self.ops_given += 1;
+        } else if !self.is_ended {
+            put_words(line, &[END]);
+            self.is_ended = true;
+        }
+    }
+}

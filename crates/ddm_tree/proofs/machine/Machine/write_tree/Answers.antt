@@ -1,0 +1,5 @@
+use Rattle.ddm_text.specs.Adds.{◌▸◌}
+use Rattle.ddm_tree.proofs.machine.Machine.write_tree.Goals as goal
+
+pub returns-clause-ok : goal.returns-clause-ok
+returns-clause-ok g c = c.in_ok-write_harts.ensures.ok ▸ c.in_ok-write_buses.ensures.ok ▸ c.in_ok-write_leaves.ensures.ok
