@@ -97,7 +97,7 @@ command_text told (to_check c) =
     option_and_then (λ tree. option_and_then (λ image. option_and_then (verdict_of tree image) (told c.witness)) (told c.image)) (told c.tree)
 command_text told (to_resume r) =
     option_and_then (λ tree. option_and_then (λ image. option_and_then (λ checkpoint.
-        option_and_then (resumed_text tree image checkpoint) (told r.schedule)) (told r.checkpoint)) (told r.image)) (told r.tree)
+    option_and_then (resumed_text tree image checkpoint) (told r.schedule)) (told r.checkpoint)) (told r.image)) (told r.tree)
 command_text told (to_survey s) = option_and_then (λ tree. option_and_then (outcomes_of s tree) (told s.image)) (told s.tree)
 command_text told (to_say a) = Some (about_text a)
 

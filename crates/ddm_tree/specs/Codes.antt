@@ -48,8 +48,8 @@ stored_machine-injective x y e =
     let spare : x.spare ≡ y.spare = cc in
     let turns : x.turns ≡ y.turns = cc in
     same_parts x.machine.code y.machine.code x.machine.items y.machine.items x.machine.top y.machine.top x.machine.kids y.machine.kids
-        x.machine.ops y.machine.ops x.machine.traffic y.machine.traffic x.spare y.spare x.turns y.turns
-        code items (top_same x.machine.top y.machine.top x.machine.kids y.machine.kids root) (kids_same x.machine.top y.machine.top x.machine.kids y.machine.kids root) ops traffic spare turns
+    x.machine.ops y.machine.ops x.machine.traffic y.machine.traffic x.spare y.spare x.turns y.turns
+    code items (top_same x.machine.top y.machine.top x.machine.kids y.machine.kids root) (kids_same x.machine.top y.machine.top x.machine.kids y.machine.kids root) ops traffic spare turns
 
 abbrev pub machine_code : Coded MachineState
 machine_code = record { code = stored_machine; inj = stored_machine-injective }
