@@ -101,6 +101,19 @@ module _ (size : ℕ) (rows : List Row) (address at : ℕ) (order : AllPairs (λ
             ]
       ]))
 
+-- the row that has the byte is the only one
+module _ (size : ℕ) (rows : List Row) (address number : ℕ) (order : AllPairs (λ r q. r.address + size ≤ q.address) rows) (r : Row) (inside : number < length rows) (there : r ≡ get_or rows number r) where
+  not_before : (k : ℕ) → k < number → r.address ≤ address → row_has size address (get_or (map row_of rows) k no_row) ≡ false
+  not_before k b low =
+      let near = order k number r b inside in
+      let here : (get_or rows number r).address ≤ address = rw (sym there) low in
+      rw (get_or-map row_of rows k r no_row (omega (arith, inside))) (has_not_below size address (get_or rows k r).address (omega (arith, near, here)))
+
+  pub only : r.address ≤ address → address - r.address < size → position (row_has size address) (map row_of rows) ≡ Some number
+  only low near =
+      let here : row_has size address (row_of (get_or rows number r)) ≡ true = rw (sym there) (has_it size address r.address low (omega arith)) in
+      position-Some (row_has size address) (map row_of rows) number no_row (rw length-map (omega (arith, inside))) (λ k b. not_before k b low) (rw (get_or-map row_of rows number r no_row inside) here)
+
 -- ---- the rows that were made
 
 from-at : (m : ℕ) (ks : List ℕ) (j : ℕ) → AreFrom m ks → j < length ks → m ≤ get_or ks j 0

@@ -1,4 +1,4 @@
-ghost use Rattle.std.specs.Prelude.{◌≡◌, ◌+◌, ◌*◌, ◌^◌, ◌<◌, ◌≤◌, ◌++◌, All, IfOk, OnOk, length, map};
+ghost use Rattle.std.specs.Prelude.{◌≡◌, ◌+◌, ◌*◌, ◌^◌, ◌<◌, ◌≤◌, ◌++◌, Some, All, IfOk, IfSome, OnOk, length, map};
 ghost use Rattle.std.specs.List.{flat_map, list_any};
 ghost use Rattle.ddm_types.specs.ItemTable.{IsItemSize, item_at, item_count, item_numbers, item_row, items_of, row_at, span_end, writes};
 ghost use Rattle.ddm_types.specs.ItemRule.{AreItemsOf};
@@ -94,12 +94,21 @@ struct Row {
     writable: bool,
 }
 
+/// An item that doesn't lie directly behind another one: its address and its number.
+#[derive(Clone, Copy)]
+struct RunStart {
+    address: u32,
+    number: usize,
+}
+
 /// The table of items. A contract sees it as the size of an item and the items in order of address, each
 /// with its address and whether it is writable.
 #[derive(Drop)]
 pub struct Items {
     item_bytes: u32,
     rows: Vec<Row>,
+    /// Where an item is looked for first. What is found there is looked at, so nothing rests on it.
+    starts: Vec<RunStart>,
 }
 
 impl Model for Items {
@@ -161,6 +170,20 @@ fn push_items(
     Ok(())
 }
 
+/// The items that don't lie directly behind another one.
+fn run_starts(alloc: Global, rows: &[Row], item_bytes: u32) -> Result<Vec<RunStart>, NoMemory> {
+    let mut starts = Vec::new(alloc);
+    let mut behind = 0;
+    for number in 0..rows.len() {
+        let address = rows[number].address;
+        if number == 0 || address != behind {
+            starts.push(RunStart { address, number })?;
+        }
+        behind = address.wrapping_add(item_bytes);
+    }
+    Ok(starts)
+}
+
 impl Items {
     /// The items of this many bytes that the spans overlap. Takes memory for the items, and for as many
     /// runs as there are spans.
@@ -176,7 +199,12 @@ impl Items {
         for run in &runs {
             push_items(&mut rows, *run, spans, item_bytes)?;
         }
-        Ok(Items { item_bytes, rows })
+        let starts = run_starts(alloc, &rows, item_bytes)?;
+        Ok(Items {
+            item_bytes,
+            rows,
+            starts,
+        })
     }
 
     /// The number of items.
@@ -186,8 +214,44 @@ impl Items {
         self.rows.len() as u32
     }
 
-    /// The item that has the byte at this address.
-    pub fn find(&self, address: u32) -> Option<ItemId>
+    // The item with this number, if it has the byte at this address.
+    fn if_there(&self, number: usize, address: u32) -> Option<ItemId>
+        ensures { IfSome result (λ x. item_at self.now address ≡ Some x) }
+    {
+        if number >= self.rows.len() {
+            return None;
+        }
+        let row = &self.rows[number];
+        if row.address <= address && address - row.address < self.item_bytes {
+            Some(ItemId(number as u32))
+        } else {
+            None
+        }
+    }
+
+    // The item that has the byte at this address, as far as the run is told in which it has to lie. `None` says nothing.
+    fn in_its_run(&self, address: u32) -> Option<ItemId>
+        ensures { IfSome result (λ x. item_at self.now address ≡ Some x) }
+    {
+        let mut last = None;
+        for start in &self.starts {
+            if start.address <= address {
+                last = Some(*start);
+            }
+        }
+        let start = last?;
+        let bytes = address.wrapping_sub(start.address);
+        // No division by a number that isn't known.
+        let behind = if self.item_bytes == 16 {
+            bytes / 16
+        } else {
+            bytes / 64
+        };
+        self.if_there(start.number.wrapping_add(behind as usize), address)
+    }
+
+    // The item that has the byte at this address, wherever it lies.
+    fn search(&self, address: u32) -> Option<ItemId>
         ensures { result ≡ item_at self.now address }
     {
         let after = self.rows.partition_point(|row| row.address <= address);
@@ -199,6 +263,16 @@ impl Items {
             Some(ItemId((after - 1) as u32))
         } else {
             None
+        }
+    }
+
+    /// The item that has the byte at this address.
+    pub fn find(&self, address: u32) -> Option<ItemId>
+        ensures { result ≡ item_at self.now address }
+    {
+        match self.in_its_run(address) {
+            Some(item) => Some(item),
+            None => self.search(address),
         }
     }
 

@@ -17,7 +17,7 @@ all c =
     ap (λ (ns : List ℕ). map (item_row c.args.item_bytes c.args.spans.now) ns) c.in_ok-runs.ensures.numbers
 
 pub invariant_of-result : goal.invariant_of-result
-invariant_of-result c = made_rows c.args.item_bytes c.args.spans.now c.loop-run.rows.items c.requires.size (all c) c.requires.few
+invariant_of-result c = made_rows c.args.item_bytes c.args.spans.now c.loop-run.rows.items c.requires.size (all (goal.at.invariant_of-result c).After-loop-run) c.requires.few
 
 abbrev table : ℕ → List ItemRow → ItemTable
 table size rows = record { size = size; rows = rows }

@@ -2,8 +2,8 @@ use Rattle.std.proofs.Common.{◌≡◌, ◌≤◌, leb, true, false, length, sy
 use Rattle.std.specs.List.Sorted.{IsPartitionPoint, IsPartitionedBy}
 use Rattle.std.proofs.lemmas.List.Sorted.{IsPartitionPoint-from_clause, IsPartitionedBy-leb}
 use Rattle.ddm_types.specs.ItemTable.{item_at}
-use Rattle.ddm_types.proofs.item_table.Items.find.Goals as goal
-use Rattle.ddm_types.proofs.item_table.Items.find.Goals.{After-partition_point-after, After-index-row}
+use Rattle.ddm_types.proofs.item_table.Items.search.Goals as goal
+use Rattle.ddm_types.proofs.item_table.Items.search.Goals.{After-partition_point-after, After-index-row}
 use Rattle.ddm_types.proofs.Rows.{rows-rise, started, none_started, found, missed}
 
 -- the rows before the answer start at the address or below
