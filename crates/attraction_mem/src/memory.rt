@@ -4,7 +4,7 @@ ghost use Rattle.ddm_types.specs.declared.sizes.LeafState.{LeafState as State};
 ghost use Rattle.attraction_mem.specs.Memory.{entry_of, empty_memory, StandsIn, StandsAs, IsFree, IsLowestFree, IsFull, with_entry, without_entry, with_state, with_words, way_and_state, state_and_words};
 
 use crate::places::{find_free, find_tag, first_place};
-use ddm_types::{ItemId, LeafState, NoMemory, Words};
+use ddm_types::{Divisor, ItemId, LeafState, NoMemory, Words};
 use std::alloc::Global;
 use std::marker::Model;
 
@@ -16,7 +16,7 @@ pub struct SetFull(pub u32);
 /// `WORDS` words. An item's set is its number modulo the number of sets.
 #[derive(Drop)]
 pub struct AttractionMem<const WAYS: usize, const WORDS: usize> {
-    sets: u32,
+    sets: Divisor,
     tags: Vec<Option<(ItemId, LeafState)>>,
     words: Vec<Words<WORDS>>,
 }
@@ -46,7 +46,11 @@ impl<const WAYS: usize, const WORDS: usize> AttractionMem<WAYS, WORDS> {
         let places = sets as usize * WAYS;
         let tags = vec![in alloc; None; places]?;
         let words = vec![in alloc; Words { w: [0; WORDS] }; places]?;
-        Ok(AttractionMem { sets, tags, words })
+        Ok(AttractionMem {
+            sets: Divisor::new(sets),
+            tags,
+            words,
+        })
     }
 
     /// Takes all items out.
@@ -62,7 +66,16 @@ impl<const WAYS: usize, const WORDS: usize> AttractionMem<WAYS, WORDS> {
         ensures some { 0 < result }
         ensures few { result * WAYS ≤ 16384 }
     {
-        self.sets
+        self.sets.by()
+    }
+
+    /// The number of the item's set.
+    fn set_of(&self, item: ItemId) -> u32
+        ensures set { result ≡ item % self.now.sets }
+        ensures inside { result < self.now.sets }
+        ensures some_ways { 0 < WAYS }
+    {
+        self.sets.remainder(item.0)
     }
 
     /// How many ways each set has.
@@ -78,14 +91,14 @@ impl<const WAYS: usize, const WORDS: usize> AttractionMem<WAYS, WORDS> {
         ensures value { result ≡ option_map way_and_state (entry_of self.now item) }
         ensures exists { IfSome result (λ found. found.0 < WAYS) }
     {
-        let (place, state) = find_tag::<WAYS>(self.sets, &self.tags, item)?;
+        let (place, state) = find_tag::<WAYS>(&self.sets, &self.tags, item)?;
         Some(((place % WAYS) as u32, state))
     }
 
     pub fn words(&self, item: ItemId) -> Option<Words<WORDS>>
         ensures { result ≡ option_map (λ entry. entry.words) (entry_of self.now item) }
     {
-        let (place, _) = find_tag::<WAYS>(self.sets, &self.tags, item)?;
+        let (place, _) = find_tag::<WAYS>(&self.sets, &self.tags, item)?;
         Some(self.words[place])
     }
 
@@ -94,7 +107,7 @@ impl<const WAYS: usize, const WORDS: usize> AttractionMem<WAYS, WORDS> {
         ensures lowest { IfSome result (IsLowestFree WAYS self.now (item % self.now.sets)) }
         ensures full { IfNone result (IsFull WAYS self.now (item % self.now.sets)) }
     {
-        let way = find_free::<WAYS>(self.sets, &self.tags, item)?;
+        let way = find_free::<WAYS>(&self.sets, &self.tags, item)?;
         Some(way as u32)
     }
 
@@ -113,7 +126,7 @@ impl<const WAYS: usize, const WORDS: usize> AttractionMem<WAYS, WORDS> {
         ensures same { OnErr result (self.new ≡ self.old) }
     {
         let Some(way) = self.free_way(item) else {
-            return Err(SetFull(item.0 % self.sets));
+            return Err(SetFull(self.set_of(item)));
         };
         self.place_at(item, way, state, words);
         Ok(way)
@@ -124,7 +137,7 @@ impl<const WAYS: usize, const WORDS: usize> AttractionMem<WAYS, WORDS> {
         requires { IsFull WAYS self.now (item % self.now.sets) }
         ensures { (other : ℕ) → (result ≡ other) ↔ StandsIn self.now (item % self.now.sets) (victim % WAYS) other }
     {
-        let set = item.0 % self.sets;
+        let set = self.set_of(item);
         let way = usize::from(victim) % WAYS;
         self.at(set, way as u32).unwrap()
     }
@@ -144,7 +157,7 @@ impl<const WAYS: usize, const WORDS: usize> AttractionMem<WAYS, WORDS> {
         requires { way < WAYS }
         ensures { (other : ℕ) → (result ≡ Some other) ↔ StandsIn self.now (item % self.now.sets) way other }
     {
-        self.at(item.0 % self.sets, way)
+        self.at(self.set_of(item), way)
     }
 
     /// Puts the item into that way of its set.
@@ -154,7 +167,7 @@ impl<const WAYS: usize, const WORDS: usize> AttractionMem<WAYS, WORDS> {
         requires free { IsFree self.old (item % self.old.sets) way }
         ensures { self.new ≡ with_entry self.old item way state words.entry }
     {
-        let free = first_place::<WAYS>(self.sets, item) + way as usize;
+        let free = first_place::<WAYS>(&self.sets, item) + way as usize;
         self.tags[free] = Some((item, state));
         self.words[free] = words;
     }
@@ -164,7 +177,7 @@ impl<const WAYS: usize, const WORDS: usize> AttractionMem<WAYS, WORDS> {
         ensures value { result ≡ option_map state_and_words (entry_of self.old item) }
         ensures removed { self.new ≡ without_entry self.old item }
     {
-        let (place, state) = find_tag::<WAYS>(self.sets, &self.tags, item)?;
+        let (place, state) = find_tag::<WAYS>(&self.sets, &self.tags, item)?;
         self.tags[place] = None;
         Some((state, self.words[place]))
     }
@@ -173,7 +186,7 @@ impl<const WAYS: usize, const WORDS: usize> AttractionMem<WAYS, WORDS> {
         requires { IsSome (entry_of self.old item) }
         ensures { self.new ≡ with_state self.old item state }
     {
-        let (place, _) = find_tag::<WAYS>(self.sets, &self.tags, item).unwrap();
+        let (place, _) = find_tag::<WAYS>(&self.sets, &self.tags, item).unwrap();
         self.tags[place] = Some((item, state));
     }
 
@@ -181,7 +194,7 @@ impl<const WAYS: usize, const WORDS: usize> AttractionMem<WAYS, WORDS> {
         requires { IsSome (entry_of self.old item) }
         ensures { self.new ≡ with_words self.old item words.entry }
     {
-        let (place, _) = find_tag::<WAYS>(self.sets, &self.tags, item).unwrap();
+        let (place, _) = find_tag::<WAYS>(&self.sets, &self.tags, item).unwrap();
         self.words[place] = words;
     }
 

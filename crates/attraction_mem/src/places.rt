@@ -1,29 +1,29 @@
 ghost use Rattle.std.specs.Prelude.{◌≡◌, ◌+◌, ◌*◌, ◌%◌, ◌<◌, ◌≤◌, length, None, IfSome, IfNone, slice_index_or};
 ghost use Rattle.attraction_mem.specs.Places.{IsSized, HasTag, HasNoTag, AreTaken};
 
-use ddm_types::{ItemId, LeafState};
+use ddm_types::{Divisor, ItemId, LeafState};
 
 /// The place of way 0 of the item's set.
 #[tactic(auto, using(crate::proofs::Sizes::row_fits, crate::proofs::Sizes::small_product))]
-pub fn first_place<const WAYS: usize>(sets: u32, item: ItemId) -> usize
-    requires { IsSized WAYS sets (sets * WAYS) }
-    ensures place { result ≡ item % sets * WAYS }
-    ensures fits { result + WAYS ≤ sets * WAYS }
-    ensures few { sets * WAYS ≤ 16384 }
+pub fn first_place<const WAYS: usize>(sets: &Divisor, item: ItemId) -> usize
+    requires { IsSized WAYS sets.now (sets.now * WAYS) }
+    ensures place { result ≡ item % sets.now * WAYS }
+    ensures fits { result + WAYS ≤ sets.now * WAYS }
+    ensures few { sets.now * WAYS ≤ 16384 }
 {
-    (item.0 % sets) as usize * WAYS
+    sets.remainder(item.0) as usize * WAYS
 }
 
 /// The place of the item's tag, and its state.
 pub fn find_tag<const WAYS: usize>(
-    sets: u32,
+    sets: &Divisor,
     tags: &[Option<(ItemId, LeafState)>],
     item: ItemId,
 ) -> Option<(usize, LeafState)>
-    requires { IsSized WAYS sets (length tags.now) }
+    requires { IsSized WAYS sets.now (length tags.now) }
     ensures found { IfSome result (λ at. HasTag tags.now at.0 item at.1) }
     ensures exists { IfSome result (λ at. at.0 < length tags.now) }
-    ensures absent { IfNone result (HasNoTag tags.now (item % sets * WAYS) WAYS item) }
+    ensures absent { IfNone result (HasNoTag tags.now (item % sets.now * WAYS) WAYS item) }
 {
     let first = first_place::<WAYS>(sets, item);
     for place in first..first + WAYS {
@@ -38,15 +38,15 @@ pub fn find_tag<const WAYS: usize>(
 
 /// The lowest free way of the item's set.
 pub fn find_free<const WAYS: usize>(
-    sets: u32,
+    sets: &Divisor,
     tags: &[Option<(ItemId, LeafState)>],
     item: ItemId,
 ) -> Option<usize>
-    requires { IsSized WAYS sets (length tags.now) }
+    requires { IsSized WAYS sets.now (length tags.now) }
     ensures exists { IfSome result (λ way. way < WAYS) }
-    ensures free { IfSome result (λ way. slice_index_or tags.now (item % sets * WAYS + way) None ≡ None) }
-    ensures lower { IfSome result (AreTaken tags.now (item % sets * WAYS)) }
-    ensures full { IfNone result (AreTaken tags.now (item % sets * WAYS) WAYS) }
+    ensures free { IfSome result (λ way. slice_index_or tags.now (item % sets.now * WAYS + way) None ≡ None) }
+    ensures lower { IfSome result (AreTaken tags.now (item % sets.now * WAYS)) }
+    ensures full { IfNone result (AreTaken tags.now (item % sets.now * WAYS) WAYS) }
 {
     let first = first_place::<WAYS>(sets, item);
     for way in 0..WAYS {

@@ -4,6 +4,7 @@ mod Examples
 pub mod KeyOrder
 pub mod Parts
 pub mod Permuted
+pub mod Reciprocals
 pub mod Rows
 pub mod Rule
 pub mod Runs

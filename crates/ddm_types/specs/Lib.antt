@@ -4,3 +4,4 @@ pub mod ItemRuns
 pub mod ItemRows
 pub mod CodeMap
 pub mod Keys
+pub mod Divisors

@@ -1,9 +1,10 @@
 //! What every crate names: numbers of items, leaves and buses, stamps and keys, turns and their answers,
-//! completed operations, the table of items and the code.
+//! completed operations, the table of items and the code; and division by a number that stays the same.
 #![tactic(auto)]
 
 mod answers;
 mod code_map;
+mod divisor;
 mod item_table;
 mod keys;
 mod numbers;
@@ -13,6 +14,7 @@ mod turns;
 
 pub use answers::{BusyCause, LogEntry, PendingWhy, Place, QueueName, TurnAnswer, TxKind};
 pub use code_map::{Code, CodePart};
+pub use divisor::Divisor;
 pub use item_table::{Items, MOST_ITEMS, count_items};
 pub use keys::{Key, LEVELS, Stamp};
 pub use numbers::{BusNo, ChildNo, HartNo, ItemId, LeafNo, NoMemory, Words};

@@ -4,6 +4,5 @@ pub mod FirstLines
 pub mod Readers
 pub mod Cuttings
 pub mod SeedTurns
-pub mod Reciprocals
 pub mod Spellings
 pub mod Draws

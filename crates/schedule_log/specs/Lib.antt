@@ -4,5 +4,4 @@ pub mod Standings
 pub mod Steps
 pub mod Reader
 pub mod Pieces
-pub mod Divisors
 pub mod Spelled

@@ -2,8 +2,7 @@ ghost use Rattle.std.specs.Prelude.{◌≡◌, ◌≤◌, ◌<◌, ◌+◌, ◌*
 ghost use Rattle.text_model.specs.Seeded.{bus_turn_from};
 ghost use Rattle.schedule_log.specs.Seeding.{turns_of_bus};
 
-use crate::divisor::Divisor;
-use ddm_types::{BusNo, ChildNo, NoMemory, Turn};
+use ddm_types::{BusNo, ChildNo, Divisor, NoMemory, Turn};
 use std::alloc::Global;
 use std::marker::Model;
 

@@ -2,7 +2,6 @@
 #![tactic(auto)]
 
 mod bus_turns;
-mod divisor;
 pub mod laws;
 mod parts;
 mod reading;

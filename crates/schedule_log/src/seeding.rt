@@ -7,9 +7,8 @@ ghost use Rattle.schedule_log.specs.Seeding.{buses_of, widths_in};
 ghost use Rattle.schedule_log.specs.Shapes.{shape_view};
 
 use crate::bus_turns::BusTurns;
-use crate::divisor::Divisor;
 use crate::parts::width_at;
-use ddm_types::{BusNo, ChildNo, HartNo, NoMemory, Turn};
+use ddm_types::{BusNo, ChildNo, Divisor, HartNo, NoMemory, Turn};
 use rand_core::utils::NextWord;
 use rand_pcg::Pcg32;
 use std::alloc::Global;

@@ -1,7 +1,7 @@
 -- A quotient by a multiplication.
 use Rattle.std.proofs.Common.{◌≡◌, ℕ, ◌+◌, ◌-◌, ◌*◌, ◌/◌, ◌%◌, ◌<◌, ◌≤◌, ap, sym, ◌∙◌, arith}
 use Rattle.std.proofs.lemmas.Nat.{div-add-mod', div-mul-add, le-div, mul-le, mod_below}
-use Rattle.schedule_log.specs.Divisors.{IsReciprocal}
+use Rattle.ddm_types.specs.Divisors.{IsReciprocal}
 
 -- a number between two multiples has the quotient of the lower one
 between : (x q w : ℕ) → q * w ≤ x → x < q * w + w → x / w ≡ q

@@ -5,14 +5,14 @@ use std::marker::Model;
 /// A number by which others are divided, with the whole part of 2^64 - 1 by it: so a division is a multiplication. A contract sees
 /// the number.
 #[derive(Drop)]
-pub(crate) struct Divisor {
+pub struct Divisor {
     by: u32,
     reciprocal: u64,
 }
 
 impl Model for Divisor {
     ghost use Rattle.std.specs.Prelude.{ℕ};
-    ghost use Rattle.schedule_log.specs.Divisors.{IsReciprocal};
+    ghost use Rattle.ddm_types.specs.Divisors.{IsReciprocal};
 
     ghost Value = { ℕ };
 
@@ -22,7 +22,7 @@ impl Model for Divisor {
 }
 
 impl Divisor {
-    pub(crate) fn new(by: u32) -> Divisor
+    pub fn new(by: u32) -> Divisor
         requires { 1 ≤ by }
         ensures { result ≡ by }
     {
@@ -30,6 +30,12 @@ impl Divisor {
             by,
             reciprocal: u64::MAX / u64::from(by),
         }
+    }
+
+    pub fn by(&self) -> u32
+        ensures { result ≡ self.now }
+    {
+        self.by
     }
 
     // The quotient alone: that whole part times one more than the number, without its last 64 bits.
@@ -43,11 +49,19 @@ impl Divisor {
 
     /// The quotient and the remainder.
     #[inline]
-    pub(crate) fn divide(&self, n: u32) -> (u32, u32)
+    pub fn divide(&self, n: u32) -> (u32, u32)
         ensures quotient { result.0 ≡ n / self.now }
         ensures remainder { result.1 ≡ n % self.now }
     {
         let quotient = self.quotient(n);
         (quotient, n - quotient * self.by)
+    }
+
+    /// The remainder alone.
+    #[inline]
+    pub fn remainder(&self, n: u32) -> u32
+        ensures { result ≡ n % self.now }
+    {
+        self.divide(n).1
     }
 }

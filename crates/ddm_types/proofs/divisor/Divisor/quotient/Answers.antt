@@ -1,6 +1,6 @@
 use Rattle.std.proofs.Common.{ℕ, ◌+◌, ◌*◌, ◌/◌, ap, ◌∙◌, rules}
-use Rattle.schedule_log.proofs.Reciprocals.{by_reciprocal}
-use Rattle.schedule_log.proofs.divisor.Divisor.quotient.Goals as goal
+use Rattle.ddm_types.proofs.Reciprocals.{by_reciprocal}
+use Rattle.ddm_types.proofs.divisor.Divisor.quotient.Goals as goal
 
 pub returns : goal.returns
 returns c =
