@@ -222,9 +222,9 @@ impl Hart {
         }
     }
 
-    /// What the next instruction does.
+    /// What the hart's next instruction does, as far as that is known before the words of its item are.
     #[tactic(auto, unfolding(flat_model::specs::Hart::action_of))]
-    fn step(&self, code: &Code, items: &Items) -> Step
+    pub fn next_step(&self, code: &Code, items: &Items) -> Step
         ensures value { action_by self.now.hart result ≡ action_of code.now items.now self.now.hart }
         ensures inside { IsInside items.now.size result }
     {
@@ -239,23 +239,7 @@ impl Hart {
     pub fn ask(&self, code: &Code, items: &Items) -> Ask
         ensures { result ≡ ask_of code.now items.now self.now.hart }
     {
-        match self.step(code, items) {
-            Step::Halt(cause) => Ask::Halt(cause),
-            Step::Advance | Step::Write(..) | Step::Jump(_) | Step::Link(..) => Ask::Plain,
-            Step::Put(byte) => Ask::Put(byte),
-            Step::Load(_, _, access) => Ask::NeedsShared {
-                item: access.item,
-                lr: false,
-            },
-            Step::Reserve(_, access) => Ask::NeedsShared {
-                item: access.item,
-                lr: true,
-            },
-            Step::StoreIfReserved(_, _, access) => Ask::Conditional { item: access.item },
-            Step::Store(_, _, access) | Step::Change(_, _, _, access) => Ask::NeedsExclusive {
-                item: access.item,
-            },
-        }
+        self.next_step(code, items).ask()
     }
 
     fn set_register(&mut self, reg: Reg, value: u32)
@@ -426,6 +410,23 @@ impl Hart {
         Effect::Plain
     }
 
+    /// Carries out a step that the hart's next instruction does, on the words of its item. An SC stores where `sc_ok` holds.
+    pub fn carry_out<const WORDS: usize>(
+        &mut self,
+        step: Step,
+        words: &mut Words<WORDS>,
+        sc_ok: bool,
+    ) -> Effect
+        requires goes_on { GoesOn (action_by self.old.hart step) }
+        requires inside { IsInside (4 * WORDS) step }
+        requires count { self.old.done < 4294967295 }
+        ensures { IsFinished (finish_by (action_by self.old.hart step) self.old.hart words.old sc_ok) (self.old.done + 1) self.new result words.new }
+    {
+        let effect = self.take(step, words, sc_ok);
+        self.done += 1;
+        effect
+    }
+
     /// Carries out the hart's next instruction on the words of its item. An SC stores where `sc_ok` holds.
     #[tactic(auto, unfolding(flat_model::specs::Hart::finish_of, flat_model::specs::Hart::ask_of))]
     pub fn finish<const WORDS: usize>(
@@ -444,10 +445,8 @@ impl Hart {
         ensures words { words.new ≡ (finish_of code.now items.now self.old.hart words.old sc_ok).words }
         ensures done { self.new.done ≡ self.old.done + 1 }
     {
-        let step = self.step(code, items);
-        let effect = self.take(step, words, sc_ok);
-        self.done += 1;
-        effect
+        let step = self.next_step(code, items);
+        self.carry_out(step, words, sc_ok)
     }
 
     /// Stops the hart. Nothing else changes.

@@ -11,6 +11,7 @@ mod steps;
 
 pub use flat_model::Ask;
 pub use hart::Hart;
+pub use steps::{Access, Step};
 
 /// What an instruction leaves on the words of its item is what the flat machine's step of its hart leaves
 /// there, and a halt that is asked for is that step's halt.

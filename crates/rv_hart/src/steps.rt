@@ -1,11 +1,12 @@
 //! What an instruction does, as far as that is known before the words of its item are.
 ghost use Rattle.std.specs.Prelude.{◌≡◌, ℕ, ◌*◌, ◌<◌, Some};
 ghost use Rattle.ddm_types.specs.ItemTable.{item_at};
-ghost use Rattle.flat_model.specs.Hart.{access_in, aligned, jump, next_pc, with_register, byte_place, word_address, load_at, store_at, load_bytes, store_bytes, Loads, Stores, Reserves, StoresIfReserved, Changes, HartValue};
+ghost use Rattle.flat_model.specs.Hart.{ask_by, access_in, aligned, jump, next_pc, with_register, byte_place, word_address, load_at, store_at, load_bytes, store_bytes, Loads, Stores, Reserves, StoresIfReserved, Changes, HartValue};
 ghost use Rattle.rv_hart.specs.Steps.{load_item, store_item, access_value, action_by, IsInside};
 
 use crate::bytes::{load_bytes, store_bytes};
 use ddm_types::{HaltCause, ItemId, Items};
+use flat_model::Ask;
 use rv_decode::{AmoOp, LoadOp, Reg, StoreOp};
 
 /// A byte address, its item, and which word of the item it is in.
@@ -47,6 +48,31 @@ pub enum Step {
     Reserve(Reg, Access),
     StoreIfReserved(Reg, u32, Access),
     Change(AmoOp, Reg, u32, Access),
+}
+
+impl Step {
+    /// What it needs.
+    pub fn ask(self) -> Ask
+        ensures { (h : HartValue) → result ≡ ask_by (action_by h self) }
+    {
+        match self {
+            Step::Halt(cause) => Ask::Halt(cause),
+            Step::Advance | Step::Write(..) | Step::Jump(_) | Step::Link(..) => Ask::Plain,
+            Step::Put(byte) => Ask::Put(byte),
+            Step::Load(_, _, access) => Ask::NeedsShared {
+                item: access.item,
+                lr: false,
+            },
+            Step::Reserve(_, access) => Ask::NeedsShared {
+                item: access.item,
+                lr: true,
+            },
+            Step::StoreIfReserved(_, _, access) => Ask::Conditional { item: access.item },
+            Step::Store(_, _, access) | Step::Change(_, _, _, access) => Ask::NeedsExclusive {
+                item: access.item,
+            },
+        }
+    }
 }
 
 /// The item that a load of so many bytes at this address reads.
