@@ -1,4 +1,4 @@
-ghost use Rattle.std.specs.Prelude.{◌≡◌, ◌+◌, ◌*◌, ◌%◌, ◌<◌, ◌≤◌, ◌↔◌, ℕ, [], length, Option, Some, None, Ok, IfOk, IfErr, OnErr, IfSome, IfNone, IsSome, slice_index_or};
+ghost use Rattle.std.specs.Prelude.{◌≡◌, ◌+◌, ◌*◌, ◌%◌, ◌<◌, ◌≤◌, ◌↔◌, ℕ, [], length, Option, Some, None, Ok, IfOk, IfErr, OnErr, IfSome, IfNone, IsSome, is_some, slice_index_or};
 ghost use Rattle.std.specs.Option.{option_map};
 ghost use Rattle.ddm_types.specs.declared.sizes.LeafState.{LeafState as State};
 ghost use Rattle.attraction_mem.specs.Memory.{entry_of, empty_memory, StandsIn, StandsAs, IsFree, IsLowestFree, IsFull, with_entry, without_entry, with_state, with_words, way_and_state, state_and_words};
@@ -102,6 +102,14 @@ impl<const WAYS: usize, const WORDS: usize> AttractionMem<WAYS, WORDS> {
         Some(self.words[place])
     }
 
+    /// The state and the words of the item's entry.
+    pub fn entry(&self, item: ItemId) -> Option<(LeafState, Words<WORDS>)>
+        ensures { result ≡ option_map state_and_words (entry_of self.now item) }
+    {
+        let (place, state) = find_tag::<WAYS>(&self.sets, &self.tags, item)?;
+        Some((state, self.words[place]))
+    }
+
     /// The lowest free way of the item's set.
     pub fn free_way(&self, item: ItemId) -> Option<u32>
         ensures lowest { IfSome result (IsLowestFree WAYS self.now (item % self.now.sets)) }
@@ -196,6 +204,19 @@ impl<const WAYS: usize, const WORDS: usize> AttractionMem<WAYS, WORDS> {
     {
         let (place, _) = find_tag::<WAYS>(&self.sets, &self.tags, item).unwrap();
         self.words[place] = words;
+    }
+
+    /// The item's entry, if it has one, gets this state and these words. The answer says whether it has one.
+    pub fn change(&mut self, item: ItemId, state: LeafState, words: Words<WORDS>) -> bool
+        ensures there { result ≡ is_some (entry_of self.old item) }
+        ensures changed { self.new ≡ with_words (with_state self.old item state) item words.entry }
+    {
+        let Some((at, _)) = find_tag::<WAYS>(&self.sets, &self.tags, item) else {
+            return false;
+        };
+        self.tags[at] = Some((item, state));
+        self.words[at] = words;
+        true
     }
 
     /// Becomes a copy of another memory with as many sets. It takes no memory.

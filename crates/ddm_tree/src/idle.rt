@@ -100,6 +100,9 @@ fn wake(idle: &mut [Option<Idle>], number: usize, leaf_paths: &[Vec<ChildNo>], p
     requires { number < length idle.old }
     ensures { IsWoken number path.now (map vec_items leaf_paths.now) idle.old idle.new }
 {
+    if idle[number].is_none() {
+        return;
+    }
     if let Some(leaf) = leaf_paths.get(number) {
         if may_be_child(path, leaf) {
             idle[number] = None;

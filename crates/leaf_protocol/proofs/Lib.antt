@@ -6,6 +6,7 @@ pub mod Changing
 pub mod Told
 pub mod Deeds
 pub mod Standing
+pub mod Steps
 pub mod Putting
 pub mod Together
 pub mod ReadBack

@@ -6,11 +6,15 @@ use Rattle.ddm_types.specs.declared.answers.TxKind.{TxKind}
 use Rattle.ddm_types.specs.declared.answers.TxKind.TheVariants.{ReadTx}
 use Rattle.ddm_types.specs.declared.answers.TurnAnswer.{TurnAnswer}
 use Rattle.ddm_types.specs.declared.keys.Key.{Key}
+use Rattle.ddm_types.specs.CodeMap.{CodeWord}
 use Rattle.ddm_types.specs.ItemTable.{ItemTable, item_count}
 use Rattle.ddm_types.specs.declared.sizes.LeafState.{LeafState}
 use Rattle.flat_model.specs.declared.Ask.{Ask}
 use Rattle.flat_model.specs.declared.Ask.TheVariants.{NeedsExclusive, Conditional}
+use Rattle.flat_model.specs.Hart.{HartValue, action_of}
+use Rattle.rv_hart.specs.declared.steps.Step.{Step}
 use Rattle.rv_hart.specs.HartState.{HartState}
+use Rattle.rv_hart.specs.Steps.{IsInside, action_by}
 use Rattle.tree_model.specs.State.Values.{RequestValue, CopyValue, LeafValue}
 use Rattle.tree_model.specs.State.Leaf.{LeafEntry, slot_has, waiting_item}
 use Rattle.tree_model.specs.Turns.HartTurn.{Deed, answer_of_deed, leaf_after_deed}
@@ -71,6 +75,11 @@ pub record CanTry (width : ℕ) (table : ItemTable) (v : LeafValue) : Type 0 whe
   pub count : v.done + 1 < 2 ^ 32
   pub running : v.hart.halt ≡ None
   pub alone : waiting_item v.ways v.buffer ≡ None
+
+-- this step is what the hart's next instruction does, and its access, if it has one, is within an item of so many words
+pub record IsStep (width : ℕ) (code : List CodeWord) (table : ItemTable) (h : HartValue) (step : Step) : Type 0 where
+  pub action : action_by h step ≡ action_of code table h
+  pub inside : IsInside (4 * width) step
 
 -- the turn comes to this deed: its answer, and the leaf after it
 pub record IsDone (now : Key) (v : LeafValue) (d : Deed) (answer : TurnAnswer) (after : LeafValue) : Type 0 where

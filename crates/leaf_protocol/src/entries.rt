@@ -3,6 +3,7 @@ ghost use Rattle.ddm_types.specs.declared.sizes.LeafState.TheVariants.{Exclusive
 ghost use Rattle.tree_model.specs.State.States.{is_reading, is_waiting};
 ghost use Rattle.tree_model.specs.State.Leaf.{LeafEntry, blank, becomes, ends, enters, enters_free, entry_at, entry_state, entry_words, item_in_way, leaf_leaving, spot_at, waiting_item, words_in, buffered};
 ghost use Rattle.tree_model.specs.State.Child.{buffer_words};
+ghost use Rattle.leaf_protocol.specs.Leaf.{state_and_words};
 ghost use Rattle.leaf_protocol.specs.Entries.{cleared, cleared_if, lowest_way, may_be, waits_now, waiting_after, way_to_take, with_fate};
 
 use attraction_mem::{AttractionMem, SetFull};
@@ -143,6 +144,20 @@ impl<const WAYS: usize, const WORDS: usize> Entries<WAYS, WORDS> {
         }
     }
 
+    /// The state and the words of the item's entry.
+    pub fn entry(&self, item: ItemId) -> Option<(LeafState, Words<WORDS>)>
+        ensures { result ≡ option_map state_and_words (entry_at item self.now.ways self.now.buffer) }
+    {
+        match self.memory.entry(item) {
+            Some(entry) => Some(entry),
+            None => {
+                let (_, state) = self.buffer.find(item)?;
+                let words = self.buffer.words(item)?;
+                Some((state, words))
+            }
+        }
+    }
+
     /// Where the item's entry stands.
     pub fn spot(&self, item: ItemId) -> Option<LeafSpot>
         ensures { result ≡ spot_at item self.now.ways self.now.buffer }
@@ -203,9 +218,7 @@ impl<const WAYS: usize, const WORDS: usize> Entries<WAYS, WORDS> {
     {
         let suiting = words_in(state, words);
         self.waiting = waiting_after(item, waits(state), self.waiting);
-        if self.memory.find(item).is_some() {
-            self.memory.set_state(item, state);
-            self.memory.set_words(item, suiting);
+        if self.memory.change(item, state, suiting) {
             return;
         }
         self.buffer.set_state(item, state);
