@@ -49,6 +49,14 @@ some-entry : (o : Option EntryValue) → is_some (option_map way_and_state o) �
 some-entry None h = absurd cc
 some-entry (Some e) h = (e, refl)
 
+pub some-mapped : (o : Option EntryValue) → is_some (option_map way_and_state o) ≡ is_some o
+some-mapped None = refl
+some-mapped (Some e) = refl
+
+pub none-is : (o : Option EntryValue) → is_some o ≡ false → o ≡ None
+none-is None h = refl
+none-is (Some e) h = absurd cc
+
 no-entry : (o : Option EntryValue) → option_map way_value o ≡ None → o ≡ None
 no-entry None h = refl
 no-entry (Some e) h = absurd cc

@@ -9,8 +9,9 @@ use Rattle.tree_model.specs.declared.LeafSpot.{LeafSpot}
 use Rattle.tree_model.specs.State.Lists.{chosen, first_some}
 use Rattle.tree_model.specs.State.Values.{WayValue, BufferValue}
 use Rattle.tree_model.specs.State.Leaf.{LeafEntry, entry_at, entry_state, buffer_item, buffered, is_buffered, leaf_leaving, may_leave_buffer, spot_at, way_spot}
-use Rattle.attraction_mem.specs.Memory.{EntryValue, MemoryValue, entry_of, IsLowestFree, IsFull, way_and_state}
-use Rattle.leaf_protocol.specs.Entries.{way_value, way_of, ways_of, ItemFits, AreEntries, lowest_way}
+use Rattle.attraction_mem.specs.Memory.{EntryValue, MemoryValue, entry_of, IsLowestFree, IsFull, way_and_state, state_and_words}
+use Rattle.leaf_protocol.specs.Entries.{buffer_state_and_words, way_value, way_of, ways_of, ItemFits, AreEntries, lowest_way}
+use Rattle.leaf_protocol.specs.Leaf.{state_and_words as state_and_words_of}
 use Rattle.leaf_protocol.proofs.Ways.{lowest-some, lowest-none, ways_of-length}
 use Rattle.leaf_protocol.proofs.Fits.{entry_in, are-below, way-is, entry-is}
 
@@ -46,6 +47,21 @@ module _ {ways width n : ℕ} {m : MemoryValue} {b : List BufferValue} {w : Opti
   words-in-buffer o none found = found ∙ (go (entry_of m x) none (buffered x b) ∙ sym (ap (option_map words_of) (entry-is kept x)))
     where
       go : (a : Option EntryValue) → None ≡ option_map (λ e. e.words) a → (c : Option BufferValue) → option_map (λ e. e.words) c ≡ option_map words_of (entry_in (option_map way_value a) c)
+      go (Some f) e c = absurd cc
+      go None e None = refl
+      go None e (Some f) = refl
+
+  pub entry-in-way : (s : LeafState) (words : List ℕ) → Some (s, words) ≡ option_map state_and_words (entry_of m x) → Some (s, words) ≡ option_map state_and_words_of (entry_at x (ways_of n m) b)
+  entry-in-way s words found = found ∙ (go (entry_of m x) found ∙ sym (ap (option_map state_and_words_of) (entry-is kept x)))
+    where
+      go : (o : Option EntryValue) → Some (s, words) ≡ option_map state_and_words o → option_map state_and_words o ≡ option_map state_and_words_of (entry_in (option_map way_value o) (buffered x b))
+      go None e = absurd cc
+      go (Some f) e = refl
+
+  pub entry-in-buffer : (o : Option (LeafState × List ℕ)) → None ≡ option_map state_and_words (entry_of m x) → o ≡ option_map buffer_state_and_words (buffered x b) → o ≡ option_map state_and_words_of (entry_at x (ways_of n m) b)
+  entry-in-buffer o none found = found ∙ (go (entry_of m x) none (buffered x b) ∙ sym (ap (option_map state_and_words_of) (entry-is kept x)))
+    where
+      go : (a : Option EntryValue) → None ≡ option_map state_and_words a → (c : Option BufferValue) → option_map buffer_state_and_words c ≡ option_map state_and_words_of (entry_in (option_map way_value a) c)
       go (Some f) e c = absurd cc
       go None e None = refl
       go None e (Some f) = refl
@@ -116,3 +132,12 @@ module _ {ways width n : ℕ} {m : MemoryValue} {b : List BufferValue} {w : Opti
       go : (o : Option ℕ) → IfSome o (λ x. is_some (buffered x b) ≡ true) → IfSome o (λ x. x < length (ways_of n m))
       go None h = tt
       go (Some x) h = buffered-inside x h
+
+-- the state and the words of an entry of the buffer, where it is there
+pub both-gone : (o : Option BufferValue) → None ≡ option_map (λ e. e.state) o → None ≡ option_map buffer_state_and_words o
+both-gone None h = refl
+both-gone (Some f) h = absurd cc
+
+pub both-there : (s : LeafState) (words : List ℕ) (o : Option BufferValue) → Some s ≡ option_map (λ e. e.state) o → Some words ≡ option_map (λ e. e.words) o → Some (s, words) ≡ option_map buffer_state_and_words o
+both-there s words None h k = absurd cc
+both-there s words (Some f) h k = ap (λ t. Some (t, words)) (same_Some s f.state h) ∙ ap (λ w. Some (f.state, w)) (same_Some words f.words k)

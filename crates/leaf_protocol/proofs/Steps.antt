@@ -1,13 +1,16 @@
 -- What the step of a hart's next instruction tells: what the instruction asks for, that it goes on where that is no halt, and what it
 -- leaves.
-use Rattle.std.proofs.Common.{◌≡◌, ℕ, Bool, List, sym, ap, ◌∙◌}
+use Rattle.std.proofs.Common.{◌≡◌, ◌*◌, ℕ, Bool, List, sym, ap, ◌∙◌}
 use Rattle.ddm_types.specs.CodeMap.{CodeWord}
 use Rattle.ddm_types.specs.ItemTable.{ItemTable}
 use Rattle.flat_model.specs.declared.Ask.{Ask}
-use Rattle.flat_model.specs.Hart.{HartValue, Action, Halts, Computes, Puts, Loads, Stores, Reserves, StoresIfReserved, Changes, ask_by, ask_of, finish_by, finish_of}
+use Rattle.flat_model.specs.Hart.{HartValue, Action, Halts, Computes, Puts, Loads, Stores, Reserves, StoresIfReserved, Changes, action_of, ask_by, ask_of, finish_by, finish_of}
 use Rattle.rv_hart.specs.declared.steps.Step.{Step}
-use Rattle.rv_hart.specs.Steps.{GoesOn, IsReady, action_by}
+use Rattle.rv_hart.specs.Steps.{GoesOn, IsInside, IsReady, action_by}
 use Rattle.leaf_protocol.specs.Leaf.{IsStep}
+
+pub step_is : (width : ℕ) (code : List CodeWord) (items : ItemTable) (h : HartValue) (step : Step) → items.size ≡ 4 * width → action_by h step ≡ action_of code items h → IsInside items.size step → IsStep width code items h step
+step_is width code items h step size action inside = record { action = action; inside = rw size at inside }
 
 pub step_asks : (width : ℕ) (code : List CodeWord) (items : ItemTable) (h : HartValue) (step : Step) (ask : Ask) → IsStep width code items h step → ask ≡ ask_by (action_by h step) → ask_of code items h ≡ ask
 unfolding ask_of

@@ -24,6 +24,10 @@ pub record EntriesValue : Type 0 where
 abbrev pub way_value : EntryValue → WayValue
 way_value e = record { way = e.way; state = e.state; words = e.words }
 
+-- the state and the words of an entry of the buffer
+abbrev pub buffer_state_and_words : BufferValue → LeafState × List ℕ
+buffer_state_and_words e = (e.state, e.words)
+
 -- the entry that a memory has of an item
 abbrev pub way_of : MemoryValue → ℕ → Option WayValue
 way_of m x = option_map way_value (entry_of m x)

@@ -4,7 +4,7 @@ ghost use Rattle.tree_model.specs.State.States.{is_reading, is_waiting};
 ghost use Rattle.tree_model.specs.State.Leaf.{LeafEntry, blank, becomes, ends, enters, enters_free, entry_at, entry_state, entry_words, item_in_way, leaf_leaving, spot_at, waiting_item, words_in, buffered};
 ghost use Rattle.tree_model.specs.State.Child.{buffer_words};
 ghost use Rattle.leaf_protocol.specs.Leaf.{state_and_words};
-ghost use Rattle.leaf_protocol.specs.Entries.{cleared, cleared_if, lowest_way, may_be, waits_now, waiting_after, way_to_take, with_fate};
+ghost use Rattle.leaf_protocol.specs.Entries.{buffer_state_and_words, cleared, cleared_if, lowest_way, may_be, waits_now, waiting_after, way_to_take, with_fate};
 
 use attraction_mem::{AttractionMem, SetFull};
 use ddm_types::{ItemId, LeafState, NoMemory, Words};
@@ -150,12 +150,17 @@ impl<const WAYS: usize, const WORDS: usize> Entries<WAYS, WORDS> {
     {
         match self.memory.entry(item) {
             Some(entry) => Some(entry),
-            None => {
-                let (_, state) = self.buffer.find(item)?;
-                let words = self.buffer.words(item)?;
-                Some((state, words))
-            }
+            None => self.buffered_entry(item),
         }
+    }
+
+    /// The same of its entry in the buffer.
+    fn buffered_entry(&self, item: ItemId) -> Option<(LeafState, Words<WORDS>)>
+        ensures { result ≡ option_map buffer_state_and_words (buffered item self.now.buffer) }
+    {
+        let (_, state) = self.buffer.find(item)?;
+        let words = self.buffer.words(item)?;
+        Some((state, words))
     }
 
     /// Where the item's entry stands.

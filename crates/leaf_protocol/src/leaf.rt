@@ -84,7 +84,8 @@ impl<const WAYS: usize, const WORDS: usize> Leaf<WAYS, WORDS> {
         ensures entry { option_map (λ e. (e.0, e.1)) result ≡ option_map state_and_words (leaf_entry item self.now) }
         ensures spot { option_map (λ e. e.2) result ≡ spot_at item self.now.ways self.now.buffer }
     {
-        let (state, words) = self.entries.entry(item)?;
+        let state = self.entries.state(item)?;
+        let words = self.entries.words(item)?;
         let spot = self.entries.spot(item)?;
         Some((state, words, spot))
     }

@@ -73,21 +73,38 @@ impl<const WAYS: usize, const WORDS: usize> Leaf<WAYS, WORDS> {
         requires { CanTry WORDS items.now self.old }
         ensures { IsDone now self.old (deed_by_need code.now items.now victim self.old (need_of (ask_of code.now items.now self.old.hart) self.old)) answer.new self.new }
     {
-        let step = self.hart.next_step(code, items);
-        match step.ask() {
-            Ask::Plain => self.compute(code, items, step, now, answer),
-            Ask::Put(_) => self.compute(code, items, step, now, answer),
+        let step = self.next_step(code, items);
+        match self.asked(code, items, &step) {
+            Ask::Plain => self.compute(code, items, &step, now, answer),
+            Ask::Put(_) => self.compute(code, items, &step, now, answer),
             Ask::NeedsShared { item, lr } => {
-                self.read(code, items, step, now, item, lr, victim, answer);
+                self.read(code, items, &step, now, item, lr, victim, answer);
             }
             Ask::NeedsExclusive { item } => {
-                self.write(code, items, step, now, item, false, victim, answer);
+                self.write(code, items, &step, now, item, false, victim, answer);
             }
             Ask::Conditional { item } => {
-                self.write_if_reserved(code, items, step, now, item, victim, answer);
+                self.write_if_reserved(code, items, &step, now, item, victim, answer);
             }
             Ask::Halt(cause) => self.halt(cause, answer),
         }
+    }
+
+    /// What the hart's next instruction does.
+    #[tactic(auto, using(crate::proofs::Steps::step_is))]
+    fn next_step(&self, code: &Code, items: &Items) -> Step
+        requires { items.now.size ≡ 4 * WORDS }
+        ensures { IsStep WORDS code.now items.now self.now.hart result }
+    {
+        self.hart.next_step(code, items)
+    }
+
+    /// What it needs, where this is its step.
+    fn asked(&self, _code: &Code, _items: &Items, step: &Step) -> Ask
+        requires { IsStep WORDS _code.now _items.now self.now.hart step.now }
+        ensures { result ≡ ask_of _code.now _items.now self.now.hart }
+    {
+        step.ask()
     }
 
     /// The instruction halts its hart.
@@ -103,14 +120,14 @@ impl<const WAYS: usize, const WORDS: usize> Leaf<WAYS, WORDS> {
         &mut self,
         _code: &Code,
         _items: &Items,
-        step: Step,
+        step: &Step,
         now: Key,
         words: &mut Words<WORDS>,
         stores: bool,
         answer: &mut TurnAnswer,
     )
         requires can { CanTry WORDS _items.now self.old }
-        requires step { IsStep WORDS _code.now _items.now self.old.hart step }
+        requires step { IsStep WORDS _code.now _items.now self.old.hart step.now }
         requires ready { IsReady (ask_of _code.now _items.now self.old.hart) }
         ensures answer { answer.new ≡ Retired (record { key = now; hart = self.old.number; pc = self.old.hart.pc; effect = (finish_of _code.now _items.now self.old.hart words.old stores).effect }) }
         ensures after { self.new ≡ record self.old { hart = (finish_of _code.now _items.now self.old.hart words.old stores).hart; done = self.old.done + 1 } }
@@ -131,12 +148,12 @@ impl<const WAYS: usize, const WORDS: usize> Leaf<WAYS, WORDS> {
         &mut self,
         code: &Code,
         items: &Items,
-        step: Step,
+        step: &Step,
         now: Key,
         answer: &mut TurnAnswer,
     )
         requires can { CanTry WORDS items.now self.old }
-        requires step { IsStep WORDS code.now items.now self.old.hart step }
+        requires step { IsStep WORDS code.now items.now self.old.hart step.now }
         requires ready { IsReady (ask_of code.now items.now self.old.hart) }
         requires plain { asked_item (ask_of code.now items.now self.old.hart) ≡ None }
         ensures { IsDone now self.old (deed_of_change (change_here code.now items.now self.old)) answer.new self.new }
@@ -150,14 +167,14 @@ impl<const WAYS: usize, const WORDS: usize> Leaf<WAYS, WORDS> {
         &mut self,
         code: &Code,
         items: &Items,
-        step: Step,
+        step: &Step,
         now: Key,
         item: ItemId,
         victim: u8,
         answer: &mut TurnAnswer,
     )
         requires can { CanTry WORDS items.now self.old }
-        requires step { IsStep WORDS code.now items.now self.old.hart step }
+        requires step { IsStep WORDS code.now items.now self.old.hart step.now }
         requires asks { ask_of code.now items.now self.old.hart ≡ Conditional item }
         ensures { IsDone now self.old (deed_by_need code.now items.now victim self.old (need_of (Conditional item) self.old)) answer.new self.new }
     {
@@ -173,13 +190,13 @@ impl<const WAYS: usize, const WORDS: usize> Leaf<WAYS, WORDS> {
         &mut self,
         code: &Code,
         items: &Items,
-        step: Step,
+        step: &Step,
         now: Key,
         item: ItemId,
         answer: &mut TurnAnswer,
     )
         requires can { CanTry WORDS items.now self.old }
-        requires step { IsStep WORDS code.now items.now self.old.hart step }
+        requires step { IsStep WORDS code.now items.now self.old.hart step.now }
         requires asks { ask_of code.now items.now self.old.hart ≡ Conditional item }
         requires unreserved { has_reserved self.old.reservation item ≡ false }
         ensures { IsDone now self.old (deed_of_change (change_here code.now items.now self.old)) answer.new self.new }
@@ -194,7 +211,7 @@ impl<const WAYS: usize, const WORDS: usize> Leaf<WAYS, WORDS> {
         &mut self,
         code: &Code,
         items: &Items,
-        step: Step,
+        step: &Step,
         now: Key,
         item: ItemId,
         lr: bool,
@@ -202,7 +219,7 @@ impl<const WAYS: usize, const WORDS: usize> Leaf<WAYS, WORDS> {
         answer: &mut TurnAnswer,
     )
         requires can { CanTry WORDS items.now self.old }
-        requires step { IsStep WORDS code.now items.now self.old.hart step }
+        requires step { IsStep WORDS code.now items.now self.old.hart step.now }
         requires asks { ask_of code.now items.now self.old.hart ≡ NeedsShared item lr }
         ensures { IsDone now self.old (deed_by_need code.now items.now victim self.old (need_to_read item (leaf_entry item self.old))) answer.new self.new }
     {
@@ -217,7 +234,7 @@ impl<const WAYS: usize, const WORDS: usize> Leaf<WAYS, WORDS> {
         &mut self,
         code: &Code,
         items: &Items,
-        step: Step,
+        step: &Step,
         now: Key,
         item: ItemId,
         lr: bool,
@@ -225,7 +242,7 @@ impl<const WAYS: usize, const WORDS: usize> Leaf<WAYS, WORDS> {
         answer: &mut TurnAnswer,
     )
         requires can { CanTry WORDS items.now self.old }
-        requires step { IsStep WORDS code.now items.now self.old.hart step }
+        requires step { IsStep WORDS code.now items.now self.old.hart step.now }
         requires asks { ask_of code.now items.now self.old.hart ≡ NeedsShared item lr }
         requires here { words ≡ words_here self.old item }
         ensures { IsDone now self.old (deed_of_change (change_here code.now items.now self.old)) answer.new self.new }
@@ -242,7 +259,7 @@ impl<const WAYS: usize, const WORDS: usize> Leaf<WAYS, WORDS> {
         &mut self,
         code: &Code,
         items: &Items,
-        step: Step,
+        step: &Step,
         now: Key,
         item: ItemId,
         conditional: bool,
@@ -250,18 +267,21 @@ impl<const WAYS: usize, const WORDS: usize> Leaf<WAYS, WORDS> {
         answer: &mut TurnAnswer,
     )
         requires can { CanTry WORDS items.now self.old }
-        requires step { IsStep WORDS code.now items.now self.old.hart step }
+        requires step { IsStep WORDS code.now items.now self.old.hart step.now }
         requires asks { ask_of code.now items.now self.old.hart ≡ write_ask conditional item }
         requires reserved { conditional ≡ true → has_reserved self.old.reservation item ≡ true }
         ensures { IsDone now self.old (deed_by_need code.now items.now victim self.old (need_to_write item (leaf_entry item self.old))) answer.new self.new }
     {
-        match self.entries.entry(item) {
-            None => self.fetch(item, LeafState::ReadingWaiting, victim, answer),
-            Some((LeafState::Exclusive, words)) => {
+        let Some((state, words)) = self.entries.entry(item) else {
+            self.fetch(item, LeafState::ReadingWaiting, victim, answer);
+            return;
+        };
+        match state {
+            LeafState::Exclusive => {
                 self.store(code, items, step, now, item, words, conditional, answer);
             }
-            Some((LeafState::Shared, _)) => self.upgrade(item, answer),
-            Some((LeafState::Waiting | LeafState::Reading | LeafState::ReadingWaiting, _)) => {
+            LeafState::Shared => self.upgrade(item, answer),
+            LeafState::Waiting | LeafState::Reading | LeafState::ReadingWaiting => {
                 *answer = TurnAnswer::Waiting(item);
             }
         }
@@ -272,7 +292,7 @@ impl<const WAYS: usize, const WORDS: usize> Leaf<WAYS, WORDS> {
         &mut self,
         code: &Code,
         items: &Items,
-        step: Step,
+        step: &Step,
         now: Key,
         item: ItemId,
         words: Words<WORDS>,
@@ -280,7 +300,7 @@ impl<const WAYS: usize, const WORDS: usize> Leaf<WAYS, WORDS> {
         answer: &mut TurnAnswer,
     )
         requires can { CanTry WORDS items.now self.old }
-        requires step { IsStep WORDS code.now items.now self.old.hart step }
+        requires step { IsStep WORDS code.now items.now self.old.hart step.now }
         requires asks { ask_of code.now items.now self.old.hart ≡ write_ask conditional item }
         requires reserved { conditional ≡ true → has_reserved self.old.reservation item ≡ true }
         requires exclusive { state_at item self.old ≡ Some Exclusive }

@@ -413,16 +413,16 @@ impl Hart {
     /// Carries out a step that the hart's next instruction does, on the words of its item. An SC stores where `sc_ok` holds.
     pub fn carry_out<const WORDS: usize>(
         &mut self,
-        step: Step,
+        step: &Step,
         words: &mut Words<WORDS>,
         sc_ok: bool,
     ) -> Effect
-        requires goes_on { GoesOn (action_by self.old.hart step) }
-        requires inside { IsInside (4 * WORDS) step }
+        requires goes_on { GoesOn (action_by self.old.hart step.now) }
+        requires inside { IsInside (4 * WORDS) step.now }
         requires count { self.old.done < 4294967295 }
-        ensures { IsFinished (finish_by (action_by self.old.hart step) self.old.hart words.old sc_ok) (self.old.done + 1) self.new result words.new }
+        ensures { IsFinished (finish_by (action_by self.old.hart step.now) self.old.hart words.old sc_ok) (self.old.done + 1) self.new result words.new }
     {
-        let effect = self.take(step, words, sc_ok);
+        let effect = self.take(*step, words, sc_ok);
         self.done += 1;
         effect
     }
@@ -446,7 +446,7 @@ impl Hart {
         ensures done { self.new.done ≡ self.old.done + 1 }
     {
         let step = self.next_step(code, items);
-        self.carry_out(step, words, sc_ok)
+        self.carry_out(&step, words, sc_ok)
     }
 
     /// Stops the hart. Nothing else changes.

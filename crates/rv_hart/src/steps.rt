@@ -52,10 +52,10 @@ pub enum Step {
 
 impl Step {
     /// What it needs.
-    pub fn ask(self) -> Ask
-        ensures { (h : HartValue) → result ≡ ask_by (action_by h self) }
+    pub fn ask(&self) -> Ask
+        ensures { (h : HartValue) → result ≡ ask_by (action_by h self.now) }
     {
-        match self {
+        match *self {
             Step::Halt(cause) => Ask::Halt(cause),
             Step::Advance | Step::Write(..) | Step::Jump(_) | Step::Link(..) => Ask::Plain,
             Step::Put(byte) => Ask::Put(byte),

@@ -17,7 +17,7 @@ pub returns-in-Some-waiting-clause-after : goal.returns-in-Some-waiting-clause-a
 returns-in-Some-waiting-clause-after g c = step-leaf c.args.code.now c.args.items.now c.args.victim c.args.self.now c.args.now (waits_for c.in-Some-waiting.item) (Waiting c.in-Some-waiting.item) c.args.self.now (waiting-deed c.args.code.now c.args.items.now c.args.victim c.args.self.now c.in-Some-waiting.item (rw (← c.self.view_is) (sym c.in_default.ensures)) (rw (← c.self.view_is) (sym c.in-Some-waiting.ensures))) (record { answers = refl; leaf = refl })
 
 pub returns-clause-answer : goal.returns-clause-answer
-returns-clause-answer g c = step-answer c.args.code.now c.args.items.now c.args.victim c.args.self.now c.args.now _ c.try_next.result c.try_next.new.self (next-deed c.args.code.now c.args.items.now c.args.victim c.args.self.now (rw (← c.self.view_is) (sym c.in_default.ensures)) (rw (← c.self.view_is) (sym c.in_default-waiting.ensures))) c.try_next.ensures
+returns-clause-answer g c = step-answer c.args.code.now c.args.items.now c.args.victim c.args.self.now c.args.now _ c.try_next.new.answer c.try_next.new.self (next-deed c.args.code.now c.args.items.now c.args.victim c.args.self.now (rw (← c.self.view_is) (sym c.in_default.ensures)) (rw (← c.self.view_is) (sym c.in_default-waiting.ensures))) c.try_next.ensures
 
 pub returns-clause-after : goal.returns-clause-after
-returns-clause-after g c = step-leaf c.args.code.now c.args.items.now c.args.victim c.args.self.now c.args.now _ c.try_next.result c.try_next.new.self (next-deed c.args.code.now c.args.items.now c.args.victim c.args.self.now (rw (← c.self.view_is) (sym c.in_default.ensures)) (rw (← c.self.view_is) (sym c.in_default-waiting.ensures))) c.try_next.ensures
+returns-clause-after g c = step-leaf c.args.code.now c.args.items.now c.args.victim c.args.self.now c.args.now _ c.try_next.new.answer c.try_next.new.self (next-deed c.args.code.now c.args.items.now c.args.victim c.args.self.now (rw (← c.self.view_is) (sym c.in_default.ensures)) (rw (← c.self.view_is) (sym c.in_default-waiting.ensures))) c.try_next.ensures
