@@ -5,6 +5,3 @@ mod memory;
 mod places;
 
 pub use memory::{AttractionMem, SetFull};
-
-#[cfg(test)]
-mod tests;

@@ -20,6 +20,3 @@ pub use outside::{Failed, Shelf, Sink};
 pub use sound_shelf::SoundShelf;
 pub use sound_sink::SoundSink;
 pub use std_sink::StdSink;
-
-#[cfg(test)]
-mod tests;

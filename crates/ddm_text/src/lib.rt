@@ -4,8 +4,6 @@
 mod lines;
 mod numbers;
 mod reading;
-#[cfg(test)]
-mod tests;
 mod text;
 
 pub use lines::{LineCut, cut_line};

@@ -21,6 +21,3 @@ pub use state::DirState;
 pub use state_reading::brings_copy;
 pub use table::ItemTable;
 pub use upper::pending_by;
-
-#[cfg(test)]
-mod tests;

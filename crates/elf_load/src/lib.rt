@@ -24,6 +24,3 @@ pub use loading::load;
 pub use refusal::ImageRefusal;
 pub use round_trip::written_loads_back;
 pub use writing::write_image;
-
-#[cfg(test)]
-mod tests;

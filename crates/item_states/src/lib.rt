@@ -13,6 +13,3 @@ pub use entries::DownEntry;
 pub use named::Named;
 pub use parent::{Parent, ParentList};
 pub use tables::{leaf_answer, leaf_data, leaf_hold, leaf_lose};
-
-#[cfg(test)]
-mod tests;

@@ -13,6 +13,3 @@ mod turn;
 mod writing;
 
 pub use leaf::Leaf;
-
-#[cfg(test)]
-mod tests;

@@ -9,6 +9,3 @@ mod program;
 pub use examples::made_example;
 pub use laws::made_images_load;
 pub use making::make_image;
-
-#[cfg(test)]
-mod tests;

@@ -12,6 +12,3 @@ mod text;
 pub use line::OutcomeLine;
 pub use runs::outcomes;
 pub use text::push_table;
-
-#[cfg(test)]
-mod tests;

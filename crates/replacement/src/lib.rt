@@ -15,6 +15,3 @@ pub use parking::Parking;
 /// There is no free place.
 #[derive(Clone, Copy, Debug, PartialEq, Eq)]
 pub struct Full;
-
-#[cfg(test)]
-mod tests;

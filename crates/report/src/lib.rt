@@ -45,6 +45,3 @@ pub use summary::summary_text;
 pub use trace::{push_trace, push_trace_line, push_turn};
 pub use trace_pieces::{TracePieces, trace_text};
 pub use writing::{MOST_OFFERED, write_all, write_pieces};
-
-#[cfg(test)]
-mod tests;

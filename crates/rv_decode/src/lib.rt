@@ -47,6 +47,3 @@ pub fn one_row_for_a_word()
 pub fn one_word()
     ensures { (w : ℕ) (i : InstrValue) → w < 2 ^ 32 → decode_of w ≡ Some i → IsValid i × (encode_of i ≡ w) }
 {}
-
-#[cfg(test)]
-mod tests;

@@ -4,7 +4,5 @@
 mod flat_hart;
 mod machine;
 mod memory;
-#[cfg(test)]
-mod tests;
 
 pub use machine::FlatMachine;

@@ -20,6 +20,3 @@ pub fn steps_as_flat()
     ensures finishes { FinishesAsFlat }
     ensures halts { HaltsAsFlat }
 {}
-
-#[cfg(test)]
-mod tests;

@@ -18,6 +18,3 @@ pub use refusal::FeedError;
 pub use seeding::{SeededTurns, seeded};
 pub use text_model::ScheduleRefusal;
 pub use writing::{push_turn, write_schedule};
-
-#[cfg(test)]
-mod tests;

@@ -7,6 +7,3 @@ mod state;
 mod writing;
 
 pub use state::TopState;
-
-#[cfg(test)]
-mod tests;

@@ -16,6 +16,3 @@ pub use grammar::shapes_by_grammar;
 pub use reading::{MOST_BYTES, read_tree};
 pub use refusal::{TreeKey, TreeRefusal};
 pub use shape::Shape;
-
-#[cfg(test)]
-mod tests;

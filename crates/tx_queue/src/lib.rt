@@ -8,6 +8,3 @@ mod requests;
 mod writing;
 
 pub use queue::Queue;
-
-#[cfg(test)]
-mod tests;

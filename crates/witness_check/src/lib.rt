@@ -17,6 +17,3 @@ pub use checking::check;
 pub use examples::{eight_operations, lines_of_operations, six_operations};
 pub use reader::WitnessReader;
 pub use refusal::CheckRefusal;
-
-#[cfg(test)]
-mod tests;

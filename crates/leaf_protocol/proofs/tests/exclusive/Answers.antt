@@ -1,8 +1,0 @@
-use Rattle.tree_model.proofs.LeafRooms.{leaf_within-facts, leaf_within-test, leaf_take_exclusive-within}
-use Rattle.leaf_protocol.proofs.Told.{same-leaf}
-use Rattle.leaf_protocol.proofs.tests.exclusive.Goals as goal
-
-pub returns : goal.returns
-returns c =
-    let after = same-leaf c.take_exclusive.new.self _ c.take_exclusive.ensures in
-    rw after (leaf_within-test 3 _ (leaf_take_exclusive-within 3 c.args.item c.args.leaf.now (leaf_within-facts 3 c.args.leaf.now c.requires.within)))

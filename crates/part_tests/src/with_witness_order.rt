@@ -1,0 +1,47 @@
+use ddm_types::{Effect, HartNo, Key, Op};
+use std::test::Fail;
+use witness_order::Witness;
+
+// An operation of a hart in a tree of two levels of buses.
+fn op(hart: u32, numbers: [u32; 5]) -> Op {
+    let key = Key {
+        s0: numbers[0],
+        c0: numbers[1],
+        s1: numbers[2],
+        c1: numbers[3],
+        i: numbers[4],
+        ..Key::zero()
+    };
+    Op {
+        key,
+        hart: HartNo(hart),
+        pc: 0x0001_0000,
+        effect: Effect::Plain,
+    }
+}
+
+#[test]
+fn sorts_from_the_left(rt: HostRuntime) -> Result<(), Fail> {
+    let came = [
+        op(0, [1, 0, 0, 0, 0]),
+        op(3, [0, 1, 2, 0, 8]),
+        op(2, [0, 1, 2, 1, 0]),
+        op(3, [0, 1, 2, 0, 7]),
+    ];
+    let ascending = [
+        op(3, [0, 1, 2, 0, 7]),
+        op(3, [0, 1, 2, 0, 8]),
+        op(2, [0, 1, 2, 1, 0]),
+        op(0, [1, 0, 0, 0, 0]),
+    ];
+    let witness = Witness::new(rt.alloc(), &came)?;
+    assert_eq!(rt; witness.sorted().as_slice(), ascending.as_slice());
+    Ok(())
+}
+
+#[test]
+fn sorts_nothing(rt: HostRuntime) -> Result<(), Fail> {
+    let witness = Witness::new(rt.alloc(), &[])?;
+    assert!(rt; witness.sorted().is_empty());
+    Ok(())
+}
