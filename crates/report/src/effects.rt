@@ -10,6 +10,7 @@ use crate::pieces::{push_bytes, push_named, push_named_word};
 use ddm_types::{Effect, HaltCause, NoMemory};
 
 // A name, an address and the word there.
+#[inline(always)]
 fn push_access<W: TextBuffer>(
     out: &mut W,
     name: &[u8],
@@ -26,6 +27,7 @@ fn push_access<W: TextBuffer>(
 }
 
 // A name, an address and the words there before and after.
+#[inline(always)]
 fn push_change<W: TextBuffer>(
     out: &mut W,
     name: &[u8],

@@ -9,6 +9,7 @@ use crate::digits::{push_decimal, push_hex8};
 use ddm_types::NoMemory;
 
 /// Puts these bytes at the end.
+#[inline(always)]
 pub fn push_bytes<W: TextBuffer>(out: &mut W, text: &[u8]) -> Result<(), NoMemory>
     ensures text { OnOk result (Adds (W.text out.old) (W.text out.new) text.now) }
     ensures room { UsesRoom (length text.now) (W.room out.old) (W.room out.new) result }
@@ -17,6 +18,7 @@ pub fn push_bytes<W: TextBuffer>(out: &mut W, text: &[u8]) -> Result<(), NoMemor
 }
 
 /// Puts the decimal digits of a number at the end.
+#[inline(always)]
 pub fn push_number<W: TextBuffer>(out: &mut W, n: u32) -> Result<(), NoMemory>
     ensures text { OnOk result (Adds (W.text out.old) (W.text out.new) (decimal n)) }
     ensures room { UsesRoom 20 (W.room out.old) (W.room out.new) result }
@@ -34,6 +36,7 @@ pub fn push_named<W: TextBuffer>(out: &mut W, name: &[u8], n: u32) -> Result<(),
 }
 
 /// Puts the eight hexadecimal digits of a word with a name before it at the end.
+#[inline(always)]
 pub fn push_named_word<W: TextBuffer>(out: &mut W, name: &[u8], word: u32) -> Result<(), NoMemory>
     ensures text { OnOk result (Adds (W.text out.old) (W.text out.new) (name.now ++ hex8 word)) }
     ensures room { UsesRoom (length name.now + 8) (W.room out.old) (W.room out.new) result }
