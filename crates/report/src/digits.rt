@@ -1,4 +1,4 @@
-ghost use Rattle.std.specs.Prelude.{◌≡◌, ◌+◌, ◌/◌, ◌%◌, ◌<◌, ◌≤◌, [], ◌∷◌, OnOk, decimal, false};
+ghost use Rattle.std.specs.Prelude.{◌≡◌, ◌+◌, ◌/◌, ◌%◌, ◌<◌, ◌≤◌, [], ◌∷◌, ◌++◌, OnOk, codes, decimal, false};
 ghost use Rattle.std.specs.Fmt.{digit_glyph};
 ghost use Rattle.ddm_text.specs.Adds.{Adds};
 ghost use Rattle.ddm_text.specs.Hex.{hex2, hex8};
@@ -129,4 +129,13 @@ pub fn push_hex8<W: TextBuffer>(out: &mut W, n: u32) -> Result<(), NoMemory>
     ensures room { UsesRoom 8 (W.room out.old) (W.room out.new) result }
 {
     out.put(&hex8_digits(n))
+}
+
+/// Puts a space and eight hexadecimal digits at the end.
+pub fn push_spaced_hex8<W: TextBuffer>(out: &mut W, n: u32) -> Result<(), NoMemory>
+    ensures text { OnOk result (Adds (W.text out.old) (W.text out.new) (codes " " ++ hex8 n)) }
+    ensures room { UsesRoom 9 (W.room out.old) (W.room out.new) result }
+{
+    let [a, b, c, d, e, f, g, h] = hex8_digits(n);
+    out.put(&[b' ', a, b, c, d, e, f, g, h])
 }

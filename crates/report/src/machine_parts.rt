@@ -145,7 +145,7 @@ pub fn put_states<const WORDS: usize>(
     next
 }
 
-/// Puts the line of an operation.
+// Puts the line of an operation at the end.
 fn put_operation(line: &mut Line, depth: u32, op: Op)
     requires room { length line.old ≤ MOST_BEFORE_OPERATION }
     requires depth { depth ≤ LEVELS }

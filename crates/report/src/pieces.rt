@@ -5,7 +5,7 @@ ghost use Rattle.text_model.specs.Report.{word_texts};
 ghost use Rattle.report.specs.Room.{UsesRoom};
 
 use crate::buffers::TextBuffer;
-use crate::digits::{push_decimal, push_hex8};
+use crate::digits::{push_decimal, push_hex8, push_spaced_hex8};
 use ddm_types::NoMemory;
 
 /// Puts these bytes at the end.
@@ -52,8 +52,7 @@ pub fn push_words<W: TextBuffer>(out: &mut W, words: &[u32]) -> Result<(), NoMem
     ensures room { UsesRoom (9 * length words.now) (W.room out.old) (W.room out.new) result }
 {
     for word in words {
-        push_bytes(out, b" ")?;
-        push_hex8(out, *word)?;
+        push_spaced_hex8(out, *word)?;
     }
     Ok(())
 }
