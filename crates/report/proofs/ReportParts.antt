@@ -39,9 +39,9 @@ item-some : (item : ItemView) → front_of item ≡ [] → ⊥
 unfolding item_front
 item-some item none = not-empty none
 
-operation-some : (depth : ℕ) (op : Op) → op_line depth op ≡ [] → ⊥
+pub operation-some : (depth : ℕ) (op : Op) → 0 < length (op_line depth op)
 unfolding op_line
-operation-some depth op none = not-empty none
+operation-some depth op = omega arith
 
 -- ---- lists of lines from one on
 
@@ -142,12 +142,11 @@ module _ (v : ReportView) (size : ReportSize) (s : HasSize v size) where
     some = λ none. absurd (not-ended put (codes "\n") (omega arith) (sym is ∙ none));
   }
 
-  pub operation-gives : (k : ℕ) (op : Op) (t : List ℕ) → HasPart v (Operation k) → t ≡ op_line v.depth (get_or v.ops k op) → Gives v (Operation k) t (operation_part size (k + 1))
-  unfolding op_lines
-  operation-gives k op t there is = record {
-    left = rw (is, (operation-next (k + 1)).0, mapped-more (op_line v.depth) v.ops k op there) (simp append_assoc);
-    there = (operation-next (k + 1)).1;
-    some = λ none. absurd (operation-some v.depth (get_or v.ops k op) (sym is ∙ none));
+  pub operations-give : (k next : ℕ) (t : List ℕ) → op_lines v.depth (drop k v.ops) ≡ t ++ op_lines v.depth (drop next v.ops) → 0 < length t → Gives v (Operation k) t (operation_part size next)
+  operations-give k next t lines some = record {
+    left = rw ((operation-next next).0, lines) (simp append_assoc);
+    there = (operation-next next).1;
+    some = λ none. let empty : length t ≡ 0 = ap length none in absurd (omega (arith, some, empty));
   }
 
 module _ (v : ReportView) where

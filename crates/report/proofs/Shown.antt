@@ -6,12 +6,13 @@ use Rattle.std.proofs.lemmas.List.{append-nil, drop_all}
 use Rattle.ddm_types.specs.declared.operations.Op.{Op}
 use Rattle.ddm_types.specs.declared.sizes.LeafState.{LeafState}
 use Rattle.ddm_types.specs.ItemTable.{item_count, row_at}
-use Rattle.tree_model.specs.State.Shape.{IsShaped, tree_counts}
+use Rattle.tree_model.specs.State.Shape.{IsShaped, depth_of, tree_counts}
 use Rattle.tree_model.specs.State.Values.{LeafValue, MachineValue}
 use Rattle.tree_model.specs.Turns.Found.{states_of}
 use Rattle.tree_model.specs.Turns.Machine.{machine_leaves, no_traffic}
+use Rattle.tree_model.specs.Turns.Witness.{sorted_ops}
 use Rattle.text_model.specs.declared.RunCounts.{RunCounts}
-use Rattle.text_model.specs.Report.{HartView, ReportView, bus_line, head_lines, letter_texts, op_line, put_texts}
+use Rattle.text_model.specs.Report.{HartView, ReportView, bus_line, head_lines, letter_texts, op_lines, put_texts}
 use Rattle.text_model.specs.Run.{item_view, view_of}
 use Rattle.ddm_tree.proofs.LeafList.{leaf-number, leaves-counted}
 use Rattle.inspector.proofs.LeafStates.{states-counted}
@@ -22,7 +23,7 @@ use Rattle.report.specs.declared.report_parts.ReportPart.{ReportPart}
 use Rattle.report.specs.declared.report_parts.ReportPart.TheVariants.{Head, Hart, Output, Bus, Item, States, Operation, End, Nothing}
 use Rattle.report.specs.declared.report_parts.ReportSize.{ReportSize}
 use Rattle.report.proofs.MachineLines.{harts-counted, item-shown, items-counted}
-use Rattle.report.proofs.ReportParts.{head-gives, hart-gives, output-gives, output-ends, bus-gives, item-gives, states-gives, states-end, operation-gives, end-gives, nothing-gives}
+use Rattle.report.proofs.ReportParts.{head-gives, hart-gives, output-gives, output-ends, bus-gives, item-gives, states-gives, states-end, operations-give, end-gives, nothing-gives}
 
 numbered : (f : LeafValue → HartView) (vs : List LeafValue) (k n : ℕ) (d : HartView) → ((v : LeafValue) → (f v).number ≡ v.number) → ((v : LeafValue) → slice_get vs k ≡ Some v → v.number ≡ n) → k < length vs → (get_or (map f vs) k d).number ≡ n
 numbered f [] k n d same is inside = absurd (omega (arith, inside))
@@ -133,11 +134,13 @@ module _ (counts : RunCounts) (m : MachineValue) (ops : List Op) (size : ReportS
         gives is then (states-end (shown counts m) size given.size k n put line (there (States k n) is)
         (subst (λ (ss : List (Option LeafState)). letter_texts (drop n ss) ≡ put) (sym (states-are k n is)) last) ended)
 
-    pub operation : (k : ℕ) (op : Op) → part ≡ Operation k → line ≡ op_line size.depth (get_or ops k op) → next ≡ operation_part size (k + 1) → Gives (shown counts m) part line next
+    pub operations : (k after : ℕ) → part ≡ Operation k → op_lines size.depth (drop k ops) ≡ line ++ op_lines size.depth (drop after ops) → 0 < length line → next ≡ operation_part size after → Gives (shown counts m) part line next
     unfolding view_of
-    operation k op is put then =
-        let line-is = put ∙ ap (λ (os : List Op). op_line size.depth (get_or os k op)) given.witness ∙ ap (λ d. op_line d (get_or (shown counts m).ops k op)) (sym given.size.depth) in
-        gives is then (operation-gives (shown counts m) size given.size k op line (there (Operation k) is) line-is)
+    operations k after is put some then =
+        let lines : op_lines (depth_of m) (drop k (sorted_ops m.ops)) ≡ line ++ op_lines (depth_of m) (drop after (sorted_ops m.ops)) =
+        subst (λ (os : List Op). op_lines (depth_of m) (drop k os) ≡ line ++ op_lines (depth_of m) (drop after os)) given.witness
+        (subst (λ (d : ℕ). op_lines d (drop k ops) ≡ line ++ op_lines d (drop after ops)) (sym given.size.depth) put) in
+        gives is then (operations-give (shown counts m) size given.size k after line lines some)
 
     pub end_given : part ≡ End → line ≡ codes "end\n" → next ≡ Nothing → Gives (shown counts m) part line next
     end_given is put then = gives is then (end-gives (shown counts m) line put)

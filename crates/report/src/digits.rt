@@ -1,4 +1,4 @@
-ghost use Rattle.std.specs.Prelude.{◌≡◌, ◌<◌, OnOk, decimal, false};
+ghost use Rattle.std.specs.Prelude.{◌≡◌, ◌+◌, ◌/◌, ◌%◌, ◌<◌, ◌≤◌, [], ◌∷◌, ◌++◌, OnOk, codes, decimal, false};
 ghost use Rattle.std.specs.Fmt.{digit_glyph};
 ghost use Rattle.ddm_text.specs.Adds.{Adds};
 ghost use Rattle.ddm_text.specs.Hex.{hex2, hex8};
@@ -8,8 +8,55 @@ use crate::buffers::TextBuffer;
 use ddm_text::{MOST_DIGITS, write_digits};
 use ddm_types::NoMemory;
 
-/// Puts the decimal digits of a number at the end.
-pub fn push_decimal<W: TextBuffer>(out: &mut W, n: u64) -> Result<(), NoMemory>
+// The digits that numbers are written in.
+static GLYPHS: [u8; 16] = *b"0123456789abcdef";
+
+// The last four decimal digits of a number.
+#[inline(always)]
+fn last_digits(n: u32) -> [u8; 4]
+    ensures { result ≡ (48 + n / 1000 % 10) ∷ (48 + n / 100 % 10) ∷ (48 + n / 10 % 10) ∷ (48 + n % 10) ∷ [] }
+{
+    [
+        b'0' + (n / 1_000 % 10) as u8,
+        b'0' + (n / 100 % 10) as u8,
+        b'0' + (n / 10 % 10) as u8,
+        b'0' + (n % 10) as u8,
+    ]
+}
+
+// Puts the decimal digits of a number of at most four at the end.
+#[inline(always)]
+fn push_short<W: TextBuffer>(out: &mut W, n: u32) -> Result<(), NoMemory>
+    requires { n < 10000 }
+    ensures text { OnOk result (Adds (W.text out.old) (W.text out.new) (decimal n)) }
+    ensures room { UsesRoom 4 (W.room out.old) (W.room out.new) result }
+{
+    let [thousands, hundreds, tens, ones] = last_digits(n);
+    if n < 10 {
+        out.put(&[ones])
+    } else if n < 100 {
+        out.put(&[tens, ones])
+    } else if n < 1_000 {
+        out.put(&[hundreds, tens, ones])
+    } else {
+        out.put(&[thousands, hundreds, tens, ones])
+    }
+}
+
+// Puts the decimal digits of a number of five to eight at the end.
+fn push_middle<W: TextBuffer>(out: &mut W, n: u32) -> Result<(), NoMemory>
+    requires least { 10000 ≤ n }
+    requires most { n < 100000000 }
+    ensures text { OnOk result (Adds (W.text out.old) (W.text out.new) (decimal n)) }
+    ensures room { UsesRoom 8 (W.room out.old) (W.room out.new) result }
+{
+    push_short(out, n / 10_000)?;
+    out.put(&last_digits(n))?;
+    Ok(())
+}
+
+// Puts the decimal digits of any number at the end.
+fn push_long<W: TextBuffer>(out: &mut W, n: u64) -> Result<(), NoMemory>
     ensures text { OnOk result (Adds (W.text out.old) (W.text out.new) (decimal n)) }
     ensures room { UsesRoom 20 (W.room out.old) (W.room out.new) result }
 {
@@ -18,11 +65,26 @@ pub fn push_decimal<W: TextBuffer>(out: &mut W, n: u64) -> Result<(), NoMemory>
     out.put(&digits[at..])
 }
 
+/// Puts the decimal digits of a number at the end.
+pub fn push_decimal<W: TextBuffer>(out: &mut W, n: u64) -> Result<(), NoMemory>
+    ensures text { OnOk result (Adds (W.text out.old) (W.text out.new) (decimal n)) }
+    ensures room { UsesRoom 20 (W.room out.old) (W.room out.new) result }
+{
+    if n < 10_000 {
+        push_short(out, n as u32)
+    } else if n < 100_000_000 {
+        push_middle(out, n as u32)
+    } else {
+        push_long(out, n)
+    }
+}
+
+#[inline(always)]
 fn glyph(d: u8) -> u8
     requires { d < 16 }
     ensures { result ≡ digit_glyph false d }
 {
-    if d < 10 { b'0' + d } else { b'a' + (d - 10) }
+    GLYPHS[d as usize]
 }
 
 #[tactic(auto, unfolding(ddm_text::specs::Hex::hex2))]
@@ -32,6 +94,7 @@ fn hex2_digits(n: u8) -> [u8; 2]
     [glyph(n / 16), glyph(n % 16)]
 }
 
+#[inline(always)]
 #[tactic(auto, unfolding(ddm_text::specs::Hex::hex8, ddm_text::specs::Hex::hex2))]
 fn hex8_digits(n: u32) -> [u8; 8]
     ensures { result ≡ hex8 n }
@@ -66,4 +129,13 @@ pub fn push_hex8<W: TextBuffer>(out: &mut W, n: u32) -> Result<(), NoMemory>
     ensures room { UsesRoom 8 (W.room out.old) (W.room out.new) result }
 {
     out.put(&hex8_digits(n))
+}
+
+/// Puts a space and eight hexadecimal digits at the end.
+pub fn push_spaced_hex8<W: TextBuffer>(out: &mut W, n: u32) -> Result<(), NoMemory>
+    ensures text { OnOk result (Adds (W.text out.old) (W.text out.new) (codes " " ++ hex8 n)) }
+    ensures room { UsesRoom 9 (W.room out.old) (W.room out.new) result }
+{
+    let [a, b, c, d, e, f, g, h] = hex8_digits(n);
+    out.put(&[b' ', a, b, c, d, e, f, g, h])
 }

@@ -5,11 +5,12 @@ ghost use Rattle.text_model.specs.Words.{effect_text, halt_text, state_text};
 ghost use Rattle.report.specs.Room.{UsesRoom};
 
 use crate::buffers::TextBuffer;
-use crate::digits::{push_hex2, push_hex8};
+use crate::digits::{push_hex2, push_spaced_hex8};
 use crate::pieces::{push_bytes, push_named, push_named_word};
 use ddm_types::{Effect, HaltCause, NoMemory};
 
 // A name, an address and the word there.
+#[inline(always)]
 fn push_access<W: TextBuffer>(
     out: &mut W,
     name: &[u8],
@@ -21,11 +22,11 @@ fn push_access<W: TextBuffer>(
     ensures room { UsesRoom (length name.now + 17) (W.room out.old) (W.room out.new) result }
 {
     push_named_word(out, name, address)?;
-    push_bytes(out, b" ")?;
-    push_hex8(out, word)
+    push_spaced_hex8(out, word)
 }
 
 // A name, an address and the words there before and after.
+#[inline(always)]
 fn push_change<W: TextBuffer>(
     out: &mut W,
     name: &[u8],
@@ -38,8 +39,7 @@ fn push_change<W: TextBuffer>(
     ensures room { UsesRoom (length name.now + 26) (W.room out.old) (W.room out.new) result }
 {
     push_access(out, name, address, before)?;
-    push_bytes(out, b" ")?;
-    push_hex8(out, after)
+    push_spaced_hex8(out, after)
 }
 
 /// Puts at the end what an instruction did.

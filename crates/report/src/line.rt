@@ -65,6 +65,7 @@ impl Line {
     }
 
     /// Puts these bytes at the end.
+    #[inline(always)]
     pub fn push(&mut self, more: &[u8])
         requires { length self.old + length more.now ≤ LINE_BYTES }
         ensures { self.new ≡ self.old ++ more.now }
@@ -106,6 +107,7 @@ impl TextBuffer for Line {
 
     ghost room = { λ line. 512 - length line };
 
+    #[inline(always)]
     fn put(&mut self, bytes: &[u8]) -> Result<(), NoMemory> {
         if LINE_BYTES - self.len() < bytes.len() {
             return Err(NoMemory);

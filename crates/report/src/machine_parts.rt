@@ -1,9 +1,9 @@
-ghost use Rattle.std.specs.Prelude.{◌≡◌, ◌<◌, ◌≤◌, ◌++◌, [], true, codes, drop, length, slice_index_or};
+ghost use Rattle.std.specs.Prelude.{◌≡◌, ◌<◌, ◌≤◌, ◌+◌, ◌++◌, [], true, codes, drop, length, slice_index_or};
 ghost use Rattle.ddm_types.specs.ItemTable.{item_count, row_at};
 ghost use Rattle.tree_model.specs.State.Shape.{IsShaped, tree_counts};
 ghost use Rattle.tree_model.specs.Turns.Found.{states_of};
 ghost use Rattle.tree_model.specs.Turns.Machine.{no_traffic};
-ghost use Rattle.text_model.specs.Report.{bus_line, head_lines, letter_texts, op_line, put_texts};
+ghost use Rattle.text_model.specs.Report.{bus_line, head_lines, letter_texts, op_line, op_lines, put_texts};
 ghost use Rattle.text_model.specs.Run.{item_view};
 ghost use Rattle.any_machine.specs.Any.{state_in};
 ghost use Rattle.report.specs.LineParts.{dash_behind};
@@ -22,6 +22,9 @@ use text_model::RunCounts;
 
 // From so many bytes on a line takes no further byte of output and no further state.
 const LONG_LINE: usize = 500;
+
+// The most bytes with which a line takes the line of a further operation.
+const MOST_BEFORE_OPERATION: usize = 257;
 
 /// Puts the first two lines of a report.
 pub fn put_head(line: &mut Line, counts: RunCounts)
@@ -142,15 +145,34 @@ pub fn put_states<const WORDS: usize>(
     next
 }
 
-/// Puts the line of an operation.
-pub fn put_operation(line: &mut Line, depth: u32, op: Op)
-    requires empty { line.old ≡ [] }
+// Puts the line of an operation at the end.
+fn put_operation(line: &mut Line, depth: u32, op: Op)
+    requires room { length line.old ≤ MOST_BEFORE_OPERATION }
     requires depth { depth ≤ LEVELS }
-    ensures { line.new ≡ op_line depth op }
+    ensures { line.new ≡ line.old ++ op_line depth op }
 {
     let Ok(()) = push_op_line(line, depth, op) else {
         unreachable!();
     };
+}
+
+/// Puts the lines of operations from one on, until there may be no room for a further one, and says from which operation
+/// on the rest is.
+#[tactic(auto, unfolding(text_model::specs::Report::op_lines))]
+pub fn put_operations(line: &mut Line, depth: u32, ops: &[Op], from: usize) -> usize
+    requires empty { line.old ≡ [] }
+    requires depth { depth ≤ LEVELS }
+    requires from { from < length ops.now }
+    ensures within { result ≤ length ops.now }
+    ensures lines { op_lines depth (drop from ops.now) ≡ line.new ++ op_lines depth (drop result ops.now) }
+    ensures some { 0 < length line.new }
+{
+    let mut next = from;
+    'operations: while next < ops.len() && line.len() <= MOST_BEFORE_OPERATION {
+        put_operation(line, depth, ops[next]);
+        next += 1;
+    }
+    next
 }
 
 /// Puts the last line of a report.

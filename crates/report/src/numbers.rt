@@ -7,6 +7,7 @@ use crate::pieces::{push_named, push_number};
 use ddm_types::{BusNo, ChildNo, HartNo, ItemId, LeafNo, NoMemory};
 
 /// Puts the number of a hart at the end.
+#[inline(always)]
 pub fn push_hart<W: TextBuffer>(out: &mut W, hart: HartNo) -> Result<(), NoMemory>
     ensures text { OnOk result (Adds (W.text out.old) (W.text out.new) (decimal hart)) }
     ensures room { UsesRoom 20 (W.room out.old) (W.room out.new) result }

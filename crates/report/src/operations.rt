@@ -4,7 +4,7 @@ ghost use Rattle.text_model.specs.Report.{key_text, number_stops, op_line, op_li
 ghost use Rattle.report.specs.Room.{UsesRoom};
 
 use crate::buffers::TextBuffer;
-use crate::digits::push_hex8;
+use crate::digits::push_spaced_hex8;
 use crate::effects::push_effect;
 use crate::numbers::push_hart;
 use crate::pieces::{push_bytes, push_number};
@@ -47,8 +47,7 @@ pub fn push_op_line<W: TextBuffer>(out: &mut W, depth: u32, op: Op) -> Result<()
     push_hart(out, op.hart)?;
     push_bytes(out, b" ")?;
     push_key(out, depth, op.key)?;
-    push_bytes(out, b" ")?;
-    push_hex8(out, op.pc)?;
+    push_spaced_hex8(out, op.pc)?;
     push_bytes(out, b" ")?;
     push_effect(out, op.effect)?;
     push_bytes(out, b"\n")?;

@@ -15,7 +15,7 @@ pub enum ReportPart {
     Item(u32),
     /// The states of an item's entries, from a leaf on.
     States(u32, u32),
-    /// The line of an operation.
+    /// The lines of operations, from one on.
     Operation(usize),
     /// The last line.
     End,

@@ -9,7 +9,7 @@ ghost use Rattle.report.specs.ReportLeft.{Gives, HasSize};
 
 use crate::line::Line;
 use crate::machine_parts::{
-    end_line, end_output, put_bus, put_end, put_hart, put_head, put_item, put_operation,
+    end_line, end_output, put_bus, put_end, put_hart, put_head, put_item, put_operations,
     put_output, put_states,
 };
 use crate::parts::{LEAST_PIECE, Parts, joined, put_piece};
@@ -113,8 +113,8 @@ fn put_part<const WORDS: usize>(
             size.item_part(item + 1)
         }
         ReportPart::Operation(operation) => {
-            put_operation(line, size.depth, witness[operation]);
-            size.operation_part(operation + 1)
+            let next = put_operations(line, size.depth, witness, operation);
+            size.operation_part(next)
         }
         ReportPart::End => {
             put_end(line);

@@ -1,5 +1,4 @@
-use Rattle.std.proofs.Common.{rules, refl, ap, ◌∙◌, arith}
-use Rattle.text_model.specs.Report.{op_line}
+use Rattle.std.proofs.Common.{rules, refl, arith}
 use Rattle.any_machine.specs.Any.{state_in}
 use Rattle.report.proofs.Shown as shown
 use Rattle.report.proofs.report_pieces.put_part.Goals as goal
@@ -24,8 +23,8 @@ put_states-next-requires g c =
     let there = shown.states-there _ m _ _ _ c.requires.given c.in-States.item c.in-States.from c.in-States.is in
     (search rules, (c.requires.small, (c.requires.empty, (c.requires.given.shaped, (shown.leaves-shown _ m _ _ _ c.requires.given, (there.0, there.1))))))
 
-pub bounds-witness-operation : goal.bounds-witness-operation
-bounds-witness-operation g c = shown.operation-there _ (state_in c.args.machine.now).machine _ _ _ c.requires.given c.in-Operation.operation c.in-Operation.is
+pub put_operations-next-requires-clause-from : goal.put_operations-next-requires-clause-from
+put_operations-next-requires-clause-from g c = shown.operation-there _ (state_in c.args.machine.now).machine _ _ _ c.requires.given c.in-Operation.operation c.in-Operation.is
 
 pub returns-in-Head : goal.returns-in-Head
 returns-in-Head g c = shown.head _ (state_in c.args.machine.now).machine _ _ _ c.requires.given _ _ c.in-Head.is c.put_head.ensures c.hart_part.ensures
@@ -38,11 +37,6 @@ returns-in-Bus g c = shown.bus _ (state_in c.args.machine.now).machine _ _ _ c.r
 
 pub returns-in-Item : goal.returns-in-Item
 returns-in-Item g c = shown.item _ (state_in c.args.machine.now).machine _ _ _ c.requires.given _ _ c.in-Item.item c.in-Item.is c.put_item.ensures refl
-
-pub offset_bounds-witness-operation : goal.offset_bounds-witness-operation
-offset_bounds-witness-operation g c =
-    let there = shown.operation-there _ (state_in c.args.machine.now).machine _ _ _ c.requires.given c.in-Operation.operation c.in-Operation.is in
-    omega (arith, there)
 
 pub returns-then-next-ops : goal.returns-then-next-ops
 returns-then-next-ops g c =
@@ -64,4 +58,5 @@ returns-else-next-size g c =
 
 pub returns-in-Operation : goal.returns-in-Operation
 returns-in-Operation g c =
-    shown.operation _ (state_in c.args.machine.now).machine _ _ _ c.requires.given _ _ c.in-Operation.operation c.index-witness-operation.result c.in-Operation.is (c.put_operation.ensures ∙ ap (op_line c.args.size.depth) c.index-witness-operation.is) c.operation_part.ensures
+    let put = c.put_operations-next.ensures in
+    shown.operations _ (state_in c.args.machine.now).machine _ _ _ c.requires.given _ _ c.in-Operation.operation c.put_operations-next.result c.in-Operation.is put.lines put.some c.operation_part.ensures
