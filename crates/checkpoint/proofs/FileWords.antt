@@ -1,11 +1,11 @@
 -- A file that is kept as its words: what a word more adds, and that its whole words are those that are kept.
 -- Letters: a, b, c and d are bytes, w is a word, ws are words.
-use Rattle.std.specs.Prelude.{◌≡◌, ℕ, ◌+◌, ◌-◌, ◌*◌, ◌<◌, ◌≤◌, List, [], ◌∷◌, ◌++◌, length, take, drop, refl}
+use Rattle.std.specs.Prelude.{◌≡◌, ℕ, ◌+◌, ◌-◌, ◌*◌, ◌<◌, ◌≤◌, List, [], ◌∷◌, ◌++◌, length, take, drop, slice_set, refl}
 use Rattle.std.specs.List.{flat_map}
 use Rattle.std.specs.Int.{w32, to_le_bytes, from_le_bytes}
-use Rattle.std.proofs.Common.{ap, sym, ◌∙◌, arith, append_assoc, append-nil, length-append, suc}
+use Rattle.std.proofs.Common.{ap, sym, ◌∙◌, arith, append_assoc, append-nil, get_or, length-append, suc}
 use Rattle.std.proofs.lemmas.Grind.{flat_map-append}
-use Rattle.std.proofs.lemmas.List.{drop-drop, length-drop, take_all, take-append-drop}
+use Rattle.std.proofs.lemmas.List.{drop-drop, drop_more, length-drop, take_all, take_more_set, take-append-drop}
 use Rattle.std.proofs.lemmas.Nat.{le_bytes_4, from_le_bytes-to_le_bytes_4}
 use Rattle.checkpoint.specs.declared.file.Rest.{Rest}
 use Rattle.checkpoint.specs.declared.file.Rest.TheVariants.{Nothing, One, Two, Three}
@@ -27,6 +27,41 @@ module _ (a b c d : ℕ) (la : a < 256) (lb : b < 256) (lc : c < 256) (ld : d < 
       let four = a ∷ b ∷ c ∷ d ∷ [] in
       let word : to_le_bytes w32 (word_of a b c d) ≡ four = le_bytes_4 four (word_of a b c d) refl (λ i. four-small a b c d i la lb lc ld) refl in
       flat_map-append (to_le_bytes w32) ws (word_of a b c d ∷ []) ∙ ap (λ l. bytes_of ws ++ l) word
+
+-- ---- words that are written in the place of others
+
+four_more : (bytes : List ℕ) (at : ℕ) → at + 4 ≤ length bytes → drop at bytes ≡ get_or bytes at 0 ∷ get_or bytes (at + 1) 0 ∷ get_or bytes (at + 2) 0 ∷ get_or bytes (at + 3) 0 ∷ drop (at + 4) bytes
+four_more bytes at room =
+    let a : at + 1 + 1 ≡ at + 2 = omega arith in
+    let b : at + 2 + 1 ≡ at + 3 = omega arith in
+    let c : at + 3 + 1 ≡ at + 4 = omega arith in
+    let from : ℕ → List ℕ = λ n. drop n bytes in
+    drop_more bytes at 0 (omega (arith, room))
+    ∙ ap (λ l. get_or bytes at 0 ∷ l) (drop_more bytes (at + 1) 0 (omega (arith, room)) ∙ ap (λ n. get_or bytes (at + 1) 0 ∷ from n) a)
+    ∙ ap (λ l. get_or bytes at 0 ∷ get_or bytes (at + 1) 0 ∷ l) (drop_more bytes (at + 2) 0 (omega (arith, room)) ∙ ap (λ n. get_or bytes (at + 2) 0 ∷ from n) b)
+    ∙ ap (λ l. get_or bytes at 0 ∷ get_or bytes (at + 1) 0 ∷ get_or bytes (at + 2) 0 ∷ l) (drop_more bytes (at + 3) 0 (omega (arith, room)) ∙ ap (λ n. get_or bytes (at + 3) 0 ∷ from n) c)
+
+-- the word of a part of four bytes
+abbrev word_in : List ℕ → ℕ
+word_in part = word_of (get_or part 0 0) (get_or part 1 0) (get_or part 2 0) (get_or part 3 0)
+
+module _ (words bytes : List ℕ) (at many w : ℕ) (inside : at < length words) (room : 4 * at + 4 ≤ length bytes) (small : (i : ℕ) → get_or bytes i 0 < 256) (four : many ≡ 4) where
+  pub word-written : bytes_of (take at words) ++ drop (4 * at) bytes ≡ bytes → w ≡ word_in (take many (drop (4 * at) bytes)) → bytes_of (take (at + 1) (slice_set words at w)) ++ drop (4 * (at + 1)) bytes ≡ bytes
+  word-written so_far is =
+      let k = 4 * at in
+      let next : 4 * (at + 1) ≡ k + 4 = omega arith in
+      let some = bytes_of (take at words) in
+      let rest = drop (4 * (at + 1)) bytes in
+      let part = four_more bytes k room in
+      let word : w ≡ word_of (get_or bytes k 0) (get_or bytes (k + 1) 0) (get_or bytes (k + 2) 0) (get_or bytes (k + 3) 0) =
+      is ∙ ap (λ n. word_in (take n (drop k bytes))) four ∙ ap (λ l. word_in (take 4 l)) part in
+      ap (λ l. bytes_of l ++ rest) (take_more_set words at w inside)
+      ∙ ap (λ x. bytes_of (take at words ++ x ∷ []) ++ rest) word
+      ∙ ap (λ l. l ++ rest) (word-bytes (get_or bytes k 0) (get_or bytes (k + 1) 0) (get_or bytes (k + 2) 0) (get_or bytes (k + 3) 0) (small k) (small (k + 1)) (small (k + 2)) (small (k + 3)) (take at words))
+      ∙ append_assoc some (get_or bytes k 0 ∷ get_or bytes (k + 1) 0 ∷ get_or bytes (k + 2) 0 ∷ get_or bytes (k + 3) 0 ∷ []) rest
+      ∙ ap (λ j. some ++ get_or bytes k 0 ∷ get_or bytes (k + 1) 0 ∷ get_or bytes (k + 2) 0 ∷ get_or bytes (k + 3) 0 ∷ drop j bytes) next
+      ∙ ap (λ l. some ++ l) (sym part)
+      ∙ so_far
 
 -- ---- all bytes
 

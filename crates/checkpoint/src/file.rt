@@ -81,13 +81,8 @@ fn write_words(words: &mut [u32], bytes: &[u8])
     ensures { flat_map (to_le_bytes w32) words.new ≡ bytes.now }
 {
     for at in 0..words.len() {
-        let first = 4 * at;
-        words[at] = u32::from_le_bytes([
-            bytes[first],
-            bytes[first + 1],
-            bytes[first + 2],
-            bytes[first + 3],
-        ]);
+        let four = &bytes[4 * at..4 * at + 4];
+        words[at] = u32::from_le_bytes([four[0], four[1], four[2], four[3]]);
     }
 }
 
