@@ -11,7 +11,7 @@ words-again [] small = refl
 words-again (w ∷ ws) small =
     ap (λ x. x ∷ whole_words (flat_map (to_le_bytes w32) ws)) (from_le_bytes-to_le_bytes_4 w small.0) ∙ ap (λ l. w ∷ l) (words-again ws small.1)
 
-four-small : (a b c d i : ℕ) → a < 256 → b < 256 → c < 256 → d < 256 → get_or (a ∷ b ∷ c ∷ d ∷ []) i 0 < 256
+pub four-small : (a b c d i : ℕ) → a < 256 → b < 256 → c < 256 → d < 256 → get_or (a ∷ b ∷ c ∷ d ∷ []) i 0 < 256
 four-small a b c d zero la lb lc ld = la
 four-small a b c d (suc zero) la lb lc ld = lb
 four-small a b c d (suc (suc zero)) la lb lc ld = lc

@@ -26,10 +26,7 @@ use Rattle.checkpoint.specs.Fits.{CountsFit}
 use Rattle.checkpoint.specs.Resumed.{whole_words, size_words, other_machine, bad_count, bad_head, resumed_by, resumed_unless, bad_name, resumed}
 use Rattle.checkpoint.proofs.Accepted.{sizes-framed, frame_sizes}
 use Rattle.checkpoint.proofs.Bytes.{words-again}
-
-pub bytes-long : (ws : List ℕ) → length (flat_map (to_le_bytes w32) ws) ≡ 4 * length ws
-bytes-long [] = refl
-bytes-long (w ∷ ws) = omega (arith, bytes-long ws)
+use Rattle.checkpoint.proofs.FileWords.{bytes-long}
 
 -- ---- the head
 

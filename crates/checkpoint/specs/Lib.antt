@@ -1,5 +1,6 @@
 pub mod Saved
 pub mod PiecesLeft
+pub mod FileBytes
 pub mod Resumed
 pub mod Laws
 pub mod Fits

@@ -5,6 +5,7 @@ ghost use Rattle.std.specs.Prelude.{◌≡◌};
 ghost use Rattle.checkpoint.specs.declared.ResumeRefusal.TheVariants.{NoMemory};
 
 pub mod examples;
+mod file;
 mod front;
 pub mod laws;
 mod pieces;
@@ -12,6 +13,7 @@ mod resuming;
 mod saving;
 
 use ddm_types::NoMemory;
+pub use file::CheckpointFile;
 pub use pieces::CheckpointPieces;
 pub use resuming::{MOST_BYTES, resume};
 pub use saving::save;

@@ -7,8 +7,8 @@ ghost use Rattle.checkpoint.specs.Resumed.{bad_count, bad_head, bad_name, counts
 ghost use Rattle.checkpoint.specs.declared.ResumeRefusal.TheVariants as refusal;
 
 use crate::ResumeRefusal;
+use crate::file::CheckpointFile;
 use any_machine::{AnyMachine, read_state, release};
-use ddm_types::NoMemory;
 use state_reading::{MOST_COUNTED, StateRefusal};
 use state_words::MachineSizes;
 use std::alloc::Global;
@@ -20,20 +20,6 @@ pub const MOST_BYTES: u64 = 536_870_912;
 /// The number of the first word of a state, behind those of the head.
 const STATE: u32 = 11;
 
-/// The words of which all four bytes are there. They take as much memory as the file.
-fn words_in(alloc: Global, bytes: &[u8]) -> Result<Vec<u32>, NoMemory>
-    ensures words { IfOk result (λ words. words.items ≡ whole_words bytes.now) }
-    ensures few { IfOk result (λ words. length words.items ≤ length bytes.now) }
-{
-    let mut words = Vec::with_capacity(alloc, bytes.len() / 4)?;
-    let mut at = 0;
-    'words: while bytes.len() - at >= 4 {
-        words.push(u32::from_le_bytes([bytes[at], bytes[at + 1], bytes[at + 2], bytes[at + 3]]))?;
-        at += 4;
-    }
-    Ok(words)
-}
-
 /// A word, 0 behind the last one.
 fn word_or_zero(words: &[u32], at: usize) -> u32
     ensures { result ≡ slice_index words.now at }
@@ -42,7 +28,7 @@ fn word_or_zero(words: &[u32], at: usize) -> u32
 }
 
 /// Judges the name and the version of a file that isn't too long.
-fn judge_name(bytes: usize, words: &[u32]) -> Result<(), ResumeRefusal>
+fn judge_name(bytes: u64, words: &[u32]) -> Result<(), ResumeRefusal>
     requires { nat_lt 536870912 bytes ≡ false }
     ensures ok { OnOk result (bad_name bytes words.now ≡ None) }
     ensures refused { IfErr result (λ r. bad_name bytes words.now ≡ Some r) }
@@ -147,55 +133,46 @@ fn file_refusal(refusal: StateRefusal) -> ResumeRefusal
     }
 }
 
-/// The words of a file that begins as a checkpoint of a machine of these sizes, and what the turns before came to.
-fn head_of(
-    alloc: Global,
-    sizes: MachineSizes,
-    bytes: &[u8],
-) -> Result<(Vec<u32>, RunCounts), ResumeRefusal>
-    ensures words { IfOk result (λ r. r.0.items ≡ whole_words bytes.now) }
-    ensures counts { IfOk result (λ r. r.1 ≡ counts_in (whole_words bytes.now)) }
-    ensures few { IfOk result (λ r. AreBelow 1048577 r.1) }
-    ensures whole { OnOk result (10 < length (whole_words bytes.now)) }
-    ensures short { OnOk result (length bytes.now ≤ 536870912) }
-    ensures few_words { IfOk result (λ r. length r.0.items ≤ 536870912) }
-    ensures ok { OnOk result (judged_head sizes bytes.now ≡ None) }
-    ensures refused { IfErr result (λ e. e ≢ refusal.NoMemory → judged_head sizes bytes.now ≡ Some e) }
+/// Judges the length, the name and the head of a file for a machine of these sizes: what the turns before came to.
+fn judge_file(sizes: MachineSizes, file: &CheckpointFile) -> Result<RunCounts, ResumeRefusal>
+    ensures counts { IfOk result (λ r. r ≡ counts_in (whole_words file.now)) }
+    ensures few { IfOk result (AreBelow 1048577) }
+    ensures whole { OnOk result (10 < length (whole_words file.now)) }
+    ensures short { OnOk result (length file.now ≤ 536870912) }
+    ensures ok { OnOk result (judged_head sizes file.now ≡ None) }
+    ensures refused { IfErr result (λ e. judged_head sizes file.now ≡ Some e) }
 {
-    if bytes.len() as u64 > MOST_BYTES {
+    if file.len() > MOST_BYTES {
         return Err(ResumeRefusal::TooLong);
     }
-    let words = words_in(alloc, bytes)?;
-    judge_name(bytes.len(), &words)?;
-    let counts = judge_head(&words, sizes)?;
-    Ok((words, counts))
+    judge_name(file.len(), file.words())?;
+    judge_head(file.words(), sizes)
 }
 
-/// The machine of a checkpoint, read into one before its first turn of the same tree and image, and what its turns came to. A file
-/// above 512 MiB is refused before any memory is taken; the words of a shorter one take as much as the file itself.
+/// The machine of a checkpoint, read into one before its first turn of the same tree and image, and what its turns came to.
 pub fn resume(
     alloc: Global,
     fresh: AnyMachine,
-    bytes: &[u8],
+    file: &CheckpointFile,
 ) -> Result<(AnyMachine, RunCounts), ResumeRefusal>
-    ensures ok { IfOk result (λ r. resumed (machine_state fresh).machine bytes.now ≡ Ok (record { machine = (machine_state r.0).machine; counts = r.1 })) }
+    ensures ok { IfOk result (λ r. resumed (machine_state fresh).machine file.now ≡ Ok (record { machine = (machine_state r.0).machine; counts = r.1 })) }
     ensures few { IfOk result (λ r. AreBelow 1048577 r.1) }
     ensures spare { IfOk result (λ r. (machine_state r.0).spare ≡ 0) }
     ensures turns { IfOk result (λ r. (machine_state r.0).turns ≡ 1048576) }
     ensures kind { IfOk result (λ r. kind_of r.0 ≡ kind_of fresh) }
     ensures frame { IfOk result (λ r. frame_of (machine_state r.0).machine ≡ frame_of (machine_state fresh).machine) }
-    ensures refused { IfErr result (λ e. e ≢ refusal.NoMemory → resumed (machine_state fresh).machine bytes.now ≡ Err e) }
+    ensures refused { IfErr result (λ e. e ≢ refusal.NoMemory → resumed (machine_state fresh).machine file.now ≡ Err e) }
 {
-    let (words, counts) = match head_of(alloc, fresh.sizes(), bytes) {
-        Ok(head) => head,
+    let counts = match judge_file(fresh.sizes(), file) {
+        Ok(counts) => counts,
         Err(refusal) => {
             release(fresh);
             return Err(refusal);
         }
     };
-    match read_state(alloc, fresh, &words, STATE) {
+    match read_state(alloc, fresh, file.words(), STATE) {
         Ok((machine, at)) => {
-            if 4 * u64::from(at) < bytes.len() as u64 {
+            if 4 * u64::from(at) < file.len() {
                 release(machine);
                 return Err(ResumeRefusal::AfterEnd);
             }

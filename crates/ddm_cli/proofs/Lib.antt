@@ -13,6 +13,7 @@ pub mod Taken
 pub mod InOrder
 pub mod Completeness
 pub mod Rests
+pub mod FileInPieces
 pub mod Keys
 pub mod Settings
 pub mod Images

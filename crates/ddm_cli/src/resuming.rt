@@ -7,7 +7,7 @@ ghost use Rattle.ddm_outside.specs.Causes.{HasCause};
 ghost use Rattle.ddm_cli.specs.Causes.{CheckpointCause, IsUnscheduled, ScheduleCause};
 ghost use Rattle.ddm_cli.specs.Commands.{to_resume};
 ghost use Rattle.ddm_cli.specs.Made.{CanGoOn};
-ghost use Rattle.ddm_cli.specs.Reads.{WritesRest, checkpoint_status, unread};
+ghost use Rattle.ddm_cli.specs.Reads.{ReadCause, WritesRest, checkpoint_status, unread};
 ghost use Rattle.ddm_cli.specs.Top.{NoRest, WritesAccepted};
 ghost use Rattle.ddm_cli.specs.Views.{resumption_from};
 
@@ -15,10 +15,10 @@ use crate::command::Resumption;
 use crate::files::{image_file, tree_file};
 use crate::making::schedule_made;
 use crate::printing::write_report;
-use crate::reading::{ReadError, read_buffer, read_whole};
+use crate::reading::{ReadError, read_buffer};
 use crate::status::Status;
 use any_machine::release;
-use checkpoint::{MOST_BYTES, ResumeRefusal, resume};
+use checkpoint::{CheckpointFile, MOST_BYTES, ResumeRefusal, resume};
 use ddm_outside::{Failed, Shelf, Sink};
 use report::FileRole;
 use run_engine::AnyMachine;
@@ -30,15 +30,15 @@ use tree_config::TreeConfig;
 fn resumed(
     alloc: Global,
     fresh: AnyMachine,
-    bytes: &[u8],
+    file: &CheckpointFile,
 ) -> Result<(AnyMachine, RunCounts), Status>
-    ensures found { IfOk result (λ r. resumed (machine_state fresh).machine bytes.now ≡ Ok (record { machine = (machine_state r.0).machine; counts = r.1 })) }
+    ensures found { IfOk result (λ r. resumed (machine_state fresh).machine file.now ≡ Ok (record { machine = (machine_state r.0).machine; counts = r.1 })) }
     ensures few { IfOk result (λ r. AreBelow 1048577 r.1) }
     ensures turns { IfOk result (λ r. (machine_state r.0).turns ≡ 1048576) }
     ensures frame { IfOk result (λ r. frame_of (machine_state r.0).machine ≡ frame_of (machine_state fresh).machine) }
-    ensures cause { IfErr result (CheckpointCause (machine_state fresh).machine (Some bytes.now) 0 0) }
+    ensures cause { IfErr result (CheckpointCause (machine_state fresh).machine (Some file.now) 0 0) }
 {
-    match resume(alloc, fresh, bytes) {
+    match resume(alloc, fresh, file) {
         Ok(resumed) => Ok(resumed),
         Err(refusal) => Err(refused(refusal)),
     }
@@ -52,6 +52,35 @@ fn refused(refusal: ResumeRefusal) -> Status
         ResumeRefusal::NoMemory => Status::NoMemory,
         refusal => Status::Checkpoint(refusal),
     }
+}
+
+// Reads a whole checkpoint of at most so many bytes as may be read, over a buffer that is lent. Its words alone are kept.
+fn read_checkpoint<F: Shelf>(
+    alloc: Global,
+    files: &mut F,
+    name: &str,
+    buffer: &mut [u8],
+) -> Result<CheckpointFile, ReadError>
+    requires { 0 < length buffer.old }
+    ensures found { IfOk result (λ read. IfSome (F.told files.old name.now) (λ file. read ≡ file)) }
+    ensures cause { IfErr result (ReadCause (F.told files.old name.now) 536870912 (F.faults files.old name.now) (F.faults files.new name.now)) }
+    ensures same { F.told files.new ≡ F.told files.old }
+    ensures later { (other : List ℕ) → F.faults files.old other ≤ F.faults files.new other }
+{
+    let mut file = CheckpointFile::new(alloc);
+    'reading: while file.len() <= MOST_BYTES {
+        let Ok(n) = files.read(name, file.len(), buffer) else {
+            return Err(ReadError::Failed);
+        };
+        if n == 0 {
+            return Ok(file);
+        }
+        match file.feed(&buffer[..n]) {
+            Ok(longer) => file = longer,
+            Err(_) => return Err(ReadError::Memory),
+        }
+    }
+    Err(ReadError::TooLong)
 }
 
 // The same of a file.
@@ -71,8 +100,8 @@ fn resumed_file<F: Shelf>(
     ensures same { F.told files.new ≡ F.told files.old }
     ensures later { (other : List ℕ) → F.faults files.old other ≤ F.faults files.new other }
 {
-    match read_whole(alloc, files, name, MOST_BYTES, buffer) {
-        Ok(bytes) => resumed(alloc, fresh, &bytes),
+    match read_checkpoint(alloc, files, name, buffer) {
+        Ok(file) => resumed(alloc, fresh, &file),
         Err(error) => {
             release(fresh);
             Err(unread(error))
