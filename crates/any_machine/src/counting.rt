@@ -18,6 +18,7 @@ pub fn no_counts() -> RunCounts
 }
 
 /// One answer more.
+#[inline(always)]
 pub fn count(counts: &mut RunCounts, answer: &TurnAnswer)
     requires { AreBelow 4294967295 counts.old }
     ensures { counts.new ≡ counted_answer answer.now counts.old }

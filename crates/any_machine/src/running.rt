@@ -13,6 +13,7 @@ use ddm_types::{NoMemory, Turn, TurnAnswer};
 use text_model::RunCounts;
 
 /// One turn, counted.
+#[inline(always)]
 fn counted_turn<const WORDS: usize, C: Subtree<WORDS>>(
     machine: &mut Machine<WORDS, C>,
     turn: Turn,
@@ -43,6 +44,7 @@ fn add_answer(answers: &mut Vec<TurnAnswer>, answer: &TurnAnswer)
 }
 
 /// Does so where the answers are kept.
+#[inline(always)]
 fn keep_answer(answers: &mut Vec<TurnAnswer>, answer: &TurnAnswer, keep: bool)
     requires { keep ≡ true → vec_len answers.old < vec_capacity answers.old }
     ensures items { answers.new.items ≡ (if keep then answers.old.items ++ answer.now ∷ [] else answers.old.items) }

@@ -103,6 +103,7 @@ impl<const WAYS: usize, const WORDS: usize> AttractionMem<WAYS, WORDS> {
     }
 
     /// The state and the words of the item's entry.
+    #[inline(always)]
     pub fn entry(&self, item: ItemId) -> Option<(LeafState, Words<WORDS>)>
         ensures { result ≡ option_map state_and_words (entry_of self.now item) }
     {

@@ -15,6 +15,7 @@ pub fn first_place<const WAYS: usize>(sets: &Divisor, item: ItemId) -> usize
 }
 
 /// The place of the item's tag, and its state.
+#[inline(always)]
 pub fn find_tag<const WAYS: usize>(
     sets: &Divisor,
     tags: &[Option<(ItemId, LeafState)>],

@@ -39,6 +39,7 @@ fn idle_told(answer: &TurnAnswer) -> Option<Idle>
 }
 
 /// What is remembered of the hart of a turn.
+#[inline(always)]
 pub(crate) fn idle_for(turn: &Turn, idle: &[Option<Idle>]) -> Option<Idle>
     ensures { result ≡ idle_for turn.now idle.now }
 {
@@ -120,6 +121,7 @@ fn wake_children(idle: &mut [Option<Idle>], leaf_paths: &[Vec<ChildNo>], path: &
 }
 
 /// Remembers what a turn answered of its hart, and forgets what was remembered of leaves whose bus granted something.
+#[inline(always)]
 pub(crate) fn note(
     idle: &mut [Option<Idle>],
     leaf_paths: &[Vec<ChildNo>],

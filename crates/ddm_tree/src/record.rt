@@ -7,6 +7,7 @@ use ddm_types::{LogEntry, Op, TurnAnswer, TxKind};
 use tree_model::Traffic;
 
 /// Keeps what an answer adds: an operation that completed, a transaction that was granted.
+#[inline(always)]
 pub(crate) fn record(
     answer: &TurnAnswer,
     ops: &mut Vec<Op>,

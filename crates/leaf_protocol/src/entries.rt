@@ -145,6 +145,7 @@ impl<const WAYS: usize, const WORDS: usize> Entries<WAYS, WORDS> {
     }
 
     /// The state and the words of the item's entry.
+    #[inline(always)]
     pub fn entry(&self, item: ItemId) -> Option<(LeafState, Words<WORDS>)>
         ensures { result ≡ option_map state_and_words (entry_at item self.now.ways self.now.buffer) }
     {

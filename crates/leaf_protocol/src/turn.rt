@@ -116,6 +116,7 @@ impl<const WAYS: usize, const WORDS: usize> Leaf<WAYS, WORDS> {
     }
 
     /// The instruction, of which this is the step, completes on these words. An SC stores where `stores` holds.
+    #[inline(always)]
     fn finish(
         &mut self,
         _code: &Code,

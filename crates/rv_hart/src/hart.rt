@@ -377,6 +377,7 @@ impl Hart {
         }
     }
 
+    #[inline(always)]
     fn take<const WORDS: usize>(
         &mut self,
         step: Step,
@@ -411,6 +412,7 @@ impl Hart {
     }
 
     /// Carries out a step that the hart's next instruction does, on the words of its item. An SC stores where `sc_ok` holds.
+    #[inline(always)]
     pub fn carry_out<const WORDS: usize>(
         &mut self,
         step: &Step,
