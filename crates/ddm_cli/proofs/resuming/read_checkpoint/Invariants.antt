@@ -1,4 +1,4 @@
-use Rattle.std.proofs.Common.{◌≡◌, ◌≤◌, ◌+◌, ◌-◌, ℕ, List, ◌++◌, length, drop}
+use Rattle.std.proofs.Common.{◌≡◌, ◌≤◌, ◌-◌, ℕ, List, ◌++◌, length, drop}
 use Rattle.std.specs.Prelude.{IfSome}
 use Rattle.ddm_cli.proofs.resuming.read_checkpoint.Given as goal
 
