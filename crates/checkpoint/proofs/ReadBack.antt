@@ -1,8 +1,6 @@
 -- What is saved of a machine that keeps the rules, and whose words are words, is read back.
 -- Letters: m is the machine, fresh the one before its first turn, c the counts of the run, ws are words.
 use Rattle.std.specs.Prelude.{◌≡◌, ℕ, ◌+◌, ◌*◌, ◌≤◌, true, false, nat_eq, nat_lt, nat_le, List, [], ◌∷◌, ◌++◌, length, Some, None, Ok, Err, refl, if◌then◌else◌}
-use Rattle.std.specs.List.{flat_map}
-use Rattle.std.specs.Int.{w32, to_le_bytes}
 use Rattle.std.proofs.Common.{ap, sym, ◌∙◌, subst, arith, append-nil}
 use Rattle.std.proofs.lemmas.Bool.{eq-eqb, le-leb, le-ltb}
 use Rattle.tree_model.specs.State.Lists.{first_some}

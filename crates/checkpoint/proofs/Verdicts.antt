@@ -1,6 +1,6 @@
 -- What a file is read as, from what was said of its head and of the state behind it.
 -- Letters: m is a machine, bytes is a file, r is what was read of its words.
-use Rattle.std.specs.Prelude.{◌≡◌, ◌≢◌, ◌*◌, ◌<◌, ◌≤◌, ℕ, List, Option, Some, None, Result, Ok, Err, drop, length, slice_index, nat_lt, if◌then◌else◌}
+use Rattle.std.specs.Prelude.{◌≡◌, ◌≢◌, ◌*◌, ◌<◌, ◌≤◌, ℕ, List, Some, None, Result, Ok, Err, drop, length, slice_index, if◌then◌else◌}
 use Rattle.std.proofs.Common.{ap, subst, sym, ◌∙◌}
 use Rattle.std.proofs.lemmas.Bool.{lt-ltb, le-ltb}
 use Rattle.tree_model.specs.State.Values.{MachineValue}
