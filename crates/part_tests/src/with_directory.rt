@@ -1,8 +1,6 @@
 ghost use Rattle.std.specs.Prelude.{◌<◌, ◌↔◌, IsTrue, length};
 
-use ddm_types::{
-    BusNo, ChildNo, Hold, ItemId, NoMemory, PendingWhy, Stamp, TreeSizes, TxKind, Words,
-};
+use ddm_types::{BusNo, ChildNo, ItemId, NoMemory, PendingWhy, Stamp, TreeSizes, TxKind, Words};
 use directory::DirState;
 use item_states::Parent;
 use std::alloc::Global;
@@ -95,22 +93,5 @@ fn injects_and_their_places(rt: HostRuntime) -> Result<(), Fail> {
     assert!(rt; !dir.parking_full());
     assert!(rt; there_is(&dir, ItemId(1)));
     assert!(rt; dir.up_reader_has_place(ItemId(1)));
-    Ok(())
-}
-
-#[test]
-fn losing_strikes_the_erase(rt: HostRuntime) -> Result<(), Fail> {
-    let mut dir = new_directory(rt.alloc())?;
-    let item = ItemId(3);
-    assert!(rt; there_is(&dir, item));
-    dir.start_hold(item);
-    assert!(rt; there_is(&dir, item));
-    assert!(rt; !dir.up_waits(item));
-    assert!(rt; tell(&mut dir, TxKind::EraseTx, item, 1));
-    assert!(rt; there_is(&dir, item));
-    assert_eq!(rt; dir.up_hold(item), Hold::Invalid);
-    assert!(rt; tell(&mut dir, TxKind::EraseTx, item, 2));
-    assert!(rt; dir.down_get(1).is_none());
-    assert!(rt; dir.up_first_request().is_none());
     Ok(())
 }

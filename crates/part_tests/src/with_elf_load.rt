@@ -2,7 +2,7 @@ ghost use Rattle.std.specs.Prelude.{◌≡◌, ◌≤◌, All, IfOk, length};
 ghost use Rattle.elf_load.specs.ImageRule.{FitsMemory};
 ghost use Rattle.elf_load.specs.Written.{segment_bytes};
 
-use ddm_types::{NoMemory, Span, count_items};
+use ddm_types::NoMemory;
 use elf_load::*;
 use std::alloc::Global;
 use std::test::Fail;
@@ -62,36 +62,6 @@ fn small_image(rt: HostRuntime) -> Result<(), Fail> {
     Ok(())
 }
 
-fn refusal(alloc: Global, file: &[u8]) -> Option<ImageRefusal> {
-    match load(alloc, file, 16) {
-        Ok(_) => None,
-        Err(refusal) => Some(refusal),
-    }
-}
-
-/// What the first bytes of the small file are refused for.
-fn cut(length: usize) -> Option<ImageRefusal> {
-    if length < 52 {
-        Some(ImageRefusal::NotElf)
-    } else if length < 84 {
-        Some(ImageRefusal::HeaderOutside(0))
-    } else if length < 116 {
-        Some(ImageRefusal::HeaderOutside(1))
-    } else if length < 144 {
-        Some(ImageRefusal::SegmentOutside(0))
-    } else {
-        None
-    }
-}
-
-#[test]
-fn cut_files(rt: HostRuntime) -> Result<(), Fail> {
-    for length in 0..145_usize {
-        assert_eq!(rt; refusal(rt.alloc(), &SMALL[..length]), cut(length));
-    }
-    Ok(())
-}
-
 /// The segments of the small file.
 fn small_segments(alloc: Global) -> Result<Vec<Segment>, NoMemory>
     ensures few { IfOk result (λ segments. length segments.items ≡ 2) }
@@ -121,52 +91,5 @@ fn written(alloc: Global) -> Result<Vec<u8>, NoMemory> {
 fn small_file_written(rt: HostRuntime) -> Result<(), Fail> {
     let file = written(rt.alloc())?;
     assert_eq!(rt; file.as_slice(), SMALL.as_slice());
-    Ok(())
-}
-
-/// The headers of a linker's file: attributes and stack, then the code with these headers before it, and data.
-const LINKED: [u8; 180] = [
-    0x7f, 0x45, 0x4c, 0x46, 1, 1, 1, 0, 0, 0, 0, 0, 0, 0, 0, 0, // identity
-    2, 0, 243, 0, 1, 0, 0, 0, 0xb4, 0, 1, 0, 52, 0, 0, 0, 0, 0, 0, 0, 0x10, 0, 0, 0, // to the flags
-    52, 0, 32, 0, 4, 0, 0, 0, 0, 0, 0, 0, // sizes and counts
-    3, 0, 0, 0x70, 0, 4, 0, 0, 0, 0, 0, 0, 0, 0, 0, 0, 32, 0, 0, 0, 0, 0, 0, 0, 4, 0, 0, 0, 1, 0,
-    0, 0, // attributes
-    0x51, 0xe5, 0x74, 0x64, 0, 0, 0, 0, 0, 0, 0, 0, 0, 0, 0, 0, 0, 0, 0, 0, 0, 0, 0, 0, 6, 0, 0, 0,
-    16, 0, 0, 0, // stack
-    1, 0, 0, 0, 0, 0, 0, 0, 0, 0, 1, 0, 0, 0, 1, 0, 0, 4, 0, 0, 0, 4, 0, 0, 5, 0, 0, 0, 0, 16, 0,
-    0, // the code
-    1, 0, 0, 0, 0, 4, 0, 0, 0, 0x14, 1, 0, 0, 0x14, 1, 0, 32, 0, 0, 0, 32, 1, 0, 0, 6, 0, 0, 0, 0,
-    16, 0, 0, // the data
-];
-
-fn linked_file(alloc: Global) -> Result<Vec<u8>, NoMemory> {
-    let mut file = Vec::from_slice(alloc, &LINKED)?;
-    file.resize(0x400, 0x13)?;
-    file.resize(0x420, 7)?;
-    Ok(file)
-}
-
-#[test]
-fn linked_image(rt: HostRuntime) -> Result<(), Fail> {
-    let file = linked_file(rt.alloc())?;
-    let image = load(rt.alloc(), &file, 16)?;
-    assert_eq!(rt; image.entry, 0x100b4);
-    assert_eq!(rt; image.segments.len(), 2);
-    assert_eq!(rt; image.code.word_at(0x10000), Some(0x464c457f));
-    assert_eq!(rt; image.code.word_at(0x103fc), Some(0x13131313));
-    assert_eq!(rt; image.code.word_at(0x10400), None);
-    let spans = [
-        Span {
-            start: 0x10000,
-            bytes: 0x400,
-            writable: false,
-        },
-        Span {
-            start: 0x11400,
-            bytes: 0x120,
-            writable: true,
-        },
-    ];
-    assert_eq!(rt; count_items(rt.alloc(), &spans, 16)?, 82);
     Ok(())
 }

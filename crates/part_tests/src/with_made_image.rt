@@ -1,9 +1,4 @@
-ghost use Rattle.std.specs.Prelude.{◌≤◌};
-
-use elf_load::load;
 use made_image::make_image;
-use std::alloc::Global;
-use std::process::Abort;
 use std::test::Fail;
 
 /// The file of the seed 42 with two rounds, its code as an assembler makes it.
@@ -30,30 +25,4 @@ fn one_image(rt: HostRuntime) -> Result<(), Fail> {
     let file = make_image(rt.alloc(), 42, 2)?;
     assert_eq!(rt; file.as_slice(), FILE.as_slice());
     Ok(())
-}
-
-/// The image is accepted, and its program ends at this address.
-fn ends_at(rt: &impl Abort, alloc: Global, seed: u64, rounds: u32, end: u32) -> Result<(), Fail>
-    requires some { 1 ≤ rounds }
-    requires few { rounds ≤ 50000 }
-{
-    let file = make_image(alloc, seed, rounds)?;
-    let image = load(alloc, &file, 16)?;
-    assert_eq!(rt; image.entry, 0x1_0000);
-    assert_eq!(rt; image.segments.len(), 2);
-    assert_eq!(rt; image.code.word_at(end), Some(0x73));
-    Ok(())
-}
-
-#[test]
-fn images_are_accepted(rt: HostRuntime) -> Result<(), Fail> {
-    ends_at(&rt, rt.alloc(), 0, 1, 0x1_0014)?;
-    ends_at(&rt, rt.alloc(), 7, 3, 0x1_0024)?;
-    ends_at(
-        &rt,
-        rt.alloc(),
-        18_446_744_073_709_551_615,
-        50_000,
-        0x7_1a8c,
-    )
 }

@@ -52,32 +52,6 @@ fn buffer_in_order_of_arrival(rt: HostRuntime) -> Result<(), Fail> {
     Ok(())
 }
 
-fn change(buffer: &mut Buffer<4>, item: ItemId) {
-    if buffer.find(item).is_some() {
-        buffer.set_state(item, LeafState::Exclusive);
-    }
-    if buffer.find(item).is_some() {
-        buffer.set_words(item, words(81));
-    }
-}
-
-#[test]
-fn buffer_changes_one_entry(rt: HostRuntime) -> Result<(), Fail> {
-    let mut buffer = Buffer::<4>::new(rt.alloc(), 2)?;
-    assert_eq!(rt; buffer.put(ItemId(7), LeafState::Reading, words(0)), Ok(()));
-    assert!(rt; buffer.find(ItemId(8)).is_none());
-    assert_eq!(rt;
-        buffer.put(ItemId(8), LeafState::Waiting, words(80)),
-        Ok(())
-    );
-    change(&mut buffer, ItemId(8));
-    check_place(&rt, &buffer, 7, 0, LeafState::Reading);
-    check_place(&rt, &buffer, 8, 1, LeafState::Exclusive);
-    check_word(&rt, buffer.words(ItemId(7)), 0);
-    check_word(&rt, buffer.words(ItemId(8)), 81);
-    Ok(())
-}
-
 #[test]
 fn parking_keeps_reserved_places(rt: HostRuntime) -> Result<(), Fail> {
     let mut parking = Parking::<4>::new(rt.alloc(), 2)?;
@@ -87,96 +61,6 @@ fn parking_keeps_reserved_places(rt: HostRuntime) -> Result<(), Fail> {
     assert!(rt; parking.find(ItemId(4)).is_none());
     assert_eq!(rt; parking.put(ItemId(4), words(40)), Err(Full));
     assert_eq!(rt; parking.reserve(), Err(Full));
-    Ok(())
-}
-
-/// A call on the item of this number.
-#[derive(Clone, Copy)]
-enum Call {
-    Put(u32),
-    Remove(u32),
-}
-
-/// Puts the item, where it isn't there yet.
-fn put_in_buffer(buffer: &mut Buffer<4>, item: u32) {
-    if buffer.find(ItemId(item)).is_none() {
-        let _ = buffer.put(ItemId(item), LeafState::Shared, words(item));
-    }
-}
-
-/// Puts the copy, where it isn't there yet.
-fn put_in_parking(parking: &mut Parking<4>, item: u32) {
-    if parking.words(ItemId(item)).is_none() {
-        let _ = parking.put(ItemId(item), words(item));
-    }
-}
-
-fn in_buffer(buffer: &Buffer<4>, place: u32) -> Option<(u32, u32)> {
-    let (item, _, words) = buffer.get(place)?;
-    Some((item.0, words.w[0]))
-}
-
-fn in_parking(parking: &Parking<4>, place: u32) -> Option<(u32, u32)> {
-    let (item, words) = parking.get(place)?;
-    Some((item.0, words.w[0]))
-}
-
-#[test]
-fn mixed_calls_beside_a_plain_list(rt: HostRuntime) -> Result<(), Fail> {
-    let mut buffer = Buffer::<4>::new(rt.alloc(), 3)?;
-    let mut parking = Parking::<4>::new(rt.alloc(), 3)?;
-    let mut list = Vec::<u32>::new(rt.alloc());
-    let calls = [
-        Call::Put(5),
-        Call::Put(2),
-        Call::Put(5),
-        Call::Put(9),
-        Call::Put(4),
-        Call::Remove(2),
-        Call::Remove(7),
-        Call::Put(4),
-        Call::Remove(5),
-        Call::Put(1),
-        Call::Put(3),
-        Call::Remove(1),
-        Call::Remove(9),
-        Call::Put(2),
-        Call::Remove(4),
-        Call::Remove(2),
-        Call::Put(9),
-    ];
-    for (turn, call) in calls.into_iter().enumerate() {
-        match call {
-            Call::Put(item) => {
-                put_in_buffer(&mut buffer, item);
-                put_in_parking(&mut parking, item);
-                if list.len() < 3 && !list.contains(&item) {
-                    list.push(item)?;
-                }
-            }
-            Call::Remove(item) => {
-                let _ = buffer.remove(ItemId(item));
-                let _ = parking.remove(ItemId(item));
-                list.retain(|kept| *kept != item);
-            }
-        }
-        for place in 0..4 {
-            let entry = match list.get(place as usize) {
-                Some(item) => Some((*item, *item)),
-                None => None,
-            };
-            assert_eq!(rt;
-                in_buffer(&buffer, place),
-                entry,
-                "place {place} after call {turn}"
-            );
-            assert_eq!(rt;
-                in_parking(&parking, place),
-                entry,
-                "copy {place} after call {turn}"
-            );
-        }
-    }
     Ok(())
 }
 

@@ -1,23 +1,7 @@
-use ddm_types::{BusNo, ChildNo, Hold, ItemId, PendingWhy, QueueName, Stamp, TxKind, Words};
+use ddm_types::{ChildNo, ItemId, PendingWhy, TxKind, Words};
 use item_states::{DownEntry, Parent, ParentList};
 use std::test::Fail;
 use top_node::TopState;
-
-#[test]
-fn top_holds_and_parks_nothing(rt: HostRuntime) -> Result<(), Fail> {
-    let top = TopState::<4>::new(rt.alloc(), 2, 1)?;
-    assert_eq!(rt; top.hold(ItemId(1)), Hold::Exclusive);
-    assert!(rt; !top.answering(ItemId(1)));
-    assert!(rt; top.parked(ItemId(1)).is_none());
-    assert!(rt; top.parking_full());
-    assert!(rt; !top.keeps_place());
-    assert_eq!(rt;
-        top.list_full(ParentList::Replies),
-        Some(QueueName::Replies(BusNo(0)))
-    );
-    assert_eq!(rt; top.stamp(), Stamp::zero());
-    Ok(())
-}
 
 #[test]
 fn note_before_an_entry(rt: HostRuntime) -> Result<(), Fail> {
