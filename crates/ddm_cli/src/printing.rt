@@ -27,7 +27,9 @@ use crate::unjamming::{list_refused, write_unjamming};
 use checkpoint::CheckpointPieces;
 use ddm_outside::{Failed, Shelf, Sink};
 use ddm_types::{NoMemory, Op};
-use report::{ReportPieces, TracePieces, summary_text, witness, write_all, write_pieces};
+use report::{
+    ReportPieces, TracePieces, sorted_witness, summary_text, witness_of, write_all, write_pieces,
+};
 use run_engine::AnyMachine;
 use std::alloc::Global;
 use tree_config::TreeConfig;
@@ -81,8 +83,9 @@ pub fn write_report<K: Sink>(
     ensures cause { IfOk result (HasCause (K.faults out.old) (K.faults out.new)) }
     ensures same { OnErr result (K.held out.new ≡ K.held out.old) }
 {
-    let witness = witness(alloc, machine)?;
-    Ok(write_run(out, machine, &witness, made, buffer))
+    let sorted = sorted_witness(alloc, machine)?;
+    let witness = witness_of(machine, &sorted);
+    Ok(write_run(out, machine, witness, made, buffer))
 }
 
 // Writes what is printed of turns that were made. All memory is taken before the first write.

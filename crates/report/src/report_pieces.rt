@@ -1,10 +1,10 @@
-ghost use Rattle.std.specs.Prelude.{◌≡◌, ◌≤◌, ◌↔◌, [], ◌++◌, IfOk, length, take};
+ghost use Rattle.std.specs.Prelude.{◌≡◌, ◌≤◌, ◌↔◌, [], ◌++◌, IfOk, length, option_map, take, vec_items};
 ghost use Rattle.tree_model.specs.State.Shape.{IsShaped, depth_of};
 ghost use Rattle.tree_model.specs.Turns.Witness.{sorted_ops};
 ghost use Rattle.text_model.specs.Report.{report_of};
 ghost use Rattle.text_model.specs.Run.{view_of};
 ghost use Rattle.any_machine.specs.Any.{machine_state, state_in};
-ghost use Rattle.report.specs.MachineView.{IsGiven, shown};
+ghost use Rattle.report.specs.MachineView.{IsGiven, IsWitness, shown};
 ghost use Rattle.report.specs.ReportLeft.{Gives, HasSize};
 
 use crate::line::Line;
@@ -19,7 +19,7 @@ use ddm_types::{HartNo, ItemId, NoMemory, Op};
 use std::alloc::Global;
 use std::marker::Model;
 use text_model::RunCounts;
-use witness_order::Witness;
+use witness_order::{Witness, ascend};
 
 /// The report of a machine after turns that came to these counts, given piece by piece. A contract sees the text that is left.
 #[derive(Drop)]
@@ -197,14 +197,28 @@ impl<'a> Parts for ReportPieces<'a> {
     }
 }
 
-/// A machine's witness: its operations, in the order of their keys.
+/// A machine's operations in the order of their keys, or None where they are in it already. Memory is taken only to sort them.
 #[tactic(auto, using(crate::proofs::OtherKeys::keys_by_rules))]
-pub fn witness(alloc: Global, machine: &AnyMachine) -> Result<Vec<Op>, NoMemory>
-    ensures { IfOk result (λ ops. ops.items ≡ sorted_ops (machine_state machine.now).machine.ops) }
+pub fn sorted_witness(alloc: Global, machine: &AnyMachine) -> Result<Option<Vec<Op>>, NoMemory>
+    ensures { IfOk result (λ found. IsWitness (machine_state machine.now).machine.ops (option_map vec_items found)) }
 {
     // The rules that every machine keeps, by which no two operations have one key.
     machine.counts();
-    Ok(Witness::new(alloc, machine.ops())?.sorted())
+    if ascend(machine.ops()) {
+        return Ok(None);
+    }
+    Ok(Some(Witness::new(alloc, machine.ops())?.sorted()))
+}
+
+/// A machine's witness: its operations, in the order of their keys.
+pub fn witness_of<'a>(machine: &'a AnyMachine, sorted: &'a Option<Vec<Op>>) -> &'a [Op]
+    requires { IsWitness (machine_state machine.now).machine.ops (option_map vec_items sorted.now) }
+    ensures { result.now ≡ sorted_ops (machine_state machine.now).machine.ops }
+{
+    match sorted {
+        Some(ops) => ops,
+        None => machine.ops(),
+    }
 }
 
 /// The report of a machine of any tree, after turns that came to these counts.
@@ -215,6 +229,7 @@ pub fn report_text(
 ) -> Result<Vec<u8>, NoMemory>
     ensures { let m = (machine_state machine.now).machine in IfOk result (λ text. text.items ≡ report_of (view_of (depth_of m) counts m)) }
 {
-    let witness = witness(alloc, machine)?;
-    joined(alloc, &mut ReportPieces::new(machine, &witness, counts))
+    let sorted = sorted_witness(alloc, machine)?;
+    let witness = witness_of(machine, &sorted);
+    joined(alloc, &mut ReportPieces::new(machine, witness, counts))
 }
