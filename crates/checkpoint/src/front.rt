@@ -5,6 +5,7 @@ ghost use Rattle.any_machine.specs.Any.{machine_state};
 ghost use Rattle.checkpoint.specs.PiecesLeft.{front_words};
 
 use any_machine::AnyMachine;
+use any_states::{sizes, write_tree};
 use ddm_types::NoMemory;
 use state_words::{MachineSizes, push_words};
 use std::alloc::Global;
@@ -41,8 +42,8 @@ pub(crate) fn front_of(
     ensures { IfOk result (λ words. words.items ≡ front_words (machine_state machine.now).machine counts) }
 {
     let mut words = Vec::new(alloc);
-    push_head(&mut words, machine.sizes(), counts)?;
-    machine.write_tree(&mut words)?;
+    push_head(&mut words, sizes(machine), counts)?;
+    write_tree(machine, &mut words)?;
     push_words(&mut words, &[counts.retired])?;
     Ok(words)
 }

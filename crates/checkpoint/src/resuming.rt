@@ -2,13 +2,14 @@ ghost use Rattle.std.specs.Prelude.{◌≡◌, ◌≢◌, ◌+◌, ◌*◌, ◌<
 ghost use Rattle.tree_model.specs.State.Shape.{frame_of};
 ghost use Rattle.any_machine.specs.Any.{machine_state};
 ghost use Rattle.any_machine.specs.Kind.{kind_of};
-ghost use Rattle.any_machine.specs.Run.{AreBelow};
+ghost use Rattle.any_runs.specs.Run.{AreBelow};
 ghost use Rattle.checkpoint.specs.Resumed.{bad_count, bad_head, bad_name, counts_in, file_refusal, judged_head, other_machine, resumed, size_words, whole_words};
 ghost use Rattle.checkpoint.specs.declared.ResumeRefusal.TheVariants as refusal;
 
 use crate::ResumeRefusal;
 use crate::file::CheckpointFile;
-use any_machine::{AnyMachine, read_state, release};
+use any_machine::{AnyMachine, release};
+use any_states::{read_state, sizes};
 use state_reading::{MOST_COUNTED, StateRefusal};
 use state_words::MachineSizes;
 use std::alloc::Global;
@@ -163,7 +164,7 @@ pub fn resume(
     ensures frame { IfOk result (λ r. frame_of (machine_state r.0).machine ≡ frame_of (machine_state fresh).machine) }
     ensures refused { IfErr result (λ e. e ≢ refusal.NoMemory → resumed (machine_state fresh).machine file.now ≡ Err e) }
 {
-    let counts = match judge_file(fresh.sizes(), file) {
+    let counts = match judge_file(sizes(&fresh), file) {
         Ok(counts) => counts,
         Err(refusal) => {
             release(fresh);

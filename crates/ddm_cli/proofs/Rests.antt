@@ -14,7 +14,7 @@ use Rattle.text_model.specs.declared.ScheduleRefusal.{ScheduleRefusal}
 use Rattle.bus_laws.specs.IsTree.{IsTree}
 use Rattle.start_parts.proofs.Names.{frame-names}
 use Rattle.ddm_tree.specs.Machine.{MachineState}
-use Rattle.any_machine.specs.Run.{AreBelow, NameParts}
+use Rattle.any_runs.specs.Run.{AreBelow, NameParts}
 use Rattle.elf_load.specs.ElfFile.{image_of}
 use Rattle.checkpoint.specs.Resumed.{Resumed, resumed}
 use Rattle.checkpoint.specs.declared.ResumeRefusal.{ResumeRefusal}

@@ -22,8 +22,8 @@ use Rattle.start_parts.proofs.Names.{run-names}
 use Rattle.headline.proofs.Runs.{run-ops}
 use Rattle.checkpoint.specs.Saved.{saved}
 use Rattle.ddm_tree.specs.Machine.{MachineState}
-use Rattle.any_machine.specs.Run.{AreBelow, CanRun, NameParts, answers_in, counts_in, ran, with_room}
-use Rattle.any_machine.proofs.RunMore.{counted-below, counted-plus, plus, plus-swap, same-counts}
+use Rattle.any_runs.specs.Run.{AreBelow, CanRun, NameParts, answers_in, counts_in, ran, with_room}
+use Rattle.any_runs.proofs.RunMore.{counted-below, counted-plus, plus, plus-swap, same-counts}
 use Rattle.tree_model.specs.State.Shape.{Frame, depth_of, levels_of}
 use Rattle.tree_model.proofs.FrameKept.{run-frame}
 use Rattle.text_model.specs.Report.{report_of}

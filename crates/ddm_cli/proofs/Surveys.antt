@@ -9,7 +9,7 @@ use Rattle.text_model.specs.ReadBack.{IsTurnOf}
 use Rattle.bus_laws.specs.IsTree.{IsTree}
 use Rattle.elf_load.specs.ElfFile.{image_of}
 use Rattle.ddm_tree.specs.Machine.{MachineState}
-use Rattle.any_machine.specs.Run.{NameParts}
+use Rattle.any_runs.specs.Run.{NameParts}
 use Rattle.schedule_log.specs.Shapes.{shape_view}
 use Rattle.outcome_model.specs.Outcomes.{outcomes_text}
 use Rattle.outcomes.specs.Runs.{HasShape, IsStart as CanBegin}

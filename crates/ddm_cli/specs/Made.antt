@@ -6,7 +6,7 @@ use Rattle.tree_model.specs.Turns.Machine.{run_of}
 use Rattle.text_model.specs.declared.RunCounts.{RunCounts}
 use Rattle.text_model.specs.ReadBack.{IsTurnOf}
 use Rattle.text_model.specs.Run.{counts_of}
-use Rattle.any_machine.specs.Run.{AreBelow, NameParts}
+use Rattle.any_runs.specs.Run.{AreBelow, NameParts}
 use Rattle.schedule_log.specs.Shapes.{shape_view}
 use Rattle.ddm_tree.specs.Machine.{MachineState}
 use Rattle.ddm_cli.specs.Causes.{AcceptedAs}

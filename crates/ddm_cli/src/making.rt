@@ -2,7 +2,7 @@ ghost use Rattle.std.specs.Prelude.{◌≡◌, ◌<◌, ◌≤◌, ◌+◌, ◌+
 ghost use Rattle.text_model.specs.Run.{no_counts};
 ghost use Rattle.bus_laws.specs.IsTree.{IsTree};
 ghost use Rattle.any_machine.specs.Any.{machine_state};
-ghost use Rattle.any_machine.specs.Run.{CanRun, NameParts, answers_in, counts_in, ran, with_room};
+ghost use Rattle.any_runs.specs.Run.{CanRun, NameParts, answers_in, counts_in, ran, with_room};
 ghost use Rattle.ddm_cli.specs.Causes.{IsRefused, IsUnscheduled, ScheduleCause};
 ghost use Rattle.ddm_cli.specs.Commands.{AreFew};
 ghost use Rattle.ddm_cli.specs.Made.{CanCount, CanGoOn, HasAllMade, counts_plus};

@@ -1,7 +1,7 @@
 ghost use Rattle.std.specs.Prelude.{◌≡◌, ◌<◌, ◌≤◌, ℕ, List, Ok, IfErr, IfOk, IfSome, OnErr, Some, length};
 ghost use Rattle.tree_model.specs.State.Shape.{frame_of};
 ghost use Rattle.any_machine.specs.Any.{machine_state};
-ghost use Rattle.any_machine.specs.Run.{AreBelow};
+ghost use Rattle.any_runs.specs.Run.{AreBelow};
 ghost use Rattle.checkpoint.specs.Resumed.{resumed};
 ghost use Rattle.ddm_outside.specs.Causes.{HasCause};
 ghost use Rattle.ddm_cli.specs.Causes.{CheckpointCause, IsUnscheduled, ScheduleCause};

@@ -15,10 +15,10 @@ use Rattle.text_model.specs.Run.{counts_of}
 use Rattle.ddm_tree.specs.Machine.{MachineState}
 use Rattle.any_machine.specs.Any.{machine_state}
 use Rattle.any_machine.specs.Kind.{kind_of}
-use Rattle.any_machine.specs.Run.{CanRun, NameParts, answers_in, ran}
+use Rattle.any_runs.specs.Run.{CanRun, NameParts, answers_in, ran}
 use Rattle.any_machine.specs.declared.machine.AnyMachine.{AnyMachine}
 use Rattle.start_parts.proofs.Names.{run-names}
-use Rattle.any_machine.proofs.RunMore.{answers-length}
+use Rattle.any_runs.proofs.RunMore.{answers-length}
 use Rattle.tree_model.specs.State.Shape.{frame_of}
 use Rattle.tree_model.proofs.FrameKept.{run-frame}
 use Rattle.outcomes.specs.Runs.{KeepsRoom}

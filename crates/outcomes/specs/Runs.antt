@@ -10,7 +10,7 @@ use Rattle.text_model.specs.Schedule.{ShapeView}
 use Rattle.ddm_tree.specs.Machine.{MachineState}
 use Rattle.any_machine.specs.Any.{machine_state}
 use Rattle.any_machine.specs.Kind.{kind_of}
-use Rattle.any_machine.specs.Run.{NameParts}
+use Rattle.any_runs.specs.Run.{NameParts}
 use Rattle.outcome_model.specs.Table.{OutcomeLine}
 use Rattle.any_machine.specs.declared.machine.AnyMachine.{AnyMachine}
 

@@ -3,7 +3,7 @@ ghost use Rattle.tree_model.specs.State.Shape.{frame_of};
 ghost use Rattle.tree_model.specs.Turns.Machine.{run_of};
 ghost use Rattle.any_machine.specs.Any.{machine_state};
 ghost use Rattle.any_machine.specs.Kind.{kind_of};
-ghost use Rattle.any_machine.specs.Run.{CanRun, NameParts};
+ghost use Rattle.any_runs.specs.Run.{CanRun, NameParts};
 ghost use Rattle.schedule_log.specs.Shapes.{shape_view};
 ghost use Rattle.outcome_model.specs.Outcome.{outcome_of, seed_outcome};
 ghost use Rattle.outcome_model.specs.Outcomes.{outcome_table};
@@ -15,6 +15,7 @@ use crate::ending::{all_halted, put_outcome};
 use crate::line::OutcomeLine;
 use crate::ordering::in_order;
 use any_machine::AnyMachine;
+use any_runs::{copy_from, reserve, run_spared};
 use ddm_types::{BusNo, NoMemory, Turn};
 use schedule_log::SeededTurns;
 use std::alloc::Global;
@@ -39,7 +40,7 @@ fn run_until_halted(machine: &mut AnyMachine, seeds: &mut SeededTurns)
         if count == 0 {
             return;
         }
-        machine.run_spared(&block[..count]);
+        run_spared(machine, &block[..count]);
         if all_halted(machine) {
             return;
         }
@@ -61,7 +62,7 @@ fn run_seed(
     ensures twin { IsTwin turns start.now machine.new }
     ensures shape { seeds.new.shape ≡ seeds.old.shape }
 {
-    machine.copy_from(start);
+    copy_from(machine, start);
     seeds.begin(seed, turns);
     run_until_halted(machine, seeds);
 }
@@ -112,7 +113,7 @@ pub fn outcomes(
     ensures kind { kind_of machine.new ≡ kind_of start.now }
     ensures frame { frame_of (machine_state machine.new).machine ≡ frame_of (machine_state start.now).machine }
 {
-    machine.reserve(turns)?;
+    reserve(machine, turns)?;
     let mut seeds = SeededTurns::new(alloc, shape)?;
     let mut text = Vec::new(alloc);
     let mut lines = Vec::new(alloc);

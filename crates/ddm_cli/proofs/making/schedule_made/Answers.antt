@@ -2,7 +2,7 @@ use Rattle.std.proofs.Common.{◌≤◌, ◌+◌, ◌++◌, ◌∙◌, List, [],
 use Rattle.tree_model.specs.Start.Sources.{TreeValue}
 use Rattle.ddm_types.specs.declared.turns.Turn.{Turn}
 use Rattle.any_machine.specs.Any.{machine_state}
-use Rattle.any_machine.specs.Run.{CanRun, NameParts, counts_in}
+use Rattle.any_runs.specs.Run.{CanRun, NameParts, counts_in}
 use Rattle.ddm_cli.specs.Made.{CanCount}
 use Rattle.ddm_cli.proofs.RunsInPieces.{more_made, next_piece, nothing_made}
 use Rattle.ddm_cli.proofs.Schedules.{accepted_read, few_read, nothing_read, refused_read, unended_read}

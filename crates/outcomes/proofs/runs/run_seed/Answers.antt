@@ -11,5 +11,5 @@ unfolding seed_outcome
 returns-clause-outcome c =
     let turns = seeded_turns c.args.seeds.now.shape c.args.seed c.args.turns in
     c.run_until_halted.ensures.outcome
-    ∙ ap (λ (v : SeededView). outcome_of (run_of v.left (machine_state c.copy_from.new.self).machine).machine) c.begin.ensures.turns
+    ∙ ap (λ (v : SeededView). outcome_of (run_of v.left (machine_state c.copy_from.new.machine).machine).machine) c.begin.ensures.turns
     ∙ ap (λ s. outcome_of (run_of turns s.machine).machine) c.copy_from.ensures.after

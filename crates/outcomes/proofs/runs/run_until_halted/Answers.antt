@@ -43,8 +43,8 @@ returns-then-all_halted-clause-outcome c =
     let block = take c.next_block-count.result c.next_block-count.new.block in
     let rest = c.next_block-count.new.self.left in
     let parts = next-parts c.next_block-count.result c.next_block-count.new.block left rest c.next_block-count.ensures.block (ap (λ (v : SeededView). v.left) c.next_block-count.ensures.left) in
-    let next = more-blocks all left c.args.machine.now c.running.machine c.running.invariant.blocks block rest c.run_spared.new.self parts c.run_spared.ensures.after c.run_spared.ensures.kind in
-    halted-early all rest c.args.machine.now c.run_spared.new.self next (sym c.all_halted.ensures ∙ c.if-all_halted.true)
+    let next = more-blocks all left c.args.machine.now c.running.machine c.running.invariant.blocks block rest c.run_spared.new.machine parts c.run_spared.ensures.after c.run_spared.ensures.kind in
+    halted-early all rest c.args.machine.now c.run_spared.new.machine next (sym c.all_halted.ensures ∙ c.if-all_halted.true)
 
 pub returns-then-all_halted-clause-keeps : goal.returns-then-all_halted-clause-keeps
 returns-then-all_halted-clause-keeps c =
@@ -53,8 +53,8 @@ returns-then-all_halted-clause-keeps c =
     let block = take c.next_block-count.result c.next_block-count.new.block in
     let rest = c.next_block-count.new.self.left in
     let parts = next-parts c.next_block-count.result c.next_block-count.new.block left rest c.next_block-count.ensures.block (ap (λ (v : SeededView). v.left) c.next_block-count.ensures.left) in
-    let next = more-blocks all left c.args.machine.now c.running.machine c.running.invariant.blocks block rest c.run_spared.new.self parts c.run_spared.ensures.after c.run_spared.ensures.kind in
-    blocks-keep all rest c.args.machine.now c.run_spared.new.self next
+    let next = more-blocks all left c.args.machine.now c.running.machine c.running.invariant.blocks block rest c.run_spared.new.machine parts c.run_spared.ensures.after c.run_spared.ensures.kind in
+    blocks-keep all rest c.args.machine.now c.run_spared.new.machine next
 
 pub running-preserved : goal.running-preserved
 running-preserved c =
@@ -63,7 +63,7 @@ running-preserved c =
     let block = take c.next_block-count.result c.next_block-count.new.block in
     let rest = c.next_block-count.new.self.left in
     let parts = next-parts c.next_block-count.result c.next_block-count.new.block left rest c.next_block-count.ensures.block (ap (λ (v : SeededView). v.left) c.next_block-count.ensures.left) in
-    let next = more-blocks all left c.args.machine.now c.running.machine c.running.invariant.blocks block rest c.run_spared.new.self parts c.run_spared.ensures.after c.run_spared.ensures.kind in
+    let next = more-blocks all left c.args.machine.now c.running.machine c.running.invariant.blocks block rest c.run_spared.new.machine parts c.run_spared.ensures.after c.run_spared.ensures.kind in
     record { blocks = next; shape = ap (λ (v : SeededView). v.shape) c.next_block-count.ensures.left ∙ c.running.invariant.shape }
 
 pub returns-then-count-eq0-clause-outcome : goal.returns-then-count-eq0-clause-outcome

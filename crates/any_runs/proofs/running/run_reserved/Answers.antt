@@ -1,7 +1,7 @@
 use Rattle.std.proofs.Common.{ap, ◌∙◌}
 use Rattle.tree_model.specs.Turns.Machine.{run_of}
-use Rattle.any_machine.proofs.RunMore.{made-order}
-use Rattle.any_machine.proofs.running.run_reserved.Goals as goal
+use Rattle.any_runs.proofs.RunMore.{made-order}
+use Rattle.any_runs.proofs.running.run_reserved.Goals as goal
 
 pub returns-clause-order : goal.returns-clause-order
 returns-clause-order g c =

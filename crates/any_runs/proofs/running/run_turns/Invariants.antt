@@ -1,6 +1,6 @@
 use Rattle.std.proofs.Common.{◌≡◌, ◌+◌, ◌≤◌, ◌++◌, take, length, vec_capacity, if◌then◌else◌}
-use Rattle.any_machine.specs.Run.{AreBelow, answers_in, counts_in, ran}
-use Rattle.any_machine.proofs.running.run_turns.Given as goal
+use Rattle.any_runs.specs.Run.{AreBelow, answers_in, counts_in, ran}
+use Rattle.any_runs.proofs.running.run_turns.Given as goal
 
 abbrev pub invariant-loop-turn : goal.invariant-loop-turn
 invariant-loop-turn g l =

@@ -4,10 +4,10 @@ ghost use Rattle.text_model.specs.Run.{counted_answer};
 ghost use Rattle.ddm_tree.specs.Machine.{state_after};
 ghost use Rattle.ddm_tree.specs.Rules.{StaysInOrder};
 ghost use Rattle.any_machine.specs.Any.{depths_state, machine_state, state_in};
-ghost use Rattle.any_machine.specs.Run.{AreBelow, CanRun, NameParts, answers_in, counts_in, ran, with_room};
+ghost use Rattle.any_runs.specs.Run.{AreBelow, CanRun, NameParts, answers_in, counts_in, ran, with_room};
 
 use crate::counting::{count, no_counts};
-use crate::machine::{AnyMachine, Depths, Machines};
+use any_machine::{AnyMachine, Depths, Machines};
 use ddm_tree::{Dir, Machine, Subtree};
 use ddm_types::{NoMemory, Turn, TurnAnswer};
 use text_model::RunCounts;

@@ -5,7 +5,7 @@ ghost use Rattle.state_judging.specs.Judged.{read_state};
 ghost use Rattle.any_machine.specs.Any.{depths_state, machine_state, state_in};
 ghost use Rattle.any_machine.specs.Kind.{kind_in, kind_of, levels_in};
 
-use crate::machine::{AnyMachine, Depths, Machines};
+use any_machine::{AnyMachine, Depths, Machines};
 use ddm_tree::{Dir, Machine, Subtree};
 use state_reading::StateRefusal;
 use std::alloc::Global;

@@ -1,6 +1,6 @@
 use Rattle.std.proofs.Common.{ap, rules}
 use Rattle.any_machine.specs.Kind.{Kind}
-use Rattle.any_machine.proofs.copying.copy_machines.Goals as goal
+use Rattle.any_runs.proofs.copying.copy_machines.Goals as goal
 
 pub copy_depths-requires : goal.copy_depths-requires
 copy_depths-requires g c = (search rules, (ap (λ (k : Kind). k.levels) (rw (c.in-W1.is, c.in-W1-other.is) at c.requires.kind), rw (c.in-W1.is, c.in-W1-other.is) at c.requires.can))

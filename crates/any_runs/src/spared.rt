@@ -1,9 +1,9 @@
 ghost use Rattle.std.specs.Prelude.{◌≡◌, ◌≤◌, is_ok, length, max, if◌then◌else◌};
 ghost use Rattle.any_machine.specs.Any.{depths_state, machine_state, state_in};
 ghost use Rattle.any_machine.specs.Kind.{kind_in, kind_of, levels_in};
-ghost use Rattle.any_machine.specs.Run.{CanRun, NameParts, ran, roomed};
+ghost use Rattle.any_runs.specs.Run.{CanRun, NameParts, ran, roomed};
 
-use crate::machine::{AnyMachine, Depths, Machines};
+use any_machine::{AnyMachine, Depths, Machines};
 use ddm_tree::{Dir, Machine, Subtree};
 use ddm_types::{NoMemory, Turn, TurnAnswer};
 
@@ -79,56 +79,55 @@ fn reserve_depths<const WAYS: usize, const WORDS: usize>(
     }
 }
 
-impl<const WORDS: usize> Machines<WORDS> {
-    fn run_spared(&mut self, turns: &[Turn])
-        requires named { NameParts turns.now (state_in self.old).machine }
-        requires few { CanRun turns.now (state_in self.old) }
-        requires spare { length turns.now ≤ (state_in self.old).spare }
-        ensures after { state_in self.new ≡ ran turns.now (state_in self.old) }
-        ensures kind { kind_in self.new ≡ kind_in self.old }
-    {
-        match self {
-            Machines::W1(machine) => make_depths(machine, turns),
-            Machines::W2(machine) => make_depths(machine, turns),
-            Machines::W4(machine) => make_depths(machine, turns),
-        }
-    }
-
-    fn reserve(&mut self, count: u32) -> Result<(), NoMemory>
-        ensures after { state_in self.new ≡ roomed (is_ok result) count (state_in self.old) }
-        ensures kind { kind_in self.new ≡ kind_in self.old }
-    {
-        match self {
-            Machines::W1(machine) => reserve_depths(machine, count),
-            Machines::W2(machine) => reserve_depths(machine, count),
-            Machines::W4(machine) => reserve_depths(machine, count),
-        }
+fn make_machines<const WORDS: usize>(machine: &mut Machines<WORDS>, turns: &[Turn])
+    requires named { NameParts turns.now (state_in machine.old).machine }
+    requires few { CanRun turns.now (state_in machine.old) }
+    requires spare { length turns.now ≤ (state_in machine.old).spare }
+    ensures after { state_in machine.new ≡ ran turns.now (state_in machine.old) }
+    ensures kind { kind_in machine.new ≡ kind_in machine.old }
+{
+    match machine {
+        Machines::W1(machine) => make_depths(machine, turns),
+        Machines::W2(machine) => make_depths(machine, turns),
+        Machines::W4(machine) => make_depths(machine, turns),
     }
 }
 
-impl AnyMachine {
-    /// Makes the turns in order, where there is room for as many operations. It takes no memory.
-    pub fn run_spared(&mut self, turns: &[Turn])
-        requires named { NameParts turns.now (machine_state self.old).machine }
-        requires few { CanRun turns.now (machine_state self.old) }
-        requires spare { length turns.now ≤ (machine_state self.old).spare }
-        ensures after { machine_state self.new ≡ ran turns.now (machine_state self.old) }
-        ensures kind { kind_of self.new ≡ kind_of self.old }
-    {
-        match self {
-            AnyMachine::Narrow(machine) => machine.run_spared(turns),
-            AnyMachine::Wide(machine) => machine.run_spared(turns),
-        }
+fn reserve_machines<const WORDS: usize>(
+    machine: &mut Machines<WORDS>,
+    count: u32,
+) -> Result<(), NoMemory>
+    ensures after { state_in machine.new ≡ roomed (is_ok result) count (state_in machine.old) }
+    ensures kind { kind_in machine.new ≡ kind_in machine.old }
+{
+    match machine {
+        Machines::W1(machine) => reserve_depths(machine, count),
+        Machines::W2(machine) => reserve_depths(machine, count),
+        Machines::W4(machine) => reserve_depths(machine, count),
     }
+}
 
-    /// Takes memory so that at least `count` more operations need none.
-    pub fn reserve(&mut self, count: u32) -> Result<(), NoMemory>
-        ensures after { machine_state self.new ≡ roomed (is_ok result) count (machine_state self.old) }
-        ensures kind { kind_of self.new ≡ kind_of self.old }
-    {
-        match self {
-            AnyMachine::Narrow(machine) => machine.reserve(count),
-            AnyMachine::Wide(machine) => machine.reserve(count),
-        }
+/// Makes the turns in order, where there is room for as many operations. It takes no memory.
+pub fn run_spared(machine: &mut AnyMachine, turns: &[Turn])
+    requires named { NameParts turns.now (machine_state machine.old).machine }
+    requires few { CanRun turns.now (machine_state machine.old) }
+    requires spare { length turns.now ≤ (machine_state machine.old).spare }
+    ensures after { machine_state machine.new ≡ ran turns.now (machine_state machine.old) }
+    ensures kind { kind_of machine.new ≡ kind_of machine.old }
+{
+    match machine {
+        AnyMachine::Narrow(machine) => make_machines(machine, turns),
+        AnyMachine::Wide(machine) => make_machines(machine, turns),
+    }
+}
+
+/// Takes memory so that at least `count` more operations need none.
+pub fn reserve(machine: &mut AnyMachine, count: u32) -> Result<(), NoMemory>
+    ensures after { machine_state machine.new ≡ roomed (is_ok result) count (machine_state machine.old) }
+    ensures kind { kind_of machine.new ≡ kind_of machine.old }
+{
+    match machine {
+        AnyMachine::Narrow(machine) => reserve_machines(machine, count),
+        AnyMachine::Wide(machine) => reserve_machines(machine, count),
     }
 }

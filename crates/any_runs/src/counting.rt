@@ -1,6 +1,6 @@
 ghost use Rattle.std.specs.Prelude.{◌≡◌};
 ghost use Rattle.text_model.specs.Run.{counted_answer, no_counts};
-ghost use Rattle.any_machine.specs.Run.{AreBelow};
+ghost use Rattle.any_runs.specs.Run.{AreBelow};
 
 use ddm_types::TurnAnswer;
 use text_model::RunCounts;

@@ -2,9 +2,9 @@ use Rattle.std.proofs.Common.{◌≡◌, ◌+◌, ◌<◌, ◌≤◌, ◌++◌, 
 use Rattle.tree_model.specs.Turns.Machine.{names_part, turn_of}
 use Rattle.ddm_tree.specs.Machine.{MachineState, state_after}
 use Rattle.std.proofs.lemmas.List.{take_all}
-use Rattle.any_machine.specs.Run.{ran}
-use Rattle.any_machine.proofs.RunMore.{named-here, ran-more, ran-none, spare-falls, take-next, turns-here}
-use Rattle.any_machine.proofs.spared.make_turns.Goals as goal
+use Rattle.any_runs.specs.Run.{ran}
+use Rattle.any_runs.proofs.RunMore.{named-here, ran-more, ran-none, spare-falls, take-next, turns-here}
+use Rattle.any_runs.proofs.spared.make_turns.Goals as goal
 
 pub loop-turn-init : goal.loop-turn-init
 loop-turn-init g c = (sym (ran-none c.args.machine.now), omega (arith, c.requires.spare))

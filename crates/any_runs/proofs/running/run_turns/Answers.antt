@@ -4,9 +4,9 @@ use Rattle.tree_model.specs.Turns.Machine.{names_part, turn_of}
 use Rattle.text_model.specs.Run.{counted_answer}
 use Rattle.ddm_tree.specs.Machine.{MachineState, state_after}
 use Rattle.std.proofs.lemmas.List.{take_all, length-append, length-take-le}
-use Rattle.any_machine.specs.Run.{AreBelow, answers_in, counts_in, ran}
-use Rattle.any_machine.proofs.RunMore.{answers-length, below-none, counted-below, counts-more, counts-none, kept-more, kept-none, kept_answers, named-here, ran-more, ran-none, spare-falls, take-next, turns-here}
-use Rattle.any_machine.proofs.running.run_turns.Goals as goal
+use Rattle.any_runs.specs.Run.{AreBelow, answers_in, counts_in, ran}
+use Rattle.any_runs.proofs.RunMore.{answers-length, below-none, counted-below, counts-more, counts-none, kept-more, kept-none, kept_answers, named-here, ran-more, ran-none, spare-falls, take-next, turns-here}
+use Rattle.any_runs.proofs.running.run_turns.Goals as goal
 
 pub loop-turn-init : goal.loop-turn-init
 loop-turn-init g c =

@@ -14,7 +14,7 @@ use Rattle.ddm_tree.specs.Machine.{MachineState, spare_after, state_after}
 use Rattle.ddm_tree.specs.Rules.{KeepsRules, StaysInOrder}
 use Rattle.ddm_tree.proofs.RulesKept.{run-order}
 use Rattle.start_parts.proofs.Names.{run-names}
-use Rattle.any_machine.specs.Run.{AreBelow, CanRun, NameParts, answers_in, counts_in, ran}
+use Rattle.any_runs.specs.Run.{AreBelow, CanRun, NameParts, answers_in, counts_in, ran}
 
 -- ---- the tables' run
 

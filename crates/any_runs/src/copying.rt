@@ -3,7 +3,7 @@ ghost use Rattle.ddm_tree.specs.Copying.{CanCopy, copied};
 ghost use Rattle.any_machine.specs.Any.{depths_state, machine_state, state_in};
 ghost use Rattle.any_machine.specs.Kind.{kind_in, kind_of, levels_in};
 
-use crate::machine::{AnyMachine, Depths, Machines};
+use any_machine::{AnyMachine, Depths, Machines};
 use ddm_tree::{CopyFrom, Dir, Machine};
 
 // The machine of directories over these children becomes a copy of another one: a check of three types within one another is
@@ -69,24 +69,22 @@ fn copy_machines<const WORDS: usize>(machine: &mut Machines<WORDS>, other: &Mach
     }
 }
 
-impl AnyMachine {
-    /// Becomes a copy of another machine of the same tree, code and items. It takes no memory, and keeps what it has for
-    /// operations.
-    pub fn copy_from(&mut self, other: &Self)
-        requires kind { kind_of self.old ≡ kind_of other.now }
-        requires can { CanCopy (machine_state self.old) (machine_state other.now) }
-        ensures after { machine_state self.new ≡ copied (machine_state self.old) (machine_state other.now) }
-        ensures kind { kind_of self.new ≡ kind_of self.old }
-    {
-        match self {
-            AnyMachine::Narrow(machine) => match other {
-                AnyMachine::Narrow(other) => copy_machines(machine, other),
-                AnyMachine::Wide(_) => unreachable!(),
-            },
-            AnyMachine::Wide(machine) => match other {
-                AnyMachine::Wide(other) => copy_machines(machine, other),
-                AnyMachine::Narrow(_) => unreachable!(),
-            },
-        }
+/// A machine becomes a copy of another one of the same tree, code and items. It takes no memory, and keeps what it has for
+/// operations.
+pub fn copy_from(machine: &mut AnyMachine, other: &AnyMachine)
+    requires kind { kind_of machine.old ≡ kind_of other.now }
+    requires can { CanCopy (machine_state machine.old) (machine_state other.now) }
+    ensures after { machine_state machine.new ≡ copied (machine_state machine.old) (machine_state other.now) }
+    ensures kind { kind_of machine.new ≡ kind_of machine.old }
+{
+    match machine {
+        AnyMachine::Narrow(machine) => match other {
+            AnyMachine::Narrow(other) => copy_machines(machine, other),
+            AnyMachine::Wide(_) => unreachable!(),
+        },
+        AnyMachine::Wide(machine) => match other {
+            AnyMachine::Wide(other) => copy_machines(machine, other),
+            AnyMachine::Narrow(_) => unreachable!(),
+        },
     }
 }

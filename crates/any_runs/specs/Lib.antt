@@ -1,0 +1,3 @@
+pub use Rattle.any_machine.specs.Any
+pub use Rattle.any_machine.specs.Kind
+pub mod Run

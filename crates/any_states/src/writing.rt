@@ -1,0 +1,104 @@
+ghost use Rattle.std.specs.Prelude.{◌≡◌, OnErr, OnOk};
+ghost use Rattle.ddm_text.specs.Adds.{Adds};
+ghost use Rattle.state_words.specs.Begins.{Begins};
+ghost use Rattle.state_words.specs.Machine.{sizes_of};
+ghost use Rattle.ddm_tree.specs.Written.{tree_words};
+ghost use Rattle.any_machine.specs.Any.{depths_state, machine_state, state_in};
+
+use any_machine::{AnyMachine, Depths, Machines};
+use ddm_tree::{Dir, Machine, Subtree};
+use ddm_types::NoMemory;
+use state_words::MachineSizes;
+
+// For machines whose directories under bus 0 are over these children: a check of three types within one another is beyond its limits.
+
+fn sizes_over<const WORDS: usize, C: Subtree<WORDS>>(
+    machine: &Machine<WORDS, Dir<WORDS, C>>,
+) -> MachineSizes
+    ensures { result ≡ sizes_of machine.now.machine }
+{
+    machine.sizes()
+}
+
+fn write_over<const WORDS: usize, C: Subtree<WORDS>>(
+    machine: &Machine<WORDS, Dir<WORDS, C>>,
+    out: &mut Vec<u32>,
+) -> Result<(), NoMemory>
+    ensures ok { OnOk result (Adds out.old.items out.new.items (tree_words machine.now.machine)) }
+    ensures err { OnErr result (Begins out.old.items out.new.items) }
+{
+    machine.write_tree(out)
+}
+
+fn depths_sizes<const WAYS: usize, const WORDS: usize>(
+    machine: &Depths<WAYS, WORDS>,
+) -> MachineSizes
+    ensures { result ≡ sizes_of (depths_state machine.now).machine }
+{
+    match machine {
+        Depths::D1(machine) => machine.sizes(),
+        Depths::D2(machine) => machine.sizes(),
+        Depths::D3(machine) => sizes_over(machine),
+        Depths::D4(machine) => sizes_over(machine),
+    }
+}
+
+fn write_depths<const WAYS: usize, const WORDS: usize>(
+    machine: &Depths<WAYS, WORDS>,
+    out: &mut Vec<u32>,
+) -> Result<(), NoMemory>
+    ensures ok { OnOk result (Adds out.old.items out.new.items (tree_words (depths_state machine.now).machine)) }
+    ensures err { OnErr result (Begins out.old.items out.new.items) }
+{
+    match machine {
+        Depths::D1(machine) => machine.write_tree(out),
+        Depths::D2(machine) => machine.write_tree(out),
+        Depths::D3(machine) => write_over(machine, out),
+        Depths::D4(machine) => write_over(machine, out),
+    }
+}
+
+fn sizes_in<const WORDS: usize>(machine: &Machines<WORDS>) -> MachineSizes
+    ensures { result ≡ sizes_of (state_in machine.now).machine }
+{
+    match machine {
+        Machines::W1(machine) => depths_sizes(machine),
+        Machines::W2(machine) => depths_sizes(machine),
+        Machines::W4(machine) => depths_sizes(machine),
+    }
+}
+
+fn write_machines<const WORDS: usize>(
+    machine: &Machines<WORDS>,
+    out: &mut Vec<u32>,
+) -> Result<(), NoMemory>
+    ensures ok { OnOk result (Adds out.old.items out.new.items (tree_words (state_in machine.now).machine)) }
+    ensures err { OnErr result (Begins out.old.items out.new.items) }
+{
+    match machine {
+        Machines::W1(machine) => write_depths(machine, out),
+        Machines::W2(machine) => write_depths(machine, out),
+        Machines::W4(machine) => write_depths(machine, out),
+    }
+}
+
+/// What a checkpoint says of the machine.
+pub fn sizes(machine: &AnyMachine) -> MachineSizes
+    ensures { result ≡ sizes_of (machine_state machine.now).machine }
+{
+    match machine {
+        AnyMachine::Narrow(machine) => sizes_in(machine),
+        AnyMachine::Wide(machine) => sizes_in(machine),
+    }
+}
+
+/// Puts the words of the machine's tree at the end: of the harts, the buses and the leaves. After `NoMemory` some of them stand there.
+pub fn write_tree(machine: &AnyMachine, out: &mut Vec<u32>) -> Result<(), NoMemory>
+    ensures ok { OnOk result (Adds out.old.items out.new.items (tree_words (machine_state machine.now).machine)) }
+    ensures err { OnErr result (Begins out.old.items out.new.items) }
+{
+    match machine {
+        AnyMachine::Narrow(machine) => write_machines(machine, out),
+        AnyMachine::Wide(machine) => write_machines(machine, out),
+    }
+}
