@@ -1,9 +1,11 @@
 -- Lines of a report as their parts.
-use Rattle.std.proofs.Common.{◌≡◌, ℕ, List, [], ◌∷◌, ◌++◌, refl, sym}
-use Rattle.std.specs.Prelude.{codes}
-use Rattle.std.proofs.lemmas.List.{append-nil}
-use Rattle.text_model.specs.Report.{ItemView, item_line, letter_texts, or_dash}
-use Rattle.report.specs.LineParts.{dash_behind, item_front}
+use Rattle.std.proofs.Common.{◌≡◌, ◌≤◌, ℕ, Bool, List, [], ◌∷◌, ◌++◌, length, take, drop, refl, sym, ap, ◌∙◌}
+use Rattle.std.specs.Prelude.{codes, if◌then◌else◌}
+use Rattle.std.proofs.lemmas.List.{append-nil, drop_all, take-append-drop}
+use Rattle.std.proofs.lemmas.Grind.{flat_map-append}
+use Rattle.ddm_types.specs.declared.operations.Op.{Op}
+use Rattle.text_model.specs.Report.{ItemView, item_line, letter_texts, or_dash, put_text_by, put_texts}
+use Rattle.report.specs.LineParts.{any_byte, dash_behind, item_front}
 
 pub not-empty : {x : ℕ} {xs : List ℕ} → x ∷ xs ≡ [] → ⊥
 not-empty none = cc
@@ -16,3 +18,39 @@ item_line-parts v = refl
 pub or_dash-parts : (output : List ℕ) → or_dash output ≡ output ++ dash_behind output
 or_dash-parts [] = refl
 or_dash-parts (byte ∷ bytes) = sym (append-nil (byte ∷ bytes))
+
+-- ---- a hart's output from an operation on
+
+-- all of it is put where nothing comes behind
+pub output-last : (hart from after : ℕ) (ops : List Op) (put : List ℕ) → length ops ≤ after → put_texts hart (drop from ops) ≡ put ++ put_texts hart (drop after ops) → put_texts hart (drop from ops) ≡ put
+unfolding put_texts
+output-last hart from after ops put past puts = puts ∙ ap (λ (os : List Op). put ++ put_texts hart os) (drop_all after ops past) ∙ append-nil put
+
+-- it stands behind that of the operations before
+output-cut : (hart from : ℕ) (ops : List Op) → put_texts hart ops ≡ put_texts hart (take from ops) ++ put_texts hart (drop from ops)
+unfolding put_texts
+output-cut hart from ops = ap (put_texts hart) (sym (take-append-drop from ops)) ∙ flat_map-append (put_text_by hart) (take from ops) (drop from ops)
+
+no-dash : (before : List ℕ) (byte : ℕ) (bytes : List ℕ) → dash_behind (before ++ byte ∷ bytes) ≡ []
+no-dash [] byte bytes = refl
+no-dash (first ∷ before) byte bytes = refl
+
+-- the dash behind it, by what the operations before have put
+before-by : (before : List ℕ) (found : Bool) → any_byte before ≡ found → dash_behind before ≡ (if found then [] else codes "-")
+before-by before found is = ap (λ (b : Bool). if b then [] else codes "-") is
+
+module _ (hart from : ℕ) (ops : List Op) (line : List ℕ) (puts : put_texts hart (drop from ops) ≡ line) where
+  -- where it isn't empty no dash follows
+  pub no-dash_behind : (line ≡ [] → ⊥) → line ≡ line ++ dash_behind (put_texts hart ops)
+  no-dash_behind some = sym (ap (λ d. line ++ d) (by_line line puts some) ∙ append-nil line)
+    where
+      by_line : (line : List ℕ) → put_texts hart (drop from ops) ≡ line → (line ≡ [] → ⊥) → dash_behind (put_texts hart ops) ≡ []
+      by_line [] puts some = absurd (some refl)
+      by_line (byte ∷ bytes) puts some =
+          ap dash_behind (output-cut hart from ops ∙ ap (λ l. put_texts hart (take from ops) ++ l) puts) ∙ no-dash (put_texts hart (take from ops)) byte bytes
+
+  -- where it is empty the operations before decide
+  pub dash-by : (found : Bool) → line ≡ [] → any_byte (put_texts hart (take from ops)) ≡ found → dash_behind (put_texts hart ops) ≡ (if found then [] else codes "-")
+  dash-by found none is =
+      let before = put_texts hart (take from ops) in
+      ap dash_behind (output-cut hart from ops ∙ ap (λ l. before ++ l) (puts ∙ none) ∙ append-nil before) ∙ before-by before found is

@@ -22,6 +22,7 @@ use Rattle.report.specs.ReportLeft.{front_of, hart_front, no_item, no_view, stat
 use Rattle.report.specs.declared.report_parts.ReportPart.{ReportPart}
 use Rattle.report.specs.declared.report_parts.ReportPart.TheVariants.{Head, Hart, Output, Bus, Item, States, Operation, End, Nothing}
 use Rattle.report.specs.declared.report_parts.ReportSize.{ReportSize}
+use Rattle.report.proofs.Lines.{output-last}
 use Rattle.report.proofs.MachineLines.{harts-counted, item-shown, items-counted}
 use Rattle.report.proofs.ReportParts.{head-gives, hart-gives, output-gives, output-ends, bus-gives, item-gives, states-gives, states-end, operations-give, end-gives, nothing-gives}
 
@@ -97,9 +98,9 @@ module _ (counts : RunCounts) (m : MachineValue) (ops : List Op) (size : ReportS
         gives is then (output-gives (shown counts m) k n after line (there (Output k n) is) (subst (λ (os : List Op). after ≤ length os) same within) puts' (omega (arith, long)))
 
     pub output-end : (k n after : ℕ) (put : List ℕ) (done : List Op) → done ≡ m.ops → part ≡ Output k n → length done ≤ after → put_texts k (drop n done) ≡ put ++ put_texts k (drop after done) → line ≡ put ++ dash_behind (put_texts k done) ++ codes "\n" → next ≡ hart_part size (k + 1) → Gives (shown counts m) part line next
-    unfolding view_of put_texts
+    unfolding view_of
     output-end k n after put done same is past puts ended then =
-        let last : put_texts k (drop n done) ≡ put = puts ∙ ap (λ (os : List Op). put ++ put_texts k os) (drop_all after done past) ∙ append-nil put in
+        let last = output-last k n after done put past puts in
         gives is then (output-ends (shown counts m) size given.size k n put line (there (Output k n) is)
         (subst (λ (os : List Op). put_texts k (drop n os) ≡ put) same last)
         (subst (λ (os : List Op). line ≡ put ++ dash_behind (put_texts k os) ++ codes "\n") same ended))

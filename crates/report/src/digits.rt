@@ -31,10 +31,11 @@ fn push_short<W: TextBuffer>(out: &mut W, n: u32) -> Result<(), NoMemory>
     ensures text { OnOk result (Adds (W.text out.old) (W.text out.new) (decimal n)) }
     ensures room { UsesRoom 4 (W.room out.old) (W.room out.new) result }
 {
-    let [thousands, hundreds, tens, ones] = last_digits(n);
     if n < 10 {
-        out.put(&[ones])
-    } else if n < 100 {
+        return out.put(&[b'0' + n as u8]);
+    }
+    let [thousands, hundreds, tens, ones] = last_digits(n);
+    if n < 100 {
         out.put(&[tens, ones])
     } else if n < 1_000 {
         out.put(&[hundreds, tens, ones])
@@ -66,6 +67,7 @@ fn push_long<W: TextBuffer>(out: &mut W, n: u64) -> Result<(), NoMemory>
 }
 
 /// Puts the decimal digits of a number at the end.
+#[inline(always)]
 pub fn push_decimal<W: TextBuffer>(out: &mut W, n: u64) -> Result<(), NoMemory>
     ensures text { OnOk result (Adds (W.text out.old) (W.text out.new) (decimal n)) }
     ensures room { UsesRoom 20 (W.room out.old) (W.room out.new) result }
@@ -138,4 +140,14 @@ pub fn push_spaced_hex8<W: TextBuffer>(out: &mut W, n: u32) -> Result<(), NoMemo
 {
     let [a, b, c, d, e, f, g, h] = hex8_digits(n);
     out.put(&[b' ', a, b, c, d, e, f, g, h])
+}
+
+/// Puts eight hexadecimal digits between two spaces at the end.
+#[inline(always)]
+pub fn push_hex8_between<W: TextBuffer>(out: &mut W, n: u32) -> Result<(), NoMemory>
+    ensures text { OnOk result (Adds (W.text out.old) (W.text out.new) (codes " " ++ hex8 n ++ codes " ")) }
+    ensures room { UsesRoom 10 (W.room out.old) (W.room out.new) result }
+{
+    let [a, b, c, d, e, f, g, h] = hex8_digits(n);
+    out.put(&[b' ', a, b, c, d, e, f, g, h, b' '])
 }

@@ -43,6 +43,7 @@ fn push_change<W: TextBuffer>(
 }
 
 /// Puts at the end what an instruction did.
+#[inline(always)]
 #[tactic(auto, unfolding(text_model::specs::Words::effect_text))]
 pub fn push_effect<W: TextBuffer>(out: &mut W, effect: Effect) -> Result<(), NoMemory>
     ensures text { OnOk result (Adds (W.text out.old) (W.text out.new) (effect_text effect)) }

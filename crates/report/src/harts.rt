@@ -128,9 +128,9 @@ fn push_puts<W: TextBuffer>(out: &mut W, hart: HartNo, ops: &[Op]) -> Result<(),
     Ok(())
 }
 
-// Whether a hart has put anything.
+/// Whether a hart has put anything.
 #[tactic(auto, unfolding(text_model::specs::Report::put_texts))]
-fn has_output(hart: HartNo, ops: &[Op]) -> bool
+pub fn has_output(hart: HartNo, ops: &[Op]) -> bool
     ensures { result ≡ any_byte (put_texts hart ops.now) }
 {
     for op in ops {

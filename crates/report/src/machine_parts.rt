@@ -11,7 +11,7 @@ ghost use Rattle.report.specs.MachineView.{harts_of};
 ghost use Rattle.report.specs.ReportLeft.{front_of, hart_front, no_view};
 
 use crate::buses::push_bus_line;
-use crate::harts::{push_dash, push_hart_front, push_head, push_put_by};
+use crate::harts::{has_output, push_hart_front, push_head, push_put_by};
 use crate::items::{push_item_front, push_letter};
 use crate::line::Line;
 use crate::operations::push_op_line;
@@ -69,14 +69,32 @@ pub fn put_output(line: &mut Line, hart: HartNo, ops: &[Op], from: usize) -> usi
     next
 }
 
-/// Ends the line of a hart's output.
-pub fn end_output(line: &mut Line, hart: HartNo, ops: &[Op])
-    requires { length line.old ≤ 501 }
+// Puts the dash of a hart that has put nothing behind its output from an operation on. Only the operations before that one are
+// looked at, and these only where nothing was put from there on.
+fn put_dash(line: &mut Line, hart: HartNo, ops: &[Op], from: usize)
+    requires from { from ≤ length ops.now }
+    requires output { put_texts hart (drop from ops.now) ≡ line.old }
+    requires room { length line.old ≤ 501 }
+    ensures dash { line.new ≡ line.old ++ dash_behind (put_texts hart ops.now) }
+    ensures room { length line.new ≤ 502 }
+{
+    if !line.is_empty() {
+        return;
+    }
+    if has_output(hart, &ops[..from]) {
+        return;
+    }
+    line.push(b"-");
+}
+
+/// Ends the line of a hart's output from an operation on.
+pub fn end_output(line: &mut Line, hart: HartNo, ops: &[Op], from: usize)
+    requires from { from ≤ length ops.now }
+    requires output { put_texts hart (drop from ops.now) ≡ line.old }
+    requires room { length line.old ≤ 501 }
     ensures { line.new ≡ line.old ++ dash_behind (put_texts hart ops.now) ++ codes "\n" }
 {
-    let Ok(()) = push_dash(line, hart, ops) else {
-        unreachable!();
-    };
+    put_dash(line, hart, ops, from);
     end_line(line);
 }
 

@@ -1,14 +1,27 @@
-ghost use Rattle.std.specs.Prelude.{◌*◌, ◌≤◌, OnOk, length};
+ghost use Rattle.std.specs.Prelude.{◌*◌, ◌≤◌, ◌++◌, OnOk, codes, decimal, length};
 ghost use Rattle.ddm_text.specs.Adds.{Adds};
 ghost use Rattle.text_model.specs.Report.{key_text, number_stops, op_line, op_lines};
 ghost use Rattle.report.specs.Room.{UsesRoom};
 
 use crate::buffers::TextBuffer;
-use crate::digits::push_spaced_hex8;
+use crate::digits::push_hex8_between;
 use crate::effects::push_effect;
 use crate::numbers::push_hart;
 use crate::pieces::{push_bytes, push_number};
 use ddm_types::{Key, LEVELS, NoMemory, Op};
+
+// A number with a full stop behind it.
+#[inline(always)]
+fn push_stop<W: TextBuffer>(out: &mut W, number: u32) -> Result<(), NoMemory>
+    ensures text { OnOk result (Adds (W.text out.old) (W.text out.new) (decimal number ++ codes ".")) }
+    ensures room { UsesRoom 21 (W.room out.old) (W.room out.new) result }
+{
+    if number < 10 {
+        return out.put(&[b'0' + number as u8, b'.']);
+    }
+    push_number(out, number)?;
+    push_bytes(out, b".")
+}
 
 // Each number with a full stop behind it.
 #[tactic(auto, unfolding(text_model::specs::Report::number_stops))]
@@ -17,8 +30,7 @@ fn push_stops<W: TextBuffer>(out: &mut W, numbers: &[u32]) -> Result<(), NoMemor
     ensures room { UsesRoom (21 * length numbers.now) (W.room out.old) (W.room out.new) result }
 {
     for number in numbers {
-        push_number(out, *number)?;
-        push_bytes(out, b".")?;
+        push_stop(out, *number)?;
     }
     Ok(())
 }
@@ -38,6 +50,7 @@ pub fn push_key<W: TextBuffer>(out: &mut W, depth: u32, key: Key) -> Result<(), 
 }
 
 /// Puts at the end the line of an operation in a tree of this depth.
+#[inline(always)]
 pub fn push_op_line<W: TextBuffer>(out: &mut W, depth: u32, op: Op) -> Result<(), NoMemory>
     requires { depth ≤ LEVELS }
     ensures text { OnOk result (Adds (W.text out.old) (W.text out.new) (op_line depth op)) }
@@ -47,8 +60,7 @@ pub fn push_op_line<W: TextBuffer>(out: &mut W, depth: u32, op: Op) -> Result<()
     push_hart(out, op.hart)?;
     push_bytes(out, b" ")?;
     push_key(out, depth, op.key)?;
-    push_spaced_hex8(out, op.pc)?;
-    push_bytes(out, b" ")?;
+    push_hex8_between(out, op.pc)?;
     push_effect(out, op.effect)?;
     push_bytes(out, b"\n")?;
     Ok(())

@@ -93,7 +93,7 @@ fn put_part<const WORDS: usize>(
             if next < ops.len() {
                 return ReportPart::Output(hart, next);
             }
-            end_output(line, HartNo(hart), ops);
+            end_output(line, HartNo(hart), ops, from);
             size.hart_part(hart + 1)
         }
         ReportPart::Bus(bus) => {

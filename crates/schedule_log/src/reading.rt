@@ -1,4 +1,4 @@
-ghost use Rattle.std.specs.Prelude.{◌≡◌, ◌≤◌, IfOk, OnErr, length, take};
+ghost use Rattle.std.specs.Prelude.{◌≡◌, ◌≤◌, IfOk, OnErr, drop, length, take, vec_len};
 ghost use Rattle.schedule_log.specs.Reader.{FeedGives, IsInLine, LinesRead, begun, begun_behind, finish_of};
 ghost use Rattle.schedule_log.specs.Shapes.{shape_view};
 
@@ -56,6 +56,16 @@ fn read_lines(
             }
         }
     }
+}
+
+// Takes the first bytes away.
+fn drop_front(bytes: &mut Vec<u8>, count: usize)
+    requires { count ≤ vec_len bytes.old }
+    ensures { bytes.new.items ≡ drop count bytes.old.items }
+{
+    let left = bytes.len() - count;
+    bytes.copy_within(count.., 0);
+    bytes.truncate(left);
 }
 
 /// Reads the text of a schedule, in pieces of any lengths. A contract sees how many turns there are, how many of them are lines so
@@ -122,7 +132,7 @@ impl ScheduleReader {
                 self.made = lines.made;
                 self.lines = lines.lines;
                 self.standing = lines.standing;
-                self.held.drain(..lines.kept);
+                drop_front(&mut self.held, lines.kept);
                 lines.standing.answer()
             }
             Err(_) => {

@@ -1,14 +1,19 @@
-ghost use Rattle.std.specs.Prelude.{◌≡◌, ◌+◌, ◌<◌, [], ◌∷◌, IfSome};
+ghost use Rattle.std.specs.Prelude.{◌≡◌, ◌≤◌, ◌+◌, ◌<◌, [], ◌∷◌, IfSome, length};
 ghost use Rattle.schedule_log.specs.Spelled.{Begins, BeginsWithChild, BeginsWithDigit, BeginsWithLine, BeginsWithNumber};
 
 use ddm_types::{BusNo, ChildNo, HartNo, Turn};
 
+/// So many bytes are looked at where a line is read in its one spelling: the longest line has as many.
+pub(crate) const SPELLED_BYTES: usize = 16;
+
 // What is behind a byte.
 #[inline(always)]
 fn behind(text: &[u8], byte: u8) -> Option<&[u8]>
-    ensures { IfSome result (λ rest. Begins text.now (byte ∷ []) rest.now) }
+    requires { 0 < length text.now }
+    ensures begins { IfSome result (λ rest. Begins text.now (byte ∷ []) rest.now) }
+    ensures long { IfSome result (λ rest. length text.now ≤ length rest.now + 1) }
 {
-    if text.is_empty() || text[0] != byte {
+    if text[0] != byte {
         None
     } else {
         Some(&text[1..])
@@ -18,9 +23,11 @@ fn behind(text: &[u8], byte: u8) -> Option<&[u8]>
 // A digit, and what is behind it.
 #[inline(always)]
 fn digit(text: &[u8]) -> Option<(u32, &[u8])>
-    ensures { IfSome result (λ r. BeginsWithDigit text.now r.0 r.1.now) }
+    requires { 0 < length text.now }
+    ensures begins { IfSome result (λ r. BeginsWithDigit text.now r.0 r.1.now) }
+    ensures long { IfSome result (λ r. length text.now ≤ length r.1.now + 1) }
 {
-    if text.is_empty() || text[0] < b'0' || b'9' < text[0] {
+    if text[0] < b'0' || b'9' < text[0] {
         None
     } else {
         Some((u32::from(text[0] - b'0'), &text[1..]))
@@ -30,7 +37,9 @@ fn digit(text: &[u8]) -> Option<(u32, &[u8])>
 // A number of at most three digits, and what is behind it.
 #[inline(always)]
 fn number(text: &[u8]) -> Option<(u32, &[u8])>
-    ensures { IfSome result (λ r. BeginsWithNumber text.now r.0 r.1.now) }
+    requires { 3 ≤ length text.now }
+    ensures begins { IfSome result (λ r. BeginsWithNumber text.now r.0 r.1.now) }
+    ensures long { IfSome result (λ r. length text.now ≤ length r.1.now + 3) }
 {
     let (first, rest) = digit(text)?;
     if first == 0 {
@@ -48,6 +57,7 @@ fn number(text: &[u8]) -> Option<(u32, &[u8])>
 // The line of a hart's turn.
 #[inline]
 fn hart_line(text: &[u8]) -> Option<(Turn, &[u8])>
+    requires { SPELLED_BYTES ≤ length text.now }
     ensures { IfSome result (λ r. BeginsWithLine text.now r.0 r.1.now) }
 {
     let mark = behind(text, b'h')?;
@@ -69,7 +79,9 @@ fn hart_line(text: &[u8]) -> Option<(Turn, &[u8])>
 // A letter, a space and the number of a child, and what is behind.
 #[inline(always)]
 fn child(text: &[u8], letter: u8) -> Option<(u32, &[u8])>
-    ensures { IfSome result (λ r. BeginsWithChild text.now letter r.0 r.1.now) }
+    requires { 5 ≤ length text.now }
+    ensures begins { IfSome result (λ r. BeginsWithChild text.now letter r.0 r.1.now) }
+    ensures long { IfSome result (λ r. length text.now ≤ length r.1.now + 5) }
 {
     let space = behind(text, letter)?;
     let last = behind(space, b' ')?;
@@ -80,6 +92,7 @@ fn child(text: &[u8], letter: u8) -> Option<(u32, &[u8])>
 // The line of a bus's turn.
 #[inline]
 fn bus_line(text: &[u8]) -> Option<(Turn, &[u8])>
+    requires { SPELLED_BYTES ≤ length text.now }
     ensures { IfSome result (λ r. BeginsWithLine text.now r.0 r.1.now) }
 {
     let mark = behind(text, b'g')?;
@@ -116,9 +129,10 @@ fn bus_line(text: &[u8]) -> Option<(Turn, &[u8])>
 /// and `None` says nothing.
 #[inline]
 pub(crate) fn spelled_line(text: &[u8]) -> Option<(Turn, &[u8])>
+    requires { SPELLED_BYTES ≤ length text.now }
     ensures { IfSome result (λ r. BeginsWithLine text.now r.0 r.1.now) }
 {
-    if !text.is_empty() && text[0] == b'g' {
+    if text[0] == b'g' {
         bus_line(text)
     } else {
         hart_line(text)

@@ -4,7 +4,7 @@ ghost use Rattle.schedule_log.specs.Standings.{standing_of};
 ghost use Rattle.schedule_log.specs.Steps.{IsLine, StepGives, step_by};
 
 use crate::parts::Parts;
-use crate::spelled::spelled_line;
+use crate::spelled::{SPELLED_BYTES, spelled_line};
 use crate::standing::Standing;
 use crate::words::turn_of_line;
 use ddm_text::{LineCut, cut_line};
@@ -121,6 +121,9 @@ pub(crate) fn first_step(parts: &Parts, lines: u32, made: u32, text: &[u8]) -> S
     requires { lines ≤ 1048576 }
     ensures { StepGives parts.now lines made text.now result }
 {
+    if text.len() < SPELLED_BYTES {
+        return any_step(parts, lines, made, text);
+    }
     match spelled_line(text) {
         Some((turn, rest)) => step_of_turn(parts, lines, made, turn, text.len() - rest.len()),
         None => any_step(parts, lines, made, text),

@@ -1,5 +1,6 @@
 use Rattle.std.proofs.Common.{rules, refl, arith}
 use Rattle.any_machine.specs.Any.{state_in}
+use Rattle.report.proofs.Lines.{output-last}
 use Rattle.report.proofs.Shown as shown
 use Rattle.report.proofs.report_pieces.put_part.Goals as goal
 
@@ -37,6 +38,15 @@ returns-in-Bus g c = shown.bus _ (state_in c.args.machine.now).machine _ _ _ c.r
 
 pub returns-in-Item : goal.returns-in-Item
 returns-in-Item g c = shown.item _ (state_in c.args.machine.now).machine _ _ _ c.requires.given _ _ c.in-Item.item c.in-Item.is c.put_item.ensures refl
+
+pub end_output-requires : goal.end_output-requires
+end_output-requires g c =
+    let put = c.put_output-next.ensures in
+    record {
+      from = shown.output-there _ (state_in c.args.machine.now).machine _ _ _ c.requires.given c.in-Output.hart c.in-Output.from _ c.ops-ops.ensures c.in-Output.is;
+      output = output-last c.in-Output.hart c.in-Output.from c.put_output-next.result c.ops-ops.result.now _ (omega (arith, c.if-next-ops.false)) put.output;
+      room = put.room;
+    }
 
 pub returns-then-next-ops : goal.returns-then-next-ops
 returns-then-next-ops g c =

@@ -1,5 +1,5 @@
 use Rattle.schedule_log.proofs.Spellings.{◌▷◌}
 use Rattle.schedule_log.proofs.spelled.child.Goals as goal
 
-pub returns : goal.returns
-returns c = record { few = c.in_ok-child.ensures.few; front = c.in_ok-space.ensures ▷ c.in_ok-last.ensures ▷ c.in_ok-child.ensures.front }
+pub returns-clause-begins : goal.returns-clause-begins
+returns-clause-begins c = record { few = c.in_ok-child.ensures.begins.few; front = c.in_ok-space.ensures.begins ▷ c.in_ok-last.ensures.begins ▷ c.in_ok-child.ensures.begins.front }

@@ -6,5 +6,5 @@ use Rattle.schedule_log.proofs.spelled.hart_line.Goals as goal
 pub returns : goal.returns
 unfolding turn_text
 returns c =
-    spelled c.args.text.now _ c.in_ok-end.end.now (c.in_ok-hart.ensures.few, omega (arith, c.if-victim-gt255.false))
-    (c.in_ok-mark.ensures ▷ c.in_ok-front.ensures ▷ c.in_ok-hart.ensures.front ▷ c.in_ok-second.ensures ▷ c.in_ok-victim.ensures.front ▷ c.in_ok-end.ensures)
+    spelled c.args.text.now _ c.in_ok-end.end.now (c.in_ok-hart.ensures.begins.few, omega (arith, c.if-victim-gt255.false))
+    (c.in_ok-mark.ensures.begins ▷ c.in_ok-front.ensures.begins ▷ c.in_ok-hart.ensures.begins.front ▷ c.in_ok-second.ensures.begins ▷ c.in_ok-victim.ensures.begins.front ▷ c.in_ok-end.ensures.begins)
