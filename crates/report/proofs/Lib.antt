@@ -1,4 +1,5 @@
 pub mod Decimals
+pub mod HexPairs
 pub mod Lines
 pub mod MachineLines
 pub mod OtherKeys

@@ -1,5 +1,4 @@
 ghost use Rattle.std.specs.Prelude.{◌≡◌, ◌+◌, ◌/◌, ◌%◌, ◌<◌, ◌≤◌, [], ◌∷◌, ◌++◌, OnOk, codes, decimal, false};
-ghost use Rattle.std.specs.Fmt.{digit_glyph};
 ghost use Rattle.ddm_text.specs.Adds.{Adds};
 ghost use Rattle.ddm_text.specs.Hex.{hex2, hex8};
 ghost use Rattle.report.specs.Room.{UsesRoom};
@@ -8,8 +7,23 @@ use crate::buffers::TextBuffer;
 use ddm_text::{MOST_DIGITS, write_digits};
 use ddm_types::NoMemory;
 
-// The digits that numbers are written in.
-static GLYPHS: [u8; 16] = *b"0123456789abcdef";
+// The two digits of each byte, one behind the other.
+static PAIRS: [u8; 512] = *b"000102030405060708090a0b0c0d0e0f\
+    101112131415161718191a1b1c1d1e1f\
+    202122232425262728292a2b2c2d2e2f\
+    303132333435363738393a3b3c3d3e3f\
+    404142434445464748494a4b4c4d4e4f\
+    505152535455565758595a5b5c5d5e5f\
+    606162636465666768696a6b6c6d6e6f\
+    707172737475767778797a7b7c7d7e7f\
+    808182838485868788898a8b8c8d8e8f\
+    909192939495969798999a9b9c9d9e9f\
+    a0a1a2a3a4a5a6a7a8a9aaabacadaeaf\
+    b0b1b2b3b4b5b6b7b8b9babbbcbdbebf\
+    c0c1c2c3c4c5c6c7c8c9cacbcccdcecf\
+    d0d1d2d3d4d5d6d7d8d9dadbdcdddedf\
+    e0e1e2e3e4e5e6e7e8e9eaebecedeeef\
+    f0f1f2f3f4f5f6f7f8f9fafbfcfdfeff";
 
 // The last four decimal digits of a number.
 #[inline(always)]
@@ -82,39 +96,24 @@ pub fn push_decimal<W: TextBuffer>(out: &mut W, n: u64) -> Result<(), NoMemory>
 }
 
 #[inline(always)]
-fn glyph(d: u8) -> u8
-    requires { d < 16 }
-    ensures { result ≡ digit_glyph false d }
-{
-    GLYPHS[d as usize]
-}
-
-#[tactic(auto, unfolding(ddm_text::specs::Hex::hex2))]
-fn hex2_digits(n: u8) -> [u8; 2]
+fn hex2_digits(n: u32) -> [u8; 2]
+    requires { n < 256 }
     ensures { result ≡ hex2 n }
 {
-    [glyph(n / 16), glyph(n % 16)]
+    let at = 2 * n as usize;
+    [PAIRS[at], PAIRS[at + 1]]
 }
 
 #[inline(always)]
-#[tactic(auto, unfolding(ddm_text::specs::Hex::hex8, ddm_text::specs::Hex::hex2))]
+#[tactic(auto, unfolding(ddm_text::specs::Hex::hex8))]
 fn hex8_digits(n: u32) -> [u8; 8]
     ensures { result ≡ hex8 n }
 {
-    let a = (n / 16_777_216) as u8;
-    let b = (n / 65_536 % 256) as u8;
-    let c = (n / 256 % 256) as u8;
-    let d = (n % 256) as u8;
-    [
-        glyph(a / 16),
-        glyph(a % 16),
-        glyph(b / 16),
-        glyph(b % 16),
-        glyph(c / 16),
-        glyph(c % 16),
-        glyph(d / 16),
-        glyph(d % 16),
-    ]
+    let [a, b] = hex2_digits(n / 16_777_216);
+    let [c, d] = hex2_digits(n / 65_536 % 256);
+    let [e, f] = hex2_digits(n / 256 % 256);
+    let [g, h] = hex2_digits(n % 256);
+    [a, b, c, d, e, f, g, h]
 }
 
 /// Puts two hexadecimal digits at the end.
@@ -122,7 +121,7 @@ pub fn push_hex2<W: TextBuffer>(out: &mut W, n: u8) -> Result<(), NoMemory>
     ensures text { OnOk result (Adds (W.text out.old) (W.text out.new) (hex2 n)) }
     ensures room { UsesRoom 2 (W.room out.old) (W.room out.new) result }
 {
-    out.put(&hex2_digits(n))
+    out.put(&hex2_digits(u32::from(n)))
 }
 
 /// Puts eight hexadecimal digits at the end.
