@@ -1,8 +1,7 @@
 -- The bytes of a checkpoint, one part behind the other.
-use Rattle.std.proofs.Common.{◌≡◌, ℕ, ◌+◌, ◌<◌, ◌≤◌, List, [], ◌∷◌, ◌++◌, length, take, drop, get_or, Bool, true, false, if◌then◌else◌, refl, sym, ap, ◌∙◌, append_assoc}
+use Rattle.std.proofs.Common.{◌≡◌, ℕ, ◌+◌, ◌≤◌, List, [], ◌∷◌, ◌++◌, length, take, drop, Bool, true, false, if◌then◌else◌, refl, sym, ap, ◌∙◌, append_assoc}
 use Rattle.std.specs.List.{flat_map}
-use Rattle.std.specs.Int.{w32, to_le_bytes}
-use Rattle.std.proofs.lemmas.List.{drop_all, drop_more, drop-drop, take-append-drop}
+use Rattle.std.proofs.lemmas.List.{drop_all, drop-drop, take-append-drop}
 use Rattle.std.proofs.lemmas.Grind.{flat_map-append}
 use Rattle.ddm_types.specs.declared.operations.Op.{Op}
 use Rattle.tree_model.specs.State.Values.{MachineValue}
@@ -12,13 +11,7 @@ use Rattle.state_words.specs.Machine.{checkpoint_bytes, checkpoint_words, head_w
 use Rattle.ddm_tree.specs.Written.{tree_words}
 use Rattle.checkpoint.specs.Saved.{saved}
 use Rattle.checkpoint.specs.PiecesLeft.{bytes_left, front_words}
-
-abbrev bytes_of : List ℕ → List ℕ
-bytes_of ws = flat_map (to_le_bytes w32) ws
-
--- words, and others behind them
-pub bytes-append : (some more : List ℕ) → bytes_of (some ++ more) ≡ bytes_of some ++ bytes_of more
-bytes-append some more = flat_map-append (to_le_bytes w32) some more
+use Rattle.checkpoint.proofs.WordBytes.{bytes_of, bytes-append}
 
 module _ (given : ℕ) (front : List ℕ) (done : ℕ) (ops : List Op) (ended : Bool) where
   -- the next words
@@ -33,15 +26,17 @@ module _ (given : ℕ) (front : List ℕ) (done : ℕ) (ops : List Op) (ended : 
       ap (λ l. l ++ operations ++ end) cut ∙ ap (λ l. l ++ end) (append_assoc some rest operations) ∙ append_assoc some (rest ++ operations) end in
       ap bytes_of parts ∙ bytes-append some (rest ++ operations ++ end)
 
-  -- the next operation
-  pub operation-more : (o : Op) → length front ≤ given → done < length ops → bytes_left given front done ops ended ≡ bytes_of (op_words (get_or ops done o)) ++ bytes_left given front (done + 1) ops ended
-  operation-more o past inside =
+  -- the next operations
+  pub operations-more : (n : ℕ) → length front ≤ given → bytes_left given front done ops ended ≡ bytes_of (flat_map op_words (take n (drop done ops))) ++ bytes_left given front (done + n) ops ended
+  operations-more n past =
       let end = if ended then [] else 0x454d4444 ∷ [] in
-      let first = op_words (get_or ops done o) in
-      let rest = flat_map op_words (drop (done + 1) ops) in
-      let parts : drop given front ++ flat_map op_words (drop done ops) ++ end ≡ first ++ (drop given front ++ rest ++ end) =
-      rw (drop_all given front past) (ap (λ l. flat_map op_words l ++ end) (drop_more ops done o inside) ∙ append_assoc first rest end) in
-      ap bytes_of parts ∙ bytes-append first (drop given front ++ rest ++ end)
+      let some = take n (drop done ops) in
+      let rest = drop (done + n) ops in
+      let cut : drop done ops ≡ some ++ rest = sym (take-append-drop n (drop done ops)) ∙ ap (λ l. some ++ l) (drop-drop n done ops) in
+      let words : flat_map op_words (drop done ops) ≡ flat_map op_words some ++ flat_map op_words rest = ap (flat_map op_words) cut ∙ flat_map-append op_words some rest in
+      let parts : drop given front ++ flat_map op_words (drop done ops) ++ end ≡ flat_map op_words some ++ (drop given front ++ flat_map op_words rest ++ end) =
+      rw (drop_all given front past) (ap (λ l. l ++ end) words ∙ append_assoc (flat_map op_words some) (flat_map op_words rest) end) in
+      ap bytes_of parts ∙ bytes-append (flat_map op_words some) (drop given front ++ flat_map op_words rest ++ end)
 
 -- the end word
 pub end-more : (given : ℕ) (front : List ℕ) (done : ℕ) (ops : List Op) → length front ≤ given → length ops ≤ done → bytes_left given front done ops false ≡ bytes_of (0x454d4444 ∷ []) ++ bytes_left given front done ops true

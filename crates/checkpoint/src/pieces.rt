@@ -20,6 +20,9 @@ const END: u32 = 0x454d_4444;
 /// The most words of which a line has the bytes.
 const LINE_WORDS: usize = LINE_BYTES / 4;
 
+/// The most operations of which a line has the bytes: each has 15 words.
+const LINE_OPERATIONS: usize = LINE_WORDS / 15;
+
 /// The checkpoint of a machine, given piece by piece. A contract sees the bytes that are left.
 #[derive(Drop)]
 pub struct CheckpointPieces<'a> {
@@ -45,7 +48,8 @@ impl<'a> Model for CheckpointPieces<'a> {
 /// Puts the bytes of words at the end, of each the least first.
 fn put_words(line: &mut Line, words: &[u32])
     requires { length line.old + 4 * length words.now ≤ LINE_BYTES }
-    ensures { line.new ≡ line.old ++ flat_map (to_le_bytes w32) words.now }
+    ensures bytes { line.new ≡ line.old ++ flat_map (to_le_bytes w32) words.now }
+    ensures long { length line.new ≡ length line.old + 4 * length words.now }
 {
     for word in words {
         line.push(&word.to_le_bytes());
@@ -53,13 +57,27 @@ fn put_words(line: &mut Line, words: &[u32])
 }
 
 /// Puts the bytes of an operation at the end.
+#[inline(always)]
 fn put_operation(line: &mut Line, op: Op)
-    requires { line.old ≡ [] }
-    ensures { line.new ≡ flat_map (to_le_bytes w32) (op_words op) }
+    requires { length line.old + 60 ≤ LINE_BYTES }
+    ensures bytes { line.new ≡ line.old ++ flat_map (to_le_bytes w32) (op_words op) }
+    ensures long { length line.new ≡ length line.old + 60 }
 {
     put_words(line, &key_words(op.key));
     put_words(line, &[op.hart.0, op.pc]);
     put_words(line, &effect_words(op.effect));
+}
+
+/// Puts the bytes of operations into the empty line.
+fn put_operations(line: &mut Line, ops: &[Op])
+    requires empty { line.old ≡ [] }
+    requires few { length ops.now ≤ LINE_OPERATIONS }
+    ensures bytes { line.new ≡ flat_map (to_le_bytes w32) (flat_map op_words ops.now) }
+    ensures long { length line.new ≡ 60 * length ops.now }
+{
+    for op in ops {
+        put_operation(line, *op);
+    }
 }
 
 impl<'a> CheckpointPieces<'a> {
@@ -93,8 +111,9 @@ impl<'a> Parts for CheckpointPieces<'a> {
             put_words(line, &self.front[self.words_given..end]);
             self.words_given = end;
         } else if self.ops_given < self.ops.len() {
-            put_operation(line, self.ops[self.ops_given]);
-            self.ops_given += 1;
+            let end = self.ops.len().min(self.ops_given + LINE_OPERATIONS);
+            put_operations(line, &self.ops[self.ops_given..end]);
+            self.ops_given = end;
         } else if !self.is_ended {
             put_words(line, &[END]);
             self.is_ended = true;
