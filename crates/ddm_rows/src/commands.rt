@@ -1,31 +1,11 @@
 //! What each command puts out, on one leaf.
 
-use crate::answers::{RUN, TRACE, ask, has_start, line_number, missing, output, traced};
-use crate::files::{
-    Files, TreeFile, image, load_and_exit, one_leaf, schedule, store_and_load, text_of, tree,
+use asked_commands::answers::{RUN, TRACE, ask, has_start, line_number, missing, output, traced};
+use asked_commands::files::{
+    Files, STORED_AND_LOADED, TreeFile, image, load_and_exit, one_leaf, schedule, store_and_load,
+    text_of, tree,
 };
 use std::test::Fail;
-
-/// The report of `store_and_load` after its eight turns.
-pub const STORED_AND_LOADED: &[&str] = &[
-    "ddm 1",
-    "turns 8 retired 6 granted 0 busy 0",
-    "hart 0 exit 7 pc 00010018 done 6",
-    "regs 0 00000000 00030010 00000000 00000000 00020000 00000007 00000007 00000000 00000000 00000007 00000001 00000000 00000000 00000000 00000000 00000000 0000005d 00000000 00000000 00000000 00000000 00000000 00000000 00000000 00000000 00000000 00000000 00000000 00000000 00000000 00000000",
-    "out 0 -",
-    "bus 0 read 0 data 0 erase 0 exclusive 0 out 0 inject 0",
-    "item 0 00010000 000202b7 00700313 0062a023 0002a383 leaf 0 way 0 E",
-    "item 1 00010010 05d00893 00038513 00000073 00000000 leaf 0 way 1 E",
-    "item 2 00020000 00000007 00000000 00000000 00000000 leaf 0 way 2 E",
-    "item 3 00030000 00000000 00000000 00000000 00000000 leaf 0 way 3 E",
-    "op 0 0.0.0 00010000 plain",
-    "op 0 0.0.1 00010004 plain",
-    "op 0 0.0.2 00010008 store 00020000 00000000 00000007",
-    "op 0 0.0.3 0001000c load 00020000 00000007",
-    "op 0 0.0.4 00010010 plain",
-    "op 0 0.0.5 00010014 plain",
-    "end",
-];
 
 #[test]
 fn store_and_load_back(rt: HostRuntime) -> Result<(), Fail> {

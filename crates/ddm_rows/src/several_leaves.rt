@@ -1,7 +1,7 @@
 //! Leaves that share items: what each turn answers, and what is left. Hart and leaf have one number, and bus 0 is the top's.
 
-use crate::answers::{RUN, Turn, has_start, line_number, missing, output, traced};
-use crate::files::{
+use asked_commands::answers::{RUN, Turn, has_start, line_number, missing, output, traced};
+use asked_commands::files::{
     Files, TreeFile, add_to_one_word, image, load_and_exit, load_two_words, schedule, text_of,
     tree, word_and_flag,
 };

@@ -1,7 +1,7 @@
 //! What the runs of many seeds come to.
 
-use crate::answers::{ask, ask_with, output, shelf, sink};
-use crate::files::{Files, code_segment, image_of, store_and_load, tree};
+use asked_commands::answers::{ask, ask_with, output, shelf, sink};
+use asked_commands::files::{Files, code_segment, image_of, store_and_load, tree};
 use ddm_cli::code;
 use std::alloc::Global;
 use std::test::Fail;

@@ -1,8 +1,8 @@
 //! Lists, buffers and parkings of one place each: whatever the schedule, the flat machine makes the operations of the witness, each
 //! with its effect.
 
-use crate::answers::output;
-use crate::files::{Files, TreeFile, load_two_words, tree};
+use asked_commands::answers::output;
+use asked_commands::files::{Files, TreeFile, load_two_words, tree};
 use ddm_types::Start;
 use elf_load::load;
 use std::alloc::Global;

@@ -1,9 +1,0 @@
-use Rattle.std.proofs.Common.{rules, subst}
-use Rattle.rv_hart.specs.Steps.{IsReady}
-use Rattle.rv_hart.proofs.Ready.{ready_unless_halt}
-use Rattle.part_tests.proofs.with_rv_hart.finished.Goals as goal
-
-pub finish-effect-requires : goal.finish-effect-requires
-finish-effect-requires c =
-    let ready = subst IsReady c.ask.ensures (ready_unless_halt _ c.in_default.not-Halt) in
-    (search rules, (search rules, (ready, (search rules, search rules))))
