@@ -1,6 +1,6 @@
 use crate::cluster::Cluster;
 use bus_judging::ChildFace;
-use ddm_tree::{Found, Named, Quiet, Section, Subtree};
+use ddm_tree::{Found, Named, Section, Subtree};
 use ddm_types::{
     BusNo, ChildNo, Code, Hold, ItemId, Items, LeafNo, LeafState, NoMemory, Stamp, Turn,
     TurnAnswer, Words,
@@ -32,10 +32,6 @@ impl<const WAYS: usize, const WORDS: usize> Subtree<WORDS> for Cluster<WAYS, WOR
 
     fn grants_below(&self, bus: BusNo, path: &[ChildNo], turn: BusTurn) -> bool {
         self.dir.grants_below(bus, path, turn)
-    }
-
-    fn quiet_below(&self, path: &[ChildNo]) -> Quiet {
-        self.dir.quiet_below(path)
     }
 
     fn path_up(&self, alloc: Global, name: &Named) -> Result<Option<Vec<ChildNo>>, NoMemory> {

@@ -13,7 +13,6 @@ use crate::found::{Found, found_among, own_copy};
 use crate::judging::broken_under;
 use crate::named::Named;
 use crate::paths::path_up_under;
-use crate::quiet::{Quiet, quiet_under};
 use crate::read_back::read_under;
 use crate::section::Section;
 use crate::stamps::stamps_fit_under;
@@ -158,10 +157,6 @@ impl<const WORDS: usize, C: Subtree<WORDS>> Subtree<WORDS> for Dir<WORDS, C> {
 
     fn grants_below(&self, bus: BusNo, path: &[ChildNo], turn: BusTurn) -> bool {
         grants_under(&self.state, &self.children, bus, path, turn)
-    }
-
-    fn quiet_below(&self, path: &[ChildNo]) -> Quiet {
-        quiet_under(&self.state, &self.children, path)
     }
 
     fn path_up(&self, alloc: Global, name: &Named) -> Result<Option<Vec<ChildNo>>, NoMemory> {

@@ -1,6 +1,5 @@
 use crate::found::{Found, place_at};
 use crate::named::Named;
-use crate::quiet::{NOTHING, Quiet};
 use crate::section::Section;
 use crate::subtree::Subtree;
 use crate::turns::{key_on, victim};
@@ -37,10 +36,6 @@ impl<const WAYS: usize, const WORDS: usize> Subtree<WORDS> for Leaf<WAYS, WORDS>
 
     fn grants_below(&self, _bus: BusNo, _path: &[ChildNo], _turn: BusTurn) -> bool {
         false
-    }
-
-    fn quiet_below(&self, _path: &[ChildNo]) -> Quiet {
-        NOTHING
     }
 
     fn path_up(&self, alloc: Global, name: &Named) -> Result<Option<Vec<ChildNo>>, NoMemory> {

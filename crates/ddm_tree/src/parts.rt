@@ -16,7 +16,6 @@ ghost use Rattle.ddm_tree.specs.Rules.{KeepsRules};
 use crate::idle::{Idle, forget_all};
 use crate::machine::{Machine, path_of};
 use crate::named::Named;
-use crate::quiet::{Quiet, forget_quiet};
 use crate::read_back::read_under;
 use crate::section::Section;
 use crate::subtree::Subtree;
@@ -40,8 +39,6 @@ pub struct Parts<const WORDS: usize, C: Subtree<WORDS>> {
     pub(crate) bus_paths: Vec<Vec<ChildNo>>,
     /// A place for each leaf, for the machine that is put together.
     pub(crate) idle: Vec<Option<Idle>>,
-    /// A place for each number, in the same way.
-    pub(crate) quiet: Vec<Quiet>,
 }
 
 impl<const WORDS: usize, C: Subtree<WORDS>> Model for Parts<WORDS, C> {
@@ -117,7 +114,6 @@ impl<const WORDS: usize, C: Subtree<WORDS>> Machine<WORDS, C> {
             leaf_paths: self.leaf_paths,
             bus_paths: self.bus_paths,
             idle: self.idle,
-            quiet: self.quiet,
         }
     }
 }
@@ -133,8 +129,6 @@ impl<const WORDS: usize, C: Subtree<WORDS> + Drop> Parts<WORDS, C> {
     {
         let mut idle = self.idle;
         forget_all(&mut idle);
-        let mut quiet = self.quiet;
-        forget_quiet(&mut quiet);
         Machine {
             top: self.top,
             children: self.children,
@@ -146,7 +140,6 @@ impl<const WORDS: usize, C: Subtree<WORDS> + Drop> Parts<WORDS, C> {
             leaf_paths: self.leaf_paths,
             bus_paths: self.bus_paths,
             idle,
-            quiet,
             spare: 0,
             turns: 1_048_576,
         }

@@ -16,7 +16,6 @@ ghost use Rattle.ddm_tree.specs.Path.{path_to, node_at, present_at, put_at, node
 ghost use Rattle.tree_rules.specs.Bus.Faces.{child_face};
 ghost use Rattle.ddm_tree.specs.Judging.{IsJudged, node_broken};
 ghost use Rattle.ddm_tree.specs.Named.{name_of};
-ghost use Rattle.ddm_tree.specs.Quiet.{IsQuietOf};
 ghost use Rattle.ddm_tree.specs.Ready.{IsAskable, IsReady, Leads, LeadsBelow, HasChild, IsChild, IsItemIn, IsItemOf};
 ghost use Rattle.ddm_tree.specs.Reads.{node_hart, node_entry, node_children, node_child, node_child_hold, node_down, node_down_len, node_grants, node_parked};
 ghost use Rattle.ddm_tree.specs.Stamps.{node_stamps_fit};
@@ -25,7 +24,6 @@ ghost use Rattle.ddm_tree.specs.Written.{node_dir_words, node_words};
 
 use crate::found::Found;
 use crate::named::Named;
-use crate::quiet::Quiet;
 use crate::section::Section;
 use bus_judging::ChildFace;
 use ddm_types::{
@@ -70,11 +68,6 @@ pub trait Subtree<const WORDS: usize>: Agent<WORDS> {
         requires leads { LeadsBelow (bus_of_number bus) path.now (Self.value self.now) }
         requires child { HasChild turn (node_at path.now (Self.value self.now)) }
         ensures { (above : Stamp) → result ≡ node_grants above turn (node_at path.now (Self.value self.now)) };
-
-    /// What the bus at a path's end is quiet of; nothing where no bus is there.
-    fn quiet_below(&self, path: &[ChildNo]) -> Quiet
-        requires { WORDS < 2 ^ 32 }
-        ensures { IsQuietOf result (node_at path.now (Self.value self.now)) };
 
     /// The path from here to a leaf or a bus, from its end on; None where it isn't in this part.
     fn path_up(&self, alloc: Global, name: &Named) -> Result<Option<Vec<ChildNo>>, NoMemory>
