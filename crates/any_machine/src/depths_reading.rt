@@ -6,9 +6,8 @@ ghost use Rattle.tree_model.specs.Turns.Machine.{child_count, names_part, turn_o
 ghost use Rattle.tree_model.specs.Turns.Tree.{bus_of_number, leaf_of_number};
 ghost use Rattle.split_bus.specs.Outcomes.{is_granted};
 ghost use Rattle.ddm_tree.specs.Machine.{is_part};
-ghost use Rattle.ddm_tree.specs.Reads.{counted_hart_of, is_down_request_or_reply};
+ghost use Rattle.ddm_tree.specs.Reads.{counted_hart_of, is_down_request_or_reply, state_of};
 ghost use Rattle.ddm_tree.specs.Rules.{KeepsRules};
-ghost use Rattle.inspector.specs.States.{state_of};
 ghost use Rattle.any_machine.specs.Any.{depths_state};
 
 use crate::machine::Depths;
@@ -73,6 +72,7 @@ fn find_over<const WORDS: usize, C: Subtree<WORDS>>(
     find(machine, item)
 }
 
+#[inline(always)]
 fn state_over<const WORDS: usize, C: Subtree<WORDS>>(
     machine: &Machine<WORDS, Dir<WORDS, C>>,
     item: ItemId,
@@ -183,6 +183,7 @@ impl<const WAYS: usize, const WORDS: usize> Depths<WAYS, WORDS> {
     }
 
     /// The state of a leaf's entry of an item.
+    #[inline(always)]
     pub fn state(&self, item: ItemId, leaf: LeafNo) -> Option<LeafState>
         requires small { WORDS ≤ 16 }
         requires leaf { is_part (leaf_of_number leaf) (depths_state self.now).machine ≡ true }

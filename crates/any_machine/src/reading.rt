@@ -6,9 +6,8 @@ ghost use Rattle.tree_model.specs.Turns.Machine.{child_count, names_part, turn_o
 ghost use Rattle.tree_model.specs.Turns.Tree.{bus_of_number, leaf_of_number};
 ghost use Rattle.split_bus.specs.Outcomes.{is_granted};
 ghost use Rattle.ddm_tree.specs.Machine.{is_part};
-ghost use Rattle.ddm_tree.specs.Reads.{counted_hart_of, is_down_request_or_reply};
+ghost use Rattle.ddm_tree.specs.Reads.{counted_hart_of, is_down_request_or_reply, state_of};
 ghost use Rattle.ddm_tree.specs.Rules.{KeepsRules};
-ghost use Rattle.inspector.specs.States.{state_of};
 ghost use Rattle.any_machine.specs.Any.{machine_state, state_in};
 
 use crate::machine::{AnyMachine, Machines};
@@ -87,6 +86,7 @@ impl<const WORDS: usize> Machines<WORDS> {
     }
 
     /// The state of a leaf's entry of an item.
+    #[inline(always)]
     pub fn state(&self, item: ItemId, leaf: LeafNo) -> Option<LeafState>
         requires small { WORDS ≤ 16 }
         requires leaf { is_part (leaf_of_number leaf) (state_in self.now).machine ≡ true }
@@ -159,6 +159,7 @@ impl AnyMachine {
     }
 
     /// The state of a leaf's entry of an item.
+    #[inline(always)]
     pub fn state(&self, item: ItemId, leaf: LeafNo) -> Option<LeafState>
         requires leaf { is_part (leaf_of_number leaf) (machine_state self.now).machine ≡ true }
         requires item { item < item_count (machine_state self.now).machine.items }

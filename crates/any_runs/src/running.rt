@@ -12,24 +12,29 @@ use ddm_tree::{Dir, Machine, Subtree};
 use ddm_types::{NoMemory, Turn, TurnAnswer};
 use text_model::RunCounts;
 
-/// One turn, counted.
+/// One turn, counted. Its answer is put where the caller wants it, if it is kept.
 #[inline(always)]
 fn counted_turn<const WORDS: usize, C: Subtree<WORDS>>(
     machine: &mut Machine<WORDS, C>,
     turn: Turn,
     counts: &mut RunCounts,
     answer: &mut TurnAnswer,
+    keep: bool,
 )
     requires named { names_part turn machine.old.machine ≡ true }
     requires spare { 0 < machine.old.spare }
     requires turns { machine.old.turns < 4294967295 }
     requires counts { AreBelow 4294967295 counts.old }
-    ensures answer { answer.new ≡ (turn_of turn machine.old.machine).answer }
+    ensures answer { keep ≡ true → answer.new ≡ (turn_of turn machine.old.machine).answer }
     ensures after { machine.new ≡ state_after turn machine.old }
     ensures counts { counts.new ≡ counted_answer (turn_of turn machine.old.machine).answer counts.old }
 {
-    machine.turn_into(turn, answer);
-    count(counts, answer);
+    if !keep && machine.pass(&turn) {
+        counts.turns += 1;
+    } else {
+        machine.turn_into(turn, answer);
+        count(counts, answer);
+    }
 }
 
 /// Puts an answer behind the others, where there is memory for it.
@@ -73,7 +78,7 @@ fn run_turns<const WORDS: usize, C: Subtree<WORDS>>(
     let mut counts = no_counts();
     let mut answer = TurnAnswer::Empty;
     for turn in turns {
-        counted_turn(machine, *turn, &mut counts, &mut answer);
+        counted_turn(machine, *turn, &mut counts, &mut answer, keep);
         keep_answer(answers, &answer, keep);
     }
     counts

@@ -1,6 +1,6 @@
 use crate::cluster::Cluster;
 use bus_judging::ChildFace;
-use ddm_tree::{Found, Named, Section, Subtree};
+use ddm_tree::{Found, Named, Quiet, Section, Subtree};
 use ddm_types::{
     BusNo, ChildNo, Code, Hold, ItemId, Items, LeafNo, LeafState, NoMemory, Stamp, Turn,
     TurnAnswer, Words,
@@ -34,6 +34,10 @@ impl<const WAYS: usize, const WORDS: usize> Subtree<WORDS> for Cluster<WAYS, WOR
         self.dir.grants_below(bus, path, turn)
     }
 
+    fn quiet_below(&self, path: &[ChildNo]) -> Quiet {
+        self.dir.quiet_below(path)
+    }
+
     fn path_up(&self, alloc: Global, name: &Named) -> Result<Option<Vec<ChildNo>>, NoMemory> {
         self.dir.path_up(alloc, name)
     }
@@ -53,6 +57,11 @@ impl<const WAYS: usize, const WORDS: usize> Subtree<WORDS> for Cluster<WAYS, WOR
         item: ItemId,
     ) -> Option<(LeafState, Words<WORDS>, LeafSpot)> {
         self.dir.entry_below(leaf, path, item)
+    }
+
+    #[inline(always)]
+    fn state_below(&self, leaf: LeafNo, path: &[ChildNo], item: ItemId) -> Option<LeafState> {
+        self.dir.state_below(leaf, path, item)
     }
 
     fn children_below(&self, bus: BusNo, path: &[ChildNo]) -> u32 {

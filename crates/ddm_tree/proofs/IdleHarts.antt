@@ -111,7 +111,7 @@ module _ (code : List CodeWord) (items : ItemTable) (now : Key) (victim : ℕ) (
 -- ---- a node that is changed along a path, and the others
 
 -- what stands so deep below two nodes is the same
-abbrev SameFrom : ℕ → Node → Node → Type 0
+abbrev pub SameFrom : ℕ → Node → Node → Type 0
 SameFrom depth n m = (r : List ℕ) → depth ≤ length r → node_at r m ≡ node_at r n
 
 -- a path from the changed node on, or a node that isn't changed
@@ -121,13 +121,13 @@ IsBeyond depth p q = (r : List ℕ) × (q ≡ p ++ r) × (length r < depth)
 beyond-more : (depth i : ℕ) (p q : List ℕ) → IsBeyond depth p q → IsBeyond depth (i ∷ p) (i ∷ q)
 beyond-more depth i p q b = (b.0, ap (λ r. i ∷ r) b.1, b.2)
 
-kid-same : (i : ℕ) (ns : List Node) (n : Node) → i < length ns → child_at i (slice_set ns i n) ≡ n
+pub kid-same : (i : ℕ) (ns : List Node) (n : Node) → i < length ns → child_at i (slice_set ns i n) ≡ n
 kid-same i ns n inside = get_or-set_same ns i n no_node inside
 
-kid-other : (i j : ℕ) (ns : List Node) (n : Node) → j ≢ i → child_at j (slice_set ns i n) ≡ child_at j ns
+pub kid-other : (i j : ℕ) (ns : List Node) (n : Node) → j ≢ i → child_at j (slice_set ns i n) ≡ child_at j ns
 kid-other i j ns n other = get_or-set_other ns i j n no_node other
 
-put-kids : (i : ℕ) (p q : List ℕ) (j : ℕ) (d : DirValue) (ns : Nodes) (new : Node) → node_at (j ∷ q) (put_at (i ∷ p) new (dir_node d ns)) ≡ node_at q (child_at j (slice_set (children ns) i (put_at p new (child_at i (children ns)))))
+pub put-kids : (i : ℕ) (p q : List ℕ) (j : ℕ) (d : DirValue) (ns : Nodes) (new : Node) → node_at (j ∷ q) (put_at (i ∷ p) new (dir_node d ns)) ≡ node_at q (child_at j (slice_set (children ns) i (put_at p new (child_at i (children ns)))))
 put-kids i p q j d ns new = ap (λ ms. node_at q (child_at j ms)) (children-nodes (slice_set (children ns) i (put_at p new (child_at i (children ns)))))
 
 module _ (depth : ℕ) (new : Node) where
@@ -166,7 +166,7 @@ put-same (i ∷ p) (dir_node d ns) =
 
 -- ---- what a turn leaves below the node that it changes
 
-leaf-same_from : (v w : LeafValue) → SameFrom 1 (leaf_node v) (leaf_node w)
+pub leaf-same_from : (v w : LeafValue) → SameFrom 1 (leaf_node v) (leaf_node w)
 leaf-same_from v w [] deep = absurd (omega arith)
 leaf-same_from v w (i ∷ r) deep = refl
 
@@ -187,7 +187,7 @@ kept-at (x ∷ xs) (y ∷ ys) (suc c) same =
     let rest : map kept_of ys ≡ map kept_of xs = cc in
     kept-at xs ys c rest
 
-bus-same_from : (d e : DirValue) (ns : Nodes) (kids : List Node) → map kept_of kids ≡ map kept_of (children ns) → SameFrom 2 (dir_node d ns) (dir_node e (nodes kids))
+pub bus-same_from : (d e : DirValue) (ns : Nodes) (kids : List Node) → map kept_of kids ≡ map kept_of (children ns) → SameFrom 2 (dir_node d ns) (dir_node e (nodes kids))
 bus-same_from d e ns kids same [] deep = absurd (omega arith)
 bus-same_from d e ns kids same (i ∷ []) deep = absurd (omega arith)
 bus-same_from d e ns kids same (i ∷ j ∷ r) deep =
@@ -196,10 +196,10 @@ bus-same_from d e ns kids same (i ∷ j ∷ r) deep =
 
 -- ---- what a name leads to
 
-abbrev Leaf : Node → Type 0
+abbrev pub Leaf : Node → Type 0
 Leaf n = (v : LeafValue) × (n ≡ leaf_node v)
 
-abbrev Dir : Node → Type 0
+abbrev pub Dir : Node → Type 0
 Dir n = (d : DirValue) × (ns : Nodes) × (n ≡ dir_node d ns)
 
 named-leaf : (k : ℕ) (n : Node) → is_named (leaf_of_number k) n ≡ true → Leaf n
@@ -210,13 +210,13 @@ named-dir : (k : ℕ) (n : Node) → is_named (bus_of_number k) n ≡ true → D
 named-dir k (leaf_node v) e = cc
 named-dir k (dir_node d ns) e = (d, ns, refl)
 
-leads-named : (name : Name) (p : List ℕ) (n : Node) → Leads name p n → is_named name (node_at p n) ≡ true
+pub leads-named : (name : Name) (p : List ℕ) (n : Node) → Leads name p n → is_named name (node_at p n) ≡ true
 leads-named name p n leads = (along name (λ (w : Where) (m : Node). m) (λ (w : Where) (m : Node). m) at_top p n leads).named
 
 pub leads-leaf : (k : ℕ) (p : List ℕ) (n : Node) → Leads (leaf_of_number k) p n → Leaf (node_at p n)
 leads-leaf k p n leads = named-leaf k (node_at p n) (leads-named (leaf_of_number k) p n leads)
 
-leads-dir : (k : ℕ) (p : List ℕ) (n : Node) → Leads (bus_of_number k) p n → Dir (node_at p n)
+pub leads-dir : (k : ℕ) (p : List ℕ) (n : Node) → Leads (bus_of_number k) p n → Dir (node_at p n)
 leads-dir k p n leads = named-dir k (node_at p n) (leads-named (bus_of_number k) p n leads)
 
 leads-once : (name : Name) (p q : List ℕ) (n : Node) → Leads name p n → Leads name q n → q ≡ p
@@ -273,7 +273,7 @@ outcome-ungranted d ns nothing_there e = refl
 outcome-ungranted d ns (refused cause) e = refl
 outcome-ungranted d ns (granted g) e = cc
 
-step-ungranted : (above : Stamp) (t : BusTurn) (d : DirValue) (ns : List Node) → is_granted (bus_step above t d ns).answer ≡ false → dir_node (bus_step above t d ns).parent (nodes (bus_step above t d ns).kids) ≡ dir_node d (nodes ns)
+pub step-ungranted : (above : Stamp) (t : BusTurn) (d : DirValue) (ns : List Node) → is_granted (bus_step above t d ns).answer ≡ false → dir_node (bus_step above t d ns).parent (nodes (bus_step above t d ns).kids) ≡ dir_node d (nodes ns)
 unfolding bus_step
 step-ungranted above t d ns e = outcome-ungranted d ns (bus_judged above d ns t) e
 

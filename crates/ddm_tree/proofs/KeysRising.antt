@@ -88,12 +88,12 @@ less-same m o p e = ap (λ b. not (key_less o.key p.key || b)) e ∙ not-or (key
     not-or true = refl
     not-or false = refl
 
-set-here : {X : Type 0} (xs : List X) (k : ℕ) (x : X) → k < length xs → slice_get (slice_set xs k x) k ≡ Some x
+pub set-here : {X : Type 0} (xs : List X) (k : ℕ) (x : X) → k < length xs → slice_get (slice_set xs k x) k ≡ Some x
 set-here [] k x below = absurd (omega (arith, below))
 set-here (y ∷ ys) zero x below = refl
 set-here (y ∷ ys) (suc k) x below = set-here ys k x (omega (arith, below))
 
-set-other : {X : Type 0} (xs : List X) (k j : ℕ) (x : X) → j ≢ k → slice_get (slice_set xs k x) j ≡ slice_get xs j
+pub set-other : {X : Type 0} (xs : List X) (k j : ℕ) (x : X) → j ≢ k → slice_get (slice_set xs k x) j ≡ slice_get xs j
 set-other [] k j x apart = refl
 set-other (y ∷ ys) zero zero x apart = absurd (apart refl)
 set-other (y ∷ ys) zero (suc j) x apart = refl

@@ -19,6 +19,16 @@ pub mod Asking
 pub mod Copies
 pub mod Written
 pub mod IdleHarts
+pub mod QuietFrame
+pub mod QuietSteps
+pub mod QuietTable
+pub mod QuietHarts
+pub mod QuietPass
+pub mod QuietIndex
+pub mod QuietBlank
+pub mod QuietColumns
+pub mod QuietNear
+pub mod QuietTurns
 pub mod JudgedItems
 pub mod StampsInOrder
 pub mod StampsJudged

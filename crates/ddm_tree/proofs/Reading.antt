@@ -20,7 +20,7 @@ use Rattle.item_states.specs.Parts.{node_items}
 use Rattle.ddm_tree.specs.Machine.{IsMachine, is_part, listed_path}
 use Rattle.ddm_tree.specs.Path.{node_at, present_at}
 use Rattle.ddm_tree.specs.Ready.{IsChild, IsItemOf, Leads}
-use Rattle.ddm_tree.specs.Reads.{node_hart, node_entry, node_children, node_child, node_child_hold, node_down, node_down_len, node_parked, copy_pair, counted_hart_of, down_len_of, entry_at, parked_at}
+use Rattle.ddm_tree.specs.Reads.{node_hart, node_entry, node_children, node_child, node_child_hold, node_down, node_down_len, node_parked, copy_pair, node_state, counted_hart_of, down_len_of, entry_at, parked_at, state_of}
 use Rattle.ddm_tree.proofs.Along.{along, where_end, where_end-path, where_end-present, some_if-same}
 use Rattle.ddm_tree.proofs.Descend.{leads-child, within-child}
 use Rattle.ddm_tree.proofs.Names.{bus-there, path-there}
@@ -90,6 +90,13 @@ module _ (m : MachineValue) (leaf : ℕ) (path : List ℕ) (leads : Leads (leaf_
       entry-node : (w : Where) (n : Node) → node_entry x n ≡ of_leaf (λ w v. node_entry x (leaf_node v)) None w n
       entry-node w (leaf_node v) = refl
       entry-node w (dir_node d ns) = refl
+
+  pub state-is : (x : ℕ) → Some (node_state x (node_at path (root_of m))) ≡ state_of leaf x m
+  state-is x = ap Some (state-node (where_end at_top path (root_of m)) (node_at path (root_of m))) ∙ read-is m (leaf_of_number leaf) path leads (of_leaf (λ w v. node_state x (leaf_node v)) None)
+    where
+      state-node : (w : Where) (n : Node) → node_state x n ≡ of_leaf (λ w v. node_state x (leaf_node v)) None w n
+      state-node w (leaf_node v) = refl
+      state-node w (dir_node d ns) = refl
 
 module _ (m : MachineValue) (bus : ℕ) (path : List ℕ) (leads : Leads (bus_of_number bus) path (root_of m)) where
   pub children-is : Some (node_children (node_at path (root_of m))) ≡ child_count bus m

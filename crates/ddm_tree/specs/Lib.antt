@@ -10,6 +10,7 @@ pub mod Holders
 pub mod Copying
 pub mod Written
 pub mod Idle
+pub mod Quiet
 pub mod Judging
 pub mod Stamps
 pub mod Keys

@@ -14,7 +14,7 @@ use Rattle.tree_model.specs.declared.TreeChild.{TreeChild}
 use Rattle.tree_model.specs.State.Lists.{first_some}
 use Rattle.tree_model.specs.State.Values.{DownValue, DirValue, Node, leaf_node, dir_node, children, MachineValue}
 use Rattle.tree_model.specs.State.Blank.{no_hart}
-use Rattle.tree_model.specs.State.Leaf.{LeafEntry, leaf_entry, spot_at}
+use Rattle.tree_model.specs.State.Leaf.{LeafEntry, leaf_entry, spot_at, state_at}
 use Rattle.tree_model.specs.State.Directory.{parked_words, parked_place, queue_of}
 use Rattle.tree_model.specs.State.Child.{child_label, child_hold}
 use Rattle.tree_model.specs.Turns.Bus.{bus_step}
@@ -37,6 +37,11 @@ entry_triple None spot = None
 abbrev pub node_entry : ℕ → Node → Option (LeafState × List ℕ × LeafSpot)
 node_entry x (leaf_node v) = entry_triple (leaf_entry x v) (spot_at x v.ways v.buffer)
 node_entry x (dir_node d ns) = None
+
+-- the state of a leaf's entry of an item
+abbrev pub node_state : ℕ → Node → Option LeafState
+node_state x (leaf_node v) = state_at x v
+node_state x (dir_node d ns) = None
 
 -- how many children there are, and one of them
 abbrev pub node_children : Node → ℕ
@@ -100,6 +105,10 @@ counted_hart_of leaf m = ask_leaf leaf (λ w v. record { hart = v.hart; done = v
 -- a leaf's entry of an item, with its words, and where it stands
 abbrev pub entry_at : ℕ → ℕ → MachineValue → Option (Option (LeafState × List ℕ × LeafSpot))
 entry_at leaf x m = ask_leaf leaf (λ w v. entry_triple (leaf_entry x v) (spot_at x v.ways v.buffer)) None m
+
+-- the state of that entry
+abbrev pub state_of : ℕ → ℕ → MachineValue → Option (Option LeafState)
+state_of leaf x m = ask_leaf leaf (λ w v. state_at x v) None m
 
 -- the copy of an item that is parked at a bus: its place and its words
 abbrev pub parked_at : ℕ → ℕ → MachineValue → Option (Option (ℕ × List ℕ))

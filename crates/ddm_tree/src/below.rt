@@ -13,7 +13,7 @@ ghost use Rattle.ddm_tree.specs.Path.{node_at, present_at, put_at, node_answer, 
 ghost use Rattle.ddm_tree.specs.Judging.{IsJudged};
 ghost use Rattle.ddm_tree.specs.Named.{name_of};
 ghost use Rattle.ddm_tree.specs.Ready.{IsAskable, IsReady, Leads, LeadsBelow, HasChild, IsChild, IsItemOf};
-ghost use Rattle.ddm_tree.specs.Reads.{node_hart, node_entry, node_children, node_child, node_child_hold, node_down, node_down_len, node_grants, node_parked};
+ghost use Rattle.ddm_tree.specs.Reads.{node_hart, node_entry, node_children, node_child, node_child_hold, node_down, node_down_len, node_grants, node_parked, node_state};
 
 use crate::named::Named;
 use crate::subtree::Subtree;
@@ -167,6 +167,22 @@ pub(crate) fn entry_under<const WORDS: usize, P: Parent<WORDS>, C: Subtree<WORDS
 {
     let (child, rest) = next(parent, children, Named::Leaf(leaf), path);
     child.entry_below(leaf, rest, item)
+}
+
+/// The state of that entry.
+#[inline(always)]
+pub(crate) fn state_under<const WORDS: usize, P: Parent<WORDS>, C: Subtree<WORDS>>(
+    parent: &P,
+    children: &[C],
+    leaf: LeafNo,
+    path: &[ChildNo],
+    item: ItemId,
+) -> Option<LeafState>
+    requires leads { Leads (leaf_of_number leaf) path.now (dir_node (P.state parent.now) (nodes (map C.value children.now))) }
+    ensures { result ≡ node_state item (node_at path.now (dir_node (P.state parent.now) (nodes (map C.value children.now)))) }
+{
+    let (child, rest) = next(parent, children, Named::Leaf(leaf), path);
+    child.state_below(leaf, rest, item)
 }
 
 /// How many children a bus has, of a directory or below it.

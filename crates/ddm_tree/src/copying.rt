@@ -5,6 +5,7 @@ ghost use Rattle.ddm_tree.specs.Copying.{AreAlike, CanCopy, copied};
 
 use crate::idle::forget_all;
 use crate::machine::Machine;
+use crate::quiet::forget_quiet;
 use crate::subtree::Subtree;
 use ddm_types::Op;
 use leaf_protocol::Leaf;
@@ -87,5 +88,6 @@ impl<const WORDS: usize, C: CopyFrom<WORDS>> Machine<WORDS, C> {
         self.traffic.copy_from_slice(&other.traffic);
         self.turns = other.turns;
         forget_all(&mut self.idle);
+        forget_quiet(&mut self.quiet);
     }
 }

@@ -6,13 +6,14 @@ ghost use Rattle.item_states.specs.Parts.{node_items};
 
 use crate::below::{
     child_under, children_under, down_len_under, down_under, entry_under, grants_under, hart_under,
-    hold_under, parked_under, stamp_under, turn_under,
+    hold_under, parked_under, stamp_under, state_under, turn_under,
 };
 use crate::copying::{CopyFrom, copy_children};
 use crate::found::{Found, found_among, own_copy};
 use crate::judging::broken_under;
 use crate::named::Named;
 use crate::paths::path_up_under;
+use crate::quiet::{Quiet, quiet_under};
 use crate::read_back::read_under;
 use crate::section::Section;
 use crate::stamps::stamps_fit_under;
@@ -159,6 +160,10 @@ impl<const WORDS: usize, C: Subtree<WORDS>> Subtree<WORDS> for Dir<WORDS, C> {
         grants_under(&self.state, &self.children, bus, path, turn)
     }
 
+    fn quiet_below(&self, path: &[ChildNo]) -> Quiet {
+        quiet_under(&self.state, &self.children, path)
+    }
+
     fn path_up(&self, alloc: Global, name: &Named) -> Result<Option<Vec<ChildNo>>, NoMemory> {
         path_up_under(alloc, &self.state, &self.children, name)
     }
@@ -178,6 +183,11 @@ impl<const WORDS: usize, C: Subtree<WORDS>> Subtree<WORDS> for Dir<WORDS, C> {
         item: ItemId,
     ) -> Option<(LeafState, Words<WORDS>, LeafSpot)> {
         entry_under(&self.state, &self.children, leaf, path, item)
+    }
+
+    #[inline(always)]
+    fn state_below(&self, leaf: LeafNo, path: &[ChildNo], item: ItemId) -> Option<LeafState> {
+        state_under(&self.state, &self.children, leaf, path, item)
     }
 
     fn children_below(&self, bus: BusNo, path: &[ChildNo]) -> u32 {

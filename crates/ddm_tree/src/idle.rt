@@ -3,6 +3,7 @@ ghost use Rattle.tree_model.specs.Turns.Machine.{named_by};
 ghost use Rattle.split_bus.specs.Outcomes.{is_granted};
 ghost use Rattle.ddm_tree.specs.Idle.{AreNoted, AreWoken, IsWoken, idle_answer, idle_for, idle_told, with_idle};
 ghost use Rattle.ddm_tree.specs.Machine.{has_path};
+ghost use Rattle.ddm_tree.specs.Quiet.{IsKept};
 
 use crate::machine::{named, path_of};
 use ddm_types::{BusyCause, ChildNo, ItemId, LeafNo, NoMemory, Turn, TurnAnswer};
@@ -130,7 +131,8 @@ pub(crate) fn note(
     answer: &TurnAnswer,
 )
     requires { has_path (named_by turn.now) (length leaf_paths.now) (length bus_paths.now) }
-    ensures { AreNoted turn.now answer.now (map vec_items leaf_paths.now) (map vec_items bus_paths.now) idle.old idle.new }
+    ensures noted { AreNoted turn.now answer.now (map vec_items leaf_paths.now) (map vec_items bus_paths.now) idle.old idle.new }
+    ensures kept { IsKept turn.now answer.now idle.old idle.new }
 {
     if let Some(known) = idle_told(answer) {
         keep_idle(idle, turn, known);

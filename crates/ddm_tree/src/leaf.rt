@@ -1,5 +1,6 @@
 use crate::found::{Found, place_at};
 use crate::named::Named;
+use crate::quiet::{NOTHING, Quiet};
 use crate::section::Section;
 use crate::subtree::Subtree;
 use crate::turns::{key_on, victim};
@@ -38,6 +39,10 @@ impl<const WAYS: usize, const WORDS: usize> Subtree<WORDS> for Leaf<WAYS, WORDS>
         false
     }
 
+    fn quiet_below(&self, _path: &[ChildNo]) -> Quiet {
+        NOTHING
+    }
+
     fn path_up(&self, alloc: Global, name: &Named) -> Result<Option<Vec<ChildNo>>, NoMemory> {
         match name {
             Named::Leaf(leaf) if *leaf == self.number() => Ok(Some(Vec::new(alloc))),
@@ -60,6 +65,11 @@ impl<const WAYS: usize, const WORDS: usize> Subtree<WORDS> for Leaf<WAYS, WORDS>
         item: ItemId,
     ) -> Option<(LeafState, Words<WORDS>, LeafSpot)> {
         self.entry(item)
+    }
+
+    #[inline(always)]
+    fn state_below(&self, _leaf: LeafNo, _path: &[ChildNo], item: ItemId) -> Option<LeafState> {
+        self.state(item)
     }
 
     fn children_below(&self, _bus: BusNo, _path: &[ChildNo]) -> u32 {

@@ -1,4 +1,4 @@
-ghost use Rattle.std.specs.Prelude.{◌≡◌, ℕ, List, ◌+◌, ◌*◌, ◌<◌, ◌≤◌, ◌^◌, [], Some, true, is_ok, length, map, max, slice_get, vec_items, IfOk, if◌then◌else◌};
+ghost use Rattle.std.specs.Prelude.{◌≡◌, ℕ, List, ◌+◌, ◌*◌, ◌<◌, ◌≤◌, ◌^◌, [], Some, true, false, is_ok, length, map, max, slice_get, vec_items, IfOk, if◌then◌else◌};
 ghost use Rattle.tree_model.specs.Turns.Machine.{named_by, names_part, no_traffic, turn_of};
 ghost use Rattle.ddm_types.specs.Keys.{stamp_zero};
 ghost use Rattle.ddm_types.specs.ItemTable.{item_count};
@@ -6,15 +6,17 @@ ghost use Rattle.tree_model.specs.State.Values.{dir_node, nodes};
 ghost use Rattle.ddm_tree.specs.Named.{name_of};
 ghost use Rattle.ddm_tree.specs.Path.{node_at, present_at, put_at, node_answer, node_turned};
 ghost use Rattle.ddm_tree.specs.Ready.{IsReady, Leads};
-ghost use Rattle.tree_model.specs.Turns.Tree.{leaf_of_number};
+ghost use Rattle.tree_model.specs.Turns.Tree.{leaf_of_number, bus_of_number};
 ghost use Rattle.ddm_tree.specs.Rules.{StaysInOrder};
 ghost use Rattle.ddm_tree.specs.Idle.{AreIdle};
+ghost use Rattle.ddm_tree.specs.Quiet.{AreNearListed, AreQuiet, HartsWait, counts_nothing};
 ghost use Rattle.ddm_tree.specs.Machine.{IsFound, IsNew, has_path, listed_path, new_machine, state_after};
 
 use crate::below::turn_under;
 use crate::idle::{Idle, idle_answer, idle_for, note, nothing_known};
 use crate::named::Named;
 use crate::paths::{bus_paths, leaf_paths};
+use crate::quiet::{Quiet, is_known, near_lists, note_buses, note_waits, nothing_quiet};
 use crate::record::record;
 use crate::subtree::Subtree;
 use ddm_types::{ChildNo, Code, Items, LeafNo, NoMemory, Op, Stamp, TreeCounts, Turn, TurnAnswer};
@@ -36,8 +38,13 @@ pub struct Machine<const WORDS: usize, C: Subtree<WORDS>> {
     /// For each leaf and for each bus its path.
     pub(crate) leaf_paths: Vec<Vec<ChildNo>>,
     pub(crate) bus_paths: Vec<Vec<ChildNo>>,
+    /// For each leaf and for each bus the numbers of the buses near it.
+    pub(crate) leaf_near: Vec<Vec<usize>>,
+    pub(crate) bus_near: Vec<Vec<usize>>,
     /// For each leaf why its hart is idle, where that is known.
     pub(crate) idle: Vec<Option<Idle>>,
+    /// For each number what the bus that has it is quiet of, and whether the hart that has it waits, where that is known.
+    pub(crate) quiet: Vec<Quiet>,
     /// How many operations can still be taken without memory.
     pub(crate) spare: u32,
     /// How many turns were made.
@@ -48,6 +55,7 @@ impl<const WORDS: usize, C: Subtree<WORDS>> Model for Machine<WORDS, C> {
     ghost use Rattle.std.specs.Prelude.{◌≡◌, ℕ, List, ◌+◌, ◌*◌, ◌≤◌, ◌^◌, ◌<◌, length, map, vec_capacity, vec_items};
     ghost use Rattle.tree_model.specs.State.Shape.{tree_counts};
     ghost use Rattle.ddm_tree.specs.Idle.{AreIdle};
+    ghost use Rattle.ddm_tree.specs.Quiet.{AreNearListed, AreQuiet, HartsWait};
     ghost use Rattle.ddm_tree.specs.Machine.{MachineState, IsMachine, machine_of};
     ghost use Rattle.tree_model.specs.State.Values.{dir_node, nodes};
     ghost use Rattle.ddm_tree.specs.Codes.{machine_code};
@@ -61,7 +69,10 @@ impl<const WORDS: usize, C: Subtree<WORDS>> Model for Machine<WORDS, C> {
     ghost invariant = { λ m. IsMachine WORDS (machine_of m.code m.items m.top (map C.value m.children.items) m.ops.items m.traffic.items) m.turns (map vec_items m.leaf_paths.items) (map vec_items m.bus_paths.items)
         × (tree_counts (machine_of m.code m.items m.top (map C.value m.children.items) m.ops.items m.traffic.items) ≡ m.counts)
         × (WORDS < 2 ^ 32) × (m.items.size ≡ 4 * WORDS) × (length m.ops.items + m.spare ≤ vec_capacity m.ops)
-        × AreIdle m.code m.items m.idle.items (dir_node m.top (nodes (map C.value m.children.items))) (dir_node m.top (nodes (map C.value m.children.items))) };
+        × AreIdle m.code m.items m.idle.items (dir_node m.top (nodes (map C.value m.children.items))) (dir_node m.top (nodes (map C.value m.children.items)))
+        × AreQuiet m.quiet.items (dir_node m.top (nodes (map C.value m.children.items))) (dir_node m.top (nodes (map C.value m.children.items)))
+        × HartsWait m.quiet.items m.idle.items
+        × AreNearListed (map vec_items m.leaf_near.items) (map vec_items m.bus_near.items) (map vec_items m.leaf_paths.items) (map vec_items m.bus_paths.items) };
 }
 
 impl<const WORDS: usize, C: Subtree<WORDS> + Drop> Machine<WORDS, C> {
@@ -83,6 +94,9 @@ impl<const WORDS: usize, C: Subtree<WORDS> + Drop> Machine<WORDS, C> {
         let bus_paths = bus_paths(alloc, &top, &children, counts.buses)?;
         let traffic = vec![in alloc; no_traffic(); counts.buses as usize]?;
         let idle = nothing_known(alloc, counts.leaves)?;
+        let leaf_near = near_lists(alloc, &leaf_paths, &bus_paths)?;
+        let bus_near = near_lists(alloc, &bus_paths, &bus_paths)?;
+        let quiet = nothing_quiet(alloc, counts.leaves.max(counts.buses))?;
         Ok(Machine {
             top,
             children,
@@ -93,7 +107,10 @@ impl<const WORDS: usize, C: Subtree<WORDS> + Drop> Machine<WORDS, C> {
             counts,
             leaf_paths,
             bus_paths,
+            leaf_near,
+            bus_near,
             idle,
+            quiet,
             spare: 0,
             turns: 0,
         })
@@ -110,6 +127,22 @@ impl<const WORDS: usize, C: Subtree<WORDS>> Machine<WORDS, C> {
             self.spare = n;
         }
         Ok(())
+    }
+
+    /// Makes a turn that is known to find nothing, and says whether it is one. It takes no memory.
+    #[inline(always)]
+    pub fn pass(&mut self, turn: &Turn) -> bool
+        requires named { names_part turn.now self.old.machine ≡ true }
+        requires turns { self.old.turns < 4294967295 }
+        ensures passed { result ≡ true → self.new ≡ state_after turn.now self.old }
+        ensures nothing { result ≡ true → counts_nothing (turn_of turn.now self.old.machine).answer ≡ true }
+        ensures same { result ≡ false → self.new ≡ self.old }
+    {
+        let known = is_known(&self.quiet, turn);
+        if known {
+            self.turns += 1;
+        }
+        known
     }
 
     /// One turn of a hart or a bus. It takes no memory.
@@ -142,7 +175,10 @@ impl<const WORDS: usize, C: Subtree<WORDS>> Machine<WORDS, C> {
             &self.items,
             &self.leaf_paths,
             &self.bus_paths,
+            &self.leaf_near,
+            &self.bus_near,
             &mut self.idle,
+            &mut self.quiet,
             &turn,
             answer,
         );
@@ -190,7 +226,10 @@ fn turn_made<const WORDS: usize, C: Subtree<WORDS>>(
     items: &Items,
     leaf_paths: &[Vec<ChildNo>],
     bus_paths: &[Vec<ChildNo>],
+    leaf_near: &[Vec<usize>],
+    bus_near: &[Vec<usize>],
     idle: &mut [Option<Idle>],
+    quiet: &mut [Quiet],
     turn: &Turn,
     answer: &mut TurnAnswer,
 )
@@ -198,9 +237,15 @@ fn turn_made<const WORDS: usize, C: Subtree<WORDS>>(
     requires ready { IsReady (item_count items.now) WORDS (dir_node top.old (nodes (map C.value children.old))) }
     requires found { IsFound turn.now (dir_node top.old (nodes (map C.value children.old))) (map vec_items leaf_paths.now) (map vec_items bus_paths.now) }
     requires paths { (k : ℕ) (path : List ℕ) → Leads (leaf_of_number k) path (dir_node top.old (nodes (map C.value children.old))) → slice_get (map vec_items leaf_paths.now) k ≡ Some path }
+    requires listed { (k : ℕ) (path : List ℕ) → Leads (bus_of_number k) path (dir_node top.old (nodes (map C.value children.old))) → slice_get (map vec_items bus_paths.now) k ≡ Some path }
     requires idle { AreIdle code.now items.now idle.old (dir_node top.old (nodes (map C.value children.old))) (dir_node top.old (nodes (map C.value children.old))) }
+    requires quiet { AreQuiet quiet.old (dir_node top.old (nodes (map C.value children.old))) (dir_node top.old (nodes (map C.value children.old))) }
+    requires waits { HartsWait quiet.old idle.old }
+    requires near { AreNearListed (map vec_items leaf_near.now) (map vec_items bus_near.now) (map vec_items leaf_paths.now) (map vec_items bus_paths.now) }
     ensures answer { (path : List ℕ) → listed_path (named_by turn.now) (map vec_items leaf_paths.now) (map vec_items bus_paths.now) ≡ Some path → let n = dir_node top.old (nodes (map C.value children.old)) in answer.new ≡ node_answer code.now items.now turn.now path (present_at path stamp_zero n) (node_at path n) }
     ensures after { (path : List ℕ) → listed_path (named_by turn.now) (map vec_items leaf_paths.now) (map vec_items bus_paths.now) ≡ Some path → let n = dir_node top.old (nodes (map C.value children.old)) in dir_node top.new (nodes (map C.value children.new)) ≡ put_at path (node_turned code.now items.now turn.now path (present_at path stamp_zero n) (node_at path n)) n }
+    ensures quiet { AreQuiet quiet.new (dir_node top.old (nodes (map C.value children.old))) (dir_node top.new (nodes (map C.value children.new))) }
+    ensures waits { HartsWait quiet.new idle.new }
     ensures idle { AreIdle code.now items.now idle.new (dir_node top.old (nodes (map C.value children.old))) (dir_node top.new (nodes (map C.value children.new))) }
 {
     match idle_for(turn, idle) {
@@ -210,6 +255,10 @@ fn turn_made<const WORDS: usize, C: Subtree<WORDS>>(
                 top, children, code, items, leaf_paths, bus_paths, turn, answer,
             );
             note(idle, leaf_paths, bus_paths, turn, answer);
+            note_buses(
+                quiet, top, children, leaf_near, bus_near, bus_paths, turn, answer,
+            );
+            note_waits(quiet, idle, turn, answer);
         }
     }
 }
@@ -239,6 +288,21 @@ pub(crate) fn path_of<'a>(
     match name {
         Named::Leaf(leaf) => &leaf_paths[leaf.0 as usize],
         Named::Bus(bus) => &bus_paths[bus.0 as usize],
+    }
+}
+
+/// The numbers of the buses near a leaf or bus.
+pub(crate) fn near_of<'a>(
+    name: Named,
+    leaf_near: &'a [Vec<usize>],
+    bus_near: &'a [Vec<usize>],
+) -> &'a [usize]
+    requires { has_path (name_of name) (length leaf_near.now) (length bus_near.now) }
+    ensures { Some result.now ≡ listed_path (name_of name) (map vec_items leaf_near.now) (map vec_items bus_near.now) }
+{
+    match name {
+        Named::Leaf(leaf) => &leaf_near[leaf.0 as usize],
+        Named::Bus(bus) => &bus_near[bus.0 as usize],
     }
 }
 

@@ -16,6 +16,7 @@ ghost use Rattle.ddm_tree.specs.Rules.{KeepsRules};
 use crate::idle::{Idle, forget_all};
 use crate::machine::{Machine, path_of};
 use crate::named::Named;
+use crate::quiet::{Quiet, forget_quiet};
 use crate::read_back::read_under;
 use crate::section::Section;
 use crate::subtree::Subtree;
@@ -37,8 +38,12 @@ pub struct Parts<const WORDS: usize, C: Subtree<WORDS>> {
     pub(crate) counts: TreeCounts,
     pub(crate) leaf_paths: Vec<Vec<ChildNo>>,
     pub(crate) bus_paths: Vec<Vec<ChildNo>>,
+    pub(crate) leaf_near: Vec<Vec<usize>>,
+    pub(crate) bus_near: Vec<Vec<usize>>,
     /// A place for each leaf, for the machine that is put together.
     pub(crate) idle: Vec<Option<Idle>>,
+    /// A place for each number, in the same way.
+    pub(crate) quiet: Vec<Quiet>,
 }
 
 impl<const WORDS: usize, C: Subtree<WORDS>> Model for Parts<WORDS, C> {
@@ -48,6 +53,7 @@ impl<const WORDS: usize, C: Subtree<WORDS>> Model for Parts<WORDS, C> {
     ghost use Rattle.ddm_tree.specs.Codes.{value_code};
     ghost use Rattle.ddm_tree.specs.Machine.{machine_of};
     ghost use Rattle.ddm_tree.specs.Parts.{IsParts};
+    ghost use Rattle.ddm_tree.specs.Quiet.{AreNearListed};
 
     ghost Value = { MachineValue };
 
@@ -57,7 +63,8 @@ impl<const WORDS: usize, C: Subtree<WORDS>> Model for Parts<WORDS, C> {
 
     ghost invariant = { λ m. IsParts WORDS (machine_of m.code m.items m.top (map C.value m.children.items) m.ops.items m.traffic.items) (map vec_items m.leaf_paths.items) (map vec_items m.bus_paths.items)
         × (tree_counts (machine_of m.code m.items m.top (map C.value m.children.items) m.ops.items m.traffic.items) ≡ m.counts)
-        × (WORDS < 2 ^ 32) × (m.items.size ≡ 4 * WORDS) };
+        × (WORDS < 2 ^ 32) × (m.items.size ≡ 4 * WORDS)
+        × AreNearListed (map vec_items m.leaf_near.items) (map vec_items m.bus_near.items) (map vec_items m.leaf_paths.items) (map vec_items m.bus_paths.items) };
 }
 
 /// What a section is named by.
@@ -113,7 +120,10 @@ impl<const WORDS: usize, C: Subtree<WORDS>> Machine<WORDS, C> {
             counts: self.counts,
             leaf_paths: self.leaf_paths,
             bus_paths: self.bus_paths,
+            leaf_near: self.leaf_near,
+            bus_near: self.bus_near,
             idle: self.idle,
+            quiet: self.quiet,
         }
     }
 }
@@ -129,6 +139,8 @@ impl<const WORDS: usize, C: Subtree<WORDS> + Drop> Parts<WORDS, C> {
     {
         let mut idle = self.idle;
         forget_all(&mut idle);
+        let mut quiet = self.quiet;
+        forget_quiet(&mut quiet);
         Machine {
             top: self.top,
             children: self.children,
@@ -139,7 +151,10 @@ impl<const WORDS: usize, C: Subtree<WORDS> + Drop> Parts<WORDS, C> {
             counts: self.counts,
             leaf_paths: self.leaf_paths,
             bus_paths: self.bus_paths,
+            leaf_near: self.leaf_near,
+            bus_near: self.bus_near,
             idle,
+            quiet,
             spare: 0,
             turns: 1_048_576,
         }

@@ -9,11 +9,11 @@ ghost use Rattle.tree_model.specs.Turns.Tree.{leaf_of_number, bus_of_number};
 ghost use Rattle.ddm_tree.specs.Machine.{is_part};
 ghost use Rattle.ddm_tree.specs.Rules.{KeepsRules};
 ghost use Rattle.ddm_tree.specs.Ready.{Leads};
-ghost use Rattle.ddm_tree.specs.Reads.{counted_hart_of, down_len_of, entry_at, is_down_request_or_reply, parked_at};
+ghost use Rattle.ddm_tree.specs.Reads.{counted_hart_of, down_len_of, entry_at, is_down_request_or_reply, parked_at, state_of};
 
 use crate::below::{
     child_under, children_under, down_len_under, down_under, entry_under, grants_under, hart_under,
-    hold_under, parked_under, stamp_under,
+    hold_under, parked_under, stamp_under, state_under,
 };
 use crate::found::{Found, found_among};
 use crate::machine::Machine;
@@ -109,6 +109,16 @@ impl<const WORDS: usize, C: Subtree<WORDS>> Machine<WORDS, C> {
     {
         let path = self.leaf_path(leaf);
         entry_under(&self.top, &self.children, leaf, path, item)
+    }
+
+    /// The state of that entry.
+    #[inline(always)]
+    pub fn leaf_state(&self, leaf: LeafNo, item: ItemId) -> Option<LeafState>
+        requires { is_part (leaf_of_number leaf) self.now.machine ≡ true }
+        ensures { Some result ≡ state_of leaf item self.now.machine }
+    {
+        let path = self.leaf_path(leaf);
+        state_under(&self.top, &self.children, leaf, path, item)
     }
 
     /// An entry of the down list over a bus, by its place counted from 0.

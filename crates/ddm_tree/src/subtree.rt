@@ -16,14 +16,16 @@ ghost use Rattle.ddm_tree.specs.Path.{path_to, node_at, present_at, put_at, node
 ghost use Rattle.tree_rules.specs.Bus.Faces.{child_face};
 ghost use Rattle.ddm_tree.specs.Judging.{IsJudged, node_broken};
 ghost use Rattle.ddm_tree.specs.Named.{name_of};
+ghost use Rattle.ddm_tree.specs.Quiet.{IsQuietOf};
 ghost use Rattle.ddm_tree.specs.Ready.{IsAskable, IsReady, Leads, LeadsBelow, HasChild, IsChild, IsItemIn, IsItemOf};
-ghost use Rattle.ddm_tree.specs.Reads.{node_hart, node_entry, node_children, node_child, node_child_hold, node_down, node_down_len, node_grants, node_parked};
+ghost use Rattle.ddm_tree.specs.Reads.{node_hart, node_entry, node_children, node_child, node_child_hold, node_down, node_down_len, node_grants, node_parked, node_state};
 ghost use Rattle.ddm_tree.specs.Stamps.{node_stamps_fit};
 ghost use Rattle.ddm_tree.specs.ReadBack.{PartRead, section_name};
 ghost use Rattle.ddm_tree.specs.Written.{node_dir_words, node_words};
 
 use crate::found::Found;
 use crate::named::Named;
+use crate::quiet::Quiet;
 use crate::section::Section;
 use bus_judging::ChildFace;
 use ddm_types::{
@@ -69,6 +71,11 @@ pub trait Subtree<const WORDS: usize>: Agent<WORDS> {
         requires child { HasChild turn (node_at path.now (Self.value self.now)) }
         ensures { (above : Stamp) → result ≡ node_grants above turn (node_at path.now (Self.value self.now)) };
 
+    /// What the bus at a path's end is quiet of; nothing where no bus is there.
+    fn quiet_below(&self, path: &[ChildNo]) -> Quiet
+        requires { WORDS < 2 ^ 32 }
+        ensures { IsQuietOf result (node_at path.now (Self.value self.now)) };
+
     /// The path from here to a leaf or a bus, from its end on; None where it isn't in this part.
     fn path_up(&self, alloc: Global, name: &Named) -> Result<Option<Vec<ChildNo>>, NoMemory>
         requires { widths_fit (skeleton (Self.value self.now)) ≡ true }
@@ -94,6 +101,11 @@ pub trait Subtree<const WORDS: usize>: Agent<WORDS> {
         requires leads { Leads (leaf_of_number leaf) path.now (Self.value self.now) }
         requires in_range { item < node_items (node_at path.now (Self.value self.now)) }
         ensures { result ≡ node_entry item (node_at path.now (Self.value self.now)) };
+
+    /// The state of this leaf's entry of an item.
+    fn state_below(&self, leaf: LeafNo, path: &[ChildNo], item: ItemId) -> Option<LeafState>
+        requires { Leads (leaf_of_number leaf) path.now (Self.value self.now) }
+        ensures { result ≡ node_state item (node_at path.now (Self.value self.now)) };
 
     /// How many children this bus has.
     fn children_below(&self, bus: BusNo, path: &[ChildNo]) -> u32

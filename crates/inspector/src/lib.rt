@@ -10,7 +10,7 @@ ghost use Rattle.tree_model.specs.Turns.Found.{found_copy, states_of};
 ghost use Rattle.tree_model.specs.Turns.Machine.{no_traffic};
 ghost use Rattle.tree_model.specs.Turns.Tree.{leaf_of_number, bus_of_number};
 ghost use Rattle.ddm_tree.specs.Machine.{is_part};
-ghost use Rattle.inspector.specs.States.{state_of};
+ghost use Rattle.ddm_tree.specs.Reads.{state_of};
 
 pub use all_copies::copies;
 pub use ddm_tree::Found;
@@ -31,6 +31,7 @@ pub fn find<const WORDS: usize, C: Subtree<WORDS>>(
 }
 
 /// The state of a leaf's entry of an item.
+#[inline(always)]
 pub fn state<const WORDS: usize, C: Subtree<WORDS>>(
     machine: &Machine<WORDS, C>,
     item: ItemId,
@@ -41,8 +42,7 @@ pub fn state<const WORDS: usize, C: Subtree<WORDS>>(
     requires item { item < item_count machine.now.machine.items }
     ensures { Some result ≡ state_of leaf item machine.now.machine }
 {
-    let (state, _, _) = machine.leaf_entry(leaf, item)?;
-    Some(state)
+    machine.leaf_state(leaf, item)
 }
 
 /// The state of each leaf's entry of an item, by the leaf's number.

@@ -17,7 +17,7 @@ use Rattle.tree_rules.specs.Bus.Rules.{AreTreesOk, IsMachineOk, IsTreeOk, items_
 use Rattle.bus_laws.proofs.HartFacts.{entries-from_rules, state-known, waiting-none, waiting-some}
 use Rattle.ddm_tree.specs.Rules.{KeepsRules}
 use Rattle.ddm_tree.proofs.LeafList.{leaf-listed, leaves-counted}
-use Rattle.inspector.specs.States.{state_of}
+use Rattle.ddm_tree.specs.Reads.{state_of}
 use Rattle.inspector.proofs.OneMore.{item-there, mapped-at}
 use Rattle.jam_laws.specs.GoesOn.{IsFirstGranted, first_granted, leaf_is_waiting, some_leaf_waits, unjamming_turn}
 use Rattle.jam_laws.proofs.NoJam.{named-first}

@@ -16,9 +16,8 @@ use Rattle.tree_model.specs.Turns.Machine.{machine_leaves, no_traffic}
 use Rattle.tree_model.proofs.Tests.{and-first, and-second}
 use Rattle.text_model.specs.Report.{HartView, ItemView, bus_line, bus_lines, bus_lines_from}
 use Rattle.text_model.specs.Run.{item_view, item_views, view_of}
-use Rattle.ddm_tree.specs.Reads.{counted_hart_of}
+use Rattle.ddm_tree.specs.Reads.{counted_hart_of, state_of}
 use Rattle.ddm_tree.proofs.LeafList.{leaf-listed, leaf-number, leaves-counted}
-use Rattle.inspector.specs.States.{state_of}
 use Rattle.inspector.proofs.OneMore.{got-some, taken-one}
 use Rattle.report.specs.MachineView.{harts_of}
 

@@ -1,11 +1,10 @@
-use Rattle.std.proofs.Common.{◌≡◌, ◌+◌, ◌<◌, ◌≤◌, ◌++◌, ◌∷◌, [], true, false, Bool, length, take, vec_capacity, vec_len, sym, ap, subst, ◌∙◌, arith, if◌then◌else◌}
-use Rattle.ddm_types.specs.declared.turns.Turn.{Turn}
+use Rattle.std.proofs.Common.{◌≡◌, ◌+◌, ◌<◌, ◌++◌, ◌∷◌, [], true, length, take, vec_len, sym, ap, subst, ◌∙◌, arith, if◌then◌else◌}
 use Rattle.tree_model.specs.Turns.Machine.{names_part, turn_of}
 use Rattle.text_model.specs.Run.{counted_answer}
 use Rattle.ddm_tree.specs.Machine.{MachineState, state_after}
 use Rattle.std.proofs.lemmas.List.{take_all, length-append, length-take-le}
 use Rattle.any_runs.specs.Run.{AreBelow, answers_in, counts_in, ran}
-use Rattle.any_runs.proofs.RunMore.{answers-length, below-none, counted-below, counts-more, counts-none, kept-more, kept-none, kept_answers, named-here, ran-more, ran-none, spare-falls, take-next, turns-here}
+use Rattle.any_runs.proofs.RunMore.{answers-length, below-none, counted-below, counts-more, counts-none, kept-alike, kept-more, kept-none, kept_answers, named-here, ran-more, ran-none, spare-falls, take-next, turns-here}
 use Rattle.any_runs.proofs.running.run_turns.Goals as goal
 
 pub loop-turn-init : goal.loop-turn-init
@@ -65,7 +64,7 @@ loop-turn-preserved g c =
     let before = c.args.answers.now.items in
     let next : take (k + 1) ts ≡ take k ts ++ t ∷ [] = take-next ts k t c.loop-turn-test.true c.turn-item.is in
     let here : MachineState = ran (take k ts) s in
-    let answer : c.counted_turn.new.answer ≡ (turn_of t here.machine).answer = c.counted_turn.ensures.answer ∙ ap (λ r. (turn_of t r.machine).answer) i.0 in
+    let answer : c.args.keep ≡ true → c.counted_turn.new.answer ≡ (turn_of t here.machine).answer = λ kept. c.counted_turn.ensures.answer kept ∙ ap (λ r. (turn_of t r.machine).answer) i.0 in
     let after : c.counted_turn.new.machine ≡ state_after t here = c.counted_turn.ensures.after ∙ ap (state_after t) i.0 in
     let counts : c.counted_turn.new.counts ≡ counted_answer (turn_of t here.machine).answer c.loop-turn.counts = c.counted_turn.ensures.counts ∙ ap (λ r. counted_answer (turn_of t r.machine).answer c.loop-turn.counts) i.0 in
     let fall = spare-falls (turn_of t here.machine).answer here.spare in (
@@ -73,7 +72,7 @@ loop-turn-preserved g c =
       counts ∙ ap (counted_answer (turn_of t here.machine).answer) i.1 ∙ sym (counts-more (take k ts) t s) ∙ ap (λ l. counts_in l s) (sym next),
       subst (AreBelow (k + 1 + 1)) (sym counts) (counted-below (k + 1) (turn_of t here.machine).answer c.loop-turn.counts i.2),
       omega (arith, i.3, fall, ap (λ r. r.spare) i.0, ap (λ r. r.spare) after),
-      c.keep_answer.ensures.items ∙ ap (λ a. if c.args.keep then c.loop-turn.answers.items ++ a ∷ [] else c.loop-turn.answers.items) answer ∙ ap (λ l. if c.args.keep then l ++ (turn_of t here.machine).answer ∷ [] else l) i.4 ∙ kept-more c.args.keep before (take k ts) t s ∙ ap (λ l. kept_answers c.args.keep before l s) (sym next),
+      c.keep_answer.ensures.items ∙ kept-alike c.args.keep c.loop-turn.answers.items c.counted_turn.new.answer (turn_of t here.machine).answer answer ∙ ap (λ l. if c.args.keep then l ++ (turn_of t here.machine).answer ∷ [] else l) i.4 ∙ kept-more c.args.keep before (take k ts) t s ∙ ap (λ l. kept_answers c.args.keep before l s) (sym next),
       omega (arith, i.5, c.keep_answer.ensures.capacity),
     )
 

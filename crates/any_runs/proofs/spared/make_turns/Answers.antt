@@ -1,4 +1,4 @@
-use Rattle.std.proofs.Common.{◌≡◌, ◌+◌, ◌<◌, ◌≤◌, ◌++◌, ◌∷◌, [], true, length, take, sym, ap, subst, ◌∙◌, arith}
+use Rattle.std.proofs.Common.{◌≡◌, ◌+◌, ◌<◌, ◌++◌, ◌∷◌, [], true, take, sym, ap, subst, ◌∙◌, arith}
 use Rattle.tree_model.specs.Turns.Machine.{names_part, turn_of}
 use Rattle.ddm_tree.specs.Machine.{MachineState, state_after}
 use Rattle.std.proofs.lemmas.List.{take_all}

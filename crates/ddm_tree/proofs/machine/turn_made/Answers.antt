@@ -4,9 +4,12 @@ use Rattle.ddm_types.specs.Keys.{stamp_zero}
 use Rattle.tree_model.specs.State.Values.{dir_node, nodes}
 use Rattle.tree_model.specs.Turns.Machine.{named_by}
 use Rattle.ddm_tree.specs.Idle.{AreIdle, AreNoted, idle_for}
-use Rattle.ddm_tree.specs.Path.{present_at}
+use Rattle.ddm_tree.specs.Path.{node_answer, node_at, present_at}
+use Rattle.ddm_tree.specs.Quiet.{AreQuiet, AreRelearned}
 use Rattle.ddm_tree.specs.Ready.{Leads}
 use Rattle.ddm_tree.proofs.IdleHarts.{noted-idle, spared}
+use Rattle.ddm_tree.proofs.QuietTable.{quiet-same, waits-relearned}
+use Rattle.ddm_tree.proofs.QuietTurns.{relearned-quiet}
 use Rattle.ddm_tree.proofs.TurnMade.{same-path}
 use Rattle.ddm_tree.proofs.machine.turn_made.Goals as goal
 
@@ -34,6 +37,25 @@ returns-in-None-clause-idle g c =
     let found = c.requires.found in
     let leaf_paths = map vec_items c.args.leaf_paths.now in
     let bus_paths = map vec_items c.args.bus_paths.now in
-    let noted = subst (λ a. AreNoted c.args.turn.now a leaf_paths bus_paths c.args.idle.now c.note.new.idle) (c.turn_found.ensures.answer found.path found.listed) c.note.ensures in
+    let noted = subst (λ a. AreNoted c.args.turn.now a leaf_paths bus_paths c.args.idle.now c.note.new.idle) (c.turn_found.ensures.answer found.path found.listed) c.note.ensures.noted in
     let idle = noted-idle c.args.code.now c.args.items.now c.args.turn.now found.path (present_at found.path stamp_zero n) n found.leads leaf_paths bus_paths c.args.idle.now found.listed c.requires.paths c.requires.idle c.note.new.idle noted in
     subst (AreIdle c.args.code.now c.args.items.now c.note.new.idle n) (sym (c.turn_found.ensures.after found.path found.listed)) idle
+
+pub returns-in-None-clause-quiet : goal.returns-in-None-clause-quiet
+returns-in-None-clause-quiet g c =
+    let n = dir_node c.args.top.now (nodes (map g.C.Agent.value c.args.children.now)) in
+    let found = c.requires.found in
+    let leaf_paths = map vec_items c.args.leaf_paths.now in
+    let bus_paths = map vec_items c.args.bus_paths.now in
+    let after = c.turn_found.ensures.after found.path found.listed in
+    let leaf_near = map vec_items c.args.leaf_near.now in
+    let bus_near = map vec_items c.args.bus_near.now in
+    let told = subst (λ a. AreRelearned c.args.turn.now a leaf_near bus_near bus_paths (dir_node c.turn_found.new.top (nodes (map g.C.Agent.value c.turn_found.new.children))) c.args.quiet.now c.note_buses.new.known) (c.turn_found.ensures.answer found.path found.listed) c.note_buses.ensures in
+    let learned = subst (λ m. AreRelearned c.args.turn.now (node_answer c.args.code.now c.args.items.now c.args.turn.now found.path (present_at found.path stamp_zero n) (node_at found.path n)) leaf_near bus_near bus_paths m c.args.quiet.now c.note_buses.new.known) after told in
+    let quiet = relearned-quiet c.args.code.now c.args.items.now c.args.turn.now found.path (present_at found.path stamp_zero n) n leaf_near bus_near leaf_paths bus_paths c.args.quiet.now c.note_buses.new.known found.leads found.listed c.requires.near c.requires.listed c.requires.quiet learned in
+    quiet-same n _ c.note_buses.new.known c.note_waits.new.known c.note_waits.ensures.buses (subst (AreQuiet c.note_buses.new.known n) (sym after) quiet)
+
+pub returns-in-None-clause-waits : goal.returns-in-None-clause-waits
+returns-in-None-clause-waits g c =
+    let wait = waits-relearned c.args.turn.now _ _ _ _ _ c.args.idle.now c.args.quiet.now c.note_buses.new.known c.note_buses.ensures c.requires.waits in
+    c.note_waits.ensures.waits c.args.idle.now c.note.ensures.kept wait

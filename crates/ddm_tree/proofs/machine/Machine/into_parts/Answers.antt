@@ -17,6 +17,7 @@ invariant_of-result g c =
       inv.1,
       inv.2,
       inv.3,
+      inv.8,
     )
 
 pub returns-clause-readable : goal.returns-clause-readable

@@ -3,10 +3,12 @@ use Rattle.std.proofs.Common.{◌≡◌, ◌≤◌, ◌+◌, length, map, take, 
 use Rattle.tree_model.specs.State.Shape.{tree_counts}
 use Rattle.tree_model.specs.State.Values.{dir_node, nodes, root_of}
 use Rattle.tree_model.specs.Turns.Machine.{names_part, turn_of}
-use Rattle.tree_model.specs.Turns.Tree.{leaf_of_number}
+use Rattle.tree_model.specs.Turns.Tree.{bus_of_number, leaf_of_number}
 use Rattle.ddm_tree.specs.Machine.{IsMachine, MachineState, machine_of, state_after}
+use Rattle.ddm_tree.specs.Quiet.{HartsWait}
 use Rattle.ddm_tree.proofs.IdleHarts.{idle-after}
 use Rattle.ddm_tree.proofs.MachineKept.{turn-keeps}
+use Rattle.ddm_tree.proofs.QuietTurns.{quiet-after}
 use Rattle.ddm_tree.proofs.RulesKept.{made-order}
 use Rattle.ddm_tree.proofs.TurnMade.{Told, all-traffic-most, items-back, machine-ready, part-found, state-made, told-turn, turn-tree_counts}
 use Rattle.ddm_tree.proofs.machine.Machine.turn_into.Goals as goal
@@ -27,7 +29,19 @@ turn_made-requires g c =
           rw (c.deref_mut.ensures.value) ready,
           (
             rw (c.deref_mut.ensures.value, c.deref.ensures.value, c.deref-2.ensures.value) found,
-            (rw (c.deref_mut.ensures.value, c.deref.ensures.value) (λ k path leads. inv.0.paths (leaf_of_number k) path leads), rw (c.deref_mut.ensures.value, c.deref_mut-2.ensures.value) inv.5),
+            (
+              rw (c.deref_mut.ensures.value, c.deref.ensures.value) (λ k path leads. inv.0.paths (leaf_of_number k) path leads),
+              (
+                rw (c.deref_mut.ensures.value, c.deref-2.ensures.value) (λ k path leads. inv.0.paths (bus_of_number k) path leads),
+                (
+                  rw (c.deref_mut.ensures.value, c.deref_mut-2.ensures.value) inv.5,
+                  (
+                    rw (c.deref_mut.ensures.value, c.deref_mut-3.ensures.value) inv.6,
+                    (rw (c.deref_mut-2.ensures.value, c.deref_mut-3.ensures.value) inv.7, rw (c.deref.ensures.value, c.deref-2.ensures.value, c.deref-3.ensures.value, c.deref-4.ensures.value) inv.8),
+                  ),
+                ),
+              ),
+            ),
           ),
         ),
       ),
@@ -64,6 +78,12 @@ idle-back g c =
     let same : length c.turn_made.new.idle ≡ length c.self.inside.idle.items = c.turn_made.auto.idle ∙ ap length c.deref_mut-2.ensures.value in
     items-back c.self.inside.idle.items c.turn_made.new.idle c.self.inside.idle.len whole same
 
+quiet-back : (g : Given.Over) (c : goal.After-record g) → take c.self.inside.quiet.len (c.turn_made.new.quiet ++ drop (length c.turn_made.new.quiet) c.self.inside.quiet.items) ≡ c.turn_made.new.quiet
+quiet-back g c =
+    let whole : c.self.inside.quiet.len ≡ length c.self.inside.quiet.items = sym c.deref_mut-3.ensures.len ∙ ap length c.deref_mut-3.ensures.value in
+    let same : length c.turn_made.new.quiet ≡ length c.self.inside.quiet.items = c.turn_made.auto.quiet ∙ ap length c.deref_mut-3.ensures.value in
+    items-back c.self.inside.quiet.items c.turn_made.new.quiet c.self.inside.quiet.len whole same
+
 -- the machine afterwards
 machine-after : (g : Given.Over) (c : goal.After-record g) → machine_of c.self.inside.code c.self.inside.items c.turn_made.new.top (map g.C.Agent.value (take c.self.inside.children.len (c.turn_made.new.children ++ drop (length c.turn_made.new.children) c.self.inside.children.items))) c.record.new.ops.items c.record.new.traffic.items ≡ (turn_of c.args.turn (machine_of c.self.inside.code c.self.inside.items c.self.inside.top (map g.C.Agent.value c.self.inside.children.items) c.self.inside.ops.items c.self.inside.traffic.items)).machine
 machine-after g c = rw (children-back g c, c.record.ensures.ops, c.record.ensures.traffic) (told g c).machine_is
@@ -77,8 +97,10 @@ invariant_of-self g c =
     let inv = c.self.invariant in
     let left = dir_node c.turn_made.new.top (nodes (map g.C.Agent.value c.turn_made.new.children)) in
     let idle = idle-after c.self.inside.code c.self.inside.items c.args.turn m c.turn_made.new.idle _ left _ (idle-back g c) (ap root_of after) (ap (λ cs. dir_node c.turn_made.new.top (nodes (map g.C.Agent.value cs))) (children-back g c)) (rw (c.deref_mut.ensures.value) at c.turn_made.ensures.idle) in
+    let quiet = quiet-after c.args.turn m c.turn_made.new.quiet _ left _ (quiet-back g c) (ap root_of after) (ap (λ cs. dir_node c.turn_made.new.top (nodes (map g.C.Agent.value cs))) (children-back g c)) (rw (c.deref_mut.ensures.value) at c.turn_made.ensures.quiet) in
+    let waits = subst (λ k. HartsWait k (take c.self.inside.idle.len (c.turn_made.new.idle ++ drop (length c.turn_made.new.idle) c.self.inside.idle.items))) (sym (quiet-back g c)) (subst (HartsWait c.turn_made.new.quiet) (sym (idle-back g c)) c.turn_made.ensures.waits) in
     let keeps = turn-keeps g.row.WORDS c.self.inside.turns leaf_paths bus_paths c.args.turn m inv.0 in
-    (subst (λ n. IsMachine g.row.WORDS n (c.self.inside.turns + 1) leaf_paths bus_paths) (sym after) keeps, ap tree_counts after ∙ turn-tree_counts c.args.turn m ∙ inv.1, inv.2, inv.3, c.record.ensures.room, idle)
+    (subst (λ n. IsMachine g.row.WORDS n (c.self.inside.turns + 1) leaf_paths bus_paths) (sym after) keeps, ap tree_counts after ∙ turn-tree_counts c.args.turn m ∙ inv.1, inv.2, inv.3, c.record.ensures.room, idle, quiet, waits, inv.8)
 
 pub returns-clause-answer : goal.returns-clause-answer
 returns-clause-answer g c = (told g c).answer_is ∙ ap (λ s. (turn_of c.args.turn s.machine).answer) c.self.view_is

@@ -5,6 +5,7 @@ use Rattle.ddm_tree.specs.Counts.{counts_within}
 use Rattle.ddm_tree.specs.Machine.{IsMachine, machine_of, traffic_within}
 use Rattle.ddm_tree.specs.Rules.{KeepsRules}
 use Rattle.ddm_tree.proofs.IdleHarts.{nothing-idle}
+use Rattle.ddm_tree.proofs.QuietTurns.{blank-quiet, blank-waits}
 use Rattle.ddm_tree.proofs.TurnMade.{items-back}
 use Rattle.ddm_tree.proofs.parts.Parts.into_machine.Goals as goal
 
@@ -16,6 +17,8 @@ invariant_of-result g c =
     let same : m ≡ c.args.self = c.self.view_is in
     let all : c.self.inside.idle.len ≡ length c.self.inside.idle.items = sym c.deref_mut.ensures.len ∙ ap length c.deref_mut.ensures.value in
     let back = items-back c.self.inside.idle.items c.forget_all.new.idle c.self.inside.idle.len all (c.forget_all.auto.idle ∙ ap length c.deref_mut.ensures.value) in
+    let whole : c.self.inside.quiet.len ≡ length c.self.inside.quiet.items = sym c.deref_mut-2.ensures.len ∙ ap length c.deref_mut-2.ensures.value in
+    let quiet-back = items-back c.self.inside.quiet.items c.forget_quiet.new.known c.self.inside.quiet.len whole (c.forget_quiet.auto.known ∙ ap length c.deref_mut-2.ensures.value) in
     let is : IsMachine g.row.WORDS m 1048576 (map vec_items c.self.inside.leaf_paths.items) (map vec_items c.self.inside.bus_paths.items) = record {
       shaped = inv.0.readable.shaped;
       rules = subst KeepsRules (sym same) c.requires.rules;
@@ -26,4 +29,4 @@ invariant_of-result g c =
       paths = inv.0.paths;
     } in
     let room : length c.self.inside.ops.items + 0 ≤ vec_capacity c.self.inside.ops = omega (arith, c.self.inside.ops.ok.0, c.self.inside.ops.ok.1) in
-    (is, inv.1, inv.2, inv.3, room, nothing-idle c.self.inside.code c.self.inside.items c.forget_all.new.idle _ root root back c.forget_all.ensures)
+    (is, inv.1, inv.2, inv.3, room, nothing-idle c.self.inside.code c.self.inside.items c.forget_all.new.idle _ root root back c.forget_all.ensures, blank-quiet c.forget_quiet.new.known _ root root quiet-back c.forget_quiet.ensures, blank-waits c.forget_quiet.new.known _ _ quiet-back c.forget_quiet.ensures, inv.4)

@@ -27,7 +27,7 @@ pub invariant_of-parts : goal.invariant_of-parts
 invariant_of-parts g c =
     let m = machine_of c.parts.inside.code c.parts.inside.items c.parts.inside.top (map g.C.Agent.value c.parts.inside.children.items) c.parts.inside.ops.items c.parts.inside.traffic.items in
     let inv = c.parts.invariant in
-    (set-parts g.row.WORDS m (map vec_items c.parts.inside.leaf_paths.items) (map vec_items c.parts.inside.bus_paths.items) c.bus.inside.0 c.in_ok-traffic.traffic inv.0, set-counts m c.bus.inside.0 c.in_ok-traffic.traffic ∙ inv.1, inv.2, inv.3)
+    (set-parts g.row.WORDS m (map vec_items c.parts.inside.leaf_paths.items) (map vec_items c.parts.inside.bus_paths.items) c.bus.inside.0 c.in_ok-traffic.traffic inv.0, set-counts m c.bus.inside.0 c.in_ok-traffic.traffic ∙ inv.1, inv.2, inv.3, inv.4)
 
 pub returns-clause-frame : goal.returns-clause-frame
 returns-clause-frame g c =

@@ -45,7 +45,7 @@ invariant_of-parts g c =
     let inv = c.parts.invariant in
     let parts = section-parts c.args.section c.args.words.now c.args.from m found.path found.leads g.row.WORDS c.in_ok-at.at leaf_paths bus_paths inv.0 c.read_into.new.top kids put in
     let counts = section-counts c.args.section c.args.words.now c.args.from m found.path found.leads g.row.WORDS c.in_ok-at.at leaf_paths bus_paths inv.0 c.read_into.new.top kids put in
-    rw back (parts, counts ∙ inv.1, inv.2, inv.3)
+    rw back (parts, counts ∙ inv.1, inv.2, inv.3, inv.4)
 
 pub returns-clause-read : goal.returns-clause-read
 returns-clause-read g c =

@@ -1,0 +1,222 @@
+-- The lists in which a machine remembers what finds nothing: what a loop or a single write of the code makes of them.
+-- Letters: e and f are what is remembered under a number, k, m and j numbers of buses or harts, c a child, n a node, t a turn, a its
+-- answer, q a path, near numbers of buses near a path.
+use Rattle.std.proofs.Common.{◌≡◌, ◌≢◌, ℕ, ◌+◌, ◌<◌, ◌≤◌, inl, inr, Bool, true, false, true≢false, List, [], ◌∷◌, length, Option, Some, None, refl, sym, ap, subst, ◌∙◌, arith}
+use Rattle.std.specs.Prelude.{nat_lt, is_none, slice_get, slice_set}
+use Rattle.std.proofs.lemmas.Bool.{ltb-true, ltb-false}
+use Rattle.std.proofs.lemmas.Option.{none-some, same_Some, slice_get_past, slice_get_within}
+use native.Mathlib.Decide.{ℕ_discrete}
+use Rattle.ddm_types.specs.declared.answers.TurnAnswer.{TurnAnswer}
+use Rattle.ddm_types.specs.declared.turns.Turn.{Turn}
+use Rattle.tree_model.specs.declared.BusTurn.{BusTurn}
+use Rattle.tree_model.specs.State.Directory.{in_set, set_with}
+use Rattle.tree_model.specs.State.Lists.{first_of}
+use Rattle.tree_model.specs.State.Values.{DirValue, Node, Nodes, dir_node, children}
+use Rattle.tree_model.specs.State.Child.{child_request, child_reply, child_leaving}
+use Rattle.tree_model.specs.Turns.Children.{child_at}
+use Rattle.tree_model.specs.Turns.Machine.{named_by}
+use Rattle.tree_model.proofs.Sets.{in_set-empty, in_set-others, in_set-with}
+use Rattle.split_bus.specs.Outcomes.{is_granted}
+use Rattle.ddm_tree.specs.declared.idle.Idle.{Idle}
+use Rattle.ddm_tree.specs.Idle.{idle_told, with_idle}
+use Rattle.ddm_tree.specs.Machine.{listed_path}
+use Rattle.ddm_tree.specs.Path.{node_at}
+use Rattle.ddm_tree.specs.Quiet.{AreHartsNoted, AreLearned, AreQuiet, AreRelearned, AreSame, HartsWait, IsHartNoted, IsKept, IsLearned, IsLearnedOr, IsNoneOf, IsQuietOf, IsRow, column_of, entry_at, entry_there, finds_nothing, flag, hart_flag, row_of, set_if, touches, waits_there}
+use Rattle.ddm_tree.proofs.KeysRising.{set-here, set-other}
+use Rattle.ddm_tree.proofs.QuietFrame.{false-quiet}
+use Rattle.ddm_tree.proofs.QuietNear.{below-next}
+use Rattle.ddm_tree.proofs.QuietSteps.{no-choice}
+
+-- ---- rows
+
+pub row-none : (f : ℕ → Bool) → IsRow f 0
+row-none f = record { each = λ c known. absurd (true≢false (sym known ∙ in_set-empty c)) }
+
+put-each : (f : ℕ → Bool) (row c : ℕ) → f c ≡ true → IsRow f row → (j : ℕ) → Dec (j ≡ c) → in_set j (set_with c row) ≡ true → f j ≡ true
+put-each f row c is rows j (yes same) known = ap f same ∙ is
+put-each f row c is rows j (no other) known = rows.each j (sym (in_set-others c j row other) ∙ known)
+
+pub row-put : (f : ℕ → Bool) (row c : ℕ) (b : Bool) → b ≡ f c → IsRow f row → IsRow f (set_if b c row)
+row-put f row c true is rows = record { each = λ j known. put-each f row c (sym is) rows j (ℕ_discrete j c) known }
+row-put f row c false is rows = rows
+
+-- a set of its own
+pub alone-put : (b : Bool) → in_set 0 (set_if b 0 0) ≡ b
+alone-put true = in_set-with 0 0
+alone-put false = in_set-empty 0
+
+pub rows-quiet : (d : DirValue) (ns : Nodes) (hart down requests replies leaves : ℕ)
+    → (in_set 0 down ≡ true → is_none (first_of d.down) ≡ true)
+    → IsRow (λ c. is_none (child_request (child_at c (children ns)))) requests
+    → IsRow (λ c. is_none (child_reply (child_at c (children ns)))) replies
+    → IsRow (λ c. is_none (child_leaving 0 (child_at c (children ns)))) leaves
+    → IsQuietOf (hart ∷ down ∷ requests ∷ replies ∷ leaves ∷ []) (dir_node d ns)
+rows-quiet d ns hart down requests replies leaves downs asks answers goes = record { each = each }
+  where
+    each : (t : BusTurn) → flag (row_of t) (column_of t) (hart ∷ down ∷ requests ∷ replies ∷ leaves ∷ []) ≡ true → finds_nothing t (dir_node d ns) ≡ true
+    each BusTurn.Down known = downs known
+    each (BusTurn.Request c) known = asks.each c known
+    each (BusTurn.Reply c) known = answers.each c known
+    each (BusTurn.Leave c choice) known = no-choice (child_at c (children ns)) (goes.each c known) choice
+
+-- ---- what is remembered of the turns of a bus
+
+same-self : (e : List ℕ) → AreSame e e
+same-self e = record { each = λ t. refl }
+
+same-then : {e f g : List ℕ} → AreSame e f → AreSame f g → AreSame e g
+same-then first second = record { each = λ t. second.each t ∙ first.each t }
+
+pub same-quiet : {e f : List ℕ} (n : Node) → AreSame e f → IsQuietOf e n → IsQuietOf f n
+same-quiet n same quiet = record { each = λ t known. quiet.each t (sym (same.each t) ∙ known) }
+
+-- ---- an entry that is put, and the others
+
+pub entry-put : (k : ℕ) (known : List (List ℕ)) (was e : List ℕ) → slice_get known k ≡ Some was → entry_at k (slice_set known k e) ≡ e
+entry-put k known was e at = ap entry_there (set-here known k e (slice_get_within known k was at))
+
+entry-other : (k j : ℕ) (known : List (List ℕ)) (e : List ℕ) → j ≢ k → entry_at j (slice_set known k e) ≡ entry_at j known
+entry-other k j known e other = ap entry_there (set-other known k j e other)
+
+pub entry-past : (k : ℕ) (known : List (List ℕ)) → length known ≤ k → entry_at k known ≡ []
+entry-past k known past = ap entry_there (slice_get_past known k past)
+
+pub other-same : (k j : ℕ) (known : List (List ℕ)) (e : List ℕ) → j ≢ k → AreSame (entry_at j known) (entry_at j (slice_set known k e))
+other-same k j known e other = subst (AreSame (entry_at j known)) (sym (entry-other k j known e other)) (same-self (entry_at j known))
+
+pub other-hart : (k j : ℕ) (known : List (List ℕ)) (e : List ℕ) → j ≢ k → hart_flag j (slice_set known k e) ≡ hart_flag j known
+other-hart k j known e other = ap (flag 0 0) (entry-other k j known e other)
+
+-- the same is remembered of the turns of each bus where that is so of the entry that is put
+pub put-same : (k : ℕ) (known : List (List ℕ)) (was e : List ℕ) → slice_get known k ≡ Some was → AreSame was e → (j : ℕ) → Dec (j ≡ k) → AreSame (entry_at j known) (entry_at j (slice_set known k e))
+put-same k known was e at same j (yes is) = subst (λ i. AreSame (entry_at i known) (entry_at i (slice_set known k e))) (sym is) (subst (AreSame (entry_at k known)) (sym (entry-put k known was e at)) (subst (λ f. AreSame f e) (sym (ap entry_there at)) same))
+put-same k known was e at same j (no other) = other-same k j known e other
+
+-- and of each hart
+pub put-hart : (k : ℕ) (known : List (List ℕ)) (was e : List ℕ) → slice_get known k ≡ Some was → flag 0 0 e ≡ flag 0 0 was → (j : ℕ) → Dec (j ≡ k) → hart_flag j (slice_set known k e) ≡ hart_flag j known
+put-hart k known was e at same j (yes is) = subst (λ i. hart_flag i (slice_set known k e) ≡ hart_flag i known) (sym is) (ap (flag 0 0) (entry-put k known was e at) ∙ same ∙ ap (flag 0 0) (sym (ap entry_there at)))
+put-hart k known was e at same j (no other) = other-hart k j known e other
+
+-- ---- one bus
+
+-- nothing is written
+unwritten : (k : ℕ) (paths : List (List ℕ)) (n : Node) (before : List (List ℕ)) → ((path : List ℕ) → slice_get paths k ≡ Some path → IsQuietOf (entry_at k before) (node_at path n)) → IsLearned k paths n before before
+unwritten k paths n before own = record { own = own; others = λ j other. same-self (entry_at j before); harts = λ j. refl }
+
+pub learned-past : (k : ℕ) (paths : List (List ℕ)) (n : Node) (before : List (List ℕ)) → length before ≤ k → IsLearned k paths n before before
+learned-past k paths n before past = unwritten k paths n before (λ path listed. subst (λ e. IsQuietOf e (node_at path n)) (sym (entry-past k before past)) (false-quiet [] (node_at path n) (λ row column. in_set-empty column)))
+
+pub learned-unlisted : (k : ℕ) (paths : List (List ℕ)) (n : Node) (before : List (List ℕ)) → slice_get paths k ≡ None → IsLearned k paths n before before
+learned-unlisted k paths n before unlisted = unwritten k paths n before (λ path listed. absurd (none-some path (sym unlisted ∙ listed)))
+
+-- ---- buses of a list
+
+pub learned-none : (near : List ℕ) (paths : List (List ℕ)) (n : Node) (before : List (List ℕ)) → AreLearned 0 near paths n before before
+learned-none near paths n before = record { each = λ k q listed. inr (same-self (entry_at k before), λ i below. absurd (omega (arith, below))); harts = λ j. refl }
+
+-- a bus of which one step and then another one is known
+then-same : (otherwise : Type 0) (k : ℕ) (q : List ℕ) (n : Node) (before mid after : List (List ℕ)) → AreSame (entry_at k mid) (entry_at k after) → IsLearnedOr otherwise k q n before mid → IsLearnedOr otherwise k q n before after
+then-same otherwise k q n before mid after same (inl quiet) = inl (same-quiet (node_at q n) same quiet)
+then-same otherwise k q n before mid after same (inr kept) = inr (same-then kept.0 same, kept.1)
+
+or-weaker : (from to : Type 0) → (from → to) → (k : ℕ) (q : List ℕ) (n : Node) (before after : List (List ℕ)) → IsLearnedOr from k q n before after → IsLearnedOr to k q n before after
+or-weaker from to follows k q n before after (inl quiet) = inl quiet
+or-weaker from to follows k q n before after (inr kept) = inr (kept.0, follows kept.1)
+
+none-next : (k m count : ℕ) (near : List ℕ) → slice_get near count ≡ Some m → k ≢ m → IsNoneOf k count near → IsNoneOf k (count + 1) near
+none-next k m count near at other none i below is =
+    elim (ℕ_discrete i count) as (λ _. ⊥) [
+      | yes same ↦ other (same_Some k m (sym is ∙ ap (slice_get near) same ∙ at))
+      | no earlier ↦ none i (below-next count i earlier below) is
+    ]
+
+module _ (count m : ℕ) (near : List ℕ) (paths : List (List ℕ)) (n : Node) (before mid after : List (List ℕ)) (at : slice_get near count ≡ Some m) (learned : AreLearned count near paths n before mid) (one : IsLearned m paths n mid after) where
+  learned-next : (k : ℕ) (q : List ℕ) → Dec (k ≡ m) → slice_get paths k ≡ Some q → IsLearnedOr (IsNoneOf k (count + 1) near) k q n before after
+  learned-next k q (yes is) listed = inl (subst (λ i. IsQuietOf (entry_at i after) (node_at q n)) (sym is) (one.own q (subst (λ i. slice_get paths i ≡ Some q) is listed)))
+  learned-next k q (no other) listed = or-weaker (IsNoneOf k count near) (IsNoneOf k (count + 1) near) (none-next k m count near at other) k q n before after (then-same (IsNoneOf k count near) k q n before mid after (one.others k other) (learned.each k q listed))
+
+pub learned-more : (count m : ℕ) (near : List ℕ) (paths : List (List ℕ)) (n : Node) (before mid after : List (List ℕ)) → slice_get near count ≡ Some m → AreLearned count near paths n before mid → IsLearned m paths n mid after → AreLearned (count + 1) near paths n before after
+learned-more count m near paths n before mid after at learned one = record {
+  each = λ k q listed. learned-next count m near paths n before mid after at learned one k q (ℕ_discrete k m) listed;
+  harts = λ j. one.harts j ∙ learned.harts j;
+}
+
+-- ---- after a turn
+
+pub relearned-near : (t : Turn) (a : TurnAnswer) (leaf_near bus_near bus_paths : List (List ℕ)) (near : List ℕ) (n : Node) (before after : List (List ℕ))
+    → listed_path (named_by t) leaf_near bus_near ≡ Some near → AreLearned (length near) near bus_paths n before after → AreRelearned t a leaf_near bus_near bus_paths n before after
+relearned-near t a leaf_near bus_near bus_paths near n before after named learned = record { each = each; harts = learned.harts }
+  where
+    each : (k : ℕ) (q : List ℕ) → slice_get bus_paths k ≡ Some q → IsLearnedOr (touches a ≡ true → (other : List ℕ) → listed_path (named_by t) leaf_near bus_near ≡ Some other → IsNoneOf k (length other) other) k q n before after
+    each k q listed = or-weaker (IsNoneOf k (length near) near) _ (λ none touched other is. subst (λ xs. IsNoneOf k (length xs) xs) (same_Some near other (sym named ∙ is)) none) k q n before after (learned.each k q listed)
+
+untouched : (a : TurnAnswer) (A : Type 0) → touches a ≡ false → touches a ≡ true → A
+untouched a A isnt is = absurd (true≢false (sym is ∙ isnt))
+
+own-each : (otherwise : Type 0) → otherwise → (paths : List (List ℕ)) (k : ℕ) (n : Node) (before after : List (List ℕ)) → IsLearned k paths n before after → (j : ℕ) (q : List ℕ) → Dec (j ≡ k) → slice_get paths j ≡ Some q → IsLearnedOr otherwise j q n before after
+own-each otherwise so paths k n before after learned j q (yes is) listed = subst (λ i. IsLearnedOr otherwise i q n before after) (sym is) (inl (learned.own q (subst (λ i. slice_get paths i ≡ Some q) is listed)))
+own-each otherwise so paths k n before after learned j q (no other) listed = inr (learned.others j other, so)
+
+pub relearned-own : (t : Turn) (a : TurnAnswer) (leaf_near bus_near bus_paths : List (List ℕ)) (k : ℕ) (n : Node) (before after : List (List ℕ))
+    → touches a ≡ false → IsLearned k bus_paths n before after → AreRelearned t a leaf_near bus_near bus_paths n before after
+relearned-own t a leaf_near bus_near bus_paths k n before after isnt learned = record {
+  each = λ j q listed. own-each _ (untouched a _ isnt) bus_paths k n before after learned j q (ℕ_discrete j k) listed;
+  harts = learned.harts;
+}
+
+pub relearned-none : (t : Turn) (a : TurnAnswer) (leaf_near bus_near bus_paths : List (List ℕ)) (n : Node) (before : List (List ℕ))
+    → touches a ≡ false → AreRelearned t a leaf_near bus_near bus_paths n before before
+relearned-none t a leaf_near bus_near bus_paths n before isnt = record { each = λ k q listed. inr (same-self (entry_at k before), untouched a _ isnt); harts = λ j. refl }
+
+-- ---- harts
+
+flag-within : (k : ℕ) (known : List (List ℕ)) → hart_flag k known ≡ true → k < length known
+flag-within k known is = elim (nat_lt k (length known)) as (λ b. nat_lt k (length known) ≡ b → k < length known) [
+  | true ↦ λ inside. ltb-true k (length known) inside
+  | false ↦ λ past. absurd (true≢false (sym is ∙ ap (flag 0 0) (entry-past k known (ltb-false k (length known) past))))
+] refl
+
+pub hart-past : (k : ℕ) (idle : List (Option Idle)) (before : List (List ℕ)) → length before ≤ k → IsHartNoted k idle before before
+hart-past k idle before past = record {
+  own = λ known. absurd (true≢false (sym known ∙ ap (flag 0 0) (entry-past k before past)));
+  others = λ j other. refl;
+  buses = λ j. same-self (entry_at j before);
+}
+
+pub harts-none : (idle : List (Option Idle)) (before : List (List ℕ)) → AreHartsNoted 0 idle before before
+harts-none idle before = record { each = λ k below. absurd (omega (arith, below)); buses = λ j. same-self (entry_at j before) }
+
+harts-next : (k : ℕ) (idle : List (Option Idle)) (before mid after : List (List ℕ)) → AreHartsNoted k idle before mid → IsHartNoted k idle mid after → (j : ℕ) → Dec (j ≡ k) → j < k + 1 → hart_flag j after ≡ true → waits_there (slice_get idle j) ≡ true
+harts-next k idle before mid after all noted j (yes is) below known = ap (λ i. waits_there (slice_get idle i)) is ∙ noted.own (subst (λ i. hart_flag i after ≡ true) is known)
+harts-next k idle before mid after all noted j (no other) below known = all.each j (below-next k j other below) (sym (noted.others j other) ∙ known)
+
+pub harts-more : (k : ℕ) (idle : List (Option Idle)) (before mid after : List (List ℕ)) → AreHartsNoted k idle before mid → IsHartNoted k idle mid after → AreHartsNoted (k + 1) idle before after
+harts-more k idle before mid after all noted = record {
+  each = λ j below known. harts-next k idle before mid after all noted j (ℕ_discrete j k) below known;
+  buses = λ j. same-then (all.buses j) (noted.buses j);
+}
+
+pub harts-all : (idle : List (Option Idle)) (before after : List (List ℕ)) → length after ≡ length before → AreHartsNoted (length before) idle before after → HartsWait after idle
+harts-all idle before after same all = record { each = λ k known. all.each k (subst (λ i. k < i) same (flag-within k after known)) known }
+
+told-each : (hart : ℕ) (i : Idle) (idle now : List (Option Idle)) (before after : List (List ℕ)) → now ≡ slice_set idle hart (Some i) → HartsWait before idle → IsHartNoted hart now before after → (k : ℕ) → Dec (k ≡ hart) → hart_flag k after ≡ true → waits_there (slice_get now k) ≡ true
+told-each hart i idle now before after is wait noted k (yes own) known = ap (λ j. waits_there (slice_get now j)) own ∙ noted.own (subst (λ j. hart_flag j after ≡ true) own known)
+told-each hart i idle now before after is wait noted k (no other) known = ap (λ xs. waits_there (slice_get xs k)) is ∙ ap waits_there (set-other idle hart k (Some i) other) ∙ wait.each k (sym (noted.others k other) ∙ known)
+
+pub harts-told : (t : Turn) (hart victim : ℕ) (a : TurnAnswer) (i : Idle) (idle now : List (Option Idle)) (before after : List (List ℕ))
+    → t ≡ Turn.Hart hart victim → idle_told a ≡ Some i → IsKept t a idle now → HartsWait before idle → IsHartNoted hart now before after → HartsWait after now
+harts-told t hart victim a i idle now before after is told kept wait noted = record { each = λ k known. told-each hart i idle now before after becomes wait noted k (ℕ_discrete k hart) known }
+  where
+    becomes : now ≡ slice_set idle hart (Some i)
+    becomes = kept.told i told ∙ ap (λ s. with_idle s i idle) is
+
+pub harts-same : (t : Turn) (a : TurnAnswer) (idle now : List (Option Idle)) (known : List (List ℕ)) → idle_told a ≡ None → is_granted a ≡ false → IsKept t a idle now → HartsWait known idle → HartsWait known now
+harts-same t a idle now known untold ungranted kept wait = subst (HartsWait known) (sym (kept.other untold ungranted)) wait
+
+-- ---- what the one kind of write keeps of the other
+
+pub waits-relearned : (t : Turn) (a : TurnAnswer) (leaf_near bus_near bus_paths : List (List ℕ)) (n : Node) (idle : List (Option Idle)) (before after : List (List ℕ)) → AreRelearned t a leaf_near bus_near bus_paths n before after → HartsWait before idle → HartsWait after idle
+waits-relearned t a leaf_near bus_near bus_paths n idle before after relearned wait = record { each = λ k known. wait.each k (sym (relearned.harts k) ∙ known) }
+
+pub quiet-same : (n after : Node) (known kept : List (List ℕ)) → ((j : ℕ) → AreSame (entry_at j known) (entry_at j kept)) → AreQuiet known n after → AreQuiet kept n after
+quiet-same n after known kept same quiet = record { each = λ k path leads. same-quiet (node_at path after) (same k) (quiet.each k path leads) }

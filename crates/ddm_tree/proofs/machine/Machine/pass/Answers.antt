@@ -1,0 +1,53 @@
+-- A turn that is known to find nothing.
+use Rattle.std.proofs.Common.{◌≡◌, ◌+◌, map, true, vec_items, sym, ap, subst, ◌∙◌}
+use Rattle.ddm_types.specs.Keys.{stamp_zero}
+use Rattle.tree_model.specs.State.Values.{dir_node, nodes, root_of}
+use Rattle.tree_model.specs.State.Shape.{widths_bounded}
+use Rattle.tree_model.specs.Turns.Machine.{names_part, turn_of}
+use Rattle.ddm_tree.specs.Machine.{IsMachine, MachineState, machine_of, state_after}
+use Rattle.ddm_tree.specs.Path.{present_at}
+use Rattle.ddm_tree.specs.Quiet.{counts_nothing, is_known}
+use Rattle.ddm_tree.proofs.MachineKept.{turn-keeps}
+use Rattle.ddm_tree.proofs.QuietColumns.{column-few}
+use Rattle.ddm_tree.proofs.QuietPass.{passed-turn}
+use Rattle.ddm_tree.proofs.QuietTurns.{known-passed}
+use Rattle.ddm_tree.proofs.TurnMade.{part-found}
+use Rattle.ddm_tree.proofs.machine.Machine.pass.Goals as goal
+use Rattle.ddm_tree.proofs.machine.Machine.pass.Given
+
+-- the machine before, in the tables' words
+abbrev before : (g : Given.Over) → goal.After-self-1 g → MachineState
+before g c = record { machine = machine_of c.self.inside.code c.self.inside.items c.self.inside.top (map g.C.Agent.value c.self.inside.children.items) c.self.inside.ops.items c.self.inside.traffic.items; spare = c.self.inside.spare; turns = c.self.inside.turns }
+
+-- the turn changes nothing but the number of turns
+passed : (g : Given.Over) (c : goal.After-self-1 g) → (state_after c.args.turn.now (before g c) ≡ record (before g c) { turns = c.self.inside.turns + 1 }) × (counts_nothing (turn_of c.args.turn.now (before g c).machine).answer ≡ true)
+passed g c =
+    let root = dir_node c.self.inside.top (nodes (map g.C.Agent.value c.self.inside.children.items)) in
+    let inv = c.self.invariant in
+    let named : names_part c.args.turn.now (before g c).machine ≡ true = subst (λ s. names_part c.args.turn.now s.machine ≡ true) (sym c.self.view_is) c.requires.named in
+    let found = part-found g.row.WORDS c.self.inside.turns (map vec_items c.self.inside.leaf_paths.items) (map vec_items c.self.inside.bus_paths.items) c.args.turn.now (before g c).machine inv.0 named in
+    let known : is_known c.args.turn.now c.self.inside.quiet.items ≡ true = ap (is_known c.args.turn.now) (sym c.deref.ensures.value) ∙ sym c.is_known-known.ensures ∙ c.if-known.true in
+    let is = known-passed c.self.inside.code c.self.inside.items c.args.turn.now found.path (present_at found.path stamp_zero root) root c.self.inside.quiet.items c.self.inside.idle.items found.leads inv.6 inv.7 inv.5 known in
+    passed-turn c.args.turn.now (before g c) found.path found.leads is
+
+pub is_known-known-requires : goal.is_known-known-requires
+is_known-known-requires g c =
+    let m = machine_of c.self.inside.code c.self.inside.items c.self.inside.top (map g.C.Agent.value c.self.inside.children.items) c.self.inside.ops.items c.self.inside.traffic.items in
+    let inv = c.self.invariant in
+    let named : names_part c.args.turn.now m ≡ true = subst (λ s. names_part c.args.turn.now s.machine ≡ true) (sym c.self.view_is) c.requires.named in
+    let found = part-found g.row.WORDS c.self.inside.turns (map vec_items c.self.inside.leaf_paths.items) (map vec_items c.self.inside.bus_paths.items) c.args.turn.now m inv.0 named in
+    column-few c.args.turn.now found.path (root_of m) (inv.0.shaped.each widths_bounded) found.leads found.child
+
+pub invariant_of-self : goal.invariant_of-self
+invariant_of-self g c =
+    let inv = c.self.invariant in
+    let leaf_paths = map vec_items c.self.inside.leaf_paths.items in
+    let bus_paths = map vec_items c.self.inside.bus_paths.items in
+    let keeps = turn-keeps g.row.WORDS c.self.inside.turns leaf_paths bus_paths c.args.turn.now (before g c).machine inv.0 in
+    (subst (λ n. IsMachine g.row.WORDS n (c.self.inside.turns + 1) leaf_paths bus_paths) (ap (λ s. s.machine) (passed g c).0) keeps, inv.1, inv.2, inv.3, inv.4, inv.5, inv.6, inv.7, inv.8)
+
+pub returns-then-known-clause-passed : goal.returns-then-known-clause-passed
+returns-then-known-clause-passed g c = λ known. sym (passed g c).0 ∙ ap (state_after c.args.turn.now) c.self.view_is
+
+pub returns-then-known-clause-nothing : goal.returns-then-known-clause-nothing
+returns-then-known-clause-nothing g c = λ known. subst (λ s. counts_nothing (turn_of c.args.turn.now s.machine).answer ≡ true) c.self.view_is (passed g c).1

@@ -1,0 +1,213 @@
+-- Turns of buses that find nothing, and of harts that wait for an item: what a machine remembers of them, so that it needn't look.
+-- Letters: n is a node, v a leaf, d a directory over the nodes ns, t a turn, k the number of a bus or a hart, c a child, e what is
+-- remembered under a number, p and q paths, near the numbers of the buses near a path.
+-- To be believed with the contracts: it is what a machine remembers of its buses.
+use Rattle.std.specs.Prelude.{◌≡◌, ◌≢◌, ◌<◌, ◌⊎◌, ℕ, Bool, true, false, List, [], ◌∷◌, ◌++◌, Option, Some, None, is_none, length, slice_get}
+use Rattle.ddm_types.specs.declared.answers.TurnAnswer.{TurnAnswer}
+use Rattle.ddm_types.specs.declared.turns.Turn.{Turn}
+use Rattle.tree_model.specs.declared.BusTurn.{BusTurn}
+use Rattle.tree_model.specs.State.Directory.{in_set, set_with}
+use Rattle.tree_model.specs.State.Lists.{first_of}
+use Rattle.tree_model.specs.State.Values.{Node, leaf_node, dir_node, children}
+use Rattle.tree_model.specs.State.Child.{child_request, child_reply, child_leaving}
+use Rattle.tree_model.specs.Turns.Children.{child_at}
+use Rattle.tree_model.specs.Turns.Machine.{named_by}
+use Rattle.tree_model.specs.Turns.Tree.{bus_of_number}
+use Rattle.split_bus.specs.Outcomes.{is_granted}
+use Rattle.ddm_tree.specs.declared.idle.Idle.{Idle}
+use Rattle.ddm_tree.specs.Idle.{idle_told, with_idle}
+use Rattle.ddm_tree.specs.Machine.{listed_path}
+use Rattle.ddm_tree.specs.Path.{node_at}
+use Rattle.ddm_tree.specs.Ready.{Leads}
+
+-- the turn finds nothing on the bus below this directory; a leaf has none
+abbrev pub finds_nothing : BusTurn → Node → Bool
+finds_nothing t (leaf_node v) = false
+finds_nothing BusTurn.Down (dir_node d ns) = is_none (first_of d.down)
+finds_nothing (BusTurn.Request c) (dir_node d ns) = is_none (child_request (child_at c (children ns)))
+finds_nothing (BusTurn.Reply c) (dir_node d ns) = is_none (child_reply (child_at c (children ns)))
+finds_nothing (BusTurn.Leave c choice) (dir_node d ns) = is_none (child_leaving choice (child_at c (children ns)))
+
+-- ---- what is remembered under a number: a set for the hart and one for Down, in which 0 alone counts, and one each for requests,
+-- replies and copies that leave, of children of the bus. For whatever is in a set the turn finds nothing.
+
+abbrev pub row_of : BusTurn → ℕ
+row_of BusTurn.Down = 1
+row_of (BusTurn.Request c) = 2
+row_of (BusTurn.Reply c) = 3
+row_of (BusTurn.Leave c choice) = 4
+
+abbrev pub column_of : BusTurn → ℕ
+column_of BusTurn.Down = 0
+column_of (BusTurn.Request c) = c
+column_of (BusTurn.Reply c) = c
+column_of (BusTurn.Leave c choice) = c
+
+abbrev pub row_there : Option ℕ → ℕ
+row_there None = 0
+row_there (Some row) = row
+
+abbrev pub entry_there : Option (List ℕ) → List ℕ
+entry_there None = []
+entry_there (Some e) = e
+
+abbrev pub flag : ℕ → ℕ → List ℕ → Bool
+flag row column e = in_set column (row_there (slice_get e row))
+
+-- what is remembered of a bus is so at this node
+pub record IsQuietOf (e : List ℕ) (n : Node) : Type 0 where
+  pub each : (t : BusTurn) → flag (row_of t) (column_of t) e ≡ true → finds_nothing t n ≡ true
+
+-- for whatever is in a set this is true
+pub record IsRow (f : ℕ → Bool) (row : ℕ) : Type 0 where
+  pub each : (c : ℕ) → in_set c row ≡ true → f c ≡ true
+
+-- a set with this one, if the test says so
+abbrev pub set_if : Bool → ℕ → ℕ → ℕ
+set_if false c row = row
+set_if true c row = set_with c row
+
+-- whatever the bus above finds nothing of at the one, it finds nothing of at the other
+pub record KeepsQuiet (n after : Node) : Type 0 where
+  pub request : is_none (child_request n) ≡ true → is_none (child_request after) ≡ true
+  pub reply : is_none (child_reply n) ≡ true → is_none (child_reply after) ≡ true
+  pub leaving : (choice : ℕ) → is_none (child_leaving choice n) ≡ true → is_none (child_leaving choice after) ≡ true
+
+-- ---- what a machine remembers: an entry for each number of a bus or a hart
+
+abbrev pub entry_at : ℕ → List (List ℕ) → List ℕ
+entry_at k known = entry_there (slice_get known k)
+
+abbrev pub number_of : Turn → ℕ
+number_of (Turn.Hart hart victim) = hart
+number_of (Turn.Down bus) = bus
+number_of (Turn.Request bus child) = bus
+number_of (Turn.Reply bus child) = bus
+number_of (Turn.Leave bus child choice) = bus
+
+abbrev pub turn_row : Turn → ℕ
+turn_row (Turn.Hart hart victim) = 0
+turn_row (Turn.Down bus) = 1
+turn_row (Turn.Request bus child) = 2
+turn_row (Turn.Reply bus child) = 3
+turn_row (Turn.Leave bus child choice) = 4
+
+abbrev pub turn_column : Turn → ℕ
+turn_column (Turn.Hart hart victim) = 0
+turn_column (Turn.Down bus) = 0
+turn_column (Turn.Request bus child) = child
+turn_column (Turn.Reply bus child) = child
+turn_column (Turn.Leave bus child choice) = child
+
+abbrev pub is_known : Turn → List (List ℕ) → Bool
+is_known t known = flag (turn_row t) (turn_column t) (entry_at (number_of t) known)
+
+-- what is remembered of the buses below a node is so there, and so where these paths lead below another one
+pub record AreQuiet (known : List (List ℕ)) (n after : Node) : Type 0 where
+  pub each : (k : ℕ) (path : List ℕ) → Leads (bus_of_number k) path n → IsQuietOf (entry_at k known) (node_at path after)
+
+abbrev pub waits : Option Idle → Bool
+waits None = false
+waits (Some (Idle.Waits x)) = true
+waits (Some (Idle.BufferFull leaf)) = false
+
+abbrev pub waits_there : Option (Option Idle) → Bool
+waits_there None = false
+waits_there (Some known) = waits known
+
+abbrev pub hart_flag : ℕ → List (List ℕ) → Bool
+hart_flag k known = flag 0 0 (entry_at k known)
+
+-- whoever waits by the one is idle by the other
+pub record HartsWait (known : List (List ℕ)) (idle : List (Option Idle)) : Type 0 where
+  pub each : (k : ℕ) → hart_flag k known ≡ true → waits_there (slice_get idle k) ≡ true
+
+-- nothing is remembered
+pub record IsBlank (known : List (List ℕ)) : Type 0 where
+  pub each : (k row column : ℕ) → flag row column (entry_at k known) ≡ false
+
+-- ---- what is remembered anew after a turn
+
+-- of the turns of a bus the same is remembered
+pub record AreSame (e f : List ℕ) : Type 0 where
+  pub each : (t : BusTurn) → flag (row_of t) (column_of t) f ≡ flag (row_of t) (column_of t) e
+
+-- of one bus, whose path is listed
+pub record IsLearned (k : ℕ) (paths : List (List ℕ)) (n : Node) (before after : List (List ℕ)) : Type 0 where
+  pub own : (path : List ℕ) → slice_get paths k ≡ Some path → IsQuietOf (entry_at k after) (node_at path n)
+  pub others : (j : ℕ) → j ≢ k → AreSame (entry_at j before) (entry_at j after)
+  pub harts : (j : ℕ) → hart_flag j after ≡ hart_flag j before
+
+-- neither path is the other's, nor one of its children's
+pub record AreApart (q p : List ℕ) : Type 0 where
+  pub other : q ≡ p → ⊥
+  pub parent : (c : ℕ) → p ≡ q ++ c ∷ [] → ⊥
+  pub child : (c : ℕ) → q ≡ p ++ c ∷ [] → ⊥
+
+-- or the same as before
+abbrev pub IsLearnedOr : Type 0 → ℕ → List ℕ → Node → List (List ℕ) → List (List ℕ) → Type 0
+IsLearnedOr otherwise k q n before after = IsQuietOf (entry_at k after) (node_at q n) ⊎ (AreSame (entry_at k before) (entry_at k after) × otherwise)
+
+-- k is none of the first of these numbers
+abbrev pub IsNoneOf : ℕ → ℕ → List ℕ → Type 0
+IsNoneOf k count near = (i : ℕ) → i < count → slice_get near i ≡ Some k → ⊥
+
+-- of each bus that is one of the first of these numbers
+pub record AreLearned (count : ℕ) (near : List ℕ) (paths : List (List ℕ)) (n : Node) (before after : List (List ℕ)) : Type 0 where
+  pub each : (k : ℕ) (q : List ℕ) → slice_get paths k ≡ Some q → IsLearnedOr (IsNoneOf k count near) k q n before after
+  pub harts : (j : ℕ) → hart_flag j after ≡ hart_flag j before
+
+-- these are the buses near a path: each other one is apart from it
+pub record IsNear (p near : List ℕ) (paths : List (List ℕ)) : Type 0 where
+  pub others : (k : ℕ) (q : List ℕ) → slice_get paths k ≡ Some q → IsNoneOf k (length near) near → AreApart q p
+
+-- there is a list of the buses near each path
+pub record AreNear (nears from paths : List (List ℕ)) : Type 0 where
+  pub as_many : length nears ≡ length from
+  pub each : (m : ℕ) (p near : List ℕ) → slice_get from m ≡ Some p → slice_get nears m ≡ Some near → IsNear p near paths
+
+-- and there are those of leaves and of buses
+pub record AreNearListed (leaf_near bus_near leaf_paths bus_paths : List (List ℕ)) : Type 0 where
+  pub leaves : AreNear leaf_near leaf_paths bus_paths
+  pub buses : AreNear bus_near bus_paths bus_paths
+
+-- a turn that answers so may have changed what the bus above, or another one, finds
+abbrev pub touches : TurnAnswer → Bool
+touches (TurnAnswer.Retired op) = false
+touches (TurnAnswer.Issued kind x) = true
+touches (TurnAnswer.Waiting x) = false
+touches (TurnAnswer.Halted cause) = false
+touches (TurnAnswer.Granted entry) = true
+touches TurnAnswer.Empty = false
+touches (TurnAnswer.Busy cause) = false
+
+-- of the buses near the leaf or bus of a turn that touched them
+pub record AreRelearned (t : Turn) (a : TurnAnswer) (leaf_near bus_near bus_paths : List (List ℕ)) (n : Node) (before after : List (List ℕ)) : Type 0 where
+  pub each : (k : ℕ) (q : List ℕ) → slice_get bus_paths k ≡ Some q → IsLearnedOr (touches a ≡ true → (near : List ℕ) → listed_path (named_by t) leaf_near bus_near ≡ Some near → IsNoneOf k (length near) near) k q n before after
+  pub harts : (j : ℕ) → hart_flag j after ≡ hart_flag j before
+
+-- what is remembered of idle harts changed by what was told of one of them, or by a grant
+pub record IsKept (t : Turn) (a : TurnAnswer) (before after : List (Option Idle)) : Type 0 where
+  pub told : (i : Idle) → idle_told a ≡ Some i → after ≡ with_idle t i before
+  pub other : idle_told a ≡ None → is_granted a ≡ false → after ≡ before
+
+-- of a hart: it waits, if that is remembered
+pub record IsHartNoted (k : ℕ) (idle : List (Option Idle)) (before after : List (List ℕ)) : Type 0 where
+  pub own : hart_flag k after ≡ true → waits_there (slice_get idle k) ≡ true
+  pub others : (j : ℕ) → j ≢ k → hart_flag j after ≡ hart_flag j before
+  pub buses : (j : ℕ) → AreSame (entry_at j before) (entry_at j after)
+
+-- of each, as far as numbers below count go
+pub record AreHartsNoted (count : ℕ) (idle : List (Option Idle)) (before after : List (List ℕ)) : Type 0 where
+  pub each : (k : ℕ) → k < count → hart_flag k after ≡ true → waits_there (slice_get idle k) ≡ true
+  pub buses : (j : ℕ) → AreSame (entry_at j before) (entry_at j after)
+
+-- an answer that is counted as a turn alone: nothing completed, nothing was granted, and nothing was busy
+abbrev pub counts_nothing : TurnAnswer → Bool
+counts_nothing (TurnAnswer.Retired op) = false
+counts_nothing (TurnAnswer.Issued kind x) = false
+counts_nothing (TurnAnswer.Waiting x) = true
+counts_nothing (TurnAnswer.Halted cause) = true
+counts_nothing (TurnAnswer.Granted entry) = false
+counts_nothing TurnAnswer.Empty = true
+counts_nothing (TurnAnswer.Busy cause) = false
