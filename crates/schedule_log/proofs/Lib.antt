@@ -6,3 +6,4 @@ pub mod Cuttings
 pub mod SeedTurns
 pub mod Spellings
 pub mod Draws
+pub mod SeenLines

@@ -5,3 +5,4 @@ pub mod Steps
 pub mod Reader
 pub mod Pieces
 pub mod Spelled
+pub mod Seen

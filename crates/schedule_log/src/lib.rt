@@ -7,6 +7,7 @@ mod parts;
 mod reading;
 mod refusal;
 mod seeding;
+mod seen;
 mod spelled;
 mod standing;
 mod steps;

@@ -4,6 +4,7 @@ ghost use Rattle.schedule_log.specs.Shapes.{shape_view};
 
 use crate::parts::Parts;
 use crate::refusal::FeedError;
+use crate::seen::nothing_seen;
 use crate::standing::Standing;
 use crate::steps::{Step, first_step};
 use ddm_types::{NoMemory, Turn};
@@ -38,8 +39,9 @@ fn read_lines(
     let mut made = first;
     let mut lines = first_lines;
     let mut kept = 0;
+    let mut seen = nothing_seen();
     'lines: loop {
-        match first_step(parts, lines, made, &text[kept..]) {
+        match first_step(parts, lines, made, &text[kept..], &mut seen) {
             Step::Turn { turn, used } => {
                 turns.push(turn)?;
                 made += 1;

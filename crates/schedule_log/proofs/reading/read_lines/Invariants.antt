@@ -1,5 +1,6 @@
-use Rattle.std.proofs.Common.{◌≡◌, ◌+◌, ◌-◌, ◌≤◌, ◌++◌, length, take, drop}
+use Rattle.std.proofs.Common.{◌≡◌, ◌+◌, ◌-◌, ◌≤◌, ◌++◌, All, length, take, drop}
 use Rattle.text_model.specs.Schedule.{reading_on, held_of}
+use Rattle.schedule_log.specs.Seen.{IsSeenAt}
 use Rattle.schedule_log.proofs.reading.read_lines.Given as goal
 
 -- the turns so far and those of the bytes to come are all
@@ -13,6 +14,7 @@ invariant-lines l = record {
   within : l.kept ≤ length l.text;
   of_text : l.lines ≤ l.made;
   few : l.made ≤ 1048576;
+  seen : All (IsSeenAt l.parts) l.seen;
   front : take (length l.initial.turns.items) l.turns.items ≡ l.initial.turns.items;
 }
 
