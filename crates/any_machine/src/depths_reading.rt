@@ -78,9 +78,7 @@ fn state_over<const WORDS: usize, C: Subtree<WORDS>>(
     item: ItemId,
     leaf: LeafNo,
 ) -> Option<LeafState>
-    requires small { WORDS ≤ 16 }
-    requires leaf { is_part (leaf_of_number leaf) machine.now.machine ≡ true }
-    requires item { item < item_count machine.now.machine.items }
+    requires { is_part (leaf_of_number leaf) machine.now.machine ≡ true }
     ensures { Some result ≡ state_of leaf item machine.now.machine }
 {
     state(machine, item, leaf)
@@ -185,9 +183,7 @@ impl<const WAYS: usize, const WORDS: usize> Depths<WAYS, WORDS> {
     /// The state of a leaf's entry of an item.
     #[inline(always)]
     pub fn state(&self, item: ItemId, leaf: LeafNo) -> Option<LeafState>
-        requires small { WORDS ≤ 16 }
-        requires leaf { is_part (leaf_of_number leaf) (depths_state self.now).machine ≡ true }
-        requires item { item < item_count (depths_state self.now).machine.items }
+        requires { is_part (leaf_of_number leaf) (depths_state self.now).machine ≡ true }
         ensures { Some result ≡ state_of leaf item (depths_state self.now).machine }
     {
         match self {

@@ -88,9 +88,7 @@ impl<const WORDS: usize> Machines<WORDS> {
     /// The state of a leaf's entry of an item.
     #[inline(always)]
     pub fn state(&self, item: ItemId, leaf: LeafNo) -> Option<LeafState>
-        requires small { WORDS ≤ 16 }
-        requires leaf { is_part (leaf_of_number leaf) (state_in self.now).machine ≡ true }
-        requires item { item < item_count (state_in self.now).machine.items }
+        requires { is_part (leaf_of_number leaf) (state_in self.now).machine ≡ true }
         ensures { Some result ≡ state_of leaf item (state_in self.now).machine }
     {
         match self {
@@ -161,8 +159,7 @@ impl AnyMachine {
     /// The state of a leaf's entry of an item.
     #[inline(always)]
     pub fn state(&self, item: ItemId, leaf: LeafNo) -> Option<LeafState>
-        requires leaf { is_part (leaf_of_number leaf) (machine_state self.now).machine ≡ true }
-        requires item { item < item_count (machine_state self.now).machine.items }
+        requires { is_part (leaf_of_number leaf) (machine_state self.now).machine ≡ true }
         ensures { Some result ≡ state_of leaf item (machine_state self.now).machine }
     {
         match self {

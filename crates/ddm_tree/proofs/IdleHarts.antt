@@ -33,8 +33,10 @@ use Rattle.ddm_tree.specs.declared.idle.Idle.{Idle}
 use Rattle.ddm_tree.specs.Idle.{AreIdle, AreNoted, IsIdle, IsKnown, idle_answer, idle_for, idle_there, idle_told, is_told, still_known}
 use Rattle.ddm_tree.specs.Machine.{listed_path}
 use Rattle.ddm_tree.specs.Path.{below, node_at, path_to, put_at, node_answer, node_turned}
+use Rattle.ddm_tree.specs.Quiet.{AreApart, AreNear, IsNoneOf}
 use Rattle.ddm_tree.specs.Ready.{Leads}
 use Rattle.ddm_tree.proofs.Along.{along}
+use Rattle.ddm_tree.proofs.QuietNear.{far-in}
 
 -- ---- an idle hart's deed has nothing to do with the moment and the victim
 
@@ -354,22 +356,24 @@ module _ (code : List CodeWord) (items : ItemTable) (t : Turn) (p : List ℕ) (p
           | false ↦ λ is. idle-unchanged code items n p new (new-ungranted is) q i idle
         ] refl
 
-  module _ (leaf_paths bus_paths : List (List ℕ)) (before : List (Option Idle)) (listed : listed_path (named_by t) leaf_paths bus_paths ≡ Some p) (paths : (k : ℕ) (q : List ℕ) → Leads (leaf_of_number k) q n → slice_get leaf_paths k ≡ Some q) (idle : AreIdle code items before n n) where
+  module _ (bus_leaves leaf_paths bus_paths : List (List ℕ)) (before : List (Option Idle)) (listed : listed_path (named_by t) leaf_paths bus_paths ≡ Some p) (near : AreNear bus_leaves bus_paths leaf_paths) (paths : (k : ℕ) (q : List ℕ) → Leads (leaf_of_number k) q n → slice_get leaf_paths k ≡ Some q) (idle : AreIdle code items before n n) where
     turn-kept : (name : Name) → named_by t ≡ name → (k : ℕ) (i : Idle) (q : List ℕ) → slice_get before k ≡ Some (Some i) → Leads (leaf_of_number k) q n
-        → (is_granted answer ≡ true → (path : List ℕ) (c : ℕ) → listed_path (named_by t) leaf_paths bus_paths ≡ Some path → slice_get leaf_paths k ≡ Some (path ++ c ∷ []) → ⊥) → IsIdle code items i (node_at q (put_at p new n))
+        → (is_granted answer ≡ true → (bus : ℕ) (leaves : List ℕ) → named_by t ≡ bus_of_number bus → slice_get bus_leaves bus ≡ Some leaves → IsNoneOf k (length leaves) leaves) → IsIdle code items i (node_at q (put_at p new n))
     turn-kept (leaf_of_number j) is k i q known there other =
         let leaf = leads-leaf k q n there in
         hart-kept j is q i leaf.0 leaf.1 (idle.each k i q known there)
     turn-kept (bus_of_number b) is k i q known there other =
         let leaf = leads-leaf k q n there in
-        bus-turn-kept b is q i leaf.0 leaf.1 (λ grants c at. other grants p c listed (paths k q there ∙ ap Some at)) (idle.each k i q known there)
+        let path : slice_get bus_paths b ≡ Some p = subst (λ name. listed_path name leaf_paths bus_paths ≡ Some p) is listed in
+        let apart : is_granted answer ≡ true → AreApart q p = λ grants. far-in bus_leaves bus_paths leaf_paths b p path near k q (paths k q there) (λ leaves. other grants b leaves is) in
+        bus-turn-kept b is q i leaf.0 leaf.1 (λ grants. (apart grants).child) (idle.each k i q known there)
 
-    known-idle : (k : ℕ) (i : Idle) (q : List ℕ) → IsKnown t answer leaf_paths bus_paths before k i → Leads (leaf_of_number k) q n → IsIdle code items i (node_at q (put_at p new n))
+    known-idle : (k : ℕ) (i : Idle) (q : List ℕ) → IsKnown t answer bus_leaves before k i → Leads (leaf_of_number k) q n → IsIdle code items i (node_at q (put_at p new n))
     known-idle k i q (is_told own says) there = hart-told k own q i there says
     known-idle k i q (still_known known other) there = turn-kept (named_by t) refl k i q known there other
 
     -- what is noted is so after the turn
-    pub noted-idle : (after : List (Option Idle)) → AreNoted t answer leaf_paths bus_paths before after → AreIdle code items after n (put_at p new n)
+    pub noted-idle : (after : List (Option Idle)) → AreNoted t answer bus_leaves before after → AreIdle code items after n (put_at p new n)
     noted-idle after noted = record { each = λ k i q known there. known-idle k i q (noted.each k i known) there }
 
 -- ---- a turn of a hart that is known to be idle

@@ -22,7 +22,6 @@ pub mod IdleHarts
 pub mod QuietFrame
 pub mod QuietSteps
 pub mod QuietTable
-pub mod QuietHarts
 pub mod QuietPass
 pub mod QuietIndex
 pub mod QuietBlank

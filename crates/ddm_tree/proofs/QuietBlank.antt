@@ -15,20 +15,6 @@ use Rattle.ddm_tree.proofs.QuietIndex.{blank-flag}
 abbrev blank : List ℕ
 blank = replicate 5 0
 
-pub blank-empty : IsBlank []
-blank-empty = record { each = λ k row column. in_set-empty column }
-
-blank-next : (e : List ℕ) (known : List (List ℕ)) → ((row column : ℕ) → flag row column e ≡ false) → IsBlank known → IsBlank (e ∷ known)
-blank-next e known first rest = record { each = at }
-  where
-    at : (k row column : ℕ) → flag row column (entry_at k (e ∷ known)) ≡ false
-    at zero = first
-    at (suc k) = rest.each k
-
-pub blank-push : (known : List (List ℕ)) → IsBlank known → IsBlank (known ++ blank ∷ [])
-blank-push [] none = blank-next blank [] (blank-flag 5) blank-empty
-blank-push (e ∷ known) none = blank-next e (known ++ blank ∷ []) (none.each 0) (blank-push known (record { each = λ k. none.each (suc k) }))
-
 module _ (known : List (List ℕ)) (place : ℕ) (before : (i : ℕ) → i < place → slice_index_or known i [] ≡ blank) (inside : place < length known) where
   more-at : (i : ℕ) → i < place + 1 → Dec (i ≡ place) → slice_index_or (slice_set known place blank) i [] ≡ blank
   more-at i below (yes is) = ap (λ j. slice_index_or (slice_set known place blank) j []) is ∙ get_or-set_same known place blank [] inside

@@ -10,9 +10,8 @@ use Rattle.tree_model.specs.declared.BusTurn.{BusTurn}
 use Rattle.tree_model.specs.State.Directory.{in_set}
 use Rattle.tree_model.specs.State.Values.{Node}
 use Rattle.tree_model.proofs.Sets.{in_set-empty}
-use Rattle.ddm_tree.specs.declared.idle.Idle.{Idle}
 use Rattle.ddm_tree.specs.Path.{node_at}
-use Rattle.ddm_tree.specs.Quiet.{AreSame, IsBlank, IsHartNoted, IsLearned, IsQuietOf, column_of, entry_at, flag, row_of, row_there, waits_there}
+use Rattle.ddm_tree.specs.Quiet.{AreSame, IsBlank, IsHartNoted, IsLearned, IsQuietOf, column_of, entry_at, flag, row_of, row_there}
 use Rattle.ddm_tree.proofs.QuietTable.{same-quiet, entry-put, entry-past, other-same, other-hart, put-same, put-hart}
 
 -- ---- a row or an entry by its index
@@ -66,13 +65,13 @@ learned-index k paths n before path e listed quiet inside = record {
     here = subst (λ x. IsQuietOf x (node_at path n)) (sym (entry-put k before was f at)) (same-quiet (node_at path n) (rows-index (slice_index_or was 0 0) e) quiet)
 
 -- a hart's row put anew, with the other rows of the entry that stood there; b is whether it waits
-pub hart-index : (k : ℕ) (idle : List (Option Idle)) (before : List (List ℕ)) (b : Bool) (row : ℕ)
-    → k < length before → b ≡ waits_there (slice_get idle k) → in_set 0 row ≡ b
-    → IsHartNoted k idle before (slice_set before k (row ∷ slice_index_or (slice_index_or before k []) 1 0 ∷ slice_index_or (slice_index_or before k []) 2 0 ∷ slice_index_or (slice_index_or before k []) 3 0 ∷ slice_index_or (slice_index_or before k []) 4 0 ∷ []))
-hart-index k idle before b row inside is there = record {
-  own = λ known. sym is ∙ sym there ∙ ap (flag 0 0) (sym (entry-put k before was f at)) ∙ known;
+pub hart-index : (k : ℕ) (before : List (List ℕ)) (b : Bool) (row : ℕ)
+    → k < length before → in_set 0 row ≡ b
+    → IsHartNoted k b before (slice_set before k (row ∷ slice_index_or (slice_index_or before k []) 1 0 ∷ slice_index_or (slice_index_or before k []) 2 0 ∷ slice_index_or (slice_index_or before k []) 3 0 ∷ slice_index_or (slice_index_or before k []) 4 0 ∷ []))
+hart-index k before b row inside is = record {
+  own = λ known. sym is ∙ ap (flag 0 0) (sym (entry-put k before was f at)) ∙ known;
   others = λ j other. other-hart k j before f other;
-  buses = λ j. put-same k before was f at (rows-index row was) j (ℕ_discrete j k);
+  buses = record { each = λ j. put-same k before was f at (rows-index row was) j (ℕ_discrete j k) };
 }
   where
     was : List ℕ

@@ -4,29 +4,19 @@
 use Rattle.std.proofs.Common.{◌≡◌, ◌≢◌, ℕ, zero, suc, ◌+◌, ◌<◌, ◌≤◌, ◌++◌, Bool, true, false, List, [], ◌∷◌, length, Some, refl, sym, ap, subst, ◌∙◌, arith}
 use Rattle.std.specs.Prelude.{◌&&◌, nat_eq, nat_lt, slice_get, slice_index_or}
 use Rattle.std.proofs.lemmas.Bool.{eqb-false, ltb-false, ltb-true}
-use Rattle.std.proofs.lemmas.List.{length-append}
+use Rattle.std.proofs.lemmas.List.{get_or_append_left, get_or_default, length-append}
 use Rattle.std.proofs.lemmas.Option.{none-some, same_Some, slice_get-get_or, slice_get_within}
 use native.Mathlib.Decide.{ℕ_discrete}
 use Rattle.tree_model.specs.Turns.Tree.{Name, bus_of_number, leaf_of_number}
 use Rattle.ddm_tree.specs.Machine.{listed_path}
 use Rattle.ddm_tree.specs.Quiet.{AreApart, AreNear, AreNearListed, IsNear, IsNoneOf}
 
-at-same : (q : List ℕ) (k d e : ℕ) → k < length q → slice_index_or q k d ≡ slice_index_or q k e
-at-same [] k d e inside = absurd (omega (arith, inside))
-at-same (i ∷ q) zero d e inside = refl
-at-same (i ∷ q) (suc k) d e inside = at-same q k d e (omega (arith, inside))
-
-at-front : (q r : List ℕ) (k d : ℕ) → k < length q → slice_index_or (q ++ r) k d ≡ slice_index_or q k d
-at-front [] r k d inside = absurd (omega (arith, inside))
-at-front (i ∷ q) r zero d inside = refl
-at-front (i ∷ q) r (suc k) d inside = at-front q r k d (omega (arith, inside))
-
 -- they differ at a level that both have
 pub level-apart : (q p : List ℕ) (k a b : ℕ) → k < length q → k < length p → a ≡ slice_index_or q k a → b ≡ slice_index_or p k b → a ≢ b → AreApart q p
 level-apart q p k a b there here first second differ = record {
-  other = λ is. differ (first ∙ ap (λ r. slice_index_or r k a) is ∙ at-same p k a b here ∙ sym second);
-  parent = λ c is. differ (first ∙ at-same q k a b there ∙ sym (at-front q (c ∷ []) k b there) ∙ ap (λ r. slice_index_or r k b) (sym is) ∙ sym second);
-  child = λ c is. differ (first ∙ ap (λ r. slice_index_or r k a) is ∙ at-front p (c ∷ []) k a here ∙ at-same p k a b here ∙ sym second);
+  other = λ is. differ (first ∙ ap (λ r. slice_index_or r k a) is ∙ get_or_default p k a b here ∙ sym second);
+  parent = λ c is. differ (first ∙ get_or_default q k a b there ∙ sym (get_or_append_left q (c ∷ []) b k there) ∙ ap (λ r. slice_index_or r k b) (sym is) ∙ sym second);
+  child = λ c is. differ (first ∙ ap (λ r. slice_index_or r k a) is ∙ get_or_append_left p (c ∷ []) a k here ∙ get_or_default p k a b here ∙ sym second);
 }
 
 -- one level more that both have
@@ -39,9 +29,6 @@ near-step true q p k a b before there here first second e = level-apart q p k a 
 -- of the first so many buses, each one that isn't among these numbers is apart from the path
 pub record AreNearBelow (count : ℕ) (p near : List ℕ) (paths : List (List ℕ)) : Type 0 where
   pub others : (k : ℕ) (q : List ℕ) → k < count → slice_get paths k ≡ Some q → IsNoneOf k (length near) near → AreApart q p
-
-pub near-none : (p near : List ℕ) (paths : List (List ℕ)) → AreNearBelow 0 p near paths
-near-none p near paths = record { others = λ k q below. absurd (omega (arith, below)) }
 
 pub below-next : (k j : ℕ) → j ≢ k → j < k + 1 → j < k
 below-next k j other below = elim (nat_lt j k) as (λ b. nat_lt j k ≡ b → j < k) [
@@ -117,13 +104,13 @@ pub lists-all : (nears from paths : List (List ℕ)) → AreNearFor (length from
 lists-all nears from paths all = record { as_many = all.as_many; each = all.each }
 
 -- whoever is not listed as near is apart
-far-in : (nears from paths : List (List ℕ)) (m : ℕ) (p : List ℕ) → slice_get from m ≡ Some p → AreNear nears from paths → (k : ℕ) (q : List ℕ) → slice_get paths k ≡ Some q → ((xs : List ℕ) → slice_get nears m ≡ Some xs → IsNoneOf k (length xs) xs) → AreApart q p
+pub far-in : (nears from paths : List (List ℕ)) (m : ℕ) (p : List ℕ) → slice_get from m ≡ Some p → AreNear nears from paths → (k : ℕ) (q : List ℕ) → slice_get paths k ≡ Some q → ((xs : List ℕ) → slice_get nears m ≡ Some xs → IsNoneOf k (length xs) xs) → AreApart q p
 far-in nears from paths m p at near k q listed none =
     let inside : m < length nears = omega (arith, near.as_many, slice_get_within from m p at) in
     let there : slice_get nears m ≡ Some (slice_index_or nears m []) = slice_get-get_or nears m [] inside in
     (near.each m p (slice_index_or nears m []) at there).others k q listed (none (slice_index_or nears m []) there)
 
-pub far-apart : (name : Name) (p : List ℕ) (leaf_near bus_near leaf_paths bus_paths : List (List ℕ)) → listed_path name leaf_paths bus_paths ≡ Some p → AreNearListed leaf_near bus_near leaf_paths bus_paths
+pub far-apart : (name : Name) (p : List ℕ) (leaf_near bus_near bus_leaves leaf_paths bus_paths : List (List ℕ)) → listed_path name leaf_paths bus_paths ≡ Some p → AreNearListed leaf_near bus_near bus_leaves leaf_paths bus_paths
     → (k : ℕ) (q : List ℕ) → slice_get bus_paths k ≡ Some q → ((xs : List ℕ) → listed_path name leaf_near bus_near ≡ Some xs → IsNoneOf k (length xs) xs) → AreApart q p
-far-apart (leaf_of_number m) p leaf_near bus_near leaf_paths bus_paths listed near k q there none = far-in leaf_near leaf_paths bus_paths m p listed near.leaves k q there none
-far-apart (bus_of_number m) p leaf_near bus_near leaf_paths bus_paths listed near k q there none = far-in bus_near bus_paths bus_paths m p listed near.buses k q there none
+far-apart (leaf_of_number m) p leaf_near bus_near bus_leaves leaf_paths bus_paths listed near k q there none = far-in leaf_near leaf_paths bus_paths m p listed near.leaves k q there none
+far-apart (bus_of_number m) p leaf_near bus_near bus_leaves leaf_paths bus_paths listed near k q there none = far-in bus_near bus_paths bus_paths m p listed near.buses k q there none

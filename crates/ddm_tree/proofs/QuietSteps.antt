@@ -27,7 +27,7 @@ use Rattle.tree_model.specs.Turns.HartTurn.{Deed, has_halted, waits_for, halts, 
 use Rattle.tree_model.specs.Turns.Machine.{bus_turn_of, outcome_node}
 use Rattle.tree_model.proofs.Children.{nodes-children}
 use Rattle.ddm_tree.specs.Path.{node_answer, node_turned}
-use Rattle.ddm_tree.specs.Quiet.{KeepsQuiet, finds_nothing}
+use Rattle.ddm_tree.specs.Quiet.{KeepsQuiet, finds_nothing, touches}
 
 -- ---- a turn of a bus that finds nothing
 
@@ -88,15 +88,6 @@ no-choice (leaf_node v) e choice = chosen-other buffer_item choice (filter may_l
 no-choice (dir_node d ns) e choice = chosen-other copy_item choice d.parked e
 
 -- ---- a turn of a hart stores only to an item that it holds Exclusive
-
-abbrev pub is_issued : TurnAnswer → Bool
-is_issued (TurnAnswer.Retired op) = false
-is_issued (TurnAnswer.Issued kind x) = true
-is_issued (TurnAnswer.Waiting x) = false
-is_issued (TurnAnswer.Halted cause) = false
-is_issued (TurnAnswer.Granted entry) = false
-is_issued TurnAnswer.Empty = false
-is_issued (TurnAnswer.Busy cause) = false
 
 module _ (v : LeafValue) where
   -- what is stored to stands Exclusive
@@ -234,7 +225,7 @@ module _ (v : LeafValue) where
       let none = chosen-none buffer_item choice (filter may_leave_buffer v.buffer) e in
       ap (λ es. is_none (chosen buffer_item choice (filter may_leave_buffer es))) (stored-same o owned none) ∙ e
 
-  deed-keeps : (now : Key) (d : Deed) → is_issued (answer_of_deed now v d) ≡ false → DeedOwned v d → KeepsQuiet (leaf_node v) (leaf_node (leaf_after_deed v d))
+  deed-keeps : (now : Key) (d : Deed) → touches (answer_of_deed now v d) ≡ false → DeedOwned v d → KeepsQuiet (leaf_node v) (leaf_node (leaf_after_deed v d))
   deed-keeps now (has_halted cause) e owned = record { request = λ e. e; reply = λ e. e; leaving = λ choice e. e }
   deed-keeps now (waits_for x) e owned = record { request = λ e. e; reply = λ e. e; leaving = λ choice e. e }
   deed-keeps now (halts cause) e owned = record { request = λ e. e; reply = λ e. e; leaving = λ choice e. e }
@@ -244,7 +235,7 @@ module _ (v : LeafValue) where
   deed-keeps now finds_buffer_full e owned = record { request = λ e. e; reply = λ e. e; leaving = λ choice e. e }
 
 pub hart-keeps : (code : List CodeWord) (items : ItemTable) (now : Key) (victim : ℕ) (v : LeafValue)
-    → is_issued (leaf_step code items now victim v).answer ≡ false
+    → touches (leaf_step code items now victim v).answer ≡ false
     → KeepsQuiet (leaf_node v) (leaf_node (leaf_step code items now victim v).leaf)
 unfolding leaf_step
 hart-keeps code items now victim v e = deed-keeps v now (deed_of code items victim v) e (deed-owned v code items victim)

@@ -28,10 +28,11 @@ use Rattle.ddm_tree.specs.Machine.{listed_path}
 use Rattle.ddm_tree.specs.Path.{below, node_at, path_to, put_at, node_answer, node_turned}
 use Rattle.ddm_tree.specs.Ready.{Leads}
 use Rattle.ddm_tree.proofs.IdleHarts.{Dir, IsSpared, Leaf, SameFrom, bus-same_from, leads-dir, leads-leaf, leaf-same_from, put-same, spared, step-ungranted}
-use Rattle.ddm_tree.specs.Quiet.{AreApart, AreNearListed, AreQuiet, AreRelearned, AreSame, HartsWait, IsBlank, IsLearnedOr, IsNoneOf, IsQuietOf, KeepsQuiet, counts_nothing, entry_at, finds_nothing, hart_flag, is_known, touches, waits_there}
+use Rattle.ddm_tree.specs.Quiet.{AreApart, AreNearListed, AreQuiet, AreRelearned, AreSame, HartsWait, IsBlank, IsFar, IsLearnedOr, IsQuietOf, KeepsQuiet, counts_nothing, entry_at, finds_nothing, hart_flag, is_known, touches, waits_there}
 use Rattle.ddm_tree.proofs.QuietFrame.{false-quiet, quiet-frame, quiet-unchanged}
 use Rattle.ddm_tree.proofs.QuietNear.{far-apart}
-use Rattle.ddm_tree.proofs.QuietSteps.{hart-keeps, is_issued, nothing-turned}
+use Rattle.ddm_tree.proofs.QuietSteps.{hart-keeps, nothing-turned}
+use Rattle.ddm_tree.proofs.QuietTable.{same-quiet}
 
 -- a path that goes on
 further : (p r : List ℕ) (n : Node) → node_at (p ++ r) n ≡ node_at r (node_at p n)
@@ -39,15 +40,6 @@ further [] r n = refl
 further (i ∷ p) r n = further p r (child_at i (below n))
 
 -- ---- answers
-
-untouched-unissued : (a : TurnAnswer) → touches a ≡ false → is_issued a ≡ false
-untouched-unissued (TurnAnswer.Retired op) e = refl
-untouched-unissued (TurnAnswer.Issued kind x) e = cc
-untouched-unissued (TurnAnswer.Waiting x) e = refl
-untouched-unissued (TurnAnswer.Halted cause) e = refl
-untouched-unissued (TurnAnswer.Granted entry) e = cc
-untouched-unissued TurnAnswer.Empty e = refl
-untouched-unissued (TurnAnswer.Busy cause) e = refl
 
 granted-touches : (a : TurnAnswer) → is_granted a ≡ true → touches a ≡ true
 granted-touches (TurnAnswer.Retired op) e = cc
@@ -67,9 +59,6 @@ leaf-quiet e v m quiet = record {
       let wrong : false ≡ true = quiet.each t known in
       cc;
 }
-
-same-quiet : (e f : List ℕ) (m : Node) → AreSame e f → IsQuietOf e m → IsQuietOf f m
-same-quiet e f m same quiet = record { each = λ t known. quiet.each t (sym (same.each t) ∙ known) }
 
 -- ---- a turn
 
@@ -103,8 +92,7 @@ module _ (code : List CodeWord) (items : ItemTable) (t : Turn) (p : List ℕ) (p
     -- what its bus finds
     hart-above : touches answer ≡ false → KeepsQuiet (node_at p n) new
     hart-above e =
-        let unissued = untouched-unissued answer e in
-        let keeps : KeepsQuiet (leaf_node own) (leaf_node becomes) = hart-keeps code items (key_on present p own.done) (victim_of t) own (ap is_issued (sym answer-leaf) ∙ unissued) in
+        let keeps : KeepsQuiet (leaf_node own) (leaf_node becomes) = hart-keeps code items (key_on present p own.done) (victim_of t) own (ap touches (sym answer-leaf) ∙ e) in
         rw at-leaf.1 keeps
 
     hart-parent : (q : List ℕ) → (touches answer ≡ true → AreApart q p) → (c : ℕ) → p ≡ q ++ c ∷ [] → KeepsQuiet (node_at p n) new
@@ -166,28 +154,24 @@ module _ (code : List CodeWord) (items : ItemTable) (t : Turn) (p : List ℕ) (p
   turn-quiet (leaf_of_number k) is e q quiet apart = hart-quiet k is e q quiet apart
   turn-quiet (bus_of_number b) is e q quiet apart = bus-quiet b is e q quiet apart
 
-  module _ (leaf_near bus_near leaf_paths bus_paths : List (List ℕ)) (listed : listed_path (named_by t) leaf_paths bus_paths ≡ Some p) (near : AreNearListed leaf_near bus_near leaf_paths bus_paths) where
-    -- the bus of this number isn't near what the turn names
-    abbrev IsFar : ℕ → Type 0
-    IsFar k = touches answer ≡ true → (xs : List ℕ) → listed_path (named_by t) leaf_near bus_near ≡ Some xs → IsNoneOf k (length xs) xs
-
-    learned-quiet : (k : ℕ) (q : List ℕ) (before after : List (List ℕ)) → slice_get bus_paths k ≡ Some q → IsQuietOf (entry_at k before) (node_at q n) → IsLearnedOr (IsFar k) k q (put_at p new n) before after → IsQuietOf (entry_at k after) (node_at q (put_at p new n))
+  module _ (leaf_near bus_near bus_leaves leaf_paths bus_paths : List (List ℕ)) (listed : listed_path (named_by t) leaf_paths bus_paths ≡ Some p) (near : AreNearListed leaf_near bus_near bus_leaves leaf_paths bus_paths) where
+    learned-quiet : (k : ℕ) (q : List ℕ) (before after : List (List ℕ)) → slice_get bus_paths k ≡ Some q → IsQuietOf (entry_at k before) (node_at q n) → IsLearnedOr (touches answer ≡ true → IsFar t leaf_near bus_near k) k q (put_at p new n) before after → IsQuietOf (entry_at k after) (node_at q (put_at p new n))
     learned-quiet k q before after there quiet (inl learned) = learned
     learned-quiet k q before after there quiet (inr same) =
-        let still = turn-quiet (named_by t) refl (entry_at k before) q quiet (λ does. far-apart (named_by t) p leaf_near bus_near leaf_paths bus_paths listed near k q there (same.1 does)) in
-        same-quiet (entry_at k before) (entry_at k after) (node_at q (put_at p new n)) same.0 still
+        let still = turn-quiet (named_by t) refl (entry_at k before) q quiet (λ does. far-apart (named_by t) p leaf_near bus_near bus_leaves leaf_paths bus_paths listed near k q there (same.1 does)) in
+        same-quiet (node_at q (put_at p new n)) same.0 still
 
 -- what is remembered after a turn is so
-pub relearned-quiet : (code : List CodeWord) (items : ItemTable) (t : Turn) (p : List ℕ) (present : Stamp) (n : Node) (leaf_near bus_near leaf_paths bus_paths : List (List ℕ)) (before after : List (List ℕ))
+pub relearned-quiet : (code : List CodeWord) (items : ItemTable) (t : Turn) (p : List ℕ) (present : Stamp) (n : Node) (leaf_near bus_near bus_leaves leaf_paths bus_paths : List (List ℕ)) (before after : List (List ℕ))
     → Leads (named_by t) p n
     → listed_path (named_by t) leaf_paths bus_paths ≡ Some p
-    → AreNearListed leaf_near bus_near leaf_paths bus_paths
+    → AreNearListed leaf_near bus_near bus_leaves leaf_paths bus_paths
     → ((k : ℕ) (q : List ℕ) → Leads (bus_of_number k) q n → slice_get bus_paths k ≡ Some q)
     → AreQuiet before n n
     → AreRelearned t (node_answer code items t p present (node_at p n)) leaf_near bus_near bus_paths (put_at p (node_turned code items t p present (node_at p n)) n) before after
     → AreQuiet after n (put_at p (node_turned code items t p present (node_at p n)) n)
-relearned-quiet code items t p present n leaf_near bus_near leaf_paths bus_paths before after leads listed near paths quiet relearned = record {
-  each = λ k q there. learned-quiet code items t p present n leads leaf_near bus_near leaf_paths bus_paths listed near k q before after (paths k q there) (quiet.each k q there) (relearned.each k q (paths k q there));
+relearned-quiet code items t p present n leaf_near bus_near bus_leaves leaf_paths bus_paths before after leads listed near paths quiet relearned = record {
+  each = λ k q there. learned-quiet code items t p present n leads leaf_near bus_near bus_leaves leaf_paths bus_paths listed near k q before after (paths k q there) (quiet.each k q there) (relearned.each k q (paths k q there));
 }
 
 -- ---- a turn that is known to find nothing

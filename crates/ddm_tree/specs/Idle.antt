@@ -2,7 +2,7 @@
 -- their leaf anything.
 -- Letters: n is a node, v a leaf, i why a hart is idle, k a leaf's number, t a turn, a an answer, c a child.
 -- To be believed with the contracts: it is what a machine remembers of its leaves.
-use Rattle.std.specs.Prelude.{◌≡◌, ◌<◌, ℕ, true, List, [], ◌∷◌, ◌++◌, Option, Some, None, slice_get, slice_set}
+use Rattle.std.specs.Prelude.{◌≡◌, ◌<◌, ℕ, true, List, Option, Some, None, length, slice_get, slice_set}
 use Rattle.ddm_types.specs.declared.answers.BusyCause.{BusyCause}
 use Rattle.ddm_types.specs.declared.answers.TurnAnswer.{TurnAnswer}
 use Rattle.ddm_types.specs.declared.keys.Key.{Key}
@@ -12,11 +12,11 @@ use Rattle.ddm_types.specs.ItemTable.{ItemTable}
 use Rattle.tree_model.specs.State.Values.{LeafValue, Node, leaf_node}
 use Rattle.tree_model.specs.Turns.HartTurn.{leaf_step}
 use Rattle.tree_model.specs.Turns.Machine.{named_by}
-use Rattle.tree_model.specs.Turns.Tree.{leaf_of_number}
+use Rattle.tree_model.specs.Turns.Tree.{bus_of_number, leaf_of_number}
 use Rattle.split_bus.specs.Outcomes.{is_granted}
 use Rattle.ddm_tree.specs.declared.idle.Idle.{Idle}
-use Rattle.ddm_tree.specs.Machine.{listed_path}
 use Rattle.ddm_tree.specs.Path.{node_at}
+use Rattle.ddm_tree.specs.Quiet.{IsNoneOf}
 use Rattle.ddm_tree.specs.Ready.{Leads}
 
 -- what the turns of an idle hart answer
@@ -70,22 +70,22 @@ pub record IsIdle (code : List CodeWord) (items : ItemTable) (i : Idle) (n : Nod
 pub record AreIdle (code : List CodeWord) (items : ItemTable) (idle : List (Option Idle)) (n after : Node) : Type 0 where
   pub each : (k : ℕ) (i : Idle) (path : List ℕ) → slice_get idle k ≡ Some (Some i) → Leads (leaf_of_number k) path n → IsIdle code items i (node_at path after)
 
--- none of it is of a child of the bus with this path, as far as numbers below n go
-pub record AreWoken (n : ℕ) (path : List ℕ) (leaf_paths : List (List ℕ)) (before after : List (Option Idle)) : Type 0 where
+-- nothing is remembered of the first so many of these leaves
+pub record AreWoken (count : ℕ) (leaves : List ℕ) (before after : List (Option Idle)) : Type 0 where
   pub stays : (k : ℕ) (i : Idle) → slice_get after k ≡ Some (Some i) → slice_get before k ≡ Some (Some i)
-  pub woken : (k c : ℕ) (i : Idle) → k < n → slice_get after k ≡ Some (Some i) → slice_get leaf_paths k ≡ Some (path ++ c ∷ []) → ⊥
+  pub woken : (place k : ℕ) (i : Idle) → place < count → slice_get leaves place ≡ Some k → slice_get after k ≡ Some (Some i) → ⊥
 
--- of one number
-pub record IsWoken (k : ℕ) (path : List ℕ) (leaf_paths : List (List ℕ)) (before after : List (Option Idle)) : Type 0 where
+-- of one leaf
+pub record IsWoken (k : ℕ) (before after : List (Option Idle)) : Type 0 where
   pub stays : (j : ℕ) (i : Idle) → slice_get after j ≡ Some (Some i) → slice_get before j ≡ Some (Some i)
-  pub woken : (c : ℕ) (i : Idle) → slice_get after k ≡ Some (Some i) → slice_get leaf_paths k ≡ Some (path ++ c ∷ []) → ⊥
+  pub woken : (i : Idle) → slice_get after k ≡ Some (Some i) → ⊥
 
--- what is remembered of a leaf after a turn: what the turn answered, or what was remembered, where nothing was granted on its bus
-pub data IsKnown (t : Turn) (a : TurnAnswer) (leaf_paths bus_paths : List (List ℕ)) (before : List (Option Idle)) (k : ℕ) (i : Idle) : Type 0 where
-  is_told : named_by t ≡ leaf_of_number k → idle_told a ≡ Some i → IsKnown t a leaf_paths bus_paths before k i
+-- what is remembered of a leaf after a turn: what the turn answered, or what was remembered, where nothing was granted on a bus near it
+pub data IsKnown (t : Turn) (a : TurnAnswer) (bus_leaves : List (List ℕ)) (before : List (Option Idle)) (k : ℕ) (i : Idle) : Type 0 where
+  is_told : named_by t ≡ leaf_of_number k → idle_told a ≡ Some i → IsKnown t a bus_leaves before k i
   still_known : slice_get before k ≡ Some (Some i)
-      → (is_granted a ≡ true → (path : List ℕ) (c : ℕ) → listed_path (named_by t) leaf_paths bus_paths ≡ Some path → slice_get leaf_paths k ≡ Some (path ++ c ∷ []) → ⊥)
-      → IsKnown t a leaf_paths bus_paths before k i
+      → (is_granted a ≡ true → (bus : ℕ) (leaves : List ℕ) → named_by t ≡ bus_of_number bus → slice_get bus_leaves bus ≡ Some leaves → IsNoneOf k (length leaves) leaves)
+      → IsKnown t a bus_leaves before k i
 
-pub record AreNoted (t : Turn) (a : TurnAnswer) (leaf_paths bus_paths : List (List ℕ)) (before after : List (Option Idle)) : Type 0 where
-  pub each : (k : ℕ) (i : Idle) → slice_get after k ≡ Some (Some i) → IsKnown t a leaf_paths bus_paths before k i
+pub record AreNoted (t : Turn) (a : TurnAnswer) (bus_leaves : List (List ℕ)) (before after : List (Option Idle)) : Type 0 where
+  pub each : (k : ℕ) (i : Idle) → slice_get after k ≡ Some (Some i) → IsKnown t a bus_leaves before k i

@@ -13,9 +13,7 @@ use Rattle.tree_model.specs.State.Child.{child_request, child_reply, child_leavi
 use Rattle.tree_model.specs.Turns.Children.{child_at}
 use Rattle.tree_model.specs.Turns.Machine.{named_by}
 use Rattle.tree_model.specs.Turns.Tree.{bus_of_number}
-use Rattle.split_bus.specs.Outcomes.{is_granted}
 use Rattle.ddm_tree.specs.declared.idle.Idle.{Idle}
-use Rattle.ddm_tree.specs.Idle.{idle_told, with_idle}
 use Rattle.ddm_tree.specs.Machine.{listed_path}
 use Rattle.ddm_tree.specs.Path.{node_at}
 use Rattle.ddm_tree.specs.Ready.{Leads}
@@ -132,6 +130,9 @@ pub record IsBlank (known : List (List ℕ)) : Type 0 where
 pub record AreSame (e f : List ℕ) : Type 0 where
   pub each : (t : BusTurn) → flag (row_of t) (column_of t) f ≡ flag (row_of t) (column_of t) e
 
+pub record KeepsBuses (before after : List (List ℕ)) : Type 0 where
+  pub each : (k : ℕ) → AreSame (entry_at k before) (entry_at k after)
+
 -- of one bus, whose path is listed
 pub record IsLearned (k : ℕ) (paths : List (List ℕ)) (n : Node) (before after : List (List ℕ)) : Type 0 where
   pub own : (path : List ℕ) → slice_get paths k ≡ Some path → IsQuietOf (entry_at k after) (node_at path n)
@@ -166,10 +167,11 @@ pub record AreNear (nears from paths : List (List ℕ)) : Type 0 where
   pub as_many : length nears ≡ length from
   pub each : (m : ℕ) (p near : List ℕ) → slice_get from m ≡ Some p → slice_get nears m ≡ Some near → IsNear p near paths
 
--- and there are those of leaves and of buses
-pub record AreNearListed (leaf_near bus_near leaf_paths bus_paths : List (List ℕ)) : Type 0 where
+-- and there are those of leaves and of buses, and one of the leaves near each bus
+pub record AreNearListed (leaf_near bus_near bus_leaves leaf_paths bus_paths : List (List ℕ)) : Type 0 where
   pub leaves : AreNear leaf_near leaf_paths bus_paths
   pub buses : AreNear bus_near bus_paths bus_paths
+  pub below : AreNear bus_leaves bus_paths leaf_paths
 
 -- a turn that answers so may have changed what the bus above, or another one, finds
 abbrev pub touches : TurnAnswer → Bool
@@ -181,26 +183,20 @@ touches (TurnAnswer.Granted entry) = true
 touches TurnAnswer.Empty = false
 touches (TurnAnswer.Busy cause) = false
 
+-- k isn't listed as near the leaf or bus of a turn
+abbrev pub IsFar : Turn → List (List ℕ) → List (List ℕ) → ℕ → Type 0
+IsFar t leaf_near bus_near k = (near : List ℕ) → listed_path (named_by t) leaf_near bus_near ≡ Some near → IsNoneOf k (length near) near
+
 -- of the buses near the leaf or bus of a turn that touched them
 pub record AreRelearned (t : Turn) (a : TurnAnswer) (leaf_near bus_near bus_paths : List (List ℕ)) (n : Node) (before after : List (List ℕ)) : Type 0 where
-  pub each : (k : ℕ) (q : List ℕ) → slice_get bus_paths k ≡ Some q → IsLearnedOr (touches a ≡ true → (near : List ℕ) → listed_path (named_by t) leaf_near bus_near ≡ Some near → IsNoneOf k (length near) near) k q n before after
+  pub each : (k : ℕ) (q : List ℕ) → slice_get bus_paths k ≡ Some q → IsLearnedOr (touches a ≡ true → IsFar t leaf_near bus_near k) k q n before after
   pub harts : (j : ℕ) → hart_flag j after ≡ hart_flag j before
 
--- what is remembered of idle harts changed by what was told of one of them, or by a grant
-pub record IsKept (t : Turn) (a : TurnAnswer) (before after : List (Option Idle)) : Type 0 where
-  pub told : (i : Idle) → idle_told a ≡ Some i → after ≡ with_idle t i before
-  pub other : idle_told a ≡ None → is_granted a ≡ false → after ≡ before
-
--- of a hart: it waits, if that is remembered
-pub record IsHartNoted (k : ℕ) (idle : List (Option Idle)) (before after : List (List ℕ)) : Type 0 where
-  pub own : hart_flag k after ≡ true → waits_there (slice_get idle k) ≡ true
+-- of a hart, whether it waits
+pub record IsHartNoted (k : ℕ) (waits : Bool) (before after : List (List ℕ)) : Type 0 where
+  pub own : hart_flag k after ≡ true → waits ≡ true
   pub others : (j : ℕ) → j ≢ k → hart_flag j after ≡ hart_flag j before
-  pub buses : (j : ℕ) → AreSame (entry_at j before) (entry_at j after)
-
--- of each, as far as numbers below count go
-pub record AreHartsNoted (count : ℕ) (idle : List (Option Idle)) (before after : List (List ℕ)) : Type 0 where
-  pub each : (k : ℕ) → k < count → hart_flag k after ≡ true → waits_there (slice_get idle k) ≡ true
-  pub buses : (j : ℕ) → AreSame (entry_at j before) (entry_at j after)
+  pub buses : KeepsBuses before after
 
 -- an answer that is counted as a turn alone: nothing completed, nothing was granted, and nothing was busy
 abbrev pub counts_nothing : TurnAnswer → Bool

@@ -1,12 +1,12 @@
-ghost use Rattle.std.specs.Prelude.{◌≡◌, ◌<◌, ◌++◌, ◌∷◌, [], ℕ, List, Option, Some, None, true, IfOk, length, map, slice_get, slice_set, vec_items};
-ghost use Rattle.tree_model.specs.Turns.Machine.{named_by};
+ghost use Rattle.std.specs.Prelude.{◌≡◌, ℕ, Some, IfOk, length, map, slice_get, slice_set, vec_items};
 ghost use Rattle.split_bus.specs.Outcomes.{is_granted};
 ghost use Rattle.ddm_tree.specs.Idle.{AreNoted, AreWoken, IsWoken, idle_answer, idle_for, idle_told, with_idle};
-ghost use Rattle.ddm_tree.specs.Machine.{has_path};
-ghost use Rattle.ddm_tree.specs.Quiet.{IsKept};
+ghost use Rattle.ddm_tree.specs.Quiet.{HartsWait, KeepsBuses, waits};
 
-use crate::machine::{named, path_of};
-use ddm_types::{BusyCause, ChildNo, ItemId, LeafNo, NoMemory, Turn, TurnAnswer};
+use crate::machine::named;
+use crate::named::Named;
+use crate::quiet::{Quiet, note_hart};
+use ddm_types::{BusyCause, ItemId, LeafNo, NoMemory, Turn, TurnAnswer};
 use std::alloc::Global;
 
 /// Why a turn of a hart changes nothing, and none will before its bus tells its leaf something.
@@ -53,21 +53,36 @@ pub(crate) fn idle_for(turn: &Turn, idle: &[Option<Idle>]) -> Option<Idle>
     }
 }
 
+/// Whether a hart that is idle for this reason waits for an item.
+fn waits(known: &Idle) -> bool
+    ensures { result ≡ waits (Some known.now) }
+{
+    match known {
+        Idle::Waits(_) => true,
+        Idle::BufferFull(_) => false,
+    }
+}
+
 /// Remembers it at a place, where there is one.
-fn put_idle(idle: &mut [Option<Idle>], place: usize, known: Idle)
-    ensures { idle.new ≡ slice_set idle.old place (Some known) }
+fn put_idle(idle: &mut [Option<Idle>], quiet: &mut [Quiet], place: usize, known: Idle)
+    ensures put { idle.new ≡ slice_set idle.old place (Some known) }
+    ensures waits { HartsWait quiet.old idle.old → HartsWait quiet.new idle.new }
+    ensures buses { KeepsBuses quiet.old quiet.new }
 {
     if place < idle.len() {
+        note_hart(quiet, place, waits(&known));
         idle[place] = Some(known);
     }
 }
 
 /// Remembers it of the hart of a turn.
-fn keep_idle(idle: &mut [Option<Idle>], turn: &Turn, known: Idle)
-    ensures { idle.new ≡ with_idle turn.now known idle.old }
+fn keep_idle(idle: &mut [Option<Idle>], quiet: &mut [Quiet], turn: &Turn, known: Idle)
+    ensures put { idle.new ≡ with_idle turn.now known idle.old }
+    ensures waits { HartsWait quiet.old idle.old → HartsWait quiet.new idle.new }
+    ensures buses { KeepsBuses quiet.old quiet.new }
 {
     match turn {
-        Turn::Hart { hart, .. } => put_idle(idle, hart.0 as usize, known),
+        Turn::Hart { hart, .. } => put_idle(idle, quiet, hart.0 as usize, known),
         Turn::Down { .. } | Turn::Request { .. } | Turn::Reply { .. } | Turn::Leave { .. } => {}
     }
 }
@@ -81,67 +96,50 @@ fn is_granted(answer: &TurnAnswer) -> bool
     }
 }
 
-/// Whether a leaf with the one path can be a child of the bus with the other.
-fn may_be_child(path: &[ChildNo], leaf: &[ChildNo]) -> bool
-    ensures { (c : ℕ) → leaf.now ≡ path.now ++ c ∷ [] → result ≡ true }
+/// Forgets what is remembered of a leaf.
+fn wake(idle: &mut [Option<Idle>], quiet: &mut [Quiet], number: usize)
+    ensures woken { IsWoken number idle.old idle.new }
+    ensures waits { HartsWait quiet.old idle.old → HartsWait quiet.new idle.new }
+    ensures buses { KeepsBuses quiet.old quiet.new }
 {
-    if leaf.len() != path.len() + 1 {
-        return false;
-    }
-    for level in 0..path.len() {
-        let (there, here) = (leaf[level], path[level]);
-        if there.0 != here.0 {
-            return false;
-        }
-    }
-    true
-}
-
-/// Forgets what is remembered of a leaf, where it is a child of the bus with this path.
-fn wake(idle: &mut [Option<Idle>], number: usize, leaf_paths: &[Vec<ChildNo>], path: &[ChildNo])
-    requires { number < length idle.old }
-    ensures { IsWoken number path.now (map vec_items leaf_paths.now) idle.old idle.new }
-{
-    if idle[number].is_none() {
-        return;
-    }
-    if let Some(leaf) = leaf_paths.get(number) {
-        if may_be_child(path, leaf) {
-            idle[number] = None;
-        }
+    if number < idle.len() {
+        idle[number] = None;
+        note_hart(quiet, number, false);
     }
 }
 
-/// Forgets what is remembered of the children of the bus with this path.
-fn wake_children(idle: &mut [Option<Idle>], leaf_paths: &[Vec<ChildNo>], path: &[ChildNo])
-    ensures { AreWoken (length idle.old) path.now (map vec_items leaf_paths.now) idle.old idle.new }
+/// Forgets what is remembered of these leaves.
+fn wake_all(idle: &mut [Option<Idle>], quiet: &mut [Quiet], leaves: &[usize])
+    ensures woken { AreWoken (length leaves.now) leaves.now idle.old idle.new }
+    ensures waits { HartsWait quiet.old idle.old → HartsWait quiet.new idle.new }
+    ensures buses { KeepsBuses quiet.old quiet.new }
 {
-    for number in 0..idle.len() {
-        wake(idle, number, leaf_paths, path);
+    for leaf in leaves {
+        wake(idle, quiet, *leaf);
     }
 }
 
-/// Remembers what a turn answered of its hart, and forgets what was remembered of leaves whose bus granted something.
+/// Remembers what a turn answered of its hart, and forgets what was remembered of the leaves near a bus that granted something.
 #[inline(always)]
 pub(crate) fn note(
     idle: &mut [Option<Idle>],
-    leaf_paths: &[Vec<ChildNo>],
-    bus_paths: &[Vec<ChildNo>],
+    quiet: &mut [Quiet],
+    bus_leaves: &[Vec<usize>],
     turn: &Turn,
     answer: &TurnAnswer,
 )
-    requires { has_path (named_by turn.now) (length leaf_paths.now) (length bus_paths.now) }
-    ensures noted { AreNoted turn.now answer.now (map vec_items leaf_paths.now) (map vec_items bus_paths.now) idle.old idle.new }
-    ensures kept { IsKept turn.now answer.now idle.old idle.new }
+    ensures noted { AreNoted turn.now answer.now (map vec_items bus_leaves.now) idle.old idle.new }
+    ensures waits { HartsWait quiet.old idle.old → HartsWait quiet.new idle.new }
+    ensures buses { KeepsBuses quiet.old quiet.new }
 {
     if let Some(known) = idle_told(answer) {
-        keep_idle(idle, turn, known);
+        keep_idle(idle, quiet, turn, known);
     } else if is_granted(answer) {
-        wake_children(
-            idle,
-            leaf_paths,
-            path_of(named(turn), leaf_paths, bus_paths),
-        );
+        if let Named::Bus(bus) = named(turn) {
+            if let Some(listed) = bus_leaves.get(bus.0 as usize) {
+                wake_all(idle, quiet, listed);
+            }
+        }
     }
 }
 

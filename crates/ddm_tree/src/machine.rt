@@ -16,7 +16,7 @@ use crate::below::turn_under;
 use crate::idle::{Idle, idle_answer, idle_for, note, nothing_known};
 use crate::named::Named;
 use crate::paths::{bus_paths, leaf_paths};
-use crate::quiet::{Quiet, is_known, near_lists, note_buses, note_waits, nothing_quiet};
+use crate::quiet::{Quiet, is_known, near_lists, note_buses, nothing_quiet};
 use crate::record::record;
 use crate::subtree::Subtree;
 use ddm_types::{ChildNo, Code, Items, LeafNo, NoMemory, Op, Stamp, TreeCounts, Turn, TurnAnswer};
@@ -38,9 +38,10 @@ pub struct Machine<const WORDS: usize, C: Subtree<WORDS>> {
     /// For each leaf and for each bus its path.
     pub(crate) leaf_paths: Vec<Vec<ChildNo>>,
     pub(crate) bus_paths: Vec<Vec<ChildNo>>,
-    /// For each leaf and for each bus the numbers of the buses near it.
+    /// For each leaf and for each bus the numbers of the buses near it, and for each bus those of the leaves near it.
     pub(crate) leaf_near: Vec<Vec<usize>>,
     pub(crate) bus_near: Vec<Vec<usize>>,
+    pub(crate) bus_leaves: Vec<Vec<usize>>,
     /// For each leaf why its hart is idle, where that is known.
     pub(crate) idle: Vec<Option<Idle>>,
     /// For each number what the bus that has it is quiet of, and whether the hart that has it waits, where that is known.
@@ -72,7 +73,7 @@ impl<const WORDS: usize, C: Subtree<WORDS>> Model for Machine<WORDS, C> {
         × AreIdle m.code m.items m.idle.items (dir_node m.top (nodes (map C.value m.children.items))) (dir_node m.top (nodes (map C.value m.children.items)))
         × AreQuiet m.quiet.items (dir_node m.top (nodes (map C.value m.children.items))) (dir_node m.top (nodes (map C.value m.children.items)))
         × HartsWait m.quiet.items m.idle.items
-        × AreNearListed (map vec_items m.leaf_near.items) (map vec_items m.bus_near.items) (map vec_items m.leaf_paths.items) (map vec_items m.bus_paths.items) };
+        × AreNearListed (map vec_items m.leaf_near.items) (map vec_items m.bus_near.items) (map vec_items m.bus_leaves.items) (map vec_items m.leaf_paths.items) (map vec_items m.bus_paths.items) };
 }
 
 impl<const WORDS: usize, C: Subtree<WORDS> + Drop> Machine<WORDS, C> {
@@ -96,6 +97,7 @@ impl<const WORDS: usize, C: Subtree<WORDS> + Drop> Machine<WORDS, C> {
         let idle = nothing_known(alloc, counts.leaves)?;
         let leaf_near = near_lists(alloc, &leaf_paths, &bus_paths)?;
         let bus_near = near_lists(alloc, &bus_paths, &bus_paths)?;
+        let bus_leaves = near_lists(alloc, &bus_paths, &leaf_paths)?;
         let quiet = nothing_quiet(alloc, counts.leaves.max(counts.buses))?;
         Ok(Machine {
             top,
@@ -109,6 +111,7 @@ impl<const WORDS: usize, C: Subtree<WORDS> + Drop> Machine<WORDS, C> {
             bus_paths,
             leaf_near,
             bus_near,
+            bus_leaves,
             idle,
             quiet,
             spare: 0,
@@ -177,6 +180,7 @@ impl<const WORDS: usize, C: Subtree<WORDS>> Machine<WORDS, C> {
             &self.bus_paths,
             &self.leaf_near,
             &self.bus_near,
+            &self.bus_leaves,
             &mut self.idle,
             &mut self.quiet,
             &turn,
@@ -228,6 +232,7 @@ fn turn_made<const WORDS: usize, C: Subtree<WORDS>>(
     bus_paths: &[Vec<ChildNo>],
     leaf_near: &[Vec<usize>],
     bus_near: &[Vec<usize>],
+    bus_leaves: &[Vec<usize>],
     idle: &mut [Option<Idle>],
     quiet: &mut [Quiet],
     turn: &Turn,
@@ -241,7 +246,7 @@ fn turn_made<const WORDS: usize, C: Subtree<WORDS>>(
     requires idle { AreIdle code.now items.now idle.old (dir_node top.old (nodes (map C.value children.old))) (dir_node top.old (nodes (map C.value children.old))) }
     requires quiet { AreQuiet quiet.old (dir_node top.old (nodes (map C.value children.old))) (dir_node top.old (nodes (map C.value children.old))) }
     requires waits { HartsWait quiet.old idle.old }
-    requires near { AreNearListed (map vec_items leaf_near.now) (map vec_items bus_near.now) (map vec_items leaf_paths.now) (map vec_items bus_paths.now) }
+    requires near { AreNearListed (map vec_items leaf_near.now) (map vec_items bus_near.now) (map vec_items bus_leaves.now) (map vec_items leaf_paths.now) (map vec_items bus_paths.now) }
     ensures answer { (path : List ℕ) → listed_path (named_by turn.now) (map vec_items leaf_paths.now) (map vec_items bus_paths.now) ≡ Some path → let n = dir_node top.old (nodes (map C.value children.old)) in answer.new ≡ node_answer code.now items.now turn.now path (present_at path stamp_zero n) (node_at path n) }
     ensures after { (path : List ℕ) → listed_path (named_by turn.now) (map vec_items leaf_paths.now) (map vec_items bus_paths.now) ≡ Some path → let n = dir_node top.old (nodes (map C.value children.old)) in dir_node top.new (nodes (map C.value children.new)) ≡ put_at path (node_turned code.now items.now turn.now path (present_at path stamp_zero n) (node_at path n)) n }
     ensures quiet { AreQuiet quiet.new (dir_node top.old (nodes (map C.value children.old))) (dir_node top.new (nodes (map C.value children.new))) }
@@ -254,11 +259,10 @@ fn turn_made<const WORDS: usize, C: Subtree<WORDS>>(
             turn_found(
                 top, children, code, items, leaf_paths, bus_paths, turn, answer,
             );
-            note(idle, leaf_paths, bus_paths, turn, answer);
+            note(idle, quiet, bus_leaves, turn, answer);
             note_buses(
                 quiet, top, children, leaf_near, bus_near, bus_paths, turn, answer,
             );
-            note_waits(quiet, idle, turn, answer);
         }
     }
 }

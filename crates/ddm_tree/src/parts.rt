@@ -40,6 +40,7 @@ pub struct Parts<const WORDS: usize, C: Subtree<WORDS>> {
     pub(crate) bus_paths: Vec<Vec<ChildNo>>,
     pub(crate) leaf_near: Vec<Vec<usize>>,
     pub(crate) bus_near: Vec<Vec<usize>>,
+    pub(crate) bus_leaves: Vec<Vec<usize>>,
     /// A place for each leaf, for the machine that is put together.
     pub(crate) idle: Vec<Option<Idle>>,
     /// A place for each number, in the same way.
@@ -64,7 +65,7 @@ impl<const WORDS: usize, C: Subtree<WORDS>> Model for Parts<WORDS, C> {
     ghost invariant = { λ m. IsParts WORDS (machine_of m.code m.items m.top (map C.value m.children.items) m.ops.items m.traffic.items) (map vec_items m.leaf_paths.items) (map vec_items m.bus_paths.items)
         × (tree_counts (machine_of m.code m.items m.top (map C.value m.children.items) m.ops.items m.traffic.items) ≡ m.counts)
         × (WORDS < 2 ^ 32) × (m.items.size ≡ 4 * WORDS)
-        × AreNearListed (map vec_items m.leaf_near.items) (map vec_items m.bus_near.items) (map vec_items m.leaf_paths.items) (map vec_items m.bus_paths.items) };
+        × AreNearListed (map vec_items m.leaf_near.items) (map vec_items m.bus_near.items) (map vec_items m.bus_leaves.items) (map vec_items m.leaf_paths.items) (map vec_items m.bus_paths.items) };
 }
 
 /// What a section is named by.
@@ -122,6 +123,7 @@ impl<const WORDS: usize, C: Subtree<WORDS>> Machine<WORDS, C> {
             bus_paths: self.bus_paths,
             leaf_near: self.leaf_near,
             bus_near: self.bus_near,
+            bus_leaves: self.bus_leaves,
             idle: self.idle,
             quiet: self.quiet,
         }
@@ -153,6 +155,7 @@ impl<const WORDS: usize, C: Subtree<WORDS> + Drop> Parts<WORDS, C> {
             bus_paths: self.bus_paths,
             leaf_near: self.leaf_near,
             bus_near: self.bus_near,
+            bus_leaves: self.bus_leaves,
             idle,
             quiet,
             spare: 0,

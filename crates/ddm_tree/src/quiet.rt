@@ -1,4 +1,4 @@
-ghost use Rattle.std.specs.Prelude.{◌≡◌, ◌<◌, ◌^◌, ℕ, List, Option, true, false, IfOk, is_none, length, map, slice_get, slice_set, vec_items};
+ghost use Rattle.std.specs.Prelude.{◌≡◌, ◌<◌, ◌^◌, true, false, IfOk, is_none, length, map, vec_items};
 ghost use Rattle.tree_model.specs.State.Child.{child_leaving, child_reply, child_request};
 ghost use Rattle.tree_model.specs.State.Directory.{in_set};
 ghost use Rattle.tree_model.specs.State.Lists.{first_of};
@@ -6,9 +6,8 @@ ghost use Rattle.tree_model.specs.State.Values.{dir_node, nodes};
 ghost use Rattle.tree_model.specs.Turns.Machine.{named_by};
 ghost use Rattle.ddm_tree.specs.Machine.{has_path, listed_path};
 ghost use Rattle.ddm_tree.specs.Path.{node_at};
-ghost use Rattle.ddm_tree.specs.Quiet.{AreApart, AreSame, entry_at, AreHartsNoted, AreLearned, AreNear, AreRelearned, HartsWait, IsBlank, IsHartNoted, IsKept, IsLearned, IsNear, IsQuietOf, is_known, number_of, set_if, turn_column, turn_row, waits_there};
+ghost use Rattle.ddm_tree.specs.Quiet.{AreApart, AreLearned, AreNear, AreRelearned, IsBlank, IsHartNoted, IsLearned, IsNear, IsQuietOf, is_known, number_of, set_if, turn_column, turn_row};
 
-use crate::idle::Idle;
 use crate::machine::{named, near_of};
 use crate::subtree::Subtree;
 use ddm_types::{ChildNo, NoMemory, Turn, TurnAnswer};
@@ -188,18 +187,18 @@ fn is_near(path: &[ChildNo], other: &[ChildNo]) -> bool
     same
 }
 
-/// The buses that may be a path's, or the parent's or a child's of what the path leads to.
-fn buses_near(
+/// The numbers of those of the paths that may be this one, or the parent's or a child's of what it leads to.
+fn paths_near(
     alloc: Global,
     path: &[ChildNo],
-    bus_paths: &[Vec<ChildNo>],
+    others: &[Vec<ChildNo>],
 ) -> Result<Vec<usize>, NoMemory>
-    ensures { IfOk result (λ near. IsNear path.now near.items (map vec_items bus_paths.now)) }
+    ensures { IfOk result (λ near. IsNear path.now near.items (map vec_items others.now)) }
 {
     let mut near = Vec::new(alloc);
-    for bus in 0..bus_paths.len() {
-        if is_near(&bus_paths[bus], path) {
-            near.push(bus)?;
+    for number in 0..others.len() {
+        if is_near(&others[number], path) {
+            near.push(number)?;
         }
     }
     Ok(near)
@@ -209,13 +208,13 @@ fn buses_near(
 pub(crate) fn near_lists(
     alloc: Global,
     paths: &[Vec<ChildNo>],
-    bus_paths: &[Vec<ChildNo>],
+    others: &[Vec<ChildNo>],
 ) -> Result<Vec<Vec<usize>>, NoMemory>
-    ensures { IfOk result (λ nears. AreNear (map vec_items nears.items) (map vec_items paths.now) (map vec_items bus_paths.now)) }
+    ensures { IfOk result (λ nears. AreNear (map vec_items nears.items) (map vec_items paths.now) (map vec_items others.now)) }
 {
     let mut nears = Vec::with_capacity(alloc, paths.len())?;
     for number in 0..paths.len() {
-        nears.push(buses_near(alloc, &paths[number], bus_paths)?)?;
+        nears.push(paths_near(alloc, &paths[number], others)?)?;
     }
     Ok(nears)
 }
@@ -264,66 +263,13 @@ pub(crate) fn note_buses<const WORDS: usize, C: Subtree<WORDS>>(
     }
 }
 
-/// Whether a hart waits for an item.
-fn waits(idle: &[Option<Idle>], hart: usize) -> bool
-    ensures { result ≡ waits_there (slice_get idle.now hart) }
-{
-    match idle.get(hart) {
-        Some(Some(Idle::Waits(_))) => true,
-        Some(Some(Idle::BufferFull(_))) => false,
-        Some(None) => false,
-        None => false,
-    }
-}
-
-/// Remembers of a hart whether it waits.
-fn note_hart(known: &mut [Quiet], idle: &[Option<Idle>], hart: usize)
-    ensures noted { IsHartNoted hart idle.now known.old known.new }
-    ensures length { length known.new ≡ length known.old }
+/// Remembers of a hart whether it waits for an item.
+pub(crate) fn note_hart(known: &mut [Quiet], hart: usize, waits: bool)
+    ensures { IsHartNoted hart waits known.old known.new }
 {
     if hart < known.len() {
         let [_, down, requests, replies, leaves] = known[hart];
-        known[hart] = [
-            set_if(waits(idle, hart), 0, 0),
-            down,
-            requests,
-            replies,
-            leaves,
-        ];
-    }
-}
-
-/// The same of all.
-fn note_harts(known: &mut [Quiet], idle: &[Option<Idle>])
-    ensures noted { AreHartsNoted (length known.old) idle.now known.old known.new }
-    ensures length { length known.new ≡ length known.old }
-{
-    for hart in 0..known.len() {
-        note_hart(known, idle, hart);
-    }
-}
-
-/// Remembers what a turn tells of harts that wait, as far as it told something of one of them, or granted something.
-pub(crate) fn note_waits(
-    known: &mut [Quiet],
-    idle: &[Option<Idle>],
-    turn: &Turn,
-    answer: &TurnAnswer,
-)
-    ensures waits { (before : List (Option Idle)) → IsKept turn.now answer.now before idle.now → HartsWait known.old before → HartsWait known.new idle.now }
-    ensures buses { (j : ℕ) → AreSame (entry_at j known.old) (entry_at j known.new) }
-{
-    match answer {
-        TurnAnswer::Granted(_) => note_harts(known, idle),
-        TurnAnswer::Waiting(_) | TurnAnswer::Busy(_) => {
-            if let Turn::Hart { hart, .. } = turn {
-                note_hart(known, idle, hart.0 as usize);
-            }
-        }
-        TurnAnswer::Retired(_)
-        | TurnAnswer::Issued(_, _)
-        | TurnAnswer::Halted(_)
-        | TurnAnswer::Empty => {}
+        known[hart] = [set_if(waits, 0, 0), down, requests, replies, leaves];
     }
 }
 
@@ -331,11 +277,8 @@ pub(crate) fn note_waits(
 pub(crate) fn nothing_quiet(alloc: Global, count: u32) -> Result<Vec<Quiet>, NoMemory>
     ensures { IfOk result (λ known. IsBlank known.items) }
 {
-    let mut known = Vec::with_capacity(alloc, count as usize)?;
-    for number in 0..count {
-        let _ = number;
-        known.push(NOTHING)?;
-    }
+    let mut known = vec![in alloc; NOTHING; count as usize]?;
+    forget_quiet(&mut known);
     Ok(known)
 }
 

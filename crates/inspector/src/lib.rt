@@ -37,9 +37,7 @@ pub fn state<const WORDS: usize, C: Subtree<WORDS>>(
     item: ItemId,
     leaf: LeafNo,
 ) -> Option<LeafState>
-    requires small { WORDS ≤ 16 }
-    requires leaf { is_part (leaf_of_number leaf) machine.now.machine ≡ true }
-    requires item { item < item_count machine.now.machine.items }
+    requires { is_part (leaf_of_number leaf) machine.now.machine ≡ true }
     ensures { Some result ≡ state_of leaf item machine.now.machine }
 {
     machine.leaf_state(leaf, item)
@@ -51,8 +49,6 @@ pub fn states<const WORDS: usize, C: Subtree<WORDS>>(
     machine: &Machine<WORDS, C>,
     item: ItemId,
 ) -> Result<Vec<Option<LeafState>>, NoMemory>
-    requires small { WORDS ≤ 16 }
-    requires item { item < item_count machine.now.machine.items }
     ensures { IfOk result (λ states. states.items ≡ states_of item machine.now.machine) }
 {
     let mut states = Vec::new(alloc);

@@ -142,11 +142,9 @@ pub fn put_states<const WORDS: usize>(
     from: u32,
     leaves: u32,
 ) -> u32
-    requires small { WORDS ≤ 16 }
     requires empty { line.old ≡ [] }
     requires shape { IsShaped (state_in machine.now).machine }
     requires leaves { leaves ≡ (tree_counts (state_in machine.now).machine).leaves }
-    requires item { item < item_count (state_in machine.now).machine.items }
     requires from { from ≤ leaves }
     ensures within { result ≤ leaves }
     ensures states { let all = states_of item (state_in machine.now).machine in letter_texts (drop from all) ≡ line.new ++ letter_texts (drop result all) }

@@ -10,7 +10,7 @@ pub state-requires : goal.state-requires
 state-requires g c =
     let leaves = ap (λ n. n.leaves) c.counts-leaf-end.ensures.counts in
     let below : c.loop-leaf.leaf < (tree_counts c.args.machine.now.machine).leaves = omega (arith, leaves, c.loop-leaf-test.true) in
-    (search rules, (c.requires.small, (leaf-there c.loop-leaf.leaf c.args.machine.now.machine c.counts-leaf-end.ensures.shape below, c.requires.item)))
+    (search rules, leaf-there c.loop-leaf.leaf c.args.machine.now.machine c.counts-leaf-end.ensures.shape below)
 
 pub loop-leaf-preserved : goal.loop-leaf-preserved
 loop-leaf-preserved g c = c.in_ok-push.ensures.items ∙ one-more c.args.machine.now.machine c.loop-leaf.leaf c.args.item c.state.result c.loop-leaf.states.items c.counts-leaf-end.ensures.shape c.state.ensures c.loop-leaf.invariant

@@ -37,8 +37,9 @@ returns-in-None-clause-idle g c =
     let found = c.requires.found in
     let leaf_paths = map vec_items c.args.leaf_paths.now in
     let bus_paths = map vec_items c.args.bus_paths.now in
-    let noted = subst (λ a. AreNoted c.args.turn.now a leaf_paths bus_paths c.args.idle.now c.note.new.idle) (c.turn_found.ensures.answer found.path found.listed) c.note.ensures.noted in
-    let idle = noted-idle c.args.code.now c.args.items.now c.args.turn.now found.path (present_at found.path stamp_zero n) n found.leads leaf_paths bus_paths c.args.idle.now found.listed c.requires.paths c.requires.idle c.note.new.idle noted in
+    let bus_leaves = map vec_items c.args.bus_leaves.now in
+    let noted = subst (λ a. AreNoted c.args.turn.now a bus_leaves c.args.idle.now c.note.new.idle) (c.turn_found.ensures.answer found.path found.listed) c.note.ensures.noted in
+    let idle = noted-idle c.args.code.now c.args.items.now c.args.turn.now found.path (present_at found.path stamp_zero n) n found.leads bus_leaves leaf_paths bus_paths c.args.idle.now found.listed c.requires.near.below c.requires.paths c.requires.idle c.note.new.idle noted in
     subst (AreIdle c.args.code.now c.args.items.now c.note.new.idle n) (sym (c.turn_found.ensures.after found.path found.listed)) idle
 
 pub returns-in-None-clause-quiet : goal.returns-in-None-clause-quiet
@@ -50,12 +51,11 @@ returns-in-None-clause-quiet g c =
     let after = c.turn_found.ensures.after found.path found.listed in
     let leaf_near = map vec_items c.args.leaf_near.now in
     let bus_near = map vec_items c.args.bus_near.now in
-    let told = subst (λ a. AreRelearned c.args.turn.now a leaf_near bus_near bus_paths (dir_node c.turn_found.new.top (nodes (map g.C.Agent.value c.turn_found.new.children))) c.args.quiet.now c.note_buses.new.known) (c.turn_found.ensures.answer found.path found.listed) c.note_buses.ensures in
-    let learned = subst (λ m. AreRelearned c.args.turn.now (node_answer c.args.code.now c.args.items.now c.args.turn.now found.path (present_at found.path stamp_zero n) (node_at found.path n)) leaf_near bus_near bus_paths m c.args.quiet.now c.note_buses.new.known) after told in
-    let quiet = relearned-quiet c.args.code.now c.args.items.now c.args.turn.now found.path (present_at found.path stamp_zero n) n leaf_near bus_near leaf_paths bus_paths c.args.quiet.now c.note_buses.new.known found.leads found.listed c.requires.near c.requires.listed c.requires.quiet learned in
-    quiet-same n _ c.note_buses.new.known c.note_waits.new.known c.note_waits.ensures.buses (subst (AreQuiet c.note_buses.new.known n) (sym after) quiet)
+    let told = subst (λ a. AreRelearned c.args.turn.now a leaf_near bus_near bus_paths (dir_node c.turn_found.new.top (nodes (map g.C.Agent.value c.turn_found.new.children))) c.note.new.quiet c.note_buses.new.known) (c.turn_found.ensures.answer found.path found.listed) c.note_buses.ensures in
+    let learned = subst (λ m. AreRelearned c.args.turn.now (node_answer c.args.code.now c.args.items.now c.args.turn.now found.path (present_at found.path stamp_zero n) (node_at found.path n)) leaf_near bus_near bus_paths m c.note.new.quiet c.note_buses.new.known) after told in
+    let kept = quiet-same n n c.args.quiet.now c.note.new.quiet c.note.ensures.buses c.requires.quiet in
+    let quiet = relearned-quiet c.args.code.now c.args.items.now c.args.turn.now found.path (present_at found.path stamp_zero n) n leaf_near bus_near (map vec_items c.args.bus_leaves.now) leaf_paths bus_paths c.note.new.quiet c.note_buses.new.known found.leads found.listed c.requires.near c.requires.listed kept learned in
+    subst (AreQuiet c.note_buses.new.known n) (sym after) quiet
 
 pub returns-in-None-clause-waits : goal.returns-in-None-clause-waits
-returns-in-None-clause-waits g c =
-    let wait = waits-relearned c.args.turn.now _ _ _ _ _ c.args.idle.now c.args.quiet.now c.note_buses.new.known c.note_buses.ensures c.requires.waits in
-    c.note_waits.ensures.waits c.args.idle.now c.note.ensures.kept wait
+returns-in-None-clause-waits g c = waits-relearned c.args.turn.now _ _ _ _ _ c.note.new.idle c.note.new.quiet c.note_buses.new.known c.note_buses.ensures (c.note.ensures.waits c.requires.waits)

@@ -3,4 +3,4 @@ use Rattle.ddm_tree.proofs.QuietNear.{AreNearFor}
 use Rattle.ddm_tree.proofs.quiet.near_lists.Given as goal
 
 abbrev pub invariant-loop-number : goal.invariant-loop-number
-invariant-loop-number l = AreNearFor l.number (map vec_items l.nears.items) (map vec_items l.paths) (map vec_items l.bus_paths)
+invariant-loop-number l = AreNearFor l.number (map vec_items l.nears.items) (map vec_items l.paths) (map vec_items l.others)

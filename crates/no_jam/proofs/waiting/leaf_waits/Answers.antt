@@ -9,9 +9,7 @@ pub loop-item-init : goal.loop-item-init
 loop-item-init c = rests-none c.args.leaf (machine_state c.args.machine.now).machine
 
 pub state-requires : goal.state-requires
-state-requires c =
-    let items = c.len-items.ensures ∙ ap item_count c.items.ensures in
-    record { leaf = leaf-there c.args.leaf (machine_state c.args.machine.now).machine c.counts.ensures.shape c.requires; item = omega (arith, items, c.loop-item-test.true) }
+state-requires c = leaf-there c.args.leaf (machine_state c.args.machine.now).machine c.counts.ensures.shape c.requires
 
 pub returns-then-state_waits : goal.returns-then-state_waits
 returns-then-state_waits c =

@@ -13,7 +13,7 @@ pub state-requires : goal.state-requires
 state-requires g c =
     let m = (state_in c.args.machine.now).machine in
     let below : c.states.next < (tree_counts m).leaves = omega (arith, c.states-test.true, c.requires.leaves) in
-    (search rules, (c.requires.small, (leaf-there c.states.next m c.requires.shape below, c.requires.item)))
+    (search rules, leaf-there c.states.next m c.requires.shape below)
 
 pub states-preserved : goal.states-preserved
 unfolding letter_texts

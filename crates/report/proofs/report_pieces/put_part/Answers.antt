@@ -22,7 +22,7 @@ pub put_states-next-requires : goal.put_states-next-requires
 put_states-next-requires g c =
     let m = (state_in c.args.machine.now).machine in
     let there = shown.states-there _ m _ _ _ c.requires.given c.in-States.item c.in-States.from c.in-States.is in
-    (search rules, (c.requires.small, (c.requires.empty, (c.requires.given.shaped, (shown.leaves-shown _ m _ _ _ c.requires.given, (there.0, there.1))))))
+    (search rules, (c.requires.empty, (c.requires.given.shaped, (shown.leaves-shown _ m _ _ _ c.requires.given, there.1))))
 
 pub put_operations-next-requires-clause-from : goal.put_operations-next-requires-clause-from
 put_operations-next-requires-clause-from g c = shown.operation-there _ (state_in c.args.machine.now).machine _ _ _ c.requires.given c.in-Operation.operation c.in-Operation.is

@@ -37,7 +37,7 @@ turn_made-requires g c =
                   rw (c.deref_mut.ensures.value, c.deref_mut-2.ensures.value) inv.5,
                   (
                     rw (c.deref_mut.ensures.value, c.deref_mut-3.ensures.value) inv.6,
-                    (rw (c.deref_mut-2.ensures.value, c.deref_mut-3.ensures.value) inv.7, rw (c.deref.ensures.value, c.deref-2.ensures.value, c.deref-3.ensures.value, c.deref-4.ensures.value) inv.8),
+                    (rw (c.deref_mut-2.ensures.value, c.deref_mut-3.ensures.value) inv.7, rw (c.deref.ensures.value, c.deref-2.ensures.value, c.deref-3.ensures.value, c.deref-4.ensures.value, c.deref-5.ensures.value) inv.8),
                   ),
                 ),
               ),
