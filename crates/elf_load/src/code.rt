@@ -1,10 +1,11 @@
-ghost use Rattle.std.specs.Prelude.{◌≡◌, ◌&&◌, nat_lt, ◌+◌, ◌*◌, ◌<◌, ◌≤◌, ℕ, All, AllPairs, IfOk, [], ◌∷◌, slice_index_or};
+ghost use Rattle.std.specs.Prelude.{◌≡◌, ◌&&◌, nat_lt, ◌+◌, ◌*◌, ◌^◌, ◌<◌, ◌≤◌, ℕ, All, AllPairs, IfOk, [], ◌∷◌, slice_index_or};
 ghost use Rattle.tree_model.specs.Start.Memory.{byte_at, memory_word, start_code};
 ghost use Rattle.tree_model.specs.Start.Sources.{is_executable};
 ghost use Rattle.elf_load.specs.ImageRule.{AreApart, EndsInside, HasMemory};
 ghost use Rattle.tree_model.specs.Start.Memory.{first_word};
 ghost use Rattle.elf_load.specs.CodeOf.{ArePartsOf, IsPartOf, segment_words, word_count};
 
+use crate::fields::word_in;
 use crate::image::Segment;
 use ddm_types::{Code, CodePart, NoMemory};
 use std::alloc::Global;
@@ -26,14 +27,18 @@ fn byte_at(segment: &Segment, address: u64) -> u8
     byte_or_zero(&segment.bytes, offset as usize)
 }
 
-/// A word of the segment's memory.
+/// A word of the segment's memory: it is read as one where the file has all of its bytes.
 #[tactic(auto, unfolding(tree_model::specs::Start::Memory::memory_word))]
-fn memory_word(segment: &Segment, address: u64) -> u32
-    requires ends { EndsInside segment.now }
+pub fn segment_word(segment: &Segment, address: u64) -> u32
+    requires inside { address ≤ 2 ^ 33 }
     requires above { segment.now.vaddr ≤ address }
     requires below { address + 4 ≤ segment.now.vaddr + segment.now.memsz }
     ensures { result ≡ memory_word (segment.now ∷ []) address }
 {
+    let offset = (address - u64::from(segment.vaddr)) as usize;
+    if offset + 4 <= segment.bytes.len() {
+        return word_in(&segment.bytes, offset);
+    }
     u32::from_le_bytes([
         byte_at(segment, address),
         byte_at(segment, address + 1),
@@ -71,9 +76,10 @@ fn segment_words(alloc: Global, segment: &Segment) -> Result<Vec<u32>, NoMemory>
     ensures { IfOk result (λ words. words.items ≡ segment_words segment.now) }
 {
     let first = first_word(segment);
-    let mut words = Vec::new(alloc);
-    for place in 0..word_count(segment) {
-        words.push(memory_word(segment, 4 * (first + place)))?;
+    let count = word_count(segment);
+    let mut words = Vec::with_capacity(alloc, count as usize)?;
+    for place in 0..count {
+        words.push(segment_word(segment, 4 * (first + place)))?;
     }
     Ok(words)
 }

@@ -17,6 +17,7 @@ mod segments;
 mod sizes;
 mod writing;
 
+pub use code::segment_word;
 pub use copying::copied_code;
 pub use examples::{contradictory_images, cut_images, linked_image, segment_edges};
 pub use image::{Image, Segment};

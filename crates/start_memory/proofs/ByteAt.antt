@@ -11,7 +11,7 @@ pub byte_at-none : (a : ℕ) → byte_at [] a ≡ 0
 unfolding byte_at
 byte_at-none a = refl
 
-byte_at-here : (s : SegmentValue) (ss : List SegmentValue) (a : ℕ) → has a s ≡ true → byte_at (s ∷ ss) a ≡ slice_index_or s.bytes (a - s.vaddr) 0
+pub byte_at-here : (s : SegmentValue) (ss : List SegmentValue) (a : ℕ) → has a s ≡ true → byte_at (s ∷ ss) a ≡ slice_index_or s.bytes (a - s.vaddr) 0
 unfolding byte_at
 byte_at-here s ss a here = rw here refl
 

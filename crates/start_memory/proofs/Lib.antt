@@ -1,4 +1,5 @@
 pub mod ByteAt
+pub mod WordAt
 pub mod ItemWords
 pub mod StackOverlaps
 pub mod MemorySpans
