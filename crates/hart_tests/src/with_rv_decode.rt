@@ -2,6 +2,29 @@
 use rv_decode::*;
 use std::test::*;
 
+fn lui(rd: u8, imm: u32) -> Instr {
+    Instr::Lui { rd: Reg(rd), imm }
+}
+
+fn auipc(rd: u8, imm: u32) -> Instr {
+    Instr::Auipc { rd: Reg(rd), imm }
+}
+
+fn jal(rd: u8, offset: i32) -> Instr {
+    Instr::Jal {
+        rd: Reg(rd),
+        offset,
+    }
+}
+
+fn jalr(rd: u8, rs1: u8, offset: i32) -> Instr {
+    Instr::Jalr {
+        rd: Reg(rd),
+        rs1: Reg(rs1),
+        offset,
+    }
+}
+
 fn branch(op: BranchOp, rs1: u8, rs2: u8, offset: i32) -> Instr {
     Instr::Branch {
         op,
@@ -55,6 +78,25 @@ fn fence(imm: u32) -> Instr {
     }
 }
 
+fn lr([rd, rs1]: [u8; 2], aq: bool, rl: bool) -> Instr {
+    Instr::Lr {
+        rd: Reg(rd),
+        rs1: Reg(rs1),
+        aq,
+        rl,
+    }
+}
+
+fn sc([rd, rs1, rs2]: [u8; 3], aq: bool, rl: bool) -> Instr {
+    Instr::Sc {
+        rd: Reg(rd),
+        rs1: Reg(rs1),
+        rs2: Reg(rs2),
+        aq,
+        rl,
+    }
+}
+
 fn amo(op: AmoOp, [rd, rs1, rs2]: [u8; 3], aq: bool, rl: bool) -> Instr {
     Instr::Amo {
         op,
@@ -73,21 +115,8 @@ fn is_word_of(word: u32, instr: Instr) -> bool {
 
 #[test]
 fn vectors(rt: HostRuntime) {
-    let lr = Instr::Lr {
-        rd: Reg(5),
-        rs1: Reg(10),
-        aq: false,
-        rl: false,
-    };
-    assert!(rt; is_word_of(0x1005_22af, lr));
-    let sc = Instr::Sc {
-        rd: Reg(6),
-        rs1: Reg(10),
-        rs2: Reg(5),
-        aq: false,
-        rl: false,
-    };
-    assert!(rt; is_word_of(0x1855_232f, sc));
+    assert!(rt; is_word_of(0x1005_22af, lr([5, 10], false, false)));
+    assert!(rt; is_word_of(0x1855_232f, sc([6, 10, 5], false, false)));
     assert!(rt; is_word_of(0x0ff0_000f, fence(0x0ff)));
     assert!(rt; is_word_of(0x0010_0073, Instr::Ebreak));
 }
@@ -121,87 +150,25 @@ fn valid_bounds(rt: HostRuntime) {
 fn upper_and_jumps(rt: HostRuntime) {
     let table = [
         // lui x1,0xfffff
-        (
-            0xffff_f0b7,
-            Instr::Lui {
-                rd: Reg(1),
-                imm: 0xffff_f000,
-            },
-        ),
+        (0xffff_f0b7, lui(1, 0xffff_f000)),
         // lui x31,0x1
-        (
-            0x0000_1fb7,
-            Instr::Lui {
-                rd: Reg(31),
-                imm: 0x0000_1000,
-            },
-        ),
+        (0x0000_1fb7, lui(31, 0x0000_1000)),
         // auipc x10,0x12345
-        (
-            0x1234_5517,
-            Instr::Auipc {
-                rd: Reg(10),
-                imm: 0x1234_5000,
-            },
-        ),
+        (0x1234_5517, auipc(10, 0x1234_5000)),
         // auipc x0,0x80000
-        (
-            0x8000_0017,
-            Instr::Auipc {
-                rd: Reg(0),
-                imm: 0x8000_0000,
-            },
-        ),
+        (0x8000_0017, auipc(0, 0x8000_0000)),
         // jal x1,+1048574
-        (
-            0x7fff_f0ef,
-            Instr::Jal {
-                rd: Reg(1),
-                offset: 1048574,
-            },
-        ),
+        (0x7fff_f0ef, jal(1, 1048574)),
         // jal x0,-1048576
-        (
-            0x8000_006f,
-            Instr::Jal {
-                rd: Reg(0),
-                offset: -1048576,
-            },
-        ),
+        (0x8000_006f, jal(0, -1048576)),
         // jal x5,+2048
-        (
-            0x0010_02ef,
-            Instr::Jal {
-                rd: Reg(5),
-                offset: 2048,
-            },
-        ),
+        (0x0010_02ef, jal(5, 2048)),
         // jal x31,-2
-        (
-            0xffff_ffef,
-            Instr::Jal {
-                rd: Reg(31),
-                offset: -2,
-            },
-        ),
+        (0xffff_ffef, jal(31, -2)),
         // jalr x1,-2048(x2)
-        (
-            0x8001_00e7,
-            Instr::Jalr {
-                rd: Reg(1),
-                rs1: Reg(2),
-                offset: -2048,
-            },
-        ),
+        (0x8001_00e7, jalr(1, 2, -2048)),
         // jalr x0,2047(x31)
-        (
-            0x7fff_8067,
-            Instr::Jalr {
-                rd: Reg(0),
-                rs1: Reg(31),
-                offset: 2047,
-            },
-        ),
+        (0x7fff_8067, jalr(0, 31, 2047)),
     ];
     for (word, instr) in table {
         assert!(rt; is_word_of(word, instr), "{word:08x}");
@@ -337,57 +304,15 @@ fn fences_and_system(rt: HostRuntime) {
 fn atomics(rt: HostRuntime) {
     let table = [
         // lr.w x1,(x31)
-        (
-            0x100f_a0af,
-            Instr::Lr {
-                rd: Reg(1),
-                rs1: Reg(31),
-                aq: false,
-                rl: false,
-            },
-        ),
+        (0x100f_a0af, lr([1, 31], false, false)),
         // lr.w.aq x31,(x1)
-        (
-            0x1400_afaf,
-            Instr::Lr {
-                rd: Reg(31),
-                rs1: Reg(1),
-                aq: true,
-                rl: false,
-            },
-        ),
+        (0x1400_afaf, lr([31, 1], true, false)),
         // lr.w.aqrl x16,(x15)
-        (
-            0x1607_a82f,
-            Instr::Lr {
-                rd: Reg(16),
-                rs1: Reg(15),
-                aq: true,
-                rl: true,
-            },
-        ),
+        (0x1607_a82f, lr([16, 15], true, true)),
         // sc.w.rl x1,x2,(x3)
-        (
-            0x1a21_a0af,
-            Instr::Sc {
-                rd: Reg(1),
-                rs1: Reg(3),
-                rs2: Reg(2),
-                aq: false,
-                rl: true,
-            },
-        ),
+        (0x1a21_a0af, sc([1, 3, 2], false, true)),
         // sc.w x31,x0,(x30)
-        (
-            0x180f_2faf,
-            Instr::Sc {
-                rd: Reg(31),
-                rs1: Reg(30),
-                rs2: Reg(0),
-                aq: false,
-                rl: false,
-            },
-        ),
+        (0x180f_2faf, sc([31, 30, 0], false, false)),
         // amoswap.w x1,x2,(x3)
         (0x0821_a0af, amo(AmoOp::Swap, [1, 3, 2], false, false)),
         // amoadd.w.aq x4,x5,(x6)

@@ -24,6 +24,34 @@ fn unknown_is(rt: &impl Abort, alloc: Global, text: &str, name: &str) -> bool {
     }
 }
 
+fn is_missing(rt: &impl Abort, alloc: Global, text: &str, key: TreeKey) -> bool {
+    match refusal(rt, alloc, text) {
+        TreeRefusal::MissingKey(missing) => missing == key,
+        _ => false,
+    }
+}
+
+fn is_mistyped(rt: &impl Abort, alloc: Global, text: &str, key: TreeKey) -> bool {
+    match refusal(rt, alloc, text) {
+        TreeRefusal::WrongType(mistyped) => mistyped == key,
+        _ => false,
+    }
+}
+
+fn is_out_of_range(rt: &impl Abort, alloc: Global, text: &str, key: TreeKey) -> bool {
+    match refusal(rt, alloc, text) {
+        TreeRefusal::OutOfRange(outside) => outside == key,
+        _ => false,
+    }
+}
+
+fn is_no_shape(rt: &impl Abort, alloc: Global, text: &str, begins: u32) -> bool {
+    match refusal(rt, alloc, text) {
+        TreeRefusal::BadShape(place) => place == begins,
+        _ => false,
+    }
+}
+
 #[test]
 fn ten_lines(rt: HostRuntime) -> Result<(), Fail> {
     let tree = read_tree(rt.alloc(), PLAIN.as_bytes())?;
@@ -62,106 +90,36 @@ fn keys(rt: HostRuntime) -> Result<(), Fail> {
     let alloc = rt.alloc();
     assert!(rt; unknown_is(&rt, alloc, "zebra = 1\ncache = 1\nshape = 2\n", "cache"));
     assert!(rt; unknown_is(&rt, alloc, "a.b = 1\nshape = 2\n", "a"));
-    assert!(rt;
-        matches!(
-            refusal(&rt, alloc, ""),
-            TreeRefusal::MissingKey(TreeKey::Shape)
-        )
-    );
-    assert!(rt;
-        matches!(
-            refusal(&rt, alloc, "shape.x = 1\n"),
-            TreeRefusal::WrongType(TreeKey::Shape)
-        )
-    );
-    let base = "shape = \"(L)\"\n";
-    let three = "shape = \"(L)\"\nways = 3\n";
-    assert!(rt;
-        matches!(
-            refusal(&rt, alloc, base),
-            TreeRefusal::MissingKey(TreeKey::Ways)
-        )
-    );
-    assert!(rt;
-        matches!(
-            refusal(&rt, alloc, three),
-            TreeRefusal::OutOfRange(TreeKey::Ways)
-        )
-    );
+    assert!(rt; is_missing(&rt, alloc, "", TreeKey::Shape));
+    assert!(rt; is_mistyped(&rt, alloc, "shape.x = 1\n", TreeKey::Shape));
+    assert!(rt; is_missing(&rt, alloc, "shape = \"(L)\"\n", TreeKey::Ways));
+    assert!(rt; is_out_of_range(&rt, alloc, "shape = \"(L)\"\nways = 3\n", TreeKey::Ways));
     let text = PLAIN.replace(alloc, "sets = 1\n", "sets = \"4\"\n")?;
-    assert!(rt;
-        matches!(
-            refusal(&rt, alloc, text.as_str()),
-            TreeRefusal::WrongType(TreeKey::Sets)
-        )
-    );
+    assert!(rt; is_mistyped(&rt, alloc, text.as_str(), TreeKey::Sets));
     let none = PLAIN.replace(alloc, "replies = 18\n", "")?;
-    assert!(rt;
-        matches!(
-            refusal(&rt, alloc, none.as_str()),
-            TreeRefusal::MissingKey(TreeKey::Replies)
-        )
-    );
+    assert!(rt; is_missing(&rt, alloc, none.as_str(), TreeKey::Replies));
     let high = PLAIN.replace(alloc, "196608", "4294967248")?;
-    assert!(rt;
-        matches!(
-            refusal(&rt, alloc, high.as_str()),
-            TreeRefusal::OutOfRange(TreeKey::StackBytes)
-        )
-    );
+    assert!(rt; is_out_of_range(&rt, alloc, high.as_str(), TreeKey::StackBytes));
     let items = PLAIN.replace(
         alloc,
         "stack_bytes = 16\n",
         "stack_bytes = 16\nitem_bytes = 32\n",
     )?;
-    assert!(rt;
-        matches!(
-            refusal(&rt, alloc, items.as_str()),
-            TreeRefusal::OutOfRange(TreeKey::ItemBytes)
-        )
-    );
+    assert!(rt; is_out_of_range(&rt, alloc, items.as_str(), TreeKey::ItemBytes));
     Ok(())
 }
 
 #[test]
 fn shapes(rt: HostRuntime) -> Result<(), Fail> {
     let alloc = rt.alloc();
-    assert!(rt;
-        matches!(
-            refusal(&rt, alloc, "shape = \"()\""),
-            TreeRefusal::BadShape(1)
-        )
-    );
-    assert!(rt;
-        matches!(
-            refusal(&rt, alloc, "shape = \"\""),
-            TreeRefusal::BadShape(0)
-        )
-    );
-    assert!(rt;
-        matches!(
-            refusal(&rt, alloc, "shape = \"(L\""),
-            TreeRefusal::BadShape(2)
-        )
-    );
-    assert!(rt;
-        matches!(
-            refusal(&rt, alloc, "shape = \"(L)(\""),
-            TreeRefusal::BadShape(3)
-        )
-    );
-    assert!(rt;
-        matches!(
-            refusal(&rt, alloc, "shape = \"((L)L)\""),
-            TreeRefusal::Uneven
-        )
-    );
-    assert!(rt;
-        matches!(
-            refusal(&rt, alloc, "shape = \"(((((L)))))\""),
-            TreeRefusal::TooDeep
-        )
-    );
+    assert!(rt; is_no_shape(&rt, alloc, "shape = \"()\"", 1));
+    assert!(rt; is_no_shape(&rt, alloc, "shape = \"\"", 0));
+    assert!(rt; is_no_shape(&rt, alloc, "shape = \"(L\"", 2));
+    assert!(rt; is_no_shape(&rt, alloc, "shape = \"(L)(\"", 3));
+    let uneven = "shape = \"((L)L)\"";
+    assert!(rt; matches!(refusal(&rt, alloc, uneven), TreeRefusal::Uneven));
+    let deep = "shape = \"(((((L)))))\"";
+    assert!(rt; matches!(refusal(&rt, alloc, deep), TreeRefusal::TooDeep));
     let wide = "shape = \"(LLLLLLLLLLLLLLLLL)\"";
     assert!(rt; matches!(refusal(&rt, alloc, wide), TreeRefusal::TooWide));
     let many =
