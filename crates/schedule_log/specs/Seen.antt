@@ -1,5 +1,5 @@
--- Lines of a schedule that are told by sixteen bytes of a text.
-use Rattle.std.specs.Prelude.{◌≡◌, ℕ, ◌+◌, ◌-◌, ◌%◌, List, length, take, drop, Option, Some, None}
+-- Lines of a schedule that are told by the eight bytes that a text begins with.
+use Rattle.std.specs.Prelude.{◌≡◌, ℕ, ◌+◌, List, ◌++◌, length, drop, Option, Some, None}
 use Rattle.std.specs.Int.{to_le_bytes, w64}
 use Rattle.ddm_types.specs.declared.turns.Turn.{Turn}
 use Rattle.text_model.specs.Schedule.{ShapeView, turn_fault, turn_text}
@@ -12,15 +12,11 @@ pub record IsSeenLine (shape : ShapeView) (text : List ℕ) (turn : Turn) (used 
   pub many : used ≡ length (turn_text turn) + 1
   pub fault : turn_fault shape turn ≡ None
 
--- each text that begins with the same so many bytes does
-abbrev pub IsTold : ShapeView → List ℕ → Turn → ℕ → Type 0
-IsTold shape text turn used = (other : List ℕ) → take used other ≡ take used text → IsSeenLine shape other turn used
-
--- each text does that has the remembered bytes, the first eight and those that end with the line
-abbrev pub IsSeen : ShapeView → Seen → Type 0
-IsSeen shape line = (text : List ℕ) → to_le_bytes w64 line.word ≡ take 8 text → to_le_bytes w64 line.last ≡ take 8 (drop ((line.used - 8) % 8) text) → IsSeenLine shape text line.turn line.used
+-- each text that begins with these bytes does
+abbrev pub IsSeen : ShapeView → List ℕ → Turn → ℕ → Type 0
+IsSeen shape bytes turn used = (rest : List ℕ) → IsSeenLine shape (bytes ++ rest) turn used
 
 -- what is remembered at a place is so
 abbrev pub IsSeenAt : ShapeView → Option Seen → Type 0
 IsSeenAt shape None = Unit {0}
-IsSeenAt shape (Some line) = IsSeen shape line
+IsSeenAt shape (Some line) = IsSeen shape (to_le_bytes w64 line.word) line.turn line.used

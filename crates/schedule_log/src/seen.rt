@@ -1,19 +1,17 @@
-ghost use Rattle.std.specs.Prelude.{◌≡◌, ◌<◌, ◌≤◌, ◌-◌, ◌%◌, All, IfSome, drop, length, take};
+ghost use Rattle.std.specs.Prelude.{◌≡◌, ◌<◌, ◌≤◌, All, IfSome, length, take};
 ghost use Rattle.std.specs.Int.{to_le_bytes, w64};
 ghost use Rattle.text_model.specs.Schedule.{ShapeView};
-ghost use Rattle.schedule_log.specs.Seen.{IsSeenAt, IsSeenLine, IsTold};
+ghost use Rattle.schedule_log.specs.Seen.{IsSeen, IsSeenAt};
 
 use ddm_types::Turn;
 
 /// So many lines are remembered.
 pub(crate) const PLACES: usize = 1024;
 
-/// The line of a turn: the eight bytes that a text with it begins with, the eight that end with its line feed (or the same once more, where
-/// it has no more than these), and how many it has in all, at most fifteen.
+/// What each text begins with that begins with these eight bytes: the line of a turn, which has so many bytes with its line feed.
 #[derive(Clone, Copy)]
 pub(crate) struct Seen {
     word: u64,
-    last: u64,
     turn: Turn,
     used: usize,
 }
@@ -65,49 +63,18 @@ fn place_of(word: u64) -> usize
     (word.wrapping_mul(0x9e37_79b9_7f4a_7c15) >> 54) as usize
 }
 
-/// The eight bytes of a text that end with its line of so many bytes, where these are nine to fifteen, and else its first eight.
-#[inline(always)]
-fn last_word(text: &[u8], used: usize) -> u64
-    requires { 16 ≤ length text.now }
-    ensures { to_le_bytes w64 result ≡ take 8 (drop ((used - 8) % 8) text.now) }
-{
-    first_word(&text[used.saturating_sub(8) % 8..])
-}
-
 /// The line with which a text begins that begins with these bytes, where it is remembered.
 #[inline(always)]
-pub(crate) fn seen_line(seen: &[Option<Seen>; PLACES], text: &[u8], word: u64) -> Option<Seen>
-    requires long { 16 ≤ length text.now }
-    requires word { to_le_bytes w64 word ≡ take 8 text.now }
-    ensures { (shape : ShapeView) → All (IsSeenAt shape) seen.now → IfSome result (λ line. IsSeenLine shape text.now line.turn line.used) }
+pub(crate) fn seen_line(seen: &[Option<Seen>; PLACES], word: u64) -> Option<Seen>
+    ensures { (shape : ShapeView) → All (IsSeenAt shape) seen.now → IfSome result (λ line. IsSeen shape (to_le_bytes w64 word) line.turn line.used) }
 {
     let line = seen[place_of(word)]?;
-    let last = last_word(text, line.used);
-    if (line.word == word) & (line.last == last) {
-        Some(line)
-    } else {
-        None
-    }
+    if line.word == word { Some(line) } else { None }
 }
 
-/// Remembers the line with which a text begins in place of another one.
-pub(crate) fn remember(
-    seen: &mut [Option<Seen>; PLACES],
-    text: &[u8],
-    word: u64,
-    turn: Turn,
-    used: usize,
-)
-    requires long { 16 ≤ length text.now }
-    requires word { to_le_bytes w64 word ≡ take 8 text.now }
-    requires few { used ≤ 15 }
-    ensures { (shape : ShapeView) → All (IsSeenAt shape) seen.old → IsTold shape text.now turn used → All (IsSeenAt shape) seen.new }
+/// Remembers a line in place of another one.
+pub(crate) fn remember(seen: &mut [Option<Seen>; PLACES], word: u64, turn: Turn, used: usize)
+    ensures { (shape : ShapeView) → All (IsSeenAt shape) seen.old → IsSeen shape (to_le_bytes w64 word) turn used → All (IsSeenAt shape) seen.new }
 {
-    let last = last_word(text, used);
-    seen[place_of(word)] = Some(Seen {
-        word,
-        last,
-        turn,
-        used,
-    });
+    seen[place_of(word)] = Some(Seen { word, turn, used });
 }

@@ -125,7 +125,7 @@ fn any_step(parts: &Parts, lines: u32, made: u32, text: &[u8]) -> Step
     }
 }
 
-// The same, of a line that isn't remembered. It is from now on, if sixteen bytes tell it.
+// The same, of a line that isn't remembered. It is from now on, if it has at most as many bytes as tell it.
 fn new_step(
     parts: &Parts,
     lines: u32,
@@ -147,8 +147,8 @@ fn new_step(
     let used = text.len() - rest.len();
     // A value that was handed on isn't handed on again.
     let (judged, kept) = (turn, turn);
-    if used <= 15 && has_named(parts, judged) {
-        remember(seen, text, word, kept, used);
+    if used <= 8 && has_named(parts, judged) {
+        remember(seen, word, kept, used);
     }
     step_of_turn(parts, lines, made, turn, used)
 }
@@ -171,7 +171,7 @@ pub(crate) fn first_step(
         return any_step(parts, lines, made, text);
     }
     let word = first_word(text);
-    match seen_line(seen, text, word) {
+    match seen_line(seen, word) {
         Some(line) if made < MOST_TURNS => Step::Turn {
             turn: line.turn(),
             used: line.used(),
