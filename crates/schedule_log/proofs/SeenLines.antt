@@ -1,19 +1,30 @@
 -- Lines that are told by the eight bytes that a text begins with.
 -- Letters: turn is a turn, used how many bytes its line has with its line feed, rest and more what is behind them.
-use Rattle.std.proofs.Common.{◌≡◌, ℕ, zero, suc, ◌+◌, ◌-◌, ◌<◌, ◌≤◌, true, List, [], ◌∷◌, ◌++◌, length, take, drop, Option, None, Some, refl, sym, ap, ◌∙◌, arith}
+use Rattle.std.proofs.Common.{◌≡◌, ℕ, zero, suc, ◌+◌, ◌-◌, ◌<◌, ◌≤◌, true, List, [], ◌∷◌, ◌++◌, length, take, drop, Option, None, Some, refl, sym, ap, subst, ◌∙◌, arith}
 use Rattle.std.specs.Prelude.{codes, is_none}
 use Rattle.std.proofs.lemmas.Bool.{lt-ltb}
+use Rattle.std.proofs.Math.Seq.{take-append_seam}
 use Rattle.std.proofs.lemmas.List.{length-append}
 use Rattle.ddm_types.specs.declared.turns.Turn.{Turn}
 use Rattle.text_model.specs.Schedule.{ShapeView, refusal_of_turn, turn_fault, turn_text}
 use Rattle.schedule_log.specs.Seen.{IsSeen, IsSeenLine}
 use Rattle.schedule_log.specs.Spelled.{BeginsWithLine}
-use Rattle.schedule_log.specs.Steps.{BeginsWithTurn}
+use Rattle.schedule_log.specs.declared.steps.Step.{Step}
+use Rattle.schedule_log.specs.Steps.{BeginsWithTurn, StepGives, step_by}
 use Rattle.schedule_log.proofs.FirstLines.{lengths, spelled_step}
 
 pub none-is : {A : Type 0} (o : Option A) → is_none o ≡ true → o ≡ None
 none-is None e = refl
 none-is (Some a) e = cc
+
+-- a vector whose places were all written anew
+pub places-back : {A : Type 0} (old new : List A) (len : ℕ) → len ≡ length new → take len (new ++ drop (length new) old) ≡ new
+places-back old new len whole = ap (λ n. take n (new ++ drop (length new) old)) whole ∙ take-append_seam new (drop (length new) old)
+
+-- the step of a line that isn't remembered
+pub new-step : (shape parts : ShapeView) (lines made : ℕ) (text : List ℕ) (turn : Turn) (rest : List ℕ) (step : Step) → parts ≡ shape → BeginsWithLine text turn rest → step ≡ step_by (refusal_of_turn parts made turn) lines turn (length text - length rest) → StepGives shape lines made text step
+new-step shape parts lines made text turn rest step same begins is =
+    subst (StepGives shape lines made text) (sym (is ∙ ap (λ p. step_by (refusal_of_turn p made turn) lines turn (length text - length rest)) same)) (spelled_step shape lines made text turn rest _ _ begins refl refl)
 
 -- a text that begins with a line that is remembered begins with its turn
 pub seen-step : (shape : ShapeView) (lines made : ℕ) (text : List ℕ) (turn : Turn) (used : ℕ) → made < 1048576 → IsSeenLine shape text turn used → BeginsWithTurn shape lines made text turn used

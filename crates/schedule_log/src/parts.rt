@@ -1,4 +1,4 @@
-ghost use Rattle.std.specs.Prelude.{◌≡◌, ◌≤◌, ◌<◌, length, slice_get, slice_index_or};
+ghost use Rattle.std.specs.Prelude.{◌≡◌, ◌≤◌, ◌<◌, [], true, length, slice_get, slice_index_or};
 ghost use Rattle.tree_config.specs.Levels.{leaves_of, widths_of};
 ghost use Rattle.text_model.specs.Schedule.{ShapeView};
 ghost use Rattle.schedule_log.specs.Shapes.{shape_view};
@@ -40,6 +40,17 @@ impl Model for Parts {
 }
 
 impl Parts {
+    /// Those of no tree.
+    pub(crate) fn none() -> Parts
+        ensures { result ≡ record { harts = 0; buses = [] } }
+    {
+        Parts {
+            harts: 0,
+            buses: 0,
+            widths: [0; MOST_BUSES],
+        }
+    }
+
     pub(crate) fn new(shape: &Shape) -> Parts
         ensures { result ≡ shape_view shape.now }
     {
@@ -53,6 +64,13 @@ impl Parts {
             buses,
             widths,
         }
+    }
+
+    /// Whether both are laid out the same.
+    pub(crate) fn is_same(&self, other: &Parts) -> bool
+        ensures { result ≡ true → self.now ≡ other.now }
+    {
+        self.harts == other.harts && self.buses == other.buses && self.widths == other.widths
     }
 
     /// The number of harts.

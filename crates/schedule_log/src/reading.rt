@@ -2,9 +2,8 @@ ghost use Rattle.std.specs.Prelude.{◌≡◌, ◌≤◌, IfOk, OnErr, drop, len
 ghost use Rattle.schedule_log.specs.Reader.{FeedGives, IsInLine, LinesRead, begun, begun_behind, finish_of};
 ghost use Rattle.schedule_log.specs.Shapes.{shape_view};
 
-use crate::parts::Parts;
 use crate::refusal::FeedError;
-use crate::seen::nothing_seen;
+use crate::seen::SeenLines;
 use crate::standing::Standing;
 use crate::steps::{Step, first_step};
 use ddm_types::{NoMemory, Turn};
@@ -25,7 +24,7 @@ pub(crate) struct Lines {
 
 // Puts the turns of a text's whole lines at the end, up to the first that is refused.
 fn read_lines(
-    parts: &Parts,
+    seen: &mut SeenLines,
     first_lines: u32,
     first: u32,
     text: &[u8],
@@ -33,15 +32,15 @@ fn read_lines(
 ) -> Result<Lines, NoMemory>
     requires lines { first_lines ≤ first }
     requires made { first ≤ 1048576 }
-    ensures ok { IfOk result (LinesRead parts.now first_lines first text.now turns.old.items turns.new.items) }
+    ensures ok { IfOk result (LinesRead seen.old first_lines first text.now turns.old.items turns.new.items) }
     ensures err { OnErr result (take (length turns.old.items) turns.new.items ≡ turns.old.items) }
+    ensures same { seen.new ≡ seen.old }
 {
     let mut made = first;
     let mut lines = first_lines;
     let mut kept = 0;
-    let mut seen = nothing_seen();
     'lines: loop {
-        match first_step(parts, lines, made, &text[kept..], &mut seen) {
+        match first_step(seen, lines, made, &text[kept..]) {
             Step::Turn { turn, used } => {
                 turns.push(turn)?;
                 made += 1;
@@ -78,6 +77,7 @@ pub struct ScheduleReader {
     made: u32,
     lines: u32,
     standing: Standing,
+    seen: SeenLines,
 }
 
 impl Model for ScheduleReader {
@@ -111,6 +111,7 @@ impl ScheduleReader {
             made,
             lines: 0,
             standing: Standing::InLine,
+            seen: SeenLines::new(alloc)?,
         })
     }
 
@@ -129,7 +130,8 @@ impl ScheduleReader {
         if self.held.extend_from_slice(piece).is_err() {
             return Err(FeedError::NoMemory);
         }
-        match read_lines(&Parts::new(shape), self.lines, self.made, &self.held, turns) {
+        self.seen.turn_to(shape);
+        match read_lines(&mut self.seen, self.lines, self.made, &self.held, turns) {
             Ok(lines) => {
                 self.made = lines.made;
                 self.lines = lines.lines;

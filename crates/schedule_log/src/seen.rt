@@ -1,12 +1,17 @@
-ghost use Rattle.std.specs.Prelude.{◌≡◌, ◌<◌, ◌≤◌, All, IfSome, length, take};
+ghost use Rattle.std.specs.Prelude.{◌≡◌, ◌<◌, ◌≤◌, [], All, IfOk, IfSome, length, take};
 ghost use Rattle.std.specs.Int.{to_le_bytes, w64};
 ghost use Rattle.text_model.specs.Schedule.{ShapeView};
 ghost use Rattle.schedule_log.specs.Seen.{IsSeen, IsSeenAt};
+ghost use Rattle.schedule_log.specs.Shapes.{shape_view};
 
-use ddm_types::Turn;
+use crate::parts::Parts;
+use ddm_types::{NoMemory, Turn};
+use std::alloc::Global;
+use std::marker::Model;
+use tree_config::Shape;
 
 /// So many lines are remembered.
-pub(crate) const PLACES: usize = 1024;
+const PLACES: usize = 4096;
 
 /// What each text begins with that begins with these eight bytes: the line of a turn, which has so many bytes with its line feed.
 #[derive(Clone, Copy)]
@@ -32,16 +37,32 @@ impl Seen {
     }
 }
 
-/// No line is remembered.
-#[inline(always)]
-pub(crate) fn nothing_seen() -> [Option<Seen>; PLACES]
-    ensures { (shape : ShapeView) → All (IsSeenAt shape) result }
+/// Lines of turns that are remembered, all of one tree. A contract sees what that tree has.
+#[derive(Drop)]
+pub(crate) struct SeenLines {
+    parts: Parts,
+    places: Vec<Option<Seen>>,
+}
+
+impl Model for SeenLines {
+    ghost use Rattle.std.specs.Prelude.{◌≡◌, All, length};
+    ghost use Rattle.text_model.specs.Schedule.{ShapeView};
+    ghost use Rattle.schedule_log.specs.Seen.{IsSeenAt};
+
+    ghost Value = { ShapeView };
+
+    ghost view = { λ s. s.parts };
+
+    ghost invariant = { λ s. (length s.places.items ≡ 4096) × All (IsSeenAt s.parts) s.places.items };
+}
+
+// No line is remembered.
+fn forget(places: &mut [Option<Seen>])
+    ensures { (shape : ShapeView) → All (IsSeenAt shape) places.new }
 {
-    let mut seen = [None; PLACES];
-    for place in 0..PLACES {
-        seen[place] = None;
+    for place in 0..places.len() {
+        places[place] = None;
     }
-    seen
 }
 
 /// The first eight bytes of a text.
@@ -60,21 +81,56 @@ pub(crate) fn first_word(text: &[u8]) -> u64
 fn place_of(word: u64) -> usize
     ensures { result < PLACES }
 {
-    (word.wrapping_mul(0x9e37_79b9_7f4a_7c15) >> 54) as usize
+    (word.wrapping_mul(0x9e37_79b9_7f4a_7c15) >> 52) as usize
 }
 
-/// The line with which a text begins that begins with these bytes, where it is remembered.
-#[inline(always)]
-pub(crate) fn seen_line(seen: &[Option<Seen>; PLACES], word: u64) -> Option<Seen>
-    ensures { (shape : ShapeView) → All (IsSeenAt shape) seen.now → IfSome result (λ line. IsSeen shape (to_le_bytes w64 word) line.turn line.used) }
-{
-    let line = seen[place_of(word)]?;
-    if line.word == word { Some(line) } else { None }
-}
+impl SeenLines {
+    /// No line, of a tree without parts.
+    pub(crate) fn new(alloc: Global) -> Result<SeenLines, NoMemory>
+        ensures { IfOk result (λ seen. seen ≡ record { harts = 0; buses = [] }) }
+    {
+        let mut places = vec![in alloc; None; PLACES]?;
+        forget(&mut places);
+        Ok(SeenLines {
+            parts: Parts::none(),
+            places,
+        })
+    }
 
-/// Remembers a line in place of another one.
-pub(crate) fn remember(seen: &mut [Option<Seen>; PLACES], word: u64, turn: Turn, used: usize)
-    ensures { (shape : ShapeView) → All (IsSeenAt shape) seen.old → IsSeen shape (to_le_bytes w64 word) turn used → All (IsSeenAt shape) seen.new }
-{
-    seen[place_of(word)] = Some(Seen { word, turn, used });
+    /// Of this tree from now on. What is remembered of another one is forgotten.
+    pub(crate) fn turn_to(&mut self, shape: &Shape)
+        ensures { self.new ≡ shape_view shape.now }
+    {
+        let parts = Parts::new(shape);
+        if self.parts.is_same(&parts) {
+            return;
+        }
+        forget(&mut self.places);
+        self.parts = parts;
+    }
+
+    /// What turns are judged by.
+    #[inline(always)]
+    pub(crate) fn parts(&self) -> &Parts
+        ensures { result.now ≡ self.now }
+    {
+        &self.parts
+    }
+
+    /// The line with which a text begins that begins with these bytes, where it is remembered.
+    #[inline(always)]
+    pub(crate) fn line(&self, word: u64) -> Option<Seen>
+        ensures { IfSome result (λ line. IsSeen self.now (to_le_bytes w64 word) line.turn line.used) }
+    {
+        let line = self.places[place_of(word)]?;
+        if line.word == word { Some(line) } else { None }
+    }
+
+    /// Remembers a line in place of another one.
+    pub(crate) fn remember(&mut self, word: u64, turn: Turn, used: usize)
+        requires { IsSeen self.old (to_le_bytes w64 word) turn used }
+        ensures { self.new ≡ self.old }
+    {
+        self.places[place_of(word)] = Some(Seen { word, turn, used });
+    }
 }

@@ -1,12 +1,11 @@
-ghost use Rattle.std.specs.Prelude.{◌≡◌, ◌≤◌, ◌+◌, All, is_none, length, slice_get, take};
+ghost use Rattle.std.specs.Prelude.{◌≡◌, ◌≤◌, ◌+◌, is_none, length, slice_get, take};
 ghost use Rattle.std.specs.Int.{to_le_bytes, w64};
 ghost use Rattle.text_model.specs.Schedule.{child_fault, end_with, refusal_of_turn, turn_fault};
-ghost use Rattle.schedule_log.specs.Seen.{IsSeenAt};
 ghost use Rattle.schedule_log.specs.Standings.{standing_of};
 ghost use Rattle.schedule_log.specs.Steps.{IsLine, StepGives, step_by};
 
 use crate::parts::Parts;
-use crate::seen::{PLACES, Seen, first_word, remember, seen_line};
+use crate::seen::{SeenLines, first_word};
 use crate::spelled::{SPELLED_BYTES, spelled_line};
 use crate::standing::Standing;
 use crate::words::turn_of_line;
@@ -126,56 +125,42 @@ fn any_step(parts: &Parts, lines: u32, made: u32, text: &[u8]) -> Step
 }
 
 // The same, of a line that isn't remembered. It is from now on, if it has at most as many bytes as tell it.
-fn new_step(
-    parts: &Parts,
-    lines: u32,
-    made: u32,
-    text: &[u8],
-    word: u64,
-    seen: &mut [Option<Seen>; PLACES],
-) -> Step
+fn new_step(seen: &mut SeenLines, lines: u32, made: u32, text: &[u8], word: u64) -> Step
     requires lines { lines ≤ 1048576 }
     requires long { 16 ≤ length text.now }
     requires word { to_le_bytes w64 word ≡ take 8 text.now }
-    requires seen { All (IsSeenAt parts.now) seen.old }
-    ensures step { StepGives parts.now lines made text.now result }
-    ensures seen { All (IsSeenAt parts.now) seen.new }
+    ensures step { StepGives seen.old lines made text.now result }
+    ensures same { seen.new ≡ seen.old }
 {
     let Some((turn, rest)) = spelled_line(text) else {
-        return any_step(parts, lines, made, text);
+        return any_step(seen.parts(), lines, made, text);
     };
     let used = text.len() - rest.len();
     // A value that was handed on isn't handed on again.
     let (judged, kept) = (turn, turn);
-    if used <= 8 && has_named(parts, judged) {
-        remember(seen, word, kept, used);
+    let step = step_of_turn(seen.parts(), lines, made, turn, used);
+    if used <= 8 && has_named(seen.parts(), judged) {
+        seen.remember(word, kept, used);
     }
-    step_of_turn(parts, lines, made, turn, used)
+    step
 }
 
 /// What a text begins with where `made` turns are there, of which so many are lines before it.
 #[inline(always)]
-pub(crate) fn first_step(
-    parts: &Parts,
-    lines: u32,
-    made: u32,
-    text: &[u8],
-    seen: &mut [Option<Seen>; PLACES],
-) -> Step
+pub(crate) fn first_step(seen: &mut SeenLines, lines: u32, made: u32, text: &[u8]) -> Step
     requires lines { lines ≤ 1048576 }
-    requires seen { All (IsSeenAt parts.now) seen.old }
-    ensures step { StepGives parts.now lines made text.now result }
-    ensures seen { All (IsSeenAt parts.now) seen.new }
+    ensures step { StepGives seen.old lines made text.now result }
+    ensures same { seen.new ≡ seen.old }
 {
     if text.len() < SPELLED_BYTES {
-        return any_step(parts, lines, made, text);
+        return any_step(seen.parts(), lines, made, text);
     }
     let word = first_word(text);
-    match seen_line(seen, word) {
+    match seen.line(word) {
         Some(line) if made < MOST_TURNS => Step::Turn {
             turn: line.turn(),
             used: line.used(),
         },
-        _ => new_step(parts, lines, made, text, word, seen),
+        _ => new_step(seen, lines, made, text, word),
     }
 }

@@ -12,6 +12,6 @@ lines-init c = record {
   within = search rules;
   of_text = c.requires.lines;
   few = c.requires.made;
-  seen = c.nothing_seen-seen.ensures c.args.parts.now;
+  seen = refl;
   front = take_all (length c.args.turns.now.items) c.args.turns.now.items (omega arith);
 }

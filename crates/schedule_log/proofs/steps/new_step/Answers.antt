@@ -1,24 +1,19 @@
-use Rattle.std.proofs.Common.{◌≡◌, ◌∙◌, ◌-◌, length, All, None, refl, sym, subst}
+use Rattle.std.proofs.Common.{◌≡◌, ◌∙◌, ◌-◌, length, None, refl, sym, subst}
 use Rattle.text_model.specs.Schedule.{turn_fault}
-use Rattle.schedule_log.specs.Seen.{IsSeen, IsSeenAt}
-use Rattle.schedule_log.specs.Steps.{StepGives}
-use Rattle.schedule_log.proofs.FirstLines.{spelled_step}
-use Rattle.schedule_log.proofs.SeenLines.{none-is, seen-anew}
+use Rattle.schedule_log.specs.Seen.{IsSeen}
+use Rattle.schedule_log.proofs.SeenLines.{new-step, none-is, seen-anew}
 use Rattle.schedule_log.proofs.steps.new_step.Goals as goal
-use Rattle.schedule_log.proofs.steps.new_step.Goals.{then-used-le8+then-has_named, else-used-le8}
 
-pub returns-clause-step : goal.returns-clause-step
-returns-clause-step c =
-    subst (λ step. StepGives c.args.parts.now c.args.lines c.args.made c.args.text.now step) (sym c.step_of_turn.ensures)
-    (spelled_step c.args.parts.now c.args.lines c.args.made c.args.text.now c.in-Some.turn c.in-Some.rest.now _ _ c.in-Some.ensures refl refl)
+pub remember-requires : goal.remember-requires
+remember-requires c =
+    let shape = c.args.seen.now in
+    let turn = c.in-Some.turn in
+    let known : turn_fault shape turn ≡ None = none-is (turn_fault shape turn) (rw (c.parts-then-used-le8.ensures) at (sym c.has_named.ensures ∙ c.if-has_named.true)) in
+    let anew = seen-anew shape c.args.text.now turn c.in-Some.rest.now _ c.in-Some.ensures refl c.if-used-le8.true known in
+    subst (λ bytes. IsSeen shape bytes turn (length c.args.text.now - length c.in-Some.rest.now)) (sym c.requires.word) anew
 
-pub returns-clause-seen : goal.returns-clause-seen
-returns-clause-seen c =
-    elim c.if-used-le8.branch [
-      | then-used-le8+then-has_named w ↦
-          let known : turn_fault c.args.parts.now c.in-Some.turn ≡ None = none-is (turn_fault c.args.parts.now c.in-Some.turn) (sym w.has_named.ensures ∙ w.if-has_named.true) in
-          let anew = seen-anew c.args.parts.now c.args.text.now c.in-Some.turn c.in-Some.rest.now _ c.in-Some.ensures refl w.if-used-le8.true known in
-          let line = subst (λ bytes. IsSeen c.args.parts.now bytes c.in-Some.turn (length c.args.text.now - length c.in-Some.rest.now)) (sym c.requires.word) anew in
-          subst (All (IsSeenAt c.args.parts.now)) (sym w.seen-is) (w.remember.ensures c.args.parts.now c.requires.seen line)
-      | else-used-le8 w ↦ subst (All (IsSeenAt c.args.parts.now)) (sym w.seen-is) c.requires.seen
-    ]
+pub returns-then-has_named-clause-step : goal.returns-then-has_named-clause-step
+returns-then-has_named-clause-step c = new-step c.args.seen.now _ c.args.lines c.args.made c.args.text.now c.in-Some.turn c.in-Some.rest.now _ c.parts-2.ensures c.in-Some.ensures c.step_of_turn-step.ensures
+
+pub returns-else-used-le8-clause-step : goal.returns-else-used-le8-clause-step
+returns-else-used-le8-clause-step c = new-step c.args.seen.now _ c.args.lines c.args.made c.args.text.now c.in-Some.turn c.in-Some.rest.now _ c.parts-2.ensures c.in-Some.ensures c.step_of_turn-step.ensures

@@ -1,0 +1,11 @@
+use Rattle.std.proofs.Common.{◌≡◌, All, length, sym, subst, ◌∙◌}
+use Rattle.schedule_log.specs.Seen.{IsSeenAt}
+use Rattle.schedule_log.proofs.SeenLines.{places-back}
+use Rattle.schedule_log.proofs.seen.SeenLines.new.Goals as goal
+
+pub invariant_of-result : goal.invariant_of-result
+invariant_of-result c =
+    let places = c.forget.new.places in
+    let whole : c.in_ok-places.places.len ≡ length places = sym c.deref_mut.ensures.len ∙ sym c.forget.auto.places in
+    let many : length places ≡ 4096 = c.forget.auto.places ∙ c.deref_mut.ensures.len ∙ c.in_ok-places.ensures.len in
+    subst (λ xs. (length xs ≡ 4096) × All (IsSeenAt c.none.result) xs) (sym (places-back c.in_ok-places.places.items places c.in_ok-places.places.len whole)) (many, c.forget.ensures c.none.result)
