@@ -3,7 +3,6 @@
 use Rattle.std.proofs.Common.{◌≡◌, ℕ, zero, suc, ◌+◌, ◌-◌, ◌<◌, ◌≤◌, true, List, [], ◌∷◌, ◌++◌, length, take, drop, Option, None, Some, refl, sym, ap, subst, ◌∙◌, arith}
 use Rattle.std.specs.Prelude.{codes, is_none}
 use Rattle.std.proofs.lemmas.Bool.{lt-ltb}
-use Rattle.std.proofs.Math.Seq.{take-append_seam}
 use Rattle.std.proofs.lemmas.List.{length-append}
 use Rattle.ddm_types.specs.declared.turns.Turn.{Turn}
 use Rattle.text_model.specs.Schedule.{ShapeView, refusal_of_turn, turn_fault, turn_text}
@@ -16,10 +15,6 @@ use Rattle.schedule_log.proofs.FirstLines.{lengths, spelled_step}
 pub none-is : {A : Type 0} (o : Option A) → is_none o ≡ true → o ≡ None
 none-is None e = refl
 none-is (Some a) e = cc
-
--- a vector whose places were all written anew
-pub places-back : {A : Type 0} (old new : List A) (len : ℕ) → len ≡ length new → take len (new ++ drop (length new) old) ≡ new
-places-back old new len whole = ap (λ n. take n (new ++ drop (length new) old)) whole ∙ take-append_seam new (drop (length new) old)
 
 -- the step of a line that isn't remembered
 pub new-step : (shape parts : ShapeView) (lines made : ℕ) (text : List ℕ) (turn : Turn) (rest : List ℕ) (step : Step) → parts ≡ shape → BeginsWithLine text turn rest → step ≡ step_by (refusal_of_turn parts made turn) lines turn (length text - length rest) → StepGives shape lines made text step
