@@ -2,11 +2,11 @@
 use Rattle.std.proofs.Common.{◌≡◌, ℕ, zero, suc, ◌+◌, ◌-◌, ◌*◌, ◌<◌, List, [], ◌∷◌, ◌++◌, length, take, drop, refl, sym, ap, ◌∙◌, arith}
 use Rattle.std.specs.Prelude.{slice_set}
 use Rattle.std.proofs.lemmas.Grind.{drop_more_same}
-use Rattle.std.proofs.lemmas.List.{drop-set-lt, take_more_set}
+use Rattle.std.proofs.lemmas.List.{drop-set-lt, flat_map_more, take_more_set}
 use Rattle.ddm_types.specs.declared.turns.Turn.{Turn}
 use Rattle.rand_pcg.specs.Lcg.{Lcg}
 use Rattle.rand_pcg.specs.Pcg.{pcg32}
-use Rattle.text_model.specs.Schedule.{ShapeView}
+use Rattle.text_model.specs.Schedule.{ShapeView, turn_line, turn_lines}
 use Rattle.text_model.specs.Seeded.{seeded_turn, turns_of_words, words_of}
 use Rattle.schedule_log.specs.Seeding.{turns_left}
 
@@ -64,3 +64,10 @@ put_before made block all t rest inside front here = take_more_set block made t 
 -- and the places behind it stay
 pub put_behind : (made : ℕ) (block before : List Turn) (t : Turn) → drop made block ≡ drop made before → drop (made + 1) (slice_set block made t) ≡ drop (made + 1) before
 put_behind made block before t same = drop-set-lt (made + 1) block made t (omega arith) ∙ drop_more_same block before made same
+
+-- ---- the text of all
+
+-- the line of one turn more behind the lines of those before
+pub lines_before : (made : ℕ) (all : List Turn) (t : Turn) (rest : List Turn) → drop made all ≡ t ∷ rest → turn_lines (take made all) ++ turn_line t ≡ turn_lines (take (made + 1) all)
+unfolding turn_lines
+lines_before made all t rest here = flat_map_more turn_line [] (take made all) t ∙ ap turn_lines (left_before made all t rest here)

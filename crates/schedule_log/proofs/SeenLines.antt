@@ -1,13 +1,15 @@
--- Lines that are told by the eight bytes that a text begins with.
+-- Lines that are told by the front of a text.
 -- Letters: turn is a turn, used how many bytes its line has with its line feed, rest and more what is behind them.
 use Rattle.std.proofs.Common.{◌≡◌, ℕ, zero, suc, ◌+◌, ◌-◌, ◌<◌, ◌≤◌, true, List, [], ◌∷◌, ◌++◌, length, take, drop, Option, None, Some, refl, sym, ap, subst, ◌∙◌, arith}
 use Rattle.std.specs.Prelude.{codes, is_none}
 use Rattle.std.proofs.lemmas.Bool.{lt-ltb}
-use Rattle.std.proofs.lemmas.List.{length-append}
+use Rattle.std.proofs.lemmas.List.{length-append, take-append-drop}
+use Rattle.std.proofs.Math.Seq.{take-add, take-append_seam, take-take}
 use Rattle.ddm_types.specs.declared.turns.Turn.{Turn}
 use Rattle.text_model.specs.Schedule.{ShapeView, refusal_of_turn, turn_fault, turn_text}
-use Rattle.schedule_log.specs.Seen.{IsSeen, IsSeenLine}
+use Rattle.schedule_log.specs.Seen.{IsFrontOf, IsSeen, IsSeenLine}
 use Rattle.schedule_log.specs.Spelled.{BeginsWithLine}
+use Rattle.schedule_log.specs.declared.front.Front.{Front}
 use Rattle.schedule_log.specs.declared.steps.Step.{Step}
 use Rattle.schedule_log.specs.Steps.{BeginsWithTurn, StepGives, step_by}
 use Rattle.schedule_log.proofs.FirstLines.{lengths, spelled_step}
@@ -30,24 +32,30 @@ seen-step shape lines made text turn used room seen =
 
 -- ---- a line that is remembered anew
 
--- what a text begins with it begins with whatever is behind its first bytes
-front-again : (front rest more : List ℕ) (n : ℕ) → length front ≤ n → take n (front ++ rest) ++ more ≡ front ++ drop (length front) (take n (front ++ rest) ++ more)
-front-again [] rest more n few = refl
-front-again (byte ∷ front) rest more zero few = absurd (omega (arith, few))
-front-again (byte ∷ front) rest more (suc n) few = ap (λ (t : List ℕ). byte ∷ t) (front-again front rest more n (omega (arith, few)))
+-- the first bytes and the last four are all
+front-told : (xs ys : List ℕ) (n : ℕ) → 4 ≤ n → n ≤ 12 → take 8 xs ≡ take 8 ys → take 4 (drop (n - 4) xs) ≡ take 4 (drop (n - 4) ys) → take n xs ≡ take n ys
+front-told xs ys n some few first last =
+    cut xs ∙ ap (λ (t : List ℕ). take (n - 4) t ++ take 4 (drop (n - 4) xs)) first ∙ ap (λ (t : List ℕ). take (n - 4) (take 8 ys) ++ t) last ∙ sym (cut ys)
+  where
+    both : n ≡ n - 4 + 4
+    both = omega (arith, some)
 
-pub seen-anew : (shape : ShapeView) (text : List ℕ) (turn : Turn) (rest : List ℕ) (used : ℕ) → BeginsWithLine text turn rest → used ≡ length text - length rest → used ≤ 8 → turn_fault shape turn ≡ None → IsSeen shape (take 8 text) turn used
-seen-anew shape text turn rest used begins so_many few known more =
+    inside : n - 4 ≤ 8
+    inside = omega (arith, few)
+
+    cut : (xs : List ℕ) → take n xs ≡ take (n - 4) (take 8 xs) ++ take 4 (drop (n - 4) xs)
+    cut xs = ap (λ m. take m xs) both ∙ take-add (n - 4) 4 xs ∙ ap (λ (t : List ℕ). t ++ take 4 (drop (n - 4) xs)) (sym (take-take (n - 4) 8 xs inside))
+
+pub seen-anew : (shape : ShapeView) (text : List ℕ) (front : Front) (turn : Turn) (rest : List ℕ) (used : ℕ) → IsFrontOf text front → BeginsWithLine text turn rest → used ≡ length text - length rest → used ≤ 12 → used ≡ front.used → turn_fault shape turn ≡ None
+    → IsSeen shape front turn
+seen-anew shape text front turn rest used own begins so_many few same known other there =
     let line = turn_text turn ++ codes "\n" in
     let many : used ≡ length (turn_text turn) + 1 = omega (arith, so_many, lengths text turn rest begins) in
-    let whole : length line ≡ used = length-append (turn_text turn) (codes "\n") ∙ sym many in
-    let again : take 8 text ++ more ≡ line ++ drop used (take 8 text ++ more) =
-    ap (λ t. take 8 t ++ more) begins.front.is
-    ∙ front-again line rest more 8 (omega (arith, whole, few))
-    ∙ ap (λ n. line ++ drop n (take 8 (line ++ rest) ++ more)) whole
-    ∙ ap (λ t. line ++ drop used (take 8 t ++ more)) (sym begins.front.is) in
+    let whole : front.used ≡ length line = sym same ∙ many ∙ sym (length-append (turn_text turn) (codes "\n")) in
+    let here : take front.used text ≡ line = ap (λ n. take n text) whole ∙ ap (λ t. take (length line) t) begins.front.is ∙ take-append_seam line rest in
+    let told = front-told other text front.used own.some (omega (arith, few, same)) (sym there.word ∙ own.word) (sym there.last ∙ own.last) in
     record {
-      line = record { front = record { is = again }; says = begins.says; lacks = begins.lacks };
-      many = many;
+      line = record { front = record { is = sym (take-append-drop front.used other) ∙ ap (λ t. t ++ drop front.used other) (told ∙ here) }; says = begins.says; lacks = begins.lacks };
+      many = sym same ∙ many;
       fault = known;
     }

@@ -1,8 +1,9 @@
--- Lines of a schedule that are told by the eight bytes that a text begins with.
-use Rattle.std.specs.Prelude.{◌≡◌, ℕ, ◌+◌, List, ◌++◌, length, drop, Option, Some, None}
-use Rattle.std.specs.Int.{to_le_bytes, w64}
+-- Lines of a schedule that are told by the front of a text: its first eight bytes and the last four of its first line.
+use Rattle.std.specs.Prelude.{◌≡◌, ℕ, ◌+◌, ◌-◌, ◌≤◌, List, length, drop, take, Option, Some, None}
+use Rattle.std.specs.Int.{to_le_bytes, w32, w64}
 use Rattle.ddm_types.specs.declared.turns.Turn.{Turn}
 use Rattle.text_model.specs.Schedule.{ShapeView, turn_fault, turn_text}
+use Rattle.schedule_log.specs.declared.front.Front.{Front}
 use Rattle.schedule_log.specs.declared.seen.Seen.{Seen}
 use Rattle.schedule_log.specs.Spelled.{BeginsWithLine}
 
@@ -12,11 +13,18 @@ pub record IsSeenLine (shape : ShapeView) (text : List ℕ) (turn : Turn) (used 
   pub many : used ≡ length (turn_text turn) + 1
   pub fault : turn_fault shape turn ≡ None
 
--- each text that begins with these bytes does
-abbrev pub IsSeen : ShapeView → List ℕ → Turn → ℕ → Type 0
-IsSeen shape bytes turn used = (rest : List ℕ) → IsSeenLine shape (bytes ++ rest) turn used
+-- a text has this front
+pub record IsFrontOf (text : List ℕ) (front : Front) : Type 0 where
+  pub word : to_le_bytes w64 front.word ≡ take 8 text
+  pub last : to_le_bytes w32 front.last ≡ take 4 (drop (front.used - 4) text)
+  pub some : 4 ≤ front.used
+  pub within : front.used ≤ 16
+
+-- each text that has this front begins with the line of this turn
+abbrev pub IsSeen : ShapeView → Front → Turn → Type 0
+IsSeen shape front turn = (text : List ℕ) → IsFrontOf text front → IsSeenLine shape text turn front.used
 
 -- what is remembered at a place is so
 abbrev pub IsSeenAt : ShapeView → Option Seen → Type 0
 IsSeenAt shape None = Unit {0}
-IsSeenAt shape (Some line) = IsSeen shape (to_le_bytes w64 line.word) line.turn line.used
+IsSeenAt shape (Some line) = IsSeen shape line.front line.turn

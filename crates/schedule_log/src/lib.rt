@@ -2,6 +2,7 @@
 #![tactic(auto)]
 
 mod bus_turns;
+mod front;
 pub mod laws;
 mod parts;
 mod reading;
@@ -18,4 +19,4 @@ pub use reading::ScheduleReader;
 pub use refusal::FeedError;
 pub use seeding::{SeededTurns, seeded};
 pub use text_model::ScheduleRefusal;
-pub use writing::{push_turn, write_schedule};
+pub use writing::{push_turn, seeded_text, write_schedule};

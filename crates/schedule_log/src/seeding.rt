@@ -40,7 +40,7 @@ fn seeded_turn(list: &[BusTurns], harts: &Divisor, buses: &Divisor, a: u32, b: u
     requires each { list.now ≡ buses_of (widths_in list.now) }
     ensures { result ≡ seeded_turn (record { harts = harts.now; buses = widths_in list.now }) a b }
 {
-    // Both stand ready before one is taken, so that the processor has no branch to guess.
+    // Both stand in a list, so that the processor has no branch to guess.
     let (victim, hart) = harts.divide(b);
     let of_hart = Turn::Hart {
         hart: HartNo(hart),
@@ -48,7 +48,8 @@ fn seeded_turn(list: &[BusTurns], harts: &Divisor, buses: &Divisor, a: u32, b: u
     };
     let (word, bus) = buses.divide(b);
     let of_bus = list[bus as usize].turn(a / 4 % 16, word);
-    if a % 4 < 2 { of_hart } else { *of_bus }
+    let both = [of_hart, *of_bus];
+    both[(a / 2 % 2) as usize]
 }
 
 /// The turns of a seed for the parts of a tree, each made when it is asked for, of two words of the generator. A contract sees the
@@ -105,8 +106,8 @@ impl SeededTurns {
         self.left as usize
     }
 
-    // The next turn.
-    fn next_turn(&mut self) -> Turn
+    /// The next turn.
+    pub(crate) fn next_turn(&mut self) -> Turn
         requires { 0 < length self.old.left }
         ensures turn { self.old.left ≡ result ∷ self.new.left }
         ensures shape { self.new.shape ≡ self.old.shape }

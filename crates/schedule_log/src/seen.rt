@@ -1,9 +1,9 @@
-ghost use Rattle.std.specs.Prelude.{◌≡◌, ◌<◌, ◌≤◌, [], All, IfOk, IfSome, length, take};
-ghost use Rattle.std.specs.Int.{to_le_bytes, w64};
+ghost use Rattle.std.specs.Prelude.{◌≡◌, ◌<◌, [], All, IfOk, IfSome, length};
 ghost use Rattle.text_model.specs.Schedule.{ShapeView};
 ghost use Rattle.schedule_log.specs.Seen.{IsSeen, IsSeenAt};
 ghost use Rattle.schedule_log.specs.Shapes.{shape_view};
 
+use crate::front::Front;
 use crate::parts::Parts;
 use ddm_types::{NoMemory, Turn};
 use std::alloc::Global;
@@ -11,30 +11,13 @@ use std::marker::Model;
 use tree_config::Shape;
 
 /// So many lines are remembered.
-const PLACES: usize = 4096;
+const PLACES: usize = 16_384;
 
-/// What each text begins with that begins with these eight bytes: the line of a turn, which has so many bytes with its line feed.
+/// What each text begins with that has this front: the line of a turn.
 #[derive(Clone, Copy)]
 pub(crate) struct Seen {
-    word: u64,
+    front: Front,
     turn: Turn,
-    used: usize,
-}
-
-impl Seen {
-    #[inline(always)]
-    pub(crate) fn turn(&self) -> Turn
-        ensures { result ≡ self.now.turn }
-    {
-        self.turn
-    }
-
-    #[inline(always)]
-    pub(crate) fn used(&self) -> usize
-        ensures { result ≡ self.now.used }
-    {
-        self.used
-    }
 }
 
 /// Lines of turns that are remembered, all of one tree. A contract sees what that tree has.
@@ -53,7 +36,7 @@ impl Model for SeenLines {
 
     ghost view = { λ s. s.parts };
 
-    ghost invariant = { λ s. (length s.places.items ≡ 4096) × All (IsSeenAt s.parts) s.places.items };
+    ghost invariant = { λ s. (length s.places.items ≡ 16384) × All (IsSeenAt s.parts) s.places.items };
 }
 
 // No line is remembered.
@@ -65,23 +48,12 @@ fn forget(places: &mut [Option<Seen>])
     }
 }
 
-/// The first eight bytes of a text.
+// Where the line is remembered that has this front.
 #[inline(always)]
-pub(crate) fn first_word(text: &[u8]) -> u64
-    requires { 8 ≤ length text.now }
-    ensures { to_le_bytes w64 result ≡ take 8 text.now }
-{
-    u64::from_le_bytes([
-        text[0], text[1], text[2], text[3], text[4], text[5], text[6], text[7],
-    ])
-}
-
-// Where the line is remembered that begins with these bytes.
-#[inline(always)]
-fn place_of(word: u64) -> usize
+fn place_of(front: &Front) -> usize
     ensures { result < PLACES }
 {
-    (word.wrapping_mul(0x9e37_79b9_7f4a_7c15) >> 52) as usize
+    (front.mixed() >> 50) as usize
 }
 
 impl SeenLines {
@@ -117,20 +89,25 @@ impl SeenLines {
         &self.parts
     }
 
-    /// The line with which a text begins that begins with these bytes, where it is remembered.
+    /// The turn of the line with which each text begins that has this front, where it is remembered.
     #[inline(always)]
-    pub(crate) fn line(&self, word: u64) -> Option<Seen>
-        ensures { IfSome result (λ line. IsSeen self.now (to_le_bytes w64 word) line.turn line.used) }
+    pub(crate) fn turn(&self, front: &Front) -> Option<Turn>
+        ensures { IfSome result (IsSeen self.now front.now) }
     {
-        let line = self.places[place_of(word)]?;
-        if line.word == word { Some(line) } else { None }
+        match &self.places[place_of(front)] {
+            Some(line) if line.front.is_same(front) => Some(line.turn),
+            _ => None,
+        }
     }
 
     /// Remembers a line in place of another one.
-    pub(crate) fn remember(&mut self, word: u64, turn: Turn, used: usize)
-        requires { IsSeen self.old (to_le_bytes w64 word) turn used }
+    pub(crate) fn remember(&mut self, front: &Front, turn: Turn)
+        requires { IsSeen self.old front.now turn }
         ensures { self.new ≡ self.old }
     {
-        self.places[place_of(word)] = Some(Seen { word, turn, used });
+        self.places[place_of(front)] = Some(Seen {
+            front: *front,
+            turn,
+        });
     }
 }

@@ -1,11 +1,12 @@
-ghost use Rattle.std.specs.Prelude.{◌≡◌, ◌≤◌, ◌+◌, is_none, length, slice_get, take};
-ghost use Rattle.std.specs.Int.{to_le_bytes, w64};
+ghost use Rattle.std.specs.Prelude.{◌≡◌, ◌≤◌, ◌+◌, is_none, length, slice_get};
 ghost use Rattle.text_model.specs.Schedule.{child_fault, end_with, refusal_of_turn, turn_fault};
+ghost use Rattle.schedule_log.specs.Seen.{IsFrontOf};
 ghost use Rattle.schedule_log.specs.Standings.{standing_of};
 ghost use Rattle.schedule_log.specs.Steps.{IsLine, StepGives, step_by};
 
+use crate::front::Front;
 use crate::parts::Parts;
-use crate::seen::{SeenLines, first_word};
+use crate::seen::SeenLines;
 use crate::spelled::{SPELLED_BYTES, spelled_line};
 use crate::standing::Standing;
 use crate::words::turn_of_line;
@@ -18,6 +19,9 @@ const MOST_TURNS: u32 = 1_048_576;
 
 /// The most bytes of a line before its line feed.
 const MOST_BYTES: usize = 24;
+
+/// The most bytes of a line, with its line feed, that its front tells.
+const MOST_TOLD: usize = 12;
 
 const END: &[u8] = b"end";
 
@@ -124,11 +128,11 @@ fn any_step(parts: &Parts, lines: u32, made: u32, text: &[u8]) -> Step
     }
 }
 
-// The same, of a line that isn't remembered. It is from now on, if it has at most as many bytes as tell it.
-fn new_step(seen: &mut SeenLines, lines: u32, made: u32, text: &[u8], word: u64) -> Step
+// The same, of a line that isn't remembered. It is from now on, if its front tells it: the first eight bytes and the last four are all.
+fn new_step(seen: &mut SeenLines, lines: u32, made: u32, text: &[u8], front: &Front) -> Step
     requires lines { lines ≤ 1048576 }
     requires long { 16 ≤ length text.now }
-    requires word { to_le_bytes w64 word ≡ take 8 text.now }
+    requires front { IsFrontOf text.now front.now }
     ensures step { StepGives seen.old lines made text.now result }
     ensures same { seen.new ≡ seen.old }
 {
@@ -139,8 +143,8 @@ fn new_step(seen: &mut SeenLines, lines: u32, made: u32, text: &[u8], word: u64)
     // A value that was handed on isn't handed on again.
     let (judged, kept) = (turn, turn);
     let step = step_of_turn(seen.parts(), lines, made, turn, used);
-    if used <= 8 && has_named(seen.parts(), judged) {
-        seen.remember(word, kept, used);
+    if used <= MOST_TOLD && used == front.used() && has_named(seen.parts(), judged) {
+        seen.remember(front, kept);
     }
     step
 }
@@ -155,12 +159,14 @@ pub(crate) fn first_step(seen: &mut SeenLines, lines: u32, made: u32, text: &[u8
     if text.len() < SPELLED_BYTES {
         return any_step(seen.parts(), lines, made, text);
     }
-    let word = first_word(text);
-    match seen.line(word) {
-        Some(line) if made < MOST_TURNS => Step::Turn {
-            turn: line.turn(),
-            used: line.used(),
+    let Some(front) = Front::of(text) else {
+        return any_step(seen.parts(), lines, made, text);
+    };
+    match seen.turn(&front) {
+        Some(turn) if made < MOST_TURNS => Step::Turn {
+            turn,
+            used: front.used(),
         },
-        _ => new_step(seen, lines, made, text, word),
+        _ => new_step(seen, lines, made, text, &front),
     }
 }

@@ -1,10 +1,14 @@
-ghost use Rattle.std.specs.Prelude.{◌≡◌, OnOk, IfOk, decimal};
+ghost use Rattle.std.specs.Prelude.{◌≡◌, OnOk, IfOk, codes, decimal};
 ghost use Rattle.ddm_text.specs.Adds.{Adds};
 ghost use Rattle.text_model.specs.Schedule.{schedule_text, turn_line, turn_lines, turn_text};
+ghost use Rattle.text_model.specs.Seeded.{seeded_turns};
+ghost use Rattle.schedule_log.specs.Shapes.{shape_view};
 
+use crate::seeding::SeededTurns;
 use ddm_text::push_decimal;
 use ddm_types::{NoMemory, Turn};
 use std::alloc::Global;
+use tree_config::Shape;
 
 fn push_bytes(out: &mut Vec<u8>, text: &[u8]) -> Result<(), NoMemory>
     ensures { OnOk result (Adds out.old.items out.new.items text.now) }
@@ -77,6 +81,12 @@ fn push_lines(out: &mut Vec<u8>, turns: &[Turn]) -> Result<(), NoMemory>
     Ok(())
 }
 
+fn push_end(out: &mut Vec<u8>) -> Result<(), NoMemory>
+    ensures { OnOk result (Adds out.old.items out.new.items (codes "end\n")) }
+{
+    push_bytes(out, b"end\n")
+}
+
 /// The one text of a schedule.
 #[tactic(auto, unfolding(text_model::specs::Schedule::schedule_text))]
 pub fn write_schedule(alloc: Global, turns: &[Turn]) -> Result<Vec<u8>, NoMemory>
@@ -84,6 +94,26 @@ pub fn write_schedule(alloc: Global, turns: &[Turn]) -> Result<Vec<u8>, NoMemory
 {
     let mut text = Vec::new(alloc);
     push_lines(&mut text, turns)?;
-    push_bytes(&mut text, b"end\n")?;
+    push_end(&mut text)?;
+    Ok(text)
+}
+
+/// The text of the schedule of a seed. No turn of it is kept.
+#[tactic(auto, unfolding(text_model::specs::Schedule::schedule_text))]
+pub fn seeded_text(
+    alloc: Global,
+    seed: u64,
+    turns: u32,
+    shape: &Shape,
+) -> Result<Vec<u8>, NoMemory>
+    ensures { IfOk result (λ text. text.items ≡ schedule_text (seeded_turns (shape_view shape.now) seed turns)) }
+{
+    let mut left = SeededTurns::new(alloc, shape)?;
+    left.begin(seed, turns);
+    let mut text = Vec::new(alloc);
+    for _made in 0..turns {
+        push_line(&mut text, left.next_turn())?;
+    }
+    push_end(&mut text)?;
     Ok(text)
 }
