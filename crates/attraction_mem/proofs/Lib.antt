@@ -1,4 +1,5 @@
 pub mod Holding
+pub mod Marked
 pub mod Changing
 pub mod Sizes
 pub mod Standing

@@ -3,6 +3,7 @@ ghost use Rattle.std.specs.Option.{option_map};
 ghost use Rattle.ddm_types.specs.declared.sizes.LeafState.{LeafState as State};
 ghost use Rattle.attraction_mem.specs.Memory.{entry_of, empty_memory, StandsIn, StandsAs, IsFree, IsLowestFree, IsFull, with_entry, without_entry, with_state, with_words, way_and_state, state_and_words};
 
+use crate::marks::{is_marked, mark};
 use crate::places::{find_free, find_tag, first_place};
 use ddm_types::{Divisor, ItemId, LeafState, NoMemory, Words};
 use std::alloc::Global;
@@ -19,10 +20,13 @@ pub struct AttractionMem<const WAYS: usize, const WORDS: usize> {
     sets: Divisor,
     tags: Vec<Option<(ItemId, LeafState)>>,
     words: Vec<Words<WORDS>>,
+    /// For each set the classes of its items that may stand in it. An item of another one is told to be absent by one look.
+    marks: Vec<u64>,
 }
 
 impl<const WAYS: usize, const WORDS: usize> Model for AttractionMem<WAYS, WORDS> {
     ghost use Rattle.attraction_mem.specs.Memory.{MemoryValue, memory_code};
+    ghost use Rattle.attraction_mem.specs.Marks.{AreMarked};
     ghost use Rattle.attraction_mem.specs.Places.{memory_of, IsKept};
 
     ghost Value = { MemoryValue };
@@ -31,7 +35,7 @@ impl<const WAYS: usize, const WORDS: usize> Model for AttractionMem<WAYS, WORDS>
 
     ghost view = { λ m. memory_of WAYS m.sets m.tags.items m.words.items };
 
-    ghost invariant = { λ m. IsKept WAYS m.sets m.tags.items m.words.items };
+    ghost invariant = { λ m. IsKept WAYS m.sets m.tags.items m.words.items × AreMarked m.sets m.tags.items m.marks.items };
 }
 
 impl<const WAYS: usize, const WORDS: usize> AttractionMem<WAYS, WORDS> {
@@ -46,10 +50,12 @@ impl<const WAYS: usize, const WORDS: usize> AttractionMem<WAYS, WORDS> {
         let places = sets as usize * WAYS;
         let tags = vec![in alloc; None; places]?;
         let words = vec![in alloc; Words { w: [0; WORDS] }; places]?;
+        let marks = vec![in alloc; 0; sets as usize]?;
         Ok(AttractionMem {
             sets: Divisor::new(sets),
             tags,
             words,
+            marks,
         })
     }
 
@@ -58,6 +64,7 @@ impl<const WAYS: usize, const WORDS: usize> AttractionMem<WAYS, WORDS> {
         ensures { self.new ≡ empty_memory self.old.sets }
     {
         self.tags.fill(None);
+        self.marks.fill(0);
     }
 
     /// How many sets it has: so few that all ways can be counted.
@@ -91,6 +98,9 @@ impl<const WAYS: usize, const WORDS: usize> AttractionMem<WAYS, WORDS> {
         ensures value { result ≡ option_map way_and_state (entry_of self.now item) }
         ensures exists { IfSome result (λ found. found.0 < WAYS) }
     {
+        if !is_marked(&self.sets, &self.marks, item) {
+            return None;
+        }
         let (place, state) = find_tag::<WAYS>(&self.sets, &self.tags, item)?;
         Some(((place % WAYS) as u32, state))
     }
@@ -179,6 +189,7 @@ impl<const WAYS: usize, const WORDS: usize> AttractionMem<WAYS, WORDS> {
         let free = first_place::<WAYS>(&self.sets, item) + way as usize;
         self.tags[free] = Some((item, state));
         self.words[free] = words;
+        mark(&self.sets, &mut self.marks, item);
     }
 
     /// Takes the item out, where it stands here.
@@ -227,6 +238,7 @@ impl<const WAYS: usize, const WORDS: usize> AttractionMem<WAYS, WORDS> {
     {
         self.tags.copy_from_slice(&other.tags);
         self.words.copy_from_slice(&other.words);
+        self.marks.copy_from_slice(&other.marks);
     }
 
     /// A tag for each way of each set, one set after the other: the item that stands there and its state.

@@ -73,7 +73,8 @@ impl<const WAYS: usize, const WORDS: usize> Leaf<WAYS, WORDS> {
         requires { CanTry WORDS items.now self.old }
         ensures { IsDone now self.old (deed_by_need code.now items.now victim self.old (need_of (ask_of code.now items.now self.old.hart) self.old)) answer.new self.new }
     {
-        let step = self.next_step(code, items);
+        let mut step = Step::Advance;
+        self.find_step(code, items, &mut step);
         match self.asked(code, items, &step) {
             Ask::Plain => self.compute(code, items, &step, now, answer),
             Ask::Put(_) => self.compute(code, items, &step, now, answer),
@@ -92,11 +93,11 @@ impl<const WAYS: usize, const WORDS: usize> Leaf<WAYS, WORDS> {
 
     /// What the hart's next instruction does.
     #[tactic(auto, using(crate::proofs::Steps::step_is))]
-    fn next_step(&self, code: &Code, items: &Items) -> Step
+    fn find_step(&self, code: &Code, items: &Items, step: &mut Step)
         requires { items.now.size ≡ 4 * WORDS }
-        ensures { IsStep WORDS code.now items.now self.now.hart result }
+        ensures { IsStep WORDS code.now items.now self.now.hart step.new }
     {
-        self.hart.next_step(code, items)
+        self.hart.next_step_into(code, items, step);
     }
 
     /// What it needs, where this is its step.

@@ -60,15 +60,15 @@ pub by_half : (harts : ℕ) (list : List OneBus) (buses a b hart victim bus word
     → slice_index_or (Turn.Hart hart (victim % 256) ∷ turn ∷ []) (a / 2 % 2) other ≡ seeded_turn (record { harts = harts; buses = widths_in list }) a b
 unfolding seeded_turn
 by_half harts list buses a b hart victim bus word one turn other rest_h quotient each number some rest place there is = by_kind (nat_lt (a % 4) 2) refl where
-    stands : ℕ → Turn
-    stands k = slice_index_or (Turn.Hart hart (victim % 256) ∷ turn ∷ []) k other
+  stands : ℕ → Turn
+  stands k = slice_index_or (Turn.Hart hart (victim % 256) ∷ turn ∷ []) k other
 
-    by_kind : (low : Bool) → nat_lt (a % 4) 2 ≡ low → stands (a / 2 % 2) ≡ seeded_turn (record { harts = harts; buses = widths_in list }) a b
-    by_kind true low =
-        let few : a % 4 < 2 = ltb-true (a % 4) 2 low in
-        let first : a / 2 % 2 ≡ 0 = omega (arith, few) in
-        rw low (ap stands first ∙ ap (λ (h : ℕ). Turn.Hart h (victim % 256)) rest_h ∙ ap (λ (v : ℕ). Turn.Hart (b % harts) (v % 256)) quotient)
-    by_kind false high =
-        let many : 2 ≤ a % 4 = ltb-false (a % 4) 2 high in
-        let second : a / 2 % 2 ≡ 1 = omega (arith, many) in
-        ap stands second ∙ by_bus harts list buses a b bus word one turn each number some rest place there is many
+  by_kind : (low : Bool) → nat_lt (a % 4) 2 ≡ low → stands (a / 2 % 2) ≡ seeded_turn (record { harts = harts; buses = widths_in list }) a b
+  by_kind true low =
+      let few : a % 4 < 2 = ltb-true (a % 4) 2 low in
+      let first : a / 2 % 2 ≡ 0 = omega (arith, few) in
+      rw low (ap stands first ∙ ap (λ (h : ℕ). Turn.Hart h (victim % 256)) rest_h ∙ ap (λ (v : ℕ). Turn.Hart (b % harts) (v % 256)) quotient)
+  by_kind false high =
+      let many : 2 ≤ a % 4 = ltb-false (a % 4) 2 high in
+      let second : a / 2 % 2 ≡ 1 = omega (arith, many) in
+      ap stands second ∙ by_bus harts list buses a b bus word one turn each number some rest place there is many

@@ -100,12 +100,7 @@ pub fn write_schedule(alloc: Global, turns: &[Turn]) -> Result<Vec<u8>, NoMemory
 
 /// The text of the schedule of a seed. No turn of it is kept.
 #[tactic(auto, unfolding(text_model::specs::Schedule::schedule_text))]
-pub fn seeded_text(
-    alloc: Global,
-    seed: u64,
-    turns: u32,
-    shape: &Shape,
-) -> Result<Vec<u8>, NoMemory>
+pub fn seeded_text(alloc: Global, seed: u64, turns: u32, shape: &Shape) -> Result<Vec<u8>, NoMemory>
     ensures { IfOk result (λ text. text.items ≡ schedule_text (seeded_turns (shape_view shape.now) seed turns)) }
 {
     let mut left = SeededTurns::new(alloc, shape)?;

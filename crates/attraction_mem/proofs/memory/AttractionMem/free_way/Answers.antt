@@ -6,7 +6,7 @@ use Rattle.attraction_mem.proofs.memory.AttractionMem.free_way.Goals as goal
 pub returns-in_err-way-clause-full : goal.returns-in_err-way-clause-full
 returns-in_err-way-clause-full g c =
     let taken = rw c.deref.ensures.value at c.in_err-way.ensures.full in
-    let full = subst (λ m. IsFull g.row.WAYS m (c.args.item % m.sets)) c.self.view_is (full_seen c.self.invariant c.args.item taken) in
+    let full = subst (λ m. IsFull g.row.WAYS m (c.args.item % m.sets)) c.self.view_is (full_seen c.self.invariant.0 c.args.item taken) in
     let none : c.from_residual.result ≡ None = search rules in
     rw none full
 
@@ -14,4 +14,4 @@ pub returns-clause-lowest : goal.returns-clause-lowest
 returns-clause-lowest g c =
     let free = rw c.deref.ensures.value at c.in_ok-way.ensures.free in
     let lower = rw c.deref.ensures.value at c.in_ok-way.ensures.lower in
-    subst (λ m. IsLowestFree g.row.WAYS m (c.args.item % m.sets) c.in_ok-way.way) c.self.view_is (lowest_seen c.self.invariant c.args.item c.in_ok-way.way c.in_ok-way.ensures.exists free lower)
+    subst (λ m. IsLowestFree g.row.WAYS m (c.args.item % m.sets) c.in_ok-way.way) c.self.view_is (lowest_seen c.self.invariant.0 c.args.item c.in_ok-way.way c.in_ok-way.ensures.exists free lower)
