@@ -26,13 +26,12 @@ use crate::status::Status;
 use crate::unjamming::{list_refused, write_unjamming};
 use checkpoint::CheckpointPieces;
 use ddm_outside::{Failed, Shelf, Sink};
-use ddm_types::{NoMemory, Op};
-use report::{
-    ReportPieces, TracePieces, sorted_witness, summary_text, witness_of, write_all, write_pieces,
-};
+use ddm_types::NoMemory;
+use report::{ReportPieces, TracePieces, sorted_witness, summary_text, write_all, write_pieces};
 use run_engine::AnyMachine;
 use std::alloc::Global;
 use tree_config::TreeConfig;
+use witness_order::Ordered;
 
 fn is_trace(prints: Prints) -> bool
     ensures { result ≡ is_trace prints }
@@ -47,7 +46,7 @@ fn is_trace(prints: Prints) -> bool
 fn write_run<K: Sink>(
     out: &mut K,
     machine: &AnyMachine,
-    witness: &[Op],
+    witness: &Ordered,
     made: &Made,
     buffer: &mut [u8],
 ) -> Result<(), Failed>
@@ -83,9 +82,8 @@ pub fn write_report<K: Sink>(
     ensures cause { IfOk result (HasCause (K.faults out.old) (K.faults out.new)) }
     ensures same { OnErr result (K.held out.new ≡ K.held out.old) }
 {
-    let sorted = sorted_witness(alloc, machine)?;
-    let witness = witness_of(machine, &sorted);
-    Ok(write_run(out, machine, witness, made, buffer))
+    let witness = sorted_witness(alloc, machine)?;
+    Ok(write_run(out, machine, &witness, made, buffer))
 }
 
 // Writes what is printed of turns that were made. All memory is taken before the first write.

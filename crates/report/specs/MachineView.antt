@@ -1,5 +1,5 @@
 -- What a report shows of a machine.
-use Rattle.std.specs.Prelude.{◌≡◌, List, Option, Some, None}
+use Rattle.std.specs.Prelude.{◌≡◌, List}
 use Rattle.ddm_types.specs.declared.operations.Op.{Op}
 use Rattle.tree_model.specs.State.Shape.{IsShaped, depth_of}
 use Rattle.tree_model.specs.State.Values.{MachineValue}
@@ -17,11 +17,6 @@ harts_of m = (view_of 0 no_counts m).harts
 -- after turns that came to these counts
 abbrev pub shown : RunCounts → MachineValue → ReportView
 shown counts m = view_of (depth_of m) counts m
-
--- operations in the order of their keys, as they are or sorted
-abbrev pub IsWitness : List Op → Option (List Op) → Type 0
-IsWitness ops None = ops ≡ sorted_ops ops
-IsWitness ops (Some sorted) = sorted ≡ sorted_ops ops
 
 -- What is kept while a machine's report is given: the operations in order of their keys, how much there is, and the part that
 -- comes next.

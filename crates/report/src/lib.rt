@@ -39,7 +39,7 @@ pub use line::{LINE_BYTES, Line, Line as FaultLine};
 pub use operations::{push_key, push_op_line, push_op_lines};
 pub use parts::{LEAST_PIECE, Parts, joined};
 pub use pieces::{push_bytes, push_number, push_words};
-pub use report_pieces::{ReportPieces, report_text, sorted_witness, witness_of};
+pub use report_pieces::{ReportPieces, report_text, sorted_witness};
 pub use roles::FileRole;
 pub use summary::summary_text;
 pub use trace::{push_trace, push_trace_line, push_turn};

@@ -19,6 +19,7 @@ use crate::pieces::push_bytes;
 use any_machine::Machines;
 use ddm_types::{BusNo, HartNo, ItemId, LEVELS, LeafNo, Op};
 use text_model::RunCounts;
+use witness_order::Ordered;
 
 // From so many bytes on a line takes no further byte of output and no further state.
 const LONG_LINE: usize = 500;
@@ -175,7 +176,7 @@ fn put_operation(line: &mut Line, depth: u32, op: Op)
 /// Puts the lines of operations from one on, until there may be no room for a further one, and says from which operation
 /// on the rest is.
 #[tactic(auto, unfolding(text_model::specs::Report::op_lines))]
-pub fn put_operations(line: &mut Line, depth: u32, ops: &[Op], from: usize) -> usize
+pub fn put_operations(line: &mut Line, depth: u32, ops: &Ordered, from: usize) -> usize
     requires empty { line.old ≡ [] }
     requires depth { depth ≤ LEVELS }
     requires from { from < length ops.now }
@@ -185,7 +186,7 @@ pub fn put_operations(line: &mut Line, depth: u32, ops: &[Op], from: usize) -> u
 {
     let mut next = from;
     'operations: while next < ops.len() && line.len() <= MOST_BEFORE_OPERATION {
-        put_operation(line, depth, ops[next]);
+        put_operation(line, depth, *ops.get(next));
         next += 1;
     }
     next

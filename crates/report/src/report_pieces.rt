@@ -1,10 +1,10 @@
-ghost use Rattle.std.specs.Prelude.{◌≡◌, ◌≤◌, ◌↔◌, [], ◌++◌, IfOk, length, option_map, take, vec_items};
+ghost use Rattle.std.specs.Prelude.{◌≡◌, ◌≤◌, ◌↔◌, [], ◌++◌, IfOk, length, take};
 ghost use Rattle.tree_model.specs.State.Shape.{IsShaped, depth_of};
 ghost use Rattle.tree_model.specs.Turns.Witness.{sorted_ops};
 ghost use Rattle.text_model.specs.Report.{report_of};
 ghost use Rattle.text_model.specs.Run.{view_of};
 ghost use Rattle.any_machine.specs.Any.{machine_state, state_in};
-ghost use Rattle.report.specs.MachineView.{IsGiven, IsWitness, shown};
+ghost use Rattle.report.specs.MachineView.{IsGiven, shown};
 ghost use Rattle.report.specs.ReportLeft.{Gives, HasSize};
 
 use crate::line::Line;
@@ -15,18 +15,18 @@ use crate::machine_parts::{
 use crate::parts::{LEAST_PIECE, Parts, joined, put_piece};
 use crate::report_parts::{ReportPart, ReportSize};
 use any_machine::{AnyMachine, Machines};
-use ddm_types::{HartNo, ItemId, NoMemory, Op};
+use ddm_types::{HartNo, ItemId, NoMemory};
 use std::alloc::Global;
 use std::marker::Model;
 use text_model::RunCounts;
-use witness_order::{Witness, ascend};
+use witness_order::Ordered;
 
 /// The report of a machine after turns that came to these counts, given piece by piece. A contract sees the text that is left.
 #[derive(Drop)]
 pub struct ReportPieces<'a> {
     machine: &'a AnyMachine,
     // Its operations, in order of their keys.
-    witness: &'a [Op],
+    witness: &'a Ordered<'a>,
     counts: RunCounts,
     size: ReportSize,
     next: ReportPart,
@@ -47,7 +47,7 @@ impl<'a> Model for ReportPieces<'a> {
 // How much of each kind a machine's report shows.
 fn size_shown<const WORDS: usize>(
     machine: &Machines<WORDS>,
-    witness: &[Op],
+    witness: &Ordered,
     counts: RunCounts,
 ) -> ReportSize
     requires { witness.now ≡ sorted_ops (state_in machine.now).machine.ops }
@@ -68,7 +68,7 @@ fn size_shown<const WORDS: usize>(
 fn put_part<const WORDS: usize>(
     line: &mut Line,
     machine: &Machines<WORDS>,
-    witness: &[Op],
+    witness: &Ordered,
     counts: RunCounts,
     size: ReportSize,
     part: ReportPart,
@@ -125,7 +125,7 @@ fn put_part<const WORDS: usize>(
 }
 
 // The same of a machine with items of either width.
-fn any_size_shown(machine: &AnyMachine, witness: &[Op], counts: RunCounts) -> ReportSize
+fn any_size_shown(machine: &AnyMachine, witness: &Ordered, counts: RunCounts) -> ReportSize
     requires { witness.now ≡ sorted_ops (machine_state machine.now).machine.ops }
     ensures size { HasSize (shown counts (machine_state machine.now).machine) result }
     ensures shape { IsShaped (machine_state machine.now).machine }
@@ -139,7 +139,7 @@ fn any_size_shown(machine: &AnyMachine, witness: &[Op], counts: RunCounts) -> Re
 fn put_any_part(
     line: &mut Line,
     machine: &AnyMachine,
-    witness: &[Op],
+    witness: &Ordered,
     counts: RunCounts,
     size: ReportSize,
     part: ReportPart,
@@ -156,7 +156,11 @@ fn put_any_part(
 
 impl<'a> ReportPieces<'a> {
     /// The report, of which nothing is given yet. It takes no memory.
-    pub fn new(machine: &'a AnyMachine, witness: &'a [Op], counts: RunCounts) -> ReportPieces<'a>
+    pub fn new(
+        machine: &'a AnyMachine,
+        witness: &'a Ordered<'a>,
+        counts: RunCounts,
+    ) -> ReportPieces<'a>
         requires { witness.now ≡ sorted_ops (machine_state machine.now).machine.ops }
         ensures { let m = (machine_state machine.now).machine in result ≡ report_of (view_of (depth_of m) counts m) }
     {
@@ -197,28 +201,14 @@ impl<'a> Parts for ReportPieces<'a> {
     }
 }
 
-/// A machine's operations in the order of their keys, or None where they are in it already. Memory is taken only to sort them.
+/// A machine's operations in the order of their keys. Memory is taken only where they are not in it already.
 #[tactic(auto, using(crate::proofs::OtherKeys::keys_by_rules))]
-pub fn sorted_witness(alloc: Global, machine: &AnyMachine) -> Result<Option<Vec<Op>>, NoMemory>
-    ensures { IfOk result (λ found. IsWitness (machine_state machine.now).machine.ops (option_map vec_items found)) }
+pub fn sorted_witness<'a>(alloc: Global, machine: &'a AnyMachine) -> Result<Ordered<'a>, NoMemory>
+    ensures { IfOk result (λ w. w ≡ sorted_ops (machine_state machine.now).machine.ops) }
 {
     // The rules that every machine keeps, by which no two operations have one key.
     machine.counts();
-    if ascend(machine.ops()) {
-        return Ok(None);
-    }
-    Ok(Some(Witness::new(alloc, machine.ops())?.sorted()))
-}
-
-/// A machine's witness: its operations, in the order of their keys.
-pub fn witness_of<'a>(machine: &'a AnyMachine, sorted: &'a Option<Vec<Op>>) -> &'a [Op]
-    requires { IsWitness (machine_state machine.now).machine.ops (option_map vec_items sorted.now) }
-    ensures { result.now ≡ sorted_ops (machine_state machine.now).machine.ops }
-{
-    match sorted {
-        Some(ops) => ops,
-        None => machine.ops(),
-    }
+    Ordered::new(alloc, machine.ops())
 }
 
 /// The report of a machine of any tree, after turns that came to these counts.
@@ -229,7 +219,6 @@ pub fn report_text(
 ) -> Result<Vec<u8>, NoMemory>
     ensures { let m = (machine_state machine.now).machine in IfOk result (λ text. text.items ≡ report_of (view_of (depth_of m) counts m)) }
 {
-    let sorted = sorted_witness(alloc, machine)?;
-    let witness = witness_of(machine, &sorted);
-    joined(alloc, &mut ReportPieces::new(machine, witness, counts))
+    let witness = sorted_witness(alloc, machine)?;
+    joined(alloc, &mut ReportPieces::new(machine, &witness, counts))
 }

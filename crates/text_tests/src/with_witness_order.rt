@@ -1,6 +1,6 @@
 use ddm_types::{Effect, HartNo, Key, Op};
 use std::test::Fail;
-use witness_order::Witness;
+use witness_order::{Ordered, Witness};
 
 // An operation of a hart in a tree of two levels of buses.
 fn op(hart: u32, numbers: [u32; 5]) -> Op {
@@ -36,6 +36,30 @@ fn sorts_from_the_left(rt: HostRuntime) -> Result<(), Fail> {
     ];
     let witness = Witness::new(rt.alloc(), &came)?;
     assert_eq!(rt; witness.sorted().as_slice(), ascending.as_slice());
+    Ok(())
+}
+
+#[test]
+fn gives_in_order(rt: HostRuntime) -> Result<(), Fail> {
+    let came = [
+        op(0, [1, 0, 0, 0, 0]),
+        op(3, [0, 1, 2, 0, 8]),
+        op(2, [0, 1, 2, 1, 0]),
+    ];
+    let ordered = Ordered::new(rt.alloc(), &came)?;
+    assert_eq!(rt; ordered.len(), 3);
+    assert_eq!(rt; *ordered.get(0), op(3, [0, 1, 2, 0, 8]));
+    assert_eq!(rt; *ordered.get(1), op(2, [0, 1, 2, 1, 0]));
+    assert_eq!(rt; *ordered.get(2), op(0, [1, 0, 0, 0, 0]));
+    Ok(())
+}
+
+#[test]
+fn gives_what_ascends(rt: HostRuntime) -> Result<(), Fail> {
+    let came = [op(3, [0, 1, 2, 0, 8]), op(2, [0, 1, 2, 1, 0])];
+    let ordered = Ordered::new(rt.alloc(), &came)?;
+    assert_eq!(rt; ordered.len(), 2);
+    assert_eq!(rt; *ordered.get(1), op(2, [0, 1, 2, 1, 0]));
     Ok(())
 }
 

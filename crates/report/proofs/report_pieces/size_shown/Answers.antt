@@ -19,5 +19,5 @@ returns-clause-size g c =
       harts = harts-counted m ∙ sym (ap (λ n. n.leaves) counts);
       buses = buses-counted m shape ∙ sym (ap (λ n. n.buses) counts);
       items = items-counted m ∙ sym (c.len.ensures ∙ ap item_count c.items.ensures);
-      operations = ap length (sym c.requires);
+      operations = ap length (sym c.requires) ∙ sym c.len-2.ensures;
     }
