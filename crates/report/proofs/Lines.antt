@@ -1,11 +1,12 @@
 -- Lines of a report as their parts.
-use Rattle.std.proofs.Common.{◌≡◌, ◌≤◌, ℕ, Bool, List, [], ◌∷◌, ◌++◌, length, take, drop, refl, sym, ap, ◌∙◌}
-use Rattle.std.specs.Prelude.{codes, if◌then◌else◌}
+use Rattle.std.proofs.Common.{◌≡◌, ◌≤◌, ℕ, Bool, true, false, true≢false, List, [], ◌∷◌, ◌++◌, length, take, drop, refl, sym, ap, ◌∙◌}
+use Rattle.std.specs.Prelude.{codes, nat_eq, if◌then◌else◌}
+use Rattle.std.specs.List.{flat_map}
 use Rattle.std.proofs.lemmas.List.{append-nil, drop_all, take-append-drop}
 use Rattle.std.proofs.lemmas.Grind.{flat_map-append}
 use Rattle.ddm_types.specs.declared.operations.Op.{Op}
-use Rattle.text_model.specs.Report.{ItemView, item_line, letter_texts, or_dash, put_text_by, put_texts}
-use Rattle.report.specs.LineParts.{any_byte, dash_behind, item_front}
+use Rattle.text_model.specs.Report.{ItemView, item_line, letter_texts, or_dash, put_text, put_text_by, put_texts}
+use Rattle.report.specs.LineParts.{any_byte, are_silent, dash_behind, item_front}
 
 pub not-empty : {x : ℕ} {xs : List ℕ} → x ∷ xs ≡ [] → ⊥
 not-empty none = cc
@@ -30,6 +31,30 @@ output-last hart from after ops put past puts = puts ∙ ap (λ (os : List Op). 
 output-cut : (hart from : ℕ) (ops : List Op) → put_texts hart ops ≡ put_texts hart (take from ops) ++ put_texts hart (drop from ops)
 unfolding put_texts
 output-cut hart from ops = ap (put_texts hart) (sym (take-append-drop from ops)) ∙ flat_map-append (put_text_by hart) (take from ops) (drop from ops)
+
+-- none is there where no operation puts a byte
+no-byte : (text : List ℕ) → any_byte text ≡ false → text ≡ []
+no-byte [] none = refl
+no-byte (byte ∷ bytes) none = absurd (true≢false none)
+
+put-by-none : (hart : ℕ) (op : Op) → put_text op.effect ≡ [] → put_text_by hart op ≡ []
+put-by-none hart op none = elim (nat_eq op.hart hart) as (λ b. (if b then put_text op.effect else []) ≡ []) [ true ↦ none | false ↦ refl ]
+
+pub none-put : (hart : ℕ) (ops : List Op) → are_silent ops ≡ true → put_texts hart ops ≡ []
+unfolding put_texts
+none-put hart [] silent = refl
+none-put hart (op ∷ ops) silent = go (any_byte (put_text op.effect)) refl silent (none-put hart ops)
+  where
+    go : (b : Bool) → any_byte (put_text op.effect) ≡ b → (if b then false else are_silent ops) ≡ true → (are_silent ops ≡ true → flat_map (put_text_by hart) ops ≡ []) → flat_map (put_text_by hart) (op ∷ ops) ≡ []
+    go true is silent rest = absurd (true≢false (sym silent))
+    go false is silent rest = ap (λ t. t ++ flat_map (put_text_by hart) ops) (put-by-none hart op (no-byte (put_text op.effect) is)) ∙ rest silent
+
+behind-none : (xs ys : List ℕ) → xs ++ ys ≡ [] → ys ≡ []
+behind-none [] ys none = none
+behind-none (x ∷ xs) ys none = absurd (not-empty none)
+
+pub none-left : (hart from : ℕ) (ops : List Op) → put_texts hart ops ≡ [] → put_texts hart (drop from ops) ≡ []
+none-left hart from ops none = behind-none (put_texts hart (take from ops)) (put_texts hart (drop from ops)) (sym (output-cut hart from ops) ∙ none)
 
 no-dash : (before : List ℕ) (byte : ℕ) (bytes : List ℕ) → dash_behind (before ++ byte ∷ bytes) ≡ []
 no-dash [] byte bytes = refl

@@ -15,7 +15,7 @@ use Rattle.report.specs.ReportLeft.{from_operation, from_item, from_bus, from_ha
 use Rattle.report.specs.declared.report_parts.ReportPart.{ReportPart}
 use Rattle.report.specs.declared.report_parts.ReportPart.TheVariants.{Head, Hart, Output, Bus, Item, States, Operation, End, Nothing}
 use Rattle.report.specs.declared.report_parts.ReportSize.{ReportSize}
-use Rattle.report.proofs.Lines.{item_line-parts, not-empty, or_dash-parts}
+use Rattle.report.proofs.Lines.{item_line-parts, none-left, none-put, not-empty, or_dash-parts}
 
 not-ended : (xs ys : List ℕ) → 0 < length ys → xs ++ ys ≡ [] → ⊥
 not-ended [] ys some e = let none : length ys ≡ 0 = ap length e in omega (arith, some, none)
@@ -127,6 +127,12 @@ module _ (v : ReportView) (size : ReportSize) (s : HasSize v size) where
     there = (hart-next (k + 1)).1;
     some = λ none. absurd (not-ended (put ++ dash_behind (put_texts k v.completed)) (codes "\n") (omega arith) (sym is ∙ none));
   }
+
+  -- where no hart has put anything
+  pub silence-ends : (k n : ℕ) (t : List ℕ) → size.silent ≡ true → HasPart v (Output k n) → t ≡ codes "-\n" → Gives v (Output k n) t (hart_part size (k + 1))
+  silence-ends k n t silent there is =
+      let none = none-put k v.completed (sym s.silent ∙ silent) in
+      output-ends k n [] t there (none-left k n v.completed none) (is ∙ ap (λ (o : List ℕ). [] ++ dash_behind o ++ codes "\n") (sym none))
 
   pub bus-gives : (k : ℕ) (t : List ℕ) → HasPart v (Bus k) → t ≡ bus_line k (get_or v.traffic k no_traffic) → Gives v (Bus k) t (bus_part size (k + 1))
   bus-gives k t there is = record {

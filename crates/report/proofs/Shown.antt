@@ -12,19 +12,17 @@ use Rattle.tree_model.specs.Turns.Found.{states_of}
 use Rattle.tree_model.specs.Turns.Machine.{machine_leaves, no_traffic}
 use Rattle.tree_model.specs.Turns.Witness.{sorted_ops}
 use Rattle.text_model.specs.declared.RunCounts.{RunCounts}
-use Rattle.text_model.specs.Report.{HartView, ReportView, bus_line, head_lines, letter_texts, op_lines, put_texts}
+use Rattle.text_model.specs.Report.{HartView, ReportView, bus_line, head_lines, letter_texts, op_lines}
 use Rattle.text_model.specs.Run.{item_view, view_of}
 use Rattle.ddm_tree.proofs.LeafList.{leaf-number, leaves-counted}
 use Rattle.inspector.proofs.LeafStates.{states-counted}
-use Rattle.report.specs.LineParts.{dash_behind}
 use Rattle.report.specs.MachineView.{harts_of, shown, IsGiven}
-use Rattle.report.specs.ReportLeft.{front_of, hart_front, no_item, no_view, states_shown, HasPart, operation_part, item_part, bus_part, hart_part, Gives}
+use Rattle.report.specs.ReportLeft.{front_of, hart_front, no_item, no_view, states_shown, HasPart, operation_part, item_part, bus_part, hart_part, Gives, HasSize}
 use Rattle.report.specs.declared.report_parts.ReportPart.{ReportPart}
 use Rattle.report.specs.declared.report_parts.ReportPart.TheVariants.{Head, Hart, Output, Bus, Item, States, Operation, End, Nothing}
 use Rattle.report.specs.declared.report_parts.ReportSize.{ReportSize}
-use Rattle.report.proofs.Lines.{output-last}
 use Rattle.report.proofs.MachineLines.{harts-counted, item-shown, items-counted}
-use Rattle.report.proofs.ReportParts.{head-gives, hart-gives, output-gives, output-ends, bus-gives, item-gives, states-gives, states-end, operations-give, end-gives, nothing-gives}
+use Rattle.report.proofs.ReportParts.{head-gives, hart-gives, bus-gives, item-gives, states-gives, states-end, operations-give, end-gives, nothing-gives}
 
 numbered : (f : LeafValue → HartView) (vs : List LeafValue) (k n : ℕ) (d : HartView) → ((v : LeafValue) → (f v).number ≡ v.number) → ((v : LeafValue) → slice_get vs k ≡ Some v → v.number ≡ n) → k < length vs → (get_or (map f vs) k d).number ≡ n
 numbered f [] k n d same is inside = absurd (omega (arith, inside))
@@ -52,6 +50,9 @@ module _ (counts : RunCounts) (m : MachineValue) (ops : List Op) (size : ReportS
   pub hart-there : (k : ℕ) → part ≡ Hart k → k < (tree_counts m).leaves
   unfolding view_of
   hart-there k is = let counted = harts-counted m in omega (arith, there (Hart k) is, counted)
+
+  pub output-hart : (k n : ℕ) → part ≡ Output k n → k < size.harts
+  output-hart k n is = let harts = given.size.harts in omega (arith, (there (Output k n) is).0, harts)
 
   pub output-there : (k n : ℕ) (done : List Op) → done ≡ m.ops → part ≡ Output k n → n ≤ length done
   unfolding view_of
@@ -91,19 +92,9 @@ module _ (counts : RunCounts) (m : MachineValue) (ops : List Op) (size : ReportS
     unfolding view_of
     hart k is put then = gives is then (hart-gives (shown counts m) k line (there (Hart k) is) (hart-numbered m k given.shaped (there (Hart k) is)) put)
 
-    pub output : (k n after : ℕ) (done : List Op) → done ≡ m.ops → part ≡ Output k n → after ≤ length done → put_texts k (drop n done) ≡ line ++ put_texts k (drop after done) → 500 ≤ length line → next ≡ Output k after → Gives (shown counts m) part line next
+    pub output : (k n : ℕ) (done : List Op) → done ≡ m.ops → part ≡ Output k n → ((v : ReportView) → v.completed ≡ done → HasSize v size → HasPart v (Output k n) → Gives v (Output k n) line next) → Gives (shown counts m) part line next
     unfolding view_of
-    output k n after done same is within puts long then =
-        let puts' = subst (λ (os : List Op). put_texts k (drop n os) ≡ line ++ put_texts k (drop after os)) same puts in
-        gives is then (output-gives (shown counts m) k n after line (there (Output k n) is) (subst (λ (os : List Op). after ≤ length os) same within) puts' (omega (arith, long)))
-
-    pub output-end : (k n after : ℕ) (put : List ℕ) (done : List Op) → done ≡ m.ops → part ≡ Output k n → length done ≤ after → put_texts k (drop n done) ≡ put ++ put_texts k (drop after done) → line ≡ put ++ dash_behind (put_texts k done) ++ codes "\n" → next ≡ hart_part size (k + 1) → Gives (shown counts m) part line next
-    unfolding view_of
-    output-end k n after put done same is past puts ended then =
-        let last = output-last k n after done put past puts in
-        gives is then (output-ends (shown counts m) size given.size k n put line (there (Output k n) is)
-        (subst (λ (os : List Op). put_texts k (drop n os) ≡ put) same last)
-        (subst (λ (os : List Op). line ≡ put ++ dash_behind (put_texts k os) ++ codes "\n") same ended))
+    output k n done same is each = gives is refl (each (shown counts m) (sym same) given.size (there (Output k n) is))
 
     pub bus : (k : ℕ) → part ≡ Bus k → line ≡ bus_line k (get_or m.traffic k no_traffic) → next ≡ bus_part size (k + 1) → Gives (shown counts m) part line next
     unfolding view_of

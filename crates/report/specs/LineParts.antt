@@ -1,12 +1,18 @@
 -- Parts of the lines of a report.
 use Rattle.std.specs.Prelude.{ℕ, Bool, true, false, List, [], ◌∷◌, ◌++◌, codes, decimal, if◌then◌else◌}
 use Rattle.ddm_text.specs.Hex.{hex8}
+use Rattle.ddm_types.specs.declared.operations.Op.{Op}
 use Rattle.tree_model.specs.declared.CopyPlace.{CopyPlace}
-use Rattle.text_model.specs.Report.{copy_place_text, word_texts}
+use Rattle.text_model.specs.Report.{copy_place_text, put_text, word_texts}
 
 abbrev pub any_byte : List ℕ → Bool
 any_byte [] = false
 any_byte (byte ∷ bytes) = true
+
+-- no operation puts a byte
+abbrev pub are_silent : List Op → Bool
+are_silent [] = true
+are_silent (op ∷ ops) = if any_byte (put_text op.effect) then false else are_silent ops
 
 -- what stands behind a hart's output: a dash where there is none
 abbrev pub dash_behind : List ℕ → List ℕ

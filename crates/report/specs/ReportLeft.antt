@@ -6,7 +6,7 @@ use Rattle.ddm_types.specs.declared.sizes.LeafState.{LeafState}
 use Rattle.tree_model.specs.declared.CopyPlace.{CopyPlace}
 use Rattle.tree_model.specs.State.Blank.{no_hart}
 use Rattle.text_model.specs.Report.{HartView, ItemView, ReportView, bus_lines_from, hart_line_of, hart_lines, item_lines, letter_texts, op_lines, put_texts, regs_line, report_of}
-use Rattle.report.specs.LineParts.{dash_behind, item_front}
+use Rattle.report.specs.LineParts.{are_silent, dash_behind, item_front}
 use Rattle.report.specs.declared.report_parts.ReportPart.{ReportPart}
 use Rattle.report.specs.declared.report_parts.ReportPart.TheVariants.{Head, Hart, Output, Bus, Item, States, Operation, End, Nothing}
 use Rattle.report.specs.declared.report_parts.ReportSize.{ReportSize}
@@ -69,7 +69,7 @@ HasPart v (Operation k) = k < length v.ops
 HasPart v End = ⊤
 HasPart v Nothing = ⊤
 
--- so many levels of buses, harts, buses, items and operations are shown
+-- so many levels of buses, harts, buses, items and operations are shown, and it is said whether no hart has put anything
 pub record HasSize (v : ReportView) (size : ReportSize) : Type 0 where
   pub depth : v.depth ≡ size.depth
   pub few : size.depth ≤ 4
@@ -77,6 +77,7 @@ pub record HasSize (v : ReportView) (size : ReportSize) : Type 0 where
   pub buses : length v.traffic ≡ size.buses
   pub items : length v.items ≡ size.items
   pub operations : length v.ops ≡ size.operations
+  pub silent : size.silent ≡ are_silent v.completed
 
 -- ---- the part that comes next
 

@@ -1,7 +1,7 @@
 ghost use Rattle.std.specs.Prelude.{◌≡◌, ◌<◌, ◌+◌, ◌*◌, OnOk, length};
 ghost use Rattle.ddm_text.specs.Adds.{Adds};
 ghost use Rattle.text_model.specs.Report.{hart_line, head_lines, or_dash, out_line, put_text, put_text_by, put_texts, regs_line, turns_line};
-ghost use Rattle.report.specs.LineParts.{any_byte, dash_behind};
+ghost use Rattle.report.specs.LineParts.{any_byte, are_silent, dash_behind};
 ghost use Rattle.report.specs.ReportLeft.{hart_front};
 ghost use Rattle.report.specs.Room.{UsesRoom};
 
@@ -104,18 +104,25 @@ pub fn push_put_by<W: TextBuffer>(out: &mut W, hart: HartNo, op: &Op) -> Result<
     Ok(())
 }
 
-// Whether an operation puts a byte of a hart.
+// Whether an instruction puts a byte.
 #[tactic(auto, unfolding(ddm_text::specs::Hex::hex2))]
+fn is_put(effect: Effect) -> bool
+    ensures { result ≡ any_byte (put_text effect) }
+{
+    match effect {
+        Effect::Put { .. } => true,
+        _ => false,
+    }
+}
+
+// Whether an operation puts a byte of a hart.
 fn puts_byte(hart: HartNo, op: &Op) -> bool
     ensures { result ≡ any_byte (put_text_by hart op.now) }
 {
     if op.hart.0 != hart.0 {
         return false;
     }
-    match op.effect {
-        Effect::Put { .. } => true,
-        _ => false,
-    }
+    is_put(op.effect)
 }
 
 #[tactic(auto, unfolding(text_model::specs::Report::put_texts))]
@@ -139,6 +146,18 @@ pub fn has_output(hart: HartNo, ops: &[Op]) -> bool
         }
     }
     false
+}
+
+/// Whether no hart has put anything.
+pub fn are_silent(ops: &[Op]) -> bool
+    ensures { result ≡ are_silent ops.now }
+{
+    for op in ops {
+        if is_put(op.effect) {
+            return false;
+        }
+    }
+    true
 }
 
 /// Puts at the end the dash of a hart that has put nothing.

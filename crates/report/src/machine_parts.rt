@@ -99,6 +99,16 @@ pub fn end_output(line: &mut Line, hart: HartNo, ops: &[Op], from: usize)
     end_line(line);
 }
 
+/// Puts the dash of a hart that has put nothing, and ends its line.
+pub fn put_silence(line: &mut Line)
+    requires { line.old ≡ [] }
+    ensures { line.new ≡ codes "-\n" }
+{
+    let Ok(()) = push_bytes(line, b"-\n") else {
+        unreachable!();
+    };
+}
+
 /// Ends a line.
 pub fn end_line(line: &mut Line)
     requires { length line.old ≤ 502 }

@@ -22,7 +22,7 @@ pub enum ReportPart {
     Nothing,
 }
 
-/// How many levels of buses, harts, buses, items and operations a report shows.
+/// How many levels of buses, harts, buses, items and operations a report shows, and whether no hart has put anything.
 #[derive(Clone, Copy)]
 pub struct ReportSize {
     pub depth: u32,
@@ -30,6 +30,7 @@ pub struct ReportSize {
     pub buses: u32,
     pub items: u32,
     pub operations: usize,
+    pub silent: bool,
 }
 
 impl ReportSize {

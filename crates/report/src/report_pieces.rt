@@ -1,21 +1,23 @@
-ghost use Rattle.std.specs.Prelude.{◌≡◌, ◌≤◌, ◌↔◌, [], ◌++◌, IfOk, length, take};
+ghost use Rattle.std.specs.Prelude.{◌≡◌, ◌<◌, ◌≤◌, ◌↔◌, [], ◌++◌, IfOk, length, take};
 ghost use Rattle.tree_model.specs.State.Shape.{IsShaped, depth_of};
 ghost use Rattle.tree_model.specs.Turns.Witness.{sorted_ops};
-ghost use Rattle.text_model.specs.Report.{report_of};
+ghost use Rattle.text_model.specs.Report.{ReportView, report_of};
 ghost use Rattle.text_model.specs.Run.{view_of};
 ghost use Rattle.any_machine.specs.Any.{machine_state, state_in};
 ghost use Rattle.report.specs.MachineView.{IsGiven, shown};
-ghost use Rattle.report.specs.ReportLeft.{Gives, HasSize};
+ghost use Rattle.report.specs.ReportLeft.{Gives, HasPart, HasSize};
+ghost use Rattle.report.specs.declared.report_parts.ReportPart.TheVariants.{Output};
 
+use crate::harts::are_silent;
 use crate::line::Line;
 use crate::machine_parts::{
     end_line, end_output, put_bus, put_end, put_hart, put_head, put_item, put_operations,
-    put_output, put_states,
+    put_output, put_silence, put_states,
 };
 use crate::parts::{LEAST_PIECE, Parts, joined, put_piece};
 use crate::report_parts::{ReportPart, ReportSize};
 use any_machine::{AnyMachine, Machines};
-use ddm_types::{HartNo, ItemId, NoMemory};
+use ddm_types::{HartNo, ItemId, NoMemory, Op};
 use std::alloc::Global;
 use std::marker::Model;
 use text_model::RunCounts;
@@ -61,7 +63,34 @@ fn size_shown<const WORDS: usize>(
         buses: tree.buses,
         items: machine.items().len(),
         operations: witness.len(),
+        silent: are_silent(machine.ops()),
     }
+}
+
+// Puts a hart's output from an operation on, and gives the part behind it. Where no hart has put anything, no operation is
+// looked at.
+fn put_output_part(
+    line: &mut Line,
+    ops: &[Op],
+    size: ReportSize,
+    hart: u32,
+    from: usize,
+) -> ReportPart
+    requires empty { line.old ≡ [] }
+    requires hart { hart < size.harts }
+    requires from { from ≤ length ops.now }
+    ensures { (v : ReportView) → v.completed ≡ ops.now → HasSize v size → HasPart v (Output hart from) → Gives v (Output hart from) line.new result }
+{
+    if size.silent {
+        put_silence(line);
+        return size.hart_part(hart + 1);
+    }
+    let next = put_output(line, HartNo(hart), ops, from);
+    if next < ops.len() {
+        return ReportPart::Output(hart, next);
+    }
+    end_output(line, HartNo(hart), ops, from);
+    size.hart_part(hart + 1)
 }
 
 // Puts the text of the part that comes next, and gives the one behind it.
@@ -87,15 +116,7 @@ fn put_part<const WORDS: usize>(
             put_hart(line, machine, hart);
             ReportPart::Output(hart, 0)
         }
-        ReportPart::Output(hart, from) => {
-            let ops = machine.ops();
-            let next = put_output(line, HartNo(hart), ops, from);
-            if next < ops.len() {
-                return ReportPart::Output(hart, next);
-            }
-            end_output(line, HartNo(hart), ops, from);
-            size.hart_part(hart + 1)
-        }
+        ReportPart::Output(hart, from) => { put_output_part(line, machine.ops(), size, hart, from) }
         ReportPart::Bus(bus) => {
             put_bus(line, machine, bus);
             size.bus_part(bus + 1)
@@ -201,7 +222,7 @@ impl<'a> Parts for ReportPieces<'a> {
     }
 }
 
-/// A machine's operations in the order of their keys. Memory is taken only where they are not in it already.
+/// A machine's operations in the order of their keys. Memory is taken only where they aren't in that order already.
 #[tactic(auto, using(crate::proofs::OtherKeys::keys_by_rules))]
 pub fn sorted_witness<'a>(alloc: Global, machine: &'a AnyMachine) -> Result<Ordered<'a>, NoMemory>
     ensures { IfOk result (λ w. w ≡ sorted_ops (machine_state machine.now).machine.ops) }

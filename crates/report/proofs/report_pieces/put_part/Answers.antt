@@ -1,6 +1,5 @@
 use Rattle.std.proofs.Common.{rules, refl, arith}
 use Rattle.any_machine.specs.Any.{state_in}
-use Rattle.report.proofs.Lines.{output-last}
 use Rattle.report.proofs.Shown as shown
 use Rattle.report.proofs.report_pieces.put_part.Goals as goal
 
@@ -8,8 +7,14 @@ pub put_hart-requires : goal.put_hart-requires
 put_hart-requires g c =
     (search rules, (c.requires.empty, (c.requires.given.shaped, shown.hart-there _ (state_in c.args.machine.now).machine _ _ _ c.requires.given c.in-Hart.hart c.in-Hart.is)))
 
-pub put_output-next-requires-clause-from : goal.put_output-next-requires-clause-from
-put_output-next-requires-clause-from g c = shown.output-there _ (state_in c.args.machine.now).machine _ _ _ c.requires.given c.in-Output.hart c.in-Output.from _ c.ops-ops.ensures c.in-Output.is
+pub put_output_part-requires : goal.put_output_part-requires
+put_output_part-requires g c =
+    let m = (state_in c.args.machine.now).machine in
+    record {
+      empty = c.requires.empty;
+      hart = shown.output-hart _ m _ _ _ c.requires.given c.in-Output.hart c.in-Output.from c.in-Output.is;
+      from = shown.output-there _ m _ _ _ c.requires.given c.in-Output.hart c.in-Output.from _ c.ops.ensures c.in-Output.is;
+    }
 
 pub put_bus-requires : goal.put_bus-requires
 put_bus-requires g c = (search rules, (c.requires.empty, shown.bus-there _ (state_in c.args.machine.now).machine _ _ _ c.requires.given c.in-Bus.bus c.in-Bus.is))
@@ -33,29 +38,14 @@ returns-in-Head g c = shown.head _ (state_in c.args.machine.now).machine _ _ _ c
 pub returns-in-Hart : goal.returns-in-Hart
 returns-in-Hart g c = shown.hart _ (state_in c.args.machine.now).machine _ _ _ c.requires.given _ _ c.in-Hart.hart c.in-Hart.is c.put_hart.ensures refl
 
+pub returns-in-Output : goal.returns-in-Output
+returns-in-Output g c = shown.output _ (state_in c.args.machine.now).machine _ _ _ c.requires.given _ _ c.in-Output.hart c.in-Output.from _ c.ops.ensures c.in-Output.is c.put_output_part.ensures
+
 pub returns-in-Bus : goal.returns-in-Bus
 returns-in-Bus g c = shown.bus _ (state_in c.args.machine.now).machine _ _ _ c.requires.given _ _ c.in-Bus.bus c.in-Bus.is c.put_bus.ensures c.bus_part.ensures
 
 pub returns-in-Item : goal.returns-in-Item
 returns-in-Item g c = shown.item _ (state_in c.args.machine.now).machine _ _ _ c.requires.given _ _ c.in-Item.item c.in-Item.is c.put_item.ensures refl
-
-pub end_output-requires : goal.end_output-requires
-end_output-requires g c =
-    let put = c.put_output-next.ensures in
-    record {
-      from = shown.output-there _ (state_in c.args.machine.now).machine _ _ _ c.requires.given c.in-Output.hart c.in-Output.from _ c.ops-ops.ensures c.in-Output.is;
-      output = output-last c.in-Output.hart c.in-Output.from c.put_output-next.result c.ops-ops.result.now _ (omega (arith, c.if-next-ops.false)) put.output;
-      room = put.room;
-    }
-
-pub returns-then-next-ops : goal.returns-then-next-ops
-returns-then-next-ops g c =
-    let put = c.put_output-next.ensures in
-    shown.output _ (state_in c.args.machine.now).machine _ _ _ c.requires.given _ _ c.in-Output.hart c.in-Output.from c.put_output-next.result _ c.ops-ops.ensures c.in-Output.is put.within put.output (put.long c.if-next-ops.true) refl
-
-pub returns-else-next-ops : goal.returns-else-next-ops
-returns-else-next-ops g c =
-    shown.output-end _ (state_in c.args.machine.now).machine _ _ _ c.requires.given _ _ c.in-Output.hart c.in-Output.from c.put_output-next.result _ _ c.ops-ops.ensures c.in-Output.is (omega (arith, c.if-next-ops.false)) c.put_output-next.ensures.output c.end_output.ensures c.hart_part-in-Output.ensures
 
 pub returns-then-next-size : goal.returns-then-next-size
 returns-then-next-size g c =

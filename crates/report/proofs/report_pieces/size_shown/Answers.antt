@@ -3,6 +3,7 @@ use Rattle.ddm_types.specs.ItemTable.{item_count}
 use Rattle.tree_model.specs.State.Shape.{depth_of}
 use Rattle.text_model.specs.Run.{view_of}
 use Rattle.any_machine.specs.Any.{state_in}
+use Rattle.report.specs.LineParts.{are_silent}
 use Rattle.report.proofs.MachineLines.{buses-counted, depth-few, harts-counted, items-counted}
 use Rattle.report.proofs.report_pieces.size_shown.Goals as goal
 
@@ -20,4 +21,5 @@ returns-clause-size g c =
       buses = buses-counted m shape ∙ sym (ap (λ n. n.buses) counts);
       items = items-counted m ∙ sym (c.len.ensures ∙ ap item_count c.items.ensures);
       operations = ap length (sym c.requires) ∙ sym c.len-2.ensures;
+      silent = c.are_silent.ensures ∙ ap are_silent c.ops.ensures;
     }
