@@ -20,7 +20,7 @@ use crate::words::command_said;
 use any_machine::release;
 use ddm_outside::{Failed, Shelf, Sink};
 use report::write_all;
-use schedule_log::{seeded, write_schedule};
+use schedule_log::seeded_text;
 use std::alloc::Global;
 
 // Runs a machine and writes what is printed of it, or answers the status without a text.
@@ -67,8 +67,7 @@ fn list_text<F: Shelf>(
 {
     let mut buffer = read_buffer(alloc)?;
     let tree = tree_file(alloc, files, tree, &mut buffer)?;
-    let turns = seeded(alloc, seed, count, &tree.nodes)?;
-    Ok(write_schedule(alloc, &turns)?)
+    Ok(seeded_text(alloc, seed, count, &tree.nodes)?)
 }
 
 // Writes it.

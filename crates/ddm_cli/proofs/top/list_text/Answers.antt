@@ -11,6 +11,5 @@ pub returns-clause-taken : goal.returns-clause-taken
 unfolding list_at
 returns-clause-taken g c =
     let levels = ap (λ (u : TreeValue). u.levels) c.tree.view_is in
-    let turns = c.deref.ensures.value ∙ c.in_ok-turns.ensures.turns in
-    let text = c.in_ok-write_schedule.ensures ∙ ap schedule_text turns ∙ ap (λ ls. schedule_text (seeded_turns (shape_view ls) c.args.seed c.args.count)) levels in
-    list_taken (g.F.Shelf.told c.args.files.now c.args.tree.now) c.in_ok-tree.tree c.args.seed c.args.count c.in_ok-write_schedule.field-0.items c.in_ok-tree.ensures.found text
+    let text = c.in_ok-seeded_text.ensures ∙ ap (λ ls. schedule_text (seeded_turns (shape_view ls) c.args.seed c.args.count)) levels in
+    list_taken (g.F.Shelf.told c.args.files.now c.args.tree.now) c.in_ok-tree.tree c.args.seed c.args.count c.in_ok-seeded_text.field-0.items c.in_ok-tree.ensures.found text
