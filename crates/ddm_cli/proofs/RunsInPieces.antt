@@ -1,5 +1,5 @@
 -- Turns made piece by piece, as one run.
-use Rattle.std.proofs.Common.{◌≡◌, ◌≢◌, ℕ, suc, ◌+◌, ◌<◌, ◌≤◌, Bool, true, false, List, [], ◌∷◌, ◌++◌, length, take, drop, Option, refl, sym, ap, subst, ◌∙◌, append_assoc, arith}
+use Rattle.std.proofs.Common.{◌≡◌, ℕ, suc, ◌+◌, ◌≤◌, Bool, true, false, List, [], ◌∷◌, ◌++◌, length, take, drop, Option, refl, sym, ap, subst, ◌∙◌, append_assoc, arith}
 use Rattle.std.specs.Prelude.{All, IfOk, IfSome, Result, if◌then◌else◌}
 use Rattle.std.proofs.lemmas.List.{append-nil, length-append, take-append-drop}
 use Rattle.std.proofs.Math.Seq.{take-append_seam}
@@ -28,6 +28,7 @@ use Rattle.tree_model.specs.State.Shape.{Frame, depth_of, levels_of}
 use Rattle.tree_model.proofs.FrameKept.{run-frame}
 use Rattle.text_model.specs.Report.{report_of}
 use Rattle.text_model.specs.Trace.{trace_from, trace_text}
+use Rattle.text_model.proofs.Numbered.{trace_from-append}
 use Rattle.ddm_cli.specs.Made.{CanCount, CanGoOn, HasAllMade, HasMade, counts_plus}
 use Rattle.ddm_cli.specs.Printed.{Writes, is_trace, made_text, printed, resumed_report, unjam_line, unjam_text_of, saved_after}
 use Rattle.ddm_cli.specs.Reads.{HasRead, WritesRan, WritesRest}
@@ -80,6 +81,23 @@ unfolding run_of
 answers_counted [] m = refl
 answers_counted (t ∷ ts) m = ap suc (answers_counted ts (turn_of t m).machine)
 
+-- where they are put into an empty list, it has one for each turn
+pub answers_match : (keep : Bool) (none after : List TurnAnswer) (turns : List Turn) (m : MachineValue) → keep ≡ true → none ≡ [] → after ≡ (if keep then none ++ (run_of turns m).answers else none) → length turns ≡ length after
+answers_match true none after turns m kept empty is = sym (answers_counted turns m) ∙ sym (ap length (is ∙ ap (λ l. l ++ (run_of turns m).answers) empty))
+answers_match false none after turns m kept empty is = absurd (cc kept)
+
+-- each of them is counted
+turns_counted : (answers : List TurnAnswer) → (counts_of answers).turns ≡ length answers
+unfolding counts_of
+turns_counted [] = refl
+turns_counted (TurnAnswer.Retired op ∷ answers) = omega (arith, turns_counted answers)
+turns_counted (TurnAnswer.Issued kind item ∷ answers) = omega (arith, turns_counted answers)
+turns_counted (TurnAnswer.Waiting item ∷ answers) = omega (arith, turns_counted answers)
+turns_counted (TurnAnswer.Halted cause ∷ answers) = omega (arith, turns_counted answers)
+turns_counted (TurnAnswer.Granted entry ∷ answers) = omega (arith, turns_counted answers)
+turns_counted (TurnAnswer.Busy cause ∷ answers) = omega (arith, turns_counted answers)
+turns_counted (TurnAnswer.Empty ∷ answers) = omega (arith, turns_counted answers)
+
 run_counts_few : (turns : List Turn) (m : MachineValue) → AreBelow (length turns + 1) (counts_of (run_of turns m).answers)
 run_counts_few turns m = subst (λ n. AreBelow (n + 1) (counts_of (run_of turns m).answers)) (answers_counted turns m) (counts_few (run_of turns m).answers)
 
@@ -125,9 +143,9 @@ starts_on t tree s start = record {
 
 module _ (levels : List (List ℕ)) (first : RunCounts) (s : MachineState) (start : CanGoOn levels first s) where
   -- nothing yet
-  pub nothing_made : (keep : Bool) (made : Made) → made.counts ≡ first → made.turns.items ≡ [] → made.answers.items ≡ [] → HasMade first keep s s made []
-  unfolding run_of counts_of
-  nothing_made keep made counts turns answers = record { machine = refl; number = omega arith; counts = counts ∙ sym (nothing_more first); turns_kept = kept_none keep made.turns.items turns; answers_kept = kept_none keep made.answers.items answers }
+  pub nothing_made : (keep : Bool) (made : Made) → made.counts ≡ first → made.trace.items ≡ [] → HasMade first keep s s made []
+  unfolding run_of counts_of trace_from
+  nothing_made keep made counts trace = record { machine = refl; number = omega arith; counts = counts ∙ sym (nothing_more first); trace_kept = kept_none keep made.trace.items trace }
 
   module _ (keep : Bool) (now : MachineState) (made : Made) (turns more : List Turn) (has : HasMade first keep s now made turns) (given : GivesTurnsOf (shape_view levels) first.turns (turns ++ more)) where
     more_named : NameParts more now.machine
@@ -157,12 +175,22 @@ module _ (levels : List (List ℕ)) (first : RunCounts) (s : MachineState) (star
 
     -- and were made
     module _ (after : MachineState) (made' : Made) (is : after ≡ ran more (with_room (length more) now)) (counts : made'.counts ≡ counts_plus made.counts (counts_in more now))
-        (kept : made'.turns.items ≡ (if keep then made.turns.items ++ more else made.turns.items)) (answers : made'.answers.items ≡ (if keep then made.answers.items ++ answers_in more now else made.answers.items)) where
+        (kept : made'.trace.items ≡ (if keep then made.trace.items ++ trace_from made.counts.turns more (answers_in more now) else made.trace.items)) where
       counts_are : made'.counts ≡ counts_plus first (counts_of (run_of (turns ++ more) s.machine).answers)
       counts_are =
           let of_turns = counts_of (run_of turns s.machine).answers in
           counts ∙ ap (λ (c : RunCounts). counts_plus c (counts_in more now)) has.counts ∙ counts_assoc first of_turns (counts_in more now)
           ∙ ap (counts_plus first) (ap (λ (m : MachineValue). counts_plus of_turns (counts_of (run_of more m).answers)) has.machine ∙ sym (counts_append (run_of turns s.machine).answers (run_of more (run_of turns s.machine).machine).answers) ∙ ap counts_of (sym (answers_append turns more s.machine)))
+
+      -- their lines, and those of the turns before
+      lines_are : trace_from first.turns turns (run_of turns s.machine).answers ++ trace_from made.counts.turns more (answers_in more now) ≡ trace_from first.turns (turns ++ more) (run_of (turns ++ more) s.machine).answers
+      lines_are =
+          let before = (run_of turns s.machine).answers in
+          let number : made.counts.turns ≡ first.turns + length turns = ap (λ (c : RunCounts). c.turns) has.counts ∙ ap (λ n. first.turns + n) (turns_counted before ∙ answers_counted turns s.machine) in
+          ap (λ n. trace_from first.turns turns before ++ trace_from n more (answers_in more now)) number
+          ∙ ap (λ (m : MachineValue). trace_from first.turns turns before ++ trace_from (first.turns + length turns) more (run_of more m).answers) has.machine
+          ∙ sym (trace_from-append first.turns turns more before (run_of more (run_of turns s.machine).machine).answers (sym (answers_counted turns s.machine)))
+          ∙ ap (trace_from first.turns (turns ++ more)) (sym (answers_append turns more s.machine))
 
       pub more_made : HasMade first keep s after made' (turns ++ more)
       more_made =
@@ -172,18 +200,10 @@ module _ (levels : List (List ℕ)) (first : RunCounts) (s : MachineState) (star
             machine = machine ∙ ap (λ (m : MachineValue). (run_of more m).machine) has.machine ∙ sym (machine_append turns more s.machine);
             number = omega (arith, number, has.number, length-append turns more);
             counts = counts_are;
-            turns_kept = kept_more keep made.turns.items made'.turns.items turns more has.turns_kept kept;
-            answers_kept =
-                let both = kept_more keep made.answers.items made'.answers.items (run_of turns s.machine).answers (answers_in more now) has.answers_kept answers in
-                both ∙ ap (λ (m : MachineValue). if keep then (run_of turns s.machine).answers ++ (run_of more m).answers else []) has.machine ∙ ap (λ l. if keep then l else []) (sym (answers_append turns more s.machine));
+            trace_kept = kept_more keep made.trace.items made'.trace.items (trace_from first.turns turns (run_of turns s.machine).answers) (trace_from made.counts.turns more (answers_in more now)) has.trace_kept kept ∙ ap (λ t. if keep then t else []) lines_are;
           }
 
 -- ---- turns that were made
-
--- for a trace there is an answer for each turn
-pub answers_kept : (first : RunCounts) (keep : Bool) (s now : MachineState) (made : Made) (turns : List Turn) → HasMade first keep s now made turns → length made.turns.items ≡ length made.answers.items
-answers_kept first true s now made turns has = ap length has.turns_kept ∙ sym (answers_counted turns s.machine) ∙ sym (ap length has.answers_kept)
-answers_kept first false s now made turns has = ap length has.turns_kept ∙ sym (ap length has.answers_kept)
 
 -- of these answers so many complete an instruction
 retired_ops : (answers : List TurnAnswer) → length (ops_of_answers answers) ≡ (counts_of answers).retired
@@ -204,18 +224,14 @@ retired_counted keep s now made turns none has =
     let ops : now.machine.ops ≡ ops_of_answers answers = ap (λ (m : MachineValue). m.ops) has.machine ∙ run-ops turns s.machine ∙ ap (λ ops. ops ++ ops_of_answers answers) none in
     ap (λ (c : RunCounts). c.retired) (counts_run keep s now made turns has) ∙ sym (retired_ops answers) ∙ ap length (sym ops)
 
--- no turns have an empty trace
-no_trace : (t : List ℕ) → trace_text [] [] ++ t ≡ t
-unfolding trace_text trace_from
-no_trace t = refl
+-- where no trace is kept, the report stands alone
+report_alone : (first : RunCounts) (s now : MachineState) (made : Made) (turns : List Turn) (report : List ℕ) → HasMade first false s now made turns → made.trace.items ++ report ≡ report
+report_alone first s now made turns report has = ap (λ t. t ++ report) has.trace_kept
 
--- nor have turns that aren't kept
-report_alone : (first : RunCounts) (s now : MachineState) (made : Made) (turns : List Turn) → HasMade first false s now made turns
-    → trace_text made.turns.items made.answers.items ++ report_of (view_of (depth_of now.machine) made.counts now.machine) ≡ report_of (view_of (depth_of now.machine) made.counts now.machine)
-report_alone first s now made turns has =
-    ap (λ ts. trace_text ts made.answers.items ++ report_of (view_of (depth_of now.machine) made.counts now.machine)) has.turns_kept
-    ∙ ap (λ answers. trace_text [] answers ++ report_of (view_of (depth_of now.machine) made.counts now.machine)) has.answers_kept
-    ∙ no_trace (report_of (view_of (depth_of now.machine) made.counts now.machine))
+-- where none came before, the lines that are kept are the whole trace
+trace_made : (s now : MachineState) (made : Made) (turns : List Turn) → HasMade no_counts true s now made turns → made.trace.items ≡ trace_text turns (run_of turns s.machine).answers
+unfolding trace_text
+trace_made s now made turns has = has.trace_kept
 
 -- what is printed of them is what is printed of their run
 pub made_printed : (prints : Prints) (s now : MachineState) (made : Made) (turns : List Turn) → HasMade no_counts (is_trace prints) s now made turns → made_text prints now.machine made ≡ printed prints (depth_of s.machine) turns s.machine
@@ -224,10 +240,10 @@ made_printed Checkpoint s now made turns has = ap (λ (m : MachineValue). saved 
 made_printed Unjamming s now made turns has = ap (λ (m : MachineValue). unjam_line (unjamming_turn m)) has.machine
 made_printed Summary s now made turns has = ran_summary turns s.machine now.machine made.counts (counts_run false s now made turns has) has.machine
 made_printed Trace s now made turns has =
-    ap (λ ts. trace_text ts made.answers.items ++ report_of (view_of (depth_of now.machine) made.counts now.machine)) has.turns_kept
-    ∙ ran_trace turns s.machine now.machine made.counts (counts_run true s now made turns has) has.machine made.answers.items has.answers_kept
+    ap (λ t. t ++ report_of (view_of (depth_of now.machine) made.counts now.machine)) (trace_made s now made turns has)
+    ∙ ran_trace turns s.machine now.machine made.counts (counts_run true s now made turns has) has.machine (run_of turns s.machine).answers refl
 made_printed Report s now made turns has =
-    report_alone no_counts s now made turns has ∙ ran_report turns s.machine now.machine made.counts (counts_run false s now made turns has) has.machine
+    report_alone no_counts s now made turns _ has ∙ ran_report turns s.machine now.machine made.counts (counts_run false s now made turns has) has.machine
 
 pub made_written : {E : Type 0} (prints : Prints) (levels : List (List ℕ)) (told : Option ScheduleGiven) (s now : MachineState) (made : Made) (old new : Option (List ℕ)) (w : Result (Unit {0}) E)
     → HasAllMade (turns_of levels) told no_counts (is_trace prints) s now made → Writes old new (made_text prints now.machine made) w → WritesRan prints levels told s.machine old new w
@@ -237,18 +253,18 @@ made_written prints levels told s now made old new w has writes =
 -- ---- turns behind those of a checkpoint
 
 rest_printed : (first : RunCounts) (s now : MachineState) (made : Made) (turns : List Turn) → HasMade first false s now made turns
-    → trace_text made.turns.items made.answers.items ++ report_of (view_of (depth_of now.machine) made.counts now.machine) ≡ resumed_report turns (record { machine = s.machine; counts = first })
+    → made.trace.items ++ report_of (view_of (depth_of now.machine) made.counts now.machine) ≡ resumed_report turns (record { machine = s.machine; counts = first })
 unfolding resumed_report
 rest_printed first s now made turns has =
     let after = (run_of turns s.machine).machine in
     let depth : depth_of now.machine ≡ depth_of s.machine = ap depth_of has.machine ∙ ap (λ (f : Frame). levels_of f.bones) (run-frame turns s.machine) in
-    report_alone first s now made turns has
+    report_alone first s now made turns _ has
     ∙ ap (λ n. report_of (view_of n made.counts now.machine)) depth
     ∙ ap (λ c. report_of (view_of (depth_of s.machine) c now.machine)) has.counts
     ∙ ap (λ m. report_of (view_of (depth_of s.machine) (counts_plus first (counts_of (run_of turns s.machine).answers)) m)) has.machine
 
 pub rest_written : {E : Type 0} (levels : List (List ℕ)) (told : Option (List ℕ)) (first : RunCounts) (s now : MachineState) (made : Made) (old new : Option (List ℕ)) (w : Result (Unit {0}) E)
-    → HasAllMade (turns_at levels first.turns) told first false s now made → Writes old new (trace_text made.turns.items made.answers.items ++ report_of (view_of (depth_of now.machine) made.counts now.machine)) w
+    → HasAllMade (turns_at levels first.turns) told first false s now made → Writes old new (made.trace.items ++ report_of (view_of (depth_of now.machine) made.counts now.machine)) w
     → WritesRest levels told (record { machine = s.machine; counts = first }) old new w
 rest_written levels told first s now made old new w has writes = (_, record { turns = has.turns; accepted = has.accepted; text_is = rest_printed first s now made has.turns has.all }, writes)
 

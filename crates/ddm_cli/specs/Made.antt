@@ -6,6 +6,7 @@ use Rattle.tree_model.specs.Turns.Machine.{run_of}
 use Rattle.text_model.specs.declared.RunCounts.{RunCounts}
 use Rattle.text_model.specs.ReadBack.{IsTurnOf}
 use Rattle.text_model.specs.Run.{counts_of}
+use Rattle.text_model.specs.Trace.{trace_from}
 use Rattle.any_runs.specs.Run.{AreBelow, NameParts}
 use Rattle.schedule_log.specs.Shapes.{shape_view}
 use Rattle.ddm_tree.specs.Machine.{MachineState}
@@ -31,13 +32,12 @@ pub record CanGoOn (levels : List (List ℕ)) (first : RunCounts) (s : MachineSt
   pub counted : AreBelow 1048577 first
 
 -- These turns were made of a machine, whose turns before came to `first`: machine and counts are those of their run, and for a trace
--- turns and answers are kept.
+-- their lines are kept, of which the first one is counted behind those turns.
 pub record HasMade (first : RunCounts) (keep : Bool) (s after : MachineState) (made : Made) (turns : List Turn) : Type 0 where
   pub machine : after.machine ≡ (run_of turns s.machine).machine
   pub number : after.turns ≡ s.turns + length turns
   pub counts : made.counts ≡ counts_plus first (counts_of (run_of turns s.machine).answers)
-  pub turns_kept : made.turns.items ≡ (if keep then turns else [])
-  pub answers_kept : made.answers.items ≡ (if keep then (run_of turns s.machine).answers else [])
+  pub trace_kept : made.trace.items ≡ (if keep then trace_from first.turns turns (run_of turns s.machine).answers else [])
 
 -- and they are all that the schedule has, where it is told
 pub record HasAllMade {A : Type 0} (judge : A → Option (List Turn)) (told : Option A) (first : RunCounts) (keep : Bool) (s after : MachineState) (made : Made) : Type 0 where

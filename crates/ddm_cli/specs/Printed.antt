@@ -8,7 +8,6 @@ use Rattle.tree_model.specs.Turns.Machine.{run_of}
 use Rattle.text_model.specs.Report.{report_of, summary_of}
 use Rattle.text_model.specs.Run.{counts_of, report_text_of, summary_text_of, trace_and_report_of, view_of}
 use Rattle.text_model.specs.Schedule.{turn_text}
-use Rattle.text_model.specs.Trace.{trace_text}
 use Rattle.jam_laws.specs.GoesOn.{unjamming_turn}
 use Rattle.report.specs.Appends.{Appends, AppendsPart}
 use Rattle.checkpoint.specs.Resumed.{Resumed}
@@ -45,7 +44,7 @@ resumed_report turns r =
     let run = run_of turns r.machine in
     report_of (view_of (depth_of r.machine) (counts_plus r.counts (counts_of run.answers)) run.machine)
 
--- a trace needs the turns and their answers
+-- a trace is kept while the turns are made
 abbrev pub is_trace : Prints → Bool
 is_trace Report = false
 is_trace Trace = true
@@ -53,13 +52,13 @@ is_trace Summary = false
 is_trace Unjamming = false
 is_trace Checkpoint = false
 
--- the same of turns that were made, and are kept for a trace
+-- the same of turns that were made, whose trace is kept where it is asked for
 abbrev pub made_text : Prints → MachineValue → Made → List ℕ
 made_text Summary m made = summary_of (view_of (depth_of m) made.counts m)
 made_text Unjamming m made = unjam_line (unjamming_turn m)
 made_text Checkpoint m made = saved m made.counts
-made_text Report m made = trace_text made.turns.items made.answers.items ++ report_of (view_of (depth_of m) made.counts m)
-made_text Trace m made = trace_text made.turns.items made.answers.items ++ report_of (view_of (depth_of m) made.counts m)
+made_text Report m made = made.trace.items ++ report_of (view_of (depth_of m) made.counts m)
+made_text Trace m made = made.trace.items ++ report_of (view_of (depth_of m) made.counts m)
 
 -- of a witness of so many lines
 abbrev pub legal_line : ℕ → List ℕ

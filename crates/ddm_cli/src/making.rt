@@ -1,5 +1,6 @@
 ghost use Rattle.std.specs.Prelude.{◌≡◌, ◌<◌, ◌≤◌, ◌+◌, ◌++◌, [], ℕ, List, Some, length, vec_len, IfOk, IfErr, OnOk, if◌then◌else◌};
 ghost use Rattle.text_model.specs.Run.{no_counts};
+ghost use Rattle.text_model.specs.Trace.{trace_from};
 ghost use Rattle.bus_laws.specs.IsTree.{IsTree};
 ghost use Rattle.any_machine.specs.Any.{machine_state};
 ghost use Rattle.any_runs.specs.Run.{CanRun, NameParts, answers_in, counts_in, ran, with_room};
@@ -16,19 +17,18 @@ use crate::limits::BLOCK_TURNS;
 use crate::status::Status;
 use ddm_outside::Shelf;
 use ddm_types::{BusNo, NoMemory, Turn, TurnAnswer};
-use report::FileRole;
+use report::{FileRole, push_trace};
 use run_engine::{AnyMachine, run};
 use schedule_log::{FeedError, ScheduleReader, SeededTurns};
 use std::alloc::Global;
 use text_model::RunCounts;
 use tree_config::TreeConfig;
 
-/// What turns came to. A trace keeps them with their answers.
+/// What turns came to. The lines of their trace are kept, where it is asked for.
 #[derive(Drop)]
 pub struct Made {
     pub counts: RunCounts,
-    pub turns: Vec<Turn>,
-    pub answers: Vec<TurnAnswer>,
+    pub trace: Vec<u8>,
 }
 
 fn nothing_counted() -> RunCounts
@@ -44,13 +44,11 @@ fn nothing_counted() -> RunCounts
 
 fn nothing_made(alloc: Global, first: RunCounts) -> Made
     ensures counts { result.counts ≡ first }
-    ensures turns { result.turns.items ≡ [] }
-    ensures answers { result.answers.items ≡ [] }
+    ensures trace { result.trace.items ≡ [] }
 {
     Made {
         counts: first,
-        turns: Vec::new(alloc),
-        answers: Vec::new(alloc),
+        trace: Vec::new(alloc),
     }
 }
 
@@ -64,10 +62,11 @@ fn add_counts(counts: &mut RunCounts, more: RunCounts)
     counts.busy += more.busy;
 }
 
-// Makes more turns.
+// Makes more turns. For a trace their lines are kept, and their answers are put into a list that is lent, until they are spelled.
 fn make_turns(
     machine: &mut AnyMachine,
     turns: &[Turn],
+    answers: &mut Vec<TurnAnswer>,
     made: &mut Made,
     keep: bool,
 ) -> Result<(), NoMemory>
@@ -76,13 +75,13 @@ fn make_turns(
     requires counted { CanCount made.old.counts (counts_in turns.now (machine_state machine.old)) }
     ensures after { OnOk result (machine_state machine.new ≡ ran turns.now (with_room (length turns.now) (machine_state machine.old))) }
     ensures counts { OnOk result (made.new.counts ≡ counts_plus made.old.counts (counts_in turns.now (machine_state machine.old))) }
-    ensures turns { OnOk result (made.new.turns.items ≡ (if keep then made.old.turns.items ++ turns.now else made.old.turns.items)) }
-    ensures answers { OnOk result (made.new.answers.items ≡ (if keep then made.old.answers.items ++ answers_in turns.now (machine_state machine.old) else made.old.answers.items)) }
+    ensures trace { OnOk result (made.new.trace.items ≡ (if keep then made.old.trace.items ++ trace_from made.old.counts.turns turns.now (answers_in turns.now (machine_state machine.old)) else made.old.trace.items)) }
 {
+    answers.clear();
+    let counts = run(machine, turns, answers, keep)?;
     if keep {
-        made.turns.extend_from_slice(turns)?;
+        push_trace(&mut made.trace, made.counts.turns, turns, answers)?;
     }
-    let counts = run(machine, turns, &mut made.answers, keep)?;
     add_counts(&mut made.counts, counts);
     Ok(())
 }
@@ -108,6 +107,7 @@ pub fn schedule_made<F: Shelf>(
     let mut reader = ScheduleReader::after(alloc, first.turns)?;
     let mut made = nothing_made(alloc, first);
     let mut turns = Vec::new(alloc);
+    let mut answers = Vec::new(alloc);
     let mut at = 0;
     'reading: loop {
         let Ok(n) = files.read(name, at, buffer) else {
@@ -124,7 +124,7 @@ pub fn schedule_made<F: Shelf>(
             Err(FeedError::Refused(line, refusal)) => return Err(Status::Schedule(line, refusal)),
             Err(FeedError::NoMemory) => return Err(Status::NoMemory),
         }
-        make_turns(machine, &turns, &mut made, keep)?;
+        make_turns(machine, &turns, &mut answers, &mut made, keep)?;
         turns.clear();
     }
 }
@@ -153,13 +153,14 @@ fn seed_made(
     let mut left = SeededTurns::new(alloc, &tree.nodes)?;
     left.begin(seed, count);
     let mut block = turn_block(alloc)?;
+    let mut answers = Vec::new(alloc);
     let mut made = nothing_made(alloc, nothing_counted());
     'making: loop {
         let size = left.next_block(&mut block);
         if size == 0 {
             return Ok(made);
         }
-        make_turns(machine, &block[..size], &mut made, keep)?;
+        make_turns(machine, &block[..size], &mut answers, &mut made, keep)?;
     }
 }
 

@@ -4,7 +4,6 @@ ghost use Rattle.tree_model.specs.State.Shape.{depth_of};
 ghost use Rattle.tree_model.specs.Turns.Witness.{sorted_ops};
 ghost use Rattle.text_model.specs.Report.{report_of, summary_of};
 ghost use Rattle.text_model.specs.Run.{view_of};
-ghost use Rattle.text_model.specs.Trace.{trace_text};
 ghost use Rattle.bus_laws.specs.IsTree.{IsTree};
 ghost use Rattle.any_machine.specs.Any.{machine_state};
 ghost use Rattle.ddm_outside.specs.Causes.{HasCause};
@@ -27,7 +26,7 @@ use crate::unjamming::{list_refused, write_unjamming};
 use checkpoint::CheckpointPieces;
 use ddm_outside::{Failed, Shelf, Sink};
 use ddm_types::NoMemory;
-use report::{ReportPieces, TracePieces, sorted_witness, summary_text, write_all, write_pieces};
+use report::{ReportPieces, sorted_witness, summary_text, write_all, write_pieces};
 use run_engine::AnyMachine;
 use std::alloc::Global;
 use tree_config::TreeConfig;
@@ -42,7 +41,7 @@ fn is_trace(prints: Prints) -> bool
     }
 }
 
-// Writes the trace of the turns that are kept, none where it isn't asked for, and then the report.
+// Writes the trace that is kept, none where it isn't asked for, and then the report.
 fn write_run<K: Sink>(
     out: &mut K,
     machine: &AnyMachine,
@@ -52,15 +51,10 @@ fn write_run<K: Sink>(
 ) -> Result<(), Failed>
     requires room { 1024 ≤ length buffer.old }
     requires witness { witness.now ≡ sorted_ops (machine_state machine.now).machine.ops }
-    requires answers { length made.now.turns.items ≡ length made.now.answers.items }
-    ensures written { let m = (machine_state machine.now).machine in Writes (K.held out.old) (K.held out.new) (trace_text made.now.turns.items made.now.answers.items ++ report_of (view_of (depth_of m) made.now.counts m)) result }
+    ensures written { let m = (machine_state machine.now).machine in Writes (K.held out.old) (K.held out.new) (made.now.trace.items ++ report_of (view_of (depth_of m) made.now.counts m)) result }
     ensures cause { HasCause (K.faults out.old) (K.faults out.new) result }
 {
-    write_pieces(
-        out,
-        &mut TracePieces::new(&made.turns, &made.answers),
-        buffer,
-    )?;
+    write_all(out, &made.trace)?;
     write_pieces(
         out,
         &mut ReportPieces::new(machine, witness, made.counts),
@@ -68,7 +62,7 @@ fn write_run<K: Sink>(
     )
 }
 
-/// Writes the trace of the turns that are kept, and then the report. All memory is taken before the first write.
+/// Writes the trace that is kept, and then the report. All memory is taken before the first write.
 pub fn write_report<K: Sink>(
     alloc: Global,
     out: &mut K,
@@ -77,8 +71,7 @@ pub fn write_report<K: Sink>(
     buffer: &mut [u8],
 ) -> Result<Result<(), Failed>, NoMemory>
     requires room { 1024 ≤ length buffer.old }
-    requires answers { length made.now.turns.items ≡ length made.now.answers.items }
-    ensures written { let m = (machine_state machine.now).machine in IfOk result (Writes (K.held out.old) (K.held out.new) (trace_text made.now.turns.items made.now.answers.items ++ report_of (view_of (depth_of m) made.now.counts m))) }
+    ensures written { let m = (machine_state machine.now).machine in IfOk result (Writes (K.held out.old) (K.held out.new) (made.now.trace.items ++ report_of (view_of (depth_of m) made.now.counts m))) }
     ensures cause { IfOk result (HasCause (K.faults out.old) (K.faults out.new)) }
     ensures same { OnErr result (K.held out.new ≡ K.held out.old) }
 {
@@ -96,7 +89,6 @@ fn write_made<K: Sink>(
     buffer: &mut [u8],
 ) -> Result<Result<(), Failed>, NoMemory>
     requires room { 1024 ≤ length buffer.old }
-    requires answers { length made.now.turns.items ≡ length made.now.answers.items }
     requires counted { made.now.counts.retired ≡ length (machine_state machine.now).machine.ops }
     requires large { prints ≡ Unjamming → has_large_lists (machine_state machine.now).machine ≡ true }
     ensures written { IfOk result (Writes (K.held out.old) (K.held out.new) (made_text prints (machine_state machine.now).machine made.now)) }

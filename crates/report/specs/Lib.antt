@@ -5,4 +5,3 @@ pub mod PiecesLeft
 pub mod ReportLeft
 pub mod Roles
 pub mod Room
-pub mod TraceLeft

@@ -1,15 +1,17 @@
-ghost use Rattle.std.specs.Prelude.{◌≡◌, OnOk, IfOk, length};
+ghost use Rattle.std.specs.Prelude.{◌≡◌, ◌++◌, OnOk, IfOk, length};
 ghost use Rattle.ddm_text.specs.Adds.{Adds};
 ghost use Rattle.text_model.specs.Schedule.{turn_text};
-ghost use Rattle.text_model.specs.Trace.{trace_line, trace_text};
+ghost use Rattle.text_model.specs.Trace.{trace_from, trace_line, trace_text};
 ghost use Rattle.report.specs.Room.{UsesRoom};
 
 use crate::answers::push_answer;
 use crate::buffers::TextBuffer;
 use crate::digits::push_decimal;
+use crate::line::Line;
 use crate::numbers::{push_bus, push_child, push_hart};
 use crate::pieces::{push_bytes, push_number};
 use ddm_types::{NoMemory, Turn, TurnAnswer};
+use std::alloc::Global;
 
 /// Puts a turn at the end, as a schedule has it.
 #[tactic(auto, unfolding(text_model::specs::Schedule::turn_text))]
@@ -72,17 +74,39 @@ pub fn push_trace_line<W: TextBuffer>(
     Ok(())
 }
 
-/// Puts at the end a line for each turn, with its answer.
-pub fn push_trace<W: TextBuffer>(
-    out: &mut W,
+/// Puts behind a text a line for each turn with its answer. The first of them is counted as `first`.
+pub fn push_trace(
+    text: &mut Vec<u8>,
+    first: u32,
     turns: &[Turn],
     answers: &[TurnAnswer],
 ) -> Result<(), NoMemory>
     requires { length turns.now ≡ length answers.now }
-    ensures { OnOk result (Adds (W.text out.old) (W.text out.new) (trace_text turns.now answers.now)) }
+    ensures { OnOk result (text.new.items ≡ text.old.items ++ trace_from first turns.now answers.now) }
 {
-    for number in 0..turns.len() {
-        push_trace_line(out, number as u64, turns[number], answers[number])?;
+    let mut line = Line::new();
+    for at in 0..turns.len() {
+        line.clear();
+        let number = u64::from(first) + at as u64;
+        let Ok(()) = push_trace_line(&mut line, number, turns[at], answers[at]) else {
+            unreachable!();
+        };
+        text.extend_from_slice(line.as_slice())?;
     }
     Ok(())
+}
+
+/// The trace of turns with their answers.
+#[tactic(auto, unfolding(text_model::specs::Trace::trace_text))]
+pub fn trace_text(
+    alloc: Global,
+    turns: &[Turn],
+    answers: &[TurnAnswer],
+) -> Result<Vec<u8>, NoMemory>
+    requires { length turns.now ≡ length answers.now }
+    ensures { IfOk result (λ text. text.items ≡ trace_text turns.now answers.now) }
+{
+    let mut text = Vec::new(alloc);
+    push_trace(&mut text, 0, turns, answers)?;
+    Ok(text)
 }

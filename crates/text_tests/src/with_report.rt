@@ -4,7 +4,7 @@ use ddm_types::{
     Turn, TurnAnswer, TxKind,
 };
 use report::{
-    TracePieces, memory_line, push_bus_line, push_hart_line, push_item_line, push_op_line,
+    memory_line, push_bus_line, push_hart_line, push_item_line, push_op_line, push_trace,
     trace_text, usage_line, write_all,
 };
 use std::test::Fail;
@@ -100,17 +100,12 @@ fn trace_of_two_turns(rt: HostRuntime) -> Result<(), Fail> {
 }
 
 #[test]
-fn trace_in_pieces(rt: HostRuntime) -> Result<(), Fail> {
+fn trace_in_blocks(rt: HostRuntime) -> Result<(), Fail> {
     let turns = [Turn::Down { bus: BusNo(7) }; 100];
     let answers = [TurnAnswer::Empty; 100];
-    let mut pieces = TracePieces::new(&turns, &answers);
-    let mut into = [0; 1_024];
     let mut joined = Vec::new(rt.alloc());
-    for _ in 0..4 {
-        let n = pieces.next_piece(&mut into);
-        joined.extend_from_slice(&into[..n])?;
-    }
-    assert_eq!(rt; pieces.next_piece(&mut into), 0);
+    push_trace(&mut joined, 0, &turns[..37], &answers[..37])?;
+    push_trace(&mut joined, 37, &turns[37..], &answers[37..])?;
     let text = trace_text(rt.alloc(), &turns, &answers)?;
     assert_eq!(rt; joined.as_slice(), text.as_slice());
     Ok(())

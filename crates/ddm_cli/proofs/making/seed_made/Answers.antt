@@ -1,4 +1,4 @@
-use Rattle.std.proofs.Common.{◌≡◌, ◌≤◌, ◌<◌, ◌++◌, List, [], length, take, ap, refl, sym, subst, ◌∙◌, arith}
+use Rattle.std.proofs.Common.{◌≡◌, ◌≤◌, ◌<◌, ◌++◌, [], length, take, ap, refl, sym, subst, ◌∙◌, arith}
 use Rattle.std.specs.Prelude.{All, Some, vec_len}
 use Rattle.std.proofs.lemmas.List.{nil_from_length}
 use Rattle.tree_model.specs.Start.Sources.{TreeValue}
@@ -14,7 +14,7 @@ use Rattle.ddm_cli.proofs.making.seed_made.Goals as goal
 
 pub making-init : goal.making-init
 making-init c = record {
-  made = ([], refl, nothing_made c.args.tree.now.levels no_counts (machine_state c.args.machine.now) c.requires.start c.args.keep c.nothing_made-made.result (c.nothing_made-made.ensures.counts ∙ c.nothing_counted.ensures) c.nothing_made-made.ensures.turns c.nothing_made-made.ensures.answers);
+  made = ([], refl, nothing_made c.args.tree.now.levels no_counts (machine_state c.args.machine.now) c.requires.start c.args.keep c.nothing_made-made.result (c.nothing_made-made.ensures.counts ∙ c.nothing_counted.ensures) c.nothing_made-made.ensures.trace);
   places = c.in_ok-block.ensures;
 }
 
@@ -68,7 +68,7 @@ making-preserved c =
     let more = take c.next_block-size.result c.deref.result.now in
     let places : 0 < vec_len c.making.block = c.making.invariant.places in
     record {
-      made = (turns ++ more, next.0, more_made c.args.tree.now.levels no_counts (machine_state c.args.machine.now) c.requires.start c.args.keep (machine_state c.making.machine) c.making.made turns more has next.1.given (machine_state c.make_turns.new.machine) c.make_turns.new.made done.after done.counts done.turns done.answers);
+      made = (turns ++ more, next.0, more_made c.args.tree.now.levels no_counts (machine_state c.args.machine.now) c.requires.start c.args.keep (machine_state c.making.machine) c.making.made turns more has next.1.given (machine_state c.make_turns.new.machine) c.make_turns.new.made done.after done.counts done.trace);
       places = places;
     }
 

@@ -1,22 +1,16 @@
 use Rattle.std.proofs.Common.{◌≡◌, None, rules}
 use Rattle.ddm_types.specs.ItemTable.{item_count}
 use Rattle.any_machine.specs.Any.{machine_state}
-use Rattle.text_model.specs.Run.{no_counts}
 use Rattle.ddm_cli.specs.Lists.{list_refused}
 use Rattle.ddm_cli.specs.Told.{schedule_told}
 use Rattle.ddm_cli.specs.Views.{turns_from}
 use Rattle.ddm_cli.proofs.LargeLists.{stay_large}
-use Rattle.ddm_cli.proofs.RunsInPieces.{answers_kept, made_written, retired_counted, starts_on}
+use Rattle.ddm_cli.proofs.RunsInPieces.{made_written, retired_counted, starts_on}
 use Rattle.ddm_cli.proofs.StartNames.{start_ops}
 use Rattle.ddm_cli.proofs.printing.write_ran.Goals as goal
 
 pub turns_made-requires-clause-start : goal.turns_made-requires-clause-start
 turns_made-requires-clause-start g c = starts_on c.args.tree.now c.requires.tree (machine_state c.args.machine.now) c.requires.start
-
-pub write_made-requires-clause-answers : goal.write_made-requires-clause-answers
-write_made-requires-clause-answers g c =
-    let all = c.in_ok-made.ensures.all in
-    answers_kept no_counts _ (machine_state c.args.machine.now) (machine_state c.turns_made.new.machine) c.in_ok-made.made all.turns all.all
 
 pub write_made-requires-clause-large : goal.write_made-requires-clause-large
 write_made-requires-clause-large g c =

@@ -1,12 +1,6 @@
-use Rattle.std.proofs.Common.{false}
 use Rattle.any_machine.specs.Any.{machine_state}
-use Rattle.ddm_cli.proofs.RunsInPieces.{answers_kept, rest_written}
+use Rattle.ddm_cli.proofs.RunsInPieces.{rest_written}
 use Rattle.ddm_cli.proofs.resuming.write_rest.Goals as goal
-
-pub write_report-requires-clause-answers : goal.write_report-requires-clause-answers
-write_report-requires-clause-answers g c =
-    let all = c.in_ok-made.ensures.all in
-    answers_kept c.args.first false (machine_state c.args.machine.now) (machine_state c.schedule_made.new.machine) c.in_ok-made.made all.turns all.all
 
 pub returns-clause-ran : goal.returns-clause-ran
 returns-clause-ran g c =

@@ -1,15 +1,19 @@
-use Rattle.std.proofs.Common.{◌<◌, length, sym, arith}
+use Rattle.std.proofs.Common.{◌<◌, ◌+◌, ◌++◌, length, sym, ap, ◌∙◌, arith}
 use Rattle.std.proofs.lemmas.List.{append-nil}
-use Rattle.text_model.specs.Trace.{trace_from, trace_text}
-use Rattle.text_model.proofs.Numbered.{trace-next}
+use Rattle.ddm_text.specs.Adds.{alone}
+use Rattle.text_model.specs.Trace.{trace_from, trace_line}
+use Rattle.report.proofs.TraceParts.{trace-next}
 use Rattle.report.proofs.trace.push_trace.Goals as goal
 
-pub loop-number-init : goal.loop-number-init
-unfolding trace_text trace_from
-loop-number-init g c = record { is = sym (append-nil _) }
+pub loop-at-init : goal.loop-at-init
+unfolding trace_from
+loop-at-init c = sym (append-nil c.args.text.now.items)
 
-pub loop-number-preserved : goal.loop-number-preserved
-unfolding trace_text
-loop-number-preserved g c =
-    let inside : c.loop-number.number < length c.args.turns.now = omega (arith, c.loop-number-test.true) in
-    trace-next c.loop-number.number c.args.turns.now c.args.answers.now _ _ inside (omega (arith, inside, c.requires)) c.index-turns-number.is c.index-answers-number.is c.loop-number.invariant c.in_ok-push_trace_line.ensures.text
+pub loop-at-preserved : goal.loop-at-preserved
+loop-at-preserved c =
+    let old = c.args.text.now.items in
+    let now = c.loop-at.text.items in
+    let inside : c.loop-at.at < length c.args.turns.now = omega (arith, c.loop-at-test.true) in
+    let line = c.as_slice.ensures ∙ alone c.in-Ok.ensures.text c.clear.ensures in
+    let number = ap (λ n. now ++ trace_line (n + c.loop-at.at) c.index-turns-at.result c.index-answers-at.result) c.from.ensures in
+    trace-next old now _ c.args.first c.loop-at.at c.args.turns.now c.args.answers.now c.index-turns-at.result c.index-answers-at.result inside (omega (arith, inside, c.requires)) c.index-turns-at.is c.index-answers-at.is c.loop-at.invariant (c.in_ok-extend_from_slice.ensures.items ∙ ap (λ t. now ++ t) line ∙ number)

@@ -1,7 +1,6 @@
-use Rattle.std.proofs.Common.{take}
-use Rattle.ddm_text.specs.Adds.{Adds}
-use Rattle.text_model.specs.Trace.{trace_text}
+use Rattle.std.proofs.Common.{◌≡◌, ◌++◌, take}
+use Rattle.text_model.specs.Trace.{trace_from}
 use Rattle.report.proofs.trace.push_trace.Given as goal
 
-abbrev pub invariant-loop-number : goal.invariant-loop-number
-invariant-loop-number g l = Adds (g.W.TextBuffer.text l.initial.out) (g.W.TextBuffer.text l.out) (trace_text (take l.number l.turns) (take l.number l.answers))
+abbrev pub invariant-loop-at : goal.invariant-loop-at
+invariant-loop-at l = l.text.items ≡ l.initial.text.items ++ trace_from l.first (take l.at l.turns) (take l.at l.answers)
