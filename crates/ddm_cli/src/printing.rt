@@ -45,19 +45,19 @@ fn is_trace(prints: Prints) -> bool
 fn write_run<K: Sink>(
     out: &mut K,
     machine: &AnyMachine,
-    witness: &Ordered,
+    witness: Ordered<'_>,
     made: &Made,
     buffer: &mut [u8],
 ) -> Result<(), Failed>
     requires room { 1024 ≤ length buffer.old }
-    requires witness { witness.now ≡ sorted_ops (machine_state machine.now).machine.ops }
+    requires witness { witness ≡ sorted_ops (machine_state machine.now).machine.ops }
     ensures written { let m = (machine_state machine.now).machine in Writes (K.held out.old) (K.held out.new) (made.now.trace.items ++ report_of (view_of (depth_of m) made.now.counts m)) result }
     ensures cause { HasCause (K.faults out.old) (K.faults out.new) result }
 {
     write_all(out, &made.trace)?;
     write_pieces(
         out,
-        &mut ReportPieces::new(machine, witness, made.counts),
+        &mut ReportPieces::in_order(machine, witness, made.counts),
         buffer,
     )
 }
@@ -76,7 +76,7 @@ pub fn write_report<K: Sink>(
     ensures same { OnErr result (K.held out.new ≡ K.held out.old) }
 {
     let witness = sorted_witness(alloc, machine)?;
-    Ok(write_run(out, machine, &witness, made, buffer))
+    Ok(write_run(out, machine, witness, made, buffer))
 }
 
 // Writes what is printed of turns that were made. All memory is taken before the first write.

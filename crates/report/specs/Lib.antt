@@ -5,3 +5,4 @@ pub mod PiecesLeft
 pub mod ReportLeft
 pub mod Roles
 pub mod Room
+pub mod TraceLeft

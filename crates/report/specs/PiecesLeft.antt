@@ -9,4 +9,4 @@ abbrev pub report_left : Inside → List ℕ
 report_left r = from_part (shown r.counts (machine_state r.machine.now).machine) r.next
 
 abbrev pub IsReport : Inside → Type 0
-IsReport r = IsGiven r.counts (machine_state r.machine.now).machine r.witness.now r.size r.next
+IsReport r = IsGiven r.counts (machine_state r.machine.now).machine r.witness r.size r.next

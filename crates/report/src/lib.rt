@@ -21,6 +21,7 @@ mod report_pieces;
 mod roles;
 mod summary;
 mod trace;
+mod trace_pieces;
 mod writing;
 
 pub use answers::{
@@ -41,5 +42,6 @@ pub use pieces::{push_bytes, push_number, push_words};
 pub use report_pieces::{ReportPieces, report_text, sorted_witness};
 pub use roles::FileRole;
 pub use summary::summary_text;
-pub use trace::{push_trace, push_trace_line, push_turn, trace_text};
+pub use trace::{push_trace, push_trace_line, push_turn};
+pub use trace_pieces::{TracePieces, trace_text};
 pub use writing::{MOST_OFFERED, write_all, write_pieces};

@@ -28,7 +28,7 @@ use witness_order::Ordered;
 pub struct ReportPieces<'a> {
     machine: &'a AnyMachine,
     // Its operations, in order of their keys.
-    witness: &'a Ordered<'a>,
+    witness: Ordered<'a>,
     counts: RunCounts,
     size: ReportSize,
     next: ReportPart,
@@ -177,15 +177,23 @@ fn put_any_part(
 
 impl<'a> ReportPieces<'a> {
     /// The report, of which nothing is given yet. It takes no memory.
-    pub fn new(
-        machine: &'a AnyMachine,
-        witness: &'a Ordered<'a>,
-        counts: RunCounts,
-    ) -> ReportPieces<'a>
+    pub fn new(machine: &'a AnyMachine, witness: &'a [Op], counts: RunCounts) -> ReportPieces<'a>
         requires { witness.now ≡ sorted_ops (machine_state machine.now).machine.ops }
         ensures { let m = (machine_state machine.now).machine in result ≡ report_of (view_of (depth_of m) counts m) }
     {
-        let size = any_size_shown(machine, witness, counts);
+        ReportPieces::in_order(machine, Ordered::of(witness), counts)
+    }
+
+    /// The same with operations that may be in order by their places alone.
+    pub fn in_order(
+        machine: &'a AnyMachine,
+        witness: Ordered<'a>,
+        counts: RunCounts,
+    ) -> ReportPieces<'a>
+        requires { witness ≡ sorted_ops (machine_state machine.now).machine.ops }
+        ensures { let m = (machine_state machine.now).machine in result ≡ report_of (view_of (depth_of m) counts m) }
+    {
+        let size = any_size_shown(machine, &witness, counts);
         ReportPieces {
             machine,
             witness,
@@ -214,7 +222,7 @@ impl<'a> Parts for ReportPieces<'a> {
         self.next = put_any_part(
             line,
             self.machine,
-            self.witness,
+            &self.witness,
             self.counts,
             self.size,
             self.next,
@@ -241,5 +249,5 @@ pub fn report_text(
     ensures { let m = (machine_state machine.now).machine in IfOk result (λ text. text.items ≡ report_of (view_of (depth_of m) counts m)) }
 {
     let witness = sorted_witness(alloc, machine)?;
-    joined(alloc, &mut ReportPieces::new(machine, &witness, counts))
+    joined(alloc, &mut ReportPieces::in_order(machine, witness, counts))
 }

@@ -1,7 +1,7 @@
-ghost use Rattle.std.specs.Prelude.{◌≡◌, ◌++◌, OnOk, IfOk, length};
+ghost use Rattle.std.specs.Prelude.{◌≡◌, ◌++◌, OnOk, length};
 ghost use Rattle.ddm_text.specs.Adds.{Adds};
 ghost use Rattle.text_model.specs.Schedule.{turn_text};
-ghost use Rattle.text_model.specs.Trace.{trace_from, trace_line, trace_text};
+ghost use Rattle.text_model.specs.Trace.{trace_from, trace_line};
 ghost use Rattle.report.specs.Room.{UsesRoom};
 
 use crate::answers::push_answer;
@@ -11,7 +11,6 @@ use crate::line::Line;
 use crate::numbers::{push_bus, push_child, push_hart};
 use crate::pieces::{push_bytes, push_number};
 use ddm_types::{NoMemory, Turn, TurnAnswer};
-use std::alloc::Global;
 
 /// Puts a turn at the end, as a schedule has it.
 #[tactic(auto, unfolding(text_model::specs::Schedule::turn_text))]
@@ -94,19 +93,4 @@ pub fn push_trace(
         text.extend_from_slice(line.as_slice())?;
     }
     Ok(())
-}
-
-/// The trace of turns with their answers.
-#[tactic(auto, unfolding(text_model::specs::Trace::trace_text))]
-pub fn trace_text(
-    alloc: Global,
-    turns: &[Turn],
-    answers: &[TurnAnswer],
-) -> Result<Vec<u8>, NoMemory>
-    requires { length turns.now ≡ length answers.now }
-    ensures { IfOk result (λ text. text.items ≡ trace_text turns.now answers.now) }
-{
-    let mut text = Vec::new(alloc);
-    push_trace(&mut text, 0, turns, answers)?;
-    Ok(text)
 }
