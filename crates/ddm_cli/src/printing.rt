@@ -30,7 +30,6 @@ use report::{ReportPieces, sorted_witness, summary_text, write_all, write_pieces
 use run_engine::AnyMachine;
 use std::alloc::Global;
 use tree_config::TreeConfig;
-use witness_order::Ordered;
 
 fn is_trace(prints: Prints) -> bool
     ensures { result ≡ is_trace prints }
@@ -41,25 +40,19 @@ fn is_trace(prints: Prints) -> bool
     }
 }
 
-// Writes the trace that is kept, none where it isn't asked for, and then the report.
+// Writes the trace that is kept, none where it isn't asked for, and then a report.
 fn write_run<K: Sink>(
     out: &mut K,
-    machine: &AnyMachine,
-    witness: Ordered<'_>,
     made: &Made,
+    report: &mut ReportPieces<'_>,
     buffer: &mut [u8],
 ) -> Result<(), Failed>
     requires room { 1024 ≤ length buffer.old }
-    requires witness { witness ≡ sorted_ops (machine_state machine.now).machine.ops }
-    ensures written { let m = (machine_state machine.now).machine in Writes (K.held out.old) (K.held out.new) (made.now.trace.items ++ report_of (view_of (depth_of m) made.now.counts m)) result }
+    ensures written { Writes (K.held out.old) (K.held out.new) (made.now.trace.items ++ report.old) result }
     ensures cause { HasCause (K.faults out.old) (K.faults out.new) result }
 {
     write_all(out, &made.trace)?;
-    write_pieces(
-        out,
-        &mut ReportPieces::in_order(machine, witness, made.counts),
-        buffer,
-    )
+    write_pieces(out, report, buffer)
 }
 
 /// Writes the trace that is kept, and then the report. All memory is taken before the first write.
@@ -76,7 +69,8 @@ pub fn write_report<K: Sink>(
     ensures same { OnErr result (K.held out.new ≡ K.held out.old) }
 {
     let witness = sorted_witness(alloc, machine)?;
-    Ok(write_run(out, machine, witness, made, buffer))
+    let mut report = ReportPieces::in_order(machine, witness, made.counts);
+    Ok(write_run(out, made, &mut report, buffer))
 }
 
 // Writes what is printed of turns that were made. All memory is taken before the first write.

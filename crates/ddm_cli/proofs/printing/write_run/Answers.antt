@@ -1,4 +1,4 @@
-use Rattle.std.proofs.Common.{◌++◌, ap, subst, ◌∙◌}
+use Rattle.std.proofs.Common.{◌++◌, ap, subst}
 use Rattle.ddm_cli.specs.Printed.{Writes}
 use Rattle.ddm_cli.proofs.Telling.{writes_more, writes_of}
 use Rattle.ddm_cli.proofs.printing.write_run.Goals as goal
@@ -9,5 +9,6 @@ returns-clause-written g c =
     let new = g.K.Sink.held c.write_pieces.new.sink in
     let w = c.write_pieces.result in
     let trace = c.deref.result.now in
-    let both = ap (λ t. t ++ c.new.result) c.deref.ensures.value ∙ ap (λ t. c.args.made.now.trace.items ++ t) c.new.ensures in
-    subst (λ t. Writes old new t w) both (writes_more old _ new trace c.new.result w c.in_ok-write_all.ensures.ok (writes_of _ new c.new.result w c.write_pieces.ensures.ok c.write_pieces.ensures.err))
+    let report = c.args.report.now in
+    let both = ap (λ t. t ++ report) c.deref.ensures.value in
+    subst (λ t. Writes old new t w) both (writes_more old _ new trace report w c.in_ok-write_all.ensures.ok (writes_of _ new report w c.write_pieces.ensures.ok c.write_pieces.ensures.err))
