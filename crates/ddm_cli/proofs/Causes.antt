@@ -1,6 +1,6 @@
 -- The causes of one file, as those of a command.
 use Rattle.std.proofs.Common.{◌≡◌, ℕ, List, Option, Some, None, Ok, refl}
-use Rattle.std.specs.Prelude.{IfSome, IsSome}
+use Rattle.std.specs.Prelude.{IfSome}
 use Rattle.ddm_types.specs.ItemTable.{item_count}
 use Rattle.tree_model.specs.Start.Sources.{TreeValue, ImageValue}
 use Rattle.tree_model.specs.Start.Machine.{start_refusal}

@@ -10,27 +10,26 @@ use Rattle.tree_model.specs.Start.Machine.{start_machine, start_refusal}
 use Rattle.tree_model.specs.State.Shape.{frame_of}
 use Rattle.tree_model.specs.State.Values.{MachineValue}
 use Rattle.text_model.specs.declared.RunCounts.{RunCounts}
-use Rattle.text_model.specs.declared.ScheduleRefusal.{ScheduleRefusal}
 use Rattle.bus_laws.specs.IsTree.{IsTree}
 use Rattle.start_parts.proofs.Names.{frame-names}
 use Rattle.ddm_tree.specs.Machine.{MachineState}
-use Rattle.any_runs.specs.Run.{AreBelow, NameParts}
+use Rattle.any_runs.specs.Run.{AreBelow}
 use Rattle.elf_load.specs.ElfFile.{image_of}
 use Rattle.checkpoint.specs.Resumed.{Resumed, resumed}
 use Rattle.checkpoint.specs.declared.ResumeRefusal.{ResumeRefusal}
 use Rattle.checkpoint.specs.declared.ResumeRefusal.TheVariants as resume
 use Rattle.report.specs.declared.roles.FileRole.TheVariants.{ImageFile, TreeFile, ScheduleFile, WitnessFile, CheckpointFile}
 use Rattle.report.proofs.Written.{rose_before}
-use Rattle.ddm_cli.specs.Causes.{AcceptedAs, CheckpointCause, ImageCause, IsUnresumed, IsUnscheduled, ScheduleCause, TreeCause}
+use Rattle.ddm_cli.specs.Causes.{AcceptedAs, CheckpointCause, IsUnresumed, IsUnscheduled, ScheduleCause}
 use Rattle.ddm_cli.specs.Commands.{Resumption}
 use Rattle.ddm_cli.specs.Made.{CanGoOn}
-use Rattle.ddm_cli.specs.Parts.{HasStart, IsStart, Parts, parts_of, resumed_at, tree_at, turns_at}
+use Rattle.ddm_cli.specs.Parts.{HasStart, IsStart, Parts, resumed_at, tree_at, turns_at}
 use Rattle.ddm_cli.specs.Printed.{resumed_report}
 use Rattle.ddm_cli.specs.Reads.{IsRestBy, ReadCause, checkpoint_status, unread}
 use Rattle.ddm_cli.specs.declared.reading.ReadError.{ReadError}
 use Rattle.ddm_cli.specs.declared.reading.ReadError.TheVariants as read
 use Rattle.std.proofs.lemmas.Option.{IfSome_then}
-use Rattle.ddm_cli.specs.Top.{AcceptsCheckpoint, AcceptsParts, AcceptsRest, HasResumedText, NoRest, RefusesCheckpoint, RefusesRest, WithParts, WithResumed, resumed_text}
+use Rattle.ddm_cli.specs.Top.{AcceptsCheckpoint, AcceptsRest, HasResumedText, NoRest, WithParts, WithResumed}
 use Rattle.ddm_cli.specs.declared.command.Prints.TheVariants.{Report}
 use Rattle.ddm_cli.specs.declared.status.Status.{Status}
 use Rattle.ddm_cli.specs.declared.status.Status.TheVariants.{Done, Usage, ImageLoad, ImageBuild, Tree, Schedule, Witness, Checkpoint, SmallLists, ReadFault, WriteFault, NoMemory}

@@ -1,11 +1,8 @@
 -- What a survey of seeds needs of a machine at its start, and its text as the command's.
-use Rattle.std.proofs.Common.{◌≡◌, ℕ, ◌+◌, ◌≤◌, List, [], Option, Some, None, Ok, refl, sym, ap, subst, ◌∙◌, arith}
-use Rattle.std.specs.Prelude.{All, IfSome}
-use Rattle.ddm_types.specs.declared.turns.Turn.{Turn}
-use Rattle.tree_model.specs.State.Values.{MachineValue}
+use Rattle.std.proofs.Common.{◌≡◌, ℕ, ◌≤◌, List, Option, Some, None, Ok, refl, sym, ap, subst, ◌∙◌, arith}
+use Rattle.std.specs.Prelude.{IfSome}
 use Rattle.tree_model.specs.Start.Sources.{TreeValue, ImageValue}
-use Rattle.tree_model.specs.Start.Machine.{start_machine, start_refusal}
-use Rattle.text_model.specs.ReadBack.{IsTurnOf}
+use Rattle.tree_model.specs.Start.Machine.{start_machine}
 use Rattle.bus_laws.specs.IsTree.{IsTree}
 use Rattle.elf_load.specs.ElfFile.{image_of}
 use Rattle.ddm_tree.specs.Machine.{MachineState}
@@ -15,7 +12,7 @@ use Rattle.outcome_model.specs.Outcomes.{outcomes_text}
 use Rattle.outcomes.specs.Runs.{HasShape, IsStart as CanBegin}
 use Rattle.ddm_cli.specs.Causes.{AcceptedAs}
 use Rattle.ddm_cli.specs.Commands.{Seeds}
-use Rattle.ddm_cli.specs.Parts.{HasStart, IsStart, parts_of, tree_at}
+use Rattle.ddm_cli.specs.Parts.{HasStart, IsStart, tree_at}
 use Rattle.ddm_cli.specs.Top.{AcceptsParts, Both, outcomes_at, outcomes_of}
 use Rattle.ddm_cli.specs.declared.command.Prints.TheVariants.{Report}
 use Rattle.ddm_cli.proofs.Causes.{takes_parts}

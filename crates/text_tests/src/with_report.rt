@@ -4,8 +4,8 @@ use ddm_types::{
     Turn, TurnAnswer, TxKind,
 };
 use report::{
-    memory_line, push_bus_line, push_hart_line, push_item_line, push_op_line, push_trace,
-    trace_text, usage_line, write_all,
+    TracePieces, memory_line, push_bus_line, push_hart_line, push_item_line, push_op_line,
+    push_trace, trace_text, usage_line, write_all,
 };
 use std::test::Fail;
 use tree_model::{CopyPlace, Traffic};
@@ -96,6 +96,23 @@ fn trace_of_two_turns(rt: HostRuntime) -> Result<(), Fail> {
         text.as_slice(),
         b"t 0 h 1 3 issued read 4\nt 1 g 0 q 1 granted read 4 from child 1 to readers\n".as_slice()
     );
+    Ok(())
+}
+
+#[test]
+fn trace_in_pieces(rt: HostRuntime) -> Result<(), Fail> {
+    let turns = [Turn::Down { bus: BusNo(7) }; 100];
+    let answers = [TurnAnswer::Empty; 100];
+    let mut pieces = TracePieces::new(&turns, &answers);
+    let mut into = [0; 1_024];
+    let mut joined = Vec::new(rt.alloc());
+    for _ in 0..4 {
+        let n = pieces.next_piece(&mut into);
+        joined.extend_from_slice(&into[..n])?;
+    }
+    assert_eq!(rt; pieces.next_piece(&mut into), 0);
+    let text = trace_text(rt.alloc(), &turns, &answers)?;
+    assert_eq!(rt; joined.as_slice(), text.as_slice());
     Ok(())
 }
 

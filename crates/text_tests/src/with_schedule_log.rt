@@ -1,6 +1,6 @@
 use ddm_types::{BusNo, ChildNo, HartNo, Turn};
 use schedule_log::{
-    FeedError, ScheduleReader, ScheduleRefusal, SeededTurns, seeded, write_schedule,
+    FeedError, ScheduleReader, ScheduleRefusal, SeededTurns, seeded, seeded_text, write_schedule,
 };
 use std::alloc::Global;
 use std::process::Abort;
@@ -26,6 +26,8 @@ fn seeds(rt: HostRuntime) -> Result<(), Fail> {
     let shape = two_leaves(&rt, rt.alloc());
     let turns = seeded(rt.alloc(), 42, 3, &shape)?;
     let text = write_schedule(rt.alloc(), &turns)?;
+    assert_eq!(rt; text.as_slice(), SEEDED.as_bytes());
+    let text = seeded_text(rt.alloc(), 42, 3, &shape)?;
     assert_eq!(rt; text.as_slice(), SEEDED.as_bytes());
     Ok(())
 }
