@@ -1,14 +1,14 @@
 -- The turns of a generator's words, turn by turn.
 use Rattle.std.proofs.Common.{◌≡◌, ℕ, zero, suc, ◌+◌, ◌-◌, ◌*◌, ◌<◌, List, [], ◌∷◌, ◌++◌, length, take, drop, refl, sym, ap, ◌∙◌, arith}
-use Rattle.std.specs.Prelude.{slice_set}
-use Rattle.std.proofs.lemmas.Grind.{drop_more_same}
-use Rattle.std.proofs.lemmas.List.{drop-set-lt, flat_map_more, take_more_set}
+use Rattle.std.specs.Prelude.{slice_index_or, slice_set}
+use Rattle.std.proofs.Math.Seq.{take-add}
+use Rattle.std.proofs.lemmas.List.{flat_map_more, length-set, take-set-le, take_more_set}
 use Rattle.ddm_types.specs.declared.turns.Turn.{Turn}
 use Rattle.rand_pcg.specs.Lcg.{Lcg}
 use Rattle.rand_pcg.specs.Pcg.{pcg32}
 use Rattle.text_model.specs.Schedule.{ShapeView, turn_line, turn_lines}
 use Rattle.text_model.specs.Seeded.{seeded_turn, turns_of_words, words_of}
-use Rattle.schedule_log.specs.Seeding.{turns_left}
+use Rattle.schedule_log.specs.Seeding.{SeededView, turns_left}
 
 -- a turn, and those behind it
 pub first_turn : (shape : ShapeView) (g : Lcg) (n : ℕ) → turns_left shape g (suc n) ≡ (let a = pcg32 g in let b = pcg32 a.1 in seeded_turn shape a.0 b.0 ∷ turns_left shape b.1 n)
@@ -57,13 +57,37 @@ left_before (suc n) (u ∷ all) t rest is = ap (λ (ts : List Turn). u ∷ ts) (
     shift : (n : ℕ) → suc (n + 1) ≡ suc n + 1
     shift n = omega arith
 
--- one turn more is put behind those in front of a block
-pub put_before : (made : ℕ) (block all : List Turn) (t : Turn) (rest : List Turn) → made < length block → take made block ≡ take made all → drop made all ≡ t ∷ rest → take (made + 1) (slice_set block made t) ≡ take (made + 1) all
-put_before made block all t rest inside front here = take_more_set block made t inside ∙ ap (λ us. us ++ t ∷ []) front ∙ left_before made all t rest here
+-- a turn is put at a place and another one at the next, or over it
+pub put_either : (block : List Turn) (place k : ℕ) (first second other : Turn) → k < 2 → place + 1 < length block → take (place + 1) (slice_set (slice_set block place first) (place + 1 - k) second) ≡ take place block ++ slice_index_or (first ∷ second ∷ []) k other ∷ []
+put_either block place zero first second other few inside =
+    take-set-le (place + 1) (slice_set block place first) (place + 1 - 0) second (omega arith) ∙ take_more_set block place first (omega (arith, inside))
+put_either block place (suc zero) first second other few inside =
+    let here : place + 1 - 1 ≡ place = omega arith in
+    let within : place < length (slice_set block place first) = omega (arith, inside, length-set block place first) in
+    ap (λ (n : ℕ). take (place + 1) (slice_set (slice_set block place first) n second)) here
+    ∙ take_more_set (slice_set block place first) place second within
+    ∙ ap (λ (ts : List Turn). ts ++ second ∷ []) (take-set-le place block place first (omega arith))
+put_either block place (suc (suc k)) first second other few inside = absurd (omega (arith, few))
 
--- and the places behind it stay
-pub put_behind : (made : ℕ) (block before : List Turn) (t : Turn) → drop made block ≡ drop made before → drop (made + 1) (slice_set block made t) ≡ drop (made + 1) before
-put_behind made block before t same = drop-set-lt (made + 1) block made t (omega arith) ∙ drop_more_same block before made same
+-- one turn is drawn
+pub one_drawn : (shape : ShapeView) (before : SeededView) (turn : Turn) (rest : List Turn) → shape ≡ before.shape → before.left ≡ turn ∷ rest → record { shape = shape; left = rest } ≡ record before { left = drop 1 before.left }
+one_drawn shape before turn rest of is = ap (λ (s : ShapeView). viewed s rest) of ∙ ap (λ (ts : List Turn). viewed before.shape (drop 1 ts)) (sym is) where
+  viewed : ShapeView → List Turn → SeededView
+  viewed shape turns = record { shape = shape; left = turns }
+
+-- these turns are left
+pub left_as : (after before : SeededView) (left : List Turn) → after.shape ≡ before.shape → after.left ≡ left → after ≡ record before { left = left }
+left_as after before left of is = ap (λ (s : ShapeView). viewed s after.left) of ∙ ap (λ (ts : List Turn). viewed before.shape ts) is where
+  viewed : ShapeView → List Turn → SeededView
+  viewed shape turns = record { shape = shape; left = turns }
+
+-- one turn more stands in front of a block
+pub more_before : (made : ℕ) (block before all left : List Turn) → take (made + 1) block ≡ take made before ++ take 1 left → take made before ≡ take made all → left ≡ drop made all → take (made + 1) block ≡ take (made + 1) all
+more_before made block before all left is front behind = is ∙ ap (λ (ts : List Turn). ts ++ take 1 left) front ∙ ap (λ (ts : List Turn). take made all ++ take 1 ts) behind ∙ sym (take-add made 1 all)
+
+-- the last one is put there
+pub last_before : (made : ℕ) (block all : List Turn) (t : Turn) (rest : List Turn) → made < length block → take made block ≡ take made all → drop made all ≡ t ∷ rest → take (made + 1) (slice_set block made t) ≡ take (made + 1) all
+last_before made block all t rest inside front here = take_more_set block made t inside ∙ ap (λ us. us ++ t ∷ []) front ∙ left_before made all t rest here
 
 -- ---- the text of all
 

@@ -1,4 +1,5 @@
-ghost use Rattle.std.specs.Prelude.{◌≡◌, ◌≤◌, ◌<◌, ◌+◌, ◌*◌, ◌%◌, [], ◌∷◌, drop, length, min, slice_index_or, take, All, IfOk};
+ghost use Rattle.std.specs.Prelude.{◌≡◌, ◌≤◌, ◌<◌, ◌+◌, ◌*◌, ◌/◌, ◌%◌, ◌++◌, [], ◌∷◌, drop, length, min, slice_index_or, take, All, IfOk};
+ghost use Rattle.ddm_types.specs.declared.turns.Turn.{Turn as OneTurn};
 ghost use Rattle.rand_pcg.specs.Pcg.{pcg32};
 ghost use Rattle.tree_config.specs.Levels.{leaves_of, widths_of};
 ghost use Rattle.text_model.specs.ReadBack.{IsTurnOf};
@@ -31,25 +32,27 @@ fn all_bus_turns(alloc: Global, shape: &Shape, buses: u32) -> Result<Vec<BusTurn
     Ok(list)
 }
 
-// The turn of two words of the generator, for a tree with this many harts and buses.
-#[tactic(auto, unfolding(text_model::specs::Seeded::seeded_turn))]
-#[inline]
-fn seeded_turn(list: &[BusTurns], harts: &Divisor, buses: &Divisor, a: u32, b: u32) -> Turn
+// The turn of a hart and that of a bus, one of which two words of the generator draw, for a tree with this many harts and buses.
+#[inline(always)]
+fn both_turns<'a>(
+    list: &'a [BusTurns],
+    harts: &Divisor,
+    buses: &Divisor,
+    a: u32,
+    b: u32,
+) -> (Turn, &'a Turn)
     requires number { buses.now ≡ length list.now }
     requires some { 1 ≤ buses.now }
     requires each { list.now ≡ buses_of (widths_in list.now) }
-    ensures { result ≡ seeded_turn (record { harts = harts.now; buses = widths_in list.now }) a b }
+    ensures { (t : OneTurn) → slice_index_or (result.0 ∷ result.1.now ∷ []) (a / 2 % 2) t ≡ seeded_turn (record { harts = harts.now; buses = widths_in list.now }) a b }
 {
-    // Both stand in a list, so that the processor has no branch to guess.
     let (victim, hart) = harts.divide(b);
     let of_hart = Turn::Hart {
         hart: HartNo(hart),
         victim: (victim % 256) as u8,
     };
     let (word, bus) = buses.divide(b);
-    let of_bus = list[bus as usize].turn(a / 4 % 16, word);
-    let both = [of_hart, *of_bus];
-    both[(a / 2 % 2) as usize]
+    (of_hart, list[bus as usize].turn(a / 4 % 16, word))
 }
 
 /// The turns of a seed for the parts of a tree, each made when it is asked for, of two words of the generator. A contract sees the
@@ -106,7 +109,7 @@ impl SeededTurns {
         self.left as usize
     }
 
-    /// The next turn.
+    /// The next turn. It is taken from a list, so that the processor has no branch to guess.
     pub(crate) fn next_turn(&mut self) -> Turn
         requires { 0 < length self.old.left }
         ensures turn { self.old.left ≡ result ∷ self.new.left }
@@ -115,7 +118,27 @@ impl SeededTurns {
         let a = self.words.next_word();
         let b = self.words.next_word();
         self.left -= 1;
-        seeded_turn(&self.bus_turns, &self.harts, &self.buses, a, b)
+        let (of_hart, of_bus) = both_turns(&self.bus_turns, &self.harts, &self.buses, a, b);
+        let both = [of_hart, *of_bus];
+        both[(a / 2 % 2) as usize]
+    }
+
+    // Puts the next turn at a place of a block that has a further one. There a turn is put that isn't drawn, or the one that is drawn is
+    // put over the other: so there is no branch, and nothing is read that was just written.
+    #[inline(always)]
+    fn put_next(&mut self, block: &mut [Turn], place: usize)
+        requires some { 0 < length self.old.left }
+        requires inside { place + 1 < length block.old }
+        ensures front { take (place + 1) block.new ≡ take place block.old ++ take 1 self.old.left }
+        ensures behind { drop (place + 2) block.new ≡ drop (place + 2) block.old }
+        ensures left { self.new ≡ record self.old { left = drop 1 self.old.left } }
+    {
+        let a = self.words.next_word();
+        let b = self.words.next_word();
+        self.left -= 1;
+        let (of_hart, of_bus) = both_turns(&self.bus_turns, &self.harts, &self.buses, a, b);
+        block[place] = of_hart;
+        block[place + 1 - (a / 2 % 2) as usize] = *of_bus;
     }
 
     /// Puts the next turns at the front of a block, as many as are left and find place there, and answers how many these are. The
@@ -127,9 +150,13 @@ impl SeededTurns {
         ensures left { self.new ≡ record self.old { left = drop result self.old.left } }
     {
         let count = block.len().min(self.len());
-        for made in 0..count {
-            block[made] = self.next_turn();
+        if count == 0 {
+            return 0;
         }
+        for made in 0..count - 1 {
+            self.put_next(block, made);
+        }
+        block[count - 1] = self.next_turn();
         count
     }
 }

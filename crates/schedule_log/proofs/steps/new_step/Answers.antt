@@ -1,4 +1,4 @@
-use Rattle.std.proofs.Common.{◌≡◌, ◌∙◌, ◌-◌, length, None, refl, sym}
+use Rattle.std.proofs.Common.{◌≡◌, ◌∙◌, None, refl, sym}
 use Rattle.text_model.specs.Schedule.{turn_fault}
 use Rattle.schedule_log.proofs.SeenLines.{new-step, none-is, seen-anew}
 use Rattle.schedule_log.proofs.steps.new_step.Goals as goal

@@ -1,6 +1,5 @@
-use Rattle.std.proofs.Common.{◌≡◌, ◌<◌, ◌++◌, ◌∷◌, codes, drop, length, take, refl, sym, ap, ◌∙◌, arith}
+use Rattle.std.proofs.Common.{◌≡◌, ◌++◌, ◌∷◌, codes, drop, length, take, refl, sym, ap, ◌∙◌, arith}
 use Rattle.std.proofs.lemmas.List.{length-drop, take_all}
-use Rattle.ddm_types.specs.declared.turns.Turn.{Turn}
 use Rattle.text_model.specs.Schedule.{ShapeView, schedule_text, turn_line, turn_lines}
 use Rattle.text_model.specs.Seeded.{seeded_turns}
 use Rattle.schedule_log.specs.Seeding.{SeededView}

@@ -20,6 +20,6 @@ returns-clause-turn c =
     let all = ap (λ (v : SeededView). v.left) c.self.view_is in
     let counted = sym (left_counted shape s.words s.left) ∙ ap length all in
     let some : 0 < s.left = omega (arith, counted, c.requires) in
-    let turn = c.seeded_turn.ensures ∙ ap (λ (list : List OneBus). seeded_turn (record { harts = s.harts; buses = widths_in list }) a b) c.deref.ensures.value in
+    let turn = c.both_turns-of_hart.ensures _ ∙ ap (λ (list : List OneBus). seeded_turn (record { harts = s.harts; buses = widths_in list }) a b) c.deref.ensures.value in
     sym all ∙ next_left shape s.words c.next_word-a.new.self c.next_word-b.new.self a b s.left some c.next_word-a.ensures c.next_word-b.ensures
     ∙ ap (λ t. t ∷ turns_left shape c.next_word-b.new.self (s.left - 1)) (sym turn)
