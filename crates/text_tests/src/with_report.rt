@@ -120,9 +120,10 @@ fn trace_in_pieces(rt: HostRuntime) -> Result<(), Fail> {
 fn trace_in_blocks(rt: HostRuntime) -> Result<(), Fail> {
     let turns = [Turn::Down { bus: BusNo(7) }; 100];
     let answers = [TurnAnswer::Empty; 100];
+    let (all_turns, all_answers) = (&turns[..], &answers[..]);
     let mut joined = Vec::new(rt.alloc());
-    push_trace(&mut joined, 0, &turns[..37], &answers[..37])?;
-    push_trace(&mut joined, 37, &turns[37..], &answers[37..])?;
+    push_trace(&mut joined, 0, &all_turns[..37], &all_answers[..37])?;
+    push_trace(&mut joined, 37, &all_turns[37..], &all_answers[37..])?;
     let text = trace_text(rt.alloc(), &turns, &answers)?;
     assert_eq!(rt; joined.as_slice(), text.as_slice());
     Ok(())
