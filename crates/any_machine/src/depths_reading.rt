@@ -1,7 +1,7 @@
-ghost use Rattle.std.specs.Prelude.{◌≡◌, ◌<◌, ◌≤◌, Some, true};
+ghost use Rattle.std.specs.Prelude.{◌≡◌, ◌<◌, ◌≤◌, Some, length, take, true};
 ghost use Rattle.ddm_types.specs.ItemTable.{item_count};
 ghost use Rattle.tree_model.specs.State.Shape.{IsShaped, tree_counts};
-ghost use Rattle.tree_model.specs.Turns.Found.{found_copy};
+ghost use Rattle.tree_model.specs.Turns.Found.{found_copy, states_of};
 ghost use Rattle.tree_model.specs.Turns.Machine.{child_count, names_part, turn_of};
 ghost use Rattle.tree_model.specs.Turns.Tree.{bus_of_number, leaf_of_number};
 ghost use Rattle.split_bus.specs.Outcomes.{is_granted};
@@ -82,6 +82,17 @@ fn state_over<const WORDS: usize, C: Subtree<WORDS>>(
     ensures { Some result ≡ state_of leaf item machine.now.machine }
 {
     state(machine, item, leaf)
+}
+
+fn states_over<const WORDS: usize, C: Subtree<WORDS>>(
+    machine: &Machine<WORDS, Dir<WORDS, C>>,
+    item: ItemId,
+    states: &mut [Option<LeafState>],
+)
+    requires { (tree_counts machine.now.machine).leaves ≤ length states.old }
+    ensures { take (tree_counts machine.now.machine).leaves states.new ≡ states_of item machine.now.machine }
+{
+    machine.states(item, states);
 }
 
 fn children_over<const WORDS: usize, C: Subtree<WORDS>>(
@@ -191,6 +202,19 @@ impl<const WAYS: usize, const WORDS: usize> Depths<WAYS, WORDS> {
             Depths::D2(machine) => state(machine, item, leaf),
             Depths::D3(machine) => state_over(machine, item, leaf),
             Depths::D4(machine) => state_over(machine, item, leaf),
+        }
+    }
+
+    /// Puts the states of an item's entries at all leaves, in order, into the first places.
+    pub fn states(&self, item: ItemId, states: &mut [Option<LeafState>])
+        requires { (tree_counts (depths_state self.now).machine).leaves ≤ length states.old }
+        ensures { take (tree_counts (depths_state self.now).machine).leaves states.new ≡ states_of item (depths_state self.now).machine }
+    {
+        match self {
+            Depths::D1(machine) => machine.states(item, states),
+            Depths::D2(machine) => machine.states(item, states),
+            Depths::D3(machine) => states_over(machine, item, states),
+            Depths::D4(machine) => states_over(machine, item, states),
         }
     }
 

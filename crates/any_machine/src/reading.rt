@@ -1,7 +1,7 @@
-ghost use Rattle.std.specs.Prelude.{◌≡◌, ◌<◌, ◌≤◌, Some, true};
+ghost use Rattle.std.specs.Prelude.{◌≡◌, ◌<◌, ◌≤◌, Some, length, take, true};
 ghost use Rattle.ddm_types.specs.ItemTable.{item_count};
 ghost use Rattle.tree_model.specs.State.Shape.{IsShaped, tree_counts};
-ghost use Rattle.tree_model.specs.Turns.Found.{found_copy};
+ghost use Rattle.tree_model.specs.Turns.Found.{found_copy, states_of};
 ghost use Rattle.tree_model.specs.Turns.Machine.{child_count, names_part, turn_of};
 ghost use Rattle.tree_model.specs.Turns.Tree.{bus_of_number, leaf_of_number};
 ghost use Rattle.split_bus.specs.Outcomes.{is_granted};
@@ -95,6 +95,18 @@ impl<const WORDS: usize> Machines<WORDS> {
             Machines::W1(machine) => machine.state(item, leaf),
             Machines::W2(machine) => machine.state(item, leaf),
             Machines::W4(machine) => machine.state(item, leaf),
+        }
+    }
+
+    /// Puts the states of an item's entries at all leaves, in order, into the first places.
+    pub fn states(&self, item: ItemId, states: &mut [Option<LeafState>])
+        requires { (tree_counts (state_in self.now).machine).leaves ≤ length states.old }
+        ensures { take (tree_counts (state_in self.now).machine).leaves states.new ≡ states_of item (state_in self.now).machine }
+    {
+        match self {
+            Machines::W1(machine) => machine.states(item, states),
+            Machines::W2(machine) => machine.states(item, states),
+            Machines::W4(machine) => machine.states(item, states),
         }
     }
 

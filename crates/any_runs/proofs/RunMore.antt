@@ -11,7 +11,6 @@ use Rattle.tree_model.specs.Turns.Machine.{names_part, turn_of, run_of}
 use Rattle.text_model.specs.declared.RunCounts.{RunCounts}
 use Rattle.text_model.specs.Run.{counted_answer, counts_of, no_counts}
 use Rattle.ddm_tree.specs.Machine.{MachineState, spare_after, state_after}
-use Rattle.ddm_tree.specs.Quiet.{counts_nothing}
 use Rattle.ddm_tree.specs.Rules.{KeepsRules, StaysInOrder}
 use Rattle.ddm_tree.proofs.RulesKept.{run-order}
 use Rattle.start_parts.proofs.Names.{run-names}
@@ -157,17 +156,6 @@ pub answers-length : (ts : List Turn) (m : MachineValue) → length (run_of ts m
 unfolding run_of
 answers-length [] m = refl
 answers-length (t ∷ ts) m = ap suc (answers-length ts (turn_of t m).machine)
-
--- ---- a turn that is passed
-
-pub counts-passed : (a : TurnAnswer) (c : RunCounts) → counts_nothing a ≡ true → counted_answer a c ≡ record c { turns = c.turns + 1 }
-counts-passed (TurnAnswer.Retired op) c e = cc
-counts-passed (TurnAnswer.Issued kind item) c e = refl
-counts-passed (TurnAnswer.Waiting item) c e = refl
-counts-passed (TurnAnswer.Halted cause) c e = refl
-counts-passed (TurnAnswer.Granted entry) c e = cc
-counts-passed TurnAnswer.Empty c e = refl
-counts-passed (TurnAnswer.Busy cause) c e = cc
 
 -- an answer that counts only where it is kept
 pub kept-alike : (keep : Bool) (before : List TurnAnswer) (a b : TurnAnswer) → (keep ≡ true → a ≡ b) → (if keep then before ++ a ∷ [] else before) ≡ (if keep then before ++ b ∷ [] else before)

@@ -1,7 +1,8 @@
-ghost use Rattle.std.specs.Prelude.{◌≡◌, ◌+◌, ◌<◌, ◌≤◌, ◌++◌, ◌∷◌, [], true, IfOk, OnErr, OnOk, length, vec_capacity, vec_len, if◌then◌else◌};
+ghost use Rattle.std.specs.Prelude.{◌≡◌, ◌+◌, ◌<◌, ◌≤◌, ◌++◌, ◌∷◌, [], Some, true, false, IfNone, IfOk, IfSome, OnErr, OnOk, OnSome, length, vec_capacity, vec_len, if◌then◌else◌};
 ghost use Rattle.tree_model.specs.Turns.Machine.{names_part, turn_of};
 ghost use Rattle.text_model.specs.Run.{counted_answer};
 ghost use Rattle.ddm_tree.specs.Machine.{state_after};
+ghost use Rattle.ddm_tree.specs.Quiet.{passed_as};
 ghost use Rattle.ddm_tree.specs.Rules.{StaysInOrder};
 ghost use Rattle.any_machine.specs.Any.{depths_state, machine_state, state_in};
 ghost use Rattle.any_runs.specs.Run.{AreBelow, CanRun, NameParts, answers_in, counts_in, ran, with_room};
@@ -11,6 +12,23 @@ use any_machine::{AnyMachine, Depths, Machines};
 use ddm_tree::{Dir, Machine, Subtree};
 use ddm_types::{NoMemory, Turn, TurnAnswer};
 use text_model::RunCounts;
+
+/// Passes a turn whose answer isn't kept, if it is known to change nothing, and says whether it is a busy one.
+#[inline(always)]
+fn passed<const WORDS: usize, C: Subtree<WORDS>>(
+    machine: &mut Machine<WORDS, C>,
+    turn: &Turn,
+    keep: bool,
+) -> Option<bool>
+    requires named { names_part turn.now machine.old.machine ≡ true }
+    requires turns { machine.old.turns < 4294967295 }
+    ensures unkept { OnSome result (keep ≡ false) }
+    ensures after { OnSome result (machine.new ≡ state_after turn.now machine.old) }
+    ensures counted { IfSome result (λ busy. passed_as (turn_of turn.now machine.old.machine).answer ≡ Some busy) }
+    ensures same { IfNone result (machine.new ≡ machine.old) }
+{
+    if keep { None } else { machine.pass(turn) }
+}
 
 /// One turn, counted. Its answer is put where the caller wants it, if it is kept.
 #[inline(always)]
@@ -29,11 +47,15 @@ fn counted_turn<const WORDS: usize, C: Subtree<WORDS>>(
     ensures after { machine.new ≡ state_after turn machine.old }
     ensures counts { counts.new ≡ counted_answer (turn_of turn machine.old.machine).answer counts.old }
 {
-    if !keep && machine.pass(&turn) {
-        counts.turns += 1;
-    } else {
-        machine.turn_into(turn, answer);
-        count(counts, answer);
+    match passed(machine, &turn, keep) {
+        Some(busy) => {
+            counts.turns += 1;
+            counts.busy += u32::from(busy);
+        }
+        None => {
+            machine.turn_into(turn, answer);
+            count(counts, answer);
+        }
     }
 }
 

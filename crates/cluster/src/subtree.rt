@@ -1,9 +1,8 @@
 use crate::cluster::Cluster;
 use bus_judging::ChildFace;
-use ddm_tree::{Found, Named, Quiet, Section, Subtree};
+use ddm_tree::{Found, Idle, Named, Quiet, Section, Subtree, TurnCall};
 use ddm_types::{
-    BusNo, ChildNo, Code, Hold, ItemId, Items, LeafNo, LeafState, NoMemory, Stamp, Turn,
-    TurnAnswer, Words,
+    BusNo, ChildNo, Hold, ItemId, LeafNo, LeafState, NoMemory, Stamp, TurnAnswer, Words,
 };
 use item_states::DownEntry;
 use rv_hart::Hart;
@@ -18,16 +17,12 @@ impl<const WAYS: usize, const WORDS: usize> Subtree<WORDS> for Cluster<WAYS, WOR
 
     fn turn(
         &mut self,
-        code: &Code,
-        items: &Items,
-        path: &[ChildNo],
+        call: &TurnCall<'_>,
         rest: &[ChildNo],
         present: &Stamp,
-        turn: &Turn,
         answer: &mut TurnAnswer,
     ) {
-        self.dir
-            .turn(code, items, path, rest, present, turn, answer);
+        self.dir.turn(call, rest, present, answer);
     }
 
     fn grants_below(&self, bus: BusNo, path: &[ChildNo], turn: BusTurn) -> bool {
@@ -36,6 +31,10 @@ impl<const WAYS: usize, const WORDS: usize> Subtree<WORDS> for Cluster<WAYS, WOR
 
     fn quiet_below(&self, path: &[ChildNo]) -> Quiet {
         self.dir.quiet_below(path)
+    }
+
+    fn rest_below(&self, path: &[ChildNo]) -> Option<Idle> {
+        self.dir.rest_below(path)
     }
 
     fn path_up(&self, alloc: Global, name: &Named) -> Result<Option<Vec<ChildNo>>, NoMemory> {
@@ -62,6 +61,10 @@ impl<const WAYS: usize, const WORDS: usize> Subtree<WORDS> for Cluster<WAYS, WOR
     #[inline(always)]
     fn state_below(&self, leaf: LeafNo, path: &[ChildNo], item: ItemId) -> Option<LeafState> {
         self.dir.state_below(leaf, path, item)
+    }
+
+    fn states_below(&self, item: ItemId, states: &mut [Option<LeafState>], at: usize) -> usize {
+        self.dir.states_below(item, states, at)
     }
 
     fn children_below(&self, bus: BusNo, path: &[ChildNo]) -> u32 {

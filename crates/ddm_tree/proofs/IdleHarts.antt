@@ -6,6 +6,7 @@ use Rattle.std.proofs.lemmas.List.{append-nil, get_or-set_same, get_or-set_other
 use native.Mathlib.Decide.{ℕ_discrete}
 use Rattle.ddm_types.specs.declared.answers.TurnAnswer.{TurnAnswer}
 use Rattle.ddm_types.specs.declared.keys.Key.{Key}
+use Rattle.ddm_types.specs.declared.operations.HaltCause.{HaltCause}
 use Rattle.ddm_types.specs.declared.keys.Stamp.{Stamp}
 use Rattle.ddm_types.specs.declared.turns.Turn.{Turn}
 use Rattle.ddm_types.specs.CodeMap.{CodeWord}
@@ -30,7 +31,7 @@ use Rattle.tree_model.proofs.Children.{children-nodes, nodes-children}
 use Rattle.tree_model.proofs.FrameKept.{turn-frame}
 use Rattle.split_bus.specs.Outcomes.{is_granted}
 use Rattle.ddm_tree.specs.declared.idle.Idle.{Idle}
-use Rattle.ddm_tree.specs.Idle.{AreIdle, AreNoted, IsIdle, IsKnown, idle_answer, idle_for, idle_there, idle_told, is_told, still_known}
+use Rattle.ddm_tree.specs.Idle.{AreIdle, AreNoted, IsIdle, IsKnown, idle_answer, idle_for, idle_there, idle_told, is_seen, is_told, node_rests, rests_by, still_known}
 use Rattle.ddm_tree.specs.Machine.{listed_path}
 use Rattle.ddm_tree.specs.Path.{below, node_at, path_to, put_at, node_answer, node_turned}
 use Rattle.ddm_tree.specs.Quiet.{AreApart, AreNear, IsNoneOf}
@@ -109,6 +110,38 @@ module _ (code : List CodeWord) (items : ItemTable) (now : Key) (victim : ℕ) (
         let at : v ≡ w = cc in
         subst (λ u. leaf_step code items later other u ≡ record { answer = idle_answer i; leaf = u }) at (told-step later other);
   }
+
+-- ---- a hart that rests by what its leaf tells is idle
+
+module _ (code : List CodeWord) (items : ItemTable) where
+  -- its deed has nothing to do with the code, and leaves the leaf as it is
+  record IsRest (v : LeafValue) (i : Idle) (d : Deed) : Type 0 where
+    answers : (later : Key) → answer_of_deed later v d ≡ idle_answer i
+    leaves : leaf_after_deed v d ≡ v
+
+  rest-deed : (victim : ℕ) (v : LeafValue) (i : Idle) (halt : Option HaltCause) (waiting : Option ℕ) → waiting_item v.ways v.buffer ≡ waiting → rests_by halt waiting ≡ Some i → IsRest v i (deed_unless_halted code items victim v halt)
+  rest-deed victim v i (Some cause) waiting is e =
+      let same : Idle.Halted cause ≡ i = cc in
+      record { answers = λ later. ap idle_answer same; leaves = refl }
+  rest-deed victim v i None (Some x) is e =
+      let same : Idle.Waits x ≡ i = cc in
+      let deed : deed_unless_waiting code items victim v (waiting_item v.ways v.buffer) ≡ waits_for x = ap (deed_unless_waiting code items victim v) is in
+      rw deed (record { answers = λ later. ap idle_answer same; leaves = refl })
+  rest-deed victim v i None None is e = cc
+
+  rest-step : (v : LeafValue) (i : Idle) → rests_by v.hart.halt (waiting_item v.ways v.buffer) ≡ Some i → (later : Key) (victim : ℕ) → leaf_step code items later victim v ≡ record { answer = idle_answer i; leaf = v }
+  unfolding leaf_step deed_of
+  rest-step v i e later victim =
+      let deed = rest-deed victim v i v.hart.halt (waiting_item v.ways v.buffer) refl e in
+      rw (deed.answers later, deed.leaves) refl
+
+  pub rest-idle : (n : Node) (i : Idle) → node_rests n ≡ Some i → IsIdle code items i n
+  rest-idle (leaf_node v) i e = record {
+    each = λ w later victim same.
+        let at : v ≡ w = cc in
+        subst (λ u. leaf_step code items later victim u ≡ record { answer = idle_answer i; leaf = u }) at (rest-step v i e later victim);
+  }
+  rest-idle (dir_node d ns) i e = cc
 
 -- ---- a node that is changed along a path, and the others
 
@@ -368,12 +401,13 @@ module _ (code : List CodeWord) (items : ItemTable) (t : Turn) (p : List ℕ) (p
         let apart : is_granted answer ≡ true → AreApart q p = λ grants. far-in bus_leaves bus_paths leaf_paths b p path near k q (paths k q there) (λ leaves. other grants b leaves is) in
         bus-turn-kept b is q i leaf.0 leaf.1 (λ grants. (apart grants).child) (idle.each k i q known there)
 
-    known-idle : (k : ℕ) (i : Idle) (q : List ℕ) → IsKnown t answer bus_leaves before k i → Leads (leaf_of_number k) q n → IsIdle code items i (node_at q (put_at p new n))
+    known-idle : (k : ℕ) (i : Idle) (q : List ℕ) → IsKnown t answer bus_leaves leaf_paths (put_at p new n) before k i → Leads (leaf_of_number k) q n → IsIdle code items i (node_at q (put_at p new n))
     known-idle k i q (is_told own says) there = hart-told k own q i there says
+    known-idle k i q (is_seen seen) there = rest-idle code items (node_at q (put_at p new n)) i (seen q (paths k q there))
     known-idle k i q (still_known known other) there = turn-kept (named_by t) refl k i q known there other
 
     -- what is noted is so after the turn
-    pub noted-idle : (after : List (Option Idle)) → AreNoted t answer bus_leaves before after → AreIdle code items after n (put_at p new n)
+    pub noted-idle : (after : List (Option Idle)) → AreNoted t answer bus_leaves leaf_paths (put_at p new n) before after → AreIdle code items after n (put_at p new n)
     noted-idle after noted = record { each = λ k i q known there. known-idle k i q (noted.each k i known) there }
 
 -- ---- a turn of a hart that is known to be idle

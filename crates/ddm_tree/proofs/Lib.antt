@@ -14,10 +14,12 @@ pub mod TurnMade
 pub mod FoundCopy
 pub mod Gathered
 pub mod LeafList
+pub mod LeafStates
 pub mod Places
 pub mod Asking
 pub mod Copies
 pub mod Written
+pub mod Resting
 pub mod IdleHarts
 pub mod QuietFrame
 pub mod QuietSteps

@@ -1,9 +1,10 @@
 -- What is remembered of a bus stays so when another node of the tree is changed.
--- Letters: e is what is remembered of a bus, q the path to it, p the path to the changed node, n the tree, m a child, d a directory over ns.
-use Rattle.std.proofs.Common.{◌≡◌, ℕ, ◌++◌, Bool, true, false, List, [], ◌∷◌, length, refl, sym, ap, subst, ◌∙◌, arith}
+-- Letters: b and busy are whether a turn is busy, e is what is remembered of a bus, q the path to it, p the path to the changed node, n the tree, m a child, d a directory over ns.
+use Rattle.std.proofs.Common.{◌≡◌, ℕ, ◌++◌, Bool, true, false, List, [], ◌∷◌, length, Some, refl, sym, ap, subst, ◌∙◌, arith}
 use Rattle.std.specs.Prelude.{nat_lt, slice_set}
 use Rattle.std.proofs.lemmas.Bool.{ltb-true, ltb-false}
 use Rattle.std.proofs.lemmas.List.{set_past}
+use Rattle.std.proofs.lemmas.Option.{same_Some}
 use native.Mathlib.Decide.{ℕ_discrete}
 use Rattle.tree_model.specs.declared.BusTurn.{BusTurn}
 use Rattle.tree_model.specs.State.Values.{DirValue, Node, Nodes, leaf_node, dir_node, nodes, children}
@@ -11,16 +12,21 @@ use Rattle.tree_model.specs.Turns.Children.{child_at}
 use Rattle.tree_model.proofs.Children.{children-nodes}
 use Rattle.ddm_tree.specs.Path.{node_at, put_at}
 use Rattle.ddm_tree.proofs.IdleHarts.{SameFrom, kid-other, kid-same, put-kids, put-same}
-use Rattle.ddm_tree.specs.Quiet.{IsQuietOf, KeepsQuiet, finds_nothing, flag, row_of, column_of}
+use Rattle.ddm_tree.specs.Quiet.{IsQuietOf, KeepsQuiet, finds_nothing, flag, known_if, row_of, column_of}
 
 -- ---- where nothing is remembered, and where nothing is changed
 
-true-not-false : (b : Bool) → b ≡ true → b ≡ false → ⊥
+-- what is known of a turn
+pub known-is : (known b busy : Bool) → known_if known b ≡ Some busy → (known ≡ true) × (busy ≡ b)
+known-is false b busy is = cc
+known-is true b busy is = (refl, sym (same_Some b busy is))
+
+pub true-not-false : (b : Bool) → b ≡ true → b ≡ false → ⊥
 true-not-false true is isnt = cc
 true-not-false false is isnt = cc
 
 pub false-quiet : (e : List ℕ) (n : Node) → ((row column : ℕ) → flag row column e ≡ false) → IsQuietOf e n
-false-quiet e n none = record { each = λ t known. absurd (true-not-false (flag (row_of t) (column_of t) e) known (none (row_of t) (column_of t))) }
+false-quiet e n none = record { each = λ t busy known. absurd (true-not-false (flag (row_of t) (column_of t) e) (known-is _ _ busy known).0 (none (row_of t) (column_of t))) }
 
 pub quiet-unchanged : (e : List ℕ) (p q : List ℕ) (n new : Node) → new ≡ node_at p n → IsQuietOf e (node_at q n) → IsQuietOf e (node_at q (put_at p new n))
 quiet-unchanged e p q n new same quiet = subst (λ m. IsQuietOf e (node_at q m)) (sym (put-same p n) ∙ ap (λ k. put_at p k n) (sym same)) quiet
@@ -55,7 +61,7 @@ module _ (d : DirValue) (ns : Nodes) (kids : List Node) (keeps : (c : ℕ) → K
   turn-keeps (BusTurn.Leave c choice) none = rw (children-nodes kids) ((keeps c).leaving choice none)
 
   over-quiet : (e : List ℕ) → IsQuietOf e (dir_node d ns) → IsQuietOf e (dir_node d (nodes kids))
-  over-quiet e quiet = record { each = λ t known. turn-keeps t (quiet.each t known) }
+  over-quiet e quiet = record { each = λ t busy known. ((quiet.each t busy known).0, turn-keeps t (quiet.each t busy known).1) }
 
 -- ---- the frame
 

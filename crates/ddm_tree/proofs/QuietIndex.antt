@@ -1,8 +1,8 @@
 -- What a machine remembers of buses and harts, where the code reads it by an index and puts an entry anew.
--- Letters: e and f are what is remembered under a number, k, j and i numbers of buses or harts, c a child, n a node, t a turn, b whether
--- a hart waits.
+-- Letters: e and f are what is remembered under a number, k, j and i numbers of buses or harts, c a child, n a node, t a turn, o what is
+-- known of a hart.
 use Rattle.std.specs.Prelude.{slice_get, slice_index_or, slice_set}
-use Rattle.std.proofs.Common.{◌≡◌, ℕ, zero, suc, ◌<◌, Bool, true, false, List, [], ◌∷◌, ◌≤◌, length, replicate, Option, Some, refl, sym, ap, subst, ◌∙◌, nat_lt, arith}
+use Rattle.std.proofs.Common.{◌≡◌, ℕ, zero, suc, ◌+◌, ◌<◌, Bool, true, false, List, [], ◌∷◌, ◌≤◌, length, replicate, Option, Some, refl, sym, ap, subst, ◌∙◌, nat_lt, arith}
 use Rattle.std.proofs.lemmas.Bool.{ltb-true, ltb-false}
 use Rattle.std.proofs.lemmas.Option.{same_Some, slice_get-get_or}
 use native.Mathlib.Decide.{ℕ_discrete}
@@ -11,7 +11,7 @@ use Rattle.tree_model.specs.State.Directory.{in_set}
 use Rattle.tree_model.specs.State.Values.{Node}
 use Rattle.tree_model.proofs.Sets.{in_set-empty}
 use Rattle.ddm_tree.specs.Path.{node_at}
-use Rattle.ddm_tree.specs.Quiet.{AreSame, IsBlank, IsHartNoted, IsLearned, IsQuietOf, column_of, entry_at, flag, row_of, row_there}
+use Rattle.ddm_tree.specs.Quiet.{AreSame, IsBlank, IsHartNoted, IsLearned, IsQuietOf, column_of, entry_at, flag, flags_as, known_if, row_of, row_there}
 use Rattle.ddm_tree.proofs.QuietTable.{same-quiet, entry-put, entry-past, other-same, other-hart, put-same, put-hart}
 
 -- ---- a row or an entry by its index
@@ -30,15 +30,18 @@ entry-index (e ∷ known) (suc k) = entry-index known k
 flag-index : (e : List ℕ) (r c : ℕ) → in_set c (slice_index_or e r 0) ≡ flag r c e
 flag-index e r c = ap (in_set c) (sym (row-index e r))
 
+known-index : (e : List ℕ) (r c : ℕ) → known_if (in_set c (slice_index_or e r 0)) (in_set (c + 16) (slice_index_or e r 0)) ≡ flags_as r c e
+known-index e r c = rw (flag-index e r c, flag-index e r (c + 16)) refl
+
 -- the rows of an entry below another row for the hart
 rows-index : (hart : ℕ) (e : List ℕ) → AreSame e (hart ∷ slice_index_or e 1 0 ∷ slice_index_or e 2 0 ∷ slice_index_or e 3 0 ∷ slice_index_or e 4 0 ∷ [])
 rows-index hart e = record { each = each }
   where
-    each : (t : BusTurn) → flag (row_of t) (column_of t) (hart ∷ slice_index_or e 1 0 ∷ slice_index_or e 2 0 ∷ slice_index_or e 3 0 ∷ slice_index_or e 4 0 ∷ []) ≡ flag (row_of t) (column_of t) e
-    each BusTurn.Down = flag-index e 1 0
-    each (BusTurn.Request c) = flag-index e 2 c
-    each (BusTurn.Reply c) = flag-index e 3 c
-    each (BusTurn.Leave c choice) = flag-index e 4 c
+    each : (t : BusTurn) → flags_as (row_of t) (column_of t) (hart ∷ slice_index_or e 1 0 ∷ slice_index_or e 2 0 ∷ slice_index_or e 3 0 ∷ slice_index_or e 4 0 ∷ []) ≡ flags_as (row_of t) (column_of t) e
+    each BusTurn.Down = known-index e 1 0
+    each (BusTurn.Request c) = known-index e 2 c
+    each (BusTurn.Reply c) = known-index e 3 c
+    each (BusTurn.Leave c choice) = known-index e 4 c
 
 -- ---- an entry that is put anew
 
@@ -49,7 +52,7 @@ pub learned-index : (k : ℕ) (paths : List (List ℕ)) (n : Node) (before : Lis
 learned-index k paths n before path e listed quiet inside = record {
   own = λ q is. subst (λ r. IsQuietOf (entry_at k (slice_set before k f)) (node_at r n)) (same_Some path q (sym listed ∙ is)) here;
   others = λ j other. other-same k j before f other;
-  harts = λ j. put-hart k before was f at (flag-index was 0 0) j (ℕ_discrete j k);
+  harts = λ j. put-hart k before was f at (known-index was 0 0) j (ℕ_discrete j k);
 }
   where
     was : List ℕ
@@ -64,12 +67,12 @@ learned-index k paths n before path e listed quiet inside = record {
     here : IsQuietOf (entry_at k (slice_set before k f)) (node_at path n)
     here = subst (λ x. IsQuietOf x (node_at path n)) (sym (entry-put k before was f at)) (same-quiet (node_at path n) (rows-index (slice_index_or was 0 0) e) quiet)
 
--- a hart's row put anew, with the other rows of the entry that stood there; b is whether it waits
-pub hart-index : (k : ℕ) (before : List (List ℕ)) (b : Bool) (row : ℕ)
-    → k < length before → in_set 0 row ≡ b
-    → IsHartNoted k b before (slice_set before k (row ∷ slice_index_or (slice_index_or before k []) 1 0 ∷ slice_index_or (slice_index_or before k []) 2 0 ∷ slice_index_or (slice_index_or before k []) 3 0 ∷ slice_index_or (slice_index_or before k []) 4 0 ∷ []))
-hart-index k before b row inside is = record {
-  own = λ known. sym is ∙ ap (flag 0 0) (sym (entry-put k before was f at)) ∙ known;
+-- a hart's row put anew, with the other rows of the entry that stood there; o is what is known of it
+pub hart-index : (k : ℕ) (before : List (List ℕ)) (o : Option Bool) (row : ℕ)
+    → k < length before → known_if (in_set 0 row) (in_set 16 row) ≡ o
+    → IsHartNoted k o before (slice_set before k (row ∷ slice_index_or (slice_index_or before k []) 1 0 ∷ slice_index_or (slice_index_or before k []) 2 0 ∷ slice_index_or (slice_index_or before k []) 3 0 ∷ slice_index_or (slice_index_or before k []) 4 0 ∷ []))
+hart-index k before o row inside is = record {
+  own = λ busy known. sym is ∙ ap (flags_as 0 0) (sym (entry-put k before was f at)) ∙ known;
   others = λ j other. other-hart k j before f other;
   buses = record { each = λ j. put-same k before was f at (rows-index row was) j (ℕ_discrete j k) };
 }
@@ -110,5 +113,5 @@ entry-inside (f ∷ known) (suc k) e inside = entry-inside known k e (omega (ari
 pub flag-here : (known : List (List ℕ)) (k row column : ℕ) (e : List ℕ) → k < length known → e ≡ slice_index_or known k e → in_set column (slice_index_or e row 0) ≡ flag row column (entry_at k known)
 flag-here known k row column e inside is = flag-index e row column ∙ ap (flag row column) (is ∙ entry-inside known k e inside)
 
-pub flag-past : (known : List (List ℕ)) (k row column : ℕ) → length known ≤ k → false ≡ flag row column (entry_at k known)
-flag-past known k row column past = sym (ap (flag row column) (entry-past k known past) ∙ in_set-empty column)
+pub flag-past : (known : List (List ℕ)) (k row column : ℕ) → length known ≤ k → flag row column (entry_at k known) ≡ false
+flag-past known k row column past = ap (flag row column) (entry-past k known past) ∙ in_set-empty column

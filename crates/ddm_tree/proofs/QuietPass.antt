@@ -1,6 +1,7 @@
--- A turn that finds nothing to do leaves the machine as it is, but for the number of turns.
--- Letters: t is a turn, s a machine with its room for operations, m a machine, path the path to the node that t names, a an answer.
-use Rattle.std.proofs.Common.{◌≡◌, ℕ, ◌+◌, true, List, refl, ap, ◌∙◌}
+-- A turn that changes nothing leaves the machine as it is, but for the number of turns.
+-- Letters: t is a turn, s a machine with its room for operations, m a machine, path the path to the node that t names, a an answer, busy
+-- whether it is counted as a busy one.
+use Rattle.std.proofs.Common.{◌≡◌, ℕ, ◌+◌, Bool, List, Some, refl, ap, ◌∙◌}
 use Rattle.ddm_types.specs.declared.answers.TurnAnswer.{TurnAnswer}
 use Rattle.ddm_types.specs.declared.turns.Turn.{Turn}
 use Rattle.ddm_types.specs.Keys.{stamp_zero}
@@ -10,48 +11,48 @@ use Rattle.ddm_tree.specs.Machine.{MachineState, spare_after, state_after}
 use Rattle.ddm_tree.specs.Path.{present_at}
 use Rattle.ddm_tree.specs.Ready.{Leads}
 use Rattle.ddm_tree.proofs.Along.{root_answer, root_turned, turn-along}
-use Rattle.ddm_tree.specs.Quiet.{counts_nothing}
+use Rattle.ddm_tree.specs.Quiet.{passed_as}
 use Rattle.ddm_tree.proofs.QuietTurns.{IsPassed}
 
--- ---- an answer that finds nothing to do
+-- ---- the answer of a turn that may be passed
 
-nothing-recorded : (a : TurnAnswer) (m : MachineValue) → counts_nothing a ≡ true → recorded a m ≡ m
-nothing-recorded (TurnAnswer.Retired op) m e = cc
-nothing-recorded (TurnAnswer.Issued kind x) m e = refl
-nothing-recorded (TurnAnswer.Waiting x) m e = refl
-nothing-recorded (TurnAnswer.Halted cause) m e = refl
-nothing-recorded (TurnAnswer.Granted entry) m e = cc
-nothing-recorded TurnAnswer.Empty m e = refl
-nothing-recorded (TurnAnswer.Busy cause) m e = refl
+nothing-recorded : (a : TurnAnswer) (busy : Bool) (m : MachineValue) → passed_as a ≡ Some busy → recorded a m ≡ m
+nothing-recorded (TurnAnswer.Retired op) busy m e = cc
+nothing-recorded (TurnAnswer.Issued kind x) busy m e = refl
+nothing-recorded (TurnAnswer.Waiting x) busy m e = refl
+nothing-recorded (TurnAnswer.Halted cause) busy m e = refl
+nothing-recorded (TurnAnswer.Granted entry) busy m e = cc
+nothing-recorded TurnAnswer.Empty busy m e = refl
+nothing-recorded (TurnAnswer.Busy cause) busy m e = refl
 
-nothing-spent : (a : TurnAnswer) (room : ℕ) → counts_nothing a ≡ true → spare_after a room ≡ room
-nothing-spent (TurnAnswer.Retired op) room e = cc
-nothing-spent (TurnAnswer.Issued kind x) room e = refl
-nothing-spent (TurnAnswer.Waiting x) room e = refl
-nothing-spent (TurnAnswer.Halted cause) room e = refl
-nothing-spent (TurnAnswer.Granted entry) room e = refl
-nothing-spent TurnAnswer.Empty room e = refl
-nothing-spent (TurnAnswer.Busy cause) room e = refl
+nothing-spent : (a : TurnAnswer) (busy : Bool) (room : ℕ) → passed_as a ≡ Some busy → spare_after a room ≡ room
+nothing-spent (TurnAnswer.Retired op) busy room e = cc
+nothing-spent (TurnAnswer.Issued kind x) busy room e = refl
+nothing-spent (TurnAnswer.Waiting x) busy room e = refl
+nothing-spent (TurnAnswer.Halted cause) busy room e = refl
+nothing-spent (TurnAnswer.Granted entry) busy room e = refl
+nothing-spent TurnAnswer.Empty busy room e = refl
+nothing-spent (TurnAnswer.Busy cause) busy room e = refl
 
 -- ---- a turn that is passed
 
 -- the turn answers this, and leaves the machine
-turned-passed : (t : Turn) (m : MachineValue) (path : List ℕ)
+turned-passed : (t : Turn) (busy : Bool) (m : MachineValue) (path : List ℕ)
     → Leads (named_by t) path (root_of m)
-    → IsPassed m.code m.items t path (present_at path stamp_zero (root_of m)) (root_of m)
+    → IsPassed m.code m.items t busy path (present_at path stamp_zero (root_of m)) (root_of m)
     → turn_of t m ≡ record { answer = root_answer t path m; machine = m }
-turned-passed t m path leads passed =
-    let same : recorded (root_answer t path m) (with_root (root_turned t path m) m) ≡ m = nothing-recorded (root_answer t path m) (with_root (root_turned t path m) m) passed.counts ∙ ap (λ n. with_root n m) passed.leaves in
+turned-passed t busy m path leads passed =
+    let same : recorded (root_answer t path m) (with_root (root_turned t path m) m) ≡ m = nothing-recorded (root_answer t path m) busy (with_root (root_turned t path m) m) passed.counts ∙ ap (λ n. with_root n m) passed.leaves in
     turn-along t path m leads ∙ rw same refl
 
-pub passed-turn : (t : Turn) (s : MachineState) (path : List ℕ)
+pub passed-turn : (t : Turn) (busy : Bool) (s : MachineState) (path : List ℕ)
     → Leads (named_by t) path (root_of s.machine)
-    → IsPassed s.machine.code s.machine.items t path (present_at path stamp_zero (root_of s.machine)) (root_of s.machine)
-    → (state_after t s ≡ record { machine = s.machine; spare = s.spare; turns = s.turns + 1 }) × (counts_nothing (turn_of t s.machine).answer ≡ true)
-passed-turn t s path leads passed =
-    let turned = turned-passed t s.machine path leads passed in
+    → IsPassed s.machine.code s.machine.items t busy path (present_at path stamp_zero (root_of s.machine)) (root_of s.machine)
+    → (state_after t s ≡ record { machine = s.machine; spare = s.spare; turns = s.turns + 1 }) × (passed_as (turn_of t s.machine).answer ≡ Some busy)
+passed-turn t busy s path leads passed =
+    let turned = turned-passed t busy s.machine path leads passed in
     let answers : (turn_of t s.machine).answer ≡ root_answer t path s.machine = ap (λ o. o.answer) turned in
-    let counts : counts_nothing (turn_of t s.machine).answer ≡ true = ap counts_nothing answers ∙ passed.counts in
+    let counts : passed_as (turn_of t s.machine).answer ≡ Some busy = ap passed_as answers ∙ passed.counts in
     let machine : (turn_of t s.machine).machine ≡ s.machine = ap (λ o. o.machine) turned in
-    let spare : spare_after (turn_of t s.machine).answer s.spare ≡ s.spare = nothing-spent (turn_of t s.machine).answer s.spare counts in
+    let spare : spare_after (turn_of t s.machine).answer s.spare ≡ s.spare = nothing-spent (turn_of t s.machine).answer busy s.spare counts in
     (rw (machine, spare) refl, counts)

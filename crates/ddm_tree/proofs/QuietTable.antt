@@ -1,9 +1,8 @@
 -- The lists in which a machine remembers what finds nothing: what a loop or a single write of the code makes of them.
 -- Letters: e and f are what is remembered under a number, k, m and j numbers of buses or harts, c a child, n a node, t a turn, a its
--- answer, q a path, near numbers of buses near a path.
+-- answer, q a path, near numbers of buses near a path, o why a hart is idle or what is known of it, b and busy whether a turn is busy.
 use Rattle.std.proofs.Common.{◌≡◌, ◌≢◌, ℕ, ◌+◌, ◌<◌, ◌≤◌, inl, inr, Bool, true, false, true≢false, List, [], ◌∷◌, length, Option, Some, None, refl, sym, ap, subst, ◌∙◌, arith}
-use Rattle.std.specs.Prelude.{nat_lt, is_none, slice_get, slice_set}
-use Rattle.std.proofs.lemmas.Bool.{ltb-true, ltb-false}
+use Rattle.std.specs.Prelude.{is_none, slice_get, slice_set}
 use Rattle.std.proofs.lemmas.Option.{none-some, same_Some, slice_get_past, slice_get_within}
 use native.Mathlib.Decide.{ℕ_discrete}
 use Rattle.ddm_types.specs.declared.answers.TurnAnswer.{TurnAnswer}
@@ -15,61 +14,67 @@ use Rattle.tree_model.specs.State.Values.{DirValue, Node, Nodes, dir_node, child
 use Rattle.tree_model.specs.State.Child.{child_request, child_reply, child_leaving}
 use Rattle.tree_model.specs.Turns.Children.{child_at}
 use Rattle.tree_model.specs.Turns.Machine.{named_by}
-use Rattle.tree_model.proofs.Sets.{in_set-empty, in_set-others, in_set-with}
+use Rattle.tree_model.proofs.Sets.{in_set-empty, in_set-others}
 use Rattle.ddm_tree.specs.declared.idle.Idle.{Idle}
 use Rattle.ddm_tree.specs.Machine.{listed_path}
 use Rattle.ddm_tree.specs.Path.{node_at}
-use Rattle.ddm_tree.specs.Quiet.{AreLearned, AreQuiet, AreRelearned, AreSame, HartsWait, IsFar, IsHartNoted, IsLearned, IsLearnedOr, IsNoneOf, IsQuietOf, IsRow, KeepsBuses, column_of, entry_at, entry_there, finds_nothing, flag, hart_flag, row_of, set_if, touches, waits, waits_there}
+use Rattle.ddm_tree.specs.Quiet.{AreLearned, AreQuiet, AreRelearned, AreSame, HartsAgree, IsFar, IsHartNoted, IsLearned, IsLearnedOr, IsNoneOf, IsQuietOf, IsRow, KeepsBuses, column_of, entry_at, entry_there, finds_nothing, flags_as, hart_as, idle_as, idle_as_there, known_if, row_of, set_if, touches}
 use Rattle.ddm_tree.proofs.KeysRising.{set-here, set-other}
-use Rattle.ddm_tree.proofs.QuietFrame.{false-quiet}
+use Rattle.ddm_tree.proofs.QuietFrame.{false-quiet, known-is}
 use Rattle.ddm_tree.proofs.QuietNear.{below-next}
 use Rattle.ddm_tree.proofs.QuietSteps.{no-choice}
 
 -- ---- rows
 
 pub row-none : (f : ℕ → Bool) → IsRow f 0
-row-none f = record { each = λ c known. absurd (true≢false (sym known ∙ in_set-empty c)) }
+row-none f = record { each = λ c known. absurd (true≢false (sym known ∙ in_set-empty c)); narrow = λ c past. in_set-empty c }
 
 put-each : (f : ℕ → Bool) (row c : ℕ) → f c ≡ true → IsRow f row → (j : ℕ) → Dec (j ≡ c) → in_set j (set_with c row) ≡ true → f j ≡ true
 put-each f row c is rows j (yes same) known = ap f same ∙ is
 put-each f row c is rows j (no other) known = rows.each j (sym (in_set-others c j row other) ∙ known)
 
-pub row-put : (f : ℕ → Bool) (row c : ℕ) (b : Bool) → b ≡ f c → IsRow f row → IsRow f (set_if b c row)
-row-put f row c true is rows = record { each = λ j known. put-each f row c (sym is) rows j (ℕ_discrete j c) known }
-row-put f row c false is rows = rows
+pub row-put : (f : ℕ → Bool) (row c : ℕ) (b : Bool) → c < 16 → b ≡ f c → IsRow f row → IsRow f (set_if b c row)
+row-put f row c true few is rows = record {
+  each = λ j known. put-each f row c (sym is) rows j (ℕ_discrete j c) known;
+  narrow = λ j past. in_set-others c j row (λ same. absurd (omega (arith, same, few, past))) ∙ rows.narrow j past;
+}
+row-put f row c false few is rows = rows
 
--- a set of its own
-pub alone-put : (b : Bool) → in_set 0 (set_if b 0 0) ≡ b
-alone-put true = in_set-with 0 0
-alone-put false = in_set-empty 0
+-- whatever is known by it
+row-known : (f : ℕ → Bool) (row c : ℕ) (busy : Bool) → IsRow f row → known_if (in_set c row) (in_set (c + 16) row) ≡ Some busy → (busy ≡ false) × (f c ≡ true)
+row-known f row c busy rows known =
+    let is = known-is (in_set c row) (in_set (c + 16) row) busy known in
+    (is.1 ∙ rows.narrow (c + 16) (omega arith), rows.each c is.0)
 
 pub rows-quiet : (d : DirValue) (ns : Nodes) (hart down requests replies leaves : ℕ)
-    → (in_set 0 down ≡ true → is_none (first_of d.down) ≡ true)
+    → IsRow (λ c. is_none (first_of d.down)) down
     → IsRow (λ c. is_none (child_request (child_at c (children ns)))) requests
     → IsRow (λ c. is_none (child_reply (child_at c (children ns)))) replies
     → IsRow (λ c. is_none (child_leaving 0 (child_at c (children ns)))) leaves
     → IsQuietOf (hart ∷ down ∷ requests ∷ replies ∷ leaves ∷ []) (dir_node d ns)
 rows-quiet d ns hart down requests replies leaves downs asks answers goes = record { each = each }
   where
-    each : (t : BusTurn) → flag (row_of t) (column_of t) (hart ∷ down ∷ requests ∷ replies ∷ leaves ∷ []) ≡ true → finds_nothing t (dir_node d ns) ≡ true
-    each BusTurn.Down known = downs known
-    each (BusTurn.Request c) known = asks.each c known
-    each (BusTurn.Reply c) known = answers.each c known
-    each (BusTurn.Leave c choice) known = no-choice (child_at c (children ns)) (goes.each c known) choice
+    each : (t : BusTurn) (busy : Bool) → flags_as (row_of t) (column_of t) (hart ∷ down ∷ requests ∷ replies ∷ leaves ∷ []) ≡ Some busy → (busy ≡ false) × (finds_nothing t (dir_node d ns) ≡ true)
+    each BusTurn.Down busy known = row-known (λ c. is_none (first_of d.down)) down 0 busy downs known
+    each (BusTurn.Request c) busy known = row-known (λ i. is_none (child_request (child_at i (children ns)))) requests c busy asks known
+    each (BusTurn.Reply c) busy known = row-known (λ i. is_none (child_reply (child_at i (children ns)))) replies c busy answers known
+    each (BusTurn.Leave c choice) busy known =
+        let found = row-known (λ i. is_none (child_leaving 0 (child_at i (children ns)))) leaves c busy goes known in
+        (found.0, no-choice (child_at c (children ns)) found.1 choice)
 
 -- ---- what is remembered of the turns of a bus
 
 same-self : (e : List ℕ) → AreSame e e
 same-self e = record { each = λ t. refl }
 
-same-then : {e f g : List ℕ} → AreSame e f → AreSame f g → AreSame e g
+pub same-then : {e f g : List ℕ} → AreSame e f → AreSame f g → AreSame e g
 same-then first second = record { each = λ t. second.each t ∙ first.each t }
 
 pub buses-self : (known : List (List ℕ)) → KeepsBuses known known
 buses-self known = record { each = λ k. same-self (entry_at k known) }
 
 pub same-quiet : {e f : List ℕ} (n : Node) → AreSame e f → IsQuietOf e n → IsQuietOf f n
-same-quiet n same quiet = record { each = λ t known. quiet.each t (sym (same.each t) ∙ known) }
+same-quiet n same quiet = record { each = λ t busy known. quiet.each t busy (sym (same.each t) ∙ known) }
 
 -- ---- an entry that is put, and the others
 
@@ -85,8 +90,8 @@ entry-past k known past = ap entry_there (slice_get_past known k past)
 pub other-same : (k j : ℕ) (known : List (List ℕ)) (e : List ℕ) → j ≢ k → AreSame (entry_at j known) (entry_at j (slice_set known k e))
 other-same k j known e other = subst (AreSame (entry_at j known)) (sym (entry-other k j known e other)) (same-self (entry_at j known))
 
-pub other-hart : (k j : ℕ) (known : List (List ℕ)) (e : List ℕ) → j ≢ k → hart_flag j (slice_set known k e) ≡ hart_flag j known
-other-hart k j known e other = ap (flag 0 0) (entry-other k j known e other)
+pub other-hart : (k j : ℕ) (known : List (List ℕ)) (e : List ℕ) → j ≢ k → hart_as j (slice_set known k e) ≡ hart_as j known
+other-hart k j known e other = ap (flags_as 0 0) (entry-other k j known e other)
 
 -- the same is remembered of the turns of each bus where that is so of the entry that is put
 pub put-same : (k : ℕ) (known : List (List ℕ)) (was e : List ℕ) → slice_get known k ≡ Some was → AreSame was e → (j : ℕ) → Dec (j ≡ k) → AreSame (entry_at j known) (entry_at j (slice_set known k e))
@@ -94,8 +99,8 @@ put-same k known was e at same j (yes is) = subst (λ i. AreSame (entry_at i kno
 put-same k known was e at same j (no other) = other-same k j known e other
 
 -- and of each hart
-pub put-hart : (k : ℕ) (known : List (List ℕ)) (was e : List ℕ) → slice_get known k ≡ Some was → flag 0 0 e ≡ flag 0 0 was → (j : ℕ) → Dec (j ≡ k) → hart_flag j (slice_set known k e) ≡ hart_flag j known
-put-hart k known was e at same j (yes is) = subst (λ i. hart_flag i (slice_set known k e) ≡ hart_flag i known) (sym is) (ap (flag 0 0) (entry-put k known was e at) ∙ same ∙ ap (flag 0 0) (sym (ap entry_there at)))
+pub put-hart : (k : ℕ) (known : List (List ℕ)) (was e : List ℕ) → slice_get known k ≡ Some was → flags_as 0 0 e ≡ flags_as 0 0 was → (j : ℕ) → Dec (j ≡ k) → hart_as j (slice_set known k e) ≡ hart_as j known
+put-hart k known was e at same j (yes is) = subst (λ i. hart_as i (slice_set known k e) ≡ hart_as i known) (sym is) (ap (flags_as 0 0) (entry-put k known was e at) ∙ same ∙ ap (flags_as 0 0) (sym (ap entry_there at)))
 put-hart k known was e at same j (no other) = other-hart k j known e other
 
 -- ---- one bus
@@ -121,7 +126,7 @@ or-weaker : (from to : Type 0) → (from → to) → (k : ℕ) (q : List ℕ) (n
 or-weaker from to follows k q n before after (inl quiet) = inl quiet
 or-weaker from to follows k q n before after (inr kept) = inr (kept.0, follows kept.1)
 
-none-next : (k m count : ℕ) (near : List ℕ) → slice_get near count ≡ Some m → k ≢ m → IsNoneOf k count near → IsNoneOf k (count + 1) near
+pub none-next : (k m count : ℕ) (near : List ℕ) → slice_get near count ≡ Some m → k ≢ m → IsNoneOf k count near → IsNoneOf k (count + 1) near
 none-next k m count near at other none i below is =
     elim (ℕ_discrete i count) as (λ _. ⊥) [
       | yes same ↦ other (same_Some k m (sym is ∙ ap (slice_get near) same ∙ at))
@@ -168,28 +173,31 @@ relearned-none t a leaf_near bus_near bus_paths n before isnt = record { each = 
 
 -- ---- harts
 
-pub hart-past : (k : ℕ) (waits : Bool) (before : List (List ℕ)) → length before ≤ k → IsHartNoted k waits before before
-hart-past k waits before past = record {
-  own = λ known. absurd (true≢false (sym known ∙ ap (flag 0 0) (entry-past k before past)));
+none-known : (e : List ℕ) → e ≡ [] → flags_as 0 0 e ≡ None
+none-known e is = ap (flags_as 0 0) is
+
+pub hart-past : (k : ℕ) (o : Option Bool) (before : List (List ℕ)) → length before ≤ k → IsHartNoted k o before before
+hart-past k o before past = record {
+  own = λ busy known. absurd (none-some busy (sym (none-known (entry_at k before) (entry-past k before past)) ∙ known));
   others = λ j other. refl;
   buses = buses-self before;
 }
 
 -- a hart of which it is remembered why it is idle, or that this isn't known
-module _ (hart : ℕ) (o : Option Idle) (b : Bool) (idle : List (Option Idle)) (before after : List (List ℕ)) (inside : hart < length idle) (is : b ≡ waits o) (noted : IsHartNoted hart b before after) (wait : HartsWait before idle) where
-  waits-at : (k : ℕ) → Dec (k ≡ hart) → hart_flag k after ≡ true → waits_there (slice_get (slice_set idle hart o) k) ≡ true
-  waits-at k (yes own) known =
+module _ (hart : ℕ) (o : Option Idle) (b : Option Bool) (idle : List (Option Idle)) (before after : List (List ℕ)) (inside : hart < length idle) (is : b ≡ idle_as o) (noted : IsHartNoted hart b before after) (agree : HartsAgree before idle) where
+  agree-at : (k : ℕ) (busy : Bool) → Dec (k ≡ hart) → hart_as k after ≡ Some busy → idle_as_there (slice_get (slice_set idle hart o) k) ≡ Some busy
+  agree-at k busy (yes own) known =
       let here : slice_get (slice_set idle hart o) k ≡ Some o = ap (slice_get (slice_set idle hart o)) own ∙ set-here idle hart o inside in
-      ap waits_there here ∙ sym is ∙ noted.own (subst (λ j. hart_flag j after ≡ true) own known)
-  waits-at k (no other) known = ap waits_there (set-other idle hart k o other) ∙ wait.each k (sym (noted.others k other) ∙ known)
+      ap idle_as_there here ∙ sym is ∙ noted.own busy (subst (λ j. hart_as j after ≡ Some busy) own known)
+  agree-at k busy (no other) known = ap idle_as_there (set-other idle hart k o other) ∙ agree.each k busy (sym (noted.others k other) ∙ known)
 
-  pub harts-noted : HartsWait after (slice_set idle hart o)
-  harts-noted = record { each = λ k known. waits-at k (ℕ_discrete k hart) known }
+  pub harts-noted : HartsAgree after (slice_set idle hart o)
+  harts-noted = record { each = λ k busy known. agree-at k busy (ℕ_discrete k hart) known }
 
 -- ---- what the one kind of write keeps of the other
 
-pub waits-relearned : (t : Turn) (a : TurnAnswer) (leaf_near bus_near bus_paths : List (List ℕ)) (n : Node) (idle : List (Option Idle)) (before after : List (List ℕ)) → AreRelearned t a leaf_near bus_near bus_paths n before after → HartsWait before idle → HartsWait after idle
-waits-relearned t a leaf_near bus_near bus_paths n idle before after relearned wait = record { each = λ k known. wait.each k (sym (relearned.harts k) ∙ known) }
+pub agree-relearned : (t : Turn) (a : TurnAnswer) (leaf_near bus_near bus_paths : List (List ℕ)) (n : Node) (idle : List (Option Idle)) (before after : List (List ℕ)) → AreRelearned t a leaf_near bus_near bus_paths n before after → HartsAgree before idle → HartsAgree after idle
+agree-relearned t a leaf_near bus_near bus_paths n idle before after relearned agree = record { each = λ k busy known. agree.each k busy (sym (relearned.harts k) ∙ known) }
 
 pub quiet-same : (n after : Node) (known kept : List (List ℕ)) → KeepsBuses known kept → AreQuiet known n after → AreQuiet kept n after
 quiet-same n after known kept same quiet = record { each = λ k path leads. same-quiet (node_at path after) (same.each k) (quiet.each k path leads) }

@@ -1,7 +1,9 @@
--- What is remembered of buses that find nothing, and of harts that wait, stays true in every turn, and a turn that it speaks of finds nothing.
+-- What is remembered of buses that find nothing, and of harts that are idle, stays true in every turn, and a turn that it speaks of
+-- changes nothing.
 -- Letters: t is a turn, p the path to the node that it names, q the path to a bus, n the tree, k and b numbers of buses, e and f what is
--- remembered under a number, v and w leaves, d a directory over ns, c a child, o what stands at a place of a list, a an answer.
-use Rattle.std.proofs.Common.{◌≡◌, ℕ, ◌++◌, inl, inr, Bool, true, false, List, [], ◌∷◌, length, Option, Some, None, refl, sym, ap, subst, ◌∙◌, arith}
+-- remembered under a number, v and w leaves, d a directory over ns, c a child, o what stands at a place of a list, a an answer, busy
+-- whether it is counted as a busy one.
+use Rattle.std.proofs.Common.{◌≡◌, ℕ, ◌++◌, inl, inr, Bool, true, false, List, [], ◌∷◌, Option, Some, None, refl, sym, ap, subst, ◌∙◌, arith}
 use Rattle.std.specs.Prelude.{slice_get}
 use Rattle.ddm_types.specs.declared.answers.TurnAnswer.{TurnAnswer}
 use Rattle.ddm_types.specs.declared.keys.Stamp.{Stamp}
@@ -23,13 +25,13 @@ use Rattle.tree_model.proofs.Children.{nodes-children}
 use Rattle.tree_model.proofs.FrameKept.{turn-frame}
 use Rattle.split_bus.specs.Outcomes.{is_granted}
 use Rattle.ddm_tree.specs.declared.idle.Idle.{Idle}
-use Rattle.ddm_tree.specs.Idle.{AreIdle, idle_there}
+use Rattle.ddm_tree.specs.Idle.{AreIdle, idle_answer, idle_there}
 use Rattle.ddm_tree.specs.Machine.{listed_path}
 use Rattle.ddm_tree.specs.Path.{below, node_at, path_to, put_at, node_answer, node_turned}
 use Rattle.ddm_tree.specs.Ready.{Leads}
 use Rattle.ddm_tree.proofs.IdleHarts.{Dir, IsSpared, Leaf, SameFrom, bus-same_from, leads-dir, leads-leaf, leaf-same_from, put-same, spared, step-ungranted}
-use Rattle.ddm_tree.specs.Quiet.{AreApart, AreNearListed, AreQuiet, AreRelearned, AreSame, HartsWait, IsBlank, IsFar, IsLearnedOr, IsQuietOf, KeepsQuiet, counts_nothing, entry_at, finds_nothing, hart_flag, is_known, touches, waits_there}
-use Rattle.ddm_tree.proofs.QuietFrame.{false-quiet, quiet-frame, quiet-unchanged}
+use Rattle.ddm_tree.specs.Quiet.{AreApart, AreNearListed, AreQuiet, AreRelearned, HartsAgree, IsBlank, IsFar, IsLearnedOr, IsQuietOf, KeepsQuiet, entry_at, finds_nothing, flag, idle_as_there, known_as, passed_as, touches}
+use Rattle.ddm_tree.proofs.QuietFrame.{false-quiet, known-is, quiet-frame, quiet-unchanged, true-not-false}
 use Rattle.ddm_tree.proofs.QuietNear.{far-apart}
 use Rattle.ddm_tree.proofs.QuietSteps.{hart-keeps, nothing-turned}
 use Rattle.ddm_tree.proofs.QuietTable.{same-quiet}
@@ -55,8 +57,8 @@ granted-touches (TurnAnswer.Busy cause) e = cc
 -- of a leaf nothing is
 leaf-quiet : (e : List ℕ) (v : LeafValue) (m : Node) → IsQuietOf e (leaf_node v) → IsQuietOf e m
 leaf-quiet e v m quiet = record {
-  each = λ t known.
-      let wrong : false ≡ true = quiet.each t known in
+  each = λ t busy known.
+      let wrong : false ≡ true = (quiet.each t busy known).1 in
       cc;
 }
 
@@ -174,40 +176,41 @@ relearned-quiet code items t p present n leaf_near bus_near bus_leaves leaf_path
   each = λ k q there. learned-quiet code items t p present n leads leaf_near bus_near bus_leaves leaf_paths bus_paths listed near k q before after (paths k q there) (quiet.each k q there) (relearned.each k q (paths k q there));
 }
 
--- ---- a turn that is known to find nothing
+-- ---- a turn that is known to change nothing
 
--- the turn finds nothing to do, and leaves the tree as it is
-pub record IsPassed (code : List CodeWord) (items : ItemTable) (t : Turn) (p : List ℕ) (present : Stamp) (n : Node) : Type 0 where
-  pub counts : counts_nothing (node_answer code items t p present (node_at p n)) ≡ true
+-- the turn is counted so, and leaves the tree as it is
+pub record IsPassed (code : List CodeWord) (items : ItemTable) (t : Turn) (busy : Bool) (p : List ℕ) (present : Stamp) (n : Node) : Type 0 where
+  pub counts : passed_as (node_answer code items t p present (node_at p n)) ≡ Some busy
   pub leaves : put_at p (node_turned code items t p present (node_at p n)) n ≡ n
 
--- what a hart waits for
-waits-for : (o : Option (Option Idle)) → waits_there o ≡ true → (x : ℕ) × (idle_there o ≡ Some (Idle.Waits x))
-waits-for None e = cc
-waits-for (Some None) e = cc
-waits-for (Some (Some (Idle.Waits x))) e = (x, refl)
-waits-for (Some (Some (Idle.BufferFull leaf))) e = cc
+-- why a hart is idle
+idle-for : (o : Option (Option Idle)) (busy : Bool) → idle_as_there o ≡ Some busy → (i : Idle) × (idle_there o ≡ Some i) × (passed_as (idle_answer i) ≡ Some busy)
+idle-for None busy e = cc
+idle-for (Some None) busy e = cc
+idle-for (Some (Some (Idle.Waits x))) busy e = (Idle.Waits x, refl, e)
+idle-for (Some (Some (Idle.BufferFull leaf))) busy e = (Idle.BufferFull leaf, refl, e)
+idle-for (Some (Some (Idle.Halted cause))) busy e = (Idle.Halted cause, refl, e)
 
-module _ (code : List CodeWord) (items : ItemTable) (p : List ℕ) (present : Stamp) (n : Node) where
-  hart-passed : (hart victim : ℕ) (idle : List (Option Idle)) → Leads (leaf_of_number hart) p n → AreIdle code items idle n n → waits_there (slice_get idle hart) ≡ true → IsPassed code items (Turn.Hart hart victim) p present n
+module _ (code : List CodeWord) (items : ItemTable) (p : List ℕ) (present : Stamp) (n : Node) (busy : Bool) where
+  hart-passed : (hart victim : ℕ) (idle : List (Option Idle)) → Leads (leaf_of_number hart) p n → AreIdle code items idle n n → idle_as_there (slice_get idle hart) ≡ Some busy → IsPassed code items (Turn.Hart hart victim) busy p present n
   hart-passed hart victim idle leads idles e =
-      let there = waits-for (slice_get idle hart) e in
-      let spare : IsSpared code items n idle idles present p (Idle.Waits there.0) (Turn.Hart hart victim) = spared code items n idle idles present p (Idle.Waits there.0) (Turn.Hart hart victim) leads there.1 in
-      record { counts = ap counts_nothing spare.answers; leaves = spare.leaves }
+      let there = idle-for (slice_get idle hart) busy e in
+      let spare : IsSpared code items n idle idles present p there.0 (Turn.Hart hart victim) = spared code items n idle idles present p there.0 (Turn.Hart hart victim) leads there.1 in
+      record { counts = ap passed_as spare.answers ∙ there.2; leaves = spare.leaves }
 
-  bus-passed : (t : Turn) → finds_nothing (bus_turn_of t) (node_at p n) ≡ true → IsPassed code items t p present n
+  bus-passed : (t : Turn) → (busy ≡ false) × (finds_nothing (bus_turn_of t) (node_at p n) ≡ true) → IsPassed code items t busy p present n
   bus-passed t nothing =
-      let turned = nothing-turned code items t p present (node_at p n) nothing in
-      record { counts = ap counts_nothing turned.0; leaves = ap (λ m. put_at p m n) turned.1 ∙ put-same p n }
+      let turned = nothing-turned code items t p present (node_at p n) nothing.1 in
+      record { counts = ap passed_as turned.0 ∙ ap Some (sym nothing.0); leaves = ap (λ m. put_at p m n) turned.1 ∙ put-same p n }
 
-pub known-passed : (code : List CodeWord) (items : ItemTable) (t : Turn) (p : List ℕ) (present : Stamp) (n : Node) (known : List (List ℕ)) (idle : List (Option Idle))
-    → Leads (named_by t) p n → AreQuiet known n n → HartsWait known idle → AreIdle code items idle n n → is_known t known ≡ true
-    → IsPassed code items t p present n
-known-passed code items (Turn.Hart hart victim) p present n known idle leads quiet wait idles e = hart-passed code items p present n hart victim idle leads idles (wait.each hart e)
-known-passed code items (Turn.Down bus) p present n known idle leads quiet wait idles e = bus-passed code items p present n (Turn.Down bus) ((quiet.each bus p leads).each BusTurn.Down e)
-known-passed code items (Turn.Request bus child) p present n known idle leads quiet wait idles e = bus-passed code items p present n (Turn.Request bus child) ((quiet.each bus p leads).each (BusTurn.Request child) e)
-known-passed code items (Turn.Reply bus child) p present n known idle leads quiet wait idles e = bus-passed code items p present n (Turn.Reply bus child) ((quiet.each bus p leads).each (BusTurn.Reply child) e)
-known-passed code items (Turn.Leave bus child choice) p present n known idle leads quiet wait idles e = bus-passed code items p present n (Turn.Leave bus child choice) ((quiet.each bus p leads).each (BusTurn.Leave child choice) e)
+pub known-passed : (code : List CodeWord) (items : ItemTable) (t : Turn) (busy : Bool) (p : List ℕ) (present : Stamp) (n : Node) (known : List (List ℕ)) (idle : List (Option Idle))
+    → Leads (named_by t) p n → AreQuiet known n n → HartsAgree known idle → AreIdle code items idle n n → known_as t known ≡ Some busy
+    → IsPassed code items t busy p present n
+known-passed code items (Turn.Hart hart victim) busy p present n known idle leads quiet agree idles e = hart-passed code items p present n busy hart victim idle leads idles (agree.each hart busy e)
+known-passed code items (Turn.Down bus) busy p present n known idle leads quiet agree idles e = bus-passed code items p present n busy (Turn.Down bus) ((quiet.each bus p leads).each BusTurn.Down busy e)
+known-passed code items (Turn.Request bus child) busy p present n known idle leads quiet agree idles e = bus-passed code items p present n busy (Turn.Request bus child) ((quiet.each bus p leads).each (BusTurn.Request child) busy e)
+known-passed code items (Turn.Reply bus child) busy p present n known idle leads quiet agree idles e = bus-passed code items p present n busy (Turn.Reply bus child) ((quiet.each bus p leads).each (BusTurn.Reply child) busy e)
+known-passed code items (Turn.Leave bus child choice) busy p present n known idle leads quiet agree idles e = bus-passed code items p present n busy (Turn.Leave bus child choice) ((quiet.each bus p leads).each (BusTurn.Leave child choice) busy e)
 
 -- ---- what a machine remembers
 
@@ -229,9 +232,5 @@ blank-of known kept same blank = subst IsBlank (sym same) blank
 pub blank-quiet : (known kept : List (List ℕ)) (n after : Node) → kept ≡ known → IsBlank known → AreQuiet kept n after
 blank-quiet known kept n after same blank = record { each = λ k path there. false-quiet (entry_at k kept) (node_at path after) ((blank-of known kept same blank).each k) }
 
-unknown-waits : (b waiting : Bool) → b ≡ false → b ≡ true → waiting ≡ true
-unknown-waits true waiting none e = cc
-unknown-waits false waiting none e = cc
-
-pub blank-waits : (known kept : List (List ℕ)) (idle : List (Option Idle)) → kept ≡ known → IsBlank known → HartsWait kept idle
-blank-waits known kept idle same blank = record { each = λ k e. unknown-waits (hart_flag k kept) (waits_there (slice_get idle k)) ((blank-of known kept same blank).each k 0 0) e }
+pub blank-agree : (known kept : List (List ℕ)) (idle : List (Option Idle)) → kept ≡ known → IsBlank known → HartsAgree kept idle
+blank-agree known kept idle same blank = record { each = λ k busy e. absurd (true-not-false (flag 0 0 (entry_at k kept)) (known-is _ _ busy e).0 ((blank-of known kept same blank).each k 0 0)) }

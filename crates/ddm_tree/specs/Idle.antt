@@ -2,14 +2,16 @@
 -- their leaf anything.
 -- Letters: n is a node, v a leaf, i why a hart is idle, k a leaf's number, t a turn, a an answer, c a child.
 -- To be believed with the contracts: it is what a machine remembers of its leaves.
-use Rattle.std.specs.Prelude.{◌≡◌, ◌<◌, ℕ, true, List, Option, Some, None, length, slice_get, slice_set}
+use Rattle.std.specs.Prelude.{◌≡◌, ◌≢◌, ◌⊎◌, ℕ, true, List, Option, Some, None, length, slice_get, slice_set}
 use Rattle.ddm_types.specs.declared.answers.BusyCause.{BusyCause}
 use Rattle.ddm_types.specs.declared.answers.TurnAnswer.{TurnAnswer}
+use Rattle.ddm_types.specs.declared.operations.HaltCause.{HaltCause}
 use Rattle.ddm_types.specs.declared.keys.Key.{Key}
 use Rattle.ddm_types.specs.declared.turns.Turn.{Turn}
 use Rattle.ddm_types.specs.CodeMap.{CodeWord}
 use Rattle.ddm_types.specs.ItemTable.{ItemTable}
-use Rattle.tree_model.specs.State.Values.{LeafValue, Node, leaf_node}
+use Rattle.tree_model.specs.State.Values.{LeafValue, Node, leaf_node, dir_node}
+use Rattle.tree_model.specs.State.Leaf.{waiting_item}
 use Rattle.tree_model.specs.Turns.HartTurn.{leaf_step}
 use Rattle.tree_model.specs.Turns.Machine.{named_by}
 use Rattle.tree_model.specs.Turns.Tree.{bus_of_number, leaf_of_number}
@@ -23,6 +25,7 @@ use Rattle.ddm_tree.specs.Ready.{Leads}
 abbrev pub idle_answer : Idle → TurnAnswer
 idle_answer (Idle.Waits x) = TurnAnswer.Waiting x
 idle_answer (Idle.BufferFull leaf) = TurnAnswer.Busy (BusyCause.BufferFull leaf)
+idle_answer (Idle.Halted cause) = TurnAnswer.Halted cause
 
 -- why a hart is idle that answered so
 abbrev pub idle_told_busy : BusyCause → Option Idle
@@ -40,6 +43,16 @@ idle_told (TurnAnswer.Halted cause) = None
 idle_told (TurnAnswer.Granted entry) = None
 idle_told TurnAnswer.Empty = None
 idle_told (TurnAnswer.Busy cause) = idle_told_busy cause
+
+-- why a hart is idle, as far as its leaf tells it, whatever the code: it has halted, or an entry waits for a transaction
+abbrev pub rests_by : Option HaltCause → Option ℕ → Option Idle
+rests_by (Some cause) waiting = Some (Idle.Halted cause)
+rests_by None (Some x) = Some (Idle.Waits x)
+rests_by None None = None
+
+abbrev pub node_rests : Node → Option Idle
+node_rests (leaf_node v) = rests_by v.hart.halt (waiting_item v.ways v.buffer)
+node_rests (dir_node d ns) = None
 
 -- ---- what is remembered, a place for each leaf
 
@@ -70,22 +83,31 @@ pub record IsIdle (code : List CodeWord) (items : ItemTable) (i : Idle) (n : Nod
 pub record AreIdle (code : List CodeWord) (items : ItemTable) (idle : List (Option Idle)) (n after : Node) : Type 0 where
   pub each : (k : ℕ) (i : Idle) (path : List ℕ) → slice_get idle k ≡ Some (Some i) → Leads (leaf_of_number k) path n → IsIdle code items i (node_at path after)
 
--- nothing is remembered of the first so many of these leaves
-pub record AreWoken (count : ℕ) (leaves : List ℕ) (before after : List (Option Idle)) : Type 0 where
-  pub stays : (k : ℕ) (i : Idle) → slice_get after k ≡ Some (Some i) → slice_get before k ≡ Some (Some i)
-  pub woken : (place k : ℕ) (i : Idle) → place < count → slice_get leaves place ≡ Some k → slice_get after k ≡ Some (Some i) → ⊥
+-- what the leaf of this number tells below a node, where its path is listed
+abbrev pub IsSeen : ℕ → List (List ℕ) → Node → Idle → Type 0
+IsSeen k paths n i = (path : List ℕ) → slice_get paths k ≡ Some path → node_rests (node_at path n) ≡ Some i
 
--- of one leaf
-pub record IsWoken (k : ℕ) (before after : List (Option Idle)) : Type 0 where
-  pub stays : (j : ℕ) (i : Idle) → slice_get after j ≡ Some (Some i) → slice_get before j ≡ Some (Some i)
-  pub woken : (i : Idle) → slice_get after k ≡ Some (Some i) → ⊥
+-- what is remembered of a leaf is what it tells, or what was remembered
+abbrev pub IsSeenOr : Type 0 → ℕ → List (List ℕ) → Node → List (Option Idle) → Idle → Type 0
+IsSeenOr otherwise k paths n before i = IsSeen k paths n i ⊎ ((slice_get before k ≡ Some (Some i)) × otherwise)
 
--- what is remembered of a leaf after a turn: what the turn answered, or what was remembered, where nothing was granted on a bus near it
-pub data IsKnown (t : Turn) (a : TurnAnswer) (bus_leaves : List (List ℕ)) (before : List (Option Idle)) (k : ℕ) (i : Idle) : Type 0 where
-  is_told : named_by t ≡ leaf_of_number k → idle_told a ≡ Some i → IsKnown t a bus_leaves before k i
+-- it is what they tell for the first so many of these leaves
+pub record AreSeen (count : ℕ) (leaves : List ℕ) (paths : List (List ℕ)) (n : Node) (before after : List (Option Idle)) : Type 0 where
+  pub each : (k : ℕ) (i : Idle) → slice_get after k ≡ Some (Some i) → IsSeenOr (IsNoneOf k count leaves) k paths n before i
+
+-- and for one leaf
+pub record IsLooked (k : ℕ) (paths : List (List ℕ)) (n : Node) (before after : List (Option Idle)) : Type 0 where
+  pub own : (i : Idle) → slice_get after k ≡ Some (Some i) → IsSeen k paths n i
+  pub others : (j : ℕ) (i : Idle) → j ≢ k → slice_get after j ≡ Some (Some i) → slice_get before j ≡ Some (Some i)
+
+-- what is remembered of a leaf after a turn: what the turn answered, what the leaf tells, or what was remembered, where nothing was granted
+-- on a bus near it
+pub data IsKnown (t : Turn) (a : TurnAnswer) (bus_leaves leaf_paths : List (List ℕ)) (n : Node) (before : List (Option Idle)) (k : ℕ) (i : Idle) : Type 0 where
+  is_told : named_by t ≡ leaf_of_number k → idle_told a ≡ Some i → IsKnown t a bus_leaves leaf_paths n before k i
+  is_seen : IsSeen k leaf_paths n i → IsKnown t a bus_leaves leaf_paths n before k i
   still_known : slice_get before k ≡ Some (Some i)
       → (is_granted a ≡ true → (bus : ℕ) (leaves : List ℕ) → named_by t ≡ bus_of_number bus → slice_get bus_leaves bus ≡ Some leaves → IsNoneOf k (length leaves) leaves)
-      → IsKnown t a bus_leaves before k i
+      → IsKnown t a bus_leaves leaf_paths n before k i
 
-pub record AreNoted (t : Turn) (a : TurnAnswer) (bus_leaves : List (List ℕ)) (before after : List (Option Idle)) : Type 0 where
-  pub each : (k : ℕ) (i : Idle) → slice_get after k ≡ Some (Some i) → IsKnown t a bus_leaves before k i
+pub record AreNoted (t : Turn) (a : TurnAnswer) (bus_leaves leaf_paths : List (List ℕ)) (n : Node) (before after : List (Option Idle)) : Type 0 where
+  pub each : (k : ℕ) (i : Idle) → slice_get after k ≡ Some (Some i) → IsKnown t a bus_leaves leaf_paths n before k i

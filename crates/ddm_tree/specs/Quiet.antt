@@ -1,8 +1,8 @@
--- Turns of buses that find nothing, and of harts that wait for an item: what a machine remembers of them, so that it needn't look.
+-- Turns of buses that find nothing, and of harts that are idle: what a machine remembers of them, so that it needn't look.
 -- Letters: n is a node, v a leaf, d a directory over the nodes ns, t a turn, k the number of a bus or a hart, c a child, e what is
--- remembered under a number, p and q paths, near the numbers of the buses near a path.
+-- remembered under a number, p and q paths, near the numbers of the buses near a path, busy whether a turn is counted as a busy one.
 -- To be believed with the contracts: it is what a machine remembers of its buses.
-use Rattle.std.specs.Prelude.{◌≡◌, ◌≢◌, ◌<◌, ◌⊎◌, ℕ, Bool, true, false, List, [], ◌∷◌, ◌++◌, Option, Some, None, is_none, length, slice_get}
+use Rattle.std.specs.Prelude.{◌≡◌, ◌≢◌, ◌+◌, ◌<◌, ◌≤◌, ◌⊎◌, ℕ, Bool, true, false, List, [], ◌∷◌, ◌++◌, Option, Some, None, is_none, length, slice_get}
 use Rattle.ddm_types.specs.declared.answers.TurnAnswer.{TurnAnswer}
 use Rattle.ddm_types.specs.declared.turns.Turn.{Turn}
 use Rattle.tree_model.specs.declared.BusTurn.{BusTurn}
@@ -26,8 +26,9 @@ finds_nothing (BusTurn.Request c) (dir_node d ns) = is_none (child_request (chil
 finds_nothing (BusTurn.Reply c) (dir_node d ns) = is_none (child_reply (child_at c (children ns)))
 finds_nothing (BusTurn.Leave c choice) (dir_node d ns) = is_none (child_leaving choice (child_at c (children ns)))
 
--- ---- what is remembered under a number: a set for the hart and one for Down, in which 0 alone counts, and one each for requests,
--- replies and copies that leave, of children of the bus. For whatever is in a set the turn finds nothing.
+-- ---- what is remembered under a number: a set for the hart and one for Down, and one each for requests, replies and copies that
+-- leave, of children of the bus. What is in a set is known of the turn: a bus finds nothing, a hart is idle. With 16 more it is in the set
+-- too where the turn is counted as a busy one.
 
 abbrev pub row_of : BusTurn → ℕ
 row_of BusTurn.Down = 1
@@ -52,13 +53,22 @@ entry_there (Some e) = e
 abbrev pub flag : ℕ → ℕ → List ℕ → Bool
 flag row column e = in_set column (row_there (slice_get e row))
 
--- what is remembered of a bus is so at this node
-pub record IsQuietOf (e : List ℕ) (n : Node) : Type 0 where
-  pub each : (t : BusTurn) → flag (row_of t) (column_of t) e ≡ true → finds_nothing t n ≡ true
+-- what is known of a turn, if it is: whether it is counted as a busy one
+abbrev pub known_if : Bool → Bool → Option Bool
+known_if false busy = None
+known_if true busy = Some busy
 
--- for whatever is in a set this is true
+abbrev pub flags_as : ℕ → ℕ → List ℕ → Option Bool
+flags_as row column e = known_if (flag row column e) (flag row (column + 16) e)
+
+-- what is remembered of a bus is so at this node, and none of its turns is busy
+pub record IsQuietOf (e : List ℕ) (n : Node) : Type 0 where
+  pub each : (t : BusTurn) (busy : Bool) → flags_as (row_of t) (column_of t) e ≡ Some busy → (busy ≡ false) × (finds_nothing t n ≡ true)
+
+-- for whatever is in a set this is true, and it has no place from 16 on
 pub record IsRow (f : ℕ → Bool) (row : ℕ) : Type 0 where
   pub each : (c : ℕ) → in_set c row ≡ true → f c ≡ true
+  pub narrow : (c : ℕ) → 16 ≤ c → in_set c row ≡ false
 
 -- a set with this one, if the test says so
 abbrev pub set_if : Bool → ℕ → ℕ → ℕ
@@ -97,28 +107,30 @@ turn_column (Turn.Request bus child) = child
 turn_column (Turn.Reply bus child) = child
 turn_column (Turn.Leave bus child choice) = child
 
-abbrev pub is_known : Turn → List (List ℕ) → Bool
-is_known t known = flag (turn_row t) (turn_column t) (entry_at (number_of t) known)
+abbrev pub known_as : Turn → List (List ℕ) → Option Bool
+known_as t known = flags_as (turn_row t) (turn_column t) (entry_at (number_of t) known)
 
 -- what is remembered of the buses below a node is so there, and so where these paths lead below another one
 pub record AreQuiet (known : List (List ℕ)) (n after : Node) : Type 0 where
   pub each : (k : ℕ) (path : List ℕ) → Leads (bus_of_number k) path n → IsQuietOf (entry_at k known) (node_at path after)
 
-abbrev pub waits : Option Idle → Bool
-waits None = false
-waits (Some (Idle.Waits x)) = true
-waits (Some (Idle.BufferFull leaf)) = false
+-- of a hart of which this is known, whether its turns are counted as busy ones
+abbrev pub idle_as : Option Idle → Option Bool
+idle_as None = None
+idle_as (Some (Idle.Waits x)) = Some false
+idle_as (Some (Idle.BufferFull leaf)) = Some true
+idle_as (Some (Idle.Halted cause)) = Some false
 
-abbrev pub waits_there : Option (Option Idle) → Bool
-waits_there None = false
-waits_there (Some known) = waits known
+abbrev pub idle_as_there : Option (Option Idle) → Option Bool
+idle_as_there None = None
+idle_as_there (Some known) = idle_as known
 
-abbrev pub hart_flag : ℕ → List (List ℕ) → Bool
-hart_flag k known = flag 0 0 (entry_at k known)
+abbrev pub hart_as : ℕ → List (List ℕ) → Option Bool
+hart_as k known = flags_as 0 0 (entry_at k known)
 
--- whoever waits by the one is idle by the other
-pub record HartsWait (known : List (List ℕ)) (idle : List (Option Idle)) : Type 0 where
-  pub each : (k : ℕ) → hart_flag k known ≡ true → waits_there (slice_get idle k) ≡ true
+-- whatever is known of a hart by the one is so by the other
+pub record HartsAgree (known : List (List ℕ)) (idle : List (Option Idle)) : Type 0 where
+  pub each : (k : ℕ) (busy : Bool) → hart_as k known ≡ Some busy → idle_as_there (slice_get idle k) ≡ Some busy
 
 -- nothing is remembered
 pub record IsBlank (known : List (List ℕ)) : Type 0 where
@@ -128,7 +140,7 @@ pub record IsBlank (known : List (List ℕ)) : Type 0 where
 
 -- of the turns of a bus the same is remembered
 pub record AreSame (e f : List ℕ) : Type 0 where
-  pub each : (t : BusTurn) → flag (row_of t) (column_of t) f ≡ flag (row_of t) (column_of t) e
+  pub each : (t : BusTurn) → flags_as (row_of t) (column_of t) f ≡ flags_as (row_of t) (column_of t) e
 
 pub record KeepsBuses (before after : List (List ℕ)) : Type 0 where
   pub each : (k : ℕ) → AreSame (entry_at k before) (entry_at k after)
@@ -137,7 +149,7 @@ pub record KeepsBuses (before after : List (List ℕ)) : Type 0 where
 pub record IsLearned (k : ℕ) (paths : List (List ℕ)) (n : Node) (before after : List (List ℕ)) : Type 0 where
   pub own : (path : List ℕ) → slice_get paths k ≡ Some path → IsQuietOf (entry_at k after) (node_at path n)
   pub others : (j : ℕ) → j ≢ k → AreSame (entry_at j before) (entry_at j after)
-  pub harts : (j : ℕ) → hart_flag j after ≡ hart_flag j before
+  pub harts : (j : ℕ) → hart_as j after ≡ hart_as j before
 
 -- neither path is the other's, nor one of its children's
 pub record AreApart (q p : List ℕ) : Type 0 where
@@ -156,7 +168,7 @@ IsNoneOf k count near = (i : ℕ) → i < count → slice_get near i ≡ Some k 
 -- of each bus that is one of the first of these numbers
 pub record AreLearned (count : ℕ) (near : List ℕ) (paths : List (List ℕ)) (n : Node) (before after : List (List ℕ)) : Type 0 where
   pub each : (k : ℕ) (q : List ℕ) → slice_get paths k ≡ Some q → IsLearnedOr (IsNoneOf k count near) k q n before after
-  pub harts : (j : ℕ) → hart_flag j after ≡ hart_flag j before
+  pub harts : (j : ℕ) → hart_as j after ≡ hart_as j before
 
 -- these are the buses near a path: each other one is apart from it
 pub record IsNear (p near : List ℕ) (paths : List (List ℕ)) : Type 0 where
@@ -190,20 +202,21 @@ IsFar t leaf_near bus_near k = (near : List ℕ) → listed_path (named_by t) le
 -- of the buses near the leaf or bus of a turn that touched them
 pub record AreRelearned (t : Turn) (a : TurnAnswer) (leaf_near bus_near bus_paths : List (List ℕ)) (n : Node) (before after : List (List ℕ)) : Type 0 where
   pub each : (k : ℕ) (q : List ℕ) → slice_get bus_paths k ≡ Some q → IsLearnedOr (touches a ≡ true → IsFar t leaf_near bus_near k) k q n before after
-  pub harts : (j : ℕ) → hart_flag j after ≡ hart_flag j before
+  pub harts : (j : ℕ) → hart_as j after ≡ hart_as j before
 
--- of a hart, whether it waits
-pub record IsHartNoted (k : ℕ) (waits : Bool) (before after : List (List ℕ)) : Type 0 where
-  pub own : hart_flag k after ≡ true → waits ≡ true
-  pub others : (j : ℕ) → j ≢ k → hart_flag j after ≡ hart_flag j before
+-- of a hart, what is known of its turns
+pub record IsHartNoted (k : ℕ) (known : Option Bool) (before after : List (List ℕ)) : Type 0 where
+  pub own : (busy : Bool) → hart_as k after ≡ Some busy → known ≡ Some busy
+  pub others : (j : ℕ) → j ≢ k → hart_as j after ≡ hart_as j before
   pub buses : KeepsBuses before after
 
--- an answer that is counted as a turn alone: nothing completed, nothing was granted, and nothing was busy
-abbrev pub counts_nothing : TurnAnswer → Bool
-counts_nothing (TurnAnswer.Retired op) = false
-counts_nothing (TurnAnswer.Issued kind x) = false
-counts_nothing (TurnAnswer.Waiting x) = true
-counts_nothing (TurnAnswer.Halted cause) = true
-counts_nothing (TurnAnswer.Granted entry) = false
-counts_nothing TurnAnswer.Empty = true
-counts_nothing (TurnAnswer.Busy cause) = false
+-- how the answer of a turn that may be passed is counted: as a turn alone, or as a busy one too. Nothing completed, nothing was asked
+-- for, and nothing was granted.
+abbrev pub passed_as : TurnAnswer → Option Bool
+passed_as (TurnAnswer.Retired op) = None
+passed_as (TurnAnswer.Issued kind x) = None
+passed_as (TurnAnswer.Waiting x) = Some false
+passed_as (TurnAnswer.Halted cause) = Some false
+passed_as (TurnAnswer.Granted entry) = None
+passed_as TurnAnswer.Empty = Some false
+passed_as (TurnAnswer.Busy cause) = Some true

@@ -1,7 +1,7 @@
 -- What is read of a leaf, or of a directory and its children, where a node is known to be one.
 -- Letters: n is a node, v a leaf, d a directory over the nodes ns, x an item, c a child.
 -- To be believed with the contracts: it is what the calls that read give.
-use Rattle.std.specs.Prelude.{ℕ, Bool, true, false, List, length, Option, Some, None, option_map, slice_get}
+use Rattle.std.specs.Prelude.{ℕ, Bool, true, false, List, [], length, map, Option, Some, None, option_map, slice_get}
 use Rattle.ddm_types.specs.declared.keys.Stamp.{Stamp}
 use Rattle.ddm_types.specs.declared.sizes.Hold.{Hold}
 use Rattle.ddm_types.specs.declared.sizes.LeafState.{LeafState}
@@ -12,7 +12,7 @@ use Rattle.tree_model.specs.declared.CopyPlace.{CopyPlace}
 use Rattle.tree_model.specs.declared.LeafSpot.{LeafSpot}
 use Rattle.tree_model.specs.declared.TreeChild.{TreeChild}
 use Rattle.tree_model.specs.State.Lists.{first_some}
-use Rattle.tree_model.specs.State.Values.{DownValue, DirValue, Node, leaf_node, dir_node, children, MachineValue}
+use Rattle.tree_model.specs.State.Values.{DownValue, DirValue, Node, leaf_node, dir_node, nodes, children, MachineValue}
 use Rattle.tree_model.specs.State.Blank.{no_hart}
 use Rattle.tree_model.specs.State.Leaf.{LeafEntry, leaf_entry, spot_at, state_at}
 use Rattle.tree_model.specs.State.Directory.{parked_words, parked_place, queue_of}
@@ -20,7 +20,7 @@ use Rattle.tree_model.specs.State.Child.{child_label, child_hold}
 use Rattle.tree_model.specs.Turns.Bus.{bus_step}
 use Rattle.tree_model.specs.Turns.Children.{child_at}
 use Rattle.tree_model.specs.Turns.Found.{down_place, queue_words}
-use Rattle.tree_model.specs.Turns.Machine.{ask_leaf, ask_bus}
+use Rattle.tree_model.specs.Turns.Machine.{ask_leaf, ask_bus, leaves_of, leaves_among}
 use Rattle.split_bus.specs.Outcomes.{is_granted}
 
 -- a leaf's hart, with how many instructions it has completed
@@ -42,6 +42,20 @@ node_entry x (dir_node d ns) = None
 abbrev pub node_state : ℕ → Node → Option LeafState
 node_state x (leaf_node v) = state_at x v
 node_state x (dir_node d ns) = None
+
+-- how many leaves a part of the tree has, and the states of an item's entries at them, from left to right
+abbrev pub leaf_count : Node → ℕ
+leaf_count n = length (leaves_of n [])
+
+abbrev pub node_states : ℕ → Node → List (Option LeafState)
+node_states x n = map (state_at x) (leaves_of n [])
+
+-- the same of some nodes, one behind the other
+abbrev pub leaf_count_among : List Node → ℕ
+leaf_count_among ns = length (leaves_among (nodes ns) [])
+
+abbrev pub states_among : ℕ → List Node → List (Option LeafState)
+states_among x ns = map (state_at x) (leaves_among (nodes ns) [])
 
 -- how many children there are, and one of them
 abbrev pub node_children : Node → ℕ

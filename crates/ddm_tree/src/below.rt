@@ -1,4 +1,4 @@
-ghost use Rattle.std.specs.Prelude.{◌≡◌, ℕ, ◌*◌, ◌<◌, ◌≤◌, true, length, map, slice_set};
+ghost use Rattle.std.specs.Prelude.{◌≡◌, ℕ, ◌+◌, ◌*◌, ◌<◌, ◌≤◌, ◌++◌, true, length, map, slice_set, take};
 ghost use Rattle.ddm_types.specs.declared.keys.Stamp.{Stamp};
 ghost use Rattle.tree_model.specs.State.Values.{DirValue, dir_node, nodes};
 ghost use Rattle.tree_model.specs.State.Shape.{skeleton, widths_fit};
@@ -13,14 +13,13 @@ ghost use Rattle.ddm_tree.specs.Path.{node_at, present_at, put_at, node_answer, 
 ghost use Rattle.ddm_tree.specs.Judging.{IsJudged};
 ghost use Rattle.ddm_tree.specs.Named.{name_of};
 ghost use Rattle.ddm_tree.specs.Ready.{IsAskable, IsReady, Leads, LeadsBelow, HasChild, IsChild, IsItemOf};
-ghost use Rattle.ddm_tree.specs.Reads.{node_hart, node_entry, node_children, node_child, node_child_hold, node_down, node_down_len, node_grants, node_parked, node_state};
+ghost use Rattle.ddm_tree.specs.Reads.{leaf_count_among, node_hart, node_entry, node_children, node_child, node_child_hold, node_down, node_down_len, node_grants, node_parked, node_state, states_among};
 
 use crate::named::Named;
 use crate::subtree::Subtree;
+use crate::turn_call::TurnCall;
 use crate::turns::on_bus;
-use ddm_types::{
-    BusNo, ChildNo, Code, Hold, ItemId, Items, LeafNo, LeafState, Stamp, Turn, TurnAnswer, Words,
-};
+use ddm_types::{BusNo, ChildNo, Hold, ItemId, LeafNo, LeafState, Stamp, TurnAnswer, Words};
 use item_states::{DownEntry, Parent};
 use rv_hart::Hart;
 use split_bus::{grant_into, would_grant};
@@ -53,53 +52,44 @@ pub(crate) fn next<'a, 'b, const WORDS: usize, P: Parent<WORDS>, C: Subtree<WORD
 fn turn_of_child<const WORDS: usize, C: Subtree<WORDS>>(
     children: &mut [C],
     c: ChildNo,
-    code: &Code,
-    items: &Items,
-    path: &[ChildNo],
+    call: &TurnCall<'_>,
     rest: &[ChildNo],
     present: &Stamp,
-    turn: &Turn,
     answer: &mut TurnAnswer,
 )
     requires child { c < length children.old }
-    requires size { items.now.size ≡ 4 * WORDS }
-    requires ready { IsReady (item_count items.now) WORDS (child_at c (map C.value children.old)) }
-    requires leads { Leads (named_by turn.now) rest.now (child_at c (map C.value children.old)) }
-    requires names { HasChild (bus_turn_of turn.now) (node_at rest.now (child_at c (map C.value children.old))) }
-    ensures answer { let n = child_at c (map C.value children.old) in answer.new ≡ node_answer code.now items.now turn.now path.now (present_at rest.now present.now n) (node_at rest.now n) }
-    ensures after { let n = child_at c (map C.value children.old) in map C.value children.new ≡ slice_set (map C.value children.old) c (put_at rest.now (node_turned code.now items.now turn.now path.now (present_at rest.now present.now n) (node_at rest.now n)) n) }
+    requires size { call.now.items.now.size ≡ 4 * WORDS }
+    requires ready { IsReady (item_count call.now.items.now) WORDS (child_at c (map C.value children.old)) }
+    requires leads { Leads (named_by call.now.turn.now) rest.now (child_at c (map C.value children.old)) }
+    requires names { HasChild (bus_turn_of call.now.turn.now) (node_at rest.now (child_at c (map C.value children.old))) }
+    ensures answer { let n = child_at c (map C.value children.old) in answer.new ≡ node_answer call.now.code.now call.now.items.now call.now.turn.now call.now.path.now (present_at rest.now present.now n) (node_at rest.now n) }
+    ensures after { let n = child_at c (map C.value children.old) in map C.value children.new ≡ slice_set (map C.value children.old) c (put_at rest.now (node_turned call.now.code.now call.now.items.now call.now.turn.now call.now.path.now (present_at rest.now present.now n) (node_at rest.now n)) n) }
 {
-    children[c.0 as usize].turn(code, items, path, rest, present, turn, answer);
+    children[c.0 as usize].turn(call, rest, present, answer);
 }
 
-/// One turn of a directory's own bus, or of a leaf or bus below it: `rest` is the path from the directory, `path` that from the
-/// top.
+/// One turn of a directory's own bus, or of a leaf or bus below it: `rest` is the path from the directory.
 pub(crate) fn turn_under<const WORDS: usize, P: Parent<WORDS>, C: Subtree<WORDS>>(
     parent: &mut P,
     children: &mut [C],
-    code: &Code,
-    items: &Items,
-    path: &[ChildNo],
+    call: &TurnCall<'_>,
     rest: &[ChildNo],
     present: &Stamp,
-    turn: &Turn,
     answer: &mut TurnAnswer,
 )
-    requires size { items.now.size ≡ 4 * WORDS }
-    requires ready { IsReady (item_count items.now) WORDS (dir_node (P.state parent.old) (nodes (map C.value children.old))) }
-    requires leads { Leads (named_by turn.now) rest.now (dir_node (P.state parent.old) (nodes (map C.value children.old))) }
-    requires child { HasChild (bus_turn_of turn.now) (node_at rest.now (dir_node (P.state parent.old) (nodes (map C.value children.old)))) }
-    ensures answer { let n = dir_node (P.state parent.old) (nodes (map C.value children.old)) in answer.new ≡ node_answer code.now items.now turn.now path.now (present_at rest.now present.now n) (node_at rest.now n) }
-    ensures after { let n = dir_node (P.state parent.old) (nodes (map C.value children.old)) in dir_node (P.state parent.new) (nodes (map C.value children.new)) ≡ put_at rest.now (node_turned code.now items.now turn.now path.now (present_at rest.now present.now n) (node_at rest.now n)) n }
+    requires size { call.now.items.now.size ≡ 4 * WORDS }
+    requires ready { IsReady (item_count call.now.items.now) WORDS (dir_node (P.state parent.old) (nodes (map C.value children.old))) }
+    requires leads { Leads (named_by call.now.turn.now) rest.now (dir_node (P.state parent.old) (nodes (map C.value children.old))) }
+    requires child { HasChild (bus_turn_of call.now.turn.now) (node_at rest.now (dir_node (P.state parent.old) (nodes (map C.value children.old)))) }
+    ensures answer { let n = dir_node (P.state parent.old) (nodes (map C.value children.old)) in answer.new ≡ node_answer call.now.code.now call.now.items.now call.now.turn.now call.now.path.now (present_at rest.now present.now n) (node_at rest.now n) }
+    ensures after { let n = dir_node (P.state parent.old) (nodes (map C.value children.old)) in dir_node (P.state parent.new) (nodes (map C.value children.new)) ≡ put_at rest.now (node_turned call.now.code.now call.now.items.now call.now.turn.now call.now.path.now (present_at rest.now present.now n) (node_at rest.now n)) n }
 {
     match rest.split_first() {
         Some((child, further)) => {
             let below = parent.stamp();
-            turn_of_child(
-                children, *child, code, items, path, further, &below, turn, answer,
-            );
+            turn_of_child(children, *child, call, further, &below, answer);
         }
-        None => grant_into(parent, children, *present, on_bus(turn), answer),
+        None => grant_into(parent, children, *present, on_bus(call.turn), answer),
     }
 }
 
@@ -183,6 +173,24 @@ pub(crate) fn state_under<const WORDS: usize, P: Parent<WORDS>, C: Subtree<WORDS
 {
     let (child, rest) = next(parent, children, Named::Leaf(leaf), path);
     child.state_below(leaf, rest, item)
+}
+
+/// Puts the states of an item's entries at the leaves of these parts, in order, into places from one on, and says which place is next.
+pub(crate) fn states_under<const WORDS: usize, C: Subtree<WORDS>>(
+    children: &[C],
+    item: ItemId,
+    states: &mut [Option<LeafState>],
+    at: usize,
+) -> usize
+    requires room { at + leaf_count_among (map C.value children.now) ≤ length states.old }
+    ensures next { result ≡ at + leaf_count_among (map C.value children.now) }
+    ensures states { take result states.new ≡ take at states.old ++ states_among item (map C.value children.now) }
+{
+    let mut next = at;
+    for child in children {
+        next = child.states_below(item, states, next);
+    }
+    next
 }
 
 /// How many children a bus has, of a directory or below it.

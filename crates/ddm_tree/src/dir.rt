@@ -6,10 +6,11 @@ ghost use Rattle.item_states.specs.Parts.{node_items};
 
 use crate::below::{
     child_under, children_under, down_len_under, down_under, entry_under, grants_under, hart_under,
-    hold_under, parked_under, stamp_under, state_under, turn_under,
+    hold_under, parked_under, stamp_under, state_under, states_under, turn_under,
 };
 use crate::copying::{CopyFrom, copy_children};
 use crate::found::{Found, found_among, own_copy};
+use crate::idle::{Idle, rest_under};
 use crate::judging::broken_under;
 use crate::named::Named;
 use crate::paths::path_up_under;
@@ -18,11 +19,12 @@ use crate::read_back::read_under;
 use crate::section::Section;
 use crate::stamps::stamps_fit_under;
 use crate::subtree::Subtree;
+use crate::turn_call::TurnCall;
 use crate::writing::{ways_among, write_hart_under, write_leaf_under, write_part_under};
 use bus_judging::ChildFace;
 use ddm_types::{
-    BusNo, ChildNo, Code, Hold, ItemId, Items, LeafNo, LeafState, NoMemory, PendingWhy, QueueName,
-    Stamp, Turn, TurnAnswer, TxKind, Words,
+    BusNo, ChildNo, Hold, ItemId, LeafNo, LeafState, NoMemory, PendingWhy, QueueName, Stamp,
+    TurnAnswer, TxKind, Words,
 };
 use directory::DirState;
 use item_states::{Agent, DownEntry, Parent};
@@ -135,23 +137,17 @@ impl<const WORDS: usize, C: Subtree<WORDS>> Subtree<WORDS> for Dir<WORDS, C> {
 
     fn turn(
         &mut self,
-        code: &Code,
-        items: &Items,
-        path: &[ChildNo],
+        call: &TurnCall<'_>,
         rest: &[ChildNo],
         present: &Stamp,
-        turn: &Turn,
         answer: &mut TurnAnswer,
     ) {
         turn_under(
             &mut self.state,
             &mut self.children,
-            code,
-            items,
-            path,
+            call,
             rest,
             present,
-            turn,
             answer,
         );
     }
@@ -162,6 +158,10 @@ impl<const WORDS: usize, C: Subtree<WORDS>> Subtree<WORDS> for Dir<WORDS, C> {
 
     fn quiet_below(&self, path: &[ChildNo]) -> Quiet {
         quiet_under(&self.state, &self.children, path)
+    }
+
+    fn rest_below(&self, path: &[ChildNo]) -> Option<Idle> {
+        rest_under(&self.children, path)
     }
 
     fn path_up(&self, alloc: Global, name: &Named) -> Result<Option<Vec<ChildNo>>, NoMemory> {
@@ -188,6 +188,10 @@ impl<const WORDS: usize, C: Subtree<WORDS>> Subtree<WORDS> for Dir<WORDS, C> {
     #[inline(always)]
     fn state_below(&self, leaf: LeafNo, path: &[ChildNo], item: ItemId) -> Option<LeafState> {
         state_under(&self.state, &self.children, leaf, path, item)
+    }
+
+    fn states_below(&self, item: ItemId, states: &mut [Option<LeafState>], at: usize) -> usize {
+        states_under(&self.children, item, states, at)
     }
 
     fn children_below(&self, bus: BusNo, path: &[ChildNo]) -> u32 {

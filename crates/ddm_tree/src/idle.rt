@@ -1,12 +1,14 @@
-ghost use Rattle.std.specs.Prelude.{◌≡◌, ℕ, Some, IfOk, length, map, slice_get, slice_set, vec_items};
-ghost use Rattle.split_bus.specs.Outcomes.{is_granted};
-ghost use Rattle.ddm_tree.specs.Idle.{AreNoted, AreWoken, IsWoken, idle_answer, idle_for, idle_told, with_idle};
-ghost use Rattle.ddm_tree.specs.Quiet.{HartsWait, KeepsBuses, waits};
+ghost use Rattle.std.specs.Prelude.{◌≡◌, ℕ, Some, IfOk, IfSome, length, map, slice_get, slice_set, vec_items};
+ghost use Rattle.tree_model.specs.State.Values.{DirValue, dir_node, nodes};
+ghost use Rattle.ddm_tree.specs.Idle.{AreNoted, AreSeen, IsLooked, IsSeen, idle_answer, idle_for, idle_told, node_rests, rests_by, with_idle};
+ghost use Rattle.ddm_tree.specs.Path.{node_at};
+ghost use Rattle.ddm_tree.specs.Quiet.{HartsAgree, KeepsBuses, idle_as};
 
 use crate::machine::named;
 use crate::named::Named;
 use crate::quiet::{Quiet, note_hart};
-use ddm_types::{BusyCause, ItemId, LeafNo, NoMemory, Turn, TurnAnswer};
+use crate::subtree::Subtree;
+use ddm_types::{BusyCause, ChildNo, HaltCause, ItemId, LeafNo, NoMemory, Turn, TurnAnswer};
 use std::alloc::Global;
 
 /// Why a turn of a hart changes nothing, and none will before its bus tells its leaf something.
@@ -16,6 +18,8 @@ pub enum Idle {
     Waits(ItemId),
     /// The buffer of this leaf has no place.
     BufferFull(LeafNo),
+    /// The hart has halted.
+    Halted(HaltCause),
 }
 
 /// What the turns of an idle hart answer.
@@ -25,6 +29,7 @@ pub(crate) fn idle_answer(idle: Idle) -> TurnAnswer
     match idle {
         Idle::Waits(item) => TurnAnswer::Waiting(item),
         Idle::BufferFull(leaf) => TurnAnswer::Busy(BusyCause::BufferFull(leaf)),
+        Idle::Halted(cause) => TurnAnswer::Halted(cause),
     }
 }
 
@@ -53,93 +58,142 @@ pub(crate) fn idle_for(turn: &Turn, idle: &[Option<Idle>]) -> Option<Idle>
     }
 }
 
-/// Whether a hart that is idle for this reason waits for an item.
-fn waits(known: &Idle) -> bool
-    ensures { result ≡ waits (Some known.now) }
+/// Whether the turns of a hart of which this is known are busy, if it is idle.
+fn idle_as(known: &Option<Idle>) -> Option<bool>
+    ensures { result ≡ idle_as known.now }
 {
     match known {
-        Idle::Waits(_) => true,
-        Idle::BufferFull(_) => false,
+        Some(Idle::Waits(_)) | Some(Idle::Halted(_)) => Some(false),
+        Some(Idle::BufferFull(_)) => Some(true),
+        None => None,
     }
 }
 
-/// Remembers it at a place, where there is one.
-fn put_idle(idle: &mut [Option<Idle>], quiet: &mut [Quiet], place: usize, known: Idle)
-    ensures put { idle.new ≡ slice_set idle.old place (Some known) }
-    ensures waits { HartsWait quiet.old idle.old → HartsWait quiet.new idle.new }
+/// Why a hart is idle, as far as its leaf tells it: it has halted, or an entry waits for a transaction.
+#[inline(always)]
+pub(crate) fn rests_by(halted: Option<HaltCause>, waiting: Option<ItemId>) -> Option<Idle>
+    ensures { result ≡ rests_by halted waiting }
+{
+    match (halted, waiting) {
+        (Some(cause), _) => Some(Idle::Halted(cause)),
+        (None, Some(item)) => Some(Idle::Waits(item)),
+        (None, None) => None,
+    }
+}
+
+/// Remembers it of the hart of this number, where there is one, or forgets what was remembered.
+fn put_idle(idle: &mut [Option<Idle>], quiet: &mut [Quiet], place: usize, known: Option<Idle>)
+    ensures put { idle.new ≡ slice_set idle.old place known }
+    ensures harts { HartsAgree quiet.old idle.old → HartsAgree quiet.new idle.new }
     ensures buses { KeepsBuses quiet.old quiet.new }
 {
     if place < idle.len() {
-        note_hart(quiet, place, waits(&known));
-        idle[place] = Some(known);
+        note_hart(quiet, place, idle_as(&known));
+        idle[place] = known;
     }
 }
 
 /// Remembers it of the hart of a turn.
 fn keep_idle(idle: &mut [Option<Idle>], quiet: &mut [Quiet], turn: &Turn, known: Idle)
     ensures put { idle.new ≡ with_idle turn.now known idle.old }
-    ensures waits { HartsWait quiet.old idle.old → HartsWait quiet.new idle.new }
+    ensures harts { HartsAgree quiet.old idle.old → HartsAgree quiet.new idle.new }
     ensures buses { KeepsBuses quiet.old quiet.new }
 {
     match turn {
-        Turn::Hart { hart, .. } => put_idle(idle, quiet, hart.0 as usize, known),
+        Turn::Hart { hart, .. } => put_idle(idle, quiet, hart.0 as usize, Some(known)),
         Turn::Down { .. } | Turn::Request { .. } | Turn::Reply { .. } | Turn::Leave { .. } => {}
     }
 }
 
-fn is_granted(answer: &TurnAnswer) -> bool
-    ensures { result ≡ is_granted answer.now }
+/// Why the hart of a leaf below a directory is idle, as far as the leaf tells it.
+pub(crate) fn rest_under<const WORDS: usize, C: Subtree<WORDS>>(
+    children: &[C],
+    path: &[ChildNo],
+) -> Option<Idle>
+    ensures { (d : DirValue) → IfSome result (λ i. node_rests (node_at path.now (dir_node d (nodes (map C.value children.now)))) ≡ Some i) }
 {
-    match answer {
-        TurnAnswer::Granted(_) => true,
-        _ => false,
-    }
+    let (child, rest) = path.split_first()?;
+    children.get(child.0 as usize)?.rest_below(rest)
 }
 
-/// Forgets what is remembered of a leaf.
-fn wake(idle: &mut [Option<Idle>], quiet: &mut [Quiet], number: usize)
-    ensures woken { IsWoken number idle.old idle.new }
-    ensures waits { HartsWait quiet.old idle.old → HartsWait quiet.new idle.new }
+/// The same of the leaf of this number.
+fn rest_of<const WORDS: usize, C: Subtree<WORDS>>(
+    children: &[C],
+    leaf_paths: &[Vec<ChildNo>],
+    leaf: usize,
+) -> Option<Idle>
+    ensures { (d : DirValue) → IfSome result (λ i. IsSeen leaf (map vec_items leaf_paths.now) (dir_node d (nodes (map C.value children.now))) i) }
+{
+    rest_under(children, leaf_paths.get(leaf)?)
+}
+
+/// Remembers anew why the hart of a leaf is idle, as far as the leaf tells it.
+fn look<const WORDS: usize, C: Subtree<WORDS>>(
+    idle: &mut [Option<Idle>],
+    quiet: &mut [Quiet],
+    children: &[C],
+    leaf_paths: &[Vec<ChildNo>],
+    leaf: usize,
+)
+    ensures looked { (d : DirValue) → IsLooked leaf (map vec_items leaf_paths.now) (dir_node d (nodes (map C.value children.now))) idle.old idle.new }
+    ensures harts { HartsAgree quiet.old idle.old → HartsAgree quiet.new idle.new }
     ensures buses { KeepsBuses quiet.old quiet.new }
 {
-    if number < idle.len() {
-        idle[number] = None;
-        note_hart(quiet, number, false);
-    }
+    put_idle(idle, quiet, leaf, rest_of(children, leaf_paths, leaf));
 }
 
-/// Forgets what is remembered of these leaves.
-fn wake_all(idle: &mut [Option<Idle>], quiet: &mut [Quiet], leaves: &[usize])
-    ensures woken { AreWoken (length leaves.now) leaves.now idle.old idle.new }
-    ensures waits { HartsWait quiet.old idle.old → HartsWait quiet.new idle.new }
+/// The same of each of these leaves.
+fn look_at_all<const WORDS: usize, C: Subtree<WORDS>>(
+    idle: &mut [Option<Idle>],
+    quiet: &mut [Quiet],
+    children: &[C],
+    leaf_paths: &[Vec<ChildNo>],
+    leaves: &[usize],
+)
+    ensures seen { (d : DirValue) → AreSeen (length leaves.now) leaves.now (map vec_items leaf_paths.now) (dir_node d (nodes (map C.value children.now))) idle.old idle.new }
+    ensures harts { HartsAgree quiet.old idle.old → HartsAgree quiet.new idle.new }
     ensures buses { KeepsBuses quiet.old quiet.new }
 {
     for leaf in leaves {
-        wake(idle, quiet, *leaf);
+        look(idle, quiet, children, leaf_paths, *leaf);
     }
 }
 
-/// Remembers what a turn answered of its hart, and forgets what was remembered of the leaves near a bus that granted something.
+/// Remembers what a turn answered of its hart, or what the leaves tell that the turn may have changed: its own, or those of the bus that
+/// granted something.
 #[inline(always)]
-pub(crate) fn note(
+pub(crate) fn note<const WORDS: usize, C: Subtree<WORDS>>(
     idle: &mut [Option<Idle>],
     quiet: &mut [Quiet],
+    children: &[C],
+    leaf_paths: &[Vec<ChildNo>],
     bus_leaves: &[Vec<usize>],
     turn: &Turn,
     answer: &TurnAnswer,
 )
-    ensures noted { AreNoted turn.now answer.now (map vec_items bus_leaves.now) idle.old idle.new }
-    ensures waits { HartsWait quiet.old idle.old → HartsWait quiet.new idle.new }
+    ensures noted { (d : DirValue) → AreNoted turn.now answer.now (map vec_items bus_leaves.now) (map vec_items leaf_paths.now) (dir_node d (nodes (map C.value children.now))) idle.old idle.new }
+    ensures harts { HartsAgree quiet.old idle.old → HartsAgree quiet.new idle.new }
     ensures buses { KeepsBuses quiet.old quiet.new }
 {
-    if let Some(known) = idle_told(answer) {
-        keep_idle(idle, quiet, turn, known);
-    } else if is_granted(answer) {
-        if let Named::Bus(bus) = named(turn) {
-            if let Some(listed) = bus_leaves.get(bus.0 as usize) {
-                wake_all(idle, quiet, listed);
+    match answer {
+        TurnAnswer::Granted(_) => {
+            if let Named::Bus(bus) = named(turn) {
+                if let Some(listed) = bus_leaves.get(bus.0 as usize) {
+                    look_at_all(idle, quiet, children, leaf_paths, listed);
+                }
             }
         }
+        TurnAnswer::Issued(_, _) | TurnAnswer::Halted(_) => {
+            if let Named::Leaf(leaf) = named(turn) {
+                look(idle, quiet, children, leaf_paths, leaf.0 as usize);
+            }
+        }
+        TurnAnswer::Waiting(_) | TurnAnswer::Busy(_) => {
+            if let Some(known) = idle_told(answer) {
+                keep_idle(idle, quiet, turn, known);
+            }
+        }
+        TurnAnswer::Retired(_) | TurnAnswer::Empty => {}
     }
 }
 

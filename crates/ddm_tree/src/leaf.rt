@@ -1,13 +1,14 @@
 use crate::found::{Found, place_at};
+use crate::idle::{Idle, rests_by};
 use crate::named::Named;
 use crate::quiet::{NOTHING, Quiet};
 use crate::section::Section;
 use crate::subtree::Subtree;
+use crate::turn_call::TurnCall;
 use crate::turns::{key_on, victim};
 use bus_judging::ChildFace;
 use ddm_types::{
-    BusNo, ChildNo, Code, Hold, ItemId, Items, LeafNo, LeafState, NoMemory, Stamp, Turn,
-    TurnAnswer, Words,
+    BusNo, ChildNo, Hold, ItemId, LeafNo, LeafState, NoMemory, Stamp, TurnAnswer, Words,
 };
 use item_states::DownEntry;
 use leaf_protocol::Leaf;
@@ -23,16 +24,13 @@ impl<const WAYS: usize, const WORDS: usize> Subtree<WORDS> for Leaf<WAYS, WORDS>
 
     fn turn(
         &mut self,
-        code: &Code,
-        items: &Items,
-        path: &[ChildNo],
+        call: &TurnCall<'_>,
         _rest: &[ChildNo],
         present: &Stamp,
-        turn: &Turn,
         answer: &mut TurnAnswer,
     ) {
-        let now = key_on(*present, path, self.hart().done());
-        self.hart_turn_into(code, items, now, victim(turn), answer);
+        let now = key_on(*present, call.path, self.hart().done());
+        self.hart_turn_into(call.code, call.items, now, victim(call.turn), answer);
     }
 
     fn grants_below(&self, _bus: BusNo, _path: &[ChildNo], _turn: BusTurn) -> bool {
@@ -41,6 +39,14 @@ impl<const WAYS: usize, const WORDS: usize> Subtree<WORDS> for Leaf<WAYS, WORDS>
 
     fn quiet_below(&self, _path: &[ChildNo]) -> Quiet {
         NOTHING
+    }
+
+    #[inline(always)]
+    fn rest_below(&self, path: &[ChildNo]) -> Option<Idle> {
+        if !path.is_empty() {
+            return None;
+        }
+        rests_by(self.hart().halted(), self.waiting())
     }
 
     fn path_up(&self, alloc: Global, name: &Named) -> Result<Option<Vec<ChildNo>>, NoMemory> {
@@ -70,6 +76,12 @@ impl<const WAYS: usize, const WORDS: usize> Subtree<WORDS> for Leaf<WAYS, WORDS>
     #[inline(always)]
     fn state_below(&self, _leaf: LeafNo, _path: &[ChildNo], item: ItemId) -> Option<LeafState> {
         self.state(item)
+    }
+
+    #[inline(always)]
+    fn states_below(&self, item: ItemId, states: &mut [Option<LeafState>], at: usize) -> usize {
+        states[at] = self.state(item);
+        at + 1
     }
 
     fn children_below(&self, _bus: BusNo, _path: &[ChildNo]) -> u32 {

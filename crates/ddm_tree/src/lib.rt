@@ -30,6 +30,7 @@ mod section;
 mod stamps;
 mod subtree;
 mod timed_parts;
+mod turn_call;
 mod turns;
 mod writing;
 
@@ -44,3 +45,4 @@ pub use parts::Parts;
 pub use quiet::Quiet;
 pub use section::Section;
 pub use subtree::Subtree;
+pub use turn_call::TurnCall;

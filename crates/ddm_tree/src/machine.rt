@@ -1,4 +1,4 @@
-ghost use Rattle.std.specs.Prelude.{◌≡◌, ℕ, List, ◌+◌, ◌*◌, ◌<◌, ◌≤◌, ◌^◌, [], Some, true, false, is_ok, length, map, max, slice_get, vec_items, IfOk, if◌then◌else◌};
+ghost use Rattle.std.specs.Prelude.{◌≡◌, ℕ, List, ◌+◌, ◌*◌, ◌<◌, ◌≤◌, ◌^◌, [], Some, true, false, is_ok, length, map, max, slice_get, vec_items, IfNone, IfOk, IfSome, OnSome, if◌then◌else◌};
 ghost use Rattle.tree_model.specs.Turns.Machine.{named_by, names_part, no_traffic, turn_of};
 ghost use Rattle.ddm_types.specs.Keys.{stamp_zero};
 ghost use Rattle.ddm_types.specs.ItemTable.{item_count};
@@ -9,16 +9,17 @@ ghost use Rattle.ddm_tree.specs.Ready.{IsReady, Leads};
 ghost use Rattle.tree_model.specs.Turns.Tree.{leaf_of_number, bus_of_number};
 ghost use Rattle.ddm_tree.specs.Rules.{StaysInOrder};
 ghost use Rattle.ddm_tree.specs.Idle.{AreIdle};
-ghost use Rattle.ddm_tree.specs.Quiet.{AreNearListed, AreQuiet, HartsWait, counts_nothing};
+ghost use Rattle.ddm_tree.specs.Quiet.{AreNearListed, AreQuiet, HartsAgree, passed_as};
 ghost use Rattle.ddm_tree.specs.Machine.{IsFound, IsNew, has_path, listed_path, new_machine, state_after};
 
 use crate::below::turn_under;
 use crate::idle::{Idle, idle_answer, idle_for, note, nothing_known};
 use crate::named::Named;
 use crate::paths::{bus_paths, leaf_paths};
-use crate::quiet::{Quiet, is_known, near_lists, note_buses, nothing_quiet};
+use crate::quiet::{Quiet, known_as, near_lists, note_buses, nothing_quiet};
 use crate::record::record;
 use crate::subtree::Subtree;
+use crate::turn_call::TurnCall;
 use ddm_types::{ChildNo, Code, Items, LeafNo, NoMemory, Op, Stamp, TreeCounts, Turn, TurnAnswer};
 use std::alloc::Global;
 use std::marker::Model;
@@ -44,7 +45,7 @@ pub struct Machine<const WORDS: usize, C: Subtree<WORDS>> {
     pub(crate) bus_leaves: Vec<Vec<usize>>,
     /// For each leaf why its hart is idle, where that is known.
     pub(crate) idle: Vec<Option<Idle>>,
-    /// For each number what the bus that has it is quiet of, and whether the hart that has it waits, where that is known.
+    /// For each number what the bus that has it is quiet of, and whether turns of the hart that has it are busy, where that is known.
     pub(crate) quiet: Vec<Quiet>,
     /// How many operations can still be taken without memory.
     pub(crate) spare: u32,
@@ -56,7 +57,7 @@ impl<const WORDS: usize, C: Subtree<WORDS>> Model for Machine<WORDS, C> {
     ghost use Rattle.std.specs.Prelude.{◌≡◌, ℕ, List, ◌+◌, ◌*◌, ◌≤◌, ◌^◌, ◌<◌, length, map, vec_capacity, vec_items};
     ghost use Rattle.tree_model.specs.State.Shape.{tree_counts};
     ghost use Rattle.ddm_tree.specs.Idle.{AreIdle};
-    ghost use Rattle.ddm_tree.specs.Quiet.{AreNearListed, AreQuiet, HartsWait};
+    ghost use Rattle.ddm_tree.specs.Quiet.{AreNearListed, AreQuiet, HartsAgree};
     ghost use Rattle.ddm_tree.specs.Machine.{MachineState, IsMachine, machine_of};
     ghost use Rattle.tree_model.specs.State.Values.{dir_node, nodes};
     ghost use Rattle.ddm_tree.specs.Codes.{machine_code};
@@ -72,7 +73,7 @@ impl<const WORDS: usize, C: Subtree<WORDS>> Model for Machine<WORDS, C> {
         × (WORDS < 2 ^ 32) × (m.items.size ≡ 4 * WORDS) × (length m.ops.items + m.spare ≤ vec_capacity m.ops)
         × AreIdle m.code m.items m.idle.items (dir_node m.top (nodes (map C.value m.children.items))) (dir_node m.top (nodes (map C.value m.children.items)))
         × AreQuiet m.quiet.items (dir_node m.top (nodes (map C.value m.children.items))) (dir_node m.top (nodes (map C.value m.children.items)))
-        × HartsWait m.quiet.items m.idle.items
+        × HartsAgree m.quiet.items m.idle.items
         × AreNearListed (map vec_items m.leaf_near.items) (map vec_items m.bus_near.items) (map vec_items m.bus_leaves.items) (map vec_items m.leaf_paths.items) (map vec_items m.bus_paths.items) };
 }
 
@@ -132,20 +133,18 @@ impl<const WORDS: usize, C: Subtree<WORDS>> Machine<WORDS, C> {
         Ok(())
     }
 
-    /// Makes a turn that is known to find nothing, and says whether it is one. It takes no memory.
+    /// Makes a turn that is known to change nothing, and says whether it is a busy one; any other it doesn't make. It takes no memory.
     #[inline(always)]
-    pub fn pass(&mut self, turn: &Turn) -> bool
+    pub fn pass(&mut self, turn: &Turn) -> Option<bool>
         requires named { names_part turn.now self.old.machine ≡ true }
         requires turns { self.old.turns < 4294967295 }
-        ensures passed { result ≡ true → self.new ≡ state_after turn.now self.old }
-        ensures nothing { result ≡ true → counts_nothing (turn_of turn.now self.old.machine).answer ≡ true }
-        ensures same { result ≡ false → self.new ≡ self.old }
+        ensures passed { OnSome result (self.new ≡ state_after turn.now self.old) }
+        ensures counted { IfSome result (λ busy. passed_as (turn_of turn.now self.old.machine).answer ≡ Some busy) }
+        ensures same { IfNone result (self.new ≡ self.old) }
     {
-        let known = is_known(&self.quiet, turn);
-        if known {
-            self.turns += 1;
-        }
-        known
+        let busy = known_as(&self.quiet, turn)?;
+        self.turns += 1;
+        Some(busy)
     }
 
     /// One turn of a hart or a bus. It takes no memory.
@@ -209,17 +208,13 @@ fn turn_found<const WORDS: usize, C: Subtree<WORDS>>(
     ensures after { (path : List ℕ) → listed_path (named_by turn.now) (map vec_items leaf_paths.now) (map vec_items bus_paths.now) ≡ Some path → let n = dir_node top.old (nodes (map C.value children.old)) in dir_node top.new (nodes (map C.value children.new)) ≡ put_at path (node_turned code.now items.now turn.now path (present_at path stamp_zero n) (node_at path n)) n }
 {
     let path = path_of(named(turn), leaf_paths, bus_paths);
-    turn_under(
-        top,
-        children,
+    let call = TurnCall {
         code,
         items,
         path,
-        path,
-        &Stamp::zero(),
         turn,
-        answer,
-    );
+    };
+    turn_under(top, children, &call, path, &Stamp::zero(), answer);
 }
 
 /// The same, without a look at the tree where the hart is known to be idle.
@@ -245,12 +240,12 @@ fn turn_made<const WORDS: usize, C: Subtree<WORDS>>(
     requires listed { (k : ℕ) (path : List ℕ) → Leads (bus_of_number k) path (dir_node top.old (nodes (map C.value children.old))) → slice_get (map vec_items bus_paths.now) k ≡ Some path }
     requires idle { AreIdle code.now items.now idle.old (dir_node top.old (nodes (map C.value children.old))) (dir_node top.old (nodes (map C.value children.old))) }
     requires quiet { AreQuiet quiet.old (dir_node top.old (nodes (map C.value children.old))) (dir_node top.old (nodes (map C.value children.old))) }
-    requires waits { HartsWait quiet.old idle.old }
+    requires harts { HartsAgree quiet.old idle.old }
     requires near { AreNearListed (map vec_items leaf_near.now) (map vec_items bus_near.now) (map vec_items bus_leaves.now) (map vec_items leaf_paths.now) (map vec_items bus_paths.now) }
     ensures answer { (path : List ℕ) → listed_path (named_by turn.now) (map vec_items leaf_paths.now) (map vec_items bus_paths.now) ≡ Some path → let n = dir_node top.old (nodes (map C.value children.old)) in answer.new ≡ node_answer code.now items.now turn.now path (present_at path stamp_zero n) (node_at path n) }
     ensures after { (path : List ℕ) → listed_path (named_by turn.now) (map vec_items leaf_paths.now) (map vec_items bus_paths.now) ≡ Some path → let n = dir_node top.old (nodes (map C.value children.old)) in dir_node top.new (nodes (map C.value children.new)) ≡ put_at path (node_turned code.now items.now turn.now path (present_at path stamp_zero n) (node_at path n)) n }
     ensures quiet { AreQuiet quiet.new (dir_node top.old (nodes (map C.value children.old))) (dir_node top.new (nodes (map C.value children.new))) }
-    ensures waits { HartsWait quiet.new idle.new }
+    ensures harts { HartsAgree quiet.new idle.new }
     ensures idle { AreIdle code.now items.now idle.new (dir_node top.old (nodes (map C.value children.old))) (dir_node top.new (nodes (map C.value children.new))) }
 {
     match idle_for(turn, idle) {
@@ -259,7 +254,7 @@ fn turn_made<const WORDS: usize, C: Subtree<WORDS>>(
             turn_found(
                 top, children, code, items, leaf_paths, bus_paths, turn, answer,
             );
-            note(idle, quiet, bus_leaves, turn, answer);
+            note(idle, quiet, children, leaf_paths, bus_leaves, turn, answer);
             note_buses(
                 quiet, top, children, leaf_near, bus_near, bus_paths, turn, answer,
             );

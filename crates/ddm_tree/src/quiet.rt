@@ -6,7 +6,7 @@ ghost use Rattle.tree_model.specs.State.Values.{dir_node, nodes};
 ghost use Rattle.tree_model.specs.Turns.Machine.{named_by};
 ghost use Rattle.ddm_tree.specs.Machine.{has_path, listed_path};
 ghost use Rattle.ddm_tree.specs.Path.{node_at};
-ghost use Rattle.ddm_tree.specs.Quiet.{AreApart, AreLearned, AreNear, AreRelearned, IsBlank, IsHartNoted, IsLearned, IsNear, IsQuietOf, is_known, number_of, set_if, turn_column, turn_row};
+ghost use Rattle.ddm_tree.specs.Quiet.{AreApart, AreLearned, AreNear, AreRelearned, IsBlank, IsHartNoted, IsLearned, IsNear, IsQuietOf, IsRow, known_as, known_if, number_of, set_if, turn_column, turn_row};
 
 use crate::machine::{named, near_of};
 use crate::subtree::Subtree;
@@ -15,10 +15,10 @@ use item_states::{Agent, Parent};
 use std::alloc::Global;
 use top_node::TopState;
 
-/// What is remembered under a number, of the bus and of the hart that have it: sets of that of which a turn finds nothing, with bit c for
-/// child c of the bus. One for the hart and one for Down, of which bit 0 counts alone, and one each for requests, replies and copies
-/// that leave.
-pub type Quiet = [u16; 5];
+/// What is remembered under a number, of the bus and of the hart that have it: sets of that of which a turn changes nothing, with bit c
+/// for child c of the bus. One for the hart and one for Down, of which bit 0 counts alone, and one each for requests, replies and copies
+/// that leave. Bit 16 of the hart's says besides that its turns are busy; buses have none from 16 on.
+pub type Quiet = [u32; 5];
 
 /// Nothing is remembered.
 pub(crate) const NOTHING: Quiet = [0; 5];
@@ -63,24 +63,35 @@ fn column_of(turn: Turn) -> usize
     }
 }
 
-/// Whether the turn is known to find nothing. No branch depends on what turn it is.
+/// Whether a turn of which this is known is busy, if it is known.
 #[inline(always)]
-pub(crate) fn is_known(known: &[Quiet], turn: &Turn) -> bool
+fn known_if(known: bool, busy: bool) -> Option<bool>
+    ensures { result ≡ known_if known busy }
+{
+    if known { Some(busy) } else { None }
+}
+
+/// Whether the turn is busy, if it is known to change nothing. No branch depends on what turn it is.
+#[inline(always)]
+pub(crate) fn known_as(known: &[Quiet], turn: &Turn) -> Option<bool>
     requires { turn_column turn.now < 16 }
-    ensures { result ≡ is_known turn.now known.now }
+    ensures { result ≡ known_as turn.now known.now }
 {
     let number = number_of(*turn);
     let row = row_of(*turn);
     let column = column_of(*turn) % 16;
     match known.get(number) {
-        Some(quiet) => quiet[row] >> column & 1 == 1,
-        None => false,
+        Some(quiet) => {
+            let set = quiet[row];
+            known_if(set >> column & 1 == 1, set >> (column + 16) & 1 == 1)
+        }
+        None => None,
     }
 }
 
 /// The set with this place, if the turn finds nothing there.
 #[inline(always)]
-fn set_if(nothing: bool, place: usize, row: u16) -> u16
+fn set_if(nothing: bool, place: usize, row: u32) -> u32
     requires { place < 16 }
     ensures { result ≡ set_if nothing place row }
 {
@@ -88,18 +99,18 @@ fn set_if(nothing: bool, place: usize, row: u16) -> u16
 }
 
 /// Whether nothing is on its way down to a bus, in a set of its own.
-fn down_row<const WORDS: usize, P: Parent<WORDS>>(parent: &P) -> u16
+fn down_row<const WORDS: usize, P: Parent<WORDS>>(parent: &P) -> u32
     requires fits { WORDS < 2 ^ 32 }
-    ensures { in_set 0 result ≡ true → is_none (first_of (P.state parent.now).down) ≡ true }
+    ensures { IsRow (λ _. is_none (first_of (P.state parent.now).down)) result }
 {
     set_if(parent.first_down().is_none(), 0, 0)
 }
 
 /// Puts into the sets what is found of a child.
 fn put_child<const WORDS: usize, C: Agent<WORDS>>(
-    requests: &mut u16,
-    replies: &mut u16,
-    leaves: &mut u16,
+    requests: &mut u32,
+    replies: &mut u32,
+    leaves: &mut u32,
     place: usize,
     child: &C,
 )
@@ -263,13 +274,24 @@ pub(crate) fn note_buses<const WORDS: usize, C: Subtree<WORDS>>(
     }
 }
 
-/// Remembers of a hart whether it waits for an item.
-pub(crate) fn note_hart(known: &mut [Quiet], hart: usize, waits: bool)
-    ensures { IsHartNoted hart waits known.old known.new }
+/// The set of a hart, of whose turns this is known.
+fn hart_row(busy: Option<bool>) -> u32
+    ensures { known_if (in_set 0 result) (in_set 16 result) ≡ busy }
+{
+    match busy {
+        None => 0,
+        Some(false) => 1,
+        Some(true) => 0x1_0001,
+    }
+}
+
+/// Remembers of a hart whether its turns are busy, if it is idle.
+pub(crate) fn note_hart(known: &mut [Quiet], hart: usize, busy: Option<bool>)
+    ensures { IsHartNoted hart busy known.old known.new }
 {
     if hart < known.len() {
         let [_, down, requests, replies, leaves] = known[hart];
-        known[hart] = [set_if(waits, 0, 0), down, requests, replies, leaves];
+        known[hart] = [hart_row(busy), down, requests, replies, leaves];
     }
 }
 

@@ -1,8 +1,8 @@
-ghost use Rattle.std.specs.Prelude.{◌≡◌, ◌<◌, Some, is_some, true, map, option_copied, vec_items};
+ghost use Rattle.std.specs.Prelude.{◌≡◌, ◌<◌, ◌≤◌, Some, is_some, true, length, map, option_copied, take, vec_items};
 ghost use Rattle.ddm_types.specs.ItemTable.{item_count};
 ghost use Rattle.tree_model.specs.State.Shape.{IsShaped, tree_counts};
 ghost use Rattle.tree_model.specs.State.Values.{root_of};
-ghost use Rattle.tree_model.specs.Turns.Found.{found_copy};
+ghost use Rattle.tree_model.specs.Turns.Found.{found_copy, states_of};
 ghost use Rattle.tree_model.specs.Turns.Machine.{child_count, child_hold_of, child_of, down_entry_of, granted_of, grants_of, is_child_of, named_by, names_part, now_of, turn_of};
 ghost use Rattle.split_bus.specs.Outcomes.{is_granted};
 ghost use Rattle.tree_model.specs.Turns.Tree.{leaf_of_number, bus_of_number};
@@ -13,7 +13,7 @@ ghost use Rattle.ddm_tree.specs.Reads.{counted_hart_of, down_len_of, entry_at, i
 
 use crate::below::{
     child_under, children_under, down_len_under, down_under, entry_under, grants_under, hart_under,
-    hold_under, parked_under, stamp_under, state_under,
+    hold_under, parked_under, stamp_under, state_under, states_under,
 };
 use crate::found::{Found, found_among};
 use crate::machine::Machine;
@@ -119,6 +119,14 @@ impl<const WORDS: usize, C: Subtree<WORDS>> Machine<WORDS, C> {
     {
         let path = self.leaf_path(leaf);
         state_under(&self.top, &self.children, leaf, path, item)
+    }
+
+    /// Puts the states of an item's entries at all leaves, in order, into the first places.
+    pub fn states(&self, item: ItemId, states: &mut [Option<LeafState>])
+        requires { (tree_counts self.now.machine).leaves ≤ length states.old }
+        ensures { take (tree_counts self.now.machine).leaves states.new ≡ states_of item self.now.machine }
+    {
+        states_under(&self.children, item, states, 0);
     }
 
     /// An entry of the down list over a bus, by its place counted from 0.

@@ -1,4 +1,4 @@
-ghost use Rattle.std.specs.Prelude.{◌≡◌, ◌*◌, ◌<◌, ◌≤◌, ◌^◌, true, length, IfOk, OnErr, OnOk, option_map, reverse, vec_items};
+ghost use Rattle.std.specs.Prelude.{◌≡◌, ◌+◌, ◌*◌, ◌<◌, ◌≤◌, ◌^◌, ◌++◌, true, length, take, Some, IfOk, IfSome, OnErr, OnOk, option_map, reverse, vec_items};
 ghost use Rattle.ddm_types.specs.ItemTable.{item_count};
 ghost use Rattle.tree_model.specs.State.Child.{child_label};
 ghost use Rattle.tree_model.specs.State.Shape.{skeleton, widths_fit};
@@ -14,23 +14,25 @@ ghost use Rattle.state_words.specs.Machine.{way_count_of};
 ghost use Rattle.split_bus.specs.Outcomes.{goes_on_with};
 ghost use Rattle.ddm_tree.specs.Path.{path_to, node_at, present_at, put_at, node_answer, node_turned};
 ghost use Rattle.tree_rules.specs.Bus.Faces.{child_face};
+ghost use Rattle.ddm_tree.specs.Idle.{node_rests};
 ghost use Rattle.ddm_tree.specs.Judging.{IsJudged, node_broken};
 ghost use Rattle.ddm_tree.specs.Named.{name_of};
 ghost use Rattle.ddm_tree.specs.Quiet.{IsQuietOf};
 ghost use Rattle.ddm_tree.specs.Ready.{IsAskable, IsReady, Leads, LeadsBelow, HasChild, IsChild, IsItemIn, IsItemOf};
-ghost use Rattle.ddm_tree.specs.Reads.{node_hart, node_entry, node_children, node_child, node_child_hold, node_down, node_down_len, node_grants, node_parked, node_state};
+ghost use Rattle.ddm_tree.specs.Reads.{leaf_count, node_hart, node_entry, node_children, node_child, node_child_hold, node_down, node_down_len, node_grants, node_parked, node_state, node_states};
 ghost use Rattle.ddm_tree.specs.Stamps.{node_stamps_fit};
 ghost use Rattle.ddm_tree.specs.ReadBack.{PartRead, section_name};
 ghost use Rattle.ddm_tree.specs.Written.{node_dir_words, node_words};
 
 use crate::found::Found;
+use crate::idle::Idle;
 use crate::named::Named;
 use crate::quiet::Quiet;
 use crate::section::Section;
+use crate::turn_call::TurnCall;
 use bus_judging::ChildFace;
 use ddm_types::{
-    BusNo, ChildNo, Code, Hold, ItemId, Items, LeafNo, LeafState, NoMemory, Stamp, Turn,
-    TurnAnswer, Words,
+    BusNo, ChildNo, Hold, ItemId, LeafNo, LeafState, NoMemory, Stamp, TurnAnswer, Words,
 };
 use item_states::{Agent, DownEntry};
 use rv_hart::Hart;
@@ -44,24 +46,21 @@ pub trait Subtree<const WORDS: usize>: Agent<WORDS> {
     fn label(&self) -> TreeChild
         ensures { result ≡ child_label (Self.value self.now) };
 
-    /// One turn of a leaf or a bus: `rest` is the path from here to it, `path` that from the top, and `present` the stamp of the bus
-    /// above this part. The answer is put where the caller wants it: it would be copied at each level.
+    /// One turn of a leaf or a bus: `rest` is the path from here to it, and `present` the stamp of the bus above this part. The answer
+    /// is put where the caller wants it: it would be copied at each level.
     fn turn(
         &mut self,
-        code: &Code,
-        items: &Items,
-        path: &[ChildNo],
+        call: &TurnCall<'_>,
         rest: &[ChildNo],
         present: &Stamp,
-        turn: &Turn,
         answer: &mut TurnAnswer,
     )
-        requires size { items.now.size ≡ 4 * WORDS }
-        requires ready { IsReady (item_count items.now) WORDS (Self.value self.old) }
-        requires leads { Leads (named_by turn.now) rest.now (Self.value self.old) }
-        requires child { HasChild (bus_turn_of turn.now) (node_at rest.now (Self.value self.old)) }
-        ensures answer { answer.new ≡ node_answer code.now items.now turn.now path.now (present_at rest.now present.now (Self.value self.old)) (node_at rest.now (Self.value self.old)) }
-        ensures after { Self.value self.new ≡ put_at rest.now (node_turned code.now items.now turn.now path.now (present_at rest.now present.now (Self.value self.old)) (node_at rest.now (Self.value self.old))) (Self.value self.old) };
+        requires size { call.now.items.now.size ≡ 4 * WORDS }
+        requires ready { IsReady (item_count call.now.items.now) WORDS (Self.value self.old) }
+        requires leads { Leads (named_by call.now.turn.now) rest.now (Self.value self.old) }
+        requires child { HasChild (bus_turn_of call.now.turn.now) (node_at rest.now (Self.value self.old)) }
+        ensures answer { answer.new ≡ node_answer call.now.code.now call.now.items.now call.now.turn.now call.now.path.now (present_at rest.now present.now (Self.value self.old)) (node_at rest.now (Self.value self.old)) }
+        ensures after { Self.value self.new ≡ put_at rest.now (node_turned call.now.code.now call.now.items.now call.now.turn.now call.now.path.now (present_at rest.now present.now (Self.value self.old)) (node_at rest.now (Self.value self.old))) (Self.value self.old) };
 
     /// Whether a Down, Request or Reply turn of this bus would be granted.
     fn grants_below(&self, bus: BusNo, path: &[ChildNo], turn: BusTurn) -> bool
@@ -75,6 +74,10 @@ pub trait Subtree<const WORDS: usize>: Agent<WORDS> {
     fn quiet_below(&self, path: &[ChildNo]) -> Quiet
         requires { WORDS < 2 ^ 32 }
         ensures { IsQuietOf result (node_at path.now (Self.value self.now)) };
+
+    /// Why the hart of the leaf at a path's end is idle, as far as that leaf tells it; None where no leaf is there.
+    fn rest_below(&self, path: &[ChildNo]) -> Option<Idle>
+        ensures { IfSome result (λ i. node_rests (node_at path.now (Self.value self.now)) ≡ Some i) };
 
     /// The path from here to a leaf or a bus, from its end on; None where it isn't in this part.
     fn path_up(&self, alloc: Global, name: &Named) -> Result<Option<Vec<ChildNo>>, NoMemory>
@@ -106,6 +109,12 @@ pub trait Subtree<const WORDS: usize>: Agent<WORDS> {
     fn state_below(&self, leaf: LeafNo, path: &[ChildNo], item: ItemId) -> Option<LeafState>
         requires { Leads (leaf_of_number leaf) path.now (Self.value self.now) }
         ensures { result ≡ node_state item (node_at path.now (Self.value self.now)) };
+
+    /// Puts the states of an item's entries at the leaves of this part, in order, into places from one on, and says which place is next.
+    fn states_below(&self, item: ItemId, states: &mut [Option<LeafState>], at: usize) -> usize
+        requires room { at + leaf_count (Self.value self.now) ≤ length states.old }
+        ensures next { result ≡ at + leaf_count (Self.value self.now) }
+        ensures states { take result states.new ≡ take at states.old ++ node_states item (Self.value self.now) };
 
     /// How many children this bus has.
     fn children_below(&self, bus: BusNo, path: &[ChildNo]) -> u32

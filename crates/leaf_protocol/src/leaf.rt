@@ -1,5 +1,5 @@
 ghost use Rattle.std.specs.Prelude.{◌≡◌, ◌%◌, ◌+◌, ◌*◌, ◌<◌, ◌≤◌, ◌^◌, Some, None, IfOk, IfErr, length, option_map, slice_get};
-ghost use Rattle.tree_model.specs.State.Leaf.{free_way, leaf_entry, spot_at, state_at};
+ghost use Rattle.tree_model.specs.State.Leaf.{free_way, leaf_entry, spot_at, state_at, waiting_item};
 ghost use Rattle.tree_model.specs.Start.Nodes.{leaf_sizes, new_leaf, placed};
 ghost use Rattle.leaf_protocol.specs.Leaf.{state_and_words};
 
@@ -77,6 +77,13 @@ impl<const WAYS: usize, const WORDS: usize> Leaf<WAYS, WORDS> {
         ensures { result.now ≡ record { hart = self.now.hart; done = self.now.done } }
     {
         &self.hart
+    }
+
+    /// The item whose entry waits for a transaction.
+    pub fn waiting(&self) -> Option<ItemId>
+        ensures { result ≡ waiting_item self.now.ways self.now.buffer }
+    {
+        self.entries.waiting()
     }
 
     /// The state of the item's entry.

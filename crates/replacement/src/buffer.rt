@@ -191,10 +191,13 @@ impl<const WORDS: usize> Buffer<WORDS> {
     }
 
     /// The item of entry `choice mod m` of the m entries that may leave. None: there is none.
-    #[tactic(auto, using(crate::proofs::Chosen::chosen_some, crate::proofs::Chosen::chosen_none))]
+    #[tactic(auto, using(crate::proofs::Chosen::chosen_first, crate::proofs::Chosen::chosen_some, crate::proofs::Chosen::chosen_none))]
     pub fn ready(&self, choice: u8) -> Option<ItemId>
         ensures { result ≡ chosen (λ e. e.item) choice (filter (λ e. may_leave e.state) self.now.list) }
     {
+        if choice == 0 {
+            return nth_free(&self.entries, 0);
+        }
         let free = count_free(&self.entries);
         if free == 0 {
             return None;

@@ -17,12 +17,15 @@ use crate::line::Line;
 use crate::operations::push_op_line;
 use crate::pieces::push_bytes;
 use any_machine::Machines;
-use ddm_types::{BusNo, HartNo, ItemId, LEVELS, LeafNo, Op};
+use ddm_types::{BusNo, HartNo, ItemId, LEVELS, LeafNo, LeafState, Op};
 use text_model::RunCounts;
 use witness_order::Ordered;
 
 // From so many bytes on a line takes no further byte of output and no further state.
 const LONG_LINE: usize = 500;
+
+// The most leaves whose states are read in one walk.
+const MOST_AT_ONCE: usize = 64;
 
 // The most bytes with which a line takes the line of a further operation.
 const MOST_BEFORE_OPERATION: usize = 257;
@@ -145,8 +148,50 @@ pub fn put_item<const WORDS: usize>(line: &mut Line, machine: &Machines<WORDS>, 
     };
 }
 
-/// Puts the states of an item's entries from a leaf on, until the line is long, and says from which leaf on the rest is.
-pub fn put_states<const WORDS: usize>(
+// Puts the letters of these states from one on, until the line is long, and says from which one on the rest is.
+#[tactic(auto, unfolding(text_model::specs::Report::letter_texts))]
+fn put_letters(line: &mut Line, states: &[Option<LeafState>], from: usize) -> usize
+    requires empty { line.old ≡ [] }
+    requires from { from ≤ length states.now }
+    ensures within { result ≤ length states.now }
+    ensures states { letter_texts (drop from states.now) ≡ line.new ++ letter_texts (drop result states.now) }
+    ensures room { length line.new ≤ 500 }
+    ensures long { result < length states.now → 500 ≤ length line.new }
+{
+    let mut next = from;
+    'letters: while next < states.len() && line.len() < LONG_LINE {
+        let Ok(()) = push_letter(line, states[next]) else {
+            unreachable!();
+        };
+        next += 1;
+    }
+    next
+}
+
+// Puts the states of an item's entries in one walk over a tree of few leaves.
+fn put_few_states<const WORDS: usize>(
+    line: &mut Line,
+    machine: &Machines<WORDS>,
+    item: ItemId,
+    from: u32,
+    leaves: u32,
+) -> u32
+    requires empty { line.old ≡ [] }
+    requires few { leaves ≤ MOST_AT_ONCE }
+    requires leaves { leaves ≡ (tree_counts (state_in machine.now).machine).leaves }
+    requires from { from ≤ leaves }
+    ensures within { result ≤ leaves }
+    ensures states { let all = states_of item (state_in machine.now).machine in letter_texts (drop from all) ≡ line.new ++ letter_texts (drop result all) }
+    ensures room { length line.new ≤ 500 }
+    ensures long { result < leaves → 500 ≤ length line.new }
+{
+    let mut states = [None; MOST_AT_ONCE];
+    machine.states(item, &mut states);
+    put_letters(line, &states[..leaves as usize], from as usize) as u32
+}
+
+// Puts the states of an item's entries leaf by leaf.
+fn put_many_states<const WORDS: usize>(
     line: &mut Line,
     machine: &Machines<WORDS>,
     item: ItemId,
@@ -170,6 +215,30 @@ pub fn put_states<const WORDS: usize>(
         next += 1;
     }
     next
+}
+
+/// Puts the states of an item's entries from a leaf on, until the line is long, and says from which leaf on the rest is.
+pub fn put_states<const WORDS: usize>(
+    line: &mut Line,
+    machine: &Machines<WORDS>,
+    item: ItemId,
+    from: u32,
+    leaves: u32,
+) -> u32
+    requires empty { line.old ≡ [] }
+    requires shape { IsShaped (state_in machine.now).machine }
+    requires leaves { leaves ≡ (tree_counts (state_in machine.now).machine).leaves }
+    requires from { from ≤ leaves }
+    ensures within { result ≤ leaves }
+    ensures states { let all = states_of item (state_in machine.now).machine in letter_texts (drop from all) ≡ line.new ++ letter_texts (drop result all) }
+    ensures room { length line.new ≤ 500 }
+    ensures long { result < leaves → 500 ≤ length line.new }
+{
+    if leaves as usize <= MOST_AT_ONCE {
+        put_few_states(line, machine, item, from, leaves)
+    } else {
+        put_many_states(line, machine, item, from, leaves)
+    }
 }
 
 // Puts the line of an operation at the end.

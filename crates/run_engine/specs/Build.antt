@@ -1,6 +1,7 @@
 -- What is made of a tree and an image.
-use Rattle.std.specs.Prelude.{Option}
+use Rattle.std.specs.Prelude.{Bool, Option, nat_lt}
 use Rattle.std.specs.Option.{option_map}
+use Rattle.ddm_types.specs.declared.sizes.Span.{Span}
 use Rattle.tree_model.specs.Start.Sources.{TreeValue, ImageValue}
 use Rattle.tree_model.specs.Start.Machine.{StartRefusal, too_many_items, stack_overlap, no_place, start_refusal}
 use Rattle.run_engine.specs.declared.refusal.BuildRefusal.{BuildRefusal}
@@ -15,3 +16,6 @@ refusal_of (no_place i) = NoPlace i
 -- why there is no machine of a tree and an image
 abbrev pub build_refusal : TreeValue → ImageValue → Option BuildRefusal
 build_refusal t i = option_map refusal_of (start_refusal t i)
+
+abbrev pub has_bytes : Span → Bool
+has_bytes s = nat_lt 0 s.bytes

@@ -1,17 +1,17 @@
-ghost use Rattle.std.specs.Prelude.{◌≡◌, ◌⊎◌, ◌≤◌, map, None, Some, IfOk, IfErr, OnOk};
-ghost use Rattle.ddm_types.specs.ItemTable.{item_count};
+ghost use Rattle.std.specs.Prelude.{◌≡◌, ℕ, ◌^◌, ◌⊎◌, ◌≤◌, map, All, None, Some, IfOk, IfErr, OnOk};
+ghost use Rattle.ddm_types.specs.ItemTable.{item_count, items_of, span_end};
 ghost use Rattle.tree_model.specs.Start.Memory.{item_words, start_items};
 ghost use Rattle.tree_model.specs.Start.Sources.{stack_spans};
 ghost use Rattle.tree_model.specs.Start.Machine.{overlap_from, start_refusal};
 ghost use Rattle.std.specs.Option.{option_map};
-ghost use Rattle.run_engine.specs.Build.{build_refusal, refusal_of};
+ghost use Rattle.run_engine.specs.Build.{build_refusal, has_bytes, refusal_of};
 ghost use Rattle.run_engine.specs.declared.refusal.BuildRefusal.TheVariants as refusal;
 
 use crate::harts::start_of_harts;
 use crate::memory::item_words;
 use crate::refusal::BuildRefusal;
 use crate::tree::{item_bytes, place_count};
-use ddm_types::{ItemId, Items, MOST_ITEMS, NoMemory, Words, count_items};
+use ddm_types::{ItemId, Items, MOST_ITEMS, NoMemory, Span, Words, count_items};
 use elf_load::{Image, Segment};
 use start_memory::{first_overlap, spans_of};
 use std::alloc::Global;
@@ -49,6 +49,20 @@ fn judge(tree: &TreeConfig, image: &Image, count: u64) -> Result<(), BuildRefusa
     Ok(())
 }
 
+fn has_bytes(span: &Span) -> bool
+    ensures { result ≡ has_bytes span.now }
+{
+    span.bytes > 0
+}
+
+// Leaves the spans that have bytes. The others have no part in any item, and each item would be compared with each of them.
+fn keep_filled(spans: &mut Vec<Span>)
+    ensures items { (size : ℕ) → items_of size spans.new.items ≡ items_of size spans.old.items }
+    ensures ends { All (λ span. span_end span ≤ 2 ^ 32) spans.old.items → All (λ span. span_end span ≤ 2 ^ 32) spans.new.items }
+{
+    spans.retain(|span| has_bytes(span));
+}
+
 /// The items of a machine that has a start.
 #[tactic(auto, unfolding(tree_model::specs::Start::Memory::start_items))]
 pub fn items(alloc: Global, tree: &TreeConfig, image: &Image) -> Result<Items, BuildRefusal>
@@ -56,9 +70,10 @@ pub fn items(alloc: Global, tree: &TreeConfig, image: &Image) -> Result<Items, B
     ensures none { IfOk result (λ items. start_refusal tree.now image.now ≡ None) }
     ensures refused { IfErr result (λ r. (r ≡ refusal.NoMemory) ⊎ (build_refusal tree.now image.now ≡ Some r)) }
 {
-    let spans = spans_of(alloc, &image.segments, start_of_harts(tree, image))?;
+    let mut spans = spans_of(alloc, &image.segments, start_of_harts(tree, image))?;
     let count = count_items(alloc, &spans, item_bytes(tree))?;
     judge(tree, image, count)?;
+    keep_filled(&mut spans);
     Ok(Items::from_spans(alloc, &spans, item_bytes(tree))?)
 }
 

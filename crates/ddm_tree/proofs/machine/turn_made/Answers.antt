@@ -8,7 +8,7 @@ use Rattle.ddm_tree.specs.Path.{node_answer, node_at, present_at}
 use Rattle.ddm_tree.specs.Quiet.{AreQuiet, AreRelearned}
 use Rattle.ddm_tree.specs.Ready.{Leads}
 use Rattle.ddm_tree.proofs.IdleHarts.{noted-idle, spared}
-use Rattle.ddm_tree.proofs.QuietTable.{quiet-same, waits-relearned}
+use Rattle.ddm_tree.proofs.QuietTable.{quiet-same, agree-relearned}
 use Rattle.ddm_tree.proofs.QuietTurns.{relearned-quiet}
 use Rattle.ddm_tree.proofs.TurnMade.{same-path}
 use Rattle.ddm_tree.proofs.machine.turn_made.Goals as goal
@@ -38,9 +38,11 @@ returns-in-None-clause-idle g c =
     let leaf_paths = map vec_items c.args.leaf_paths.now in
     let bus_paths = map vec_items c.args.bus_paths.now in
     let bus_leaves = map vec_items c.args.bus_leaves.now in
-    let noted = subst (λ a. AreNoted c.args.turn.now a bus_leaves c.args.idle.now c.note.new.idle) (c.turn_found.ensures.answer found.path found.listed) c.note.ensures.noted in
+    let after = c.turn_found.ensures.after found.path found.listed in
+    let told = subst (λ a. AreNoted c.args.turn.now a bus_leaves leaf_paths (dir_node c.turn_found.new.top (nodes (map g.C.Agent.value c.turn_found.new.children))) c.args.idle.now c.note.new.idle) (c.turn_found.ensures.answer found.path found.listed) (c.note.ensures.noted c.turn_found.new.top) in
+    let noted = subst (λ m. AreNoted c.args.turn.now (node_answer c.args.code.now c.args.items.now c.args.turn.now found.path (present_at found.path stamp_zero n) (node_at found.path n)) bus_leaves leaf_paths m c.args.idle.now c.note.new.idle) after told in
     let idle = noted-idle c.args.code.now c.args.items.now c.args.turn.now found.path (present_at found.path stamp_zero n) n found.leads bus_leaves leaf_paths bus_paths c.args.idle.now found.listed c.requires.near.below c.requires.paths c.requires.idle c.note.new.idle noted in
-    subst (AreIdle c.args.code.now c.args.items.now c.note.new.idle n) (sym (c.turn_found.ensures.after found.path found.listed)) idle
+    subst (AreIdle c.args.code.now c.args.items.now c.note.new.idle n) (sym after) idle
 
 pub returns-in-None-clause-quiet : goal.returns-in-None-clause-quiet
 returns-in-None-clause-quiet g c =
@@ -57,5 +59,5 @@ returns-in-None-clause-quiet g c =
     let quiet = relearned-quiet c.args.code.now c.args.items.now c.args.turn.now found.path (present_at found.path stamp_zero n) n leaf_near bus_near (map vec_items c.args.bus_leaves.now) leaf_paths bus_paths c.note.new.quiet c.note_buses.new.known found.leads found.listed c.requires.near c.requires.listed kept learned in
     subst (AreQuiet c.note_buses.new.known n) (sym after) quiet
 
-pub returns-in-None-clause-waits : goal.returns-in-None-clause-waits
-returns-in-None-clause-waits g c = waits-relearned c.args.turn.now _ _ _ _ _ c.note.new.idle c.note.new.quiet c.note_buses.new.known c.note_buses.ensures (c.note.ensures.waits c.requires.waits)
+pub returns-in-None-clause-harts : goal.returns-in-None-clause-harts
+returns-in-None-clause-harts g c = agree-relearned c.args.turn.now _ _ _ _ _ c.note.new.idle c.note.new.quiet c.note_buses.new.known c.note_buses.ensures (c.note.ensures.harts c.requires.harts)

@@ -1,4 +1,4 @@
-use Rattle.std.proofs.Common.{◌≡◌, is_none, map, sym, ap, subst, ◌∙◌, arith}
+use Rattle.std.proofs.Common.{◌≡◌, ◌<◌, is_none, map, sym, ap, subst, ◌∙◌, arith}
 use Rattle.std.proofs.lemmas.List.{get_or-map}
 use Rattle.tree_model.specs.State.Blank.{no_node}
 use Rattle.tree_model.specs.State.Child.{child_leaving, child_reply, child_request}
@@ -16,11 +16,12 @@ pub loop-c-preserved : goal.loop-c-preserved
 loop-c-preserved g c =
     let i = c.loop-c.invariant in
     let k = c.loop-c.c in
+    let few : k < 16 = omega (arith, c.loop-c-test.true, c.min-c-end.ensures) in
     let kids = map g.C.Agent.value c.args.children.now in
     let child : child_at k kids ≡ g.C.Agent.value c.index-children-c.result = get_or-map g.C.Agent.value c.args.children.now k c.index-children-c.result no_node (omega (arith, c.loop-c-test.true, c.min-c-end.ensures)) ∙ ap g.C.Agent.value (sym c.index-children-c.is) in
-    let requests = subst (λ r. IsRow (λ j. is_none (child_request (child_at j kids))) r) (sym c.put_child.ensures.requests) (row-put _ c.loop-c.requests k _ (ap (λ n. is_none (child_request n)) (sym child)) i.0) in
-    let replies = subst (λ r. IsRow (λ j. is_none (child_reply (child_at j kids))) r) (sym c.put_child.ensures.replies) (row-put _ c.loop-c.replies k _ (ap (λ n. is_none (child_reply n)) (sym child)) i.1) in
-    let leaves = subst (λ r. IsRow (λ j. is_none (child_leaving 0 (child_at j kids))) r) (sym c.put_child.ensures.leaves) (row-put _ c.loop-c.leaves k _ (ap (λ n. is_none (child_leaving 0 n)) (sym child)) i.2) in
+    let requests = subst (λ r. IsRow (λ j. is_none (child_request (child_at j kids))) r) (sym c.put_child.ensures.requests) (row-put _ c.loop-c.requests k _ few (ap (λ n. is_none (child_request n)) (sym child)) i.0) in
+    let replies = subst (λ r. IsRow (λ j. is_none (child_reply (child_at j kids))) r) (sym c.put_child.ensures.replies) (row-put _ c.loop-c.replies k _ few (ap (λ n. is_none (child_reply n)) (sym child)) i.1) in
+    let leaves = subst (λ r. IsRow (λ j. is_none (child_leaving 0 (child_at j kids))) r) (sym c.put_child.ensures.leaves) (row-put _ c.loop-c.leaves k _ few (ap (λ n. is_none (child_leaving 0 n)) (sym child)) i.2) in
     (requests, replies, leaves)
 
 pub returns : goal.returns

@@ -6,7 +6,7 @@ use Rattle.ddm_tree.specs.Copying.{AreAlike, copied}
 use Rattle.ddm_tree.specs.Machine.{IsMachine, MachineState, machine_of}
 use Rattle.ddm_tree.proofs.Copies.{alike-child, alike-count, copied-is_machine, copied-machine, copied-state, counts-same, roots-alike}
 use Rattle.ddm_tree.proofs.IdleHarts.{nothing-idle}
-use Rattle.ddm_tree.proofs.QuietTurns.{blank-quiet, blank-waits}
+use Rattle.ddm_tree.proofs.QuietTurns.{blank-quiet, blank-agree}
 use Rattle.ddm_tree.proofs.TurnMade.{items-back}
 use Rattle.ddm_tree.proofs.machine.Machine.copy_from.Goals as goal
 
@@ -49,7 +49,7 @@ invariant_of-self g c =
     let others : length c.refill.new.ops.items ≡ length c.other.inside.ops.items = ap length (c.refill.ensures.items ∙ c.deref-2.ensures.value) in
     let asked : length c.other.inside.ops.items ≤ length c.self.inside.ops.items + c.self.inside.spare = omega (arith, c.requires.room, ap (λ s. length s.machine.ops) c.other.view_is, ap (λ s. length s.machine.ops) c.self.view_is, ap (λ s. s.spare) c.self.view_is) in
     let room : length c.refill.new.ops.items + c.room_left-self-inside.result ≤ vec_capacity c.refill.new.ops = omega (arith, others, asked, inv.4, c.refill.ensures.capacity, c.room_left-self-inside.ensures, c.len.ensures, c.len-2.ensures, c.self.inside.ops.ok.0, c.other.inside.ops.ok.0) in
-    (subst (λ n. IsMachine g.row.WORDS n c.other.inside.turns leaf_paths bus_paths) (sym after) is, ap tree_counts after ∙ counts-same m k frame ∙ inv.1, inv.2, inv.3, room, nothing-idle c.self.inside.code c.self.inside.items c.forget_all.new.idle _ _ _ back c.forget_all.ensures, blank-quiet c.forget_quiet.new.known _ _ _ quiet-back c.forget_quiet.ensures, blank-waits c.forget_quiet.new.known _ _ quiet-back c.forget_quiet.ensures, inv.8)
+    (subst (λ n. IsMachine g.row.WORDS n c.other.inside.turns leaf_paths bus_paths) (sym after) is, ap tree_counts after ∙ counts-same m k frame ∙ inv.1, inv.2, inv.3, room, nothing-idle c.self.inside.code c.self.inside.items c.forget_all.new.idle _ _ _ back c.forget_all.ensures, blank-quiet c.forget_quiet.new.known _ _ _ quiet-back c.forget_quiet.ensures, blank-agree c.forget_quiet.new.known _ _ quiet-back c.forget_quiet.ensures, inv.8)
 
 pub returns : goal.returns
 returns g c =

@@ -1,12 +1,12 @@
--- A turn that is known to find nothing.
-use Rattle.std.proofs.Common.{◌≡◌, ◌+◌, map, true, vec_items, sym, ap, subst, ◌∙◌}
+-- A turn that is known to change nothing.
+use Rattle.std.proofs.Common.{◌≡◌, ◌+◌, map, true, Some, vec_items, sym, ap, subst, ◌∙◌}
 use Rattle.ddm_types.specs.Keys.{stamp_zero}
 use Rattle.tree_model.specs.State.Values.{dir_node, nodes, root_of}
 use Rattle.tree_model.specs.State.Shape.{widths_bounded}
 use Rattle.tree_model.specs.Turns.Machine.{names_part, turn_of}
 use Rattle.ddm_tree.specs.Machine.{IsMachine, MachineState, machine_of, state_after}
 use Rattle.ddm_tree.specs.Path.{present_at}
-use Rattle.ddm_tree.specs.Quiet.{counts_nothing, is_known}
+use Rattle.ddm_tree.specs.Quiet.{known_as, passed_as}
 use Rattle.ddm_tree.proofs.MachineKept.{turn-keeps}
 use Rattle.ddm_tree.proofs.QuietColumns.{column-few}
 use Rattle.ddm_tree.proofs.QuietPass.{passed-turn}
@@ -20,18 +20,18 @@ abbrev before : (g : Given.Over) → goal.After-self-1 g → MachineState
 before g c = record { machine = machine_of c.self.inside.code c.self.inside.items c.self.inside.top (map g.C.Agent.value c.self.inside.children.items) c.self.inside.ops.items c.self.inside.traffic.items; spare = c.self.inside.spare; turns = c.self.inside.turns }
 
 -- the turn changes nothing but the number of turns
-passed : (g : Given.Over) (c : goal.After-self-1 g) → (state_after c.args.turn.now (before g c) ≡ record (before g c) { turns = c.self.inside.turns + 1 }) × (counts_nothing (turn_of c.args.turn.now (before g c).machine).answer ≡ true)
+passed : (g : Given.Over) (c : goal.After-self-1 g) → (state_after c.args.turn.now (before g c) ≡ record (before g c) { turns = c.self.inside.turns + 1 }) × (passed_as (turn_of c.args.turn.now (before g c).machine).answer ≡ Some c.in_ok-busy.busy)
 passed g c =
     let root = dir_node c.self.inside.top (nodes (map g.C.Agent.value c.self.inside.children.items)) in
     let inv = c.self.invariant in
     let named : names_part c.args.turn.now (before g c).machine ≡ true = subst (λ s. names_part c.args.turn.now s.machine ≡ true) (sym c.self.view_is) c.requires.named in
     let found = part-found g.row.WORDS c.self.inside.turns (map vec_items c.self.inside.leaf_paths.items) (map vec_items c.self.inside.bus_paths.items) c.args.turn.now (before g c).machine inv.0 named in
-    let known : is_known c.args.turn.now c.self.inside.quiet.items ≡ true = ap (is_known c.args.turn.now) (sym c.deref.ensures.value) ∙ sym c.is_known-known.ensures ∙ c.if-known.true in
-    let is = known-passed c.self.inside.code c.self.inside.items c.args.turn.now found.path (present_at found.path stamp_zero root) root c.self.inside.quiet.items c.self.inside.idle.items found.leads inv.6 inv.7 inv.5 known in
-    passed-turn c.args.turn.now (before g c) found.path found.leads is
+    let known : known_as c.args.turn.now c.self.inside.quiet.items ≡ Some c.in_ok-busy.busy = ap (known_as c.args.turn.now) (sym c.deref.ensures.value) ∙ sym {a = Some c.in_ok-busy.busy} {b = known_as c.args.turn.now c.deref.result.now} c.in_ok-busy.ensures in
+    let is = known-passed c.self.inside.code c.self.inside.items c.args.turn.now c.in_ok-busy.busy found.path (present_at found.path stamp_zero root) root c.self.inside.quiet.items c.self.inside.idle.items found.leads inv.6 inv.7 inv.5 known in
+    passed-turn c.args.turn.now c.in_ok-busy.busy (before g c) found.path found.leads is
 
-pub is_known-known-requires : goal.is_known-known-requires
-is_known-known-requires g c =
+pub known_as-requires : goal.known_as-requires
+known_as-requires g c =
     let m = machine_of c.self.inside.code c.self.inside.items c.self.inside.top (map g.C.Agent.value c.self.inside.children.items) c.self.inside.ops.items c.self.inside.traffic.items in
     let inv = c.self.invariant in
     let named : names_part c.args.turn.now m ≡ true = subst (λ s. names_part c.args.turn.now s.machine ≡ true) (sym c.self.view_is) c.requires.named in
@@ -46,8 +46,8 @@ invariant_of-self g c =
     let keeps = turn-keeps g.row.WORDS c.self.inside.turns leaf_paths bus_paths c.args.turn.now (before g c).machine inv.0 in
     (subst (λ n. IsMachine g.row.WORDS n (c.self.inside.turns + 1) leaf_paths bus_paths) (ap (λ s. s.machine) (passed g c).0) keeps, inv.1, inv.2, inv.3, inv.4, inv.5, inv.6, inv.7, inv.8)
 
-pub returns-then-known-clause-passed : goal.returns-then-known-clause-passed
-returns-then-known-clause-passed g c = λ known. sym (passed g c).0 ∙ ap (state_after c.args.turn.now) c.self.view_is
+pub returns-clause-passed : goal.returns-clause-passed
+returns-clause-passed g c = sym (passed g c).0 ∙ ap (state_after c.args.turn.now) c.self.view_is
 
-pub returns-then-known-clause-nothing : goal.returns-then-known-clause-nothing
-returns-then-known-clause-nothing g c = λ known. subst (λ s. counts_nothing (turn_of c.args.turn.now s.machine).answer ≡ true) c.self.view_is (passed g c).1
+pub returns-clause-counted : goal.returns-clause-counted
+returns-clause-counted g c = subst (λ s. passed_as (turn_of c.args.turn.now s.machine).answer ≡ Some c.in_ok-busy.busy) c.self.view_is (passed g c).1

@@ -5,7 +5,7 @@ use Rattle.tree_model.specs.State.Values.{dir_node, nodes, root_of}
 use Rattle.tree_model.specs.Turns.Machine.{names_part, turn_of}
 use Rattle.tree_model.specs.Turns.Tree.{bus_of_number, leaf_of_number}
 use Rattle.ddm_tree.specs.Machine.{IsMachine, MachineState, machine_of, state_after}
-use Rattle.ddm_tree.specs.Quiet.{HartsWait}
+use Rattle.ddm_tree.specs.Quiet.{HartsAgree}
 use Rattle.ddm_tree.proofs.IdleHarts.{idle-after}
 use Rattle.ddm_tree.proofs.MachineKept.{turn-keeps}
 use Rattle.ddm_tree.proofs.QuietTurns.{quiet-after}
@@ -98,9 +98,9 @@ invariant_of-self g c =
     let left = dir_node c.turn_made.new.top (nodes (map g.C.Agent.value c.turn_made.new.children)) in
     let idle = idle-after c.self.inside.code c.self.inside.items c.args.turn m c.turn_made.new.idle _ left _ (idle-back g c) (ap root_of after) (ap (λ cs. dir_node c.turn_made.new.top (nodes (map g.C.Agent.value cs))) (children-back g c)) (rw (c.deref_mut.ensures.value) at c.turn_made.ensures.idle) in
     let quiet = quiet-after c.args.turn m c.turn_made.new.quiet _ left _ (quiet-back g c) (ap root_of after) (ap (λ cs. dir_node c.turn_made.new.top (nodes (map g.C.Agent.value cs))) (children-back g c)) (rw (c.deref_mut.ensures.value) at c.turn_made.ensures.quiet) in
-    let waits = subst (λ k. HartsWait k (take c.self.inside.idle.len (c.turn_made.new.idle ++ drop (length c.turn_made.new.idle) c.self.inside.idle.items))) (sym (quiet-back g c)) (subst (HartsWait c.turn_made.new.quiet) (sym (idle-back g c)) c.turn_made.ensures.waits) in
+    let harts = subst (λ k. HartsAgree k (take c.self.inside.idle.len (c.turn_made.new.idle ++ drop (length c.turn_made.new.idle) c.self.inside.idle.items))) (sym (quiet-back g c)) (subst (HartsAgree c.turn_made.new.quiet) (sym (idle-back g c)) c.turn_made.ensures.harts) in
     let keeps = turn-keeps g.row.WORDS c.self.inside.turns leaf_paths bus_paths c.args.turn m inv.0 in
-    (subst (λ n. IsMachine g.row.WORDS n (c.self.inside.turns + 1) leaf_paths bus_paths) (sym after) keeps, ap tree_counts after ∙ turn-tree_counts c.args.turn m ∙ inv.1, inv.2, inv.3, c.record.ensures.room, idle, quiet, waits, inv.8)
+    (subst (λ n. IsMachine g.row.WORDS n (c.self.inside.turns + 1) leaf_paths bus_paths) (sym after) keeps, ap tree_counts after ∙ turn-tree_counts c.args.turn m ∙ inv.1, inv.2, inv.3, c.record.ensures.room, idle, quiet, harts, inv.8)
 
 pub returns-clause-answer : goal.returns-clause-answer
 returns-clause-answer g c = (told g c).answer_is ∙ ap (λ s. (turn_of c.args.turn s.machine).answer) c.self.view_is

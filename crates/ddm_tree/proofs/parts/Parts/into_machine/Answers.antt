@@ -5,7 +5,7 @@ use Rattle.ddm_tree.specs.Counts.{counts_within}
 use Rattle.ddm_tree.specs.Machine.{IsMachine, machine_of, traffic_within}
 use Rattle.ddm_tree.specs.Rules.{KeepsRules}
 use Rattle.ddm_tree.proofs.IdleHarts.{nothing-idle}
-use Rattle.ddm_tree.proofs.QuietTurns.{blank-quiet, blank-waits}
+use Rattle.ddm_tree.proofs.QuietTurns.{blank-quiet, blank-agree}
 use Rattle.ddm_tree.proofs.TurnMade.{items-back}
 use Rattle.ddm_tree.proofs.parts.Parts.into_machine.Goals as goal
 
@@ -29,4 +29,4 @@ invariant_of-result g c =
       paths = inv.0.paths;
     } in
     let room : length c.self.inside.ops.items + 0 ≤ vec_capacity c.self.inside.ops = omega (arith, c.self.inside.ops.ok.0, c.self.inside.ops.ok.1) in
-    (is, inv.1, inv.2, inv.3, room, nothing-idle c.self.inside.code c.self.inside.items c.forget_all.new.idle _ root root back c.forget_all.ensures, blank-quiet c.forget_quiet.new.known _ root root quiet-back c.forget_quiet.ensures, blank-waits c.forget_quiet.new.known _ _ quiet-back c.forget_quiet.ensures, inv.4)
+    (is, inv.1, inv.2, inv.3, room, nothing-idle c.self.inside.code c.self.inside.items c.forget_all.new.idle _ root root back c.forget_all.ensures, blank-quiet c.forget_quiet.new.known _ root root quiet-back c.forget_quiet.ensures, blank-agree c.forget_quiet.new.known _ _ quiet-back c.forget_quiet.ensures, inv.4)

@@ -7,7 +7,7 @@ use Rattle.inspector.proofs.LeafStates.{states-counted}
 use Rattle.any_machine.specs.Any.{state_in}
 use Rattle.report.proofs.MachineLines.{got-is, state-shown}
 use Rattle.report.proofs.ReportParts.{one-more}
-use Rattle.report.proofs.machine_parts.put_states.Goals as goal
+use Rattle.report.proofs.machine_parts.put_many_states.Goals as goal
 
 pub state-requires : goal.state-requires
 state-requires g c =

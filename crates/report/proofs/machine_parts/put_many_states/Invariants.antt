@@ -2,7 +2,7 @@ use Rattle.std.proofs.Common.{◌≡◌, ◌≤◌, ◌-◌, ◌++◌, length, d
 use Rattle.tree_model.specs.Turns.Found.{states_of}
 use Rattle.text_model.specs.Report.{letter_texts}
 use Rattle.any_machine.specs.Any.{state_in}
-use Rattle.report.proofs.machine_parts.put_states.Given as goal
+use Rattle.report.proofs.machine_parts.put_many_states.Given as goal
 
 abbrev pub invariant-states : goal.invariant-states
 invariant-states g l = let all = states_of l.item (state_in l.machine).machine in record {

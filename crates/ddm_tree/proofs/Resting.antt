@@ -1,0 +1,146 @@
+-- What is remembered of harts after a look at their leaves.
+-- Letters: k, m and j numbers of leaves, i why a hart is idle, o what is remembered of one, n the tree, p and q paths.
+use Rattle.std.proofs.Common.{◌≡◌, ◌≢◌, ℕ, zero, suc, ◌+◌, ◌<◌, ◌≤◌, inl, inr, Bool, true, false, List, [], ◌∷◌, length, map, Option, Some, None, refl, sym, ap, subst, ◌∙◌, arith}
+use Rattle.std.specs.Prelude.{IfSome, nat_lt, slice_get, slice_set}
+use Rattle.std.proofs.lemmas.Bool.{ltb-true, ltb-false}
+use Rattle.std.proofs.lemmas.List.{set_past}
+use Rattle.std.proofs.lemmas.Option.{none-some, same_Some, slice_get_past}
+use native.Mathlib.Decide.{ℕ_discrete}
+use Rattle.ddm_types.specs.declared.answers.TurnAnswer.{TurnAnswer}
+use Rattle.ddm_types.specs.declared.turns.Turn.{Turn}
+use Rattle.tree_model.specs.State.Values.{Node}
+use Rattle.tree_model.specs.Turns.Machine.{named_by}
+use Rattle.tree_model.specs.Turns.Tree.{leaf_of_number, bus_of_number}
+use Rattle.split_bus.specs.Outcomes.{is_granted}
+use Rattle.ddm_tree.specs.declared.idle.Idle.{Idle}
+use Rattle.ddm_tree.specs.Idle.{AreNoted, AreSeen, IsKnown, IsLooked, IsSeen, IsSeenOr, idle_told, is_seen, is_told, node_rests, still_known, with_idle}
+use Rattle.ddm_tree.specs.Path.{node_at}
+use Rattle.ddm_tree.specs.Quiet.{IsNoneOf}
+use Rattle.ddm_tree.proofs.KeysRising.{set-here, set-other}
+use Rattle.ddm_tree.proofs.QuietTable.{none-next}
+
+module _ (paths : List (List ℕ)) (n : Node) where
+  -- what the leaf tells, where its path is known
+  pub seen-listed : (k : ℕ) (p : List ℕ) (i : Idle) → slice_get paths k ≡ Some p → node_rests (node_at p n) ≡ Some i → IsSeen k paths n i
+  seen-listed k p i listed rests = λ q there. subst (λ r. node_rests (node_at r n) ≡ Some i) (same_Some p q (sym listed ∙ there)) rests
+
+  pub rest-seen : (k : ℕ) (p : List ℕ) (o : Option Idle) → slice_get paths k ≡ Some p → IfSome o (λ i. node_rests (node_at p n) ≡ Some i) → IfSome o (λ i. IsSeen k paths n i)
+  rest-seen k p None listed rests = rests
+  rest-seen k p (Some i) listed rests = seen-listed k p i listed rests
+
+  -- ---- one leaf
+
+  looked-inside : (k : ℕ) (o : Option Idle) (before : List (Option Idle)) → k < length before → ((i : Idle) → o ≡ Some i → IsSeen k paths n i) → IsLooked k paths n before (slice_set before k o)
+  looked-inside k o before inside tells = record {
+    own = λ i known. tells i (same_Some o (Some i) (sym (set-here before k o inside) ∙ known));
+    others = λ j i other known. sym (set-other before k j o other) ∙ known;
+  }
+
+  looked-past : (k : ℕ) (o : Option Idle) (before : List (Option Idle)) → length before ≤ k → IsLooked k paths n before (slice_set before k o)
+  looked-past k o before past = rw (set_past before k o past) (record {
+    own = λ i known. absurd (none-some (Some i) (sym (slice_get_past before k past) ∙ known));
+    others = λ j i other known. known;
+  })
+
+  looked-by : (k : ℕ) (o : Option Idle) (before : List (Option Idle)) → ((i : Idle) → o ≡ Some i → IsSeen k paths n i) → (b : Bool) → nat_lt k (length before) ≡ b → IsLooked k paths n before (slice_set before k o)
+  looked-by k o before tells true e = looked-inside k o before (ltb-true _ _ e) tells
+  looked-by k o before tells false e = looked-past k o before (ltb-false _ _ e)
+
+  pub looked-put : (k : ℕ) (o : Option Idle) (before : List (Option Idle)) → IfSome o (λ i. IsSeen k paths n i) → IsLooked k paths n before (slice_set before k o)
+  looked-put k o before tells = looked-by k o before (λ i is. seen-some i (subst (λ p. IfSome p (λ i. IsSeen k paths n i)) is tells)) (nat_lt k (length before)) refl
+    where
+      seen-some : (i : Idle) → IfSome (Some i) (λ i. IsSeen k paths n i) → IsSeen k paths n i
+      seen-some i tells = tells
+
+  -- ---- the leaves of a list
+
+  pub seen-none : (leaves : List ℕ) (before : List (Option Idle)) → AreSeen 0 leaves paths n before before
+  seen-none leaves before = record { each = λ k i known. inr (known, λ place below. absurd (omega (arith, below))) }
+
+  module _ (count m : ℕ) (leaves : List ℕ) (before mid after : List (Option Idle)) (at : slice_get leaves count ≡ Some m) (seen : AreSeen count leaves paths n before mid) (one : IsLooked m paths n mid after) where
+    seen-kept : (k : ℕ) (i : Idle) → k ≢ m → IsSeenOr (IsNoneOf k count leaves) k paths n before i → IsSeenOr (IsNoneOf k (count + 1) leaves) k paths n before i
+    seen-kept k i other (inl tells) = inl tells
+    seen-kept k i other (inr kept) = inr (kept.0, none-next k m count leaves at other kept.1)
+
+    seen-next : (k : ℕ) (i : Idle) → Dec (k ≡ m) → slice_get after k ≡ Some (Some i) → IsSeenOr (IsNoneOf k (count + 1) leaves) k paths n before i
+    seen-next k i (yes own) known = inl (subst (λ j. IsSeen j paths n i) (sym own) (one.own i (ap (slice_get after) (sym own) ∙ known)))
+    seen-next k i (no other) known = seen-kept k i other (seen.each k i (one.others k i other known))
+
+    pub seen-more : AreSeen (count + 1) leaves paths n before after
+    seen-more = record { each = λ k i known. seen-next k i (ℕ_discrete k m) known }
+
+-- ---- after a turn
+
+-- no list stands there
+pub unlisted-there : {X : Type 0} (f : X → List ℕ) (xs : List X) (k : ℕ) → length xs ≤ k → slice_get (map f xs) k ≡ None
+unlisted-there f [] k past = refl
+unlisted-there f (x ∷ xs) zero past = absurd (omega (arith, past))
+unlisted-there f (x ∷ xs) (suc k) past = unlisted-there f xs k (omega (arith, past))
+
+module _ (a : TurnAnswer) (bus_leaves paths : List (List ℕ)) (n : Node) (before : List (Option Idle)) where
+  same-bus : (b c : ℕ) → bus_of_number b ≡ bus_of_number c → b ≡ c
+  same-bus b c e = cc
+
+  no-bus : (k b : ℕ) → leaf_of_number k ≡ bus_of_number b → ⊥
+  no-bus k b e = cc
+
+  -- of a bus that has a list of leaves
+  module _ (t : Turn) (bus : ℕ) (named : named_by t ≡ bus_of_number bus) where
+    seen-known : (leaves : List ℕ) (k : ℕ) (i : Idle) → slice_get bus_leaves bus ≡ Some leaves → IsSeenOr (IsNoneOf k (length leaves) leaves) k paths n before i → IsKnown t a bus_leaves paths n before k i
+    seen-known leaves k i listed (inl tells) = is_seen tells
+    seen-known leaves k i listed (inr kept) =
+        still_known kept.0 (λ granted other others is there.
+        let same : other ≡ bus = same-bus other bus (sym is ∙ named) in
+        let list : leaves ≡ others = same_Some leaves others (sym listed ∙ ap (slice_get bus_leaves) (sym same) ∙ there) in
+        subst (λ xs. IsNoneOf k (length xs) xs) list kept.1)
+
+    pub noted-seen : (leaves : List ℕ) (after : List (Option Idle)) → slice_get bus_leaves bus ≡ Some leaves → AreSeen (length leaves) leaves paths n before after → AreNoted t a bus_leaves paths n before after
+    noted-seen leaves after listed seen = record { each = λ k i known. seen-known leaves k i listed (seen.each k i known) }
+
+    pub noted-unlisted : slice_get bus_leaves bus ≡ None → AreNoted t a bus_leaves paths n before before
+    noted-unlisted none = record {
+      each = λ k i known. still_known known (λ granted other others is there.
+          absurd (none-some others (sym none ∙ ap (slice_get bus_leaves) (sym (same-bus other bus (sym is ∙ named))) ∙ there)));
+    }
+
+  -- of a hart whose leaf was looked at
+  module _ (t : Turn) (hart : ℕ) (named : named_by t ≡ leaf_of_number hart) where
+    hart-known : (k : ℕ) (i : Idle) → slice_get before k ≡ Some (Some i) → IsKnown t a bus_leaves paths n before k i
+    hart-known k i known = still_known known (λ granted bus leaves is there. absurd (no-bus hart bus (sym named ∙ is)))
+
+    looked-known : (after : List (Option Idle)) (k : ℕ) (i : Idle) → IsLooked hart paths n before after → Dec (k ≡ hart) → slice_get after k ≡ Some (Some i) → IsKnown t a bus_leaves paths n before k i
+    looked-known after k i looked (yes own) known = is_seen (subst (λ j. IsSeen j paths n i) (sym own) (looked.own i (ap (slice_get after) (sym own) ∙ known)))
+    looked-known after k i looked (no other) known = hart-known k i (looked.others k i other known)
+
+    pub noted-looked : (after : List (Option Idle)) → IsLooked hart paths n before after → AreNoted t a bus_leaves paths n before after
+    noted-looked after looked = record { each = λ k i known. looked-known after k i looked (ℕ_discrete k hart) known }
+
+    told-known : (told : Idle) (k : ℕ) (i : Idle) → idle_told a ≡ Some told → Dec (k ≡ hart) → (b : Bool) → nat_lt hart (length before) ≡ b → slice_get (slice_set before hart (Some told)) k ≡ Some (Some i) → IsKnown t a bus_leaves paths n before k i
+    told-known told k i says (no other) b e known = hart-known k i (sym (set-other before hart k (Some told) other) ∙ known)
+    told-known told k i says (yes own) true e known =
+        let here : Some told ≡ Some i = same_Some (Some told) (Some i) (sym (set-here before hart (Some told) (ltb-true _ _ e)) ∙ ap (slice_get (slice_set before hart (Some told))) (sym own) ∙ known) in
+        is_told (named ∙ ap leaf_of_number (sym own)) (says ∙ here)
+    told-known told k i says (yes own) false e known = hart-known k i (ap (λ xs. slice_get xs k) (sym (set_past before hart (Some told) (ltb-false _ _ e))) ∙ known)
+
+  told-ungranted : (i : Idle) → idle_told a ≡ Some i → is_granted a ≡ true → ⊥
+  told-ungranted i says granted = by a says granted
+    where
+      by : (b : TurnAnswer) → idle_told b ≡ Some i → is_granted b ≡ true → ⊥
+      by (TurnAnswer.Retired op) says granted = cc
+      by (TurnAnswer.Issued kind x) says granted = cc
+      by (TurnAnswer.Waiting x) says granted = cc
+      by (TurnAnswer.Halted cause) says granted = cc
+      by (TurnAnswer.Granted entry) says granted = cc
+      by TurnAnswer.Empty says granted = cc
+      by (TurnAnswer.Busy cause) says granted = cc
+
+  told-bus : (t : Turn) (told : Idle) → idle_told a ≡ Some told → AreNoted t a bus_leaves paths n before before
+  told-bus t told says = record { each = λ k i known. still_known known (λ granted. absurd (told-ungranted told says granted)) }
+
+  -- of a turn that told why its hart is idle
+  pub noted-told : (t : Turn) (told : Idle) → idle_told a ≡ Some told → AreNoted t a bus_leaves paths n before (with_idle t told before)
+  noted-told (Turn.Hart hart victim) told says = record { each = λ k i known. told-known (Turn.Hart hart victim) hart refl told k i says (ℕ_discrete k hart) (nat_lt hart (length before)) refl known }
+  noted-told (Turn.Down bus) told says = told-bus (Turn.Down bus) told says
+  noted-told (Turn.Request bus child) told says = told-bus (Turn.Request bus child) told says
+  noted-told (Turn.Reply bus child) told says = told-bus (Turn.Reply bus child) told says
+  noted-told (Turn.Leave bus child choice) told says = told-bus (Turn.Leave bus child choice) told says

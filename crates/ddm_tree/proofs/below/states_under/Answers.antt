@@ -1,0 +1,20 @@
+use Rattle.std.proofs.Common.{◌++◌, map, take, arith}
+use Rattle.ddm_tree.specs.Reads.{states_among}
+use Rattle.ddm_tree.proofs.LeafStates.{count-next, states-next}
+use Rattle.ddm_tree.proofs.below.states_under.Goals as goal
+
+pub states_below-next-requires : goal.states_below-next-requires
+states_below-next-requires g c =
+    let here = count-next g.C.Agent.value c.args.item c.loop-child.child-index c.args.children.now c.child-item.result c.loop-child-test.true c.child-item.is in
+    record { room = omega (arith, here, c.loop-child.invariant.count, c.requires.room, c.loop-child.auto.states) }
+
+pub loop-child-preserved : goal.loop-child-preserved
+loop-child-preserved g c =
+    let here = count-next g.C.Agent.value c.args.item c.loop-child.child-index c.args.children.now c.child-item.result c.loop-child-test.true c.child-item.is in
+    let before = take c.loop-child.next c.loop-child.states in
+    let now = take c.states_below-next.result c.states_below-next.new.states in
+    let all = take c.args.at c.args.states.now ++ states_among c.args.item (map g.C.Agent.value c.args.children.now) in
+    record {
+      count = omega (arith, here, c.loop-child.invariant.count, c.states_below-next.ensures.next);
+      states = states-next g.C.Agent.value c.args.item c.loop-child.child-index c.args.children.now c.child-item.result c.loop-child-test.true c.child-item.is before now all c.loop-child.invariant.states c.states_below-next.ensures.states;
+    }
