@@ -34,20 +34,20 @@ fn passed<const WORDS: usize, C: Subtree<WORDS>>(
 #[inline(always)]
 fn counted_turn<const WORDS: usize, C: Subtree<WORDS>>(
     machine: &mut Machine<WORDS, C>,
-    turn: Turn,
+    turn: &Turn,
     counts: &mut RunCounts,
     answer: &mut TurnAnswer,
     keep: bool,
 )
-    requires named { names_part turn machine.old.machine ≡ true }
+    requires named { names_part turn.now machine.old.machine ≡ true }
     requires spare { 0 < machine.old.spare }
     requires turns { machine.old.turns < 4294967295 }
     requires counts { AreBelow 4294967295 counts.old }
-    ensures answer { keep ≡ true → answer.new ≡ (turn_of turn machine.old.machine).answer }
-    ensures after { machine.new ≡ state_after turn machine.old }
-    ensures counts { counts.new ≡ counted_answer (turn_of turn machine.old.machine).answer counts.old }
+    ensures answer { keep ≡ true → answer.new ≡ (turn_of turn.now machine.old.machine).answer }
+    ensures after { machine.new ≡ state_after turn.now machine.old }
+    ensures counts { counts.new ≡ counted_answer (turn_of turn.now machine.old.machine).answer counts.old }
 {
-    match passed(machine, &turn, keep) {
+    match passed(machine, turn, keep) {
         Some(busy) => {
             counts.turns += 1;
             counts.busy += u32::from(busy);
@@ -100,7 +100,7 @@ fn run_turns<const WORDS: usize, C: Subtree<WORDS>>(
     let mut counts = no_counts();
     let mut answer = TurnAnswer::Empty;
     for turn in turns {
-        counted_turn(machine, *turn, &mut counts, &mut answer, keep);
+        counted_turn(machine, turn, &mut counts, &mut answer, keep);
         keep_answer(answers, &answer, keep);
     }
     counts

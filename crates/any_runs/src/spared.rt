@@ -18,7 +18,7 @@ fn make_turns<const WORDS: usize, C: Subtree<WORDS>>(
 {
     let mut answer = TurnAnswer::Empty;
     for turn in turns {
-        machine.turn_into(*turn, &mut answer);
+        machine.turn_into(turn, &mut answer);
     }
 }
 

@@ -86,6 +86,18 @@ module _ {ways sets : ℕ} {tags : List (Option (ℕ × LeafState))} {words : Li
   unfolding memory_of
   words_seen item = words_by (entry_of (memory_of ways sets tags words) item) item refl
 
+  inside_by : (o : Option EntryValue) (item : ℕ) → entry_of (memory_of ways sets tags words) item ≡ o → IfSome o (λ e. e.way < ways)
+  inside_by None item is = tt
+  inside_by (Some e) item is =
+      let t = tagged ways sets tags words item e is in
+      let way : e.way ≡ t.0 % ways = ap (λ d. d.way) t.3 in
+      let some = kept.sized.some_ways in
+      omega (arith, way, some)
+
+  -- each entry is in one of the ways
+  pub inside_seen : (item : ℕ) → IfSome (entry_of (memory_of ways sets tags words) item) (λ e. e.way < ways)
+  inside_seen item = inside_by (entry_of (memory_of ways sets tags words) item) item refl
+
   -- an item with an entry is found
   pub is_found : (item : ℕ) (r : Option (ℕ × LeafState)) → IfNone r (HasNoTag tags (item % sets * ways) ways item) → IsSome (entry_of (memory_of ways sets tags words) item) → IsSome r
   is_found item None none some = let never : false ≡ true = rw (entry_of_absent kept item none) at some in absurd cc

@@ -246,6 +246,7 @@ impl<const WAYS: usize, const WORDS: usize> AttractionMem<WAYS, WORDS> {
         ensures places { length result.now ≡ self.now.sets * WAYS }
         ensures standing { (set way item : ℕ) (state : State) → way < WAYS →
             (slice_index_or result.now (set * WAYS + way) None ≡ Some (item, state)) ↔ StandsAs self.now set way item state }
+        ensures inside { (item : ℕ) → IfSome (entry_of self.now item) (λ entry. entry.way < WAYS) }
     {
         &self.tags
     }

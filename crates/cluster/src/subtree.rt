@@ -149,6 +149,10 @@ impl<const WAYS: usize, const WORDS: usize> Subtree<WORDS> for Cluster<WAYS, WOR
         self.dir.read_below(section, path, words, from)
     }
 
+    fn mark_held(&self, held: &mut [bool]) {
+        self.dir.mark_held(held);
+    }
+
     fn found_below(&self, item: ItemId) -> Option<Found<WORDS>> {
         self.dir.found_below(item)
     }

@@ -1,17 +1,14 @@
 -- Directories over runs of children before the run: the items that they hold, and which children each gets.
 use Rattle.std.proofs.Common.{◌≡◌, ◌<◌, ◌≤◌, ℕ, zero, suc, ◌+◌, Bool, true, false, List, [], ◌∷◌, ◌++◌, length, map, get_or, take, drop, replicate, refl, sym, ap, ◌∙◌, arith, add-one, All}
-use Rattle.std.specs.Prelude.{◌||◌, if◌then◌else◌, slice_index_or, slice_set, sum}
-use Rattle.std.specs.List.{list_any, AllByRecursion}
-use Rattle.std.proofs.lemmas.List.{append_assoc, length-append, length-map, drop_all}
+use Rattle.std.specs.Prelude.{if◌then◌else◌, slice_index_or, slice_set, sum}
+use Rattle.std.specs.List.{AllByRecursion}
+use Rattle.std.proofs.lemmas.List.{append_assoc, length-append}
 use Rattle.std.proofs.lemmas.List.Elements.{recursion_from_All}
 use Rattle.std.proofs.lemmas.List.Sums.{sum_by-cons}
 use Rattle.ddm_types.specs.declared.sizes.Hold.{Hold}
-use Rattle.tree_model.specs.State.Child.{child_hold}
 use Rattle.tree_model.specs.State.Directory.{with_hold}
-use Rattle.tree_model.specs.State.States.{is_exclusive}
-use Rattle.tree_model.specs.State.Values.{DirItem, DirSizes, absent_item, Node, leaf_node, dir_node}
-use Rattle.tree_model.specs.Start.Nodes.{cut_in, dir_over, dirs_over, held_below, held_by, held_if, item_is_exclusive, new_dir, or_each}
-use Rattle.item_states.specs.Parts.{node_items}
+use Rattle.tree_model.specs.State.Values.{DirItem, DirSizes, absent_item, Node}
+use Rattle.tree_model.specs.Start.Nodes.{cut_in, dir_over, dirs_over, held_below, held_by, held_if, new_dir, or_each}
 use Rattle.ddm_tree.specs.Holders.{IsHolder}
 
 -- ---- a list while a loop goes over it
@@ -22,33 +19,7 @@ module _ {A : Type 0} (f : A → Node) (p : Node → Bool) where
   drop-here zero (y ∷ ys) x l is = ap (λ z. z ∷ ys) (sym is)
   drop-here (suc k) (y ∷ ys) x l is = drop-here k ys x (omega (arith, l)) is
 
-  pub any-next : (k : ℕ) (xs : List A) (x : A) → k < length xs → x ≡ get_or xs k x → list_any p (map f (drop k xs)) ≡ (p (f x) || list_any p (map f (drop (k + 1) xs)))
-  any-next k xs x l is = ap (λ ys. list_any p (map f ys)) (drop-here k xs x l is ∙ ap (λ i. x ∷ drop i xs) (sym (add-one k)))
-
-  pub any-found : (k : ℕ) (xs : List A) (x : A) → k < length xs → x ≡ get_or xs k x → p (f x) ≡ true → list_any p (map f (drop k xs)) ≡ true
-  any-found k xs x l is passes = any-next k xs x l is ∙ ap (λ b. b || list_any p (map f (drop (k + 1) xs))) passes
-
-  pub any-past : (k : ℕ) (xs : List A) (x : A) → k < length xs → x ≡ get_or xs k x → p (f x) ≡ false → list_any p (map f (drop k xs)) ≡ list_any p (map f (drop (k + 1) xs))
-  any-past k xs x l is fails = any-next k xs x l is ∙ ap (λ b. b || list_any p (map f (drop (k + 1) xs))) fails
-
-  pub any-end : (k : ℕ) (xs : List A) → length xs ≤ k → list_any p (map f (drop k xs)) ≡ false
-  any-end k xs past = ap (λ ys. list_any p (map f ys)) (drop_all k xs past)
-
 -- ---- what holders hold
-
-pub holder-items : (items : ℕ) (n : Node) → IsHolder items n → node_items n ≡ items
-holder-items items (leaf_node v) is = sym (length-map v.ways _) ∙ is.count
-holder-items items (dir_node d ns) is = sym (length-map d.items item_is_exclusive) ∙ is.count
-
-or-false : (b : Bool) → b ≡ (b || false)
-or-false true = refl
-or-false false = refl
-
-or_each-at : (bs cs : List Bool) (x : ℕ) → slice_index_or (or_each bs cs) x false ≡ (slice_index_or bs x false || slice_index_or cs x false)
-or_each-at [] cs x = refl
-or_each-at (b ∷ bs) [] x = or-false (slice_index_or (b ∷ bs) x false)
-or_each-at (b ∷ bs) (c ∷ cs) zero = refl
-or_each-at (b ∷ bs) (c ∷ cs) (suc x) = or_each-at bs cs x
 
 or_each-length : (n : ℕ) (bs cs : List Bool) → length bs ≡ n → length cs ≤ n → length (or_each bs cs) ≡ n
 or_each-length n [] cs whole fits = omega (arith, whole, fits)
@@ -69,15 +40,8 @@ module _ (items : ℕ) where
   held-length [] all some = absurd (omega (arith, some))
   held-length (k ∷ ks) all some = or_each-length items (held_by k) (held_below ks) all.0.count (held-fits ks all.1)
 
-  held-any : (x : ℕ) (ks : List Node) → x < items → AllByRecursion (IsHolder items) ks → list_any (λ n. is_exclusive (child_hold x n)) ks ≡ slice_index_or (held_below ks) x false
-  held-any x [] l all = refl
-  held-any x (k ∷ ks) l all = ap (λ b. b || list_any (λ n. is_exclusive (child_hold x n)) ks) (all.0.holds x l) ∙ ap (λ b. slice_index_or (held_by k) x false || b) (held-any x ks l all.1) ∙ sym (or_each-at (held_by k) (held_below ks) x)
-
   pub below-length : (ks : List Node) → All (IsHolder items) ks → 0 < length ks → length (held_below ks) ≡ items
   below-length ks all some = held-length ks (recursion_from_All (IsHolder items) ks all) some
-
-  pub below-any : (x : ℕ) (ks : List Node) → x < items → All (IsHolder items) ks → list_any (λ n. is_exclusive (child_hold x n)) ks ≡ slice_index_or (held_below ks) x false
-  below-any x ks l all = held-any x ks l (recursion_from_All (IsHolder items) ks all)
 
 -- ---- a directory's items, of which the first were gone through
 

@@ -3,7 +3,9 @@ use Rattle.std.proofs.Common.{◌≡◌, ◌≢◌, ℕ, zero, suc, ◌<◌, ◌
 use Rattle.std.specs.Prelude.{nat_lt, slice_get, slice_set}
 use Rattle.std.proofs.lemmas.Bool.{ltb-true, ltb-false}
 use Rattle.std.proofs.lemmas.List.{append-nil, get_or-set_same, get_or-set_other, set-get_or, set_past}
+use Rattle.std.proofs.lemmas.Option.{none-some, same_Some}
 use native.Mathlib.Decide.{ℕ_discrete}
+use Rattle.ddm_types.specs.declared.answers.LogEntry.{LogEntry}
 use Rattle.ddm_types.specs.declared.answers.TurnAnswer.{TurnAnswer}
 use Rattle.ddm_types.specs.declared.keys.Key.{Key}
 use Rattle.ddm_types.specs.declared.operations.HaltCause.{HaltCause}
@@ -31,13 +33,15 @@ use Rattle.tree_model.proofs.Children.{children-nodes, nodes-children}
 use Rattle.tree_model.proofs.FrameKept.{turn-frame}
 use Rattle.split_bus.specs.Outcomes.{is_granted}
 use Rattle.ddm_tree.specs.declared.idle.Idle.{Idle}
-use Rattle.ddm_tree.specs.Idle.{AreIdle, AreNoted, IsIdle, IsKnown, idle_answer, idle_for, idle_there, idle_told, is_seen, is_told, node_rests, rests_by, still_known}
+use Rattle.ddm_tree.specs.Idle.{AreIdle, AreNoted, IsIdle, IsKnown, idle_answer, idle_for, idle_there, idle_told, is_seen, is_told, may_change, node_rests, rests_by, still_known}
 use Rattle.ddm_tree.specs.Machine.{listed_path}
 use Rattle.ddm_tree.specs.Path.{below, node_at, path_to, put_at, node_answer, node_turned}
 use Rattle.ddm_tree.specs.Quiet.{AreApart, AreNear, IsNoneOf}
 use Rattle.ddm_tree.specs.Ready.{Leads}
 use Rattle.ddm_tree.proofs.Along.{along}
+use Rattle.ddm_tree.proofs.Lasting.{idle-rests, untold-rests}
 use Rattle.ddm_tree.proofs.QuietNear.{far-in}
+use Rattle.ddm_tree.proofs.Untold.{step-untold}
 
 -- ---- an idle hart's deed has nothing to do with the moment and the victim
 
@@ -199,6 +203,25 @@ put-same (i ∷ p) (dir_node d ns) =
     let kids : slice_set (children ns) i (put_at p (node_at p (child_at i (children ns))) (child_at i (children ns))) ≡ children ns = ap (slice_set (children ns) i) (put-same p (child_at i (children ns))) ∙ set-get_or (children ns) i no_node in
     ap (dir_node d) (ap nodes kids ∙ nodes-children ns)
 
+-- a path that goes on
+pub further : (p r : List ℕ) (n : Node) → node_at (p ++ r) n ≡ node_at r (node_at p n)
+further [] r n = refl
+further (i ∷ p) r n = further p r (child_at i (below n))
+
+-- what is so before and after the change is so beneath the changed node, also where the path to it leads nowhere
+module _ (P : Node → Type 0) (new : Node) (r : List ℕ) where
+  abbrev IsBeneath : List ℕ → Node → Type 0
+  IsBeneath p n = P (node_at (p ++ r) n) → P (node_at (p ++ r) (put_at p new n))
+
+  beneath-kid : (i : ℕ) (p : List ℕ) (d : DirValue) (ns : Nodes) → IsBeneath p (child_at i (children ns)) → (b : Bool) → nat_lt i (length (children ns)) ≡ b → IsBeneath (i ∷ p) (dir_node d ns)
+  beneath-kid i p d ns kid true e was = subst P (sym (put-kids i p (p ++ r) i d ns new ∙ ap (node_at (p ++ r)) (kid-same i (children ns) _ (ltb-true _ _ e)))) (kid was)
+  beneath-kid i p d ns kid false e was = subst P (sym (put-kids i p (p ++ r) i d ns new ∙ ap (λ ms. node_at (p ++ r) (child_at i ms)) (set_past (children ns) i _ (ltb-false _ _ e)))) was
+
+  beneath : (p : List ℕ) (n : Node) → P (node_at r new) → IsBeneath p n
+  beneath [] n there was = there
+  beneath (i ∷ p) (leaf_node v) there was = was
+  beneath (i ∷ p) (dir_node d ns) there was = beneath-kid i p d ns (beneath p (child_at i (children ns)) there) (nat_lt i (length (children ns))) refl was
+
 -- ---- what a turn leaves below the node that it changes
 
 pub leaf-same_from : (v w : LeafValue) → SameFrom 1 (leaf_node v) (leaf_node w)
@@ -283,22 +306,22 @@ module _ (code : List CodeWord) (items : ItemTable) (n : Node) (p : List ℕ) (n
           idle-unchanged (becomes ∙ ap leaf_node (stays own) ∙ sym at) q i idle
       by (inr kept) = subst (IsIdle code items i) (sym kept) idle
 
-  bus-kept : (d e : DirValue) (ns : Nodes) (kids : List Node) (w : LeafValue) (q : List ℕ) (i : Idle) → node_at p n ≡ dir_node d ns → new ≡ dir_node e (nodes kids) → map kept_of kids ≡ map kept_of (children ns) → node_at q n ≡ leaf_node w → ((c : ℕ) → q ≡ p ++ c ∷ [] → ⊥) → IsIdle code items i (node_at q n) → IsIdle code items i (node_at q (put_at p new n))
-  bus-kept d e ns kids w q i at becomes kept leaf other idle = by (frame 2 new p q n w leaf same)
+  bus-kept : (d e : DirValue) (ns : Nodes) (kids : List Node) (w : LeafValue) (q : List ℕ) (i : Idle) → node_at p n ≡ dir_node d ns → new ≡ dir_node e (nodes kids) → map kept_of kids ≡ map kept_of (children ns) → node_at q n ≡ leaf_node w → ((c : ℕ) → q ≡ p ++ c ∷ [] → IsIdle code items i (node_at q (put_at p new n))) → IsIdle code items i (node_at q n) → IsIdle code items i (node_at q (put_at p new n))
+  bus-kept d e ns kids w q i at becomes kept leaf child idle = by (frame 2 new p q n w leaf same)
     where
       same : SameFrom 2 (node_at p n) new
       same = rw (at, becomes) (bus-same_from d e ns kids kept)
 
-      beyond-none : (r : List ℕ) → q ≡ p ++ r → length r < 2 → ⊥
-      beyond-none [] is short =
+      beyond-child : (r : List ℕ) → q ≡ p ++ r → length r < 2 → IsIdle code items i (node_at q (put_at p new n))
+      beyond-child [] is short =
           let here : q ≡ p = is ∙ append-nil p in
           let both : leaf_node w ≡ dir_node d ns = sym leaf ∙ ap (λ r. node_at r n) here ∙ at in
           cc
-      beyond-none (c ∷ []) is short = other c is
-      beyond-none (c ∷ k ∷ r) is short = absurd (omega arith)
+      beyond-child (c ∷ []) is short = child c is
+      beyond-child (c ∷ k ∷ r) is short = absurd (omega (arith, short))
 
       by : IsFramed 2 new p q n → IsIdle code items i (node_at q (put_at p new n))
-      by (inl beyond) = absurd (beyond-none beyond.0 beyond.1 beyond.2)
+      by (inl beyond) = beyond-child beyond.0 beyond.1 beyond.2
       by (inr stays) = subst (IsIdle code items i) (sym stays) idle
 
 -- ---- a turn of a bus that grants nothing
@@ -311,6 +334,16 @@ outcome-ungranted d ns (granted g) e = cc
 pub step-ungranted : (above : Stamp) (t : BusTurn) (d : DirValue) (ns : List Node) → is_granted (bus_step above t d ns).answer ≡ false → dir_node (bus_step above t d ns).parent (nodes (bus_step above t d ns).kids) ≡ dir_node d (nodes ns)
 unfolding bus_step
 step-ungranted above t d ns e = outcome-ungranted d ns (bus_judged above d ns t) e
+
+-- what a grant answers
+granted-entry : (a : TurnAnswer) → is_granted a ≡ true → (entry : LogEntry) × (a ≡ TurnAnswer.Granted entry)
+granted-entry (TurnAnswer.Retired op) e = cc
+granted-entry (TurnAnswer.Issued kind x) e = cc
+granted-entry (TurnAnswer.Waiting x) e = cc
+granted-entry (TurnAnswer.Halted cause) e = cc
+granted-entry (TurnAnswer.Granted entry) e = (entry, refl)
+granted-entry TurnAnswer.Empty e = cc
+granted-entry (TurnAnswer.Busy cause) e = cc
 
 -- ---- a turn
 
@@ -382,24 +415,61 @@ module _ (code : List CodeWord) (items : ItemTable) (t : Turn) (p : List ℕ) (p
     new-ungranted : is_granted answer ≡ false → new ≡ node_at p n
     new-ungranted e = new-dir ∙ step-ungranted present (bus_turn_of t) over (children kids) (ap is_granted (sym answer-dir) ∙ e) ∙ ap (dir_node over) (nodes-children kids) ∙ sym at-dir.2
 
-    bus-turn-kept : (q : List ℕ) (i : Idle) (w : LeafValue) → node_at q n ≡ leaf_node w → (is_granted answer ≡ true → (c : ℕ) → q ≡ p ++ c ∷ [] → ⊥) → IsIdle code items i (node_at q n) → IsIdle code items i (node_at q (put_at p new n))
+    -- a leaf of the bus that granted another item
+    child-kept : (entry : LogEntry) (q : List ℕ) (i : Idle) (w : LeafValue) (c : ℕ) → answer ≡ TurnAnswer.Granted entry → may_change (Some i) entry.item ≡ false → node_at q n ≡ leaf_node w → q ≡ p ++ c ∷ [] → IsIdle code items i (node_at q n) → IsIdle code items i (node_at q (put_at p new n))
+    child-kept entry q i w c grants stays leaf is idle =
+        let at : node_at q n ≡ child_at c (children kids) = ap (λ r. node_at r n) is ∙ further p (c ∷ []) n ∙ ap (λ m. child_at c (below m)) at-dir.2 in
+        let rests : node_rests (child_at c (children kids)) ≡ Some i = ap node_rests (sym at) ∙ idle-rests code items (key_on present p w.done) entry.item w i (node_at q n) leaf stays idle in
+        let untold = (step-untold present over (children kids) (bus_turn_of t) entry (sym answer-dir ∙ grants)).each c in
+        let kid : node_at (c ∷ []) new ≡ child_at c outcome.kids = ap (λ m. child_at c (below m)) new-dir ∙ ap (child_at c) (children-nodes outcome.kids) in
+        let later : node_rests (node_at (c ∷ []) new) ≡ Some i = ap node_rests kid ∙ untold-rests entry.item _ _ i untold stays rests in
+        let there : IsIdle code items i (node_at (c ∷ []) new) = rest-idle code items (node_at (c ∷ []) new) i later in
+        subst (λ r. IsIdle code items i (node_at r (put_at p new n))) (sym is) (beneath (IsIdle code items i) new (c ∷ []) p n there (subst (λ r. IsIdle code items i (node_at r n)) is idle))
+
+    -- a leaf elsewhere, or one of this bus
+    abbrev IsApartOr : List ℕ → Idle → ℕ → Type 0
+    IsApartOr q i x = AreApart q p ⊎ (may_change (Some i) x ≡ false)
+
+    granted-kept : (entry : LogEntry) (q : List ℕ) (i : Idle) (w : LeafValue) → answer ≡ TurnAnswer.Granted entry → node_at q n ≡ leaf_node w → IsApartOr q i entry.item → IsIdle code items i (node_at q n) → (c : ℕ) → q ≡ p ++ c ∷ [] → IsIdle code items i (node_at q (put_at p new n))
+    granted-kept entry q i w grants leaf (inl apart) idle c is = absurd (apart.child c is)
+    granted-kept entry q i w grants leaf (inr stays) idle c is = child-kept entry q i w c grants stays leaf is idle
+
+    bus-turn-kept : (q : List ℕ) (i : Idle) (w : LeafValue) → node_at q n ≡ leaf_node w → ((entry : LogEntry) → answer ≡ TurnAnswer.Granted entry → IsApartOr q i entry.item) → IsIdle code items i (node_at q n) → IsIdle code items i (node_at q (put_at p new n))
     bus-turn-kept q i w leaf other idle =
         elim (is_granted answer) as (λ g. is_granted answer ≡ g → IsIdle code items i (node_at q (put_at p new n))) [
-          | true ↦ λ is. bus-kept code items n p new over outcome.parent kids outcome.kids w q i at-dir.2 new-dir (bus_step-keeps present over (children kids) (bus_turn_of t)).kids leaf (other is) idle
+          | true ↦ λ is.
+              let grant = granted-entry answer is in
+              bus-kept code items n p new over outcome.parent kids outcome.kids w q i at-dir.2 new-dir (bus_step-keeps present over (children kids) (bus_turn_of t)).kids leaf (granted-kept grant.0 q i w grant.1 leaf (other grant.0 grant.1) idle) idle
           | false ↦ λ is. idle-unchanged code items n p new (new-ungranted is) q i idle
         ] refl
 
   module _ (bus_leaves leaf_paths bus_paths : List (List ℕ)) (before : List (Option Idle)) (listed : listed_path (named_by t) leaf_paths bus_paths ≡ Some p) (near : AreNear bus_leaves bus_paths leaf_paths) (paths : (k : ℕ) (q : List ℕ) → Leads (leaf_of_number k) q n → slice_get leaf_paths k ≡ Some q) (idle : AreIdle code items before n n) where
-    turn-kept : (name : Name) → named_by t ≡ name → (k : ℕ) (i : Idle) (q : List ℕ) → slice_get before k ≡ Some (Some i) → Leads (leaf_of_number k) q n
-        → (is_granted answer ≡ true → (bus : ℕ) (leaves : List ℕ) → named_by t ≡ bus_of_number bus → slice_get bus_leaves bus ≡ Some leaves → IsNoneOf k (length leaves) leaves) → IsIdle code items i (node_at q (put_at p new n))
-    turn-kept (leaf_of_number j) is k i q known there other =
+    -- nothing was granted on a bus near a leaf that may have changed what is known of it
+    abbrev IsUnchanged : ℕ → Idle → Type 0
+    IsUnchanged k i = (entry : LogEntry) (bus : ℕ) (leaves : List ℕ) → answer ≡ TurnAnswer.Granted entry → named_by t ≡ bus_of_number bus → slice_get bus_leaves bus ≡ Some leaves → IsNoneOf k (length leaves) leaves ⊎ (may_change (Some i) entry.item ≡ false)
+
+    -- of a bus: where something is granted on it, a leaf is none near it, or what is known of it stays
+    module _ (b k : ℕ) (i : Idle) (q : List ℕ) (is : named_by t ≡ bus_of_number b) (there : Leads (leaf_of_number k) q n) where
+      far : ((xs : List ℕ) → slice_get bus_leaves b ≡ Some xs → IsNoneOf k (length xs) xs) → AreApart q p
+      far none =
+          let path : slice_get bus_paths b ≡ Some p = subst (λ name. listed_path name leaf_paths bus_paths ≡ Some p) is listed in
+          far-in bus_leaves bus_paths leaf_paths b p path near k q (paths k q there) none
+
+      listed-apart : (xs : List ℕ) (x : ℕ) → slice_get bus_leaves b ≡ Some xs → IsNoneOf k (length xs) xs ⊎ (may_change (Some i) x ≡ false) → AreApart q p ⊎ (may_change (Some i) x ≡ false)
+      listed-apart xs x at (inl none) = inl (far (λ ys e. subst (λ zs. IsNoneOf k (length zs) zs) (same_Some xs ys (sym at ∙ e)) none))
+      listed-apart xs x at (inr stays) = inr stays
+
+      apart-by : (o : Option (List ℕ)) → slice_get bus_leaves b ≡ o → IsUnchanged k i → (entry : LogEntry) → answer ≡ TurnAnswer.Granted entry → AreApart q p ⊎ (may_change (Some i) entry.item ≡ false)
+      apart-by (Some xs) at unchanged entry grants = listed-apart xs entry.item at (unchanged entry b xs grants is at)
+      apart-by None at unchanged entry grants = inl (far (λ xs e. absurd (none-some xs (sym at ∙ e))))
+
+    turn-kept : (name : Name) → named_by t ≡ name → (k : ℕ) (i : Idle) (q : List ℕ) → slice_get before k ≡ Some (Some i) → Leads (leaf_of_number k) q n → IsUnchanged k i → IsIdle code items i (node_at q (put_at p new n))
+    turn-kept (leaf_of_number j) is k i q known there unchanged =
         let leaf = leads-leaf k q n there in
         hart-kept j is q i leaf.0 leaf.1 (idle.each k i q known there)
-    turn-kept (bus_of_number b) is k i q known there other =
+    turn-kept (bus_of_number b) is k i q known there unchanged =
         let leaf = leads-leaf k q n there in
-        let path : slice_get bus_paths b ≡ Some p = subst (λ name. listed_path name leaf_paths bus_paths ≡ Some p) is listed in
-        let apart : is_granted answer ≡ true → AreApart q p = λ grants. far-in bus_leaves bus_paths leaf_paths b p path near k q (paths k q there) (λ leaves. other grants b leaves is) in
-        bus-turn-kept b is q i leaf.0 leaf.1 (λ grants. (apart grants).child) (idle.each k i q known there)
+        bus-turn-kept b is q i leaf.0 leaf.1 (apart-by b k i q is there (slice_get bus_leaves b) refl unchanged) (idle.each k i q known there)
 
     known-idle : (k : ℕ) (i : Idle) (q : List ℕ) → IsKnown t answer bus_leaves leaf_paths (put_at p new n) before k i → Leads (leaf_of_number k) q n → IsIdle code items i (node_at q (put_at p new n))
     known-idle k i q (is_told own says) there = hart-told k own q i there says

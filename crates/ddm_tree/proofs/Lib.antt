@@ -13,6 +13,7 @@ pub mod Reading
 pub mod TurnMade
 pub mod FoundCopy
 pub mod Gathered
+pub mod Marked
 pub mod LeafList
 pub mod LeafStates
 pub mod Places
@@ -20,6 +21,8 @@ pub mod Asking
 pub mod Copies
 pub mod Written
 pub mod Resting
+pub mod Untold
+pub mod Lasting
 pub mod IdleHarts
 pub mod QuietFrame
 pub mod QuietSteps

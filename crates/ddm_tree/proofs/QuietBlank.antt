@@ -1,5 +1,5 @@
 -- Lists in which nothing is remembered, made place by place; and what a path leads to.
-use Rattle.std.proofs.Common.{◌≡◌, ℕ, zero, suc, ◌+◌, ◌<◌, ◌++◌, false, List, [], ◌∷◌, length, map, replicate, Some, sym, ap, ◌∙◌, arith}
+use Rattle.std.proofs.Common.{◌≡◌, ℕ, zero, suc, ◌+◌, ◌<◌, List, [], ◌∷◌, length, map, replicate, Some, sym, ap, ◌∙◌, arith}
 use Rattle.std.specs.Prelude.{slice_get, slice_index_or, slice_set}
 use Rattle.std.proofs.lemmas.List.{get_or-map, get_or-set_same, get_or-set_other}
 use native.Mathlib.Decide.{ℕ_discrete}
@@ -7,10 +7,7 @@ use Rattle.tree_model.specs.State.Values.{DirValue, Node, dir_node, nodes, child
 use Rattle.tree_model.specs.State.Blank.{no_node}
 use Rattle.tree_model.specs.Turns.Children.{child_at}
 use Rattle.tree_model.proofs.Children.{children-nodes}
-use Rattle.tree_model.proofs.Sets.{in_set-empty}
 use Rattle.ddm_tree.specs.Path.{node_at}
-use Rattle.ddm_tree.specs.Quiet.{IsBlank, entry_at, flag}
-use Rattle.ddm_tree.proofs.QuietIndex.{blank-flag}
 
 abbrev blank : List ℕ
 blank = replicate 5 0

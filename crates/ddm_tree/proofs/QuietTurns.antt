@@ -15,7 +15,6 @@ use Rattle.tree_model.specs.declared.BusTurn.{BusTurn}
 use Rattle.tree_model.specs.State.Values.{LeafValue, DirValue, Node, Nodes, leaf_node, dir_node, nodes, children, MachineValue, root_of}
 use Rattle.tree_model.specs.State.Shape.{skeleton}
 use Rattle.tree_model.specs.Turns.Bus.{bus_step}
-use Rattle.tree_model.specs.Turns.Children.{child_at}
 use Rattle.tree_model.specs.Turns.Grant.{Outcome}
 use Rattle.tree_model.specs.Turns.HartTurn.{leaf_step}
 use Rattle.tree_model.specs.Turns.Machine.{bus_turn_of, named_by, turn_of, victim_of}
@@ -27,19 +26,14 @@ use Rattle.split_bus.specs.Outcomes.{is_granted}
 use Rattle.ddm_tree.specs.declared.idle.Idle.{Idle}
 use Rattle.ddm_tree.specs.Idle.{AreIdle, idle_answer, idle_there}
 use Rattle.ddm_tree.specs.Machine.{listed_path}
-use Rattle.ddm_tree.specs.Path.{below, node_at, path_to, put_at, node_answer, node_turned}
+use Rattle.ddm_tree.specs.Path.{node_at, path_to, put_at, node_answer, node_turned}
 use Rattle.ddm_tree.specs.Ready.{Leads}
-use Rattle.ddm_tree.proofs.IdleHarts.{Dir, IsSpared, Leaf, SameFrom, bus-same_from, leads-dir, leads-leaf, leaf-same_from, put-same, spared, step-ungranted}
+use Rattle.ddm_tree.proofs.IdleHarts.{Dir, IsSpared, Leaf, SameFrom, bus-same_from, further, leads-dir, leads-leaf, leaf-same_from, put-same, spared, step-ungranted}
 use Rattle.ddm_tree.specs.Quiet.{AreApart, AreNearListed, AreQuiet, AreRelearned, HartsAgree, IsBlank, IsFar, IsLearnedOr, IsQuietOf, KeepsQuiet, entry_at, finds_nothing, flag, idle_as_there, known_as, passed_as, touches}
 use Rattle.ddm_tree.proofs.QuietFrame.{false-quiet, known-is, quiet-frame, quiet-unchanged, true-not-false}
 use Rattle.ddm_tree.proofs.QuietNear.{far-apart}
 use Rattle.ddm_tree.proofs.QuietSteps.{hart-keeps, nothing-turned}
 use Rattle.ddm_tree.proofs.QuietTable.{same-quiet}
-
--- a path that goes on
-further : (p r : List ℕ) (n : Node) → node_at (p ++ r) n ≡ node_at r (node_at p n)
-further [] r n = refl
-further (i ∷ p) r n = further p r (child_at i (below n))
 
 -- ---- answers
 

@@ -1,19 +1,19 @@
 -- What is remembered of harts after a look at their leaves.
--- Letters: k, m and j numbers of leaves, i why a hart is idle, o what is remembered of one, n the tree, p and q paths.
-use Rattle.std.proofs.Common.{◌≡◌, ◌≢◌, ℕ, zero, suc, ◌+◌, ◌<◌, ◌≤◌, inl, inr, Bool, true, false, List, [], ◌∷◌, length, map, Option, Some, None, refl, sym, ap, subst, ◌∙◌, arith}
+-- Letters: k, m and j numbers of leaves, i why a hart is idle, o what is remembered of one, n the tree, p and q paths, x an item.
+use Rattle.std.proofs.Common.{◌≡◌, ◌≢◌, ◌⊎◌, ℕ, zero, suc, ◌+◌, ◌<◌, ◌≤◌, inl, inr, Bool, true, false, List, [], ◌∷◌, length, map, Option, Some, None, refl, sym, ap, subst, ◌∙◌, arith}
 use Rattle.std.specs.Prelude.{IfSome, nat_lt, slice_get, slice_set}
 use Rattle.std.proofs.lemmas.Bool.{ltb-true, ltb-false}
 use Rattle.std.proofs.lemmas.List.{set_past}
 use Rattle.std.proofs.lemmas.Option.{none-some, same_Some, slice_get_past}
 use native.Mathlib.Decide.{ℕ_discrete}
+use Rattle.ddm_types.specs.declared.answers.LogEntry.{LogEntry}
 use Rattle.ddm_types.specs.declared.answers.TurnAnswer.{TurnAnswer}
 use Rattle.ddm_types.specs.declared.turns.Turn.{Turn}
 use Rattle.tree_model.specs.State.Values.{Node}
 use Rattle.tree_model.specs.Turns.Machine.{named_by}
 use Rattle.tree_model.specs.Turns.Tree.{leaf_of_number, bus_of_number}
-use Rattle.split_bus.specs.Outcomes.{is_granted}
 use Rattle.ddm_tree.specs.declared.idle.Idle.{Idle}
-use Rattle.ddm_tree.specs.Idle.{AreNoted, AreSeen, IsKnown, IsLooked, IsSeen, IsSeenOr, idle_told, is_seen, is_told, node_rests, still_known, with_idle}
+use Rattle.ddm_tree.specs.Idle.{AreNoted, AreSeen, IsKnown, IsLooked, IsLookedAfter, IsSeen, IsSeenOr, idle_there, idle_told, is_seen, is_told, may_change, node_rests, still_known, with_idle}
 use Rattle.ddm_tree.specs.Path.{node_at}
 use Rattle.ddm_tree.specs.Quiet.{IsNoneOf}
 use Rattle.ddm_tree.proofs.KeysRising.{set-here, set-other}
@@ -52,21 +52,50 @@ module _ (paths : List (List ℕ)) (n : Node) where
       seen-some : (i : Idle) → IfSome (Some i) (λ i. IsSeen k paths n i) → IsSeen k paths n i
       seen-some i tells = tells
 
+  -- ---- after a grant of an item
+
+  -- where what is known may have changed, and the leaf was looked at
+  pub after-looked : (x k : ℕ) (before after : List (Option Idle)) → IsLooked k paths n before after → IsLookedAfter x k paths n before after
+  after-looked x k before after looked = record { own = λ i known. inl (looked.own i known); others = looked.others }
+
+  -- where it may not
+  pub after-kept : (x k : ℕ) (before : List (Option Idle)) → may_change (idle_there (slice_get before k)) x ≡ false → IsLookedAfter x k paths n before before
+  after-kept x k before stays = record {
+    own = λ i known. inr (known, sym (ap (λ o. may_change (idle_there o) x) known) ∙ stays);
+    others = λ j i other known. known;
+  }
+
   -- ---- the leaves of a list
 
-  pub seen-none : (leaves : List ℕ) (before : List (Option Idle)) → AreSeen 0 leaves paths n before before
-  seen-none leaves before = record { each = λ k i known. inr (known, λ place below. absurd (omega (arith, below))) }
+  pub seen-none : (x : ℕ) (leaves : List ℕ) (before : List (Option Idle)) → AreSeen x 0 leaves paths n before before
+  seen-none x leaves before = record { each = λ k i known. inr (known, inl (λ place below. absurd (omega (arith, below)))) }
 
-  module _ (count m : ℕ) (leaves : List ℕ) (before mid after : List (Option Idle)) (at : slice_get leaves count ≡ Some m) (seen : AreSeen count leaves paths n before mid) (one : IsLooked m paths n mid after) where
-    seen-kept : (k : ℕ) (i : Idle) → k ≢ m → IsSeenOr (IsNoneOf k count leaves) k paths n before i → IsSeenOr (IsNoneOf k (count + 1) leaves) k paths n before i
+  module _ (x count m : ℕ) (leaves : List ℕ) (before mid after : List (Option Idle)) (at : slice_get leaves count ≡ Some m) (seen : AreSeen x count leaves paths n before mid) (one : IsLookedAfter x m paths n mid after) where
+    abbrev Stays : Idle → Type 0
+    Stays i = may_change (Some i) x ≡ false
+
+    none-or : (k : ℕ) (i : Idle) → k ≢ m → IsNoneOf k count leaves ⊎ Stays i → IsNoneOf k (count + 1) leaves ⊎ Stays i
+    none-or k i other (inl none) = inl (none-next k m count leaves at other none)
+    none-or k i other (inr stays) = inr stays
+
+    seen-kept : (k : ℕ) (i : Idle) → k ≢ m → IsSeenOr (IsNoneOf k count leaves ⊎ Stays i) k paths n before i → IsSeenOr (IsNoneOf k (count + 1) leaves ⊎ Stays i) k paths n before i
     seen-kept k i other (inl tells) = inl tells
-    seen-kept k i other (inr kept) = inr (kept.0, none-next k m count leaves at other kept.1)
+    seen-kept k i other (inr kept) = inr (kept.0, none-or k i other kept.1)
 
-    seen-next : (k : ℕ) (i : Idle) → Dec (k ≡ m) → slice_get after k ≡ Some (Some i) → IsSeenOr (IsNoneOf k (count + 1) leaves) k paths n before i
-    seen-next k i (yes own) known = inl (subst (λ j. IsSeen j paths n i) (sym own) (one.own i (ap (slice_get after) (sym own) ∙ known)))
+    -- the leaf that was looked at, or needed no look
+    seen-stays : (k : ℕ) (i : Idle) → Stays i → IsSeenOr (IsNoneOf k count leaves ⊎ Stays i) k paths n before i → IsSeenOr (IsNoneOf k (count + 1) leaves ⊎ Stays i) k paths n before i
+    seen-stays k i stays (inl tells) = inl tells
+    seen-stays k i stays (inr kept) = inr (kept.0, inr stays)
+
+    seen-own : (i : Idle) → IsSeenOr (Stays i) m paths n mid i → IsSeenOr (IsNoneOf m (count + 1) leaves ⊎ Stays i) m paths n before i
+    seen-own i (inl tells) = inl tells
+    seen-own i (inr kept) = seen-stays m i kept.1 (seen.each m i kept.0)
+
+    seen-next : (k : ℕ) (i : Idle) → Dec (k ≡ m) → slice_get after k ≡ Some (Some i) → IsSeenOr (IsNoneOf k (count + 1) leaves ⊎ Stays i) k paths n before i
+    seen-next k i (yes own) known = subst (λ j. IsSeenOr (IsNoneOf j (count + 1) leaves ⊎ Stays i) j paths n before i) (sym own) (seen-own i (one.own i (ap (slice_get after) (sym own) ∙ known)))
     seen-next k i (no other) known = seen-kept k i other (seen.each k i (one.others k i other known))
 
-    pub seen-more : AreSeen (count + 1) leaves paths n before after
+    pub seen-more : AreSeen x (count + 1) leaves paths n before after
     seen-more = record { each = λ k i known. seen-next k i (ℕ_discrete k m) known }
 
 -- ---- after a turn
@@ -86,27 +115,32 @@ module _ (a : TurnAnswer) (bus_leaves paths : List (List ℕ)) (n : Node) (befor
 
   -- of a bus that has a list of leaves
   module _ (t : Turn) (bus : ℕ) (named : named_by t ≡ bus_of_number bus) where
-    seen-known : (leaves : List ℕ) (k : ℕ) (i : Idle) → slice_get bus_leaves bus ≡ Some leaves → IsSeenOr (IsNoneOf k (length leaves) leaves) k paths n before i → IsKnown t a bus_leaves paths n before k i
-    seen-known leaves k i listed (inl tells) = is_seen tells
-    seen-known leaves k i listed (inr kept) =
-        still_known kept.0 (λ granted other others is there.
+    seen-known : (x : ℕ) (leaves : List ℕ) (k : ℕ) (i : Idle) → ((entry : LogEntry) → a ≡ TurnAnswer.Granted entry → entry.item ≡ x) → slice_get bus_leaves bus ≡ Some leaves → IsSeenOr (IsNoneOf k (length leaves) leaves ⊎ (may_change (Some i) x ≡ false)) k paths n before i → IsKnown t a bus_leaves paths n before k i
+    seen-known x leaves k i item listed (inl tells) = is_seen tells
+    seen-known x leaves k i item listed (inr kept) =
+        still_known kept.0 (λ entry other others grants is there.
         let same : other ≡ bus = same-bus other bus (sym is ∙ named) in
         let list : leaves ≡ others = same_Some leaves others (sym listed ∙ ap (slice_get bus_leaves) (sym same) ∙ there) in
-        subst (λ xs. IsNoneOf k (length xs) xs) list kept.1)
+        subst (λ y. IsNoneOf k (length others) others ⊎ (may_change (Some i) y ≡ false)) (sym (item entry grants)) (subst (λ xs. IsNoneOf k (length xs) xs ⊎ (may_change (Some i) x ≡ false)) list kept.1))
 
-    pub noted-seen : (leaves : List ℕ) (after : List (Option Idle)) → slice_get bus_leaves bus ≡ Some leaves → AreSeen (length leaves) leaves paths n before after → AreNoted t a bus_leaves paths n before after
-    noted-seen leaves after listed seen = record { each = λ k i known. seen-known leaves k i listed (seen.each k i known) }
+    pub noted-seen : (entry : LogEntry) (leaves : List ℕ) (after : List (Option Idle)) → a ≡ TurnAnswer.Granted entry → slice_get bus_leaves bus ≡ Some leaves → AreSeen entry.item (length leaves) leaves paths n before after → AreNoted t a bus_leaves paths n before after
+    noted-seen entry leaves after grants listed seen = record { each = λ k i known. seen-known entry.item leaves k i item listed (seen.each k i known) }
+      where
+        item : (other : LogEntry) → a ≡ TurnAnswer.Granted other → other.item ≡ entry.item
+        item other is =
+            let both : TurnAnswer.Granted other ≡ TurnAnswer.Granted entry = sym is ∙ grants in
+            cc
 
     pub noted-unlisted : slice_get bus_leaves bus ≡ None → AreNoted t a bus_leaves paths n before before
     noted-unlisted none = record {
-      each = λ k i known. still_known known (λ granted other others is there.
+      each = λ k i known. still_known known (λ entry other others grants is there.
           absurd (none-some others (sym none ∙ ap (slice_get bus_leaves) (sym (same-bus other bus (sym is ∙ named))) ∙ there)));
     }
 
   -- of a hart whose leaf was looked at
   module _ (t : Turn) (hart : ℕ) (named : named_by t ≡ leaf_of_number hart) where
     hart-known : (k : ℕ) (i : Idle) → slice_get before k ≡ Some (Some i) → IsKnown t a bus_leaves paths n before k i
-    hart-known k i known = still_known known (λ granted bus leaves is there. absurd (no-bus hart bus (sym named ∙ is)))
+    hart-known k i known = still_known known (λ entry bus leaves grants is there. absurd (no-bus hart bus (sym named ∙ is)))
 
     looked-known : (after : List (Option Idle)) (k : ℕ) (i : Idle) → IsLooked hart paths n before after → Dec (k ≡ hart) → slice_get after k ≡ Some (Some i) → IsKnown t a bus_leaves paths n before k i
     looked-known after k i looked (yes own) known = is_seen (subst (λ j. IsSeen j paths n i) (sym own) (looked.own i (ap (slice_get after) (sym own) ∙ known)))
@@ -122,20 +156,11 @@ module _ (a : TurnAnswer) (bus_leaves paths : List (List ℕ)) (n : Node) (befor
         is_told (named ∙ ap leaf_of_number (sym own)) (says ∙ here)
     told-known told k i says (yes own) false e known = hart-known k i (ap (λ xs. slice_get xs k) (sym (set_past before hart (Some told) (ltb-false _ _ e))) ∙ known)
 
-  told-ungranted : (i : Idle) → idle_told a ≡ Some i → is_granted a ≡ true → ⊥
-  told-ungranted i says granted = by a says granted
-    where
-      by : (b : TurnAnswer) → idle_told b ≡ Some i → is_granted b ≡ true → ⊥
-      by (TurnAnswer.Retired op) says granted = cc
-      by (TurnAnswer.Issued kind x) says granted = cc
-      by (TurnAnswer.Waiting x) says granted = cc
-      by (TurnAnswer.Halted cause) says granted = cc
-      by (TurnAnswer.Granted entry) says granted = cc
-      by TurnAnswer.Empty says granted = cc
-      by (TurnAnswer.Busy cause) says granted = cc
+  told-ungranted : (i : Idle) (entry : LogEntry) → idle_told a ≡ Some i → a ≡ TurnAnswer.Granted entry → ⊥
+  told-ungranted i entry says grants = none-some i (sym (ap idle_told grants) ∙ says)
 
   told-bus : (t : Turn) (told : Idle) → idle_told a ≡ Some told → AreNoted t a bus_leaves paths n before before
-  told-bus t told says = record { each = λ k i known. still_known known (λ granted. absurd (told-ungranted told says granted)) }
+  told-bus t told says = record { each = λ k i known. still_known known (λ entry bus leaves grants is there. absurd (told-ungranted told entry says grants)) }
 
   -- of a turn that told why its hart is idle
   pub noted-told : (t : Turn) (told : Idle) → idle_told a ≡ Some told → AreNoted t a bus_leaves paths n before (with_idle t told before)

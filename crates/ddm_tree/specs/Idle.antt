@@ -1,9 +1,10 @@
 -- Harts of which each turn, at whatever moment and with whatever victim, answers the same and changes nothing, as long as no bus tells
 -- their leaf anything.
--- Letters: n is a node, v a leaf, i why a hart is idle, k a leaf's number, t a turn, a an answer, c a child.
+-- Letters: n is a node, v a leaf, i why a hart is idle, k a leaf's number, t a turn, a an answer, c a child, x an item that was granted.
 -- To be believed with the contracts: it is what a machine remembers of its leaves.
-use Rattle.std.specs.Prelude.{◌≡◌, ◌≢◌, ◌⊎◌, ℕ, true, List, Option, Some, None, length, slice_get, slice_set}
+use Rattle.std.specs.Prelude.{◌≡◌, ◌≢◌, ◌⊎◌, ℕ, Bool, true, false, nat_eq, List, Option, Some, None, length, slice_get, slice_set}
 use Rattle.ddm_types.specs.declared.answers.BusyCause.{BusyCause}
+use Rattle.ddm_types.specs.declared.answers.LogEntry.{LogEntry}
 use Rattle.ddm_types.specs.declared.answers.TurnAnswer.{TurnAnswer}
 use Rattle.ddm_types.specs.declared.operations.HaltCause.{HaltCause}
 use Rattle.ddm_types.specs.declared.keys.Key.{Key}
@@ -15,7 +16,6 @@ use Rattle.tree_model.specs.State.Leaf.{waiting_item}
 use Rattle.tree_model.specs.Turns.HartTurn.{leaf_step}
 use Rattle.tree_model.specs.Turns.Machine.{named_by}
 use Rattle.tree_model.specs.Turns.Tree.{bus_of_number, leaf_of_number}
-use Rattle.split_bus.specs.Outcomes.{is_granted}
 use Rattle.ddm_tree.specs.declared.idle.Idle.{Idle}
 use Rattle.ddm_tree.specs.Path.{node_at}
 use Rattle.ddm_tree.specs.Quiet.{IsNoneOf}
@@ -54,6 +54,13 @@ abbrev pub node_rests : Node → Option Idle
 node_rests (leaf_node v) = rests_by v.hart.halt (waiting_item v.ways v.buffer)
 node_rests (dir_node d ns) = None
 
+-- what is known of a hart may be otherwise after a grant of the item on its bus: not of one that has halted or waits for another item
+abbrev pub may_change : Option Idle → ℕ → Bool
+may_change None x = false
+may_change (Some (Idle.Waits y)) x = nat_eq y x
+may_change (Some (Idle.BufferFull leaf)) x = true
+may_change (Some (Idle.Halted cause)) x = false
+
 -- ---- what is remembered, a place for each leaf
 
 abbrev pub idle_there : Option (Option Idle) → Option Idle
@@ -91,22 +98,27 @@ IsSeen k paths n i = (path : List ℕ) → slice_get paths k ≡ Some path → n
 abbrev pub IsSeenOr : Type 0 → ℕ → List (List ℕ) → Node → List (Option Idle) → Idle → Type 0
 IsSeenOr otherwise k paths n before i = IsSeen k paths n i ⊎ ((slice_get before k ≡ Some (Some i)) × otherwise)
 
--- it is what they tell for the first so many of these leaves
-pub record AreSeen (count : ℕ) (leaves : List ℕ) (paths : List (List ℕ)) (n : Node) (before after : List (Option Idle)) : Type 0 where
-  pub each : (k : ℕ) (i : Idle) → slice_get after k ≡ Some (Some i) → IsSeenOr (IsNoneOf k count leaves) k paths n before i
+-- after a grant of the item it is what they tell for the first so many of these leaves, where it may have changed
+pub record AreSeen (x count : ℕ) (leaves : List ℕ) (paths : List (List ℕ)) (n : Node) (before after : List (Option Idle)) : Type 0 where
+  pub each : (k : ℕ) (i : Idle) → slice_get after k ≡ Some (Some i) → IsSeenOr (IsNoneOf k count leaves ⊎ (may_change (Some i) x ≡ false)) k paths n before i
 
--- and for one leaf
+-- what it tells is remembered of one leaf
 pub record IsLooked (k : ℕ) (paths : List (List ℕ)) (n : Node) (before after : List (Option Idle)) : Type 0 where
   pub own : (i : Idle) → slice_get after k ≡ Some (Some i) → IsSeen k paths n i
   pub others : (j : ℕ) (i : Idle) → j ≢ k → slice_get after j ≡ Some (Some i) → slice_get before j ≡ Some (Some i)
 
--- what is remembered of a leaf after a turn: what the turn answered, what the leaf tells, or what was remembered, where nothing was granted
--- on a bus near it
+-- and for one leaf, where it may have changed
+pub record IsLookedAfter (x k : ℕ) (paths : List (List ℕ)) (n : Node) (before after : List (Option Idle)) : Type 0 where
+  pub own : (i : Idle) → slice_get after k ≡ Some (Some i) → IsSeenOr (may_change (Some i) x ≡ false) k paths n before i
+  pub others : (j : ℕ) (i : Idle) → j ≢ k → slice_get after j ≡ Some (Some i) → slice_get before j ≡ Some (Some i)
+
+-- what is remembered of a leaf after a turn: what the turn answered, what the leaf tells, or what was remembered, where no item was granted
+-- on a bus near it that may have changed it
 pub data IsKnown (t : Turn) (a : TurnAnswer) (bus_leaves leaf_paths : List (List ℕ)) (n : Node) (before : List (Option Idle)) (k : ℕ) (i : Idle) : Type 0 where
   is_told : named_by t ≡ leaf_of_number k → idle_told a ≡ Some i → IsKnown t a bus_leaves leaf_paths n before k i
   is_seen : IsSeen k leaf_paths n i → IsKnown t a bus_leaves leaf_paths n before k i
   still_known : slice_get before k ≡ Some (Some i)
-      → (is_granted a ≡ true → (bus : ℕ) (leaves : List ℕ) → named_by t ≡ bus_of_number bus → slice_get bus_leaves bus ≡ Some leaves → IsNoneOf k (length leaves) leaves)
+      → ((entry : LogEntry) (bus : ℕ) (leaves : List ℕ) → a ≡ TurnAnswer.Granted entry → named_by t ≡ bus_of_number bus → slice_get bus_leaves bus ≡ Some leaves → IsNoneOf k (length leaves) leaves ⊎ (may_change (Some i) entry.item ≡ false))
       → IsKnown t a bus_leaves leaf_paths n before k i
 
 pub record AreNoted (t : Turn) (a : TurnAnswer) (bus_leaves leaf_paths : List (List ℕ)) (n : Node) (before after : List (Option Idle)) : Type 0 where

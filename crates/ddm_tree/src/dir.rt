@@ -12,6 +12,7 @@ use crate::copying::{CopyFrom, copy_children};
 use crate::found::{Found, found_among, own_copy};
 use crate::idle::{Idle, rest_under};
 use crate::judging::broken_under;
+use crate::marking::mark_exclusive;
 use crate::named::Named;
 use crate::paths::path_up_under;
 use crate::quiet::{Quiet, quiet_under};
@@ -301,6 +302,10 @@ impl<const WORDS: usize, C: Subtree<WORDS>> Subtree<WORDS> for Dir<WORDS, C> {
         } else {
             read_under(&self.state, &mut self.children, section, path, words, from)
         }
+    }
+
+    fn mark_held(&self, held: &mut [bool]) {
+        mark_exclusive(&self.state, held);
     }
 
     fn found_below(&self, item: ItemId) -> Option<Found<WORDS>> {

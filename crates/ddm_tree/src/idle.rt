@@ -1,6 +1,6 @@
 ghost use Rattle.std.specs.Prelude.{◌≡◌, ℕ, Some, IfOk, IfSome, length, map, slice_get, slice_set, vec_items};
 ghost use Rattle.tree_model.specs.State.Values.{DirValue, dir_node, nodes};
-ghost use Rattle.ddm_tree.specs.Idle.{AreNoted, AreSeen, IsLooked, IsSeen, idle_answer, idle_for, idle_told, node_rests, rests_by, with_idle};
+ghost use Rattle.ddm_tree.specs.Idle.{AreNoted, AreSeen, IsLooked, IsLookedAfter, IsSeen, idle_answer, idle_for, idle_there, idle_told, may_change, node_rests, rests_by, with_idle};
 ghost use Rattle.ddm_tree.specs.Path.{node_at};
 ghost use Rattle.ddm_tree.specs.Quiet.{HartsAgree, KeepsBuses, idle_as};
 
@@ -44,17 +44,38 @@ fn idle_told(answer: &TurnAnswer) -> Option<Idle>
     }
 }
 
+/// What is remembered of the hart of this number.
+#[inline(always)]
+fn known_of(idle: &[Option<Idle>], place: usize) -> Option<Idle>
+    ensures { result ≡ idle_there (slice_get idle.now place) }
+{
+    match idle.get(place) {
+        Some(known) => *known,
+        None => None,
+    }
+}
+
 /// What is remembered of the hart of a turn.
 #[inline(always)]
 pub(crate) fn idle_for(turn: &Turn, idle: &[Option<Idle>]) -> Option<Idle>
     ensures { result ≡ idle_for turn.now idle.now }
 {
     match turn {
-        Turn::Hart { hart, .. } => match idle.get(hart.0 as usize) {
-            Some(known) => *known,
-            None => None,
-        },
+        Turn::Hart { hart, .. } => known_of(idle, hart.0 as usize),
         Turn::Down { .. } | Turn::Request { .. } | Turn::Reply { .. } | Turn::Leave { .. } => None,
+    }
+}
+
+/// Whether what is known of a hart may be otherwise after a grant of the item on its bus: a hart that has halted stays so, and one that
+/// waits for another item waits on.
+#[inline(always)]
+fn may_change(known: Option<Idle>, item: ItemId) -> bool
+    ensures { result ≡ may_change known item }
+{
+    match known {
+        Some(Idle::Waits(ItemId(waited))) => waited == item.0,
+        Some(Idle::BufferFull(_)) => true,
+        Some(Idle::Halted(_)) | None => false,
     }
 }
 
@@ -142,25 +163,46 @@ fn look<const WORDS: usize, C: Subtree<WORDS>>(
     put_idle(idle, quiet, leaf, rest_of(children, leaf_paths, leaf));
 }
 
+/// The same after a grant of the item, where that may have changed what is known.
+#[inline(always)]
+fn look_after<const WORDS: usize, C: Subtree<WORDS>>(
+    idle: &mut [Option<Idle>],
+    quiet: &mut [Quiet],
+    children: &[C],
+    leaf_paths: &[Vec<ChildNo>],
+    leaf: usize,
+    item: ItemId,
+)
+    ensures looked { (d : DirValue) → IsLookedAfter item leaf (map vec_items leaf_paths.now) (dir_node d (nodes (map C.value children.now))) idle.old idle.new }
+    ensures harts { HartsAgree quiet.old idle.old → HartsAgree quiet.new idle.new }
+    ensures buses { KeepsBuses quiet.old quiet.new }
+{
+    if may_change(known_of(idle, leaf), item) {
+        look(idle, quiet, children, leaf_paths, leaf);
+    }
+}
+
 /// The same of each of these leaves.
+#[inline(never)]
 fn look_at_all<const WORDS: usize, C: Subtree<WORDS>>(
     idle: &mut [Option<Idle>],
     quiet: &mut [Quiet],
     children: &[C],
     leaf_paths: &[Vec<ChildNo>],
     leaves: &[usize],
+    item: ItemId,
 )
-    ensures seen { (d : DirValue) → AreSeen (length leaves.now) leaves.now (map vec_items leaf_paths.now) (dir_node d (nodes (map C.value children.now))) idle.old idle.new }
+    ensures seen { (d : DirValue) → AreSeen item (length leaves.now) leaves.now (map vec_items leaf_paths.now) (dir_node d (nodes (map C.value children.now))) idle.old idle.new }
     ensures harts { HartsAgree quiet.old idle.old → HartsAgree quiet.new idle.new }
     ensures buses { KeepsBuses quiet.old quiet.new }
 {
     for leaf in leaves {
-        look(idle, quiet, children, leaf_paths, *leaf);
+        look_after(idle, quiet, children, leaf_paths, *leaf, item);
     }
 }
 
-/// Remembers what a turn answered of its hart, or what the leaves tell that the turn may have changed: its own, or those of the bus that
-/// granted something.
+/// Remembers what a turn answered of its hart, or what the leaves tell that the turn may have changed: its own, or, of those of the bus
+/// that granted an item, each that may have waited for it.
 #[inline(always)]
 pub(crate) fn note<const WORDS: usize, C: Subtree<WORDS>>(
     idle: &mut [Option<Idle>],
@@ -176,10 +218,10 @@ pub(crate) fn note<const WORDS: usize, C: Subtree<WORDS>>(
     ensures buses { KeepsBuses quiet.old quiet.new }
 {
     match answer {
-        TurnAnswer::Granted(_) => {
+        TurnAnswer::Granted(entry) => {
             if let Named::Bus(bus) = named(turn) {
                 if let Some(listed) = bus_leaves.get(bus.0 as usize) {
-                    look_at_all(idle, quiet, children, leaf_paths, listed);
+                    look_at_all(idle, quiet, children, leaf_paths, listed, entry.item);
                 }
             }
         }

@@ -170,6 +170,10 @@ impl<const WAYS: usize, const WORDS: usize> Subtree<WORDS> for Leaf<WAYS, WORDS>
         }
     }
 
+    fn mark_held(&self, held: &mut [bool]) {
+        self.mark_held(held);
+    }
+
     fn found_below(&self, item: ItemId) -> Option<Found<WORDS>> {
         let (_, words, spot) = self.entry(item)?;
         let at = place_at(self.number(), spot);

@@ -14,6 +14,7 @@ mod keys;
 mod keys_judged;
 mod leaf;
 mod machine;
+mod marking;
 mod named;
 mod over;
 mod parts;

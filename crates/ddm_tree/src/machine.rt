@@ -157,17 +157,17 @@ impl<const WORDS: usize, C: Subtree<WORDS>> Machine<WORDS, C> {
         ensures order { StaysInOrder self.old.machine self.new.machine }
     {
         let mut answer = TurnAnswer::Empty;
-        self.turn_into(turn, &mut answer);
+        self.turn_into(&turn, &mut answer);
         answer
     }
 
     /// The same, where the answer is put where the caller wants it: copying it costs more than most turns.
-    pub fn turn_into(&mut self, turn: Turn, answer: &mut TurnAnswer)
-        requires named { names_part turn self.old.machine ≡ true }
+    pub fn turn_into(&mut self, turn: &Turn, answer: &mut TurnAnswer)
+        requires named { names_part turn.now self.old.machine ≡ true }
         requires spare { 0 < self.old.spare }
         requires turns { self.old.turns < 4294967295 }
-        ensures answer { answer.new ≡ (turn_of turn self.old.machine).answer }
-        ensures after { self.new ≡ state_after turn self.old }
+        ensures answer { answer.new ≡ (turn_of turn.now self.old.machine).answer }
+        ensures after { self.new ≡ state_after turn.now self.old }
         ensures order { StaysInOrder self.old.machine self.new.machine }
     {
         turn_made(
@@ -182,7 +182,7 @@ impl<const WORDS: usize, C: Subtree<WORDS>> Machine<WORDS, C> {
             &self.bus_leaves,
             &mut self.idle,
             &mut self.quiet,
-            &turn,
+            turn,
             answer,
         );
         self.turns += 1;
@@ -217,7 +217,8 @@ fn turn_found<const WORDS: usize, C: Subtree<WORDS>>(
     turn_under(top, children, &call, path, &Stamp::zero(), answer);
 }
 
-/// The same, without a look at the tree where the hart is known to be idle.
+/// The same, without a look at the tree where the hart is known to be idle. What only a grant reads is lent as it lies in the machine, so
+/// that other turns don't touch it.
 fn turn_made<const WORDS: usize, C: Subtree<WORDS>>(
     top: &mut TopState<WORDS>,
     children: &mut [C],
@@ -225,9 +226,9 @@ fn turn_made<const WORDS: usize, C: Subtree<WORDS>>(
     items: &Items,
     leaf_paths: &[Vec<ChildNo>],
     bus_paths: &[Vec<ChildNo>],
-    leaf_near: &[Vec<usize>],
-    bus_near: &[Vec<usize>],
-    bus_leaves: &[Vec<usize>],
+    leaf_near: &Vec<Vec<usize>>,
+    bus_near: &Vec<Vec<usize>>,
+    bus_leaves: &Vec<Vec<usize>>,
     idle: &mut [Option<Idle>],
     quiet: &mut [Quiet],
     turn: &Turn,
@@ -241,7 +242,7 @@ fn turn_made<const WORDS: usize, C: Subtree<WORDS>>(
     requires idle { AreIdle code.now items.now idle.old (dir_node top.old (nodes (map C.value children.old))) (dir_node top.old (nodes (map C.value children.old))) }
     requires quiet { AreQuiet quiet.old (dir_node top.old (nodes (map C.value children.old))) (dir_node top.old (nodes (map C.value children.old))) }
     requires harts { HartsAgree quiet.old idle.old }
-    requires near { AreNearListed (map vec_items leaf_near.now) (map vec_items bus_near.now) (map vec_items bus_leaves.now) (map vec_items leaf_paths.now) (map vec_items bus_paths.now) }
+    requires near { AreNearListed (map vec_items leaf_near.now.items) (map vec_items bus_near.now.items) (map vec_items bus_leaves.now.items) (map vec_items leaf_paths.now) (map vec_items bus_paths.now) }
     ensures answer { (path : List ℕ) → listed_path (named_by turn.now) (map vec_items leaf_paths.now) (map vec_items bus_paths.now) ≡ Some path → let n = dir_node top.old (nodes (map C.value children.old)) in answer.new ≡ node_answer code.now items.now turn.now path (present_at path stamp_zero n) (node_at path n) }
     ensures after { (path : List ℕ) → listed_path (named_by turn.now) (map vec_items leaf_paths.now) (map vec_items bus_paths.now) ≡ Some path → let n = dir_node top.old (nodes (map C.value children.old)) in dir_node top.new (nodes (map C.value children.new)) ≡ put_at path (node_turned code.now items.now turn.now path (present_at path stamp_zero n) (node_at path n)) n }
     ensures quiet { AreQuiet quiet.new (dir_node top.old (nodes (map C.value children.old))) (dir_node top.new (nodes (map C.value children.new))) }

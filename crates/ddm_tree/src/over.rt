@@ -1,42 +1,32 @@
 ghost use Rattle.std.specs.Prelude.{◌≡◌, ◌+◌, ◌<◌, ◌≤◌, ◌^◌, ◌++◌, All, IfOk, OnOk, drop, length, map, sum, take, if◌then◌else◌};
-ghost use Rattle.std.specs.List.{list_any};
 ghost use Rattle.std.specs.Vec.Iter.{into_iter_items, into_iter_len};
-ghost use Rattle.tree_model.specs.Start.Nodes.{cut_in, dir_over, dir_sizes, dirs_over};
+ghost use Rattle.tree_model.specs.Start.Nodes.{cut_in, dir_over, dir_sizes, dirs_over, held_below};
 ghost use Rattle.ddm_types.specs.declared.sizes.Hold.TheVariants.{Exclusive};
-ghost use Rattle.tree_model.specs.State.Child.{child_hold};
 ghost use Rattle.tree_model.specs.State.Directory.{with_hold};
-ghost use Rattle.tree_model.specs.State.States.{is_exclusive};
 ghost use Rattle.tree_model.specs.State.Values.{dir_node, nodes};
-ghost use Rattle.item_states.specs.Parts.{node_items};
 ghost use Rattle.ddm_tree.specs.Holders.{IsHolder};
 
 use crate::dir::Dir;
+use crate::marking::mark_children;
 use crate::subtree::Subtree;
-use ddm_types::{BusNo, Hold, ItemId, NoMemory, TreeSizes};
+use ddm_types::{BusNo, ItemId, NoMemory, TreeSizes};
 use directory::DirState;
 use std::alloc::Global;
 use std::vec::IntoIter;
 
-fn is_exclusive(hold: Hold) -> bool
-    ensures { result ≡ is_exclusive hold }
+/// Which of so many items one of the children holds.
+fn held_items<const WORDS: usize, C: Subtree<WORDS>>(
+    alloc: Global,
+    items: u32,
+    children: &[C],
+) -> Result<Vec<bool>, NoMemory>
+    requires some { 0 < length children.now }
+    requires holders { All (IsHolder items) (map C.value children.now) }
+    ensures { IfOk result (λ held. held.items ≡ held_below (map C.value children.now)) }
 {
-    match hold {
-        Hold::Exclusive => true,
-        Hold::Shared | Hold::Invalid => false,
-    }
-}
-
-/// Whether one of the children holds the item Exclusive.
-fn is_held<const WORDS: usize, C: Subtree<WORDS>>(children: &[C], item: ItemId) -> bool
-    requires { All (λ n. item < node_items n) (map C.value children.now) }
-    ensures { result ≡ list_any (λ n. is_exclusive (child_hold item n)) (map C.value children.now) }
-{
-    for child in children {
-        if is_exclusive(child.hold(item)) {
-            return true;
-        }
-    }
-    false
+    let mut held = vec![in alloc; false; items as usize]?;
+    mark_children(children, &mut held);
+    Ok(held)
 }
 
 /// The directory holds the item Exclusive, where `held` says so.
@@ -67,9 +57,9 @@ fn directory<const WORDS: usize, C: Subtree<WORDS> + Drop>(
     ensures { IfOk result (λ d. dir_node d.state (nodes (map C.value d.children.items)) ≡ dir_over (dir_sizes config.now WORDS) level bus (map C.value children.items)) }
 {
     let mut state = DirState::new(alloc, bus, level, items, config)?;
+    let held = held_items(alloc, items, &children)?;
     for item in 0..items {
-        let held = is_held(&children, ItemId(item));
-        hold_if(&mut state, ItemId(item), held);
+        hold_if(&mut state, ItemId(item), held[item as usize]);
     }
     Ok(Dir::new(state, children))
 }

@@ -231,6 +231,7 @@ pub(crate) fn near_lists(
 }
 
 /// Remembers anew what these buses are quiet of.
+#[inline(never)]
 fn learn_near<const WORDS: usize, C: Subtree<WORDS>>(
     known: &mut [Quiet],
     top: &TopState<WORDS>,

@@ -1,5 +1,6 @@
 ghost use Rattle.std.specs.Prelude.{◌≡◌, ◌+◌, ◌*◌, ◌<◌, ◌≤◌, ◌^◌, ◌++◌, true, length, take, Some, IfOk, IfSome, OnErr, OnOk, option_map, reverse, vec_items};
 ghost use Rattle.ddm_types.specs.ItemTable.{item_count};
+ghost use Rattle.tree_model.specs.Start.Nodes.{held_by, or_each};
 ghost use Rattle.tree_model.specs.State.Child.{child_label};
 ghost use Rattle.tree_model.specs.State.Shape.{skeleton, widths_fit};
 ghost use Rattle.tree_model.specs.Turns.Found.{found_of, place_found, words_found};
@@ -224,6 +225,11 @@ pub trait Subtree<const WORDS: usize>: Agent<WORDS> {
         requires leads { Leads (section_name section) path.now (Self.value self.old) }
         ensures read { PartRead section path.now words.now from (Self.value self.old) (Self.value self.new) result }
         ensures inside { IfOk result (λ at. at ≤ length words.now) };
+
+    /// Marks the items that this part holds before the run.
+    fn mark_held(&self, held: &mut [bool])
+        requires { length held.old ≡ length (held_by (Self.value self.now)) }
+        ensures { held.new ≡ or_each held.old (held_by (Self.value self.now)) };
 
     /// The found copy of an item in this part.
     fn found_below(&self, item: ItemId) -> Option<Found<WORDS>>

@@ -94,11 +94,15 @@ struct Row {
     writable: bool,
 }
 
-/// An item that doesn't lie directly behind another one: its address and its number.
+/// So many runs are remembered.
+const RUNS: usize = 8;
+
+/// Where the first runs of items begin: the addresses of their first items, and for each number of runs that begin at an address or
+/// below what is added to its number of items below to give an item's number.
 #[derive(Clone, Copy)]
-struct RunStart {
-    address: u32,
-    number: usize,
+struct RunStarts {
+    addresses: [u32; RUNS],
+    added: [u32; RUNS + 1],
 }
 
 /// The table of items. A contract sees it as the size of an item and the items in order of address, each
@@ -108,7 +112,7 @@ pub struct Items {
     item_bytes: u32,
     rows: Vec<Row>,
     /// Where an item is looked for first. What is found there is looked at, so nothing rests on it.
-    starts: Vec<RunStart>,
+    starts: RunStarts,
 }
 
 impl Model for Items {
@@ -170,18 +174,34 @@ fn push_items(
     Ok(())
 }
 
-/// The items that don't lie directly behind another one.
-fn run_starts(alloc: Global, rows: &[Row], item_bytes: u32) -> Result<Vec<RunStart>, NoMemory> {
-    let mut starts = Vec::new(alloc);
+/// Where the items begin that don't lie directly behind another one.
+fn run_starts(rows: &[Row], item_bytes: u32) -> RunStarts {
+    let mut starts = RunStarts {
+        addresses: [u32::MAX; RUNS],
+        added: [0; RUNS + 1],
+    };
+    let mut run = 0;
+    let mut number = 0_u32;
     let mut behind = 0;
-    for number in 0..rows.len() {
-        let address = rows[number].address;
-        if number == 0 || address != behind {
-            starts.push(RunStart { address, number })?;
+    for row in rows {
+        if run < RUNS && (number == 0 || row.address != behind) {
+            starts.addresses[run] = row.address;
+            starts.added[run + 1] = number.wrapping_sub(items_below(row.address, item_bytes));
+            run += 1;
         }
-        behind = address.wrapping_add(item_bytes);
+        number = number.wrapping_add(1);
+        behind = row.address.wrapping_add(item_bytes);
     }
-    Ok(starts)
+    starts
+}
+
+/// How many items could lie below an address. No division by a number that isn't known.
+fn items_below(address: u32, item_bytes: u32) -> u32 {
+    if item_bytes == 16 {
+        address / 16
+    } else {
+        address / 64
+    }
 }
 
 impl Items {
@@ -199,7 +219,7 @@ impl Items {
         for run in &runs {
             push_items(&mut rows, *run, spans, item_bytes)?;
         }
-        let starts = run_starts(alloc, &rows, item_bytes)?;
+        let starts = run_starts(&rows, item_bytes);
         Ok(Items {
             item_bytes,
             rows,
@@ -233,21 +253,13 @@ impl Items {
     fn in_its_run(&self, address: u32) -> Option<ItemId>
         ensures { IfSome result (λ x. item_at self.now address ≡ Some x) }
     {
-        let mut last = None;
-        for start in &self.starts {
-            if start.address <= address {
-                last = Some(*start);
-            }
+        let mut runs = 0_usize;
+        for first in &self.starts.addresses {
+            runs = runs.wrapping_add(usize::from(*first <= address));
         }
-        let start = last?;
-        let bytes = address.wrapping_sub(start.address);
-        // No division by a number that isn't known.
-        let behind = if self.item_bytes == 16 {
-            bytes / 16
-        } else {
-            bytes / 64
-        };
-        self.if_there(start.number.wrapping_add(behind as usize), address)
+        let added = self.starts.added.get(runs)?;
+        let number = items_below(address, self.item_bytes).wrapping_add(*added);
+        self.if_there(number as usize, address)
     }
 
     // The item that has the byte at this address, wherever it lies.

@@ -10,3 +10,4 @@ pub mod Steps
 pub mod Putting
 pub mod Together
 pub mod ReadBack
+pub mod Marking

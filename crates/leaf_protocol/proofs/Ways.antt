@@ -26,7 +26,7 @@ ways_of-length n m = length-map-range_with_len (way_of m) 0 n
 abbrev pub AreBelow : ℕ → MemoryValue → Type 0
 AreBelow n m = (x : ℕ) → n ≤ x → way_of m x ≡ None
 
-below-or-past : (x n : ℕ) → (x < n) ⊎ (n ≤ x)
+pub below-or-past : (x n : ℕ) → (x < n) ⊎ (n ≤ x)
 below-or-past x zero = inr (omega arith)
 below-or-past zero (suc n) = inl (omega arith)
 below-or-past (suc x) (suc n) = elim (below-or-past x n) [ inl h ↦ inl (omega arith) | inr h ↦ inr (omega arith) ]

@@ -1,7 +1,7 @@
 -- The entries of a leaf as its parts have them: a map from item to entry for those in ways, the buffer, and the item that waits.
 -- Letters: m is a memory, e an entry, x an item, w the item that waits.
 -- Proofs alone need it.
-use Rattle.std.specs.Prelude.{◌≡◌, ℕ, ◌<◌, ◌^◌, Bool, true, false, not, ◌||◌, List, ◌++◌, map, find, Option, Some, None, option_map, is_none, if◌then◌else◌}
+use Rattle.std.specs.Prelude.{◌≡◌, ℕ, ◌<◌, ◌^◌, Bool, true, false, not, ◌||◌, List, ◌++◌, map, find, slice_set, Option, Some, None, option_map, is_none, if◌then◌else◌}
 use Rattle.std.specs.List.{range_with_len}
 use Rattle.ddm_types.specs.declared.sizes.LeafState.{LeafState}
 use Rattle.flat_model.specs.Flat.{has_reserved}
@@ -94,3 +94,8 @@ cleared x way v = record v { ways = ways_without (item_in_way v.sets x way v.way
 abbrev pub cleared_if : ℕ → Option ℕ → EntriesValue → EntriesValue
 cleared_if x None v = v
 cleared_if x (Some way) v = cleared x way v
+
+-- the item of a tag is marked in a list of all items, where it has a place there
+abbrev pub with_mark : Option (ℕ × LeafState) → List Bool → List Bool
+with_mark None held = held
+with_mark (Some t) held = slice_set held t.0 true

@@ -1,10 +1,11 @@
-ghost use Rattle.std.specs.Prelude.{◌≡◌, ◌++◌, ◌∷◌, ◌%◌, ◌<◌, ◌≤◌, ◌^◌, [], true, false, Option, Some, None, IfOk, IfErr, IfSome, IsSome, is_some, length, nat_le, option_map, replicate, unwrap_or};
+ghost use Rattle.std.specs.Prelude.{◌≡◌, ◌++◌, ◌∷◌, ◌%◌, ◌<◌, ◌≤◌, ◌^◌, [], true, false, Option, Some, None, IfOk, IfErr, IfSome, IsSome, is_some, length, map, nat_le, option_map, replicate, unwrap_or};
 ghost use Rattle.ddm_types.specs.declared.sizes.LeafState.TheVariants.{Exclusive};
 ghost use Rattle.tree_model.specs.State.States.{is_reading, is_waiting};
 ghost use Rattle.tree_model.specs.State.Leaf.{LeafEntry, blank, becomes, ends, enters, enters_free, entry_at, entry_state, entry_words, item_in_way, leaf_leaving, spot_at, waiting_item, words_in, buffered};
 ghost use Rattle.tree_model.specs.State.Child.{buffer_words};
+ghost use Rattle.tree_model.specs.Start.Nodes.{or_each};
 ghost use Rattle.leaf_protocol.specs.Leaf.{state_and_words};
-ghost use Rattle.leaf_protocol.specs.Entries.{buffer_state_and_words, cleared, cleared_if, lowest_way, may_be, waits_now, waiting_after, way_to_take, with_fate};
+ghost use Rattle.leaf_protocol.specs.Entries.{buffer_state_and_words, cleared, cleared_if, lowest_way, may_be, waits_now, waiting_after, way_to_take, with_fate, with_mark};
 
 use attraction_mem::{AttractionMem, SetFull};
 use ddm_types::{ItemId, LeafState, NoMemory, Words};
@@ -63,6 +64,17 @@ fn waiting_after(item: ItemId, waits: bool, waiting: Option<ItemId>) -> Option<I
     match waiting {
         Some(other) if other.0 == item.0 => None,
         _ => waiting,
+    }
+}
+
+/// Marks the item of a tag.
+fn mark_tag(held: &mut [bool], tag: Option<(ItemId, LeafState)>)
+    ensures { held.new ≡ with_mark tag held.old }
+{
+    if let Some((item, _)) = tag {
+        if (item.0 as usize) < held.len() {
+            held[item.0 as usize] = true;
+        }
     }
 }
 
@@ -174,6 +186,17 @@ impl<const WAYS: usize, const WORDS: usize> Entries<WAYS, WORDS> {
                 Some((place, _)) => Some(LeafSpot::Buffer(place)),
                 None => None,
             },
+        }
+    }
+
+    /// Marks the items that stand in the ways. Each tag is looked at once: the items are many more.
+    pub fn mark_held(&self, held: &mut [bool])
+        requires { length held.old ≡ length self.now.ways }
+        ensures { held.new ≡ or_each held.old (map is_some self.now.ways) }
+    {
+        let tags = self.memory.tags();
+        for tag in tags {
+            mark_tag(held, *tag);
         }
     }
 

@@ -45,10 +45,9 @@ fn asks_to_erase(item: ItemId, slot: Option<(TxKind, ItemId)>) -> bool
 impl<const WAYS: usize, const WORDS: usize> Leaf<WAYS, WORDS> {
     /// How many replies of the item it has.
     fn reply_count(&self, item: ItemId) -> u32
-        requires { item < length self.now.ways }
         ensures { result ≡ length (words_of_item item self.now.replies) }
     {
-        self.replies.counts()[item.0 as usize]
+        self.replies.naming(item)
     }
 
     /// What its bus sees of it, of this item.

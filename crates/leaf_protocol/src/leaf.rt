@@ -1,9 +1,10 @@
-ghost use Rattle.std.specs.Prelude.{◌≡◌, ◌%◌, ◌+◌, ◌*◌, ◌<◌, ◌≤◌, ◌^◌, Some, None, IfOk, IfErr, length, option_map, slice_get};
+ghost use Rattle.std.specs.Prelude.{◌≡◌, ◌%◌, ◌+◌, ◌*◌, ◌<◌, ◌≤◌, ◌^◌, Some, None, IfOk, IfErr, is_some, length, map, option_map, slice_get};
 ghost use Rattle.tree_model.specs.State.Leaf.{free_way, leaf_entry, spot_at, state_at, waiting_item};
-ghost use Rattle.tree_model.specs.Start.Nodes.{leaf_sizes, new_leaf, placed};
+ghost use Rattle.tree_model.specs.Start.Nodes.{leaf_sizes, new_leaf, or_each, placed};
 ghost use Rattle.leaf_protocol.specs.Leaf.{state_and_words};
 
 use crate::entries::Entries;
+use crate::replies::Replies;
 use attraction_mem::SetFull;
 use ddm_types::{HartNo, ItemId, LeafNo, LeafState, NoMemory, Start, TreeSizes, TxKind, Words};
 use reservations::Reservation;
@@ -11,7 +12,6 @@ use rv_hart::Hart;
 use std::alloc::Global;
 use std::marker::Model;
 use tree_model::LeafSpot;
-use tx_queue::Queue;
 
 /// A leaf: a hart with the entries of its memory and buffer.
 #[derive(Drop)]
@@ -20,7 +20,7 @@ pub struct Leaf<const WAYS: usize, const WORDS: usize> {
     pub(crate) entries: Entries<WAYS, WORDS>,
     /// A request that no bus has granted yet.
     pub(crate) slot: Option<(TxKind, ItemId)>,
-    pub(crate) replies: Queue<(ItemId, Words<WORDS>)>,
+    pub(crate) replies: Replies<WORDS>,
     pub(crate) reservation: Reservation,
     pub(crate) hart: Hart,
 }
@@ -56,7 +56,7 @@ impl<const WAYS: usize, const WORDS: usize> Leaf<WAYS, WORDS> {
         ensures { IfOk result (λ l. l ≡ new_leaf (leaf_sizes config.now WAYS WORDS) start items leaf) }
     {
         let entries = Entries::new(alloc, items, config.sets, config.buffer)?;
-        let replies = Queue::new(alloc, config.replies, items)?;
+        let replies = Replies::new(alloc, config.replies, items)?;
         Ok(Leaf {
             number: leaf,
             entries,
@@ -109,6 +109,14 @@ impl<const WAYS: usize, const WORDS: usize> Leaf<WAYS, WORDS> {
         ensures { result ≡ option_map (λ c. (c.item, c.words)) (slice_get self.now.replies place) }
     {
         self.replies.get(place).copied()
+    }
+
+    /// Marks the items that stand in its ways, before the run. Those in its buffer aren't marked.
+    pub fn mark_held(&self, held: &mut [bool])
+        requires { length held.old ≡ length self.now.ways }
+        ensures { held.new ≡ or_each held.old (map is_some self.now.ways) }
+    {
+        self.entries.mark_held(held);
     }
 
     /// The item comes, Exclusive, into the lowest free way of its set, before the run.

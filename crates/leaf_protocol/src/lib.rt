@@ -9,6 +9,7 @@ mod faces;
 mod leaf;
 mod read_back;
 mod read_entries;
+mod replies;
 mod turn;
 mod writing;
 

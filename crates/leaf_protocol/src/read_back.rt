@@ -6,6 +6,7 @@ ghost use Rattle.state_reading.specs.Parts.{halt_has_number, read_copy, read_har
 ghost use Rattle.leaf_protocol.specs.Leaf.{copied_item, copy_value, request_value};
 
 use crate::leaf::Leaf;
+use crate::replies::Replies;
 use ddm_types::{ItemId, LeafState, TxKind, Words};
 use reservations::Reservation;
 use rv_hart::Hart;
@@ -13,7 +14,6 @@ use state_reading::{
     StateRefusal, any_word, count_word, halt_of, item_words, keep, look, word_below, word_if,
     word_to, words_if,
 };
-use tx_queue::Queue;
 
 /// The item of a reservation by its word, which is the item plus 1, or 0 for none.
 fn reserved_of(word: u32) -> Reservation
@@ -69,7 +69,7 @@ fn read_reply<const WORDS: usize>(
     words: &[u32],
     at: &mut u32,
     items: u32,
-    replies: &mut Queue<(ItemId, Words<WORDS>)>,
+    replies: &mut Replies<WORDS>,
 ) -> Result<(), StateRefusal>
     requires few { length words.now < 2 ^ 32 }
     requires inside { at.old ≤ length words.now }
@@ -97,7 +97,7 @@ fn read_replies<const WORDS: usize>(
     at: &mut u32,
     items: u32,
     count: u32,
-    replies: &mut Queue<(ItemId, Words<WORDS>)>,
+    replies: &mut Replies<WORDS>,
 ) -> Result<(), StateRefusal>
     requires few { length words.now < 2 ^ 32 }
     requires inside { at.old ≤ length words.now }

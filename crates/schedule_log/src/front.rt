@@ -54,11 +54,12 @@ fn last_before(text: &[u8], place: usize) -> u32
 }
 
 // How many of these sixteen bytes there are up to the first line feed, and 17 where there is none: all are looked at at once, so that
-// the processor has no branch to guess. A line is told by what it is compared with, so nothing is claimed of this number.
+// the processor has no branch to guess. A byte from 0x80 on, which no line of a turn has, ends them too. A line is told by what it is
+// compared with, so nothing is claimed of this number.
 #[inline(always)]
 fn up_to_feed(first: u64, second: u64) -> u32 {
     let other = (u128::from(second) << 64 | u128::from(first)) ^ FEEDS;
-    let marks = other.wrapping_sub(LOWEST_BITS) & !other & HIGHEST_BITS;
+    let marks = other.wrapping_sub(LOWEST_BITS) & HIGHEST_BITS;
     marks.trailing_zeros() / 8 + 1
 }
 

@@ -23,6 +23,7 @@ pub(crate) struct Lines {
 }
 
 // Puts the turns of a text's whole lines at the end, up to the first that is refused.
+#[inline(never)]
 fn read_lines(
     seen: &mut SeenLines,
     first_lines: u32,

@@ -117,6 +117,7 @@ fn step_of_line(parts: &Parts, lines: u32, made: u32, text: &[u8], end: usize) -
 }
 
 // The same, of a text whose first line may be spelled in any way.
+#[inline(never)]
 fn any_step(parts: &Parts, lines: u32, made: u32, text: &[u8]) -> Step
     requires { lines ≤ 1048576 }
     ensures { StepGives parts.now lines made text.now result }
@@ -129,6 +130,7 @@ fn any_step(parts: &Parts, lines: u32, made: u32, text: &[u8]) -> Step
 }
 
 // The same, of a line that isn't remembered. It is from now on, if its front tells it: the first eight bytes and the last four are all.
+#[inline(never)]
 fn new_step(seen: &mut SeenLines, lines: u32, made: u32, text: &[u8], front: &Front) -> Step
     requires lines { lines ≤ 1048576 }
     requires long { 16 ≤ length text.now }

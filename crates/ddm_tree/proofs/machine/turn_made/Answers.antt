@@ -37,9 +37,9 @@ returns-in-None-clause-idle g c =
     let found = c.requires.found in
     let leaf_paths = map vec_items c.args.leaf_paths.now in
     let bus_paths = map vec_items c.args.bus_paths.now in
-    let bus_leaves = map vec_items c.args.bus_leaves.now in
+    let bus_leaves = map vec_items c.args.bus_leaves.now.items in
     let after = c.turn_found.ensures.after found.path found.listed in
-    let told = subst (λ a. AreNoted c.args.turn.now a bus_leaves leaf_paths (dir_node c.turn_found.new.top (nodes (map g.C.Agent.value c.turn_found.new.children))) c.args.idle.now c.note.new.idle) (c.turn_found.ensures.answer found.path found.listed) (c.note.ensures.noted c.turn_found.new.top) in
+    let told = subst (λ a. AreNoted c.args.turn.now a bus_leaves leaf_paths (dir_node c.turn_found.new.top (nodes (map g.C.Agent.value c.turn_found.new.children))) c.args.idle.now c.note.new.idle) (c.turn_found.ensures.answer found.path found.listed) (rw (c.deref.ensures.value) at c.note.ensures.noted c.turn_found.new.top) in
     let noted = subst (λ m. AreNoted c.args.turn.now (node_answer c.args.code.now c.args.items.now c.args.turn.now found.path (present_at found.path stamp_zero n) (node_at found.path n)) bus_leaves leaf_paths m c.args.idle.now c.note.new.idle) after told in
     let idle = noted-idle c.args.code.now c.args.items.now c.args.turn.now found.path (present_at found.path stamp_zero n) n found.leads bus_leaves leaf_paths bus_paths c.args.idle.now found.listed c.requires.near.below c.requires.paths c.requires.idle c.note.new.idle noted in
     subst (AreIdle c.args.code.now c.args.items.now c.note.new.idle n) (sym after) idle
@@ -51,12 +51,12 @@ returns-in-None-clause-quiet g c =
     let leaf_paths = map vec_items c.args.leaf_paths.now in
     let bus_paths = map vec_items c.args.bus_paths.now in
     let after = c.turn_found.ensures.after found.path found.listed in
-    let leaf_near = map vec_items c.args.leaf_near.now in
-    let bus_near = map vec_items c.args.bus_near.now in
-    let told = subst (λ a. AreRelearned c.args.turn.now a leaf_near bus_near bus_paths (dir_node c.turn_found.new.top (nodes (map g.C.Agent.value c.turn_found.new.children))) c.note.new.quiet c.note_buses.new.known) (c.turn_found.ensures.answer found.path found.listed) c.note_buses.ensures in
+    let leaf_near = map vec_items c.args.leaf_near.now.items in
+    let bus_near = map vec_items c.args.bus_near.now.items in
+    let told = subst (λ a. AreRelearned c.args.turn.now a leaf_near bus_near bus_paths (dir_node c.turn_found.new.top (nodes (map g.C.Agent.value c.turn_found.new.children))) c.note.new.quiet c.note_buses.new.known) (c.turn_found.ensures.answer found.path found.listed) (rw (c.deref-in-None.ensures.value, c.deref-in-None-2.ensures.value) at c.note_buses.ensures) in
     let learned = subst (λ m. AreRelearned c.args.turn.now (node_answer c.args.code.now c.args.items.now c.args.turn.now found.path (present_at found.path stamp_zero n) (node_at found.path n)) leaf_near bus_near bus_paths m c.note.new.quiet c.note_buses.new.known) after told in
     let kept = quiet-same n n c.args.quiet.now c.note.new.quiet c.note.ensures.buses c.requires.quiet in
-    let quiet = relearned-quiet c.args.code.now c.args.items.now c.args.turn.now found.path (present_at found.path stamp_zero n) n leaf_near bus_near (map vec_items c.args.bus_leaves.now) leaf_paths bus_paths c.note.new.quiet c.note_buses.new.known found.leads found.listed c.requires.near c.requires.listed kept learned in
+    let quiet = relearned-quiet c.args.code.now c.args.items.now c.args.turn.now found.path (present_at found.path stamp_zero n) n leaf_near bus_near (map vec_items c.args.bus_leaves.now.items) leaf_paths bus_paths c.note.new.quiet c.note_buses.new.known found.leads found.listed c.requires.near c.requires.listed kept learned in
     subst (AreQuiet c.note_buses.new.known n) (sym after) quiet
 
 pub returns-in-None-clause-harts : goal.returns-in-None-clause-harts

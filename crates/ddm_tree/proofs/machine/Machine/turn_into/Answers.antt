@@ -17,11 +17,11 @@ use Rattle.ddm_tree.proofs.machine.Machine.turn_into.Given
 pub turn_made-requires : goal.turn_made-requires
 turn_made-requires g c =
     let m = machine_of c.self.inside.code c.self.inside.items c.self.inside.top (map g.C.Agent.value c.self.inside.children.items) c.self.inside.ops.items c.self.inside.traffic.items in
-    let named : names_part c.args.turn m ≡ true = subst (λ s. names_part c.args.turn s.machine ≡ true) (sym c.self.view_is) c.requires.named in
+    let named : names_part c.args.turn.now m ≡ true = subst (λ s. names_part c.args.turn.now s.machine ≡ true) (sym c.self.view_is) c.requires.named in
     let turns : c.self.inside.turns + 1 ≤ 4294967295 = subst (λ s. s.turns + 1 ≤ 4294967295) (sym c.self.view_is) (omega (arith, c.requires.turns)) in
     let inv = c.self.invariant in
     let ready = machine-ready g.row.WORDS c.self.inside.turns (map vec_items c.self.inside.leaf_paths.items) (map vec_items c.self.inside.bus_paths.items) m inv.0 inv.2 (omega (arith, turns)) in
-    let found = part-found g.row.WORDS c.self.inside.turns (map vec_items c.self.inside.leaf_paths.items) (map vec_items c.self.inside.bus_paths.items) c.args.turn m inv.0 named in (
+    let found = part-found g.row.WORDS c.self.inside.turns (map vec_items c.self.inside.leaf_paths.items) (map vec_items c.self.inside.bus_paths.items) c.args.turn.now m inv.0 named in (
       omega arith,
       (
         inv.3,
@@ -37,7 +37,7 @@ turn_made-requires g c =
                   rw (c.deref_mut.ensures.value, c.deref_mut-2.ensures.value) inv.5,
                   (
                     rw (c.deref_mut.ensures.value, c.deref_mut-3.ensures.value) inv.6,
-                    (rw (c.deref_mut-2.ensures.value, c.deref_mut-3.ensures.value) inv.7, rw (c.deref.ensures.value, c.deref-2.ensures.value, c.deref-3.ensures.value, c.deref-4.ensures.value, c.deref-5.ensures.value) inv.8),
+                    (rw (c.deref_mut-2.ensures.value, c.deref_mut-3.ensures.value) inv.7, rw (c.deref.ensures.value, c.deref-2.ensures.value) inv.8),
                   ),
                 ),
               ),
@@ -53,14 +53,14 @@ record-requires-clause-counts g c =
     all-traffic-most c.self.inside.turns 4294967294 (omega (arith, turns)) c.self.inside.traffic.items c.self.invariant.0.granted
 
 -- what the code did, in the tables' words
-told : (g : Given.Over) (c : goal.After-record g) → Told c.args.turn (machine_of c.self.inside.code c.self.inside.items c.self.inside.top (map g.C.Agent.value c.self.inside.children.items) c.self.inside.ops.items c.self.inside.traffic.items) c.turn_made.new.answer c.turn_made.new.top (map g.C.Agent.value c.turn_made.new.children)
+told : (g : Given.Over) (c : goal.After-record g) → Told c.args.turn.now (machine_of c.self.inside.code c.self.inside.items c.self.inside.top (map g.C.Agent.value c.self.inside.children.items) c.self.inside.ops.items c.self.inside.traffic.items) c.turn_made.new.answer c.turn_made.new.top (map g.C.Agent.value c.turn_made.new.children)
 told g c =
     let m = machine_of c.self.inside.code c.self.inside.items c.self.inside.top (map g.C.Agent.value c.self.inside.children.items) c.self.inside.ops.items c.self.inside.traffic.items in
-    let named : names_part c.args.turn m ≡ true = subst (λ s. names_part c.args.turn s.machine ≡ true) (sym c.self.view_is) c.requires.named in
+    let named : names_part c.args.turn.now m ≡ true = subst (λ s. names_part c.args.turn.now s.machine ≡ true) (sym c.self.view_is) c.requires.named in
     let leaf_paths = map vec_items c.self.inside.leaf_paths.items in
     let bus_paths = map vec_items c.self.inside.bus_paths.items in
-    let found = part-found g.row.WORDS c.self.inside.turns leaf_paths bus_paths c.args.turn m c.self.invariant.0 named in
-    told-turn c.args.turn m leaf_paths bus_paths c.turn_made.new.answer c.turn_made.new.top (map g.C.Agent.value c.turn_made.new.children) found
+    let found = part-found g.row.WORDS c.self.inside.turns leaf_paths bus_paths c.args.turn.now m c.self.invariant.0 named in
+    told-turn c.args.turn.now m leaf_paths bus_paths c.turn_made.new.answer c.turn_made.new.top (map g.C.Agent.value c.turn_made.new.children) found
     (rw (c.deref_mut.ensures.value, c.deref.ensures.value, c.deref-2.ensures.value) at c.turn_made.ensures.answer)
     (rw (c.deref_mut.ensures.value, c.deref.ensures.value, c.deref-2.ensures.value) at c.turn_made.ensures.after)
 
@@ -85,7 +85,7 @@ quiet-back g c =
     items-back c.self.inside.quiet.items c.turn_made.new.quiet c.self.inside.quiet.len whole same
 
 -- the machine afterwards
-machine-after : (g : Given.Over) (c : goal.After-record g) → machine_of c.self.inside.code c.self.inside.items c.turn_made.new.top (map g.C.Agent.value (take c.self.inside.children.len (c.turn_made.new.children ++ drop (length c.turn_made.new.children) c.self.inside.children.items))) c.record.new.ops.items c.record.new.traffic.items ≡ (turn_of c.args.turn (machine_of c.self.inside.code c.self.inside.items c.self.inside.top (map g.C.Agent.value c.self.inside.children.items) c.self.inside.ops.items c.self.inside.traffic.items)).machine
+machine-after : (g : Given.Over) (c : goal.After-record g) → machine_of c.self.inside.code c.self.inside.items c.turn_made.new.top (map g.C.Agent.value (take c.self.inside.children.len (c.turn_made.new.children ++ drop (length c.turn_made.new.children) c.self.inside.children.items))) c.record.new.ops.items c.record.new.traffic.items ≡ (turn_of c.args.turn.now (machine_of c.self.inside.code c.self.inside.items c.self.inside.top (map g.C.Agent.value c.self.inside.children.items) c.self.inside.ops.items c.self.inside.traffic.items)).machine
 machine-after g c = rw (children-back g c, c.record.ensures.ops, c.record.ensures.traffic) (told g c).machine_is
 
 pub invariant_of-self : goal.invariant_of-self
@@ -96,23 +96,23 @@ invariant_of-self g c =
     let bus_paths = map vec_items c.self.inside.bus_paths.items in
     let inv = c.self.invariant in
     let left = dir_node c.turn_made.new.top (nodes (map g.C.Agent.value c.turn_made.new.children)) in
-    let idle = idle-after c.self.inside.code c.self.inside.items c.args.turn m c.turn_made.new.idle _ left _ (idle-back g c) (ap root_of after) (ap (λ cs. dir_node c.turn_made.new.top (nodes (map g.C.Agent.value cs))) (children-back g c)) (rw (c.deref_mut.ensures.value) at c.turn_made.ensures.idle) in
-    let quiet = quiet-after c.args.turn m c.turn_made.new.quiet _ left _ (quiet-back g c) (ap root_of after) (ap (λ cs. dir_node c.turn_made.new.top (nodes (map g.C.Agent.value cs))) (children-back g c)) (rw (c.deref_mut.ensures.value) at c.turn_made.ensures.quiet) in
+    let idle = idle-after c.self.inside.code c.self.inside.items c.args.turn.now m c.turn_made.new.idle _ left _ (idle-back g c) (ap root_of after) (ap (λ cs. dir_node c.turn_made.new.top (nodes (map g.C.Agent.value cs))) (children-back g c)) (rw (c.deref_mut.ensures.value) at c.turn_made.ensures.idle) in
+    let quiet = quiet-after c.args.turn.now m c.turn_made.new.quiet _ left _ (quiet-back g c) (ap root_of after) (ap (λ cs. dir_node c.turn_made.new.top (nodes (map g.C.Agent.value cs))) (children-back g c)) (rw (c.deref_mut.ensures.value) at c.turn_made.ensures.quiet) in
     let harts = subst (λ k. HartsAgree k (take c.self.inside.idle.len (c.turn_made.new.idle ++ drop (length c.turn_made.new.idle) c.self.inside.idle.items))) (sym (quiet-back g c)) (subst (HartsAgree c.turn_made.new.quiet) (sym (idle-back g c)) c.turn_made.ensures.harts) in
-    let keeps = turn-keeps g.row.WORDS c.self.inside.turns leaf_paths bus_paths c.args.turn m inv.0 in
-    (subst (λ n. IsMachine g.row.WORDS n (c.self.inside.turns + 1) leaf_paths bus_paths) (sym after) keeps, ap tree_counts after ∙ turn-tree_counts c.args.turn m ∙ inv.1, inv.2, inv.3, c.record.ensures.room, idle, quiet, harts, inv.8)
+    let keeps = turn-keeps g.row.WORDS c.self.inside.turns leaf_paths bus_paths c.args.turn.now m inv.0 in
+    (subst (λ n. IsMachine g.row.WORDS n (c.self.inside.turns + 1) leaf_paths bus_paths) (sym after) keeps, ap tree_counts after ∙ turn-tree_counts c.args.turn.now m ∙ inv.1, inv.2, inv.3, c.record.ensures.room, idle, quiet, harts, inv.8)
 
 pub returns-clause-answer : goal.returns-clause-answer
-returns-clause-answer g c = (told g c).answer_is ∙ ap (λ s. (turn_of c.args.turn s.machine).answer) c.self.view_is
+returns-clause-answer g c = (told g c).answer_is ∙ ap (λ s. (turn_of c.args.turn.now s.machine).answer) c.self.view_is
 
 pub returns-clause-after : goal.returns-clause-after
 returns-clause-after g c =
     let m = machine_of c.self.inside.code c.self.inside.items c.self.inside.top (map g.C.Agent.value c.self.inside.children.items) c.self.inside.ops.items c.self.inside.traffic.items in
     let old : MachineState = record { machine = m; spare = c.self.inside.spare; turns = c.self.inside.turns } in
-    state-made c.args.turn old _ c.turn_made.new.answer c.record.new.spare (machine-after g c) (told g c).answer_is c.record.ensures.spare ∙ ap (state_after c.args.turn) c.self.view_is
+    state-made c.args.turn.now old _ c.turn_made.new.answer c.record.new.spare (machine-after g c) (told g c).answer_is c.record.ensures.spare ∙ ap (state_after c.args.turn.now) c.self.view_is
 
 pub returns-clause-order : goal.returns-clause-order
 returns-clause-order g c =
     let m = machine_of c.self.inside.code c.self.inside.items c.self.inside.top (map g.C.Agent.value c.self.inside.children.items) c.self.inside.ops.items c.self.inside.traffic.items in
     let inv = c.self.invariant.0 in
-    made-order c.args.turn m _ _ (ap (λ s. s.machine) c.self.view_is) (machine-after g c) inv.shaped inv.rules
+    made-order c.args.turn.now m _ _ (ap (λ s. s.machine) c.self.view_is) (machine-after g c) inv.shaped inv.rules

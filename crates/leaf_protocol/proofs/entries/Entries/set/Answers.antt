@@ -1,4 +1,4 @@
-use Rattle.std.proofs.Common.{rules, refl, sym, ap, ◌∙◌}
+use Rattle.std.proofs.Common.{rules, refl, sym, ◌∙◌}
 use Rattle.attraction_mem.specs.Memory.{entry_of}
 use Rattle.attraction_mem.proofs.Writing.{unchanged_is}
 use Rattle.tree_model.specs.State.Leaf.{becomes, words_in}

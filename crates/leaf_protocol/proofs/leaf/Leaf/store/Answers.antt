@@ -1,4 +1,4 @@
-use Rattle.std.proofs.Common.{refl, sym, ap, ◌∙◌, None, ◌≡◌}
+use Rattle.std.proofs.Common.{refl, ap, ◌∙◌, None}
 use Rattle.ddm_types.specs.declared.sizes.LeafState.TheVariants.{Exclusive}
 use Rattle.flat_model.specs.Hart.{finish_of}
 use Rattle.tree_model.specs.State.Values.{LeafValue}

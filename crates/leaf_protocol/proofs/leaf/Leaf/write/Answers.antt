@@ -1,7 +1,7 @@
 use Rattle.std.proofs.Common.{rules, refl, sym, ap, ◌∙◌, Some, None}
 use Rattle.flat_model.specs.Flat.{asked_item}
 use Rattle.flat_model.proofs.Items.{asks_inside}
-use Rattle.leaf_protocol.proofs.Deeds.{absent-state, write-shared, write-asks, state-seen, words-seen}
+use Rattle.leaf_protocol.proofs.Deeds.{absent-state, write-shared, write-asks, state-seen}
 use Rattle.leaf_protocol.proofs.leaf.Leaf.write.Goals as goal
 
 pub fetch-requires : goal.fetch-requires

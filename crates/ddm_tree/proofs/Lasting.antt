@@ -1,0 +1,138 @@
+-- A hart that is known to have halted, or to wait for an item, rests by what its leaf tells, and does so after a grant of another item.
+-- Letters: v is a leaf, i why its hart is idle, x an item that was granted, y one that is waited for, n and m nodes.
+use Rattle.std.proofs.Common.{◌≡◌, ◌≢◌, ℕ, Bool, true, false, List, Option, Some, None, refl, sym, ap, ◌∙◌, true≢false}
+use Rattle.std.specs.Prelude.{Result, Ok, Err, option_map}
+use Rattle.std.proofs.lemmas.Bool.{eq-eqb}
+use Rattle.ddm_types.specs.declared.answers.TurnAnswer.{TurnAnswer}
+use Rattle.ddm_types.specs.declared.operations.HaltCause.{HaltCause}
+use Rattle.ddm_types.specs.declared.sizes.LeafState.{LeafState}
+use Rattle.ddm_types.specs.declared.keys.Key.{Key}
+use Rattle.ddm_types.specs.CodeMap.{CodeWord}
+use Rattle.ddm_types.specs.ItemTable.{ItemTable}
+use Rattle.flat_model.specs.declared.Ask.{Ask}
+use Rattle.flat_model.specs.Flat.{Change, has_reserved}
+use Rattle.flat_model.specs.Hart.{ask_of}
+use Rattle.tree_model.specs.State.States.{is_waiting}
+use Rattle.tree_model.specs.State.Values.{LeafValue, Node, leaf_node, dir_node}
+use Rattle.tree_model.specs.State.Leaf.{LeafEntry, buffer_full, entry_state, free_way, leaf_entry, waiting_item}
+use Rattle.tree_model.specs.Turns.HartTurn.{Need, no_need, a_copy, no_other_copy, time, answer_of_deed, change_here, deed_by_need, deed_of, deed_of_change, deed_to_fetch, deed_unless_halted, deed_unless_waiting, leaf_after_deed, leaf_step, need_in_state, need_of, need_to_read, need_to_write, replaces}
+use Rattle.tree_rules.specs.Bus.Own.{state_waits}
+use Rattle.bus_laws.proofs.HartFacts.{waiting-none}
+use Rattle.ddm_tree.specs.declared.idle.Idle.{Idle}
+use Rattle.ddm_tree.specs.Idle.{IsIdle, idle_answer, may_change, node_rests, rests_by}
+use Rattle.ddm_tree.proofs.Untold.{IsUntold, node_halts, node_waits}
+
+-- ---- where nothing waits, no instruction needs time
+
+module _ (v : LeafValue) (none : waiting_item v.ways v.buffer ≡ None) where
+  state-timeless : (x : ℕ) (words : List ℕ) (s : LeafState) → is_waiting s ≡ false → (y : ℕ) → need_in_state x words s ≡ time y → ⊥
+  state-timeless x words LeafState.Exclusive awake y is = cc
+  state-timeless x words LeafState.Shared awake y is = cc
+  state-timeless x words LeafState.Waiting awake y is = true≢false awake
+  state-timeless x words LeafState.Reading awake y is = true≢false awake
+  state-timeless x words LeafState.ReadingWaiting awake y is = true≢false awake
+
+  entry-awake : (x : ℕ) (e : LeafEntry) → leaf_entry x v ≡ Some e → is_waiting e.state ≡ false
+  entry-awake x e at =
+      let waits : state_waits (option_map entry_state (leaf_entry x v)) ≡ false = waiting-none v.ways v.buffer none x in
+      rw at at waits
+
+  read-timeless : (x : ℕ) (o : Option LeafEntry) (y : ℕ) → need_to_read x o ≡ time y → ⊥
+  read-timeless x None y is = cc
+  read-timeless x (Some e) y is = cc
+
+  write-timeless : (x : ℕ) (o : Option LeafEntry) → leaf_entry x v ≡ o → (y : ℕ) → need_to_write x o ≡ time y → ⊥
+  write-timeless x None at y is = cc
+  write-timeless x (Some e) at y is = state-timeless x e.words e.state (entry-awake x e at) y is
+
+  need-timeless : (a : Ask) (y : ℕ) → need_of a v ≡ time y → ⊥
+  need-timeless Ask.Plain y is = cc
+  need-timeless (Ask.Put byte) y is = cc
+  need-timeless (Ask.NeedsShared x lr) y is = read-timeless x (leaf_entry x v) y is
+  need-timeless (Ask.NeedsExclusive x) y is = write-timeless x (leaf_entry x v) refl y is
+  need-timeless (Ask.Conditional x) y is = by (has_reserved v.reservation x) refl
+    where
+      by : (b : Bool) → has_reserved v.reservation x ≡ b → ⊥
+      by true e = write-timeless x (leaf_entry x v) refl y (rw e at is)
+      by false e =
+          let needless : no_need ≡ time y = rw e at is in
+          cc
+  need-timeless (Ask.Halt cause) y is = cc
+
+-- ---- what a turn tells of a hart that halted or waits
+
+abbrev told_by : TurnAnswer → Option Idle
+told_by (TurnAnswer.Retired op) = None
+told_by (TurnAnswer.Issued kind x) = None
+told_by (TurnAnswer.Waiting x) = Some (Idle.Waits x)
+told_by (TurnAnswer.Halted cause) = Some (Idle.Halted cause)
+told_by (TurnAnswer.Granted entry) = None
+told_by TurnAnswer.Empty = None
+told_by (TurnAnswer.Busy cause) = None
+
+told-back : (x : ℕ) (i : Idle) → may_change (Some i) x ≡ false → told_by (idle_answer i) ≡ Some i
+told-back x (Idle.Waits y) stays = refl
+told-back x (Idle.BufferFull leaf) stays = absurd (true≢false stays)
+told-back x (Idle.Halted cause) stays = refl
+
+module _ (code : List CodeWord) (items : ItemTable) (now : Key) (victim : ℕ) (v : LeafValue) (i : Idle) where
+  -- the hart goes on: its turn tells nothing of the kind, or halts it
+  change-goes_on : (o : Result Change HaltCause) → told_by (answer_of_deed now v (deed_of_change o)) ≡ Some i → leaf_after_deed v (deed_of_change o) ≡ v → v.hart.halt ≡ None → ⊥
+  change-goes_on (Ok c) says leaves halt = cc
+  change-goes_on (Err cause) says leaves halt =
+      let halted : Some cause ≡ v.hart.halt = ap (λ u. u.hart.halt) leaves in
+      cc
+
+  replaces-goes_on : (x : ℕ) (state : LeafState) (way : ℕ) (full : Bool) → told_by (answer_of_deed now v (replaces x state way full)) ≡ Some i → ⊥
+  replaces-goes_on x state way true says = cc
+  replaces-goes_on x state way false says = cc
+
+  fetch-goes_on : (x : ℕ) (state : LeafState) (way : Option ℕ) → told_by (answer_of_deed now v (deed_to_fetch x state victim v way)) ≡ Some i → ⊥
+  fetch-goes_on x state (Some way) says = cc
+  fetch-goes_on x state None says = replaces-goes_on x state _ (buffer_full v) says
+
+  need-goes_on : (n : Need) → ((y : ℕ) → n ≡ time y → ⊥) → told_by (answer_of_deed now v (deed_by_need code items victim v n)) ≡ Some i → leaf_after_deed v (deed_by_need code items victim v n) ≡ v → v.hart.halt ≡ None → ⊥
+  need-goes_on no_need timeless says leaves halt = change-goes_on (change_here code items v) says leaves halt
+  need-goes_on (a_copy x state) timeless says leaves halt = fetch-goes_on x state (free_way v.sizes x v.ways) says
+  need-goes_on (no_other_copy x words) timeless says leaves halt = cc
+  need-goes_on (time x) timeless says leaves halt = timeless x refl
+
+  waiting-rests : (waiting : Option ℕ) → waiting_item v.ways v.buffer ≡ waiting → told_by (answer_of_deed now v (deed_unless_waiting code items victim v waiting)) ≡ Some i → leaf_after_deed v (deed_unless_waiting code items victim v waiting) ≡ v → v.hart.halt ≡ None → rests_by None waiting ≡ Some i
+  waiting-rests (Some x) is says leaves halt = says
+  waiting-rests None is says leaves halt = absurd (need-goes_on (need_of (ask_of code items v.hart) v) (need-timeless v is (ask_of code items v.hart)) says leaves halt)
+
+  halted-rests : (halt : Option HaltCause) → v.hart.halt ≡ halt → told_by (answer_of_deed now v (deed_unless_halted code items victim v halt)) ≡ Some i → leaf_after_deed v (deed_unless_halted code items victim v halt) ≡ v → rests_by halt (waiting_item v.ways v.buffer) ≡ Some i
+  halted-rests (Some cause) is says leaves = says
+  halted-rests None is says leaves = waiting-rests (waiting_item v.ways v.buffer) refl says leaves is
+
+  -- a leaf of which each turn answers so, and leaves it as it is, tells so
+  step-rests : (x : ℕ) → may_change (Some i) x ≡ false → leaf_step code items now victim v ≡ record { answer = idle_answer i; leaf = v } → node_rests (leaf_node v) ≡ Some i
+  unfolding leaf_step deed_of
+  step-rests x stays is = halted-rests v.hart.halt refl (ap (λ o. told_by o.answer) is ∙ told-back x i stays) (ap (λ o. o.leaf) is)
+
+-- ---- what a node tells after a grant of an item that its hart doesn't wait for
+
+rests-parts : (n : Node) → node_rests n ≡ rests_by (node_halts n) (node_waits n)
+rests-parts (leaf_node v) = refl
+rests-parts (dir_node d ns) = refl
+
+module _ (x : ℕ) where
+  other-item : (y : ℕ) → may_change (Some (Idle.Waits y)) x ≡ false → y ≢ x
+  other-item y stays same = true≢false (sym (eq-eqb y x same) ∙ stays)
+
+  waits-still : (n m : Node) (i : Idle) (waiting : Option ℕ) → IsUntold x n m → may_change (Some i) x ≡ false → node_waits n ≡ waiting → rests_by None waiting ≡ Some i → rests_by None (node_waits m) ≡ Some i
+  waits-still n m i None untold stays is rests = cc
+  waits-still n m i (Some y) untold stays is rests =
+      let same : Idle.Waits y ≡ i = cc in
+      rw (untold.waits y (other-item y (ap (λ o. may_change (Some o) x) same ∙ stays)) is) rests
+
+  rests-still : (n m : Node) (i : Idle) (halt : Option HaltCause) → IsUntold x n m → may_change (Some i) x ≡ false → node_halts n ≡ halt → rests_by halt (node_waits n) ≡ Some i → rests_by halt (node_waits m) ≡ Some i
+  rests-still n m i (Some cause) untold stays is rests = rests
+  rests-still n m i None untold stays is rests = waits-still n m i (node_waits n) untold stays refl rests
+
+  pub untold-rests : (n m : Node) (i : Idle) → IsUntold x n m → may_change (Some i) x ≡ false → node_rests n ≡ Some i → node_rests m ≡ Some i
+  untold-rests n m i untold stays rests = rests-parts m ∙ ap (λ h. rests_by h (node_waits m)) untold.halts ∙ rests-still n m i (node_halts n) untold stays refl (sym (rests-parts n) ∙ rests)
+
+-- an idle hart's leaf tells that it has halted or waits
+pub idle-rests : (code : List CodeWord) (items : ItemTable) (now : Key) (x : ℕ) (v : LeafValue) (i : Idle) (n : Node) → n ≡ leaf_node v → may_change (Some i) x ≡ false → IsIdle code items i n → node_rests n ≡ Some i
+idle-rests code items now x v i n is stays idle = ap node_rests is ∙ step-rests code items now 0 v i x stays (idle.each v now 0 is)
