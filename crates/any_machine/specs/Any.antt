@@ -5,22 +5,22 @@ use Rattle.ddm_tree.specs.Machine.{MachineState}
 use Rattle.any_machine.specs.declared.machine.AnyMachine.{AnyMachine}
 use Rattle.any_machine.specs.declared.machine.AnyMachine.TheVariants.{Narrow, Wide}
 use Rattle.any_machine.specs.declared.machine.Depths.{Depths}
-use Rattle.any_machine.specs.declared.machine.Depths.TheVariants.{D1, D2, D3, D4}
+use Rattle.any_machine.specs.declared.machine.Depths.TheVariants.{OneLevel, TwoLevels, ThreeLevels, FourLevels}
 use Rattle.any_machine.specs.declared.machine.Machines.{Machines}
-use Rattle.any_machine.specs.declared.machine.Machines.TheVariants.{W1, W2, W4}
+use Rattle.any_machine.specs.declared.machine.Machines.TheVariants.{OneWay, TwoWays, FourWays}
 
 -- whatever its depth
 abbrev pub depths_state : {ways width : ℕ} → Depths ways width → MachineState
-depths_state (D1 s) = s
-depths_state (D2 s) = s
-depths_state (D3 s) = s
-depths_state (D4 s) = s
+depths_state (OneLevel s) = s
+depths_state (TwoLevels s) = s
+depths_state (ThreeLevels s) = s
+depths_state (FourLevels s) = s
 
 -- whatever its ways
 abbrev pub state_in : {width : ℕ} → Machines width → MachineState
-state_in (W1 m) = depths_state m
-state_in (W2 m) = depths_state m
-state_in (W4 m) = depths_state m
+state_in (OneWay m) = depths_state m
+state_in (TwoWays m) = depths_state m
+state_in (FourWays m) = depths_state m
 
 -- and whatever the words of its items
 abbrev pub machine_state : AnyMachine → MachineState

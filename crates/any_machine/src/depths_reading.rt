@@ -124,10 +124,10 @@ impl<const WAYS: usize, const WORDS: usize> Depths<WAYS, WORDS> {
         ensures rules { KeepsRules (depths_state self.now).machine }
     {
         match self {
-            Depths::D1(machine) => machine.counts(),
-            Depths::D2(machine) => machine.counts(),
-            Depths::D3(machine) => counts_over(machine),
-            Depths::D4(machine) => counts_over(machine),
+            Depths::OneLevel(machine) => machine.counts(),
+            Depths::TwoLevels(machine) => machine.counts(),
+            Depths::ThreeLevels(machine) => counts_over(machine),
+            Depths::FourLevels(machine) => counts_over(machine),
         }
     }
 
@@ -135,10 +135,10 @@ impl<const WAYS: usize, const WORDS: usize> Depths<WAYS, WORDS> {
         ensures { result.now ≡ (depths_state self.now).machine.items }
     {
         match self {
-            Depths::D1(machine) => machine.items(),
-            Depths::D2(machine) => machine.items(),
-            Depths::D3(machine) => items_over(machine),
-            Depths::D4(machine) => items_over(machine),
+            Depths::OneLevel(machine) => machine.items(),
+            Depths::TwoLevels(machine) => machine.items(),
+            Depths::ThreeLevels(machine) => items_over(machine),
+            Depths::FourLevels(machine) => items_over(machine),
         }
     }
 
@@ -147,10 +147,10 @@ impl<const WAYS: usize, const WORDS: usize> Depths<WAYS, WORDS> {
         ensures { result.now ≡ (depths_state self.now).machine.ops }
     {
         match self {
-            Depths::D1(machine) => machine.ops(),
-            Depths::D2(machine) => machine.ops(),
-            Depths::D3(machine) => ops_over(machine),
-            Depths::D4(machine) => ops_over(machine),
+            Depths::OneLevel(machine) => machine.ops(),
+            Depths::TwoLevels(machine) => machine.ops(),
+            Depths::ThreeLevels(machine) => ops_over(machine),
+            Depths::FourLevels(machine) => ops_over(machine),
         }
     }
 
@@ -159,10 +159,10 @@ impl<const WAYS: usize, const WORDS: usize> Depths<WAYS, WORDS> {
         ensures { result.now ≡ (depths_state self.now).machine.traffic }
     {
         match self {
-            Depths::D1(machine) => machine.traffic(),
-            Depths::D2(machine) => machine.traffic(),
-            Depths::D3(machine) => traffic_over(machine),
-            Depths::D4(machine) => traffic_over(machine),
+            Depths::OneLevel(machine) => machine.traffic(),
+            Depths::TwoLevels(machine) => machine.traffic(),
+            Depths::ThreeLevels(machine) => traffic_over(machine),
+            Depths::FourLevels(machine) => traffic_over(machine),
         }
     }
 
@@ -171,10 +171,10 @@ impl<const WAYS: usize, const WORDS: usize> Depths<WAYS, WORDS> {
         ensures { Some result.now ≡ counted_hart_of hart (depths_state self.now).machine }
     {
         match self {
-            Depths::D1(machine) => machine.hart(hart),
-            Depths::D2(machine) => machine.hart(hart),
-            Depths::D3(machine) => hart_over(machine, hart),
-            Depths::D4(machine) => hart_over(machine, hart),
+            Depths::OneLevel(machine) => machine.hart(hart),
+            Depths::TwoLevels(machine) => machine.hart(hart),
+            Depths::ThreeLevels(machine) => hart_over(machine, hart),
+            Depths::FourLevels(machine) => hart_over(machine, hart),
         }
     }
 
@@ -184,10 +184,10 @@ impl<const WAYS: usize, const WORDS: usize> Depths<WAYS, WORDS> {
         ensures { Some result ≡ found_copy item (depths_state self.now).machine }
     {
         match self {
-            Depths::D1(machine) => find(machine, item),
-            Depths::D2(machine) => find(machine, item),
-            Depths::D3(machine) => find_over(machine, item),
-            Depths::D4(machine) => find_over(machine, item),
+            Depths::OneLevel(machine) => find(machine, item),
+            Depths::TwoLevels(machine) => find(machine, item),
+            Depths::ThreeLevels(machine) => find_over(machine, item),
+            Depths::FourLevels(machine) => find_over(machine, item),
         }
     }
 
@@ -198,10 +198,10 @@ impl<const WAYS: usize, const WORDS: usize> Depths<WAYS, WORDS> {
         ensures { Some result ≡ state_of leaf item (depths_state self.now).machine }
     {
         match self {
-            Depths::D1(machine) => state(machine, item, leaf),
-            Depths::D2(machine) => state(machine, item, leaf),
-            Depths::D3(machine) => state_over(machine, item, leaf),
-            Depths::D4(machine) => state_over(machine, item, leaf),
+            Depths::OneLevel(machine) => state(machine, item, leaf),
+            Depths::TwoLevels(machine) => state(machine, item, leaf),
+            Depths::ThreeLevels(machine) => state_over(machine, item, leaf),
+            Depths::FourLevels(machine) => state_over(machine, item, leaf),
         }
     }
 
@@ -211,10 +211,10 @@ impl<const WAYS: usize, const WORDS: usize> Depths<WAYS, WORDS> {
         ensures { take (tree_counts (depths_state self.now).machine).leaves states.new ≡ states_of item (depths_state self.now).machine }
     {
         match self {
-            Depths::D1(machine) => machine.states(item, states),
-            Depths::D2(machine) => machine.states(item, states),
-            Depths::D3(machine) => states_over(machine, item, states),
-            Depths::D4(machine) => states_over(machine, item, states),
+            Depths::OneLevel(machine) => machine.states(item, states),
+            Depths::TwoLevels(machine) => machine.states(item, states),
+            Depths::ThreeLevels(machine) => states_over(machine, item, states),
+            Depths::FourLevels(machine) => states_over(machine, item, states),
         }
     }
 
@@ -224,10 +224,10 @@ impl<const WAYS: usize, const WORDS: usize> Depths<WAYS, WORDS> {
         ensures { Some result ≡ child_count bus (depths_state self.now).machine }
     {
         match self {
-            Depths::D1(machine) => machine.children(bus),
-            Depths::D2(machine) => machine.children(bus),
-            Depths::D3(machine) => children_over(machine, bus),
-            Depths::D4(machine) => children_over(machine, bus),
+            Depths::OneLevel(machine) => machine.children(bus),
+            Depths::TwoLevels(machine) => machine.children(bus),
+            Depths::ThreeLevels(machine) => children_over(machine, bus),
+            Depths::FourLevels(machine) => children_over(machine, bus),
         }
     }
 
@@ -238,10 +238,10 @@ impl<const WAYS: usize, const WORDS: usize> Depths<WAYS, WORDS> {
         ensures { result ≡ is_granted (turn_of turn (depths_state self.now).machine).answer }
     {
         match self {
-            Depths::D1(machine) => machine.would_grant(turn),
-            Depths::D2(machine) => machine.would_grant(turn),
-            Depths::D3(machine) => would_grant_over(machine, turn),
-            Depths::D4(machine) => would_grant_over(machine, turn),
+            Depths::OneLevel(machine) => machine.would_grant(turn),
+            Depths::TwoLevels(machine) => machine.would_grant(turn),
+            Depths::ThreeLevels(machine) => would_grant_over(machine, turn),
+            Depths::FourLevels(machine) => would_grant_over(machine, turn),
         }
     }
 }

@@ -24,9 +24,9 @@ impl<const WORDS: usize> Machines<WORDS> {
         ensures rules { KeepsRules (state_in self.now).machine }
     {
         match self {
-            Machines::W1(machine) => machine.counts(),
-            Machines::W2(machine) => machine.counts(),
-            Machines::W4(machine) => machine.counts(),
+            Machines::OneWay(machine) => machine.counts(),
+            Machines::TwoWays(machine) => machine.counts(),
+            Machines::FourWays(machine) => machine.counts(),
         }
     }
 
@@ -34,9 +34,9 @@ impl<const WORDS: usize> Machines<WORDS> {
         ensures { result.now ≡ (state_in self.now).machine.items }
     {
         match self {
-            Machines::W1(machine) => machine.items(),
-            Machines::W2(machine) => machine.items(),
-            Machines::W4(machine) => machine.items(),
+            Machines::OneWay(machine) => machine.items(),
+            Machines::TwoWays(machine) => machine.items(),
+            Machines::FourWays(machine) => machine.items(),
         }
     }
 
@@ -45,9 +45,9 @@ impl<const WORDS: usize> Machines<WORDS> {
         ensures { result.now ≡ (state_in self.now).machine.ops }
     {
         match self {
-            Machines::W1(machine) => machine.ops(),
-            Machines::W2(machine) => machine.ops(),
-            Machines::W4(machine) => machine.ops(),
+            Machines::OneWay(machine) => machine.ops(),
+            Machines::TwoWays(machine) => machine.ops(),
+            Machines::FourWays(machine) => machine.ops(),
         }
     }
 
@@ -56,9 +56,9 @@ impl<const WORDS: usize> Machines<WORDS> {
         ensures { result.now ≡ (state_in self.now).machine.traffic }
     {
         match self {
-            Machines::W1(machine) => machine.traffic(),
-            Machines::W2(machine) => machine.traffic(),
-            Machines::W4(machine) => machine.traffic(),
+            Machines::OneWay(machine) => machine.traffic(),
+            Machines::TwoWays(machine) => machine.traffic(),
+            Machines::FourWays(machine) => machine.traffic(),
         }
     }
 
@@ -67,9 +67,9 @@ impl<const WORDS: usize> Machines<WORDS> {
         ensures { Some result.now ≡ counted_hart_of hart (state_in self.now).machine }
     {
         match self {
-            Machines::W1(machine) => machine.hart(hart),
-            Machines::W2(machine) => machine.hart(hart),
-            Machines::W4(machine) => machine.hart(hart),
+            Machines::OneWay(machine) => machine.hart(hart),
+            Machines::TwoWays(machine) => machine.hart(hart),
+            Machines::FourWays(machine) => machine.hart(hart),
         }
     }
 
@@ -79,9 +79,9 @@ impl<const WORDS: usize> Machines<WORDS> {
         ensures { Some result ≡ found_copy item (state_in self.now).machine }
     {
         match self {
-            Machines::W1(machine) => machine.find(item),
-            Machines::W2(machine) => machine.find(item),
-            Machines::W4(machine) => machine.find(item),
+            Machines::OneWay(machine) => machine.find(item),
+            Machines::TwoWays(machine) => machine.find(item),
+            Machines::FourWays(machine) => machine.find(item),
         }
     }
 
@@ -92,9 +92,9 @@ impl<const WORDS: usize> Machines<WORDS> {
         ensures { Some result ≡ state_of leaf item (state_in self.now).machine }
     {
         match self {
-            Machines::W1(machine) => machine.state(item, leaf),
-            Machines::W2(machine) => machine.state(item, leaf),
-            Machines::W4(machine) => machine.state(item, leaf),
+            Machines::OneWay(machine) => machine.state(item, leaf),
+            Machines::TwoWays(machine) => machine.state(item, leaf),
+            Machines::FourWays(machine) => machine.state(item, leaf),
         }
     }
 
@@ -104,9 +104,9 @@ impl<const WORDS: usize> Machines<WORDS> {
         ensures { take (tree_counts (state_in self.now).machine).leaves states.new ≡ states_of item (state_in self.now).machine }
     {
         match self {
-            Machines::W1(machine) => machine.states(item, states),
-            Machines::W2(machine) => machine.states(item, states),
-            Machines::W4(machine) => machine.states(item, states),
+            Machines::OneWay(machine) => machine.states(item, states),
+            Machines::TwoWays(machine) => machine.states(item, states),
+            Machines::FourWays(machine) => machine.states(item, states),
         }
     }
 
@@ -116,9 +116,9 @@ impl<const WORDS: usize> Machines<WORDS> {
         ensures { Some result ≡ child_count bus (state_in self.now).machine }
     {
         match self {
-            Machines::W1(machine) => machine.children(bus),
-            Machines::W2(machine) => machine.children(bus),
-            Machines::W4(machine) => machine.children(bus),
+            Machines::OneWay(machine) => machine.children(bus),
+            Machines::TwoWays(machine) => machine.children(bus),
+            Machines::FourWays(machine) => machine.children(bus),
         }
     }
 
@@ -129,9 +129,9 @@ impl<const WORDS: usize> Machines<WORDS> {
         ensures { result ≡ is_granted (turn_of turn (state_in self.now).machine).answer }
     {
         match self {
-            Machines::W1(machine) => machine.would_grant(turn),
-            Machines::W2(machine) => machine.would_grant(turn),
-            Machines::W4(machine) => machine.would_grant(turn),
+            Machines::OneWay(machine) => machine.would_grant(turn),
+            Machines::TwoWays(machine) => machine.would_grant(turn),
+            Machines::FourWays(machine) => machine.would_grant(turn),
         }
     }
 }

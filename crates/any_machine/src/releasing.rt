@@ -14,18 +14,18 @@ fn release_over<const WORDS: usize, C: Subtree<WORDS> + Drop>(
 
 fn release_depths<const WAYS: usize, const WORDS: usize>(machine: Depths<WAYS, WORDS>) {
     match machine {
-        Depths::D1(machine) => release_machine(machine),
-        Depths::D2(machine) => release_machine(machine),
-        Depths::D3(machine) => release_over(machine),
-        Depths::D4(machine) => release_over(machine),
+        Depths::OneLevel(machine) => release_machine(machine),
+        Depths::TwoLevels(machine) => release_machine(machine),
+        Depths::ThreeLevels(machine) => release_over(machine),
+        Depths::FourLevels(machine) => release_over(machine),
     }
 }
 
 fn release_machines<const WORDS: usize>(machines: Machines<WORDS>) {
     match machines {
-        Machines::W1(machine) => release_depths(machine),
-        Machines::W2(machine) => release_depths(machine),
-        Machines::W4(machine) => release_depths(machine),
+        Machines::OneWay(machine) => release_depths(machine),
+        Machines::TwoWays(machine) => release_depths(machine),
+        Machines::FourWays(machine) => release_depths(machine),
     }
 }
 

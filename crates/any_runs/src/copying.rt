@@ -28,20 +28,20 @@ fn copy_depths<const WAYS: usize, const WORDS: usize>(
     ensures levels { levels_in machine.new ≡ levels_in machine.old }
 {
     match machine {
-        Depths::D1(machine) => match other {
-            Depths::D1(other) => machine.copy_from(other),
+        Depths::OneLevel(machine) => match other {
+            Depths::OneLevel(other) => machine.copy_from(other),
             _ => unreachable!(),
         },
-        Depths::D2(machine) => match other {
-            Depths::D2(other) => machine.copy_from(other),
+        Depths::TwoLevels(machine) => match other {
+            Depths::TwoLevels(other) => machine.copy_from(other),
             _ => unreachable!(),
         },
-        Depths::D3(machine) => match other {
-            Depths::D3(other) => copy_over(machine, other),
+        Depths::ThreeLevels(machine) => match other {
+            Depths::ThreeLevels(other) => copy_over(machine, other),
             _ => unreachable!(),
         },
-        Depths::D4(machine) => match other {
-            Depths::D4(other) => copy_over(machine, other),
+        Depths::FourLevels(machine) => match other {
+            Depths::FourLevels(other) => copy_over(machine, other),
             _ => unreachable!(),
         },
     }
@@ -54,16 +54,16 @@ fn copy_machines<const WORDS: usize>(machine: &mut Machines<WORDS>, other: &Mach
     ensures kind { kind_in machine.new ≡ kind_in machine.old }
 {
     match machine {
-        Machines::W1(machine) => match other {
-            Machines::W1(other) => copy_depths(machine, other),
+        Machines::OneWay(machine) => match other {
+            Machines::OneWay(other) => copy_depths(machine, other),
             _ => unreachable!(),
         },
-        Machines::W2(machine) => match other {
-            Machines::W2(other) => copy_depths(machine, other),
+        Machines::TwoWays(machine) => match other {
+            Machines::TwoWays(other) => copy_depths(machine, other),
             _ => unreachable!(),
         },
-        Machines::W4(machine) => match other {
-            Machines::W4(other) => copy_depths(machine, other),
+        Machines::FourWays(machine) => match other {
+            Machines::FourWays(other) => copy_depths(machine, other),
             _ => unreachable!(),
         },
     }

@@ -168,10 +168,10 @@ fn run_depths<const WAYS: usize, const WORDS: usize>(
     ensures kept { OnErr result (answers.new.items ≡ answers.old.items) }
 {
     match machine {
-        Depths::D1(machine) => run_reserved(machine, turns, answers, keep),
-        Depths::D2(machine) => run_reserved(machine, turns, answers, keep),
-        Depths::D3(machine) => run_over(machine, turns, answers, keep),
-        Depths::D4(machine) => run_over(machine, turns, answers, keep),
+        Depths::OneLevel(machine) => run_reserved(machine, turns, answers, keep),
+        Depths::TwoLevels(machine) => run_reserved(machine, turns, answers, keep),
+        Depths::ThreeLevels(machine) => run_over(machine, turns, answers, keep),
+        Depths::FourLevels(machine) => run_over(machine, turns, answers, keep),
     }
 }
 
@@ -192,9 +192,9 @@ fn run_machines<const WORDS: usize>(
     ensures kept { OnErr result (answers.new.items ≡ answers.old.items) }
 {
     match machine {
-        Machines::W1(machine) => run_depths(machine, turns, answers, keep),
-        Machines::W2(machine) => run_depths(machine, turns, answers, keep),
-        Machines::W4(machine) => run_depths(machine, turns, answers, keep),
+        Machines::OneWay(machine) => run_depths(machine, turns, answers, keep),
+        Machines::TwoWays(machine) => run_depths(machine, turns, answers, keep),
+        Machines::FourWays(machine) => run_depths(machine, turns, answers, keep),
     }
 }
 

@@ -57,10 +57,10 @@ fn make_depths<const WAYS: usize, const WORDS: usize>(
     ensures levels { levels_in machine.new ≡ levels_in machine.old }
 {
     match machine {
-        Depths::D1(machine) => make_turns(machine, turns),
-        Depths::D2(machine) => make_turns(machine, turns),
-        Depths::D3(machine) => make_over(machine, turns),
-        Depths::D4(machine) => make_over(machine, turns),
+        Depths::OneLevel(machine) => make_turns(machine, turns),
+        Depths::TwoLevels(machine) => make_turns(machine, turns),
+        Depths::ThreeLevels(machine) => make_over(machine, turns),
+        Depths::FourLevels(machine) => make_over(machine, turns),
     }
 }
 
@@ -72,10 +72,10 @@ fn reserve_depths<const WAYS: usize, const WORDS: usize>(
     ensures levels { levels_in machine.new ≡ levels_in machine.old }
 {
     match machine {
-        Depths::D1(machine) => machine.reserve(count),
-        Depths::D2(machine) => machine.reserve(count),
-        Depths::D3(machine) => reserve_over(machine, count),
-        Depths::D4(machine) => reserve_over(machine, count),
+        Depths::OneLevel(machine) => machine.reserve(count),
+        Depths::TwoLevels(machine) => machine.reserve(count),
+        Depths::ThreeLevels(machine) => reserve_over(machine, count),
+        Depths::FourLevels(machine) => reserve_over(machine, count),
     }
 }
 
@@ -87,9 +87,9 @@ fn make_machines<const WORDS: usize>(machine: &mut Machines<WORDS>, turns: &[Tur
     ensures kind { kind_in machine.new ≡ kind_in machine.old }
 {
     match machine {
-        Machines::W1(machine) => make_depths(machine, turns),
-        Machines::W2(machine) => make_depths(machine, turns),
-        Machines::W4(machine) => make_depths(machine, turns),
+        Machines::OneWay(machine) => make_depths(machine, turns),
+        Machines::TwoWays(machine) => make_depths(machine, turns),
+        Machines::FourWays(machine) => make_depths(machine, turns),
     }
 }
 
@@ -101,9 +101,9 @@ fn reserve_machines<const WORDS: usize>(
     ensures kind { kind_in machine.new ≡ kind_in machine.old }
 {
     match machine {
-        Machines::W1(machine) => reserve_depths(machine, count),
-        Machines::W2(machine) => reserve_depths(machine, count),
-        Machines::W4(machine) => reserve_depths(machine, count),
+        Machines::OneWay(machine) => reserve_depths(machine, count),
+        Machines::TwoWays(machine) => reserve_depths(machine, count),
+        Machines::FourWays(machine) => reserve_depths(machine, count),
     }
 }
 

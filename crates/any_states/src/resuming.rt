@@ -46,21 +46,21 @@ fn read_depths<const WAYS: usize, const WORDS: usize>(
     ensures kind { IfOk result (λ r. levels_in r.0 ≡ levels_in fresh.entry) }
 {
     match fresh {
-        Depths::D1(fresh) => {
+        Depths::OneLevel(fresh) => {
             let (machine, at) = Machine::read_state(alloc, fresh, words, from)?;
-            Ok((Depths::D1(machine), at))
+            Ok((Depths::OneLevel(machine), at))
         }
-        Depths::D2(fresh) => {
+        Depths::TwoLevels(fresh) => {
             let (machine, at) = Machine::read_state(alloc, fresh, words, from)?;
-            Ok((Depths::D2(machine), at))
+            Ok((Depths::TwoLevels(machine), at))
         }
-        Depths::D3(fresh) => {
+        Depths::ThreeLevels(fresh) => {
             let (machine, at) = read_over(alloc, fresh, words, from)?;
-            Ok((Depths::D3(machine), at))
+            Ok((Depths::ThreeLevels(machine), at))
         }
-        Depths::D4(fresh) => {
+        Depths::FourLevels(fresh) => {
             let (machine, at) = read_over(alloc, fresh, words, from)?;
-            Ok((Depths::D4(machine), at))
+            Ok((Depths::FourLevels(machine), at))
         }
     }
 }
@@ -82,17 +82,17 @@ fn read_machines<const WORDS: usize>(
     ensures kind { IfOk result (λ r. kind_in r.0 ≡ kind_in fresh.entry) }
 {
     match fresh {
-        Machines::W1(fresh) => {
+        Machines::OneWay(fresh) => {
             let (machine, at) = read_depths(alloc, fresh, words, from)?;
-            Ok((Machines::W1(machine), at))
+            Ok((Machines::OneWay(machine), at))
         }
-        Machines::W2(fresh) => {
+        Machines::TwoWays(fresh) => {
             let (machine, at) = read_depths(alloc, fresh, words, from)?;
-            Ok((Machines::W2(machine), at))
+            Ok((Machines::TwoWays(machine), at))
         }
-        Machines::W4(fresh) => {
+        Machines::FourWays(fresh) => {
             let (machine, at) = read_depths(alloc, fresh, words, from)?;
-            Ok((Machines::W4(machine), at))
+            Ok((Machines::FourWays(machine), at))
         }
     }
 }

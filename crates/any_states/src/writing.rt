@@ -36,10 +36,10 @@ fn depths_sizes<const WAYS: usize, const WORDS: usize>(
     ensures { result ≡ sizes_of (depths_state machine.now).machine }
 {
     match machine {
-        Depths::D1(machine) => machine.sizes(),
-        Depths::D2(machine) => machine.sizes(),
-        Depths::D3(machine) => sizes_over(machine),
-        Depths::D4(machine) => sizes_over(machine),
+        Depths::OneLevel(machine) => machine.sizes(),
+        Depths::TwoLevels(machine) => machine.sizes(),
+        Depths::ThreeLevels(machine) => sizes_over(machine),
+        Depths::FourLevels(machine) => sizes_over(machine),
     }
 }
 
@@ -51,10 +51,10 @@ fn write_depths<const WAYS: usize, const WORDS: usize>(
     ensures err { OnErr result (Begins out.old.items out.new.items) }
 {
     match machine {
-        Depths::D1(machine) => machine.write_tree(out),
-        Depths::D2(machine) => machine.write_tree(out),
-        Depths::D3(machine) => write_over(machine, out),
-        Depths::D4(machine) => write_over(machine, out),
+        Depths::OneLevel(machine) => machine.write_tree(out),
+        Depths::TwoLevels(machine) => machine.write_tree(out),
+        Depths::ThreeLevels(machine) => write_over(machine, out),
+        Depths::FourLevels(machine) => write_over(machine, out),
     }
 }
 
@@ -62,9 +62,9 @@ fn sizes_in<const WORDS: usize>(machine: &Machines<WORDS>) -> MachineSizes
     ensures { result ≡ sizes_of (state_in machine.now).machine }
 {
     match machine {
-        Machines::W1(machine) => depths_sizes(machine),
-        Machines::W2(machine) => depths_sizes(machine),
-        Machines::W4(machine) => depths_sizes(machine),
+        Machines::OneWay(machine) => depths_sizes(machine),
+        Machines::TwoWays(machine) => depths_sizes(machine),
+        Machines::FourWays(machine) => depths_sizes(machine),
     }
 }
 
@@ -76,9 +76,9 @@ fn write_machines<const WORDS: usize>(
     ensures err { OnErr result (Begins out.old.items out.new.items) }
 {
     match machine {
-        Machines::W1(machine) => write_depths(machine, out),
-        Machines::W2(machine) => write_depths(machine, out),
-        Machines::W4(machine) => write_depths(machine, out),
+        Machines::OneWay(machine) => write_depths(machine, out),
+        Machines::TwoWays(machine) => write_depths(machine, out),
+        Machines::FourWays(machine) => write_depths(machine, out),
     }
 }
 

@@ -8,7 +8,8 @@ use Rattle.std.proofs.lemmas.List.Sums.{sum_by-cons}
 use Rattle.ddm_types.specs.declared.sizes.Hold.{Hold}
 use Rattle.tree_model.specs.State.Directory.{with_hold}
 use Rattle.tree_model.specs.State.Values.{DirItem, DirSizes, absent_item, Node}
-use Rattle.tree_model.specs.Start.Nodes.{cut_in, dir_over, dirs_over, held_below, held_by, held_if, new_dir, or_each}
+use Rattle.tree_model.specs.Start.Nodes.{cut_in, dir_over, dirs_over, held_below, held_by, held_if, new_dir}
+use Rattle.leaf_protocol.proofs.Marking.{each-length}
 use Rattle.ddm_tree.specs.Holders.{IsHolder}
 
 -- ---- a list while a loop goes over it
@@ -21,24 +22,19 @@ module _ {A : Type 0} (f : A → Node) (p : Node → Bool) where
 
 -- ---- what holders hold
 
-or_each-length : (n : ℕ) (bs cs : List Bool) → length bs ≡ n → length cs ≤ n → length (or_each bs cs) ≡ n
-or_each-length n [] cs whole fits = omega (arith, whole, fits)
-or_each-length n (b ∷ bs) [] whole fits = whole
-or_each-length zero (b ∷ bs) (c ∷ cs) whole fits = absurd (omega (arith, whole))
-or_each-length (suc n) (b ∷ bs) (c ∷ cs) whole fits =
-    let rest = or_each-length n bs cs (omega (arith, whole)) (omega (arith, fits)) in
-    omega (arith, rest)
-
 module _ (items : ℕ) where
   held-fits : (ks : List Node) → AllByRecursion (IsHolder items) ks → length (held_below ks) ≤ items
   held-fits [] all = omega arith
   held-fits (k ∷ ks) all =
-      let whole = or_each-length items (held_by k) (held_below ks) all.0.count (held-fits ks all.1) in
-      omega (arith, whole)
+      let fits = held-fits ks all.1 in
+      let whole = each-length (held_by k) (held_below ks) (omega (arith, all.0.count, fits)) in
+      omega (arith, whole, all.0.count)
 
   held-length : (ks : List Node) → AllByRecursion (IsHolder items) ks → 0 < length ks → length (held_below ks) ≡ items
   held-length [] all some = absurd (omega (arith, some))
-  held-length (k ∷ ks) all some = or_each-length items (held_by k) (held_below ks) all.0.count (held-fits ks all.1)
+  held-length (k ∷ ks) all some =
+      let fits = held-fits ks all.1 in
+      each-length (held_by k) (held_below ks) (omega (arith, all.0.count, fits)) ∙ all.0.count
 
   pub below-length : (ks : List Node) → All (IsHolder items) ks → 0 < length ks → length (held_below ks) ≡ items
   below-length ks all some = held-length ks (recursion_from_All (IsHolder items) ks all) some

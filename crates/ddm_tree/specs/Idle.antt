@@ -112,14 +112,16 @@ pub record IsLookedAfter (x k : ℕ) (paths : List (List ℕ)) (n : Node) (befor
   pub own : (i : Idle) → slice_get after k ≡ Some (Some i) → IsSeenOr (may_change (Some i) x ≡ false) k paths n before i
   pub others : (j : ℕ) (i : Idle) → j ≢ k → slice_get after j ≡ Some (Some i) → slice_get before j ≡ Some (Some i)
 
--- what is remembered of a leaf after a turn: what the turn answered, what the leaf tells, or what was remembered, where no item was granted
--- on a bus near it that may have changed it
+-- no item was granted on a bus near the leaf that may have changed what is remembered of it
+abbrev pub IsUntouched : Turn → TurnAnswer → List (List ℕ) → ℕ → Idle → Type 0
+IsUntouched t a bus_leaves k i = (entry : LogEntry) (bus : ℕ) (leaves : List ℕ) → a ≡ TurnAnswer.Granted entry → named_by t ≡ bus_of_number bus → slice_get bus_leaves bus ≡ Some leaves
+    → IsNoneOf k (length leaves) leaves ⊎ (may_change (Some i) entry.item ≡ false)
+
+-- what is remembered of a leaf after a turn: what the turn answered, what the leaf tells, or what was remembered and is untouched
 pub data IsKnown (t : Turn) (a : TurnAnswer) (bus_leaves leaf_paths : List (List ℕ)) (n : Node) (before : List (Option Idle)) (k : ℕ) (i : Idle) : Type 0 where
   is_told : named_by t ≡ leaf_of_number k → idle_told a ≡ Some i → IsKnown t a bus_leaves leaf_paths n before k i
   is_seen : IsSeen k leaf_paths n i → IsKnown t a bus_leaves leaf_paths n before k i
-  still_known : slice_get before k ≡ Some (Some i)
-      → ((entry : LogEntry) (bus : ℕ) (leaves : List ℕ) → a ≡ TurnAnswer.Granted entry → named_by t ≡ bus_of_number bus → slice_get bus_leaves bus ≡ Some leaves → IsNoneOf k (length leaves) leaves ⊎ (may_change (Some i) entry.item ≡ false))
-      → IsKnown t a bus_leaves leaf_paths n before k i
+  still_known : slice_get before k ≡ Some (Some i) → IsUntouched t a bus_leaves k i → IsKnown t a bus_leaves leaf_paths n before k i
 
 pub record AreNoted (t : Turn) (a : TurnAnswer) (bus_leaves leaf_paths : List (List ℕ)) (n : Node) (before after : List (Option Idle)) : Type 0 where
   pub each : (k : ℕ) (i : Idle) → slice_get after k ≡ Some (Some i) → IsKnown t a bus_leaves leaf_paths n before k i

@@ -1,11 +1,16 @@
-ghost use Rattle.std.specs.Prelude.{◌≡◌, ◌<◌, All, length, map, slice_set, true, if◌then◌else◌};
+ghost use Rattle.std.specs.Prelude.{◌≡◌, ◌<◌, ◌^◌, All, length, map, slice_set, true, if◌then◌else◌};
 ghost use Rattle.tree_model.specs.Start.Nodes.{held_below, held_by, item_is_exclusive, or_each};
+ghost use Rattle.tree_model.specs.State.States.{is_exclusive};
 
 use crate::subtree::Subtree;
+use ddm_types::{Hold, ItemId};
 use directory::DirState;
 
-/// The hold of an item that is held Exclusive, in the two lowest bits of its word.
-const EXCLUSIVE: u32 = 2;
+fn is_exclusive(hold: Hold) -> bool
+    ensures { result ≡ is_exclusive hold }
+{
+    matches!(hold, Hold::Exclusive)
+}
 
 /// Marks a place, where the item is held.
 fn mark_if(held: &mut [bool], place: usize, is_held: bool)
@@ -19,12 +24,13 @@ fn mark_if(held: &mut [bool], place: usize, is_held: bool)
 
 /// Marks the items that a directory holds Exclusive.
 pub(crate) fn mark_exclusive<const WORDS: usize>(state: &DirState<WORDS>, held: &mut [bool])
-    requires { length held.old ≡ length state.now.items }
+    requires few { length held.old < 2 ^ 32 }
+    requires whole { length held.old ≡ length state.now.items }
     ensures { held.new ≡ or_each held.old (map item_is_exclusive state.now.items) }
 {
-    let packed = state.packed();
-    for (item, word) in packed.iter().enumerate() {
-        mark_if(held, item, *word % 4 == EXCLUSIVE);
+    for item in 0..held.len() as u32 {
+        let hold = state.up_hold(ItemId(item));
+        mark_if(held, item as usize, is_exclusive(hold));
     }
 }
 
@@ -33,7 +39,8 @@ pub(crate) fn mark_children<const WORDS: usize, C: Subtree<WORDS>>(
     children: &[C],
     held: &mut [bool],
 )
-    requires { All (λ n. length (held_by n) ≡ length held.old) (map C.value children.now) }
+    requires few { length held.old < 2 ^ 32 }
+    requires whole { All (λ n. length (held_by n) ≡ length held.old) (map C.value children.now) }
     ensures { held.new ≡ or_each held.old (held_below (map C.value children.now)) }
 {
     for child in children {

@@ -228,7 +228,8 @@ pub trait Subtree<const WORDS: usize>: Agent<WORDS> {
 
     /// Marks the items that this part holds before the run.
     fn mark_held(&self, held: &mut [bool])
-        requires { length held.old ≡ length (held_by (Self.value self.now)) }
+        requires few { length held.old < 2 ^ 32 }
+        requires whole { length held.old ≡ length (held_by (Self.value self.now)) }
         ensures { held.new ≡ or_each held.old (held_by (Self.value self.now)) };
 
     /// The found copy of an item in this part.

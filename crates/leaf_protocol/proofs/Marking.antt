@@ -3,6 +3,7 @@
 use Rattle.std.proofs.Common.{◌≡◌, ℕ, zero, suc, ◌+◌, ◌*◌, ◌/◌, ◌%◌, ◌<◌, ◌≤◌, ◌↔◌, Bool, true, false, ◌||◌, nat_eq, List, [], ◌∷◌, length, map, drop, get_or, set, Option, Some, None, IfSome, IsSomeAnd, refl, sym, ap, subst, ◌∙◌, inl, inr, arith, add-one, length-set}
 use Rattle.std.specs.Prelude.{is_some, option_map, slice_index_or}
 use Rattle.std.specs.List.{list_any}
+use Rattle.std.proofs.Math.Bool.{or_assoc, or-true, or-false}
 use Rattle.std.proofs.Math.Seq.{drop-cons}
 use Rattle.std.proofs.lemmas.Bool.{eq-eqb, ne_eqb}
 use Rattle.std.proofs.lemmas.List.{same_lists, drop_all, get_or-set_same, get_or-set_other, get_or_past, length-map, get_or-map, get_or_default}
@@ -35,18 +36,6 @@ abbrev pub is_of : ℕ → Tag → Bool
 is_of x None = false
 is_of x (Some t) = nat_eq t.0 x
 
-or-assoc : (a b c : Bool) → ((a || b) || c) ≡ (a || (b || c))
-or-assoc true b c = refl
-or-assoc false b c = refl
-
-or-true : (b : Bool) → (b || true) ≡ true
-or-true true = refl
-or-true false = refl
-
-or-false : (b : Bool) → (b || false) ≡ b
-or-false true = refl
-or-false false = refl
-
 mark-length : (t : Tag) (h : List Bool) → length (with_mark t h) ≡ length h
 mark-length None h = refl
 mark-length (Some t) h = length-set h t.0 true
@@ -69,14 +58,14 @@ marked-at : (ts : List Tag) (h : List Bool) (x : ℕ) (d : Bool) → x < length 
 marked-at [] h x d inside = sym (or-false (get_or h x d))
 marked-at (t ∷ ts) h x d inside =
     let within : x < length (with_mark t h) = rw (mark-length t h) inside in
-    marked-at ts (with_mark t h) x d within ∙ ap (λ b. b || list_any (is_of x) ts) (mark-at t h x d inside) ∙ or-assoc (get_or h x d) (is_of x t) (list_any (is_of x) ts)
+    marked-at ts (with_mark t h) x d within ∙ ap (λ b. b || list_any (is_of x) ts) (mark-at t h x d inside) ∙ or_assoc (get_or h x d) (is_of x t) (list_any (is_of x) ts)
 
-each-length : (bs cs : List Bool) → length bs ≡ length cs → length (or_each bs cs) ≡ length bs
-each-length [] [] e = refl
-each-length [] (c ∷ cs) e = absurd (omega (arith, e))
-each-length (b ∷ bs) [] e = refl
-each-length (b ∷ bs) (c ∷ cs) e =
-    let rest = each-length bs cs (omega (arith, e)) in
+pub each-length : (bs cs : List Bool) → length cs ≤ length bs → length (or_each bs cs) ≡ length bs
+each-length [] [] fits = refl
+each-length [] (c ∷ cs) fits = absurd (omega (arith, fits))
+each-length (b ∷ bs) [] fits = refl
+each-length (b ∷ bs) (c ∷ cs) fits =
+    let rest = each-length bs cs (omega (arith, fits)) in
     omega (arith, rest)
 
 each-at : (bs cs : List Bool) (x : ℕ) (d : Bool) → length bs ≡ length cs → x < length bs → get_or (or_each bs cs) x d ≡ (get_or bs x d || get_or cs x d)
@@ -128,7 +117,7 @@ module _ (ways n : ℕ) (m : MemoryValue) (tags : List Tag) (some : 0 < ways) (s
   pub tags-mark : (h : List Bool) → length h ≡ length (ways_of n m) → marked_by tags h ≡ or_each h (map is_some (ways_of n m))
   tags-mark h whole =
       let fits : length h ≡ length (map is_some (ways_of n m)) = whole ∙ sym (length-map (ways_of n m) is_some) in
-      same_lists (marked_by tags h) (or_each h (map is_some (ways_of n m))) (marked-length tags h ∙ sym (each-length h (map is_some (ways_of n m)) fits)) (λ x d lt.
+      same_lists (marked_by tags h) (or_each h (map is_some (ways_of n m))) (marked-length tags h ∙ sym (each-length h (map is_some (ways_of n m)) (omega (arith, fits)))) (λ x d lt.
       let inside : x < length h = subst (λ l. x < l) (marked-length tags h) lt in
       let within : x < n = omega (arith, inside, whole, ways_of-length n m) in
       let there : x < length (ways_of n m) = omega (arith, inside, whole) in

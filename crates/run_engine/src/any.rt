@@ -29,10 +29,10 @@ fn any_depth<const WAYS: usize, const WORDS: usize>(
     ensures levels { IfOk result (λ m. levels_in m ≡ length tree.now.levels) }
 {
     match tree.nodes.depth() {
-        1 => Ok(Depths::D1(one_level(alloc, tree, image, code, items)?)),
-        2 => Ok(Depths::D2(two_levels(alloc, tree, image, code, items)?)),
-        3 => Ok(Depths::D3(three_levels(alloc, tree, image, code, items)?)),
-        _ => Ok(Depths::D4(four_levels(alloc, tree, image, code, items)?)),
+        1 => Ok(Depths::OneLevel(one_level(alloc, tree, image, code, items)?)),
+        2 => Ok(Depths::TwoLevels(two_levels(alloc, tree, image, code, items)?)),
+        3 => Ok(Depths::ThreeLevels(three_levels(alloc, tree, image, code, items)?)),
+        _ => Ok(Depths::FourLevels(four_levels(alloc, tree, image, code, items)?)),
     }
 }
 
@@ -49,9 +49,9 @@ fn any_ways<const WORDS: usize>(
     ensures kind { IfOk result (λ m. kind_in m ≡ kind_of_tree tree.now) }
 {
     match tree.ways {
-        1 => Ok(Machines::W1(any_depth(alloc, tree, image, code, items)?)),
-        2 => Ok(Machines::W2(any_depth(alloc, tree, image, code, items)?)),
-        _ => Ok(Machines::W4(any_depth(alloc, tree, image, code, items)?)),
+        1 => Ok(Machines::OneWay(any_depth(alloc, tree, image, code, items)?)),
+        2 => Ok(Machines::TwoWays(any_depth(alloc, tree, image, code, items)?)),
+        _ => Ok(Machines::FourWays(any_depth(alloc, tree, image, code, items)?)),
     }
 }
 

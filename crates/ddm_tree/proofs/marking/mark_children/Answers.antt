@@ -4,9 +4,9 @@ use Rattle.ddm_tree.proofs.Marked.{marked-end, marked-next}
 use Rattle.ddm_tree.proofs.Search.{here-all}
 use Rattle.ddm_tree.proofs.marking.mark_children.Goals as goal
 
-pub mark_held-requires : goal.mark_held-requires
-mark_held-requires g c =
-    c.loop-child.auto.held ∙ sym (here-all g.C.Agent.value c.args.children.now c.loop-child.child-index c.child-item.result c.loop-child-test.true c.child-item.is (λ n. length (held_by n) ≡ length c.args.held.now) c.requires)
+pub mark_held-requires-clause-whole : goal.mark_held-requires-clause-whole
+mark_held-requires-clause-whole g c =
+    c.loop-child.auto.held ∙ sym (here-all g.C.Agent.value c.args.children.now c.loop-child.child-index c.child-item.result c.loop-child-test.true c.child-item.is (λ n. length (held_by n) ≡ length c.args.held.now) c.requires.whole)
 
 pub loop-child-preserved : goal.loop-child-preserved
 loop-child-preserved g c =

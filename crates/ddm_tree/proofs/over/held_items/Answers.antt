@@ -10,7 +10,7 @@ pub mark_children-requires : goal.mark_children-requires
 mark_children-requires g c =
     let blank : c.in_ok-held.held.items ≡ replicate c.args.items false = c.in_ok-held.ensures.items_if_clones_equal (λ x is. is) in
     let size : length c.deref_mut.result.now ≡ c.args.items = ap length (c.deref_mut.ensures.value ∙ blank) ∙ length-replicate c.args.items false in
-    λ k d inside. (c.requires.holders k d inside).count ∙ sym size
+    record { few = omega (arith, size, c.ranges.items.fits); whole = λ k d inside. (c.requires.holders k d inside).count ∙ sym size }
 
 pub returns : goal.returns
 returns g c =
