@@ -4,7 +4,6 @@ ghost use Rattle.tree_model.specs.Turns.Machine.{one_more, traffic_with};
 ghost use Rattle.ddm_tree.specs.Machine.{ops_after, traffic_after, spare_after, traffic_within};
 
 use ddm_types::{LogEntry, Op, TurnAnswer, TxKind};
-use std::slice::from_ref;
 use tree_model::Traffic;
 
 /// Keeps what an answer adds: an operation that completed, a transaction that was granted.
@@ -25,22 +24,11 @@ pub(crate) fn record(
 {
     match answer {
         TurnAnswer::Retired(op) => {
-            add(ops, op);
+            ops.push_reserved(*op);
             *spare -= 1;
         }
         TurnAnswer::Granted(entry) => count_at(traffic, *entry),
         _ => {}
-    }
-}
-
-/// Puts an operation behind the others, where there is memory for it. It goes there from where it lies: `push` would copy it first.
-fn add(ops: &mut Vec<Op>, op: &Op)
-    requires { vec_len ops.old < vec_capacity ops.old }
-    ensures items { ops.new.items ≡ ops.old.items ++ op.now ∷ [] }
-    ensures capacity { vec_capacity ops.old ≤ vec_capacity ops.new }
-{
-    if ops.extend_from_slice(from_ref(op)).is_err() {
-        unreachable!();
     }
 }
 
