@@ -5,7 +5,7 @@ ghost use Rattle.schedule_log.specs.Shapes.{shape_view};
 use crate::refusal::FeedError;
 use crate::seen::SeenLines;
 use crate::standing::Standing;
-use crate::steps::{Step, first_step};
+use crate::steps::{Step, first_step, remembered};
 use ddm_types::{NoMemory, Turn};
 use std::alloc::Global;
 use std::marker::Model;
@@ -41,22 +41,24 @@ fn read_lines(
     let mut lines = first_lines;
     let mut kept = 0;
     'lines: loop {
-        match first_step(seen, lines, made, &text[kept..]) {
-            Step::Turn { turn, used } => {
-                turns.push(turn)?;
-                made += 1;
-                lines += 1;
-                kept += used;
-            }
-            Step::Stop(standing) => {
-                return Ok(Lines {
-                    made,
-                    lines,
-                    kept,
-                    standing,
-                });
-            }
-        }
+        let (turn, used) = match remembered(seen, made, &text[kept..]) {
+            Some(line) => line,
+            None => match first_step(seen, lines, made, &text[kept..]) {
+                Step::Turn { turn, used } => (turn, used),
+                Step::Stop(standing) => {
+                    return Ok(Lines {
+                        made,
+                        lines,
+                        kept,
+                        standing,
+                    });
+                }
+            },
+        };
+        turns.push(turn)?;
+        made += 1;
+        lines += 1;
+        kept += used;
     }
 }
 

@@ -1,8 +1,8 @@
-ghost use Rattle.std.specs.Prelude.{◌≡◌, ◌≤◌, ◌+◌, is_none, length, slice_get};
+ghost use Rattle.std.specs.Prelude.{◌≡◌, ◌≤◌, ◌+◌, ℕ, IfSome, is_none, length, slice_get};
 ghost use Rattle.text_model.specs.Schedule.{child_fault, end_with, refusal_of_turn, turn_fault};
 ghost use Rattle.schedule_log.specs.Seen.{IsFrontOf};
 ghost use Rattle.schedule_log.specs.Standings.{standing_of};
-ghost use Rattle.schedule_log.specs.Steps.{IsLine, StepGives, step_by};
+ghost use Rattle.schedule_log.specs.Steps.{BeginsWithTurn, IsLine, StepGives, step_by};
 
 use crate::front::Front;
 use crate::parts::Parts;
@@ -117,7 +117,6 @@ fn step_of_line(parts: &Parts, lines: u32, made: u32, text: &[u8], end: usize) -
 }
 
 // The same, of a text whose first line may be spelled in any way.
-#[inline(never)]
 fn any_step(parts: &Parts, lines: u32, made: u32, text: &[u8]) -> Step
     requires { lines ≤ 1048576 }
     ensures { StepGives parts.now lines made text.now result }
@@ -130,7 +129,6 @@ fn any_step(parts: &Parts, lines: u32, made: u32, text: &[u8]) -> Step
 }
 
 // The same, of a line that isn't remembered. It is from now on, if its front tells it: the first eight bytes and the last four are all.
-#[inline(never)]
 fn new_step(seen: &mut SeenLines, lines: u32, made: u32, text: &[u8], front: &Front) -> Step
     requires lines { lines ≤ 1048576 }
     requires long { 16 ≤ length text.now }
@@ -151,8 +149,22 @@ fn new_step(seen: &mut SeenLines, lines: u32, made: u32, text: &[u8], front: &Fr
     step
 }
 
-/// What a text begins with where `made` turns are there, of which so many are lines before it.
+/// The turn of the line that a text begins with, and that line's bytes, where it is remembered and one turn more may come.
 #[inline(always)]
+pub(crate) fn remembered(seen: &SeenLines, made: u32, text: &[u8]) -> Option<(Turn, usize)>
+    ensures { IfSome result (λ line. (lines : ℕ) → BeginsWithTurn seen.now lines made text.now line.0 line.1) }
+{
+    if made >= MOST_TURNS || text.len() < SPELLED_BYTES {
+        return None;
+    }
+    let front = Front::of(text)?;
+    let turn = seen.turn(&front)?;
+    Some((turn, front.used()))
+}
+
+/// What a text begins with where `made` turns are there, of which so many are lines before it. Its first line is read, as one that isn't
+/// remembered.
+#[inline(never)]
 pub(crate) fn first_step(seen: &mut SeenLines, lines: u32, made: u32, text: &[u8]) -> Step
     requires lines { lines ≤ 1048576 }
     ensures step { StepGives seen.old lines made text.now result }
@@ -161,14 +173,8 @@ pub(crate) fn first_step(seen: &mut SeenLines, lines: u32, made: u32, text: &[u8
     if text.len() < SPELLED_BYTES {
         return any_step(seen.parts(), lines, made, text);
     }
-    let Some(front) = Front::of(text) else {
-        return any_step(seen.parts(), lines, made, text);
-    };
-    match seen.turn(&front) {
-        Some(turn) if made < MOST_TURNS => Step::Turn {
-            turn,
-            used: front.used(),
-        },
-        _ => new_step(seen, lines, made, text, &front),
+    match Front::of(text) {
+        Some(front) => new_step(seen, lines, made, text, &front),
+        None => any_step(seen.parts(), lines, made, text),
     }
 }
