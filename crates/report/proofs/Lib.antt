@@ -1,5 +1,6 @@
 pub mod Decimals
 pub mod HexPairs
+pub mod Letters
 pub mod Lines
 pub mod MachineLines
 pub mod OtherKeys

@@ -1,4 +1,4 @@
-ghost use Rattle.std.specs.Prelude.{◌+◌, ◌*◌, OnOk, length};
+ghost use Rattle.std.specs.Prelude.{◌≡◌, ◌+◌, ◌*◌, ◌∷◌, [], OnOk, Some, length};
 ghost use Rattle.ddm_text.specs.Adds.{Adds};
 ghost use Rattle.text_model.specs.Report.{copy_place_text, item_line, letter_text, letter_texts};
 ghost use Rattle.report.specs.LineParts.{item_front};
@@ -39,6 +39,20 @@ pub fn push_copy_place<W: TextBuffer>(out: &mut W, place: CopyPlace) -> Result<(
     }
 }
 
+/// The letter for the state of an entry.
+#[tactic(auto, unfolding(text_model::specs::Report::letter_text))]
+pub(crate) fn letter(state: LeafState) -> u8
+    ensures { letter_text (Some state) ≡ result ∷ [] }
+{
+    match state {
+        LeafState::Shared => b'S',
+        LeafState::Exclusive => b'E',
+        LeafState::Reading => b'R',
+        LeafState::Waiting => b'W',
+        LeafState::ReadingWaiting => b'B',
+    }
+}
+
 /// Puts at the end the letter for a leaf's entry of an item.
 #[tactic(auto, unfolding(text_model::specs::Report::letter_text))]
 pub fn push_letter<W: TextBuffer>(out: &mut W, state: Option<LeafState>) -> Result<(), NoMemory>
@@ -47,11 +61,7 @@ pub fn push_letter<W: TextBuffer>(out: &mut W, state: Option<LeafState>) -> Resu
 {
     match state {
         None => push_bytes(out, b"-"),
-        Some(LeafState::Shared) => push_bytes(out, b"S"),
-        Some(LeafState::Exclusive) => push_bytes(out, b"E"),
-        Some(LeafState::Reading) => push_bytes(out, b"R"),
-        Some(LeafState::Waiting) => push_bytes(out, b"W"),
-        Some(LeafState::ReadingWaiting) => push_bytes(out, b"B"),
+        Some(state) => push_bytes(out, &[letter(state)]),
     }
 }
 

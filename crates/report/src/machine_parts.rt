@@ -12,7 +12,7 @@ ghost use Rattle.report.specs.ReportLeft.{front_of, hart_front, no_view};
 
 use crate::buses::push_bus_line;
 use crate::harts::{has_output, push_hart_front, push_head, push_put_by};
-use crate::items::{push_item_front, push_letter};
+use crate::items::{letter, push_item_front, push_letter};
 use crate::line::Line;
 use crate::operations::push_op_line;
 use crate::pieces::push_bytes;
@@ -148,24 +148,19 @@ pub fn put_item<const WORDS: usize>(line: &mut Line, machine: &Machines<WORDS>, 
     };
 }
 
-// Puts the letters of these states from one on, until the line is long, and says from which one on the rest is.
-#[tactic(auto, unfolding(text_model::specs::Report::letter_texts))]
-fn put_letters(line: &mut Line, states: &[Option<LeafState>], from: usize) -> usize
+// Puts the letters of these states. Where no letter is put a dash stands from the start, as at most leaves.
+fn put_letters(line: &mut Line, states: &[Option<LeafState>])
     requires empty { line.old ≡ [] }
-    requires from { from ≤ length states.now }
-    ensures within { result ≤ length states.now }
-    ensures states { letter_texts (drop from states.now) ≡ line.new ++ letter_texts (drop result states.now) }
-    ensures room { length line.new ≤ 500 }
-    ensures long { result < length states.now → 500 ≤ length line.new }
+    requires few { length states.now ≤ MOST_AT_ONCE }
+    ensures { line.new ≡ letter_texts states.now }
 {
-    let mut next = from;
-    'letters: while next < states.len() && line.len() < LONG_LINE {
-        let Ok(()) = push_letter(line, states[next]) else {
-            unreachable!();
-        };
-        next += 1;
+    let mut letters = [b'-'; MOST_AT_ONCE];
+    for leaf in 0..states.len() {
+        if let Some(state) = states[leaf] {
+            letters[leaf] = letter(state);
+        }
     }
-    next
+    line.push(&letters[..states.len()]);
 }
 
 // Puts the states of an item's entries in one walk over a tree of few leaves.
@@ -187,7 +182,8 @@ fn put_few_states<const WORDS: usize>(
 {
     let mut states = [None; MOST_AT_ONCE];
     machine.states(item, &mut states);
-    put_letters(line, &states[..leaves as usize], from as usize) as u32
+    put_letters(line, &states[from as usize..leaves as usize]);
+    leaves
 }
 
 // Puts the states of an item's entries leaf by leaf.

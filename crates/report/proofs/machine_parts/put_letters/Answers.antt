@@ -1,20 +1,22 @@
-use Rattle.std.proofs.Common.{◌≡◌, ◌<◌, length, get_or, None, sym, arith}
-use Rattle.std.proofs.lemmas.Option.{slice_get-get_or}
-use Rattle.text_model.specs.Report.{letter_text, letter_texts}
-use Rattle.report.proofs.MachineLines.{got-is}
-use Rattle.report.proofs.ReportParts.{one-more}
+use Rattle.std.proofs.Common.{◌≡◌, ◌++◌, Some, None, length, set, take, refl, sym, ap, ◌∙◌, arith}
+use Rattle.report.proofs.Letters.{letters-all, letters-none, letters-some}
 use Rattle.report.proofs.machine_parts.put_letters.Goals as goal
+use Rattle.report.proofs.machine_parts.put_letters.Goals.{in-Some, in_default}
 
-pub letters-preserved : goal.letters-preserved
-unfolding letter_texts
-letters-preserved c =
+pub loop-leaf-init : goal.loop-leaf-init
+loop-leaf-init c = refl
+
+pub loop-leaf-preserved : goal.loop-leaf-preserved
+loop-leaf-preserved c =
+    let k = c.loop-leaf.leaf in
     let all = c.args.states.now in
-    let k = c.letters.next in
-    let s = get_or all k None in
-    let inside : k < length all = omega (arith, c.letters-test.true) in
-    let here : s ≡ get_or all k s = sym (got-is all k s s (slice_get-get_or all k None inside)) in
-    record {
-      within = omega (arith, inside);
-      states = one-more letter_text all k s _ c.letters.line c.push_letter.new.out inside here c.letters.invariant.states c.in-Ok.ensures.text.is;
-      room = omega (arith, c.in-Ok.ensures.room, c.if-len-lt-LONG_LINE.true, c.len.ensures.length);
-    }
+    elim c.match-states-leaf.branch [
+      | in-Some w ↦ w.letters-is ∙ ap (λ xs. set xs k w.letter.result) c.loop-leaf.invariant ∙ letters-some k all (Some w.in-Some.state) c.loop-leaf-test.true c.requires.few (sym w.in-Some.is) w.letter.result w.letter.ensures
+      | in_default w ↦ w.letters-is ∙ c.loop-leaf.invariant ∙ letters-none k all None c.loop-leaf-test.true c.requires.few (sym w.in_default.is) refl
+    ]
+
+pub returns : goal.returns
+returns c =
+    let all = c.args.states.now in
+    let end : c.loop-leaf.leaf ≡ length all = omega (arith, c.loop-leaf-test.false, c.loop-leaf.auto.leaf-end) in
+    c.push.ensures ∙ ap (λ t. t ++ take (length all) c.loop-leaf.letters) c.requires.empty ∙ ap (take (length all)) c.loop-leaf.invariant ∙ letters-all all c.loop-leaf.leaf end
