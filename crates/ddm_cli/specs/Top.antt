@@ -116,7 +116,8 @@ RunsInOrder schedule p = IfSome (turns_of p.tree.levels schedule) (TurnsInOrder 
 abbrev pub OutcomesAreRuns : Seeds → Parts → Type 0
 OutcomesAreRuns s p =
     let m = start_machine p.tree p.image in
-    AllByRecursion (λ (l : OutcomeLine). IsLegalOutcome m.code m.items (flat_start_of p.tree p.image) l.outcome) (outcome_table (shape_view p.tree.levels) s.turns m s.first s.count)
+    let lines = outcome_table (shape_view p.tree.levels) s.turns m s.first s.count in
+    AllByRecursion (λ (l : OutcomeLine). IsLegalOutcome m.code m.items (flat_start_of p.tree p.image) l.outcome) lines
 
 -- after each turn that a machine of a checkpoint makes
 pub record GoesOnInOrder (p : Parts) (r : Resumed) (turns : List Turn) : Type 0 where

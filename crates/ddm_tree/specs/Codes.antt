@@ -23,7 +23,10 @@ stored_machine s = parts_code.code (machine_parts (stored_node (root_of s.machin
 
 -- a machine of its parts
 abbrev made_of : List CodeWord → ItemTable → DirValue → Nodes → List Op → List Traffic → ℕ → ℕ → MachineState
-made_of code items top kids ops traffic spare turns = record { machine = record { code = code; items = items; top = top; kids = kids; ops = ops; traffic = traffic }; spare = spare; turns = turns }
+made_of code items top kids ops traffic spare turns = record {
+    machine = record { code = code; items = items; top = top; kids = kids; ops = ops; traffic = traffic };
+    spare = spare;
+    turns = turns }
 
 same_parts : (a b : List CodeWord) (c d : ItemTable) (e f : DirValue) (g h : Nodes) (i j : List Op) (k l : List Traffic) (m n o p : ℕ)
     → a ≡ b → c ≡ d → e ≡ f → g ≡ h → i ≡ j → k ≡ l → m ≡ n → o ≡ p → made_of a c e g i k m o ≡ made_of b d f h j l n p
@@ -41,6 +44,8 @@ stored_machine-injective x y e =
     let parts = parts_code.inj _ _ e in
     let tree : stored_node (root_of x.machine) ≡ stored_node (root_of y.machine) = cc in
     let root = stored_node-injective (root_of x.machine) (root_of y.machine) tree in
+    let top = top_same x.machine.top y.machine.top x.machine.kids y.machine.kids root in
+    let kids = kids_same x.machine.top y.machine.top x.machine.kids y.machine.kids root in
     let code : x.machine.code ≡ y.machine.code = cc in
     let items : x.machine.items ≡ y.machine.items = cc in
     let ops : x.machine.ops ≡ y.machine.ops = cc in
@@ -49,17 +54,20 @@ stored_machine-injective x y e =
     let turns : x.turns ≡ y.turns = cc in
     same_parts x.machine.code y.machine.code x.machine.items y.machine.items x.machine.top y.machine.top x.machine.kids y.machine.kids
     x.machine.ops y.machine.ops x.machine.traffic y.machine.traffic x.spare y.spare x.turns y.turns
-    code items (top_same x.machine.top y.machine.top x.machine.kids y.machine.kids root) (kids_same x.machine.top y.machine.top x.machine.kids y.machine.kids root) ops traffic spare turns
+    code items top kids ops traffic spare turns
 
 abbrev pub machine_code : Coded MachineState
 machine_code = record { code = stored_machine; inj = stored_machine-injective }
 
 -- the tables' machine alone
+abbrev pub alone : MachineValue → MachineState
+alone m = record { machine = m; spare = 0; turns = 0 }
+
 abbrev pub stored_value : MachineValue → Gv
-stored_value m = stored_machine (record { machine = m; spare = 0; turns = 0 })
+stored_value m = stored_machine (alone m)
 
 pub stored_value-injective : (x y : MachineValue) → stored_value x ≡ stored_value y → x ≡ y
-stored_value-injective x y e = ap (λ (s : MachineState). s.machine) (stored_machine-injective (record { machine = x; spare = 0; turns = 0 }) (record { machine = y; spare = 0; turns = 0 }) e)
+stored_value-injective x y e = ap (λ (s : MachineState). s.machine) (stored_machine-injective (alone x) (alone y) e)
 
 abbrev pub value_code : Coded MachineValue
 value_code = record { code = stored_value; inj = stored_value-injective }

@@ -114,7 +114,8 @@ pub record IsLookedAfter (x k : ℕ) (paths : List (List ℕ)) (n : Node) (befor
 
 -- no item was granted on a bus near the leaf that may have changed what is remembered of it
 abbrev pub IsUntouched : Turn → TurnAnswer → List (List ℕ) → ℕ → Idle → Type 0
-IsUntouched t a bus_leaves k i = (entry : LogEntry) (bus : ℕ) (leaves : List ℕ) → a ≡ TurnAnswer.Granted entry → named_by t ≡ bus_of_number bus → slice_get bus_leaves bus ≡ Some leaves
+IsUntouched t a bus_leaves k i = (entry : LogEntry) (bus : ℕ) (leaves : List ℕ)
+    → a ≡ TurnAnswer.Granted entry → named_by t ≡ bus_of_number bus → slice_get bus_leaves bus ≡ Some leaves
     → IsNoneOf k (length leaves) leaves ⊎ (may_change (Some i) entry.item ≡ false)
 
 -- what is remembered of a leaf after a turn: what the turn answered, what the leaf tells, or what was remembered and is untouched

@@ -1,4 +1,4 @@
-ghost use Rattle.std.specs.Prelude.{◌≡◌, ◌+◌, ◌<◌, ◌≤◌, ◌++◌, ◌∷◌, [], true, length, vec_capacity, vec_len};
+ghost use Rattle.std.specs.Prelude.{◌≡◌, ◌+◌, ◌<◌, ◌≤◌, true, length, vec_capacity};
 ghost use Rattle.std.specs.List.{list_all};
 ghost use Rattle.tree_model.specs.Turns.Machine.{one_more, traffic_with};
 ghost use Rattle.ddm_tree.specs.Machine.{ops_after, traffic_after, spare_after, traffic_within};
