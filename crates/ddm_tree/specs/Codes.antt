@@ -24,9 +24,10 @@ stored_machine s = parts_code.code (machine_parts (stored_node (root_of s.machin
 -- a machine of its parts
 abbrev made_of : List CodeWord → ItemTable → DirValue → Nodes → List Op → List Traffic → ℕ → ℕ → MachineState
 made_of code items top kids ops traffic spare turns = record {
-    machine = record { code = code; items = items; top = top; kids = kids; ops = ops; traffic = traffic };
-    spare = spare;
-    turns = turns }
+  machine = record { code = code; items = items; top = top; kids = kids; ops = ops; traffic = traffic };
+  spare = spare;
+  turns = turns;
+}
 
 same_parts : (a b : List CodeWord) (c d : ItemTable) (e f : DirValue) (g h : Nodes) (i j : List Op) (k l : List Traffic) (m n o p : ℕ)
     → a ≡ b → c ≡ d → e ≡ f → g ≡ h → i ≡ j → k ≡ l → m ≡ n → o ≡ p → made_of a c e g i k m o ≡ made_of b d f h j l n p

@@ -49,6 +49,7 @@ pub(crate) fn next<'a, 'b, const WORDS: usize, P: Parent<WORDS>, C: Subtree<WORD
 }
 
 /// One turn of a child, or of a part below it.
+#[inline(always)]
 fn turn_of_child<const WORDS: usize, C: Subtree<WORDS>>(
     children: &mut [C],
     c: ChildNo,

@@ -22,6 +22,7 @@ impl<const WAYS: usize, const WORDS: usize> Subtree<WORDS> for Leaf<WAYS, WORDS>
         TreeChild::LeafChild(self.number())
     }
 
+    #[inline(always)]
     fn turn(
         &mut self,
         call: &TurnCall<'_>,

@@ -134,6 +134,7 @@ impl<const WAYS: usize, const WORDS: usize> Entries<WAYS, WORDS> {
     }
 
     /// The state of the item's entry.
+    #[inline(always)]
     pub fn state(&self, item: ItemId) -> Option<LeafState>
         ensures { result ≡ option_map entry_state (entry_at item self.now.ways self.now.buffer) }
     {
@@ -147,6 +148,7 @@ impl<const WAYS: usize, const WORDS: usize> Entries<WAYS, WORDS> {
     }
 
     /// The words of the item's entry.
+    #[inline(always)]
     pub fn words(&self, item: ItemId) -> Option<Words<WORDS>>
         ensures { result ≡ option_map (λ e. e.words) (entry_at item self.now.ways self.now.buffer) }
     {
@@ -240,6 +242,7 @@ impl<const WAYS: usize, const WORDS: usize> Entries<WAYS, WORDS> {
     }
 
     /// The item's entry gets another state and these words.
+    #[inline(always)]
     pub fn set(&mut self, item: ItemId, state: LeafState, words: Words<WORDS>)
         requires there { IsSome (entry_at item self.old.ways self.old.buffer) }
         requires alone { may_be state (entry_at item self.old.ways self.old.buffer) (waiting_item self.old.ways self.old.buffer) ≡ true }

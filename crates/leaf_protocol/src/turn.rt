@@ -23,6 +23,7 @@ impl<const WAYS: usize, const WORDS: usize> Leaf<WAYS, WORDS> {
     /// One try of the hart's next instruction, of which `now` is the key if it completes. `victim` chooses the way that a new
     /// item takes where its set is full. The answer is put where the caller wants it: a copy of it costs more than a turn of a hart
     /// that waits.
+    #[inline(always)]
     pub fn hart_turn_into(
         &mut self,
         code: &Code,
@@ -62,6 +63,7 @@ impl<const WAYS: usize, const WORDS: usize> Leaf<WAYS, WORDS> {
     }
 
     /// The next instruction of a hart that runs, where no entry waits.
+    #[inline(always)]
     fn try_next(
         &mut self,
         code: &Code,
@@ -146,6 +148,7 @@ impl<const WAYS: usize, const WORDS: usize> Leaf<WAYS, WORDS> {
     }
 
     /// The instruction needs no words.
+    #[inline(always)]
     fn compute(
         &mut self,
         code: &Code,
@@ -257,6 +260,7 @@ impl<const WAYS: usize, const WORDS: usize> Leaf<WAYS, WORDS> {
     }
 
     /// A store, an AMO, or an SC with its reservation completes on E.
+    #[inline(always)]
     fn write(
         &mut self,
         code: &Code,
@@ -290,6 +294,7 @@ impl<const WAYS: usize, const WORDS: usize> Leaf<WAYS, WORDS> {
     }
 
     /// The instruction stores to its item, which is here Exclusive, on these words.
+    #[inline(always)]
     fn store(
         &mut self,
         code: &Code,

@@ -5,7 +5,7 @@ use Rattle.std.proofs.Math.Seq.{take-add, take-append-add}
 use Rattle.std.proofs.lemmas.List.{append-nil, take-append-le, take-take, length-append, length-take}
 use Rattle.ddm_outside.specs.Causes.{Rose}
 use Rattle.ddm_outside.specs.Telling.{Takes, WritesTold}
-use Rattle.report.specs.Appends.{Appends, AppendsPart}
+use Rattle.report.specs.Appends.{Appends, AppendsPart, IsWrittenFrom}
 
 -- one text, and then another
 pub appends_more : (old mid new : Option (List ℕ)) (a b : List ℕ) → Appends old mid a → Appends mid new b → Appends old new (a ++ b)
@@ -30,6 +30,10 @@ pub on_err : {T E : Type 0} (r : Result T E) (P : Type 0) → P → OnErr r P
 on_err (Ok a) P p = tt
 on_err (Err e) P p = p
 
+pub map_err : {T E : Type 0} (r : Result T E) (P Q : Type 0) → (P → Q) → OnErr r P → OnErr r Q
+map_err (Ok a) P Q f p = tt
+map_err (Err e) P Q f p = f p
+
 -- a count that rose since some moment rose since an earlier one
 pub rose_before : (a b c : ℕ) → a ≤ b → Rose b c → Rose a c
 rose_before a b c earlier rose = omega (arith, earlier, rose)
@@ -51,3 +55,18 @@ takes_front old new bytes m n took = record {
 pub writes_front : {E : Type 0} (old new : Option (List ℕ)) (bytes : List ℕ) (m : ℕ) (result : Result ℕ E) → WritesTold old new (take m bytes) result → WritesTold old new bytes result
 writes_front old new bytes m (Ok n) told = takes_front old new bytes m n told
 writes_front old new bytes m (Err e) told = told
+
+-- what is left begins with a line
+pub written_cut : (old mid : Option (List ℕ)) (all held line left rest : List ℕ) → rest ≡ line ++ left → IsWrittenFrom old mid all (held ++ rest) → IsWrittenFrom old mid all ((held ++ line) ++ left)
+written_cut old mid all held line left rest begins was = rw (append_assoc held line left, sym begins) was
+
+-- a first part of a text was written: then more of it, some bytes of which are kept back
+pub written_more : (old mid new : Option (List ℕ)) (all front left kept : List ℕ) → IsWrittenFrom old mid all (front ++ left) → IsWrittenFrom mid new front kept → IsWrittenFrom old new all (kept ++ left)
+written_more old mid new all front left kept (done, is, was) (more, cut, is_more) =
+    let rest = ap (λ t. t ++ left) cut ∙ append_assoc more kept left in
+    (done ++ more, is ∙ ap (λ t. done ++ t) rest ∙ sym (append_assoc done more (kept ++ left)), appends_more old mid new done more was is_more)
+
+-- then a first part of what is left
+pub written_part : (old mid new : Option (List ℕ)) (all front left : List ℕ) → IsWrittenFrom old mid all (front ++ left) → AppendsPart mid new front → AppendsPart old new all
+written_part old mid new all front left (done, is, was) part =
+    subst (AppendsPart old new) (sym is) (part_more old mid new done (front ++ left) was (part_front mid new front left part))

@@ -1,9 +1,10 @@
-ghost use Rattle.std.specs.Prelude.{◌<◌, ◌≤◌, length, OnOk, OnErr};
+ghost use Rattle.std.specs.Prelude.{◌<◌, ◌≤◌, ◌++◌, length, take, IfOk, OnOk, OnErr};
 ghost use Rattle.ddm_outside.specs.Causes.{HasCause};
 ghost use Rattle.ddm_outside.specs.Telling.{WritesTold};
-ghost use Rattle.report.specs.Appends.{Appends, AppendsPart};
+ghost use Rattle.report.specs.Appends.{Appends, AppendsPart, IsWrittenFrom};
 
-use crate::parts::{LEAST_PIECE, Parts, put_piece};
+use crate::line::Line;
+use crate::parts::{LEAST_PIECE, Parts};
 use ddm_outside::{Failed, Sink};
 
 /// The most bytes that are offered to a sink in one write.
@@ -33,7 +34,38 @@ pub fn write_all<K: Sink>(sink: &mut K, bytes: &[u8]) -> Result<(), Failed>
     Ok(())
 }
 
-/// Writes a text that is given piece by piece, over a buffer that is lent. No memory is taken.
+// Puts a line behind the bytes that a buffer holds, and says how many it then holds. Where there is no room for all of the line the
+// buffer is written as it is full, and holds the rest.
+fn put_line<K: Sink>(
+    sink: &mut K,
+    buffer: &mut [u8],
+    filled: usize,
+    line: &Line,
+) -> Result<usize, Failed>
+    requires within { filled ≤ length buffer.old }
+    requires room { LEAST_PIECE ≤ length buffer.old }
+    ensures within { IfOk result (λ n. n ≤ length buffer.new) }
+    ensures ok { IfOk result (λ n. IsWrittenFrom (K.held sink.old) (K.held sink.new) (take filled buffer.old ++ line.now) (take n buffer.new)) }
+    ensures err { OnErr result (AppendsPart (K.held sink.old) (K.held sink.new) (take filled buffer.old ++ line.now)) }
+    ensures cause { HasCause (K.faults sink.old) (K.faults sink.new) result }
+{
+    let room = buffer.len() - filled;
+    let len = line.len();
+    let bytes = line.as_slice();
+    if len <= room {
+        let end = filled + len;
+        buffer[filled..end].copy_from_slice(bytes);
+        return Ok(end);
+    }
+    let (front, rest) = bytes.split_at(room);
+    buffer[filled..].copy_from_slice(front);
+    write_all(sink, buffer)?;
+    buffer[..rest.len()].copy_from_slice(rest);
+    Ok(rest.len())
+}
+
+/// Writes a text that is given part by part, over a buffer that is lent: each write but the last is of the whole buffer, so that a file
+/// gets whole pages. No memory is taken.
 pub fn write_pieces<P: Parts, K: Sink>(
     sink: &mut K,
     parts: &mut P,
@@ -44,11 +76,14 @@ pub fn write_pieces<P: Parts, K: Sink>(
     ensures err { OnErr result (AppendsPart (K.held sink.old) (K.held sink.new) (P.left parts.old)) }
     ensures cause { HasCause (K.faults sink.old) (K.faults sink.new) result }
 {
+    let mut line = Line::new();
+    let mut filled = 0;
     'writing: loop {
-        let n = put_piece(parts, buffer);
-        if n == 0 {
-            return Ok(());
+        line.clear();
+        parts.put_next(&mut line);
+        if line.is_empty() {
+            return write_all(sink, &buffer[..filled]);
         }
-        write_all(sink, &buffer[..n])?;
+        filled = put_line(sink, buffer, filled, &line)?;
     }
 }

@@ -1,26 +1,31 @@
-use Rattle.std.proofs.Common.{◌++◌, [], take, refl, sym, ap, subst, ◌∙◌, arith, append_assoc}
-use Rattle.report.specs.Appends.{AppendsPart}
-use Rattle.report.proofs.Written.{appends_more, appends_none, on_err, part_front, part_more}
+use Rattle.std.proofs.Common.{◌++◌, take, arith}
+use Rattle.report.proofs.Written.{map_err, on_err, written_cut, written_more, written_part}
 use Rattle.report.proofs.writing.write_pieces.Goals as goal
 
-pub writing-init : goal.writing-init
-writing-init g c = record { written = ([], refl, appends_none (g.K.Sink.held c.args.sink.now)); later = omega arith; room = c.requires }
+pub returns-then-is_empty-clause-err : goal.returns-then-is_empty-clause-err
+returns-then-is_empty-clause-err g c =
+    let part = written_part _ _ _ (g.P.Parts.left c.args.parts.now) (take c.writing.filled c.writing.buffer) (g.P.Parts.left c.writing.parts) c.writing.invariant.written in
+    map_err c.write_all.result _ _ part c.write_all.ensures.err
+
+pub returns-in_err-filled-clause-err : goal.returns-in_err-filled-clause-err
+returns-in_err-filled-clause-err g c =
+    let all = g.P.Parts.left c.args.parts.now in
+    let held = take c.writing.filled c.writing.buffer in
+    let line = c.put_next.new.line in
+    let left = g.P.Parts.left c.put_next.new.self in
+    let was = written_cut _ _ all held line left (g.P.Parts.left c.writing.parts) c.put_next.ensures.part c.writing.invariant.written in
+    on_err c.from_residual.result _ (written_part _ _ _ all (held ++ line) left was c.in_err-filled.ensures.err)
 
 pub writing-preserved : goal.writing-preserved
 writing-preserved g c =
-    let (done, left, was) = c.writing.invariant.written in
-    let piece = take c.put_piece-n.result c.put_piece-n.new.into in
+    let all = g.P.Parts.left c.args.parts.now in
+    let held = take c.writing.filled c.writing.buffer in
+    let line = c.put_next.new.line in
+    let left = g.P.Parts.left c.put_next.new.self in
+    let was = written_cut _ _ all held line left (g.P.Parts.left c.writing.parts) c.put_next.ensures.part c.writing.invariant.written in
     record {
-      written = (done ++ piece, left ∙ ap (λ t. done ++ t) c.put_piece-n.ensures.piece ∙ sym (append_assoc done piece (g.P.Parts.left c.put_piece-n.new.parts)), appends_more _ _ _ done piece was c.in_ok-write_all.ensures.ok);
-      later = omega (arith, c.writing.invariant.later, c.write_all.ensures.cause.later);
-      room = omega (arith, c.writing.invariant.room, c.put_piece-n.auto.into);
+      written = written_more _ _ _ all (held ++ line) left (take c.in_ok-filled.filled c.put_line.new.buffer) was c.in_ok-filled.ensures.ok;
+      within = omega (arith, c.in_ok-filled.ensures.within);
+      later = omega (arith, c.writing.invariant.later, c.put_line.ensures.cause.later);
+      room = omega (arith, c.writing.invariant.room, c.put_line.auto.buffer);
     }
-
-pub returns-in_err-write_all-clause-err : goal.returns-in_err-write_all-clause-err
-returns-in_err-write_all-clause-err g c =
-    let (done, left, was) = c.writing.invariant.written in
-    let old = g.K.Sink.held c.args.sink.now in
-    let new = g.K.Sink.held c.write_all.new.sink in
-    let piece = take c.put_piece-n.result c.put_piece-n.new.into in
-    let rest = g.P.Parts.left c.put_piece-n.new.parts in
-    on_err c.from_residual.result _ (subst (AppendsPart old new) (sym (left ∙ ap (λ t. done ++ t) c.put_piece-n.ensures.piece)) (part_more old _ new done (piece ++ rest) was (part_front _ new piece rest c.in_err-write_all.ensures.err)))
