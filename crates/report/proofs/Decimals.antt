@@ -1,10 +1,19 @@
 -- The decimal digits of numbers, in fours.
-use Rattle.std.proofs.Common.{◌≡◌, ◌<◌, ◌≤◌, ℕ, ◌+◌, ◌/◌, ◌%◌, ◌^◌, List, [], ◌∷◌, ◌++◌, decimal, ap, ap₂, ◌∙◌, arith, append_assoc}
+use Rattle.std.proofs.Common.{◌≡◌, ◌<◌, ◌≤◌, ℕ, ◌+◌, ◌/◌, ◌%◌, ◌^◌, List, [], ◌∷◌, ◌++◌, decimal, refl, ap, ap₂, ◌∙◌, arith, append_assoc}
 use Rattle.std.proofs.lemmas.Fmt.{decimal_digit, decimal_step}
 
 -- the last four digits of a number
 abbrev pub last_four : ℕ → List ℕ
 last_four n = (48 + n / 1000 % 10) ∷ (48 + n / 100 % 10) ∷ (48 + n / 10 % 10) ∷ (48 + n % 10) ∷ []
+
+-- they are those of two numbers below a hundred
+pub in_twos : (n : ℕ) → (48 + n % 10000 / 100 / 10) ∷ (48 + n % 10000 / 100 % 10) ∷ (48 + n % 10000 % 100 / 10) ∷ (48 + n % 10000 % 100 % 10) ∷ [] ≡ last_four n
+in_twos n =
+    let thousands : n % 10000 / 100 / 10 ≡ n / 1000 % 10 = omega arith in
+    let hundreds : n % 10000 / 100 % 10 ≡ n / 100 % 10 = omega arith in
+    let tens : n % 10000 % 100 / 10 ≡ n / 10 % 10 = omega arith in
+    let ones : n % 10000 % 100 % 10 ≡ n % 10 = omega arith in
+    rw (thousands, hundreds, tens, ones) refl
 
 pub one_digit : (n : ℕ) → n < 10 → decimal n ≡ (48 + n % 10) ∷ []
 one_digit n small = decimal_digit n small ∙ ap (λ d. (48 + d) ∷ []) (omega arith)

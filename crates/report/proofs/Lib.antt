@@ -1,9 +1,9 @@
 pub mod Decimals
-pub mod HexPairs
 pub mod Letters
 pub mod Lines
 pub mod MachineLines
 pub mod OtherKeys
+pub mod Pairs
 pub mod ReportParts
 pub mod Shown
 pub mod TraceParts

@@ -25,17 +25,31 @@ static PAIRS: [u8; 512] = *b"000102030405060708090a0b0c0d0e0f\
     e0e1e2e3e4e5e6e7e8e9eaebecedeeef\
     f0f1f2f3f4f5f6f7f8f9fafbfcfdfeff";
 
+// The two decimal digits of each number below a hundred, one behind the other.
+static TENS: [u8; 200] = *b"0001020304050607080910111213141516171819\
+    2021222324252627282930313233343536373839\
+    4041424344454647484950515253545556575859\
+    6061626364656667686970717273747576777879\
+    8081828384858687888990919293949596979899";
+
+#[inline(always)]
+fn two_digits(n: u32) -> [u8; 2]
+    requires { n < 100 }
+    ensures { result ≡ (48 + n / 10) ∷ (48 + n % 10) ∷ [] }
+{
+    let at = 2 * n as usize;
+    [TENS[at], TENS[at + 1]]
+}
+
 // The last four decimal digits of a number.
 #[inline(always)]
 fn last_digits(n: u32) -> [u8; 4]
     ensures { result ≡ (48 + n / 1000 % 10) ∷ (48 + n / 100 % 10) ∷ (48 + n / 10 % 10) ∷ (48 + n % 10) ∷ [] }
 {
-    [
-        b'0' + (n / 1_000 % 10) as u8,
-        b'0' + (n / 100 % 10) as u8,
-        b'0' + (n / 10 % 10) as u8,
-        b'0' + (n % 10) as u8,
-    ]
+    let last = n % 10_000;
+    let [thousands, hundreds] = two_digits(last / 100);
+    let [tens, ones] = two_digits(last % 100);
+    [thousands, hundreds, tens, ones]
 }
 
 // Puts the decimal digits of a number of at most four at the end.

@@ -1,5 +1,5 @@
 -- Lines of a schedule that are told by the front of a text: its first eight bytes and the last four of its first line.
-use Rattle.std.specs.Prelude.{◌≡◌, ℕ, ◌+◌, ◌-◌, ◌≤◌, List, length, drop, take, Option, Some, None}
+use Rattle.std.specs.Prelude.{◌≡◌, ℕ, ◌+◌, ◌-◌, ◌≤◌, List, length, drop, take, None}
 use Rattle.std.specs.Int.{to_le_bytes, w32, w64}
 use Rattle.ddm_types.specs.declared.turns.Turn.{Turn}
 use Rattle.text_model.specs.Schedule.{ShapeView, turn_fault, turn_text}
@@ -25,6 +25,5 @@ abbrev pub IsSeen : ShapeView → Front → Turn → Type 0
 IsSeen shape front turn = (text : List ℕ) → IsFrontOf text front → IsSeenLine shape text turn front.used
 
 -- what is remembered at a place is so
-abbrev pub IsSeenAt : ShapeView → Option Seen → Type 0
-IsSeenAt shape None = Unit {0}
-IsSeenAt shape (Some line) = IsSeen shape line.front line.turn
+abbrev pub IsSeenAt : ShapeView → Seen → Type 0
+IsSeenAt shape line = IsSeen shape line.front line.turn

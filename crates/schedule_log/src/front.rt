@@ -1,5 +1,5 @@
 //! What tells the line at the front of a text.
-ghost use Rattle.std.specs.Prelude.{◌≡◌, ◌≤◌, ◌+◌, ◌-◌, true, IfSome, drop, length, take};
+ghost use Rattle.std.specs.Prelude.{◌≡◌, ◌≤◌, ◌+◌, ◌-◌, ℕ, List, true, IfSome, drop, length, take};
 ghost use Rattle.std.specs.Int.{to_le_bytes, w32, w64};
 ghost use Rattle.schedule_log.specs.Seen.{IsFrontOf};
 
@@ -64,6 +64,18 @@ fn up_to_feed(first: u64, second: u64) -> u32 {
 }
 
 impl Front {
+    /// One that no text has.
+    #[inline(always)]
+    pub(crate) fn of_none() -> Front
+        ensures { (text : List ℕ) → IsFrontOf text result → ⊥ }
+    {
+        Front {
+            word: 0,
+            last: 0,
+            used: 0,
+        }
+    }
+
     /// That of a text, where a line feed is among its first bytes.
     #[inline(always)]
     pub(crate) fn of(text: &[u8]) -> Option<Front>

@@ -38,18 +38,17 @@ fn read_lines(
     ensures same { seen.new ≡ seen.old }
 {
     let mut made = first;
-    let mut lines = first_lines;
-    let mut kept = 0;
+    let mut left = text;
     'lines: loop {
-        let (turn, used) = match remembered(seen, made, &text[kept..]) {
-            Some(line) => line,
-            None => match first_step(seen, lines, made, &text[kept..]) {
+        let (turn, used) = match remembered(seen, made, left) {
+            Some(line) => (line.turn(), line.used()),
+            None => match first_step(seen, first_lines, first, made, left) {
                 Step::Turn { turn, used } => (turn, used),
                 Step::Stop(standing) => {
                     return Ok(Lines {
                         made,
-                        lines,
-                        kept,
+                        lines: first_lines + (made - first),
+                        kept: text.len() - left.len(),
                         standing,
                     });
                 }
@@ -57,8 +56,7 @@ fn read_lines(
         };
         turns.push(turn)?;
         made += 1;
-        lines += 1;
-        kept += used;
+        left = &left[used..];
     }
 }
 

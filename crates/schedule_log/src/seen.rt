@@ -5,7 +5,7 @@ ghost use Rattle.schedule_log.specs.Shapes.{shape_view};
 
 use crate::front::Front;
 use crate::parts::Parts;
-use ddm_types::{NoMemory, Turn};
+use ddm_types::{BusNo, NoMemory, Turn};
 use std::alloc::Global;
 use std::marker::Model;
 use tree_config::Shape;
@@ -20,11 +20,39 @@ pub(crate) struct Seen {
     turn: Turn,
 }
 
+impl Seen {
+    // What stands where no line is remembered: its front is that of no text.
+    #[inline(always)]
+    fn nothing() -> Seen
+        ensures { (shape : ShapeView) → IsSeenAt shape result }
+    {
+        Seen {
+            front: Front::of_none(),
+            turn: Turn::Down { bus: BusNo(0) },
+        }
+    }
+
+    #[inline(always)]
+    pub(crate) fn turn(&self) -> Turn
+        ensures { result ≡ self.now.turn }
+    {
+        self.turn
+    }
+
+    /// How many bytes the line has with its line feed.
+    #[inline(always)]
+    pub(crate) fn used(&self) -> usize
+        ensures { result ≡ self.now.front.used }
+    {
+        self.front.used()
+    }
+}
+
 /// Lines of turns that are remembered, all of one tree. A contract sees what that tree has.
 #[derive(Drop)]
 pub(crate) struct SeenLines {
     parts: Parts,
-    places: Vec<Option<Seen>>,
+    places: Vec<Seen>,
 }
 
 impl Model for SeenLines {
@@ -40,11 +68,11 @@ impl Model for SeenLines {
 }
 
 // No line is remembered.
-fn forget(places: &mut [Option<Seen>])
+fn forget(places: &mut [Seen])
     ensures { (shape : ShapeView) → All (IsSeenAt shape) places.new }
 {
     for place in 0..places.len() {
-        places[place] = None;
+        places[place] = Seen::nothing();
     }
 }
 
@@ -61,7 +89,7 @@ impl SeenLines {
     pub(crate) fn new(alloc: Global) -> Result<SeenLines, NoMemory>
         ensures { IfOk result (λ seen. seen ≡ record { harts = 0; buses = [] }) }
     {
-        let mut places = vec![in alloc; None; PLACES]?;
+        let mut places = vec![in alloc; Seen::nothing(); PLACES]?;
         forget(&mut places);
         Ok(SeenLines {
             parts: Parts::none(),
@@ -89,14 +117,17 @@ impl SeenLines {
         &self.parts
     }
 
-    /// The turn of the line with which each text begins that has this front, where it is remembered.
+    /// The line with which each text begins that has this front, where it is remembered.
     #[inline(always)]
-    pub(crate) fn turn(&self, front: &Front) -> Option<Turn>
-        ensures { IfSome result (IsSeen self.now front.now) }
+    pub(crate) fn line(&self, front: &Front) -> Option<&Seen>
+        ensures front { IfSome result (λ line. line.now.front ≡ front.now) }
+        ensures seen { IfSome result (λ line. IsSeenAt self.now line.now) }
     {
-        match &self.places[place_of(front)] {
-            Some(line) if line.front.is_same(front) => Some(line.turn),
-            _ => None,
+        let line = &self.places[place_of(front)];
+        if line.front.is_same(front) {
+            Some(line)
+        } else {
+            None
         }
     }
 
@@ -105,9 +136,9 @@ impl SeenLines {
         requires { IsSeen self.old front.now turn }
         ensures { self.new ≡ self.old }
     {
-        self.places[place_of(front)] = Some(Seen {
+        self.places[place_of(front)] = Seen {
             front: *front,
             turn,
-        });
+        };
     }
 }

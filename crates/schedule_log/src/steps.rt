@@ -1,4 +1,4 @@
-ghost use Rattle.std.specs.Prelude.{◌≡◌, ◌≤◌, ◌+◌, ℕ, IfSome, is_none, length, slice_get};
+ghost use Rattle.std.specs.Prelude.{◌≡◌, ◌≤◌, ◌+◌, ◌-◌, ℕ, IfSome, is_none, length, slice_get};
 ghost use Rattle.text_model.specs.Schedule.{child_fault, end_with, refusal_of_turn, turn_fault};
 ghost use Rattle.schedule_log.specs.Seen.{IsFrontOf};
 ghost use Rattle.schedule_log.specs.Standings.{standing_of};
@@ -6,7 +6,7 @@ ghost use Rattle.schedule_log.specs.Steps.{BeginsWithTurn, IsLine, StepGives, st
 
 use crate::front::Front;
 use crate::parts::Parts;
-use crate::seen::SeenLines;
+use crate::seen::{Seen, SeenLines};
 use crate::spelled::{SPELLED_BYTES, spelled_line};
 use crate::standing::Standing;
 use crate::words::turn_of_line;
@@ -149,27 +149,36 @@ fn new_step(seen: &mut SeenLines, lines: u32, made: u32, text: &[u8], front: &Fr
     step
 }
 
-/// The turn of the line that a text begins with, and that line's bytes, where it is remembered and one turn more may come.
+/// The line that a text begins with, where it is remembered and one turn more may come.
 #[inline(always)]
-pub(crate) fn remembered(seen: &SeenLines, made: u32, text: &[u8]) -> Option<(Turn, usize)>
-    ensures { IfSome result (λ line. (lines : ℕ) → BeginsWithTurn seen.now lines made text.now line.0 line.1) }
+pub(crate) fn remembered<'a>(seen: &'a SeenLines, made: u32, text: &[u8]) -> Option<&'a Seen>
+    ensures { IfSome result (λ line. (lines : ℕ) → BeginsWithTurn seen.now lines made text.now line.now.turn line.now.front.used) }
 {
     if made >= MOST_TURNS || text.len() < SPELLED_BYTES {
         return None;
     }
     let front = Front::of(text)?;
-    let turn = seen.turn(&front)?;
-    Some((turn, front.used()))
+    let line = seen.line(&front)?;
+    Some(line)
 }
 
-/// What a text begins with where `made` turns are there, of which so many are lines before it. Its first line is read, as one that isn't
-/// remembered.
+/// What a text begins with where `made` turns are there, and where there were `first` of them so many were lines before it. Its first
+/// line is read, as one that isn't remembered.
 #[inline(never)]
-pub(crate) fn first_step(seen: &mut SeenLines, lines: u32, made: u32, text: &[u8]) -> Step
-    requires lines { lines ≤ 1048576 }
-    ensures step { StepGives seen.old lines made text.now result }
+pub(crate) fn first_step(
+    seen: &mut SeenLines,
+    first_lines: u32,
+    first: u32,
+    made: u32,
+    text: &[u8],
+) -> Step
+    requires lines { first_lines ≤ first }
+    requires more { first ≤ made }
+    requires few { made ≤ 1048576 }
+    ensures step { StepGives seen.old (first_lines + (made - first)) made text.now result }
     ensures same { seen.new ≡ seen.old }
 {
+    let lines = first_lines + (made - first);
     if text.len() < SPELLED_BYTES {
         return any_step(seen.parts(), lines, made, text);
     }

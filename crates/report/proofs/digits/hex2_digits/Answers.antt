@@ -1,6 +1,9 @@
-use Rattle.std.proofs.Common.{◌*◌, refl, arith, add-one}
-use Rattle.report.proofs.HexPairs.{pair_at}
+use Rattle.std.proofs.Common.{◌*◌, ◌/◌, ◌%◌, false, refl, arith, add-one}
+use Rattle.std.specs.Fmt.{digit_glyph}
+use Rattle.ddm_text.specs.Hex.{hex2}
+use Rattle.report.proofs.Pairs.{pair_at}
 use Rattle.report.proofs.digits.hex2_digits.Goals as goal
 
 pub returns : goal.returns
-returns c = rw add-one (pair_at 256 0 c.args.n (2 * c.args.n) c.args.n refl c.requires (omega arith))
+unfolding hex2
+returns c = rw add-one (pair_at (λ n. digit_glyph false (n / 16)) (λ n. digit_glyph false (n % 16)) 256 0 c.args.n (2 * c.args.n) c.args.n refl c.requires (omega arith))

@@ -1,6 +1,7 @@
-use Rattle.std.proofs.Common.{◌≡◌, ◌<◌, ℕ, None}
-use Rattle.std.specs.Prelude.{slice_index_or}
+use Rattle.std.specs.List.{AllWithin}
+use Rattle.text_model.specs.Schedule.{ShapeView}
+use Rattle.schedule_log.specs.Seen.{IsSeenAt}
 use Rattle.schedule_log.proofs.seen.forget.Given as goal
 
 abbrev pub invariant-loop-place : goal.invariant-loop-place
-invariant-loop-place l = (k : ℕ) → k < l.place → slice_index_or l.places k None ≡ None
+invariant-loop-place l = (shape : ShapeView) → AllWithin (IsSeenAt shape) l.places 0 l.place
