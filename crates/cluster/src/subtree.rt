@@ -29,8 +29,13 @@ impl<const WAYS: usize, const WORDS: usize> Subtree<WORDS> for Cluster<WAYS, WOR
         self.dir.grants_below(bus, path, turn)
     }
 
-    fn quiet_below(&self, path: &[ChildNo]) -> Quiet {
-        self.dir.quiet_below(path)
+    fn learn_below(&self, known: &mut [Quiet], path: &[ChildNo]) {
+        self.dir.learn_below(known, path);
+    }
+
+    #[inline(always)]
+    fn learn_down(&self, known: &mut [Quiet]) {
+        self.dir.learn_down(known);
     }
 
     fn rest_below(&self, path: &[ChildNo]) -> Option<Idle> {

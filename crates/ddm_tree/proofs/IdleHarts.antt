@@ -236,7 +236,7 @@ below-kept : (n : Node) → below n ≡ kept_below (kept_of n)
 below-kept (leaf_node v) = refl
 below-kept (dir_node d ns) = refl
 
-kept-at : (xs ys : List Node) (c : ℕ) → map kept_of ys ≡ map kept_of xs → kept_of (child_at c ys) ≡ kept_of (child_at c xs)
+pub kept-at : (xs ys : List Node) (c : ℕ) → map kept_of ys ≡ map kept_of xs → kept_of (child_at c ys) ≡ kept_of (child_at c xs)
 kept-at [] [] c same = refl
 kept-at [] (y ∷ ys) c same = cc
 kept-at (x ∷ xs) [] c same = cc

@@ -29,7 +29,7 @@ pub mod QuietSteps
 pub mod QuietTable
 pub mod QuietPass
 pub mod QuietIndex
-pub mod QuietBlank
+pub mod ListedPaths
 pub mod QuietColumns
 pub mod QuietNear
 pub mod QuietTurns
@@ -40,6 +40,7 @@ pub mod KeysJudged
 pub mod TimedParts
 pub mod SectionRead
 pub mod NamedOnce
+pub mod OneBus
 pub mod Refilled
 pub mod PartsKept
 pub mod PartsJudged

@@ -1,117 +1,148 @@
--- What a machine remembers of buses and harts, where the code reads it by an index and puts an entry anew.
--- Letters: e and f are what is remembered under a number, k, j and i numbers of buses or harts, c a child, n a node, t a turn, o what is
--- known of a hart.
-use Rattle.std.specs.Prelude.{slice_get, slice_index_or, slice_set}
-use Rattle.std.proofs.Common.{◌≡◌, ℕ, zero, suc, ◌+◌, ◌<◌, Bool, true, false, List, [], ◌∷◌, ◌≤◌, length, replicate, Option, Some, refl, sym, ap, subst, ◌∙◌, nat_lt, arith}
-use Rattle.std.proofs.lemmas.Bool.{ltb-true, ltb-false}
-use Rattle.std.proofs.lemmas.Option.{same_Some, slice_get-get_or}
+-- What is known of the turns of one bus, where the code puts it anew: one place of a row, or a whole row.
+-- Letters: e is what is known under a number, r and s are rows of it, c and d places of a row, v and w what is known of a turn, n a node, t
+-- a turn, busy whether it is counted as a busy one, A the turns that are learned.
+use Rattle.std.specs.Prelude.{is_none, is_some, option_map, slice_get, slice_index_or, slice_set, ⊤}
+use Rattle.std.proofs.Common.{◌≡◌, ◌≢◌, ℕ, zero, suc, inl, inr, Bool, true, false, not, List, [], ◌∷◌, Option, Some, None, refl, sym, ap, subst, ◌∙◌}
+use Rattle.std.proofs.lemmas.Option.{none-some, same_Some}
 use native.Mathlib.Decide.{ℕ_discrete}
 use Rattle.tree_model.specs.declared.BusTurn.{BusTurn}
-use Rattle.tree_model.specs.State.Directory.{in_set}
-use Rattle.tree_model.specs.State.Values.{Node}
-use Rattle.tree_model.proofs.Sets.{in_set-empty}
-use Rattle.ddm_tree.specs.Path.{node_at}
-use Rattle.ddm_tree.specs.Quiet.{AreSame, IsBlank, IsHartNoted, IsLearned, IsQuietOf, column_of, entry_at, flag, flags_as, known_if, row_of, row_there}
-use Rattle.ddm_tree.proofs.QuietTable.{same-quiet, entry-put, entry-past, other-same, other-hart, put-same, put-hart}
+use Rattle.tree_model.specs.State.Child.{child_request, child_reply, child_leaving}
+use Rattle.tree_model.specs.State.Lists.{first_of}
+use Rattle.tree_model.specs.State.Values.{DirValue, Node, Nodes, dir_node, children}
+use Rattle.tree_model.specs.Turns.Children.{child_at}
+use Rattle.ddm_tree.specs.declared.quiet.Known.{Known}
+use Rattle.ddm_tree.specs.Quiet.{AreLearned, Entry, IsLearned, IsQuietOf, IsRight, OfChild, busy_at, busy_if, busy_in, known_there, quiet_if, row_there}
+use Rattle.ddm_tree.proofs.KeysRising.{set-other}
+use Rattle.ddm_tree.proofs.QuietSteps.{no-choice}
 
--- ---- a row or an entry by its index
+-- ---- a place that is read by its index
 
-row-index : (e : List ℕ) (r : ℕ) → row_there (slice_get e r) ≡ slice_index_or e r 0
-row-index [] r = refl
-row-index (row ∷ e) zero = refl
-row-index (row ∷ e) (suc r) = row-index e r
+place-index : (row : List Known) (c : ℕ) → slice_index_or row c Known.Nothing ≡ known_there (slice_get row c)
+place-index [] c = refl
+place-index (v ∷ row) zero = refl
+place-index (v ∷ row) (suc c) = place-index row c
 
-pub entry-index : (known : List (List ℕ)) (k : ℕ) → entry_at k known ≡ slice_index_or known k []
-entry-index [] k = refl
-entry-index (e ∷ known) zero = refl
-entry-index (e ∷ known) (suc k) = entry-index known k
+pub known-index : (e : Entry) (r c : ℕ) → slice_index_or (slice_index_or e r []) c Known.Nothing ≡ known_there (slice_get (row_there (slice_get e r)) c)
+known-index [] r c = refl
+known-index (row ∷ e) zero c = place-index row c
+known-index (row ∷ e) (suc r) c = known-index e r c
 
--- a flag in a row that was read by its index is that of the entry
-flag-index : (e : List ℕ) (r c : ℕ) → in_set c (slice_index_or e r 0) ≡ flag r c e
-flag-index e r c = ap (in_set c) (sym (row-index e r))
+-- ---- one place of a row
 
-known-index : (e : List ℕ) (r c : ℕ) → known_if (in_set c (slice_index_or e r 0)) (in_set (c + 16) (slice_index_or e r 0)) ≡ flags_as r c e
-known-index e r c = rw (flag-index e r c, flag-index e r (c + 16)) refl
+in-row : (row : List Known) (c : ℕ) (v : Known) (busy : Bool) → busy_in c (slice_set row c v) ≡ Some busy → busy_if v ≡ Some busy
+in-row [] c v busy e = absurd (none-some busy e)
+in-row (w ∷ row) zero v busy e = e
+in-row (w ∷ row) (suc c) v busy e = in-row row c v busy e
 
--- the rows of an entry below another row for the hart
-rows-index : (hart : ℕ) (e : List ℕ) → AreSame e (hart ∷ slice_index_or e 1 0 ∷ slice_index_or e 2 0 ∷ slice_index_or e 3 0 ∷ slice_index_or e 4 0 ∷ [])
-rows-index hart e = record { each = each }
+-- an entry with one place put anew
+abbrev pub with_known : ℕ → ℕ → Known → Entry → Entry
+with_known r c v e = slice_set e r (slice_set (slice_index_or e r []) c v)
+
+-- what is known there now is what was put
+pub known-here : (e : Entry) (r c : ℕ) (v : Known) (busy : Bool) → busy_at r c (with_known r c v e) ≡ Some busy → busy_if v ≡ Some busy
+known-here [] r c v busy is = absurd (none-some busy is)
+known-here (row ∷ e) zero c v busy is = in-row row c v busy is
+known-here (row ∷ e) (suc r) c v busy is = known-here e r c v busy is
+
+-- of other places and rows the same is known
+place-other : (e : Entry) (r c d : ℕ) (v : Known) → d ≢ c → busy_at r d (with_known r c v e) ≡ busy_at r d e
+place-other [] r c d v other = refl
+place-other (row ∷ e) zero c d v other = ap (λ o. busy_if (known_there o)) (set-other row c d v other)
+place-other (row ∷ e) (suc r) c d v other = place-other e r c d v other
+
+pub row-other : (e : Entry) (r s d : ℕ) (row : List Known) → s ≢ r → busy_at s d (slice_set e r row) ≡ busy_at s d e
+row-other e r s d row other = ap (λ o. busy_in d (row_there o)) (set-other e r s row other)
+
+quiet-known : (b busy : Bool) → busy_if (quiet_if b) ≡ Some busy → (busy ≡ false) × (b ≡ true)
+quiet-known false busy is = absurd (none-some busy is)
+quiet-known true busy is = (sym (same_Some false busy is), refl)
+
+-- what was put there is so
+put-right : (e : Entry) (r c : ℕ) (v : Known) (b busy : Bool) → v ≡ quiet_if b → busy_at r c (with_known r c v e) ≡ Some busy → (busy ≡ false) × (b ≡ true)
+put-right e r c v b busy put known = quiet-known b busy (ap busy_if (sym put) ∙ known-here e r c v busy known)
+
+-- a test of the code for nothing
+pub none-is : {T : Type 0} (o : Option T) (b : Bool) → is_some o ≡ not b → b ≡ is_none o
+none-is None true e = refl
+none-is None false e = cc
+none-is (Some x) true e = cc
+none-is (Some x) false e = refl
+
+pub none-mapped : {T U : Type 0} (f : T → U) (o : Option T) → is_none (option_map f o) ≡ is_none o
+none-mapped f None = refl
+none-mapped f (Some x) = refl
+
+-- ---- what comes down
+
+pub down-put : (d : DirValue) (ns : Nodes) (e : Entry) (v : Known) → v ≡ quiet_if (is_none (first_of d.down)) → AreLearned (λ t. t ≡ BusTurn.Down) (dir_node d ns) e (with_known 1 0 v e)
+down-put d ns e v put = record { each = each; hart = row-other e 1 0 0 _ (λ is. cc) }
   where
-    each : (t : BusTurn) → flags_as (row_of t) (column_of t) (hart ∷ slice_index_or e 1 0 ∷ slice_index_or e 2 0 ∷ slice_index_or e 3 0 ∷ slice_index_or e 4 0 ∷ []) ≡ flags_as (row_of t) (column_of t) e
-    each BusTurn.Down = known-index e 1 0
-    each (BusTurn.Request c) = known-index e 2 c
-    each (BusTurn.Reply c) = known-index e 3 c
-    each (BusTurn.Leave c choice) = known-index e 4 c
+    each : (t : BusTurn) → IsLearned (t ≡ BusTurn.Down) t (dir_node d ns) e (with_known 1 0 v e)
+    each BusTurn.Down = inr (λ busy known. put-right e 1 0 v (is_none (first_of d.down)) busy put known)
+    each (BusTurn.Request c) = inl (row-other e 1 2 c _ (λ is. cc), λ is. cc)
+    each (BusTurn.Reply c) = inl (row-other e 1 3 c _ (λ is. cc), λ is. cc)
+    each (BusTurn.Leave c choice) = inl (row-other e 1 4 c _ (λ is. cc), λ is. cc)
 
--- ---- an entry that is put anew
+-- ---- what a child shows
 
--- a bus's entry put anew, with the row of the hart of the entry that stood there
-pub learned-index : (k : ℕ) (paths : List (List ℕ)) (n : Node) (before : List (List ℕ)) (path : List ℕ) (e : List ℕ)
-    → slice_get paths k ≡ Some path → IsQuietOf e (node_at path n) → k < length before
-    → IsLearned k paths n before (slice_set before k (slice_index_or (slice_index_or before k []) 0 0 ∷ slice_index_or e 1 0 ∷ slice_index_or e 2 0 ∷ slice_index_or e 3 0 ∷ slice_index_or e 4 0 ∷ []))
-learned-index k paths n before path e listed quiet inside = record {
-  own = λ q is. subst (λ r. IsQuietOf (entry_at k (slice_set before k f)) (node_at r n)) (same_Some path q (sym listed ∙ is)) here;
-  others = λ j other. other-same k j before f other;
-  harts = λ j. put-hart k before was f at (known-index was 0 0) j (ℕ_discrete j k);
-}
+module _ (d : DirValue) (ns : Nodes) (place : ℕ) (m : Node) (is : child_at place (children ns) ≡ m) (e : Entry) (v w u : Known) (asks : v ≡ quiet_if (is_none (child_request m))) (answers : w ≡ quiet_if (is_none (child_reply m))) (goes : u ≡ quiet_if (is_none (child_leaving 0 m))) where
+  abbrev first : Entry
+  first = with_known 2 place v e
+
+  abbrev second : Entry
+  second = with_known 3 place w first
+
+  abbrev third : Entry
+  third = with_known 4 place u second
+
+  request-put : (c : ℕ) → Dec (c ≡ place) → IsLearned (c ≡ place) (BusTurn.Request c) (dir_node d ns) e third
+  request-put c (yes same) = inr (λ busy known.
+      let here : busy_at 2 place first ≡ Some busy = sym (row-other second 4 2 place _ (λ is. cc) ∙ row-other first 3 2 place _ (λ is. cc)) ∙ subst (λ k. busy_at 2 k third ≡ Some busy) same known in
+      let found = put-right e 2 place v (is_none (child_request m)) busy asks here in
+      (found.0, ap (λ k. is_none (child_request (child_at k (children ns)))) same ∙ ap (λ n. is_none (child_request n)) is ∙ found.1))
+  request-put c (no other) = inl (row-other second 4 2 c _ (λ is. cc) ∙ row-other first 3 2 c _ (λ is. cc) ∙ place-other e 2 place c v other, other)
+
+  reply-put : (c : ℕ) → Dec (c ≡ place) → IsLearned (c ≡ place) (BusTurn.Reply c) (dir_node d ns) e third
+  reply-put c (yes same) = inr (λ busy known.
+      let here : busy_at 3 place second ≡ Some busy = sym (row-other second 4 3 place _ (λ is. cc)) ∙ subst (λ k. busy_at 3 k third ≡ Some busy) same known in
+      let found = put-right first 3 place w (is_none (child_reply m)) busy answers here in
+      (found.0, ap (λ k. is_none (child_reply (child_at k (children ns)))) same ∙ ap (λ n. is_none (child_reply n)) is ∙ found.1))
+  reply-put c (no other) = inl (row-other second 4 3 c _ (λ is. cc) ∙ place-other first 3 place c w other ∙ row-other e 2 3 c _ (λ is. cc), other)
+
+  leave-put : (c choice : ℕ) → Dec (c ≡ place) → IsLearned (c ≡ place) (BusTurn.Leave c choice) (dir_node d ns) e third
+  leave-put c choice (yes same) = inr (λ busy known.
+      let here : busy_at 4 place third ≡ Some busy = subst (λ k. busy_at 4 k third ≡ Some busy) same known in
+      let found = put-right second 4 place u (is_none (child_leaving 0 m)) busy goes here in
+      (found.0, ap (λ k. is_none (child_leaving choice (child_at k (children ns)))) same ∙ ap (λ n. is_none (child_leaving choice n)) is ∙ no-choice m found.1 choice))
+  leave-put c choice (no other) = inl (place-other second 4 place c u other ∙ row-other first 3 4 c _ (λ is. cc) ∙ row-other e 2 4 c _ (λ is. cc), other)
+
+  pub child-put : AreLearned (OfChild place) (dir_node d ns) e third
+  child-put = record { each = each; hart = row-other second 4 0 0 _ (λ is. cc) ∙ row-other first 3 0 0 _ (λ is. cc) ∙ row-other e 2 0 0 _ (λ is. cc) }
+    where
+      each : (t : BusTurn) → IsLearned (OfChild place t) t (dir_node d ns) e third
+      each BusTurn.Down = inl (row-other second 4 1 0 _ (λ is. cc) ∙ row-other first 3 1 0 _ (λ is. cc) ∙ row-other e 2 1 0 _ (λ is. cc), λ of. of)
+      each (BusTurn.Request c) = request-put c (ℕ_discrete c place)
+      each (BusTurn.Reply c) = reply-put c (ℕ_discrete c place)
+      each (BusTurn.Leave c choice) = leave-put c choice (ℕ_discrete c place)
+
+-- ---- one after the other
+
+pub quiet-learned : {A : BusTurn → Type 0} {e f : Entry} (n : Node) → IsQuietOf e n → AreLearned A n e f → IsQuietOf f n
+quiet-learned {A} {e} {f} n quiet learned = record { each = λ t. by t (learned.each t) }
   where
-    was : List ℕ
-    was = slice_index_or before k []
+    by : (t : BusTurn) → IsLearned (A t) t n e f → IsRight t f n
+    by t (inl same) = λ busy known. quiet.each t busy (sym same.0 ∙ known)
+    by t (inr right) = right
 
-    f : List ℕ
-    f = slice_index_or was 0 0 ∷ slice_index_or e 1 0 ∷ slice_index_or e 2 0 ∷ slice_index_or e 3 0 ∷ slice_index_or e 4 0 ∷ []
+pub all-learned : {e f : Entry} (n : Node) → IsQuietOf f n → busy_at 0 0 f ≡ busy_at 0 0 e → AreLearned (λ t. ⊤) n e f
+all-learned n quiet hart = record { each = λ t. inr (quiet.each t); hart = hart }
 
-    at : slice_get before k ≡ Some was
-    at = slice_get-get_or before k [] inside
-
-    here : IsQuietOf (entry_at k (slice_set before k f)) (node_at path n)
-    here = subst (λ x. IsQuietOf x (node_at path n)) (sym (entry-put k before was f at)) (same-quiet (node_at path n) (rows-index (slice_index_or was 0 0) e) quiet)
-
--- a hart's row put anew, with the other rows of the entry that stood there; o is what is known of it
-pub hart-index : (k : ℕ) (before : List (List ℕ)) (o : Option Bool) (row : ℕ)
-    → k < length before → known_if (in_set 0 row) (in_set 16 row) ≡ o
-    → IsHartNoted k o before (slice_set before k (row ∷ slice_index_or (slice_index_or before k []) 1 0 ∷ slice_index_or (slice_index_or before k []) 2 0 ∷ slice_index_or (slice_index_or before k []) 3 0 ∷ slice_index_or (slice_index_or before k []) 4 0 ∷ []))
-hart-index k before o row inside is = record {
-  own = λ busy known. sym is ∙ ap (flags_as 0 0) (sym (entry-put k before was f at)) ∙ known;
-  others = λ j other. other-hart k j before f other;
-  buses = record { each = λ j. put-same k before was f at (rows-index row was) j (ℕ_discrete j k) };
-}
+pub quiet-of-all : {e f : Entry} (n : Node) → AreLearned (λ t. ⊤) n e f → IsQuietOf f n
+quiet-of-all {e} {f} n learned = record { each = λ t. by t (learned.each t) }
   where
-    was : List ℕ
-    was = slice_index_or before k []
+    by : (t : BusTurn) → IsLearned ⊤ t n e f → IsRight t f n
+    by t (inl same) = absurd (same.1 tt)
+    by t (inr right) = right
 
-    f : List ℕ
-    f = row ∷ slice_index_or was 1 0 ∷ slice_index_or was 2 0 ∷ slice_index_or was 3 0 ∷ slice_index_or was 4 0 ∷ []
-
-    at : slice_get before k ≡ Some was
-    at = slice_get-get_or before k [] inside
-
--- ---- nothing is remembered
-
-pub blank-flag : (rows row column : ℕ) → flag row column (replicate rows 0) ≡ false
-blank-flag zero row column = in_set-empty column
-blank-flag (suc rows) zero column = in_set-empty column
-blank-flag (suc rows) (suc row) column = blank-flag rows row column
-
--- a list with the same element at every place
-pub all-blank : (known : List (List ℕ)) → ((i : ℕ) → i < length known → slice_index_or known i [] ≡ replicate 5 0) → IsBlank known
-all-blank known same = record { each = each }
-  where
-    each : (k row column : ℕ) → flag row column (entry_at k known) ≡ false
-    each k row column = elim (nat_lt k (length known)) as (λ b. nat_lt k (length known) ≡ b → flag row column (entry_at k known) ≡ false) [
-      | true ↦ λ inside. ap (flag row column) (entry-index known k ∙ same k (ltb-true k (length known) inside)) ∙ blank-flag 5 row column
-      | false ↦ λ past. ap (flag row column) (entry-past k known (ltb-false k (length known) past)) ∙ in_set-empty column
-    ] refl
-
--- ---- a place that is looked at
-
-entry-inside : (known : List (List ℕ)) (k : ℕ) (e : List ℕ) → k < length known → slice_index_or known k e ≡ entry_at k known
-entry-inside [] k e inside = absurd (omega (arith, inside))
-entry-inside (f ∷ known) zero e inside = refl
-entry-inside (f ∷ known) (suc k) e inside = entry-inside known k e (omega (arith, inside))
-
-pub flag-here : (known : List (List ℕ)) (k row column : ℕ) (e : List ℕ) → k < length known → e ≡ slice_index_or known k e → in_set column (slice_index_or e row 0) ≡ flag row column (entry_at k known)
-flag-here known k row column e inside is = flag-index e row column ∙ ap (flag row column) (is ∙ entry-inside known k e inside)
-
-pub flag-past : (known : List (List ℕ)) (k row column : ℕ) → length known ≤ k → flag row column (entry_at k known) ≡ false
-flag-past known k row column past = ap (flag row column) (entry-past k known past) ∙ in_set-empty column
+pub right-none : (t : BusTurn) (n : Node) → IsRight t [] n
+right-none t n = λ busy known. absurd (none-some busy known)

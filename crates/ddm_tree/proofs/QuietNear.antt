@@ -1,18 +1,16 @@
--- Paths that lead apart, since they differ on the way; and the buses near a path.
--- Letters: q and p are paths, k and m numbers of buses or leaves, or k a level and a and b the children there, c a child, near and xs
--- numbers of buses.
+-- Paths that lead apart, since they differ on the way; and the leaves near a bus.
+-- Letters: q and p are paths, k and m numbers of leaves or buses, or k a level and a and b the children there, c a child, near and xs
+-- numbers of leaves.
 use Rattle.std.proofs.Common.{◌≡◌, ◌≢◌, ℕ, zero, suc, ◌+◌, ◌<◌, ◌≤◌, ◌++◌, Bool, true, false, List, [], ◌∷◌, length, Some, refl, sym, ap, subst, ◌∙◌, arith}
 use Rattle.std.specs.Prelude.{◌&&◌, nat_eq, nat_lt, slice_get, slice_index_or}
 use Rattle.std.proofs.lemmas.Bool.{eqb-false, ltb-false, ltb-true}
 use Rattle.std.proofs.lemmas.List.{get_or_append_left, get_or_default, length-append}
 use Rattle.std.proofs.lemmas.Option.{none-some, same_Some, slice_get-get_or, slice_get_within}
 use native.Mathlib.Decide.{ℕ_discrete}
-use Rattle.tree_model.specs.Turns.Tree.{Name, bus_of_number, leaf_of_number}
-use Rattle.ddm_tree.specs.Machine.{listed_path}
-use Rattle.ddm_tree.specs.Quiet.{AreApart, AreNear, AreNearListed, IsNear, IsNoneOf}
+use Rattle.ddm_tree.specs.Quiet.{AreApart, AreNear, IsNear, IsNoneOf}
 
 -- they differ at a level that both have
-pub level-apart : (q p : List ℕ) (k a b : ℕ) → k < length q → k < length p → a ≡ slice_index_or q k a → b ≡ slice_index_or p k b → a ≢ b → AreApart q p
+level-apart : (q p : List ℕ) (k a b : ℕ) → k < length q → k < length p → a ≡ slice_index_or q k a → b ≡ slice_index_or p k b → a ≢ b → AreApart q p
 level-apart q p k a b there here first second differ = record {
   other = λ is. differ (first ∙ ap (λ r. slice_index_or r k a) is ∙ get_or_default p k a b here ∙ sym second);
   parent = λ c is. differ (first ∙ get_or_default q k a b there ∙ sym (get_or_append_left q (c ∷ []) b k there) ∙ ap (λ r. slice_index_or r k b) (sym is) ∙ sym second);
@@ -24,9 +22,9 @@ pub near-step : (same : Bool) (q p : List ℕ) (k a b : ℕ) → (same ≡ false
 near-step false q p k a b before there here first second e = before refl
 near-step true q p k a b before there here first second e = level-apart q p k a b there here first second (eqb-false a b e)
 
--- ---- the buses near a path
+-- ---- those near a path
 
--- of the first so many buses, each one that isn't among these numbers is apart from the path
+-- of the first so many, each one that isn't among these numbers is apart from the path
 pub record AreNearBelow (count : ℕ) (p near : List ℕ) (paths : List (List ℕ)) : Type 0 where
   pub others : (k : ℕ) (q : List ℕ) → k < count → slice_get paths k ≡ Some q → IsNoneOf k (length near) near → AreApart q p
 
@@ -38,6 +36,13 @@ below-next k j other below = elim (nat_lt j k) as (λ b. nat_lt j k ≡ b → j 
       let here : j ≡ k = omega (arith, below, past) in
       absurd (other here)
 ] refl
+
+pub none-next : (k m count : ℕ) (near : List ℕ) → slice_get near count ≡ Some m → k ≢ m → IsNoneOf k count near → IsNoneOf k (count + 1) near
+none-next k m count near at other none i below is =
+    elim (ℕ_discrete i count) as (λ _. ⊥) [
+      | yes same ↦ other (same_Some k m (sym is ∙ ap (slice_get near) same ∙ at))
+      | no earlier ↦ none i (below-next count i earlier below) is
+    ]
 
 -- what stands in a list with one more
 last-list : {A : Type 0} (xs : List A) (x : A) → slice_get (xs ++ x ∷ []) (length xs) ≡ Some x
@@ -53,7 +58,7 @@ fewer-none : (k j : ℕ) (near : List ℕ) → IsNoneOf k (length (near ++ j ∷
 fewer-none k j near none i inside is = none i (omega (arith, inside, length-append near (j ∷ []))) (front-list near j i inside ∙ is)
 
 module _ (count : ℕ) (p near : List ℕ) (paths : List (List ℕ)) (before : AreNearBelow count p near paths) where
-  -- the next bus is put behind them
+  -- the next one is put behind them
   put-at : (k : ℕ) (q : List ℕ) → Dec (k ≡ count) → k < count + 1 → slice_get paths k ≡ Some q → IsNoneOf k (length (near ++ count ∷ [])) (near ++ count ∷ []) → AreApart q p
   put-at k q (yes is) below listed none = absurd (none (length near) (omega (arith, length-append near (count ∷ []))) (last-list near count ∙ ap Some (sym is)))
   put-at k q (no other) below listed none = before.others k q (below-next count k other below) listed (fewer-none k count near none)
@@ -61,7 +66,7 @@ module _ (count : ℕ) (p near : List ℕ) (paths : List (List ℕ)) (before : A
   pub near-put : AreNearBelow (count + 1) p (near ++ count ∷ []) paths
   near-put = record { others = λ k q below. put-at k q (ℕ_discrete k count) below }
 
-  -- the next bus is apart
+  -- the next one is apart
   module _ (here : List ℕ) (at : slice_get paths count ≡ Some here) (apart : AreApart here p) where
     past-at : (k : ℕ) (q : List ℕ) → Dec (k ≡ count) → k < count + 1 → slice_get paths k ≡ Some q → IsNoneOf k (length near) near → AreApart q p
     past-at k q (yes is) below listed none = subst (λ r. AreApart r p) (same_Some here q (sym at ∙ ap (slice_get paths) (sym is) ∙ listed)) apart
@@ -75,7 +80,7 @@ near-all p near paths below = record { others = λ k q listed. below.others k q 
 
 -- ---- the lists of all
 
--- of the first so many paths there is a list of the buses near each
+-- of the first so many paths there is a list of those near each
 pub record AreNearFor (count : ℕ) (nears from paths : List (List ℕ)) : Type 0 where
   pub as_many : length nears ≡ count
   pub each : (m : ℕ) (p near : List ℕ) → slice_get from m ≡ Some p → slice_get nears m ≡ Some near → IsNear p near paths
@@ -109,8 +114,3 @@ far-in nears from paths m p at near k q listed none =
     let inside : m < length nears = omega (arith, near.as_many, slice_get_within from m p at) in
     let there : slice_get nears m ≡ Some (slice_index_or nears m []) = slice_get-get_or nears m [] inside in
     (near.each m p (slice_index_or nears m []) at there).others k q listed (none (slice_index_or nears m []) there)
-
-pub far-apart : (name : Name) (p : List ℕ) (leaf_near bus_near bus_leaves leaf_paths bus_paths : List (List ℕ)) → listed_path name leaf_paths bus_paths ≡ Some p → AreNearListed leaf_near bus_near bus_leaves leaf_paths bus_paths
-    → (k : ℕ) (q : List ℕ) → slice_get bus_paths k ≡ Some q → ((xs : List ℕ) → listed_path name leaf_near bus_near ≡ Some xs → IsNoneOf k (length xs) xs) → AreApart q p
-far-apart (leaf_of_number m) p leaf_near bus_near bus_leaves leaf_paths bus_paths listed near k q there none = far-in leaf_near leaf_paths bus_paths m p listed near.leaves k q there none
-far-apart (bus_of_number m) p leaf_near bus_near bus_leaves leaf_paths bus_paths listed near k q there none = far-in bus_near bus_paths bus_paths m p listed near.buses k q there none

@@ -1,190 +1,248 @@
--- The lists in which a machine remembers what finds nothing: what a loop or a single write of the code makes of them.
--- Letters: e and f are what is remembered under a number, k, m and j numbers of buses or harts, c a child, n a node, t a turn, a its
--- answer, q a path, near numbers of buses near a path, o why a hart is idle or what is known of it, b and busy whether a turn is busy.
-use Rattle.std.proofs.Common.{◌≡◌, ◌≢◌, ℕ, ◌+◌, ◌<◌, ◌≤◌, inl, inr, Bool, true, false, true≢false, List, [], ◌∷◌, length, Option, Some, None, refl, sym, ap, subst, ◌∙◌, arith}
-use Rattle.std.specs.Prelude.{is_none, slice_get, slice_set}
-use Rattle.std.proofs.lemmas.Option.{none-some, same_Some, slice_get_past, slice_get_within}
+-- What a machine knows of the turns of its buses and harts: what a single write or a walk through the tree makes of it.
+-- Letters: e and f are what is known under a number, k and j numbers of buses or harts, c, i a child, n a node, t a turn, p, q and r
+-- paths, o why a hart is idle or what is known of it, busy whether a turn is busy, A and B the turns of buses that are learned.
+use Rattle.std.proofs.Common.{◌≡◌, ◌≢◌, ℕ, zero, suc, ◌+◌, ◌<◌, ◌≤◌, ◌++◌, ◌⊎◌, inl, inr, Bool, List, [], ◌∷◌, length, Option, Some, refl, sym, ap, subst, ◌∙◌, arith}
+use Rattle.std.specs.Prelude.{slice_get, slice_index_or, slice_set}
+use Rattle.std.proofs.lemmas.Option.{none-some, same_Some, slice_get_past}
 use native.Mathlib.Decide.{ℕ_discrete}
-use Rattle.ddm_types.specs.declared.answers.TurnAnswer.{TurnAnswer}
-use Rattle.ddm_types.specs.declared.turns.Turn.{Turn}
 use Rattle.tree_model.specs.declared.BusTurn.{BusTurn}
-use Rattle.tree_model.specs.State.Directory.{in_set, set_with}
-use Rattle.tree_model.specs.State.Lists.{first_of}
 use Rattle.tree_model.specs.State.Values.{DirValue, Node, Nodes, dir_node, children}
-use Rattle.tree_model.specs.State.Child.{child_request, child_reply, child_leaving}
 use Rattle.tree_model.specs.Turns.Children.{child_at}
-use Rattle.tree_model.specs.Turns.Machine.{named_by}
-use Rattle.tree_model.proofs.Sets.{in_set-empty, in_set-others}
 use Rattle.ddm_tree.specs.declared.idle.Idle.{Idle}
-use Rattle.ddm_tree.specs.Machine.{listed_path}
+use Rattle.ddm_tree.specs.declared.quiet.Known.{Known}
 use Rattle.ddm_tree.specs.Path.{node_at}
-use Rattle.ddm_tree.specs.Quiet.{AreLearned, AreQuiet, AreRelearned, AreSame, HartsAgree, IsFar, IsHartNoted, IsLearned, IsLearnedOr, IsNoneOf, IsQuietOf, IsRow, KeepsBuses, column_of, entry_at, entry_there, finds_nothing, flags_as, hart_as, idle_as, idle_as_there, known_if, row_of, set_if, touches}
+use Rattle.ddm_tree.specs.Quiet.{AreLearned, AreLearnedBelow, AreSame, Entry, HartsAgree, IsAsBefore, IsHartNoted, IsLearned, IsRight, IsRightThere, IsTouched, KeepsBuses, KeepsHarts, OfChild, busy_at, busy_if, busy_of, bus_in, entry_at, entry_there, hart_as, idle_as, idle_as_there}
 use Rattle.ddm_tree.proofs.KeysRising.{set-here, set-other}
-use Rattle.ddm_tree.proofs.QuietFrame.{false-quiet, known-is}
+use Rattle.ddm_tree.proofs.QuietIndex.{known-here, known-index, right-none, row-other, with_known}
 use Rattle.ddm_tree.proofs.QuietNear.{below-next}
-use Rattle.ddm_tree.proofs.QuietSteps.{no-choice}
-
--- ---- rows
-
-pub row-none : (f : ℕ → Bool) → IsRow f 0
-row-none f = record { each = λ c known. absurd (true≢false (sym known ∙ in_set-empty c)); narrow = λ c past. in_set-empty c }
-
-put-each : (f : ℕ → Bool) (row c : ℕ) → f c ≡ true → IsRow f row → (j : ℕ) → Dec (j ≡ c) → in_set j (set_with c row) ≡ true → f j ≡ true
-put-each f row c is rows j (yes same) known = ap f same ∙ is
-put-each f row c is rows j (no other) known = rows.each j (sym (in_set-others c j row other) ∙ known)
-
-pub row-put : (f : ℕ → Bool) (row c : ℕ) (b : Bool) → c < 16 → b ≡ f c → IsRow f row → IsRow f (set_if b c row)
-row-put f row c true few is rows = record {
-  each = λ j known. put-each f row c (sym is) rows j (ℕ_discrete j c) known;
-  narrow = λ j past. in_set-others c j row (λ same. absurd (omega (arith, same, few, past))) ∙ rows.narrow j past;
-}
-row-put f row c false few is rows = rows
-
--- whatever is known by it
-row-known : (f : ℕ → Bool) (row c : ℕ) (busy : Bool) → IsRow f row → known_if (in_set c row) (in_set (c + 16) row) ≡ Some busy → (busy ≡ false) × (f c ≡ true)
-row-known f row c busy rows known =
-    let is = known-is (in_set c row) (in_set (c + 16) row) busy known in
-    (is.1 ∙ rows.narrow (c + 16) (omega arith), rows.each c is.0)
-
-pub rows-quiet : (d : DirValue) (ns : Nodes) (hart down requests replies leaves : ℕ)
-    → IsRow (λ c. is_none (first_of d.down)) down
-    → IsRow (λ c. is_none (child_request (child_at c (children ns)))) requests
-    → IsRow (λ c. is_none (child_reply (child_at c (children ns)))) replies
-    → IsRow (λ c. is_none (child_leaving 0 (child_at c (children ns)))) leaves
-    → IsQuietOf (hart ∷ down ∷ requests ∷ replies ∷ leaves ∷ []) (dir_node d ns)
-rows-quiet d ns hart down requests replies leaves downs asks answers goes = record { each = each }
-  where
-    each : (t : BusTurn) (busy : Bool) → flags_as (row_of t) (column_of t) (hart ∷ down ∷ requests ∷ replies ∷ leaves ∷ []) ≡ Some busy → (busy ≡ false) × (finds_nothing t (dir_node d ns) ≡ true)
-    each BusTurn.Down busy known = row-known (λ c. is_none (first_of d.down)) down 0 busy downs known
-    each (BusTurn.Request c) busy known = row-known (λ i. is_none (child_request (child_at i (children ns)))) requests c busy asks known
-    each (BusTurn.Reply c) busy known = row-known (λ i. is_none (child_reply (child_at i (children ns)))) replies c busy answers known
-    each (BusTurn.Leave c choice) busy known =
-        let found = row-known (λ i. is_none (child_leaving 0 (child_at i (children ns)))) leaves c busy goes known in
-        (found.0, no-choice (child_at c (children ns)) found.1 choice)
-
--- ---- what is remembered of the turns of a bus
-
-same-self : (e : List ℕ) → AreSame e e
-same-self e = record { each = λ t. refl }
-
-pub same-then : {e f g : List ℕ} → AreSame e f → AreSame f g → AreSame e g
-same-then first second = record { each = λ t. second.each t ∙ first.each t }
-
-pub buses-self : (known : List (List ℕ)) → KeepsBuses known known
-buses-self known = record { each = λ k. same-self (entry_at k known) }
-
-pub same-quiet : {e f : List ℕ} (n : Node) → AreSame e f → IsQuietOf e n → IsQuietOf f n
-same-quiet n same quiet = record { each = λ t busy known. quiet.each t busy (sym (same.each t) ∙ known) }
 
 -- ---- an entry that is put, and the others
 
-pub entry-put : (k : ℕ) (known : List (List ℕ)) (was e : List ℕ) → slice_get known k ≡ Some was → entry_at k (slice_set known k e) ≡ e
-entry-put k known was e at = ap entry_there (set-here known k e (slice_get_within known k was at))
+entry-put : (k : ℕ) (before : List Entry) (f : Entry) → k < length before → entry_at k (slice_set before k f) ≡ f
+entry-put k before f inside = ap entry_there (set-here before k f inside)
 
-entry-other : (k j : ℕ) (known : List (List ℕ)) (e : List ℕ) → j ≢ k → entry_at j (slice_set known k e) ≡ entry_at j known
-entry-other k j known e other = ap entry_there (set-other known k j e other)
+entry-other : (k j : ℕ) (before : List Entry) (f : Entry) → j ≢ k → entry_at j (slice_set before k f) ≡ entry_at j before
+entry-other k j before f other = ap entry_there (set-other before k j f other)
 
-pub entry-past : (k : ℕ) (known : List (List ℕ)) → length known ≤ k → entry_at k known ≡ []
+pub entry-past : (k : ℕ) (known : List Entry) → length known ≤ k → entry_at k known ≡ []
 entry-past k known past = ap entry_there (slice_get_past known k past)
 
-pub other-same : (k j : ℕ) (known : List (List ℕ)) (e : List ℕ) → j ≢ k → AreSame (entry_at j known) (entry_at j (slice_set known k e))
-other-same k j known e other = subst (AreSame (entry_at j known)) (sym (entry-other k j known e other)) (same-self (entry_at j known))
+entry-index : (known : List Entry) (k : ℕ) → slice_index_or known k [] ≡ entry_at k known
+entry-index [] k = refl
+entry-index (e ∷ known) zero = refl
+entry-index (e ∷ known) (suc k) = entry-index known k
 
-pub other-hart : (k j : ℕ) (known : List (List ℕ)) (e : List ℕ) → j ≢ k → hart_as j (slice_set known k e) ≡ hart_as j known
-other-hart k j known e other = ap (flags_as 0 0) (entry-other k j known e other)
+-- a place that is looked at
+entry-inside : (known : List Entry) (k : ℕ) (e : Entry) → k < length known → slice_index_or known k e ≡ entry_at k known
+entry-inside [] k e inside = absurd (omega (arith, inside))
+entry-inside (f ∷ known) zero e inside = refl
+entry-inside (f ∷ known) (suc k) e inside = entry-inside known k e (omega (arith, inside))
 
--- the same is remembered of the turns of each bus where that is so of the entry that is put
-pub put-same : (k : ℕ) (known : List (List ℕ)) (was e : List ℕ) → slice_get known k ≡ Some was → AreSame was e → (j : ℕ) → Dec (j ≡ k) → AreSame (entry_at j known) (entry_at j (slice_set known k e))
-put-same k known was e at same j (yes is) = subst (λ i. AreSame (entry_at i known) (entry_at i (slice_set known k e))) (sym is) (subst (AreSame (entry_at k known)) (sym (entry-put k known was e at)) (subst (λ f. AreSame f e) (sym (ap entry_there at)) same))
-put-same k known was e at same j (no other) = other-same k j known e other
+pub place-inside : (known : List Entry) (k r c : ℕ) (e : Entry) → k < length known → e ≡ slice_index_or known k e → busy_if (slice_index_or (slice_index_or e r []) c Known.Nothing) ≡ busy_at r c (entry_at k known)
+place-inside known k r c e inside is = ap busy_if (known-index e r c) ∙ ap (busy_at r c) (is ∙ entry-inside known k e inside)
 
--- and of each hart
-pub put-hart : (k : ℕ) (known : List (List ℕ)) (was e : List ℕ) → slice_get known k ≡ Some was → flags_as 0 0 e ≡ flags_as 0 0 was → (j : ℕ) → Dec (j ≡ k) → hart_as j (slice_set known k e) ≡ hart_as j known
-put-hart k known was e at same j (yes is) = subst (λ i. hart_as i (slice_set known k e) ≡ hart_as i known) (sym is) (ap (flags_as 0 0) (entry-put k known was e at) ∙ same ∙ ap (flags_as 0 0) (sym (ap entry_there at)))
-put-hart k known was e at same j (no other) = other-hart k j known e other
+-- ---- the bus at the node itself
 
--- ---- one bus
+module _ (A : BusTurn → Type 0) (k : ℕ) (n : Node) (number : bus_in n ≡ Some k) where
+  abbrev AtNode : List ℕ → BusTurn → Type 0
+  AtNode q t = (q ≡ []) × A t
 
--- nothing is written
-unwritten : (k : ℕ) (paths : List (List ℕ)) (n : Node) (before : List (List ℕ)) → ((path : List ℕ) → slice_get paths k ≡ Some path → IsQuietOf (entry_at k before) (node_at path n)) → IsLearned k paths n before before
-unwritten k paths n before own = record { own = own; others = λ j other. same-self (entry_at j before); harts = λ j. refl }
+  -- another number is that of another bus
+  not-here : (j : ℕ) → j ≢ k → (t : BusTurn) (q : List ℕ) → bus_in (node_at q n) ≡ Some j → AtNode q t → ⊥
+  not-here j other t q is at = other (same_Some j k (sym is ∙ ap (λ r. bus_in (node_at r n)) at.0 ∙ number))
 
-pub learned-past : (k : ℕ) (paths : List (List ℕ)) (n : Node) (before : List (List ℕ)) → length before ≤ k → IsLearned k paths n before before
-learned-past k paths n before past = unwritten k paths n before (λ path listed. subst (λ e. IsQuietOf e (node_at path n)) (sym (entry-past k before past)) (false-quiet [] (node_at path n) (λ row column. in_set-empty column)))
+  module _ (before : List Entry) (f : Entry) (inside : k < length before) (learned : AreLearned A n (slice_index_or before k []) f) where
+    own-put : (t : BusTurn) → IsLearned (A t) t n (slice_index_or before k []) f → IsAsBefore AtNode k t n before (slice_set before k f) ⊎ IsRightThere k t n (slice_set before k f)
+    own-put t (inl same) = inl (record { same = ap (busy_of t) (entry-put k before f inside) ∙ same.0 ∙ ap (busy_of t) (entry-index before k); none = λ q is at. same.1 at.1 })
+    own-put t (inr right) = inr (record { path = []; number = number; right = subst (λ e. IsRight t e n) (sym (entry-put k before f inside)) right })
 
--- ---- buses of a list
+    each-put : (j : ℕ) (t : BusTurn) → Dec (j ≡ k) → IsAsBefore AtNode j t n before (slice_set before k f) ⊎ IsRightThere j t n (slice_set before k f)
+    each-put j t (yes is) = subst (λ i. IsAsBefore AtNode i t n before (slice_set before k f) ⊎ IsRightThere i t n (slice_set before k f)) (sym is) (own-put t (learned.each t))
+    each-put j t (no other) = inl (record { same = ap (busy_of t) (entry-other k j before f other); none = not-here j other t })
 
-pub learned-none : (near : List ℕ) (paths : List (List ℕ)) (n : Node) (before : List (List ℕ)) → AreLearned 0 near paths n before before
-learned-none near paths n before = record { each = λ k q listed. inr (same-self (entry_at k before), λ i below. absurd (omega (arith, below))); harts = λ j. refl }
+    pub node-put : AreLearnedBelow AtNode n before (slice_set before k f)
+    node-put = record { each = λ j t. each-put j t (ℕ_discrete j k) }
 
--- a bus of which one step and then another one is known
-then-same : (otherwise : Type 0) (k : ℕ) (q : List ℕ) (n : Node) (before mid after : List (List ℕ)) → AreSame (entry_at k mid) (entry_at k after) → IsLearnedOr otherwise k q n before mid → IsLearnedOr otherwise k q n before after
-then-same otherwise k q n before mid after same (inl quiet) = inl (same-quiet (node_at q n) same quiet)
-then-same otherwise k q n before mid after same (inr kept) = inr (same-then kept.0 same, kept.1)
+    hart-put : (j : ℕ) → Dec (j ≡ k) → hart_as j (slice_set before k f) ≡ hart_as j before
+    hart-put j (yes is) = ap (λ i. hart_as i (slice_set before k f)) is ∙ ap (busy_at 0 0) (entry-put k before f inside) ∙ learned.hart ∙ ap (busy_at 0 0) (entry-index before k) ∙ ap (λ i. hart_as i before) (sym is)
+    hart-put j (no other) = ap (busy_at 0 0) (entry-other k j before f other)
 
-or-weaker : (from to : Type 0) → (from → to) → (k : ℕ) (q : List ℕ) (n : Node) (before after : List (List ℕ)) → IsLearnedOr from k q n before after → IsLearnedOr to k q n before after
-or-weaker from to follows k q n before after (inl quiet) = inl quiet
-or-weaker from to follows k q n before after (inr kept) = inr (kept.0, follows kept.1)
+    pub harts-put : KeepsHarts before (slice_set before k f)
+    harts-put = record { each = λ j. hart-put j (ℕ_discrete j k) }
 
-pub none-next : (k m count : ℕ) (near : List ℕ) → slice_get near count ≡ Some m → k ≢ m → IsNoneOf k count near → IsNoneOf k (count + 1) near
-none-next k m count near at other none i below is =
-    elim (ℕ_discrete i count) as (λ _. ⊥) [
-      | yes same ↦ other (same_Some k m (sym is ∙ ap (slice_get near) same ∙ at))
-      | no earlier ↦ none i (below-next count i earlier below) is
-    ]
+  -- there is no place for its number
+  module _ (before : List Entry) (past : length before ≤ k) where
+    each-past : (j : ℕ) (t : BusTurn) → Dec (j ≡ k) → IsAsBefore AtNode j t n before before ⊎ IsRightThere j t n before
+    each-past j t (yes is) = inr (record { path = []; number = number ∙ ap Some (sym is); right = subst (λ e. IsRight t e n) (sym (ap (λ i. entry_at i before) is ∙ entry-past k before past)) (right-none t n) })
+    each-past j t (no other) = inl (record { same = refl; none = not-here j other t })
 
-module _ (count m : ℕ) (near : List ℕ) (paths : List (List ℕ)) (n : Node) (before mid after : List (List ℕ)) (at : slice_get near count ≡ Some m) (learned : AreLearned count near paths n before mid) (one : IsLearned m paths n mid after) where
-  learned-next : (k : ℕ) (q : List ℕ) → Dec (k ≡ m) → slice_get paths k ≡ Some q → IsLearnedOr (IsNoneOf k (count + 1) near) k q n before after
-  learned-next k q (yes is) listed = inl (subst (λ i. IsQuietOf (entry_at i after) (node_at q n)) (sym is) (one.own q (subst (λ i. slice_get paths i ≡ Some q) is listed)))
-  learned-next k q (no other) listed = or-weaker (IsNoneOf k count near) (IsNoneOf k (count + 1) near) (none-next k m count near at other) k q n before after (then-same (IsNoneOf k count near) k q n before mid after (one.others k other) (learned.each k q listed))
+    pub node-past : AreLearnedBelow AtNode n before before
+    node-past = record { each = λ j t. each-past j t (ℕ_discrete j k) }
 
-pub learned-more : (count m : ℕ) (near : List ℕ) (paths : List (List ℕ)) (n : Node) (before mid after : List (List ℕ)) → slice_get near count ≡ Some m → AreLearned count near paths n before mid → IsLearned m paths n mid after → AreLearned (count + 1) near paths n before after
-learned-more count m near paths n before mid after at learned one = record {
-  each = λ k q listed. learned-next count m near paths n before mid after at learned one k q (ℕ_discrete k m) listed;
-  harts = λ j. one.harts j ∙ learned.harts j;
-}
+pub harts-self : (known : List Entry) → KeepsHarts known known
+harts-self known = record { each = λ j. refl }
 
--- ---- after a turn
+pub harts-then : {before mid after : List Entry} → KeepsHarts before mid → KeepsHarts mid after → KeepsHarts before after
+harts-then first second = record { each = λ j. second.each j ∙ first.each j }
 
-pub relearned-near : (t : Turn) (a : TurnAnswer) (leaf_near bus_near bus_paths : List (List ℕ)) (near : List ℕ) (n : Node) (before after : List (List ℕ))
-    → listed_path (named_by t) leaf_near bus_near ≡ Some near → AreLearned (length near) near bus_paths n before after → AreRelearned t a leaf_near bus_near bus_paths n before after
-relearned-near t a leaf_near bus_near bus_paths near n before after named learned = record { each = each; harts = learned.harts }
-  where
-    each : (k : ℕ) (q : List ℕ) → slice_get bus_paths k ≡ Some q → IsLearnedOr (touches a ≡ true → IsFar t leaf_near bus_near k) k q n before after
-    each k q listed = or-weaker (IsNoneOf k (length near) near) _ (λ none touched other is. subst (λ xs. IsNoneOf k (length xs) xs) (same_Some near other (sym named ∙ is)) none) k q n before after (learned.each k q listed)
+-- ---- one walk after the other, of a part of the tree, and of fewer turns
 
-untouched : (a : TurnAnswer) (A : Type 0) → touches a ≡ false → touches a ≡ true → A
-untouched a A isnt is = absurd (true≢false (sym is ∙ isnt))
+pub learned-none : (n : Node) (known : List Entry) → AreLearnedBelow (λ q t. ⊥) n known known
+learned-none n known = record { each = λ k t. inl (record { same = refl; none = λ q is among. among }) }
 
-own-each : (otherwise : Type 0) → otherwise → (paths : List (List ℕ)) (k : ℕ) (n : Node) (before after : List (List ℕ)) → IsLearned k paths n before after → (j : ℕ) (q : List ℕ) → Dec (j ≡ k) → slice_get paths j ≡ Some q → IsLearnedOr otherwise j q n before after
-own-each otherwise so paths k n before after learned j q (yes is) listed = subst (λ i. IsLearnedOr otherwise i q n before after) (sym is) (inl (learned.own q (subst (λ i. slice_get paths i ≡ Some q) is listed)))
-own-each otherwise so paths k n before after learned j q (no other) listed = inr (learned.others j other, so)
+module _ (A B : List ℕ → BusTurn → Type 0) (n : Node) (before mid after : List Entry) where
+  abbrev Either : List ℕ → BusTurn → Type 0
+  Either q t = A q t ⊎ B q t
 
-pub relearned-own : (t : Turn) (a : TurnAnswer) (leaf_near bus_near bus_paths : List (List ℕ)) (k : ℕ) (n : Node) (before after : List (List ℕ))
-    → touches a ≡ false → IsLearned k bus_paths n before after → AreRelearned t a leaf_near bus_near bus_paths n before after
-relearned-own t a leaf_near bus_near bus_paths k n before after isnt learned = record {
-  each = λ j q listed. own-each _ (untouched a _ isnt) bus_paths k n before after learned j q (ℕ_discrete j k) listed;
-  harts = learned.harts;
-}
+  neither : (t : BusTurn) (q : List ℕ) → (A q t → ⊥) → (B q t → ⊥) → Either q t → ⊥
+  neither t q first second (inl a) = first a
+  neither t q first second (inr b) = second b
 
-pub relearned-none : (t : Turn) (a : TurnAnswer) (leaf_near bus_near bus_paths : List (List ℕ)) (n : Node) (before : List (List ℕ))
-    → touches a ≡ false → AreRelearned t a leaf_near bus_near bus_paths n before before
-relearned-none t a leaf_near bus_near bus_paths n before isnt = record { each = λ k q listed. inr (same-self (entry_at k before), untouched a _ isnt); harts = λ j. refl }
+  both : (k : ℕ) (t : BusTurn) → IsAsBefore A k t n before mid ⊎ IsRightThere k t n mid → IsAsBefore B k t n mid after ⊎ IsRightThere k t n after → IsAsBefore Either k t n before after ⊎ IsRightThere k t n after
+  both k t first (inr there) = inr there
+  both k t (inr there) (inl same) = inr (record { path = there.path; number = there.number; right = λ busy known. there.right busy (sym same.same ∙ known) })
+  both k t (inl first) (inl second) = inl (record { same = second.same ∙ first.same; none = λ q is. neither t q (first.none q is) (second.none q is) })
+
+  pub learned-then : AreLearnedBelow A n before mid → AreLearnedBelow B n mid after → AreLearnedBelow Either n before after
+  learned-then first second = record { each = λ k t. both k t (first.each k t) (second.each k t) }
+
+module _ (A : List ℕ → BusTurn → Type 0) (i : ℕ) (d : DirValue) (ns : Nodes) (before after : List Entry) where
+  abbrev Through : List ℕ → BusTurn → Type 0
+  Through q t = (r : List ℕ) × (q ≡ i ∷ r) × A r t
+
+  from-child : (k : ℕ) (t : BusTurn) → IsAsBefore A k t (child_at i (children ns)) before after ⊎ IsRightThere k t (child_at i (children ns)) after → IsAsBefore Through k t (dir_node d ns) before after ⊎ IsRightThere k t (dir_node d ns) after
+  from-child k t (inl same) = inl (record { same = same.same; none = λ q is through. same.none through.0 (ap (λ r. bus_in (node_at r (dir_node d ns))) (sym through.1) ∙ is) through.2 })
+  from-child k t (inr there) = inr (record { path = i ∷ there.path; number = there.number; right = there.right })
+
+  learned-child : AreLearnedBelow A (child_at i (children ns)) before after → AreLearnedBelow Through (dir_node d ns) before after
+  learned-child learned = record { each = λ k t. from-child k t (learned.each k t) }
+
+module _ (A B : List ℕ → BusTurn → Type 0) (n : Node) (before after : List Entry) (fewer : (k : ℕ) (q : List ℕ) (t : BusTurn) → bus_in (node_at q n) ≡ Some k → B q t → A q t) where
+  of-fewer : (k : ℕ) (t : BusTurn) → IsAsBefore A k t n before after ⊎ IsRightThere k t n after → IsAsBefore B k t n before after ⊎ IsRightThere k t n after
+  of-fewer k t (inl same) = inl (record { same = same.same; none = λ q is b. same.none q is (fewer k q t is b) })
+  of-fewer k t (inr there) = inr there
+
+  pub learned-fewer : AreLearnedBelow A n before after → AreLearnedBelow B n before after
+  learned-fewer learned = record { each = λ k t. of-fewer k t (learned.each k t) }
+
+-- ---- what comes down to the buses of the first children
+
+abbrev pub DownsOf : ℕ → List ℕ → BusTurn → Type 0
+DownsOf count q t = ((c : ℕ) × (c < count) × (q ≡ c ∷ [])) × (t ≡ BusTurn.Down)
+
+pub downs-none : (n : Node) (known : List Entry) → AreLearnedBelow (DownsOf 0) n known known
+downs-none n known = learned-fewer (λ q t. ⊥) (DownsOf 0) n known known (λ k q t is down. absurd (omega (arith, down.0.1))) (learned-none n known)
+
+module _ (count : ℕ) (d : DirValue) (ns : Nodes) (before mid after : List Entry) where
+  one-more : (c : ℕ) (q : List ℕ) (t : BusTurn) → q ≡ c ∷ [] → t ≡ BusTurn.Down → c < count + 1 → Dec (c ≡ count) → DownsOf count q t ⊎ Through (λ r s. (r ≡ []) × (s ≡ BusTurn.Down)) count d ns mid after q t
+  one-more c q t is down below (yes last) = inr ([], is ∙ ap (λ i. i ∷ []) last, (refl, down))
+  one-more c q t is down below (no earlier) = inl ((c, below-next count c earlier below, is), down)
+
+  pub downs-next : AreLearnedBelow (DownsOf count) (dir_node d ns) before mid → AreLearnedBelow (λ q t. (q ≡ []) × (t ≡ BusTurn.Down)) (child_at count (children ns)) mid after → AreLearnedBelow (DownsOf (count + 1)) (dir_node d ns) before after
+  downs-next first second =
+      learned-fewer _ (DownsOf (count + 1)) (dir_node d ns) before after (λ k q t is down. one-more down.0.0 q t down.0.2 down.1 down.0.1 (ℕ_discrete down.0.0 count))
+      (learned-then (DownsOf count) _ (dir_node d ns) before mid after first (learned-child (λ r s. (r ≡ []) × (s ≡ BusTurn.Down)) count d ns mid after second))
+
+-- ---- what a turn touches, seen from a node on its path
+
+pub touched-here : (q : List ℕ) (t : BusTurn) → IsTouched [] q t → (q ≡ []) ⊎ (((c : ℕ) × (q ≡ c ∷ [])) × (t ≡ BusTurn.Down))
+touched-here q t (inl same) = inl same
+touched-here [] t (inr (inl above)) = inl refl
+touched-here (j ∷ r) t (inr (inl above)) =
+    let is : [] ≡ j ∷ (r ++ above.0 ∷ []) = above.1 in
+    cc
+touched-here q t (inr (inr beneath)) = inr ((beneath.0, beneath.1), beneath.2)
+
+module _ (i : ℕ) (rest : List ℕ) (t : BusTurn) where
+  above-kid : (q : List ℕ) (c : ℕ) → i ∷ rest ≡ q ++ c ∷ [] → OfChild c t → ((q ≡ []) × (rest ≡ []) × OfChild i t) ⊎ ((r : List ℕ) × (q ≡ i ∷ r) × IsTouched rest r t)
+  above-kid [] c is of =
+      let first : c ≡ i = cc in
+      let last : rest ≡ [] = cc in
+      inl (refl, last, subst (λ k. OfChild k t) first of)
+  above-kid (j ∷ r) c is of =
+      let first : j ≡ i = cc in
+      let next : rest ≡ r ++ c ∷ [] = cc in
+      inr (r, ap (λ k. k ∷ r) first, inr (inl (c, next, of)))
+
+  touched-kid : (q : List ℕ) → IsTouched (i ∷ rest) q t → ((q ≡ []) × (rest ≡ []) × OfChild i t) ⊎ ((r : List ℕ) × (q ≡ i ∷ r) × IsTouched rest r t)
+  touched-kid q (inl same) = inr (rest, same, inl refl)
+  touched-kid q (inr (inl above)) = above-kid q above.0 above.1 above.2
+  touched-kid q (inr (inr beneath)) = inr (rest ++ beneath.0 ∷ [], beneath.1, inr (inr (beneath.0, refl, beneath.2)))
+
+-- the two steps of a walk to a child: what it shows, where the path ends there, and what is below it
+module _ (i : ℕ) (rest : List ℕ) (d : DirValue) (ns : Nodes) (before mid after : List Entry) where
+  abbrev Shows : List ℕ → BusTurn → Type 0
+  Shows q t = (q ≡ []) × OfChild i t
+
+  shown : (q : List ℕ) (t : BusTurn) → ((q ≡ []) × (rest ≡ []) × OfChild i t) ⊎ ((r : List ℕ) × (q ≡ i ∷ r) × IsTouched rest r t) → Shows q t ⊎ ((r : List ℕ) × (q ≡ i ∷ r) × IsTouched rest r t)
+  shown q t (inl here) = inl (here.0, here.2)
+  shown q t (inr there) = inr there
+
+  pub walked-end : AreLearnedBelow Shows (dir_node d ns) before mid → AreLearnedBelow (IsTouched rest) (child_at i (children ns)) mid after → AreLearnedBelow (IsTouched (i ∷ rest)) (dir_node d ns) before after
+  walked-end first second =
+      learned-fewer _ (IsTouched (i ∷ rest)) (dir_node d ns) before after (λ k q t is touched. shown q t (touched-kid i rest t q touched))
+      (learned-then Shows _ (dir_node d ns) before mid after first (learned-child (IsTouched rest) i d ns mid after second))
+
+  further-on : (rest ≡ [] → ⊥) → (q : List ℕ) (t : BusTurn) → ((q ≡ []) × (rest ≡ []) × OfChild i t) ⊎ ((r : List ℕ) × (q ≡ i ∷ r) × IsTouched rest r t) → (r : List ℕ) × (q ≡ i ∷ r) × IsTouched rest r t
+  further-on more q t (inl here) = absurd (more here.1)
+  further-on more q t (inr there) = there
+
+  pub walked-on : (rest ≡ [] → ⊥) → AreLearnedBelow (IsTouched rest) (child_at i (children ns)) before after → AreLearnedBelow (IsTouched (i ∷ rest)) (dir_node d ns) before after
+  walked-on more second = learned-fewer _ (IsTouched (i ∷ rest)) (dir_node d ns) before after (λ k q t is touched. further-on more q t (touched-kid i rest t q touched)) (learned-child (IsTouched rest) i d ns before after second)
+
+-- ---- what is known of the turns of a bus
+
+buses-self : (known : List Entry) → KeepsBuses known known
+buses-self known = record { each = λ k. record { each = λ t. refl } }
+
+pub same-then : {e f g : Entry} → AreSame e f → AreSame f g → AreSame e g
+same-then first second = record { each = λ t. second.each t ∙ first.each t }
+
+-- what a write of a hart's keeps is learned by none
+module _ (A : List ℕ → BusTurn → Type 0) (n : Node) (before mid after : List Entry) (same : KeepsBuses before mid) where
+  kept-one : (k : ℕ) (t : BusTurn) → IsAsBefore A k t n mid after ⊎ IsRightThere k t n after → IsAsBefore A k t n before after ⊎ IsRightThere k t n after
+  kept-one k t (inl kept) = inl (record { same = kept.same ∙ (same.each k).each t; none = kept.none })
+  kept-one k t (inr there) = inr there
+
+  pub kept-learned : AreLearnedBelow A n mid after → AreLearnedBelow A n before after
+  kept-learned learned = record { each = λ k t. kept-one k t (learned.each k t) }
 
 -- ---- harts
 
-none-known : (e : List ℕ) → e ≡ [] → flags_as 0 0 e ≡ None
-none-known e is = ap (flags_as 0 0) is
-
-pub hart-past : (k : ℕ) (o : Option Bool) (before : List (List ℕ)) → length before ≤ k → IsHartNoted k o before before
+pub hart-past : (k : ℕ) (o : Option Bool) (before : List Entry) → length before ≤ k → IsHartNoted k o before before
 hart-past k o before past = record {
-  own = λ busy known. absurd (none-some busy (sym (none-known (entry_at k before) (entry-past k before past)) ∙ known));
+  own = λ busy known. absurd (none-some busy (sym (ap (busy_at 0 0) (entry-past k before past)) ∙ known));
   others = λ j other. refl;
   buses = buses-self before;
 }
 
+-- what is known of a hart's turns is put anew
+module _ (k : ℕ) (before : List Entry) (o : Option Bool) (v : Known) (inside : k < length before) (is : busy_if v ≡ o) where
+  abbrev was : Entry
+  was = slice_index_or before k []
+
+  abbrev put : Entry
+  put = with_known 0 0 v was
+
+  bus-row : (t : BusTurn) → busy_of t put ≡ busy_of t was
+  bus-row BusTurn.Down = row-other was 0 1 0 _ (λ same. cc)
+  bus-row (BusTurn.Request c) = row-other was 0 2 c _ (λ same. cc)
+  bus-row (BusTurn.Reply c) = row-other was 0 3 c _ (λ same. cc)
+  bus-row (BusTurn.Leave c choice) = row-other was 0 4 c _ (λ same. cc)
+
+  bus-same : (j : ℕ) (t : BusTurn) → Dec (j ≡ k) → busy_of t (entry_at j (slice_set before k put)) ≡ busy_of t (entry_at j before)
+  bus-same j t (yes same) = ap (λ i. busy_of t (entry_at i (slice_set before k put))) same ∙ ap (busy_of t) (entry-put k before put inside) ∙ bus-row t ∙ ap (busy_of t) (entry-index before k) ∙ ap (λ i. busy_of t (entry_at i before)) (sym same)
+  bus-same j t (no other) = ap (busy_of t) (entry-other k j before put other)
+
+  pub hart-noted : IsHartNoted k o before (slice_set before k put)
+  hart-noted = record {
+    own = λ busy known. sym is ∙ known-here was 0 0 v busy (sym (ap (busy_at 0 0) (entry-put k before put inside)) ∙ known);
+    others = λ j other. ap (busy_at 0 0) (entry-other k j before put other);
+    buses = record { each = λ j. record { each = λ t. bus-same j t (ℕ_discrete j k) } };
+  }
+
 -- a hart of which it is remembered why it is idle, or that this isn't known
-module _ (hart : ℕ) (o : Option Idle) (b : Option Bool) (idle : List (Option Idle)) (before after : List (List ℕ)) (inside : hart < length idle) (is : b ≡ idle_as o) (noted : IsHartNoted hart b before after) (agree : HartsAgree before idle) where
+module _ (hart : ℕ) (o : Option Idle) (b : Option Bool) (idle : List (Option Idle)) (before after : List Entry) (inside : hart < length idle) (is : b ≡ idle_as o) (noted : IsHartNoted hart b before after) (agree : HartsAgree before idle) where
   agree-at : (k : ℕ) (busy : Bool) → Dec (k ≡ hart) → hart_as k after ≡ Some busy → idle_as_there (slice_get (slice_set idle hart o) k) ≡ Some busy
   agree-at k busy (yes own) known =
       let here : slice_get (slice_set idle hart o) k ≡ Some o = ap (slice_get (slice_set idle hart o)) own ∙ set-here idle hart o inside in
@@ -196,8 +254,5 @@ module _ (hart : ℕ) (o : Option Idle) (b : Option Bool) (idle : List (Option I
 
 -- ---- what the one kind of write keeps of the other
 
-pub agree-relearned : (t : Turn) (a : TurnAnswer) (leaf_near bus_near bus_paths : List (List ℕ)) (n : Node) (idle : List (Option Idle)) (before after : List (List ℕ)) → AreRelearned t a leaf_near bus_near bus_paths n before after → HartsAgree before idle → HartsAgree after idle
-agree-relearned t a leaf_near bus_near bus_paths n idle before after relearned agree = record { each = λ k busy known. agree.each k busy (sym (relearned.harts k) ∙ known) }
-
-pub quiet-same : (n after : Node) (known kept : List (List ℕ)) → KeepsBuses known kept → AreQuiet known n after → AreQuiet kept n after
-quiet-same n after known kept same quiet = record { each = λ k path leads. same-quiet (node_at path after) (same.each k) (quiet.each k path leads) }
+pub agree-learned : (idle : List (Option Idle)) (before after : List Entry) → KeepsHarts before after → HartsAgree before idle → HartsAgree after idle
+agree-learned idle before after same agree = record { each = λ k busy known. agree.each k busy (sym (same.each k) ∙ known) }

@@ -1,10 +1,10 @@
 -- What is remembered of buses that find nothing, and of harts that are idle, stays true in every turn, and a turn that it speaks of
 -- changes nothing.
--- Letters: t is a turn, p the path to the node that it names, q the path to a bus, n the tree, k and b numbers of buses, e and f what is
--- remembered under a number, v and w leaves, d a directory over ns, c a child, o what stands at a place of a list, a an answer, busy
--- whether it is counted as a busy one.
-use Rattle.std.proofs.Common.{◌≡◌, ℕ, ◌++◌, inl, inr, Bool, true, false, List, [], ◌∷◌, Option, Some, None, refl, sym, ap, subst, ◌∙◌, arith}
+-- Letters: t is a turn, p the path to the node that it names, s a turn of a bus and q the path to that, n the tree, k and b numbers of
+-- buses, c a child, o what stands at a place of a list, a an answer, busy whether it is counted as a busy one.
+use Rattle.std.proofs.Common.{◌≡◌, ℕ, ◌++◌, ◌⊎◌, inl, inr, Bool, true, false, true≢false, List, [], ◌∷◌, Option, Some, None, refl, sym, ap, subst, ◌∙◌, arith}
 use Rattle.std.specs.Prelude.{slice_get}
+use Rattle.std.proofs.lemmas.Option.{none-some}
 use Rattle.ddm_types.specs.declared.answers.TurnAnswer.{TurnAnswer}
 use Rattle.ddm_types.specs.declared.keys.Stamp.{Stamp}
 use Rattle.ddm_types.specs.declared.turns.Turn.{Turn}
@@ -13,27 +13,28 @@ use Rattle.ddm_types.specs.ItemTable.{ItemTable}
 use Rattle.ddm_types.specs.Keys.{key_on}
 use Rattle.tree_model.specs.declared.BusTurn.{BusTurn}
 use Rattle.tree_model.specs.State.Values.{LeafValue, DirValue, Node, Nodes, leaf_node, dir_node, nodes, children, MachineValue, root_of}
-use Rattle.tree_model.specs.State.Shape.{skeleton}
+use Rattle.tree_model.specs.State.Shape.{IsShaped, skeleton}
+use Rattle.tree_model.specs.Laws.{kept_of}
 use Rattle.tree_model.specs.Turns.Bus.{bus_step}
+use Rattle.tree_model.specs.Turns.Children.{child_at}
 use Rattle.tree_model.specs.Turns.Grant.{Outcome}
 use Rattle.tree_model.specs.Turns.HartTurn.{leaf_step}
 use Rattle.tree_model.specs.Turns.Machine.{bus_turn_of, named_by, turn_of, victim_of}
 use Rattle.tree_model.specs.Turns.Tree.{Name, leaf_of_number, bus_of_number}
 use Rattle.tree_model.proofs.BusKeeps.{bus_step-keeps}
-use Rattle.tree_model.proofs.Children.{nodes-children}
+use Rattle.tree_model.proofs.Children.{children-nodes, nodes-children}
 use Rattle.tree_model.proofs.FrameKept.{turn-frame}
 use Rattle.split_bus.specs.Outcomes.{is_granted}
 use Rattle.ddm_tree.specs.declared.idle.Idle.{Idle}
 use Rattle.ddm_tree.specs.Idle.{AreIdle, idle_answer, idle_there}
-use Rattle.ddm_tree.specs.Machine.{listed_path}
 use Rattle.ddm_tree.specs.Path.{node_at, path_to, put_at, node_answer, node_turned}
 use Rattle.ddm_tree.specs.Ready.{Leads}
-use Rattle.ddm_tree.proofs.IdleHarts.{Dir, IsSpared, Leaf, SameFrom, bus-same_from, further, leads-dir, leads-leaf, leaf-same_from, put-same, spared, step-ungranted}
-use Rattle.ddm_tree.specs.Quiet.{AreApart, AreNearListed, AreQuiet, AreRelearned, HartsAgree, IsBlank, IsFar, IsLearnedOr, IsQuietOf, KeepsQuiet, entry_at, finds_nothing, flag, idle_as_there, known_as, passed_as, touches}
-use Rattle.ddm_tree.proofs.QuietFrame.{false-quiet, known-is, quiet-frame, quiet-unchanged, true-not-false}
-use Rattle.ddm_tree.proofs.QuietNear.{far-apart}
+use Rattle.ddm_tree.proofs.IdleHarts.{Dir, IsSpared, Leaf, SameFrom, bus-same_from, further, kept-at, leads-dir, leads-leaf, leaf-same_from, put-same, spared, step-ungranted}
+use Rattle.ddm_tree.specs.Quiet.{AreLearnedBelow, AreQuiet, Entry, HartsAgree, IsAsBefore, IsBlank, IsQuietOf, IsRight, IsRightThere, IsTouchedBy, KeepsQuiet, OfChild, bus_in, column_of, entry_at, finds_nothing, idle_as_there, known_as, passed_as, row_of, touches}
+use Rattle.ddm_tree.proofs.NamedOnce.{bus-once}
+use Rattle.ddm_tree.proofs.OneBus.{leads-number, one-path}
+use Rattle.ddm_tree.proofs.QuietFrame.{Finds, finds-frame, finds-kept, finds-unchanged}
 use Rattle.ddm_tree.proofs.QuietSteps.{hart-keeps, nothing-turned}
-use Rattle.ddm_tree.proofs.QuietTable.{same-quiet}
 
 -- ---- answers
 
@@ -45,16 +46,6 @@ granted-touches (TurnAnswer.Halted cause) e = cc
 granted-touches (TurnAnswer.Granted entry) e = refl
 granted-touches TurnAnswer.Empty e = cc
 granted-touches (TurnAnswer.Busy cause) e = cc
-
--- ---- what is remembered of a bus
-
--- of a leaf nothing is
-leaf-quiet : (e : List ℕ) (v : LeafValue) (m : Node) → IsQuietOf e (leaf_node v) → IsQuietOf e m
-leaf-quiet e v m quiet = record {
-  each = λ t busy known.
-      let wrong : false ≡ true = (quiet.each t busy known).1 in
-      cc;
-}
 
 -- ---- a turn
 
@@ -91,22 +82,25 @@ module _ (code : List CodeWord) (items : ItemTable) (t : Turn) (p : List ℕ) (p
         let keeps : KeepsQuiet (leaf_node own) (leaf_node becomes) = hart-keeps code items (key_on present p own.done) (victim_of t) own (ap touches (sym answer-leaf) ∙ e) in
         rw at-leaf.1 keeps
 
-    hart-parent : (q : List ℕ) → (touches answer ≡ true → AreApart q p) → (c : ℕ) → p ≡ q ++ c ∷ [] → KeepsQuiet (node_at p n) new
-    hart-parent q apart c is =
-        elim (touches answer) as (λ b. touches answer ≡ b → KeepsQuiet (node_at p n) new) [
-          | true ↦ λ does. absurd ((apart does).parent c is)
-          | false ↦ λ not. hart-above not
-        ] refl
+    module _ (s : BusTurn) (q : List ℕ) (untouched : IsTouchedBy answer p q s → ⊥) (none : Finds s (node_at q n)) where
+      hart-parent : (c : ℕ) → p ≡ q ++ c ∷ [] → OfChild c s → KeepsQuiet (node_at p n) new
+      hart-parent c is of =
+          elim (touches answer) as (λ b. touches answer ≡ b → KeepsQuiet (node_at p n) new) [
+            | true ↦ λ does. absurd (untouched (does, inr (inl (c, is, of))))
+            | false ↦ λ not. hart-above not
+          ] refl
 
-    module _ (e : List ℕ) (q : List ℕ) (quiet : IsQuietOf e (node_at q n)) where
-      hart-here : q ≡ p → IsQuietOf e new
-      hart-here is = leaf-quiet e own new (subst (IsQuietOf e) (ap (λ r. node_at r n) is ∙ at-leaf.1) quiet)
+      -- at the leaf itself no bus is
+      hart-here : q ≡ p → Finds s new
+      hart-here is =
+          let wrong : Finds s (leaf_node own) = subst (Finds s) (ap (λ r. node_at r n) is ∙ at-leaf.1) none in
+          absurd (true≢false (sym wrong))
 
-      hart-beneath : (c : ℕ) → q ≡ p ++ c ∷ [] → IsQuietOf e (node_at (c ∷ []) new)
-      hart-beneath c is = subst (IsQuietOf e) (ap (λ r. node_at r n) is ∙ further p (c ∷ []) n ∙ sym (leaf-below (c ∷ []) (omega arith))) quiet
+      hart-beneath : (c : ℕ) → q ≡ p ++ c ∷ [] → Finds s (node_at (c ∷ []) new)
+      hart-beneath c is = subst (Finds s) (ap (λ r. node_at r n) is ∙ further p (c ∷ []) n ∙ sym (leaf-below (c ∷ []) (omega arith))) none
 
-      hart-quiet : (touches answer ≡ true → AreApart q p) → IsQuietOf e (node_at q (put_at p new n))
-      hart-quiet apart = quiet-frame e p q n new (λ r deep. leaf-below r (omega (arith, deep))) hart-here (hart-parent q apart) hart-beneath quiet
+      hart-finds : Finds s (node_at q (put_at p new n))
+      hart-finds = finds-frame s p q n new (λ r deep. leaf-below r (omega (arith, deep))) hart-here hart-parent hart-beneath none
 
   -- of a bus
   module _ (b : ℕ) (bus : named_by t ≡ bus_of_number b) where
@@ -134,41 +128,69 @@ module _ (code : List CodeWord) (items : ItemTable) (t : Turn) (p : List ℕ) (p
     bus-below : SameFrom 2 (node_at p n) new
     bus-below = rw at-dir.2 (bus-same_from over outcome.parent kids outcome.kids (bus_step-keeps present over (children kids) (bus_turn_of t)).kids)
 
-    module _ (e : List ℕ) (q : List ℕ) (quiet : IsQuietOf e (node_at q n)) where
-      bus-apart : AreApart q p → IsQuietOf e (node_at q (put_at p new n))
-      bus-apart apart = quiet-frame e p q n new bus-below (λ is. absurd (apart.other is)) (λ c is. absurd (apart.parent c is)) (λ c is. absurd (apart.child c is)) quiet
+    -- a child keeps its own children
+    child-kept : (c : ℕ) → kept_of (node_at (c ∷ []) new) ≡ kept_of (node_at (c ∷ []) (node_at p n))
+    child-kept c = ap (λ m. kept_of (node_at (c ∷ []) m)) new-dir ∙ ap (λ ms. kept_of (child_at c ms)) (children-nodes outcome.kids) ∙ kept-at (children kids) outcome.kids c (bus_step-keeps present over (children kids) (bus_turn_of t)).kids ∙ ap (λ m. kept_of (node_at (c ∷ []) m)) (sym at-dir.2)
 
-      bus-quiet : (touches answer ≡ true → AreApart q p) → IsQuietOf e (node_at q (put_at p new n))
-      bus-quiet apart =
-          elim (is_granted answer) as (λ g. is_granted answer ≡ g → IsQuietOf e (node_at q (put_at p new n))) [
-            | true ↦ λ is. bus-apart (apart (granted-touches answer is))
-            | false ↦ λ is. quiet-unchanged e p q n new (new-ungranted is) quiet
+    module _ (s : BusTurn) (q : List ℕ) (untouched : IsTouchedBy answer p q s → ⊥) (none : Finds s (node_at q n)) where
+      bus-granted : is_granted answer ≡ true → Finds s (node_at q (put_at p new n))
+      bus-granted is =
+          let does : touches answer ≡ true = granted-touches answer is in
+          finds-frame s p q n new bus-below
+          (λ same. absurd (untouched (does, inl same)))
+          (λ c above of. absurd (untouched (does, inr (inl (c, above, of)))))
+          (λ c beneath. finds-kept s (node_at (c ∷ []) (node_at p n)) (node_at (c ∷ []) new) (child-kept c) (λ down. untouched (does, inr (inr (c, beneath, down)))) (subst (Finds s) (ap (λ r. node_at r n) beneath ∙ further p (c ∷ []) n) none))
+          none
+
+      bus-finds : Finds s (node_at q (put_at p new n))
+      bus-finds =
+          elim (is_granted answer) as (λ g. is_granted answer ≡ g → Finds s (node_at q (put_at p new n))) [
+            | true ↦ λ is. bus-granted is
+            | false ↦ λ is. finds-unchanged s p q n new (new-ungranted is) none
           ] refl
 
   -- of either
-  turn-quiet : (name : Name) → named_by t ≡ name → (e : List ℕ) (q : List ℕ) → IsQuietOf e (node_at q n) → (touches answer ≡ true → AreApart q p) → IsQuietOf e (node_at q (put_at p new n))
-  turn-quiet (leaf_of_number k) is e q quiet apart = hart-quiet k is e q quiet apart
-  turn-quiet (bus_of_number b) is e q quiet apart = bus-quiet b is e q quiet apart
+  turn-finds : (name : Name) → named_by t ≡ name → (s : BusTurn) (q : List ℕ) → (IsTouchedBy answer p q s → ⊥) → Finds s (node_at q n) → Finds s (node_at q (put_at p new n))
+  turn-finds (leaf_of_number k) is s q untouched none = hart-finds k is s q untouched none
+  turn-finds (bus_of_number b) is s q untouched none = bus-finds b is s q untouched none
 
-  module _ (leaf_near bus_near bus_leaves leaf_paths bus_paths : List (List ℕ)) (listed : listed_path (named_by t) leaf_paths bus_paths ≡ Some p) (near : AreNearListed leaf_near bus_near bus_leaves leaf_paths bus_paths) where
-    learned-quiet : (k : ℕ) (q : List ℕ) (before after : List (List ℕ)) → slice_get bus_paths k ≡ Some q → IsQuietOf (entry_at k before) (node_at q n) → IsLearnedOr (touches answer ≡ true → IsFar t leaf_near bus_near k) k q (put_at p new n) before after → IsQuietOf (entry_at k after) (node_at q (put_at p new n))
-    learned-quiet k q before after there quiet (inl learned) = learned
-    learned-quiet k q before after there quiet (inr same) =
-        let still = turn-quiet (named_by t) refl (entry_at k before) q quiet (λ does. far-apart (named_by t) p leaf_near bus_near bus_leaves leaf_paths bus_paths listed near k q there (same.1 does)) in
-        same-quiet (node_at q (put_at p new n)) same.0 still
+  -- a path to a bus of this number in the new tree is the one that leads there in the old one
+  abbrev IsOnly : ℕ → List ℕ → Type 0
+  IsOnly k q = (bus_in (node_at q (put_at p new n)) ≡ Some k) × ((r : List ℕ) → bus_in (node_at r (put_at p new n)) ≡ Some k → r ≡ q)
 
--- what is remembered after a turn is so
-pub relearned-quiet : (code : List CodeWord) (items : ItemTable) (t : Turn) (p : List ℕ) (present : Stamp) (n : Node) (leaf_near bus_near bus_leaves leaf_paths bus_paths : List (List ℕ)) (before after : List (List ℕ))
-    → Leads (named_by t) p n
-    → listed_path (named_by t) leaf_paths bus_paths ≡ Some p
-    → AreNearListed leaf_near bus_near bus_leaves leaf_paths bus_paths
-    → ((k : ℕ) (q : List ℕ) → Leads (bus_of_number k) q n → slice_get bus_paths k ≡ Some q)
-    → AreQuiet before n n
-    → AreRelearned t (node_answer code items t p present (node_at p n)) leaf_near bus_near bus_paths (put_at p (node_turned code items t p present (node_at p n)) n) before after
-    → AreQuiet after n (put_at p (node_turned code items t p present (node_at p n)) n)
-relearned-quiet code items t p present n leaf_near bus_near bus_leaves leaf_paths bus_paths before after leads listed near paths quiet relearned = record {
-  each = λ k q there. learned-quiet code items t p present n leads leaf_near bus_near bus_leaves leaf_paths bus_paths listed near k q before after (paths k q there) (quiet.each k q there) (relearned.each k q (paths k q there));
-}
+  module _ (before after : List Entry) (k : ℕ) (q : List ℕ) (only : IsOnly k q) (quiet : IsQuietOf (entry_at k before) (node_at q n)) where
+    learned-right : (s : BusTurn) → IsAsBefore (IsTouchedBy answer p) k s (put_at p new n) before after ⊎ IsRightThere k s (put_at p new n) after → IsRight s (entry_at k after) (node_at q (put_at p new n))
+    learned-right s (inl same) = λ busy known.
+        let was = quiet.each s busy (sym same.same ∙ known) in
+        (was.0, turn-finds (named_by t) refl s q (same.none q only.0) was.1)
+    learned-right s (inr there) = subst (λ r. IsRight s (entry_at k after) (node_at r (put_at p new n))) (only.1 there.path there.number) there.right
+
+  -- what is known after a turn is so
+  learned-quiet : (before after : List Entry) → ((k : ℕ) (q : List ℕ) → Leads (bus_of_number k) q n → IsOnly k q) → AreQuiet before n n → AreLearnedBelow (IsTouchedBy answer p) (put_at p new n) before after → AreQuiet after n (put_at p new n)
+  learned-quiet before after only quiet learned = record { each = λ k q there. record { each = λ s. learned-right before after k q (only k q there) (quiet.each k q there) s (learned.each k s) } }
+
+  -- the same of the tree and the answer as the code has them
+  pub learned-turn : (a : TurnAnswer) (left : Node) (before after : List Entry) → a ≡ answer → left ≡ put_at p new n
+      → ((k : ℕ) (q : List ℕ) → Leads (bus_of_number k) q n → (bus_in (node_at q left) ≡ Some k) × ((r : List ℕ) → bus_in (node_at r left) ≡ Some k → r ≡ q))
+      → AreQuiet before n n → AreLearnedBelow (IsTouchedBy a p) left before after → AreQuiet after n left
+  learned-turn a left before after same is only quiet learned =
+      let there = subst (λ m. AreLearnedBelow (IsTouchedBy answer p) m before after) is (subst (λ b. AreLearnedBelow (IsTouchedBy b p) left before after) same learned) in
+      let now = learned-quiet before after (λ k q leads. subst (λ m. (bus_in (node_at q m) ≡ Some k) × ((r : List ℕ) → bus_in (node_at r m) ≡ Some k → r ≡ q)) is (only k q leads)) quiet there in
+      subst (AreQuiet after n) (sym is) now
+
+-- a path to a bus of a number after a turn is the one that led there before it
+pub only-after : (t : Turn) (m : MachineValue) (left : Node) → left ≡ root_of (turn_of t m).machine → IsShaped (turn_of t m).machine → (k : ℕ) (q : List ℕ) → Leads (bus_of_number k) q (root_of m)
+    → (bus_in (node_at q left) ≡ Some k) × ((r : List ℕ) → bus_in (node_at r left) ≡ Some k → r ≡ q)
+only-after t m left is shaped k q leads =
+    let bones : skeleton (root_of (turn_of t m).machine) ≡ skeleton (root_of m) = ap (λ f. f.bones) (turn-frame t m) in
+    let still : Leads (bus_of_number k) q (root_of (turn_of t m).machine) = ap (path_to (bus_of_number k)) bones ∙ leads in
+    rw is (leads-number k q (root_of (turn_of t m).machine) still, λ r there. one-path k r q (root_of (turn_of t m).machine) (bus-once (turn_of t m).machine k shaped) still there)
+
+-- a hart that is known to be idle touches nothing
+pub idle-untouched : (i : Idle) → touches (idle_answer i) ≡ false
+idle-untouched (Idle.Waits x) = refl
+idle-untouched (Idle.BufferFull leaf) = refl
+idle-untouched (Idle.Halted cause) = refl
 
 -- ---- a turn that is known to change nothing
 
@@ -197,7 +219,7 @@ module _ (code : List CodeWord) (items : ItemTable) (p : List ℕ) (present : St
       let turned = nothing-turned code items t p present (node_at p n) nothing.1 in
       record { counts = ap passed_as turned.0 ∙ ap Some (sym nothing.0); leaves = ap (λ m. put_at p m n) turned.1 ∙ put-same p n }
 
-pub known-passed : (code : List CodeWord) (items : ItemTable) (t : Turn) (busy : Bool) (p : List ℕ) (present : Stamp) (n : Node) (known : List (List ℕ)) (idle : List (Option Idle))
+pub known-passed : (code : List CodeWord) (items : ItemTable) (t : Turn) (busy : Bool) (p : List ℕ) (present : Stamp) (n : Node) (known : List Entry) (idle : List (Option Idle))
     → Leads (named_by t) p n → AreQuiet known n n → HartsAgree known idle → AreIdle code items idle n n → known_as t known ≡ Some busy
     → IsPassed code items t busy p present n
 known-passed code items (Turn.Hart hart victim) busy p present n known idle leads quiet agree idles e = hart-passed code items p present n busy hart victim idle leads idles (agree.each hart busy e)
@@ -209,7 +231,7 @@ known-passed code items (Turn.Leave bus child choice) busy p present n known idl
 -- ---- what a machine remembers
 
 -- after a turn: of the tree that it left
-pub quiet-after : (t : Turn) (m : MachineValue) (known kept : List (List ℕ)) (left now : Node) → kept ≡ known → now ≡ root_of (turn_of t m).machine → now ≡ left → AreQuiet known (root_of m) left → AreQuiet kept now now
+pub quiet-after : (t : Turn) (m : MachineValue) (known kept : List Entry) (left now : Node) → kept ≡ known → now ≡ root_of (turn_of t m).machine → now ≡ left → AreQuiet known (root_of m) left → AreQuiet kept now now
 quiet-after t m known kept left now same becomes is remembered =
     let bones : skeleton now ≡ skeleton (root_of m) = ap skeleton becomes ∙ ap (λ f. f.bones) (turn-frame t m) in
     record {
@@ -220,11 +242,11 @@ quiet-after t m known kept left now same becomes is remembered =
 
 -- ---- where nothing is remembered
 
-blank-of : (known kept : List (List ℕ)) → kept ≡ known → IsBlank known → IsBlank kept
+blank-of : (known kept : List Entry) → kept ≡ known → IsBlank known → IsBlank kept
 blank-of known kept same blank = subst IsBlank (sym same) blank
 
-pub blank-quiet : (known kept : List (List ℕ)) (n after : Node) → kept ≡ known → IsBlank known → AreQuiet kept n after
-blank-quiet known kept n after same blank = record { each = λ k path there. false-quiet (entry_at k kept) (node_at path after) ((blank-of known kept same blank).each k) }
+pub blank-quiet : (known kept : List Entry) (n after : Node) → kept ≡ known → IsBlank known → AreQuiet kept n after
+blank-quiet known kept n after same blank = record { each = λ k path there. record { each = λ t busy is. absurd (none-some busy (sym ((blank-of known kept same blank).each k (row_of t) (column_of t)) ∙ is)) } }
 
-pub blank-agree : (known kept : List (List ℕ)) (idle : List (Option Idle)) → kept ≡ known → IsBlank known → HartsAgree kept idle
-blank-agree known kept idle same blank = record { each = λ k busy e. absurd (true-not-false (flag 0 0 (entry_at k kept)) (known-is _ _ busy e).0 ((blank-of known kept same blank).each k 0 0)) }
+pub blank-agree : (known kept : List Entry) (idle : List (Option Idle)) → kept ≡ known → IsBlank known → HartsAgree kept idle
+blank-agree known kept idle same blank = record { each = λ k busy is. absurd (none-some busy (sym ((blank-of known kept same blank).each k 0 0) ∙ is)) }

@@ -17,7 +17,7 @@ use Rattle.ddm_tree.specs.Idle.{AreNoted, AreSeen, IsKnown, IsLooked, IsLookedAf
 use Rattle.ddm_tree.specs.Path.{node_at}
 use Rattle.ddm_tree.specs.Quiet.{IsNoneOf}
 use Rattle.ddm_tree.proofs.KeysRising.{set-here, set-other}
-use Rattle.ddm_tree.proofs.QuietTable.{none-next}
+use Rattle.ddm_tree.proofs.QuietNear.{none-next}
 
 module _ (paths : List (List ℕ)) (n : Node) where
   -- what the leaf tells, where its path is known

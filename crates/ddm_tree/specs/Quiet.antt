@@ -1,20 +1,19 @@
 -- Turns of buses that find nothing, and of harts that are idle: what a machine remembers of them, so that it needn't look.
--- Letters: n is a node, v a leaf, d a directory over the nodes ns, t a turn, k the number of a bus or a hart, c a child, e what is
--- remembered under a number, p and q paths, near the numbers of the buses near a path, busy whether a turn is counted as a busy one.
+-- Letters: n is a node, v a leaf, d a directory over the nodes ns, t a turn, k and j numbers of buses or harts, c a child, e and f what is
+-- known under a number, p and q paths, near the numbers of the leaves near a path, busy whether a turn is counted as a busy one, a its
+-- answer.
 -- To be believed with the contracts: it is what a machine remembers of its buses.
-use Rattle.std.specs.Prelude.{◌≡◌, ◌≢◌, ◌+◌, ◌<◌, ◌≤◌, ◌⊎◌, ℕ, Bool, true, false, List, [], ◌∷◌, ◌++◌, Option, Some, None, is_none, length, slice_get}
+use Rattle.std.specs.Prelude.{◌≡◌, ◌≢◌, ◌<◌, ◌⊎◌, ℕ, Bool, true, false, List, [], ◌∷◌, ◌++◌, Option, Some, None, is_none, length, slice_get}
 use Rattle.ddm_types.specs.declared.answers.TurnAnswer.{TurnAnswer}
 use Rattle.ddm_types.specs.declared.turns.Turn.{Turn}
 use Rattle.tree_model.specs.declared.BusTurn.{BusTurn}
-use Rattle.tree_model.specs.State.Directory.{in_set, set_with}
 use Rattle.tree_model.specs.State.Lists.{first_of}
 use Rattle.tree_model.specs.State.Values.{Node, leaf_node, dir_node, children}
 use Rattle.tree_model.specs.State.Child.{child_request, child_reply, child_leaving}
 use Rattle.tree_model.specs.Turns.Children.{child_at}
-use Rattle.tree_model.specs.Turns.Machine.{named_by}
 use Rattle.tree_model.specs.Turns.Tree.{bus_of_number}
 use Rattle.ddm_tree.specs.declared.idle.Idle.{Idle}
-use Rattle.ddm_tree.specs.Machine.{listed_path}
+use Rattle.ddm_tree.specs.declared.quiet.Known.{Known}
 use Rattle.ddm_tree.specs.Path.{node_at}
 use Rattle.ddm_tree.specs.Ready.{Leads}
 
@@ -26,9 +25,11 @@ finds_nothing (BusTurn.Request c) (dir_node d ns) = is_none (child_request (chil
 finds_nothing (BusTurn.Reply c) (dir_node d ns) = is_none (child_reply (child_at c (children ns)))
 finds_nothing (BusTurn.Leave c choice) (dir_node d ns) = is_none (child_leaving choice (child_at c (children ns)))
 
--- ---- what is remembered under a number: a set for the hart and one for Down, and one each for requests, replies and copies that
--- leave, of children of the bus. What is in a set is known of the turn: a bus finds nothing, a hart is idle. With 16 more it is in the set
--- too where the turn is counted as a busy one.
+-- ---- what is known under a number, of the turns of the bus and of the hart that have it: a row for the hart, one for Down, and one each
+-- for requests, replies and copies that leave, with a place for each child of the bus.
+
+abbrev pub Entry : Type 0
+Entry = List (List Known)
 
 abbrev pub row_of : BusTurn → ℕ
 row_of BusTurn.Down = 1
@@ -42,38 +43,45 @@ column_of (BusTurn.Request c) = c
 column_of (BusTurn.Reply c) = c
 column_of (BusTurn.Leave c choice) = c
 
-abbrev pub row_there : Option ℕ → ℕ
-row_there None = 0
+abbrev pub known_there : Option Known → Known
+known_there None = Known.Nothing
+known_there (Some known) = known
+
+abbrev pub row_there : Option (List Known) → List Known
+row_there None = []
 row_there (Some row) = row
 
-abbrev pub entry_there : Option (List ℕ) → List ℕ
+abbrev pub entry_there : Option Entry → Entry
 entry_there None = []
 entry_there (Some e) = e
 
-abbrev pub flag : ℕ → ℕ → List ℕ → Bool
-flag row column e = in_set column (row_there (slice_get e row))
-
 -- what is known of a turn, if it is: whether it is counted as a busy one
-abbrev pub known_if : Bool → Bool → Option Bool
-known_if false busy = None
-known_if true busy = Some busy
+abbrev pub busy_if : Known → Option Bool
+busy_if Known.Nothing = None
+busy_if Known.Quiet = Some false
+busy_if Known.Busy = Some true
 
-abbrev pub flags_as : ℕ → ℕ → List ℕ → Option Bool
-flags_as row column e = known_if (flag row column e) (flag row (column + 16) e)
+abbrev pub busy_in : ℕ → List Known → Option Bool
+busy_in column row = busy_if (known_there (slice_get row column))
 
--- what is remembered of a bus is so at this node, and none of its turns is busy
-pub record IsQuietOf (e : List ℕ) (n : Node) : Type 0 where
-  pub each : (t : BusTurn) (busy : Bool) → flags_as (row_of t) (column_of t) e ≡ Some busy → (busy ≡ false) × (finds_nothing t n ≡ true)
+abbrev pub busy_at : ℕ → ℕ → Entry → Option Bool
+busy_at row column e = busy_in column (row_there (slice_get e row))
 
--- for whatever is in a set this is true, and it has no place from 16 on
-pub record IsRow (f : ℕ → Bool) (row : ℕ) : Type 0 where
-  pub each : (c : ℕ) → in_set c row ≡ true → f c ≡ true
-  pub narrow : (c : ℕ) → 16 ≤ c → in_set c row ≡ false
+abbrev pub busy_of : BusTurn → Entry → Option Bool
+busy_of t e = busy_at (row_of t) (column_of t) e
 
--- a set with this one, if the test says so
-abbrev pub set_if : Bool → ℕ → ℕ → ℕ
-set_if false c row = row
-set_if true c row = set_with c row
+-- a turn that finds nothing, or doesn't
+abbrev pub quiet_if : Bool → Known
+quiet_if false = Known.Nothing
+quiet_if true = Known.Quiet
+
+-- whatever is known of this turn of the bus is so at this node, and it isn't a busy one
+abbrev pub IsRight : BusTurn → Entry → Node → Type 0
+IsRight t e n = (busy : Bool) → busy_of t e ≡ Some busy → (busy ≡ false) × (finds_nothing t n ≡ true)
+
+-- so is all that is known of the bus
+pub record IsQuietOf (e : Entry) (n : Node) : Type 0 where
+  pub each : (t : BusTurn) → IsRight t e n
 
 -- whatever the bus above finds nothing of at the one, it finds nothing of at the other
 pub record KeepsQuiet (n after : Node) : Type 0 where
@@ -83,7 +91,7 @@ pub record KeepsQuiet (n after : Node) : Type 0 where
 
 -- ---- what a machine remembers: an entry for each number of a bus or a hart
 
-abbrev pub entry_at : ℕ → List (List ℕ) → List ℕ
+abbrev pub entry_at : ℕ → List Entry → Entry
 entry_at k known = entry_there (slice_get known k)
 
 abbrev pub number_of : Turn → ℕ
@@ -107,11 +115,11 @@ turn_column (Turn.Request bus child) = child
 turn_column (Turn.Reply bus child) = child
 turn_column (Turn.Leave bus child choice) = child
 
-abbrev pub known_as : Turn → List (List ℕ) → Option Bool
-known_as t known = flags_as (turn_row t) (turn_column t) (entry_at (number_of t) known)
+abbrev pub known_as : Turn → List Entry → Option Bool
+known_as t known = busy_at (turn_row t) (turn_column t) (entry_at (number_of t) known)
 
 -- what is remembered of the buses below a node is so there, and so where these paths lead below another one
-pub record AreQuiet (known : List (List ℕ)) (n after : Node) : Type 0 where
+pub record AreQuiet (known : List Entry) (n after : Node) : Type 0 where
   pub each : (k : ℕ) (path : List ℕ) → Leads (bus_of_number k) path n → IsQuietOf (entry_at k known) (node_at path after)
 
 -- of a hart of which this is known, whether its turns are counted as busy ones
@@ -125,65 +133,70 @@ abbrev pub idle_as_there : Option (Option Idle) → Option Bool
 idle_as_there None = None
 idle_as_there (Some known) = idle_as known
 
-abbrev pub hart_as : ℕ → List (List ℕ) → Option Bool
-hart_as k known = flags_as 0 0 (entry_at k known)
+abbrev pub hart_as : ℕ → List Entry → Option Bool
+hart_as k known = busy_at 0 0 (entry_at k known)
 
 -- whatever is known of a hart by the one is so by the other
-pub record HartsAgree (known : List (List ℕ)) (idle : List (Option Idle)) : Type 0 where
+pub record HartsAgree (known : List Entry) (idle : List (Option Idle)) : Type 0 where
   pub each : (k : ℕ) (busy : Bool) → hart_as k known ≡ Some busy → idle_as_there (slice_get idle k) ≡ Some busy
 
 -- nothing is remembered
-pub record IsBlank (known : List (List ℕ)) : Type 0 where
-  pub each : (k row column : ℕ) → flag row column (entry_at k known) ≡ false
+pub record IsBlank (known : List Entry) : Type 0 where
+  pub each : (k row column : ℕ) → busy_at row column (entry_at k known) ≡ None
 
--- ---- what is remembered anew after a turn
+-- ---- what is learned anew after a turn
 
--- of the turns of a bus the same is remembered
-pub record AreSame (e f : List ℕ) : Type 0 where
-  pub each : (t : BusTurn) → flags_as (row_of t) (column_of t) f ≡ flags_as (row_of t) (column_of t) e
+-- of the turns of a bus the same is known
+pub record AreSame (e f : Entry) : Type 0 where
+  pub each : (t : BusTurn) → busy_of t f ≡ busy_of t e
 
-pub record KeepsBuses (before after : List (List ℕ)) : Type 0 where
+pub record KeepsBuses (before after : List Entry) : Type 0 where
   pub each : (k : ℕ) → AreSame (entry_at k before) (entry_at k after)
 
--- of one bus, whose path is listed
-pub record IsLearned (k : ℕ) (paths : List (List ℕ)) (n : Node) (before after : List (List ℕ)) : Type 0 where
-  pub own : (path : List ℕ) → slice_get paths k ≡ Some path → IsQuietOf (entry_at k after) (node_at path n)
-  pub others : (j : ℕ) → j ≢ k → AreSame (entry_at j before) (entry_at j after)
-  pub harts : (j : ℕ) → hart_as j after ≡ hart_as j before
+-- and of the turns of every hart
+pub record KeepsHarts (before after : List Entry) : Type 0 where
+  pub each : (j : ℕ) → hart_as j after ≡ hart_as j before
 
--- neither path is the other's, nor one of its children's
-pub record AreApart (q p : List ℕ) : Type 0 where
-  pub other : q ≡ p → ⊥
-  pub parent : (c : ℕ) → p ≡ q ++ c ∷ [] → ⊥
-  pub child : (c : ℕ) → q ≡ p ++ c ∷ [] → ⊥
+-- what is known of a turn is as before, and the turn isn't one of these; or it is right at this node
+abbrev pub IsLearned : Type 0 → BusTurn → Node → Entry → Entry → Type 0
+IsLearned Among t n e f = ((busy_of t f ≡ busy_of t e) × (Among → ⊥)) ⊎ IsRight t f n
 
--- or the same as before
-abbrev pub IsLearnedOr : Type 0 → ℕ → List ℕ → Node → List (List ℕ) → List (List ℕ) → Type 0
-IsLearnedOr otherwise k q n before after = IsQuietOf (entry_at k after) (node_at q n) ⊎ (AreSame (entry_at k before) (entry_at k after) × otherwise)
+-- of each of these turns of a bus
+pub record AreLearned (Among : BusTurn → Type 0) (n : Node) (e f : Entry) : Type 0 where
+  pub each : (t : BusTurn) → IsLearned (Among t) t n e f
+  pub hart : busy_at 0 0 f ≡ busy_at 0 0 e
 
--- k is none of the first of these numbers
-abbrev pub IsNoneOf : ℕ → ℕ → List ℕ → Type 0
-IsNoneOf k count near = (i : ℕ) → i < count → slice_get near i ≡ Some k → ⊥
+-- the number of the bus below a node; a leaf has none
+abbrev pub bus_in : Node → Option ℕ
+bus_in (leaf_node v) = None
+bus_in (dir_node d ns) = Some d.bus
 
--- of each bus that is one of the first of these numbers
-pub record AreLearned (count : ℕ) (near : List ℕ) (paths : List (List ℕ)) (n : Node) (before after : List (List ℕ)) : Type 0 where
-  pub each : (k : ℕ) (q : List ℕ) → slice_get paths k ≡ Some q → IsLearnedOr (IsNoneOf k count near) k q n before after
-  pub harts : (j : ℕ) → hart_as j after ≡ hart_as j before
+-- what is known of a turn is right of a bus of this number that a path leads to
+pub record IsRightThere (k : ℕ) (t : BusTurn) (n : Node) (known : List Entry) : Type 0 where
+  pub path : List ℕ
+  pub number : bus_in (node_at path n) ≡ Some k
+  pub right : IsRight t (entry_at k known) (node_at path n)
 
--- these are the buses near a path: each other one is apart from it
-pub record IsNear (p near : List ℕ) (paths : List (List ℕ)) : Type 0 where
-  pub others : (k : ℕ) (q : List ℕ) → slice_get paths k ≡ Some q → IsNoneOf k (length near) near → AreApart q p
+-- or it is as before, and no bus of this number below the node has the turn among these
+pub record IsAsBefore (Among : List ℕ → BusTurn → Type 0) (k : ℕ) (t : BusTurn) (n : Node) (before after : List Entry) : Type 0 where
+  pub same : busy_of t (entry_at k after) ≡ busy_of t (entry_at k before)
+  pub none : (path : List ℕ) → bus_in (node_at path n) ≡ Some k → Among path t → ⊥
 
--- there is a list of the buses near each path
-pub record AreNear (nears from paths : List (List ℕ)) : Type 0 where
-  pub as_many : length nears ≡ length from
-  pub each : (m : ℕ) (p near : List ℕ) → slice_get from m ≡ Some p → slice_get nears m ≡ Some near → IsNear p near paths
+-- of each of these turns of the buses below a node, by the path to the bus
+pub record AreLearnedBelow (Among : List ℕ → BusTurn → Type 0) (n : Node) (before after : List Entry) : Type 0 where
+  pub each : (k : ℕ) (t : BusTurn) → IsAsBefore Among k t n before after ⊎ IsRightThere k t n after
 
--- and there are those of leaves and of buses, and one of the leaves near each bus
-pub record AreNearListed (leaf_near bus_near bus_leaves leaf_paths bus_paths : List (List ℕ)) : Type 0 where
-  pub leaves : AreNear leaf_near leaf_paths bus_paths
-  pub buses : AreNear bus_near bus_paths bus_paths
-  pub below : AreNear bus_leaves bus_paths leaf_paths
+-- the turn is one that the child shows its bus
+abbrev pub OfChild : ℕ → BusTurn → Type 0
+OfChild c BusTurn.Down = ⊥
+OfChild c (BusTurn.Request child) = child ≡ c
+OfChild c (BusTurn.Reply child) = child ≡ c
+OfChild c (BusTurn.Leave child choice) = child ≡ c
+
+-- the turns of a bus, by its path q, of which a turn of the leaf or bus at the path p may have changed what they find: those of the bus
+-- itself, those that it shows the bus above, and what comes down to a bus below
+abbrev pub IsTouched : List ℕ → List ℕ → BusTurn → Type 0
+IsTouched p q t = (q ≡ p) ⊎ (((c : ℕ) × (p ≡ q ++ c ∷ []) × OfChild c t) ⊎ ((c : ℕ) × (q ≡ p ++ c ∷ []) × (t ≡ BusTurn.Down)))
 
 -- a turn that answers so may have changed what the bus above, or another one, finds
 abbrev pub touches : TurnAnswer → Bool
@@ -195,17 +208,35 @@ touches (TurnAnswer.Granted entry) = true
 touches TurnAnswer.Empty = false
 touches (TurnAnswer.Busy cause) = false
 
--- k isn't listed as near the leaf or bus of a turn
-abbrev pub IsFar : Turn → List (List ℕ) → List (List ℕ) → ℕ → Type 0
-IsFar t leaf_near bus_near k = (near : List ℕ) → listed_path (named_by t) leaf_near bus_near ≡ Some near → IsNoneOf k (length near) near
+-- the turn at this path answered so
+abbrev pub IsTouchedBy : TurnAnswer → List ℕ → List ℕ → BusTurn → Type 0
+IsTouchedBy a p q t = (touches a ≡ true) × IsTouched p q t
 
--- of the buses near the leaf or bus of a turn that touched them
-pub record AreRelearned (t : Turn) (a : TurnAnswer) (leaf_near bus_near bus_paths : List (List ℕ)) (n : Node) (before after : List (List ℕ)) : Type 0 where
-  pub each : (k : ℕ) (q : List ℕ) → slice_get bus_paths k ≡ Some q → IsLearnedOr (touches a ≡ true → IsFar t leaf_near bus_near k) k q n before after
-  pub harts : (j : ℕ) → hart_as j after ≡ hart_as j before
+-- ---- the leaves near a bus
+
+-- neither path is the other's, nor one of its children's
+pub record AreApart (q p : List ℕ) : Type 0 where
+  pub other : q ≡ p → ⊥
+  pub parent : (c : ℕ) → p ≡ q ++ c ∷ [] → ⊥
+  pub child : (c : ℕ) → q ≡ p ++ c ∷ [] → ⊥
+
+-- k is none of the first of these numbers
+abbrev pub IsNoneOf : ℕ → ℕ → List ℕ → Type 0
+IsNoneOf k count near = (i : ℕ) → i < count → slice_get near i ≡ Some k → ⊥
+
+-- these are near a path, by their numbers: each other one is apart from it
+pub record IsNear (p near : List ℕ) (paths : List (List ℕ)) : Type 0 where
+  pub others : (k : ℕ) (q : List ℕ) → slice_get paths k ≡ Some q → IsNoneOf k (length near) near → AreApart q p
+
+-- there is a list of those near each path
+pub record AreNear (nears from paths : List (List ℕ)) : Type 0 where
+  pub as_many : length nears ≡ length from
+  pub each : (m : ℕ) (p near : List ℕ) → slice_get from m ≡ Some p → slice_get nears m ≡ Some near → IsNear p near paths
+
+-- ---- harts
 
 -- of a hart, what is known of its turns
-pub record IsHartNoted (k : ℕ) (known : Option Bool) (before after : List (List ℕ)) : Type 0 where
+pub record IsHartNoted (k : ℕ) (known : Option Bool) (before after : List Entry) : Type 0 where
   pub own : (busy : Bool) → hart_as k after ≡ Some busy → known ≡ Some busy
   pub others : (j : ℕ) → j ≢ k → hart_as j after ≡ hart_as j before
   pub buses : KeepsBuses before after

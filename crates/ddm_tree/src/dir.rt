@@ -15,7 +15,7 @@ use crate::judging::broken_under;
 use crate::marking::mark_exclusive;
 use crate::named::Named;
 use crate::paths::path_up_under;
-use crate::quiet::{Quiet, quiet_under};
+use crate::quiet::{Quiet, learn_down_of, learn_under};
 use crate::read_back::read_under;
 use crate::section::Section;
 use crate::stamps::stamps_fit_under;
@@ -157,8 +157,14 @@ impl<const WORDS: usize, C: Subtree<WORDS>> Subtree<WORDS> for Dir<WORDS, C> {
         grants_under(&self.state, &self.children, bus, path, turn)
     }
 
-    fn quiet_below(&self, path: &[ChildNo]) -> Quiet {
-        quiet_under(&self.state, &self.children, path)
+    #[inline(always)]
+    fn learn_below(&self, known: &mut [Quiet], path: &[ChildNo]) {
+        learn_under(known, &self.state, &self.children, path);
+    }
+
+    #[inline(always)]
+    fn learn_down(&self, known: &mut [Quiet]) {
+        learn_down_of(known, &self.state);
     }
 
     fn rest_below(&self, path: &[ChildNo]) -> Option<Idle> {

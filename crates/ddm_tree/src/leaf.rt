@@ -1,7 +1,7 @@
 use crate::found::{Found, place_at};
 use crate::idle::{Idle, rests_by};
 use crate::named::Named;
-use crate::quiet::{NOTHING, Quiet};
+use crate::quiet::Quiet;
 use crate::section::Section;
 use crate::subtree::Subtree;
 use crate::turn_call::TurnCall;
@@ -38,9 +38,11 @@ impl<const WAYS: usize, const WORDS: usize> Subtree<WORDS> for Leaf<WAYS, WORDS>
         false
     }
 
-    fn quiet_below(&self, _path: &[ChildNo]) -> Quiet {
-        NOTHING
-    }
+    #[inline(always)]
+    fn learn_below(&self, _known: &mut [Quiet], _path: &[ChildNo]) {}
+
+    #[inline(always)]
+    fn learn_down(&self, _known: &mut [Quiet]) {}
 
     #[inline(always)]
     fn rest_below(&self, path: &[ChildNo]) -> Option<Idle> {

@@ -43,7 +43,7 @@ pub use machine::Machine;
 pub use named::Named;
 pub use over::directories;
 pub use parts::Parts;
-pub use quiet::Quiet;
+pub use quiet::{Known, Quiet};
 pub use section::Section;
 pub use subtree::Subtree;
 pub use turn_call::TurnCall;

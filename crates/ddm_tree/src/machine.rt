@@ -6,10 +6,10 @@ ghost use Rattle.tree_model.specs.State.Values.{dir_node, nodes};
 ghost use Rattle.ddm_tree.specs.Named.{name_of};
 ghost use Rattle.ddm_tree.specs.Path.{node_at, present_at, put_at, node_answer, node_turned};
 ghost use Rattle.ddm_tree.specs.Ready.{IsReady, Leads};
-ghost use Rattle.tree_model.specs.Turns.Tree.{leaf_of_number, bus_of_number};
+ghost use Rattle.tree_model.specs.Turns.Tree.{leaf_of_number};
 ghost use Rattle.ddm_tree.specs.Rules.{StaysInOrder};
 ghost use Rattle.ddm_tree.specs.Idle.{AreIdle};
-ghost use Rattle.ddm_tree.specs.Quiet.{AreNearListed, AreQuiet, HartsAgree, passed_as};
+ghost use Rattle.ddm_tree.specs.Quiet.{AreLearnedBelow, AreNear, HartsAgree, IsTouchedBy, passed_as};
 ghost use Rattle.ddm_tree.specs.Machine.{IsFound, IsNew, has_path, listed_path, new_machine, state_after};
 
 use crate::below::turn_under;
@@ -39,9 +39,7 @@ pub struct Machine<const WORDS: usize, C: Subtree<WORDS>> {
     /// For each leaf and for each bus its path.
     pub(crate) leaf_paths: Vec<Vec<ChildNo>>,
     pub(crate) bus_paths: Vec<Vec<ChildNo>>,
-    /// For each leaf and for each bus the numbers of the buses near it, and for each bus those of the leaves near it.
-    pub(crate) leaf_near: Vec<Vec<usize>>,
-    pub(crate) bus_near: Vec<Vec<usize>>,
+    /// For each bus the numbers of the leaves near it.
     pub(crate) bus_leaves: Vec<Vec<usize>>,
     /// For each leaf why its hart is idle, where that is known.
     pub(crate) idle: Vec<Option<Idle>>,
@@ -57,7 +55,7 @@ impl<const WORDS: usize, C: Subtree<WORDS>> Model for Machine<WORDS, C> {
     ghost use Rattle.std.specs.Prelude.{◌≡◌, ℕ, List, ◌+◌, ◌*◌, ◌≤◌, ◌^◌, ◌<◌, length, map, vec_capacity, vec_items};
     ghost use Rattle.tree_model.specs.State.Shape.{tree_counts};
     ghost use Rattle.ddm_tree.specs.Idle.{AreIdle};
-    ghost use Rattle.ddm_tree.specs.Quiet.{AreNearListed, AreQuiet, HartsAgree};
+    ghost use Rattle.ddm_tree.specs.Quiet.{AreNear, AreQuiet, HartsAgree};
     ghost use Rattle.ddm_tree.specs.Machine.{MachineState, IsMachine, machine_of};
     ghost use Rattle.tree_model.specs.State.Values.{dir_node, nodes};
     ghost use Rattle.ddm_tree.specs.Codes.{machine_code};
@@ -74,7 +72,7 @@ impl<const WORDS: usize, C: Subtree<WORDS>> Model for Machine<WORDS, C> {
         × AreIdle m.code m.items m.idle.items (dir_node m.top (nodes (map C.value m.children.items))) (dir_node m.top (nodes (map C.value m.children.items)))
         × AreQuiet m.quiet.items (dir_node m.top (nodes (map C.value m.children.items))) (dir_node m.top (nodes (map C.value m.children.items)))
         × HartsAgree m.quiet.items m.idle.items
-        × AreNearListed (map vec_items m.leaf_near.items) (map vec_items m.bus_near.items) (map vec_items m.bus_leaves.items) (map vec_items m.leaf_paths.items) (map vec_items m.bus_paths.items) };
+        × AreNear (map vec_items m.bus_leaves.items) (map vec_items m.bus_paths.items) (map vec_items m.leaf_paths.items) };
 }
 
 impl<const WORDS: usize, C: Subtree<WORDS> + Drop> Machine<WORDS, C> {
@@ -96,8 +94,6 @@ impl<const WORDS: usize, C: Subtree<WORDS> + Drop> Machine<WORDS, C> {
         let bus_paths = bus_paths(alloc, &top, &children, counts.buses)?;
         let traffic = vec![in alloc; no_traffic(); counts.buses as usize]?;
         let idle = nothing_known(alloc, counts.leaves)?;
-        let leaf_near = near_lists(alloc, &leaf_paths, &bus_paths)?;
-        let bus_near = near_lists(alloc, &bus_paths, &bus_paths)?;
         let bus_leaves = near_lists(alloc, &bus_paths, &leaf_paths)?;
         let quiet = nothing_quiet(alloc, counts.leaves.max(counts.buses))?;
         Ok(Machine {
@@ -110,8 +106,6 @@ impl<const WORDS: usize, C: Subtree<WORDS> + Drop> Machine<WORDS, C> {
             counts,
             leaf_paths,
             bus_paths,
-            leaf_near,
-            bus_near,
             bus_leaves,
             idle,
             quiet,
@@ -177,8 +171,6 @@ impl<const WORDS: usize, C: Subtree<WORDS>> Machine<WORDS, C> {
             &self.items,
             &self.leaf_paths,
             &self.bus_paths,
-            &self.leaf_near,
-            &self.bus_near,
             &self.bus_leaves,
             &mut self.idle,
             &mut self.quiet,
@@ -226,8 +218,6 @@ fn turn_made<const WORDS: usize, C: Subtree<WORDS>>(
     items: &Items,
     leaf_paths: &[Vec<ChildNo>],
     bus_paths: &[Vec<ChildNo>],
-    leaf_near: &Vec<Vec<usize>>,
-    bus_near: &Vec<Vec<usize>>,
     bus_leaves: &Vec<Vec<usize>>,
     idle: &mut [Option<Idle>],
     quiet: &mut [Quiet],
@@ -238,14 +228,12 @@ fn turn_made<const WORDS: usize, C: Subtree<WORDS>>(
     requires ready { IsReady (item_count items.now) WORDS (dir_node top.old (nodes (map C.value children.old))) }
     requires found { IsFound turn.now (dir_node top.old (nodes (map C.value children.old))) (map vec_items leaf_paths.now) (map vec_items bus_paths.now) }
     requires paths { (k : ℕ) (path : List ℕ) → Leads (leaf_of_number k) path (dir_node top.old (nodes (map C.value children.old))) → slice_get (map vec_items leaf_paths.now) k ≡ Some path }
-    requires listed { (k : ℕ) (path : List ℕ) → Leads (bus_of_number k) path (dir_node top.old (nodes (map C.value children.old))) → slice_get (map vec_items bus_paths.now) k ≡ Some path }
     requires idle { AreIdle code.now items.now idle.old (dir_node top.old (nodes (map C.value children.old))) (dir_node top.old (nodes (map C.value children.old))) }
-    requires quiet { AreQuiet quiet.old (dir_node top.old (nodes (map C.value children.old))) (dir_node top.old (nodes (map C.value children.old))) }
     requires harts { HartsAgree quiet.old idle.old }
-    requires near { AreNearListed (map vec_items leaf_near.now.items) (map vec_items bus_near.now.items) (map vec_items bus_leaves.now.items) (map vec_items leaf_paths.now) (map vec_items bus_paths.now) }
+    requires near { AreNear (map vec_items bus_leaves.now.items) (map vec_items bus_paths.now) (map vec_items leaf_paths.now) }
     ensures answer { (path : List ℕ) → listed_path (named_by turn.now) (map vec_items leaf_paths.now) (map vec_items bus_paths.now) ≡ Some path → let n = dir_node top.old (nodes (map C.value children.old)) in answer.new ≡ node_answer code.now items.now turn.now path (present_at path stamp_zero n) (node_at path n) }
     ensures after { (path : List ℕ) → listed_path (named_by turn.now) (map vec_items leaf_paths.now) (map vec_items bus_paths.now) ≡ Some path → let n = dir_node top.old (nodes (map C.value children.old)) in dir_node top.new (nodes (map C.value children.new)) ≡ put_at path (node_turned code.now items.now turn.now path (present_at path stamp_zero n) (node_at path n)) n }
-    ensures quiet { AreQuiet quiet.new (dir_node top.old (nodes (map C.value children.old))) (dir_node top.new (nodes (map C.value children.new))) }
+    ensures quiet { (path : List ℕ) → listed_path (named_by turn.now) (map vec_items leaf_paths.now) (map vec_items bus_paths.now) ≡ Some path → AreLearnedBelow (IsTouchedBy answer.new path) (dir_node top.new (nodes (map C.value children.new))) quiet.old quiet.new }
     ensures harts { HartsAgree quiet.new idle.new }
     ensures idle { AreIdle code.now items.now idle.new (dir_node top.old (nodes (map C.value children.old))) (dir_node top.new (nodes (map C.value children.new))) }
 {
@@ -256,9 +244,7 @@ fn turn_made<const WORDS: usize, C: Subtree<WORDS>>(
                 top, children, code, items, leaf_paths, bus_paths, turn, answer,
             );
             note(idle, quiet, children, leaf_paths, bus_leaves, turn, answer);
-            note_buses(
-                quiet, top, children, leaf_near, bus_near, bus_paths, turn, answer,
-            );
+            note_buses(quiet, top, children, leaf_paths, bus_paths, turn, answer);
         }
     }
 }
@@ -288,21 +274,6 @@ pub(crate) fn path_of<'a>(
     match name {
         Named::Leaf(leaf) => &leaf_paths[leaf.0 as usize],
         Named::Bus(bus) => &bus_paths[bus.0 as usize],
-    }
-}
-
-/// The numbers of the buses near a leaf or bus.
-pub(crate) fn near_of<'a>(
-    name: Named,
-    leaf_near: &'a [Vec<usize>],
-    bus_near: &'a [Vec<usize>],
-) -> &'a [usize]
-    requires { has_path (name_of name) (length leaf_near.now) (length bus_near.now) }
-    ensures { Some result.now ≡ listed_path (name_of name) (map vec_items leaf_near.now) (map vec_items bus_near.now) }
-{
-    match name {
-        Named::Leaf(leaf) => &leaf_near[leaf.0 as usize],
-        Named::Bus(bus) => &bus_near[bus.0 as usize],
     }
 }
 

@@ -38,8 +38,6 @@ pub struct Parts<const WORDS: usize, C: Subtree<WORDS>> {
     pub(crate) counts: TreeCounts,
     pub(crate) leaf_paths: Vec<Vec<ChildNo>>,
     pub(crate) bus_paths: Vec<Vec<ChildNo>>,
-    pub(crate) leaf_near: Vec<Vec<usize>>,
-    pub(crate) bus_near: Vec<Vec<usize>>,
     pub(crate) bus_leaves: Vec<Vec<usize>>,
     /// A place for each leaf, for the machine that is put together.
     pub(crate) idle: Vec<Option<Idle>>,
@@ -54,7 +52,7 @@ impl<const WORDS: usize, C: Subtree<WORDS>> Model for Parts<WORDS, C> {
     ghost use Rattle.ddm_tree.specs.Codes.{value_code};
     ghost use Rattle.ddm_tree.specs.Machine.{machine_of};
     ghost use Rattle.ddm_tree.specs.Parts.{IsParts};
-    ghost use Rattle.ddm_tree.specs.Quiet.{AreNearListed};
+    ghost use Rattle.ddm_tree.specs.Quiet.{AreNear};
 
     ghost Value = { MachineValue };
 
@@ -65,7 +63,7 @@ impl<const WORDS: usize, C: Subtree<WORDS>> Model for Parts<WORDS, C> {
     ghost invariant = { λ m. IsParts WORDS (machine_of m.code m.items m.top (map C.value m.children.items) m.ops.items m.traffic.items) (map vec_items m.leaf_paths.items) (map vec_items m.bus_paths.items)
         × (tree_counts (machine_of m.code m.items m.top (map C.value m.children.items) m.ops.items m.traffic.items) ≡ m.counts)
         × (WORDS < 2 ^ 32) × (m.items.size ≡ 4 * WORDS)
-        × AreNearListed (map vec_items m.leaf_near.items) (map vec_items m.bus_near.items) (map vec_items m.bus_leaves.items) (map vec_items m.leaf_paths.items) (map vec_items m.bus_paths.items) };
+        × AreNear (map vec_items m.bus_leaves.items) (map vec_items m.bus_paths.items) (map vec_items m.leaf_paths.items) };
 }
 
 /// What a section is named by.
@@ -121,8 +119,6 @@ impl<const WORDS: usize, C: Subtree<WORDS>> Machine<WORDS, C> {
             counts: self.counts,
             leaf_paths: self.leaf_paths,
             bus_paths: self.bus_paths,
-            leaf_near: self.leaf_near,
-            bus_near: self.bus_near,
             bus_leaves: self.bus_leaves,
             idle: self.idle,
             quiet: self.quiet,
@@ -153,8 +149,6 @@ impl<const WORDS: usize, C: Subtree<WORDS> + Drop> Parts<WORDS, C> {
             counts: self.counts,
             leaf_paths: self.leaf_paths,
             bus_paths: self.bus_paths,
-            leaf_near: self.leaf_near,
-            bus_near: self.bus_near,
             bus_leaves: self.bus_leaves,
             idle,
             quiet,

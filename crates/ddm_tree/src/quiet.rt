@@ -1,27 +1,35 @@
-ghost use Rattle.std.specs.Prelude.{◌≡◌, ◌<◌, ◌^◌, true, false, IfOk, is_none, length, map, vec_items};
-ghost use Rattle.tree_model.specs.State.Child.{child_leaving, child_reply, child_request};
-ghost use Rattle.tree_model.specs.State.Directory.{in_set};
-ghost use Rattle.tree_model.specs.State.Lists.{first_of};
-ghost use Rattle.tree_model.specs.State.Values.{dir_node, nodes};
+ghost use Rattle.std.specs.Prelude.{◌≡◌, ◌<◌, ◌^◌, ⊤, [], ◌∷◌, List, ℕ, false, IfOk, Some, length, map, vec_items};
+ghost use Rattle.tree_model.specs.declared.BusTurn.{BusTurn};
+ghost use Rattle.tree_model.specs.State.Values.{DirValue, Node, Nodes, children as children_of, dir_node, nodes};
+ghost use Rattle.tree_model.specs.Turns.Children.{child_at};
 ghost use Rattle.tree_model.specs.Turns.Machine.{named_by};
 ghost use Rattle.ddm_tree.specs.Machine.{has_path, listed_path};
-ghost use Rattle.ddm_tree.specs.Path.{node_at};
-ghost use Rattle.ddm_tree.specs.Quiet.{AreApart, AreLearned, AreNear, AreRelearned, IsBlank, IsHartNoted, IsLearned, IsNear, IsQuietOf, IsRow, known_as, known_if, number_of, set_if, turn_column, turn_row};
+ghost use Rattle.ddm_tree.specs.Quiet.{AreApart, AreLearned, AreLearnedBelow, AreNear, IsBlank, IsHartNoted, IsNear, IsTouched, IsTouchedBy, KeepsHarts, OfChild, busy_if, known_as, number_of, quiet_if, turn_column, turn_row};
 
-use crate::machine::{named, near_of};
+use crate::machine::{named, path_of};
 use crate::subtree::Subtree;
 use ddm_types::{ChildNo, NoMemory, Turn, TurnAnswer};
 use item_states::{Agent, Parent};
 use std::alloc::Global;
 use top_node::TopState;
 
-/// What is remembered under a number, of the bus and of the hart that have it: sets of that of which a turn changes nothing, with bit c
-/// for child c of the bus. One for the hart and one for Down, of which bit 0 counts alone, and one each for requests, replies and copies
-/// that leave. Bit 16 of the hart's says besides that its turns are busy; buses have none from 16 on.
-pub type Quiet = [u32; 5];
+/// What is known of a turn: that it changes nothing, and whether it is counted as a busy one, or none of this.
+#[derive(Clone, Copy)]
+pub enum Known {
+    Nothing,
+    Quiet,
+    Busy,
+}
 
-/// Nothing is remembered.
-pub(crate) const NOTHING: Quiet = [0; 5];
+/// What is known under a number, of the turns of the bus and of the hart that have it: a row for the hart and one for Down, of which the
+/// first place alone counts, and one each for requests, replies and copies that leave, with a place for each child of the bus.
+pub type Quiet = [[Known; 16]; 5];
+
+/// A row of which nothing is known.
+const NOTHING_IN_ROW: [Known; 16] = [Known::Nothing; 16];
+
+/// Nothing is known.
+const NOTHING: Quiet = [NOTHING_IN_ROW; 5];
 
 #[inline(always)]
 fn number_of(turn: Turn) -> usize
@@ -63,15 +71,19 @@ fn column_of(turn: Turn) -> usize
     }
 }
 
-/// Whether a turn of which this is known is busy, if it is known.
+/// Whether a turn of which this is known is busy, if it is known to change nothing.
 #[inline(always)]
-fn known_if(known: bool, busy: bool) -> Option<bool>
-    ensures { result ≡ known_if known busy }
+fn busy_if(known: Known) -> Option<bool>
+    ensures { result ≡ busy_if known }
 {
-    if known { Some(busy) } else { None }
+    match known {
+        Known::Nothing => None,
+        Known::Quiet => Some(false),
+        Known::Busy => Some(true),
+    }
 }
 
-/// Whether the turn is busy, if it is known to change nothing. No branch depends on what turn it is.
+/// The same of a turn of the machine. No branch depends on what turn it is.
 #[inline(always)]
 pub(crate) fn known_as(known: &[Quiet], turn: &Turn) -> Option<bool>
     requires { turn_column turn.now < 16 }
@@ -79,107 +91,161 @@ pub(crate) fn known_as(known: &[Quiet], turn: &Turn) -> Option<bool>
 {
     let number = number_of(*turn);
     let row = row_of(*turn);
-    let column = column_of(*turn) % 16;
+    let column = column_of(*turn);
     match known.get(number) {
-        Some(quiet) => {
-            let set = quiet[row];
-            known_if(set >> column & 1 == 1, set >> (column + 16) & 1 == 1)
-        }
+        Some(quiet) => busy_if(quiet[row][column]),
         None => None,
     }
 }
 
-/// The set with this place, if the turn finds nothing there.
+/// What is known of a turn of a bus that finds nothing, or doesn't.
 #[inline(always)]
-fn set_if(nothing: bool, place: usize, row: u32) -> u32
-    requires { place < 16 }
-    ensures { result ≡ set_if nothing place row }
+fn quiet_if(nothing: bool) -> Known
+    ensures { result ≡ quiet_if nothing }
 {
-    if nothing { row | 1 << place } else { row }
+    if nothing {
+        Known::Quiet
+    } else {
+        Known::Nothing
+    }
 }
 
-/// Whether nothing is on its way down to a bus, in a set of its own.
-fn down_row<const WORDS: usize, P: Parent<WORDS>>(parent: &P) -> u32
+/// Learns whether nothing is on its way down to a bus.
+#[inline(always)]
+fn put_down<const WORDS: usize, P: Parent<WORDS>>(quiet: &mut Quiet, parent: &P)
     requires fits { WORDS < 2 ^ 32 }
-    ensures { IsRow (λ _. is_none (first_of (P.state parent.now).down)) result }
+    ensures { (ns : Nodes) → AreLearned (λ t. t ≡ BusTurn.Down) (dir_node (P.state parent.now) ns) quiet.old quiet.new }
 {
-    set_if(parent.first_down().is_none(), 0, 0)
+    quiet[1][0] = quiet_if(parent.first_down().is_none());
 }
 
-/// Puts into the sets what is found of a child.
-fn put_child<const WORDS: usize, C: Agent<WORDS>>(
-    requests: &mut u32,
-    replies: &mut u32,
-    leaves: &mut u32,
-    place: usize,
-    child: &C,
-)
+/// Learns what a child shows its bus.
+#[inline(always)]
+fn put_child<const WORDS: usize, C: Agent<WORDS>>(quiet: &mut Quiet, place: usize, child: &C)
     requires fits { WORDS < 2 ^ 32 }
     requires place { place < 16 }
-    ensures requests { requests.new ≡ set_if (is_none (child_request (C.value child.now))) place requests.old }
-    ensures replies { replies.new ≡ set_if (is_none (child_reply (C.value child.now))) place replies.old }
-    ensures leaves { leaves.new ≡ set_if (is_none (child_leaving 0 (C.value child.now))) place leaves.old }
+    ensures { (d : DirValue) (ns : Nodes) → child_at place (children_of ns) ≡ C.value child.now → AreLearned (OfChild place) (dir_node d ns) quiet.old quiet.new }
 {
-    *requests = set_if(child.first_request().is_none(), place, *requests);
-    *replies = set_if(child.first_reply().is_none(), place, *replies);
-    *leaves = set_if(child.leaving(0).is_none(), place, *leaves);
+    quiet[2][place] = quiet_if(child.first_request().is_none());
+    quiet[3][place] = quiet_if(child.first_reply().is_none());
+    quiet[4][place] = quiet_if(child.leaving(0).is_none());
 }
 
-/// What a bus is quiet of.
-pub(crate) fn quiet_of<const WORDS: usize, P: Parent<WORDS>, C: Agent<WORDS>>(
+/// Nothing is known of the turns of a bus.
+#[inline(always)]
+fn forget_bus(quiet: &mut Quiet)
+    ensures { (n : Node) → AreLearned (λ t. ⊤) n quiet.old quiet.new }
+{
+    quiet[1] = NOTHING_IN_ROW;
+    quiet[2] = NOTHING_IN_ROW;
+    quiet[3] = NOTHING_IN_ROW;
+    quiet[4] = NOTHING_IN_ROW;
+}
+
+/// Learns what the turns of a bus find.
+#[inline(always)]
+fn put_bus<const WORDS: usize, P: Parent<WORDS>, C: Agent<WORDS>>(
+    quiet: &mut Quiet,
     parent: &P,
     children: &[C],
-) -> Quiet
+)
     requires fits { WORDS < 2 ^ 32 }
-    ensures { IsQuietOf result (dir_node (P.state parent.now) (nodes (map C.value children.now))) }
+    ensures { AreLearned (λ t. ⊤) (dir_node (P.state parent.now) (nodes (map C.value children.now))) quiet.old quiet.new }
 {
-    let down = down_row(parent);
-    let mut requests = 0;
-    let mut replies = 0;
-    let mut leaves = 0;
+    forget_bus(quiet);
+    put_down(quiet, parent);
     for c in 0..children.len().min(16) {
-        put_child(&mut requests, &mut replies, &mut leaves, c, &children[c]);
+        put_child(quiet, c, &children[c]);
     }
-    [0, down, requests, replies, leaves]
 }
 
-/// What the bus at the end of a path from a directory is quiet of.
-pub(crate) fn quiet_under<const WORDS: usize, P: Parent<WORDS>, C: Subtree<WORDS>>(
+/// The same of the bus below a directory, in the place of its number.
+#[inline(always)]
+fn learn_bus<const WORDS: usize, P: Parent<WORDS>, C: Agent<WORDS>>(
+    known: &mut [Quiet],
+    parent: &P,
+    children: &[C],
+)
+    requires fits { WORDS < 2 ^ 32 }
+    ensures learned { AreLearnedBelow (λ q t. q ≡ []) (dir_node (P.state parent.now) (nodes (map C.value children.now))) known.old known.new }
+    ensures harts { KeepsHarts known.old known.new }
+{
+    let bus = parent.bus().0 as usize;
+    if bus < known.len() {
+        put_bus(&mut known[bus], parent, children);
+    }
+}
+
+/// Learns what the child of this number shows its bus; where there is none, nothing is known of the bus.
+#[inline(always)]
+fn learn_child<const WORDS: usize, P: Parent<WORDS>, C: Agent<WORDS>>(
+    known: &mut [Quiet],
+    parent: &P,
+    children: &[C],
+    place: usize,
+)
+    requires fits { WORDS < 2 ^ 32 }
+    ensures learned { AreLearnedBelow (λ q t. (q ≡ []) × OfChild place t) (dir_node (P.state parent.now) (nodes (map C.value children.now))) known.old known.new }
+    ensures harts { KeepsHarts known.old known.new }
+{
+    let bus = parent.bus().0 as usize;
+    if bus < known.len() {
+        if place < 16 && place < children.len() {
+            put_child(&mut known[bus], place, &children[place]);
+        } else {
+            forget_bus(&mut known[bus]);
+        }
+    }
+}
+
+/// Learns whether nothing is on its way down to the bus below a directory.
+#[inline(always)]
+pub(crate) fn learn_down_of<const WORDS: usize, P: Parent<WORDS>>(known: &mut [Quiet], parent: &P)
+    requires fits { WORDS < 2 ^ 32 }
+    ensures learned { (ns : Nodes) → AreLearnedBelow (λ q t. (q ≡ []) × (t ≡ BusTurn.Down)) (dir_node (P.state parent.now) ns) known.old known.new }
+    ensures harts { KeepsHarts known.old known.new }
+{
+    let bus = parent.bus().0 as usize;
+    if bus < known.len() {
+        put_down(&mut known[bus], parent);
+    }
+}
+
+/// Learns whether nothing is on its way down to the buses of these children.
+#[inline(always)]
+fn learn_downs<const WORDS: usize, C: Subtree<WORDS>>(known: &mut [Quiet], children: &[C])
+    requires fits { WORDS < 2 ^ 32 }
+    ensures learned { (d : DirValue) → AreLearnedBelow (λ q t. ((c : ℕ) × (q ≡ c ∷ [])) × (t ≡ BusTurn.Down)) (dir_node d (nodes (map C.value children.now))) known.old known.new }
+    ensures harts { KeepsHarts known.old known.new }
+{
+    for child in children {
+        child.learn_down(known);
+    }
+}
+
+/// Learns anew what the buses below a directory find, as far as a turn of the leaf or bus at the end of this path may have changed it.
+#[inline(always)]
+pub(crate) fn learn_under<const WORDS: usize, P: Parent<WORDS>, C: Subtree<WORDS>>(
+    known: &mut [Quiet],
     parent: &P,
     children: &[C],
     path: &[ChildNo],
-) -> Quiet
-    requires fits { WORDS < 2 ^ 32 }
-    ensures { IsQuietOf result (node_at path.now (dir_node (P.state parent.now) (nodes (map C.value children.now)))) }
-{
-    match path.split_first() {
-        None => quiet_of(parent, children),
-        Some((child, rest)) => match children.get(child.0 as usize) {
-            Some(below) => below.quiet_below(rest),
-            None => NOTHING,
-        },
-    }
-}
-
-/// Remembers anew what the bus of this number is quiet of.
-fn learn<const WORDS: usize, C: Subtree<WORDS>>(
-    known: &mut [Quiet],
-    top: &TopState<WORDS>,
-    children: &[C],
-    bus_paths: &[Vec<ChildNo>],
-    bus: usize,
 )
     requires fits { WORDS < 2 ^ 32 }
-    ensures learned { IsLearned bus (map vec_items bus_paths.now) (dir_node top.now (nodes (map C.value children.now))) known.old known.new }
-    ensures length { length known.new ≡ length known.old }
+    ensures learned { AreLearnedBelow (IsTouched path.now) (dir_node (P.state parent.now) (nodes (map C.value children.now))) known.old known.new }
+    ensures harts { KeepsHarts known.old known.new }
 {
-    let Some(path) = bus_paths.get(bus) else {
+    let Some((child, rest)) = path.split_first() else {
+        learn_bus(known, parent, children);
+        learn_downs(known, children);
         return;
     };
-    let [_, down, requests, replies, leaves] = quiet_under(top, children, path);
-    if bus < known.len() {
-        let [hart, _, _, _, _] = known[bus];
-        known[bus] = [hart, down, requests, replies, leaves];
+    let place = child.0 as usize;
+    if rest.is_empty() {
+        learn_child(known, parent, children, place);
+    }
+    if place < children.len() {
+        children[place].learn_below(known, rest);
     }
 }
 
@@ -230,44 +296,41 @@ pub(crate) fn near_lists(
     Ok(nears)
 }
 
-/// Remembers anew what these buses are quiet of.
+/// The same of all buses of the tree.
 #[inline(never)]
-fn learn_near<const WORDS: usize, C: Subtree<WORDS>>(
+fn learn_at<const WORDS: usize, C: Subtree<WORDS>>(
     known: &mut [Quiet],
     top: &TopState<WORDS>,
     children: &[C],
-    bus_paths: &[Vec<ChildNo>],
-    near: &[usize],
+    path: &[ChildNo],
 )
     requires fits { WORDS < 2 ^ 32 }
-    ensures { AreLearned (length near.now) near.now (map vec_items bus_paths.now) (dir_node top.now (nodes (map C.value children.now))) known.old known.new }
+    ensures learned { AreLearnedBelow (IsTouched path.now) (dir_node top.now (nodes (map C.value children.now))) known.old known.new }
+    ensures harts { KeepsHarts known.old known.new }
 {
-    for bus in near {
-        learn(known, top, children, bus_paths, *bus);
-    }
+    learn_under(known, top, children, path);
 }
 
-/// Remembers what a turn tells of buses: what it found nothing of, and what buses near the leaf or bus that it changed are quiet of now.
+/// Learns what a turn may have changed of what the buses find, or that it found nothing.
 pub(crate) fn note_buses<const WORDS: usize, C: Subtree<WORDS>>(
     known: &mut [Quiet],
     top: &TopState<WORDS>,
     children: &[C],
-    leaf_near: &[Vec<usize>],
-    bus_near: &[Vec<usize>],
+    leaf_paths: &[Vec<ChildNo>],
     bus_paths: &[Vec<ChildNo>],
     turn: &Turn,
     answer: &TurnAnswer,
 )
     requires fits { WORDS < 2 ^ 32 }
-    requires listed { has_path (named_by turn.now) (length leaf_near.now) (length bus_near.now) }
-    ensures { AreRelearned turn.now answer.now (map vec_items leaf_near.now) (map vec_items bus_near.now) (map vec_items bus_paths.now) (dir_node top.now (nodes (map C.value children.now))) known.old known.new }
+    requires listed { has_path (named_by turn.now) (length leaf_paths.now) (length bus_paths.now) }
+    ensures learned { (path : List ℕ) → listed_path (named_by turn.now) (map vec_items leaf_paths.now) (map vec_items bus_paths.now) ≡ Some path → AreLearnedBelow (IsTouchedBy answer.now path) (dir_node top.now (nodes (map C.value children.now))) known.old known.new }
+    ensures harts { KeepsHarts known.old known.new }
 {
     match answer {
-        TurnAnswer::Granted(_) | TurnAnswer::Issued(_, _) => {
-            let near = near_of(named(turn), leaf_near, bus_near);
-            learn_near(known, top, children, bus_paths, near);
+        TurnAnswer::Granted(_) | TurnAnswer::Issued(_, _) | TurnAnswer::Empty => {
+            let path = path_of(named(turn), leaf_paths, bus_paths);
+            learn_at(known, top, children, path);
         }
-        TurnAnswer::Empty => learn(known, top, children, bus_paths, number_of(*turn)),
         TurnAnswer::Retired(_)
         | TurnAnswer::Waiting(_)
         | TurnAnswer::Halted(_)
@@ -275,14 +338,14 @@ pub(crate) fn note_buses<const WORDS: usize, C: Subtree<WORDS>>(
     }
 }
 
-/// The set of a hart, of whose turns this is known.
-fn hart_row(busy: Option<bool>) -> u32
-    ensures { known_if (in_set 0 result) (in_set 16 result) ≡ busy }
+/// What is known of the turns of a hart.
+fn hart_known(busy: Option<bool>) -> Known
+    ensures { busy_if result ≡ busy }
 {
     match busy {
-        None => 0,
-        Some(false) => 1,
-        Some(true) => 0x1_0001,
+        None => Known::Nothing,
+        Some(false) => Known::Quiet,
+        Some(true) => Known::Busy,
     }
 }
 
@@ -291,8 +354,7 @@ pub(crate) fn note_hart(known: &mut [Quiet], hart: usize, busy: Option<bool>)
     ensures { IsHartNoted hart busy known.old known.new }
 {
     if hart < known.len() {
-        let [_, down, requests, replies, leaves] = known[hart];
-        known[hart] = [hart_row(busy), down, requests, replies, leaves];
+        known[hart][0][0] = hart_known(busy);
     }
 }
 

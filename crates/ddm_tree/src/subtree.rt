@@ -1,5 +1,6 @@
-ghost use Rattle.std.specs.Prelude.{◌≡◌, ◌+◌, ◌*◌, ◌<◌, ◌≤◌, ◌^◌, ◌++◌, true, length, take, Some, IfOk, IfSome, OnErr, OnOk, option_map, reverse, vec_items};
+ghost use Rattle.std.specs.Prelude.{◌≡◌, [], ◌+◌, ◌*◌, ◌<◌, ◌≤◌, ◌^◌, ◌++◌, true, length, take, Some, IfOk, IfSome, OnErr, OnOk, option_map, reverse, vec_items};
 ghost use Rattle.ddm_types.specs.ItemTable.{item_count};
+ghost use Rattle.tree_model.specs.declared.BusTurn.{BusTurn};
 ghost use Rattle.tree_model.specs.Start.Nodes.{held_by, or_each};
 ghost use Rattle.tree_model.specs.State.Child.{child_label};
 ghost use Rattle.tree_model.specs.State.Shape.{skeleton, widths_fit};
@@ -18,7 +19,7 @@ ghost use Rattle.tree_rules.specs.Bus.Faces.{child_face};
 ghost use Rattle.ddm_tree.specs.Idle.{node_rests};
 ghost use Rattle.ddm_tree.specs.Judging.{IsJudged, node_broken};
 ghost use Rattle.ddm_tree.specs.Named.{name_of};
-ghost use Rattle.ddm_tree.specs.Quiet.{IsQuietOf};
+ghost use Rattle.ddm_tree.specs.Quiet.{AreLearnedBelow, IsTouched, KeepsHarts};
 ghost use Rattle.ddm_tree.specs.Ready.{IsAskable, IsReady, Leads, LeadsBelow, HasChild, IsChild, IsItemIn, IsItemOf};
 ghost use Rattle.ddm_tree.specs.Reads.{leaf_count, node_hart, node_entry, node_children, node_child, node_child_hold, node_down, node_down_len, node_grants, node_parked, node_state, node_states};
 ghost use Rattle.ddm_tree.specs.Stamps.{node_stamps_fit};
@@ -71,10 +72,17 @@ pub trait Subtree<const WORDS: usize>: Agent<WORDS> {
         requires child { HasChild turn (node_at path.now (Self.value self.now)) }
         ensures { (above : Stamp) → result ≡ node_grants above turn (node_at path.now (Self.value self.now)) };
 
-    /// What the bus at a path's end is quiet of; nothing where no bus is there.
-    fn quiet_below(&self, path: &[ChildNo]) -> Quiet
-        requires { WORDS < 2 ^ 32 }
-        ensures { IsQuietOf result (node_at path.now (Self.value self.now)) };
+    /// Learns anew what the buses in this part find, as far as a turn of the leaf or bus at the end of this path may have changed it.
+    fn learn_below(&self, known: &mut [Quiet], path: &[ChildNo])
+        requires fits { WORDS < 2 ^ 32 }
+        ensures learned { AreLearnedBelow (IsTouched path.now) (Self.value self.now) known.old known.new }
+        ensures harts { KeepsHarts known.old known.new };
+
+    /// Learns whether nothing is on its way down to the bus below this part, where there is one.
+    fn learn_down(&self, known: &mut [Quiet])
+        requires fits { WORDS < 2 ^ 32 }
+        ensures learned { AreLearnedBelow (λ q t. (q ≡ []) × (t ≡ BusTurn.Down)) (Self.value self.now) known.old known.new }
+        ensures harts { KeepsHarts known.old known.new };
 
     /// Why the hart of the leaf at a path's end is idle, as far as that leaf tells it; None where no leaf is there.
     fn rest_below(&self, path: &[ChildNo]) -> Option<Idle>

@@ -4,7 +4,7 @@ use Rattle.std.proofs.lemmas.Bool.{ltb-true, ltb-false}
 use Rattle.tree_model.specs.Turns.Machine.{named_by}
 use Rattle.tree_model.specs.Turns.Tree.{leaf_of_number, bus_of_number}
 use Rattle.ddm_tree.specs.Named.{name_of}
-use Rattle.ddm_tree.proofs.QuietBlank.{listed-there}
+use Rattle.ddm_tree.proofs.ListedPaths.{listed-there}
 use Rattle.ddm_tree.proofs.Resting.{noted-looked, noted-seen, noted-told, noted-unlisted, unlisted-there}
 use Rattle.ddm_tree.proofs.idle.note.Goals as goal
 

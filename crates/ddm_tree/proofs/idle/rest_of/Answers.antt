@@ -1,7 +1,7 @@
 use Rattle.std.proofs.Common.{◌≡◌, Some, map, vec_items, sym, ap, ◌∙◌}
 use Rattle.std.specs.Prelude.{slice_get}
 use Rattle.std.proofs.lemmas.Bool.{ltb-true}
-use Rattle.ddm_tree.proofs.QuietBlank.{listed-there}
+use Rattle.ddm_tree.proofs.ListedPaths.{listed-there}
 use Rattle.ddm_tree.proofs.Resting.{rest-seen}
 use Rattle.ddm_tree.proofs.idle.rest_of.Goals as goal
 

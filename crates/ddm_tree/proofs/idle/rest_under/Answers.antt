@@ -2,7 +2,7 @@ use Rattle.std.proofs.Common.{◌≡◌, ◌∷◌, Some, sym, ap, subst, ◌∙
 use Rattle.std.specs.Prelude.{IfSome}
 use Rattle.std.proofs.lemmas.Bool.{ltb-true}
 use Rattle.ddm_tree.specs.Idle.{node_rests}
-use Rattle.ddm_tree.proofs.QuietBlank.{child-there}
+use Rattle.ddm_tree.proofs.ListedPaths.{child-there}
 use Rattle.ddm_tree.proofs.idle.rest_under.Goals as goal
 
 pub returns : goal.returns

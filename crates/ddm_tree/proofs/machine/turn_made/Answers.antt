@@ -1,15 +1,15 @@
 -- One turn, spared where the hart is known to be idle.
-use Rattle.std.proofs.Common.{◌≡◌, map, vec_items, Some, sym, subst, ◌∙◌}
+use Rattle.std.proofs.Common.{◌≡◌, false, map, vec_items, Some, sym, ap, subst, true≢false, ◌∙◌}
 use Rattle.ddm_types.specs.Keys.{stamp_zero}
 use Rattle.tree_model.specs.State.Values.{dir_node, nodes}
 use Rattle.tree_model.specs.Turns.Machine.{named_by}
 use Rattle.ddm_tree.specs.Idle.{AreIdle, AreNoted, idle_for}
 use Rattle.ddm_tree.specs.Path.{node_answer, node_at, present_at}
-use Rattle.ddm_tree.specs.Quiet.{AreQuiet, AreRelearned}
+use Rattle.ddm_tree.specs.Quiet.{IsTouchedBy, touches}
 use Rattle.ddm_tree.specs.Ready.{Leads}
 use Rattle.ddm_tree.proofs.IdleHarts.{noted-idle, spared}
-use Rattle.ddm_tree.proofs.QuietTable.{quiet-same, agree-relearned}
-use Rattle.ddm_tree.proofs.QuietTurns.{relearned-quiet}
+use Rattle.ddm_tree.proofs.QuietTable.{agree-learned, kept-learned, learned-fewer, learned-none}
+use Rattle.ddm_tree.proofs.QuietTurns.{idle-untouched}
 use Rattle.ddm_tree.proofs.TurnMade.{same-path}
 use Rattle.ddm_tree.proofs.machine.turn_made.Goals as goal
 
@@ -41,23 +41,18 @@ returns-in-None-clause-idle g c =
     let after = c.turn_found.ensures.after found.path found.listed in
     let told = subst (λ a. AreNoted c.args.turn.now a bus_leaves leaf_paths (dir_node c.turn_found.new.top (nodes (map g.C.Agent.value c.turn_found.new.children))) c.args.idle.now c.note.new.idle) (c.turn_found.ensures.answer found.path found.listed) (rw (c.deref.ensures.value) at c.note.ensures.noted c.turn_found.new.top) in
     let noted = subst (λ m. AreNoted c.args.turn.now (node_answer c.args.code.now c.args.items.now c.args.turn.now found.path (present_at found.path stamp_zero n) (node_at found.path n)) bus_leaves leaf_paths m c.args.idle.now c.note.new.idle) after told in
-    let idle = noted-idle c.args.code.now c.args.items.now c.args.turn.now found.path (present_at found.path stamp_zero n) n found.leads bus_leaves leaf_paths bus_paths c.args.idle.now found.listed c.requires.near.below c.requires.paths c.requires.idle c.note.new.idle noted in
+    let idle = noted-idle c.args.code.now c.args.items.now c.args.turn.now found.path (present_at found.path stamp_zero n) n found.leads bus_leaves leaf_paths bus_paths c.args.idle.now found.listed c.requires.near c.requires.paths c.requires.idle c.note.new.idle noted in
     subst (AreIdle c.args.code.now c.args.items.now c.note.new.idle n) (sym after) idle
 
-pub returns-in-None-clause-quiet : goal.returns-in-None-clause-quiet
-returns-in-None-clause-quiet g c =
+pub returns-in-Some-clause-quiet : goal.returns-in-Some-clause-quiet
+returns-in-Some-clause-quiet g c = λ path listed.
     let n = dir_node c.args.top.now (nodes (map g.C.Agent.value c.args.children.now)) in
-    let found = c.requires.found in
-    let leaf_paths = map vec_items c.args.leaf_paths.now in
-    let bus_paths = map vec_items c.args.bus_paths.now in
-    let after = c.turn_found.ensures.after found.path found.listed in
-    let leaf_near = map vec_items c.args.leaf_near.now.items in
-    let bus_near = map vec_items c.args.bus_near.now.items in
-    let told = subst (λ a. AreRelearned c.args.turn.now a leaf_near bus_near bus_paths (dir_node c.turn_found.new.top (nodes (map g.C.Agent.value c.turn_found.new.children))) c.note.new.quiet c.note_buses.new.known) (c.turn_found.ensures.answer found.path found.listed) (rw (c.deref-in-None.ensures.value, c.deref-in-None-2.ensures.value) at c.note_buses.ensures) in
-    let learned = subst (λ m. AreRelearned c.args.turn.now (node_answer c.args.code.now c.args.items.now c.args.turn.now found.path (present_at found.path stamp_zero n) (node_at found.path n)) leaf_near bus_near bus_paths m c.note.new.quiet c.note_buses.new.known) after told in
-    let kept = quiet-same n n c.args.quiet.now c.note.new.quiet c.note.ensures.buses c.requires.quiet in
-    let quiet = relearned-quiet c.args.code.now c.args.items.now c.args.turn.now found.path (present_at found.path stamp_zero n) n leaf_near bus_near (map vec_items c.args.bus_leaves.now.items) leaf_paths bus_paths c.note.new.quiet c.note_buses.new.known found.leads found.listed c.requires.near c.requires.listed kept learned in
-    subst (AreQuiet c.note_buses.new.known n) (sym after) quiet
+    let still : touches c.idle_answer.result ≡ false = ap touches c.idle_answer.ensures ∙ idle-untouched c.in-Some.known in
+    learned-fewer (λ q t. ⊥) (IsTouchedBy c.idle_answer.result path) n c.args.quiet.now c.args.quiet.now (λ k q t is touched. true≢false (sym touched.0 ∙ still)) (learned-none n c.args.quiet.now)
+
+pub returns-in-None-clause-quiet : goal.returns-in-None-clause-quiet
+returns-in-None-clause-quiet g c = λ path listed.
+    kept-learned (IsTouchedBy c.turn_found.new.answer path) _ c.args.quiet.now c.note.new.quiet c.note_buses.new.known c.note.ensures.buses (c.note_buses.ensures.learned path listed)
 
 pub returns-in-None-clause-harts : goal.returns-in-None-clause-harts
-returns-in-None-clause-harts g c = agree-relearned c.args.turn.now _ _ _ _ _ c.note.new.idle c.note.new.quiet c.note_buses.new.known c.note_buses.ensures (c.note.ensures.harts c.requires.harts)
+returns-in-None-clause-harts g c = agree-learned c.note.new.idle c.note.new.quiet c.note_buses.new.known c.note_buses.ensures.harts (c.note.ensures.harts c.requires.harts)

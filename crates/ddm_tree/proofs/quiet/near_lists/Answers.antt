@@ -1,7 +1,7 @@
 use Rattle.std.proofs.Common.{◌≡◌, ◌+◌, Some, ◌∷◌, [], length, map, vec_items, arith, subst, sym, ap, ◌∙◌}
 use Rattle.std.specs.Prelude.{slice_get}
 use Rattle.std.proofs.lemmas.List.{length-map, map-append}
-use Rattle.ddm_tree.proofs.QuietBlank.{listed-there}
+use Rattle.ddm_tree.proofs.ListedPaths.{listed-there}
 use Rattle.ddm_tree.proofs.QuietNear.{AreNearFor, lists-all, lists-more, lists-none}
 use Rattle.ddm_tree.proofs.quiet.near_lists.Goals as goal
 

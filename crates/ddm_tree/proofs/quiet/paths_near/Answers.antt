@@ -1,7 +1,7 @@
 use Rattle.std.proofs.Common.{◌≡◌, ◌+◌, Some, length, map, vec_items, arith, subst, sym, ap, ◌∙◌}
 use Rattle.std.specs.Prelude.{slice_get}
 use Rattle.std.proofs.lemmas.List.{length-map}
-use Rattle.ddm_tree.proofs.QuietBlank.{listed-there}
+use Rattle.ddm_tree.proofs.ListedPaths.{listed-there}
 use Rattle.ddm_tree.proofs.QuietNear.{AreNearBelow, near-all, near-past, near-put}
 use Rattle.ddm_tree.proofs.quiet.paths_near.Goals as goal
 use Rattle.ddm_tree.proofs.quiet.paths_near.Goals.{then-is_near+in_ok-push, else-is_near}

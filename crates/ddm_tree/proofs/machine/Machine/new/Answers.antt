@@ -4,7 +4,7 @@ use Rattle.tree_model.specs.State.Shape.{skeleton, tree_counts, widths_bounded, 
 use Rattle.tree_model.specs.State.Values.{dir_node, nodes}
 use Rattle.tree_model.specs.Turns.Machine.{no_traffic}
 use Rattle.ddm_tree.specs.Machine.{IsMachine, machine_of, new_machine}
-use Rattle.ddm_tree.specs.Quiet.{AreNearListed}
+use Rattle.ddm_tree.specs.Quiet.{AreNear}
 use Rattle.ddm_tree.proofs.IdleHarts.{nothing-idle}
 use Rattle.ddm_tree.proofs.NewMachine.{new-is_machine}
 use Rattle.ddm_tree.proofs.QuietTurns.{blank-quiet, blank-agree}
@@ -29,10 +29,6 @@ invariant_of-result g c =
     let known = c.in_ok-quiet.quiet.items in
     let quiet = blank-quiet known known (dir_node c.args.top (nodes kids)) (dir_node c.args.top (nodes kids)) refl c.in_ok-quiet.ensures in
     let harts = blank-agree known known c.in_ok-idle.idle.items refl c.in_ok-quiet.ensures in
-    let near : AreNearListed (map vec_items c.in_ok-leaf_near.leaf_near.items) (map vec_items c.in_ok-bus_near.bus_near.items) (map vec_items c.in_ok-bus_leaves.bus_leaves.items) leaf_paths bus_paths = record {
-      leaves = rw (c.deref-3.ensures.value, c.deref-4.ensures.value) at c.in_ok-leaf_near.ensures;
-      buses = rw (c.deref-5.ensures.value, c.deref-6.ensures.value) at c.in_ok-bus_near.ensures;
-      below = rw (c.deref-7.ensures.value, c.deref-8.ensures.value) at c.in_ok-bus_leaves.ensures;
-    } in
+    let near : AreNear (map vec_items c.in_ok-bus_leaves.bus_leaves.items) bus_paths leaf_paths = rw (c.deref-3.ensures.value, c.deref-4.ensures.value) at c.in_ok-bus_leaves.ensures in
     let none : length c.new.result.items + 0 ≤ 0 = rw (c.new.ensures.items) (omega arith) in
     (subst (λ n. IsMachine g.row.WORDS n 0 leaf_paths bus_paths) (sym same) is, ap tree_counts same ∙ c.requires.parts.numbers, c.requires.fits, c.requires.size, omega (arith, none), idle, quiet, harts, near)

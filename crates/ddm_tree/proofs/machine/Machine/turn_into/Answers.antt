@@ -1,14 +1,16 @@
 -- One turn of the machine.
 use Rattle.std.proofs.Common.{◌≡◌, ◌≤◌, ◌+◌, length, map, take, drop, ◌++◌, true, vec_items, sym, ap, subst, ◌∙◌, arith}
+use Rattle.ddm_types.specs.Keys.{stamp_zero}
 use Rattle.tree_model.specs.State.Shape.{tree_counts}
 use Rattle.tree_model.specs.State.Values.{dir_node, nodes, root_of}
 use Rattle.tree_model.specs.Turns.Machine.{names_part, turn_of}
-use Rattle.tree_model.specs.Turns.Tree.{bus_of_number, leaf_of_number}
+use Rattle.tree_model.specs.Turns.Tree.{leaf_of_number}
 use Rattle.ddm_tree.specs.Machine.{IsMachine, MachineState, machine_of, state_after}
+use Rattle.ddm_tree.specs.Path.{present_at}
 use Rattle.ddm_tree.specs.Quiet.{HartsAgree}
 use Rattle.ddm_tree.proofs.IdleHarts.{idle-after}
 use Rattle.ddm_tree.proofs.MachineKept.{turn-keeps}
-use Rattle.ddm_tree.proofs.QuietTurns.{quiet-after}
+use Rattle.ddm_tree.proofs.QuietTurns.{learned-turn, only-after, quiet-after}
 use Rattle.ddm_tree.proofs.RulesKept.{made-order}
 use Rattle.ddm_tree.proofs.TurnMade.{Told, all-traffic-most, items-back, machine-ready, part-found, state-made, told-turn, turn-tree_counts}
 use Rattle.ddm_tree.proofs.machine.Machine.turn_into.Goals as goal
@@ -32,14 +34,8 @@ turn_made-requires g c =
             (
               rw (c.deref_mut.ensures.value, c.deref.ensures.value) (λ k path leads. inv.0.paths (leaf_of_number k) path leads),
               (
-                rw (c.deref_mut.ensures.value, c.deref-2.ensures.value) (λ k path leads. inv.0.paths (bus_of_number k) path leads),
-                (
-                  rw (c.deref_mut.ensures.value, c.deref_mut-2.ensures.value) inv.5,
-                  (
-                    rw (c.deref_mut.ensures.value, c.deref_mut-3.ensures.value) inv.6,
-                    (rw (c.deref_mut-2.ensures.value, c.deref_mut-3.ensures.value) inv.7, rw (c.deref.ensures.value, c.deref-2.ensures.value) inv.8),
-                  ),
-                ),
+                rw (c.deref_mut.ensures.value, c.deref_mut-2.ensures.value) inv.5,
+                (rw (c.deref_mut-2.ensures.value, c.deref_mut-3.ensures.value) inv.7, rw (c.deref.ensures.value, c.deref-2.ensures.value) inv.8),
               ),
             ),
           ),
@@ -97,9 +93,15 @@ invariant_of-self g c =
     let inv = c.self.invariant in
     let left = dir_node c.turn_made.new.top (nodes (map g.C.Agent.value c.turn_made.new.children)) in
     let idle = idle-after c.self.inside.code c.self.inside.items c.args.turn.now m c.turn_made.new.idle _ left _ (idle-back g c) (ap root_of after) (ap (λ cs. dir_node c.turn_made.new.top (nodes (map g.C.Agent.value cs))) (children-back g c)) (rw (c.deref_mut.ensures.value) at c.turn_made.ensures.idle) in
-    let quiet = quiet-after c.args.turn.now m c.turn_made.new.quiet _ left _ (quiet-back g c) (ap root_of after) (ap (λ cs. dir_node c.turn_made.new.top (nodes (map g.C.Agent.value cs))) (children-back g c)) (rw (c.deref_mut.ensures.value) at c.turn_made.ensures.quiet) in
-    let harts = subst (λ k. HartsAgree k (take c.self.inside.idle.len (c.turn_made.new.idle ++ drop (length c.turn_made.new.idle) c.self.inside.idle.items))) (sym (quiet-back g c)) (subst (HartsAgree c.turn_made.new.quiet) (sym (idle-back g c)) c.turn_made.ensures.harts) in
+    let named : names_part c.args.turn.now m ≡ true = subst (λ s. names_part c.args.turn.now s.machine ≡ true) (sym c.self.view_is) c.requires.named in
+    let found = part-found g.row.WORDS c.self.inside.turns leaf_paths bus_paths c.args.turn.now m inv.0 named in
     let keeps = turn-keeps g.row.WORDS c.self.inside.turns leaf_paths bus_paths c.args.turn.now m inv.0 in
+    let answer = (rw (c.deref_mut.ensures.value, c.deref.ensures.value, c.deref-2.ensures.value) at c.turn_made.ensures.answer) found.path found.listed in
+    let turned = (rw (c.deref_mut.ensures.value, c.deref.ensures.value, c.deref-2.ensures.value) at c.turn_made.ensures.after) found.path found.listed in
+    let learned = (rw (c.deref.ensures.value, c.deref-2.ensures.value, c.deref_mut-3.ensures.value) at c.turn_made.ensures.quiet) found.path found.listed in
+    let known = learned-turn c.self.inside.code c.self.inside.items c.args.turn.now found.path (present_at found.path stamp_zero (root_of m)) (root_of m) found.leads c.turn_made.new.answer left c.self.inside.quiet.items c.turn_made.new.quiet answer turned (only-after c.args.turn.now m left (ap root_of (told g c).machine_is) keeps.shaped) inv.6 learned in
+    let quiet = quiet-after c.args.turn.now m c.turn_made.new.quiet _ left _ (quiet-back g c) (ap root_of after) (ap (λ cs. dir_node c.turn_made.new.top (nodes (map g.C.Agent.value cs))) (children-back g c)) known in
+    let harts = subst (λ k. HartsAgree k (take c.self.inside.idle.len (c.turn_made.new.idle ++ drop (length c.turn_made.new.idle) c.self.inside.idle.items))) (sym (quiet-back g c)) (subst (HartsAgree c.turn_made.new.quiet) (sym (idle-back g c)) c.turn_made.ensures.harts) in
     (subst (λ n. IsMachine g.row.WORDS n (c.self.inside.turns + 1) leaf_paths bus_paths) (sym after) keeps, ap tree_counts after ∙ turn-tree_counts c.args.turn.now m ∙ inv.1, inv.2, inv.3, c.record.ensures.room, idle, quiet, harts, inv.8)
 
 pub returns-clause-answer : goal.returns-clause-answer
