@@ -1,7 +1,6 @@
 -- The turns of a generator's words, turn by turn.
-use Rattle.std.proofs.Common.{◌≡◌, ℕ, zero, suc, ◌+◌, ◌-◌, ◌*◌, ◌<◌, List, [], ◌∷◌, ◌++◌, length, take, drop, refl, sym, ap, ◌∙◌, arith}
+use Rattle.std.proofs.Common.{◌≡◌, ℕ, zero, suc, ◌+◌, ◌-◌, ◌*◌, ◌<◌, ◌≤◌, List, [], ◌∷◌, ◌++◌, length, take, drop, refl, sym, ap, ◌∙◌, arith}
 use Rattle.std.specs.Prelude.{slice_index_or, slice_set}
-use Rattle.std.proofs.Math.Seq.{take-add}
 use Rattle.std.proofs.lemmas.List.{flat_map_more, length-set, take-set-le, take_more_set}
 use Rattle.ddm_types.specs.declared.turns.Turn.{Turn}
 use Rattle.rand_pcg.specs.Lcg.{Lcg}
@@ -69,21 +68,30 @@ put_either block place (suc zero) first second other few inside =
     ∙ ap (λ (ts : List Turn). ts ++ second ∷ []) (take-set-le place block place first (omega arith))
 put_either block place (suc (suc k)) first second other few inside = absurd (omega (arith, few))
 
--- one turn is drawn
-pub one_drawn : (shape : ShapeView) (before : SeededView) (turn : Turn) (rest : List Turn) → shape ≡ before.shape → before.left ≡ turn ∷ rest → record { shape = shape; left = rest } ≡ record before { left = drop 1 before.left }
-one_drawn shape before turn rest of is = ap (λ (s : ShapeView). viewed s rest) of ∙ ap (λ (ts : List Turn). viewed before.shape (drop 1 ts)) (sym is) where
-  viewed : ShapeView → List Turn → SeededView
-  viewed shape turns = record { shape = shape; left = turns }
-
 -- these turns are left
 pub left_as : (after before : SeededView) (left : List Turn) → after.shape ≡ before.shape → after.left ≡ left → after ≡ record before { left = left }
 left_as after before left of is = ap (λ (s : ShapeView). viewed s after.left) of ∙ ap (λ (ts : List Turn). viewed before.shape ts) is where
   viewed : ShapeView → List Turn → SeededView
   viewed shape turns = record { shape = shape; left = turns }
 
--- one turn more stands in front of a block
-pub more_before : (made : ℕ) (block before all left : List Turn) → take (made + 1) block ≡ take made before ++ take 1 left → take made before ≡ take made all → left ≡ drop made all → take (made + 1) block ≡ take (made + 1) all
-more_before made block before all left is front behind = is ∙ ap (λ (ts : List Turn). ts ++ take 1 left) front ∙ ap (λ (ts : List Turn). take made all ++ take 1 ts) behind ∙ sym (take-add made 1 all)
+-- those that stand in front of a block, and the others
+front_split : (made : ℕ) (block rest all : List Turn) → made ≤ length block → take made block ++ rest ≡ all → (take made block ≡ take made all) × (drop made all ≡ rest)
+front_split zero block rest all few is = (refl, sym is)
+front_split (suc made) [] rest all few is = absurd (omega (arith, few))
+front_split (suc made) (t ∷ block) rest [] few is = cc
+front_split (suc made) (t ∷ block) rest (u ∷ all) few is =
+    let first : t ≡ u = cc in
+    let others : take made block ++ rest ≡ all = cc in
+    let split = front_split made block rest all (omega (arith, few)) others in
+    (ap (λ (v : Turn). v ∷ take made block) first ∙ ap (λ (ts : List Turn). u ∷ ts) split.0, split.1)
+
+-- and those are of the generator as it is then
+pub front_drawn : (shape : ShapeView) (before after : Lcg) (left made : ℕ) (block all : List Turn) → turns_left shape before left ≡ all → made < left → made ≤ length block
+    → take made block ++ turns_left shape after (left - made) ≡ turns_left shape before (made + (left - made))
+    → (take made block ≡ take made all) × (drop made all ≡ turns_left shape after (left - made))
+front_drawn shape before after left made block all is fewer inside front =
+    let whole : made + (left - made) ≡ left = omega (arith, fewer) in
+    front_split made block (turns_left shape after (left - made)) all inside (front ∙ ap (turns_left shape before) whole ∙ is)
 
 -- the last one is put there
 pub last_before : (made : ℕ) (block all : List Turn) (t : Turn) (rest : List Turn) → made < length block → take made block ≡ take made all → drop made all ≡ t ∷ rest → take (made + 1) (slice_set block made t) ≡ take (made + 1) all

@@ -1,10 +1,10 @@
-ghost use Rattle.std.specs.Prelude.{◌≡◌, ◌≤◌, ◌<◌, ◌+◌, ◌*◌, ◌/◌, ◌%◌, ◌++◌, [], ◌∷◌, drop, length, min, slice_index_or, take, All, IfOk};
+ghost use Rattle.std.specs.Prelude.{◌≡◌, ◌≤◌, ℕ, ◌<◌, ◌+◌, ◌*◌, ◌/◌, ◌%◌, ◌++◌, [], ◌∷◌, drop, length, min, slice_index_or, take, All, IfOk};
 ghost use Rattle.ddm_types.specs.declared.turns.Turn.{Turn as OneTurn};
 ghost use Rattle.rand_pcg.specs.Pcg.{pcg32};
 ghost use Rattle.tree_config.specs.Levels.{leaves_of, widths_of};
 ghost use Rattle.text_model.specs.ReadBack.{IsTurnOf};
 ghost use Rattle.text_model.specs.Seeded.{bus_turn_from, seeded_turn, seeded_turns};
-ghost use Rattle.schedule_log.specs.Seeding.{buses_of, widths_in};
+ghost use Rattle.schedule_log.specs.Seeding.{buses_of, turns_left, widths_in};
 ghost use Rattle.schedule_log.specs.Shapes.{shape_view};
 
 use crate::bus_turns::BusTurns;
@@ -14,6 +14,7 @@ use rand_core::utils::NextWord;
 use rand_pcg::Pcg32;
 use std::alloc::Global;
 use std::marker::Model;
+use std::mem;
 use tree_config::Shape;
 
 /// The stream of the generator.
@@ -53,6 +54,55 @@ fn both_turns<'a>(
     };
     let (word, bus) = buses.divide(b);
     (of_hart, list[bus as usize].turn(a / 4 % 16, word))
+}
+
+// Puts the next turn of a generator at a place of a block that has a further one. There a turn is put that isn't drawn, or the one that is
+// drawn is put over the other: so there is no branch, and nothing is read that was just written.
+#[inline(always)]
+fn put_next(
+    list: &[BusTurns],
+    harts: &Divisor,
+    buses: &Divisor,
+    words: &mut Pcg32,
+    block: &mut [Turn],
+    place: usize,
+)
+    requires number { buses.now ≡ length list.now }
+    requires some { 1 ≤ buses.now }
+    requires each { list.now ≡ buses_of (widths_in list.now) }
+    requires inside { place + 1 < length block.old }
+    ensures front { (n : ℕ) → take (place + 1) block.new ++ turns_left (record { harts = harts.now; buses = widths_in list.now }) words.new n ≡ take place block.old ++ turns_left (record { harts = harts.now; buses = widths_in list.now }) words.old (n + 1) }
+    ensures behind { drop (place + 2) block.new ≡ drop (place + 2) block.old }
+{
+    let a = words.next_word();
+    let b = words.next_word();
+    let (of_hart, of_bus) = both_turns(list, harts, buses, a, b);
+    block[place] = of_hart;
+    block[place + 1 - (a / 2 % 2) as usize] = *of_bus;
+}
+
+// Puts so many turns of a generator at the front of a block that has a further place. The generator is taken out of its place meanwhile, so
+// that it stays in the processor's registers.
+fn put_turns(
+    list: &[BusTurns],
+    harts: &Divisor,
+    buses: &Divisor,
+    words: &mut Pcg32,
+    block: &mut [Turn],
+    count: usize,
+)
+    requires number { buses.now ≡ length list.now }
+    requires some { 1 ≤ buses.now }
+    requires each { list.now ≡ buses_of (widths_in list.now) }
+    requires inside { count < length block.old }
+    ensures front { (n : ℕ) → take count block.new ++ turns_left (record { harts = harts.now; buses = widths_in list.now }) words.new n ≡ turns_left (record { harts = harts.now; buses = widths_in list.now }) words.old (count + n) }
+    ensures behind { drop (count + 1) block.new ≡ drop (count + 1) block.old }
+{
+    let mut taken = mem::replace(words, Pcg32::new(0, STREAM));
+    for made in 0..count {
+        put_next(list, harts, buses, &mut taken, block, made);
+    }
+    *words = taken;
 }
 
 /// The turns of a seed for the parts of a tree, each made when it is asked for, of two words of the generator. A contract sees the
@@ -123,24 +173,6 @@ impl SeededTurns {
         both[(a / 2 % 2) as usize]
     }
 
-    // Puts the next turn at a place of a block that has a further one. There a turn is put that isn't drawn, or the one that is drawn is
-    // put over the other: so there is no branch, and nothing is read that was just written.
-    #[inline(always)]
-    fn put_next(&mut self, block: &mut [Turn], place: usize)
-        requires some { 0 < length self.old.left }
-        requires inside { place + 1 < length block.old }
-        ensures front { take (place + 1) block.new ≡ take place block.old ++ take 1 self.old.left }
-        ensures behind { drop (place + 2) block.new ≡ drop (place + 2) block.old }
-        ensures left { self.new ≡ record self.old { left = drop 1 self.old.left } }
-    {
-        let a = self.words.next_word();
-        let b = self.words.next_word();
-        self.left -= 1;
-        let (of_hart, of_bus) = both_turns(&self.bus_turns, &self.harts, &self.buses, a, b);
-        block[place] = of_hart;
-        block[place + 1 - (a / 2 % 2) as usize] = *of_bus;
-    }
-
     /// Puts the next turns at the front of a block, as many as are left and find place there, and answers how many these are. The
     /// places behind them stay. It takes no memory.
     pub fn next_block(&mut self, block: &mut [Turn]) -> usize
@@ -153,9 +185,15 @@ impl SeededTurns {
         if count == 0 {
             return 0;
         }
-        for made in 0..count - 1 {
-            self.put_next(block, made);
-        }
+        put_turns(
+            &self.bus_turns,
+            &self.harts,
+            &self.buses,
+            &mut self.words,
+            block,
+            count - 1,
+        );
+        self.left -= (count - 1) as u32;
         block[count - 1] = self.next_turn();
         count
     }

@@ -1,45 +1,61 @@
-use Rattle.std.proofs.Common.{◌≡◌, ◌+◌, ◌-◌, ◌<◌, List, length, drop, take, ap, sym, ◌∙◌, arith}
-use Rattle.std.proofs.lemmas.Grind.{drop_more_same}
-use Rattle.std.proofs.lemmas.List.{drop-drop}
+use Rattle.std.proofs.Common.{◌≡◌, ◌+◌, ◌-◌, ◌<◌, length, drop, take, ap, sym, ◌∙◌, arith}
 use Rattle.std.specs.Prelude.{slice_set}
-use Rattle.ddm_types.specs.declared.turns.Turn.{Turn}
-use Rattle.schedule_log.specs.Seeding.{SeededView}
-use Rattle.schedule_log.proofs.Seeds.{last_before, left_as, left_behind, more_before}
+use Rattle.text_model.specs.Schedule.{ShapeView}
+use Rattle.schedule_log.specs.Seeding.{SeededView, widths_in}
+use Rattle.schedule_log.proofs.Seeds.{front_drawn, last_before, left_as, left_behind, left_counted}
 use Rattle.schedule_log.proofs.seeding.SeededTurns.next_block.Goals as goal
 
-pub loop-made-preserved : goal.loop-made-preserved
-loop-made-preserved c =
-    let l = c.loop-made in
-    let p = c.put_next.ensures in
-    let all = c.args.self.now.left in
-    let two : l.made + 1 + 1 ≡ l.made + 2 = omega arith in
-    record {
-      block = more_before l.made c.put_next.new.block l.block all l.self.left p.front l.invariant.block l.invariant.left;
-      behind = ap (λ n. drop n c.put_next.new.block) two ∙ p.behind ∙ ap (λ n. drop n l.block) (sym two) ∙ drop_more_same l.block c.args.block.now (l.made + 1) l.invariant.behind;
-      left = ap (λ (v : SeededView). v.left) p.left ∙ ap (λ (ts : List Turn). drop 1 ts) l.invariant.left ∙ drop-drop 1 l.made all;
-      shape = ap (λ (v : SeededView). v.shape) p.left ∙ l.invariant.shape;
-    }
+pub overflow_cast-self : goal.overflow_cast-self
+overflow_cast-self c =
+    let s = c.self.inside in
+    let shape : ShapeView = record { harts = s.harts; buses = widths_in s.bus_turns.items } in
+    let counted = sym (left_counted shape s.words s.left) ∙ ap (λ (v : SeededView). length v.left) c.self.view_is in
+    omega (arith, counted, c.min-count.ensures, c.len.ensures, c.self.ranges.1.0.1)
+
+pub overflow_sub-self-2 : goal.overflow_sub-self-2
+overflow_sub-self-2 c =
+    let s = c.self.inside in
+    let shape : ShapeView = record { harts = s.harts; buses = widths_in s.bus_turns.items } in
+    let counted = sym (left_counted shape s.words s.left) ∙ ap (λ (v : SeededView). length v.left) c.self.view_is in
+    omega (arith, counted, c.min-count.ensures, c.len.ensures)
+
+pub next_turn-requires : goal.next_turn-requires
+next_turn-requires c =
+    let s = c.self.inside in
+    let shape : ShapeView = record { harts = s.harts; buses = widths_in s.bus_turns.items } in
+    let counted = sym (left_counted shape s.words s.left) ∙ ap (λ (v : SeededView). length v.left) c.self.view_is in
+    let made = c.min-count.result - 1 in
+    let fewer : made < s.left = omega (arith, counted, c.min-count.ensures, c.len.ensures, c.if-count-eq0.false) in
+    omega (arith, fewer, left_counted shape c.put_turns.new.words (s.left - made))
 
 pub returns-clause-block : goal.returns-clause-block
 returns-clause-block c =
-    let l = c.loop-made in
+    let s = c.self.inside in
+    let shape : ShapeView = record { harts = s.harts; buses = widths_in s.bus_turns.items } in
     let all = c.args.self.now.left in
-    let count = c.min-count.result in
-    let some : 0 < count = omega (arith, c.if-count-eq0.false) in
-    let last : l.made + 1 ≡ count = omega (arith, some, c.loop-made-test.false, l.auto.made-end) in
-    let place : count - 1 ≡ l.made = omega (arith, last) in
-    let inside : l.made < length l.block = omega (arith, last, c.min-count.ensures, c.len.ensures, l.auto.block) in
-    ap (λ n. take n (slice_set l.block (count - 1) c.next_turn.result)) (sym last)
-    ∙ ap (λ n. take (l.made + 1) (slice_set l.block n c.next_turn.result)) place
-    ∙ last_before l.made l.block all c.next_turn.result c.next_turn.new.self.left inside l.invariant.block (sym l.invariant.left ∙ c.next_turn.ensures.turn)
+    let block = c.put_turns.new.block in
+    let made = c.min-count.result - 1 in
+    let left = ap (λ (v : SeededView). v.left) c.self.view_is in
+    let counted = sym (left_counted shape s.words s.left) ∙ ap length left in
+    let fewer : made < s.left = omega (arith, counted, c.min-count.ensures, c.len.ensures, c.if-count-eq0.false) in
+    let inside : made < length block = omega (arith, c.min-count.ensures, c.len.ensures, c.if-count-eq0.false, c.put_turns.auto.block) in
+    let last : made + 1 ≡ c.min-count.result = omega (arith, c.if-count-eq0.false) in
+    let split = front_drawn shape s.words c.put_turns.new.words s.left made block all left fewer (omega (arith, inside)) ((rw c.deref.ensures.value at c.put_turns.ensures.front) (s.left - made)) in
+    ap (λ n. take n (slice_set block made c.next_turn.result)) (sym last)
+    ∙ last_before made block all c.next_turn.result c.next_turn.new.self.left inside split.0 (split.1 ∙ c.next_turn.ensures.turn)
     ∙ ap (λ n. take n all) last
 
 pub returns-clause-left : goal.returns-clause-left
 returns-clause-left c =
-    let l = c.loop-made in
+    let s = c.self.inside in
+    let shape : ShapeView = record { harts = s.harts; buses = widths_in s.bus_turns.items } in
     let all = c.args.self.now.left in
-    let count = c.min-count.result in
-    let some : 0 < count = omega (arith, c.if-count-eq0.false) in
-    let last : l.made + 1 ≡ count = omega (arith, some, c.loop-made-test.false, l.auto.made-end) in
-    let behind = left_behind l.made all c.next_turn.result c.next_turn.new.self.left (sym l.invariant.left ∙ c.next_turn.ensures.turn) in
-    left_as c.next_turn.new.self c.args.self.now _ (c.next_turn.ensures.shape ∙ l.invariant.shape) (behind ∙ ap (λ n. drop n all) last)
+    let made = c.min-count.result - 1 in
+    let left = ap (λ (v : SeededView). v.left) c.self.view_is in
+    let counted = sym (left_counted shape s.words s.left) ∙ ap length left in
+    let fewer : made < s.left = omega (arith, counted, c.min-count.ensures, c.len.ensures, c.if-count-eq0.false) in
+    let inside : made < length c.put_turns.new.block = omega (arith, c.min-count.ensures, c.len.ensures, c.if-count-eq0.false, c.put_turns.auto.block) in
+    let last : made + 1 ≡ c.min-count.result = omega (arith, c.if-count-eq0.false) in
+    let split = front_drawn shape s.words c.put_turns.new.words s.left made c.put_turns.new.block all left fewer (omega (arith, inside)) ((rw c.deref.ensures.value at c.put_turns.ensures.front) (s.left - made)) in
+    let behind = left_behind made all c.next_turn.result c.next_turn.new.self.left (split.1 ∙ c.next_turn.ensures.turn) in
+    left_as c.next_turn.new.self c.args.self.now _ (c.next_turn.ensures.shape ∙ ap (λ (v : SeededView). v.shape) c.self.view_is) (behind ∙ ap (λ n. drop n all) last)
