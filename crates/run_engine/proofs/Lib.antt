@@ -4,5 +4,6 @@ pub mod Built
 pub mod Filled
 pub mod Placing
 pub mod Open
+pub mod Passing
 pub mod TreeStart
 pub mod LevelNodes

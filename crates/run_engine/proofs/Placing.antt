@@ -1,5 +1,5 @@
 -- Where an item goes, while a loop looks for its leaf; and what stays of the other items.
-use Rattle.std.proofs.Common.{◌≡◌, ◌<◌, ◌≤◌, ℕ, zero, suc, ◌+◌, ◌-◌, ◌%◌, Bool, true, false, List, [], ◌∷◌, ◌++◌, length, map, get_or, set, Option, Some, None, Result, Ok, Err, refl, sym, ap, subst, ◌∙◌, arith}
+use Rattle.std.proofs.Common.{◌≡◌, ◌<◌, ◌≤◌, ℕ, zero, suc, ◌+◌, ◌-◌, Bool, true, false, List, [], ◌∷◌, ◌++◌, length, map, get_or, set, Option, Some, None, Result, Ok, Err, refl, sym, ap, subst, ◌∙◌, arith}
 use Rattle.std.specs.Prelude.{IfOk, IfErr, is_ok, is_some, nat_eq, find, slice_index_or, slice_set, if◌then◌else◌}
 use Rattle.std.specs.List.{range_with_len}
 use Rattle.std.proofs.lemmas.List.{map-append}
@@ -9,6 +9,7 @@ use Rattle.tree_model.specs.State.Values.{LeafValue}
 use Rattle.tree_model.specs.State.Blank.{no_leaf}
 use Rattle.tree_model.specs.State.Leaf.{free_way}
 use Rattle.tree_model.specs.Start.Nodes.{has_way, leaf_for, placed, placed_at, placed_in}
+use Rattle.run_engine.specs.Placement.{ArePassed, in_turn}
 
 -- ---- an item is placed at one leaf
 
@@ -43,39 +44,46 @@ set-same (y ∷ ys) (suc k) x is = ap (λ zs. y ∷ zs) (set-same ys k x is)
 -- ---- the leaf is searched for
 
 module _ (x : ℕ) (ls : List LeafValue) where
-  abbrev pub in_turn : ℕ → ℕ
-  in_turn k = (x % length ls + k) % length ls
+  abbrev turn : ℕ → ℕ
+  turn k = in_turn x (length ls) k
 
   -- the search from the k-th leaf in cyclic order on
   abbrev pub search_from : ℕ → Option ℕ
-  search_from k = find (has_way ls x) (map in_turn (range_with_len k (length ls - k)))
+  search_from k = find (has_way ls x) (map turn (range_with_len k (length ls - k)))
 
   pub search-all : leaf_for ls x ≡ search_from 0
   unfolding leaf_for
   search-all =
       let whole : length ls - 0 ≡ length ls = omega arith in
-      ap (λ m. find (has_way ls x) (map in_turn (range_with_len 0 m))) (sym whole)
+      ap (λ m. find (has_way ls x) (map turn (range_with_len 0 m))) (sym whole)
 
-  searched : (k m : ℕ) → length ls - k ≡ suc m → search_from k ≡ (if has_way ls x (in_turn k) then Some (in_turn k) else find (has_way ls x) (map in_turn (range_with_len (k + 1) m)))
+  searched : (k m : ℕ) → length ls - k ≡ suc m → search_from k ≡ (if has_way ls x (turn k) then Some (turn k) else find (has_way ls x) (map turn (range_with_len (k + 1) m)))
   searched k m size = rw size refl
 
-  pub search-found : (k leaf : ℕ) → k < length ls → leaf ≡ in_turn k → has_way ls x leaf ≡ true → search_from k ≡ Some leaf
+  pub search-found : (k leaf : ℕ) → k < length ls → leaf ≡ turn k → has_way ls x leaf ≡ true → search_from k ≡ Some leaf
   search-found k leaf within is way =
       let size : length ls - k ≡ suc (length ls - k - 1) = omega (arith, within) in
-      let way' : has_way ls x (in_turn k) ≡ true = subst (λ i. has_way ls x i ≡ true) is way in
-      searched k (length ls - k - 1) size ∙ ap (λ b. if b then Some (in_turn k) else find (has_way ls x) (map in_turn (range_with_len (k + 1) (length ls - k - 1)))) way' ∙ ap Some (sym is)
+      let way' : has_way ls x (turn k) ≡ true = subst (λ i. has_way ls x i ≡ true) is way in
+      searched k (length ls - k - 1) size ∙ ap (λ b. if b then Some (turn k) else find (has_way ls x) (map turn (range_with_len (k + 1) (length ls - k - 1)))) way' ∙ ap Some (sym is)
 
-  pub search-past : (k leaf : ℕ) → k < length ls → leaf ≡ in_turn k → has_way ls x leaf ≡ false → search_from k ≡ search_from (k + 1)
+  pub search-past : (k leaf : ℕ) → k < length ls → leaf ≡ turn k → has_way ls x leaf ≡ false → search_from k ≡ search_from (k + 1)
   search-past k leaf within is way =
       let size : length ls - k ≡ suc (length ls - k - 1) = omega (arith, within) in
       let rest : length ls - k - 1 ≡ length ls - (k + 1) = omega arith in
-      let way' : has_way ls x (in_turn k) ≡ false = subst (λ i. has_way ls x i ≡ false) is way in
-      searched k (length ls - k - 1) size ∙ ap (λ b. if b then Some (in_turn k) else find (has_way ls x) (map in_turn (range_with_len (k + 1) (length ls - k - 1)))) way' ∙ ap (λ m. find (has_way ls x) (map in_turn (range_with_len (k + 1) m))) rest
+      let way' : has_way ls x (turn k) ≡ false = subst (λ i. has_way ls x i ≡ false) is way in
+      searched k (length ls - k - 1) size ∙ ap (λ b. if b then Some (turn k) else find (has_way ls x) (map turn (range_with_len (k + 1) (length ls - k - 1)))) way' ∙ ap (λ m. find (has_way ls x) (map turn (range_with_len (k + 1) m))) rest
 
   pub search-end : (k : ℕ) → length ls ≤ k → search_from k ≡ None
   search-end k past =
       let none : length ls - k ≡ 0 = omega (arith, past) in
-      ap (λ m. find (has_way ls x) (map in_turn (range_with_len k m))) none
+      ap (λ m. find (has_way ls x) (map turn (range_with_len k m))) none
+
+  -- leaves that have no way are passed
+  pub search-skip : (count : ℕ) → count ≤ length ls → ArePassed x count ls → search_from 0 ≡ search_from count
+  search-skip zero few passed = refl
+  search-skip (suc count) few passed =
+      let next : count + 1 ≡ suc count = omega arith in
+      search-skip count (omega (arith, few)) (λ k below. passed k (omega (arith, below))) ∙ search-past count (turn count) (omega (arith, few)) refl (passed count (omega arith)) ∙ ap search_from next
 
 -- ---- at one leaf, whether or not it has a way
 

@@ -1,5 +1,5 @@
 -- A machine over the parts that the code makes of a tree and an image is the tables' start.
-use Rattle.std.proofs.Common.{◌≡◌, ◌≤◌, ℕ, zero, suc, ◌+◌, ◌*◌, Bool, true, false, List, [], ◌∷◌, length, map, replicate, sum, Option, None, refl, sym, ap, subst, ◌∙◌, arith, inl, inr}
+use Rattle.std.proofs.Common.{◌≡◌, ◌≤◌, ℕ, zero, suc, ◌+◌, ◌*◌, Bool, true, false, List, [], ◌∷◌, length, map, replicate, sum, Option, None, refl, sym, ap, subst, ◌∙◌, arith, inl, inr, All}
 use Rattle.std.specs.Prelude.{◌||◌, nat_eq, nat_le, slice_index_or}
 use Rattle.std.specs.List.{AllByRecursion, range_with_len}
 use Rattle.std.proofs.lemmas.Bool.{eqb-true, leb-true}
@@ -25,7 +25,7 @@ use Rattle.start_parts.specs.Counts.{counts_of}
 use Rattle.start_parts.specs.Parts.{start_kids, start_top}
 use Rattle.start_parts.proofs.Made.{start-made}
 use Rattle.start_parts.proofs.StartNew.{start-new}
-use Rattle.run_engine.specs.Placement.{CanPlace, IsBlank}
+use Rattle.run_engine.specs.Placement.{CanPlace, HasSets, IsBlank}
 use Rattle.run_engine.proofs.Built.{accepted_few, quarter}
 
 -- ---- a tree that a file gives is one
@@ -105,6 +105,14 @@ can-place sizes start n words size few harts =
       few_leaves = omega (arith, leaves, count, harts);
       blank = All-from_recursion (IsBlank (length words)) (map (new_leaf sizes start n) (range_with_len 0 start.harts)) (subst (λ k. AllByRecursion (IsBlank k) (map (new_leaf sizes start n) (range_with_len 0 start.harts))) (sym size) (each-blank sizes start n (range_with_len 0 start.harts)));
     }
+
+-- they have so many sets each
+each-sets : (sizes : LeafSizes) (start : Start) (n : ℕ) (ks : List ℕ) → AllByRecursion (HasSets sizes.sets) (map (new_leaf sizes start n) ks)
+each-sets sizes start n [] = tt
+each-sets sizes start n (k ∷ ks) = (refl, each-sets sizes start n ks)
+
+pub new-sets : (sizes : LeafSizes) (start : Start) (n : ℕ) → All (HasSets sizes.sets) (map (new_leaf sizes start n) (range_with_len 0 start.harts))
+new-sets sizes start n = All-from_recursion (HasSets sizes.sets) (map (new_leaf sizes start n) (range_with_len 0 start.harts)) (each-sets sizes start n (range_with_len 0 start.harts))
 
 -- ---- the leaves of the start
 

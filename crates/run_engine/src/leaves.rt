@@ -2,7 +2,7 @@ ghost use Rattle.std.specs.Prelude.{◌≡◌, ◌+◌, ◌*◌, ◌<◌, ◌≤
 ghost use Rattle.std.specs.List.{range_with_len};
 ghost use Rattle.tree_model.specs.Start.Nodes.{has_way, leaf_for, leaf_sizes, new_leaf, placed_at, placed_in, placed_items};
 ghost use Rattle.tree_model.specs.State.Lists.{map_from};
-ghost use Rattle.run_engine.specs.Placement.{CanPlace, TakesItem};
+ghost use Rattle.run_engine.specs.Placement.{ArePassed, CanPlace, HasSets, TakesItem};
 
 use ddm_types::{ItemId, LeafNo, NoMemory, Start, TreeSizes, Words};
 use leaf_protocol::Leaf;
@@ -31,23 +31,37 @@ pub fn new_leaves<const WAYS: usize, const WORDS: usize>(
     Ok(leaves)
 }
 
-/// Places an item: in the lowest free way of its set at its own leaf, else at the next leaf in cyclic order that has one.
+/// How many leaves, in cyclic order from this one on, have no way left for the items of a set whose own leaf that is.
+#[derive(Clone, Copy)]
+pub struct Passed {
+    own: u32,
+    leaves: u32,
+}
+
+/// Places an item: in the lowest free way of its set at its own leaf, else at the next leaf in cyclic order that has one. The first
+/// leaves in that order may be known to have none; answers how many are known to have none then.
 fn place_item<const WAYS: usize, const WORDS: usize>(
     leaves: &mut [Leaf<WAYS, WORDS>],
     item: ItemId,
     words: Words<WORDS>,
-)
+    first: u32,
+) -> u32
     requires few { length leaves.old < 2 ^ 31 }
     requires takes { All (TakesItem item) leaves.old }
-    ensures { leaves.new ≡ placed_in item words.entry leaves.old (leaf_for leaves.old item) }
+    requires inside { first ≤ length leaves.old }
+    requires passed { ArePassed item first leaves.old }
+    ensures placed { leaves.new ≡ placed_in item words.entry leaves.old (leaf_for leaves.old item) }
+    ensures inside { result ≤ length leaves.old }
+    ensures passed { ArePassed item result leaves.old }
 {
     let count = leaves.len() as u32;
-    for k in 0..count {
+    for k in first..count {
         let leaf = (item.0 % count + k) % count;
         if place_at(leaves, leaf, item, words) {
-            return;
+            return k;
         }
     }
+    first
 }
 
 /// Places an item at a leaf, if its set has a free way there.
@@ -65,15 +79,33 @@ fn place_at<const WAYS: usize, const WORDS: usize>(
     leaves[leaf as usize].start_item(item, words).is_ok()
 }
 
-/// Places the items in order of number.
+/// The most sets of a leaf.
+const MOST_SETS: usize = 4096;
+
+/// Places the items in order of number. Where an item of a set went, the next one of this set needn't look at the leaves before it.
 pub fn place_items<const WAYS: usize, const WORDS: usize>(
     leaves: &mut [Leaf<WAYS, WORDS>],
     words: &[Words<WORDS>],
+    sets: u32,
 )
-    requires { CanPlace words.now leaves.old }
+    requires can { CanPlace words.now leaves.old }
+    requires sets { All (HasSets sets) leaves.old }
+    requires some { 0 < sets }
+    requires few { sets ≤ 4096 }
     ensures { leaves.new ≡ placed_items 0 words.now leaves.old }
 {
+    let mut passed = [Passed { own: 0, leaves: 0 }; MOST_SETS];
+    let count = leaves.len() as u32;
+    if count == 0 {
+        return;
+    }
     for item in 0..words.len() {
-        place_item(leaves, ItemId(item as u32), words[item]);
+        let number = item as u32;
+        let set = (number % sets) as usize;
+        let own = number % count;
+        let known = passed[set];
+        let first = if known.own == own { known.leaves } else { 0 };
+        let full = place_item(leaves, ItemId(number), words[item], first);
+        passed[set] = Passed { own, leaves: full };
     }
 }

@@ -30,8 +30,9 @@ pub fn start_leaves<const WAYS: usize, const WORDS: usize>(
 {
     let words = words(alloc, &image.segments, items)?;
     let start = start_of_harts(tree, image);
-    let mut leaves = new_leaves(alloc, items.len(), &tree.sizes(), start)?;
-    place_items(&mut leaves, &words);
+    let sizes = tree.sizes();
+    let mut leaves = new_leaves(alloc, items.len(), &sizes, start)?;
+    place_items(&mut leaves, &words, sizes.sets);
     Ok(leaves)
 }
 

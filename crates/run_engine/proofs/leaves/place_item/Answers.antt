@@ -2,12 +2,13 @@ use Rattle.std.proofs.Common.{rules, ◌≡◌, ◌<◌, ◌+◌, ◌%◌, lengt
 use Rattle.std.proofs.lemmas.Nat.{mod_below}
 use Rattle.tree_model.specs.State.Lists.{map_from}
 use Rattle.tree_model.specs.Start.Nodes.{has_way, leaf_for, placed_at}
-use Rattle.run_engine.specs.Placement.{TakesItem}
-use Rattle.run_engine.proofs.Placing.{in_turn, search-all, search-end, search-found, search-past, placed-found, placed-nowhere}
+use Rattle.run_engine.specs.Placement.{TakesItem, in_turn}
+use Rattle.run_engine.proofs.Placing.{search-all, search-end, search-found, search-skip, placed-found, placed-nowhere}
+use Rattle.run_engine.proofs.Passing.{one-more}
 use Rattle.run_engine.proofs.leaves.place_item.Goals as goal
 
 pub loop-k-init : goal.loop-k-init
-loop-k-init g c = (refl, refl, search-all c.args.item c.args.leaves.now)
+loop-k-init g c = (refl, refl, c.requires.passed)
 
 pub place_at-requires : goal.place_at-requires
 place_at-requires g c =
@@ -20,22 +21,31 @@ place_at-requires g c =
 pub returns-then-place_at : goal.returns-then-place_at
 returns-then-place_at g c =
     let inv = c.loop-k.invariant in
-    let leaf = (c.item.inside.0 % length c.args.leaves.now + c.loop-k.k) % length c.args.leaves.now in
-    let turn : leaf ≡ in_turn c.args.item c.args.leaves.now c.loop-k.k = ap (λ x. (x % length c.args.leaves.now + c.loop-k.k) % length c.args.leaves.now) (c.item.view_is ∙ inv.1) in
-    let way : has_way c.args.leaves.now c.args.item leaf ≡ true = sym (rw (inv.0, inv.1) at c.if-place_at.ensures.way) in
-    let found : leaf_for c.args.leaves.now c.args.item ≡ Some leaf = inv.2 ∙ search-found c.args.item c.args.leaves.now c.loop-k.k leaf c.loop-k-test.true turn way in
-    let after : c.place_at.new.leaves ≡ map_from (placed_at leaf c.args.item c.args.words) 0 c.args.leaves.now = rw (inv.0, inv.1) at c.if-place_at.ensures.after in
-    after ∙ placed-found c.args.item c.args.words c.args.leaves.now leaf found
+    let ls = c.args.leaves.now in
+    let leaf = (c.item.inside.0 % length ls + c.loop-k.k) % length ls in
+    let turn : leaf ≡ in_turn c.args.item (length ls) c.loop-k.k = ap (λ x. (x % length ls + c.loop-k.k) % length ls) (c.item.view_is ∙ inv.1) in
+    let way : has_way ls c.args.item leaf ≡ true = sym (rw (inv.0, inv.1) at c.if-place_at.ensures.way) in
+    let skipped = search-all c.args.item ls ∙ search-skip c.args.item ls c.loop-k.k (omega (arith, c.loop-k-test.true)) inv.2 in
+    let found : leaf_for ls c.args.item ≡ Some leaf = skipped ∙ search-found c.args.item ls c.loop-k.k leaf c.loop-k-test.true turn way in
+    let after : c.place_at.new.leaves ≡ map_from (placed_at leaf c.args.item c.args.words) 0 ls = rw (inv.0, inv.1) at c.if-place_at.ensures.after in
+    record { placed = after ∙ placed-found c.args.item c.args.words ls leaf found; inside = omega (arith, c.loop-k-test.true); passed = inv.2 }
 
 pub loop-k-preserved : goal.loop-k-preserved
 loop-k-preserved g c =
     let inv = c.loop-k.invariant in
-    let leaf = (c.item.inside.0 % length c.args.leaves.now + c.loop-k.k) % length c.args.leaves.now in
-    let turn : leaf ≡ in_turn c.args.item c.args.leaves.now c.loop-k.k = ap (λ x. (x % length c.args.leaves.now + c.loop-k.k) % length c.args.leaves.now) (c.item.view_is ∙ inv.1) in
-    let way : has_way c.args.leaves.now c.args.item leaf ≡ false = sym (rw (inv.0, inv.1) at c.if-place_at.ensures.way) in
-    (c.if-place_at.ensures.after ∙ inv.0, inv.1, inv.2 ∙ search-past c.args.item c.args.leaves.now c.loop-k.k leaf c.loop-k-test.true turn way)
+    let ls = c.args.leaves.now in
+    let leaf = (c.item.inside.0 % length ls + c.loop-k.k) % length ls in
+    let turn : leaf ≡ in_turn c.args.item (length ls) c.loop-k.k = ap (λ x. (x % length ls + c.loop-k.k) % length ls) (c.item.view_is ∙ inv.1) in
+    let way : has_way ls c.args.item leaf ≡ false = sym (rw (inv.0, inv.1) at c.if-place_at.ensures.way) in
+    (c.if-place_at.ensures.after ∙ inv.0, inv.1, one-more c.args.item c.loop-k.k ls inv.2 (ap (has_way ls c.args.item) (sym turn) ∙ way))
 
 pub returns : goal.returns
 returns g c =
     let inv = c.loop-k.invariant in
-    inv.0 ∙ placed-nowhere c.args.item c.args.words c.args.leaves.now (inv.2 ∙ search-end c.args.item c.args.leaves.now c.loop-k.k (omega (arith, c.loop-k-test.false)))
+    let ls = c.args.leaves.now in
+    let skipped = search-all c.args.item ls ∙ search-skip c.args.item ls c.loop-k.k (omega (arith, c.loop-k.auto.k-end)) inv.2 in
+    record {
+      placed = inv.0 ∙ placed-nowhere c.args.item c.args.words ls (skipped ∙ search-end c.args.item ls c.loop-k.k (omega (arith, c.loop-k-test.false)));
+      inside = c.requires.inside;
+      passed = c.requires.passed;
+    }
