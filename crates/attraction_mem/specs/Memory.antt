@@ -123,3 +123,6 @@ way_and_state e = (e.way, e.state)
 -- the state and the words of an entry
 abbrev pub state_and_words : EntryValue → LeafState × List ℕ
 state_and_words e = (e.state, e.words)
+
+abbrev pub words_and_state : EntryValue → List ℕ × LeafState
+words_and_state e = (e.words, e.state)

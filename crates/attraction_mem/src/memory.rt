@@ -1,7 +1,7 @@
 ghost use Rattle.std.specs.Prelude.{◌≡◌, ◌+◌, ◌*◌, ◌%◌, ◌<◌, ◌≤◌, ◌↔◌, ℕ, [], length, Option, Some, None, Ok, IfOk, IfErr, OnErr, IfSome, IfNone, IsSome, is_some, slice_index_or};
 ghost use Rattle.std.specs.Option.{option_map};
 ghost use Rattle.ddm_types.specs.declared.sizes.LeafState.{LeafState as State};
-ghost use Rattle.attraction_mem.specs.Memory.{entry_of, empty_memory, StandsIn, StandsAs, IsFree, IsLowestFree, IsFull, with_entry, without_entry, with_state, with_words, way_and_state, state_and_words};
+ghost use Rattle.attraction_mem.specs.Memory.{entry_of, empty_memory, StandsIn, StandsAs, IsFree, IsLowestFree, IsFull, with_entry, without_entry, with_state, with_words, way_and_state, state_and_words, words_and_state};
 
 use crate::marks::{is_marked, mark};
 use crate::places::{find_free, find_tag, first_place};
@@ -112,13 +112,14 @@ impl<const WAYS: usize, const WORDS: usize> AttractionMem<WAYS, WORDS> {
         Some(self.words[place])
     }
 
-    /// The state and the words of the item's entry.
+    /// The words and the state of the item's entry. The words come first: behind a state they would be copied from a place that isn't one of
+    /// words.
     #[inline(always)]
-    pub fn entry(&self, item: ItemId) -> Option<(LeafState, Words<WORDS>)>
-        ensures { result ≡ option_map state_and_words (entry_of self.now item) }
+    pub fn entry(&self, item: ItemId) -> Option<(Words<WORDS>, LeafState)>
+        ensures { result ≡ option_map words_and_state (entry_of self.now item) }
     {
         let (place, state) = find_tag::<WAYS>(&self.sets, &self.tags, item)?;
-        Some((state, self.words[place]))
+        Some((self.words[place], state))
     }
 
     /// The lowest free way of the item's set.

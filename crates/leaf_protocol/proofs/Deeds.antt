@@ -20,7 +20,7 @@ use Rattle.tree_model.specs.State.Values.{LeafValue}
 use Rattle.tree_model.specs.State.Leaf.{LeafEntry, leaf_entry, entry_state, entry_words, state_at, becomes, ways_after, buffer_after, buffer_full, free_way, waiting_item}
 use Rattle.tree_model.specs.Turns.HartTurn.{Deed, halts, upgrades, need_to_write, has_halted, waits_for, fetches, finds_buffer_full, need_of, words_here, change_here, deed_of_change, deed_to_fetch, replaces, deed_by_need, deed_unless_waiting, deed_unless_halted, deed_of, ways_stored, buffer_stored, leaf_step}
 use Rattle.leaf_protocol.specs.Entries.{way_to_take}
-use Rattle.leaf_protocol.specs.Leaf.{IsDone, state_and_words, write_ask}
+use Rattle.leaf_protocol.specs.Leaf.{IsDone, words_and_state, write_ask}
 
 -- ---- what a turn comes to
 
@@ -152,20 +152,20 @@ module _ (code : List CodeWord) (items : ItemTable) (victim : ℕ) (v : LeafValu
       go None h = refl
       go (Some e) h = absurd cc
 
--- the state and the words of an entry that was looked at
-pub state-seen : (x : ℕ) (v : LeafValue) (seen : Option (LeafState × List ℕ)) → seen ≡ option_map state_and_words (leaf_entry x v) → option_map (λ (s : LeafState × List ℕ). s.0) seen ≡ state_at x v
-state-seen x v seen is = ap (option_map (λ (s : LeafState × List ℕ). s.0)) is ∙ go (leaf_entry x v)
+-- the words and the state of an entry that was looked at
+pub state-seen : (x : ℕ) (v : LeafValue) (seen : Option (List ℕ × LeafState)) → seen ≡ option_map words_and_state (leaf_entry x v) → option_map (λ (s : List ℕ × LeafState). s.1) seen ≡ state_at x v
+state-seen x v seen is = ap (option_map (λ (s : List ℕ × LeafState). s.1)) is ∙ go (leaf_entry x v)
   where
-    go : (o : Option LeafEntry) → option_map (λ (s : LeafState × List ℕ). s.0) (option_map state_and_words o) ≡ option_map entry_state o
+    go : (o : Option LeafEntry) → option_map (λ (s : List ℕ × LeafState). s.1) (option_map words_and_state o) ≡ option_map entry_state o
     go None = refl
     go (Some e) = refl
 
-pub words-seen : (x : ℕ) (v : LeafValue) (state : LeafState) (words : List ℕ) → Some (state, words) ≡ option_map state_and_words (leaf_entry x v) → words ≡ words_here v x
+pub words-seen : (x : ℕ) (v : LeafValue) (state : LeafState) (words : List ℕ) → Some (words, state) ≡ option_map words_and_state (leaf_entry x v) → words ≡ words_here v x
 words-seen x v state words is = go (leaf_entry x v) is
   where
-    go : (o : Option LeafEntry) → Some (state, words) ≡ option_map state_and_words o → words ≡ entry_words o
+    go : (o : Option LeafEntry) → Some (words, state) ≡ option_map words_and_state o → words ≡ entry_words o
     go None e = absurd cc
-    go (Some f) e = ap (λ (s : LeafState × List ℕ). s.1) (same_Some (state, words) (f.state, f.words) e)
+    go (Some f) e = ap (λ (s : List ℕ × LeafState). s.0) (same_Some (words, state) (f.words, f.state) e)
 
 pub write-asks : (sc : Bool) (x : ℕ) → asked_item (write_ask sc x) ≡ Some x
 write-asks true x = refl

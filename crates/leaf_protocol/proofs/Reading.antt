@@ -9,9 +9,9 @@ use Rattle.tree_model.specs.declared.LeafSpot.{LeafSpot}
 use Rattle.tree_model.specs.State.Lists.{chosen, first_some}
 use Rattle.tree_model.specs.State.Values.{WayValue, BufferValue}
 use Rattle.tree_model.specs.State.Leaf.{LeafEntry, entry_at, entry_state, buffer_item, buffered, is_buffered, leaf_leaving, may_leave_buffer, spot_at, way_spot}
-use Rattle.attraction_mem.specs.Memory.{EntryValue, MemoryValue, entry_of, IsLowestFree, IsFull, way_and_state, state_and_words}
-use Rattle.leaf_protocol.specs.Entries.{buffer_state_and_words, way_value, way_of, ways_of, ItemFits, AreEntries, lowest_way}
-use Rattle.leaf_protocol.specs.Leaf.{state_and_words as state_and_words_of}
+use Rattle.attraction_mem.specs.Memory.{EntryValue, MemoryValue, entry_of, IsLowestFree, IsFull, way_and_state, words_and_state as words_and_state_in}
+use Rattle.leaf_protocol.specs.Entries.{buffer_words_and_state, way_value, way_of, ways_of, ItemFits, AreEntries, lowest_way}
+use Rattle.leaf_protocol.specs.Leaf.{words_and_state}
 use Rattle.leaf_protocol.proofs.Ways.{lowest-some, lowest-none, ways_of-length}
 use Rattle.leaf_protocol.proofs.Fits.{entry_in, are-below, way-is, entry-is}
 
@@ -51,17 +51,17 @@ module _ {ways width n : ℕ} {m : MemoryValue} {b : List BufferValue} {w : Opti
       go None e None = refl
       go None e (Some f) = refl
 
-  pub entry-in-way : (s : LeafState) (words : List ℕ) → Some (s, words) ≡ option_map state_and_words (entry_of m x) → Some (s, words) ≡ option_map state_and_words_of (entry_at x (ways_of n m) b)
-  entry-in-way s words found = found ∙ (go (entry_of m x) found ∙ sym (ap (option_map state_and_words_of) (entry-is kept x)))
+  pub entry-in-way : (s : LeafState) (words : List ℕ) → Some (words, s) ≡ option_map words_and_state_in (entry_of m x) → Some (words, s) ≡ option_map words_and_state (entry_at x (ways_of n m) b)
+  entry-in-way s words found = found ∙ (go (entry_of m x) found ∙ sym (ap (option_map words_and_state) (entry-is kept x)))
     where
-      go : (o : Option EntryValue) → Some (s, words) ≡ option_map state_and_words o → option_map state_and_words o ≡ option_map state_and_words_of (entry_in (option_map way_value o) (buffered x b))
+      go : (o : Option EntryValue) → Some (words, s) ≡ option_map words_and_state_in o → option_map words_and_state_in o ≡ option_map words_and_state (entry_in (option_map way_value o) (buffered x b))
       go None e = absurd cc
       go (Some f) e = refl
 
-  pub entry-in-buffer : (o : Option (LeafState × List ℕ)) → None ≡ option_map state_and_words (entry_of m x) → o ≡ option_map buffer_state_and_words (buffered x b) → o ≡ option_map state_and_words_of (entry_at x (ways_of n m) b)
-  entry-in-buffer o none found = found ∙ (go (entry_of m x) none (buffered x b) ∙ sym (ap (option_map state_and_words_of) (entry-is kept x)))
+  pub entry-in-buffer : (o : Option (List ℕ × LeafState)) → None ≡ option_map words_and_state_in (entry_of m x) → o ≡ option_map buffer_words_and_state (buffered x b) → o ≡ option_map words_and_state (entry_at x (ways_of n m) b)
+  entry-in-buffer o none found = found ∙ (go (entry_of m x) none (buffered x b) ∙ sym (ap (option_map words_and_state) (entry-is kept x)))
     where
-      go : (a : Option EntryValue) → None ≡ option_map state_and_words a → (c : Option BufferValue) → option_map buffer_state_and_words c ≡ option_map state_and_words_of (entry_in (option_map way_value a) c)
+      go : (a : Option EntryValue) → None ≡ option_map words_and_state_in a → (c : Option BufferValue) → option_map buffer_words_and_state c ≡ option_map words_and_state (entry_in (option_map way_value a) c)
       go (Some f) e c = absurd cc
       go None e None = refl
       go None e (Some f) = refl
@@ -134,10 +134,10 @@ module _ {ways width n : ℕ} {m : MemoryValue} {b : List BufferValue} {w : Opti
       go (Some x) h = buffered-inside x h
 
 -- the state and the words of an entry of the buffer, where it is there
-pub both-gone : (o : Option BufferValue) → None ≡ option_map (λ e. e.state) o → None ≡ option_map buffer_state_and_words o
+pub both-gone : (o : Option BufferValue) → None ≡ option_map (λ e. e.state) o → None ≡ option_map buffer_words_and_state o
 both-gone None h = refl
 both-gone (Some f) h = absurd cc
 
-pub both-there : (s : LeafState) (words : List ℕ) (o : Option BufferValue) → Some s ≡ option_map (λ e. e.state) o → Some words ≡ option_map (λ e. e.words) o → Some (s, words) ≡ option_map buffer_state_and_words o
+pub both-there : (s : LeafState) (words : List ℕ) (o : Option BufferValue) → Some s ≡ option_map (λ e. e.state) o → Some words ≡ option_map (λ e. e.words) o → Some (words, s) ≡ option_map buffer_words_and_state o
 both-there s words None h k = absurd cc
-both-there s words (Some f) h k = ap (λ t. Some (t, words)) (same_Some s f.state h) ∙ ap (λ w. Some (f.state, w)) (same_Some words f.words k)
+both-there s words (Some f) h k = ap (λ t. Some (words, t)) (same_Some s f.state h) ∙ ap (λ w. Some (w, f.state)) (same_Some words f.words k)

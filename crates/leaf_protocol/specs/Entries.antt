@@ -25,8 +25,8 @@ abbrev pub way_value : EntryValue → WayValue
 way_value e = record { way = e.way; state = e.state; words = e.words }
 
 -- the state and the words of an entry of the buffer
-abbrev pub buffer_state_and_words : BufferValue → LeafState × List ℕ
-buffer_state_and_words e = (e.state, e.words)
+abbrev pub buffer_words_and_state : BufferValue → List ℕ × LeafState
+buffer_words_and_state e = (e.words, e.state)
 
 -- the entry that a memory has of an item
 abbrev pub way_of : MemoryValue → ℕ → Option WayValue

@@ -4,8 +4,8 @@ ghost use Rattle.tree_model.specs.State.States.{is_reading, is_waiting};
 ghost use Rattle.tree_model.specs.State.Leaf.{LeafEntry, blank, becomes, ends, enters, enters_free, entry_at, entry_state, entry_words, item_in_way, leaf_leaving, spot_at, waiting_item, words_in, buffered};
 ghost use Rattle.tree_model.specs.State.Child.{buffer_words};
 ghost use Rattle.tree_model.specs.Start.Nodes.{or_each};
-ghost use Rattle.leaf_protocol.specs.Leaf.{state_and_words};
-ghost use Rattle.leaf_protocol.specs.Entries.{buffer_state_and_words, cleared, cleared_if, lowest_way, may_be, waits_now, waiting_after, way_to_take, with_fate, with_mark};
+ghost use Rattle.leaf_protocol.specs.Leaf.{words_and_state};
+ghost use Rattle.leaf_protocol.specs.Entries.{buffer_words_and_state, cleared, cleared_if, lowest_way, may_be, waits_now, waiting_after, way_to_take, with_fate, with_mark};
 
 use attraction_mem::{AttractionMem, SetFull};
 use ddm_types::{ItemId, LeafState, NoMemory, Words};
@@ -158,10 +158,11 @@ impl<const WAYS: usize, const WORDS: usize> Entries<WAYS, WORDS> {
         }
     }
 
-    /// The state and the words of the item's entry.
+    /// The words and the state of the item's entry. The words come first: behind a state they would be copied from a place that isn't one
+    /// of words.
     #[inline(always)]
-    pub fn entry(&self, item: ItemId) -> Option<(LeafState, Words<WORDS>)>
-        ensures { result ≡ option_map state_and_words (entry_at item self.now.ways self.now.buffer) }
+    pub fn entry(&self, item: ItemId) -> Option<(Words<WORDS>, LeafState)>
+        ensures { result ≡ option_map words_and_state (entry_at item self.now.ways self.now.buffer) }
     {
         match self.memory.entry(item) {
             Some(entry) => Some(entry),
@@ -170,12 +171,12 @@ impl<const WAYS: usize, const WORDS: usize> Entries<WAYS, WORDS> {
     }
 
     /// The same of its entry in the buffer.
-    fn buffered_entry(&self, item: ItemId) -> Option<(LeafState, Words<WORDS>)>
-        ensures { result ≡ option_map buffer_state_and_words (buffered item self.now.buffer) }
+    fn buffered_entry(&self, item: ItemId) -> Option<(Words<WORDS>, LeafState)>
+        ensures { result ≡ option_map buffer_words_and_state (buffered item self.now.buffer) }
     {
         let (_, state) = self.buffer.find(item)?;
         let words = self.buffer.words(item)?;
-        Some((state, words))
+        Some((words, state))
     }
 
     /// Where the item's entry stands.

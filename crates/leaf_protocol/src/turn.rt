@@ -278,7 +278,7 @@ impl<const WAYS: usize, const WORDS: usize> Leaf<WAYS, WORDS> {
         requires reserved { conditional ≡ true → has_reserved self.old.reservation item ≡ true }
         ensures { IsDone now self.old (deed_by_need code.now items.now victim self.old (need_to_write item (leaf_entry item self.old))) answer.new self.new }
     {
-        let Some((state, words)) = self.entries.entry(item) else {
+        let Some((words, state)) = self.entries.entry(item) else {
             self.fetch(item, LeafState::ReadingWaiting, victim, answer);
             return;
         };

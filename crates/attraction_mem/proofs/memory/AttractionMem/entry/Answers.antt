@@ -16,4 +16,4 @@ returns g c =
     let tag = rw c.deref.ensures.value at c.in_ok-place.ensures.found in
     let found : entry_of c.args.self.now c.args.item ≡ Some (entry_at g.row.WAYS c.self.inside.words.items c.in_ok-place.place c.in_ok-place.state) = ap (λ m. entry_of m c.args.item) (sym c.self.view_is) ∙ entry_of_found c.self.invariant.0 c.in_ok-place.place c.args.item c.in_ok-place.state tag in
     let within : c.in_ok-place.place < length c.self.inside.words.items = omega (arith, c.self.invariant.0.word_places, rw c.deref.ensures.value at c.in_ok-place.ensures.exists) in
-    rw found (ap (λ w. Some (c.in_ok-place.state, w)) (c.index.ensures ∙ get_or_default c.self.inside.words.items c.in_ok-place.place c.index.result.now [] within))
+    rw found (ap (λ w. Some (w, c.in_ok-place.state)) (c.index.ensures ∙ get_or_default c.self.inside.words.items c.in_ok-place.place c.index.result.now [] within))

@@ -13,9 +13,9 @@ pub returns-in_default : goal.returns-in_default
 returns-in_default g c = rw (absent-state c.args.code.now c.args.items.now c.args.victim c.args.self.now c.args.item (state-seen c.args.item c.args.self.now None (rw (← c.self.view_is) c.in_default.ensures))) (c.fetch.ensures c.args.now)
 
 pub returns-in-Shared : goal.returns-in-Shared
-returns-in-Shared g c = rw (write-shared c.args.code.now c.args.items.now c.args.victim c.args.self.now c.args.item (ap Some (sym c.in-Shared.is) ∙ state-seen c.args.item c.args.self.now (Some (c.in-Some.state, c.in-Some.words)) (rw (← c.self.view_is) c.in-Some.ensures))) (c.upgrade.ensures c.args.now)
+returns-in-Shared g c = rw (write-shared c.args.code.now c.args.items.now c.args.victim c.args.self.now c.args.item (ap Some (sym c.in-Shared.is) ∙ state-seen c.args.item c.args.self.now (Some c.in-Some.words-1-given.0.0) (rw (← c.self.view_is) c.in-Some.ensures))) (c.upgrade.ensures c.args.now)
 
 pub upgrade-requires : goal.upgrade-requires
 upgrade-requires g c =
     let inside = asks_inside c.args.code.now c.args.items.now c.args.self.now.hart c.args.item (ap asked_item c.requires.asks ∙ write-asks c.args.conditional c.args.item) in
-    (search rules, (rw (← c.requires.can.items) inside, (sym (ap Some (sym c.in-Shared.is) ∙ state-seen c.args.item c.args.self.now (Some (c.in-Some.state, c.in-Some.words)) (rw (← c.self.view_is) c.in-Some.ensures)), c.requires.can.alone)))
+    (search rules, (rw (← c.requires.can.items) inside, (sym (ap Some (sym c.in-Shared.is) ∙ state-seen c.args.item c.args.self.now (Some c.in-Some.words-1-given.0.0) (rw (← c.self.view_is) c.in-Some.ensures)), c.requires.can.alone)))
