@@ -37,7 +37,8 @@ module _ (above : ℕ) (taken present : Stamp) where
   abbrev pub may_come : Option Stamp → TxKind → Stamp → Bool
   may_come None kind stamp = not (stamp_before above stamp taken) && not (stamp_before above present stamp)
   may_come (Some last) kind stamp =
-      (not (stamp_before above stamp taken) && not (stamp_before above present stamp)) && (not (stamp_before above stamp last) && (if comes_later kind then stamp_before above last stamp else true))
+      (not (stamp_before above stamp taken) && not (stamp_before above present stamp))
+      && (not (stamp_before above stamp last) && (if comes_later kind then stamp_before above last stamp else true))
 
   -- each behind the one before it, and the first behind this stamp
   abbrev pub may_come_all : Option Stamp → List DownValue → Bool

@@ -46,7 +46,15 @@ header_place file k = table_of file + 32 * k
 abbrev pub header_at : List ℕ → ℕ → ProgramHeader
 header_at file k =
     let place = header_place file k in
-    record { number = k; kind = word_in file place; offset = word_in file (place + 4); vaddr = word_in file (place + 8); filesz = word_in file (place + 16); memsz = word_in file (place + 20); flags = word_in file (place + 24) }
+    record {
+      number = k;
+      kind = word_in file place;
+      offset = word_in file (place + 4);
+      vaddr = word_in file (place + 8);
+      filesz = word_in file (place + 16);
+      memsz = word_in file (place + 20);
+      flags = word_in file (place + 24);
+    }
 
 unfoldable pub headers_of : List ℕ → List ProgramHeader
 headers_of file = map (header_at file) (range_with_len 0 (header_count file))
@@ -68,7 +76,9 @@ has_bit n bits = not (nat_eq (bit_and n bits) 0)
 
 -- 52 bytes or more, with the four magic bytes and version 1
 abbrev pub is_elf : List ℕ → Bool
-is_elf file = not (nat_lt (length file) 52) && (nat_eq (slice_index file 0) 0x7f && (nat_eq (slice_index file 1) 0x45 && (nat_eq (slice_index file 2) 0x4c && (nat_eq (slice_index file 3) 0x46 && nat_eq (slice_index file 6) 1))))
+is_elf file =
+    not (nat_lt (length file) 52) && (nat_eq (slice_index file 0) 0x7f && (nat_eq (slice_index file 1) 0x45
+    && (nat_eq (slice_index file 2) 0x4c && (nat_eq (slice_index file 3) 0x46 && nat_eq (slice_index file 6) 1))))
 
 -- 32 bits, little-endian
 abbrev pub is_right_class : List ℕ → Bool

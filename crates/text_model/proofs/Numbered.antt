@@ -59,15 +59,3 @@ bus_lines-next {old} {now} {new} i xs d inside first next =
     let whole : bus_lines_from 0 (take (i + 1) xs) ≡ bus_lines_from 0 (take i xs) ++ bus_line i (get_or xs i d) =
     bus_lines_from-take 0 i xs d inside ∙ ap (λ (m : ℕ). bus_lines_from 0 (take i xs) ++ bus_line m (get_or xs i d)) (zero-add i) in
     subst P (sym whole) (first ▸ next)
-
--- a loop over turns and answers, with one line more
-pub trace-next : {old now new : List ℕ} (i : ℕ) (turns : List Turn) (answers : List TurnAnswer) (turn : Turn) (answer : TurnAnswer) → i < length turns → i < length answers → turn ≡ get_or turns i turn → answer ≡ get_or answers i answer → Adds old now (trace_from 0 (take i turns) (take i answers)) → Adds now new (trace_line i turn answer) → Adds old new (trace_from 0 (take (i + 1) turns) (take (i + 1) answers))
-trace-next {old} {now} {new} i turns answers turn answer inside inside' at at' first next =
-    let P : List ℕ → Type 0 = λ text. Adds old new text in
-    let before = trace_from 0 (take i turns) (take i answers) in
-    let whole : trace_from 0 (take (i + 1) turns) (take (i + 1) answers) ≡ before ++ trace_line i turn answer =
-    trace_from-take 0 i turns answers turn answer inside inside'
-    ∙ ap (λ (m : ℕ). before ++ trace_line m (get_or turns i turn) (get_or answers i answer)) (zero-add i)
-    ∙ ap (λ t. before ++ trace_line i t (get_or answers i answer)) (sym at)
-    ∙ ap (λ a. before ++ trace_line i turn a) (sym at') in
-    subst P (sym whole) (first ▸ next)
