@@ -1,1 +1,2 @@
 pub mod RunMore
+pub mod Forgotten

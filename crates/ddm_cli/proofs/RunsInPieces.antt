@@ -21,16 +21,17 @@ use Rattle.tree_rules.specs.Witness.{ops_of_answers}
 use Rattle.start_parts.proofs.Names.{run-names}
 use Rattle.headline.proofs.Runs.{run-ops}
 use Rattle.checkpoint.specs.Saved.{saved}
-use Rattle.ddm_tree.specs.Machine.{MachineState}
+use Rattle.ddm_tree.specs.Machine.{MachineState, without_ops}
 use Rattle.any_runs.specs.Run.{AreBelow, CanRun, NameParts, answers_in, counts_in, ran, with_room}
+use Rattle.any_runs.proofs.Forgotten.{names-alike, run-answers, run-machines}
 use Rattle.any_runs.proofs.RunMore.{counted-below, counted-plus, plus, plus-swap, same-counts}
 use Rattle.tree_model.specs.State.Shape.{Frame, depth_of, levels_of}
 use Rattle.tree_model.proofs.FrameKept.{run-frame}
-use Rattle.text_model.specs.Report.{report_of}
+use Rattle.text_model.specs.Report.{report_of, summary_of}
 use Rattle.text_model.specs.Trace.{trace_from, trace_text}
 use Rattle.text_model.proofs.Numbered.{trace_from-append}
-use Rattle.ddm_cli.specs.Made.{CanCount, CanGoOn, HasAllMade, HasMade, counts_plus}
-use Rattle.ddm_cli.specs.Printed.{Writes, is_trace, made_text, printed, resumed_report, unjam_line, unjam_text_of, saved_after}
+use Rattle.ddm_cli.specs.Made.{CanCount, CanGoOn, HasAllMade, HasMade, counts_plus, kept_of}
+use Rattle.ddm_cli.specs.Printed.{Writes, is_summary, is_trace, made_text, printed, resumed_report, unjam_line, unjam_text_of, saved_after}
 use Rattle.ddm_cli.specs.Reads.{HasRead, WritesRan, WritesRest}
 use Rattle.ddm_cli.specs.Told.{ScheduleGiven, written}
 use Rattle.ddm_cli.specs.declared.command.Prints.{Prints}
@@ -121,8 +122,33 @@ counts_assoc : (a b c : RunCounts) → counts_plus (counts_plus a b) c ≡ count
 counts_assoc a b c = same-counts (counts_plus (counts_plus a b) c) (counts_plus a (counts_plus b c)) (omega arith) (omega arith) (omega arith) (omega arith)
 
 -- where none were before, the counts are those of the run
-pub counts_run : (keep : Bool) (s now : MachineState) (made : Made) (turns : List Turn) → HasMade no_counts keep s now made turns → made.counts ≡ counts_of (run_of turns s.machine).answers
-counts_run keep s now made turns has = has.counts ∙ nothing_before (counts_of (run_of turns s.machine).answers)
+pub counts_run : (keep forgets : Bool) (s now : MachineState) (made : Made) (turns : List Turn) → HasMade no_counts keep forgets s now made turns → made.counts ≡ counts_of (run_of turns s.machine).answers
+counts_run keep forgets s now made turns has = has.counts ∙ nothing_before (counts_of (run_of turns s.machine).answers)
+
+-- ---- machines that have all but forgotten operations in common
+
+module _ (forgets : Bool) (m n : MachineValue) (same : kept_of forgets m ≡ kept_of forgets n) where
+  parts_kept : (u : Turn) → names_part u m ≡ names_part u n
+  parts_kept u = by forgets same where
+    by : (f : Bool) → kept_of f m ≡ kept_of f n → names_part u m ≡ names_part u n
+    by true is = names-alike u m n is
+    by false is = ap (names_part u) is
+
+  answers_kept : (turns : List Turn) → (run_of turns m).answers ≡ (run_of turns n).answers
+  answers_kept turns = by forgets same where
+    by : (f : Bool) → kept_of f m ≡ kept_of f n → (run_of turns m).answers ≡ (run_of turns n).answers
+    by true is = run-answers turns m n is
+    by false is = ap (λ k. (run_of turns k).answers) is
+
+  run_kept : (turns : List Turn) → kept_of forgets (run_of turns m).machine ≡ kept_of forgets (run_of turns n).machine
+  run_kept turns = by forgets same where
+    by : (f : Bool) → kept_of f m ≡ kept_of f n → kept_of f (run_of turns m).machine ≡ kept_of f (run_of turns n).machine
+    by true is = run-machines turns m n is
+    by false is = ap (λ k. (run_of turns k).machine) is
+
+kept_twice : (forgets : Bool) (m : MachineValue) → kept_of forgets (kept_of forgets m) ≡ kept_of forgets m
+kept_twice true m = refl
+kept_twice false m = refl
 
 -- ---- turns of a machine that can go on with them
 
@@ -143,13 +169,13 @@ starts_on t tree s start = record {
 
 module _ (levels : List (List ℕ)) (first : RunCounts) (s : MachineState) (start : CanGoOn levels first s) where
   -- nothing yet
-  pub nothing_made : (keep : Bool) (made : Made) → made.counts ≡ first → made.trace.items ≡ [] → HasMade first keep s s made []
+  pub nothing_made : (keep forgets : Bool) (made : Made) → made.counts ≡ first → made.trace.items ≡ [] → HasMade first keep forgets s s made []
   unfolding run_of counts_of trace_from
-  nothing_made keep made counts trace = record { machine = refl; number = omega arith; counts = counts ∙ sym (nothing_more first); trace_kept = kept_none keep made.trace.items trace }
+  nothing_made keep forgets made counts trace = record { machine = refl; number = omega arith; counts = counts ∙ sym (nothing_more first); trace_kept = kept_none keep made.trace.items trace }
 
-  module _ (keep : Bool) (now : MachineState) (made : Made) (turns more : List Turn) (has : HasMade first keep s now made turns) (given : GivesTurnsOf (shape_view levels) first.turns (turns ++ more)) where
+  module _ (keep forgets : Bool) (now : MachineState) (made : Made) (turns more : List Turn) (has : HasMade first keep forgets s now made turns) (given : GivesTurnsOf (shape_view levels) first.turns (turns ++ more)) where
     more_named : NameParts more now.machine
-    more_named = subst (λ (m : MachineValue). NameParts more m) (sym has.machine) (All-weaker (λ u. names_part u s.machine ≡ true) (λ u. names_part u (run_of turns s.machine).machine ≡ true) (λ u here. run-names u turns s.machine ∙ here) more (start.names more each)) where
+    more_named = All-weaker (λ u. names_part u s.machine ≡ true) (λ u. names_part u now.machine ≡ true) (λ u here. parts_kept forgets now.machine (run_of turns s.machine).machine has.machine u ∙ run-names u turns s.machine ∙ here) more (start.names more each) where
       each : All (IsTurnOf (shape_view levels)) more
       each = subst (All (IsTurnOf (shape_view levels))) (drop_front turns more) (All-drop (IsTurnOf (shape_view levels)) (length turns) (turns ++ more) given.each)
 
@@ -174,13 +200,13 @@ module _ (levels : List (List ℕ)) (first : RunCounts) (s : MachineState) (star
     can_make = record { given = given; named = more_named; few = more_counted; counted = can_count }
 
     -- and were made
-    module _ (after : MachineState) (made' : Made) (is : after ≡ ran more (with_room (length more) now)) (counts : made'.counts ≡ counts_plus made.counts (counts_in more now))
+    module _ (after : MachineState) (made' : Made) (is : after ≡ record (ran more (with_room (length more) now)) { machine = kept_of forgets (run_of more now.machine).machine }) (counts : made'.counts ≡ counts_plus made.counts (counts_in more now))
         (kept : made'.trace.items ≡ (if keep then made.trace.items ++ trace_from made.counts.turns more (answers_in more now) else made.trace.items)) where
       counts_are : made'.counts ≡ counts_plus first (counts_of (run_of (turns ++ more) s.machine).answers)
       counts_are =
           let of_turns = counts_of (run_of turns s.machine).answers in
           counts ∙ ap (λ (c : RunCounts). counts_plus c (counts_in more now)) has.counts ∙ counts_assoc first of_turns (counts_in more now)
-          ∙ ap (counts_plus first) (ap (λ (m : MachineValue). counts_plus of_turns (counts_of (run_of more m).answers)) has.machine ∙ sym (counts_append (run_of turns s.machine).answers (run_of more (run_of turns s.machine).machine).answers) ∙ ap counts_of (sym (answers_append turns more s.machine)))
+          ∙ ap (counts_plus first) (ap (λ xs. counts_plus of_turns (counts_of xs)) (answers_kept forgets now.machine (run_of turns s.machine).machine has.machine more) ∙ sym (counts_append (run_of turns s.machine).answers (run_of more (run_of turns s.machine).machine).answers) ∙ ap counts_of (sym (answers_append turns more s.machine)))
 
       -- their lines, and those of the turns before
       lines_are : trace_from first.turns turns (run_of turns s.machine).answers ++ trace_from made.counts.turns more (answers_in more now) ≡ trace_from first.turns (turns ++ more) (run_of (turns ++ more) s.machine).answers
@@ -188,22 +214,26 @@ module _ (levels : List (List ℕ)) (first : RunCounts) (s : MachineState) (star
           let before = (run_of turns s.machine).answers in
           let number : made.counts.turns ≡ first.turns + length turns = ap (λ (c : RunCounts). c.turns) has.counts ∙ ap (λ n. first.turns + n) (turns_counted before ∙ answers_counted turns s.machine) in
           ap (λ n. trace_from first.turns turns before ++ trace_from n more (answers_in more now)) number
-          ∙ ap (λ (m : MachineValue). trace_from first.turns turns before ++ trace_from (first.turns + length turns) more (run_of more m).answers) has.machine
+          ∙ ap (λ xs. trace_from first.turns turns before ++ trace_from (first.turns + length turns) more xs) (answers_kept forgets now.machine (run_of turns s.machine).machine has.machine more)
           ∙ sym (trace_from-append first.turns turns more before (run_of more (run_of turns s.machine).machine).answers (sym (answers_counted turns s.machine)))
           ∙ ap (trace_from first.turns (turns ++ more)) (sym (answers_append turns more s.machine))
 
-      pub more_made : HasMade first keep s after made' (turns ++ more)
+      pub more_made : HasMade first keep forgets s after made' (turns ++ more)
       more_made =
-          let machine : after.machine ≡ (run_of more now.machine).machine = ap (λ (r : MachineState). r.machine) is in
+          let machine : after.machine ≡ kept_of forgets (run_of more now.machine).machine = ap (λ (r : MachineState). r.machine) is in
           let number : after.turns ≡ now.turns + length more = ap (λ (r : MachineState). r.turns) is in
           record {
-            machine = machine ∙ ap (λ (m : MachineValue). (run_of more m).machine) has.machine ∙ sym (machine_append turns more s.machine);
+            machine = ap (kept_of forgets) machine ∙ kept_twice forgets (run_of more now.machine).machine ∙ run_kept forgets now.machine (run_of turns s.machine).machine has.machine more ∙ ap (kept_of forgets) (sym (machine_append turns more s.machine));
             number = omega (arith, number, has.number, length-append turns more);
             counts = counts_are;
             trace_kept = kept_more keep made.trace.items made'.trace.items (trace_from first.turns turns (run_of turns s.machine).answers) (trace_from made.counts.turns more (answers_in more now)) has.trace_kept kept ∙ ap (λ t. if keep then t else []) lines_are;
           }
 
 -- ---- turns that were made
+
+-- the machine is the run's where no operation is forgotten
+pub unforgotten : (forgets : Bool) (first : RunCounts) (keep : Bool) (s now : MachineState) (made : Made) (turns : List Turn) → forgets ≡ false → HasMade first keep forgets s now made turns → HasMade first keep false s now made turns
+unforgotten forgets first keep s now made turns none has = subst (λ f. HasMade first keep f s now made turns) none has
 
 -- of these answers so many complete an instruction
 retired_ops : (answers : List TurnAnswer) → length (ops_of_answers answers) ≡ (counts_of answers).retired
@@ -218,41 +248,49 @@ retired_ops (TurnAnswer.Busy cause ∷ answers) = retired_ops answers
 retired_ops (TurnAnswer.Empty ∷ answers) = retired_ops answers
 
 -- as many as there are operations, where there was none
-pub retired_counted : (keep : Bool) (s now : MachineState) (made : Made) (turns : List Turn) → s.machine.ops ≡ [] → HasMade no_counts keep s now made turns → made.counts.retired ≡ length now.machine.ops
+pub retired_counted : (keep : Bool) (s now : MachineState) (made : Made) (turns : List Turn) → s.machine.ops ≡ [] → HasMade no_counts keep false s now made turns → made.counts.retired ≡ length now.machine.ops
 retired_counted keep s now made turns none has =
     let answers = (run_of turns s.machine).answers in
     let ops : now.machine.ops ≡ ops_of_answers answers = ap (λ (m : MachineValue). m.ops) has.machine ∙ run-ops turns s.machine ∙ ap (λ ops. ops ++ ops_of_answers answers) none in
-    ap (λ (c : RunCounts). c.retired) (counts_run keep s now made turns has) ∙ sym (retired_ops answers) ∙ ap length (sym ops)
+    ap (λ (c : RunCounts). c.retired) (counts_run keep false s now made turns has) ∙ sym (retired_ops answers) ∙ ap length (sym ops)
 
 -- where no trace is kept, the report stands alone
-report_alone : (first : RunCounts) (s now : MachineState) (made : Made) (turns : List Turn) (report : List ℕ) → HasMade first false s now made turns → made.trace.items ++ report ≡ report
+report_alone : (first : RunCounts) (s now : MachineState) (made : Made) (turns : List Turn) (report : List ℕ) → HasMade first false false s now made turns → made.trace.items ++ report ≡ report
 report_alone first s now made turns report has = ap (λ t. t ++ report) has.trace_kept
 
 -- where none came before, the lines that are kept are the whole trace
-trace_made : (s now : MachineState) (made : Made) (turns : List Turn) → HasMade no_counts true s now made turns → made.trace.items ≡ trace_text turns (run_of turns s.machine).answers
+trace_made : (s now : MachineState) (made : Made) (turns : List Turn) → HasMade no_counts true false s now made turns → made.trace.items ≡ trace_text turns (run_of turns s.machine).answers
 unfolding trace_text
 trace_made s now made turns has = has.trace_kept
 
+-- a summary says nothing of the operations
+summary_without : (m : MachineValue) (c : RunCounts) → summary_of (view_of (depth_of m) c m) ≡ summary_of (view_of (depth_of (without_ops m)) c (without_ops m))
+unfolding summary_of view_of
+summary_without m c = refl
+
 -- what is printed of them is what is printed of their run
-pub made_printed : (prints : Prints) (s now : MachineState) (made : Made) (turns : List Turn) → HasMade no_counts (is_trace prints) s now made turns → made_text prints now.machine made ≡ printed prints (depth_of s.machine) turns s.machine
+pub made_printed : (prints : Prints) (s now : MachineState) (made : Made) (turns : List Turn) → HasMade no_counts (is_trace prints) (is_summary prints) s now made turns → made_text prints now.machine made ≡ printed prints (depth_of s.machine) turns s.machine
 unfolding unjam_text_of saved_after
-made_printed Checkpoint s now made turns has = ap (λ (m : MachineValue). saved m made.counts) has.machine ∙ ap (saved (run_of turns s.machine).machine) (counts_run false s now made turns has)
+made_printed Checkpoint s now made turns has = ap (λ (m : MachineValue). saved m made.counts) has.machine ∙ ap (saved (run_of turns s.machine).machine) (counts_run false false s now made turns has)
 made_printed Unjamming s now made turns has = ap (λ (m : MachineValue). unjam_line (unjamming_turn m)) has.machine
-made_printed Summary s now made turns has = ran_summary turns s.machine now.machine made.counts (counts_run false s now made turns has) has.machine
+made_printed Summary s now made turns has =
+    let after = (run_of turns s.machine).machine in
+    summary_without now.machine made.counts ∙ ap (λ m. summary_of (view_of (depth_of m) made.counts m)) has.machine ∙ sym (summary_without after made.counts)
+    ∙ ran_summary turns s.machine after made.counts (counts_run false true s now made turns has) refl
 made_printed Trace s now made turns has =
     ap (λ t. t ++ report_of (view_of (depth_of now.machine) made.counts now.machine)) (trace_made s now made turns has)
-    ∙ ran_trace turns s.machine now.machine made.counts (counts_run true s now made turns has) has.machine (run_of turns s.machine).answers refl
+    ∙ ran_trace turns s.machine now.machine made.counts (counts_run true false s now made turns has) has.machine (run_of turns s.machine).answers refl
 made_printed Report s now made turns has =
-    report_alone no_counts s now made turns _ has ∙ ran_report turns s.machine now.machine made.counts (counts_run false s now made turns has) has.machine
+    report_alone no_counts s now made turns _ has ∙ ran_report turns s.machine now.machine made.counts (counts_run false false s now made turns has) has.machine
 
 pub made_written : {E : Type 0} (prints : Prints) (levels : List (List ℕ)) (told : Option ScheduleGiven) (s now : MachineState) (made : Made) (old new : Option (List ℕ)) (w : Result (Unit {0}) E)
-    → HasAllMade (turns_of levels) told no_counts (is_trace prints) s now made → Writes old new (made_text prints now.machine made) w → WritesRan prints levels told s.machine old new w
+    → HasAllMade (turns_of levels) told no_counts (is_trace prints) (is_summary prints) s now made → Writes old new (made_text prints now.machine made) w → WritesRan prints levels told s.machine old new w
 made_written prints levels told s now made old new w has writes =
     (made_text prints now.machine made, record { turns = has.turns; accepted = has.accepted; text_is = made_printed prints s now made has.turns has.all }, writes)
 
 -- ---- turns behind those of a checkpoint
 
-rest_printed : (first : RunCounts) (s now : MachineState) (made : Made) (turns : List Turn) → HasMade first false s now made turns
+rest_printed : (first : RunCounts) (s now : MachineState) (made : Made) (turns : List Turn) → HasMade first false false s now made turns
     → made.trace.items ++ report_of (view_of (depth_of now.machine) made.counts now.machine) ≡ resumed_report turns (record { machine = s.machine; counts = first })
 unfolding resumed_report
 rest_printed first s now made turns has =
@@ -264,15 +302,19 @@ rest_printed first s now made turns has =
     ∙ ap (λ m. report_of (view_of (depth_of s.machine) (counts_plus first (counts_of (run_of turns s.machine).answers)) m)) has.machine
 
 pub rest_written : {E : Type 0} (levels : List (List ℕ)) (told : Option (List ℕ)) (first : RunCounts) (s now : MachineState) (made : Made) (old new : Option (List ℕ)) (w : Result (Unit {0}) E)
-    → HasAllMade (turns_at levels first.turns) told first false s now made → Writes old new (made.trace.items ++ report_of (view_of (depth_of now.machine) made.counts now.machine)) w
+    → HasAllMade (turns_at levels first.turns) told first false false s now made → Writes old new (made.trace.items ++ report_of (view_of (depth_of now.machine) made.counts now.machine)) w
     → WritesRest levels told (record { machine = s.machine; counts = first }) old new w
 rest_written levels told first s now made old new w has writes = (_, record { turns = has.turns; accepted = has.accepted; text_is = rest_printed first s now made has.turns has.all }, writes)
 
 -- ---- the turns of a schedule file, as those of a run
 
-pub file_made : {E : Type 0} (levels : List (List ℕ)) (told : Option (List ℕ)) (keep : Bool) (s now : MachineState) (r : Result Made E) → IfOk r (λ made. HasAllMade (turns_at levels 0) told no_counts keep s now made)
-    → IfOk r (λ made. HasAllMade (turns_of levels) (option_map written told) no_counts keep s now made)
-file_made levels told keep s now r made = IfOk-weaker r _ _ (λ m has. record { turns = has.turns; accepted = file_accepted levels told has.turns has.accepted; all = has.all }) made
+-- where no operation is forgotten, any could be
+could_forget : (forgets : Bool) (first : RunCounts) (keep : Bool) (s now : MachineState) (made : Made) (turns : List Turn) → HasMade first keep false s now made turns → HasMade first keep forgets s now made turns
+could_forget forgets first keep s now made turns has = record { machine = ap (kept_of forgets) has.machine; number = has.number; counts = has.counts; trace_kept = has.trace_kept }
+
+pub file_made : {E : Type 0} (levels : List (List ℕ)) (told : Option (List ℕ)) (keep forgets : Bool) (s now : MachineState) (r : Result Made E) → IfOk r (λ made. HasAllMade (turns_at levels 0) told no_counts keep false s now made)
+    → IfOk r (λ made. HasAllMade (turns_of levels) (option_map written told) no_counts keep forgets s now made)
+file_made levels told keep forgets s now r made = IfOk-weaker r _ _ (λ m has. record { turns = has.turns; accepted = file_accepted levels told has.turns has.accepted; all = could_forget forgets no_counts keep s now m has.turns has.all }) made
 
 -- ---- the turns of a seed
 
@@ -283,14 +325,14 @@ block_given levels levels' turns block left all same whole known few =
     let each : All (IsTurnOf (shape_view levels)) (turns ++ block) = subst (All (IsTurnOf (shape_view levels))) front (All-take (IsTurnOf (shape_view levels)) (length (turns ++ block)) all known) in
     record { each = subst (λ ls. All (IsTurnOf (shape_view ls)) (turns ++ block)) same each; room = omega (arith, few, ap length whole, length-append (turns ++ block) left) }
 
-module _ (tree_levels : List (List ℕ)) (s : MachineState) (start : CanGoOn tree_levels no_counts s) (keep : Bool) (now : MachineState) (made : Made) (turns : List Turn) (has : HasMade no_counts keep s now made turns) where
+module _ (tree_levels : List (List ℕ)) (s : MachineState) (start : CanGoOn tree_levels no_counts s) (keep forgets : Bool) (now : MachineState) (made : Made) (turns : List Turn) (has : HasMade no_counts keep forgets s now made turns) where
   -- the next block can be made
   pub next_block : (levels : List (List ℕ)) (block left rest all : List Turn) (most : ℕ) → levels ≡ tree_levels → turns ++ rest ≡ all → block ≡ take most rest → left ≡ drop most rest → All (IsTurnOf (shape_view levels)) all → length all ≤ 1048576
       → ((turns ++ block) ++ left ≡ all) × CanMake tree_levels no_counts turns block now made
   next_block levels block left rest all most same so_far front back known few =
       let parts : block ++ left ≡ rest = ap (λ l. l ++ left) front ∙ ap (λ l. take most rest ++ l) back ∙ take-append-drop most rest in
       let whole : (turns ++ block) ++ left ≡ all = append_assoc turns block left ∙ ap (λ l. turns ++ l) parts ∙ so_far in
-      (whole, can_make tree_levels no_counts s start keep now made turns block has (block_given levels tree_levels turns block left all same whole known few))
+      (whole, can_make tree_levels no_counts s start keep forgets now made turns block has (block_given levels tree_levels turns block left all same whole known few))
 
 -- where none is left, all were made
 pub all_made : (turns rest all : List Turn) → turns ++ rest ≡ all → rest ≡ [] → all ≡ turns
@@ -308,11 +350,11 @@ pub record IsNext (levels : List (List ℕ)) (first : RunCounts) (told : Option 
   pub can : CanMake levels first turns more now made
 
 module _ (tree_levels : List (List ℕ)) (first : RunCounts) (s : MachineState) (start : CanGoOn tree_levels first s) (keep : Bool) (told : Option (List ℕ)) (count : ℕ) (reader : ReaderView) (now : MachineState) (made : Made) (turns : List Turn)
-    (read : HasRead tree_levels first.turns told count reader turns) (has : HasMade first keep s now made turns) where
+    (read : HasRead tree_levels first.turns told count reader turns) (has : HasMade first keep false s now made turns) where
   pub next_piece : (levels : List (List ℕ)) (n : ℕ) (into : List ℕ) (new : ReaderView) (none more : List Turn) → levels ≡ tree_levels → none ≡ [] → n ≤ length into → IfSome told (λ file. ReadsPart file count n into) → Fed (shape_view levels) reader (take n into) new none more
       → IsNext tree_levels first told (count + n) new turns more now made
   next_piece levels n into new none more same is few part fed =
       let here = subst (λ ls. Fed (shape_view ls) reader (take n into) new none more) same fed in
       let next = more_read tree_levels first.turns told count reader turns read n into new none more is few part here in
       let given = given_so_far tree_levels first.turns told (count + n) new (turns ++ more) next (omega (arith, start.counted.turns)) in
-      record { read = next; can = can_make tree_levels first s start keep now made turns more has given }
+      record { read = next; can = can_make tree_levels first s start keep false now made turns more has given }

@@ -1,7 +1,8 @@
 -- What turns came to that were made piece by piece.
 -- Letters: s is a machine before them.
-use Rattle.std.specs.Prelude.{◌≡◌, ℕ, ◌+◌, ◌≤◌, All, Bool, List, [], length, Option, if◌then◌else◌}
+use Rattle.std.specs.Prelude.{◌≡◌, ℕ, ◌+◌, ◌≤◌, All, Bool, true, false, List, [], length, Option, if◌then◌else◌}
 use Rattle.ddm_types.specs.declared.turns.Turn.{Turn}
+use Rattle.tree_model.specs.State.Values.{MachineValue}
 use Rattle.tree_model.specs.Turns.Machine.{run_of}
 use Rattle.text_model.specs.declared.RunCounts.{RunCounts}
 use Rattle.text_model.specs.ReadBack.{IsTurnOf}
@@ -9,7 +10,7 @@ use Rattle.text_model.specs.Run.{counts_of}
 use Rattle.text_model.specs.Trace.{trace_from}
 use Rattle.any_runs.specs.Run.{AreBelow, NameParts}
 use Rattle.schedule_log.specs.Shapes.{shape_view}
-use Rattle.ddm_tree.specs.Machine.{MachineState}
+use Rattle.ddm_tree.specs.Machine.{MachineState, without_ops}
 use Rattle.ddm_cli.specs.Causes.{AcceptedAs}
 use Rattle.ddm_cli.specs.declared.making.Made.{Made}
 
@@ -31,16 +32,21 @@ pub record CanGoOn (levels : List (List ℕ)) (first : RunCounts) (s : MachineSt
   pub few : s.turns ≤ 1048576
   pub counted : AreBelow 1048577 first
 
--- These turns were made of a machine, whose turns before came to `first`: machine and counts are those of their run, and for a trace
--- their lines are kept, of which the first one is counted behind those turns.
-pub record HasMade (first : RunCounts) (keep : Bool) (s after : MachineState) (made : Made) (turns : List Turn) : Type 0 where
-  pub machine : after.machine ≡ (run_of turns s.machine).machine
+-- a machine, without its operations where they are forgotten
+abbrev pub kept_of : Bool → MachineValue → MachineValue
+kept_of true m = without_ops m
+kept_of false m = m
+
+-- These turns were made of a machine, whose turns before came to `first`: machine and counts are those of their run, but for operations
+-- that are forgotten, and for a trace their lines are kept, of which the first one is counted behind those turns.
+pub record HasMade (first : RunCounts) (keep forgets : Bool) (s after : MachineState) (made : Made) (turns : List Turn) : Type 0 where
+  pub machine : kept_of forgets after.machine ≡ kept_of forgets (run_of turns s.machine).machine
   pub number : after.turns ≡ s.turns + length turns
   pub counts : made.counts ≡ counts_plus first (counts_of (run_of turns s.machine).answers)
   pub trace_kept : made.trace.items ≡ (if keep then trace_from first.turns turns (run_of turns s.machine).answers else [])
 
 -- and they are all that the schedule has, where it is told
-pub record HasAllMade {A : Type 0} (judge : A → Option (List Turn)) (told : Option A) (first : RunCounts) (keep : Bool) (s after : MachineState) (made : Made) : Type 0 where
+pub record HasAllMade {A : Type 0} (judge : A → Option (List Turn)) (told : Option A) (first : RunCounts) (keep forgets : Bool) (s after : MachineState) (made : Made) : Type 0 where
   pub turns : List Turn
   pub accepted : AcceptedAs judge told turns
-  pub all : HasMade first keep s after made turns
+  pub all : HasMade first keep forgets s after made turns

@@ -52,6 +52,14 @@ is_trace Summary = false
 is_trace Unjamming = false
 is_trace Checkpoint = false
 
+-- no operation is printed, so each is forgotten once it is counted
+abbrev pub is_summary : Prints → Bool
+is_summary Report = false
+is_summary Trace = false
+is_summary Summary = true
+is_summary Unjamming = false
+is_summary Checkpoint = false
+
 -- the same of turns that were made, whose trace is kept where it is asked for
 abbrev pub made_text : Prints → MachineValue → Made → List ℕ
 made_text Summary m made = summary_of (view_of (depth_of m) made.counts m)

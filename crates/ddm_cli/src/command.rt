@@ -1,3 +1,6 @@
+ghost use Rattle.std.specs.Prelude.{◌≡◌};
+ghost use Rattle.ddm_cli.specs.Printed.{is_summary, is_trace};
+
 /// What is printed of a run.
 #[derive(Clone, Copy, Debug, PartialEq, Eq)]
 pub enum Prints {
@@ -9,6 +12,28 @@ pub enum Prints {
     Unjamming,
     /// The machine and what its turns came to, as bytes of a file.
     Checkpoint,
+}
+
+impl Prints {
+    /// Whether a line for each turn is kept while they are made.
+    pub(crate) fn is_trace(self) -> bool
+        ensures { result ≡ is_trace self }
+    {
+        match self {
+            Prints::Trace => true,
+            Prints::Report | Prints::Summary | Prints::Unjamming | Prints::Checkpoint => false,
+        }
+    }
+
+    /// Whether no operation is printed, so that none is kept.
+    pub(crate) fn is_summary(self) -> bool
+        ensures { result ≡ is_summary self }
+    {
+        match self {
+            Prints::Summary => true,
+            Prints::Report | Prints::Trace | Prints::Unjamming | Prints::Checkpoint => false,
+        }
+    }
 }
 
 /// Where an image comes from.

@@ -1,4 +1,4 @@
-ghost use Rattle.std.specs.Prelude.{◌≡◌, ◌<◌, ◌≤◌, ◌+◌, ◌++◌, [], ℕ, List, Some, length, vec_len, IfOk, IfErr, OnOk, if◌then◌else◌};
+ghost use Rattle.std.specs.Prelude.{◌≡◌, ◌<◌, ◌≤◌, ◌+◌, ◌++◌, [], ℕ, List, Some, false, length, vec_len, IfOk, IfErr, OnOk, if◌then◌else◌};
 ghost use Rattle.text_model.specs.Run.{no_counts};
 ghost use Rattle.text_model.specs.Trace.{trace_from};
 ghost use Rattle.bus_laws.specs.IsTree.{IsTree};
@@ -6,19 +6,20 @@ ghost use Rattle.any_machine.specs.Any.{machine_state};
 ghost use Rattle.any_runs.specs.Run.{CanRun, NameParts, answers_in, counts_in, ran, with_room};
 ghost use Rattle.ddm_cli.specs.Causes.{IsRefused, IsUnscheduled, ScheduleCause};
 ghost use Rattle.ddm_cli.specs.Commands.{AreFew};
-ghost use Rattle.ddm_cli.specs.Made.{CanCount, CanGoOn, HasAllMade, counts_plus};
+ghost use Rattle.ddm_cli.specs.Made.{CanCount, CanGoOn, HasAllMade, counts_plus, kept_of};
 ghost use Rattle.ddm_cli.specs.Parts.{turns_at, turns_of};
+ghost use Rattle.ddm_cli.specs.Printed.{is_summary, is_trace};
 ghost use Rattle.ddm_cli.specs.Told as Told;
 ghost use Rattle.ddm_cli.specs.Told.{schedule_faults, schedule_told};
 ghost use Rattle.ddm_cli.specs.Views.{turns_from};
 
-use crate::command::TurnSource;
+use crate::command::{Prints, TurnSource};
 use crate::limits::BLOCK_TURNS;
 use crate::status::Status;
 use ddm_outside::Shelf;
 use ddm_types::{BusNo, NoMemory, Turn, TurnAnswer};
 use report::{FileRole, push_trace};
-use run_engine::{AnyMachine, run};
+use run_engine::{AnyMachine, forget_ops, run};
 use schedule_log::{FeedError, ScheduleReader, SeededTurns};
 use std::alloc::Global;
 use text_model::RunCounts;
@@ -100,7 +101,7 @@ pub fn schedule_made<F: Shelf>(
 ) -> Result<Made, Status>
     requires room { 0 < length buffer.old }
     requires start { CanGoOn tree.now.levels first (machine_state machine.old) }
-    ensures all { IfOk result (λ made. HasAllMade (turns_at tree.now.levels first.turns) (F.told files.old name.now) first keep (machine_state machine.old) (machine_state machine.new) made) }
+    ensures all { IfOk result (λ made. HasAllMade (turns_at tree.now.levels first.turns) (F.told files.old name.now) first keep false (machine_state machine.old) (machine_state machine.new) made) }
     ensures cause { IfErr result (ScheduleCause (IsUnscheduled tree.now.levels first.turns) (F.told files.old name.now) (F.faults files.old name.now) (F.faults files.new name.now)) }
     ensures later { (other : List ℕ) → F.faults files.old other ≤ F.faults files.new other }
 {
@@ -136,6 +137,15 @@ fn turn_block(alloc: Global) -> Result<Vec<Turn>, NoMemory>
     Ok(Vec::from_elem(alloc, Turn::Down { bus: BusNo(0) }, BLOCK_TURNS)?)
 }
 
+// Forgets the operations of a machine of which none is printed.
+fn forget_unprinted(machine: &mut AnyMachine, prints: Prints)
+    ensures { machine_state machine.new ≡ record (machine_state machine.old) { machine = kept_of (is_summary prints) (machine_state machine.old).machine } }
+{
+    if prints.is_summary() {
+        forget_ops(machine);
+    }
+}
+
 // Makes the turns of a seed, those of each block before the next one is asked for.
 fn seed_made(
     alloc: Global,
@@ -143,12 +153,12 @@ fn seed_made(
     seed: u64,
     count: u32,
     machine: &mut AnyMachine,
-    keep: bool,
+    prints: Prints,
 ) -> Result<Made, NoMemory>
     requires few { count ≤ 1048576 }
     requires tree { IsTree tree.now }
     requires start { CanGoOn tree.now.levels no_counts (machine_state machine.old) }
-    ensures { IfOk result (λ made. HasAllMade (turns_of tree.now.levels) (Some (Told.seeded seed count)) no_counts keep (machine_state machine.old) (machine_state machine.new) made) }
+    ensures { IfOk result (λ made. HasAllMade (turns_of tree.now.levels) (Some (Told.seeded seed count)) no_counts (is_trace prints) (is_summary prints) (machine_state machine.old) (machine_state machine.new) made) }
 {
     let mut left = SeededTurns::new(alloc, &tree.nodes)?;
     left.begin(seed, count);
@@ -160,7 +170,14 @@ fn seed_made(
         if size == 0 {
             return Ok(made);
         }
-        make_turns(machine, &block[..size], &mut answers, &mut made, keep)?;
+        make_turns(
+            machine,
+            &block[..size],
+            &mut answers,
+            &mut made,
+            prints.is_trace(),
+        )?;
+        forget_unprinted(machine, prints);
     }
 }
 
@@ -172,13 +189,13 @@ pub fn turns_made<F: Shelf>(
     buffer: &mut [u8],
     tree: &TreeConfig,
     machine: &mut AnyMachine,
-    keep: bool,
+    prints: Prints,
 ) -> Result<Made, Status>
     requires room { 0 < length buffer.old }
     requires few { AreFew (turns_from turns) }
     requires tree { IsTree tree.now }
     requires start { CanGoOn tree.now.levels no_counts (machine_state machine.old) }
-    ensures all { IfOk result (λ made. HasAllMade (turns_of tree.now.levels) (schedule_told (F.told files.old) (turns_from turns.entry)) no_counts keep (machine_state machine.old) (machine_state machine.new) made) }
+    ensures all { IfOk result (λ made. HasAllMade (turns_of tree.now.levels) (schedule_told (F.told files.old) (turns_from turns.entry)) no_counts (is_trace prints) (is_summary prints) (machine_state machine.old) (machine_state machine.new) made) }
     ensures cause { IfErr result (ScheduleCause (IsRefused tree.now.levels) (schedule_told (F.told files.old) (turns_from turns.entry)) (schedule_faults (F.faults files.old) (turns_from turns.entry)) (schedule_faults (F.faults files.new) (turns_from turns.entry))) }
     ensures later { (other : List ℕ) → F.faults files.old other ≤ F.faults files.new other }
 {
@@ -191,10 +208,10 @@ pub fn turns_made<F: Shelf>(
             tree,
             nothing_counted(),
             machine,
-            keep,
+            prints.is_trace(),
         ),
         TurnSource::Seeded { seed, count } => {
-            Ok(seed_made(alloc, tree, seed, count, machine, keep)?)
+            Ok(seed_made(alloc, tree, seed, count, machine, prints)?)
         }
     }
 }

@@ -1,4 +1,4 @@
-ghost use Rattle.std.specs.Prelude.{◌≡◌, ◌≤◌, ◌++◌, ℕ, List, None, true, length, IfOk, IfErr, OnOk, OnErr};
+ghost use Rattle.std.specs.Prelude.{◌≡◌, ◌≤◌, ◌++◌, ℕ, List, None, true, false, length, IfOk, IfErr, OnOk, OnErr};
 ghost use Rattle.ddm_types.specs.ItemTable.{item_count};
 ghost use Rattle.tree_model.specs.State.Shape.{depth_of};
 ghost use Rattle.tree_model.specs.Turns.Witness.{sorted_ops};
@@ -13,7 +13,7 @@ ghost use Rattle.ddm_cli.specs.Causes.{RanCause};
 ghost use Rattle.ddm_cli.specs.Commands.{AreFew};
 ghost use Rattle.ddm_cli.specs.Lists.{list_refused};
 ghost use Rattle.ddm_cli.specs.Parts.{HasStart};
-ghost use Rattle.ddm_cli.specs.Printed.{Writes, is_trace, made_text};
+ghost use Rattle.ddm_cli.specs.Printed.{Writes, is_summary, made_text};
 ghost use Rattle.ddm_cli.specs.Reads.{WritesRan};
 ghost use Rattle.ddm_cli.specs.Told.{schedule_faults, schedule_told};
 ghost use Rattle.ddm_cli.specs.Views.{turns_from};
@@ -30,15 +30,6 @@ use report::{ReportPieces, sorted_witness, summary_text, write_all, write_pieces
 use run_engine::AnyMachine;
 use std::alloc::Global;
 use tree_config::TreeConfig;
-
-fn is_trace(prints: Prints) -> bool
-    ensures { result ≡ is_trace prints }
-{
-    match prints {
-        Prints::Trace => true,
-        Prints::Report | Prints::Summary | Prints::Unjamming | Prints::Checkpoint => false,
-    }
-}
 
 // Writes the trace that is kept, none where it isn't asked for, and then a report.
 fn write_run<K: Sink>(
@@ -83,7 +74,7 @@ fn write_made<K: Sink>(
     buffer: &mut [u8],
 ) -> Result<Result<(), Failed>, NoMemory>
     requires room { 1024 ≤ length buffer.old }
-    requires counted { made.now.counts.retired ≡ length (machine_state machine.now).machine.ops }
+    requires counted { is_summary prints ≡ false → made.now.counts.retired ≡ length (machine_state machine.now).machine.ops }
     requires large { prints ≡ Unjamming → has_large_lists (machine_state machine.now).machine ≡ true }
     ensures written { IfOk result (Writes (K.held out.old) (K.held out.new) (made_text prints (machine_state machine.now).machine made.now)) }
     ensures cause { IfOk result (HasCause (K.faults out.old) (K.faults out.new)) }
@@ -129,7 +120,6 @@ pub fn write_ran<F: Shelf, K: Sink>(
     if let Some(key) = list_refused(prints, &tree.sizes(), machine.items().len()) {
         return Err(Status::SmallLists(key));
     }
-    let keep = is_trace(prints);
-    let made = turns_made(alloc, files, turns, buffer, tree, machine, keep)?;
+    let made = turns_made(alloc, files, turns, buffer, tree, machine, prints)?;
     Ok(write_made(alloc, out, machine, &made, prints, buffer)?)
 }

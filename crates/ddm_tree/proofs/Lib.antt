@@ -7,6 +7,7 @@ pub mod Steps
 pub mod Search
 pub mod RulesKept
 pub mod MachineKept
+pub mod Forgotten
 pub mod Recorded
 pub mod NewMachine
 pub mod Reading

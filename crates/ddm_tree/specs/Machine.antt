@@ -32,6 +32,10 @@ pub record MachineState : Type 0 where
 abbrev pub machine_of : List CodeWord → ItemTable → DirValue → List Node → List Op → List Traffic → MachineValue
 machine_of code items top kids ops traffic = record { code = code; items = items; top = top; kids = nodes kids; ops = ops; traffic = traffic }
 
+-- without its operations
+abbrev pub without_ops : MachineValue → MachineValue
+without_ops m = record m { ops = [] }
+
 -- before the first turn
 abbrev pub new_machine : List CodeWord → ItemTable → DirValue → List Node → TreeCounts → MachineValue
 new_machine code items top kids counts = machine_of code items top kids [] (replicate counts.buses no_traffic)

@@ -10,7 +10,7 @@ ghost use Rattle.tree_model.specs.Turns.Tree.{leaf_of_number};
 ghost use Rattle.ddm_tree.specs.Rules.{StaysInOrder};
 ghost use Rattle.ddm_tree.specs.Idle.{AreIdle};
 ghost use Rattle.ddm_tree.specs.Quiet.{AreLearnedBelow, AreNear, HartsAgree, IsTouchedBy, passed_as};
-ghost use Rattle.ddm_tree.specs.Machine.{IsFound, IsNew, has_path, listed_path, new_machine, state_after};
+ghost use Rattle.ddm_tree.specs.Machine.{IsFound, IsNew, has_path, listed_path, new_machine, state_after, without_ops};
 
 use crate::below::turn_under;
 use crate::idle::{Idle, idle_answer, idle_for, note, nothing_known};
@@ -125,6 +125,13 @@ impl<const WORDS: usize, C: Subtree<WORDS>> Machine<WORDS, C> {
             self.spare = n;
         }
         Ok(())
+    }
+
+    /// Forgets its operations, for whoever keeps none. The memory for them stays.
+    pub fn forget_ops(&mut self)
+        ensures { self.new ≡ record self.old { machine = without_ops self.old.machine } }
+    {
+        self.ops.clear();
     }
 
     /// Makes a turn that is known to change nothing, and says whether it is a busy one; any other it doesn't make. It takes no memory.

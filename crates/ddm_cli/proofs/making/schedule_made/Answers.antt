@@ -1,4 +1,4 @@
-use Rattle.std.proofs.Common.{◌≤◌, ◌+◌, ◌++◌, ◌∙◌, List, [], sym, refl, ap, subst, arith}
+use Rattle.std.proofs.Common.{◌≤◌, ◌+◌, ◌++◌, ◌∙◌, false, List, [], sym, refl, ap, subst, arith}
 use Rattle.tree_model.specs.Start.Sources.{TreeValue}
 use Rattle.ddm_types.specs.declared.turns.Turn.{Turn}
 use Rattle.any_machine.specs.Any.{machine_state}
@@ -10,7 +10,7 @@ use Rattle.ddm_cli.proofs.making.schedule_made.Goals as goal
 
 pub reading-init : goal.reading-init
 reading-init g c = record {
-  all = ([], nothing_read c.args.tree.now.levels c.args.first.turns (g.F.Shelf.told c.args.files.now c.args.name.now) c.in_ok-reader.reader [] c.in_ok-reader.ensures refl, nothing_made c.args.tree.now.levels c.args.first (machine_state c.args.machine.now) c.requires.start c.args.keep c.nothing_made-made.result c.nothing_made-made.ensures.counts c.nothing_made-made.ensures.trace);
+  all = ([], nothing_read c.args.tree.now.levels c.args.first.turns (g.F.Shelf.told c.args.files.now c.args.name.now) c.in_ok-reader.reader [] c.in_ok-reader.ensures refl, nothing_made c.args.tree.now.levels c.args.first (machine_state c.args.machine.now) c.requires.start c.args.keep false c.nothing_made-made.result c.nothing_made-made.ensures.counts c.nothing_made-made.ensures.trace);
   none = c.new-turns.ensures.items;
   few = omega arith;
   same = refl;
@@ -52,7 +52,7 @@ reading-preserved g c =
     let more = c.feed.new.turns.items in
     let few_before : c.args.first.turns ≤ 1048576 = omega (arith, c.requires.start.counted.turns) in
     record {
-      all = (turns ++ more, next.read, more_made c.args.tree.now.levels c.args.first (machine_state c.args.machine.now) c.requires.start c.args.keep (machine_state c.reading.machine) c.reading.made turns more has next.can.given (machine_state c.make_turns.new.machine) c.make_turns.new.made (rw value at done.after) (rw value at done.counts) (rw value at done.trace));
+      all = (turns ++ more, next.read, more_made c.args.tree.now.levels c.args.first (machine_state c.args.machine.now) c.requires.start c.args.keep false (machine_state c.reading.machine) c.reading.made turns more has next.can.given (machine_state c.make_turns.new.machine) c.make_turns.new.made (rw value at done.after) (rw value at done.counts) (rw value at done.trace));
       none = c.clear.ensures.items;
       few = few_read c.args.tree.now.levels c.args.first.turns told (c.reading.at + c.in-Ok.n) c.feed.new.self (turns ++ more) next.read few_before c.in-Ok-feed.ensures.1;
       same = c.read.ensures.same ∙ c.reading.invariant.same;

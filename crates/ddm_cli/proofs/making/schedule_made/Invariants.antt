@@ -1,4 +1,4 @@
-use Rattle.std.proofs.Common.{◌≡◌, ◌≤◌, ◌-◌, ℕ, List, []}
+use Rattle.std.proofs.Common.{◌≡◌, ◌≤◌, ◌-◌, ℕ, false, List, []}
 use Rattle.ddm_types.specs.declared.turns.Turn.{Turn}
 use Rattle.any_machine.specs.Any.{machine_state}
 use Rattle.ddm_cli.specs.Made.{HasMade}
@@ -7,7 +7,7 @@ use Rattle.ddm_cli.proofs.making.schedule_made.Given as goal
 
 abbrev pub invariant-reading : goal.invariant-reading
 invariant-reading g l = record {
-  all : (turns : List Turn) × HasRead l.tree.levels l.fn.first.turns (g.F.Shelf.told l.initial.files l.name) l.at l.reader turns × HasMade l.fn.first l.keep (machine_state l.initial.machine) (machine_state l.machine) l.made turns;
+  all : (turns : List Turn) × HasRead l.tree.levels l.fn.first.turns (g.F.Shelf.told l.initial.files l.name) l.at l.reader turns × HasMade l.fn.first l.keep false (machine_state l.initial.machine) (machine_state l.machine) l.made turns;
   none : l.turns.items ≡ [];
   few : l.at ≤ 26214425;
   same : g.F.Shelf.told l.files ≡ g.F.Shelf.told l.initial.files;

@@ -9,12 +9,15 @@ use Rattle.text_model.specs.Seeded.{seeded_turns}
 use Rattle.schedule_log.specs.Seeding.{SeededView}
 use Rattle.schedule_log.specs.Shapes.{shape_view}
 use Rattle.any_machine.specs.Any.{machine_state}
+use Rattle.ddm_tree.specs.Machine.{MachineState}
+use Rattle.ddm_cli.specs.Made.{kept_of}
+use Rattle.ddm_cli.specs.Printed.{is_summary, is_trace}
 use Rattle.ddm_cli.proofs.RunsInPieces.{all_made, block_kept, more_made, next_block, nothing_made}
 use Rattle.ddm_cli.proofs.making.seed_made.Goals as goal
 
 pub making-init : goal.making-init
 making-init c = record {
-  made = ([], refl, nothing_made c.args.tree.now.levels no_counts (machine_state c.args.machine.now) c.requires.start c.args.keep c.nothing_made-made.result (c.nothing_made-made.ensures.counts ∙ c.nothing_counted.ensures) c.nothing_made-made.ensures.trace);
+  made = ([], refl, nothing_made c.args.tree.now.levels no_counts (machine_state c.args.machine.now) c.requires.start (is_trace c.args.prints) (is_summary c.args.prints) c.nothing_made-made.result (c.nothing_made-made.ensures.counts ∙ c.nothing_counted.ensures) c.nothing_made-made.ensures.trace);
   places = c.in_ok-block.ensures;
 }
 
@@ -27,7 +30,7 @@ make_turns-requires-clause-named c =
     let whole = block_kept c.making.block.len c.next_block-size.new.block _ (c.next_block-size.auto.block ∙ c.deref_mut.ensures.len) in
     let front = ap (take c.next_block-size.result) (c.deref.ensures.value ∙ whole) ∙ c.next_block-size.ensures.block in
     let back = ap (λ (v : SeededView). v.left) c.next_block-size.ensures.left in
-    let next = next_block c.args.tree.now.levels (machine_state c.args.machine.now) c.requires.start c.args.keep (machine_state c.making.machine) c.making.made turns has _ (take c.next_block-size.result c.deref.result.now) c.next_block-size.new.self.left c.making.left.left c.begin.new.self.left c.next_block-size.result levels so_far front back known few in
+    let next = next_block c.args.tree.now.levels (machine_state c.args.machine.now) c.requires.start (is_trace c.args.prints) (is_summary c.args.prints) (machine_state c.making.machine) c.making.made turns has _ (take c.next_block-size.result c.deref.result.now) c.next_block-size.new.self.left c.making.left.left c.begin.new.self.left c.next_block-size.result levels so_far front back known few in
     next.1.named
 
 pub make_turns-requires-clause-few : goal.make_turns-requires-clause-few
@@ -39,7 +42,7 @@ make_turns-requires-clause-few c =
     let whole = block_kept c.making.block.len c.next_block-size.new.block _ (c.next_block-size.auto.block ∙ c.deref_mut.ensures.len) in
     let front = ap (take c.next_block-size.result) (c.deref.ensures.value ∙ whole) ∙ c.next_block-size.ensures.block in
     let back = ap (λ (v : SeededView). v.left) c.next_block-size.ensures.left in
-    let next = next_block c.args.tree.now.levels (machine_state c.args.machine.now) c.requires.start c.args.keep (machine_state c.making.machine) c.making.made turns has _ (take c.next_block-size.result c.deref.result.now) c.next_block-size.new.self.left c.making.left.left c.begin.new.self.left c.next_block-size.result levels so_far front back known few in
+    let next = next_block c.args.tree.now.levels (machine_state c.args.machine.now) c.requires.start (is_trace c.args.prints) (is_summary c.args.prints) (machine_state c.making.machine) c.making.made turns has _ (take c.next_block-size.result c.deref.result.now) c.next_block-size.new.self.left c.making.left.left c.begin.new.self.left c.next_block-size.result levels so_far front back known few in
     next.1.few
 
 pub make_turns-requires-clause-counted : goal.make_turns-requires-clause-counted
@@ -51,7 +54,7 @@ make_turns-requires-clause-counted c =
     let whole = block_kept c.making.block.len c.next_block-size.new.block _ (c.next_block-size.auto.block ∙ c.deref_mut.ensures.len) in
     let front = ap (take c.next_block-size.result) (c.deref.ensures.value ∙ whole) ∙ c.next_block-size.ensures.block in
     let back = ap (λ (v : SeededView). v.left) c.next_block-size.ensures.left in
-    let next = next_block c.args.tree.now.levels (machine_state c.args.machine.now) c.requires.start c.args.keep (machine_state c.making.machine) c.making.made turns has _ (take c.next_block-size.result c.deref.result.now) c.next_block-size.new.self.left c.making.left.left c.begin.new.self.left c.next_block-size.result levels so_far front back known few in
+    let next = next_block c.args.tree.now.levels (machine_state c.args.machine.now) c.requires.start (is_trace c.args.prints) (is_summary c.args.prints) (machine_state c.making.machine) c.making.made turns has _ (take c.next_block-size.result c.deref.result.now) c.next_block-size.new.self.left c.making.left.left c.begin.new.self.left c.next_block-size.result levels so_far front back known few in
     next.1.counted
 
 pub making-preserved : goal.making-preserved
@@ -63,12 +66,13 @@ making-preserved c =
     let whole = block_kept c.making.block.len c.next_block-size.new.block _ (c.next_block-size.auto.block ∙ c.deref_mut.ensures.len) in
     let front = ap (take c.next_block-size.result) (c.deref.ensures.value ∙ whole) ∙ c.next_block-size.ensures.block in
     let back = ap (λ (v : SeededView). v.left) c.next_block-size.ensures.left in
-    let next = next_block c.args.tree.now.levels (machine_state c.args.machine.now) c.requires.start c.args.keep (machine_state c.making.machine) c.making.made turns has _ (take c.next_block-size.result c.deref.result.now) c.next_block-size.new.self.left c.making.left.left c.begin.new.self.left c.next_block-size.result levels so_far front back known few in
+    let next = next_block c.args.tree.now.levels (machine_state c.args.machine.now) c.requires.start (is_trace c.args.prints) (is_summary c.args.prints) (machine_state c.making.machine) c.making.made turns has _ (take c.next_block-size.result c.deref.result.now) c.next_block-size.new.self.left c.making.left.left c.begin.new.self.left c.next_block-size.result levels so_far front back known few in
     let done = c.in_ok-make_turns.ensures in
     let more = take c.next_block-size.result c.deref.result.now in
     let places : 0 < vec_len c.making.block = c.making.invariant.places in
+    let forgot = c.forget_unprinted.ensures ∙ ap (λ (s : MachineState). record s { machine = kept_of (is_summary c.args.prints) s.machine }) done.after in
     record {
-      made = (turns ++ more, next.0, more_made c.args.tree.now.levels no_counts (machine_state c.args.machine.now) c.requires.start c.args.keep (machine_state c.making.machine) c.making.made turns more has next.1.given (machine_state c.make_turns.new.machine) c.make_turns.new.made done.after done.counts done.trace);
+      made = (turns ++ more, next.0, more_made c.args.tree.now.levels no_counts (machine_state c.args.machine.now) c.requires.start (is_trace c.args.prints) (is_summary c.args.prints) (machine_state c.making.machine) c.making.made turns more has next.1.given (machine_state c.forget_unprinted.new.machine) c.make_turns.new.made forgot done.counts (rw c.is_trace.ensures at done.trace));
       places = places;
     }
 

@@ -4,12 +4,13 @@ use Rattle.ddm_types.specs.declared.turns.Turn.{Turn}
 use Rattle.any_machine.specs.Any.{machine_state}
 use Rattle.text_model.specs.Run.{no_counts}
 use Rattle.ddm_cli.specs.Made.{HasMade}
+use Rattle.ddm_cli.specs.Printed.{is_summary, is_trace}
 use Rattle.ddm_cli.proofs.making.seed_made.Given as goal
 
 -- some turns were made, and the others are left; the block has places
 abbrev pub invariant-making : goal.invariant-making
 invariant-making l = record {
-  made : (turns : List Turn) × (turns ++ l.left.left ≡ l.initial.left.left) × HasMade no_counts l.keep (machine_state l.initial.machine) (machine_state l.machine) l.made turns;
+  made : (turns : List Turn) × (turns ++ l.left.left ≡ l.initial.left.left) × HasMade no_counts (is_trace l.prints) (is_summary l.prints) (machine_state l.initial.machine) (machine_state l.machine) l.made turns;
   places : 0 < vec_len l.block;
 }
 

@@ -3,6 +3,7 @@ use Rattle.std.proofs.lemmas.Result.{IfErr-weaker}
 use Rattle.text_model.specs.declared.RunCounts.{RunCounts}
 use Rattle.any_machine.specs.Any.{machine_state}
 use Rattle.ddm_cli.specs.Made.{CanGoOn}
+use Rattle.ddm_cli.specs.Printed.{is_summary, is_trace}
 use Rattle.ddm_cli.proofs.RunsInPieces.{file_made}
 use Rattle.ddm_cli.proofs.Taken.{file_caused}
 use Rattle.ddm_cli.proofs.making.turns_made.Goals as goal
@@ -12,8 +13,8 @@ schedule_made-requires-clause-start g c = subst (λ (first : RunCounts). CanGoOn
 
 pub returns-in-File-clause-all : goal.returns-in-File-clause-all
 returns-in-File-clause-all g c =
-    let made = rw c.nothing_counted.ensures at c.schedule_made.ensures.all in
-    rw c.in-File.is (file_made c.args.tree.now.levels (g.F.Shelf.told c.args.files.now c.in-File.name.now) c.args.keep (machine_state c.args.machine.now) (machine_state c.schedule_made.new.machine) c.schedule_made.result made)
+    let made = rw (c.nothing_counted.ensures, c.is_trace.ensures) at c.schedule_made.ensures.all in
+    rw c.in-File.is (file_made c.args.tree.now.levels (g.F.Shelf.told c.args.files.now c.in-File.name.now) (is_trace c.args.prints) (is_summary c.args.prints) (machine_state c.args.machine.now) (machine_state c.schedule_made.new.machine) c.schedule_made.result made)
 
 pub returns-in-File-clause-cause : goal.returns-in-File-clause-cause
 returns-in-File-clause-cause g c =
