@@ -71,15 +71,15 @@ fn column_of(turn: Turn) -> usize
     }
 }
 
-/// Whether a turn of which this is known is busy, if it is known to change nothing.
+/// Whether a turn of which this is known is busy, if it is known to change nothing. No branch depends on whether it is.
 #[inline(always)]
 fn busy_if(known: Known) -> Option<bool>
     ensures { result ≡ busy_if known }
 {
+    let busy = matches!(known, Known::Busy);
     match known {
         Known::Nothing => None,
-        Known::Quiet => Some(false),
-        Known::Busy => Some(true),
+        Known::Quiet | Known::Busy => Some(busy),
     }
 }
 
