@@ -2,7 +2,7 @@
 use Rattle.std.proofs.Common.{◌≡◌, ◌≢◌, ℕ, zero, suc, ◌<◌, ◌≤◌, ◌++◌, ◌⊎◌, inl, inr, Bool, true, false, List, [], ◌∷◌, length, map, Option, Some, None, refl, sym, ap, subst, ◌∙◌, arith}
 use Rattle.std.specs.Prelude.{nat_lt, slice_get, slice_set}
 use Rattle.std.proofs.lemmas.Bool.{ltb-true, ltb-false}
-use Rattle.std.proofs.lemmas.List.{append-nil, get_or-set_same, get_or-set_other, set-get_or, set_past}
+use Rattle.std.proofs.lemmas.List.{append-nil, get_or_past, get_or-set_same, get_or-set_other, set-get_or, set_past}
 use Rattle.std.proofs.lemmas.Option.{none-some, same_Some}
 use native.Mathlib.Decide.{ℕ_discrete}
 use Rattle.ddm_types.specs.declared.answers.LogEntry.{LogEntry}
@@ -17,7 +17,7 @@ use Rattle.ddm_types.specs.Keys.{key_on}
 use Rattle.flat_model.specs.Hart.{ask_of}
 use Rattle.tree_model.specs.declared.BusTurn.{BusTurn}
 use Rattle.tree_model.specs.State.Values.{LeafValue, DirValue, Node, Nodes, leaf_node, dir_node, nodes, children, MachineValue, root_of}
-use Rattle.tree_model.specs.State.Blank.{no_node}
+use Rattle.tree_model.specs.State.Blank.{no_leaf, no_node}
 use Rattle.tree_model.specs.State.Leaf.{buffer_full, free_way, waiting_item}
 use Rattle.tree_model.specs.State.Shape.{skeleton}
 use Rattle.tree_model.specs.Laws.{Kept, leaf_kept, dir_kept, kept_of}
@@ -31,17 +31,20 @@ use Rattle.tree_model.specs.State.Place.{Where, at_top}
 use Rattle.tree_model.proofs.BusKeeps.{bus_step-keeps}
 use Rattle.tree_model.proofs.Children.{children-nodes, nodes-children}
 use Rattle.tree_model.proofs.FrameKept.{turn-frame}
+use Rattle.tree_rules.specs.Bus.Rules.{IsTreeOk}
 use Rattle.split_bus.specs.Outcomes.{is_granted}
 use Rattle.ddm_tree.specs.declared.idle.Idle.{Idle}
-use Rattle.ddm_tree.specs.Idle.{AreIdle, AreNoted, IsIdle, IsKnown, idle_answer, idle_for, idle_there, idle_told, is_seen, is_told, may_change, node_rests, rests_by, still_known}
+use Rattle.ddm_tree.specs.Idle.{AreIdle, AreNoted, IsIdle, IsKnown, answered_by, idle_answer, idle_for, idle_there, idle_told, is_seen, is_told, may_change, node_rests, rests_by, still_known}
 use Rattle.ddm_tree.specs.Machine.{listed_path}
 use Rattle.ddm_tree.specs.Path.{below, node_at, path_to, put_at, node_answer, node_turned}
 use Rattle.ddm_tree.specs.Quiet.{AreApart, AreNear, IsNoneOf}
 use Rattle.ddm_tree.specs.Ready.{Leads}
 use Rattle.ddm_tree.proofs.Along.{along}
-use Rattle.ddm_tree.proofs.Lasting.{idle-rests, untold-rests}
+use Rattle.ddm_tree.proofs.Lasting.{IsLasting, idle-rests, lasting, lasting-rests}
 use Rattle.ddm_tree.proofs.QuietNear.{far-in}
+use Rattle.ddm_tree.proofs.StillWaits.{step-still}
 use Rattle.ddm_tree.proofs.Untold.{step-untold}
+use Rattle.ddm_tree.proofs.WaitsOn.{Ruled, nowhere, ruled-at, still-waits}
 
 -- ---- an idle hart's deed has nothing to do with the moment and the victim
 
@@ -207,6 +210,23 @@ put-same (i ∷ p) (dir_node d ns) =
 pub further : (p r : List ℕ) (n : Node) → node_at (p ++ r) n ≡ node_at r (node_at p n)
 further [] r n = refl
 further (i ∷ p) r n = further p r (child_at i (below n))
+
+-- what was put where a directory stands is found there
+
+module _ (d : DirValue) (ns : Nodes) (new : Node) where
+  no-dir : (q : List ℕ) → node_at q no_node ≡ dir_node d ns → ⊥
+  no-dir q is =
+      let both : leaf_node no_leaf ≡ dir_node d ns = sym (nowhere q) ∙ is in
+      cc
+
+  found-kid : (i : ℕ) (p : List ℕ) (e : DirValue) (ms : Nodes) → (node_at p (put_at p new (child_at i (children ms))) ≡ new) → (b : Bool) → nat_lt i (length (children ms)) ≡ b → node_at p (child_at i (children ms)) ≡ dir_node d ns → node_at (i ∷ p) (put_at (i ∷ p) new (dir_node e ms)) ≡ new
+  found-kid i p e ms kid true is there = put-kids i p p i e ms new ∙ ap (node_at p) (kid-same i (children ms) _ (ltb-true _ _ is)) ∙ kid
+  found-kid i p e ms kid false is there = absurd (no-dir p (ap (node_at p) (sym (get_or_past (children ms) i no_node (ltb-false _ _ is))) ∙ there))
+
+  pub put-found : (p : List ℕ) (n : Node) → node_at p n ≡ dir_node d ns → node_at p (put_at p new n) ≡ new
+  put-found [] n there = refl
+  put-found (i ∷ p) (leaf_node v) there = absurd (no-dir p there)
+  put-found (i ∷ p) (dir_node e ms) there = found-kid i p e ms (put-found p (child_at i (children ms)) there) (nat_lt i (length (children ms))) refl there
 
 -- what is so before and after the change is so beneath the changed node, also where the path to it leads nowhere
 module _ (P : Node → Type 0) (new : Node) (r : List ℕ) where
@@ -415,38 +435,49 @@ module _ (code : List CodeWord) (items : ItemTable) (t : Turn) (p : List ℕ) (p
     new-ungranted : is_granted answer ≡ false → new ≡ node_at p n
     new-ungranted e = new-dir ∙ step-ungranted present (bus_turn_of t) over (children kids) (ap is_granted (sym answer-dir) ∙ e) ∙ ap (dir_node over) (nodes-children kids) ∙ sym at-dir.2
 
-    -- a leaf of the bus that granted another item
-    child-kept : (entry : LogEntry) (q : List ℕ) (i : Idle) (w : LeafValue) (c : ℕ) → answer ≡ TurnAnswer.Granted entry → may_change (Some i) entry.item ≡ false → node_at q n ≡ leaf_node w → q ≡ p ++ c ∷ [] → IsIdle code items i (node_at q n) → IsIdle code items i (node_at q (put_at p new n))
-    child-kept entry q i w c grants stays leaf is idle =
-        let at : node_at q n ≡ child_at c (children kids) = ap (λ r. node_at r n) is ∙ further p (c ∷ []) n ∙ ap (λ m. child_at c (below m)) at-dir.2 in
-        let rests : node_rests (child_at c (children kids)) ≡ Some i = ap node_rests (sym at) ∙ idle-rests code items (key_on present p w.done) entry.item w i (node_at q n) leaf stays idle in
-        let untold = (step-untold present over (children kids) (bus_turn_of t) entry (sym answer-dir ∙ grants)).each c in
-        let kid : node_at (c ∷ []) new ≡ child_at c outcome.kids = ap (λ m. child_at c (below m)) new-dir ∙ ap (child_at c) (children-nodes outcome.kids) in
-        let later : node_rests (node_at (c ∷ []) new) ≡ Some i = ap node_rests kid ∙ untold-rests entry.item _ _ i untold stays rests in
-        let there : IsIdle code items i (node_at (c ∷ []) new) = rest-idle code items (node_at (c ∷ []) new) i later in
-        subst (λ r. IsIdle code items i (node_at r (put_at p new n))) (sym is) (beneath (IsIdle code items i) new (c ∷ []) p n there (subst (λ r. IsIdle code items i (node_at r n)) is idle))
+    -- a leaf elsewhere, or one of this bus of which nothing is known that the grant may have changed
+    abbrev IsApartOr : List ℕ → Idle → Option ℕ → Type 0
+    IsApartOr q i o = AreApart q p ⊎ (may_change (Some i) o ≡ false)
 
-    -- a leaf elsewhere, or one of this bus
-    abbrev IsApartOr : List ℕ → Idle → ℕ → Type 0
-    IsApartOr q i x = AreApart q p ⊎ (may_change (Some i) x ≡ false)
+    -- where the rules are kept before and after
+    module _ (count : ℕ) (ruled : IsTreeOk count n) (later : IsTreeOk count (put_at p new n)) where
+      -- a child waits on for what wasn't answered
+      child-lasting : (entry : LogEntry) (c : ℕ) → answer ≡ TurnAnswer.Granted entry → IsLasting (answered_by entry) (child_at c (children kids)) (child_at c outcome.kids)
+      child-lasting entry c grants =
+          let is : (bus_step present (bus_turn_of t) over (children kids)).answer ≡ TurnAnswer.Granted entry = sym answer-dir ∙ grants in
+          let below_old : node_at (p ++ c ∷ []) n ≡ child_at c (children kids) = further p (c ∷ []) n ∙ ap (λ m. child_at c (below m)) at-dir.2 in
+          let below_new : node_at (p ++ c ∷ []) (put_at p new n) ≡ child_at c outcome.kids = further p (c ∷ []) (put_at p new n) ∙ ap (node_at (c ∷ [])) (put-found over kids new p n at-dir.2 ∙ new-dir) ∙ ap (child_at c) (children-nodes outcome.kids) in
+          let before = subst (Ruled count) below_old (ruled-at count (p ++ c ∷ []) n ruled) in
+          let after = subst (Ruled count) below_new (ruled-at count (p ++ c ∷ []) (put_at p new n) later) in
+          lasting entry _ _ ((step-untold present over (children kids) (bus_turn_of t) entry is).each c) (λ none. still-waits count entry.item _ _ before after ((step-still present over (children kids) (bus_turn_of t) entry is none).each c))
 
-    granted-kept : (entry : LogEntry) (q : List ℕ) (i : Idle) (w : LeafValue) → answer ≡ TurnAnswer.Granted entry → node_at q n ≡ leaf_node w → IsApartOr q i entry.item → IsIdle code items i (node_at q n) → (c : ℕ) → q ≡ p ++ c ∷ [] → IsIdle code items i (node_at q (put_at p new n))
-    granted-kept entry q i w grants leaf (inl apart) idle c is = absurd (apart.child c is)
-    granted-kept entry q i w grants leaf (inr stays) idle c is = child-kept entry q i w c grants stays leaf is idle
+      -- a leaf of the bus that granted what may not have answered it
+      child-kept : (entry : LogEntry) (q : List ℕ) (i : Idle) (w : LeafValue) (c : ℕ) → answer ≡ TurnAnswer.Granted entry → may_change (Some i) (answered_by entry) ≡ false → node_at q n ≡ leaf_node w → q ≡ p ++ c ∷ [] → IsIdle code items i (node_at q n) → IsIdle code items i (node_at q (put_at p new n))
+      child-kept entry q i w c grants stays leaf is idle =
+          let at : node_at q n ≡ child_at c (children kids) = ap (λ r. node_at r n) is ∙ further p (c ∷ []) n ∙ ap (λ m. child_at c (below m)) at-dir.2 in
+          let rests : node_rests (child_at c (children kids)) ≡ Some i = ap node_rests (sym at) ∙ idle-rests code items (key_on present p w.done) (answered_by entry) w i (node_at q n) leaf stays idle in
+          let kid : node_at (c ∷ []) new ≡ child_at c outcome.kids = ap (λ m. child_at c (below m)) new-dir ∙ ap (child_at c) (children-nodes outcome.kids) in
+          let rests_later : node_rests (node_at (c ∷ []) new) ≡ Some i = ap node_rests kid ∙ lasting-rests (answered_by entry) _ _ i (child-lasting entry c grants) stays rests in
+          let there : IsIdle code items i (node_at (c ∷ []) new) = rest-idle code items (node_at (c ∷ []) new) i rests_later in
+          subst (λ r. IsIdle code items i (node_at r (put_at p new n))) (sym is) (beneath (IsIdle code items i) new (c ∷ []) p n there (subst (λ r. IsIdle code items i (node_at r n)) is idle))
 
-    bus-turn-kept : (q : List ℕ) (i : Idle) (w : LeafValue) → node_at q n ≡ leaf_node w → ((entry : LogEntry) → answer ≡ TurnAnswer.Granted entry → IsApartOr q i entry.item) → IsIdle code items i (node_at q n) → IsIdle code items i (node_at q (put_at p new n))
-    bus-turn-kept q i w leaf other idle =
-        elim (is_granted answer) as (λ g. is_granted answer ≡ g → IsIdle code items i (node_at q (put_at p new n))) [
-          | true ↦ λ is.
-              let grant = granted-entry answer is in
-              bus-kept code items n p new over outcome.parent kids outcome.kids w q i at-dir.2 new-dir (bus_step-keeps present over (children kids) (bus_turn_of t)).kids leaf (granted-kept grant.0 q i w grant.1 leaf (other grant.0 grant.1) idle) idle
-          | false ↦ λ is. idle-unchanged code items n p new (new-ungranted is) q i idle
-        ] refl
+      granted-kept : (entry : LogEntry) (q : List ℕ) (i : Idle) (w : LeafValue) → answer ≡ TurnAnswer.Granted entry → node_at q n ≡ leaf_node w → IsApartOr q i (answered_by entry) → IsIdle code items i (node_at q n) → (c : ℕ) → q ≡ p ++ c ∷ [] → IsIdle code items i (node_at q (put_at p new n))
+      granted-kept entry q i w grants leaf (inl apart) idle c is = absurd (apart.child c is)
+      granted-kept entry q i w grants leaf (inr stays) idle c is = child-kept entry q i w c grants stays leaf is idle
 
-  module _ (bus_leaves leaf_paths bus_paths : List (List ℕ)) (before : List (Option Idle)) (listed : listed_path (named_by t) leaf_paths bus_paths ≡ Some p) (near : AreNear bus_leaves bus_paths leaf_paths) (paths : (k : ℕ) (q : List ℕ) → Leads (leaf_of_number k) q n → slice_get leaf_paths k ≡ Some q) (idle : AreIdle code items before n n) where
+      bus-turn-kept : (q : List ℕ) (i : Idle) (w : LeafValue) → node_at q n ≡ leaf_node w → ((entry : LogEntry) → answer ≡ TurnAnswer.Granted entry → IsApartOr q i (answered_by entry)) → IsIdle code items i (node_at q n) → IsIdle code items i (node_at q (put_at p new n))
+      bus-turn-kept q i w leaf other idle =
+          elim (is_granted answer) as (λ g. is_granted answer ≡ g → IsIdle code items i (node_at q (put_at p new n))) [
+            | true ↦ λ is.
+                let grant = granted-entry answer is in
+                bus-kept code items n p new over outcome.parent kids outcome.kids w q i at-dir.2 new-dir (bus_step-keeps present over (children kids) (bus_turn_of t)).kids leaf (granted-kept grant.0 q i w grant.1 leaf (other grant.0 grant.1) idle) idle
+            | false ↦ λ is. idle-unchanged code items n p new (new-ungranted is) q i idle
+          ] refl
+
+  module _ (bus_leaves leaf_paths bus_paths : List (List ℕ)) (before : List (Option Idle)) (listed : listed_path (named_by t) leaf_paths bus_paths ≡ Some p) (near : AreNear bus_leaves bus_paths leaf_paths) (paths : (k : ℕ) (q : List ℕ) → Leads (leaf_of_number k) q n → slice_get leaf_paths k ≡ Some q) (idle : AreIdle code items before n n) (count : ℕ) (ruled : IsTreeOk count n) (later : IsTreeOk count (put_at p new n)) where
     -- nothing was granted on a bus near a leaf that may have changed what is known of it
     abbrev IsUnchanged : ℕ → Idle → Type 0
-    IsUnchanged k i = (entry : LogEntry) (bus : ℕ) (leaves : List ℕ) → answer ≡ TurnAnswer.Granted entry → named_by t ≡ bus_of_number bus → slice_get bus_leaves bus ≡ Some leaves → IsNoneOf k (length leaves) leaves ⊎ (may_change (Some i) entry.item ≡ false)
+    IsUnchanged k i = (entry : LogEntry) (bus : ℕ) (leaves : List ℕ) → answer ≡ TurnAnswer.Granted entry → named_by t ≡ bus_of_number bus → slice_get bus_leaves bus ≡ Some leaves → IsNoneOf k (length leaves) leaves ⊎ (may_change (Some i) (answered_by entry) ≡ false)
 
     -- of a bus: where something is granted on it, a leaf is none near it, or what is known of it stays
     module _ (b k : ℕ) (i : Idle) (q : List ℕ) (is : named_by t ≡ bus_of_number b) (there : Leads (leaf_of_number k) q n) where
@@ -455,12 +486,12 @@ module _ (code : List CodeWord) (items : ItemTable) (t : Turn) (p : List ℕ) (p
           let path : slice_get bus_paths b ≡ Some p = subst (λ name. listed_path name leaf_paths bus_paths ≡ Some p) is listed in
           far-in bus_leaves bus_paths leaf_paths b p path near k q (paths k q there) none
 
-      listed-apart : (xs : List ℕ) (x : ℕ) → slice_get bus_leaves b ≡ Some xs → IsNoneOf k (length xs) xs ⊎ (may_change (Some i) x ≡ false) → AreApart q p ⊎ (may_change (Some i) x ≡ false)
-      listed-apart xs x at (inl none) = inl (far (λ ys e. subst (λ zs. IsNoneOf k (length zs) zs) (same_Some xs ys (sym at ∙ e)) none))
-      listed-apart xs x at (inr stays) = inr stays
+      listed-apart : (xs : List ℕ) (o : Option ℕ) → slice_get bus_leaves b ≡ Some xs → IsNoneOf k (length xs) xs ⊎ (may_change (Some i) o ≡ false) → AreApart q p ⊎ (may_change (Some i) o ≡ false)
+      listed-apart xs o at (inl none) = inl (far (λ ys e. subst (λ zs. IsNoneOf k (length zs) zs) (same_Some xs ys (sym at ∙ e)) none))
+      listed-apart xs o at (inr stays) = inr stays
 
-      apart-by : (o : Option (List ℕ)) → slice_get bus_leaves b ≡ o → IsUnchanged k i → (entry : LogEntry) → answer ≡ TurnAnswer.Granted entry → AreApart q p ⊎ (may_change (Some i) entry.item ≡ false)
-      apart-by (Some xs) at unchanged entry grants = listed-apart xs entry.item at (unchanged entry b xs grants is at)
+      apart-by : (o : Option (List ℕ)) → slice_get bus_leaves b ≡ o → IsUnchanged k i → (entry : LogEntry) → answer ≡ TurnAnswer.Granted entry → AreApart q p ⊎ (may_change (Some i) (answered_by entry) ≡ false)
+      apart-by (Some xs) at unchanged entry grants = listed-apart xs (answered_by entry) at (unchanged entry b xs grants is at)
       apart-by None at unchanged entry grants = inl (far (λ xs e. absurd (none-some xs (sym at ∙ e))))
 
     turn-kept : (name : Name) → named_by t ≡ name → (k : ℕ) (i : Idle) (q : List ℕ) → slice_get before k ≡ Some (Some i) → Leads (leaf_of_number k) q n → IsUnchanged k i → IsIdle code items i (node_at q (put_at p new n))
@@ -469,7 +500,7 @@ module _ (code : List CodeWord) (items : ItemTable) (t : Turn) (p : List ℕ) (p
         hart-kept j is q i leaf.0 leaf.1 (idle.each k i q known there)
     turn-kept (bus_of_number b) is k i q known there unchanged =
         let leaf = leads-leaf k q n there in
-        bus-turn-kept b is q i leaf.0 leaf.1 (apart-by b k i q is there (slice_get bus_leaves b) refl unchanged) (idle.each k i q known there)
+        bus-turn-kept b is count ruled later q i leaf.0 leaf.1 (apart-by b k i q is there (slice_get bus_leaves b) refl unchanged) (idle.each k i q known there)
 
     known-idle : (k : ℕ) (i : Idle) (q : List ℕ) → IsKnown t answer bus_leaves leaf_paths (put_at p new n) before k i → Leads (leaf_of_number k) q n → IsIdle code items i (node_at q (put_at p new n))
     known-idle k i q (is_told own says) there = hart-told k own q i there says

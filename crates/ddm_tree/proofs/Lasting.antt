@@ -1,8 +1,12 @@
--- A hart that is known to have halted, or to wait for an item, rests by what its leaf tells, and does so after a grant of another item.
--- Letters: v is a leaf, i why its hart is idle, x an item that was granted, y one that is waited for, n and m nodes.
-use Rattle.std.proofs.Common.{◌≡◌, ◌≢◌, ℕ, Bool, true, false, List, Option, Some, None, refl, sym, ap, ◌∙◌, true≢false}
-use Rattle.std.specs.Prelude.{Result, Ok, Err, option_map}
+-- A hart that is known to have halted, or to wait for an item, rests by what its leaf tells, and does so after a grant that may not have
+-- answered that item.
+-- Letters: v is a leaf, i why its hart is idle, x an item that was granted, y one that is waited for, o the one that may have been
+-- answered, n and m nodes.
+use Rattle.std.proofs.Common.{◌≡◌, ℕ, Bool, true, false, List, Option, Some, None, refl, sym, ap, ◌∙◌, true≢false}
+use Rattle.std.specs.Prelude.{Result, Ok, Err, option_map, if◌then◌else◌}
 use Rattle.std.proofs.lemmas.Bool.{eq-eqb}
+use native.Mathlib.Decide.{ℕ_discrete}
+use Rattle.ddm_types.specs.declared.answers.LogEntry.{LogEntry}
 use Rattle.ddm_types.specs.declared.answers.TurnAnswer.{TurnAnswer}
 use Rattle.ddm_types.specs.declared.operations.HaltCause.{HaltCause}
 use Rattle.ddm_types.specs.declared.sizes.LeafState.{LeafState}
@@ -19,7 +23,7 @@ use Rattle.tree_model.specs.Turns.HartTurn.{Need, no_need, a_copy, no_other_copy
 use Rattle.tree_rules.specs.Bus.Own.{state_waits}
 use Rattle.bus_laws.proofs.HartFacts.{waiting-none}
 use Rattle.ddm_tree.specs.declared.idle.Idle.{Idle}
-use Rattle.ddm_tree.specs.Idle.{IsIdle, idle_answer, may_change, node_rests, rests_by}
+use Rattle.ddm_tree.specs.Idle.{IsIdle, answered_by, answers_none, idle_answer, may_change, node_rests, rests_by}
 use Rattle.ddm_tree.proofs.Untold.{IsUntold, node_halts, node_waits}
 
 -- ---- where nothing waits, no instruction needs time
@@ -70,10 +74,10 @@ told_by (TurnAnswer.Granted entry) = None
 told_by TurnAnswer.Empty = None
 told_by (TurnAnswer.Busy cause) = None
 
-told-back : (x : ℕ) (i : Idle) → may_change (Some i) x ≡ false → told_by (idle_answer i) ≡ Some i
-told-back x (Idle.Waits y) stays = refl
-told-back x (Idle.BufferFull leaf) stays = absurd (true≢false stays)
-told-back x (Idle.Halted cause) stays = refl
+told-back : (o : Option ℕ) (i : Idle) → may_change (Some i) o ≡ false → told_by (idle_answer i) ≡ Some i
+told-back o (Idle.Waits y) stays = refl
+told-back o (Idle.BufferFull leaf) stays = absurd (true≢false stays)
+told-back o (Idle.Halted cause) stays = refl
 
 module _ (code : List CodeWord) (items : ItemTable) (now : Key) (victim : ℕ) (v : LeafValue) (i : Idle) where
   -- the hart goes on: its turn tells nothing of the kind, or halts it
@@ -106,33 +110,47 @@ module _ (code : List CodeWord) (items : ItemTable) (now : Key) (victim : ℕ) (
   halted-rests None is says leaves = waiting-rests (waiting_item v.ways v.buffer) refl says leaves is
 
   -- a leaf of which each turn answers so, and leaves it as it is, tells so
-  step-rests : (x : ℕ) → may_change (Some i) x ≡ false → leaf_step code items now victim v ≡ record { answer = idle_answer i; leaf = v } → node_rests (leaf_node v) ≡ Some i
+  step-rests : (o : Option ℕ) → may_change (Some i) o ≡ false → leaf_step code items now victim v ≡ record { answer = idle_answer i; leaf = v } → node_rests (leaf_node v) ≡ Some i
   unfolding leaf_step deed_of
-  step-rests x stays is = halted-rests v.hart.halt refl (ap (λ o. told_by o.answer) is ∙ told-back x i stays) (ap (λ o. o.leaf) is)
+  step-rests o stays is = halted-rests v.hart.halt refl (ap (λ r. told_by r.answer) is ∙ told-back o i stays) (ap (λ r. r.leaf) is)
 
--- ---- what a node tells after a grant of an item that its hart doesn't wait for
+-- ---- what a node tells after a grant that may have answered another item
 
 rests-parts : (n : Node) → node_rests n ≡ rests_by (node_halts n) (node_waits n)
 rests-parts (leaf_node v) = refl
 rests-parts (dir_node d ns) = refl
 
-module _ (x : ℕ) where
-  other-item : (y : ℕ) → may_change (Some (Idle.Waits y)) x ≡ false → y ≢ x
-  other-item y stays same = true≢false (sym (eq-eqb y x same) ∙ stays)
+-- of the second node it is what it was of the first, where that waits for an item that may not have been answered
+pub record IsLasting (o : Option ℕ) (n m : Node) : Type 0 where
+  pub halts : node_halts m ≡ node_halts n
+  pub waits : (y : ℕ) → may_change (Some (Idle.Waits y)) o ≡ false → node_waits n ≡ Some y → node_waits m ≡ Some y
 
-  waits-still : (n m : Node) (i : Idle) (waiting : Option ℕ) → IsUntold x n m → may_change (Some i) x ≡ false → node_waits n ≡ waiting → rests_by None waiting ≡ Some i → rests_by None (node_waits m) ≡ Some i
-  waits-still n m i None untold stays is rests = cc
-  waits-still n m i (Some y) untold stays is rests =
+-- a grant may have answered whoever waits for its item, or nobody
+lasting-by : (x : ℕ) (n m : Node) (none : Bool) → IsUntold x n m → (none ≡ true → node_waits n ≡ Some x → node_waits m ≡ Some x) → IsLasting (if none then None else Some x) n m
+lasting-by x n m true untold still = record { halts = untold.halts; waits = λ y stays is. by y (ℕ_discrete y x) is }
+  where
+    by : (y : ℕ) → Dec (y ≡ x) → node_waits n ≡ Some y → node_waits m ≡ Some y
+    by y (yes same) is = still refl (is ∙ ap Some same) ∙ ap Some (sym same)
+    by y (no other) is = untold.waits y other is
+lasting-by x n m false untold still = record { halts = untold.halts; waits = λ y stays is. untold.waits y (λ same. true≢false (sym (eq-eqb y x same) ∙ stays)) is }
+
+pub lasting : (entry : LogEntry) (n m : Node) → IsUntold entry.item n m → (answers_none entry.kind ≡ true → node_waits n ≡ Some entry.item → node_waits m ≡ Some entry.item) → IsLasting (answered_by entry) n m
+lasting entry n m untold still = lasting-by entry.item n m (answers_none entry.kind) untold still
+
+module _ (o : Option ℕ) where
+  waits-still : (n m : Node) (i : Idle) (waiting : Option ℕ) → IsLasting o n m → may_change (Some i) o ≡ false → node_waits n ≡ waiting → rests_by None waiting ≡ Some i → rests_by None (node_waits m) ≡ Some i
+  waits-still n m i None last stays is rests = cc
+  waits-still n m i (Some y) last stays is rests =
       let same : Idle.Waits y ≡ i = cc in
-      rw (untold.waits y (other-item y (ap (λ o. may_change (Some o) x) same ∙ stays)) is) rests
+      rw (last.waits y (ap (λ k. may_change (Some k) o) same ∙ stays) is) rests
 
-  rests-still : (n m : Node) (i : Idle) (halt : Option HaltCause) → IsUntold x n m → may_change (Some i) x ≡ false → node_halts n ≡ halt → rests_by halt (node_waits n) ≡ Some i → rests_by halt (node_waits m) ≡ Some i
-  rests-still n m i (Some cause) untold stays is rests = rests
-  rests-still n m i None untold stays is rests = waits-still n m i (node_waits n) untold stays refl rests
+  rests-still : (n m : Node) (i : Idle) (halt : Option HaltCause) → IsLasting o n m → may_change (Some i) o ≡ false → node_halts n ≡ halt → rests_by halt (node_waits n) ≡ Some i → rests_by halt (node_waits m) ≡ Some i
+  rests-still n m i (Some cause) last stays is rests = rests
+  rests-still n m i None last stays is rests = waits-still n m i (node_waits n) last stays refl rests
 
-  pub untold-rests : (n m : Node) (i : Idle) → IsUntold x n m → may_change (Some i) x ≡ false → node_rests n ≡ Some i → node_rests m ≡ Some i
-  untold-rests n m i untold stays rests = rests-parts m ∙ ap (λ h. rests_by h (node_waits m)) untold.halts ∙ rests-still n m i (node_halts n) untold stays refl (sym (rests-parts n) ∙ rests)
+  pub lasting-rests : (n m : Node) (i : Idle) → IsLasting o n m → may_change (Some i) o ≡ false → node_rests n ≡ Some i → node_rests m ≡ Some i
+  lasting-rests n m i last stays rests = rests-parts m ∙ ap (λ h. rests_by h (node_waits m)) last.halts ∙ rests-still n m i (node_halts n) last stays refl (sym (rests-parts n) ∙ rests)
 
 -- an idle hart's leaf tells that it has halted or waits
-pub idle-rests : (code : List CodeWord) (items : ItemTable) (now : Key) (x : ℕ) (v : LeafValue) (i : Idle) (n : Node) → n ≡ leaf_node v → may_change (Some i) x ≡ false → IsIdle code items i n → node_rests n ≡ Some i
-idle-rests code items now x v i n is stays idle = ap node_rests is ∙ step-rests code items now 0 v i x stays (idle.each v now 0 is)
+pub idle-rests : (code : List CodeWord) (items : ItemTable) (now : Key) (o : Option ℕ) (v : LeafValue) (i : Idle) (n : Node) → n ≡ leaf_node v → may_change (Some i) o ≡ false → IsIdle code items i n → node_rests n ≡ Some i
+idle-rests code items now o v i n is stays idle = ap node_rests is ∙ step-rests code items now 0 v i o stays (idle.each v now 0 is)

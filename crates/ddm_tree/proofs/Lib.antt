@@ -23,6 +23,8 @@ pub mod Copies
 pub mod Written
 pub mod Resting
 pub mod Untold
+pub mod StillWaits
+pub mod WaitsOn
 pub mod Lasting
 pub mod IdleHarts
 pub mod QuietFrame

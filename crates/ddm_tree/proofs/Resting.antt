@@ -1,5 +1,6 @@
 -- What is remembered of harts after a look at their leaves.
--- Letters: k, m and j numbers of leaves, i why a hart is idle, o what is remembered of one, n the tree, p and q paths, x an item.
+-- Letters: k, m and j numbers of leaves, i why a hart is idle, o what is remembered of one, n the tree, p and q paths.
+-- An item that a grant may have answered is o, too.
 use Rattle.std.proofs.Common.{◌≡◌, ◌≢◌, ◌⊎◌, ℕ, zero, suc, ◌+◌, ◌<◌, ◌≤◌, inl, inr, Bool, true, false, List, [], ◌∷◌, length, map, Option, Some, None, refl, sym, ap, subst, ◌∙◌, arith}
 use Rattle.std.specs.Prelude.{IfSome, nat_lt, slice_get, slice_set}
 use Rattle.std.proofs.lemmas.Bool.{ltb-true, ltb-false}
@@ -13,11 +14,30 @@ use Rattle.tree_model.specs.State.Values.{Node}
 use Rattle.tree_model.specs.Turns.Machine.{named_by}
 use Rattle.tree_model.specs.Turns.Tree.{leaf_of_number, bus_of_number}
 use Rattle.ddm_tree.specs.declared.idle.Idle.{Idle}
-use Rattle.ddm_tree.specs.Idle.{AreNoted, AreSeen, IsKnown, IsLooked, IsLookedAfter, IsSeen, IsSeenOr, idle_there, idle_told, is_seen, is_told, may_change, node_rests, still_known, with_idle}
+use Rattle.ddm_tree.specs.Idle.{AreNoted, AreSeen, IsKnown, IsLooked, IsLookedAfter, IsSeen, IsSeenOr, NoneChanges, answered_by, idle_there, idle_told, is_seen, is_told, may_change, node_rests, still_known, with_idle}
 use Rattle.ddm_tree.specs.Path.{node_at}
 use Rattle.ddm_tree.specs.Quiet.{IsNoneOf}
 use Rattle.ddm_tree.proofs.KeysRising.{set-here, set-other}
 use Rattle.ddm_tree.proofs.QuietNear.{none-next}
+
+-- ---- leaves of which nothing that is known may change
+
+module _ (o : Option ℕ) (leaves : List ℕ) (idle : List (Option Idle)) where
+  pub unchanged-none : NoneChanges o 0 leaves idle
+  unchanged-none = record { each = λ k i known. inl (λ place below. absurd (omega (arith, below))) }
+
+  -- and one more
+  module _ (count m : ℕ) (at : slice_get leaves count ≡ Some m) (stays : may_change (idle_there (slice_get idle m)) o ≡ false) (none : NoneChanges o count leaves idle) where
+    unchanged-other : (k : ℕ) (i : Idle) → k ≢ m → IsNoneOf k count leaves ⊎ (may_change (Some i) o ≡ false) → IsNoneOf k (count + 1) leaves ⊎ (may_change (Some i) o ≡ false)
+    unchanged-other k i other (inl apart) = inl (none-next k m count leaves at other apart)
+    unchanged-other k i other (inr same) = inr same
+
+    unchanged-by : (k : ℕ) (i : Idle) → Dec (k ≡ m) → slice_get idle k ≡ Some (Some i) → IsNoneOf k (count + 1) leaves ⊎ (may_change (Some i) o ≡ false)
+    unchanged-by k i (yes own) known = inr (sym (ap (λ known. may_change (idle_there known) o) (ap (slice_get idle) (sym own) ∙ known)) ∙ stays)
+    unchanged-by k i (no other) known = unchanged-other k i other (none.each k i known)
+
+    pub unchanged-more : NoneChanges o (count + 1) leaves idle
+    unchanged-more = record { each = λ k i known. unchanged-by k i (ℕ_discrete k m) known }
 
 module _ (paths : List (List ℕ)) (n : Node) where
   -- what the leaf tells, where its path is known
@@ -55,24 +75,28 @@ module _ (paths : List (List ℕ)) (n : Node) where
   -- ---- after a grant of an item
 
   -- where what is known may have changed, and the leaf was looked at
-  pub after-looked : (x k : ℕ) (before after : List (Option Idle)) → IsLooked k paths n before after → IsLookedAfter x k paths n before after
-  after-looked x k before after looked = record { own = λ i known. inl (looked.own i known); others = looked.others }
+  pub after-looked : (o : Option ℕ) (k : ℕ) (before after : List (Option Idle)) → IsLooked k paths n before after → IsLookedAfter o k paths n before after
+  after-looked o k before after looked = record { own = λ i known. inl (looked.own i known); others = looked.others }
 
   -- where it may not
-  pub after-kept : (x k : ℕ) (before : List (Option Idle)) → may_change (idle_there (slice_get before k)) x ≡ false → IsLookedAfter x k paths n before before
-  after-kept x k before stays = record {
-    own = λ i known. inr (known, sym (ap (λ o. may_change (idle_there o) x) known) ∙ stays);
+  pub after-kept : (o : Option ℕ) (k : ℕ) (before : List (Option Idle)) → may_change (idle_there (slice_get before k)) o ≡ false → IsLookedAfter o k paths n before before
+  after-kept o k before stays = record {
+    own = λ i known. inr (known, sym (ap (λ known. may_change (idle_there known) o) known) ∙ stays);
     others = λ j i other known. known;
   }
 
   -- ---- the leaves of a list
 
-  pub seen-none : (x : ℕ) (leaves : List ℕ) (before : List (Option Idle)) → AreSeen x 0 leaves paths n before before
-  seen-none x leaves before = record { each = λ k i known. inr (known, inl (λ place below. absurd (omega (arith, below)))) }
+  pub seen-none : (o : Option ℕ) (leaves : List ℕ) (before : List (Option Idle)) → AreSeen o 0 leaves paths n before before
+  seen-none o leaves before = record { each = λ k i known. inr (known, inl (λ place below. absurd (omega (arith, below)))) }
 
-  module _ (x count m : ℕ) (leaves : List ℕ) (before mid after : List (Option Idle)) (at : slice_get leaves count ≡ Some m) (seen : AreSeen x count leaves paths n before mid) (one : IsLookedAfter x m paths n mid after) where
+  -- where nothing that is known may have changed
+  pub seen-unchanged : (o : Option ℕ) (leaves : List ℕ) (before : List (Option Idle)) → NoneChanges o (length leaves) leaves before → AreSeen o (length leaves) leaves paths n before before
+  seen-unchanged o leaves before none = record { each = λ k i known. inr (known, none.each k i known) }
+
+  module _ (o : Option ℕ) (count m : ℕ) (leaves : List ℕ) (before mid after : List (Option Idle)) (at : slice_get leaves count ≡ Some m) (seen : AreSeen o count leaves paths n before mid) (one : IsLookedAfter o m paths n mid after) where
     abbrev Stays : Idle → Type 0
-    Stays i = may_change (Some i) x ≡ false
+    Stays i = may_change (Some i) o ≡ false
 
     none-or : (k : ℕ) (i : Idle) → k ≢ m → IsNoneOf k count leaves ⊎ Stays i → IsNoneOf k (count + 1) leaves ⊎ Stays i
     none-or k i other (inl none) = inl (none-next k m count leaves at other none)
@@ -95,7 +119,7 @@ module _ (paths : List (List ℕ)) (n : Node) where
     seen-next k i (yes own) known = subst (λ j. IsSeenOr (IsNoneOf j (count + 1) leaves ⊎ Stays i) j paths n before i) (sym own) (seen-own i (one.own i (ap (slice_get after) (sym own) ∙ known)))
     seen-next k i (no other) known = seen-kept k i other (seen.each k i (one.others k i other known))
 
-    pub seen-more : AreSeen x (count + 1) leaves paths n before after
+    pub seen-more : AreSeen o (count + 1) leaves paths n before after
     seen-more = record { each = λ k i known. seen-next k i (ℕ_discrete k m) known }
 
 -- ---- after a turn
@@ -115,21 +139,22 @@ module _ (a : TurnAnswer) (bus_leaves paths : List (List ℕ)) (n : Node) (befor
 
   -- of a bus that has a list of leaves
   module _ (t : Turn) (bus : ℕ) (named : named_by t ≡ bus_of_number bus) where
-    seen-known : (x : ℕ) (leaves : List ℕ) (k : ℕ) (i : Idle) → ((entry : LogEntry) → a ≡ TurnAnswer.Granted entry → entry.item ≡ x) → slice_get bus_leaves bus ≡ Some leaves → IsSeenOr (IsNoneOf k (length leaves) leaves ⊎ (may_change (Some i) x ≡ false)) k paths n before i → IsKnown t a bus_leaves paths n before k i
-    seen-known x leaves k i item listed (inl tells) = is_seen tells
-    seen-known x leaves k i item listed (inr kept) =
+    seen-known : (o : Option ℕ) (leaves : List ℕ) (k : ℕ) (i : Idle) → ((entry : LogEntry) → a ≡ TurnAnswer.Granted entry → answered_by entry ≡ o) → slice_get bus_leaves bus ≡ Some leaves → IsSeenOr (IsNoneOf k (length leaves) leaves ⊎ (may_change (Some i) o ≡ false)) k paths n before i → IsKnown t a bus_leaves paths n before k i
+    seen-known o leaves k i answered listed (inl tells) = is_seen tells
+    seen-known o leaves k i answered listed (inr kept) =
         still_known kept.0 (λ entry other others grants is there.
         let same : other ≡ bus = same-bus other bus (sym is ∙ named) in
         let list : leaves ≡ others = same_Some leaves others (sym listed ∙ ap (slice_get bus_leaves) (sym same) ∙ there) in
-        subst (λ y. IsNoneOf k (length others) others ⊎ (may_change (Some i) y ≡ false)) (sym (item entry grants)) (subst (λ xs. IsNoneOf k (length xs) xs ⊎ (may_change (Some i) x ≡ false)) list kept.1))
+        subst (λ y. IsNoneOf k (length others) others ⊎ (may_change (Some i) y ≡ false)) (sym (answered entry grants)) (subst (λ xs. IsNoneOf k (length xs) xs ⊎ (may_change (Some i) o ≡ false)) list kept.1))
 
-    pub noted-seen : (entry : LogEntry) (leaves : List ℕ) (after : List (Option Idle)) → a ≡ TurnAnswer.Granted entry → slice_get bus_leaves bus ≡ Some leaves → AreSeen entry.item (length leaves) leaves paths n before after → AreNoted t a bus_leaves paths n before after
-    noted-seen entry leaves after grants listed seen = record { each = λ k i known. seen-known entry.item leaves k i item listed (seen.each k i known) }
+    pub noted-seen : (entry : LogEntry) (leaves : List ℕ) (after : List (Option Idle)) → a ≡ TurnAnswer.Granted entry → slice_get bus_leaves bus ≡ Some leaves → AreSeen (answered_by entry) (length leaves) leaves paths n before after → AreNoted t a bus_leaves paths n before after
+    noted-seen entry leaves after grants listed seen = record { each = λ k i known. seen-known (answered_by entry) leaves k i answered listed (seen.each k i known) }
       where
-        item : (other : LogEntry) → a ≡ TurnAnswer.Granted other → other.item ≡ entry.item
-        item other is =
+        answered : (other : LogEntry) → a ≡ TurnAnswer.Granted other → answered_by other ≡ answered_by entry
+        answered other is =
             let both : TurnAnswer.Granted other ≡ TurnAnswer.Granted entry = sym is ∙ grants in
-            cc
+            let same : other ≡ entry = cc in
+            ap answered_by same
 
     pub noted-unlisted : slice_get bus_leaves bus ≡ None → AreNoted t a bus_leaves paths n before before
     noted-unlisted none = record {

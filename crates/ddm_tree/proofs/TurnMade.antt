@@ -16,6 +16,7 @@ use Rattle.tree_model.specs.Turns.Machine.{named_by, names_part, recorded, with_
 use Rattle.tree_model.specs.Turns.Tree.{Name, leaf_of_number, bus_of_number}
 use Rattle.tree_model.proofs.FrameKept.{turn-frame}
 use Rattle.tree_model.proofs.Tests.{and-first, and-second, and-both}
+use Rattle.tree_rules.specs.Bus.Rules.{IsMachineOk, IsTreeOk}
 use Rattle.ddm_tree.specs.Counts.{counts_within, counts_among}
 use Rattle.ddm_tree.specs.Machine.{IsFound, IsMachine, MachineState, has_path, listed_path, machine_of, ops_after, spare_after, state_after, traffic_after, traffic_within}
 use Rattle.ddm_tree.specs.Path.{node_at, present_at, put_at, node_answer, node_turned}
@@ -98,6 +99,31 @@ module _ (t : Turn) (m : MachineValue) (path : List ℕ) (leads : Leads (named_b
 
   pub made-machine : machine_of m.code m.items top kids (ops_after answer m.ops) (traffic_after answer m.traffic) ≡ (turn_of t m).machine
   made-machine = sym (recorded-parts answer (with_root (dir_node top (nodes kids)) m)) ∙ ap (λ a. recorded a (with_root (dir_node top (nodes kids)) m)) same-answer ∙ ap (λ n. recorded (root_answer t path m) (with_root n m)) same-root ∙ ap (λ r. r.machine) (sym (turn-along t path m leads))
+
+-- ---- the tree that it leaves keeps the rules, as the machine does
+
+recorded-root : (a : TurnAnswer) (m : MachineValue) → root_of (recorded a m) ≡ root_of m
+recorded-root (TurnAnswer.Retired op) m = refl
+recorded-root (TurnAnswer.Issued kind x) m = refl
+recorded-root (TurnAnswer.Waiting x) m = refl
+recorded-root (TurnAnswer.Halted cause) m = refl
+recorded-root (TurnAnswer.Granted entry) m = refl
+recorded-root TurnAnswer.Empty m = refl
+recorded-root (TurnAnswer.Busy cause) m = refl
+
+module _ (t : Turn) (m : MachineValue) where
+  -- a directory stands at the top
+  still-top : (path : List ℕ) → root_of (with_root (root_turned t path m) m) ≡ root_turned t path m
+  still-top [] = refl
+  still-top (i ∷ path) = refl
+
+  turned-root : (path : List ℕ) → Leads (named_by t) path (root_of m) → root_of (turn_of t m).machine ≡ root_turned t path m
+  turned-root path leads = ap (λ r. root_of r.machine) (turn-along t path m leads) ∙ recorded-root (root_answer t path m) (with_root (root_turned t path m) m) ∙ still-top path
+
+  pub turned-ruled : (path : List ℕ) → Leads (named_by t) path (root_of m) → IsMachineOk (turn_of t m).machine → IsTreeOk (item_count m.items) (root_turned t path m)
+  turned-ruled path leads ok =
+      let items : (turn_of t m).machine.items ≡ m.items = ap (λ f. f.items) (turn-frame t m) in
+      subst (IsTreeOk (item_count m.items)) (turned-root path leads) (subst (λ k. IsTreeOk (item_count k) (root_of (turn_of t m).machine)) items ok.tree)
 
 -- ---- all of it, from what the code says of the listed path
 

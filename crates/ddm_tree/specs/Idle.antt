@@ -1,11 +1,13 @@
 -- Harts of which each turn, at whatever moment and with whatever victim, answers the same and changes nothing, as long as no bus tells
 -- their leaf anything.
--- Letters: n is a node, v a leaf, i why a hart is idle, k a leaf's number, t a turn, a an answer, c a child, x an item that was granted.
+-- Letters: n is a node, v a leaf, i why a hart is idle, k a leaf's number, t a turn, a an answer, c a child, o the item that a grant may
+-- have answered.
 -- To be believed with the contracts: it is what a machine remembers of its leaves.
-use Rattle.std.specs.Prelude.{◌≡◌, ◌≢◌, ◌⊎◌, ℕ, Bool, true, false, nat_eq, List, Option, Some, None, length, slice_get, slice_set}
+use Rattle.std.specs.Prelude.{◌≡◌, ◌≢◌, ◌⊎◌, ℕ, Bool, true, false, nat_eq, List, Option, Some, None, length, slice_get, slice_set, if◌then◌else◌}
 use Rattle.ddm_types.specs.declared.answers.BusyCause.{BusyCause}
 use Rattle.ddm_types.specs.declared.answers.LogEntry.{LogEntry}
 use Rattle.ddm_types.specs.declared.answers.TurnAnswer.{TurnAnswer}
+use Rattle.ddm_types.specs.declared.answers.TxKind.{TxKind}
 use Rattle.ddm_types.specs.declared.operations.HaltCause.{HaltCause}
 use Rattle.ddm_types.specs.declared.keys.Key.{Key}
 use Rattle.ddm_types.specs.declared.turns.Turn.{Turn}
@@ -54,12 +56,27 @@ abbrev pub node_rests : Node → Option Idle
 node_rests (leaf_node v) = rests_by v.hart.halt (waiting_item v.ways v.buffer)
 node_rests (dir_node d ns) = None
 
--- what is known of a hart may be otherwise after a grant of the item on its bus: not of one that has halted or waits for another item
-abbrev pub may_change : Option Idle → ℕ → Bool
-may_change None x = false
-may_change (Some (Idle.Waits y)) x = nat_eq y x
-may_change (Some (Idle.BufferFull leaf)) x = true
-may_change (Some (Idle.Halted cause)) x = false
+-- a grant of this kind answers nobody that waits for the item
+abbrev pub answers_none : TxKind → Bool
+answers_none TxKind.ReadTx = true
+answers_none TxKind.DataTx = false
+answers_none TxKind.EraseTx = true
+answers_none TxKind.ExclusiveTx = false
+answers_none TxKind.InjectTx = false
+answers_none TxKind.OutTx = false
+
+-- the item that a grant may have answered
+abbrev pub answered_by : LogEntry → Option ℕ
+answered_by entry = if answers_none entry.kind then None else Some entry.item
+
+-- What is known of a hart may be otherwise after a grant on its bus that may have answered this item: not of one that has halted or
+-- waits for another item.
+abbrev pub may_change : Option Idle → Option ℕ → Bool
+may_change None o = false
+may_change (Some (Idle.Waits y)) None = false
+may_change (Some (Idle.Waits y)) (Some x) = nat_eq y x
+may_change (Some (Idle.BufferFull leaf)) o = true
+may_change (Some (Idle.Halted cause)) o = false
 
 -- ---- what is remembered, a place for each leaf
 
@@ -98,9 +115,13 @@ IsSeen k paths n i = (path : List ℕ) → slice_get paths k ≡ Some path → n
 abbrev pub IsSeenOr : Type 0 → ℕ → List (List ℕ) → Node → List (Option Idle) → Idle → Type 0
 IsSeenOr otherwise k paths n before i = IsSeen k paths n i ⊎ ((slice_get before k ≡ Some (Some i)) × otherwise)
 
--- after a grant of the item it is what they tell for the first so many of these leaves, where it may have changed
-pub record AreSeen (x count : ℕ) (leaves : List ℕ) (paths : List (List ℕ)) (n : Node) (before after : List (Option Idle)) : Type 0 where
-  pub each : (k : ℕ) (i : Idle) → slice_get after k ≡ Some (Some i) → IsSeenOr (IsNoneOf k count leaves ⊎ (may_change (Some i) x ≡ false)) k paths n before i
+-- after a grant it is what they tell for the first so many of these leaves, where it may have changed
+pub record AreSeen (o : Option ℕ) (count : ℕ) (leaves : List ℕ) (paths : List (List ℕ)) (n : Node) (before after : List (Option Idle)) : Type 0 where
+  pub each : (k : ℕ) (i : Idle) → slice_get after k ≡ Some (Some i) → IsSeenOr (IsNoneOf k count leaves ⊎ (may_change (Some i) o ≡ false)) k paths n before i
+
+-- nothing that is known of the first so many of these leaves may have changed
+pub record NoneChanges (o : Option ℕ) (count : ℕ) (leaves : List ℕ) (idle : List (Option Idle)) : Type 0 where
+  pub each : (k : ℕ) (i : Idle) → slice_get idle k ≡ Some (Some i) → IsNoneOf k count leaves ⊎ (may_change (Some i) o ≡ false)
 
 -- what it tells is remembered of one leaf
 pub record IsLooked (k : ℕ) (paths : List (List ℕ)) (n : Node) (before after : List (Option Idle)) : Type 0 where
@@ -108,15 +129,15 @@ pub record IsLooked (k : ℕ) (paths : List (List ℕ)) (n : Node) (before after
   pub others : (j : ℕ) (i : Idle) → j ≢ k → slice_get after j ≡ Some (Some i) → slice_get before j ≡ Some (Some i)
 
 -- and for one leaf, where it may have changed
-pub record IsLookedAfter (x k : ℕ) (paths : List (List ℕ)) (n : Node) (before after : List (Option Idle)) : Type 0 where
-  pub own : (i : Idle) → slice_get after k ≡ Some (Some i) → IsSeenOr (may_change (Some i) x ≡ false) k paths n before i
+pub record IsLookedAfter (o : Option ℕ) (k : ℕ) (paths : List (List ℕ)) (n : Node) (before after : List (Option Idle)) : Type 0 where
+  pub own : (i : Idle) → slice_get after k ≡ Some (Some i) → IsSeenOr (may_change (Some i) o ≡ false) k paths n before i
   pub others : (j : ℕ) (i : Idle) → j ≢ k → slice_get after j ≡ Some (Some i) → slice_get before j ≡ Some (Some i)
 
--- no item was granted on a bus near the leaf that may have changed what is remembered of it
+-- nothing was granted on a bus near the leaf that may have changed what is remembered of it
 abbrev pub IsUntouched : Turn → TurnAnswer → List (List ℕ) → ℕ → Idle → Type 0
 IsUntouched t a bus_leaves k i = (entry : LogEntry) (bus : ℕ) (leaves : List ℕ)
     → a ≡ TurnAnswer.Granted entry → named_by t ≡ bus_of_number bus → slice_get bus_leaves bus ≡ Some leaves
-    → IsNoneOf k (length leaves) leaves ⊎ (may_change (Some i) entry.item ≡ false)
+    → IsNoneOf k (length leaves) leaves ⊎ (may_change (Some i) (answered_by entry) ≡ false)
 
 -- what is remembered of a leaf after a turn: what the turn answered, what the leaf tells, or what was remembered and is untouched
 pub data IsKnown (t : Turn) (a : TurnAnswer) (bus_leaves leaf_paths : List (List ℕ)) (n : Node) (before : List (Option Idle)) (k : ℕ) (i : Idle) : Type 0 where

@@ -1,6 +1,6 @@
-ghost use Rattle.std.specs.Prelude.{◌≡◌, ℕ, Some, IfOk, IfSome, length, map, slice_get, slice_set, vec_items};
+ghost use Rattle.std.specs.Prelude.{◌≡◌, ℕ, Some, None, false, IfOk, IfSome, length, map, slice_get, slice_set, vec_items};
 ghost use Rattle.tree_model.specs.State.Values.{DirValue, dir_node, nodes};
-ghost use Rattle.ddm_tree.specs.Idle.{AreNoted, AreSeen, IsLooked, IsLookedAfter, IsSeen, idle_answer, idle_for, idle_there, idle_told, may_change, node_rests, rests_by, with_idle};
+ghost use Rattle.ddm_tree.specs.Idle.{AreNoted, AreSeen, NoneChanges, IsLooked, IsLookedAfter, IsSeen, answered_by, idle_answer, idle_for, idle_there, idle_told, may_change, node_rests, rests_by, with_idle};
 ghost use Rattle.ddm_tree.specs.Path.{node_at};
 ghost use Rattle.ddm_tree.specs.Quiet.{HartsAgree, KeepsBuses, idle_as};
 
@@ -8,7 +8,9 @@ use crate::machine::named;
 use crate::named::Named;
 use crate::quiet::{Quiet, note_hart};
 use crate::subtree::Subtree;
-use ddm_types::{BusyCause, ChildNo, HaltCause, ItemId, LeafNo, NoMemory, Turn, TurnAnswer};
+use ddm_types::{
+    BusyCause, ChildNo, HaltCause, ItemId, LeafNo, LogEntry, NoMemory, Turn, TurnAnswer, TxKind,
+};
 use std::alloc::Global;
 
 /// Why a turn of a hart changes nothing, and none will before its bus tells its leaf something.
@@ -66,14 +68,27 @@ pub(crate) fn idle_for(turn: &Turn, idle: &[Option<Idle>]) -> Option<Idle>
     }
 }
 
-/// Whether what is known of a hart may be otherwise after a grant of the item on its bus: a hart that has halted stays so, and one that
-/// waits for another item waits on.
+/// The item that a grant may have answered: a read or an erase answers nobody that waits for its item.
+fn answered_by(entry: &LogEntry) -> Option<ItemId>
+    ensures { result ≡ answered_by entry.now }
+{
+    match entry.kind {
+        TxKind::ReadTx | TxKind::EraseTx => None,
+        TxKind::DataTx | TxKind::ExclusiveTx | TxKind::InjectTx | TxKind::OutTx => Some(entry.item),
+    }
+}
+
+/// Whether what is known of a hart may be otherwise after a grant on its bus that may have answered the item: a hart that has halted
+/// stays so, and one that waits for another item waits on.
 #[inline(always)]
-fn may_change(known: Option<Idle>, item: ItemId) -> bool
-    ensures { result ≡ may_change known item }
+fn may_change(known: Option<Idle>, answered: Option<ItemId>) -> bool
+    ensures { result ≡ may_change known answered }
 {
     match known {
-        Some(Idle::Waits(ItemId(waited))) => waited == item.0,
+        Some(Idle::Waits(ItemId(waited))) => match answered {
+            Some(item) => waited == item.0,
+            None => false,
+        },
         Some(Idle::BufferFull(_)) => true,
         Some(Idle::Halted(_)) | None => false,
     }
@@ -163,7 +178,7 @@ fn look<const WORDS: usize, C: Subtree<WORDS>>(
     put_idle(idle, quiet, leaf, rest_of(children, leaf_paths, leaf));
 }
 
-/// The same after a grant of the item, where that may have changed what is known.
+/// The same after a grant, where that may have changed what is known.
 #[inline(always)]
 fn look_after<const WORDS: usize, C: Subtree<WORDS>>(
     idle: &mut [Option<Idle>],
@@ -171,15 +186,27 @@ fn look_after<const WORDS: usize, C: Subtree<WORDS>>(
     children: &[C],
     leaf_paths: &[Vec<ChildNo>],
     leaf: usize,
-    item: ItemId,
+    answered: Option<ItemId>,
 )
-    ensures looked { (d : DirValue) → IsLookedAfter item leaf (map vec_items leaf_paths.now) (dir_node d (nodes (map C.value children.now))) idle.old idle.new }
+    ensures looked { (d : DirValue) → IsLookedAfter answered leaf (map vec_items leaf_paths.now) (dir_node d (nodes (map C.value children.now))) idle.old idle.new }
     ensures harts { HartsAgree quiet.old idle.old → HartsAgree quiet.new idle.new }
     ensures buses { KeepsBuses quiet.old quiet.new }
 {
-    if may_change(known_of(idle, leaf), item) {
+    if may_change(known_of(idle, leaf), answered) {
         look(idle, quiet, children, leaf_paths, leaf);
     }
+}
+
+/// Whether what is known of one of these leaves may be otherwise after a grant that answers nobody. No branch depends on what is known.
+#[inline(always)]
+fn may_any_change(idle: &[Option<Idle>], leaves: &[usize]) -> bool
+    ensures { result ≡ false → NoneChanges None (length leaves.now) leaves.now idle.now }
+{
+    let mut any = false;
+    for leaf in leaves {
+        any |= may_change(known_of(idle, *leaf), None);
+    }
+    any
 }
 
 /// The same of each of these leaves.
@@ -190,19 +217,22 @@ fn look_at_all<const WORDS: usize, C: Subtree<WORDS>>(
     children: &[C],
     leaf_paths: &[Vec<ChildNo>],
     leaves: &[usize],
-    item: ItemId,
+    answered: Option<ItemId>,
 )
-    ensures seen { (d : DirValue) → AreSeen item (length leaves.now) leaves.now (map vec_items leaf_paths.now) (dir_node d (nodes (map C.value children.now))) idle.old idle.new }
+    ensures seen { (d : DirValue) → AreSeen answered (length leaves.now) leaves.now (map vec_items leaf_paths.now) (dir_node d (nodes (map C.value children.now))) idle.old idle.new }
     ensures harts { HartsAgree quiet.old idle.old → HartsAgree quiet.new idle.new }
     ensures buses { KeepsBuses quiet.old quiet.new }
 {
+    if answered.is_none() && !may_any_change(idle, leaves) {
+        return;
+    }
     for leaf in leaves {
-        look_after(idle, quiet, children, leaf_paths, *leaf, item);
+        look_after(idle, quiet, children, leaf_paths, *leaf, answered);
     }
 }
 
 /// Remembers what a turn answered of its hart, or what the leaves tell that the turn may have changed: its own, or, of those of the bus
-/// that granted an item, each that may have waited for it.
+/// that granted something, each that may have waited for it.
 #[inline(always)]
 pub(crate) fn note<const WORDS: usize, C: Subtree<WORDS>>(
     idle: &mut [Option<Idle>],
@@ -221,7 +251,14 @@ pub(crate) fn note<const WORDS: usize, C: Subtree<WORDS>>(
         TurnAnswer::Granted(entry) => {
             if let Named::Bus(bus) = named(turn) {
                 if let Some(listed) = bus_leaves.get(bus.0 as usize) {
-                    look_at_all(idle, quiet, children, leaf_paths, listed, entry.item);
+                    look_at_all(
+                        idle,
+                        quiet,
+                        children,
+                        leaf_paths,
+                        listed,
+                        answered_by(entry),
+                    );
                 }
             }
         }

@@ -7,6 +7,7 @@ ghost use Rattle.ddm_tree.specs.Named.{name_of};
 ghost use Rattle.ddm_tree.specs.Path.{node_at, present_at, put_at, node_answer, node_turned};
 ghost use Rattle.ddm_tree.specs.Ready.{IsReady, Leads};
 ghost use Rattle.tree_model.specs.Turns.Tree.{leaf_of_number};
+ghost use Rattle.tree_rules.specs.Bus.Rules.{IsTreeOk};
 ghost use Rattle.ddm_tree.specs.Rules.{StaysInOrder};
 ghost use Rattle.ddm_tree.specs.Idle.{AreIdle};
 ghost use Rattle.ddm_tree.specs.Quiet.{AreLearnedBelow, AreNear, HartsAgree, IsTouchedBy, passed_as};
@@ -238,6 +239,8 @@ fn turn_made<const WORDS: usize, C: Subtree<WORDS>>(
     requires idle { AreIdle code.now items.now idle.old (dir_node top.old (nodes (map C.value children.old))) (dir_node top.old (nodes (map C.value children.old))) }
     requires harts { HartsAgree quiet.old idle.old }
     requires near { AreNear (map vec_items bus_leaves.now.items) (map vec_items bus_paths.now) (map vec_items leaf_paths.now) }
+    requires ruled { IsTreeOk (item_count items.now) (dir_node top.old (nodes (map C.value children.old))) }
+    requires later { (path : List ℕ) → listed_path (named_by turn.now) (map vec_items leaf_paths.now) (map vec_items bus_paths.now) ≡ Some path → let n = dir_node top.old (nodes (map C.value children.old)) in IsTreeOk (item_count items.now) (put_at path (node_turned code.now items.now turn.now path (present_at path stamp_zero n) (node_at path n)) n) }
     ensures answer { (path : List ℕ) → listed_path (named_by turn.now) (map vec_items leaf_paths.now) (map vec_items bus_paths.now) ≡ Some path → let n = dir_node top.old (nodes (map C.value children.old)) in answer.new ≡ node_answer code.now items.now turn.now path (present_at path stamp_zero n) (node_at path n) }
     ensures after { (path : List ℕ) → listed_path (named_by turn.now) (map vec_items leaf_paths.now) (map vec_items bus_paths.now) ≡ Some path → let n = dir_node top.old (nodes (map C.value children.old)) in dir_node top.new (nodes (map C.value children.new)) ≡ put_at path (node_turned code.now items.now turn.now path (present_at path stamp_zero n) (node_at path n)) n }
     ensures quiet { (path : List ℕ) → listed_path (named_by turn.now) (map vec_items leaf_paths.now) (map vec_items bus_paths.now) ≡ Some path → AreLearnedBelow (IsTouchedBy answer.new path) (dir_node top.new (nodes (map C.value children.new))) quiet.old quiet.new }

@@ -1,18 +1,21 @@
 -- One turn of the machine.
-use Rattle.std.proofs.Common.{◌≡◌, ◌≤◌, ◌+◌, length, map, take, drop, ◌++◌, true, vec_items, sym, ap, subst, ◌∙◌, arith}
+use Rattle.std.proofs.Common.{◌≡◌, ◌≤◌, ◌+◌, ℕ, List, Some, length, map, take, drop, ◌++◌, true, vec_items, sym, ap, subst, ◌∙◌, arith}
 use Rattle.ddm_types.specs.Keys.{stamp_zero}
 use Rattle.tree_model.specs.State.Shape.{tree_counts}
 use Rattle.tree_model.specs.State.Values.{dir_node, nodes, root_of}
-use Rattle.tree_model.specs.Turns.Machine.{names_part, turn_of}
+use Rattle.ddm_types.specs.ItemTable.{item_count}
+use Rattle.tree_model.specs.Turns.Machine.{named_by, names_part, turn_of}
 use Rattle.tree_model.specs.Turns.Tree.{leaf_of_number}
-use Rattle.ddm_tree.specs.Machine.{IsMachine, MachineState, machine_of, state_after}
+use Rattle.tree_rules.specs.Bus.Rules.{IsTreeOk}
+use Rattle.ddm_tree.specs.Machine.{IsMachine, MachineState, listed_path, machine_of, state_after}
 use Rattle.ddm_tree.specs.Path.{present_at}
 use Rattle.ddm_tree.specs.Quiet.{HartsAgree}
+use Rattle.ddm_tree.proofs.Along.{root_turned}
 use Rattle.ddm_tree.proofs.IdleHarts.{idle-after}
 use Rattle.ddm_tree.proofs.MachineKept.{turn-keeps}
 use Rattle.ddm_tree.proofs.QuietTurns.{learned-turn, only-after, quiet-after}
-use Rattle.ddm_tree.proofs.RulesKept.{made-order}
-use Rattle.ddm_tree.proofs.TurnMade.{Told, all-traffic-most, items-back, machine-ready, part-found, state-made, told-turn, turn-tree_counts}
+use Rattle.ddm_tree.proofs.RulesKept.{made-order, rules-buses, turn-rules}
+use Rattle.ddm_tree.proofs.TurnMade.{Told, all-traffic-most, items-back, machine-ready, part-found, same-path, state-made, told-turn, turn-tree_counts, turned-ruled}
 use Rattle.ddm_tree.proofs.machine.Machine.turn_into.Goals as goal
 use Rattle.ddm_tree.proofs.machine.Machine.turn_into.Given
 
@@ -23,7 +26,9 @@ turn_made-requires g c =
     let turns : c.self.inside.turns + 1 ≤ 4294967295 = subst (λ s. s.turns + 1 ≤ 4294967295) (sym c.self.view_is) (omega (arith, c.requires.turns)) in
     let inv = c.self.invariant in
     let ready = machine-ready g.row.WORDS c.self.inside.turns (map vec_items c.self.inside.leaf_paths.items) (map vec_items c.self.inside.bus_paths.items) m inv.0 inv.2 (omega (arith, turns)) in
-    let found = part-found g.row.WORDS c.self.inside.turns (map vec_items c.self.inside.leaf_paths.items) (map vec_items c.self.inside.bus_paths.items) c.args.turn.now m inv.0 named in (
+    let found = part-found g.row.WORDS c.self.inside.turns (map vec_items c.self.inside.leaf_paths.items) (map vec_items c.self.inside.bus_paths.items) c.args.turn.now m inv.0 named in
+    let later : (path : List ℕ) → listed_path (named_by c.args.turn.now) (map vec_items c.self.inside.leaf_paths.items) (map vec_items c.self.inside.bus_paths.items) ≡ Some path → IsTreeOk (item_count m.items) (root_turned c.args.turn.now path m) = λ path listed.
+    subst (λ p. IsTreeOk (item_count m.items) (root_turned c.args.turn.now p m)) (sym (same-path _ found.path path (sym found.listed) listed)) (turned-ruled c.args.turn.now m found.path found.leads (rules-buses _ (turn-rules c.args.turn.now m inv.0.shaped inv.0.rules))) in (
       omega arith,
       (
         inv.3,
@@ -35,7 +40,13 @@ turn_made-requires g c =
               rw (c.deref_mut.ensures.value, c.deref.ensures.value) (λ k path leads. inv.0.paths (leaf_of_number k) path leads),
               (
                 rw (c.deref_mut.ensures.value, c.deref_mut-2.ensures.value) inv.5,
-                (rw (c.deref_mut-2.ensures.value, c.deref_mut-3.ensures.value) inv.7, rw (c.deref.ensures.value, c.deref-2.ensures.value) inv.8),
+                (
+                  rw (c.deref_mut-2.ensures.value, c.deref_mut-3.ensures.value) inv.7,
+                  (
+                    rw (c.deref.ensures.value, c.deref-2.ensures.value) inv.8,
+                    (rw (c.deref_mut.ensures.value) (rules-buses m inv.0.rules).tree, rw (c.deref_mut.ensures.value, c.deref.ensures.value, c.deref-2.ensures.value) later),
+                  ),
+                ),
               ),
             ),
           ),
