@@ -12,8 +12,9 @@ ghost use Rattle.any_machine.specs.Any.{depths_state};
 
 use crate::machine::Depths;
 use ddm_tree::{Dir, Found, Machine, Subtree};
-use ddm_types::{BusNo, HartNo, ItemId, Items, LeafNo, LeafState, Op, TreeCounts, Turn};
+use ddm_types::{BusNo, HartNo, ItemId, Items, LeafNo, LeafState, TreeCounts, Turn};
 use inspector::{find, state};
+use operation_list::Operations;
 use rv_hart::Hart;
 use tree_model::Traffic;
 
@@ -38,8 +39,10 @@ fn items_over<const WORDS: usize, C: Subtree<WORDS>>(
     machine.items()
 }
 
-fn ops_over<const WORDS: usize, C: Subtree<WORDS>>(machine: &Machine<WORDS, Dir<WORDS, C>>) -> &[Op]
-    ensures { result.now ≡ machine.now.machine.ops }
+fn ops_over<const WORDS: usize, C: Subtree<WORDS>>(
+    machine: &Machine<WORDS, Dir<WORDS, C>>,
+) -> &Operations
+    ensures { result.now.items ≡ machine.now.machine.ops }
 {
     machine.ops()
 }
@@ -143,8 +146,8 @@ impl<const WAYS: usize, const WORDS: usize> Depths<WAYS, WORDS> {
     }
 
     /// The operations, in order of completion.
-    pub fn ops(&self) -> &[Op]
-        ensures { result.now ≡ (depths_state self.now).machine.ops }
+    pub fn ops(&self) -> &Operations
+        ensures { result.now.items ≡ (depths_state self.now).machine.ops }
     {
         match self {
             Depths::OneLevel(machine) => machine.ops(),

@@ -12,7 +12,8 @@ ghost use Rattle.any_machine.specs.Any.{machine_state, state_in};
 
 use crate::machine::{AnyMachine, Machines};
 use ddm_tree::Found;
-use ddm_types::{BusNo, HartNo, ItemId, Items, LeafNo, LeafState, Op, TreeCounts, Turn};
+use ddm_types::{BusNo, HartNo, ItemId, Items, LeafNo, LeafState, TreeCounts, Turn};
+use operation_list::Operations;
 use rv_hart::Hart;
 use tree_model::Traffic;
 
@@ -41,8 +42,8 @@ impl<const WORDS: usize> Machines<WORDS> {
     }
 
     /// The operations, in order of completion.
-    pub fn ops(&self) -> &[Op]
-        ensures { result.now ≡ (state_in self.now).machine.ops }
+    pub fn ops(&self) -> &Operations
+        ensures { result.now.items ≡ (state_in self.now).machine.ops }
     {
         match self {
             Machines::OneWay(machine) => machine.ops(),
@@ -159,8 +160,8 @@ impl AnyMachine {
     }
 
     /// The operations, in order of completion.
-    pub fn ops(&self) -> &[Op]
-        ensures { result.now ≡ (machine_state self.now).machine.ops }
+    pub fn ops(&self) -> &Operations
+        ensures { result.now.items ≡ (machine_state self.now).machine.ops }
     {
         match self {
             AnyMachine::Narrow(machine) => machine.ops(),

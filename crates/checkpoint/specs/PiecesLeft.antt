@@ -20,4 +20,4 @@ bytes_left words_given front ops_given ops ended =
     flat_map (to_le_bytes w32) (drop words_given front ++ flat_map op_words (drop ops_given ops) ++ (if ended then [] else 0x454d4444 ∷ []))
 
 abbrev pub checkpoint_left : Inside → List ℕ
-checkpoint_left c = bytes_left c.words_given c.front.items c.ops_given c.ops.now c.is_ended
+checkpoint_left c = bytes_left c.words_given c.front.items c.ops_given c.ops.now.items c.is_ended

@@ -1,4 +1,4 @@
-ghost use Rattle.std.specs.Prelude.{◌≡◌, ◌+◌, ◌*◌, ◌≤◌, [], ◌++◌, length, IfOk};
+ghost use Rattle.std.specs.Prelude.{◌≡◌, ◌+◌, ◌-◌, ◌*◌, ◌≤◌, [], ◌++◌, drop, length, take, IfOk};
 ghost use Rattle.std.specs.List.{flat_map};
 ghost use Rattle.std.specs.Int.{w32, to_le_bytes};
 ghost use Rattle.state_words.specs.Parts.{op_words};
@@ -8,6 +8,7 @@ ghost use Rattle.checkpoint.specs.Saved.{saved};
 use crate::front::front_of;
 use any_machine::AnyMachine;
 use ddm_types::{NoMemory, Op};
+use operation_list::Operations;
 use report::{LINE_BYTES, Line, Parts};
 use state_words::{effect_words, key_words};
 use std::alloc::Global;
@@ -28,7 +29,7 @@ const LINE_OPERATIONS: usize = LINE_WORDS / 15;
 pub struct CheckpointPieces<'a> {
     // The words before those of the operations.
     front: Vec<u32>,
-    ops: &'a [Op],
+    ops: &'a Operations,
     // How many of these words and how many operations were given, and whether the end word was.
     words_given: usize,
     ops_given: usize,
@@ -68,15 +69,17 @@ fn put_operation(line: &mut Line, op: Op)
     put_words(line, &effect_words(op.effect));
 }
 
-/// Puts the bytes of operations into the empty line.
-fn put_operations(line: &mut Line, ops: &[Op])
+/// Puts the bytes of the operations from one place to another into the empty line.
+fn put_operations(line: &mut Line, ops: &Operations, from: usize, end: usize)
     requires empty { line.old ≡ [] }
-    requires few { length ops.now ≤ LINE_OPERATIONS }
-    ensures bytes { line.new ≡ flat_map (to_le_bytes w32) (flat_map op_words ops.now) }
-    ensures long { length line.new ≡ 60 * length ops.now }
+    requires from { from ≤ end }
+    requires end { end ≤ length ops.now.items }
+    requires few { end - from ≤ LINE_OPERATIONS }
+    ensures bytes { line.new ≡ flat_map (to_le_bytes w32) (flat_map op_words (take (end - from) (drop from ops.now.items))) }
+    ensures long { length line.new ≡ 60 * (end - from) }
 {
-    for op in ops {
-        put_operation(line, *op);
+    for place in from..end {
+        put_operation(line, ops.get(place));
     }
 }
 
@@ -111,8 +114,9 @@ impl<'a> Parts for CheckpointPieces<'a> {
             put_words(line, &self.front[self.words_given..end]);
             self.words_given = end;
         } else if self.ops_given < self.ops.len() {
-            let end = self.ops.len().min(self.ops_given + LINE_OPERATIONS);
-            put_operations(line, &self.ops[self.ops_given..end]);
+            let left = self.ops.len() - self.ops_given;
+            let end = self.ops_given + left.min(LINE_OPERATIONS);
+            put_operations(line, self.ops, self.ops_given, end);
             self.ops_given = end;
         } else if !self.is_ended {
             put_words(line, &[END]);

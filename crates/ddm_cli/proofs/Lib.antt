@@ -20,3 +20,4 @@ pub mod Images
 pub mod Verdicts
 pub mod RunsInPieces
 pub mod Surveys
+pub mod Listed

@@ -2,6 +2,7 @@ pub mod About
 pub mod Causes
 pub mod Code
 pub mod Commands
+pub mod Listing
 pub mod Lists
 pub mod Made
 pub mod Parts

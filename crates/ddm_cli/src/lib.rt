@@ -8,6 +8,7 @@ mod fault;
 mod files;
 mod judging;
 mod limits;
+mod listing;
 mod making;
 mod printing;
 mod reading;

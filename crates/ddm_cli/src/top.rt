@@ -1,4 +1,4 @@
-ghost use Rattle.std.specs.Prelude.{◌≡◌, map, IfOk, IfErr, OnErr};
+ghost use Rattle.std.specs.Prelude.{◌≡◌, ◌≤◌, length, map, IfOk, IfErr, OnErr};
 ghost use Rattle.ddm_outside.specs.Causes.{HasCause};
 ghost use Rattle.std.specs.String.{string_bytes};
 ghost use Rattle.ddm_cli.specs.Causes.{TreeCause};
@@ -11,6 +11,7 @@ use crate::checking::write_check;
 use crate::command::{Command, Prints, Run};
 use crate::fault::tell;
 use crate::files::{image_machine, tree_file};
+use crate::listing::SchedulePieces;
 use crate::printing::write_ran;
 use crate::reading::read_buffer;
 use crate::resuming::write_resumed;
@@ -19,8 +20,7 @@ use crate::surveying::write_outcomes;
 use crate::words::command_said;
 use any_machine::release;
 use ddm_outside::{Failed, Shelf, Sink};
-use report::write_all;
-use schedule_log::seeded_text;
+use report::write_pieces;
 use std::alloc::Global;
 
 // Runs a machine and writes what is printed of it, or answers the status without a text.
@@ -55,19 +55,20 @@ fn write_run<F: Shelf, K: Sink>(
 }
 
 // The schedule of a seed for the tree of a file, or the status without it.
-fn list_text<F: Shelf>(
+fn list_pieces<F: Shelf>(
     alloc: Global,
     files: &mut F,
     tree: &str,
     seed: u64,
     count: u32,
-) -> Result<Vec<u8>, Status>
-    ensures taken { IfOk result (λ text. HasAccepted F.told files.old text.items (to_list tree.now seed count)) }
+    buffer: &mut [u8],
+) -> Result<SchedulePieces, Status>
+    requires room { 1024 ≤ length buffer.old }
+    ensures taken { IfOk result (λ text. HasAccepted F.told files.old text (to_list tree.now seed count)) }
     ensures refused { IfErr result (TreeCause (F.told files.old tree.now) (F.faults files.old tree.now) (F.faults files.new tree.now)) }
 {
-    let mut buffer = read_buffer(alloc)?;
-    let tree = tree_file(alloc, files, tree, &mut buffer)?;
-    Ok(seeded_text(alloc, seed, count, &tree.nodes)?)
+    let tree = tree_file(alloc, files, tree, buffer)?;
+    Ok(SchedulePieces::new(alloc, &tree.nodes, seed, count)?)
 }
 
 // Writes it.
@@ -84,8 +85,9 @@ fn write_list<F: Shelf, K: Sink>(
     ensures refused { IfErr result (TreeCause (F.told files.old tree.now) (F.faults files.old tree.now) (F.faults files.new tree.now)) }
     ensures same { OnErr result (K.held out.new ≡ K.held out.old) }
 {
-    let text = list_text(alloc, files, tree, seed, count)?;
-    Ok(write_all(out, &text))
+    let mut buffer = read_buffer(alloc)?;
+    let mut pieces = list_pieces(alloc, files, tree, seed, count, &mut buffer)?;
+    Ok(write_pieces(out, &mut pieces, &mut buffer))
 }
 
 // Writes what a command prints, or answers the status without a text.

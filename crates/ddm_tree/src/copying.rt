@@ -1,4 +1,4 @@
-ghost use Rattle.std.specs.Prelude.{◌≡◌, ℕ, ◌+◌, ◌-◌, ◌<◌, ◌≤◌, ◌^◌, length, map, min, slice_set, vec_capacity};
+ghost use Rattle.std.specs.Prelude.{◌≡◌, ℕ, ◌+◌, ◌-◌, ◌<◌, ◌≤◌, ◌^◌, length, map, min, slice_set};
 ghost use Rattle.tree_model.specs.State.Values.{dir_node, nodes};
 ghost use Rattle.tree_model.specs.Turns.Children.{child_at};
 ghost use Rattle.ddm_tree.specs.Copying.{AreAlike, CanCopy, copied};
@@ -7,7 +7,6 @@ use crate::idle::forget_all;
 use crate::machine::Machine;
 use crate::quiet::forget_quiet;
 use crate::subtree::Subtree;
-use ddm_types::Op;
 use leaf_protocol::Leaf;
 
 /// A part of the tree that can become a copy of another one.
@@ -52,18 +51,6 @@ pub(crate) fn copy_children<const WORDS: usize, C: CopyFrom<WORDS>>(
     }
 }
 
-/// Puts these operations in place of those that are there, where there is memory for them.
-fn refill(ops: &mut Vec<Op>, others: &[Op])
-    requires { length others.now ≤ vec_capacity ops.old }
-    ensures items { ops.new.items ≡ others.now }
-    ensures capacity { vec_capacity ops.old ≤ vec_capacity ops.new }
-{
-    ops.clear();
-    if ops.extend_from_slice(others).is_err() {
-        unreachable!();
-    }
-}
-
 /// How many operations can be taken without memory, after so many others of them stand there in place of these.
 fn room_left(spare: u32, here: usize, others: usize) -> u32
     requires fits { here + spare < 2 ^ 64 }
@@ -84,7 +71,7 @@ impl<const WORDS: usize, C: CopyFrom<WORDS>> Machine<WORDS, C> {
         self.spare = room_left(self.spare, self.ops.len(), other.ops.len());
         self.top.copy_from(&other.top);
         copy_children(&mut self.children, &other.children);
-        refill(&mut self.ops, &other.ops);
+        self.ops.copy_from(&other.ops);
         self.traffic.copy_from_slice(&other.traffic);
         self.turns = other.turns;
         forget_all(&mut self.idle);

@@ -72,9 +72,10 @@ pub(crate) fn idle_for(turn: &Turn, idle: &[Option<Idle>]) -> Option<Idle>
 fn answered_by(entry: &LogEntry) -> Option<ItemId>
     ensures { result ≡ answered_by entry.now }
 {
+    let item = entry.item;
     match entry.kind {
         TxKind::ReadTx | TxKind::EraseTx => None,
-        TxKind::DataTx | TxKind::ExclusiveTx | TxKind::InjectTx | TxKind::OutTx => Some(entry.item),
+        TxKind::DataTx | TxKind::ExclusiveTx | TxKind::InjectTx | TxKind::OutTx => Some(item),
     }
 }
 

@@ -60,11 +60,11 @@ impl<const WORDS: usize, C: Subtree<WORDS>> Parts<WORDS, C> {
         ensures { IfSome result (λ o. o ≡ broken_key self.now [] 0 self.now.ops) }
     {
         for k in 0..self.ops.len() {
-            let op = &self.ops[k];
-            if !self.key_fits(op) {
+            let op = self.ops.get(k);
+            if !self.key_fits(&op) {
                 return Some(Some(StateRefusal::BrokenKey(k as u32)));
             }
-            if !take_key(lasts, op) {
+            if !take_key(lasts, &op) {
                 return None;
             }
         }
@@ -78,8 +78,8 @@ impl<const WORDS: usize, C: Subtree<WORDS>> Parts<WORDS, C> {
     {
         let mut seen = BTreeSet::new(alloc);
         for k in 0..self.ops.len() {
-            let op = &self.ops[k];
-            if !self.key_fits(op) {
+            let op = self.ops.get(k);
+            if !self.key_fits(&op) {
                 return Ok(Some(StateRefusal::BrokenKey(k as u32)));
             }
             let new = seen.insert(op.key)?;

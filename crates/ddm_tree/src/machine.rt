@@ -21,7 +21,8 @@ use crate::quiet::{Quiet, known_as, near_lists, note_buses, nothing_quiet};
 use crate::record::record;
 use crate::subtree::Subtree;
 use crate::turn_call::TurnCall;
-use ddm_types::{ChildNo, Code, Items, LeafNo, NoMemory, Op, Stamp, TreeCounts, Turn, TurnAnswer};
+use ddm_types::{ChildNo, Code, Items, LeafNo, NoMemory, Stamp, TreeCounts, Turn, TurnAnswer};
+use operation_list::Operations;
 use std::alloc::Global;
 use std::marker::Model;
 use top_node::TopState;
@@ -34,7 +35,7 @@ pub struct Machine<const WORDS: usize, C: Subtree<WORDS>> {
     pub(crate) children: Vec<C>,
     pub(crate) code: Code,
     pub(crate) items: Items,
-    pub(crate) ops: Vec<Op>,
+    pub(crate) ops: Operations,
     pub(crate) traffic: Vec<Traffic>,
     pub(crate) counts: TreeCounts,
     /// For each leaf and for each bus its path.
@@ -53,7 +54,7 @@ pub struct Machine<const WORDS: usize, C: Subtree<WORDS>> {
 }
 
 impl<const WORDS: usize, C: Subtree<WORDS>> Model for Machine<WORDS, C> {
-    ghost use Rattle.std.specs.Prelude.{◌≡◌, ℕ, List, ◌+◌, ◌*◌, ◌≤◌, ◌^◌, ◌<◌, length, map, vec_capacity, vec_items};
+    ghost use Rattle.std.specs.Prelude.{◌≡◌, ℕ, List, ◌*◌, ◌≤◌, ◌^◌, ◌<◌, map, vec_items};
     ghost use Rattle.tree_model.specs.State.Shape.{tree_counts};
     ghost use Rattle.ddm_tree.specs.Idle.{AreIdle};
     ghost use Rattle.ddm_tree.specs.Quiet.{AreNear, AreQuiet, HartsAgree};
@@ -69,7 +70,7 @@ impl<const WORDS: usize, C: Subtree<WORDS>> Model for Machine<WORDS, C> {
 
     ghost invariant = { λ m. IsMachine WORDS (machine_of m.code m.items m.top (map C.value m.children.items) m.ops.items m.traffic.items) m.turns (map vec_items m.leaf_paths.items) (map vec_items m.bus_paths.items)
         × (tree_counts (machine_of m.code m.items m.top (map C.value m.children.items) m.ops.items m.traffic.items) ≡ m.counts)
-        × (WORDS < 2 ^ 32) × (m.items.size ≡ 4 * WORDS) × (length m.ops.items + m.spare ≤ vec_capacity m.ops)
+        × (WORDS < 2 ^ 32) × (m.items.size ≡ 4 * WORDS) × (m.spare ≤ m.ops.spare)
         × AreIdle m.code m.items m.idle.items (dir_node m.top (nodes (map C.value m.children.items))) (dir_node m.top (nodes (map C.value m.children.items)))
         × AreQuiet m.quiet.items (dir_node m.top (nodes (map C.value m.children.items))) (dir_node m.top (nodes (map C.value m.children.items)))
         × HartsAgree m.quiet.items m.idle.items
@@ -102,7 +103,7 @@ impl<const WORDS: usize, C: Subtree<WORDS> + Drop> Machine<WORDS, C> {
             children,
             code,
             items,
-            ops: Vec::new(alloc),
+            ops: Operations::new(alloc),
             traffic,
             counts,
             leaf_paths,

@@ -20,7 +20,8 @@ use crate::quiet::{Quiet, forget_quiet};
 use crate::read_back::read_under;
 use crate::section::Section;
 use crate::subtree::Subtree;
-use ddm_types::{ChildNo, Code, Items, Op, TreeCounts};
+use ddm_types::{ChildNo, Code, Items, TreeCounts};
+use operation_list::Operations;
 use state_reading::StateRefusal;
 use std::marker::Model;
 use top_node::TopState;
@@ -33,7 +34,7 @@ pub struct Parts<const WORDS: usize, C: Subtree<WORDS>> {
     pub(crate) children: Vec<C>,
     pub(crate) code: Code,
     pub(crate) items: Items,
-    pub(crate) ops: Vec<Op>,
+    pub(crate) ops: Operations,
     pub(crate) traffic: Vec<Traffic>,
     pub(crate) counts: TreeCounts,
     pub(crate) leaf_paths: Vec<Vec<ChildNo>>,

@@ -14,7 +14,8 @@ use crate::parts::Parts;
 use crate::read_records::{read_op, read_traffic};
 use crate::section::Section;
 use crate::subtree::Subtree;
-use ddm_types::{BusNo, Op, TreeCounts};
+use ddm_types::{BusNo, TreeCounts};
+use operation_list::Operations;
 use state_reading::StateRefusal;
 
 /// How many words an operation has.
@@ -22,7 +23,7 @@ const OP_WORDS: usize = 15;
 
 /// Reads one operation more, in a tree of so many levels of buses and so many leaves.
 fn add_op(
-    ops: &mut Vec<Op>,
+    ops: &mut Operations,
     words: &[u32],
     at: &mut u32,
     depth: u32,
@@ -36,14 +37,14 @@ fn add_op(
     ensures more { OnOk result (length ops.new.items ≡ length ops.old.items + 1) }
 {
     let op = read_op(words, at, depth, leaves)?;
-    match ops.push(op) {
+    match ops.add(&op) {
         Ok(()) => Ok(()),
         Err(_) => Err(StateRefusal::NoMemory),
     }
 }
 
 /// Takes memory for so many operations at once, if there are words enough for them: a count that is false takes none.
-fn make_room(ops: &mut Vec<Op>, retired: u32, words: usize) -> Result<(), StateRefusal>
+fn make_room(ops: &mut Operations, retired: u32, words: usize) -> Result<(), StateRefusal>
     ensures same { ops.new.items ≡ ops.old.items }
     ensures refused { IfErr result (λ e. e ≡ NoMemory) }
 {
@@ -51,7 +52,7 @@ fn make_room(ops: &mut Vec<Op>, retired: u32, words: usize) -> Result<(), StateR
     if words / OP_WORDS < many {
         return Ok(());
     }
-    match ops.reserve_exact(many) {
+    match ops.reserve(many) {
         Ok(()) => Ok(()),
         Err(_) => Err(StateRefusal::NoMemory),
     }
@@ -59,7 +60,7 @@ fn make_room(ops: &mut Vec<Op>, retired: u32, words: usize) -> Result<(), StateR
 
 /// Reads so many operations in place of those that are there. Where the words are too few, memory is taken one by one.
 fn fill_ops(
-    ops: &mut Vec<Op>,
+    ops: &mut Operations,
     retired: u32,
     words: &[u32],
     at: &mut u32,

@@ -20,10 +20,11 @@ use crate::machine::Machine;
 use crate::subtree::Subtree;
 use crate::turns::{key_on, on_bus};
 use ddm_types::{
-    BusNo, ChildNo, HartNo, Hold, ItemId, Items, Key, LeafNo, LeafState, Op, TreeCounts, Turn,
-    TxKind, Words,
+    BusNo, ChildNo, HartNo, Hold, ItemId, Items, Key, LeafNo, LeafState, TreeCounts, Turn, TxKind,
+    Words,
 };
 use item_states::{DownEntry, Parent};
+use operation_list::Operations;
 use rv_hart::Hart;
 use tree_model::{LeafSpot, Traffic, TreeChild};
 
@@ -40,8 +41,8 @@ impl<const WORDS: usize, C: Subtree<WORDS>> Machine<WORDS, C> {
     }
 
     /// The operations, in order of completion.
-    pub fn ops(&self) -> &[Op]
-        ensures { result.now ≡ self.now.machine.ops }
+    pub fn ops(&self) -> &Operations
+        ensures { result.now.items ≡ self.now.machine.ops }
     {
         &self.ops
     }

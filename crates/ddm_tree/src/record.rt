@@ -1,30 +1,31 @@
-ghost use Rattle.std.specs.Prelude.{◌≡◌, ◌+◌, ◌<◌, ◌≤◌, true, length, vec_capacity};
+ghost use Rattle.std.specs.Prelude.{◌≡◌, ◌<◌, ◌≤◌, true};
 ghost use Rattle.std.specs.List.{list_all};
 ghost use Rattle.tree_model.specs.Turns.Machine.{one_more, traffic_with};
 ghost use Rattle.ddm_tree.specs.Machine.{ops_after, traffic_after, spare_after, traffic_within};
 
-use ddm_types::{LogEntry, Op, TurnAnswer, TxKind};
+use ddm_types::{LogEntry, TurnAnswer, TxKind};
+use operation_list::Operations;
 use tree_model::Traffic;
 
 /// Keeps what an answer adds: an operation that completed, a transaction that was granted.
 #[inline(always)]
 pub(crate) fn record(
     answer: &TurnAnswer,
-    ops: &mut Vec<Op>,
+    ops: &mut Operations,
     traffic: &mut Vec<Traffic>,
     spare: &mut u32,
 )
-    requires room { length ops.old.items + spare.old ≤ vec_capacity ops.old }
+    requires room { spare.old ≤ ops.old.spare }
     requires spare { 0 < spare.old }
     requires counts { list_all (traffic_within 4294967294) traffic.old.items ≡ true }
     ensures ops { ops.new.items ≡ ops_after answer.now ops.old.items }
     ensures traffic { traffic.new.items ≡ traffic_after answer.now traffic.old.items }
     ensures spare { spare.new ≡ spare_after answer.now spare.old }
-    ensures room { length ops.new.items + spare.new ≤ vec_capacity ops.new }
+    ensures room { spare.new ≤ ops.new.spare }
 {
     match answer {
         TurnAnswer::Retired(op) => {
-            ops.push_reserved(*op);
+            ops.push(op);
             *spare -= 1;
         }
         TurnAnswer::Granted(entry) => count_at(traffic, *entry),
@@ -42,17 +43,16 @@ fn count_at(traffic: &mut Vec<Traffic>, entry: LogEntry)
     }
 }
 
-/// Counts a grant.
+/// Counts a grant. No branch depends on its kind, which can't be foreseen.
+#[inline(always)]
 fn count(traffic: &mut Traffic, kind: TxKind)
     requires { traffic_within 4294967294 traffic.old ≡ true }
     ensures { traffic.new ≡ one_more kind traffic.old }
 {
-    match kind {
-        TxKind::ReadTx => traffic.reads += 1,
-        TxKind::DataTx => traffic.copies += 1,
-        TxKind::EraseTx => traffic.erases += 1,
-        TxKind::ExclusiveTx => traffic.exclusives += 1,
-        TxKind::InjectTx => traffic.injects += 1,
-        TxKind::OutTx => traffic.outs += 1,
-    }
+    traffic.reads += u32::from(matches!(kind, TxKind::ReadTx));
+    traffic.copies += u32::from(matches!(kind, TxKind::DataTx));
+    traffic.erases += u32::from(matches!(kind, TxKind::EraseTx));
+    traffic.exclusives += u32::from(matches!(kind, TxKind::ExclusiveTx));
+    traffic.injects += u32::from(matches!(kind, TxKind::InjectTx));
+    traffic.outs += u32::from(matches!(kind, TxKind::OutTx));
 }

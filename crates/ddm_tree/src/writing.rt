@@ -6,7 +6,7 @@ ghost use Rattle.tree_model.specs.Turns.Machine.{machine_leaves};
 ghost use Rattle.tree_model.specs.Turns.Tree.{leaf_of_number, bus_of_number};
 ghost use Rattle.state_words.specs.Begins.{Begins};
 ghost use Rattle.state_words.specs.Machine.{bus_words, first_way_count, sizes_of, state_words};
-ghost use Rattle.state_words.specs.Parts.{hart_words, leaf_words};
+ghost use Rattle.state_words.specs.Parts.{counted, hart_words, leaf_words, op_words};
 ghost use Rattle.ddm_tree.specs.Machine.{is_part};
 ghost use Rattle.ddm_tree.specs.Path.{node_at};
 ghost use Rattle.ddm_tree.specs.Ready.{Leads};
@@ -18,7 +18,8 @@ use crate::named::Named;
 use crate::subtree::Subtree;
 use ddm_types::{BusNo, ChildNo, LeafNo, NoMemory};
 use item_states::Parent;
-use state_words::{MachineSizes, push_all, push_words, traffic_words};
+use operation_list::Operations;
+use state_words::{MachineSizes, Spelled, push_words, traffic_words};
 
 /// The word behind all others.
 const END: u32 = 0x454d_4444;
@@ -80,6 +81,20 @@ pub(crate) fn write_part_under<const WORDS: usize, P: Parent<WORDS>, C: Subtree<
 {
     let (child, rest) = next(parent, children, Named::Bus(bus), path);
     child.write_part_below(bus, rest, out)
+}
+
+/// Puts the words of operations at the end, with how many there are before them.
+fn push_ops(out: &mut Vec<u32>, ops: &Operations) -> Result<(), NoMemory>
+    requires { length ops.now.items < 2 ^ 32 }
+    ensures ok { OnOk result (Adds out.old.items out.new.items (counted op_words ops.now.items)) }
+    ensures err { OnErr result (Begins out.old.items out.new.items) }
+{
+    push_words(out, &[ops.len() as u32])?;
+    for place in 0..ops.len() {
+        let op = ops.get(place);
+        op.spell(out)?;
+    }
+    Ok(())
 }
 
 impl<const WORDS: usize, C: Subtree<WORDS>> Machine<WORDS, C> {
@@ -191,7 +206,7 @@ impl<const WORDS: usize, C: Subtree<WORDS>> Machine<WORDS, C> {
         ensures err { OnErr result (Begins out.old.items out.new.items) }
     {
         self.write_tree(out)?;
-        push_all(out, self.ops())?;
+        push_ops(out, self.ops())?;
         push_words(out, &[END])?;
         Ok(())
     }

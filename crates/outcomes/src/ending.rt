@@ -5,7 +5,8 @@ ghost use Rattle.outcome_model.specs.Halted.{all_halted};
 ghost use Rattle.outcome_model.specs.Outcome.{end_text, outcome_of};
 
 use any_machine::{AnyMachine, Machines};
-use ddm_types::{HaltCause, HartNo, NoMemory, Op};
+use ddm_types::{HaltCause, HartNo, NoMemory};
+use operation_list::Operations;
 use report::{push_bytes, push_number, push_output, push_state};
 
 fn have_halted<const WORDS: usize>(machine: &Machines<WORDS>) -> bool
@@ -36,9 +37,9 @@ fn push_end(
     out: &mut Vec<u8>,
     hart: HartNo,
     halt: Option<HaltCause>,
-    ops: &[Op],
+    ops: &Operations,
 ) -> Result<(), NoMemory>
-    ensures { OnOk result (Adds out.old.items out.new.items (end_text ops.now (record { number = hart; halt = halt }))) }
+    ensures { OnOk result (Adds out.old.items out.new.items (end_text ops.now.items (record { number = hart; halt = halt }))) }
 {
     push_bytes(out, b" hart ")?;
     push_number(out, hart.0)?;

@@ -14,6 +14,8 @@ mod with_items;
 #[cfg(test)]
 mod with_leaf_protocol;
 #[cfg(test)]
+mod with_operation_list;
+#[cfg(test)]
 mod with_replacement;
 #[cfg(test)]
 mod with_reservations;

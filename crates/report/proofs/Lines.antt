@@ -1,8 +1,8 @@
 -- Lines of a report as their parts.
-use Rattle.std.proofs.Common.{◌≡◌, ◌≤◌, ℕ, Bool, true, false, true≢false, List, [], ◌∷◌, ◌++◌, length, take, drop, refl, sym, ap, ◌∙◌}
+use Rattle.std.proofs.Common.{◌≡◌, ◌<◌, ◌≤◌, ℕ, ◌+◌, Bool, true, false, true≢false, List, [], ◌∷◌, ◌++◌, length, take, drop, get_or, refl, sym, ap, ◌∙◌}
 use Rattle.std.specs.Prelude.{codes, nat_eq, if◌then◌else◌}
 use Rattle.std.specs.List.{flat_map}
-use Rattle.std.proofs.lemmas.List.{append-nil, drop_all, take-append-drop}
+use Rattle.std.proofs.lemmas.List.{append-nil, at_drop_more, drop_all, take-append-drop}
 use Rattle.std.proofs.lemmas.Grind.{flat_map-append}
 use Rattle.ddm_types.specs.declared.operations.Op.{Op}
 use Rattle.text_model.specs.Report.{ItemView, item_line, letter_texts, or_dash, put_text, put_text_by, put_texts}
@@ -31,6 +31,25 @@ output-last hart from after ops put past puts = puts ∙ ap (λ (os : List Op). 
 output-cut : (hart from : ℕ) (ops : List Op) → put_texts hart ops ≡ put_texts hart (take from ops) ++ put_texts hart (drop from ops)
 unfolding put_texts
 output-cut hart from ops = ap (put_texts hart) (sym (take-append-drop from ops)) ∙ flat_map-append (put_text_by hart) (take from ops) (drop from ops)
+
+-- a byte is put by an operation or by those behind it
+either-byte : (xs ys : List ℕ) → any_byte (xs ++ ys) ≡ (if any_byte xs then true else any_byte ys)
+either-byte [] ys = refl
+either-byte (x ∷ xs) ys = refl
+
+pub byte-from : (hart k : ℕ) (ops : List Op) (op : Op) (puts : Bool) → k < length ops → op ≡ get_or ops k op → any_byte (put_text_by hart op) ≡ puts
+    → any_byte (put_texts hart (drop k ops)) ≡ (if puts then true else any_byte (put_texts hart (drop (k + 1) ops)))
+unfolding put_texts
+byte-from hart k ops op puts inside here is =
+    let behind = flat_map (put_text_by hart) (drop (k + 1) ops) in
+    at_drop_more (λ os. any_byte (flat_map (put_text_by hart) os)) ops k op inside ∙ (either-byte (put_text_by hart (get_or ops k op)) behind
+    ∙ ap (λ (b : Bool). if b then true else any_byte behind) (ap (λ o. any_byte (put_text_by hart o)) (sym here) ∙ is))
+
+-- whoever's byte it is
+pub silent-from : (k : ℕ) (ops : List Op) (op : Op) (puts : Bool) → k < length ops → op ≡ get_or ops k op → any_byte (put_text op.effect) ≡ puts
+    → are_silent (drop k ops) ≡ (if puts then false else are_silent (drop (k + 1) ops))
+silent-from k ops op puts inside here is =
+    at_drop_more are_silent ops k op inside ∙ ap (λ (b : Bool). if b then false else are_silent (drop (k + 1) ops)) (ap (λ (o : Op). any_byte (put_text o.effect)) (sym here) ∙ is)
 
 -- none is there where no operation puts a byte
 no-byte : (text : List ℕ) → any_byte text ≡ false → text ≡ []

@@ -1,4 +1,4 @@
-ghost use Rattle.std.specs.Prelude.{◌≡◌, ◌<◌, ◌+◌, ◌*◌, OnOk, length};
+ghost use Rattle.std.specs.Prelude.{◌≡◌, ◌<◌, ◌≤◌, ◌+◌, ◌*◌, OnOk, length, take};
 ghost use Rattle.ddm_text.specs.Adds.{Adds};
 ghost use Rattle.text_model.specs.Report.{hart_line, head_lines, or_dash, out_line, put_text, put_text_by, put_texts, regs_line, turns_line};
 ghost use Rattle.report.specs.LineParts.{any_byte, are_silent, dash_behind};
@@ -11,6 +11,7 @@ use crate::effects::push_state;
 use crate::numbers::push_hart;
 use crate::pieces::{push_bytes, push_number, push_words};
 use ddm_types::{Effect, HaltCause, HartNo, NoMemory, Op};
+use operation_list::Operations;
 use rv_hart::Hart;
 use text_model::RunCounts;
 
@@ -94,8 +95,9 @@ fn push_put<W: TextBuffer>(out: &mut W, effect: Effect) -> Result<(), NoMemory>
 }
 
 /// Puts at the end what an operation adds to a hart's output.
-pub fn push_put_by<W: TextBuffer>(out: &mut W, hart: HartNo, op: &Op) -> Result<(), NoMemory>
-    ensures text { OnOk result (Adds (W.text out.old) (W.text out.new) (put_text_by hart op.now)) }
+#[inline(always)]
+pub fn push_put_by<W: TextBuffer>(out: &mut W, hart: HartNo, op: Op) -> Result<(), NoMemory>
+    ensures text { OnOk result (Adds (W.text out.old) (W.text out.new) (put_text_by hart op)) }
     ensures room { UsesRoom 2 (W.room out.old) (W.room out.new) result }
 {
     if op.hart.0 == hart.0 {
@@ -105,6 +107,7 @@ pub fn push_put_by<W: TextBuffer>(out: &mut W, hart: HartNo, op: &Op) -> Result<
 }
 
 // Whether an instruction puts a byte.
+#[inline(always)]
 #[tactic(auto, unfolding(ddm_text::specs::Hex::hex2))]
 fn is_put(effect: Effect) -> bool
     ensures { result ≡ any_byte (put_text effect) }
@@ -116,8 +119,9 @@ fn is_put(effect: Effect) -> bool
 }
 
 // Whether an operation puts a byte of a hart.
-fn puts_byte(hart: HartNo, op: &Op) -> bool
-    ensures { result ≡ any_byte (put_text_by hart op.now) }
+#[inline(always)]
+fn puts_byte(hart: HartNo, op: Op) -> bool
+    ensures { result ≡ any_byte (put_text_by hart op) }
 {
     if op.hart.0 != hart.0 {
         return false;
@@ -126,22 +130,23 @@ fn puts_byte(hart: HartNo, op: &Op) -> bool
 }
 
 #[tactic(auto, unfolding(text_model::specs::Report::put_texts))]
-fn push_puts<W: TextBuffer>(out: &mut W, hart: HartNo, ops: &[Op]) -> Result<(), NoMemory>
-    ensures { OnOk result (Adds (W.text out.old) (W.text out.new) (put_texts hart ops.now)) }
+fn push_puts<W: TextBuffer>(out: &mut W, hart: HartNo, ops: &Operations) -> Result<(), NoMemory>
+    ensures { OnOk result (Adds (W.text out.old) (W.text out.new) (put_texts hart ops.now.items)) }
 {
-    for op in ops {
-        push_put_by(out, hart, op)?;
+    for place in 0..ops.len() {
+        push_put_by(out, hart, ops.get(place))?;
     }
     Ok(())
 }
 
-/// Whether a hart has put anything.
+/// Whether a hart has put anything in the operations before one.
 #[tactic(auto, unfolding(text_model::specs::Report::put_texts))]
-pub fn has_output(hart: HartNo, ops: &[Op]) -> bool
-    ensures { result ≡ any_byte (put_texts hart ops.now) }
+pub fn has_output(hart: HartNo, ops: &Operations, end: usize) -> bool
+    requires { end ≤ length ops.now.items }
+    ensures { result ≡ any_byte (put_texts hart (take end ops.now.items)) }
 {
-    for op in ops {
-        if puts_byte(hart, op) {
+    for place in 0..end {
+        if puts_byte(hart, ops.get(place)) {
             return true;
         }
     }
@@ -149,10 +154,11 @@ pub fn has_output(hart: HartNo, ops: &[Op]) -> bool
 }
 
 /// Whether no hart has put anything.
-pub fn are_silent(ops: &[Op]) -> bool
-    ensures { result ≡ are_silent ops.now }
+pub fn are_silent(ops: &Operations) -> bool
+    ensures { result ≡ are_silent ops.now.items }
 {
-    for op in ops {
+    for place in 0..ops.len() {
+        let op = ops.get(place);
         if is_put(op.effect) {
             return false;
         }
@@ -161,19 +167,23 @@ pub fn are_silent(ops: &[Op]) -> bool
 }
 
 /// Puts at the end the dash of a hart that has put nothing.
-pub fn push_dash<W: TextBuffer>(out: &mut W, hart: HartNo, ops: &[Op]) -> Result<(), NoMemory>
-    ensures text { OnOk result (Adds (W.text out.old) (W.text out.new) (dash_behind (put_texts hart ops.now))) }
+pub fn push_dash<W: TextBuffer>(out: &mut W, hart: HartNo, ops: &Operations) -> Result<(), NoMemory>
+    ensures text { OnOk result (Adds (W.text out.old) (W.text out.new) (dash_behind (put_texts hart ops.now.items))) }
     ensures room { UsesRoom 1 (W.room out.old) (W.room out.new) result }
 {
-    if !has_output(hart, ops) {
+    if !has_output(hart, ops, ops.len()) {
         push_bytes(out, b"-")?;
     }
     Ok(())
 }
 
 /// Puts at the end a hart's output, or a dash for none, out of operations in order of completion.
-pub fn push_output<W: TextBuffer>(out: &mut W, hart: HartNo, ops: &[Op]) -> Result<(), NoMemory>
-    ensures { OnOk result (Adds (W.text out.old) (W.text out.new) (or_dash (put_texts hart ops.now))) }
+pub fn push_output<W: TextBuffer>(
+    out: &mut W,
+    hart: HartNo,
+    ops: &Operations,
+) -> Result<(), NoMemory>
+    ensures { OnOk result (Adds (W.text out.old) (W.text out.new) (or_dash (put_texts hart ops.now.items))) }
 {
     push_puts(out, hart, ops)?;
     push_dash(out, hart, ops)?;
@@ -199,8 +209,12 @@ pub fn push_hart_front<W: TextBuffer>(
 
 /// Puts at the end the line of a hart's output, out of operations in order of completion.
 #[tactic(auto, unfolding(text_model::specs::Report::out_line))]
-pub fn push_out_line<W: TextBuffer>(out: &mut W, hart: HartNo, ops: &[Op]) -> Result<(), NoMemory>
-    ensures { OnOk result (Adds (W.text out.old) (W.text out.new) (out_line hart ops.now)) }
+pub fn push_out_line<W: TextBuffer>(
+    out: &mut W,
+    hart: HartNo,
+    ops: &Operations,
+) -> Result<(), NoMemory>
+    ensures { OnOk result (Adds (W.text out.old) (W.text out.new) (out_line hart ops.now.items)) }
 {
     push_bytes(out, b"out ")?;
     push_hart(out, hart)?;

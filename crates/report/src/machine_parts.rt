@@ -18,6 +18,7 @@ use crate::operations::push_op_line;
 use crate::pieces::push_bytes;
 use any_machine::Machines;
 use ddm_types::{BusNo, HartNo, ItemId, LEVELS, LeafNo, LeafState, Op};
+use operation_list::Operations;
 use text_model::RunCounts;
 use witness_order::Ordered;
 
@@ -55,17 +56,17 @@ pub fn put_hart<const WORDS: usize>(line: &mut Line, machine: &Machines<WORDS>, 
 
 /// Puts a hart's output from an operation on, until the line is long, and says from which operation on the rest is.
 #[tactic(auto, unfolding(text_model::specs::Report::put_texts))]
-pub fn put_output(line: &mut Line, hart: HartNo, ops: &[Op], from: usize) -> usize
+pub fn put_output(line: &mut Line, hart: HartNo, ops: &Operations, from: usize) -> usize
     requires empty { line.old ≡ [] }
-    requires from { from ≤ length ops.now }
-    ensures within { result ≤ length ops.now }
-    ensures output { put_texts hart (drop from ops.now) ≡ line.new ++ put_texts hart (drop result ops.now) }
+    requires from { from ≤ length ops.now.items }
+    ensures within { result ≤ length ops.now.items }
+    ensures output { put_texts hart (drop from ops.now.items) ≡ line.new ++ put_texts hart (drop result ops.now.items) }
     ensures room { length line.new ≤ 501 }
-    ensures long { result < length ops.now → 500 ≤ length line.new }
+    ensures long { result < length ops.now.items → 500 ≤ length line.new }
 {
     let mut next = from;
     'output: while next < ops.len() && line.len() < LONG_LINE {
-        let Ok(()) = push_put_by(line, hart, &ops[next]) else {
+        let Ok(()) = push_put_by(line, hart, ops.get(next)) else {
             unreachable!();
         };
         next += 1;
@@ -75,28 +76,28 @@ pub fn put_output(line: &mut Line, hart: HartNo, ops: &[Op], from: usize) -> usi
 
 // Puts the dash of a hart that has put nothing behind its output from an operation on. Only the operations before that one are
 // looked at, and these only where nothing was put from there on.
-fn put_dash(line: &mut Line, hart: HartNo, ops: &[Op], from: usize)
-    requires from { from ≤ length ops.now }
-    requires output { put_texts hart (drop from ops.now) ≡ line.old }
+fn put_dash(line: &mut Line, hart: HartNo, ops: &Operations, from: usize)
+    requires from { from ≤ length ops.now.items }
+    requires output { put_texts hart (drop from ops.now.items) ≡ line.old }
     requires room { length line.old ≤ 501 }
-    ensures dash { line.new ≡ line.old ++ dash_behind (put_texts hart ops.now) }
+    ensures dash { line.new ≡ line.old ++ dash_behind (put_texts hart ops.now.items) }
     ensures room { length line.new ≤ 502 }
 {
     if !line.is_empty() {
         return;
     }
-    if has_output(hart, &ops[..from]) {
+    if has_output(hart, ops, from) {
         return;
     }
     line.push(b"-");
 }
 
 /// Ends the line of a hart's output from an operation on.
-pub fn end_output(line: &mut Line, hart: HartNo, ops: &[Op], from: usize)
-    requires from { from ≤ length ops.now }
-    requires output { put_texts hart (drop from ops.now) ≡ line.old }
+pub fn end_output(line: &mut Line, hart: HartNo, ops: &Operations, from: usize)
+    requires from { from ≤ length ops.now.items }
+    requires output { put_texts hart (drop from ops.now.items) ≡ line.old }
     requires room { length line.old ≤ 501 }
-    ensures { line.new ≡ line.old ++ dash_behind (put_texts hart ops.now) ++ codes "\n" }
+    ensures { line.new ≡ line.old ++ dash_behind (put_texts hart ops.now.items) ++ codes "\n" }
 {
     put_dash(line, hart, ops, from);
     end_line(line);
@@ -261,7 +262,7 @@ pub fn put_operations(line: &mut Line, depth: u32, ops: &Ordered, from: usize) -
 {
     let mut next = from;
     'operations: while next < ops.len() && line.len() <= MOST_BEFORE_OPERATION {
-        put_operation(line, depth, *ops.get(next));
+        put_operation(line, depth, ops.get(next));
         next += 1;
     }
     next

@@ -18,6 +18,7 @@ use crate::parts::{LEAST_PIECE, Parts, joined, put_piece};
 use crate::report_parts::{ReportPart, ReportSize};
 use any_machine::{AnyMachine, Machines};
 use ddm_types::{HartNo, ItemId, NoMemory, Op};
+use operation_list::Operations;
 use std::alloc::Global;
 use std::marker::Model;
 use text_model::RunCounts;
@@ -71,15 +72,15 @@ fn size_shown<const WORDS: usize>(
 // looked at.
 fn put_output_part(
     line: &mut Line,
-    ops: &[Op],
+    ops: &Operations,
     size: ReportSize,
     hart: u32,
     from: usize,
 ) -> ReportPart
     requires empty { line.old ≡ [] }
     requires hart { hart < size.harts }
-    requires from { from ≤ length ops.now }
-    ensures { (v : ReportView) → v.completed ≡ ops.now → HasSize v size → HasPart v (Output hart from) → Gives v (Output hart from) line.new result }
+    requires from { from ≤ length ops.now.items }
+    ensures { (v : ReportView) → v.completed ≡ ops.now.items → HasSize v size → HasPart v (Output hart from) → Gives v (Output hart from) line.new result }
 {
     if size.silent {
         put_silence(line);

@@ -160,7 +160,7 @@ impl SeededTurns {
     }
 
     /// The next turn. It is taken from a list, so that the processor has no branch to guess.
-    pub(crate) fn next_turn(&mut self) -> Turn
+    pub fn next_turn(&mut self) -> Turn
         requires { 0 < length self.old.left }
         ensures turn { self.old.left ≡ result ∷ self.new.left }
         ensures shape { self.new.shape ≡ self.old.shape }

@@ -17,10 +17,15 @@ fn push_bytes(out: &mut Vec<u8>, text: &[u8]) -> Result<(), NoMemory>
     Ok(())
 }
 
+// A number of one digit, as most are, is put as a byte and not as a text of some length.
 fn push_number(out: &mut Vec<u8>, n: u32) -> Result<(), NoMemory>
     ensures { OnOk result (Adds out.old.items out.new.items (decimal n)) }
 {
-    push_decimal(out, u64::from(n))
+    if n < 10 {
+        push_bytes(out, &[b'0' + n as u8])
+    } else {
+        push_decimal(out, u64::from(n))
+    }
 }
 
 /// Puts a turn at the end, without a line feed.

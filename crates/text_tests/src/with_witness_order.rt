@@ -1,4 +1,6 @@
-use ddm_types::{Effect, HartNo, Key, Op};
+use ddm_types::{Effect, HartNo, Key, NoMemory, Op};
+use operation_list::Operations;
+use std::alloc::Global;
 use std::test::Fail;
 use witness_order::{Ordered, Witness};
 
@@ -18,6 +20,15 @@ fn op(hart: u32, numbers: [u32; 5]) -> Op {
         pc: 0x0001_0000,
         effect: Effect::Plain,
     }
+}
+
+// These operations as a machine keeps them.
+fn list_of(alloc: Global, ops: &[Op]) -> Result<Operations, NoMemory> {
+    let mut list = Operations::new(alloc);
+    for op in ops {
+        list.add(op)?;
+    }
+    Ok(list)
 }
 
 #[test]
@@ -46,20 +57,24 @@ fn gives_in_order(rt: HostRuntime) -> Result<(), Fail> {
         op(3, [0, 1, 2, 0, 8]),
         op(2, [0, 1, 2, 1, 0]),
     ];
-    let ordered = Ordered::new(rt.alloc(), &came)?;
+    let list = list_of(rt.alloc(), &came)?;
+    let ordered = Ordered::new(rt.alloc(), &list)?;
     assert_eq!(rt; ordered.len(), 3);
-    assert_eq!(rt; *ordered.get(0), op(3, [0, 1, 2, 0, 8]));
-    assert_eq!(rt; *ordered.get(1), op(2, [0, 1, 2, 1, 0]));
-    assert_eq!(rt; *ordered.get(2), op(0, [1, 0, 0, 0, 0]));
+    assert_eq!(rt; ordered.get(0), op(3, [0, 1, 2, 0, 8]));
+    assert_eq!(rt; ordered.get(1), op(2, [0, 1, 2, 1, 0]));
+    assert_eq!(rt; ordered.get(2), op(0, [1, 0, 0, 0, 0]));
     Ok(())
 }
 
 #[test]
 fn gives_what_ascends(rt: HostRuntime) -> Result<(), Fail> {
     let came = [op(3, [0, 1, 2, 0, 8]), op(2, [0, 1, 2, 1, 0])];
-    let ordered = Ordered::new(rt.alloc(), &came)?;
+    let list = list_of(rt.alloc(), &came)?;
+    let ordered = Ordered::new(rt.alloc(), &list)?;
     assert_eq!(rt; ordered.len(), 2);
-    assert_eq!(rt; *ordered.get(1), op(2, [0, 1, 2, 1, 0]));
+    assert_eq!(rt; ordered.get(1), op(2, [0, 1, 2, 1, 0]));
+    let lent = Ordered::of(&came);
+    assert_eq!(rt; lent.get(1), op(2, [0, 1, 2, 1, 0]));
     Ok(())
 }
 

@@ -8,8 +8,8 @@ unfolding op_lines
 operations-preserved c =
     let inside : c.operations.next < length c.args.ops.now = omega (arith, c.operations-test.true) in
     let put = c.put_operation.ensures in
-    let longer : length c.put_operation.new.line ≡ length c.operations.line + length (op_line c.args.depth c.get.result.now) = ap length put ∙ length-append c.operations.line (op_line c.args.depth c.get.result.now) in
-    let some = operation-some c.args.depth c.get.result.now in
+    let longer : length c.put_operation.new.line ≡ length c.operations.line + length (op_line c.args.depth c.get.result) = ap length put ∙ length-append c.operations.line (op_line c.args.depth c.get.result) in
+    let some = operation-some c.args.depth c.get.result in
     record {
       from = omega arith;
       within = omega (arith, inside);

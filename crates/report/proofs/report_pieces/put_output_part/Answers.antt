@@ -16,13 +16,13 @@ returns-then-size c v same shows there =
     (silence-ends v c.args.size shows c.args.hart c.args.from c.put_silence.new.line c.if-size.true there c.put_silence.ensures)
 
 pub end_output-requires-clause-output : goal.end_output-requires-clause-output
-end_output-requires-clause-output c = output-last c.args.hart c.args.from c.put_output-next.result c.args.ops.now _ (omega (arith, c.if-next-ops.false)) c.put_output-next.ensures.output
+end_output-requires-clause-output c = output-last c.args.hart c.args.from c.put_output-next.result c.args.ops.now.items _ (omega (arith, c.if-next-len.false, c.len.ensures)) c.put_output-next.ensures.output
 
 pub returns : goal.returns
 returns c v same shows there =
     let put = c.put_output-next.new.line in
     let ended = c.end_output.new.line in
-    let last : put_texts c.args.hart (drop c.args.from c.args.ops.now) ≡ put = output-last c.args.hart c.args.from c.put_output-next.result c.args.ops.now put (omega (arith, c.if-next-ops.false)) c.put_output-next.ensures.output in
+    let last : put_texts c.args.hart (drop c.args.from c.args.ops.now.items) ≡ put = output-last c.args.hart c.args.from c.put_output-next.result c.args.ops.now.items put (omega (arith, c.if-next-len.false, c.len.ensures)) c.put_output-next.ensures.output in
     subst (λ (next : ReportPart). Gives v (Output c.args.hart c.args.from) ended next) (sym c.hart_part-2.ensures)
     (output-ends v c.args.size shows c.args.hart c.args.from put ended there
     (subst (λ (os : List Op). put_texts c.args.hart (drop c.args.from os) ≡ put) (sym same) last)

@@ -7,6 +7,6 @@ use Rattle.checkpoint.proofs.pieces.CheckpointPieces.new.Goals as goal
 pub returns : goal.returns
 returns c =
     let m = (machine_state c.args.machine.now).machine in
-    ap (λ words. bytes_left 0 words 0 c.ops.result.now false) c.in_ok-front.ensures
+    ap (λ words. bytes_left 0 words 0 c.ops.result.now.items false) c.in_ok-front.ensures
     ∙ ap (λ ops. bytes_left 0 (front_words m c.args.counts) 0 ops false) c.ops.ensures
     ∙ nothing-given m c.args.counts

@@ -12,20 +12,20 @@ returns-then-self-len-clause-part c =
     let n = c.min-end.result - p.words_given in
     let to : p.words_given + n ≡ c.min-end.result = omega (arith, c.min-end.ensures, c.if-self-len.true, c.len.ensures, c.len-then-self-len.ensures) in
     let some : List ℕ → List ℕ = λ front. flat_map (to_le_bytes w32) (take n (drop p.words_given front)) in
-    let from : ℕ → List ℕ = λ k. bytes_left k p.front.items p.ops_given p.ops.now p.is_ended in
+    let from : ℕ → List ℕ = λ k. bytes_left k p.front.items p.ops_given p.ops.now.items p.is_ended in
     let put = c.put_words.ensures.bytes ∙ ap (λ l. l ++ some c.deref.result.now) c.requires ∙ ap some c.deref.ensures.value in
     sym c.self.view_is
-    ∙ words-more p.words_given p.front.items p.ops_given p.ops.now p.is_ended n
+    ∙ words-more p.words_given p.front.items p.ops_given p.ops.now.items p.is_ended n
     ∙ ap (λ k. some p.front.items ++ from k) to
     ∙ ap (λ l. l ++ from c.min-end.result) (sym put)
 
-pub returns-then-self-clause-part : goal.returns-then-self-clause-part
-returns-then-self-clause-part c =
+pub returns-then-self-len-2-clause-part : goal.returns-then-self-len-2-clause-part
+returns-then-self-len-2-clause-part c =
     let p = c.self.inside in
-    let n = c.min-end-then-self.result - p.ops_given in
-    let to : p.ops_given + n ≡ c.min-end-then-self.result = omega (arith, c.min-end-then-self.ensures, c.if-self.true) in
-    let from : ℕ → List ℕ = λ k. bytes_left p.words_given p.front.items k p.ops.now p.is_ended in
+    let n = c.min.result in
+    let same : p.ops_given + n - p.ops_given ≡ n = omega arith in
+    let some : ℕ → List ℕ = λ k. flat_map (to_le_bytes w32) (flat_map op_words (take k (drop p.ops_given p.ops.now.items))) in
+    let rest = bytes_left p.words_given p.front.items (p.ops_given + n) p.ops.now.items p.is_ended in
     sym c.self.view_is
-    ∙ operations-more p.words_given p.front.items p.ops_given p.ops.now p.is_ended n (omega (arith, c.if-self-len.false, c.len.ensures))
-    ∙ ap (λ k. flat_map (to_le_bytes w32) (flat_map op_words (take n (drop p.ops_given p.ops.now))) ++ from k) to
-    ∙ ap (λ l. l ++ from c.min-end-then-self.result) (sym c.put_operations.ensures.bytes)
+    ∙ operations-more p.words_given p.front.items p.ops_given p.ops.now.items p.is_ended n (omega (arith, c.if-self-len.false, c.len.ensures))
+    ∙ ap (λ l. l ++ rest) (sym (c.put_operations.ensures.bytes ∙ ap some same))

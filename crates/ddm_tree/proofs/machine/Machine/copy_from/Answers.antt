@@ -1,4 +1,4 @@
-use Rattle.std.proofs.Common.{◌≡◌, ◌∙◌, ◌≤◌, ◌+◌, ◌-◌, min, ap, sym, subst, length, map, vec_items, vec_capacity, arith}
+use Rattle.std.proofs.Common.{◌≡◌, ◌∙◌, ◌≤◌, ◌+◌, ◌-◌, min, ap, sym, subst, length, map, vec_items, arith}
 use Rattle.std.proofs.lemmas.List.{length-map}
 use Rattle.tree_model.specs.State.Shape.{frame_of, tree_counts}
 use Rattle.tree_model.specs.State.Values.{nodes, root_of}
@@ -37,7 +37,7 @@ invariant_of-self g c =
     let frame : frame_of m ≡ frame_of k = ap (λ s. frame_of s.machine) c.self.view_is ∙ c.requires.frame ∙ sym (ap (λ s. frame_of s.machine) c.other.view_is) in
     let whole : c.self.inside.children.len ≡ length c.self.inside.children.items = sym c.deref_mut.ensures.len ∙ ap length c.deref_mut.ensures.value in
     let same : length c.copy_children.new.children ≡ length c.self.inside.children.items = c.copy_children.auto.children ∙ ap length c.deref_mut.ensures.value in
-    let after = copied-machine g.C.Agent.value m k frame c.copy_from.new.self c.self.inside.children.items c.copy_children.new.children c.self.inside.children.len c.refill.new.ops.items c.copy_from_slice.new.self.items whole same c.copy_from.ensures (ap nodes (c.copy_children.ensures ∙ ap (map g.C.Agent.value) c.deref.ensures.value)) (c.refill.ensures.items ∙ c.deref-2.ensures.value) (c.copy_from_slice.ensures.items ∙ c.deref-3.ensures.value) in
+    let after = copied-machine g.C.Agent.value m k frame c.copy_from.new.self c.self.inside.children.items c.copy_children.new.children c.self.inside.children.len c.copy_from-2.new.self.items c.copy_from_slice.new.self.items whole same c.copy_from.ensures (ap nodes (c.copy_children.ensures ∙ ap (map g.C.Agent.value) c.deref.ensures.value)) c.copy_from-2.ensures.items (c.copy_from_slice.ensures.items ∙ c.deref-2.ensures.value) in
     let leaf_paths = map vec_items c.self.inside.leaf_paths.items in
     let bus_paths = map vec_items c.self.inside.bus_paths.items in
     let inv = c.self.invariant in
@@ -46,9 +46,8 @@ invariant_of-self g c =
     let back = items-back c.self.inside.idle.items c.forget_all.new.idle c.self.inside.idle.len all (c.forget_all.auto.idle ∙ ap length c.deref_mut-2.ensures.value) in
     let known : c.self.inside.quiet.len ≡ length c.self.inside.quiet.items = sym c.deref_mut-3.ensures.len ∙ ap length c.deref_mut-3.ensures.value in
     let quiet-back = items-back c.self.inside.quiet.items c.forget_quiet.new.known c.self.inside.quiet.len known (c.forget_quiet.auto.known ∙ ap length c.deref_mut-3.ensures.value) in
-    let others : length c.refill.new.ops.items ≡ length c.other.inside.ops.items = ap length (c.refill.ensures.items ∙ c.deref-2.ensures.value) in
     let asked : length c.other.inside.ops.items ≤ length c.self.inside.ops.items + c.self.inside.spare = omega (arith, c.requires.room, ap (λ s. length s.machine.ops) c.other.view_is, ap (λ s. length s.machine.ops) c.self.view_is, ap (λ s. s.spare) c.self.view_is) in
-    let room : length c.refill.new.ops.items + c.room_left-self-inside.result ≤ vec_capacity c.refill.new.ops = omega (arith, others, asked, inv.4, c.refill.ensures.capacity, c.room_left-self-inside.ensures, c.len.ensures, c.len-2.ensures, c.self.inside.ops.ok.0, c.other.inside.ops.ok.0) in
+    let room : c.room_left-self-inside.result ≤ c.copy_from-2.new.self.spare = omega (arith, asked, inv.4, c.copy_from-2.ensures.spare, c.room_left-self-inside.ensures, c.len.ensures.length, c.len-2.ensures.length) in
     (subst (λ n. IsMachine g.row.WORDS n c.other.inside.turns leaf_paths bus_paths) (sym after) is, ap tree_counts after ∙ counts-same m k frame ∙ inv.1, inv.2, inv.3, room, nothing-idle c.self.inside.code c.self.inside.items c.forget_all.new.idle _ _ _ back c.forget_all.ensures, blank-quiet c.forget_quiet.new.known _ _ _ quiet-back c.forget_quiet.ensures, blank-agree c.forget_quiet.new.known _ _ quiet-back c.forget_quiet.ensures, inv.8)
 
 pub returns : goal.returns
@@ -58,10 +57,10 @@ returns g c =
     let frame : frame_of m ≡ frame_of k = ap (λ s. frame_of s.machine) c.self.view_is ∙ c.requires.frame ∙ sym (ap (λ s. frame_of s.machine) c.other.view_is) in
     let whole : c.self.inside.children.len ≡ length c.self.inside.children.items = sym c.deref_mut.ensures.len ∙ ap length c.deref_mut.ensures.value in
     let same : length c.copy_children.new.children ≡ length c.self.inside.children.items = c.copy_children.auto.children ∙ ap length c.deref_mut.ensures.value in
-    let after = copied-machine g.C.Agent.value m k frame c.copy_from.new.self c.self.inside.children.items c.copy_children.new.children c.self.inside.children.len c.refill.new.ops.items c.copy_from_slice.new.self.items whole same c.copy_from.ensures (ap nodes (c.copy_children.ensures ∙ ap (map g.C.Agent.value) c.deref.ensures.value)) (c.refill.ensures.items ∙ c.deref-2.ensures.value) (c.copy_from_slice.ensures.items ∙ c.deref-3.ensures.value) in
+    let after = copied-machine g.C.Agent.value m k frame c.copy_from.new.self c.self.inside.children.items c.copy_children.new.children c.self.inside.children.len c.copy_from-2.new.self.items c.copy_from_slice.new.self.items whole same c.copy_from.ensures (ap nodes (c.copy_children.ensures ∙ ap (map g.C.Agent.value) c.deref.ensures.value)) c.copy_from-2.ensures.items (c.copy_from_slice.ensures.items ∙ c.deref-2.ensures.value) in
     let old : MachineState = record { machine = m; spare = c.self.inside.spare; turns = c.self.inside.turns } in
     let from : MachineState = record { machine = k; spare = c.other.inside.spare; turns = c.other.inside.turns } in
-    let here : c.len.result ≡ length c.self.inside.ops.items = c.len.ensures ∙ c.self.inside.ops.ok.0 in
-    let others : c.len-2.result ≡ length c.other.inside.ops.items = c.len-2.ensures ∙ c.other.inside.ops.ok.0 in
+    let here : c.len.result ≡ length c.self.inside.ops.items = c.len.ensures.length in
+    let others : c.len-2.result ≡ length c.other.inside.ops.items = c.len-2.ensures.length in
     let room = c.room_left-self-inside.ensures ∙ ap (λ n. min 4294967295 (n + c.self.inside.spare - c.len-2.result)) here ∙ ap (λ n. min 4294967295 (length c.self.inside.ops.items + c.self.inside.spare - n)) others in
     copied-state old from _ c.room_left-self-inside.result after room ∙ ap (λ s. copied s from) c.self.view_is ∙ ap (copied c.args.self.now) c.other.view_is

@@ -1,4 +1,4 @@
-use Rattle.std.proofs.Common.{◌≡◌, ◌≤◌, ◌∙◌, ◌+◌, true, ap, sym, subst, length, map, vec_capacity, vec_items, arith}
+use Rattle.std.proofs.Common.{◌≡◌, ◌≤◌, ◌∙◌, true, ap, sym, subst, length, map, vec_items, arith}
 use Rattle.std.specs.List.{list_all}
 use Rattle.tree_model.specs.State.Values.{MachineValue, dir_node, nodes, root_of}
 use Rattle.ddm_tree.specs.Counts.{counts_within}
@@ -28,5 +28,5 @@ invariant_of-result g c =
       granted = subst (λ n. list_all (traffic_within 1048576) n.traffic ≡ true) (sym same) c.requires.granted;
       paths = inv.0.paths;
     } in
-    let room : length c.self.inside.ops.items + 0 ≤ vec_capacity c.self.inside.ops = omega (arith, c.self.inside.ops.ok.0, c.self.inside.ops.ok.1) in
+    let room : 0 ≤ c.self.inside.ops.spare = omega arith in
     (is, inv.1, inv.2, inv.3, room, nothing-idle c.self.inside.code c.self.inside.items c.forget_all.new.idle _ root root back c.forget_all.ensures, blank-quiet c.forget_quiet.new.known _ root root quiet-back c.forget_quiet.ensures, blank-agree c.forget_quiet.new.known _ _ quiet-back c.forget_quiet.ensures, inv.4)

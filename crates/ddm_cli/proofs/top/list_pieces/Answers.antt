@@ -5,11 +5,11 @@ use Rattle.text_model.specs.Seeded.{seeded_turns}
 use Rattle.schedule_log.specs.Shapes.{shape_view}
 use Rattle.ddm_cli.specs.Top.{list_at}
 use Rattle.ddm_cli.proofs.Taken.{list_taken}
-use Rattle.ddm_cli.proofs.top.list_text.Goals as goal
+use Rattle.ddm_cli.proofs.top.list_pieces.Goals as goal
 
 pub returns-clause-taken : goal.returns-clause-taken
 unfolding list_at
 returns-clause-taken g c =
     let levels = ap (λ (u : TreeValue). u.levels) c.tree.view_is in
-    let text = c.in_ok-seeded_text.ensures ∙ ap (λ ls. schedule_text (seeded_turns (shape_view ls) c.args.seed c.args.count)) levels in
-    list_taken (g.F.Shelf.told c.args.files.now c.args.tree.now) c.in_ok-tree.tree c.args.seed c.args.count c.in_ok-seeded_text.field-0.items c.in_ok-tree.ensures.found text
+    let text = c.in_ok-new.ensures ∙ ap (λ ls. schedule_text (seeded_turns (shape_view ls) c.args.seed c.args.count)) levels in
+    list_taken (g.F.Shelf.told c.args.files.now c.args.tree.now) c.in_ok-tree.tree c.args.seed c.args.count c.in_ok-new.field-0 c.in_ok-tree.ensures.found text
