@@ -6,3 +6,4 @@ pub mod Reader
 pub mod Pieces
 pub mod Spelled
 pub mod Seen
+pub mod Draws

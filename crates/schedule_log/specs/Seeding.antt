@@ -1,5 +1,5 @@
 -- The turns of a seed that are still to come.
-use Rattle.std.specs.Prelude.{◌≡◌, ℕ, ◌+◌, ◌*◌, ◌/◌, ◌%◌, ◌≤◌, List, length, map, slice_index_or}
+use Rattle.std.specs.Prelude.{◌≡◌, ℕ, ◌+◌, ◌*◌, ◌/◌, ◌%◌, ◌≤◌, List, length, map, replicate, slice_index_or}
 use Rattle.std.specs.List.{range_with_len}
 use Rattle.ddm_types.specs.declared.turns.Turn.{Turn}
 use Rattle.rand_pcg.specs.Lcg.{Lcg}
@@ -36,10 +36,9 @@ buses_of widths = map (bus_at widths) (range_with_len 0 (length widths))
 abbrev pub widths_in : List OneBus → List ℕ
 widths_in buses = map (λ (b : OneBus). b.children) buses
 
--- there are a hart and a bus, and the buses stand by their numbers
-pub record IsOfTree (harts buses : ℕ) (list : List OneBus) : Type 0 where
-  pub some_harts : 1 ≤ harts
-  pub some_buses : 1 ≤ buses
+-- there is a bus, and the buses stand by their numbers
+pub record AreListed (buses : ℕ) (list : List OneBus) : Type 0 where
+  pub some : 1 ≤ buses
   pub number : buses ≡ length list
   pub each : list ≡ buses_of (widths_in list)
 
@@ -55,3 +54,24 @@ pub record IsDrawnFrom (bus children by : ℕ) (list : List Turn) : Type 0 where
   pub few : children ≤ 16
   pub sources : by ≡ 1 + 3 * children
   pub turns : list ≡ turns_of_bus bus children
+
+-- ---- buses that have as many children each
+
+-- each of these numbers is this one
+abbrev pub AreAll : ℕ → List ℕ → Type 0
+AreAll n ns = ns ≡ replicate (length ns) n
+
+-- their turns: those of each source of each bus stand together, by their choices
+abbrev pub even_turn_at : ℕ → ℕ → ℕ → Turn
+even_turn_at buses children place = bus_turn_from (place / 16 % buses) children (place % 16) (place / 16 / buses)
+
+abbrev pub even_turns : ℕ → ℕ → List Turn
+even_turns buses children = map (even_turn_at buses children) (range_with_len 0 (buses * (1 + 3 * children) * 16))
+
+-- a turn of so many buses with as many children each is drawn from these
+pub record AreEven (buses children sources : ℕ) (list : List Turn) : Type 0 where
+  pub some : 1 ≤ buses
+  pub few_buses : buses ≤ 256
+  pub few : children ≤ 16
+  pub all : sources ≡ buses * (1 + 3 * children)
+  pub turns : list ≡ even_turns buses children

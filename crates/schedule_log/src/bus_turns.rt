@@ -7,7 +7,7 @@ use std::alloc::Global;
 use std::marker::Model;
 
 // The turn of a bus with this number of children, by the number of its source.
-fn bus_turn(bus: BusNo, children: u32, choice: u8, source: u32) -> Turn
+pub(crate) fn bus_turn(bus: BusNo, children: u32, choice: u8, source: u32) -> Turn
     requires few { children ≤ 16 }
     requires within { source < 1 + 3 * children }
     ensures { result ≡ bus_turn_from bus children choice source }

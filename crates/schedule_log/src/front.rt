@@ -1,41 +1,28 @@
 //! What tells the line at the front of a text.
 ghost use Rattle.std.specs.Prelude.{◌≡◌, ◌≤◌, ◌+◌, ◌-◌, ℕ, List, true, IfSome, drop, length, take};
-ghost use Rattle.std.specs.Int.{to_le_bytes, w32, w64};
+ghost use Rattle.std.specs.Int.{to_le_bytes, w32};
 ghost use Rattle.schedule_log.specs.Seen.{IsFrontOf};
 
 use crate::spelled::SPELLED_BYTES;
 
-/// Sixteen line feeds.
-const FEEDS: u128 = 0x0a0a_0a0a_0a0a_0a0a_0a0a_0a0a_0a0a_0a0a;
+/// Eight line feeds.
+const FEEDS: u64 = 0x0a0a_0a0a_0a0a_0a0a;
 
-const LOWEST_BITS: u128 = 0x0101_0101_0101_0101_0101_0101_0101_0101;
+const LOWEST_BITS: u64 = 0x0101_0101_0101_0101;
 
-const HIGHEST_BITS: u128 = 0x8080_8080_8080_8080_8080_8080_8080_8080;
+const HIGHEST_BITS: u64 = 0x8080_8080_8080_8080;
 
-/// The first eight bytes of a text, how many bytes its first line seems to have with its line feed, and the last four of these.
+/// The most bytes of a line, with its line feed, that its front tells.
+const MOST_TOLD: u32 = 12;
+
+/// The first four bytes of a text and the next four, how many bytes its first line seems to have with its line feed, and the last four of
+/// these.
 #[derive(Clone, Copy)]
 pub(crate) struct Front {
-    word: u64,
+    first: u32,
+    second: u32,
     last: u32,
     used: u32,
-}
-
-// The eight bytes from a place on.
-#[inline(always)]
-fn word_at(text: &[u8], place: usize) -> u64
-    requires { place + 8 ≤ length text.now }
-    ensures { to_le_bytes w64 result ≡ take 8 (drop place text.now) }
-{
-    u64::from_le_bytes([
-        text[place],
-        text[place + 1],
-        text[place + 2],
-        text[place + 3],
-        text[place + 4],
-        text[place + 5],
-        text[place + 6],
-        text[place + 7],
-    ])
 }
 
 // The four bytes before a place.
@@ -53,14 +40,22 @@ fn last_before(text: &[u8], place: usize) -> u32
     ])
 }
 
-// How many of these sixteen bytes there are up to the first line feed, and 17 where there is none: all are looked at at once, so that
-// the processor has no branch to guess. A byte from 0x80 on, which no line of a turn has, ends them too. A line is told by what it is
-// compared with, so nothing is claimed of this number.
+// Two words as one.
 #[inline(always)]
-fn up_to_feed(first: u64, second: u64) -> u32 {
-    let other = (u128::from(second) << 64 | u128::from(first)) ^ FEEDS;
+fn both(low: u32, high: u32) -> u64 {
+    u64::from(low) | u64::from(high) << 32
+}
+
+// How many bytes there are up to the first line feed among the eight of these two words, which four are before, and 13 where there is
+// none: all are looked at at once, so that the processor has no branch to guess. A byte from 0x80 on, which no line of a turn has, ends
+// them too. A line is told by what it is compared with, so no more is claimed of this number.
+#[inline(always)]
+fn up_to_feed(second: u32, third: u32) -> u32
+    ensures { 4 ≤ result }
+{
+    let other = both(second, third) ^ FEEDS;
     let marks = other.wrapping_sub(LOWEST_BITS) & HIGHEST_BITS;
-    marks.trailing_zeros() / 8 + 1
+    marks.trailing_zeros() / 8 + 5
 }
 
 impl Front {
@@ -70,25 +65,32 @@ impl Front {
         ensures { (text : List ℕ) → IsFrontOf text result → ⊥ }
     {
         Front {
-            word: 0,
+            first: 0,
+            second: 0,
             last: 0,
             used: 0,
         }
     }
 
-    /// That of a text, where a line feed is among its first bytes.
+    /// That of a text, where a line feed is among its first bytes, but for the first four.
     #[inline(always)]
     pub(crate) fn of(text: &[u8]) -> Option<Front>
         requires { SPELLED_BYTES ≤ length text.now }
         ensures { IfSome result (IsFrontOf text.now) }
     {
-        let word = word_at(text, 0);
-        let used = up_to_feed(word, word_at(text, 8));
-        if used < 4 || used > 16 {
+        let first = last_before(text, 4);
+        let second = last_before(text, 8);
+        let used = up_to_feed(second, last_before(text, 12));
+        if used > MOST_TOLD {
             return None;
         }
         let last = last_before(text, used as usize);
-        Some(Front { word, last, used })
+        Some(Front {
+            first,
+            second,
+            last,
+            used,
+        })
     }
 
     /// How many bytes the line seems to have with its line feed.
@@ -103,13 +105,16 @@ impl Front {
     pub(crate) fn is_same(&self, other: &Front) -> bool
         ensures { result ≡ true → self.now ≡ other.now }
     {
-        self.word == other.word && self.last == other.last && self.used == other.used
+        self.first == other.first
+            && self.second == other.second
+            && self.last == other.last
+            && self.used == other.used
     }
 
     /// The front as a number that few others have.
     #[inline(always)]
     pub(crate) fn mixed(&self) -> u64 {
         let last = u64::from(self.last).wrapping_mul(0xd6e8_feb8_6659_fd93);
-        (self.word ^ last).wrapping_mul(0x9e37_79b9_7f4a_7c15)
+        (both(self.first, self.second) ^ last).wrapping_mul(0x9e37_79b9_7f4a_7c15)
     }
 }

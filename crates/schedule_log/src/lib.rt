@@ -1,6 +1,7 @@
 //! The text of a schedule, read in pieces of any lengths and written, and the schedule of a seed.
 #![tactic(auto)]
 
+mod bus_draws;
 mod bus_turns;
 mod front;
 pub mod laws;

@@ -4,12 +4,12 @@ ghost use Rattle.rand_pcg.specs.Pcg.{pcg32};
 ghost use Rattle.tree_config.specs.Levels.{leaves_of, widths_of};
 ghost use Rattle.text_model.specs.ReadBack.{IsTurnOf};
 ghost use Rattle.text_model.specs.Seeded.{bus_turn_from, seeded_turn, seeded_turns};
-ghost use Rattle.schedule_log.specs.Seeding.{buses_of, turns_left, widths_in};
+ghost use Rattle.schedule_log.specs.Draws.{widths_drawn};
+ghost use Rattle.schedule_log.specs.Seeding.{turns_left};
 ghost use Rattle.schedule_log.specs.Shapes.{shape_view};
 
-use crate::bus_turns::BusTurns;
-use crate::parts::width_at;
-use ddm_types::{BusNo, ChildNo, Divisor, HartNo, NoMemory, Turn};
+use crate::bus_draws::{BusDraws, TreeDraws};
+use ddm_types::{BusNo, Divisor, HartNo, NoMemory, Turn};
 use rand_core::utils::NextWord;
 use rand_pcg::Pcg32;
 use std::alloc::Global;
@@ -20,89 +20,76 @@ use tree_config::Shape;
 /// The stream of the generator.
 const STREAM: u64 = 54;
 
-// The turns of a tree's buses, by number: a turn asks for one of them.
-fn all_bus_turns(alloc: Global, shape: &Shape, buses: u32) -> Result<Vec<BusTurns>, NoMemory>
-    requires { buses ≡ length (widths_of shape.now) }
-    ensures { IfOk result (λ list. list.items ≡ buses_of (widths_of shape.now)) }
-{
-    let mut list = Vec::with_capacity(alloc, buses as usize)?;
-    for bus in 0..buses {
-        let children = width_at(shape, bus);
-        list.push(BusTurns::new(alloc, BusNo(bus), children)?)?;
-    }
-    Ok(list)
-}
-
 // The turn of a hart and that of a bus, one of which two words of the generator draw, for a tree with this many harts and buses.
 #[inline(always)]
-fn both_turns<'a>(
-    list: &'a [BusTurns],
-    harts: &Divisor,
-    buses: &Divisor,
-    a: u32,
-    b: u32,
-) -> (Turn, &'a Turn)
-    requires number { buses.now ≡ length list.now }
-    requires some { 1 ≤ buses.now }
-    requires each { list.now ≡ buses_of (widths_in list.now) }
-    ensures { (t : OneTurn) → slice_index_or (result.0 ∷ result.1.now ∷ []) (a / 2 % 2) t ≡ seeded_turn (record { harts = harts.now; buses = widths_in list.now }) a b }
+fn both_turns<'a, D: BusDraws>(draws: &'a D, harts: &Divisor, a: u32, b: u32) -> (Turn, &'a Turn)
+    ensures { (t : OneTurn) → slice_index_or (result.0 ∷ result.1.now ∷ []) (a / 2 % 2) t ≡ seeded_turn (record { harts = harts.now; buses = D.widths draws.now }) a b }
 {
     let (victim, hart) = harts.divide(b);
     let of_hart = Turn::Hart {
         hart: HartNo(hart),
         victim: (victim % 256) as u8,
     };
-    let (word, bus) = buses.divide(b);
-    (of_hart, list[bus as usize].turn(a / 4 % 16, word))
+    (of_hart, draws.draw(a, b))
 }
 
 // Puts the next turn of a generator at a place of a block that has a further one. There a turn is put that isn't drawn, or the one that is
 // drawn is put over the other: so there is no branch, and nothing is read that was just written.
 #[inline(always)]
-fn put_next(
-    list: &[BusTurns],
+fn put_next<D: BusDraws>(
+    draws: &D,
     harts: &Divisor,
-    buses: &Divisor,
     words: &mut Pcg32,
     block: &mut [Turn],
     place: usize,
 )
-    requires number { buses.now ≡ length list.now }
-    requires some { 1 ≤ buses.now }
-    requires each { list.now ≡ buses_of (widths_in list.now) }
     requires inside { place + 1 < length block.old }
-    ensures front { (n : ℕ) → take (place + 1) block.new ++ turns_left (record { harts = harts.now; buses = widths_in list.now }) words.new n ≡ take place block.old ++ turns_left (record { harts = harts.now; buses = widths_in list.now }) words.old (n + 1) }
+    ensures front { (n : ℕ) → take (place + 1) block.new ++ turns_left (record { harts = harts.now; buses = D.widths draws.now }) words.new n ≡ take place block.old ++ turns_left (record { harts = harts.now; buses = D.widths draws.now }) words.old (n + 1) }
     ensures behind { drop (place + 2) block.new ≡ drop (place + 2) block.old }
 {
     let a = words.next_word();
     let b = words.next_word();
-    let (of_hart, of_bus) = both_turns(list, harts, buses, a, b);
+    let (of_hart, of_bus) = both_turns(draws, harts, a, b);
     block[place] = of_hart;
     block[place + 1 - (a / 2 % 2) as usize] = *of_bus;
 }
 
 // Puts so many turns of a generator at the front of a block that has a further place. The generator is taken out of its place meanwhile, so
 // that it stays in the processor's registers.
-fn put_turns(
-    list: &[BusTurns],
+fn put_turns<D: BusDraws>(
+    draws: &D,
     harts: &Divisor,
-    buses: &Divisor,
     words: &mut Pcg32,
     block: &mut [Turn],
     count: usize,
 )
-    requires number { buses.now ≡ length list.now }
-    requires some { 1 ≤ buses.now }
-    requires each { list.now ≡ buses_of (widths_in list.now) }
     requires inside { count < length block.old }
-    ensures front { (n : ℕ) → take count block.new ++ turns_left (record { harts = harts.now; buses = widths_in list.now }) words.new n ≡ turns_left (record { harts = harts.now; buses = widths_in list.now }) words.old (count + n) }
+    ensures front { (n : ℕ) → take count block.new ++ turns_left (record { harts = harts.now; buses = D.widths draws.now }) words.new n ≡ turns_left (record { harts = harts.now; buses = D.widths draws.now }) words.old (count + n) }
     ensures behind { drop (count + 1) block.new ≡ drop (count + 1) block.old }
 {
     let mut taken = mem::replace(words, Pcg32::new(0, STREAM));
     for made in 0..count {
-        put_next(list, harts, buses, &mut taken, block, made);
+        put_next(draws, harts, &mut taken, block, made);
     }
     *words = taken;
+}
+
+// The same, with one look at how buses are drawn.
+fn put_drawn(
+    draws: &TreeDraws,
+    harts: &Divisor,
+    words: &mut Pcg32,
+    block: &mut [Turn],
+    count: usize,
+)
+    requires inside { count < length block.old }
+    ensures front { (n : ℕ) → take count block.new ++ turns_left (record { harts = harts.now; buses = widths_drawn draws.now }) words.new n ≡ turns_left (record { harts = harts.now; buses = widths_drawn draws.now }) words.old (count + n) }
+    ensures behind { drop (count + 1) block.new ≡ drop (count + 1) block.old }
+{
+    match draws {
+        TreeDraws::Even(draws) => put_turns(draws, harts, words, block, count),
+        TreeDraws::Each(draws) => put_turns(draws, harts, words, block, count),
+    }
 }
 
 /// The turns of a seed for the parts of a tree, each made when it is asked for, of two words of the generator. A contract sees the
@@ -112,18 +99,19 @@ pub struct SeededTurns {
     words: Pcg32,
     left: u32,
     harts: Divisor,
-    buses: Divisor,
-    bus_turns: Vec<BusTurns>,
+    draws: TreeDraws,
 }
 
 impl Model for SeededTurns {
-    ghost use Rattle.schedule_log.specs.Seeding.{IsOfTree, SeededView, seeded_view, widths_in};
+    ghost use Rattle.std.specs.Prelude.{◌≤◌, length};
+    ghost use Rattle.schedule_log.specs.Draws.{widths_drawn};
+    ghost use Rattle.schedule_log.specs.Seeding.{SeededView, seeded_view};
 
     ghost Value = { SeededView };
 
-    ghost view = { λ s. seeded_view s.harts (widths_in s.bus_turns.items) s.words s.left };
+    ghost view = { λ s. seeded_view s.harts (widths_drawn s.draws) s.words s.left };
 
-    ghost invariant = { λ s. IsOfTree s.harts s.buses s.bus_turns.items };
+    ghost invariant = { λ s. (1 ≤ s.harts) × (1 ≤ length (widths_drawn s.draws)) };
 }
 
 impl SeededTurns {
@@ -131,14 +119,12 @@ impl SeededTurns {
     pub fn new(alloc: Global, shape: &Shape) -> Result<SeededTurns, NoMemory>
         ensures { IfOk result (λ seeds. seeds ≡ record { shape = shape_view shape.now; left = [] }) }
     {
-        let buses = shape.buses();
-        let bus_turns = all_bus_turns(alloc, shape, buses)?;
+        let draws = TreeDraws::new(alloc, shape)?;
         Ok(SeededTurns {
             words: Pcg32::new(0, STREAM),
             left: 0,
             harts: Divisor::new(shape.harts()),
-            buses: Divisor::new(buses),
-            bus_turns,
+            draws,
         })
     }
 
@@ -168,7 +154,7 @@ impl SeededTurns {
         let a = self.words.next_word();
         let b = self.words.next_word();
         self.left -= 1;
-        let (of_hart, of_bus) = both_turns(&self.bus_turns, &self.harts, &self.buses, a, b);
+        let (of_hart, of_bus) = both_turns(&self.draws, &self.harts, a, b);
         let both = [of_hart, *of_bus];
         both[(a / 2 % 2) as usize]
     }
@@ -185,14 +171,7 @@ impl SeededTurns {
         if count == 0 {
             return 0;
         }
-        put_turns(
-            &self.bus_turns,
-            &self.harts,
-            &self.buses,
-            &mut self.words,
-            block,
-            count - 1,
-        );
+        put_drawn(&self.draws, &self.harts, &mut self.words, block, count - 1);
         self.left -= (count - 1) as u32;
         block[count - 1] = self.next_turn();
         count

@@ -20,9 +20,6 @@ const MOST_TURNS: u32 = 1_048_576;
 /// The most bytes of a line before its line feed.
 const MOST_BYTES: usize = 24;
 
-/// The most bytes of a line, with its line feed, that its front tells.
-const MOST_TOLD: usize = 12;
-
 const END: &[u8] = b"end";
 
 /// What a text begins with: a line that is a turn, with its bytes and its line feed, or what it stops at.
@@ -128,11 +125,12 @@ fn any_step(parts: &Parts, lines: u32, made: u32, text: &[u8]) -> Step
     }
 }
 
-// The same, of a line that isn't remembered. It is from now on, if its front tells it: the first eight bytes and the last four are all.
-fn new_step(seen: &mut SeenLines, lines: u32, made: u32, text: &[u8], front: &Front) -> Step
+// The same, of a line that isn't remembered. It is from now on, if there is a front that tells it: the first eight bytes and the last
+// four are all.
+fn new_step(seen: &mut SeenLines, lines: u32, made: u32, text: &[u8], front: Option<Front>) -> Step
     requires lines { lines ≤ 1048576 }
     requires long { 16 ≤ length text.now }
-    requires front { IsFrontOf text.now front.now }
+    requires front { IfSome front (IsFrontOf text.now) }
     ensures step { StepGives seen.old lines made text.now result }
     ensures same { seen.new ≡ seen.old }
 {
@@ -143,8 +141,10 @@ fn new_step(seen: &mut SeenLines, lines: u32, made: u32, text: &[u8], front: &Fr
     // A value that was handed on isn't handed on again.
     let (judged, kept) = (turn, turn);
     let step = step_of_turn(seen.parts(), lines, made, turn, used);
-    if used <= MOST_TOLD && used == front.used() && has_named(seen.parts(), judged) {
-        seen.remember(front, kept);
+    if let Some(front) = front {
+        if used == front.used() && has_named(seen.parts(), judged) {
+            seen.remember(&front, kept);
+        }
     }
     step
 }
@@ -182,8 +182,5 @@ pub(crate) fn first_step(
     if text.len() < SPELLED_BYTES {
         return any_step(seen.parts(), lines, made, text);
     }
-    match Front::of(text) {
-        Some(front) => new_step(seen, lines, made, text, &front),
-        None => any_step(seen.parts(), lines, made, text),
-    }
+    new_step(seen, lines, made, text, Front::of(text))
 }

@@ -4,15 +4,15 @@ use Rattle.std.proofs.lemmas.List.{append_assoc}
 use Rattle.ddm_types.specs.declared.turns.Turn.{Turn}
 use Rattle.text_model.specs.Schedule.{ShapeView}
 use Rattle.text_model.specs.Seeded.{seeded_turn}
-use Rattle.schedule_log.specs.Seeding.{turns_left, widths_in}
+use Rattle.schedule_log.specs.Seeding.{turns_left}
 use Rattle.schedule_log.proofs.Seeds.{next_left, put_either}
 use Rattle.schedule_log.proofs.seeding.put_next.Goals as goal
 
 pub returns-clause-front : goal.returns-clause-front
-returns-clause-front c = λ n.
+returns-clause-front g c = λ n.
     let a = c.next_word-a.result in
     let b = c.next_word-b.result in
-    let shape : ShapeView = record { harts = c.args.harts.now; buses = widths_in c.args.list.now } in
+    let shape : ShapeView = record { harts = c.args.harts.now; buses = g.D.BusDraws.widths c.args.draws.now } in
     let of_hart = c.both_turns-of_hart.result.0 in
     let low : a / 2 % 2 < 2 = mod-lt (a / 2) (omega arith) in
     let rest = turns_left shape c.next_word-b.new.self n in

@@ -1,6 +1,6 @@
 use Rattle.std.proofs.Common.{◌<◌, length, ap, arith}
-use Rattle.std.proofs.lemmas.List.{length-map}
-use Rattle.schedule_log.specs.Seeding.{OneBus, SeededView, widths_in}
+use Rattle.schedule_log.specs.Draws.{widths_drawn}
+use Rattle.schedule_log.specs.Seeding.{SeededView}
 use Rattle.schedule_log.proofs.Seeds.{left_counted}
 use Rattle.schedule_log.proofs.SeedTurns.{begun, begun_known}
 use Rattle.schedule_log.proofs.seeding.SeededTurns.begin.Goals as goal
@@ -11,10 +11,8 @@ returns-clause-turns c =
 
 pub returns-clause-known : goal.returns-clause-known
 returns-clause-known c =
-    let s = c.self.invariant in
-    let harts : 0 < c.self.inside.harts = omega (arith, s.some_harts) in
-    let list = c.self.inside.bus_turns.items in
-    let buses : 0 < length (widths_in list) = omega (arith, s.some_buses, s.number, length-map list (λ (b : OneBus). b.children)) in
+    let harts : 0 < c.self.inside.harts = omega (arith, c.self.invariant.0) in
+    let buses : 0 < length (widths_drawn c.self.inside.draws) = omega (arith, c.self.invariant.1) in
     begun_known _ c.new-self-inside.result c.args.seed c.args.turns c.args.self.now c.new-self-inside.ensures (ap (λ (v : SeededView). v.shape) c.self.view_is) harts buses
 
 pub returns-clause-count : goal.returns-clause-count

@@ -3,7 +3,7 @@ use Rattle.std.specs.List.{range_with_len}
 use Rattle.std.proofs.lemmas.List.FromFn.{map-range_with_len_more}
 use Rattle.tree_config.specs.Levels.{widths_of}
 use Rattle.schedule_log.specs.Seeding.{OneBus, bus_at}
-use Rattle.schedule_log.proofs.seeding.all_bus_turns.Goals as goal
+use Rattle.schedule_log.proofs.bus_draws.all_bus_turns.Goals as goal
 
 pub loop-bus-preserved : goal.loop-bus-preserved
 loop-bus-preserved c =
