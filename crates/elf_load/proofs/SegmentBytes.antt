@@ -1,13 +1,12 @@
 -- Bytes and words of one segment.
-use Rattle.std.proofs.Common.{◌≡◌, ℕ, ◌+◌, ◌-◌, ◌<◌, ◌≤◌, true, [], ◌∷◌, ◌++◌, map, get_or, drop, refl, sym, ap, ◌∙◌, arith}
+use Rattle.std.proofs.Common.{◌≡◌, ℕ, ◌+◌, ◌*◌, ◌-◌, ◌<◌, ◌≤◌, true, [], ◌∷◌, ◌++◌, get_or, drop, refl, sym, ap, ◌∙◌, arith}
 use Rattle.std.specs.Prelude.{slice_index_or, nat_le, nat_lt, ◌&&◌}
-use Rattle.std.specs.List.{range_with_len}
 use Rattle.std.proofs.lemmas.Bool.Decides.{nat_tests}
 use Rattle.std.proofs.lemmas.List.{get_or-drop}
 use Rattle.std.proofs.lemmas.List.FromFn.{map-range_with_len_more}
 use Rattle.tree_model.specs.Start.Sources.{SegmentValue}
 use Rattle.tree_model.specs.Start.Memory.{byte_at, first_word, memory_word}
-use Rattle.elf_load.specs.CodeOf.{numbered_word}
+use Rattle.elf_load.specs.CodeOf.{file_word_count, first_offset, first_words, numbered_word}
 use Rattle.elf_load.specs.ElfFile.{word_in}
 
 -- a byte of the segment's memory is the file's byte, or 0 behind these
@@ -33,5 +32,11 @@ own_word s a above below =
     let byte3 = byte_behind s a 3 above (omega (arith, below)) in
     omega (arith, byte, byte1, byte2, byte3)
 
-pub more_words : (s : SegmentValue) (k : ℕ) → map (numbered_word s) (range_with_len (first_word s) (k + 1)) ≡ map (numbered_word s) (range_with_len (first_word s) k) ++ numbered_word s (first_word s + k) ∷ []
+-- a word that has all of its bytes in the file
+pub file_word : (s : SegmentValue) (k : ℕ) → k < file_word_count s → word_in s.bytes (first_offset s + 4 * k) ≡ numbered_word s (first_word s + k)
+file_word s k inside =
+    let place : first_offset s + 4 * k ≡ 4 * (first_word s + k) - s.vaddr = omega arith in
+    ap (word_in s.bytes) place ∙ own_word s (4 * (first_word s + k)) (omega arith) (omega (arith, inside))
+
+pub more_words : (s : SegmentValue) (k : ℕ) → first_words s (k + 1) ≡ first_words s k ++ numbered_word s (first_word s + k) ∷ []
 more_words s k = map-range_with_len_more (numbered_word s) (first_word s) k (first_word s + k) refl

@@ -1,5 +1,5 @@
 -- The code of segments, part by part.
-use Rattle.std.specs.Prelude.{◌≡◌, ℕ, ◌+◌, ◌-◌, ◌*◌, ◌%◌, ◌^◌, ◌<◌, ◌≤◌, List, [], ◌∷◌, map}
+use Rattle.std.specs.Prelude.{◌≡◌, ℕ, ◌+◌, ◌-◌, ◌*◌, ◌/◌, ◌%◌, ◌^◌, ◌<◌, ◌≤◌, List, [], ◌∷◌, length, map, min}
 use Rattle.std.specs.List.{range_with_len, AllZip}
 use Rattle.ddm_types.specs.declared.code_map.CodePart.{CodePart}
 use Rattle.ddm_types.specs.CodeMap.{part_words, part_end, IsInPart}
@@ -14,9 +14,21 @@ numbered_word s n = memory_word (s ∷ []) (4 * n)
 abbrev pub word_count : SegmentValue → ℕ
 word_count s = past_word s - first_word s
 
+-- how many bytes of the segment are before its first word
+abbrev pub first_offset : SegmentValue → ℕ
+first_offset s = 4 * first_word s - s.vaddr
+
+-- how many words that lie in the segment have all of their bytes in the file: they are the first ones
+abbrev pub file_word_count : SegmentValue → ℕ
+file_word_count s = min (word_count s) ((length s.bytes - first_offset s) / 4)
+
+-- the words that lie in the segment, so many of the first ones
+abbrev pub first_words : SegmentValue → ℕ → List ℕ
+first_words s count = map (numbered_word s) (range_with_len (first_word s) count)
+
 -- the words that lie in the segment
 abbrev pub segment_words : SegmentValue → List ℕ
-segment_words s = map (numbered_word s) (range_with_len (first_word s) (word_count s))
+segment_words s = first_words s (word_count s)
 
 -- the segment has the byte at this address
 abbrev pub IsInSegment : SegmentValue → ℕ → Type 0

@@ -1,9 +1,9 @@
-ghost use Rattle.std.specs.Prelude.{◌≡◌, ◌&&◌, nat_lt, ◌+◌, ◌*◌, ◌^◌, ◌<◌, ◌≤◌, ℕ, All, AllPairs, IfOk, [], ◌∷◌, slice_index_or};
+ghost use Rattle.std.specs.Prelude.{◌≡◌, ◌&&◌, nat_lt, ◌+◌, ◌*◌, ◌^◌, ◌<◌, ◌≤◌, ℕ, All, AllPairs, IfOk, [], ◌∷◌, slice_index_or, vec_capacity};
 ghost use Rattle.tree_model.specs.Start.Memory.{byte_at, memory_word, start_code};
 ghost use Rattle.tree_model.specs.Start.Sources.{is_executable};
 ghost use Rattle.elf_load.specs.ImageRule.{AreApart, EndsInside, HasMemory};
 ghost use Rattle.tree_model.specs.Start.Memory.{first_word};
-ghost use Rattle.elf_load.specs.CodeOf.{ArePartsOf, IsPartOf, segment_words, word_count};
+ghost use Rattle.elf_load.specs.CodeOf.{ArePartsOf, IsPartOf, file_word_count, first_offset, first_words, segment_words, word_count};
 
 use crate::fields::word_in;
 use crate::image::Segment;
@@ -69,6 +69,38 @@ fn is_code(segment: &Segment) -> bool
     segment.flags % 2 == 1 && word_count(segment) > 0
 }
 
+/// How many bytes of the segment are before its first word.
+fn first_offset(segment: &Segment) -> u64
+    ensures { result ≡ first_offset segment.now }
+{
+    let start = u64::from(segment.vaddr);
+    4 * first_word(segment) - start
+}
+
+/// How many words that lie in the segment have all of their bytes in the file: they are the first ones.
+fn file_word_count(segment: &Segment) -> u64
+    ensures { result ≡ file_word_count segment.now }
+{
+    let bytes = (segment.bytes.len() as u64).saturating_sub(first_offset(segment));
+    word_count(segment).min(bytes / 4)
+}
+
+/// The words that have all of their bytes in the file, with room for the others.
+#[tactic(auto, using(crate::proofs::SegmentBytes::file_word, crate::proofs::SegmentBytes::more_words))]
+fn file_words(alloc: Global, segment: &Segment) -> Result<Vec<u32>, NoMemory>
+    ensures words { IfOk result (λ words. words.items ≡ first_words segment.now (file_word_count segment.now)) }
+    ensures room { IfOk result (λ words. word_count segment.now ≤ vec_capacity words) }
+{
+    let bytes: &[u8] = &segment.bytes;
+    let first = first_offset(segment) as usize;
+    let count = file_word_count(segment) as usize;
+    let mut words = Vec::with_capacity(alloc, word_count(segment) as usize)?;
+    for place in 0..count {
+        words.push_reserved(word_in(bytes, first + 4 * place));
+    }
+    Ok(words)
+}
+
 /// The words that lie in the segment.
 #[tactic(auto, using(crate::proofs::SegmentBytes::more_words))]
 fn segment_words(alloc: Global, segment: &Segment) -> Result<Vec<u32>, NoMemory>
@@ -76,9 +108,8 @@ fn segment_words(alloc: Global, segment: &Segment) -> Result<Vec<u32>, NoMemory>
     ensures { IfOk result (λ words. words.items ≡ segment_words segment.now) }
 {
     let first = first_word(segment);
-    let count = word_count(segment);
-    let mut words = Vec::with_capacity(alloc, count as usize)?;
-    for place in 0..count {
+    let mut words = file_words(alloc, segment)?;
+    for place in file_word_count(segment)..word_count(segment) {
         words.push(segment_word(segment, 4 * (first + place)))?;
     }
     Ok(words)

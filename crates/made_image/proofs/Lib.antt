@@ -1,4 +1,5 @@
 pub mod Lengths
+pub mod Rounds
 pub mod Pushes
 pub mod ItemCounts
 pub mod Accepted

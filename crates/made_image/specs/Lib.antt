@@ -1,4 +1,5 @@
 pub mod MadeImage
+pub mod Rounds
 pub mod Accepted
 pub mod Computing
 pub mod MadeExample

@@ -1,6 +1,7 @@
 ghost use Rattle.std.specs.Prelude.{◌≡◌, ◌≤◌, ◌+◌, ◌*◌, ◌++◌, All, IfOk, OnOk, length};
 ghost use Rattle.rv_decode.specs.Valid.{IsValid};
 ghost use Rattle.made_image.specs.MadeImage.{made_image, made_program, made_segments, program_bytes};
+ghost use Rattle.made_image.specs.Rounds.{first_rounds, round_bytes};
 
 use crate::program::{ending, opening, round_of};
 use ddm_types::NoMemory;
@@ -32,17 +33,50 @@ fn push_program(code: &mut Vec<u8>, program: &[Instr]) -> Result<(), NoMemory>
     Ok(())
 }
 
-/// The bytes of the program.
+/// The bytes of the round of a word.
+fn round_bytes(word: u32) -> [u8; 8]
+    ensures { result ≡ round_bytes word }
+{
+    let [first, second] = round_of(word);
+    let mut bytes = [0; 8];
+    bytes[..4].copy_from_slice(&encode(&first).to_le_bytes());
+    bytes[4..].copy_from_slice(&encode(&second).to_le_bytes());
+    bytes
+}
+
+/// The bytes of each round that there is: the last eight bits of its word say which one it is.
+#[tactic(auto, using(crate::proofs::Rounds::no_round, crate::proofs::Rounds::next_round))]
+fn all_rounds(alloc: Global) -> Result<Vec<[u8; 8]>, NoMemory>
+    ensures { IfOk result (λ rounds. rounds.items ≡ first_rounds 256) }
+{
+    let mut rounds = Vec::with_capacity(alloc, 256)?;
+    for word in 0..256 {
+        rounds.push(round_bytes(word))?;
+    }
+    Ok(rounds)
+}
+
+/// The bytes of the round of a word, where those of each round are at hand.
+#[tactic(auto, using(crate::proofs::Rounds::round_inside, crate::proofs::Rounds::round_there))]
+fn known_round(all: &[[u8; 8]], word: u32) -> [u8; 8]
+    requires { all.now ≡ first_rounds 256 }
+    ensures { result ≡ round_bytes word }
+{
+    all[(word % 256) as usize]
+}
+
+/// The bytes of the program: eight for each round, and those of the four instructions around them.
 #[tactic(auto, using(crate::proofs::Pushes::rounds_begun, crate::proofs::Pushes::round_next, crate::proofs::Pushes::rounds_done))]
 fn made_code(alloc: Global, seed: u64, rounds: u32) -> Result<Vec<u8>, NoMemory>
     ensures { IfOk result (λ code. code.items ≡ program_bytes (made_program seed rounds)) }
 {
+    let all = all_rounds(alloc)?;
     let mut words = Pcg32::new(seed, STREAM);
-    let mut code = Vec::new(alloc);
+    let mut code = Vec::with_capacity(alloc, 8 * rounds as usize + 16)?;
     push_program(&mut code, &opening())?;
     for round in 0..rounds {
         let _ = round;
-        push_program(&mut code, &round_of(words.next_word()))?;
+        code.extend_from_slice(&known_round(&all, words.next_word()))?;
     }
     push_program(&mut code, &ending())?;
     Ok(code)
