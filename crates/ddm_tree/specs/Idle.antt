@@ -84,6 +84,14 @@ abbrev pub idle_there : Option (Option Idle) → Option Idle
 idle_there (Some known) = known
 idle_there None = None
 
+-- nothing is remembered
+abbrev pub IsNothing : List (Option Idle) → Type 0
+IsNothing idle = (k : ℕ) (i : Idle) → slice_get idle k ≡ Some (Some i) → ⊥
+
+-- of no leaf it is remembered that its buffer has no place
+abbrev pub IsNoneFull : List (Option Idle) → Type 0
+IsNoneFull idle = (k leaf : ℕ) → slice_get idle k ≡ Some (Some (Idle.BufferFull leaf)) → ⊥
+
 -- of the hart of a turn
 abbrev pub idle_for : Turn → List (Option Idle) → Option Idle
 idle_for (Turn.Hart hart victim) idle = idle_there (slice_get idle hart)

@@ -1,6 +1,6 @@
 ghost use Rattle.std.specs.Prelude.{◌≡◌, ℕ, Some, None, false, IfOk, IfSome, length, map, slice_get, slice_set, vec_items};
 ghost use Rattle.tree_model.specs.State.Values.{DirValue, dir_node, nodes};
-ghost use Rattle.ddm_tree.specs.Idle.{AreNoted, AreSeen, NoneChanges, IsLooked, IsLookedAfter, IsSeen, answered_by, idle_answer, idle_for, idle_there, idle_told, may_change, node_rests, rests_by, with_idle};
+ghost use Rattle.ddm_tree.specs.Idle.{AreNoted, IsNothing, AreSeen, NoneChanges, IsLooked, IsLookedAfter, IsSeen, answered_by, idle_answer, idle_for, idle_there, idle_told, may_change, node_rests, rests_by, with_idle};
 ghost use Rattle.ddm_tree.specs.Path.{node_at};
 ghost use Rattle.ddm_tree.specs.Quiet.{HartsAgree, KeepsBuses, idle_as};
 
@@ -12,6 +12,7 @@ use ddm_types::{
     BusyCause, ChildNo, HaltCause, ItemId, LeafNo, LogEntry, NoMemory, Turn, TurnAnswer, TxKind,
 };
 use std::alloc::Global;
+use std::marker::Model;
 
 /// Why a turn of a hart changes nothing, and none will before its bus tells its leaf something.
 #[derive(Clone, Copy)]
@@ -22,6 +23,26 @@ pub enum Idle {
     BufferFull(LeafNo),
     /// The hart has halted.
     Halted(HaltCause),
+}
+
+/// For each leaf why its hart is idle, where that is known.
+#[derive(Drop)]
+pub(crate) struct IdleHarts {
+    known: Vec<Option<Idle>>,
+    /// Whether one may be known whose leaf's buffer has no place: of a grant that answers nobody no other one is to be looked at.
+    any_full: bool,
+}
+
+impl Model for IdleHarts {
+    ghost use Rattle.std.specs.Prelude.{◌≡◌, List, Option, false};
+    ghost use Rattle.ddm_tree.specs.declared.idle.Idle.{Idle};
+    ghost use Rattle.ddm_tree.specs.Idle.{IsNoneFull};
+
+    ghost Value = { List (Option Idle) };
+
+    ghost view = { λ i. i.known.items };
+
+    ghost invariant = { λ i. i.any_full ≡ false → IsNoneFull i.known.items };
 }
 
 /// What the turns of an idle hart answer.
@@ -48,10 +69,10 @@ fn idle_told(answer: &TurnAnswer) -> Option<Idle>
 
 /// What is remembered of the hart of this number.
 #[inline(always)]
-fn known_of(idle: &[Option<Idle>], place: usize) -> Option<Idle>
+fn known_of(idle: &IdleHarts, place: usize) -> Option<Idle>
     ensures { result ≡ idle_there (slice_get idle.now place) }
 {
-    match idle.get(place) {
+    match idle.known.get(place) {
         Some(known) => *known,
         None => None,
     }
@@ -59,7 +80,7 @@ fn known_of(idle: &[Option<Idle>], place: usize) -> Option<Idle>
 
 /// What is remembered of the hart of a turn.
 #[inline(always)]
-pub(crate) fn idle_for(turn: &Turn, idle: &[Option<Idle>]) -> Option<Idle>
+pub(crate) fn idle_for(turn: &Turn, idle: &IdleHarts) -> Option<Idle>
     ensures { result ≡ idle_for turn.now idle.now }
 {
     match turn {
@@ -119,19 +140,21 @@ pub(crate) fn rests_by(halted: Option<HaltCause>, waiting: Option<ItemId>) -> Op
 }
 
 /// Remembers it of the hart of this number, where there is one, or forgets what was remembered.
-fn put_idle(idle: &mut [Option<Idle>], quiet: &mut [Quiet], place: usize, known: Option<Idle>)
+fn put_idle(idle: &mut IdleHarts, quiet: &mut [Quiet], place: usize, known: Option<Idle>)
     ensures put { idle.new ≡ slice_set idle.old place known }
     ensures harts { HartsAgree quiet.old idle.old → HartsAgree quiet.new idle.new }
     ensures buses { KeepsBuses quiet.old quiet.new }
 {
-    if place < idle.len() {
-        note_hart(quiet, place, idle_as(&known));
-        idle[place] = known;
+    if place < idle.known.len() {
+        let busy = idle_as(&known);
+        idle.any_full |= busy == Some(true);
+        note_hart(quiet, place, busy);
+        idle.known[place] = known;
     }
 }
 
 /// Remembers it of the hart of a turn.
-fn keep_idle(idle: &mut [Option<Idle>], quiet: &mut [Quiet], turn: &Turn, known: Idle)
+fn keep_idle(idle: &mut IdleHarts, quiet: &mut [Quiet], turn: &Turn, known: Idle)
     ensures put { idle.new ≡ with_idle turn.now known idle.old }
     ensures harts { HartsAgree quiet.old idle.old → HartsAgree quiet.new idle.new }
     ensures buses { KeepsBuses quiet.old quiet.new }
@@ -166,7 +189,7 @@ fn rest_of<const WORDS: usize, C: Subtree<WORDS>>(
 
 /// Remembers anew why the hart of a leaf is idle, as far as the leaf tells it.
 fn look<const WORDS: usize, C: Subtree<WORDS>>(
-    idle: &mut [Option<Idle>],
+    idle: &mut IdleHarts,
     quiet: &mut [Quiet],
     children: &[C],
     leaf_paths: &[Vec<ChildNo>],
@@ -182,7 +205,7 @@ fn look<const WORDS: usize, C: Subtree<WORDS>>(
 /// The same after a grant, where that may have changed what is known.
 #[inline(always)]
 fn look_after<const WORDS: usize, C: Subtree<WORDS>>(
-    idle: &mut [Option<Idle>],
+    idle: &mut IdleHarts,
     quiet: &mut [Quiet],
     children: &[C],
     leaf_paths: &[Vec<ChildNo>],
@@ -200,9 +223,12 @@ fn look_after<const WORDS: usize, C: Subtree<WORDS>>(
 
 /// Whether what is known of one of these leaves may be otherwise after a grant that answers nobody. No branch depends on what is known.
 #[inline(always)]
-fn may_any_change(idle: &[Option<Idle>], leaves: &[usize]) -> bool
+fn may_any_change(idle: &IdleHarts, leaves: &[usize]) -> bool
     ensures { result ≡ false → NoneChanges None (length leaves.now) leaves.now idle.now }
 {
+    if !idle.any_full {
+        return false;
+    }
     let mut any = false;
     for leaf in leaves {
         any |= may_change(known_of(idle, *leaf), None);
@@ -213,7 +239,7 @@ fn may_any_change(idle: &[Option<Idle>], leaves: &[usize]) -> bool
 /// The same of each of these leaves.
 #[inline(never)]
 fn look_at_all<const WORDS: usize, C: Subtree<WORDS>>(
-    idle: &mut [Option<Idle>],
+    idle: &mut IdleHarts,
     quiet: &mut [Quiet],
     children: &[C],
     leaf_paths: &[Vec<ChildNo>],
@@ -236,7 +262,7 @@ fn look_at_all<const WORDS: usize, C: Subtree<WORDS>>(
 /// that granted something, each that may have waited for it.
 #[inline(always)]
 pub(crate) fn note<const WORDS: usize, C: Subtree<WORDS>>(
-    idle: &mut [Option<Idle>],
+    idle: &mut IdleHarts,
     quiet: &mut [Quiet],
     children: &[C],
     leaf_paths: &[Vec<ChildNo>],
@@ -278,19 +304,30 @@ pub(crate) fn note<const WORDS: usize, C: Subtree<WORDS>>(
 }
 
 /// Forgets all that is remembered.
-pub(crate) fn forget_all(idle: &mut [Option<Idle>])
-    ensures { (k : ℕ) (i : Idle) → slice_get idle.new k ≡ Some (Some i) → ⊥ }
+fn forget_known(known: &mut [Option<Idle>])
+    ensures { IsNothing known.new }
 {
-    for place in 0..idle.len() {
-        idle[place] = None;
+    for place in 0..known.len() {
+        known[place] = None;
     }
 }
 
-/// A place for each of so many leaves, with nothing remembered.
-pub(crate) fn nothing_known(alloc: Global, leaves: u32) -> Result<Vec<Option<Idle>>, NoMemory>
-    ensures { IfOk result (λ idle. (k : ℕ) (i : Idle) → slice_get idle.items k ≡ Some (Some i) → ⊥) }
+/// The same of all harts.
+pub(crate) fn forget_all(idle: &mut IdleHarts)
+    ensures { IsNothing idle.new }
 {
-    let mut idle = vec![in alloc; None; leaves as usize]?;
-    forget_all(&mut idle);
-    Ok(idle)
+    forget_known(&mut idle.known);
+    idle.any_full = false;
+}
+
+/// A place for each of so many leaves, with nothing remembered.
+pub(crate) fn nothing_known(alloc: Global, leaves: u32) -> Result<IdleHarts, NoMemory>
+    ensures { IfOk result IsNothing }
+{
+    let mut known = vec![in alloc; None; leaves as usize]?;
+    forget_known(&mut known);
+    Ok(IdleHarts {
+        known,
+        any_full: false,
+    })
 }

@@ -14,7 +14,7 @@ ghost use Rattle.ddm_tree.specs.Quiet.{AreLearnedBelow, AreNear, HartsAgree, IsT
 ghost use Rattle.ddm_tree.specs.Machine.{IsFound, IsNew, has_path, listed_path, new_machine, state_after, without_ops};
 
 use crate::below::turn_under;
-use crate::idle::{Idle, idle_answer, idle_for, note, nothing_known};
+use crate::idle::{IdleHarts, idle_answer, idle_for, note, nothing_known};
 use crate::named::Named;
 use crate::paths::{bus_paths, leaf_paths};
 use crate::quiet::{Quiet, known_as, near_lists, note_buses, nothing_quiet};
@@ -44,7 +44,7 @@ pub struct Machine<const WORDS: usize, C: Subtree<WORDS>> {
     /// For each bus the numbers of the leaves near it.
     pub(crate) bus_leaves: Vec<Vec<usize>>,
     /// For each leaf why its hart is idle, where that is known.
-    pub(crate) idle: Vec<Option<Idle>>,
+    pub(crate) idle: IdleHarts,
     /// For each number what the bus that has it is quiet of, and whether turns of the hart that has it are busy, where that is known.
     pub(crate) quiet: Vec<Quiet>,
     /// How many operations can still be taken without memory.
@@ -71,9 +71,9 @@ impl<const WORDS: usize, C: Subtree<WORDS>> Model for Machine<WORDS, C> {
     ghost invariant = { λ m. IsMachine WORDS (machine_of m.code m.items m.top (map C.value m.children.items) m.ops.items m.traffic.items) m.turns (map vec_items m.leaf_paths.items) (map vec_items m.bus_paths.items)
         × (tree_counts (machine_of m.code m.items m.top (map C.value m.children.items) m.ops.items m.traffic.items) ≡ m.counts)
         × (WORDS < 2 ^ 32) × (m.items.size ≡ 4 * WORDS) × (m.spare ≤ m.ops.spare)
-        × AreIdle m.code m.items m.idle.items (dir_node m.top (nodes (map C.value m.children.items))) (dir_node m.top (nodes (map C.value m.children.items)))
+        × AreIdle m.code m.items m.idle (dir_node m.top (nodes (map C.value m.children.items))) (dir_node m.top (nodes (map C.value m.children.items)))
         × AreQuiet m.quiet.items (dir_node m.top (nodes (map C.value m.children.items))) (dir_node m.top (nodes (map C.value m.children.items)))
-        × HartsAgree m.quiet.items m.idle.items
+        × HartsAgree m.quiet.items m.idle
         × AreNear (map vec_items m.bus_leaves.items) (map vec_items m.bus_paths.items) (map vec_items m.leaf_paths.items) };
 }
 
@@ -228,7 +228,7 @@ fn turn_made<const WORDS: usize, C: Subtree<WORDS>>(
     leaf_paths: &[Vec<ChildNo>],
     bus_paths: &[Vec<ChildNo>],
     bus_leaves: &Vec<Vec<usize>>,
-    idle: &mut [Option<Idle>],
+    idle: &mut IdleHarts,
     quiet: &mut [Quiet],
     turn: &Turn,
     answer: &mut TurnAnswer,

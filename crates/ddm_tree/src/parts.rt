@@ -13,7 +13,7 @@ ghost use Rattle.ddm_tree.specs.ReadBack.{PartRead, section_name};
 ghost use Rattle.ddm_tree.specs.Ready.{Leads};
 ghost use Rattle.ddm_tree.specs.Rules.{KeepsRules};
 
-use crate::idle::{Idle, forget_all};
+use crate::idle::{IdleHarts, forget_all};
 use crate::machine::{Machine, path_of};
 use crate::named::Named;
 use crate::quiet::{Quiet, forget_quiet};
@@ -41,7 +41,7 @@ pub struct Parts<const WORDS: usize, C: Subtree<WORDS>> {
     pub(crate) bus_paths: Vec<Vec<ChildNo>>,
     pub(crate) bus_leaves: Vec<Vec<usize>>,
     /// A place for each leaf, for the machine that is put together.
-    pub(crate) idle: Vec<Option<Idle>>,
+    pub(crate) idle: IdleHarts,
     /// A place for each number, in the same way.
     pub(crate) quiet: Vec<Quiet>,
 }

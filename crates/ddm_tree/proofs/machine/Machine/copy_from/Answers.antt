@@ -1,4 +1,4 @@
-use Rattle.std.proofs.Common.{◌≡◌, ◌∙◌, ◌≤◌, ◌+◌, ◌-◌, min, ap, sym, subst, length, map, vec_items, arith}
+use Rattle.std.proofs.Common.{◌≡◌, ◌∙◌, ◌≤◌, ◌+◌, ◌-◌, min, ap, refl, sym, subst, length, map, vec_items, arith}
 use Rattle.std.proofs.lemmas.List.{length-map}
 use Rattle.tree_model.specs.State.Shape.{frame_of, tree_counts}
 use Rattle.tree_model.specs.State.Values.{nodes, root_of}
@@ -42,13 +42,11 @@ invariant_of-self g c =
     let bus_paths = map vec_items c.self.inside.bus_paths.items in
     let inv = c.self.invariant in
     let is = copied-is_machine m k frame g.row.WORDS c.self.inside.turns c.other.inside.turns leaf_paths bus_paths (map vec_items c.other.inside.leaf_paths.items) (map vec_items c.other.inside.bus_paths.items) inv.0 c.other.invariant.0 in
-    let all : c.self.inside.idle.len ≡ length c.self.inside.idle.items = sym c.deref_mut-2.ensures.len ∙ ap length c.deref_mut-2.ensures.value in
-    let back = items-back c.self.inside.idle.items c.forget_all.new.idle c.self.inside.idle.len all (c.forget_all.auto.idle ∙ ap length c.deref_mut-2.ensures.value) in
-    let known : c.self.inside.quiet.len ≡ length c.self.inside.quiet.items = sym c.deref_mut-3.ensures.len ∙ ap length c.deref_mut-3.ensures.value in
-    let quiet-back = items-back c.self.inside.quiet.items c.forget_quiet.new.known c.self.inside.quiet.len known (c.forget_quiet.auto.known ∙ ap length c.deref_mut-3.ensures.value) in
+    let known : c.self.inside.quiet.len ≡ length c.self.inside.quiet.items = sym c.deref_mut-2.ensures.len ∙ ap length c.deref_mut-2.ensures.value in
+    let quiet-back = items-back c.self.inside.quiet.items c.forget_quiet.new.known c.self.inside.quiet.len known (c.forget_quiet.auto.known ∙ ap length c.deref_mut-2.ensures.value) in
     let asked : length c.other.inside.ops.items ≤ length c.self.inside.ops.items + c.self.inside.spare = omega (arith, c.requires.room, ap (λ s. length s.machine.ops) c.other.view_is, ap (λ s. length s.machine.ops) c.self.view_is, ap (λ s. s.spare) c.self.view_is) in
     let room : c.room_left-self-inside.result ≤ c.copy_from-2.new.self.spare = omega (arith, asked, inv.4, c.copy_from-2.ensures.spare, c.room_left-self-inside.ensures, c.len.ensures.length, c.len-2.ensures.length) in
-    (subst (λ n. IsMachine g.row.WORDS n c.other.inside.turns leaf_paths bus_paths) (sym after) is, ap tree_counts after ∙ counts-same m k frame ∙ inv.1, inv.2, inv.3, room, nothing-idle c.self.inside.code c.self.inside.items c.forget_all.new.idle _ _ _ back c.forget_all.ensures, blank-quiet c.forget_quiet.new.known _ _ _ quiet-back c.forget_quiet.ensures, blank-agree c.forget_quiet.new.known _ _ quiet-back c.forget_quiet.ensures, inv.8)
+    (subst (λ n. IsMachine g.row.WORDS n c.other.inside.turns leaf_paths bus_paths) (sym after) is, ap tree_counts after ∙ counts-same m k frame ∙ inv.1, inv.2, inv.3, room, nothing-idle c.self.inside.code c.self.inside.items c.forget_all.new.idle _ _ _ refl c.forget_all.ensures, blank-quiet c.forget_quiet.new.known _ _ _ quiet-back c.forget_quiet.ensures, blank-agree c.forget_quiet.new.known _ _ quiet-back c.forget_quiet.ensures, inv.8)
 
 pub returns : goal.returns
 returns g c =

@@ -25,10 +25,10 @@ invariant_of-result g c =
     let leaf_paths = map vec_items c.in_ok-leaf_paths.leaf_paths.items in
     let bus_paths = map vec_items c.in_ok-bus_paths.bus_paths.items in
     let is = new-is_machine g.row.WORDS c.args.code c.args.items c.args.top kids c.args.counts leaf_paths bus_paths c.requires.parts (rw (c.deref.ensures.value) at c.in_ok-leaf_paths.ensures) (rw (c.deref-2.ensures.value) at c.in_ok-bus_paths.ensures) in
-    let idle = nothing-idle c.args.code c.args.items c.in_ok-idle.idle.items c.in_ok-idle.idle.items (dir_node c.args.top (nodes kids)) (dir_node c.args.top (nodes kids)) refl c.in_ok-idle.ensures in
+    let idle = nothing-idle c.args.code c.args.items c.in_ok-idle.idle c.in_ok-idle.idle (dir_node c.args.top (nodes kids)) (dir_node c.args.top (nodes kids)) refl c.in_ok-idle.ensures in
     let known = c.in_ok-quiet.quiet.items in
     let quiet = blank-quiet known known (dir_node c.args.top (nodes kids)) (dir_node c.args.top (nodes kids)) refl c.in_ok-quiet.ensures in
-    let harts = blank-agree known known c.in_ok-idle.idle.items refl c.in_ok-quiet.ensures in
+    let harts = blank-agree known known c.in_ok-idle.idle refl c.in_ok-quiet.ensures in
     let near : AreNear (map vec_items c.in_ok-bus_leaves.bus_leaves.items) bus_paths leaf_paths = rw (c.deref-3.ensures.value, c.deref-4.ensures.value) at c.in_ok-bus_leaves.ensures in
     let room : 0 ≤ c.new.result.spare = omega arith in
     (subst (λ n. IsMachine g.row.WORDS n 0 leaf_paths bus_paths) (sym same) is, ap tree_counts same ∙ c.requires.parts.numbers, c.requires.fits, c.requires.size, room, idle, quiet, harts, near)

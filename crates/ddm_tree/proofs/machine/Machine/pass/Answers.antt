@@ -27,7 +27,7 @@ passed g c =
     let named : names_part c.args.turn.now (before g c).machine ≡ true = subst (λ s. names_part c.args.turn.now s.machine ≡ true) (sym c.self.view_is) c.requires.named in
     let found = part-found g.row.WORDS c.self.inside.turns (map vec_items c.self.inside.leaf_paths.items) (map vec_items c.self.inside.bus_paths.items) c.args.turn.now (before g c).machine inv.0 named in
     let known : known_as c.args.turn.now c.self.inside.quiet.items ≡ Some c.in_ok-busy.busy = ap (known_as c.args.turn.now) (sym c.deref.ensures.value) ∙ sym {a = Some c.in_ok-busy.busy} {b = known_as c.args.turn.now c.deref.result.now} c.in_ok-busy.ensures in
-    let is = known-passed c.self.inside.code c.self.inside.items c.args.turn.now c.in_ok-busy.busy found.path (present_at found.path stamp_zero root) root c.self.inside.quiet.items c.self.inside.idle.items found.leads inv.6 inv.7 inv.5 known in
+    let is = known-passed c.self.inside.code c.self.inside.items c.args.turn.now c.in_ok-busy.busy found.path (present_at found.path stamp_zero root) root c.self.inside.quiet.items c.self.inside.idle found.leads inv.6 inv.7 inv.5 known in
     passed-turn c.args.turn.now c.in_ok-busy.busy (before g c) found.path found.leads is
 
 pub known_as-requires : goal.known_as-requires

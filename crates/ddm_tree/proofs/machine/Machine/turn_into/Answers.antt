@@ -1,5 +1,5 @@
 -- One turn of the machine.
-use Rattle.std.proofs.Common.{◌≡◌, ◌≤◌, ◌+◌, ℕ, List, Some, length, map, take, drop, ◌++◌, true, vec_items, sym, ap, subst, ◌∙◌, arith}
+use Rattle.std.proofs.Common.{◌≡◌, ◌≤◌, ◌+◌, ℕ, List, Some, length, map, take, drop, ◌++◌, true, vec_items, refl, sym, ap, subst, ◌∙◌, arith}
 use Rattle.ddm_types.specs.Keys.{stamp_zero}
 use Rattle.tree_model.specs.State.Shape.{tree_counts}
 use Rattle.tree_model.specs.State.Values.{dir_node, nodes, root_of}
@@ -39,9 +39,9 @@ turn_made-requires g c =
             (
               rw (c.deref_mut.ensures.value, c.deref.ensures.value) (λ k path leads. inv.0.paths (leaf_of_number k) path leads),
               (
-                rw (c.deref_mut.ensures.value, c.deref_mut-2.ensures.value) inv.5,
+                rw (c.deref_mut.ensures.value) inv.5,
                 (
-                  rw (c.deref_mut-2.ensures.value, c.deref_mut-3.ensures.value) inv.7,
+                  rw (c.deref_mut-2.ensures.value) inv.7,
                   (
                     rw (c.deref.ensures.value, c.deref-2.ensures.value) inv.8,
                     (rw (c.deref_mut.ensures.value) (rules-buses m inv.0.rules).tree, rw (c.deref_mut.ensures.value, c.deref.ensures.value, c.deref-2.ensures.value) later),
@@ -79,16 +79,10 @@ children-back g c =
     items-back c.self.inside.children.items c.turn_made.new.children c.self.inside.children.len whole same
 
 -- and so is what is remembered
-idle-back : (g : Given.Over) (c : goal.After-record g) → take c.self.inside.idle.len (c.turn_made.new.idle ++ drop (length c.turn_made.new.idle) c.self.inside.idle.items) ≡ c.turn_made.new.idle
-idle-back g c =
-    let whole : c.self.inside.idle.len ≡ length c.self.inside.idle.items = sym c.deref_mut-2.ensures.len ∙ ap length c.deref_mut-2.ensures.value in
-    let same : length c.turn_made.new.idle ≡ length c.self.inside.idle.items = c.turn_made.auto.idle ∙ ap length c.deref_mut-2.ensures.value in
-    items-back c.self.inside.idle.items c.turn_made.new.idle c.self.inside.idle.len whole same
-
 quiet-back : (g : Given.Over) (c : goal.After-record g) → take c.self.inside.quiet.len (c.turn_made.new.quiet ++ drop (length c.turn_made.new.quiet) c.self.inside.quiet.items) ≡ c.turn_made.new.quiet
 quiet-back g c =
-    let whole : c.self.inside.quiet.len ≡ length c.self.inside.quiet.items = sym c.deref_mut-3.ensures.len ∙ ap length c.deref_mut-3.ensures.value in
-    let same : length c.turn_made.new.quiet ≡ length c.self.inside.quiet.items = c.turn_made.auto.quiet ∙ ap length c.deref_mut-3.ensures.value in
+    let whole : c.self.inside.quiet.len ≡ length c.self.inside.quiet.items = sym c.deref_mut-2.ensures.len ∙ ap length c.deref_mut-2.ensures.value in
+    let same : length c.turn_made.new.quiet ≡ length c.self.inside.quiet.items = c.turn_made.auto.quiet ∙ ap length c.deref_mut-2.ensures.value in
     items-back c.self.inside.quiet.items c.turn_made.new.quiet c.self.inside.quiet.len whole same
 
 -- the machine afterwards
@@ -103,16 +97,16 @@ invariant_of-self g c =
     let bus_paths = map vec_items c.self.inside.bus_paths.items in
     let inv = c.self.invariant in
     let left = dir_node c.turn_made.new.top (nodes (map g.C.Agent.value c.turn_made.new.children)) in
-    let idle = idle-after c.self.inside.code c.self.inside.items c.args.turn.now m c.turn_made.new.idle _ left _ (idle-back g c) (ap root_of after) (ap (λ cs. dir_node c.turn_made.new.top (nodes (map g.C.Agent.value cs))) (children-back g c)) (rw (c.deref_mut.ensures.value) at c.turn_made.ensures.idle) in
+    let idle = idle-after c.self.inside.code c.self.inside.items c.args.turn.now m c.turn_made.new.idle _ left _ refl (ap root_of after) (ap (λ cs. dir_node c.turn_made.new.top (nodes (map g.C.Agent.value cs))) (children-back g c)) (rw (c.deref_mut.ensures.value) at c.turn_made.ensures.idle) in
     let named : names_part c.args.turn.now m ≡ true = subst (λ s. names_part c.args.turn.now s.machine ≡ true) (sym c.self.view_is) c.requires.named in
     let found = part-found g.row.WORDS c.self.inside.turns leaf_paths bus_paths c.args.turn.now m inv.0 named in
     let keeps = turn-keeps g.row.WORDS c.self.inside.turns leaf_paths bus_paths c.args.turn.now m inv.0 in
     let answer = (rw (c.deref_mut.ensures.value, c.deref.ensures.value, c.deref-2.ensures.value) at c.turn_made.ensures.answer) found.path found.listed in
     let turned = (rw (c.deref_mut.ensures.value, c.deref.ensures.value, c.deref-2.ensures.value) at c.turn_made.ensures.after) found.path found.listed in
-    let learned = (rw (c.deref.ensures.value, c.deref-2.ensures.value, c.deref_mut-3.ensures.value) at c.turn_made.ensures.quiet) found.path found.listed in
+    let learned = (rw (c.deref.ensures.value, c.deref-2.ensures.value, c.deref_mut-2.ensures.value) at c.turn_made.ensures.quiet) found.path found.listed in
     let known = learned-turn c.self.inside.code c.self.inside.items c.args.turn.now found.path (present_at found.path stamp_zero (root_of m)) (root_of m) found.leads c.turn_made.new.answer left c.self.inside.quiet.items c.turn_made.new.quiet answer turned (only-after c.args.turn.now m left (ap root_of (told g c).machine_is) keeps.shaped) inv.6 learned in
     let quiet = quiet-after c.args.turn.now m c.turn_made.new.quiet _ left _ (quiet-back g c) (ap root_of after) (ap (λ cs. dir_node c.turn_made.new.top (nodes (map g.C.Agent.value cs))) (children-back g c)) known in
-    let harts = subst (λ k. HartsAgree k (take c.self.inside.idle.len (c.turn_made.new.idle ++ drop (length c.turn_made.new.idle) c.self.inside.idle.items))) (sym (quiet-back g c)) (subst (HartsAgree c.turn_made.new.quiet) (sym (idle-back g c)) c.turn_made.ensures.harts) in
+    let harts = subst (λ k. HartsAgree k c.turn_made.new.idle) (sym (quiet-back g c)) c.turn_made.ensures.harts in
     (subst (λ n. IsMachine g.row.WORDS n (c.self.inside.turns + 1) leaf_paths bus_paths) (sym after) keeps, ap tree_counts after ∙ turn-tree_counts c.args.turn.now m ∙ inv.1, inv.2, inv.3, c.record.ensures.room, idle, quiet, harts, inv.8)
 
 pub returns-clause-answer : goal.returns-clause-answer

@@ -1,4 +1,4 @@
-use Rattle.std.proofs.Common.{◌≡◌, ◌≤◌, ◌∙◌, true, ap, sym, subst, length, map, vec_items, arith}
+use Rattle.std.proofs.Common.{◌≡◌, ◌≤◌, ◌∙◌, true, ap, refl, sym, subst, length, map, vec_items, arith}
 use Rattle.std.specs.List.{list_all}
 use Rattle.tree_model.specs.State.Values.{MachineValue, dir_node, nodes, root_of}
 use Rattle.ddm_tree.specs.Counts.{counts_within}
@@ -15,10 +15,8 @@ invariant_of-result g c =
     let m : MachineValue = machine_of c.self.inside.code c.self.inside.items c.self.inside.top (map g.C.Agent.value c.self.inside.children.items) c.self.inside.ops.items c.self.inside.traffic.items in
     let inv = c.self.invariant in
     let same : m ≡ c.args.self = c.self.view_is in
-    let all : c.self.inside.idle.len ≡ length c.self.inside.idle.items = sym c.deref_mut.ensures.len ∙ ap length c.deref_mut.ensures.value in
-    let back = items-back c.self.inside.idle.items c.forget_all.new.idle c.self.inside.idle.len all (c.forget_all.auto.idle ∙ ap length c.deref_mut.ensures.value) in
-    let whole : c.self.inside.quiet.len ≡ length c.self.inside.quiet.items = sym c.deref_mut-2.ensures.len ∙ ap length c.deref_mut-2.ensures.value in
-    let quiet-back = items-back c.self.inside.quiet.items c.forget_quiet.new.known c.self.inside.quiet.len whole (c.forget_quiet.auto.known ∙ ap length c.deref_mut-2.ensures.value) in
+    let whole : c.self.inside.quiet.len ≡ length c.self.inside.quiet.items = sym c.deref_mut.ensures.len ∙ ap length c.deref_mut.ensures.value in
+    let quiet-back = items-back c.self.inside.quiet.items c.forget_quiet.new.known c.self.inside.quiet.len whole (c.forget_quiet.auto.known ∙ ap length c.deref_mut.ensures.value) in
     let is : IsMachine g.row.WORDS m 1048576 (map vec_items c.self.inside.leaf_paths.items) (map vec_items c.self.inside.bus_paths.items) = record {
       shaped = inv.0.readable.shaped;
       rules = subst KeepsRules (sym same) c.requires.rules;
@@ -29,4 +27,4 @@ invariant_of-result g c =
       paths = inv.0.paths;
     } in
     let room : 0 ≤ c.self.inside.ops.spare = omega arith in
-    (is, inv.1, inv.2, inv.3, room, nothing-idle c.self.inside.code c.self.inside.items c.forget_all.new.idle _ root root back c.forget_all.ensures, blank-quiet c.forget_quiet.new.known _ root root quiet-back c.forget_quiet.ensures, blank-agree c.forget_quiet.new.known _ _ quiet-back c.forget_quiet.ensures, inv.4)
+    (is, inv.1, inv.2, inv.3, room, nothing-idle c.self.inside.code c.self.inside.items c.forget_all.new.idle _ root root refl c.forget_all.ensures, blank-quiet c.forget_quiet.new.known _ root root quiet-back c.forget_quiet.ensures, blank-agree c.forget_quiet.new.known _ _ quiet-back c.forget_quiet.ensures, inv.4)
