@@ -87,7 +87,7 @@ pub fn words<const WORDS: usize>(
     requires { WORDS ≤ 16 }
     ensures { IfOk result (λ words. words.items ≡ map (λ row. item_words WORDS segments.now row.address) items.now.rows) }
 {
-    let mut words = Vec::new(alloc);
+    let mut words = Vec::with_capacity(alloc, items.len() as usize)?;
     for item in 0..items.len() {
         words.push(item_words(segments, items.address(ItemId(item))))?;
     }

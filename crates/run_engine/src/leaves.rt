@@ -1,4 +1,4 @@
-ghost use Rattle.std.specs.Prelude.{◌≡◌, ◌+◌, ◌*◌, ◌<◌, ◌≤◌, ◌^◌, map, length, All, IfOk, if◌then◌else◌};
+ghost use Rattle.std.specs.Prelude.{◌≡◌, ◌+◌, ◌*◌, ◌%◌, ◌<◌, ◌≤◌, ◌^◌, map, length, All, IfOk, if◌then◌else◌};
 ghost use Rattle.std.specs.List.{range_with_len};
 ghost use Rattle.tree_model.specs.Start.Nodes.{has_way, leaf_for, leaf_sizes, new_leaf, placed_at, placed_in, placed_items};
 ghost use Rattle.tree_model.specs.State.Lists.{map_from};
@@ -38,15 +38,30 @@ pub struct Passed {
     leaves: u32,
 }
 
+/// The remainder by this count of a number below twice the count.
+#[inline]
+fn wrapped(number: u32, count: u32) -> u32
+    requires { number < 2 * count }
+    ensures { result ≡ number % count }
+{
+    if number < count {
+        number
+    } else {
+        number - count
+    }
+}
+
 /// Places an item: in the lowest free way of its set at its own leaf, else at the next leaf in cyclic order that has one. The first
 /// leaves in that order may be known to have none; answers how many are known to have none then.
 fn place_item<const WAYS: usize, const WORDS: usize>(
     leaves: &mut [Leaf<WAYS, WORDS>],
     item: ItemId,
     words: Words<WORDS>,
+    own: u32,
     first: u32,
 ) -> u32
     requires few { length leaves.old < 2 ^ 31 }
+    requires own { own ≡ item % length leaves.old }
     requires takes { All (TakesItem item) leaves.old }
     requires inside { first ≤ length leaves.old }
     requires passed { ArePassed item first leaves.old }
@@ -56,7 +71,7 @@ fn place_item<const WAYS: usize, const WORDS: usize>(
 {
     let count = leaves.len() as u32;
     for k in first..count {
-        let leaf = (item.0 % count + k) % count;
+        let leaf = wrapped(own + k, count);
         if place_at(leaves, leaf, item, words) {
             return k;
         }
@@ -83,6 +98,8 @@ fn place_at<const WAYS: usize, const WORDS: usize>(
 const MOST_SETS: usize = 4096;
 
 /// Places the items in order of number. Where an item of a set went, the next one of this set needn't look at the leaves before it.
+/// An item's own leaf and its set are counted along with its number: so nothing is divided.
+#[tactic(auto, using(std::proofs::lemmas::Nat::mod_below))]
 pub fn place_items<const WAYS: usize, const WORDS: usize>(
     leaves: &mut [Leaf<WAYS, WORDS>],
     words: &[Words<WORDS>],
@@ -99,13 +116,14 @@ pub fn place_items<const WAYS: usize, const WORDS: usize>(
     if count == 0 {
         return;
     }
+    let mut own = 0;
+    let mut set = 0;
     for item in 0..words.len() {
-        let number = item as u32;
-        let set = (number % sets) as usize;
-        let own = number % count;
-        let known = passed[set];
+        let known = passed[set as usize];
         let first = if known.own == own { known.leaves } else { 0 };
-        let full = place_item(leaves, ItemId(number), words[item], first);
-        passed[set] = Passed { own, leaves: full };
+        let full = place_item(leaves, ItemId(item as u32), words[item], own, first);
+        passed[set as usize] = Passed { own, leaves: full };
+        own = wrapped(own + 1, count);
+        set = wrapped(set + 1, sets);
     }
 }

@@ -1,30 +1,30 @@
--- The words of the items at the start, one word or item more at a time.
-use Rattle.std.proofs.Common.{◌≡◌, ℕ, ◌+◌, ◌*◌, ◌<◌, ◌≤◌, List, [], ◌∷◌, ◌++◌, map, length, take, slice_index_or, sym, ap, ◌∙◌, arith, add-one, append_assoc}
+-- The words of the items at the start.
+use Rattle.std.proofs.Common.{◌≡◌, ℕ, ◌+◌, ◌-◌, ◌<◌, ◌≤◌, List, [], ◌∷◌, ◌++◌, length, take, drop, get_or, slice_index_or, sym, ap, ◌∙◌, arith, add-one}
 use Rattle.std.specs.Prelude.{flat_map}
-use Rattle.std.specs.List.{range_with_len}
 use Rattle.std.proofs.Math.Seq.{take-suc}
-use Rattle.std.proofs.lemmas.List.{append-nil}
+use Rattle.std.proofs.lemmas.List.{append-nil, get_or-drop, get_or-take}
 use Rattle.std.proofs.lemmas.List.Concat.{flat_map-append}
-use Rattle.std.proofs.lemmas.List.FromFn.{map-range_with_len_more}
+use Rattle.byteorder.specs.Endian.{little_number}
 use Rattle.ddm_types.specs.ItemTable.{ItemRow}
 use Rattle.tree_model.specs.Start.Sources.{SegmentValue}
 use Rattle.tree_model.specs.Start.Memory.{item_words, memory_word}
+use Rattle.elf_load.proofs.SegmentBytes.{own_word}
 
--- the first words of an item
-abbrev pub first_words : List SegmentValue → ℕ → ℕ → List ℕ
-first_words segments address k = map (λ j. memory_word segments (address + 4 * j)) (range_with_len 0 k)
+-- a byte, and a word, of those of a segment that are read together from the file's bytes
+file_byte : (bytes : List ℕ) (from count place i : ℕ) → place + i < count → get_or (drop place (take count (drop from bytes))) i 0 ≡ get_or (drop (from + place) bytes) i 0
+file_byte bytes from count place i inside =
+    let there : from + (place + i) ≡ from + place + i = omega arith in
+    get_or-drop place (take count (drop from bytes)) i 0 ∙ get_or-take count (drop from bytes) (place + i) 0 inside ∙ get_or-drop from bytes (place + i) 0
+    ∙ ap (λ n. get_or bytes n 0) there ∙ sym (get_or-drop (from + place) bytes i 0)
 
-pub one_word_more : (segments : List SegmentValue) (address k w : ℕ) (front old new : List ℕ) → old ≡ front ++ first_words segments address k → new ≡ old ++ w ∷ []
-    → w ≡ memory_word segments (address + 4 * k) → new ≡ front ++ first_words segments address (k + 1)
-one_word_more segments address k w front old new was put is =
-    put ∙ ap (λ (o : List ℕ). o ++ w ∷ []) was ∙ ap (λ (v : ℕ). (front ++ first_words segments address k) ++ v ∷ []) is ∙ append_assoc front (first_words segments address k) (memory_word segments (address + 4 * k) ∷ [])
-    ∙ ap (λ (more : List ℕ). front ++ more) (sym (map-range_with_len_more (λ j. memory_word segments (address + 4 * j)) 0 k k (omega arith)))
-
-pub all_words : (segments : List SegmentValue) (address width k : ℕ) (front words : List ℕ) → k ≤ width → width ≤ k → words ≡ front ++ first_words segments address k
-    → words ≡ front ++ item_words width segments address
-all_words segments address width k front words most least is =
-    let same : k ≡ width = omega (arith, most, least) in
-    is ∙ ap (λ n. front ++ first_words segments address n) same
+pub file_word : (s : SegmentValue) (a from count place : ℕ) → s.vaddr + from ≡ a → a + count ≤ s.vaddr + s.memsz → place + 4 ≤ count
+    → little_number 4 (drop place (take count (drop from s.bytes))) ≡ memory_word (s ∷ []) (a + place)
+file_word s a from count place begins below inside =
+    let byte = λ (i : ℕ) (few : i < 4). file_byte s.bytes from count place i (omega (arith, inside, few)) in
+    let at : from + place ≡ a + place - s.vaddr = omega (arith, begins) in
+    let same : little_number 4 (drop place (take count (drop from s.bytes))) ≡ little_number 4 (drop (from + place) s.bytes) =
+    omega (arith, byte 0 (omega arith), byte 1 (omega arith), byte 2 (omega arith), byte 3 (omega arith)) in
+    same ∙ ap (λ n. little_number 4 (drop n s.bytes)) at ∙ own_word s (a + place) (omega (arith, begins)) (omega (arith, below, inside))
 
 -- the words of rows
 abbrev pub row_words : ℕ → List SegmentValue → List ItemRow → List ℕ

@@ -10,9 +10,9 @@ use Rattle.start_memory.proofs.ByteAt.{has, byte_at-here, rest_has, rest_none, r
 abbrev pub has_word : ℕ → SegmentValue → Bool
 has_word a s = nat_le s.vaddr a && nat_le (a + 4) (s.vaddr + s.memsz)
 
--- it has none of them
-abbrev pub is_apart : ℕ → SegmentValue → Bool
-is_apart a s = nat_le (a + 4) s.vaddr || nat_le (s.vaddr + s.memsz) a
+-- it has none of so many bytes
+abbrev pub is_apart : ℕ → ℕ → SegmentValue → Bool
+is_apart a count s = nat_le (a + count) s.vaddr || nat_le (s.vaddr + s.memsz) a
 
 module _ (segments : List SegmentValue) (k : ℕ) (e : SegmentValue) (a : ℕ) (inside : k < length segments) (is : e ≡ slice_index_or segments k e) where
   byte_here : (b : ℕ) → has b e ≡ true → byte_at (drop k segments) b ≡ byte_at (e ∷ []) b
@@ -29,7 +29,7 @@ module _ (segments : List SegmentValue) (k : ℕ) (e : SegmentValue) (a : ℕ) (
       omega (arith, byte0, byte1, byte2, byte3)
 
   -- the segment at k has no byte of the word
-  pub word_past : is_apart a e ≡ true → memory_word (drop k segments) a ≡ memory_word (drop (k + 1) segments) a
+  pub word_past : is_apart a 4 e ≡ true → memory_word (drop k segments) a ≡ memory_word (drop (k + 1) segments) a
   unfolding memory_word
   word_past apart =
       let byte0 = rest_past segments k e a inside is (grind (arith, nat_tests, apart)) in

@@ -10,4 +10,4 @@ mod words;
 pub use laws::memory_is_the_start;
 pub use overlaps::{Overlap, first_overlap};
 pub use spans::{segment_span, spans_of, stack_span};
-pub use words::{memory_word, words_of_items};
+pub use words::{memory_word, memory_words, words_of_items};

@@ -1,7 +1,8 @@
-ghost use Rattle.std.specs.Prelude.{◌≡◌, ◌≤◌, ◌^◌, ◌&&◌, ◌||◌, ◌+◌, ◌-◌, ◌/◌, ◌++◌, nat_le, nat_lt, slice_index_or, flat_map, IfOk, OnOk};
+ghost use Rattle.std.specs.Prelude.{◌≡◌, ◌≤◌, ◌^◌, ◌&&◌, ◌||◌, ◌+◌, ◌-◌, ◌*◌, ◌/◌, ◌++◌, ◌∷◌, [], length, nat_le, nat_lt, slice_index_or, flat_map, IfOk, OnOk};
 ghost use Rattle.ddm_types.specs.ItemTable.{IsItemSize};
 ghost use Rattle.tree_model.specs.Start.Memory.{byte_at, item_words, memory_word};
 
+use byteorder::{ByteOrder, LittleEndian};
 use ddm_types::{ItemId, Items, NoMemory};
 use elf_load::{Segment, segment_word};
 use std::alloc::Global;
@@ -52,13 +53,13 @@ fn word_by_bytes(segments: &[Segment], a: u64) -> u32
     ])
 }
 
-/// The segment has no byte of the word. Of one without memory that lies inside the word it isn't said.
-fn is_apart(segment: &Segment, a: u64) -> bool
-    requires { a ≤ 2 ^ 33 }
-    ensures { result ≡ (nat_le (a + 4) segment.now.vaddr || nat_le (segment.now.vaddr + segment.now.memsz) a) }
+/// The segment has none of so many bytes from this address on. Of one without memory that lies among them it isn't said.
+fn is_apart(segment: &Segment, a: u64, count: u64) -> bool
+    requires { a + count ≤ 2 ^ 34 }
+    ensures { result ≡ (nat_le (a + count) segment.now.vaddr || nat_le (segment.now.vaddr + segment.now.memsz) a) }
 {
     let first = u64::from(segment.vaddr);
-    a + 4 <= first || first + u64::from(segment.memsz) <= a
+    a + count <= first || first + u64::from(segment.memsz) <= a
 }
 
 /// The segment has all four bytes of the word.
@@ -80,11 +81,65 @@ pub fn memory_word(segments: &[Segment], a: u64) -> u32
         if has_word(segment, a) {
             return segment_word(segment, a);
         }
-        if !is_apart(segment, a) {
+        if !is_apart(segment, a, 4) {
             return word_by_bytes(segments, a);
         }
     }
     0
+}
+
+/// The words of memory from this address on, each looked up alone: they may lie in several segments. Apart, so that the way of most
+/// items stays short.
+#[inline(never)]
+fn each_word(segments: &[Segment], a: u64, words: &mut [u32])
+    requires { a + 4 * length words.old ≤ 2 ^ 33 }
+    ensures { words.new ≡ item_words (length words.old) segments.now a }
+{
+    for number in 0..words.len() {
+        words[number] = memory_word(segments, a + 4 * number as u64);
+    }
+}
+
+/// The segment has all of so many bytes from this address on, and the file has them.
+fn has_in_file(segment: &Segment, a: u64, count: u64) -> bool
+    requires { a + count ≤ 2 ^ 34 }
+    ensures { result ≡ (nat_le segment.now.vaddr a && nat_le (a + count) (segment.now.vaddr + segment.now.memsz)
+        && nat_le (a + count) (segment.now.vaddr + length segment.now.bytes)) }
+{
+    let first = u64::from(segment.vaddr);
+    let past = first + u64::from(segment.memsz);
+    let past_file = first + segment.bytes.len() as u64;
+    first <= a && a + count <= past && a + count <= past_file
+}
+
+/// The words that the file has of the segment from this address on.
+fn file_words(segment: &Segment, a: u64, words: &mut [u32])
+    requires above { segment.now.vaddr ≤ a }
+    requires below { a + 4 * length words.old ≤ segment.now.vaddr + segment.now.memsz }
+    requires file { a + 4 * length words.old ≤ segment.now.vaddr + length segment.now.bytes }
+    ensures { words.new ≡ item_words (length words.old) (segment.now ∷ []) a }
+{
+    let offset = (a - u64::from(segment.vaddr)) as usize;
+    LittleEndian::read_u32_into(&segment.bytes[offset..offset + 4 * words.len()], words);
+}
+
+/// The words of memory at the start from this address on. Mostly the file has all of them, in one segment, and they are read
+/// together.
+#[inline]
+pub fn memory_words(segments: &[Segment], a: u64, words: &mut [u32])
+    requires { a + 4 * length words.old ≤ 2 ^ 33 }
+    ensures { words.new ≡ item_words (length words.old) segments.now a }
+{
+    let count = 4 * words.len() as u64;
+    for segment in segments {
+        if has_in_file(segment, a, count) {
+            return file_words(segment, a, words);
+        }
+        if !is_apart(segment, a, count) {
+            return each_word(segments, a, words);
+        }
+    }
+    words.fill(0);
 }
 
 // Puts the words of the item at this address at the end.
@@ -97,9 +152,10 @@ fn push_item(
     requires { width ≤ 16 }
     ensures { OnOk result (words.new.items ≡ words.old.items ++ item_words width segments.now address) }
 {
-    for number in 0..width {
-        words.push(memory_word(segments, u64::from(address) + u64::from(4 * number)))?;
-    }
+    let mut item = [0; 16];
+    let item = &mut item[..width as usize];
+    memory_words(segments, u64::from(address), item);
+    words.extend_from_slice(item)?;
     Ok(())
 }
 
