@@ -244,17 +244,33 @@ fn look_at_all<const WORDS: usize, C: Subtree<WORDS>>(
     children: &[C],
     leaf_paths: &[Vec<ChildNo>],
     leaves: &[usize],
+    answered: &Option<ItemId>,
+)
+    ensures seen { (d : DirValue) → AreSeen answered.now (length leaves.now) leaves.now (map vec_items leaf_paths.now) (dir_node d (nodes (map C.value children.now))) idle.old idle.new }
+    ensures harts { HartsAgree quiet.old idle.old → HartsAgree quiet.new idle.new }
+    ensures buses { KeepsBuses quiet.old quiet.new }
+{
+    for leaf in leaves {
+        look_after(idle, quiet, children, leaf_paths, *leaf, *answered);
+    }
+}
+
+/// The same, if one may be otherwise: mostly no leaf is to be looked at, and nothing is called.
+#[inline(always)]
+fn look_near<const WORDS: usize, C: Subtree<WORDS>>(
+    idle: &mut IdleHarts,
+    quiet: &mut [Quiet],
+    children: &[C],
+    leaf_paths: &[Vec<ChildNo>],
+    leaves: &[usize],
     answered: Option<ItemId>,
 )
     ensures seen { (d : DirValue) → AreSeen answered (length leaves.now) leaves.now (map vec_items leaf_paths.now) (dir_node d (nodes (map C.value children.now))) idle.old idle.new }
     ensures harts { HartsAgree quiet.old idle.old → HartsAgree quiet.new idle.new }
     ensures buses { KeepsBuses quiet.old quiet.new }
 {
-    if answered.is_none() && !may_any_change(idle, leaves) {
-        return;
-    }
-    for leaf in leaves {
-        look_after(idle, quiet, children, leaf_paths, *leaf, answered);
+    if answered.is_some() || may_any_change(idle, leaves) {
+        look_at_all(idle, quiet, children, leaf_paths, leaves, &answered);
     }
 }
 
@@ -278,7 +294,7 @@ pub(crate) fn note<const WORDS: usize, C: Subtree<WORDS>>(
         TurnAnswer::Granted(entry) => {
             if let Named::Bus(bus) = named(turn) {
                 if let Some(listed) = bus_leaves.get(bus.0 as usize) {
-                    look_at_all(
+                    look_near(
                         idle,
                         quiet,
                         children,

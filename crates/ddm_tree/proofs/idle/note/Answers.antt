@@ -13,7 +13,7 @@ returns-in-Some-clause-noted g c = λ d.
     let here = c.in-Some.ensures.lookup in
     let listed : slice_get (map vec_items c.args.bus_leaves.now) c.bus.inside.0 ≡ Some c.deref.result.now = listed-there vec_items c.args.bus_leaves.now c.bus.inside.0 c.in-Some.listed.now (ltb-true _ _ (sym here.0)) here.1 ∙ ap Some (sym c.deref.ensures.value) in
     let named : named_by c.args.turn.now ≡ bus_of_number c.bus.inside.0 = sym c.named.ensures ∙ ap name_of c.in-Bus.is ∙ ap bus_of_number (sym c.bus.view_is) in
-    noted-seen c.args.answer.now _ _ _ c.args.idle.now c.args.turn.now c.bus.inside.0 named c.in-Granted.entry c.deref.result.now c.look_at_all.new.idle c.in-Granted.is listed (rw c.answered_by.ensures at c.look_at_all.ensures.seen d)
+    noted-seen c.args.answer.now _ _ _ c.args.idle.now c.args.turn.now c.bus.inside.0 named c.in-Granted.entry c.deref.result.now c.look_near.new.idle c.in-Granted.is listed (rw c.answered_by.ensures at c.look_near.ensures.seen d)
 
 pub returns-in_default-get-clause-noted : goal.returns-in_default-get-clause-noted
 returns-in_default-get-clause-noted g c = λ d.
