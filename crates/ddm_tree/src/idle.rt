@@ -29,7 +29,7 @@ pub enum Idle {
 #[derive(Drop)]
 pub(crate) struct IdleHarts {
     known: Vec<Option<Idle>>,
-    /// Whether one may be known whose leaf's buffer has no place: of a grant that answers nobody no other one is to be looked at.
+    /// Whether one may be known whose leaf's buffer has no place: after a grant that answers nobody, only such a one is to be looked at.
     any_full: bool,
 }
 

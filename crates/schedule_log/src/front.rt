@@ -27,7 +27,7 @@ pub(crate) struct Front {
 
 // The four bytes before a place.
 #[inline(always)]
-fn last_before(text: &[u8], place: usize) -> u32
+fn four_before(text: &[u8], place: usize) -> u32
     requires some { 4 ≤ place }
     requires inside { place ≤ length text.now }
     ensures { to_le_bytes w32 result ≡ take 4 (drop (place - 4) text.now) }
@@ -78,13 +78,13 @@ impl Front {
         requires { SPELLED_BYTES ≤ length text.now }
         ensures { IfSome result (IsFrontOf text.now) }
     {
-        let first = last_before(text, 4);
-        let second = last_before(text, 8);
-        let used = up_to_feed(second, last_before(text, 12));
+        let first = four_before(text, 4);
+        let second = four_before(text, 8);
+        let used = up_to_feed(second, four_before(text, 12));
         if used > MOST_TOLD {
             return None;
         }
-        let last = last_before(text, used as usize);
+        let last = four_before(text, used as usize);
         Some(Front {
             first,
             second,
