@@ -44,20 +44,21 @@ pub fn moment_of(op: &Op) -> Moment
 }
 
 impl Moment {
-    /// Whether it is the moment of an operation. Its numbers lie as those of a key do, so they can be compared at once.
+    /// Whether it is the moment of an operation. All its numbers are compared, whichever differs: so the compiler takes several at once, and
+    /// the processor has one branch to guess.
     #[inline(always)]
     pub fn is_of(&self, op: &Op) -> bool
         ensures { IsTrue result ↔ (self.now ≡ moment_of op.now) }
     {
-        self.s0 == op.key.s0
-            && self.c0 == op.key.c0
-            && self.s1 == op.key.s1
-            && self.c1 == op.key.c1
-            && self.s2 == op.key.s2
-            && self.c2 == op.key.c2
-            && self.s3 == op.key.s3
-            && self.c3 == op.key.c3
-            && self.hart.0 == op.hart.0
+        (self.s0 == op.key.s0)
+            & (self.c0 == op.key.c0)
+            & (self.s1 == op.key.s1)
+            & (self.c1 == op.key.c1)
+            & (self.s2 == op.key.s2)
+            & (self.c2 == op.key.c2)
+            & (self.s3 == op.key.s3)
+            & (self.c3 == op.key.c3)
+            & (self.hart.0 == op.hart.0)
     }
 
     /// The key of its operation with this last number.
