@@ -1,8 +1,9 @@
 ghost use Rattle.std.specs.Prelude.{◌≡◌, ◌+◌, ◌<◌, ◌≤◌, ◌++◌, ◌∷◌, [], Some, true, false, IfNone, IfOk, IfSome, OnErr, OnOk, OnSome, length, vec_capacity, vec_len, if◌then◌else◌};
+ghost use Rattle.ddm_types.specs.declared.answers.TurnAnswer.TheVariants.{Empty};
 ghost use Rattle.tree_model.specs.Turns.Machine.{names_part, turn_of};
 ghost use Rattle.text_model.specs.Run.{counted_answer};
 ghost use Rattle.ddm_tree.specs.Machine.{state_after};
-ghost use Rattle.ddm_tree.specs.Quiet.{passed_as};
+ghost use Rattle.ddm_tree.specs.Quiet.{is_hart_turn};
 ghost use Rattle.ddm_tree.specs.Rules.{StaysInOrder};
 ghost use Rattle.any_machine.specs.Any.{depths_state, machine_state, state_in};
 ghost use Rattle.any_runs.specs.Run.{AreBelow, CanRun, NameParts, answers_in, counts_in, ran, with_room};
@@ -13,21 +14,76 @@ use ddm_tree::{Dir, Machine, Subtree};
 use ddm_types::{NoMemory, Turn, TurnAnswer};
 use text_model::RunCounts;
 
-/// Passes a turn whose answer isn't kept, if it is known to change nothing, and says whether it is a busy one.
-#[inline(always)]
-fn passed<const WORDS: usize, C: Subtree<WORDS>>(
+/// Whether a turn is a hart's.
+fn is_hart_turn(turn: &Turn) -> bool
+    ensures { result ≡ is_hart_turn turn.now }
+{
+    matches!(turn, Turn::Hart { .. })
+}
+
+/// Passes a turn of a bus, if it is known to find nothing, and says whether it did. What an idle hart answers has to be made.
+fn passes_empty<const WORDS: usize, C: Subtree<WORDS>>(
     machine: &mut Machine<WORDS, C>,
     turn: &Turn,
-    keep: bool,
-) -> Option<bool>
+) -> bool
     requires named { names_part turn.now machine.old.machine ≡ true }
     requires turns { machine.old.turns < 4294967295 }
-    ensures unkept { OnSome result (keep ≡ false) }
-    ensures after { OnSome result (machine.new ≡ state_after turn.now machine.old) }
-    ensures counted { IfSome result (λ busy. passed_as (turn_of turn.now machine.old.machine).answer ≡ Some busy) }
-    ensures same { IfNone result (machine.new ≡ machine.old) }
+    ensures after { result ≡ true → machine.new ≡ state_after turn.now machine.old }
+    ensures answer { result ≡ true → (turn_of turn.now machine.old.machine).answer ≡ Empty }
+    ensures same { result ≡ false → machine.new ≡ machine.old }
 {
-    if keep { None } else { machine.pass(turn) }
+    !is_hart_turn(turn) && machine.pass(turn).is_some()
+}
+
+/// One turn whose answer is kept, counted. Its answer is put where the caller wants it.
+#[inline(never)]
+fn kept_turn<const WORDS: usize, C: Subtree<WORDS>>(
+    machine: &mut Machine<WORDS, C>,
+    turn: &Turn,
+    counts: &mut RunCounts,
+    answer: &mut TurnAnswer,
+)
+    requires named { names_part turn.now machine.old.machine ≡ true }
+    requires spare { 0 < machine.old.spare }
+    requires turns { machine.old.turns < 4294967295 }
+    requires counts { AreBelow 4294967295 counts.old }
+    ensures answer { answer.new ≡ (turn_of turn.now machine.old.machine).answer }
+    ensures after { machine.new ≡ state_after turn.now machine.old }
+    ensures counts { counts.new ≡ counted_answer (turn_of turn.now machine.old.machine).answer counts.old }
+{
+    if passes_empty(machine, turn) {
+        *answer = TurnAnswer::Empty;
+    } else {
+        machine.turn_into(turn, answer);
+    }
+    count(counts, answer);
+}
+
+/// One turn whose answer isn't kept, counted: passed if it is known to change nothing, or else made.
+#[inline(always)]
+fn unkept_turn<const WORDS: usize, C: Subtree<WORDS>>(
+    machine: &mut Machine<WORDS, C>,
+    turn: &Turn,
+    counts: &mut RunCounts,
+    answer: &mut TurnAnswer,
+)
+    requires named { names_part turn.now machine.old.machine ≡ true }
+    requires spare { 0 < machine.old.spare }
+    requires turns { machine.old.turns < 4294967295 }
+    requires counts { AreBelow 4294967295 counts.old }
+    ensures after { machine.new ≡ state_after turn.now machine.old }
+    ensures counts { counts.new ≡ counted_answer (turn_of turn.now machine.old.machine).answer counts.old }
+{
+    match machine.pass(turn) {
+        Some(busy) => {
+            counts.turns += 1;
+            counts.busy += u32::from(busy);
+        }
+        None => {
+            machine.turn_into(turn, answer);
+            count(counts, answer);
+        }
+    }
 }
 
 /// One turn, counted. Its answer is put where the caller wants it, if it is kept.
@@ -47,15 +103,10 @@ fn counted_turn<const WORDS: usize, C: Subtree<WORDS>>(
     ensures after { machine.new ≡ state_after turn.now machine.old }
     ensures counts { counts.new ≡ counted_answer (turn_of turn.now machine.old.machine).answer counts.old }
 {
-    match passed(machine, turn, keep) {
-        Some(busy) => {
-            counts.turns += 1;
-            counts.busy += u32::from(busy);
-        }
-        None => {
-            machine.turn_into(turn, answer);
-            count(counts, answer);
-        }
+    if keep {
+        kept_turn(machine, turn, counts, answer);
+    } else {
+        unkept_turn(machine, turn, counts, answer);
     }
 }
 

@@ -1,7 +1,7 @@
 -- A turn that changes nothing leaves the machine as it is, but for the number of turns.
 -- Letters: t is a turn, s a machine with its room for operations, m a machine, path the path to the node that t names, a an answer, busy
 -- whether it is counted as a busy one.
-use Rattle.std.proofs.Common.{◌≡◌, ℕ, ◌+◌, Bool, List, Some, refl, ap, ◌∙◌}
+use Rattle.std.proofs.Common.{◌≡◌, ℕ, ◌+◌, Bool, false, List, Some, refl, ap, ◌∙◌}
 use Rattle.ddm_types.specs.declared.answers.TurnAnswer.{TurnAnswer}
 use Rattle.ddm_types.specs.declared.turns.Turn.{Turn}
 use Rattle.ddm_types.specs.Keys.{stamp_zero}
@@ -11,7 +11,7 @@ use Rattle.ddm_tree.specs.Machine.{MachineState, spare_after, state_after}
 use Rattle.ddm_tree.specs.Path.{present_at}
 use Rattle.ddm_tree.specs.Ready.{Leads}
 use Rattle.ddm_tree.proofs.Along.{root_answer, root_turned, turn-along}
-use Rattle.ddm_tree.specs.Quiet.{passed_as}
+use Rattle.ddm_tree.specs.Quiet.{is_hart_turn, passed_as}
 use Rattle.ddm_tree.proofs.QuietTurns.{IsPassed}
 
 -- ---- the answer of a turn that may be passed
@@ -48,11 +48,11 @@ turned-passed t busy m path leads passed =
 pub passed-turn : (t : Turn) (busy : Bool) (s : MachineState) (path : List ℕ)
     → Leads (named_by t) path (root_of s.machine)
     → IsPassed s.machine.code s.machine.items t busy path (present_at path stamp_zero (root_of s.machine)) (root_of s.machine)
-    → (state_after t s ≡ record { machine = s.machine; spare = s.spare; turns = s.turns + 1 }) × (passed_as (turn_of t s.machine).answer ≡ Some busy)
+    → (state_after t s ≡ record { machine = s.machine; spare = s.spare; turns = s.turns + 1 }) × (passed_as (turn_of t s.machine).answer ≡ Some busy) × (is_hart_turn t ≡ false → (turn_of t s.machine).answer ≡ TurnAnswer.Empty)
 passed-turn t busy s path leads passed =
     let turned = turned-passed t busy s.machine path leads passed in
     let answers : (turn_of t s.machine).answer ≡ root_answer t path s.machine = ap (λ o. o.answer) turned in
     let counts : passed_as (turn_of t s.machine).answer ≡ Some busy = ap passed_as answers ∙ passed.counts in
     let machine : (turn_of t s.machine).machine ≡ s.machine = ap (λ o. o.machine) turned in
     let spare : spare_after (turn_of t s.machine).answer s.spare ≡ s.spare = nothing-spent (turn_of t s.machine).answer busy s.spare counts in
-    (rw (machine, spare) refl, counts)
+    (rw (machine, spare) refl, counts, λ bus. answers ∙ passed.empty bus)

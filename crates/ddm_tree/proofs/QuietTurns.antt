@@ -30,7 +30,7 @@ use Rattle.ddm_tree.specs.Idle.{AreIdle, idle_answer, idle_there}
 use Rattle.ddm_tree.specs.Path.{node_at, path_to, put_at, node_answer, node_turned}
 use Rattle.ddm_tree.specs.Ready.{Leads}
 use Rattle.ddm_tree.proofs.IdleHarts.{Dir, IsSpared, Leaf, SameFrom, bus-same_from, further, kept-at, leads-dir, leads-leaf, leaf-same_from, put-same, spared, step-ungranted}
-use Rattle.ddm_tree.specs.Quiet.{AreLearnedBelow, AreQuiet, Entry, HartsAgree, IsAsBefore, IsBlank, IsQuietOf, IsRight, IsRightThere, IsTouchedBy, KeepsQuiet, OfChild, bus_in, column_of, entry_at, finds_nothing, idle_as_there, known_as, passed_as, row_of, touches}
+use Rattle.ddm_tree.specs.Quiet.{AreLearnedBelow, AreQuiet, Entry, HartsAgree, IsAsBefore, IsBlank, IsQuietOf, IsRight, IsRightThere, IsTouchedBy, KeepsQuiet, OfChild, bus_in, column_of, entry_at, finds_nothing, idle_as_there, is_hart_turn, known_as, passed_as, row_of, touches}
 use Rattle.ddm_tree.proofs.NamedOnce.{bus-once}
 use Rattle.ddm_tree.proofs.OneBus.{leads-number, one-path}
 use Rattle.ddm_tree.proofs.QuietFrame.{Finds, finds-frame, finds-kept, finds-unchanged}
@@ -194,10 +194,11 @@ idle-untouched (Idle.Halted cause) = refl
 
 -- ---- a turn that is known to change nothing
 
--- the turn is counted so, and leaves the tree as it is
+-- the turn is counted so, and leaves the tree as it is; a bus finds nothing
 pub record IsPassed (code : List CodeWord) (items : ItemTable) (t : Turn) (busy : Bool) (p : List ℕ) (present : Stamp) (n : Node) : Type 0 where
   pub counts : passed_as (node_answer code items t p present (node_at p n)) ≡ Some busy
   pub leaves : put_at p (node_turned code items t p present (node_at p n)) n ≡ n
+  pub empty : is_hart_turn t ≡ false → node_answer code items t p present (node_at p n) ≡ TurnAnswer.Empty
 
 -- why a hart is idle
 idle-for : (o : Option (Option Idle)) (busy : Bool) → idle_as_there o ≡ Some busy → (i : Idle) × (idle_there o ≡ Some i) × (passed_as (idle_answer i) ≡ Some busy)
@@ -212,12 +213,12 @@ module _ (code : List CodeWord) (items : ItemTable) (p : List ℕ) (present : St
   hart-passed hart victim idle leads idles e =
       let there = idle-for (slice_get idle hart) busy e in
       let spare : IsSpared code items n idle idles present p there.0 (Turn.Hart hart victim) = spared code items n idle idles present p there.0 (Turn.Hart hart victim) leads there.1 in
-      record { counts = ap passed_as spare.answers ∙ there.2; leaves = spare.leaves }
+      record { counts = ap passed_as spare.answers ∙ there.2; leaves = spare.leaves; empty = λ bus. absurd (true≢false bus) }
 
   bus-passed : (t : Turn) → (busy ≡ false) × (finds_nothing (bus_turn_of t) (node_at p n) ≡ true) → IsPassed code items t busy p present n
   bus-passed t nothing =
       let turned = nothing-turned code items t p present (node_at p n) nothing.1 in
-      record { counts = ap passed_as turned.0 ∙ ap Some (sym nothing.0); leaves = ap (λ m. put_at p m n) turned.1 ∙ put-same p n }
+      record { counts = ap passed_as turned.0 ∙ ap Some (sym nothing.0); leaves = ap (λ m. put_at p m n) turned.1 ∙ put-same p n; empty = λ bus. turned.0 }
 
 pub known-passed : (code : List CodeWord) (items : ItemTable) (t : Turn) (busy : Bool) (p : List ℕ) (present : Stamp) (n : Node) (known : List Entry) (idle : List (Option Idle))
     → Leads (named_by t) p n → AreQuiet known n n → HartsAgree known idle → AreIdle code items idle n n → known_as t known ≡ Some busy

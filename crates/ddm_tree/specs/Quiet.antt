@@ -251,3 +251,11 @@ passed_as (TurnAnswer.Halted cause) = Some false
 passed_as (TurnAnswer.Granted entry) = None
 passed_as TurnAnswer.Empty = Some false
 passed_as (TurnAnswer.Busy cause) = Some true
+
+-- the turn of a hart, and not of a bus
+abbrev pub is_hart_turn : Turn → Bool
+is_hart_turn (Turn.Hart hart victim) = true
+is_hart_turn (Turn.Down bus) = false
+is_hart_turn (Turn.Request bus child) = false
+is_hart_turn (Turn.Reply bus child) = false
+is_hart_turn (Turn.Leave bus child choice) = false

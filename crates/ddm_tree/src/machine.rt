@@ -1,4 +1,5 @@
 ghost use Rattle.std.specs.Prelude.{◌≡◌, ℕ, List, ◌+◌, ◌*◌, ◌<◌, ◌≤◌, ◌^◌, [], Some, true, false, is_ok, length, map, max, slice_get, vec_items, IfNone, IfOk, IfSome, OnSome, if◌then◌else◌};
+ghost use Rattle.ddm_types.specs.declared.answers.TurnAnswer.TheVariants.{Empty};
 ghost use Rattle.tree_model.specs.Turns.Machine.{named_by, names_part, no_traffic, turn_of};
 ghost use Rattle.ddm_types.specs.Keys.{stamp_zero};
 ghost use Rattle.ddm_types.specs.ItemTable.{item_count};
@@ -10,7 +11,7 @@ ghost use Rattle.tree_model.specs.Turns.Tree.{leaf_of_number};
 ghost use Rattle.tree_rules.specs.Bus.Rules.{IsTreeOk};
 ghost use Rattle.ddm_tree.specs.Rules.{StaysInOrder};
 ghost use Rattle.ddm_tree.specs.Idle.{AreIdle};
-ghost use Rattle.ddm_tree.specs.Quiet.{AreLearnedBelow, AreNear, HartsAgree, IsTouchedBy, passed_as};
+ghost use Rattle.ddm_tree.specs.Quiet.{AreLearnedBelow, AreNear, HartsAgree, IsTouchedBy, is_hart_turn, passed_as};
 ghost use Rattle.ddm_tree.specs.Machine.{IsFound, IsNew, has_path, listed_path, new_machine, state_after, without_ops};
 
 use crate::below::turn_under;
@@ -143,6 +144,7 @@ impl<const WORDS: usize, C: Subtree<WORDS>> Machine<WORDS, C> {
         requires turns { self.old.turns < 4294967295 }
         ensures passed { OnSome result (self.new ≡ state_after turn.now self.old) }
         ensures counted { IfSome result (λ busy. passed_as (turn_of turn.now self.old.machine).answer ≡ Some busy) }
+        ensures empty { IfSome result (λ _. is_hart_turn turn.now ≡ false → (turn_of turn.now self.old.machine).answer ≡ Empty) }
         ensures same { IfNone result (self.new ≡ self.old) }
     {
         let busy = known_as(&self.quiet, turn)?;

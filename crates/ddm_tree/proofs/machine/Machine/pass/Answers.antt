@@ -1,12 +1,13 @@
 -- A turn that is known to change nothing.
-use Rattle.std.proofs.Common.{◌≡◌, ◌+◌, map, true, Some, vec_items, sym, ap, subst, ◌∙◌}
+use Rattle.std.proofs.Common.{◌≡◌, ◌+◌, map, true, false, Some, vec_items, sym, ap, subst, ◌∙◌}
+use Rattle.ddm_types.specs.declared.answers.TurnAnswer.{TurnAnswer}
 use Rattle.ddm_types.specs.Keys.{stamp_zero}
 use Rattle.tree_model.specs.State.Values.{dir_node, nodes, root_of}
 use Rattle.tree_model.specs.State.Shape.{widths_bounded}
 use Rattle.tree_model.specs.Turns.Machine.{names_part, turn_of}
 use Rattle.ddm_tree.specs.Machine.{IsMachine, MachineState, machine_of, state_after}
 use Rattle.ddm_tree.specs.Path.{present_at}
-use Rattle.ddm_tree.specs.Quiet.{known_as, passed_as}
+use Rattle.ddm_tree.specs.Quiet.{is_hart_turn, known_as, passed_as}
 use Rattle.ddm_tree.proofs.MachineKept.{turn-keeps}
 use Rattle.ddm_tree.proofs.QuietColumns.{column-few}
 use Rattle.ddm_tree.proofs.QuietPass.{passed-turn}
@@ -20,7 +21,7 @@ abbrev before : (g : Given.Over) → goal.After-self-1 g → MachineState
 before g c = record { machine = machine_of c.self.inside.code c.self.inside.items c.self.inside.top (map g.C.Agent.value c.self.inside.children.items) c.self.inside.ops.items c.self.inside.traffic.items; spare = c.self.inside.spare; turns = c.self.inside.turns }
 
 -- the turn changes nothing but the number of turns
-passed : (g : Given.Over) (c : goal.After-self-1 g) → (state_after c.args.turn.now (before g c) ≡ record (before g c) { turns = c.self.inside.turns + 1 }) × (passed_as (turn_of c.args.turn.now (before g c).machine).answer ≡ Some c.in_ok-busy.busy)
+passed : (g : Given.Over) (c : goal.After-self-1 g) → (state_after c.args.turn.now (before g c) ≡ record (before g c) { turns = c.self.inside.turns + 1 }) × (passed_as (turn_of c.args.turn.now (before g c).machine).answer ≡ Some c.in_ok-busy.busy) × (is_hart_turn c.args.turn.now ≡ false → (turn_of c.args.turn.now (before g c).machine).answer ≡ TurnAnswer.Empty)
 passed g c =
     let root = dir_node c.self.inside.top (nodes (map g.C.Agent.value c.self.inside.children.items)) in
     let inv = c.self.invariant in
@@ -51,3 +52,6 @@ returns-clause-passed g c = sym (passed g c).0 ∙ ap (state_after c.args.turn.n
 
 pub returns-clause-counted : goal.returns-clause-counted
 returns-clause-counted g c = subst (λ s. passed_as (turn_of c.args.turn.now s.machine).answer ≡ Some c.in_ok-busy.busy) c.self.view_is (passed g c).1
+
+pub returns-clause-empty : goal.returns-clause-empty
+returns-clause-empty g c = λ bus. subst (λ s. (turn_of c.args.turn.now s.machine).answer ≡ TurnAnswer.Empty) c.self.view_is ((passed g c).2 bus)
