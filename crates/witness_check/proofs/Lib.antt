@@ -1,10 +1,13 @@
 pub mod Steps
 pub mod Pieces
 pub mod Cuts
+pub mod FirstPlaces
 pub mod Numbers
+pub mod ShortNumbers
 pub mod FlatWords
 pub mod ReaderSteps
 pub mod HexTexts
+pub mod HexCounts
 pub mod KeyTexts
 pub mod EffectTexts
 pub mod LineTexts

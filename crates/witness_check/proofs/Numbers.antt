@@ -1,55 +1,48 @@
--- How many numbers a word has, one more at a time.
-use Rattle.std.proofs.Common.{◌≡◌, ℕ, ◌+◌, Bool, false, ◌||◌, nat_eq, ◌≤◌, List, [], ◌∷◌, length, take, drop, Option, Some, None, refl, sym, ap, ◌∙◌, arith}
+-- The numbers that a word has: where the first ends, and how many make a key.
+use Rattle.std.proofs.Common.{◌≡◌, ℕ, suc, ◌+◌, Bool, false, cond, ◌||◌, nat_eq, ◌≤◌, ◌<◌, List, [], ◌∷◌, ◌++◌, length, take, drop, get_or, Option, Some, None, refl, sym, ap, subst, ◌∙◌, arith}
 use Rattle.std.specs.Prelude.{option_map, option_and_then, is_some, position}
 use Rattle.std.proofs.lemmas.Bool.Decides.{nat_tests}
-use Rattle.std.proofs.lemmas.List.{drop-drop}
-use Rattle.text_model.specs.Schedule.{pieces_at, place_in}
-use Rattle.witness_check.proofs.Cuts.{first_word, last_word}
-use Rattle.witness_check.specs.Lines.{with_number, numbers_in, key_of_numbers}
+use Rattle.std.proofs.lemmas.Bool.{eq-eqb, ne_eqb}
+use Rattle.std.proofs.lemmas.List.{take_all}
+use Rattle.text_model.specs.Lines.{Lacks}
+use Rattle.text_model.proofs.Pieces.{pieces_at-append, pieces_at-whole}
+use Rattle.text_model.specs.Schedule.{pieces_at}
+use Rattle.witness_check.proofs.Cuts.{first_word, inside, no_separator, split_at}
+use Rattle.witness_check.specs.Lines.{key_of_numbers}
 
--- with so many before them
-abbrev pub counted : ℕ → Option (List ℕ) → Option ℕ
-counted count numbers = option_map (λ ns. count + length ns) numbers
+-- ---- the first number's end
 
-pub one_more : (count : ℕ) (word : List ℕ) (words : List (List ℕ)) (n : ℕ) → place_in word ≡ Some n → counted count (numbers_in (word ∷ words)) ≡ counted (count + 1) (numbers_in words)
-one_more count word words n read = ap (λ o. counted count (with_number o (numbers_in words))) read ∙ by (numbers_in words) where
-  by : (o : Option (List ℕ)) → counted count (with_number (Some n) o) ≡ counted (count + 1) o
-  by None = refl
-  by (Some ns) = let same : count + length (n ∷ ns) ≡ count + 1 + length ns = omega arith in ap (λ (k : ℕ). Some k) same
+-- what is behind a first piece
+abbrev pub rest_of : ℕ → List ℕ → List (List ℕ)
+rest_of end text = cond (nat_eq end (length text)) [] (pieces_at 46 (drop (end + 1) text))
 
-pub not_one : (count : ℕ) (word : List ℕ) (words : List (List ℕ)) → place_in word ≡ None → counted count (numbers_in (word ∷ words)) ≡ None
-not_one count word words none = ap (λ o. counted count (with_number o (numbers_in words))) none
+pub at_end : (end : ℕ) (text : List ℕ) → Lacks 46 (take end text) → end ≡ length text → pieces_at 46 text ≡ take end text ∷ rest_of end text
+at_end end text lacks is =
+    let whole : take end text ≡ text = take_all end text (omega arith) in
+    let P : List ℕ → Type 0 = λ t. Lacks 46 t in
+    pieces_at-whole 46 text (subst P whole lacks)
+    ∙ ap (λ (t : List ℕ). t ∷ []) (sym whole)
+    ∙ ap (λ d. take end text ∷ cond d [] (pieces_at 46 (drop (end + 1) text))) (sym (eq-eqb end (length text) is))
 
-pub last_one : (count : ℕ) (word : List ℕ) (n : ℕ) → place_in word ≡ Some n → counted count (numbers_in (word ∷ [])) ≡ Some (count + 1)
-last_one count word n read = one_more count word [] n read ∙ (let same : count + 1 + 0 ≡ count + 1 = omega arith in ap (λ (k : ℕ). Some k) same)
+before_end : (end : ℕ) (text : List ℕ) → end < length text → nat_eq end (length text) ≡ false
+before_end end text inside = ne_eqb end (length text) (λ e. omega arith)
 
--- ---- while a word is read from a place on
+pub at_stop : (end : ℕ) (text : List ℕ) → Lacks 46 (take end text) → end < length text → get_or text end 0 ≡ 46 → pieces_at 46 text ≡ take end text ∷ rest_of end text
+at_stop end text lacks inside is =
+    let one_more : suc end ≡ end + 1 = omega arith in
+    ap (λ t. pieces_at 46 t) (split_at text end inside ∙ ap (λ b. take end text ++ b ∷ drop (suc end) text) is ∙ ap (λ (n : ℕ). take end text ++ 46 ∷ drop n text) one_more)
+    ∙ pieces_at-append 46 (take end text) (drop (end + 1) text) refl lacks
+    ∙ ap (λ d. take end text ∷ cond d [] (pieces_at 46 (drop (end + 1) text))) (sym (before_end end text inside))
 
-pub last_not : (total : Option ℕ) (count : ℕ) (text rest : List ℕ) → total ≡ counted count (numbers_in (pieces_at 46 text)) → rest ≡ text → None ≡ position (λ byte. nat_eq byte 46) rest → None ≡ place_in rest → None ≡ total
-last_not total count text rest so_far is none bad =
-    sym (so_far ∙ ap (λ t. counted count (numbers_in (pieces_at 46 t))) (sym is) ∙ ap (λ ps. counted count (numbers_in ps)) (last_word 46 rest (sym none)) ∙ not_one count rest [] (sym bad))
+pub no_stop : (text : List ℕ) → None ≡ position (λ byte. nat_eq byte 46) text → pieces_at 46 text ≡ take (length text) text ∷ rest_of (length text) text
+no_stop text none =
+    let P : List ℕ → Type 0 = λ t. Lacks 46 t in
+    at_end (length text) text (subst P (sym (take_all (length text) text (omega arith))) (no_separator 46 text (sym none))) refl
 
-pub last_is : (total : Option ℕ) (count n : ℕ) (text rest : List ℕ) → total ≡ counted count (numbers_in (pieces_at 46 text)) → rest ≡ text → None ≡ position (λ byte. nat_eq byte 46) rest → Some n ≡ place_in rest → Some (count + 1) ≡ total
-last_is total count n text rest so_far is none good =
-    sym (so_far ∙ ap (λ t. counted count (numbers_in (pieces_at 46 t))) (sym is) ∙ ap (λ ps. counted count (numbers_in ps)) (last_word 46 rest (sym none)) ∙ last_one count rest n (sym good))
-
-cut_at : (total : Option ℕ) (count end : ℕ) (text rest : List ℕ) → total ≡ counted count (numbers_in (pieces_at 46 text)) → rest ≡ text → Some end ≡ position (λ byte. nat_eq byte 46) rest
-    → total ≡ counted count (numbers_in (take end rest ∷ pieces_at 46 (drop (end + 1) rest)))
-cut_at total count end text rest so_far is found =
-    so_far ∙ ap (λ t. counted count (numbers_in (pieces_at 46 t))) (sym is) ∙ ap (λ ps. counted count (numbers_in ps)) (first_word 46 rest end refl (sym found))
-
-pub first_not : (total : Option ℕ) (count end : ℕ) (text rest : List ℕ) → total ≡ counted count (numbers_in (pieces_at 46 text)) → rest ≡ text → Some end ≡ position (λ byte. nat_eq byte 46) rest → None ≡ place_in (take end rest) → None ≡ total
-first_not total count end text rest so_far is found bad = sym (cut_at total count end text rest so_far is found ∙ not_one count (take end rest) (pieces_at 46 (drop (end + 1) rest)) (sym bad))
-
-pub first_is : (total : Option ℕ) (count end n from : ℕ) (word rest : List ℕ) → total ≡ counted count (numbers_in (pieces_at 46 (drop from word))) → rest ≡ drop from word → Some end ≡ position (λ byte. nat_eq byte 46) rest
-    → Some n ≡ place_in (take end rest) → total ≡ counted (count + 1) (numbers_in (pieces_at 46 (drop (from + (end + 1)) word)))
-first_is total count end n from word rest so_far is found good =
-    cut_at total count end (drop from word) rest so_far is found
-    ∙ one_more count (take end rest) (pieces_at 46 (drop (end + 1) rest)) n (sym good)
-    ∙ ap (λ t. counted (count + 1) (numbers_in (pieces_at 46 t))) (ap (λ t. drop (end + 1) t) is ∙ drops word from (end + 1))
-  where
-    drops : (word : List ℕ) (a b : ℕ) → drop b (drop a word) ≡ drop (a + b) word
-    drops word a b = drop-drop b a word
+pub first_stop : (end : ℕ) (text : List ℕ) → Some end ≡ position (λ byte. nat_eq byte 46) text → pieces_at 46 text ≡ take end text ∷ rest_of end text
+first_stop end text found =
+    first_word 46 text end refl (sym found)
+    ∙ ap (λ d. take end text ∷ cond d [] (pieces_at 46 (drop (end + 1) text))) (sym (before_end end text (inside 46 text end (sym found))))
 
 -- ---- keys
 

@@ -100,6 +100,15 @@ line_more piece rest from end old mid new first is found before part feed =
     ∙ ap (λ s. with_standing s first) (sym (fold-append (with_byte p) first.standing (take from piece ++ take end rest) (10 ∷ [])))
     ∙ ap (λ t. with_standing (lines_of p first.standing t) first) (append_assoc (take from piece) (take end rest) (10 ∷ []) ∙ sym cut)
 
+-- a line that begins here, judged where it lies
+pub line_here : (line : List ℕ) (view new : ReaderView) (m : FlatMachine) (k : ℕ) → view.standing ≡ going m k [] → k < 1048576 → Lacks 10 line → length line ≤ 160
+    → new ≡ with_standing (with_byte view.program (going m k line) 10) view → new ≡ with_standing (with_byte view.program (lines_of view.program view.standing line) 10) view
+line_here line view new m k at room lacks short judged =
+    let p = view.program in
+    let whole : lines_of p (going m k []) line ≡ going m k line =
+    ap (lines_of p (going m k [])) (sym (append-nil line)) ∙ going_on p m k [] line [] room lacks (omega (arith, short)) in
+    judged ∙ ap (λ s. with_standing (with_byte p s 10) view) (sym (ap (λ s. lines_of p s line) at ∙ whole))
+
 -- and what is behind the last line feed
 pub rest_more : (piece rest : List ℕ) (from : ℕ) (old new first : ReaderView) → rest ≡ drop from piece → old ≡ with_standing (lines_of first.program first.standing (take from piece)) first → new ≡ with_standing (lines_of old.program old.standing rest) old
     → new ≡ with_standing (lines_of first.program first.standing piece) first

@@ -1,6 +1,6 @@
 -- What a reader does with a byte.
-use Rattle.std.proofs.Common.{◌≡◌, ℕ, ◌+◌, ◌<◌, true, false, List, [], Option, Some, None, refl, sym, ap, ◌∙◌, subst}
-use Rattle.std.specs.Prelude.{option_map}
+use Rattle.std.proofs.Common.{◌≡◌, ℕ, ◌+◌, ◌<◌, Bool, true, false, not, List, [], Option, Some, None, take, refl, sym, ap, ◌∙◌, subst}
+use Rattle.std.specs.Prelude.{is_some, option_map}
 use Rattle.std.proofs.lemmas.Bool.{lt-ltb}
 use Rattle.ddm_types.specs.declared.operations.Op.{Op}
 use Rattle.flat_model.specs.Flat.{FlatMachine}
@@ -65,3 +65,45 @@ line_not_legal refusal p p' size made machine after line op view is end read giv
     by None end =
         ap (λ q. view_of q size (refused (NotLegal (made + 1)))) kept
         ∙ ap (λ s. view_of p size s) (sym (line_feed p machine made line op end read ∙ ap (λ o. after_step made o) (step_not_taken (legal_step p.code p.items machine op) after gives)))
+
+-- ---- the line feed of a line that isn't kept
+
+pub line_legal_at : (refusal : Option CheckRefusal) (p p' : Program) (size made : ℕ) (machine after : FlatMachine) (line front none : List ℕ) (op : Op) (view : ReaderView)
+    → view_of p size (standing_by refusal machine made front) ≡ view → IsAtLineEnd view.standing → Some op ≡ option_map without_key (op_in line)
+    → StepGives (legal_step p.code p.items machine op) true after → p' ≡ p → none ≡ []
+    → (m : FlatMachine) (k : ℕ) (kept : List ℕ) → view.standing ≡ going m k kept
+    → view_of p' size (standing_by refusal after (made + 1) none) ≡ with_standing (with_byte view.program (going m k line) 10) view
+line_legal_at refusal p p' size made machine after line front none op view is end read gives same empty m k kept at =
+    let P : ReaderView → Type 0 = λ v. IsAtLineEnd v.standing → v.standing ≡ going m k kept → view_of p' size (standing_by refusal after (made + 1) none) ≡ with_standing (with_byte v.program (going m k line) 10) v in
+    subst P is (by refusal) end at
+  where
+    by : (refusal : Option CheckRefusal) → IsAtLineEnd (standing_by refusal machine made front) → standing_by refusal machine made front ≡ going m k kept
+        → view_of p' size (standing_by refusal after (made + 1) none) ≡ view_of p size (with_byte p (going m k line) 10)
+    by (Some refusal) end at = absurd end
+    by None end at =
+        let moved : going machine made line ≡ going m k line = cc at in
+        line_legal None p p' size made machine after line none op (view_of p size (going machine made line)) refl end read gives same empty ∙ ap (λ s. view_of p size (with_byte p s 10)) moved
+
+pub line_not_legal_at : (refusal : Option CheckRefusal) (p p' : Program) (size made : ℕ) (machine after : FlatMachine) (line front : List ℕ) (op : Op) (view : ReaderView)
+    → view_of p size (standing_by refusal machine made front) ≡ view → IsAtLineEnd view.standing → Some op ≡ option_map without_key (op_in line)
+    → StepGives (legal_step p.code p.items machine op) false after → p' ≡ p
+    → (m : FlatMachine) (k : ℕ) (kept : List ℕ) → view.standing ≡ going m k kept
+    → view_of p' size (refused (NotLegal (made + 1))) ≡ with_standing (with_byte view.program (going m k line) 10) view
+line_not_legal_at refusal p p' size made machine after line front op view is end read gives same m k kept at =
+    let P : ReaderView → Type 0 = λ v. IsAtLineEnd v.standing → v.standing ≡ going m k kept → view_of p' size (refused (NotLegal (made + 1))) ≡ with_standing (with_byte v.program (going m k line) 10) v in
+    subst P is (by refusal) end at
+  where
+    by : (refusal : Option CheckRefusal) → IsAtLineEnd (standing_by refusal machine made front) → standing_by refusal machine made front ≡ going m k kept
+        → view_of p' size (refused (NotLegal (made + 1))) ≡ view_of p size (with_byte p (going m k line) 10)
+    by (Some refusal) end at = absurd end
+    by None end at =
+        let moved : going machine made line ≡ going m k line = cc at in
+        line_not_legal None p p' size made machine after line op (view_of p size (going machine made line)) refl end read gives same ∙ ap (λ s. view_of p size (with_byte p s 10)) moved
+
+-- ---- where a line begins
+
+pub at_start : (refusal : Option CheckRefusal) (p : Program) (size made len : ℕ) (machine : FlatMachine) (line : List ℕ) (view : ReaderView) (good : Bool) → view_of p size (standing_by refusal machine made (take len line)) ≡ view
+    → len ≡ 0 → made < 1048576 → is_some refusal ≡ not good → good ≡ true → (m : FlatMachine) × (k : ℕ) × (view.standing ≡ going m k []) × (k < 1048576)
+at_start None p size made len machine line view good is none room tells is_good =
+    (machine, made, ap (λ (v : ReaderView). v.standing) (sym is) ∙ ap (λ (n : ℕ). going machine made (take n line)) none, room)
+at_start (Some refusal) p size made len machine line view good is none room tells is_good = absurd (cc (tells ∙ ap not is_good))

@@ -1,35 +1,46 @@
-ghost use Rattle.std.specs.Prelude.{◌≡◌};
+ghost use Rattle.std.specs.Prelude.{◌≡◌, bytes_eq, codes};
 ghost use Rattle.text_model.specs.Schedule.{pieces_at};
-ghost use Rattle.witness_check.specs.Lines.{effect_of_one, effect_of_three, effect_of_two, effect_of_words, plain_in};
+ghost use Rattle.witness_check.specs.Lines.{effect_of_one, effect_of_three, effect_of_two, effect_of_words};
 
 use crate::hex::{hex2, hex8};
 use crate::words::cut_word;
 use ddm_types::Effect;
 
-const PLAIN: &[u8] = b"plain";
-
 const PUT: &[u8] = b"put";
 
-const LOAD: &[u8] = b"load";
-
-const STORE: &[u8] = b"store";
-
 const LR: &[u8] = b"lr";
-
-const SC_OK: &[u8] = b"scok";
 
 const SC_FAIL: &[u8] = b"scfail";
 
 const AMO: &[u8] = b"amo";
 
-fn plain(name: &[u8]) -> Option<Effect>
-    ensures { result ≡ plain_in name.now }
+// The names of more bytes that most lines have: a pattern is compared without a call.
+#[inline(always)]
+fn is_plain(name: &[u8]) -> bool
+    ensures { result ≡ bytes_eq name.now (codes "plain") }
 {
-    if name == PLAIN {
-        Some(Effect::Plain)
-    } else {
-        None
-    }
+    matches!(name, b"plain")
+}
+
+#[inline(always)]
+fn is_load(name: &[u8]) -> bool
+    ensures { result ≡ bytes_eq name.now (codes "load") }
+{
+    matches!(name, b"load")
+}
+
+#[inline(always)]
+fn is_store(name: &[u8]) -> bool
+    ensures { result ≡ bytes_eq name.now (codes "store") }
+{
+    matches!(name, b"store")
+}
+
+#[inline(always)]
+fn is_sc_ok(name: &[u8]) -> bool
+    ensures { result ≡ bytes_eq name.now (codes "scok") }
+{
+    matches!(name, b"scok")
 }
 
 fn effect_of_one(name: &[u8], number: &[u8]) -> Option<Effect>
@@ -49,7 +60,7 @@ fn effect_of_one(name: &[u8], number: &[u8]) -> Option<Effect>
 fn effect_of_two(name: &[u8], address: &[u8], word: &[u8]) -> Option<Effect>
     ensures { result ≡ effect_of_two name.now address.now word.now }
 {
-    if name == LOAD {
+    if is_load(name) {
         let address = hex8(address)?;
         let word = hex8(word)?;
         Some(Effect::Load { address, word })
@@ -65,7 +76,7 @@ fn effect_of_two(name: &[u8], address: &[u8], word: &[u8]) -> Option<Effect>
 fn effect_of_three(name: &[u8], address: &[u8], before: &[u8], after: &[u8]) -> Option<Effect>
     ensures { result ≡ effect_of_three name.now address.now before.now after.now }
 {
-    if name == STORE {
+    if is_store(name) {
         let address = hex8(address)?;
         let before = hex8(before)?;
         let after = hex8(after)?;
@@ -74,7 +85,7 @@ fn effect_of_three(name: &[u8], address: &[u8], before: &[u8], after: &[u8]) -> 
             before,
             after,
         })
-    } else if name == SC_OK {
+    } else if is_sc_ok(name) {
         let address = hex8(address)?;
         let before = hex8(before)?;
         let after = hex8(after)?;
@@ -102,8 +113,12 @@ fn effect_of_three(name: &[u8], address: &[u8], before: &[u8], after: &[u8]) -> 
 pub(crate) fn effect_of(text: &[u8]) -> Option<Effect>
     ensures { result ≡ effect_of_words (pieces_at 32 text.now) }
 {
+    // One word that many lines end with.
+    if is_plain(text) {
+        return Some(Effect::Plain);
+    }
     let Some((name, first)) = cut_word(text) else {
-        return plain(text);
+        return None;
     };
     let Some((address, second)) = cut_word(first) else {
         return effect_of_one(name, first);

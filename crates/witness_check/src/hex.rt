@@ -1,49 +1,74 @@
-ghost use Rattle.std.specs.Prelude.{◌≡◌, ◌<◌, IfSome};
+ghost use Rattle.std.specs.Prelude.{◌≡◌, ◌≤◌, [], ◌∷◌, MatchOption, unwrap_or};
 ghost use Rattle.witness_check.specs.Lines.{hex2_in, hex4_in, hex8_in, hex_digit};
 
-fn hex_digit(byte: u8) -> Option<u8>
-    ensures value { result ≡ hex_digit byte }
-    ensures small { IfSome result (λ n. n < 16) }
+/// More than any number of eight digits: what a byte counts for that is no digit. A number with such a byte in it is no less, so
+/// that one look at the end is enough.
+const NONE: u64 = 4_294_967_296;
+
+/// What each byte counts for as a digit.
+#[rattlefmt::skip]
+static DIGITS: [u64; 256] = [
+    NONE, NONE, NONE, NONE, NONE, NONE, NONE, NONE, NONE, NONE, NONE, NONE, NONE, NONE, NONE, NONE,
+    NONE, NONE, NONE, NONE, NONE, NONE, NONE, NONE, NONE, NONE, NONE, NONE, NONE, NONE, NONE, NONE,
+    NONE, NONE, NONE, NONE, NONE, NONE, NONE, NONE, NONE, NONE, NONE, NONE, NONE, NONE, NONE, NONE,
+    0, 1, 2, 3, 4, 5, 6, 7, 8, 9, NONE, NONE, NONE, NONE, NONE, NONE,
+    NONE, NONE, NONE, NONE, NONE, NONE, NONE, NONE, NONE, NONE, NONE, NONE, NONE, NONE, NONE, NONE,
+    NONE, NONE, NONE, NONE, NONE, NONE, NONE, NONE, NONE, NONE, NONE, NONE, NONE, NONE, NONE, NONE,
+    NONE, 10, 11, 12, 13, 14, 15, NONE, NONE, NONE, NONE, NONE, NONE, NONE, NONE, NONE,
+    NONE, NONE, NONE, NONE, NONE, NONE, NONE, NONE, NONE, NONE, NONE, NONE, NONE, NONE, NONE, NONE,
+    NONE, NONE, NONE, NONE, NONE, NONE, NONE, NONE, NONE, NONE, NONE, NONE, NONE, NONE, NONE, NONE,
+    NONE, NONE, NONE, NONE, NONE, NONE, NONE, NONE, NONE, NONE, NONE, NONE, NONE, NONE, NONE, NONE,
+    NONE, NONE, NONE, NONE, NONE, NONE, NONE, NONE, NONE, NONE, NONE, NONE, NONE, NONE, NONE, NONE,
+    NONE, NONE, NONE, NONE, NONE, NONE, NONE, NONE, NONE, NONE, NONE, NONE, NONE, NONE, NONE, NONE,
+    NONE, NONE, NONE, NONE, NONE, NONE, NONE, NONE, NONE, NONE, NONE, NONE, NONE, NONE, NONE, NONE,
+    NONE, NONE, NONE, NONE, NONE, NONE, NONE, NONE, NONE, NONE, NONE, NONE, NONE, NONE, NONE, NONE,
+    NONE, NONE, NONE, NONE, NONE, NONE, NONE, NONE, NONE, NONE, NONE, NONE, NONE, NONE, NONE, NONE,
+    NONE, NONE, NONE, NONE, NONE, NONE, NONE, NONE, NONE, NONE, NONE, NONE, NONE, NONE, NONE, NONE,
+];
+
+#[inline(always)]
+fn digit(byte: u8) -> u64
+    ensures { result ≡ unwrap_or (hex_digit byte) NONE }
 {
-    match byte {
-        b'0'..=b'9' => Some(byte - b'0'),
-        b'a'..=b'f' => Some(byte - b'a' + 10),
-        _ => None,
-    }
+    DIGITS[usize::from(byte)]
+}
+
+#[inline(always)]
+fn two_digits(high: u8, low: u8) -> u64
+    ensures value { MatchOption (hex2_in (high ∷ low ∷ [])) (NONE ≤ result) (λ n. result ≡ n) }
+    ensures bound { result ≤ 73014444032 }
+{
+    digit(high) * 16 + digit(low)
+}
+
+#[inline(always)]
+fn four_digits(a: u8, b: u8, c: u8, d: u8) -> u64
+    ensures value { MatchOption (hex4_in (a ∷ b ∷ c ∷ d ∷ [])) (NONE ≤ result) (λ n. result ≡ n) }
+    ensures bound { result ≤ 18764712116224 }
+{
+    two_digits(a, b) * 256 + two_digits(c, d)
 }
 
 /// The number that two digits are.
-#[tactic(auto, unfolding(crate::specs::Lines::hex2_in))]
 pub(crate) fn hex2(word: &[u8]) -> Option<u8>
     ensures { result ≡ hex2_in word.now }
 {
-    match word {
-        [high, low] => Some(hex_digit(*high)? * 16 + hex_digit(*low)?),
-        _ => None,
-    }
-}
-
-#[tactic(auto, unfolding(crate::specs::Lines::hex4_in))]
-fn hex4(word: &[u8]) -> Option<u16>
-    ensures { result ≡ hex4_in word.now }
-{
-    if word.len() != 4 {
+    if word.len() != 2 {
         return None;
     }
-    let high = hex2(&word[..2])?;
-    let low = hex2(&word[2..])?;
-    Some(u16::from(high) * 256 + u16::from(low))
+    let n = two_digits(word[0], word[1]);
+    if n < NONE { Some(n as u8) } else { None }
 }
 
 /// The number that eight digits are.
-#[tactic(auto, unfolding(crate::specs::Lines::hex8_in))]
 pub(crate) fn hex8(word: &[u8]) -> Option<u32>
     ensures { result ≡ hex8_in word.now }
 {
     if word.len() != 8 {
         return None;
     }
-    let high = hex4(&word[..4])?;
-    let low = hex4(&word[4..])?;
-    Some(u32::from(high) * 65_536 + u32::from(low))
+    let high = four_digits(word[0], word[1], word[2], word[3]);
+    let low = four_digits(word[4], word[5], word[6], word[7]);
+    let n = high * 65_536 + low;
+    if n < NONE { Some(n as u32) } else { None }
 }

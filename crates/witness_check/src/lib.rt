@@ -9,6 +9,7 @@ mod hex;
 mod judge;
 pub mod laws;
 mod lines;
+mod places;
 mod reader;
 mod refusal;
 mod words;

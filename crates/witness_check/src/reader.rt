@@ -1,15 +1,16 @@
-ghost use Rattle.std.specs.Prelude.{◌≡◌, ◌⊎◌, ◌≤◌, ◌+◌, ◌*◌, ◌++◌, None, Some, IfErr, IfOk, length, take};
+ghost use Rattle.std.specs.Prelude.{◌≡◌, ◌⊎◌, ◌≤◌, ◌+◌, ◌*◌, ℕ, List, ◌++◌, None, Some, IfErr, IfOk, length, take};
 ghost use Rattle.text_model.specs.Lines.{Lacks};
 ghost use Rattle.ddm_types.specs.ItemTable.{IsItemSize};
-ghost use Rattle.witness_check.specs.Judging.{answer_of, lines_of, with_byte};
+ghost use Rattle.flat_model.specs.Flat.{FlatMachine};
+ghost use Rattle.witness_check.specs.Judging.{answer_of, going, lines_of, with_byte};
 ghost use Rattle.witness_check.specs.Start.{start_refusal};
 ghost use Rattle.witness_check.specs.Reader.{begun, fed, feed_answer, setting, with_standing, IsAtLineEnd};
 ghost use Rattle.witness_check.specs.declared.refusal.CheckRefusal.TheVariants as refusal;
 
 use crate::judge::Judge;
 use crate::lines::op_of_line;
+use crate::places::place_of;
 use crate::refusal::CheckRefusal;
-use crate::words::place_of;
 use ddm_types::Start;
 use elf_load::Image;
 use std::alloc::Global;
@@ -84,13 +85,14 @@ impl WitnessReader {
         })
     }
 
-    // The line feed of a line.
+    // The line feed of a line of these bytes, whether or not they are kept.
     #[tactic(auto, unfolding(crate::specs::Judging::with_byte))]
-    fn end_line(&mut self)
+    fn end_line(&mut self, line: &[u8])
         requires { IsAtLineEnd self.old.standing }
-        ensures { self.new ≡ with_standing (with_byte self.old.program self.old.standing 10) self.old }
+        ensures { (machine : FlatMachine) (made : ℕ) (kept : List ℕ) → self.old.standing ≡ going machine made kept
+            → self.new ≡ with_standing (with_byte self.old.program (going machine made line.now) 10) self.old }
     {
-        match op_of_line(&self.line[..self.len]) {
+        match op_of_line(line) {
             None => self.refusal = Some(CheckRefusal::BadLine(self.made + 1)),
             Some(op) => {
                 if self.judge.step(&op) {
@@ -103,7 +105,9 @@ impl WitnessReader {
         }
     }
 
-    // The line feed where a line may end, or may not.
+    // The line feed where a line may end, or may not, behind bytes that are kept. It isn't for lines that are whole, and stands
+    // apart from them, since it copies the line.
+    #[inline(never)]
     #[tactic(auto, unfolding(crate::specs::Judging::with_byte))]
     fn take_line_feed(&mut self)
         ensures { self.new ≡ with_standing (with_byte self.old.program self.old.standing 10) self.old }
@@ -114,7 +118,9 @@ impl WitnessReader {
         if self.made >= MOST_LINES {
             self.refusal = Some(CheckRefusal::TooManyLines(self.made + 1));
         } else {
-            self.end_line();
+            let line = self.line;
+            let len = self.len;
+            self.end_line(&line[..len]);
         }
     }
 
@@ -136,6 +142,23 @@ impl WitnessReader {
         } else {
             put_part(&mut self.line, self.len, part);
             self.len += part.len();
+        }
+    }
+
+    // A line that is whole, with its line feed. Where it begins here it is judged where it lies.
+    fn take_line(&mut self, line: &[u8])
+        requires { Lacks 10 line.now }
+        ensures { self.new ≡ with_standing (with_byte self.old.program (lines_of self.old.program self.old.standing line.now) 10) self.old }
+    {
+        if self.len == 0
+            && self.made < MOST_LINES
+            && line.len() <= MOST_BYTES
+            && self.refusal.is_none()
+        {
+            self.end_line(line);
+        } else {
+            self.take_part(line);
+            self.take_line_feed();
         }
     }
 
@@ -162,8 +185,7 @@ impl WitnessReader {
                     return;
                 }
                 Some(end) => {
-                    self.take_part(&rest[..end]);
-                    self.take_line_feed();
+                    self.take_line(&rest[..end]);
                     from += end + 1;
                 }
             }

@@ -1,6 +1,6 @@
-use Rattle.std.proofs.Common.{sym, arith}
-use Rattle.ddm_text.proofs.Spellings.{number_of-within}
+use Rattle.std.proofs.Common.{ℕ, Some, sym, ap, ◌∙◌}
+use Rattle.witness_check.proofs.ShortNumbers.{one_digit}
 use Rattle.witness_check.proofs.words.number.Goals as goal
 
-pub overflow_cast-result : goal.overflow_cast-result
-overflow_cast-result c = omega (arith, number_of-within c.args.word.now 4294967295 c.in-Ok.n (sym c.in-Ok.ensures.number))
+pub returns-then-is_digit : goal.returns-then-is_digit
+returns-then-is_digit c = ap (λ (n : ℕ). Some n) c.from.ensures ∙ one_digit c.args.word.now c.if-word-ne1.false (sym c.if-is_digit.ensures)
