@@ -49,7 +49,7 @@ finish_refuses shape made text line refusal e = go (reading_of shape made text).
   go turns (refused_at n r) e = cc e
 
 -- the last line of a text with more behind it is that of its last line with more behind it
-abbrev HeldAgain : List ℕ → List ℕ → Type 0
+abbrev pub HeldAgain : List ℕ → List ℕ → Type 0
 HeldAgain piece text = held_of (held_of text ++ piece) ≡ held_of (text ++ piece)
 
 held_behind_line : (text piece : List ℕ) → ((t : List ℕ) → length t < length text → HeldAgain piece t) → (o : Option ℕ) → position (λ byte. nat_eq byte 10) text ≡ o → HeldAgain piece text
@@ -64,7 +64,7 @@ held_behind_line text piece shorter (Some i) found =
     ∙ sym (ap held_of (append_assoc front (10 ∷ behind) piece))
     ∙ ap (λ t. held_of (t ++ piece)) (sym cut.is)
 
-held_again : (n : ℕ) (text piece : List ℕ) → length text ≤ n → HeldAgain piece text
+pub held_again : (n : ℕ) (text piece : List ℕ) → length text ≤ n → HeldAgain piece text
 held_again zero text piece few = held_behind_line text piece (λ t h. absurd (omega (arith, few, h))) (position (λ byte. nat_eq byte 10) text) refl
 held_again (suc n) text piece few = held_behind_line text piece (λ t h. held_again n t piece (omega (arith, few, h))) (position (λ byte. nat_eq byte 10) text) refl
 
@@ -99,3 +99,22 @@ reader_cut shape made text piece =
     ∙ ap (λ (n : ℕ). view (made + length (turns ++ g.turns)) n kept g.standing) count
     ∙ ap (λ h. view (made + length (turns ++ g.turns)) (length (turns ++ g.turns)) h g.standing) (held_cut shape made text piece)
     ∙ ap (λ (r : Reading). view (made + length r.turns) (length r.turns) (held_in r.standing (text ++ piece)) r.standing) (sym whole)
+
+-- nothing is held of a text that ends with a line feed
+ends_by : (text : List ℕ) → ((t : List ℕ) → length t < length text → held_of (t ++ 10 ∷ []) ≡ []) → (o : Option ℕ) → position (λ byte. nat_eq byte 10) text ≡ o → held_of (text ++ 10 ∷ []) ≡ []
+ends_by text shorter None none = held_line text [] (uncut_of 10 text none) ∙ held_all [] refl
+ends_by text shorter (Some i) found =
+    let cut = cut_of 10 text i found in
+    let front = take i text in
+    let behind = drop (i + 1) text in
+    ap (λ t. held_of (t ++ 10 ∷ [])) cut.is
+    ∙ ap held_of (append_assoc front (10 ∷ behind) (10 ∷ []))
+    ∙ held_line front (behind ++ 10 ∷ []) cut.lacks
+    ∙ shorter behind (omega (arith, cut.inside, length-drop (i + 1) text))
+
+ends_few : (n : ℕ) (text : List ℕ) → length text ≤ n → held_of (text ++ 10 ∷ []) ≡ []
+ends_few zero text few = ends_by text (λ t h. absurd (omega (arith, few, h))) (position (λ byte. nat_eq byte 10) text) refl
+ends_few (suc n) text few = ends_by text (λ t h. ends_few n t (omega (arith, few, h))) (position (λ byte. nat_eq byte 10) text) refl
+
+pub line_ends : (text : List ℕ) → held_of (text ++ 10 ∷ []) ≡ []
+line_ends text = ends_few (length text) text (omega arith)

@@ -7,3 +7,5 @@ pub mod SeedTurns
 pub mod Spellings
 pub mod Draws
 pub mod SeenLines
+pub mod ReadLines
+pub mod Behind

@@ -32,14 +32,11 @@ seen-step shape lines made text turn used room seen =
 
 -- ---- a line that is remembered anew
 
--- the first bytes, the next and the last four are all
-front-told : (xs ys : List ℕ) (n : ℕ) → 4 ≤ n → n ≤ 12 → take 4 xs ≡ take 4 ys → take 4 (drop 4 xs) ≡ take 4 (drop 4 ys) → take 4 (drop (n - 4) xs) ≡ take 4 (drop (n - 4) ys) → take n xs ≡ take n ys
-front-told xs ys n some few one other last =
-    cut xs ∙ ap (λ (t : List ℕ). take (n - 4) t ++ take 4 (drop (n - 4) xs)) first ∙ ap (λ (t : List ℕ). take (n - 4) (take 8 ys) ++ t) last ∙ sym (cut ys)
+-- the first eight bytes and the last four are all
+front-told : (xs ys : List ℕ) (n : ℕ) → 4 ≤ n → n ≤ 12 → take 8 xs ≡ take 8 ys → take 4 (drop (n - 4) xs) ≡ take 4 (drop (n - 4) ys) → take n xs ≡ take n ys
+front-told xs ys n some few head last =
+    cut xs ∙ ap (λ (t : List ℕ). take (n - 4) t ++ take 4 (drop (n - 4) xs)) head ∙ ap (λ (t : List ℕ). take (n - 4) (take 8 ys) ++ t) last ∙ sym (cut ys)
   where
-    first : take 8 xs ≡ take 8 ys
-    first = take-add 4 4 xs ∙ ap (λ (t : List ℕ). t ++ take 4 (drop 4 xs)) one ∙ ap (λ (t : List ℕ). take 4 ys ++ t) other ∙ sym (take-add 4 4 ys)
-
     both : n ≡ n - 4 + 4
     both = omega (arith, some)
 
@@ -49,14 +46,14 @@ front-told xs ys n some few one other last =
     cut : (xs : List ℕ) → take n xs ≡ take (n - 4) (take 8 xs) ++ take 4 (drop (n - 4) xs)
     cut xs = ap (λ m. take m xs) both ∙ take-add (n - 4) 4 xs ∙ ap (λ (t : List ℕ). t ++ take 4 (drop (n - 4) xs)) (sym (take-take (n - 4) 8 xs inside))
 
-pub seen-anew : (shape : ShapeView) (text : List ℕ) (front : Front) (turn : Turn) (rest : List ℕ) (used : ℕ) → IsFrontOf text front → BeginsWithLine text turn rest → used ≡ length text - length rest → used ≡ front.used → turn_fault shape turn ≡ None
+pub seen-anew : (shape : ShapeView) (text : List ℕ) (front : Front) (turn : Turn) (rest : List ℕ) (used : ℕ) → IsFrontOf text front → BeginsWithLine text turn rest → used ≡ length text - length rest → used ≡ front.used → used ≤ 12 → turn_fault shape turn ≡ None
     → IsSeen shape front turn
-seen-anew shape text front turn rest used own begins so_many same known other there =
+seen-anew shape text front turn rest used own begins so_many same few known other there =
     let line = turn_text turn ++ codes "\n" in
     let many : used ≡ length (turn_text turn) + 1 = omega (arith, so_many, lengths text turn rest begins) in
     let whole : front.used ≡ length line = sym same ∙ many ∙ sym (length-append (turn_text turn) (codes "\n")) in
     let here : take front.used text ≡ line = ap (λ n. take n text) whole ∙ ap (λ t. take (length line) t) begins.front.is ∙ take-append_seam line rest in
-    let told = front-told other text front.used own.some own.within (sym there.first ∙ own.first) (sym there.second ∙ own.second) (sym there.last ∙ own.last) in
+    let told = front-told other text front.used (omega (arith, own.some)) (omega (arith, same, few)) (sym there.head ∙ own.head) (sym there.last ∙ own.last) in
     record {
       line = record { front = record { is = sym (take-append-drop front.used other) ∙ ap (λ t. t ++ drop front.used other) (told ∙ here) }; says = begins.says; lacks = begins.lacks };
       many = sym same ∙ many;

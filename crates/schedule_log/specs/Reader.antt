@@ -1,5 +1,5 @@
 -- A reader of a schedule's text, and what it gives for more bytes.
-use Rattle.std.specs.Prelude.{◌≡◌, ℕ, ◌+◌, ◌≤◌, List, [], ◌++◌, length, drop, Result, Ok, Err}
+use Rattle.std.specs.Prelude.{◌≡◌, ℕ, ◌+◌, ◌-◌, ◌≤◌, List, [], ◌++◌, length, take, drop, Result, Ok, Err}
 use Rattle.ddm_types.specs.declared.turns.Turn.{Turn}
 use Rattle.text_model.specs.declared.ScheduleRefusal.{ScheduleRefusal}
 use Rattle.text_model.specs.declared.ScheduleRefusal.TheVariants.{NoEnd}
@@ -94,3 +94,16 @@ pub record LinesRead (shape : ShapeView) (before_lines made : ℕ) (text : List 
   pub within : lines.kept ≤ length text
   pub of_text : lines.lines ≤ lines.made
   pub few : lines.made ≤ 1048576
+
+-- the lines of a text's front were read where `first` turns were there, of which so many were lines before it: now there are `made`, and
+-- these bytes are left
+pub record ReadUpTo (shape : ShapeView) (before_lines first : ℕ) (text : List ℕ) (before : List Turn) (made : ℕ) (left : List ℕ) (after : List Turn) : Type 0 where
+  pub turns : after ++ (reading_on shape (before_lines + (made - first) + 1) made left).turns ≡ before ++ (reading_on shape (before_lines + 1) first text).turns
+  pub standing : (reading_on shape (before_lines + (made - first) + 1) made left).standing ≡ (reading_on shape (before_lines + 1) first text).standing
+  pub count : made + length (reading_on shape (before_lines + (made - first) + 1) made left).turns ≡ first + length (reading_on shape (before_lines + 1) first text).turns
+  pub held : held_of text ≡ held_of left
+  pub is_rest : left ≡ drop (length text - length left) text
+  pub within : length left ≤ length text
+  pub of_text : first ≤ made
+  pub few : made ≤ 1048576
+  pub front : take (length before) after ≡ before

@@ -1,6 +1,6 @@
 -- Lines of a schedule that are told by the front of a text: its first eight bytes and the last four of its first line.
 use Rattle.std.specs.Prelude.{◌≡◌, ℕ, ◌+◌, ◌-◌, ◌≤◌, List, length, drop, take, None}
-use Rattle.std.specs.Int.{to_le_bytes, w32}
+use Rattle.std.specs.Int.{to_le_bytes, w32, w64}
 use Rattle.ddm_types.specs.declared.turns.Turn.{Turn}
 use Rattle.text_model.specs.Schedule.{ShapeView, turn_fault, turn_text}
 use Rattle.schedule_log.specs.declared.front.Front.{Front}
@@ -15,11 +15,9 @@ pub record IsSeenLine (shape : ShapeView) (text : List ℕ) (turn : Turn) (used 
 
 -- a text has this front
 pub record IsFrontOf (text : List ℕ) (front : Front) : Type 0 where
-  pub first : to_le_bytes w32 front.first ≡ take 4 text
-  pub second : to_le_bytes w32 front.second ≡ take 4 (drop 4 text)
+  pub head : to_le_bytes w64 front.head ≡ take 8 text
   pub last : to_le_bytes w32 front.last ≡ take 4 (drop (front.used - 4) text)
-  pub some : 4 ≤ front.used
-  pub within : front.used ≤ 12
+  pub some : 5 ≤ front.used
 
 -- each text that has this front begins with the line of this turn
 abbrev pub IsSeen : ShapeView → Front → Turn → Type 0

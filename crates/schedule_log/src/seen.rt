@@ -38,14 +38,6 @@ impl Seen {
     {
         self.turn
     }
-
-    /// How many bytes the line has with its line feed.
-    #[inline(always)]
-    pub(crate) fn used(&self) -> usize
-        ensures { result ≡ self.now.front.used }
-    {
-        self.front.used()
-    }
 }
 
 /// Lines of turns that are remembered, all of one tree. A contract sees what that tree has.
@@ -84,6 +76,21 @@ fn place_of(front: &Front) -> usize
     (front.mixed() >> 50) as usize
 }
 
+/// The line with which each text begins that has this front, where it is remembered at one of these places.
+#[inline(always)]
+pub(crate) fn line_at<'a>(places: &'a [Seen], front: &Front) -> Option<&'a Seen>
+    requires { length places.now ≡ PLACES }
+    ensures front { IfSome result (λ line. line.now.front ≡ front.now) }
+    ensures seen { (shape : ShapeView) → All (IsSeenAt shape) places.now → IfSome result (λ line. IsSeenAt shape line.now) }
+{
+    let line = &places[place_of(front)];
+    if line.front.is_same(front) {
+        Some(line)
+    } else {
+        None
+    }
+}
+
 impl SeenLines {
     /// No line, of a tree without parts.
     pub(crate) fn new(alloc: Global) -> Result<SeenLines, NoMemory>
@@ -117,18 +124,12 @@ impl SeenLines {
         &self.parts
     }
 
-    /// The line with which each text begins that has this front, where it is remembered.
-    #[inline(always)]
-    pub(crate) fn line(&self, front: &Front) -> Option<&Seen>
-        ensures front { IfSome result (λ line. line.now.front ≡ front.now) }
-        ensures seen { IfSome result (λ line. IsSeenAt self.now line.now) }
+    /// What is remembered, by its places.
+    pub(crate) fn places(&self) -> &[Seen]
+        ensures many { length result.now ≡ PLACES }
+        ensures seen { All (IsSeenAt self.now) result.now }
     {
-        let line = &self.places[place_of(front)];
-        if line.front.is_same(front) {
-            Some(line)
-        } else {
-            None
-        }
+        &self.places
     }
 
     /// Remembers a line in place of another one.

@@ -1,12 +1,12 @@
-ghost use Rattle.std.specs.Prelude.{◌≡◌, ◌≤◌, ◌+◌, ◌-◌, ℕ, IfSome, is_none, length, slice_get};
-ghost use Rattle.text_model.specs.Schedule.{child_fault, end_with, refusal_of_turn, turn_fault};
-ghost use Rattle.schedule_log.specs.Seen.{IsFrontOf};
+ghost use Rattle.std.specs.Prelude.{◌≡◌, ◌<◌, ◌≤◌, ◌+◌, ◌-◌, ℕ, All, IfSome, is_none, length, slice_get};
+ghost use Rattle.text_model.specs.Schedule.{ShapeView, child_fault, end_with, refusal_of_turn, turn_fault};
+ghost use Rattle.schedule_log.specs.Seen.{IsFrontOf, IsSeenAt};
 ghost use Rattle.schedule_log.specs.Standings.{standing_of};
 ghost use Rattle.schedule_log.specs.Steps.{BeginsWithTurn, IsLine, StepGives, step_by};
 
 use crate::front::Front;
 use crate::parts::Parts;
-use crate::seen::{Seen, SeenLines};
+use crate::seen::{Seen, SeenLines, line_at};
 use crate::spelled::{SPELLED_BYTES, spelled_line};
 use crate::standing::Standing;
 use crate::words::turn_of_line;
@@ -15,7 +15,7 @@ use ddm_types::{BusNo, ChildNo, Turn};
 use text_model::ScheduleRefusal;
 
 /// The most turns of a schedule.
-const MOST_TURNS: u32 = 1_048_576;
+pub(crate) const MOST_TURNS: u32 = 1_048_576;
 
 /// The most bytes of a line before its line feed.
 const MOST_BYTES: usize = 24;
@@ -125,12 +125,11 @@ fn any_step(parts: &Parts, lines: u32, made: u32, text: &[u8]) -> Step
     }
 }
 
-// The same, of a line that isn't remembered. It is from now on, if there is a front that tells it: the first eight bytes and the last
-// four are all.
-fn new_step(seen: &mut SeenLines, lines: u32, made: u32, text: &[u8], front: Option<Front>) -> Step
+// The same, of a line that isn't remembered. It is from now on, if the text's front tells it.
+fn new_step(seen: &mut SeenLines, lines: u32, made: u32, text: &[u8], front: &Front) -> Step
     requires lines { lines ≤ 1048576 }
     requires long { 16 ≤ length text.now }
-    requires front { IfSome front (IsFrontOf text.now) }
+    requires front { IsFrontOf text.now front.now }
     ensures step { StepGives seen.old lines made text.now result }
     ensures same { seen.new ≡ seen.old }
 {
@@ -141,25 +140,27 @@ fn new_step(seen: &mut SeenLines, lines: u32, made: u32, text: &[u8], front: Opt
     // A value that was handed on isn't handed on again.
     let (judged, kept) = (turn, turn);
     let step = step_of_turn(seen.parts(), lines, made, turn, used);
-    if let Some(front) = front {
-        if used == front.used() && has_named(seen.parts(), judged) {
-            seen.remember(&front, kept);
-        }
+    if front.tells(used) && has_named(seen.parts(), judged) {
+        seen.remember(front, kept);
     }
     step
 }
 
-/// The line that a text begins with, where it is remembered and one turn more may come.
+/// The line that a text begins with, where it is remembered, and how many bytes it has with its line feed. It is that of a turn, if one
+/// turn more may come. The bytes are counted in the text, so that the place of the next line hangs on nothing that is remembered.
 #[inline(always)]
-pub(crate) fn remembered<'a>(seen: &'a SeenLines, made: u32, text: &[u8]) -> Option<&'a Seen>
-    ensures { IfSome result (λ line. (lines : ℕ) → BeginsWithTurn seen.now lines made text.now line.now.turn line.now.front.used) }
+pub(crate) fn remembered<'a>(places: &'a [Seen], text: &[u8]) -> Option<(&'a Seen, usize)>
+    requires { length places.now ≡ 16384 }
+    ensures some { IfSome result (λ r. 5 ≤ r.1) }
+    ensures within { IfSome result (λ r. r.1 ≤ length text.now) }
+    ensures turn { (shape : ShapeView) → All (IsSeenAt shape) places.now → IfSome result (λ r. (lines made : ℕ) → made < 1048576 → BeginsWithTurn shape lines made text.now r.0.now.turn r.1) }
 {
-    if made >= MOST_TURNS || text.len() < SPELLED_BYTES {
+    if text.len() < SPELLED_BYTES {
         return None;
     }
-    let front = Front::of(text)?;
-    let line = seen.line(&front)?;
-    Some(line)
+    let front = Front::of(text);
+    let line = line_at(places, &front)?;
+    Some((line, front.used()))
 }
 
 /// What a text begins with where `made` turns are there, and where there were `first` of them so many were lines before it. Its first
@@ -182,5 +183,5 @@ pub(crate) fn first_step(
     if text.len() < SPELLED_BYTES {
         return any_step(seen.parts(), lines, made, text);
     }
-    new_step(seen, lines, made, text, Front::of(text))
+    new_step(seen, lines, made, text, &Front::of(text))
 }

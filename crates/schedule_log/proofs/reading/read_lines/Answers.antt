@@ -1,20 +1,18 @@
-use Rattle.std.proofs.Common.{◌≡◌, ◌+◌, ◌-◌, length, refl, rules, arith}
-use Rattle.std.proofs.lemmas.List.{take_all}
+use Rattle.std.proofs.Common.{◌+◌, ◌-◌, drop, length, take, subst, ◌∙◌}
+use Rattle.schedule_log.specs.Reader.{ReadUpTo}
+use Rattle.schedule_log.proofs.ReadLines.{read-next}
 use Rattle.schedule_log.proofs.reading.read_lines.Goals as goal
 
-pub lines-init : goal.lines-init
-lines-init c =
-    let lines : c.args.first_lines + (c.args.first - c.args.first) ≡ c.args.first_lines = omega arith in
-    let none : length c.args.text.now - length c.args.text.now ≡ 0 = omega arith in
+pub lines-preserved : goal.lines-preserved
+lines-preserved c =
+    let before = c.args.turns.now.items in
+    let made = c.read_remembered.result.0 in
+    let left = c.read_remembered.result.1.now in
+    let used = c.in-Turn.used in
+    let old : ReadUpTo c.lines.seen c.args.first_lines c.args.first c.args.text.now before c.lines.made c.lines.left.now c.reserve.new.self.items = rw c.lines.invariant.seen (rw c.reserve.ensures.items c.lines.invariant.read) in
+    let read = c.read_remembered.ensures.lines c.args.first_lines c.args.first c.args.text.now before old in
+    let next = read-next c.lines.seen c.args.first_lines c.args.first c.args.text.now before made left c.read_remembered.new.turns.items c.in-Turn.turn used c.push_reserved.new.self.items read c.in-Turn.ensures.step c.push_reserved.ensures.items in
     record {
-      turns = rw lines refl;
-      standing = rw lines refl;
-      count = rw lines refl;
-      held = refl;
-      is_rest = rw none refl;
-      within = search rules;
-      of_text = search rules;
-      few = c.requires.made;
-      seen = refl;
-      front = take_all (length c.args.turns.now.items) c.args.turns.now.items (omega arith);
+      read = subst (λ s. ReadUpTo s c.args.first_lines c.args.first c.args.text.now before (made + 1) (take (length left - used) (drop used left)) c.push_reserved.new.self.items) c.lines.invariant.seen next;
+      seen = c.in-Turn.ensures.same ∙ c.lines.invariant.seen;
     }
