@@ -1,4 +1,5 @@
 pub mod Decimals
+pub mod Keys
 pub mod Letters
 pub mod Lines
 pub mod MachineLines
@@ -7,4 +8,5 @@ pub mod Pairs
 pub mod ReportParts
 pub mod Shown
 pub mod TraceParts
+pub mod Words
 pub mod Written

@@ -138,7 +138,8 @@ pub fn push_entry<W: TextBuffer>(out: &mut W, entry: LogEntry) -> Result<(), NoM
     Ok(())
 }
 
-/// Puts at the end what a turn answered.
+/// Puts at the end what a turn answered. The words of the answers that most turns have are bytes written in place, which
+/// are put with fewer tests than a text.
 #[tactic(auto, unfolding(text_model::specs::Words::answer_text))]
 pub fn push_answer<W: TextBuffer>(out: &mut W, answer: TurnAnswer) -> Result<(), NoMemory>
     ensures text { OnOk result (Adds (W.text out.old) (W.text out.new) (answer_text answer)) }
@@ -146,17 +147,17 @@ pub fn push_answer<W: TextBuffer>(out: &mut W, answer: TurnAnswer) -> Result<(),
 {
     match answer {
         TurnAnswer::Retired(op) => {
-            push_bytes(out, b"retired ")?;
+            push_bytes(out, &[b'r', b'e', b't', b'i', b'r', b'e', b'd', b' '])?;
             push_effect(out, op.effect)
         }
         TurnAnswer::Issued(kind, item) => {
-            push_bytes(out, b"issued ")?;
+            push_bytes(out, &[b'i', b's', b's', b'u', b'e', b'd', b' '])?;
             push_kind(out, kind)?;
-            push_bytes(out, b" ")?;
+            push_bytes(out, &[b' '])?;
             push_item(out, item)
         }
         TurnAnswer::Waiting(item) => {
-            push_bytes(out, b"waiting ")?;
+            push_bytes(out, &[b'w', b'a', b'i', b't', b'i', b'n', b'g', b' '])?;
             push_item(out, item)
         }
         TurnAnswer::Halted(cause) => {
@@ -164,7 +165,7 @@ pub fn push_answer<W: TextBuffer>(out: &mut W, answer: TurnAnswer) -> Result<(),
             push_halt(out, cause)
         }
         TurnAnswer::Granted(entry) => {
-            push_bytes(out, b"granted ")?;
+            push_bytes(out, &[b'g', b'r', b'a', b'n', b't', b'e', b'd', b' '])?;
             push_entry(out, entry)
         }
         TurnAnswer::Empty => push_bytes(out, b"empty"),

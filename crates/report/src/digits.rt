@@ -52,6 +52,30 @@ fn last_digits(n: u32) -> [u8; 4]
     [thousands, hundreds, tens, ones]
 }
 
+/// The last three decimal digits of a byte.
+#[inline(always)]
+pub fn byte_digits(n: u8) -> [u8; 3]
+    ensures { result ≡ (48 + n / 100 % 10) ∷ (48 + n / 10 % 10) ∷ (48 + n % 10) ∷ [] }
+{
+    let [tens, ones] = two_digits(u32::from(n) % 100);
+    [b'0' + n / 100, tens, ones]
+}
+
+/// Puts a space and the decimal digits of a byte at the end.
+pub fn push_spaced_byte<W: TextBuffer>(out: &mut W, n: u8) -> Result<(), NoMemory>
+    ensures text { OnOk result (Adds (W.text out.old) (W.text out.new) (codes " " ++ decimal n)) }
+    ensures room { UsesRoom 4 (W.room out.old) (W.room out.new) result }
+{
+    let [hundreds, tens, ones] = byte_digits(n);
+    if n < 10 {
+        out.put(&[b' ', ones])
+    } else if n < 100 {
+        out.put(&[b' ', tens, ones])
+    } else {
+        out.put(&[b' ', hundreds, tens, ones])
+    }
+}
+
 // Puts the decimal digits of a number of at most four at the end.
 #[inline(always)]
 fn push_short<W: TextBuffer>(out: &mut W, n: u32) -> Result<(), NoMemory>
@@ -72,16 +96,24 @@ fn push_short<W: TextBuffer>(out: &mut W, n: u32) -> Result<(), NoMemory>
     }
 }
 
-// Puts the decimal digits of a number of five to eight at the end.
+// Puts the decimal digits of a number of five to eight at the end, at once.
 fn push_middle<W: TextBuffer>(out: &mut W, n: u32) -> Result<(), NoMemory>
     requires least { 10000 ≤ n }
     requires most { n < 100000000 }
     ensures text { OnOk result (Adds (W.text out.old) (W.text out.new) (decimal n)) }
     ensures room { UsesRoom 8 (W.room out.old) (W.room out.new) result }
 {
-    push_short(out, n / 10_000)?;
-    out.put(&last_digits(n))?;
-    Ok(())
+    let [a, b, c, d] = last_digits(n / 10_000);
+    let [e, f, g, h] = last_digits(n);
+    if n < 100_000 {
+        out.put(&[d, e, f, g, h])
+    } else if n < 1_000_000 {
+        out.put(&[c, d, e, f, g, h])
+    } else if n < 10_000_000 {
+        out.put(&[b, c, d, e, f, g, h])
+    } else {
+        out.put(&[a, b, c, d, e, f, g, h])
+    }
 }
 
 // Puts the decimal digits of any number at the end.
@@ -109,8 +141,9 @@ pub fn push_decimal<W: TextBuffer>(out: &mut W, n: u64) -> Result<(), NoMemory>
     }
 }
 
+/// The two hexadecimal digits of a number below 256.
 #[inline(always)]
-fn hex2_digits(n: u32) -> [u8; 2]
+pub fn hex2_digits(n: u32) -> [u8; 2]
     requires { n < 256 }
     ensures { result ≡ hex2 n }
 {
@@ -118,9 +151,10 @@ fn hex2_digits(n: u32) -> [u8; 2]
     [PAIRS[at], PAIRS[at + 1]]
 }
 
+/// The eight hexadecimal digits of a number.
 #[inline(always)]
 #[tactic(auto, unfolding(ddm_text::specs::Hex::hex8))]
-fn hex8_digits(n: u32) -> [u8; 8]
+pub fn hex8_digits(n: u32) -> [u8; 8]
     ensures { result ≡ hex8 n }
 {
     let [a, b] = hex2_digits(n / 16_777_216);

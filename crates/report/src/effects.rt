@@ -1,45 +1,110 @@
-ghost use Rattle.std.specs.Prelude.{◌+◌, ◌++◌, OnOk, codes, length};
+ghost use Rattle.std.specs.Prelude.{◌++◌, OnOk, codes};
 ghost use Rattle.ddm_text.specs.Adds.{Adds};
 ghost use Rattle.ddm_text.specs.Hex.{hex8};
 ghost use Rattle.text_model.specs.Words.{effect_text, halt_text, state_text};
 ghost use Rattle.report.specs.Room.{UsesRoom};
 
 use crate::buffers::TextBuffer;
-use crate::digits::{push_hex2, push_spaced_hex8};
+use crate::digits::{hex2_digits, hex8_digits};
 use crate::pieces::{push_bytes, push_named, push_named_word};
 use ddm_types::{Effect, HaltCause, NoMemory};
 
-// A name, an address and the word there.
-#[inline(always)]
-fn push_access<W: TextBuffer>(
-    out: &mut W,
-    name: &[u8],
-    address: u32,
-    word: u32,
-) -> Result<(), NoMemory>
+// A load: its address and the word there. Here and below all bytes are put at once.
+fn push_load<W: TextBuffer>(out: &mut W, address: u32, word: u32) -> Result<(), NoMemory>
     ensures text { OnOk result (Adds (W.text out.old) (W.text out.new)
-        (name.now ++ hex8 address ++ codes " " ++ hex8 word)) }
-    ensures room { UsesRoom (length name.now + 17) (W.room out.old) (W.room out.new) result }
+        (codes "load " ++ hex8 address ++ codes " " ++ hex8 word)) }
+    ensures room { UsesRoom 22 (W.room out.old) (W.room out.new) result }
 {
-    push_named_word(out, name, address)?;
-    push_spaced_hex8(out, word)
+    let [a, b, c, d, e, f, g, h] = hex8_digits(address);
+    let [i, j, k, l, m, n, o, p] = hex8_digits(word);
+    out.put(&[
+        b'l', b'o', b'a', b'd', b' ', a, b, c, d, e, f, g, h, b' ', i, j, k, l, m, n, o, p,
+    ])
 }
 
-// A name, an address and the words there before and after.
-#[inline(always)]
-fn push_change<W: TextBuffer>(
+// A load that reserves: its address and the word there.
+fn push_lr<W: TextBuffer>(out: &mut W, address: u32, word: u32) -> Result<(), NoMemory>
+    ensures text { OnOk result (Adds (W.text out.old) (W.text out.new)
+        (codes "lr " ++ hex8 address ++ codes " " ++ hex8 word)) }
+    ensures room { UsesRoom 20 (W.room out.old) (W.room out.new) result }
+{
+    let [a, b, c, d, e, f, g, h] = hex8_digits(address);
+    let [i, j, k, l, m, n, o, p] = hex8_digits(word);
+    out.put(&[
+        b'l', b'r', b' ', a, b, c, d, e, f, g, h, b' ', i, j, k, l, m, n, o, p,
+    ])
+}
+
+// A store: its address and the words there before and after.
+fn push_store<W: TextBuffer>(
     out: &mut W,
-    name: &[u8],
     address: u32,
     before: u32,
     after: u32,
 ) -> Result<(), NoMemory>
     ensures text { OnOk result (Adds (W.text out.old) (W.text out.new)
-        (name.now ++ hex8 address ++ codes " " ++ hex8 before ++ codes " " ++ hex8 after)) }
-    ensures room { UsesRoom (length name.now + 26) (W.room out.old) (W.room out.new) result }
+        (codes "store " ++ hex8 address ++ codes " " ++ hex8 before ++ codes " " ++ hex8 after)) }
+    ensures room { UsesRoom 32 (W.room out.old) (W.room out.new) result }
 {
-    push_access(out, name, address, before)?;
-    push_spaced_hex8(out, after)
+    let [a, b, c, d, e, f, g, h] = hex8_digits(address);
+    let [i, j, k, l, m, n, o, p] = hex8_digits(before);
+    let [q, r, s, t, u, v, w, x] = hex8_digits(after);
+    out.put(&[
+        b's', b't', b'o', b'r', b'e', b' ', a, b, c, d, e, f, g, h, b' ', i, j, k, l, m, n, o, p,
+        b' ', q, r, s, t, u, v, w, x,
+    ])
+}
+
+// A conditional store that took place: its address and the words there before and after.
+fn push_scok<W: TextBuffer>(
+    out: &mut W,
+    address: u32,
+    before: u32,
+    after: u32,
+) -> Result<(), NoMemory>
+    ensures text { OnOk result (Adds (W.text out.old) (W.text out.new)
+        (codes "scok " ++ hex8 address ++ codes " " ++ hex8 before ++ codes " " ++ hex8 after)) }
+    ensures room { UsesRoom 31 (W.room out.old) (W.room out.new) result }
+{
+    let [a, b, c, d, e, f, g, h] = hex8_digits(address);
+    let [i, j, k, l, m, n, o, p] = hex8_digits(before);
+    let [q, r, s, t, u, v, w, x] = hex8_digits(after);
+    out.put(&[
+        b's', b'c', b'o', b'k', b' ', a, b, c, d, e, f, g, h, b' ', i, j, k, l, m, n, o, p, b' ',
+        q, r, s, t, u, v, w, x,
+    ])
+}
+
+// A conditional store that failed: its address.
+fn push_scfail<W: TextBuffer>(out: &mut W, address: u32) -> Result<(), NoMemory>
+    ensures text { OnOk result (Adds (W.text out.old) (W.text out.new)
+        (codes "scfail " ++ hex8 address)) }
+    ensures room { UsesRoom 15 (W.room out.old) (W.room out.new) result }
+{
+    let [a, b, c, d, e, f, g, h] = hex8_digits(address);
+    out.put(&[
+        b's', b'c', b'f', b'a', b'i', b'l', b' ', a, b, c, d, e, f, g, h,
+    ])
+}
+
+// An atomic change: its address and the words there before and after.
+fn push_amo<W: TextBuffer>(
+    out: &mut W,
+    address: u32,
+    before: u32,
+    after: u32,
+) -> Result<(), NoMemory>
+    ensures text { OnOk result (Adds (W.text out.old) (W.text out.new)
+        (codes "amo " ++ hex8 address ++ codes " " ++ hex8 before ++ codes " " ++ hex8 after)) }
+    ensures room { UsesRoom 30 (W.room out.old) (W.room out.new) result }
+{
+    let [a, b, c, d, e, f, g, h] = hex8_digits(address);
+    let [i, j, k, l, m, n, o, p] = hex8_digits(before);
+    let [q, r, s, t, u, v, w, x] = hex8_digits(after);
+    out.put(&[
+        b'a', b'm', b'o', b' ', a, b, c, d, e, f, g, h, b' ', i, j, k, l, m, n, o, p, b' ', q, r,
+        s, t, u, v, w, x,
+    ])
 }
 
 /// Puts at the end what an instruction did.
@@ -50,29 +115,29 @@ pub fn push_effect<W: TextBuffer>(out: &mut W, effect: Effect) -> Result<(), NoM
     ensures room { UsesRoom 32 (W.room out.old) (W.room out.new) result }
 {
     match effect {
-        Effect::Plain => push_bytes(out, b"plain"),
+        Effect::Plain => out.put(&[b'p', b'l', b'a', b'i', b'n']),
         Effect::Put { byte } => {
-            push_bytes(out, b"put ")?;
-            push_hex2(out, byte)
+            let [high, low] = hex2_digits(u32::from(byte));
+            out.put(&[b'p', b'u', b't', b' ', high, low])
         }
-        Effect::Load { address, word } => push_access(out, b"load ", address, word),
+        Effect::Load { address, word } => push_load(out, address, word),
         Effect::Store {
             address,
             before,
             after,
-        } => push_change(out, b"store ", address, before, after),
-        Effect::Lr { address, word } => push_access(out, b"lr ", address, word),
+        } => push_store(out, address, before, after),
+        Effect::Lr { address, word } => push_lr(out, address, word),
         Effect::ScOk {
             address,
             before,
             after,
-        } => push_change(out, b"scok ", address, before, after),
-        Effect::ScFail { address } => push_named_word(out, b"scfail ", address),
+        } => push_scok(out, address, before, after),
+        Effect::ScFail { address } => push_scfail(out, address),
         Effect::Amo {
             address,
             before,
             after,
-        } => push_change(out, b"amo ", address, before, after),
+        } => push_amo(out, address, before, after),
     }
 }
 

@@ -1,14 +1,14 @@
-ghost use Rattle.std.specs.Prelude.{◌≡◌, ◌+◌, ◌*◌, ◌∷◌, [], OnOk, Some, length};
+ghost use Rattle.std.specs.Prelude.{◌≡◌, ◌+◌, ◌*◌, ◌∷◌, ◌++◌, [], OnOk, Some, codes, decimal, length};
 ghost use Rattle.ddm_text.specs.Adds.{Adds};
 ghost use Rattle.text_model.specs.Report.{copy_place_text, item_line, letter_text, letter_texts};
 ghost use Rattle.report.specs.LineParts.{item_front};
 ghost use Rattle.report.specs.Room.{UsesRoom};
 
 use crate::buffers::TextBuffer;
-use crate::digits::push_hex8;
+use crate::digits::push_spaced_hex8;
 use crate::numbers::{push_bus, push_item, push_named_leaf};
-use crate::pieces::{push_bytes, push_named, push_words};
-use ddm_types::{ItemId, LeafState, NoMemory};
+use crate::pieces::{push_bytes, push_named, push_number, push_words};
+use ddm_types::{ItemId, LeafNo, LeafState, NoMemory};
 use tree_model::CopyPlace;
 
 /// Puts at the end where an item's current copy is.
@@ -79,6 +79,42 @@ pub fn push_letters<W: TextBuffer>(
     Ok(())
 }
 
+// A way of a leaf between two spaces. Numbers of one digit, as mostly, are put at once with the words.
+fn push_leaf_way<W: TextBuffer>(out: &mut W, leaf: LeafNo, way: u32) -> Result<(), NoMemory>
+    ensures text { OnOk result (Adds (W.text out.old) (W.text out.new)
+        (codes " leaf " ++ decimal leaf ++ codes " way " ++ decimal way ++ codes " ")) }
+    ensures room { UsesRoom 55 (W.room out.old) (W.room out.new) result }
+{
+    if leaf.0 < 10 && way < 10 {
+        let first = b'0' + leaf.0 as u8;
+        let second = b'0' + way as u8;
+        return out.put(&[
+            b' ', b'l', b'e', b'a', b'f', b' ', first, b' ', b'w', b'a', b'y', b' ', second, b' ',
+        ]);
+    }
+    push_bytes(out, &[b' ', b'l', b'e', b'a', b'f', b' '])?;
+    push_number(out, leaf.0)?;
+    push_bytes(out, &[b' ', b'w', b'a', b'y', b' '])?;
+    push_number(out, way)?;
+    push_bytes(out, &[b' '])
+}
+
+// Where an item's current copy is, between two spaces. Mostly it is in a way of a leaf.
+#[inline(always)]
+#[tactic(auto, unfolding(text_model::specs::Report::copy_place_text))]
+fn push_place_between<W: TextBuffer>(out: &mut W, place: CopyPlace) -> Result<(), NoMemory>
+    ensures text { OnOk result (Adds (W.text out.old) (W.text out.new)
+        (codes " " ++ copy_place_text place ++ codes " ")) }
+    ensures room { UsesRoom 55 (W.room out.old) (W.room out.new) result }
+{
+    if let CopyPlace::LeafWay { leaf, way } = place {
+        return push_leaf_way(out, leaf, way);
+    }
+    push_bytes(out, &[b' '])?;
+    push_copy_place(out, place)?;
+    push_bytes(out, &[b' '])
+}
+
 /// Puts at the end the line of an item up to the states of its entries.
 #[tactic(auto, unfolding(crate::specs::LineParts::item_front))]
 pub fn push_item_front<W: TextBuffer>(
@@ -91,14 +127,11 @@ pub fn push_item_front<W: TextBuffer>(
     ensures text { OnOk result (Adds (W.text out.old) (W.text out.new) (item_front item address words.now place)) }
     ensures room { UsesRoom (89 + 9 * length words.now) (W.room out.old) (W.room out.new) result }
 {
-    push_bytes(out, b"item ")?;
+    push_bytes(out, &[b'i', b't', b'e', b'm', b' '])?;
     push_item(out, item)?;
-    push_bytes(out, b" ")?;
-    push_hex8(out, address)?;
+    push_spaced_hex8(out, address)?;
     push_words(out, words)?;
-    push_bytes(out, b" ")?;
-    push_copy_place(out, place)?;
-    push_bytes(out, b" ")?;
+    push_place_between(out, place)?;
     Ok(())
 }
 

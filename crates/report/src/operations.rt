@@ -1,37 +1,70 @@
-ghost use Rattle.std.specs.Prelude.{◌*◌, ◌≤◌, ◌++◌, OnOk, codes, decimal, length};
+ghost use Rattle.std.specs.Prelude.{◌*◌, ◌≤◌, ◌++◌, OnOk, codes, decimal, take};
 ghost use Rattle.ddm_text.specs.Adds.{Adds};
-ghost use Rattle.text_model.specs.Report.{key_text, number_stops, op_line, op_lines};
+ghost use Rattle.ddm_text.specs.Hex.{hex8};
+ghost use Rattle.text_model.specs.Words.{effect_text};
+ghost use Rattle.text_model.specs.Report.{key_text, level_numbers, number_stops, op_line, op_lines};
 ghost use Rattle.report.specs.Room.{UsesRoom};
 
 use crate::buffers::TextBuffer;
-use crate::digits::push_hex8_between;
+use crate::digits::{hex8_digits, push_hex8_between};
 use crate::effects::push_effect;
 use crate::numbers::push_hart;
 use crate::pieces::{push_bytes, push_number};
-use ddm_types::{Key, LEVELS, NoMemory, Op};
+use ddm_types::{Effect, HartNo, Key, LEVELS, NoMemory, Op};
 
-// A number with a full stop behind it.
-#[inline(always)]
-fn push_stop<W: TextBuffer>(out: &mut W, number: u32) -> Result<(), NoMemory>
-    ensures text { OnOk result (Adds (W.text out.old) (W.text out.new) (decimal number ++ codes ".")) }
-    ensures room { UsesRoom 21 (W.room out.old) (W.room out.new) result }
+// The two numbers of a level, each with a full stop behind it. A child of one digit, as mostly, is put with both stops.
+fn push_long_level<W: TextBuffer>(out: &mut W, stamp: u32, child: u32) -> Result<(), NoMemory>
+    ensures text { OnOk result (Adds (W.text out.old) (W.text out.new)
+        (decimal stamp ++ codes "." ++ decimal child ++ codes ".")) }
+    ensures room { UsesRoom 42 (W.room out.old) (W.room out.new) result }
 {
-    if number < 10 {
-        return out.put(&[b'0' + number as u8, b'.']);
+    push_number(out, stamp)?;
+    if child < 10 {
+        out.put(&[b'.', b'0' + child as u8, b'.'])?;
+        return Ok(());
     }
-    push_number(out, number)?;
-    push_bytes(out, b".")
+    push_bytes(out, b".")?;
+    push_number(out, child)?;
+    push_bytes(out, b".")?;
+    Ok(())
 }
 
-// Each number with a full stop behind it.
-#[tactic(auto, unfolding(text_model::specs::Report::number_stops))]
-fn push_stops<W: TextBuffer>(out: &mut W, numbers: &[u32]) -> Result<(), NoMemory>
-    ensures text { OnOk result (Adds (W.text out.old) (W.text out.new) (number_stops numbers.now)) }
-    ensures room { UsesRoom (21 * length numbers.now) (W.room out.old) (W.room out.new) result }
+// The same. Two numbers of one digit, as where nothing was granted, are put at once.
+#[inline(always)]
+fn push_level<W: TextBuffer>(out: &mut W, stamp: u32, child: u32) -> Result<(), NoMemory>
+    ensures text { OnOk result (Adds (W.text out.old) (W.text out.new)
+        (decimal stamp ++ codes "." ++ decimal child ++ codes ".")) }
+    ensures room { UsesRoom 42 (W.room out.old) (W.room out.new) result }
 {
-    for number in numbers {
-        push_stop(out, *number)?;
+    if stamp < 10 && child < 10 {
+        return out.put(&[b'0' + stamp as u8, b'.', b'0' + child as u8, b'.']);
     }
+    push_long_level(out, stamp, child)
+}
+
+// The numbers of a key but the last, each with a full stop behind it: two for each level of the tree.
+fn push_levels<W: TextBuffer>(out: &mut W, depth: u32, key: Key) -> Result<(), NoMemory>
+    requires { depth ≤ LEVELS }
+    ensures text { OnOk result (Adds (W.text out.old) (W.text out.new)
+        (number_stops (take (2 * depth) (level_numbers key)))) }
+    ensures room { UsesRoom 168 (W.room out.old) (W.room out.new) result }
+{
+    if depth == 0 {
+        return Ok(());
+    }
+    push_level(out, key.s0, key.c0)?;
+    if depth == 1 {
+        return Ok(());
+    }
+    push_level(out, key.s1, key.c1)?;
+    if depth == 2 {
+        return Ok(());
+    }
+    push_level(out, key.s2, key.c2)?;
+    if depth == 3 {
+        return Ok(());
+    }
+    push_level(out, key.s3, key.c3)?;
     Ok(())
 }
 
@@ -42,11 +75,42 @@ pub fn push_key<W: TextBuffer>(out: &mut W, depth: u32, key: Key) -> Result<(), 
     ensures text { OnOk result (Adds (W.text out.old) (W.text out.new) (key_text depth key)) }
     ensures room { UsesRoom 188 (W.room out.old) (W.room out.new) result }
 {
-    let numbers = [
-        key.s0, key.c0, key.s1, key.c1, key.s2, key.c2, key.s3, key.c3,
-    ];
-    push_stops(out, &numbers[..2 * depth as usize])?;
+    push_levels(out, depth, key)?;
     push_number(out, key.i)
+}
+
+// The front of an operation's line: the word, the hart and a space. A hart of one digit, as mostly, is put with them.
+#[inline(always)]
+fn push_op_front<W: TextBuffer>(out: &mut W, hart: HartNo) -> Result<(), NoMemory>
+    ensures text { OnOk result (Adds (W.text out.old) (W.text out.new) (codes "op " ++ decimal hart ++ codes " ")) }
+    ensures room { UsesRoom 24 (W.room out.old) (W.room out.new) result }
+{
+    if hart.0 < 10 {
+        return out.put(&[b'o', b'p', b' ', b'0' + hart.0 as u8, b' ']);
+    }
+    push_bytes(out, b"op ")?;
+    push_hart(out, hart)?;
+    push_bytes(out, b" ")
+}
+
+// The end of an operation's line: where its instruction stood, what that did and the line feed. For one that did nothing
+// to memory, as most, all is put at once.
+#[inline(always)]
+#[tactic(auto, unfolding(text_model::specs::Words::effect_text))]
+fn push_op_end<W: TextBuffer>(out: &mut W, pc: u32, effect: Effect) -> Result<(), NoMemory>
+    ensures text { OnOk result (Adds (W.text out.old) (W.text out.new)
+        (codes " " ++ hex8 pc ++ codes " " ++ effect_text effect ++ codes "\n")) }
+    ensures room { UsesRoom 43 (W.room out.old) (W.room out.new) result }
+{
+    if let Effect::Plain = effect {
+        let [a, b, c, d, e, f, g, h] = hex8_digits(pc);
+        return out.put(&[
+            b' ', a, b, c, d, e, f, g, h, b' ', b'p', b'l', b'a', b'i', b'n', b'\n',
+        ]);
+    }
+    push_hex8_between(out, pc)?;
+    push_effect(out, effect)?;
+    out.put(&[b'\n'])
 }
 
 /// Puts at the end the line of an operation in a tree of this depth.
@@ -56,13 +120,9 @@ pub fn push_op_line<W: TextBuffer>(out: &mut W, depth: u32, op: Op) -> Result<()
     ensures text { OnOk result (Adds (W.text out.old) (W.text out.new) (op_line depth op)) }
     ensures room { UsesRoom 255 (W.room out.old) (W.room out.new) result }
 {
-    push_bytes(out, b"op ")?;
-    push_hart(out, op.hart)?;
-    push_bytes(out, b" ")?;
+    push_op_front(out, op.hart)?;
     push_key(out, depth, op.key)?;
-    push_hex8_between(out, op.pc)?;
-    push_effect(out, op.effect)?;
-    push_bytes(out, b"\n")?;
+    push_op_end(out, op.pc, op.effect)?;
     Ok(())
 }
 

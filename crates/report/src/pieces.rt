@@ -1,11 +1,11 @@
-ghost use Rattle.std.specs.Prelude.{◌+◌, ◌*◌, ◌++◌, OnOk, decimal, length};
+ghost use Rattle.std.specs.Prelude.{◌+◌, ◌*◌, ◌++◌, OnOk, codes, decimal, length};
 ghost use Rattle.ddm_text.specs.Adds.{Adds};
 ghost use Rattle.ddm_text.specs.Hex.{hex8};
 ghost use Rattle.text_model.specs.Report.{word_texts};
 ghost use Rattle.report.specs.Room.{UsesRoom};
 
 use crate::buffers::TextBuffer;
-use crate::digits::{push_decimal, push_hex8, push_spaced_hex8};
+use crate::digits::{hex8_digits, push_decimal, push_hex8, push_spaced_hex8};
 use ddm_types::NoMemory;
 
 /// Puts these bytes at the end.
@@ -45,14 +45,31 @@ pub fn push_named_word<W: TextBuffer>(out: &mut W, name: &[u8], word: u32) -> Re
     push_hex8(out, word)
 }
 
-/// Puts a space and eight hexadecimal digits for each word at the end.
-#[tactic(auto, unfolding(text_model::specs::Report::word_texts))]
+// Puts two words at the end at once, each behind a space.
+#[inline(always)]
+fn push_two_words<W: TextBuffer>(out: &mut W, first: u32, second: u32) -> Result<(), NoMemory>
+    ensures text { OnOk result (Adds (W.text out.old) (W.text out.new)
+        (codes " " ++ hex8 first ++ codes " " ++ hex8 second)) }
+    ensures room { UsesRoom 18 (W.room out.old) (W.room out.new) result }
+{
+    let [a, b, c, d, e, f, g, h] = hex8_digits(first);
+    let [i, j, k, l, m, n, o, p] = hex8_digits(second);
+    out.put(&[b' ', a, b, c, d, e, f, g, h, b' ', i, j, k, l, m, n, o, p])
+}
+
+/// Puts a space and eight hexadecimal digits for each word at the end. Two words at a time are put with fewer tests
+/// of the room than one.
 pub fn push_words<W: TextBuffer>(out: &mut W, words: &[u32]) -> Result<(), NoMemory>
     ensures text { OnOk result (Adds (W.text out.old) (W.text out.new) (word_texts words.now)) }
     ensures room { UsesRoom (9 * length words.now) (W.room out.old) (W.room out.new) result }
 {
-    for word in words {
-        push_spaced_hex8(out, *word)?;
+    let mut at = 0;
+    'words: while at + 1 < words.len() {
+        push_two_words(out, words[at], words[at + 1])?;
+        at += 2;
+    }
+    if at < words.len() {
+        push_spaced_hex8(out, words[at])?;
     }
     Ok(())
 }

@@ -1,4 +1,4 @@
-ghost use Rattle.std.specs.Prelude.{◌≡◌, ◌++◌, OnOk, length};
+ghost use Rattle.std.specs.Prelude.{◌≡◌, [], ◌∷◌, ◌++◌, OnOk, codes, decimal, length};
 ghost use Rattle.ddm_text.specs.Adds.{Adds};
 ghost use Rattle.text_model.specs.Schedule.{turn_text};
 ghost use Rattle.text_model.specs.Trace.{trace_from, trace_line};
@@ -6,11 +6,70 @@ ghost use Rattle.report.specs.Room.{UsesRoom};
 
 use crate::answers::push_answer;
 use crate::buffers::TextBuffer;
-use crate::digits::push_decimal;
+use crate::digits::{byte_digits, push_decimal, push_spaced_byte};
 use crate::line::Line;
 use crate::numbers::{push_bus, push_child, push_hart};
-use crate::pieces::{push_bytes, push_number};
-use ddm_types::{NoMemory, Turn, TurnAnswer};
+use crate::pieces::push_bytes;
+use ddm_types::{BusNo, ChildNo, HartNo, NoMemory, Turn, TurnAnswer};
+
+// Puts the turn of a hart at the end. Where the hart's number has one digit, as mostly, its bytes are put at once.
+fn push_hart_turn<W: TextBuffer>(out: &mut W, hart: HartNo, victim: u8) -> Result<(), NoMemory>
+    ensures text { OnOk result (Adds (W.text out.old) (W.text out.new)
+        (codes "h " ++ decimal hart ++ codes " " ++ decimal victim)) }
+    ensures room { UsesRoom 26 (W.room out.old) (W.room out.new) result }
+{
+    if hart.0 >= 10 {
+        push_bytes(out, b"h ")?;
+        push_hart(out, hart)?;
+        return push_spaced_byte(out, victim);
+    }
+    let digit = b'0' + hart.0 as u8;
+    let [hundreds, tens, ones] = byte_digits(victim);
+    if victim < 10 {
+        out.put(&[b'h', b' ', digit, b' ', ones])
+    } else if victim < 100 {
+        out.put(&[b'h', b' ', digit, b' ', tens, ones])
+    } else {
+        out.put(&[b'h', b' ', digit, b' ', hundreds, tens, ones])
+    }
+}
+
+// Puts at the end the turn of a bus that takes a first entry.
+#[inline(always)]
+fn push_down_turn<W: TextBuffer>(out: &mut W, bus: BusNo) -> Result<(), NoMemory>
+    ensures text { OnOk result (Adds (W.text out.old) (W.text out.new)
+        (codes "g " ++ decimal bus ++ codes " d")) }
+    ensures room { UsesRoom 24 (W.room out.old) (W.room out.new) result }
+{
+    if bus.0 < 10 {
+        return out.put(&[b'g', b' ', b'0' + bus.0 as u8, b' ', b'd']);
+    }
+    push_bytes(out, b"g ")?;
+    push_bus(out, bus)?;
+    push_bytes(out, b" d")
+}
+
+// Puts at the end a bus, the letter of what it does there, and its child. Numbers of one digit, as mostly, are put at once.
+fn push_child_turn<W: TextBuffer>(
+    out: &mut W,
+    bus: BusNo,
+    letter: u8,
+    child: ChildNo,
+) -> Result<(), NoMemory>
+    ensures text { OnOk result (Adds (W.text out.old) (W.text out.new)
+        (codes "g " ++ decimal bus ++ (32 ∷ letter ∷ 32 ∷ []) ++ decimal child)) }
+    ensures room { UsesRoom 45 (W.room out.old) (W.room out.new) result }
+{
+    if bus.0 < 10 && child.0 < 10 {
+        let from = b'0' + bus.0 as u8;
+        let to = b'0' + child.0 as u8;
+        return out.put(&[b'g', b' ', from, b' ', letter, b' ', to]);
+    }
+    push_bytes(out, b"g ")?;
+    push_bus(out, bus)?;
+    push_bytes(out, &[b' ', letter, b' '])?;
+    push_child(out, child)
+}
 
 /// Puts a turn at the end, as a schedule has it.
 #[tactic(auto, unfolding(text_model::specs::Schedule::turn_text))]
@@ -19,41 +78,19 @@ pub fn push_turn<W: TextBuffer>(out: &mut W, turn: Turn) -> Result<(), NoMemory>
     ensures room { UsesRoom 66 (W.room out.old) (W.room out.new) result }
 {
     match turn {
-        Turn::Hart { hart, victim } => {
-            push_bytes(out, b"h ")?;
-            push_hart(out, hart)?;
-            push_bytes(out, b" ")?;
-            push_number(out, u32::from(victim))
-        }
-        Turn::Down { bus } => {
-            push_bytes(out, b"g ")?;
-            push_bus(out, bus)?;
-            push_bytes(out, b" d")
-        }
-        Turn::Request { bus, child } => {
-            push_bytes(out, b"g ")?;
-            push_bus(out, bus)?;
-            push_bytes(out, b" q ")?;
-            push_child(out, child)
-        }
-        Turn::Reply { bus, child } => {
-            push_bytes(out, b"g ")?;
-            push_bus(out, bus)?;
-            push_bytes(out, b" r ")?;
-            push_child(out, child)
-        }
+        Turn::Hart { hart, victim } => push_hart_turn(out, hart, victim),
+        Turn::Down { bus } => push_down_turn(out, bus),
+        Turn::Request { bus, child } => push_child_turn(out, bus, b'q', child),
+        Turn::Reply { bus, child } => push_child_turn(out, bus, b'r', child),
         Turn::Leave { bus, child, choice } => {
-            push_bytes(out, b"g ")?;
-            push_bus(out, bus)?;
-            push_bytes(out, b" l ")?;
-            push_child(out, child)?;
-            push_bytes(out, b" ")?;
-            push_number(out, u32::from(choice))
+            push_child_turn(out, bus, b'l', child)?;
+            push_spaced_byte(out, choice)
         }
     }
 }
 
-/// Puts at the end the line of a turn, counted from 0, and of its answer.
+/// Puts at the end the line of a turn, counted from 0, and of its answer. Bytes that are written in place are put
+/// with fewer tests than a text.
 pub fn push_trace_line<W: TextBuffer>(
     out: &mut W,
     number: u64,
@@ -63,13 +100,13 @@ pub fn push_trace_line<W: TextBuffer>(
     ensures text { OnOk result (Adds (W.text out.old) (W.text out.new) (trace_line number turn answer)) }
     ensures room { UsesRoom 191 (W.room out.old) (W.room out.new) result }
 {
-    push_bytes(out, b"t ")?;
+    push_bytes(out, &[b't', b' '])?;
     push_decimal(out, number)?;
-    push_bytes(out, b" ")?;
+    push_bytes(out, &[b' '])?;
     push_turn(out, turn)?;
-    push_bytes(out, b" ")?;
+    push_bytes(out, &[b' '])?;
     push_answer(out, answer)?;
-    push_bytes(out, b"\n")?;
+    push_bytes(out, &[b'\n'])?;
     Ok(())
 }
 

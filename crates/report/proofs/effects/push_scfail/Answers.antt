@@ -1,0 +1,6 @@
+use Rattle.ddm_text.specs.Hex.{hex2, hex8}
+use Rattle.report.proofs.effects.push_scfail.Goals as goal
+
+pub returns-clause-text : goal.returns-clause-text
+unfolding hex2 hex8
+returns-clause-text g c = rw c.hex8_digits.ensures at c.put.ensures.text

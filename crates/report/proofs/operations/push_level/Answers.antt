@@ -1,0 +1,6 @@
+use Rattle.std.proofs.Common.{arith}
+use Rattle.std.proofs.lemmas.Fmt.{decimal_digit}
+use Rattle.report.proofs.operations.push_level.Goals as goal
+
+pub returns-then-child-lt10-clause-text : goal.returns-then-child-lt10-clause-text
+returns-then-child-lt10-clause-text g c = rw (decimal_digit c.args.stamp (omega arith), decimal_digit c.args.child (omega arith)) c.put.ensures.text
