@@ -4,7 +4,7 @@ use Rattle.std.proofs.lemmas.Nat.{div-mul-add, mod-mul-add}
 use Rattle.std.proofs.lemmas.List.{get_or-set_same}
 use Rattle.std.proofs.Math.ListN.{length-set}
 use Rattle.ddm_types.specs.declared.sizes.LeafState.{LeafState}
-use Rattle.attraction_mem.specs.Memory.{MemoryValue, entry_of, with_entry, without_entry, with_state, with_words, changed_state, changed_words, IsFree}
+use Rattle.attraction_mem.specs.Memory.{entry_of, with_entry, without_entry, with_state, with_words, changed_state, changed_words, IsFree}
 use Rattle.attraction_mem.specs.Places.{memory_of, HasTag, IsKept}
 use Rattle.attraction_mem.proofs.Holding.{IsWritten, written-set, written-same}
 use Rattle.attraction_mem.proofs.Changing.{IsAlone, alone_free, alone_tagged, kept_put, kept_free, memory_put, memory_free}
@@ -72,7 +72,3 @@ module _ {ways sets : ℕ} {tags : List (Option (ℕ × LeafState))} {words : Li
 
   pub changed_is : memory_of ways sets (set tags p (Some (item, t))) (set words p w) ≡ with_words (with_state (memory_of ways sets tags words) item t) item w
   changed_is = reworded_is (restated_kept kept item p s tag inside t) item p t there within w ∙ ap (λ m. with_words m item w) (restated_is kept item p s tag inside t)
-
--- an item without an entry has none to change
-pub unchanged_is : (m : MemoryValue) (item : ℕ) (t : LeafState) (w : List ℕ) → entry_of m item ≡ None → m ≡ with_words (with_state m item t) item w
-unchanged_is m item t w absent = sym (ap (λ k. with_words k item w) (ap (changed_state m item t) absent) ∙ ap (changed_words m item w) absent)

@@ -1,5 +1,5 @@
 -- What an attraction memory is seen as: the number of its sets, and a map from item to entry.
-use Rattle.std.specs.Prelude.{◌≡◌, ℕ, zero, suc, ◌%◌, ◌<◌, List, Option, Some, None, IsSomeAnd, refl}
+use Rattle.std.specs.Prelude.{◌≡◌, ℕ, zero, suc, ◌+◌, ◌*◌, ◌%◌, ◌<◌, List, Option, Some, None, IsSomeAnd, option_map, refl}
 use Rattle.std.specs.Ordering.{nat_cmp}
 use Rattle.std.specs.FinMap.{FinMap}
 use Rattle.std.specs.FinMap as map
@@ -57,6 +57,10 @@ memory_code = code_by (ℕ × FinMap nat_cmp EntryValue) (coded× coded_ℕ (map
 -- the entry of an item, if it has one
 abbrev pub entry_of : MemoryValue → ℕ → Option EntryValue
 entry_of m item = map.get m.entries item
+
+-- the place of an item's entry, if it has one: the ways of a set stand behind those of the sets before it
+abbrev pub place_of : ℕ → MemoryValue → ℕ → Option ℕ
+place_of ways m item = option_map (λ e. item % m.sets * ways + e.way) (entry_of m item)
 
 -- no item has an entry
 abbrev pub empty_memory : ℕ → MemoryValue
@@ -123,6 +127,3 @@ way_and_state e = (e.way, e.state)
 -- the state and the words of an entry
 abbrev pub state_and_words : EntryValue → LeafState × List ℕ
 state_and_words e = (e.state, e.words)
-
-abbrev pub words_and_state : EntryValue → List ℕ × LeafState
-words_and_state e = (e.words, e.state)

@@ -1,5 +1,5 @@
 -- How a memory is stored: a tag and words for each place, where place `set * ways + way` is that way of that set.
-use Rattle.std.specs.Prelude.{◌≡◌, ℕ, ◌+◌, ◌*◌, ◌/◌, ◌%◌, ◌<◌, ◌≤◌, List, [], ◌∷◌, length, Option, Some, None, slice_index_or, IsSome}
+use Rattle.std.specs.Prelude.{◌≡◌, ℕ, ◌+◌, ◌*◌, ◌/◌, ◌%◌, ◌<◌, ◌≤◌, Bool, false, nat_eq, List, [], ◌∷◌, length, Option, Some, None, slice_index_or, IsSome}
 use Rattle.std.specs.FinMap as map
 use Rattle.ddm_types.specs.declared.sizes.LeafState.{LeafState}
 use Rattle.attraction_mem.specs.Memory.{EntryValue, MemoryValue}
@@ -21,6 +21,11 @@ memory_of ways sets tags words = record { sets = sets; entries = map.from_entrie
 -- the item's tag is at this place, in this state
 abbrev pub HasTag : List (Option (ℕ × LeafState)) → ℕ → ℕ → LeafState → Type 0
 HasTag tags place item state = slice_index_or tags place None ≡ Some (item, state)
+
+-- whether the tag is the item's
+abbrev pub is_of : Option (ℕ × LeafState) → ℕ → Bool
+is_of None item = false
+is_of (Some t) item = nat_eq t.0 item
 
 -- each of the ways of each set has a place, and these are not many
 pub record IsSized (ways sets places : ℕ) : Type 0 where

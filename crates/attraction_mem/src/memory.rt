@@ -1,7 +1,7 @@
 ghost use Rattle.std.specs.Prelude.{◌≡◌, ◌+◌, ◌*◌, ◌%◌, ◌<◌, ◌≤◌, ◌↔◌, ℕ, [], length, Option, Some, None, Ok, IfOk, IfErr, OnErr, IfSome, IfNone, IsSome, is_some, slice_index_or};
 ghost use Rattle.std.specs.Option.{option_map};
 ghost use Rattle.ddm_types.specs.declared.sizes.LeafState.{LeafState as State};
-ghost use Rattle.attraction_mem.specs.Memory.{entry_of, empty_memory, StandsIn, StandsAs, IsFree, IsLowestFree, IsFull, with_entry, without_entry, with_state, with_words, way_and_state, state_and_words, words_and_state};
+ghost use Rattle.attraction_mem.specs.Memory.{entry_of, empty_memory, StandsIn, StandsAs, IsFree, IsLowestFree, IsFull, with_entry, place_of, without_entry, with_state, with_words, way_and_state, state_and_words};
 
 use crate::marks::{is_marked, mark};
 use crate::places::{find_free, find_tag, first_place};
@@ -112,14 +112,25 @@ impl<const WAYS: usize, const WORDS: usize> AttractionMem<WAYS, WORDS> {
         Some(self.words[place])
     }
 
-    /// The words and the state of the item's entry. The words come first: behind a state they would be copied from a place that isn't one of
-    /// words.
+    /// The state of the item's entry, and its place, by which it can be changed without a second search.
     #[inline(always)]
-    pub fn entry(&self, item: ItemId) -> Option<(Words<WORDS>, LeafState)>
-        ensures { result ≡ option_map words_and_state (entry_of self.now item) }
+    pub fn seek(&self, item: ItemId) -> Option<(usize, LeafState)>
+        ensures place { option_map (λ found. found.0) result ≡ place_of WAYS self.now item }
+        ensures state { option_map (λ found. found.1) result ≡ option_map (λ entry. entry.state) (entry_of self.now item) }
     {
-        let (place, state) = find_tag::<WAYS>(&self.sets, &self.tags, item)?;
-        Some((self.words[place], state))
+        if !is_marked(&self.sets, &self.marks, item) {
+            return None;
+        }
+        find_tag::<WAYS>(&self.sets, &self.tags, item)
+    }
+
+    /// The words of the item, of which this is the place.
+    #[inline(always)]
+    pub fn words_at(&self, _item: ItemId, place: usize) -> Words<WORDS>
+        requires { place_of WAYS self.now _item ≡ Some place }
+        ensures { Some result ≡ option_map (λ entry. entry.words) (entry_of self.now _item) }
+    {
+        self.words[place]
     }
 
     /// The lowest free way of the item's set.
@@ -219,17 +230,32 @@ impl<const WAYS: usize, const WORDS: usize> AttractionMem<WAYS, WORDS> {
         self.words[place] = words;
     }
 
-    /// The item's entry, if it has one, gets this state and these words. The answer says whether it has one.
-    pub fn change(&mut self, item: ItemId, state: LeafState, words: Words<WORDS>) -> bool
-        ensures there { result ≡ is_some (entry_of self.old item) }
-        ensures changed { self.new ≡ with_words (with_state self.old item state) item words.entry }
+    /// The item, of which this is the place, gets this state.
+    #[inline(always)]
+    pub fn set_state_at(&mut self, item: ItemId, place: usize, state: LeafState)
+        requires { place_of WAYS self.old item ≡ Some place }
+        ensures { self.new ≡ with_state self.old item state }
     {
-        let Some((at, _)) = find_tag::<WAYS>(&self.sets, &self.tags, item) else {
-            return false;
-        };
+        self.tags[place] = Some((item, state));
+    }
+
+    /// The item, of which this is the place, gets this state and these words.
+    #[inline(always)]
+    pub fn change_at(&mut self, item: ItemId, at: usize, state: LeafState, words: Words<WORDS>)
+        requires { place_of WAYS self.old item ≡ Some at }
+        ensures { self.new ≡ with_words (with_state self.old item state) item words.entry }
+    {
         self.tags[at] = Some((item, state));
         self.words[at] = words;
-        true
+    }
+
+    /// Takes the item out, of which this is the place.
+    #[inline(always)]
+    pub fn remove_at(&mut self, _item: ItemId, at: usize)
+        requires { place_of WAYS self.old _item ≡ Some at }
+        ensures { self.new ≡ without_entry self.old _item }
+    {
+        self.tags[at] = None;
     }
 
     /// Becomes a copy of another memory with as many sets. It takes no memory.

@@ -1,5 +1,5 @@
 ghost use Rattle.std.specs.Prelude.{◌≡◌, ◌+◌, ◌*◌, ◌%◌, ◌<◌, ◌≤◌, length, None, IfSome, IfNone, slice_index_or};
-ghost use Rattle.attraction_mem.specs.Places.{IsSized, HasTag, HasNoTag, AreTaken};
+ghost use Rattle.attraction_mem.specs.Places.{IsSized, HasTag, HasNoTag, AreTaken, is_of};
 
 use ddm_types::{Divisor, ItemId, LeafState};
 
@@ -14,7 +14,19 @@ pub fn first_place<const WAYS: usize>(sets: &Divisor, item: ItemId) -> usize
     sets.remainder(item.0) as usize * WAYS
 }
 
-/// The place of the item's tag, and its state.
+/// Whether the tag is the item's.
+#[inline(always)]
+fn is_of(tag: Option<(ItemId, LeafState)>, item: ItemId) -> bool
+    ensures { result ≡ is_of tag item }
+{
+    match tag {
+        Some((held, _)) => held.0 == item.0,
+        None => false,
+    }
+}
+
+/// The place of the item's tag, and its state. All ways are looked at, and the one is chosen without a branch: in which way an item
+/// stands can't be foreseen.
 #[inline(always)]
 pub fn find_tag<const WAYS: usize>(
     sets: &Divisor,
@@ -27,14 +39,20 @@ pub fn find_tag<const WAYS: usize>(
     ensures absent { IfNone result (HasNoTag tags.now (item % sets.now * WAYS) WAYS item) }
 {
     let first = first_place::<WAYS>(sets, item);
-    for place in first..first + WAYS {
-        if let Some((held, state)) = tags[place] {
-            if held == item {
-                return Some((place, state));
-            }
-        }
+    let mut found = WAYS;
+    for way in 0..WAYS {
+        found = if is_of(tags[first + way], item) {
+            way
+        } else {
+            found
+        };
     }
-    None
+    if found == WAYS {
+        return None;
+    }
+    let place = first + found;
+    let (_, state) = tags[place]?;
+    Some((place, state))
 }
 
 /// The lowest free way of the item's set.

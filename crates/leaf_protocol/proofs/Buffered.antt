@@ -111,6 +111,15 @@ buffered-gone x (f ∷ fs) =
       | false ↦ λ h. rw h (buffered-gone x fs)
     ] refl
 
+-- where the item isn't there none goes
+pub without-absent : (x : ℕ) (b : List BufferValue) → buffered x b ≡ None → without x b ≡ b
+without-absent x [] none = refl
+without-absent x (f ∷ fs) none =
+    elim (is_buffered x f) as (λ t. is_buffered x f ≡ t → cond t (Some f) (buffered x fs) ≡ None → cond (not t) (f ∷ without x fs) (without x fs) ≡ f ∷ fs) [
+      | true ↦ λ h g. absurd cc
+      | false ↦ λ h g. ap (λ es. f ∷ es) (without-absent x fs g)
+    ] refl none
+
 pub buffered-left : (x y : ℕ) (b : List BufferValue) → y ≢ x → buffered y (without x b) ≡ buffered y b
 buffered-left x y [] other = refl
 buffered-left x y (f ∷ fs) other =

@@ -10,15 +10,16 @@ use Rattle.ddm_types.specs.declared.sizes.LeafState.{LeafState}
 use Rattle.flat_model.specs.Flat.{has_reserved}
 use Rattle.tree_model.specs.State.States.{is_waiting, is_reading}
 use Rattle.tree_model.specs.State.Values.{WayValue, BufferValue}
-use Rattle.tree_model.specs.State.Leaf.{blank, way_at, way_with, entry_at, buffer_item, buffer_with, is_buffered, buffered, Fate, ends, becomes, enters, enters_free, ways_after, buffer_after, words_in, waiting_item, item_in_way}
+use Rattle.tree_model.specs.State.Leaf.{blank, way_at, way_with, entry_at, entry_words, buffer_item, buffer_with, is_buffered, buffered, Fate, ends, becomes, enters, enters_free, ways_after, buffer_after, words_in, waiting_item, item_in_way}
 use Rattle.tree_model.specs.Turns.HartTurn.{ways_without, moved_to_buffer, moved_entry}
-use Rattle.attraction_mem.specs.Memory.{EntryValue, MemoryValue, entry_of, empty_memory, StandsIn, IsFree, IsFull, IsLowestFree, with_entry, without_entry, with_state, with_words, way_and_state}
+use Rattle.attraction_mem.specs.Memory.{EntryValue, MemoryValue, entry_of, empty_memory, StandsIn, IsFree, IsFull, IsLowestFree, with_entry, without_entry, way_and_state}
+use Rattle.attraction_mem.proofs.Changing.{without_absent}
 use Rattle.attraction_mem.proofs.Holding.{equal_or_not}
 use Rattle.replacement.specs.Arrived.{with_state as buffer_in_state, with_words as buffer_of_words}
 use Rattle.replacement.proofs.Once.{once-append}
 use Rattle.leaf_protocol.specs.Entries.{EntriesValue, way_value, way_of, ways_of, EntryFits, ItemFits, AreEntries, waiting_after, waits_now, may_be, with_fate, cleared, lowest_way}
-use Rattle.leaf_protocol.proofs.Ways.{put-entry, put-none, put-both, ways_of-put, ways_of-empty, item_in_way-only, item_in_way-none, lowest-some, lowest-none}
-use Rattle.leaf_protocol.proofs.Buffered.{buffered-append, map-both, buffered-changed, buffered-unchanged, changed-once, buffered-gone, buffered-left, gone-once}
+use Rattle.leaf_protocol.proofs.Ways.{IsPut, put-entry, put-none, ways_of-put, ways_of-empty, item_in_way-only, item_in_way-none, lowest-some, lowest-none}
+use Rattle.leaf_protocol.proofs.Buffered.{without-absent, buffered-append, map-both, buffered-changed, buffered-unchanged, changed-once, buffered-gone, buffered-left, gone-once}
 use Rattle.leaf_protocol.proofs.Fits.{entry_in, way-alone, after-same, after-named, are-below, way-is, entry-is, entry-named, kept-at, waiting-is}
 
 -- ---- no entry
@@ -44,19 +45,6 @@ words_in-twice LeafState.ReadingWaiting width words = refl
 blank-suits : (s : LeafState) (width : ℕ) → is_reading s ≡ true → blank width ≡ words_in s width (blank width)
 blank-suits s width reading = rw reading refl
 
--- an entry in an option
-some-entry : (o : Option EntryValue) → is_some (option_map way_and_state o) ≡ true → (e : EntryValue) × (o ≡ Some e)
-some-entry None h = absurd cc
-some-entry (Some e) h = (e, refl)
-
-pub some-mapped : (o : Option EntryValue) → is_some (option_map way_and_state o) ≡ is_some o
-some-mapped None = refl
-some-mapped (Some e) = refl
-
-pub none-is : (o : Option EntryValue) → is_some o ≡ false → o ≡ None
-none-is None h = refl
-none-is (Some e) h = absurd cc
-
 no-entry : (o : Option EntryValue) → option_map way_value o ≡ None → o ≡ None
 no-entry None h = refl
 no-entry (Some e) h = absurd cc
@@ -81,20 +69,26 @@ module _ {ways width n : ℕ} {m : MemoryValue} {b : List BufferValue} {w : Opti
   pub buffered_none : entry_at x (ways_of n m) b ≡ None → buffered x b ≡ None
   buffered_none absent = no-buffer-entry (way_of m x) (buffered x b) (sym (entry-is kept x) ∙ absent)
 
-  pub entry_some : is_some (option_map way_and_state (entry_of m x)) ≡ true → (e : EntryValue) × (entry_of m x ≡ Some e)
-  entry_some h = some-entry (entry_of m x) h
-
   -- an entry that stands in no way stands in the buffer
-  pub elsewhere : is_some (entry_at x (ways_of n m) b) ≡ true → is_some (option_map way_and_state (entry_of m x)) ≡ false → (way_of m x ≡ None) × ((e : BufferValue) × (buffered x b ≡ Some e))
-  elsewhere there none = (way_gone (entry_of m x) none, in_buffer (buffered x b) (subst (λ o. is_some (entry_in o (buffered x b)) ≡ true) (way_gone (entry_of m x) none) (sym (ap is_some (entry-is kept x)) ∙ there)))
+  pub elsewhere : is_some (entry_at x (ways_of n m) b) ≡ true → entry_of m x ≡ None → (way_of m x ≡ None) × ((e : BufferValue) × (buffered x b ≡ Some e))
+  elsewhere there none = (way_gone, in_buffer (buffered x b) (subst (λ o. is_some (entry_in o (buffered x b)) ≡ true) way_gone (sym (ap is_some (entry-is kept x)) ∙ there)))
     where
-      way_gone : (o : Option EntryValue) → is_some (option_map way_and_state o) ≡ false → option_map way_value o ≡ None
-      way_gone None h = refl
-      way_gone (Some e) h = absurd cc
+      way_gone : way_of m x ≡ None
+      way_gone = ap (option_map way_value) none
 
       in_buffer : (o : Option BufferValue) → is_some (entry_in None o) ≡ true → (e : BufferValue) × (o ≡ Some e)
       in_buffer None h = absurd cc
       in_buffer (Some e) h = (e, refl)
+
+  -- an entry in a way is the only one of its item
+  way-there : (e : EntryValue) → entry_of m x ≡ Some e → way_of m x ≡ Some (way_value e)
+  way-there e there = ap (option_map way_value) there
+
+  alone-here : (e : EntryValue) → entry_of m x ≡ Some e → buffered x b ≡ None
+  alone-here e there = way-alone n width w x (way_value e) (buffered x b) (subst (λ o. ItemFits n width w x o (buffered x b)) (way-there e there) (kept.each x))
+
+  pub words-way : (e : EntryValue) → entry_of m x ≡ Some e → entry_words (entry_at x (ways_of n m) b) ≡ e.words
+  words-way e there = ap entry_words (entry-is kept x) ∙ ap (λ o. entry_words (entry_in o (buffered x b))) (way-there e there)
 
   -- ---- another state and other words
 
@@ -112,34 +106,24 @@ module _ {ways width n : ℕ} {m : MemoryValue} {b : List BufferValue} {w : Opti
     fits-now inside = record { inside = inside; named = after-named x (is_waiting s) w; blank_words = words_in-twice s width words }
 
     -- in a way
-    module _ (e : EntryValue) (there : entry_of m x ≡ Some e) where
-      abbrev restated : MemoryValue
-      restated = with_words (with_state m x s) x suiting
-
-      way-there : way_of m x ≡ Some (way_value e)
-      way-there = ap (option_map way_value) there
-
-      alone-here : buffered x b ≡ None
-      alone-here = way-alone n width w x (way_value e) (buffered x b) (subst (λ o. ItemFits n width w x o (buffered x b)) way-there (kept.each x))
-
+    module _ (e : EntryValue) (there : entry_of m x ≡ Some e) (k : MemoryValue) (put : IsPut m k x (Some (record { way = e.way; state = s; words = suiting }))) where
       here-inside : x < n
-      here-inside = let fits : EntryFits n width w x e.state e.words = subst (λ o. ItemFits n width w x (Some (way_value e)) o) alone-here (subst (λ o. ItemFits n width w x o (buffered x b)) way-there (kept.each x)) in fits.inside
+      here-inside =
+          let way = way-there e there in
+          let fits : EntryFits n width w x e.state e.words = subst (λ o. ItemFits n width w x (Some (way_value e)) o) (alone-here e there) (subst (λ o. ItemFits n width w x o (buffered x b)) way (kept.each x)) in
+          fits.inside
 
-      pub set-way-kept : AreEntries ways width n restated b (waiting_after x (is_waiting s) w)
-      set-way-kept =
-          kept-at kept restated b (waiting_after x (is_waiting s) w) x (Some (record { way = e.way; state = s; words = suiting })) None (put-both m x e s suiting there) kept.once alone-here (λ y other. refl) others-named (fits-now here-inside)
+      pub set-way-kept : AreEntries ways width n k b (waiting_after x (is_waiting s) w)
+      set-way-kept = kept-at kept k b (waiting_after x (is_waiting s) w) x (Some (record { way = e.way; state = s; words = suiting })) None put kept.once (alone-here e there) (λ y other. refl) others-named (fits-now here-inside)
 
-      pub set-way-sets : restated.sets ≡ m.sets
-      set-way-sets = (put-both m x e s suiting there).sets
-
-      pub set-way-ways : ways_of n restated ≡ ways_after x (becomes s suiting) (ways_of n m)
+      pub set-way-ways : ways_of n k ≡ ways_after x (becomes s suiting) (ways_of n m)
       set-way-ways =
-          let here : way_at x (ways_of n m) ≡ Some (way_value e) = way-is kept x ∙ way-there in
-          ways_of-put n m restated x (Some (record { way = e.way; state = s; words = suiting })) (put-both m x e s suiting there) ∙ ap (λ o. slice_set (ways_of n m) x (option_map (way_with s suiting) o)) (sym here)
+          let here : way_at x (ways_of n m) ≡ Some (way_value e) = way-is kept x ∙ way-there e there in
+          ways_of-put n m k x (Some (record { way = e.way; state = s; words = suiting })) put ∙ ap (λ o. slice_set (ways_of n m) x (option_map (way_with s suiting) o)) (sym here)
 
       pub set-way-buffer : b ≡ buffer_after x (becomes s suiting) (ways_of n m) b
       set-way-buffer =
-          let here : way_at x (ways_of n m) ≡ Some (way_value e) = way-is kept x ∙ way-there in
+          let here : way_at x (ways_of n m) ≡ Some (way_value e) = way-is kept x ∙ way-there e there in
           ap (λ o. cond (is_some o) b (map (buffer_with x s suiting) b)) (sym here)
 
     -- in the buffer
@@ -175,6 +159,22 @@ module _ {ways width n : ℕ} {m : MemoryValue} {b : List BufferValue} {w : Opti
 
   pub end-ways : ways_of n (without_entry m x) ≡ ways_after x ends (ways_of n m)
   end-ways = ways_of-put n m (without_entry m x) x None (put-none m x)
+
+  -- in its way
+  module _ (e : EntryValue) (there : entry_of m x ≡ Some e) where
+    pub end-way-buffer : b ≡ left
+    end-way-buffer = sym (without-absent x b (alone-here e there))
+
+    pub end-way-kept : AreEntries ways width n (without_entry m x) b (waiting_after x false w)
+    end-way-kept = subst (λ l. AreEntries ways width n (without_entry m x) l (waiting_after x false w)) (sym end-way-buffer) end-kept
+
+  -- in the buffer
+  module _ (none : entry_of m x ≡ None) where
+    pub end-buffer-kept : AreEntries ways width n m left (waiting_after x false w)
+    end-buffer-kept = subst (λ k. AreEntries ways width n k left (waiting_after x false w)) (without_absent m x none) end-kept
+
+    pub end-buffer-ways : ways_of n m ≡ ways_after x ends (ways_of n m)
+    end-buffer-ways = ap (ways_of n) (sym (without_absent m x none)) ∙ end-ways
 
   -- ---- it comes
 
@@ -324,6 +324,11 @@ entry-both (Some e) p words first second =
     let one : p ≡ way_and_state e = same_Some p (way_and_state e) first in
     let two : words ≡ e.words = same_Some words e.words second in
     rw (one, two) refl
+
+-- and it stands in some way
+pub entry-told : (o : Option EntryValue) (s : LeafState) (words : List ℕ) → Some s ≡ option_map (λ e. e.state) o → Some words ≡ option_map (λ e. e.words) o → (way : ℕ) × (o ≡ Some (record { way = way; state = s; words = words }))
+entry-told None s words first second = absurd cc
+entry-told (Some e) s words first second = (e.way, rw (same_Some s e.state first, same_Some words e.words second) refl)
 
 -- what is told where a call succeeds
 pub told-ok : {X E : Type 0} (r : Result X E) {P : Type 0} → is_err r ≡ false → OnOk r P → P

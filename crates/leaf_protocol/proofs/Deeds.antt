@@ -1,7 +1,6 @@
 -- A turn of the hart, by what its instruction asks for.
 -- Letters: v is the leaf before, x an item, c a change.
 use Rattle.std.proofs.Common.{◌≡◌, ℕ, ◌+◌, ◌%◌, Bool, true, false, ◌&&◌, List, [], Option, Some, None, Ok, refl, ap, ◌∙◌}
-use Rattle.std.proofs.lemmas.Option.{same_Some}
 use Rattle.std.specs.Prelude.{option_map, if◌then◌else◌}
 use Rattle.ddm_types.specs.declared.answers.TurnAnswer.{TurnAnswer}
 use Rattle.ddm_types.specs.declared.answers.TurnAnswer.TheVariants.{Retired}
@@ -20,7 +19,7 @@ use Rattle.tree_model.specs.State.Values.{LeafValue}
 use Rattle.tree_model.specs.State.Leaf.{LeafEntry, leaf_entry, entry_state, entry_words, state_at, becomes, ways_after, buffer_after, buffer_full, free_way, waiting_item}
 use Rattle.tree_model.specs.Turns.HartTurn.{Deed, halts, upgrades, need_to_write, has_halted, waits_for, fetches, finds_buffer_full, need_of, words_here, change_here, deed_of_change, deed_to_fetch, replaces, deed_by_need, deed_unless_waiting, deed_unless_halted, deed_of, ways_stored, buffer_stored, leaf_step}
 use Rattle.leaf_protocol.specs.Entries.{way_to_take}
-use Rattle.leaf_protocol.specs.Leaf.{IsDone, words_and_state, write_ask}
+use Rattle.leaf_protocol.specs.Leaf.{IsDone, write_ask}
 
 -- ---- what a turn comes to
 
@@ -151,21 +150,6 @@ module _ (code : List CodeWord) (items : ItemTable) (victim : ℕ) (v : LeafValu
       go : (o : Option LeafEntry) → None ≡ option_map (λ e. e.words) o → o ≡ None
       go None h = refl
       go (Some e) h = absurd cc
-
--- the words and the state of an entry that was looked at
-pub state-seen : (x : ℕ) (v : LeafValue) (seen : Option (List ℕ × LeafState)) → seen ≡ option_map words_and_state (leaf_entry x v) → option_map (λ (s : List ℕ × LeafState). s.1) seen ≡ state_at x v
-state-seen x v seen is = ap (option_map (λ (s : List ℕ × LeafState). s.1)) is ∙ go (leaf_entry x v)
-  where
-    go : (o : Option LeafEntry) → option_map (λ (s : List ℕ × LeafState). s.1) (option_map words_and_state o) ≡ option_map entry_state o
-    go None = refl
-    go (Some e) = refl
-
-pub words-seen : (x : ℕ) (v : LeafValue) (state : LeafState) (words : List ℕ) → Some (words, state) ≡ option_map words_and_state (leaf_entry x v) → words ≡ words_here v x
-words-seen x v state words is = go (leaf_entry x v) is
-  where
-    go : (o : Option LeafEntry) → Some (words, state) ≡ option_map words_and_state o → words ≡ entry_words o
-    go None e = absurd cc
-    go (Some f) e = ap (λ (s : List ℕ × LeafState). s.0) (same_Some (words, state) (f.words, f.state) e)
 
 pub write-asks : (sc : Bool) (x : ℕ) → asked_item (write_ask sc x) ≡ Some x
 write-asks true x = refl

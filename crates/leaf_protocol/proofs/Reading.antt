@@ -1,5 +1,5 @@
 -- What the calls that read an entry answer.
-use Rattle.std.proofs.Common.{◌≡◌, ℕ, zero, suc, ◌%◌, ◌<◌, Bool, true, false, cond, nat_eq, List, [], ◌∷◌, length, Option, Some, None, IfSome, IfNone, refl, sym, ap, ◌∙◌}
+use Rattle.std.proofs.Common.{◌≡◌, ℕ, zero, suc, ◌+◌, ◌*◌, ◌%◌, ◌<◌, Bool, true, false, cond, nat_eq, List, [], ◌∷◌, length, Option, Some, None, IfSome, IfNone, refl, sym, ap, ◌∙◌}
 use Rattle.std.specs.Prelude.{filter, position, is_some, option_map}
 use Rattle.std.specs.List.{slice_get}
 use Rattle.std.proofs.lemmas.Bool.{eq-eqb}
@@ -9,9 +9,8 @@ use Rattle.tree_model.specs.declared.LeafSpot.{LeafSpot}
 use Rattle.tree_model.specs.State.Lists.{chosen, first_some}
 use Rattle.tree_model.specs.State.Values.{WayValue, BufferValue}
 use Rattle.tree_model.specs.State.Leaf.{LeafEntry, entry_at, entry_state, buffer_item, buffered, is_buffered, leaf_leaving, may_leave_buffer, spot_at, way_spot}
-use Rattle.attraction_mem.specs.Memory.{EntryValue, MemoryValue, entry_of, IsLowestFree, IsFull, way_and_state, words_and_state as words_and_state_in}
-use Rattle.leaf_protocol.specs.Entries.{buffer_words_and_state, way_value, way_of, ways_of, ItemFits, AreEntries, lowest_way}
-use Rattle.leaf_protocol.specs.Leaf.{words_and_state}
+use Rattle.attraction_mem.specs.Memory.{EntryValue, MemoryValue, entry_of, IsLowestFree, IsFull, place_of, way_and_state}
+use Rattle.leaf_protocol.specs.Entries.{standing_place, way_value, way_of, ways_of, ItemFits, AreEntries, lowest_way}
 use Rattle.leaf_protocol.proofs.Ways.{lowest-some, lowest-none, ways_of-length}
 use Rattle.leaf_protocol.proofs.Fits.{entry_in, are-below, way-is, entry-is}
 
@@ -21,17 +20,17 @@ words_of e = e.words
 module _ {ways width n : ℕ} {m : MemoryValue} {b : List BufferValue} {w : Option ℕ} (kept : AreEntries ways width n m b w) (x : ℕ) where
   -- ---- an entry in a way, then one in the buffer
 
-  pub state-in-way : (way : ℕ) (s : LeafState) → Some (way, s) ≡ option_map way_and_state (entry_of m x) → Some s ≡ option_map entry_state (entry_at x (ways_of n m) b)
-  state-in-way way s found = ap (option_map (λ (p : ℕ × LeafState). p.1)) found ∙ (go (entry_of m x) found ∙ sym (ap (option_map entry_state) (entry-is kept x)))
+  pub state-in-way : (s : LeafState) → Some s ≡ option_map (λ e. e.state) (entry_of m x) → Some s ≡ option_map entry_state (entry_at x (ways_of n m) b)
+  state-in-way s found = found ∙ (go (entry_of m x) found ∙ sym (ap (option_map entry_state) (entry-is kept x)))
     where
-      go : (o : Option EntryValue) → Some (way, s) ≡ option_map way_and_state o → option_map (λ (p : ℕ × LeafState). p.1) (option_map way_and_state o) ≡ option_map entry_state (entry_in (option_map way_value o) (buffered x b))
+      go : (o : Option EntryValue) → Some s ≡ option_map (λ e. e.state) o → option_map (λ e. e.state) o ≡ option_map entry_state (entry_in (option_map way_value o) (buffered x b))
       go None e = absurd cc
       go (Some f) e = refl
 
-  pub state-in-buffer : (o : Option LeafState) → None ≡ option_map way_and_state (entry_of m x) → o ≡ option_map (λ e. e.state) (buffered x b) → o ≡ option_map entry_state (entry_at x (ways_of n m) b)
+  pub state-in-buffer : (o : Option LeafState) → None ≡ option_map (λ e. e.state) (entry_of m x) → o ≡ option_map (λ e. e.state) (buffered x b) → o ≡ option_map entry_state (entry_at x (ways_of n m) b)
   state-in-buffer o none found = found ∙ (go (entry_of m x) none (buffered x b) ∙ sym (ap (option_map entry_state) (entry-is kept x)))
     where
-      go : (a : Option EntryValue) → None ≡ option_map way_and_state a → (c : Option BufferValue) → option_map (λ e. e.state) c ≡ option_map entry_state (entry_in (option_map way_value a) c)
+      go : (a : Option EntryValue) → None ≡ option_map (λ e. e.state) a → (c : Option BufferValue) → option_map (λ e. e.state) c ≡ option_map entry_state (entry_in (option_map way_value a) c)
       go (Some f) e c = absurd cc
       go None e None = refl
       go None e (Some f) = refl
@@ -51,20 +50,35 @@ module _ {ways width n : ℕ} {m : MemoryValue} {b : List BufferValue} {w : Opti
       go None e None = refl
       go None e (Some f) = refl
 
-  pub entry-in-way : (s : LeafState) (words : List ℕ) → Some (words, s) ≡ option_map words_and_state_in (entry_of m x) → Some (words, s) ≡ option_map words_and_state (entry_at x (ways_of n m) b)
-  entry-in-way s words found = found ∙ (go (entry_of m x) found ∙ sym (ap (option_map words_and_state) (entry-is kept x)))
+  -- the place of an entry in a way, as the memory has it
+  pub place-is : standing_place m.sets ways x (ways_of n m) ≡ place_of ways m x
+  place-is = ap (option_map (λ (e : WayValue). x % m.sets * ways + e.way)) (way-is kept x) ∙ go (entry_of m x)
     where
-      go : (o : Option EntryValue) → Some (words, s) ≡ option_map words_and_state_in o → option_map words_and_state_in o ≡ option_map words_and_state (entry_in (option_map way_value o) (buffered x b))
-      go None e = absurd cc
-      go (Some f) e = refl
+      go : (o : Option EntryValue) → option_map (λ (e : WayValue). x % m.sets * ways + e.way) (option_map way_value o) ≡ option_map (λ (e : EntryValue). x % m.sets * ways + e.way) o
+      go None = refl
+      go (Some e) = refl
 
-  pub entry-in-buffer : (o : Option (List ℕ × LeafState)) → None ≡ option_map words_and_state_in (entry_of m x) → o ≡ option_map buffer_words_and_state (buffered x b) → o ≡ option_map words_and_state (entry_at x (ways_of n m) b)
-  entry-in-buffer o none found = found ∙ (go (entry_of m x) none (buffered x b) ∙ sym (ap (option_map words_and_state) (entry-is kept x)))
+  pub stands-at : (p : ℕ) → Some p ≡ standing_place m.sets ways x (ways_of n m) → (place_of ways m x ≡ Some p) × ((e : EntryValue) × (entry_of m x ≡ Some e))
+  stands-at p at = (sym (at ∙ place-is), go (entry_of m x) (at ∙ place-is))
     where
-      go : (a : Option EntryValue) → None ≡ option_map words_and_state_in a → (c : Option BufferValue) → option_map buffer_words_and_state c ≡ option_map words_and_state (entry_in (option_map way_value a) c)
-      go (Some f) e c = absurd cc
-      go None e None = refl
-      go None e (Some f) = refl
+      go : (o : Option EntryValue) → Some p ≡ option_map (λ (e : EntryValue). x % m.sets * ways + e.way) o → (e : EntryValue) × (o ≡ Some e)
+      go None h = absurd cc
+      go (Some e) h = (e, refl)
+
+  pub stands-nowhere : None ≡ standing_place m.sets ways x (ways_of n m) → entry_of m x ≡ None
+  stands-nowhere at = go (entry_of m x) (at ∙ place-is)
+    where
+      go : (o : Option EntryValue) → None ≡ option_map (λ (e : EntryValue). x % m.sets * ways + e.way) o → o ≡ None
+      go None h = refl
+      go (Some e) h = absurd cc
+
+  -- an entry without such a place is in the buffer
+  pub words-there : is_some (entry_at x (ways_of n m) b) ≡ true → entry_of m x ≡ None → (o : Option (List ℕ)) → o ≡ option_map (λ e. e.words) (buffered x b) → is_some o ≡ true
+  words-there there none o is = rw is (go (buffered x b) (sym (ap is_some (entry-is kept x ∙ ap (λ a. entry_in (option_map way_value a) (buffered x b)) none)) ∙ there))
+    where
+      go : (c : Option BufferValue) → is_some (entry_in None c) ≡ true → is_some (option_map (λ (e : BufferValue). e.words) c) ≡ true
+      go None h = h
+      go (Some e) h = refl
 
   pub spot-in-way : (way : ℕ) (s : LeafState) → Some (way, s) ≡ option_map way_and_state (entry_of m x) → Some (LeafSpot.Way way) ≡ spot_at x (ways_of n m) b
   spot-in-way way s found = go (entry_of m x) found ∙ ap (λ o. first_some (option_map way_spot o) (option_map (λ k. LeafSpot.Buffer k) (position (is_buffered x) b))) (sym (way-is kept x))
@@ -132,12 +146,3 @@ module _ {ways width n : ℕ} {m : MemoryValue} {b : List BufferValue} {w : Opti
       go : (o : Option ℕ) → IfSome o (λ x. is_some (buffered x b) ≡ true) → IfSome o (λ x. x < length (ways_of n m))
       go None h = tt
       go (Some x) h = buffered-inside x h
-
--- the state and the words of an entry of the buffer, where it is there
-pub both-gone : (o : Option BufferValue) → None ≡ option_map (λ e. e.state) o → None ≡ option_map buffer_words_and_state o
-both-gone None h = refl
-both-gone (Some f) h = absurd cc
-
-pub both-there : (s : LeafState) (words : List ℕ) (o : Option BufferValue) → Some s ≡ option_map (λ e. e.state) o → Some words ≡ option_map (λ e. e.words) o → Some (words, s) ≡ option_map buffer_words_and_state o
-both-there s words None h k = absurd cc
-both-there s words (Some f) h k = ap (λ t. Some (words, t)) (same_Some s f.state h) ∙ ap (λ w. Some (w, f.state)) (same_Some words f.words k)

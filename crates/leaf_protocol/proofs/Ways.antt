@@ -1,6 +1,6 @@
 -- A memory as the list of what it has of each item.
 use Rattle.std.proofs.Common.{◌≡◌, ◌≢◌, ℕ, zero, suc, ◌+◌, ◌%◌, ◌<◌, ◌≤◌, Bool, true, false, cond, ◌&&◌, nat_eq, List, [], ◌∷◌, length, get_or, set, Option, Some, None, IsSomeAnd, refl, sym, ap, subst, ◌∙◌, ◌⊎◌, inl, inr, arith, length-set, true≢false}
-use Rattle.std.specs.Prelude.{replicate, option_map, is_none, is_some, find}
+use Rattle.std.specs.Prelude.{replicate, option_map, is_none, find}
 use Rattle.std.specs.List.{range_with_len}
 use Rattle.std.specs.Cmp.{nat_cmp_total}
 use Rattle.std.specs.FinMap.{get-insert, get-remove}
@@ -11,7 +11,8 @@ use Rattle.std.proofs.lemmas.List.FromFn.{get_or-map-range_with_len, length-map-
 use Rattle.ddm_types.specs.declared.sizes.LeafState.{LeafState}
 use Rattle.tree_model.specs.State.Lists.{find_from}
 use Rattle.tree_model.specs.State.Values.{WayValue}
-use Rattle.tree_model.specs.State.Leaf.{way_at, stands_in, item_in_way}
+use Rattle.tree_model.specs.State.Leaf.{way_at, stands_in, item_in_way, words_in}
+use Rattle.tree_model.specs.State.States.{is_reading}
 use Rattle.attraction_mem.specs.Memory.{EntryValue, MemoryValue, entry_of, StandsIn, IsFree, IsTaken, IsLowestFree, IsFull, with_entry, without_entry, with_state, with_words, changed_state, changed_words}
 use Rattle.attraction_mem.proofs.Holding.{equal_or_not, same_key, other_key}
 use Rattle.leaf_protocol.specs.Entries.{way_value, way_of, ways_of, lowest_way}
@@ -80,12 +81,11 @@ put-both m x e s words there =
     let both : with_words (with_state m x s) x words ≡ with_entry (with_entry m x e.way s e.words) x e.way s words = ap (λ k. with_words k x words) first ∙ second in
     rw both (put-again m _ _ x _ _ (put-entry m x e.way s e.words) (put-entry (with_entry m x e.way s e.words) x e.way s words))
 
--- an entry in another state is there
-pub state-there : (m : MemoryValue) (x : ℕ) (e : EntryValue) (s : LeafState) → entry_of m x ≡ Some e → is_some (entry_of (with_state m x s) x) ≡ true
-state-there m x e s there =
+-- another state of an entry that is there and keeps its words
+pub put-state : (m : MemoryValue) (x : ℕ) (e : EntryValue) (s : LeafState) (width : ℕ) → is_reading s ≡ false → entry_of m x ≡ Some e → IsPut m (with_state m x s) x (Some (record { way = e.way; state = s; words = words_in s width e.words }))
+put-state m x e s width keeps there =
     let first : with_state m x s ≡ with_entry m x e.way s e.words = ap (changed_state m x s) there in
-    let f : EntryValue = record { way = e.way; state = s; words = e.words } in
-    rw first (ap is_some (get-insert nat_cmp_total m.entries x f x ∙ ap (λ b. cond b (Some f) (entry_of m x)) (same_key x)))
+    rw (first, keeps) (put-entry m x e.way s e.words)
 
 -- the list is set at the item
 pub ways_of-put : (n : ℕ) (m k : MemoryValue) (x : ℕ) (o : Option WayValue) → IsPut m k x o → ways_of n k ≡ set (ways_of n m) x o

@@ -65,14 +65,15 @@ impl<const WAYS: usize, const WORDS: usize> Agent<WORDS> for Leaf<WAYS, WORDS> {
 
     fn lose(&mut self, item: ItemId, _stamp: Stamp) {
         self.reservation.clear_on(item);
-        let Some(state) = self.entries.state(item) else {
+        let Some((state, place)) = self.entries.seek(item) else {
             return;
         };
         let Some(next) = leaf_lose(state) else {
-            self.entries.end(item);
+            self.entries.end_at(item, place);
             return;
         };
-        self.entries.set(item, next, Words { w: [0; WORDS] });
+        let zeros = Words { w: [0; WORDS] };
+        self.entries.set_at(item, place, next, zeros);
         self.slot = slot_asked(asked_when_lost(state), item, self.slot);
     }
 
@@ -81,36 +82,36 @@ impl<const WAYS: usize, const WORDS: usize> Agent<WORDS> for Leaf<WAYS, WORDS> {
         requires room { child_full_for DataTx item (leaf_node self.old) ≡ None }
         ensures { leaf_node self.new ≡ child_take_data item words.entry _stamp (leaf_node self.old) }
     {
-        let Some(state) = self.entries.state(item) else {
+        let Some((state, place)) = self.entries.seek(item) else {
             return;
         };
         let Some(next) = leaf_data(state) else {
             return;
         };
-        self.entries.set(item, next, words);
+        self.entries.set_at(item, place, next, words);
         self.slot = slot_asked(asked_with_data(state), item, self.slot);
     }
 
     fn take_exclusive(&mut self, item: ItemId, _stamp: Stamp) {
-        let Some(state) = self.entries.state(item) else {
+        let Some((state, place)) = self.entries.seek(item) else {
             return;
         };
         let Some(next) = leaf_exclusive(state) else {
             return;
         };
-        self.entries.set_state(item, next);
+        self.entries.set_state_at(item, place, next);
     }
 
     fn answer(&mut self, item: ItemId, _stamp: Stamp) {
-        let Some(state) = self.entries.state(item) else {
+        let Some((state, place)) = self.entries.seek(item) else {
             return;
         };
         let Some(next) = leaf_answer(state) else {
             return;
         };
-        let words = self.entries.words(item).unwrap();
+        let words = self.entries.words_at(item, place);
         let _ = self.replies.push((item, words));
-        self.entries.set_state(item, next);
+        self.entries.set_state_at(item, place, next);
     }
 
     fn take_inject(&mut self, item: ItemId, words: Words<WORDS>, _stamp: Stamp)
@@ -120,14 +121,14 @@ impl<const WAYS: usize, const WORDS: usize> Agent<WORDS> for Leaf<WAYS, WORDS> {
         ensures { leaf_node self.new ≡ child_take_inject item words.entry _stamp (leaf_node self.old) }
     {
         self.slot = slot_struck(item, self.slot);
-        let Some(state) = self.entries.state(item) else {
+        let Some((state, place)) = self.entries.seek(item) else {
             let _ = self.entries.place(item, words);
             return;
         };
         let Some(next) = leaf_inject(state) else {
             return;
         };
-        self.entries.set(item, next, words);
+        self.entries.set_at(item, place, next, words);
     }
 
     fn give_up(&mut self, item: ItemId) -> Words<WORDS> {

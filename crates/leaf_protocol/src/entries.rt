@@ -4,8 +4,7 @@ ghost use Rattle.tree_model.specs.State.States.{is_reading, is_waiting};
 ghost use Rattle.tree_model.specs.State.Leaf.{LeafEntry, blank, becomes, ends, enters, enters_free, entry_at, entry_state, entry_words, item_in_way, leaf_leaving, spot_at, waiting_item, words_in, buffered};
 ghost use Rattle.tree_model.specs.State.Child.{buffer_words};
 ghost use Rattle.tree_model.specs.Start.Nodes.{or_each};
-ghost use Rattle.leaf_protocol.specs.Leaf.{words_and_state};
-ghost use Rattle.leaf_protocol.specs.Entries.{buffer_words_and_state, cleared, cleared_if, lowest_way, may_be, waits_now, waiting_after, way_to_take, with_fate, with_mark};
+ghost use Rattle.leaf_protocol.specs.Entries.{cleared, cleared_if, lowest_way, may_be, standing_place, waits_now, waiting_after, way_to_take, with_fate, with_mark};
 
 use attraction_mem::{AttractionMem, SetFull};
 use ddm_types::{ItemId, LeafState, NoMemory, Words};
@@ -138,13 +137,8 @@ impl<const WAYS: usize, const WORDS: usize> Entries<WAYS, WORDS> {
     pub fn state(&self, item: ItemId) -> Option<LeafState>
         ensures { result ≡ option_map entry_state (entry_at item self.now.ways self.now.buffer) }
     {
-        match self.memory.find(item) {
-            Some((_, state)) => Some(state),
-            None => match self.buffer.find(item) {
-                Some((_, state)) => Some(state),
-                None => None,
-            },
-        }
+        let (state, _) = self.seek(item)?;
+        Some(state)
     }
 
     /// The words of the item's entry.
@@ -158,25 +152,33 @@ impl<const WAYS: usize, const WORDS: usize> Entries<WAYS, WORDS> {
         }
     }
 
-    /// The words and the state of the item's entry. The words come first: behind a state they would be copied from a place that isn't one
-    /// of words.
+    /// The state of the item's entry, and its place in the memory if it stands there: by that it is changed without a second search. An
+    /// entry with no such place is in the buffer.
     #[inline(always)]
-    pub fn entry(&self, item: ItemId) -> Option<(Words<WORDS>, LeafState)>
-        ensures { result ≡ option_map words_and_state (entry_at item self.now.ways self.now.buffer) }
+    pub fn seek(&self, item: ItemId) -> Option<(LeafState, Option<usize>)>
+        ensures state { option_map (λ found. found.0) result ≡ option_map entry_state (entry_at item self.now.ways self.now.buffer) }
+        ensures place { IfSome result (λ found. found.1 ≡ standing_place self.now.sets WAYS item self.now.ways) }
     {
-        match self.memory.entry(item) {
-            Some(entry) => Some(entry),
-            None => self.buffered_entry(item),
+        match self.memory.seek(item) {
+            Some((place, state)) => Some((state, Some(place))),
+            None => match self.buffer.find(item) {
+                Some((_, state)) => Some((state, None)),
+                None => None,
+            },
         }
     }
 
-    /// The same of its entry in the buffer.
-    fn buffered_entry(&self, item: ItemId) -> Option<(Words<WORDS>, LeafState)>
-        ensures { result ≡ option_map buffer_words_and_state (buffered item self.now.buffer) }
+    /// The words of the item's entry, of which this is the place.
+    #[inline(always)]
+    pub fn words_at(&self, item: ItemId, place: Option<usize>) -> Words<WORDS>
+        requires there { IsSome (entry_at item self.now.ways self.now.buffer) }
+        requires place { place ≡ standing_place self.now.sets WAYS item self.now.ways }
+        ensures { Some result ≡ option_map (λ e. e.words) (entry_at item self.now.ways self.now.buffer) }
     {
-        let (_, state) = self.buffer.find(item)?;
-        let words = self.buffer.words(item)?;
-        Some((words, state))
+        match place {
+            Some(place) => self.memory.words_at(item, place),
+            None => self.buffer.words(item).unwrap(),
+        }
     }
 
     /// Where the item's entry stands.
@@ -242,31 +244,60 @@ impl<const WAYS: usize, const WORDS: usize> Entries<WAYS, WORDS> {
         self.buffer.ready(choice)
     }
 
-    /// The item's entry gets another state and these words.
+    /// The item's entry, of which this is the place, gets another state and these words.
     #[inline(always)]
-    pub fn set(&mut self, item: ItemId, state: LeafState, words: Words<WORDS>)
+    pub fn set_at(
+        &mut self,
+        item: ItemId,
+        place: Option<usize>,
+        state: LeafState,
+        words: Words<WORDS>,
+    )
         requires there { IsSome (entry_at item self.old.ways self.old.buffer) }
+        requires place { place ≡ standing_place self.old.sets WAYS item self.old.ways }
         requires alone { may_be state (entry_at item self.old.ways self.old.buffer) (waiting_item self.old.ways self.old.buffer) ≡ true }
         ensures { self.new ≡ with_fate item (becomes state (words_in state WORDS words.entry)) self.old }
     {
         let suiting = words_in(state, words);
         self.waiting = waiting_after(item, waits(state), self.waiting);
-        if self.memory.change(item, state, suiting) {
+        if let Some(place) = place {
+            self.memory.change_at(item, place, state, suiting);
             return;
         }
         self.buffer.set_state(item, state);
         self.buffer.set_words(item, suiting);
     }
 
-    /// The item's entry gets another state and keeps its words.
-    pub fn set_state(&mut self, item: ItemId, state: LeafState)
-        requires words_fit { WORDS < 2 ^ 32 }
+    /// The item's entry, of which this is the place, gets another state and keeps its words.
+    #[inline(always)]
+    pub fn set_state_at(&mut self, item: ItemId, place: Option<usize>, state: LeafState)
         requires there { IsSome (entry_at item self.old.ways self.old.buffer) }
+        requires place { place ≡ standing_place self.old.sets WAYS item self.old.ways }
         requires alone { may_be state (entry_at item self.old.ways self.old.buffer) (waiting_item self.old.ways self.old.buffer) ≡ true }
+        requires keeps { is_reading state ≡ false }
         ensures { self.new ≡ with_fate item (becomes state (words_in state WORDS (entry_words (entry_at item self.old.ways self.old.buffer)))) self.old }
     {
-        let words = self.words(item).unwrap();
-        self.set(item, state, words);
+        if let Some(place) = place {
+            self.waiting = waiting_after(item, waits(state), self.waiting);
+            self.memory.set_state_at(item, place, state);
+            return;
+        }
+        let words = self.words_at(item, None);
+        self.set_at(item, None, state, words);
+    }
+
+    /// The item's entry, of which this is the place, ends.
+    #[inline(always)]
+    pub fn end_at(&mut self, item: ItemId, place: Option<usize>)
+        requires { place ≡ standing_place self.old.sets WAYS item self.old.ways }
+        ensures { self.new ≡ with_fate item ends self.old }
+    {
+        self.waiting = waiting_after(item, false, self.waiting);
+        if let Some(place) = place {
+            self.memory.remove_at(item, place);
+            return;
+        }
+        self.buffer.remove(item);
     }
 
     /// The item's entry ends, if it has one.
@@ -304,12 +335,12 @@ impl<const WAYS: usize, const WORDS: usize> Entries<WAYS, WORDS> {
             return Some(way);
         }
         let other = self.memory.victim(item, victim);
-        let (_, state) = self.memory.find(other).unwrap();
-        let words = self.memory.words(other).unwrap();
+        let (place, state) = self.memory.seek(other).unwrap();
+        let words = self.memory.words_at(other, place);
         if self.buffer.put(other, state, words).is_err() {
             return None;
         }
-        self.memory.remove(other);
+        self.memory.remove_at(other, place);
         Some((usize::from(victim) % WAYS) as u32)
     }
 

@@ -10,6 +10,7 @@ ghost use Rattle.rv_hart.specs.Steps.{IsReady};
 ghost use Rattle.tree_model.specs.State.States.{is_reading};
 ghost use Rattle.tree_model.specs.State.Leaf.{free_way, leaf_entry, state_at, waiting_item};
 ghost use Rattle.tree_model.specs.Turns.HartTurn.{change_here, deed_by_need, deed_of_change, deed_to_fetch, halts, leaf_step, need_of, need_to_read, need_to_write, upgrades, words_here};
+ghost use Rattle.leaf_protocol.specs.Entries.{standing_place};
 ghost use Rattle.leaf_protocol.specs.Leaf.{CanTry, IsDone, IsStep, write_ask};
 
 use crate::leaf::Leaf;
@@ -278,22 +279,22 @@ impl<const WAYS: usize, const WORDS: usize> Leaf<WAYS, WORDS> {
         requires reserved { conditional ≡ true → has_reserved self.old.reservation item ≡ true }
         ensures { IsDone now self.old (deed_by_need code.now items.now victim self.old (need_to_write item (leaf_entry item self.old))) answer.new self.new }
     {
-        let Some((words, state)) = self.entries.entry(item) else {
+        let Some((state, place)) = self.entries.seek(item) else {
             self.fetch(item, LeafState::ReadingWaiting, victim, answer);
             return;
         };
         match state {
             LeafState::Exclusive => {
-                self.store(code, items, step, now, item, words, conditional, answer);
+                self.store(code, items, step, now, item, place, conditional, answer);
             }
-            LeafState::Shared => self.upgrade(item, answer),
+            LeafState::Shared => self.upgrade(item, place, answer),
             LeafState::Waiting | LeafState::Reading | LeafState::ReadingWaiting => {
                 *answer = TurnAnswer::Waiting(item);
             }
         }
     }
 
-    /// The instruction stores to its item, which is here Exclusive, on these words.
+    /// The instruction stores to its item, which is here Exclusive, at this place.
     #[inline(always)]
     fn store(
         &mut self,
@@ -302,7 +303,7 @@ impl<const WAYS: usize, const WORDS: usize> Leaf<WAYS, WORDS> {
         step: &Step,
         now: Key,
         item: ItemId,
-        words: Words<WORDS>,
+        place: Option<usize>,
         conditional: bool,
         answer: &mut TurnAnswer,
     )
@@ -311,25 +312,27 @@ impl<const WAYS: usize, const WORDS: usize> Leaf<WAYS, WORDS> {
         requires asks { ask_of code.now items.now self.old.hart ≡ write_ask conditional item }
         requires reserved { conditional ≡ true → has_reserved self.old.reservation item ≡ true }
         requires exclusive { state_at item self.old ≡ Some Exclusive }
-        requires here { words ≡ words_here self.old item }
+        requires place { place ≡ standing_place self.old.sizes.sets WAYS item self.old.ways }
         ensures { IsDone now self.old (deed_of_change (change_here code.now items.now self.old)) answer.new self.new }
     {
-        let mut left = words;
-        self.finish(code, items, step, now, &mut left, conditional, answer);
-        self.entries.set(item, LeafState::Exclusive, left);
+        let mut words = self.entries.words_at(item, place);
+        self.finish(code, items, step, now, &mut words, conditional, answer);
+        self.entries
+            .set_at(item, place, LeafState::Exclusive, words);
         if conditional {
             self.reservation.clear();
         }
     }
 
-    /// The item is here Shared and is to be written: an erase of all other copies is asked for.
-    fn upgrade(&mut self, item: ItemId, answer: &mut TurnAnswer)
+    /// The item is here Shared, at this place, and is to be written: an erase of all other copies is asked for.
+    fn upgrade(&mut self, item: ItemId, place: Option<usize>, answer: &mut TurnAnswer)
         requires inside { item < length self.old.ways }
         requires shared { state_at item self.old ≡ Some Shared }
+        requires place { place ≡ standing_place self.old.sizes.sets WAYS item self.old.ways }
         requires alone { waiting_item self.old.ways self.old.buffer ≡ None }
         ensures { (now : KeyValue) → IsDone now self.old (upgrades item (words_here self.old item)) answer.new self.new }
     {
-        self.entries.set_state(item, LeafState::Waiting);
+        self.entries.set_state_at(item, place, LeafState::Waiting);
         self.slot = Some((TxKind::EraseTx, item));
         *answer = TurnAnswer::Issued(TxKind::EraseTx, item);
     }

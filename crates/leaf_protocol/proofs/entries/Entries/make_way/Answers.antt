@@ -1,7 +1,9 @@
-use Rattle.std.proofs.Common.{refl, sym, ◌∙◌, ◌≡◌, ◌%◌, true, false, length, nat_le}
+use Rattle.std.proofs.Common.{ℕ, refl, sym, ap, ◌∙◌, ◌≡◌, ◌%◌, true, false, length, nat_le}
+use Rattle.std.specs.Prelude.{option_map}
+use Rattle.ddm_types.specs.declared.sizes.LeafState.{LeafState}
 use Rattle.leaf_protocol.proofs.Ways.{item_in_way-none, lowest-some, lowest-none}
 use Rattle.leaf_protocol.proofs.Fits.{are-below}
-use Rattle.leaf_protocol.proofs.Changing.{entry-both, told-ok, moved-kept, moved-ways, moved-buffer, moved-free, moved-absent, moved-waiting, cleared-is, cleared-free}
+use Rattle.leaf_protocol.proofs.Changing.{entry-told, told-ok, moved-kept, moved-ways, moved-buffer, moved-free, moved-absent, moved-waiting, cleared-is, cleared-free}
 use Rattle.leaf_protocol.proofs.entries.Entries.make_way.Goals as goal
 
 pub returns-in-Some-clause-way : goal.returns-in-Some-clause-way
@@ -21,9 +23,9 @@ returns-then-is_err-clause-way g c =
 
 pub invariant_of-self-2 : goal.invariant_of-self-2
 invariant_of-self-2 g c =
-    let there = entry-both _ c.unwrap-state.result c.unwrap-words.result (sym c.unwrap-state.ensures ∙ c.find.ensures.value) (sym c.unwrap-words.ensures ∙ c.words.ensures) in
+    let there = entry-told _ c.unwrap-place.result.1 c.words_at-words.result (ap (option_map (λ (found : ℕ × LeafState). found.1)) (sym c.unwrap-place.ensures) ∙ c.seek.ensures.state) c.words_at-words.ensures in
     let put = told-ok c.put.result (sym c.is_err.ensures.value ∙ c.if-is_err.false) c.put.ensures.ok in
-    rw (c.remove.ensures.removed, put) (moved-kept c.self.invariant c.args.item (c.args.victim % g.row.WAYS) c.victim-other.result c.victim-other.ensures _ there)
+    rw (c.remove_at.ensures, put) (moved-kept c.self.invariant c.args.item (c.args.victim % g.row.WAYS) c.victim-other.result c.victim-other.ensures _ there.1)
 
 pub returns-clause-way : goal.returns-clause-way
 returns-clause-way g c =
@@ -33,23 +35,23 @@ returns-clause-way g c =
 
 pub returns-clause-after : goal.returns-clause-after
 returns-clause-after g c =
-    let there = entry-both _ c.unwrap-state.result c.unwrap-words.result (sym c.unwrap-state.ensures ∙ c.find.ensures.value) (sym c.unwrap-words.ensures ∙ c.words.ensures) in
+    let there = entry-told _ c.unwrap-place.result.1 c.words_at-words.result (ap (option_map (λ (found : ℕ × LeafState). found.1)) (sym c.unwrap-place.ensures) ∙ c.seek.ensures.state) c.words_at-words.ensures in
     let put = told-ok c.put.result (sym c.is_err.ensures.value ∙ c.if-is_err.false) c.put.ensures.ok in
-    rw (← c.self.view_is, c.from.ensures, c.remove.ensures.removed, put) (cleared-is c.args.item (c.args.victim % g.row.WAYS) c.self.inside.memory.sets c.self.inside.buffer.capacity _ _ _ _ (moved-ways c.self.invariant c.args.item (c.args.victim % g.row.WAYS) c.victim-other.result c.victim-other.ensures _ there) (moved-buffer c.self.invariant c.args.item (c.args.victim % g.row.WAYS) c.victim-other.result c.victim-other.ensures _ there))
+    rw (← c.self.view_is, c.from.ensures, c.remove_at.ensures, put) (cleared-is c.args.item (c.args.victim % g.row.WAYS) c.self.inside.memory.sets c.self.inside.buffer.capacity _ _ _ _ (moved-ways c.self.invariant c.args.item (c.args.victim % g.row.WAYS) c.victim-other.result c.victim-other.ensures _ there.1) (moved-buffer c.self.invariant c.args.item (c.args.victim % g.row.WAYS) c.victim-other.result c.victim-other.ensures _ there.1))
 
 pub returns-clause-free : goal.returns-clause-free
 returns-clause-free g c =
-    let there = entry-both _ c.unwrap-state.result c.unwrap-words.result (sym c.unwrap-state.ensures ∙ c.find.ensures.value) (sym c.unwrap-words.ensures ∙ c.words.ensures) in
-    rw (c.from.ensures, c.remove.ensures.removed) (moved-free c.self.invariant c.args.item (c.args.victim % g.row.WAYS) c.victim-other.result c.victim-other.ensures _ there)
+    let there = entry-told _ c.unwrap-place.result.1 c.words_at-words.result (ap (option_map (λ (found : ℕ × LeafState). found.1)) (sym c.unwrap-place.ensures) ∙ c.seek.ensures.state) c.words_at-words.ensures in
+    rw (c.from.ensures, c.remove_at.ensures) (moved-free c.self.invariant c.args.item (c.args.victim % g.row.WAYS) c.victim-other.result c.victim-other.ensures _ there.1)
 
 pub returns-clause-absent : goal.returns-clause-absent
 returns-clause-absent g c =
-    let there = entry-both _ c.unwrap-state.result c.unwrap-words.result (sym c.unwrap-state.ensures ∙ c.find.ensures.value) (sym c.unwrap-words.ensures ∙ c.words.ensures) in
+    let there = entry-told _ c.unwrap-place.result.1 c.words_at-words.result (ap (option_map (λ (found : ℕ × LeafState). found.1)) (sym c.unwrap-place.ensures) ∙ c.seek.ensures.state) c.words_at-words.ensures in
     let put = told-ok c.put.result (sym c.is_err.ensures.value ∙ c.if-is_err.false) c.put.ensures.ok in
-    rw (c.remove.ensures.removed, put) (moved-absent c.self.invariant c.args.item (c.args.victim % g.row.WAYS) c.victim-other.result c.victim-other.ensures _ there (rw (← c.self.view_is) at c.requires))
+    rw (c.remove_at.ensures, put) (moved-absent c.self.invariant c.args.item (c.args.victim % g.row.WAYS) c.victim-other.result c.victim-other.ensures _ there.1 (rw (← c.self.view_is) at c.requires))
 
 pub returns-clause-waiting : goal.returns-clause-waiting
 returns-clause-waiting g c =
-    let there = entry-both _ c.unwrap-state.result c.unwrap-words.result (sym c.unwrap-state.ensures ∙ c.find.ensures.value) (sym c.unwrap-words.ensures ∙ c.words.ensures) in
+    let there = entry-told _ c.unwrap-place.result.1 c.words_at-words.result (ap (option_map (λ (found : ℕ × LeafState). found.1)) (sym c.unwrap-place.ensures) ∙ c.seek.ensures.state) c.words_at-words.ensures in
     let put = told-ok c.put.result (sym c.is_err.ensures.value ∙ c.if-is_err.false) c.put.ensures.ok in
-    rw (← c.self.view_is, c.remove.ensures.removed, put) (moved-waiting c.self.invariant c.args.item (c.args.victim % g.row.WAYS) c.victim-other.result c.victim-other.ensures _ there)
+    rw (← c.self.view_is, c.remove_at.ensures, put) (moved-waiting c.self.invariant c.args.item (c.args.victim % g.row.WAYS) c.victim-other.result c.victim-other.ensures _ there.1)

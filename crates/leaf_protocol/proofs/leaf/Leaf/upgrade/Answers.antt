@@ -8,4 +8,4 @@ use Rattle.leaf_protocol.proofs.leaf.Leaf.upgrade.Goals as goal
 pub invariant_of-self : goal.invariant_of-self
 invariant_of-self g c =
     let inside = rw (← c.self.view_is, c.self.invariant.items) at c.requires.inside in
-    rw c.set_state.ensures (parts-asked EraseTx c.args.item (parts-same _ c.self.invariant (ways_after-length c.args.item (becomes Waiting (words_in Waiting g.row.WORDS (entry_words (entry_at c.args.item c.self.inside.entries.ways c.self.inside.entries.buffer)))) c.self.inside.entries.ways)) inside)
+    rw c.set_state_at.ensures (parts-asked EraseTx c.args.item (parts-same _ c.self.invariant (ways_after-length c.args.item (becomes Waiting (words_in Waiting g.row.WORDS (entry_words (entry_at c.args.item c.self.inside.entries.ways c.self.inside.entries.buffer)))) c.self.inside.entries.ways)) inside)
