@@ -29,8 +29,8 @@ impl<const WAYS: usize, const WORDS: usize> Subtree<WORDS> for Cluster<WAYS, WOR
         self.dir.grants_below(bus, path, turn)
     }
 
-    fn learn_below(&self, known: &mut [Quiet], path: &[ChildNo]) {
-        self.dir.learn_below(known, path);
+    fn learn_below(&self, known: &mut [Quiet], path: &[ChildNo], answer: &TurnAnswer) {
+        self.dir.learn_below(known, path, answer);
     }
 
     #[inline(always)]
@@ -40,6 +40,10 @@ impl<const WAYS: usize, const WORDS: usize> Subtree<WORDS> for Cluster<WAYS, WOR
 
     fn rest_below(&self, path: &[ChildNo]) -> Option<Idle> {
         self.dir.rest_below(path)
+    }
+
+    fn leaf_below(&self, path: &[ChildNo], place: usize) -> Option<LeafNo> {
+        self.dir.leaf_below(path, place)
     }
 
     fn path_up(&self, alloc: Global, name: &Named) -> Result<Option<Vec<ChildNo>>, NoMemory> {
@@ -70,6 +74,15 @@ impl<const WAYS: usize, const WORDS: usize> Subtree<WORDS> for Cluster<WAYS, WOR
 
     fn states_below(&self, item: ItemId, states: &mut [Option<LeafState>], at: usize) -> usize {
         self.dir.states_below(item, states, at)
+    }
+
+    fn unheld_states_below(
+        &self,
+        item: ItemId,
+        states: &mut [Option<LeafState>],
+        at: usize,
+    ) -> usize {
+        self.dir.unheld_states_below(item, states, at)
     }
 
     fn children_below(&self, bus: BusNo, path: &[ChildNo]) -> u32 {

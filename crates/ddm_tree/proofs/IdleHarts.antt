@@ -3,7 +3,6 @@ use Rattle.std.proofs.Common.{◌≡◌, ◌≢◌, ℕ, zero, suc, ◌<◌, ◌
 use Rattle.std.specs.Prelude.{nat_lt, slice_get, slice_set}
 use Rattle.std.proofs.lemmas.Bool.{ltb-true, ltb-false}
 use Rattle.std.proofs.lemmas.List.{append-nil, get_or_past, get_or-set_same, get_or-set_other, set-get_or, set_past}
-use Rattle.std.proofs.lemmas.Option.{none-some, same_Some}
 use native.Mathlib.Decide.{ℕ_discrete}
 use Rattle.ddm_types.specs.declared.answers.LogEntry.{LogEntry}
 use Rattle.ddm_types.specs.declared.answers.TurnAnswer.{TurnAnswer}
@@ -34,15 +33,17 @@ use Rattle.tree_model.proofs.FrameKept.{turn-frame}
 use Rattle.tree_rules.specs.Bus.Rules.{IsTreeOk}
 use Rattle.split_bus.specs.Outcomes.{is_granted}
 use Rattle.ddm_tree.specs.declared.idle.Idle.{Idle}
-use Rattle.ddm_tree.specs.Idle.{AreIdle, AreNoted, IsIdle, IsKnown, answered_by, idle_answer, idle_for, idle_there, idle_told, is_seen, is_told, may_change, node_rests, rests_by, still_known}
+use Rattle.ddm_tree.specs.Idle.{AreIdle, AreNoted, IsFarFrom, IsIdle, IsKnown, IsLeftOut, IsUntouched, answered_by, idle_answer, idle_for, idle_there, idle_told, is_seen, is_told, may_change, node_rests, rests_by, still_known}
 use Rattle.ddm_tree.specs.Machine.{listed_path}
 use Rattle.ddm_tree.specs.Path.{below, node_at, path_to, put_at, node_answer, node_turned}
-use Rattle.ddm_tree.specs.Quiet.{AreApart, AreNear, IsNoneOf}
+use Rattle.ddm_tree.specs.Quiet.{AreApart, AreNear, touches_child}
 use Rattle.ddm_tree.specs.Ready.{Leads}
 use Rattle.ddm_tree.proofs.Along.{along}
+use Rattle.ddm_tree.proofs.BonesKept.{bus-bones, put-bones}
 use Rattle.ddm_tree.proofs.Lasting.{IsLasting, idle-rests, lasting, lasting-rests}
 use Rattle.ddm_tree.proofs.QuietNear.{far-in}
 use Rattle.ddm_tree.proofs.StillWaits.{step-still}
+use Rattle.ddm_tree.proofs.Touched.{not-true, step-same}
 use Rattle.ddm_tree.proofs.Untold.{step-untold}
 use Rattle.ddm_tree.proofs.WaitsOn.{Ruled, nowhere, ruled-at, still-waits}
 
@@ -432,12 +433,23 @@ module _ (code : List CodeWord) (items : ItemTable) (t : Turn) (p : List ℕ) (p
     answer-dir : answer ≡ outcome.answer
     answer-dir = ap (node_answer code items t p present) at-dir.2
 
+    new-bones : skeleton new ≡ skeleton (node_at p n)
+    new-bones = ap skeleton new-dir ∙ bus-bones over kids outcome (bus_step-keeps present over (children kids) (bus_turn_of t)) ∙ ap skeleton (sym at-dir.2)
+
     new-ungranted : is_granted answer ≡ false → new ≡ node_at p n
     new-ungranted e = new-dir ∙ step-ungranted present (bus_turn_of t) over (children kids) (ap is_granted (sym answer-dir) ∙ e) ∙ ap (dir_node over) (nodes-children kids) ∙ sym at-dir.2
 
-    -- a leaf elsewhere, or one of this bus of which nothing is known that the grant may have changed
+    -- a leaf elsewhere, one of this bus that the grant didn't touch, or one of which nothing is known that it may have changed
     abbrev IsApartOr : List ℕ → Idle → Option ℕ → Type 0
-    IsApartOr q i o = AreApart q p ⊎ (may_change (Some i) o ≡ false)
+    IsApartOr q i o = AreApart q p ⊎ (((c : ℕ) → q ≡ p ++ c ∷ [] → touches_child c answer ≡ false) ⊎ (may_change (Some i) o ≡ false))
+
+    -- a child that the grant didn't touch
+    child-same : (q : List ℕ) (i : Idle) (c : ℕ) → touches_child c answer ≡ false → q ≡ p ++ c ∷ [] → IsIdle code items i (node_at q n) → IsIdle code items i (node_at q (put_at p new n))
+    child-same q i c untouched is idle =
+        let kid : child_at c outcome.kids ≡ child_at c (children kids) = step-same present over (children kids) c (bus_turn_of t) (ap (touches_child c) (sym answer-dir) ∙ untouched) in
+        let same : node_at (c ∷ []) new ≡ node_at q n = ap (λ m. child_at c (below m)) new-dir ∙ ap (child_at c) (children-nodes outcome.kids) ∙ kid ∙ ap (λ m. child_at c (below m)) (sym at-dir.2) ∙ sym (further p (c ∷ []) n) ∙ ap (λ r. node_at r n) (sym is) in
+        let there : IsIdle code items i (node_at (c ∷ []) new) = subst (IsIdle code items i) (sym same) idle in
+        subst (λ r. IsIdle code items i (node_at r (put_at p new n))) (sym is) (beneath (IsIdle code items i) new (c ∷ []) p n there (subst (λ r. IsIdle code items i (node_at r n)) is idle))
 
     -- where the rules are kept before and after
     module _ (count : ℕ) (ruled : IsTreeOk count n) (later : IsTreeOk count (put_at p new n)) where
@@ -463,7 +475,8 @@ module _ (code : List CodeWord) (items : ItemTable) (t : Turn) (p : List ℕ) (p
 
       granted-kept : (entry : LogEntry) (q : List ℕ) (i : Idle) (w : LeafValue) → answer ≡ TurnAnswer.Granted entry → node_at q n ≡ leaf_node w → IsApartOr q i (answered_by entry) → IsIdle code items i (node_at q n) → (c : ℕ) → q ≡ p ++ c ∷ [] → IsIdle code items i (node_at q (put_at p new n))
       granted-kept entry q i w grants leaf (inl apart) idle c is = absurd (apart.child c is)
-      granted-kept entry q i w grants leaf (inr stays) idle c is = child-kept entry q i w c grants stays leaf is idle
+      granted-kept entry q i w grants leaf (inr (inl untouched)) idle c is = child-same q i c (untouched c is) is idle
+      granted-kept entry q i w grants leaf (inr (inr stays)) idle c is = child-kept entry q i w c grants stays leaf is idle
 
       bus-turn-kept : (q : List ℕ) (i : Idle) (w : LeafValue) → node_at q n ≡ leaf_node w → ((entry : LogEntry) → answer ≡ TurnAnswer.Granted entry → IsApartOr q i (answered_by entry)) → IsIdle code items i (node_at q n) → IsIdle code items i (node_at q (put_at p new n))
       bus-turn-kept q i w leaf other idle =
@@ -475,40 +488,44 @@ module _ (code : List CodeWord) (items : ItemTable) (t : Turn) (p : List ℕ) (p
           ] refl
 
   module _ (bus_leaves leaf_paths bus_paths : List (List ℕ)) (before : List (Option Idle)) (listed : listed_path (named_by t) leaf_paths bus_paths ≡ Some p) (near : AreNear bus_leaves bus_paths leaf_paths) (paths : (k : ℕ) (q : List ℕ) → Leads (leaf_of_number k) q n → slice_get leaf_paths k ≡ Some q) (idle : AreIdle code items before n n) (count : ℕ) (ruled : IsTreeOk count n) (later : IsTreeOk count (put_at p new n)) where
-    -- nothing was granted on a bus near a leaf that may have changed what is known of it
-    abbrev IsUnchanged : ℕ → Idle → Type 0
-    IsUnchanged k i = (entry : LogEntry) (bus : ℕ) (leaves : List ℕ) → answer ≡ TurnAnswer.Granted entry → named_by t ≡ bus_of_number bus → slice_get bus_leaves bus ≡ Some leaves → IsNoneOf k (length leaves) leaves ⊎ (may_change (Some i) (answered_by entry) ≡ false)
-
-    -- of a bus: where something is granted on it, a leaf is none near it, or what is known of it stays
+    -- of a bus: where something is granted on it, a leaf is none near it or none that was touched, or what is known of it stays
     module _ (b k : ℕ) (i : Idle) (q : List ℕ) (is : named_by t ≡ bus_of_number b) (there : Leads (leaf_of_number k) q n) where
-      far : ((xs : List ℕ) → slice_get bus_leaves b ≡ Some xs → IsNoneOf k (length xs) xs) → AreApart q p
-      far none =
-          let path : slice_get bus_paths b ≡ Some p = subst (λ name. listed_path name leaf_paths bus_paths ≡ Some p) is listed in
-          far-in bus_leaves bus_paths leaf_paths b p path near k q (paths k q there) none
+      bus-listed : slice_get bus_paths b ≡ Some p
+      bus-listed = subst (λ name. listed_path name leaf_paths bus_paths ≡ Some p) is listed
 
-      listed-apart : (xs : List ℕ) (o : Option ℕ) → slice_get bus_leaves b ≡ Some xs → IsNoneOf k (length xs) xs ⊎ (may_change (Some i) o ≡ false) → AreApart q p ⊎ (may_change (Some i) o ≡ false)
-      listed-apart xs o at (inl none) = inl (far (λ ys e. subst (λ zs. IsNoneOf k (length zs) zs) (same_Some xs ys (sym at ∙ e)) none))
-      listed-apart xs o at (inr stays) = inr stays
+      far : IsFarFrom bus_leaves b k → AreApart q p
+      far none = far-in bus_leaves bus_paths leaf_paths b p bus-listed near k q (paths k q there) none
 
-      apart-by : (o : Option (List ℕ)) → slice_get bus_leaves b ≡ o → IsUnchanged k i → (entry : LogEntry) → answer ≡ TurnAnswer.Granted entry → AreApart q p ⊎ (may_change (Some i) (answered_by entry) ≡ false)
-      apart-by (Some xs) at unchanged entry grants = listed-apart xs (answered_by entry) at (unchanged entry b xs grants is at)
-      apart-by None at unchanged entry grants = inl (far (λ xs e. absurd (none-some xs (sym at ∙ e))))
+      -- the same path leads to it after the turn
+      still-leads : Leads (leaf_of_number k) q (put_at p new n)
+      still-leads = ap (path_to (leaf_of_number k)) (put-bones p new n (new-bones b is)) ∙ there
 
-    turn-kept : (name : Name) → named_by t ≡ name → (k : ℕ) (i : Idle) (q : List ℕ) → slice_get before k ≡ Some (Some i) → Leads (leaf_of_number k) q n → IsUnchanged k i → IsIdle code items i (node_at q (put_at p new n))
+      left-out : IsLeftOut answer bus_paths (put_at p new n) b k → (c : ℕ) → q ≡ p ++ c ∷ [] → touches_child c answer ≡ false
+      left-out none c at = not-true _ (λ touched. none p bus-listed c touched (subst (λ r. Leads (leaf_of_number k) r (put_at p new n)) at still-leads))
+
+      apart-or : (o : Option ℕ) → IsFarFrom bus_leaves b k ⊎ (IsLeftOut answer bus_paths (put_at p new n) b k ⊎ (may_change (Some i) o ≡ false)) → IsApartOr b is q i o
+      apart-or o (inl none) = inl (far none)
+      apart-or o (inr (inl none)) = inr (inl (left-out none))
+      apart-or o (inr (inr stays)) = inr (inr stays)
+
+      apart-by : IsUntouched t answer bus_leaves bus_paths (put_at p new n) k i → (entry : LogEntry) → answer ≡ TurnAnswer.Granted entry → IsApartOr b is q i (answered_by entry)
+      apart-by unchanged entry grants = apart-or (answered_by entry) (unchanged entry b grants is)
+
+    turn-kept : (name : Name) → named_by t ≡ name → (k : ℕ) (i : Idle) (q : List ℕ) → slice_get before k ≡ Some (Some i) → Leads (leaf_of_number k) q n → IsUntouched t answer bus_leaves bus_paths (put_at p new n) k i → IsIdle code items i (node_at q (put_at p new n))
     turn-kept (leaf_of_number j) is k i q known there unchanged =
         let leaf = leads-leaf k q n there in
         hart-kept j is q i leaf.0 leaf.1 (idle.each k i q known there)
     turn-kept (bus_of_number b) is k i q known there unchanged =
         let leaf = leads-leaf k q n there in
-        bus-turn-kept b is count ruled later q i leaf.0 leaf.1 (apart-by b k i q is there (slice_get bus_leaves b) refl unchanged) (idle.each k i q known there)
+        bus-turn-kept b is count ruled later q i leaf.0 leaf.1 (apart-by b k i q is there unchanged) (idle.each k i q known there)
 
-    known-idle : (k : ℕ) (i : Idle) (q : List ℕ) → IsKnown t answer bus_leaves leaf_paths (put_at p new n) before k i → Leads (leaf_of_number k) q n → IsIdle code items i (node_at q (put_at p new n))
+    known-idle : (k : ℕ) (i : Idle) (q : List ℕ) → IsKnown t answer bus_leaves bus_paths leaf_paths (put_at p new n) before k i → Leads (leaf_of_number k) q n → IsIdle code items i (node_at q (put_at p new n))
     known-idle k i q (is_told own says) there = hart-told k own q i there says
     known-idle k i q (is_seen seen) there = rest-idle code items (node_at q (put_at p new n)) i (seen q (paths k q there))
     known-idle k i q (still_known known other) there = turn-kept (named_by t) refl k i q known there other
 
     -- what is noted is so after the turn
-    pub noted-idle : (after : List (Option Idle)) → AreNoted t answer bus_leaves leaf_paths (put_at p new n) before after → AreIdle code items after n (put_at p new n)
+    pub noted-idle : (after : List (Option Idle)) → AreNoted t answer bus_leaves bus_paths leaf_paths (put_at p new n) before after → AreIdle code items after n (put_at p new n)
     noted-idle after noted = record { each = λ k i q known there. known-idle k i q (noted.each k i known) there }
 
 -- ---- a turn of a hart that is known to be idle

@@ -22,9 +22,12 @@ pub mod Asking
 pub mod Copies
 pub mod Written
 pub mod Resting
+pub mod BonesKept
 pub mod Untold
+pub mod Touched
 pub mod StillWaits
 pub mod WaitsOn
+pub mod NotHeld
 pub mod Lasting
 pub mod IdleHarts
 pub mod QuietFrame
@@ -33,6 +36,7 @@ pub mod QuietTable
 pub mod QuietPass
 pub mod QuietIndex
 pub mod ListedPaths
+pub mod LeafThere
 pub mod QuietColumns
 pub mod QuietNear
 pub mod QuietTurns

@@ -31,6 +31,7 @@ use Rattle.state_judging.proofs.DirRead.{dir-ok}
 use Rattle.state_judging.proofs.LeafRead.{hart-ok, leaf-ok}
 use Rattle.state_judging.proofs.LeavesRead.{has_ways}
 use Rattle.ddm_tree.proofs.Along.{some_if-same}
+use Rattle.ddm_tree.proofs.BonesKept.{put-bones}
 use Rattle.ddm_tree.proofs.Copies.{counts-same}
 use Rattle.ddm_tree.proofs.Descend.{leads-child, within-child}
 use Rattle.ddm_tree.proofs.Names.{path-there}
@@ -100,16 +101,6 @@ module _ (items : ℕ) where
   node-fits (Section.Bus bus) (dir_node d ns) k ws r some within e = dir-fits d ns k ws r within e
 
 -- ---- and so the tree keeps them
-
-set-bones : (ns : Nodes) (i : ℕ) (m : Node) → skeleton m ≡ skeleton (child_at i (children ns)) → skeletons (nodes (slice_set (children ns) i m)) ≡ skeletons ns
-set-bones no_nodes i m e = refl
-set-bones (more_nodes n ns) zero m e = rw (e, nodes-children ns) refl
-set-bones (more_nodes n ns) (suc i) m e = rw (set-bones ns i m e) refl
-
-put-bones : (path : List ℕ) (new n : Node) → skeleton new ≡ skeleton (node_at path n) → skeleton (put_at path new n) ≡ skeleton n
-put-bones [] new n e = e
-put-bones (i ∷ path) new (leaf_node v) e = refl
-put-bones (i ∷ path) new (dir_node d ns) e = ap (dir_bone d.bus d.level d.sizes) (set-bones ns i (put_at path new (child_at i (children ns))) (put-bones path new (child_at i (children ns)) e))
 
 module _ (items : ℕ) where
   set-within : (ns : Nodes) (i : ℕ) (m : Node) → all_within_among items ns ≡ true → all_within items m ≡ true → all_within_among items (nodes (slice_set (children ns) i m)) ≡ true

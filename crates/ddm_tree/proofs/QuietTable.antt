@@ -1,19 +1,22 @@
 -- What a machine knows of the turns of its buses and harts: what a single write or a walk through the tree makes of it.
 -- Letters: e and f are what is known under a number, k and j numbers of buses or harts, c, i a child, n a node, t a turn, p, q and r
--- paths, o why a hart is idle or what is known of it, busy whether a turn is busy, A and B the turns of buses that are learned.
-use Rattle.std.proofs.Common.{◌≡◌, ◌≢◌, ℕ, zero, suc, ◌+◌, ◌<◌, ◌≤◌, ◌++◌, ◌⊎◌, inl, inr, Bool, List, [], ◌∷◌, length, Option, Some, refl, sym, ap, subst, ◌∙◌, arith}
-use Rattle.std.specs.Prelude.{slice_get, slice_index_or, slice_set}
+-- paths, a an answer, o why a hart is idle or what is known of it, busy whether a turn is busy, A and B the turns of buses that are
+-- learned.
+use Rattle.std.proofs.Common.{◌≡◌, ◌≢◌, ℕ, zero, suc, ◌+◌, ◌*◌, ◌<◌, ◌≤◌, ◌++◌, ◌⊎◌, inl, inr, Bool, true, false, List, [], ◌∷◌, length, Option, Some, None, refl, sym, ap, subst, ◌∙◌, arith}
+use Rattle.std.specs.Prelude.{nat_lt, replicate, slice_get, slice_index_or, slice_set}
+use Rattle.std.proofs.lemmas.Bool.{ltb-true, ltb-false}
 use Rattle.std.proofs.lemmas.Option.{none-some, same_Some, slice_get_past}
 use native.Mathlib.Decide.{ℕ_discrete}
+use Rattle.ddm_types.specs.declared.answers.TurnAnswer.{TurnAnswer}
 use Rattle.tree_model.specs.declared.BusTurn.{BusTurn}
 use Rattle.tree_model.specs.State.Values.{DirValue, Node, Nodes, dir_node, children}
 use Rattle.tree_model.specs.Turns.Children.{child_at}
 use Rattle.ddm_tree.specs.declared.idle.Idle.{Idle}
 use Rattle.ddm_tree.specs.declared.quiet.Known.{Known}
 use Rattle.ddm_tree.specs.Path.{node_at}
-use Rattle.ddm_tree.specs.Quiet.{AreLearned, AreLearnedBelow, AreSame, Entry, HartsAgree, IsAsBefore, IsHartNoted, IsLearned, IsRight, IsRightThere, IsTouched, KeepsBuses, KeepsHarts, OfChild, busy_at, busy_if, busy_of, bus_in, entry_at, entry_there, hart_as, idle_as, idle_as_there}
+use Rattle.ddm_tree.specs.Quiet.{AreLearned, AreLearnedBelow, AreSame, Entry, HartsAgree, IsAsBefore, IsBlank, IsHartNoted, IsLearned, IsRight, IsRightThere, IsTouched, KeepsBuses, KeepsHarts, OfChild, OfNamed, OfTouched, OfTwo, busy_at, busy_if, busy_of, bus_in, entry_at, entry_there, hart_as, idle_as, idle_as_there, touches_child}
 use Rattle.ddm_tree.proofs.KeysRising.{set-here, set-other}
-use Rattle.ddm_tree.proofs.QuietIndex.{known-here, known-index, right-none, row-other, with_known}
+use Rattle.ddm_tree.proofs.QuietIndex.{blank-entry, busy-few, empty-entry, known-here, known-index, right-none, row-other, with_known}
 use Rattle.ddm_tree.proofs.QuietNear.{below-next}
 
 -- ---- an entry that is put, and the others
@@ -38,8 +41,8 @@ entry-inside [] k e inside = absurd (omega (arith, inside))
 entry-inside (f ∷ known) zero e inside = refl
 entry-inside (f ∷ known) (suc k) e inside = entry-inside known k e (omega (arith, inside))
 
-pub place-inside : (known : List Entry) (k r c : ℕ) (e : Entry) → k < length known → e ≡ slice_index_or known k e → busy_if (slice_index_or (slice_index_or e r []) c Known.Nothing) ≡ busy_at r c (entry_at k known)
-place-inside known k r c e inside is = ap busy_if (known-index e r c) ∙ ap (busy_at r c) (is ∙ entry-inside known k e inside)
+pub place-inside : (known : List Entry) (k r c : ℕ) (e : Entry) → c < 16 → k < length known → e ≡ slice_index_or known k e → busy_if (slice_index_or e (r * 16 + c) Known.Nothing) ≡ busy_at r c (entry_at k known)
+place-inside known k r c e few inside is = ap busy_if (known-index e (r * 16 + c)) ∙ sym (busy-few r c e few) ∙ ap (busy_at r c) (is ∙ entry-inside known k e inside)
 
 -- ---- the bus at the node itself
 
@@ -143,52 +146,102 @@ module _ (count : ℕ) (d : DirValue) (ns : Nodes) (before mid after : List Entr
       learned-fewer _ (DownsOf (count + 1)) (dir_node d ns) before after (λ k q t is down. one-more down.0.0 q t down.0.2 down.1 down.0.1 (ℕ_discrete down.0.0 count))
       (learned-then (DownsOf count) _ (dir_node d ns) before mid after first (learned-child (λ r s. (r ≡ []) × (s ≡ BusTurn.Down)) count d ns mid after second))
 
+-- ---- what comes down to the bus of one child, if there is a number
+
+abbrev pub DownOf : Option ℕ → List ℕ → BusTurn → Type 0
+DownOf named q t = ((c : ℕ) × (named ≡ Some c) × (q ≡ c ∷ [])) × (t ≡ BusTurn.Down)
+
+pub down-none : (n : Node) (known : List Entry) → AreLearnedBelow (DownOf None) n known known
+down-none n known = learned-fewer (λ q t. ⊥) (DownOf None) n known known (λ k q t is down. none-some down.0.0 down.0.1) (learned-none n known)
+
+module _ (i : ℕ) (d : DirValue) (ns : Nodes) (before after : List Entry) where
+  pub down-child : AreLearnedBelow (λ q t. (q ≡ []) × (t ≡ BusTurn.Down)) (child_at i (children ns)) before after → AreLearnedBelow (DownOf (Some i)) (dir_node d ns) before after
+  down-child learned = learned-fewer _ (DownOf (Some i)) (dir_node d ns) before after (λ k q t is down. ([], down.0.2 ∙ ap (λ c. c ∷ []) (sym (same_Some i down.0.0 down.0.1)), (refl, down.1))) (learned-child (λ r s. (r ≡ []) × (s ≡ BusTurn.Down)) i d ns before after learned)
+
 -- ---- what a turn touches, seen from a node on its path
 
-pub touched-here : (q : List ℕ) (t : BusTurn) → IsTouched [] q t → (q ≡ []) ⊎ (((c : ℕ) × (q ≡ c ∷ [])) × (t ≡ BusTurn.Down))
-touched-here q t (inl same) = inl same
-touched-here [] t (inr (inl above)) = inl refl
-touched-here (j ∷ r) t (inr (inl above)) =
-    let is : [] ≡ j ∷ (r ++ above.0 ∷ []) = above.1 in
-    cc
-touched-here q t (inr (inr beneath)) = inr ((beneath.0, beneath.1), beneath.2)
+module _ (a : TurnAnswer) where
+  -- at its end
+  touched-here : (q : List ℕ) (t : BusTurn) → IsTouched a [] q t → ((q ≡ []) × OfTouched a t) ⊎ (((c : ℕ) × (q ≡ c ∷ []) × (touches_child c a ≡ true)) × (t ≡ BusTurn.Down))
+  touched-here q t (inl same) = inl same
+  touched-here [] t (inr (inl above)) =
+      let is : [] ≡ above.0 ∷ [] = above.1 in
+      cc
+  touched-here (j ∷ r) t (inr (inl above)) =
+      let is : [] ≡ j ∷ (r ++ above.0 ∷ []) = above.1 in
+      cc
+  touched-here q t (inr (inr beneath)) = inr ((beneath.0, beneath.1, beneath.2), beneath.3)
 
-module _ (i : ℕ) (rest : List ℕ) (t : BusTurn) where
-  above-kid : (q : List ℕ) (c : ℕ) → i ∷ rest ≡ q ++ c ∷ [] → OfChild c t → ((q ≡ []) × (rest ≡ []) × OfChild i t) ⊎ ((r : List ℕ) × (q ≡ i ∷ r) × IsTouched rest r t)
-  above-kid [] c is of =
-      let first : c ≡ i = cc in
-      let last : rest ≡ [] = cc in
-      inl (refl, last, subst (λ k. OfChild k t) first of)
-  above-kid (j ∷ r) c is of =
-      let first : j ≡ i = cc in
-      let next : rest ≡ r ++ c ∷ [] = cc in
-      inr (r, ap (λ k. k ∷ r) first, inr (inl (c, next, of)))
+  -- where all of it is learned
+  all-touched : (q : List ℕ) (t : BusTurn) → ((q ≡ []) × OfTouched a t) ⊎ (((c : ℕ) × (q ≡ c ∷ []) × (touches_child c a ≡ true)) × (t ≡ BusTurn.Down)) → (q ≡ []) ⊎ (((c : ℕ) × (q ≡ c ∷ [])) × (t ≡ BusTurn.Down))
+  all-touched q t (inl own) = inl own.0
+  all-touched q t (inr beneath) = inr ((beneath.0.0, beneath.0.1), beneath.1)
 
-  touched-kid : (q : List ℕ) → IsTouched (i ∷ rest) q t → ((q ≡ []) × (rest ≡ []) × OfChild i t) ⊎ ((r : List ℕ) × (q ≡ i ∷ r) × IsTouched rest r t)
-  touched-kid q (inl same) = inr (rest, same, inl refl)
-  touched-kid q (inr (inl above)) = above-kid q above.0 above.1 above.2
-  touched-kid q (inr (inr beneath)) = inr (rest ++ beneath.0 ∷ [], beneath.1, inr (inr (beneath.0, refl, beneath.2)))
+  pub touched-all : (q : List ℕ) (t : BusTurn) → IsTouched a [] q t → (q ≡ []) ⊎ (((c : ℕ) × (q ≡ c ∷ [])) × (t ≡ BusTurn.Down))
+  touched-all q t touched = all-touched q t (touched-here q t touched)
 
--- the two steps of a walk to a child: what it shows, where the path ends there, and what is below it
-module _ (i : ℕ) (rest : List ℕ) (d : DirValue) (ns : Nodes) (before mid after : List Entry) where
-  abbrev Shows : List ℕ → BusTurn → Type 0
-  Shows q t = (q ≡ []) × OfChild i t
+  -- where two children are
+  module _ (first second : Option ℕ) (two : (c : ℕ) → touches_child c a ≡ true → (first ≡ Some c) ⊎ (second ≡ Some c)) where
+    abbrev LearnsTwo : List ℕ → BusTurn → Type 0
+    LearnsTwo q t = (((q ≡ []) × OfTwo first second t) ⊎ DownOf first q t) ⊎ DownOf second q t
 
-  shown : (q : List ℕ) (t : BusTurn) → ((q ≡ []) × (rest ≡ []) × OfChild i t) ⊎ ((r : List ℕ) × (q ≡ i ∷ r) × IsTouched rest r t) → Shows q t ⊎ ((r : List ℕ) × (q ≡ i ∷ r) × IsTouched rest r t)
-  shown q t (inl here) = inl (here.0, here.2)
-  shown q t (inr there) = inr there
+    of-named : (c : ℕ) (t : BusTurn) → OfChild c t → (first ≡ Some c) ⊎ (second ≡ Some c) → OfNamed first t ⊎ OfNamed second t
+    of-named c t of (inl is) = inl (c, is, of)
+    of-named c t of (inr is) = inr (c, is, of)
 
-  pub walked-end : AreLearnedBelow Shows (dir_node d ns) before mid → AreLearnedBelow (IsTouched rest) (child_at i (children ns)) mid after → AreLearnedBelow (IsTouched (i ∷ rest)) (dir_node d ns) before after
-  walked-end first second =
-      learned-fewer _ (IsTouched (i ∷ rest)) (dir_node d ns) before after (λ k q t is touched. shown q t (touched-kid i rest t q touched))
-      (learned-then Shows _ (dir_node d ns) before mid after first (learned-child (IsTouched rest) i d ns mid after second))
+    of-two : (t : BusTurn) → OfTouched a t → OfTwo first second t
+    of-two BusTurn.Down touched = inl refl
+    of-two (BusTurn.Request c) touched = inr (of-named c (BusTurn.Request c) refl (two c touched))
+    of-two (BusTurn.Reply c) touched = inr (of-named c (BusTurn.Reply c) refl (two c touched))
+    of-two (BusTurn.Leave c choice) touched = inr (of-named c (BusTurn.Leave c choice) refl (two c touched))
 
-  further-on : (rest ≡ [] → ⊥) → (q : List ℕ) (t : BusTurn) → ((q ≡ []) × (rest ≡ []) × OfChild i t) ⊎ ((r : List ℕ) × (q ≡ i ∷ r) × IsTouched rest r t) → (r : List ℕ) × (q ≡ i ∷ r) × IsTouched rest r t
-  further-on more q t (inl here) = absurd (more here.1)
-  further-on more q t (inr there) = there
+    down-two : (c : ℕ) (q : List ℕ) (t : BusTurn) → q ≡ c ∷ [] → t ≡ BusTurn.Down → (first ≡ Some c) ⊎ (second ≡ Some c) → LearnsTwo q t
+    down-two c q t is down (inl named) = inl (inr ((c, named, is), down))
+    down-two c q t is down (inr named) = inr ((c, named, is), down)
 
-  pub walked-on : (rest ≡ [] → ⊥) → AreLearnedBelow (IsTouched rest) (child_at i (children ns)) before after → AreLearnedBelow (IsTouched (i ∷ rest)) (dir_node d ns) before after
-  walked-on more second = learned-fewer _ (IsTouched (i ∷ rest)) (dir_node d ns) before after (λ k q t is touched. further-on more q t (touched-kid i rest t q touched)) (learned-child (IsTouched rest) i d ns before after second)
+    two-touched : (q : List ℕ) (t : BusTurn) → ((q ≡ []) × OfTouched a t) ⊎ (((c : ℕ) × (q ≡ c ∷ []) × (touches_child c a ≡ true)) × (t ≡ BusTurn.Down)) → LearnsTwo q t
+    two-touched q t (inl own) = inl (inl (own.0, of-two t own.1))
+    two-touched q t (inr beneath) = down-two beneath.0.0 q t beneath.0.1 beneath.1 (two beneath.0.0 beneath.0.2)
+
+    pub touched-two : (q : List ℕ) (t : BusTurn) → IsTouched a [] q t → LearnsTwo q t
+    touched-two q t touched = two-touched q t (touched-here q t touched)
+
+  module _ (i : ℕ) (rest : List ℕ) (t : BusTurn) where
+    above-kid : (q : List ℕ) (c : ℕ) → i ∷ rest ≡ q ++ c ∷ [] → OfChild c t → ((q ≡ []) × (rest ≡ []) × OfChild i t) ⊎ ((r : List ℕ) × (q ≡ i ∷ r) × IsTouched a rest r t)
+    above-kid [] c is of =
+        let first : c ≡ i = cc in
+        let last : rest ≡ [] = cc in
+        inl (refl, last, subst (λ k. OfChild k t) first of)
+    above-kid (j ∷ r) c is of =
+        let first : j ≡ i = cc in
+        let next : rest ≡ r ++ c ∷ [] = cc in
+        inr (r, ap (λ k. k ∷ r) first, inr (inl (c, next, of)))
+
+    touched-kid : (q : List ℕ) → IsTouched a (i ∷ rest) q t → ((q ≡ []) × (rest ≡ []) × OfChild i t) ⊎ ((r : List ℕ) × (q ≡ i ∷ r) × IsTouched a rest r t)
+    touched-kid q (inl same) = inr (rest, same.0, inl (refl, same.1))
+    touched-kid q (inr (inl above)) = above-kid q above.0 above.1 above.2
+    touched-kid q (inr (inr beneath)) = inr (rest ++ beneath.0 ∷ [], beneath.1, inr (inr (beneath.0, refl, beneath.2, beneath.3)))
+
+  -- the two steps of a walk to a child: what it shows, where the path ends there, and what is below it
+  module _ (i : ℕ) (rest : List ℕ) (d : DirValue) (ns : Nodes) (before mid after : List Entry) where
+    abbrev Shows : List ℕ → BusTurn → Type 0
+    Shows q t = (q ≡ []) × OfChild i t
+
+    shown : (q : List ℕ) (t : BusTurn) → ((q ≡ []) × (rest ≡ []) × OfChild i t) ⊎ ((r : List ℕ) × (q ≡ i ∷ r) × IsTouched a rest r t) → Shows q t ⊎ ((r : List ℕ) × (q ≡ i ∷ r) × IsTouched a rest r t)
+    shown q t (inl here) = inl (here.0, here.2)
+    shown q t (inr there) = inr there
+
+    pub walked-end : AreLearnedBelow Shows (dir_node d ns) before mid → AreLearnedBelow (IsTouched a rest) (child_at i (children ns)) mid after → AreLearnedBelow (IsTouched a (i ∷ rest)) (dir_node d ns) before after
+    walked-end first second =
+        learned-fewer _ (IsTouched a (i ∷ rest)) (dir_node d ns) before after (λ k q t is touched. shown q t (touched-kid i rest t q touched))
+        (learned-then Shows _ (dir_node d ns) before mid after first (learned-child (IsTouched a rest) i d ns mid after second))
+
+    further-on : (rest ≡ [] → ⊥) → (q : List ℕ) (t : BusTurn) → ((q ≡ []) × (rest ≡ []) × OfChild i t) ⊎ ((r : List ℕ) × (q ≡ i ∷ r) × IsTouched a rest r t) → (r : List ℕ) × (q ≡ i ∷ r) × IsTouched a rest r t
+    further-on more q t (inl here) = absurd (more here.1)
+    further-on more q t (inr there) = there
+
+    pub walked-on : (rest ≡ [] → ⊥) → AreLearnedBelow (IsTouched a rest) (child_at i (children ns)) before after → AreLearnedBelow (IsTouched a (i ∷ rest)) (dir_node d ns) before after
+    walked-on more second = learned-fewer _ (IsTouched a (i ∷ rest)) (dir_node d ns) before after (λ k q t is touched. further-on more q t (touched-kid i rest t q touched)) (learned-child (IsTouched a rest) i d ns before after second)
 
 -- ---- what is known of the turns of a bus
 
@@ -206,6 +259,15 @@ module _ (A : List ℕ → BusTurn → Type 0) (n : Node) (before mid after : Li
 
   pub kept-learned : AreLearnedBelow A n mid after → AreLearnedBelow A n before after
   kept-learned learned = record { each = λ k t. kept-one k t (learned.each k t) }
+
+-- ---- nothing is known
+
+pub blank-all : (known : List Entry) → ((i : ℕ) → i < length known → slice_index_or known i [] ≡ replicate 128 Known.Nothing) → IsBlank known
+blank-all known all = record { each = λ k r c. blank-at k r c (nat_lt k (length known)) refl }
+  where
+    blank-at : (k r c : ℕ) (b : Bool) → nat_lt k (length known) ≡ b → busy_at r c (entry_at k known) ≡ None
+    blank-at k r c true inside = ap (busy_at r c) (sym (entry-index known k) ∙ all k (ltb-true _ _ inside)) ∙ blank-entry 128 r c
+    blank-at k r c false past = ap (busy_at r c) (entry-past k known (ltb-false _ _ past)) ∙ empty-entry r c
 
 -- ---- harts
 
@@ -225,10 +287,10 @@ module _ (k : ℕ) (before : List Entry) (o : Option Bool) (v : Known) (inside :
   put = with_known 0 0 v was
 
   bus-row : (t : BusTurn) → busy_of t put ≡ busy_of t was
-  bus-row BusTurn.Down = row-other was 0 1 0 _ (λ same. cc)
-  bus-row (BusTurn.Request c) = row-other was 0 2 c _ (λ same. cc)
-  bus-row (BusTurn.Reply c) = row-other was 0 3 c _ (λ same. cc)
-  bus-row (BusTurn.Leave c choice) = row-other was 0 4 c _ (λ same. cc)
+  bus-row BusTurn.Down = row-other was 0 0 1 0 v (omega arith) (λ same. cc)
+  bus-row (BusTurn.Request c) = row-other was 0 0 2 c v (omega arith) (λ same. cc)
+  bus-row (BusTurn.Reply c) = row-other was 0 0 3 c v (omega arith) (λ same. cc)
+  bus-row (BusTurn.Leave c choice) = row-other was 0 0 4 c v (omega arith) (λ same. cc)
 
   bus-same : (j : ℕ) (t : BusTurn) → Dec (j ≡ k) → busy_of t (entry_at j (slice_set before k put)) ≡ busy_of t (entry_at j before)
   bus-same j t (yes same) = ap (λ i. busy_of t (entry_at i (slice_set before k put))) same ∙ ap (busy_of t) (entry-put k before put inside) ∙ bus-row t ∙ ap (busy_of t) (entry-index before k) ∙ ap (λ i. busy_of t (entry_at i before)) (sym same)

@@ -3,7 +3,7 @@
 -- Letters: t is a turn, p the path to the node that it names, s a turn of a bus and q the path to that, n the tree, k and b numbers of
 -- buses, c a child, o what stands at a place of a list, a an answer, busy whether it is counted as a busy one.
 use Rattle.std.proofs.Common.{◌≡◌, ℕ, ◌++◌, ◌⊎◌, inl, inr, Bool, true, false, true≢false, List, [], ◌∷◌, Option, Some, None, refl, sym, ap, subst, ◌∙◌, arith}
-use Rattle.std.specs.Prelude.{slice_get}
+use Rattle.std.specs.Prelude.{is_none, slice_get}
 use Rattle.std.proofs.lemmas.Option.{none-some}
 use Rattle.ddm_types.specs.declared.answers.TurnAnswer.{TurnAnswer}
 use Rattle.ddm_types.specs.declared.keys.Stamp.{Stamp}
@@ -12,6 +12,7 @@ use Rattle.ddm_types.specs.CodeMap.{CodeWord}
 use Rattle.ddm_types.specs.ItemTable.{ItemTable}
 use Rattle.ddm_types.specs.Keys.{key_on}
 use Rattle.tree_model.specs.declared.BusTurn.{BusTurn}
+use Rattle.tree_model.specs.State.Child.{child_request, child_reply, child_leaving}
 use Rattle.tree_model.specs.State.Values.{LeafValue, DirValue, Node, Nodes, leaf_node, dir_node, nodes, children, MachineValue, root_of}
 use Rattle.tree_model.specs.State.Shape.{IsShaped, skeleton}
 use Rattle.tree_model.specs.Laws.{kept_of}
@@ -30,11 +31,12 @@ use Rattle.ddm_tree.specs.Idle.{AreIdle, idle_answer, idle_there}
 use Rattle.ddm_tree.specs.Path.{node_at, path_to, put_at, node_answer, node_turned}
 use Rattle.ddm_tree.specs.Ready.{Leads}
 use Rattle.ddm_tree.proofs.IdleHarts.{Dir, IsSpared, Leaf, SameFrom, bus-same_from, further, kept-at, leads-dir, leads-leaf, leaf-same_from, put-same, spared, step-ungranted}
-use Rattle.ddm_tree.specs.Quiet.{AreLearnedBelow, AreQuiet, Entry, HartsAgree, IsAsBefore, IsBlank, IsQuietOf, IsRight, IsRightThere, IsTouchedBy, KeepsQuiet, OfChild, bus_in, column_of, entry_at, finds_nothing, idle_as_there, is_hart_turn, known_as, passed_as, row_of, touches}
+use Rattle.ddm_tree.specs.Quiet.{AreLearnedBelow, AreQuiet, Entry, HartsAgree, IsAsBefore, IsBlank, IsQuietOf, IsRight, IsRightThere, IsTouchedBy, KeepsQuiet, OfChild, OfTouched, bus_in, column_of, entry_at, finds_nothing, idle_as_there, is_hart_turn, known_as, passed_as, row_of, touches, touches_child}
 use Rattle.ddm_tree.proofs.NamedOnce.{bus-once}
 use Rattle.ddm_tree.proofs.OneBus.{leads-number, one-path}
 use Rattle.ddm_tree.proofs.QuietFrame.{Finds, finds-frame, finds-kept, finds-unchanged}
 use Rattle.ddm_tree.proofs.QuietSteps.{hart-keeps, nothing-turned}
+use Rattle.ddm_tree.proofs.Touched.{not-true, step-same}
 
 -- ---- answers
 
@@ -132,15 +134,39 @@ module _ (code : List CodeWord) (items : ItemTable) (t : Turn) (p : List ℕ) (p
     child-kept : (c : ℕ) → kept_of (node_at (c ∷ []) new) ≡ kept_of (node_at (c ∷ []) (node_at p n))
     child-kept c = ap (λ m. kept_of (node_at (c ∷ []) m)) new-dir ∙ ap (λ ms. kept_of (child_at c ms)) (children-nodes outcome.kids) ∙ kept-at (children kids) outcome.kids c (bus_step-keeps present over (children kids) (bus_turn_of t)).kids ∙ ap (λ m. kept_of (node_at (c ∷ []) m)) (sym at-dir.2)
 
+    -- a child that the turn didn't touch
+    kid-same : (c : ℕ) → touches_child c answer ≡ false → child_at c outcome.kids ≡ child_at c (children kids)
+    kid-same c untouched = step-same present over (children kids) c (bus_turn_of t) (ap (touches_child c) (sym answer-dir) ∙ untouched)
+
+    node-same : (c : ℕ) → touches_child c answer ≡ false → node_at (c ∷ []) new ≡ node_at (c ∷ []) (node_at p n)
+    node-same c untouched = ap (node_at (c ∷ [])) new-dir ∙ ap (child_at c) (children-nodes outcome.kids) ∙ kid-same c untouched ∙ ap (node_at (c ∷ [])) (sym at-dir.2)
+
     module _ (s : BusTurn) (q : List ℕ) (untouched : IsTouchedBy answer p q s → ⊥) (none : Finds s (node_at q n)) where
+      -- of the bus itself, where no child that the turn is about was touched
+      bus-own : (r : BusTurn) → (OfTouched answer r → ⊥) → Finds r (dir_node over kids) → Finds r (dir_node outcome.parent (nodes outcome.kids))
+      bus-own BusTurn.Down other was = absurd (other tt)
+      bus-own (BusTurn.Request c) other was = ap (λ ms. is_none (child_request (child_at c ms))) (children-nodes outcome.kids) ∙ ap (λ m. is_none (child_request m)) (kid-same c (not-true _ other)) ∙ was
+      bus-own (BusTurn.Reply c) other was = ap (λ ms. is_none (child_reply (child_at c ms))) (children-nodes outcome.kids) ∙ ap (λ m. is_none (child_reply m)) (kid-same c (not-true _ other)) ∙ was
+      bus-own (BusTurn.Leave c choice) other was = ap (λ ms. is_none (child_leaving choice (child_at c ms))) (children-nodes outcome.kids) ∙ ap (λ m. is_none (child_leaving choice m)) (kid-same c (not-true _ other)) ∙ was
+
+      bus-here : touches answer ≡ true → q ≡ p → Finds s new
+      bus-here does same =
+          let was : Finds s (dir_node over kids) = subst (Finds s) (ap (λ r. node_at r n) same ∙ at-dir.2) none in
+          subst (Finds s) (sym new-dir) (bus-own s (λ of. untouched (does, inl (same, of))) was)
+
+      -- of the bus below a child
+      bus-beneath : touches answer ≡ true → (c : ℕ) → q ≡ p ++ c ∷ [] → Finds s (node_at (c ∷ []) new)
+      bus-beneath does c beneath =
+          let was : Finds s (node_at (c ∷ []) (node_at p n)) = subst (Finds s) (ap (λ r. node_at r n) beneath ∙ further p (c ∷ []) n) none in
+          elim (touches_child c answer) as (λ b. touches_child c answer ≡ b → Finds s (node_at (c ∷ []) new)) [
+            | true ↦ λ touched. finds-kept s (node_at (c ∷ []) (node_at p n)) (node_at (c ∷ []) new) (child-kept c) (λ down. untouched (does, inr (inr (c, beneath, touched, down)))) was
+            | false ↦ λ other. subst (Finds s) (sym (node-same c other)) was
+          ] refl
+
       bus-granted : is_granted answer ≡ true → Finds s (node_at q (put_at p new n))
       bus-granted is =
           let does : touches answer ≡ true = granted-touches answer is in
-          finds-frame s p q n new bus-below
-          (λ same. absurd (untouched (does, inl same)))
-          (λ c above of. absurd (untouched (does, inr (inl (c, above, of)))))
-          (λ c beneath. finds-kept s (node_at (c ∷ []) (node_at p n)) (node_at (c ∷ []) new) (child-kept c) (λ down. untouched (does, inr (inr (c, beneath, down)))) (subst (Finds s) (ap (λ r. node_at r n) beneath ∙ further p (c ∷ []) n) none))
-          none
+          finds-frame s p q n new bus-below (bus-here does) (λ c above of. absurd (untouched (does, inr (inl (c, above, of))))) (bus-beneath does) none
 
       bus-finds : Finds s (node_at q (put_at p new n))
       bus-finds =

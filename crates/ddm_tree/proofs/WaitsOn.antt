@@ -58,7 +58,7 @@ module _ (count : ℕ) where
     reserved-one None is = absurd (true≢false (sym is))
     reserved-one (Some y) is = ap Some (eqb-true _ _ is)
 
-    waits-for : (v : LeafValue) → IsLeafOk count v → state_waits (state_at x v) ≡ true → waiting_item v.ways v.buffer ≡ Some x
+    pub waits-for : (v : LeafValue) → IsLeafOk count v → state_waits (state_at x v) ≡ true → waiting_item v.ways v.buffer ≡ Some x
     waits-for v ok waits = reserved-one (waiting_item v.ways v.buffer) (implies-use _ _ (each-from_range (waits_alone v) count (ok.each one_waiting) x (awaited-known v ok waits)) waits)
 
     no_leaf-waits : waiting_item no_leaf.ways no_leaf.buffer ≡ Some x → ⊥

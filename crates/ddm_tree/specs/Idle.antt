@@ -3,7 +3,7 @@
 -- Letters: n is a node, v a leaf, i why a hart is idle, k a leaf's number, t a turn, a an answer, c a child, o the item that a grant may
 -- have answered.
 -- To be believed with the contracts: it is what a machine remembers of its leaves.
-use Rattle.std.specs.Prelude.{◌≡◌, ◌≢◌, ◌⊎◌, ℕ, Bool, true, false, nat_eq, List, Option, Some, None, length, slice_get, slice_set, if◌then◌else◌}
+use Rattle.std.specs.Prelude.{◌≡◌, ◌≢◌, ◌⊎◌, ℕ, Bool, true, false, nat_eq, List, [], ◌∷◌, ◌++◌, Option, Some, None, length, slice_get, slice_set, if◌then◌else◌}
 use Rattle.ddm_types.specs.declared.answers.BusyCause.{BusyCause}
 use Rattle.ddm_types.specs.declared.answers.LogEntry.{LogEntry}
 use Rattle.ddm_types.specs.declared.answers.TurnAnswer.{TurnAnswer}
@@ -20,7 +20,7 @@ use Rattle.tree_model.specs.Turns.Machine.{named_by}
 use Rattle.tree_model.specs.Turns.Tree.{bus_of_number, leaf_of_number}
 use Rattle.ddm_tree.specs.declared.idle.Idle.{Idle}
 use Rattle.ddm_tree.specs.Path.{node_at}
-use Rattle.ddm_tree.specs.Quiet.{IsNoneOf}
+use Rattle.ddm_tree.specs.Quiet.{IsNoneOf, touches_child}
 use Rattle.ddm_tree.specs.Ready.{Leads}
 
 -- what the turns of an idle hart answer
@@ -123,9 +123,13 @@ IsSeen k paths n i = (path : List ℕ) → slice_get paths k ≡ Some path → n
 abbrev pub IsSeenOr : Type 0 → ℕ → List (List ℕ) → Node → List (Option Idle) → Idle → Type 0
 IsSeenOr otherwise k paths n before i = IsSeen k paths n i ⊎ ((slice_get before k ≡ Some (Some i)) × otherwise)
 
--- after a grant it is what they tell for the first so many of these leaves, where it may have changed
-pub record AreSeen (o : Option ℕ) (count : ℕ) (leaves : List ℕ) (paths : List (List ℕ)) (n : Node) (before after : List (Option Idle)) : Type 0 where
-  pub each : (k : ℕ) (i : Idle) → slice_get after k ≡ Some (Some i) → IsSeenOr (IsNoneOf k count leaves ⊎ (may_change (Some i) o ≡ false)) k paths n before i
+-- after a grant it is what they tell for all leaves but these, where it may have changed
+pub record AreSeen (o : Option ℕ) (Others : ℕ → Type 0) (paths : List (List ℕ)) (n : Node) (before after : List (Option Idle)) : Type 0 where
+  pub each : (k : ℕ) (i : Idle) → slice_get after k ≡ Some (Some i) → IsSeenOr (Others k ⊎ (may_change (Some i) o ≡ false)) k paths n before i
+
+-- none of these children of the bus at this path is the leaf of this number
+abbrev pub IsNoChild : (ℕ → Type 0) → List ℕ → Node → ℕ → Type 0
+IsNoChild Among p n k = (c : ℕ) → Among c → Leads (leaf_of_number k) (p ++ c ∷ []) n → ⊥
 
 -- nothing that is known of the first so many of these leaves may have changed
 pub record NoneChanges (o : Option ℕ) (count : ℕ) (leaves : List ℕ) (idle : List (Option Idle)) : Type 0 where
@@ -141,17 +145,25 @@ pub record IsLookedAfter (o : Option ℕ) (k : ℕ) (paths : List (List ℕ)) (n
   pub own : (i : Idle) → slice_get after k ≡ Some (Some i) → IsSeenOr (may_change (Some i) o ≡ false) k paths n before i
   pub others : (j : ℕ) (i : Idle) → j ≢ k → slice_get after j ≡ Some (Some i) → slice_get before j ≡ Some (Some i)
 
+-- no leaf near the bus is this one
+abbrev pub IsFarFrom : List (List ℕ) → ℕ → ℕ → Type 0
+IsFarFrom bus_leaves bus k = (leaves : List ℕ) → slice_get bus_leaves bus ≡ Some leaves → IsNoneOf k (length leaves) leaves
+
+-- no child of the bus that the turn touched is this leaf
+abbrev pub IsLeftOut : TurnAnswer → List (List ℕ) → Node → ℕ → ℕ → Type 0
+IsLeftOut a bus_paths n bus k = (p : List ℕ) → slice_get bus_paths bus ≡ Some p → IsNoChild (λ c. touches_child c a ≡ true) p n k
+
 -- nothing was granted on a bus near the leaf that may have changed what is remembered of it
-abbrev pub IsUntouched : Turn → TurnAnswer → List (List ℕ) → ℕ → Idle → Type 0
-IsUntouched t a bus_leaves k i = (entry : LogEntry) (bus : ℕ) (leaves : List ℕ)
-    → a ≡ TurnAnswer.Granted entry → named_by t ≡ bus_of_number bus → slice_get bus_leaves bus ≡ Some leaves
-    → IsNoneOf k (length leaves) leaves ⊎ (may_change (Some i) (answered_by entry) ≡ false)
+abbrev pub IsUntouched : Turn → TurnAnswer → List (List ℕ) → List (List ℕ) → Node → ℕ → Idle → Type 0
+IsUntouched t a bus_leaves bus_paths n k i = (entry : LogEntry) (bus : ℕ)
+    → a ≡ TurnAnswer.Granted entry → named_by t ≡ bus_of_number bus
+    → IsFarFrom bus_leaves bus k ⊎ (IsLeftOut a bus_paths n bus k ⊎ (may_change (Some i) (answered_by entry) ≡ false))
 
 -- what is remembered of a leaf after a turn: what the turn answered, what the leaf tells, or what was remembered and is untouched
-pub data IsKnown (t : Turn) (a : TurnAnswer) (bus_leaves leaf_paths : List (List ℕ)) (n : Node) (before : List (Option Idle)) (k : ℕ) (i : Idle) : Type 0 where
-  is_told : named_by t ≡ leaf_of_number k → idle_told a ≡ Some i → IsKnown t a bus_leaves leaf_paths n before k i
-  is_seen : IsSeen k leaf_paths n i → IsKnown t a bus_leaves leaf_paths n before k i
-  still_known : slice_get before k ≡ Some (Some i) → IsUntouched t a bus_leaves k i → IsKnown t a bus_leaves leaf_paths n before k i
+pub data IsKnown (t : Turn) (a : TurnAnswer) (bus_leaves bus_paths leaf_paths : List (List ℕ)) (n : Node) (before : List (Option Idle)) (k : ℕ) (i : Idle) : Type 0 where
+  is_told : named_by t ≡ leaf_of_number k → idle_told a ≡ Some i → IsKnown t a bus_leaves bus_paths leaf_paths n before k i
+  is_seen : IsSeen k leaf_paths n i → IsKnown t a bus_leaves bus_paths leaf_paths n before k i
+  still_known : slice_get before k ≡ Some (Some i) → IsUntouched t a bus_leaves bus_paths n k i → IsKnown t a bus_leaves bus_paths leaf_paths n before k i
 
-pub record AreNoted (t : Turn) (a : TurnAnswer) (bus_leaves leaf_paths : List (List ℕ)) (n : Node) (before after : List (Option Idle)) : Type 0 where
-  pub each : (k : ℕ) (i : Idle) → slice_get after k ≡ Some (Some i) → IsKnown t a bus_leaves leaf_paths n before k i
+pub record AreNoted (t : Turn) (a : TurnAnswer) (bus_leaves bus_paths leaf_paths : List (List ℕ)) (n : Node) (before after : List (Option Idle)) : Type 0 where
+  pub each : (k : ℕ) (i : Idle) → slice_get after k ≡ Some (Some i) → IsKnown t a bus_leaves bus_paths leaf_paths n before k i

@@ -3,7 +3,8 @@
 -- known under a number, p and q paths, near the numbers of the leaves near a path, busy whether a turn is counted as a busy one, a its
 -- answer.
 -- To be believed with the contracts: it is what a machine remembers of its buses.
-use Rattle.std.specs.Prelude.{◌≡◌, ◌≢◌, ◌<◌, ◌⊎◌, ℕ, Bool, true, false, List, [], ◌∷◌, ◌++◌, Option, Some, None, is_none, length, slice_get}
+use Rattle.std.specs.Prelude.{◌≡◌, ◌≢◌, ◌<◌, ◌⊎◌, ℕ, ◌+◌, ◌*◌, Bool, true, false, List, [], ◌∷◌, ◌++◌, Option, Some, None, ◌||◌, is_none, length, nat_eq, nat_lt, slice_get, if◌then◌else◌, ⊤}
+use Rattle.ddm_types.specs.declared.answers.Place.{Place}
 use Rattle.ddm_types.specs.declared.answers.TurnAnswer.{TurnAnswer}
 use Rattle.ddm_types.specs.declared.turns.Turn.{Turn}
 use Rattle.tree_model.specs.declared.BusTurn.{BusTurn}
@@ -25,11 +26,11 @@ finds_nothing (BusTurn.Request c) (dir_node d ns) = is_none (child_request (chil
 finds_nothing (BusTurn.Reply c) (dir_node d ns) = is_none (child_reply (child_at c (children ns)))
 finds_nothing (BusTurn.Leave c choice) (dir_node d ns) = is_none (child_leaving choice (child_at c (children ns)))
 
--- ---- what is known under a number, of the turns of the bus and of the hart that have it: a row for the hart, one for Down, and one each
--- for requests, replies and copies that leave, with a place for each child of the bus.
+-- ---- what is known under a number, of the turns of the bus and of the hart that have it: rows of 16 places, one for the hart, one for
+-- Down, and one each for requests, replies and copies that leave, with a place for each child of the bus.
 
 abbrev pub Entry : Type 0
-Entry = List (List Known)
+Entry = List Known
 
 abbrev pub row_of : BusTurn → ℕ
 row_of BusTurn.Down = 1
@@ -47,10 +48,6 @@ abbrev pub known_there : Option Known → Known
 known_there None = Known.Nothing
 known_there (Some known) = known
 
-abbrev pub row_there : Option (List Known) → List Known
-row_there None = []
-row_there (Some row) = row
-
 abbrev pub entry_there : Option Entry → Entry
 entry_there None = []
 entry_there (Some e) = e
@@ -61,11 +58,9 @@ busy_if Known.Nothing = None
 busy_if Known.Quiet = Some false
 busy_if Known.Busy = Some true
 
-abbrev pub busy_in : ℕ → List Known → Option Bool
-busy_in column row = busy_if (known_there (slice_get row column))
-
+-- a row has no more than 16 places
 abbrev pub busy_at : ℕ → ℕ → Entry → Option Bool
-busy_at row column e = busy_in column (row_there (slice_get e row))
+busy_at row column e = if nat_lt column 16 then busy_if (known_there (slice_get e (row * 16 + column))) else None
 
 abbrev pub busy_of : BusTurn → Entry → Option Bool
 busy_of t e = busy_at (row_of t) (column_of t) e
@@ -193,10 +188,45 @@ OfChild c (BusTurn.Request child) = child ≡ c
 OfChild c (BusTurn.Reply child) = child ≡ c
 OfChild c (BusTurn.Leave child choice) = child ≡ c
 
--- the turns of a bus, by its path q, of which a turn of the leaf or bus at the path p may have changed what they find: those of the bus
--- itself, those that it shows the bus above, and what comes down to a bus below
-abbrev pub IsTouched : List ℕ → List ℕ → BusTurn → Type 0
-IsTouched p q t = (q ≡ p) ⊎ (((c : ℕ) × (p ≡ q ++ c ∷ []) × OfChild c t) ⊎ ((c : ℕ) × (q ≡ p ++ c ∷ []) × (t ≡ BusTurn.Down)))
+-- where a grant came from or went to is this child, or may be
+abbrev pub may_be_child : ℕ → Place → Bool
+may_be_child c Place.Parent = false
+may_be_child c (Place.Child k) = nat_eq c k
+may_be_child c Place.Parking = false
+may_be_child c Place.All = true
+may_be_child c Place.Gone = false
+may_be_child c Place.Joined = false
+may_be_child c Place.Readers = true
+
+-- a turn of a bus that answers so may have changed this child
+abbrev pub touches_child : ℕ → TurnAnswer → Bool
+touches_child c (TurnAnswer.Retired op) = false
+touches_child c (TurnAnswer.Issued kind x) = false
+touches_child c (TurnAnswer.Waiting x) = false
+touches_child c (TurnAnswer.Halted cause) = false
+touches_child c (TurnAnswer.Granted entry) = may_be_child c entry.source || may_be_child c entry.taker
+touches_child c TurnAnswer.Empty = false
+touches_child c (TurnAnswer.Busy cause) = false
+
+-- what a turn of the same bus finds: what comes down, or what such a child shows
+abbrev pub OfTouched : TurnAnswer → BusTurn → Type 0
+OfTouched a BusTurn.Down = ⊤
+OfTouched a (BusTurn.Request c) = touches_child c a ≡ true
+OfTouched a (BusTurn.Reply c) = touches_child c a ≡ true
+OfTouched a (BusTurn.Leave c choice) = touches_child c a ≡ true
+
+-- the turns of a bus, by its path q, of which a turn of the leaf or bus at the path p that answers so may have changed what they find:
+-- those of the bus itself, those that it shows the bus above, and what comes down to the bus below a child
+abbrev pub IsTouched : TurnAnswer → List ℕ → List ℕ → BusTurn → Type 0
+IsTouched a p q t = ((q ≡ p) × OfTouched a t) ⊎ (((c : ℕ) × (p ≡ q ++ c ∷ []) × OfChild c t) ⊎ ((c : ℕ) × (q ≡ p ++ c ∷ []) × (touches_child c a ≡ true) × (t ≡ BusTurn.Down)))
+
+-- the turn is one that a child of this number shows its bus, if there is a number
+abbrev pub OfNamed : Option ℕ → BusTurn → Type 0
+OfNamed named t = (c : ℕ) × (named ≡ Some c) × OfChild c t
+
+-- what comes down to a bus, or what one of two children shows it
+abbrev pub OfTwo : Option ℕ → Option ℕ → BusTurn → Type 0
+OfTwo first second t = (t ≡ BusTurn.Down) ⊎ (OfNamed first t ⊎ OfNamed second t)
 
 -- a turn that answers so may have changed what the bus above, or another one, finds
 abbrev pub touches : TurnAnswer → Bool
@@ -210,7 +240,7 @@ touches (TurnAnswer.Busy cause) = false
 
 -- the turn at this path answered so
 abbrev pub IsTouchedBy : TurnAnswer → List ℕ → List ℕ → BusTurn → Type 0
-IsTouchedBy a p q t = (touches a ≡ true) × IsTouched p q t
+IsTouchedBy a p q t = (touches a ≡ true) × IsTouched a p q t
 
 -- ---- the leaves near a bus
 

@@ -1,7 +1,7 @@
 -- What is read of a leaf, or of a directory and its children, where a node is known to be one.
 -- Letters: n is a node, v a leaf, d a directory over the nodes ns, x an item, c a child.
 -- To be believed with the contracts: it is what the calls that read give.
-use Rattle.std.specs.Prelude.{ℕ, Bool, true, false, List, [], length, map, Option, Some, None, option_map, slice_get}
+use Rattle.std.specs.Prelude.{ℕ, Bool, true, false, not, ◌&&◌, List, [], length, map, Option, Some, None, is_none, option_map, slice_get}
 use Rattle.ddm_types.specs.declared.keys.Stamp.{Stamp}
 use Rattle.ddm_types.specs.declared.sizes.Hold.{Hold}
 use Rattle.ddm_types.specs.declared.sizes.LeafState.{LeafState}
@@ -12,10 +12,11 @@ use Rattle.tree_model.specs.declared.CopyPlace.{CopyPlace}
 use Rattle.tree_model.specs.declared.LeafSpot.{LeafSpot}
 use Rattle.tree_model.specs.declared.TreeChild.{TreeChild}
 use Rattle.tree_model.specs.State.Lists.{first_some}
+use Rattle.tree_model.specs.State.States.{is_held}
 use Rattle.tree_model.specs.State.Values.{DownValue, DirValue, Node, leaf_node, dir_node, nodes, children, MachineValue}
 use Rattle.tree_model.specs.State.Blank.{no_hart}
 use Rattle.tree_model.specs.State.Leaf.{LeafEntry, leaf_entry, spot_at, state_at}
-use Rattle.tree_model.specs.State.Directory.{parked_words, parked_place, queue_of}
+use Rattle.tree_model.specs.State.Directory.{dir_hold, parked_words, parked_place, pending, queue_of}
 use Rattle.tree_model.specs.State.Child.{child_label, child_hold}
 use Rattle.tree_model.specs.Turns.Bus.{bus_step}
 use Rattle.tree_model.specs.Turns.Children.{child_at}
@@ -56,6 +57,10 @@ leaf_count_among ns = length (leaves_among (nodes ns) [])
 
 abbrev pub states_among : ℕ → List Node → List (Option LeafState)
 states_among x ns = map (state_at x) (leaves_among (nodes ns) [])
+
+-- a directory doesn't hold the item, and nothing of it is pending on the bus below
+abbrev pub is_without : ℕ → DirValue → Bool
+is_without x d = not (is_held (dir_hold x d)) && is_none (pending x d)
 
 -- how many children there are, and one of them
 abbrev pub node_children : Node → ℕ

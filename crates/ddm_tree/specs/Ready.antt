@@ -8,6 +8,7 @@ use Rattle.tree_model.specs.State.Rooms.{all_within}
 use Rattle.tree_model.specs.State.Shape.{Skeleton, Skeletons, leaf_bone, dir_bone, no_bones, more_bones, skeleton, widths_fit}
 use Rattle.tree_model.specs.Turns.Tree.{Name}
 use Rattle.tree_model.specs.Turns.Children.{child_at}
+use Rattle.tree_rules.specs.Bus.Rules.{IsTreeOk}
 use Rattle.item_states.specs.Parts.{node_items}
 use Rattle.split_bus.specs.Outcomes.{NamesOneOf}
 use Rattle.ddm_tree.specs.Path.{path_to}
@@ -61,7 +62,13 @@ pub record IsItemIn (x : ℕ) (n : Node) : Type 0 where
   pub within : all_within items n ≡ true
   pub below : x < items
 
--- the same where a bus is asked what it would do, whatever the counts are
+-- the rules of every bus hold in the node and below it, and the item is one of theirs
+pub record IsRuled (x : ℕ) (n : Node) : Type 0 where
+  pub items : ℕ
+  pub rules : IsTreeOk items n
+  pub below : x < items
+
+-- as IsReady, where a bus is asked what it would do, whatever the counts are
 pub record IsAskable (width : ℕ) (n : Node) : Type 0 where
   pub fits : width < 2 ^ 32
   pub items : ℕ

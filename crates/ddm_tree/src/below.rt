@@ -1,4 +1,4 @@
-ghost use Rattle.std.specs.Prelude.{◌≡◌, ℕ, ◌+◌, ◌*◌, ◌<◌, ◌≤◌, ◌++◌, true, length, map, slice_set, take};
+ghost use Rattle.std.specs.Prelude.{◌≡◌, ℕ, ◌+◌, ◌*◌, ◌<◌, ◌≤◌, ◌++◌, All, true, length, map, slice_set, take};
 ghost use Rattle.ddm_types.specs.declared.keys.Stamp.{Stamp};
 ghost use Rattle.tree_model.specs.State.Values.{DirValue, dir_node, nodes};
 ghost use Rattle.tree_model.specs.State.Shape.{skeleton, widths_fit};
@@ -12,7 +12,7 @@ ghost use Rattle.split_bus.specs.Outcomes.{goes_on_with};
 ghost use Rattle.ddm_tree.specs.Path.{node_at, present_at, put_at, node_answer, node_turned};
 ghost use Rattle.ddm_tree.specs.Judging.{IsJudged};
 ghost use Rattle.ddm_tree.specs.Named.{name_of};
-ghost use Rattle.ddm_tree.specs.Ready.{IsAskable, IsReady, Leads, LeadsBelow, HasChild, IsChild, IsItemOf};
+ghost use Rattle.ddm_tree.specs.Ready.{IsAskable, IsReady, Leads, LeadsBelow, HasChild, IsChild, IsItemOf, IsRuled};
 ghost use Rattle.ddm_tree.specs.Reads.{leaf_count_among, node_hart, node_entry, node_children, node_child, node_child_hold, node_down, node_down_len, node_grants, node_parked, node_state, states_among};
 
 use crate::named::Named;
@@ -183,6 +183,7 @@ pub(crate) fn states_under<const WORDS: usize, C: Subtree<WORDS>>(
     states: &mut [Option<LeafState>],
     at: usize,
 ) -> usize
+    requires ruled { All (IsRuled item) (map C.value children.now) }
     requires room { at + leaf_count_among (map C.value children.now) ≤ length states.old }
     ensures next { result ≡ at + leaf_count_among (map C.value children.now) }
     ensures states { take result states.new ≡ take at states.old ++ states_among item (map C.value children.now) }

@@ -10,7 +10,7 @@ use crate::below::{
 };
 use crate::copying::{CopyFrom, copy_children};
 use crate::found::{Found, found_among, own_copy};
-use crate::idle::{Idle, rest_under};
+use crate::idle::{Idle, leaf_under, rest_under};
 use crate::judging::broken_under;
 use crate::marking::mark_exclusive;
 use crate::named::Named;
@@ -21,6 +21,7 @@ use crate::section::Section;
 use crate::stamps::stamps_fit_under;
 use crate::subtree::Subtree;
 use crate::turn_call::TurnCall;
+use crate::unheld::{is_without, unheld_states_under};
 use crate::writing::{ways_among, write_hart_under, write_leaf_under, write_part_under};
 use bus_judging::ChildFace;
 use ddm_types::{
@@ -158,8 +159,8 @@ impl<const WORDS: usize, C: Subtree<WORDS>> Subtree<WORDS> for Dir<WORDS, C> {
     }
 
     #[inline(always)]
-    fn learn_below(&self, known: &mut [Quiet], path: &[ChildNo]) {
-        learn_under(known, &self.state, &self.children, path);
+    fn learn_below(&self, known: &mut [Quiet], path: &[ChildNo], answer: &TurnAnswer) {
+        learn_under(known, &self.state, &self.children, path, answer);
     }
 
     #[inline(always)]
@@ -169,6 +170,10 @@ impl<const WORDS: usize, C: Subtree<WORDS>> Subtree<WORDS> for Dir<WORDS, C> {
 
     fn rest_below(&self, path: &[ChildNo]) -> Option<Idle> {
         rest_under(&self.children, path)
+    }
+
+    fn leaf_below(&self, path: &[ChildNo], place: usize) -> Option<LeafNo> {
+        leaf_under(&self.children, path, place)
     }
 
     fn path_up(&self, alloc: Global, name: &Named) -> Result<Option<Vec<ChildNo>>, NoMemory> {
@@ -198,7 +203,21 @@ impl<const WORDS: usize, C: Subtree<WORDS>> Subtree<WORDS> for Dir<WORDS, C> {
     }
 
     fn states_below(&self, item: ItemId, states: &mut [Option<LeafState>], at: usize) -> usize {
-        states_under(&self.children, item, states, at)
+        if is_without(&self.state, item) {
+            unheld_states_under(&self.children, item, states, at)
+        } else {
+            states_under(&self.children, item, states, at)
+        }
+    }
+
+    /// What it doesn't hold may be on its way down to its children.
+    fn unheld_states_below(
+        &self,
+        item: ItemId,
+        states: &mut [Option<LeafState>],
+        at: usize,
+    ) -> usize {
+        self.states_below(item, states, at)
     }
 
     fn children_below(&self, bus: BusNo, path: &[ChildNo]) -> u32 {

@@ -1,18 +1,23 @@
-ghost use Rattle.std.specs.Prelude.{◌≡◌, ℕ, Some, None, false, IfOk, IfSome, length, map, slice_get, slice_set, vec_items};
+ghost use Rattle.std.specs.Prelude.{◌≡◌, ◌⊎◌, ℕ, [], ◌∷◌, ◌++◌, Some, None, false, IfOk, IfSome, length, map, slice_get, slice_set, vec_items};
+ghost use Rattle.tree_model.specs.declared.TreeChild.{TreeChild};
 ghost use Rattle.tree_model.specs.State.Values.{DirValue, dir_node, nodes};
-ghost use Rattle.ddm_tree.specs.Idle.{AreNoted, IsNothing, AreSeen, NoneChanges, IsLooked, IsLookedAfter, IsSeen, answered_by, idle_answer, idle_for, idle_there, idle_told, may_change, node_rests, rests_by, with_idle};
+ghost use Rattle.tree_model.specs.Turns.Machine.{named_by};
+ghost use Rattle.tree_model.specs.Turns.Tree.{bus_of_number, leaf_of_number};
+ghost use Rattle.ddm_tree.specs.Idle.{AreNoted, IsNoChild, IsNothing, AreSeen, NoneChanges, IsLooked, IsLookedAfter, IsSeen, answered_by, idle_answer, idle_for, idle_there, idle_told, may_change, node_rests, rests_by, with_idle};
 ghost use Rattle.ddm_tree.specs.Path.{node_at};
-ghost use Rattle.ddm_tree.specs.Quiet.{HartsAgree, KeepsBuses, idle_as};
+ghost use Rattle.ddm_tree.specs.Quiet.{HartsAgree, IsNoneOf, KeepsBuses, idle_as};
+ghost use Rattle.ddm_tree.specs.Ready.{Leads};
 
 use crate::machine::named;
 use crate::named::Named;
-use crate::quiet::{Quiet, note_hart};
+use crate::quiet::{Quiet, note_hart, two_touched};
 use crate::subtree::Subtree;
 use ddm_types::{
     BusyCause, ChildNo, HaltCause, ItemId, LeafNo, LogEntry, NoMemory, Turn, TurnAnswer, TxKind,
 };
 use std::alloc::Global;
 use std::marker::Model;
+use tree_model::TreeChild;
 
 /// Why a turn of a hart changes nothing, and none will before its bus tells its leaf something.
 #[derive(Clone, Copy)]
@@ -226,9 +231,6 @@ fn look_after<const WORDS: usize, C: Subtree<WORDS>>(
 fn may_any_change(idle: &IdleHarts, leaves: &[usize]) -> bool
     ensures { result ≡ false → NoneChanges None (length leaves.now) leaves.now idle.now }
 {
-    if !idle.any_full {
-        return false;
-    }
     let mut any = false;
     for leaf in leaves {
         any |= may_change(known_of(idle, *leaf), None);
@@ -246,7 +248,7 @@ fn look_at_all<const WORDS: usize, C: Subtree<WORDS>>(
     leaves: &[usize],
     answered: &Option<ItemId>,
 )
-    ensures seen { (d : DirValue) → AreSeen answered.now (length leaves.now) leaves.now (map vec_items leaf_paths.now) (dir_node d (nodes (map C.value children.now))) idle.old idle.new }
+    ensures seen { (d : DirValue) → AreSeen answered.now (λ k. IsNoneOf k (length leaves.now) leaves.now) (map vec_items leaf_paths.now) (dir_node d (nodes (map C.value children.now))) idle.old idle.new }
     ensures harts { HartsAgree quiet.old idle.old → HartsAgree quiet.new idle.new }
     ensures buses { KeepsBuses quiet.old quiet.new }
 {
@@ -265,12 +267,132 @@ fn look_near<const WORDS: usize, C: Subtree<WORDS>>(
     leaves: &[usize],
     answered: Option<ItemId>,
 )
-    ensures seen { (d : DirValue) → AreSeen answered (length leaves.now) leaves.now (map vec_items leaf_paths.now) (dir_node d (nodes (map C.value children.now))) idle.old idle.new }
+    ensures seen { (d : DirValue) → AreSeen answered (λ k. IsNoneOf k (length leaves.now) leaves.now) (map vec_items leaf_paths.now) (dir_node d (nodes (map C.value children.now))) idle.old idle.new }
     ensures harts { HartsAgree quiet.old idle.old → HartsAgree quiet.new idle.new }
     ensures buses { KeepsBuses quiet.old quiet.new }
 {
     if answered.is_some() || may_any_change(idle, leaves) {
         look_at_all(idle, quiet, children, leaf_paths, leaves, &answered);
+    }
+}
+
+/// The number of a child that is a leaf.
+#[inline(always)]
+fn leaf_of(child: TreeChild) -> Option<LeafNo>
+    ensures { (k : ℕ) → child ≡ TreeChild.LeafChild k → result ≡ Some k }
+{
+    match child {
+        TreeChild::LeafChild(leaf) => Some(leaf),
+        TreeChild::BusChild(_) => None,
+    }
+}
+
+/// The number of the leaf that is this child of the bus at a path's end; None where no leaf is there.
+#[inline(always)]
+pub(crate) fn leaf_under<const WORDS: usize, C: Subtree<WORDS>>(
+    children: &[C],
+    path: &[ChildNo],
+    place: usize,
+) -> Option<LeafNo>
+    ensures { (d : DirValue) (k : ℕ) → Leads (leaf_of_number k) (path.now ++ place ∷ []) (dir_node d (nodes (map C.value children.now))) → result ≡ Some k }
+{
+    match path.split_first() {
+        None => leaf_of(children.get(place)?.label()),
+        Some((child, rest)) => children.get(child.0 as usize)?.leaf_below(rest, place),
+    }
+}
+
+/// Remembers anew why the hart of the leaf is idle that is this child of the bus at the path, where a grant may have changed it.
+#[inline(always)]
+fn look_child<const WORDS: usize, C: Subtree<WORDS>>(
+    idle: &mut IdleHarts,
+    quiet: &mut [Quiet],
+    children: &[C],
+    leaf_paths: &[Vec<ChildNo>],
+    path: &[ChildNo],
+    named: Option<usize>,
+    answered: &Option<ItemId>,
+)
+    ensures seen { (d : DirValue) → let n = dir_node d (nodes (map C.value children.now)) in AreSeen answered.now (IsNoChild (λ c. named ≡ Some c) path.now n) (map vec_items leaf_paths.now) n idle.old idle.new }
+    ensures harts { HartsAgree quiet.old idle.old → HartsAgree quiet.new idle.new }
+    ensures buses { KeepsBuses quiet.old quiet.new }
+{
+    if let Some(place) = named {
+        if let Some(leaf) = leaf_under(children, path, place) {
+            look_after(
+                idle,
+                quiet,
+                children,
+                leaf_paths,
+                leaf.0 as usize,
+                *answered,
+            );
+        }
+    }
+}
+
+/// The same of two children, if there are so many.
+#[inline(always)]
+fn look_two<const WORDS: usize, C: Subtree<WORDS>>(
+    idle: &mut IdleHarts,
+    quiet: &mut [Quiet],
+    children: &[C],
+    leaf_paths: &[Vec<ChildNo>],
+    path: &[ChildNo],
+    first: Option<usize>,
+    second: Option<usize>,
+    answered: &Option<ItemId>,
+)
+    ensures seen { (d : DirValue) → let n = dir_node d (nodes (map C.value children.now)) in AreSeen answered.now (IsNoChild (λ c. (first ≡ Some c) ⊎ (second ≡ Some c)) path.now n) (map vec_items leaf_paths.now) n idle.old idle.new }
+    ensures harts { HartsAgree quiet.old idle.old → HartsAgree quiet.new idle.new }
+    ensures buses { KeepsBuses quiet.old quiet.new }
+{
+    look_child(idle, quiet, children, leaf_paths, path, first, answered);
+    look_child(idle, quiet, children, leaf_paths, path, second, answered);
+}
+
+/// Whether what is known of any hart may be otherwise after a grant that may have answered this item.
+#[inline(always)]
+fn may_matter(idle: &IdleHarts, answered: &Option<ItemId>) -> bool
+    ensures { result ≡ false → (k : ℕ) (i : Idle) → slice_get idle.now k ≡ Some (Some i) → may_change (Some i) answered.now ≡ false }
+{
+    answered.is_some() || idle.any_full
+}
+
+/// Remembers anew why harts are idle after a grant on the bus of this number: of the children that it touched, or, where these may be
+/// more than two, of all leaves near the bus.
+#[inline(always)]
+fn look_on<const WORDS: usize, C: Subtree<WORDS>>(
+    idle: &mut IdleHarts,
+    quiet: &mut [Quiet],
+    children: &[C],
+    leaf_paths: &[Vec<ChildNo>],
+    bus_paths: &[Vec<ChildNo>],
+    bus_leaves: &[Vec<usize>],
+    bus: usize,
+    answer: &TurnAnswer,
+    answered: Option<ItemId>,
+)
+    ensures noted { (d : DirValue) (t : Turn) (entry : LogEntry) → named_by t ≡ bus_of_number bus → answer.now ≡ TurnAnswer.Granted entry → answered ≡ answered_by entry → AreNoted t answer.now (map vec_items bus_leaves.now) (map vec_items bus_paths.now) (map vec_items leaf_paths.now) (dir_node d (nodes (map C.value children.now))) idle.old idle.new }
+    ensures harts { HartsAgree quiet.old idle.old → HartsAgree quiet.new idle.new }
+    ensures buses { KeepsBuses quiet.old quiet.new }
+{
+    if !may_matter(idle, &answered) {
+        return;
+    }
+    match two_touched(answer) {
+        Some((first, second)) => {
+            if let Some(path) = bus_paths.get(bus) {
+                look_two(
+                    idle, quiet, children, leaf_paths, path, first, second, &answered,
+                );
+            }
+        }
+        None => {
+            if let Some(listed) = bus_leaves.get(bus) {
+                look_near(idle, quiet, children, leaf_paths, listed, answered);
+            }
+        }
     }
 }
 
@@ -282,27 +404,29 @@ pub(crate) fn note<const WORDS: usize, C: Subtree<WORDS>>(
     quiet: &mut [Quiet],
     children: &[C],
     leaf_paths: &[Vec<ChildNo>],
+    bus_paths: &[Vec<ChildNo>],
     bus_leaves: &[Vec<usize>],
     turn: &Turn,
     answer: &TurnAnswer,
 )
-    ensures noted { (d : DirValue) → AreNoted turn.now answer.now (map vec_items bus_leaves.now) (map vec_items leaf_paths.now) (dir_node d (nodes (map C.value children.now))) idle.old idle.new }
+    ensures noted { (d : DirValue) → AreNoted turn.now answer.now (map vec_items bus_leaves.now) (map vec_items bus_paths.now) (map vec_items leaf_paths.now) (dir_node d (nodes (map C.value children.now))) idle.old idle.new }
     ensures harts { HartsAgree quiet.old idle.old → HartsAgree quiet.new idle.new }
     ensures buses { KeepsBuses quiet.old quiet.new }
 {
     match answer {
         TurnAnswer::Granted(entry) => {
             if let Named::Bus(bus) = named(turn) {
-                if let Some(listed) = bus_leaves.get(bus.0 as usize) {
-                    look_near(
-                        idle,
-                        quiet,
-                        children,
-                        leaf_paths,
-                        listed,
-                        answered_by(entry),
-                    );
-                }
+                look_on(
+                    idle,
+                    quiet,
+                    children,
+                    leaf_paths,
+                    bus_paths,
+                    bus_leaves,
+                    bus.0 as usize,
+                    answer,
+                    answered_by(entry),
+                );
             }
         }
         TurnAnswer::Issued(_, _) | TurnAnswer::Halted(_) => {

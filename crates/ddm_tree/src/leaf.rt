@@ -6,6 +6,7 @@ use crate::section::Section;
 use crate::subtree::Subtree;
 use crate::turn_call::TurnCall;
 use crate::turns::{key_on, victim};
+use crate::unheld::unheld_state;
 use bus_judging::ChildFace;
 use ddm_types::{
     BusNo, ChildNo, Hold, ItemId, LeafNo, LeafState, NoMemory, Stamp, TurnAnswer, Words,
@@ -39,7 +40,7 @@ impl<const WAYS: usize, const WORDS: usize> Subtree<WORDS> for Leaf<WAYS, WORDS>
     }
 
     #[inline(always)]
-    fn learn_below(&self, _known: &mut [Quiet], _path: &[ChildNo]) {}
+    fn learn_below(&self, _known: &mut [Quiet], _path: &[ChildNo], _answer: &TurnAnswer) {}
 
     #[inline(always)]
     fn learn_down(&self, _known: &mut [Quiet]) {}
@@ -50,6 +51,11 @@ impl<const WAYS: usize, const WORDS: usize> Subtree<WORDS> for Leaf<WAYS, WORDS>
             return None;
         }
         rests_by(self.hart().halted(), self.waiting())
+    }
+
+    #[inline(always)]
+    fn leaf_below(&self, _path: &[ChildNo], _place: usize) -> Option<LeafNo> {
+        None
     }
 
     fn path_up(&self, alloc: Global, name: &Named) -> Result<Option<Vec<ChildNo>>, NoMemory> {
@@ -84,6 +90,17 @@ impl<const WAYS: usize, const WORDS: usize> Subtree<WORDS> for Leaf<WAYS, WORDS>
     #[inline(always)]
     fn states_below(&self, item: ItemId, states: &mut [Option<LeafState>], at: usize) -> usize {
         states[at] = self.state(item);
+        at + 1
+    }
+
+    #[inline(always)]
+    fn unheld_states_below(
+        &self,
+        item: ItemId,
+        states: &mut [Option<LeafState>],
+        at: usize,
+    ) -> usize {
+        states[at] = unheld_state(self, item);
         at + 1
     }
 

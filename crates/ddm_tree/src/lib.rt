@@ -33,6 +33,7 @@ mod subtree;
 mod timed_parts;
 mod turn_call;
 mod turns;
+mod unheld;
 mod writing;
 
 pub use copying::CopyFrom;

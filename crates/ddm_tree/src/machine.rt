@@ -256,7 +256,9 @@ fn turn_made<const WORDS: usize, C: Subtree<WORDS>>(
             turn_found(
                 top, children, code, items, leaf_paths, bus_paths, turn, answer,
             );
-            note(idle, quiet, children, leaf_paths, bus_leaves, turn, answer);
+            note(
+                idle, quiet, children, leaf_paths, bus_paths, bus_leaves, turn, answer,
+            );
             note_buses(quiet, top, children, leaf_paths, bus_paths, turn, answer);
         }
     }

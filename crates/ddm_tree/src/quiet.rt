@@ -1,14 +1,15 @@
-ghost use Rattle.std.specs.Prelude.{◌≡◌, ◌<◌, ◌^◌, ⊤, [], ◌∷◌, List, ℕ, false, IfOk, Some, length, map, vec_items};
+ghost use Rattle.std.specs.Prelude.{◌≡◌, ◌<◌, ◌^◌, ◌⊎◌, ⊤, [], ◌∷◌, List, ℕ, false, true, IfOk, IfSome, Some, length, map, vec_items};
+ghost use Rattle.ddm_types.specs.declared.answers.TurnAnswer.{TurnAnswer as Answer};
 ghost use Rattle.tree_model.specs.declared.BusTurn.{BusTurn};
 ghost use Rattle.tree_model.specs.State.Values.{DirValue, Node, Nodes, children as children_of, dir_node, nodes};
 ghost use Rattle.tree_model.specs.Turns.Children.{child_at};
 ghost use Rattle.tree_model.specs.Turns.Machine.{named_by};
 ghost use Rattle.ddm_tree.specs.Machine.{has_path, listed_path};
-ghost use Rattle.ddm_tree.specs.Quiet.{AreApart, AreLearned, AreLearnedBelow, AreNear, IsBlank, IsHartNoted, IsNear, IsTouched, IsTouchedBy, KeepsHarts, OfChild, busy_if, known_as, number_of, quiet_if, turn_column, turn_row};
+ghost use Rattle.ddm_tree.specs.Quiet.{AreApart, AreLearned, AreLearnedBelow, AreNear, IsBlank, IsHartNoted, IsNear, IsTouched, IsTouchedBy, KeepsHarts, OfChild, OfNamed, OfTwo, busy_if, known_as, may_be_child, number_of, quiet_if, touches_child, turn_column, turn_row};
 
 use crate::machine::{named, path_of};
 use crate::subtree::Subtree;
-use ddm_types::{ChildNo, NoMemory, Turn, TurnAnswer};
+use ddm_types::{ChildNo, NoMemory, Place, Turn, TurnAnswer};
 use item_states::{Agent, Parent};
 use std::alloc::Global;
 use top_node::TopState;
@@ -21,15 +22,13 @@ pub enum Known {
     Busy,
 }
 
-/// What is known under a number, of the turns of the bus and of the hart that have it: a row for the hart and one for Down, of which the
-/// first place alone counts, and one each for requests, replies and copies that leave, with a place for each child of the bus.
-pub type Quiet = [[Known; 16]; 5];
-
-/// A row of which nothing is known.
-const NOTHING_IN_ROW: [Known; 16] = [Known::Nothing; 16];
+/// What is known under a number, of the turns of the bus and of the hart that have it, in rows of 16 places: a row for the hart and one for
+/// Down, of which the first place alone counts, and one each for requests, replies and copies that leave, with a place for each child of
+/// the bus. Behind these five rows nothing is put: the address of one of 128 bytes is a shift.
+pub type Quiet = [Known; 128];
 
 /// Nothing is known.
-const NOTHING: Quiet = [NOTHING_IN_ROW; 5];
+const NOTHING: Quiet = [Known::Nothing; 128];
 
 #[inline(always)]
 fn number_of(turn: Turn) -> usize
@@ -93,7 +92,7 @@ pub(crate) fn known_as(known: &[Quiet], turn: &Turn) -> Option<bool>
     let row = row_of(*turn);
     let column = column_of(*turn);
     match known.get(number) {
-        Some(quiet) => busy_if(quiet[row][column]),
+        Some(quiet) => busy_if(quiet[row * 16 + column]),
         None => None,
     }
 }
@@ -116,7 +115,7 @@ fn put_down<const WORDS: usize, P: Parent<WORDS>>(quiet: &mut Quiet, parent: &P)
     requires fits { WORDS < 2 ^ 32 }
     ensures { (ns : Nodes) → AreLearned (λ t. t ≡ BusTurn.Down) (dir_node (P.state parent.now) ns) quiet.old quiet.new }
 {
-    quiet[1][0] = quiet_if(parent.first_down().is_none());
+    quiet[16] = quiet_if(parent.first_down().is_none());
 }
 
 /// Learns what a child shows its bus.
@@ -126,9 +125,9 @@ fn put_child<const WORDS: usize, C: Agent<WORDS>>(quiet: &mut Quiet, place: usiz
     requires place { place < 16 }
     ensures { (d : DirValue) (ns : Nodes) → child_at place (children_of ns) ≡ C.value child.now → AreLearned (OfChild place) (dir_node d ns) quiet.old quiet.new }
 {
-    quiet[2][place] = quiet_if(child.first_request().is_none());
-    quiet[3][place] = quiet_if(child.first_reply().is_none());
-    quiet[4][place] = quiet_if(child.leaving(0).is_none());
+    quiet[2 * 16 + place] = quiet_if(child.first_request().is_none());
+    quiet[3 * 16 + place] = quiet_if(child.first_reply().is_none());
+    quiet[4 * 16 + place] = quiet_if(child.leaving(0).is_none());
 }
 
 /// Nothing is known of the turns of a bus.
@@ -136,10 +135,9 @@ fn put_child<const WORDS: usize, C: Agent<WORDS>>(quiet: &mut Quiet, place: usiz
 fn forget_bus(quiet: &mut Quiet)
     ensures { (n : Node) → AreLearned (λ t. ⊤) n quiet.old quiet.new }
 {
-    quiet[1] = NOTHING_IN_ROW;
-    quiet[2] = NOTHING_IN_ROW;
-    quiet[3] = NOTHING_IN_ROW;
-    quiet[4] = NOTHING_IN_ROW;
+    for place in 16..80 {
+        quiet[place] = Known::Nothing;
+    }
 }
 
 /// Learns what the turns of a bus find.
@@ -178,6 +176,23 @@ fn learn_bus<const WORDS: usize, P: Parent<WORDS>, C: Agent<WORDS>>(
 
 /// Learns what the child of this number shows its bus; where there is none, nothing is known of the bus.
 #[inline(always)]
+fn put_numbered<const WORDS: usize, C: Agent<WORDS>>(
+    quiet: &mut Quiet,
+    children: &[C],
+    place: usize,
+)
+    requires fits { WORDS < 2 ^ 32 }
+    ensures { (d : DirValue) → AreLearned (OfChild place) (dir_node d (nodes (map C.value children.now))) quiet.old quiet.new }
+{
+    if place < 16 && place < children.len() {
+        put_child(quiet, place, &children[place]);
+    } else {
+        forget_bus(quiet);
+    }
+}
+
+/// The same of a bus in the place of its number.
+#[inline(always)]
 fn learn_child<const WORDS: usize, P: Parent<WORDS>, C: Agent<WORDS>>(
     known: &mut [Quiet],
     parent: &P,
@@ -190,11 +205,81 @@ fn learn_child<const WORDS: usize, P: Parent<WORDS>, C: Agent<WORDS>>(
 {
     let bus = parent.bus().0 as usize;
     if bus < known.len() {
-        if place < 16 && place < children.len() {
-            put_child(&mut known[bus], place, &children[place]);
-        } else {
-            forget_bus(&mut known[bus]);
-        }
+        put_numbered(&mut known[bus], children, place);
+    }
+}
+
+/// Learns what the child of this number shows its bus, if there is a number.
+#[inline(always)]
+fn put_named<const WORDS: usize, C: Agent<WORDS>>(
+    quiet: &mut Quiet,
+    children: &[C],
+    named: Option<usize>,
+)
+    requires fits { WORDS < 2 ^ 32 }
+    ensures { (d : DirValue) → AreLearned (OfNamed named) (dir_node d (nodes (map C.value children.now))) quiet.old quiet.new }
+{
+    if let Some(place) = named {
+        put_numbered(quiet, children, place);
+    }
+}
+
+/// Learns what comes down to a bus and what two children show it.
+#[inline(always)]
+fn put_two<const WORDS: usize, P: Parent<WORDS>, C: Agent<WORDS>>(
+    quiet: &mut Quiet,
+    parent: &P,
+    children: &[C],
+    first: Option<usize>,
+    second: Option<usize>,
+)
+    requires fits { WORDS < 2 ^ 32 }
+    ensures { AreLearned (OfTwo first second) (dir_node (P.state parent.now) (nodes (map C.value children.now))) quiet.old quiet.new }
+{
+    put_down(quiet, parent);
+    put_named(quiet, children, first);
+    put_named(quiet, children, second);
+}
+
+/// The same of the bus below a directory, in the place of its number.
+#[inline(always)]
+fn learn_two<const WORDS: usize, P: Parent<WORDS>, C: Agent<WORDS>>(
+    known: &mut [Quiet],
+    parent: &P,
+    children: &[C],
+    first: Option<usize>,
+    second: Option<usize>,
+)
+    requires fits { WORDS < 2 ^ 32 }
+    ensures learned { AreLearnedBelow (λ q t. (q ≡ []) × OfTwo first second t) (dir_node (P.state parent.now) (nodes (map C.value children.now))) known.old known.new }
+    ensures harts { KeepsHarts known.old known.new }
+{
+    let bus = parent.bus().0 as usize;
+    if bus < known.len() {
+        put_two(&mut known[bus], parent, children, first, second);
+    }
+}
+
+/// The child that this place of a grant is, if it is one; None where it may be several.
+#[inline(always)]
+fn one_child(place: Place) -> Option<Option<usize>>
+    ensures { IfSome result (λ one. (c : ℕ) → may_be_child c place ≡ true → one ≡ Some c) }
+{
+    match place {
+        Place::Child(child) => Some(Some(child.0 as usize)),
+        Place::Parent | Place::Parking | Place::Gone | Place::Joined => Some(None),
+        Place::All | Place::Readers => None,
+    }
+}
+
+/// The children that a turn touched, where it granted something and these are two at most.
+#[inline(always)]
+pub(crate) fn two_touched(answer: &TurnAnswer) -> Option<(Option<usize>, Option<usize>)>
+    ensures { IfSome result (λ two. (c : ℕ) → touches_child c answer.now ≡ true → (two.0 ≡ Some c) ⊎ (two.1 ≡ Some c)) }
+{
+    match answer {
+        TurnAnswer::Granted(entry) => Some((one_child(entry.source)?, one_child(entry.taker)?)),
+        _ => None,
     }
 }
 
@@ -223,21 +308,96 @@ fn learn_downs<const WORDS: usize, C: Subtree<WORDS>>(known: &mut [Quiet], child
     }
 }
 
-/// Learns anew what the buses below a directory find, as far as a turn of the leaf or bus at the end of this path may have changed it.
+/// The same of the child of this number, if there is a number and such a child.
+#[inline(always)]
+fn learn_down_named<const WORDS: usize, C: Subtree<WORDS>>(
+    known: &mut [Quiet],
+    children: &[C],
+    named: Option<usize>,
+)
+    requires fits { WORDS < 2 ^ 32 }
+    ensures learned { (d : DirValue) → AreLearnedBelow (λ q t. ((c : ℕ) × (named ≡ Some c) × (q ≡ c ∷ [])) × (t ≡ BusTurn.Down)) (dir_node d (nodes (map C.value children.now))) known.old known.new }
+    ensures harts { KeepsHarts known.old known.new }
+{
+    if let Some(place) = named {
+        if place < children.len() {
+            children[place].learn_down(known);
+        }
+    }
+}
+
+/// Learns anew all that the bus below a directory finds, and what comes down to the buses below that.
+#[inline(always)]
+fn learn_all<const WORDS: usize, P: Parent<WORDS>, C: Subtree<WORDS>>(
+    known: &mut [Quiet],
+    parent: &P,
+    children: &[C],
+)
+    requires fits { WORDS < 2 ^ 32 }
+    ensures learned { (a : Answer) → AreLearnedBelow (IsTouched a []) (dir_node (P.state parent.now) (nodes (map C.value children.now))) known.old known.new }
+    ensures harts { KeepsHarts known.old known.new }
+{
+    learn_bus(known, parent, children);
+    learn_downs(known, children);
+}
+
+/// The same, as far as a turn of the bus that answers so may have changed it.
+#[inline(never)]
+fn learn_touched<const WORDS: usize, P: Parent<WORDS>, C: Subtree<WORDS>>(
+    known: &mut [Quiet],
+    parent: &P,
+    children: &[C],
+    answer: &TurnAnswer,
+)
+    requires fits { WORDS < 2 ^ 32 }
+    ensures learned { AreLearnedBelow (IsTouched answer.now []) (dir_node (P.state parent.now) (nodes (map C.value children.now))) known.old known.new }
+    ensures harts { KeepsHarts known.old known.new }
+{
+    match two_touched(answer) {
+        Some((first, second)) => {
+            learn_two(known, parent, children, first, second);
+            learn_down_named(known, children, first);
+            learn_down_named(known, children, second);
+        }
+        None => learn_all(known, parent, children),
+    }
+}
+
+/// The same. Of two children all is learned as fast as it is told which of them were touched.
+#[inline(always)]
+fn learn_here<const WORDS: usize, P: Parent<WORDS>, C: Subtree<WORDS>>(
+    known: &mut [Quiet],
+    parent: &P,
+    children: &[C],
+    answer: &TurnAnswer,
+)
+    requires fits { WORDS < 2 ^ 32 }
+    ensures learned { AreLearnedBelow (IsTouched answer.now []) (dir_node (P.state parent.now) (nodes (map C.value children.now))) known.old known.new }
+    ensures harts { KeepsHarts known.old known.new }
+{
+    if children.len() > 2 {
+        learn_touched(known, parent, children, answer);
+    } else {
+        learn_all(known, parent, children);
+    }
+}
+
+/// Learns anew what the buses below a directory find, as far as a turn of the leaf or bus at the end of this path that answers so may
+/// have changed it.
 #[inline(always)]
 pub(crate) fn learn_under<const WORDS: usize, P: Parent<WORDS>, C: Subtree<WORDS>>(
     known: &mut [Quiet],
     parent: &P,
     children: &[C],
     path: &[ChildNo],
+    answer: &TurnAnswer,
 )
     requires fits { WORDS < 2 ^ 32 }
-    ensures learned { AreLearnedBelow (IsTouched path.now) (dir_node (P.state parent.now) (nodes (map C.value children.now))) known.old known.new }
+    ensures learned { AreLearnedBelow (IsTouched answer.now path.now) (dir_node (P.state parent.now) (nodes (map C.value children.now))) known.old known.new }
     ensures harts { KeepsHarts known.old known.new }
 {
     let Some((child, rest)) = path.split_first() else {
-        learn_bus(known, parent, children);
-        learn_downs(known, children);
+        learn_here(known, parent, children, answer);
         return;
     };
     let place = child.0 as usize;
@@ -245,7 +405,7 @@ pub(crate) fn learn_under<const WORDS: usize, P: Parent<WORDS>, C: Subtree<WORDS
         learn_child(known, parent, children, place);
     }
     if place < children.len() {
-        children[place].learn_below(known, rest);
+        children[place].learn_below(known, rest, answer);
     }
 }
 
@@ -303,12 +463,13 @@ fn learn_at<const WORDS: usize, C: Subtree<WORDS>>(
     top: &TopState<WORDS>,
     children: &[C],
     path: &[ChildNo],
+    answer: &TurnAnswer,
 )
     requires fits { WORDS < 2 ^ 32 }
-    ensures learned { AreLearnedBelow (IsTouched path.now) (dir_node top.now (nodes (map C.value children.now))) known.old known.new }
+    ensures learned { AreLearnedBelow (IsTouched answer.now path.now) (dir_node top.now (nodes (map C.value children.now))) known.old known.new }
     ensures harts { KeepsHarts known.old known.new }
 {
-    learn_under(known, top, children, path);
+    learn_under(known, top, children, path, answer);
 }
 
 /// Learns what a turn may have changed of what the buses find, or that it found nothing.
@@ -329,7 +490,7 @@ pub(crate) fn note_buses<const WORDS: usize, C: Subtree<WORDS>>(
     match answer {
         TurnAnswer::Granted(_) | TurnAnswer::Issued(_, _) | TurnAnswer::Empty => {
             let path = path_of(named(turn), leaf_paths, bus_paths);
-            learn_at(known, top, children, path);
+            learn_at(known, top, children, path, answer);
         }
         TurnAnswer::Retired(_)
         | TurnAnswer::Waiting(_)
@@ -354,7 +515,7 @@ pub(crate) fn note_hart(known: &mut [Quiet], hart: usize, busy: Option<bool>)
     ensures { IsHartNoted hart busy known.old known.new }
 {
     if hart < known.len() {
-        known[hart][0][0] = hart_known(busy);
+        known[hart][0] = hart_known(busy);
     }
 }
 

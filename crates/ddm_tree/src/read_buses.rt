@@ -75,9 +75,11 @@ fn fill_ops(
 {
     ops.clear();
     make_room(ops, retired, words.len() - *at as usize)?;
+    let mut next = *at;
     for _number in 0..retired {
-        add_op(ops, words, at, counts.depth, counts.leaves)?;
+        add_op(ops, words, &mut next, counts.depth, counts.leaves)?;
     }
+    *at = next;
     Ok(())
 }
 

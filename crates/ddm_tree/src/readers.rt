@@ -122,12 +122,17 @@ impl<const WORDS: usize, C: Subtree<WORDS>> Machine<WORDS, C> {
         state_under(&self.top, &self.children, leaf, path, item)
     }
 
-    /// Puts the states of an item's entries at all leaves, in order, into the first places.
+    /// Puts the states of an item's entries at all leaves, in order, into the first places. No leaf has one of an item that isn't in the
+    /// table.
     pub fn states(&self, item: ItemId, states: &mut [Option<LeafState>])
         requires { (tree_counts self.now.machine).leaves ≤ length states.old }
         ensures { take (tree_counts self.now.machine).leaves states.new ≡ states_of item self.now.machine }
     {
-        states_under(&self.children, item, states, 0);
+        if item.0 < self.items.len() {
+            states_under(&self.children, item, states, 0);
+        } else {
+            states[..self.counts.leaves as usize].fill(None);
+        }
     }
 
     /// An entry of the down list over a bus, by its place counted from 0.

@@ -1,8 +1,8 @@
-ghost use Rattle.std.specs.Prelude.{◌≡◌, [], ◌+◌, ◌*◌, ◌<◌, ◌≤◌, ◌^◌, ◌++◌, true, length, take, Some, IfOk, IfSome, OnErr, OnOk, option_map, reverse, vec_items};
+ghost use Rattle.std.specs.Prelude.{◌≡◌, ℕ, [], ◌∷◌, ◌+◌, ◌*◌, ◌<◌, ◌≤◌, ◌^◌, ◌++◌, true, false, length, take, Some, IfOk, IfSome, OnErr, OnOk, option_map, reverse, vec_items};
 ghost use Rattle.ddm_types.specs.ItemTable.{item_count};
 ghost use Rattle.tree_model.specs.declared.BusTurn.{BusTurn};
 ghost use Rattle.tree_model.specs.Start.Nodes.{held_by, or_each};
-ghost use Rattle.tree_model.specs.State.Child.{child_label};
+ghost use Rattle.tree_model.specs.State.Child.{child_holds, child_label};
 ghost use Rattle.tree_model.specs.State.Shape.{skeleton, widths_fit};
 ghost use Rattle.tree_model.specs.Turns.Found.{found_of, place_found, words_found};
 ghost use Rattle.tree_model.specs.Turns.Machine.{named_by, bus_turn_of};
@@ -20,7 +20,7 @@ ghost use Rattle.ddm_tree.specs.Idle.{node_rests};
 ghost use Rattle.ddm_tree.specs.Judging.{IsJudged, node_broken};
 ghost use Rattle.ddm_tree.specs.Named.{name_of};
 ghost use Rattle.ddm_tree.specs.Quiet.{AreLearnedBelow, IsTouched, KeepsHarts};
-ghost use Rattle.ddm_tree.specs.Ready.{IsAskable, IsReady, Leads, LeadsBelow, HasChild, IsChild, IsItemIn, IsItemOf};
+ghost use Rattle.ddm_tree.specs.Ready.{IsAskable, IsReady, Leads, LeadsBelow, HasChild, IsChild, IsItemIn, IsItemOf, IsRuled};
 ghost use Rattle.ddm_tree.specs.Reads.{leaf_count, node_hart, node_entry, node_children, node_child, node_child_hold, node_down, node_down_len, node_grants, node_parked, node_state, node_states};
 ghost use Rattle.ddm_tree.specs.Stamps.{node_stamps_fit};
 ghost use Rattle.ddm_tree.specs.ReadBack.{PartRead, section_name};
@@ -72,10 +72,11 @@ pub trait Subtree<const WORDS: usize>: Agent<WORDS> {
         requires child { HasChild turn (node_at path.now (Self.value self.now)) }
         ensures { (above : Stamp) → result ≡ node_grants above turn (node_at path.now (Self.value self.now)) };
 
-    /// Learns anew what the buses in this part find, as far as a turn of the leaf or bus at the end of this path may have changed it.
-    fn learn_below(&self, known: &mut [Quiet], path: &[ChildNo])
+    /// Learns anew what the buses in this part find, as far as a turn of the leaf or bus at the end of this path that answers so may have
+    /// changed it.
+    fn learn_below(&self, known: &mut [Quiet], path: &[ChildNo], answer: &TurnAnswer)
         requires fits { WORDS < 2 ^ 32 }
-        ensures learned { AreLearnedBelow (IsTouched path.now) (Self.value self.now) known.old known.new }
+        ensures learned { AreLearnedBelow (IsTouched answer.now path.now) (Self.value self.now) known.old known.new }
         ensures harts { KeepsHarts known.old known.new };
 
     /// Learns whether nothing is on its way down to the bus below this part, where there is one.
@@ -87,6 +88,10 @@ pub trait Subtree<const WORDS: usize>: Agent<WORDS> {
     /// Why the hart of the leaf at a path's end is idle, as far as that leaf tells it; None where no leaf is there.
     fn rest_below(&self, path: &[ChildNo]) -> Option<Idle>
         ensures { IfSome result (λ i. node_rests (node_at path.now (Self.value self.now)) ≡ Some i) };
+
+    /// The number of the leaf that is this child of the bus at a path's end; None where no leaf is there.
+    fn leaf_below(&self, path: &[ChildNo], place: usize) -> Option<LeafNo>
+        ensures { (k : ℕ) → Leads (leaf_of_number k) (path.now ++ place ∷ []) (Self.value self.now) → result ≡ Some k };
 
     /// The path from here to a leaf or a bus, from its end on; None where it isn't in this part.
     fn path_up(&self, alloc: Global, name: &Named) -> Result<Option<Vec<ChildNo>>, NoMemory>
@@ -121,6 +126,20 @@ pub trait Subtree<const WORDS: usize>: Agent<WORDS> {
 
     /// Puts the states of an item's entries at the leaves of this part, in order, into places from one on, and says which place is next.
     fn states_below(&self, item: ItemId, states: &mut [Option<LeafState>], at: usize) -> usize
+        requires ruled { IsRuled item (Self.value self.now) }
+        requires room { at + leaf_count (Self.value self.now) ≤ length states.old }
+        ensures next { result ≡ at + leaf_count (Self.value self.now) }
+        ensures states { take result states.new ≡ take at states.old ++ node_states item (Self.value self.now) };
+
+    /// The same where this part doesn't hold the item: a leaf then has an entry of it only if it waits for it.
+    fn unheld_states_below(
+        &self,
+        item: ItemId,
+        states: &mut [Option<LeafState>],
+        at: usize,
+    ) -> usize
+        requires ruled { IsRuled item (Self.value self.now) }
+        requires unheld { child_holds item (Self.value self.now) ≡ false }
         requires room { at + leaf_count (Self.value self.now) ≤ length states.old }
         ensures next { result ≡ at + leaf_count (Self.value self.now) }
         ensures states { take result states.new ≡ take at states.old ++ node_states item (Self.value self.now) };

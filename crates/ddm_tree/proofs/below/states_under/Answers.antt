@@ -1,12 +1,17 @@
 use Rattle.std.proofs.Common.{◌++◌, map, take, arith}
 use Rattle.ddm_tree.specs.Reads.{states_among}
+use Rattle.ddm_tree.specs.Ready.{IsRuled}
 use Rattle.ddm_tree.proofs.LeafStates.{count-next, states-next}
+use Rattle.ddm_tree.proofs.Search.{here-all}
 use Rattle.ddm_tree.proofs.below.states_under.Goals as goal
 
 pub states_below-next-requires : goal.states_below-next-requires
 states_below-next-requires g c =
     let here = count-next g.C.Agent.value c.args.item c.loop-child.child-index c.args.children.now c.child-item.result c.loop-child-test.true c.child-item.is in
-    record { room = omega (arith, here, c.loop-child.invariant.count, c.requires.room, c.loop-child.auto.states) }
+    record {
+      ruled = here-all g.C.Agent.value c.args.children.now c.loop-child.child-index c.child-item.result c.loop-child-test.true c.child-item.is (IsRuled c.args.item) c.requires.ruled;
+      room = omega (arith, here, c.loop-child.invariant.count, c.requires.room, c.loop-child.auto.states);
+    }
 
 pub loop-child-preserved : goal.loop-child-preserved
 loop-child-preserved g c =

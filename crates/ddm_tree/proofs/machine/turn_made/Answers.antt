@@ -39,8 +39,8 @@ returns-in-None-clause-idle g c =
     let bus_paths = map vec_items c.args.bus_paths.now in
     let bus_leaves = map vec_items c.args.bus_leaves.now.items in
     let after = c.turn_found.ensures.after found.path found.listed in
-    let told = subst (λ a. AreNoted c.args.turn.now a bus_leaves leaf_paths (dir_node c.turn_found.new.top (nodes (map g.C.Agent.value c.turn_found.new.children))) c.args.idle.now c.note.new.idle) (c.turn_found.ensures.answer found.path found.listed) (rw (c.deref.ensures.value) at c.note.ensures.noted c.turn_found.new.top) in
-    let noted = subst (λ m. AreNoted c.args.turn.now (node_answer c.args.code.now c.args.items.now c.args.turn.now found.path (present_at found.path stamp_zero n) (node_at found.path n)) bus_leaves leaf_paths m c.args.idle.now c.note.new.idle) after told in
+    let told = subst (λ a. AreNoted c.args.turn.now a bus_leaves bus_paths leaf_paths (dir_node c.turn_found.new.top (nodes (map g.C.Agent.value c.turn_found.new.children))) c.args.idle.now c.note.new.idle) (c.turn_found.ensures.answer found.path found.listed) (rw (c.deref.ensures.value) at c.note.ensures.noted c.turn_found.new.top) in
+    let noted = subst (λ m. AreNoted c.args.turn.now (node_answer c.args.code.now c.args.items.now c.args.turn.now found.path (present_at found.path stamp_zero n) (node_at found.path n)) bus_leaves bus_paths leaf_paths m c.args.idle.now c.note.new.idle) after told in
     let idle = noted-idle c.args.code.now c.args.items.now c.args.turn.now found.path (present_at found.path stamp_zero n) n found.leads bus_leaves leaf_paths bus_paths c.args.idle.now found.listed c.requires.near c.requires.paths c.requires.idle _ c.requires.ruled (c.requires.later found.path found.listed) c.note.new.idle noted in
     subst (AreIdle c.args.code.now c.args.items.now c.note.new.idle n) (sym after) idle
 

@@ -1,22 +1,19 @@
 use Rattle.std.proofs.Common.{◌≡◌, ◌∷◌, [], ◌≤◌, true, false, true≢false, length, map, sym, ap, subst, ◌∙◌, arith}
 use Rattle.std.proofs.lemmas.List.{get_or-map, length-map, nil_from_length}
 use Rattle.tree_model.specs.State.Blank.{no_node}
-use Rattle.tree_model.specs.State.Values.{children, dir_node, nodes}
+use Rattle.tree_model.specs.State.Values.{children, nodes}
 use Rattle.tree_model.specs.Turns.Children.{child_at}
 use Rattle.tree_model.proofs.Children.{children-nodes}
 use Rattle.ddm_tree.specs.Quiet.{AreLearnedBelow, IsTouched}
 use Rattle.ddm_tree.proofs.OneBus.{nothing-below}
-use Rattle.ddm_tree.proofs.QuietTable.{learned-fewer, learned-then, touched-here, walked-end, walked-on}
+use Rattle.ddm_tree.proofs.QuietTable.{walked-end, walked-on}
 use Rattle.ddm_tree.proofs.quiet.learn_under.Goals as goal
 use Rattle.ddm_tree.proofs.quiet.learn_under.Goals.{then-is_empty, else-is_empty}
 
 pub returns-in_default-clause-learned : goal.returns-in_default-clause-learned
 returns-in_default-clause-learned g c =
-    let d = g.P.Parent.state c.args.parent.now in
-    let n = dir_node d (nodes (map g.C.Agent.value c.args.children.now)) in
     let ends : c.args.path.now ≡ [] = nil_from_length c.args.path.now c.in_default.ensures.cases in
-    let both = learned-then (λ q t. q ≡ []) _ n c.args.known.now c.learn_bus.new.known c.learn_downs.new.known c.learn_bus.ensures.learned (c.learn_downs.ensures.learned d) in
-    rw ends (learned-fewer _ (IsTouched []) n c.args.known.now c.learn_downs.new.known (λ k q t is touched. touched-here q t touched) both)
+    rw ends c.learn_here.ensures.learned
 
 pub returns-then-place-children-clause-learned : goal.returns-then-place-children-clause-learned
 returns-then-place-children-clause-learned g c =
@@ -26,10 +23,10 @@ returns-then-place-children-clause-learned g c =
     let rest = c.in-Some.rest.now in
     let on : c.args.path.now ≡ i ∷ rest = c.in-Some.ensures.cases.0 ∙ ap (λ k. k ∷ rest) (sym c.child.view_is) in
     let child : child_at i (children ns) ≡ g.C.Agent.value c.index-children-place.result = ap (child_at i) (children-nodes (map g.C.Agent.value c.args.children.now)) ∙ get_or-map g.C.Agent.value c.args.children.now i c.index-children-place.result no_node c.if-place-children.true ∙ ap g.C.Agent.value (sym c.index-children-place.is) in
-    let below : AreLearnedBelow (IsTouched rest) (child_at i (children ns)) c.if-is_empty.known c.learn_below.new.known = rw child c.learn_below.ensures.learned in
+    let below : AreLearnedBelow (IsTouched c.args.answer.now rest) (child_at i (children ns)) c.if-is_empty.known c.learn_below.new.known = rw child c.learn_below.ensures.learned in
     elim c.if-is_empty.branch [
-      | then-is_empty w ↦ rw on (walked-end i rest d ns c.args.known.now w.learn_child.new.known c.learn_below.new.known w.learn_child.ensures.learned (subst (λ k. AreLearnedBelow (IsTouched rest) (child_at i (children ns)) k c.learn_below.new.known) w.known-is below))
-      | else-is_empty w ↦ rw on (walked-on i rest d ns c.args.known.now c.args.known.now c.learn_below.new.known (λ none. more w.if-is_empty.false none) (subst (λ k. AreLearnedBelow (IsTouched rest) (child_at i (children ns)) k c.learn_below.new.known) w.known-is below))
+      | then-is_empty w ↦ rw on (walked-end c.args.answer.now i rest d ns c.args.known.now w.learn_child.new.known c.learn_below.new.known w.learn_child.ensures.learned (subst (λ k. AreLearnedBelow (IsTouched c.args.answer.now rest) (child_at i (children ns)) k c.learn_below.new.known) w.known-is below))
+      | else-is_empty w ↦ rw on (walked-on c.args.answer.now i rest d ns c.args.known.now c.args.known.now c.learn_below.new.known (λ none. more w.if-is_empty.false none) (subst (λ k. AreLearnedBelow (IsTouched c.args.answer.now rest) (child_at i (children ns)) k c.learn_below.new.known) w.known-is below))
     ]
   where
     more : c.is_empty.result ≡ false → c.in-Some.rest.now ≡ [] → ⊥
@@ -45,10 +42,10 @@ returns-else-place-children-clause-learned g c =
     let rest = c.in-Some.rest.now in
     let on : c.args.path.now ≡ i ∷ rest = c.in-Some.ensures.cases.0 ∙ ap (λ k. k ∷ rest) (sym c.child.view_is) in
     let past : length (children (nodes kids)) ≤ i = omega (arith, ap length (children-nodes kids), length-map c.args.children.now g.C.Agent.value, c.if-place-children.false) in
-    let below : AreLearnedBelow (IsTouched rest) (child_at i (children (nodes kids))) c.if-is_empty.known c.if-is_empty.known = nothing-below (IsTouched rest) i (children (nodes kids)) c.if-is_empty.known past in
+    let below : AreLearnedBelow (IsTouched c.args.answer.now rest) (child_at i (children (nodes kids))) c.if-is_empty.known c.if-is_empty.known = nothing-below (IsTouched c.args.answer.now rest) i (children (nodes kids)) c.if-is_empty.known past in
     elim c.if-is_empty.branch [
-      | then-is_empty w ↦ rw on (walked-end i rest d (nodes kids) c.args.known.now w.learn_child.new.known c.if-is_empty.known w.learn_child.ensures.learned (subst (λ k. AreLearnedBelow (IsTouched rest) (child_at i (children (nodes kids))) k c.if-is_empty.known) w.known-is below))
-      | else-is_empty w ↦ rw on (walked-on i rest d (nodes kids) c.args.known.now c.args.known.now c.if-is_empty.known (λ none. more w.if-is_empty.false none) (subst (λ k. AreLearnedBelow (IsTouched rest) (child_at i (children (nodes kids))) k c.if-is_empty.known) w.known-is below))
+      | then-is_empty w ↦ rw on (walked-end c.args.answer.now i rest d (nodes kids) c.args.known.now w.learn_child.new.known c.if-is_empty.known w.learn_child.ensures.learned (subst (λ k. AreLearnedBelow (IsTouched c.args.answer.now rest) (child_at i (children (nodes kids))) k c.if-is_empty.known) w.known-is below))
+      | else-is_empty w ↦ rw on (walked-on c.args.answer.now i rest d (nodes kids) c.args.known.now c.args.known.now c.if-is_empty.known (λ none. more w.if-is_empty.false none) (subst (λ k. AreLearnedBelow (IsTouched c.args.answer.now rest) (child_at i (children (nodes kids))) k c.if-is_empty.known) w.known-is below))
     ]
   where
     more : c.is_empty.result ≡ false → c.in-Some.rest.now ≡ [] → ⊥

@@ -11,4 +11,4 @@ returns g c =
     let asks : c.is_none.result ≡ is_none (child_request m) = none-is c.first_request.result c.is_none.result c.is_none.ensures ∙ ap is_none c.first_request.ensures.value ∙ none-mapped request_pair (child_request m) in
     let answers : c.is_none-2.result ≡ is_none (child_reply m) = none-is c.first_reply.result c.is_none-2.result c.is_none-2.ensures ∙ ap is_none c.first_reply.ensures.value ∙ none-mapped copy_pair (child_reply m) in
     let goes : c.is_none-3.result ≡ is_none (child_leaving 0 m) = none-is c.leaving.result c.is_none-3.result c.is_none-3.ensures ∙ ap is_none c.leaving.ensures.value in
-    λ d ns is. child-put d ns c.args.place m is c.args.quiet.now c.quiet_if.result c.quiet_if-2.result c.quiet_if-3.result (c.quiet_if.ensures ∙ ap quiet_if asks) (c.quiet_if-2.ensures ∙ ap quiet_if answers) (c.quiet_if-3.ensures ∙ ap quiet_if goes)
+    λ d ns is. child-put d ns c.args.place c.requires.place m is c.args.quiet.now c.quiet_if.result c.quiet_if-2.result c.quiet_if-3.result (c.quiet_if.ensures ∙ ap quiet_if asks) (c.quiet_if-2.ensures ∙ ap quiet_if answers) (c.quiet_if-3.ensures ∙ ap quiet_if goes)

@@ -7,15 +7,15 @@ pub returns-in_err-add_op-clause-refused : goal.returns-in_err-add_op-clause-ref
 returns-in_err-add_op-clause-refused c =
     let e = c.in_err-add_op.field-0.0 in
     let is : c.from_residual-in_err-add_op.result ≡ Err e = search rules in
-    rw is (λ other. one_step_refused (read_op c.args.counts.depth c.args.counts.leaves) c.args.retired c.loop-number._number c.loop-number.ops.items c.loop-number.at (drop c.loop-number.at c.args.words.now) e _ (omega arith) c.loop-number.invariant.left (c.in_err-add_op.ensures.refused other))
+    rw is (λ other. one_step_refused (read_op c.args.counts.depth c.args.counts.leaves) c.args.retired c.loop-number._number c.loop-number.ops.items c.loop-number.next (drop c.loop-number.next c.args.words.now) e _ (omega arith) c.loop-number.invariant.left (c.in_err-add_op.ensures.refused other))
 
 pub loop-number-preserved : goal.loop-number-preserved
 loop-number-preserved c = record {
-  left = one_step_more (read_op c.args.counts.depth c.args.counts.leaves) c.args.retired c.loop-number._number c.loop-number.ops.items c.loop-number.at (drop c.loop-number.at c.args.words.now) _ _ _ _ (omega arith) c.loop-number.invariant.left c.in_ok-add_op.ensures.read;
+  left = one_step_more (read_op c.args.counts.depth c.args.counts.leaves) c.args.retired c.loop-number._number c.loop-number.ops.items c.loop-number.next (drop c.loop-number.next c.args.words.now) _ _ _ _ (omega arith) c.loop-number.invariant.left c.in_ok-add_op.ensures.read;
   inside = c.in_ok-add_op.ensures.inside;
   many = omega (arith, c.in_ok-add_op.ensures.more, c.loop-number.invariant.many);
 }
 
 pub returns-clause-read : goal.returns-clause-read
 returns-clause-read c =
-    c.loop-number.invariant.left ∙ times_done (read_op c.args.counts.depth c.args.counts.leaves) c.args.retired c.loop-number._number c.loop-number.ops.items c.loop-number.at (drop c.loop-number.at c.args.words.now) (omega arith)
+    c.loop-number.invariant.left ∙ times_done (read_op c.args.counts.depth c.args.counts.leaves) c.args.retired c.loop-number._number c.loop-number.ops.items c.loop-number.next (drop c.loop-number.next c.args.words.now) (omega arith)

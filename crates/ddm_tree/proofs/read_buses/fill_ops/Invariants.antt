@@ -6,8 +6,8 @@ use Rattle.ddm_tree.proofs.read_buses.fill_ops.Given as goal
 -- the operations so far, and those that are left
 abbrev pub invariant-loop-number : goal.invariant-loop-number
 invariant-loop-number l = record {
-  left : times (read_op l.counts.depth l.counts.leaves) l.retired [] l.initial.at (drop l.initial.at l.words)
-      ≡ times (read_op l.counts.depth l.counts.leaves) (l.retired - l._number) l.ops.items l.at (drop l.at l.words);
-  inside : l.at ≤ length l.words;
+  left : times (read_op l.counts.depth l.counts.leaves) l.retired [] l.initial.next (drop l.initial.next l.words)
+      ≡ times (read_op l.counts.depth l.counts.leaves) (l.retired - l._number) l.ops.items l.next (drop l.next l.words);
+  inside : l.next ≤ length l.words;
   many : length l.ops.items ≡ l._number;
 }

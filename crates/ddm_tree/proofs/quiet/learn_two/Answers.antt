@@ -1,0 +1,23 @@
+use Rattle.std.proofs.Common.{◌≡◌, Some, map, sym, ap, ◌∙◌}
+use Rattle.tree_model.specs.State.Values.{dir_node, nodes}
+use Rattle.ddm_tree.specs.Quiet.{OfTwo, bus_in}
+use Rattle.ddm_tree.proofs.QuietTable.{harts-put, node-past, node-put}
+use Rattle.ddm_tree.proofs.quiet.learn_two.Goals as goal
+
+pub returns-then-bus-known-clause-learned : goal.returns-then-bus-known-clause-learned
+returns-then-bus-known-clause-learned g c =
+    let n = dir_node (g.P.Parent.state c.args.parent.now) (nodes (map g.C.Agent.value c.args.children.now)) in
+    let number : bus_in n ≡ Some c.bus-2.inside.0 = ap Some (sym c.bus.ensures.value ∙ sym c.bus-2.view_is) in
+    node-put (OfTwo c.args.first c.args.second) c.bus-2.inside.0 n number c.args.known.now c.put_two.new.quiet c.if-bus-known.true c.put_two.ensures
+
+pub returns-then-bus-known-clause-harts : goal.returns-then-bus-known-clause-harts
+returns-then-bus-known-clause-harts g c =
+    let n = dir_node (g.P.Parent.state c.args.parent.now) (nodes (map g.C.Agent.value c.args.children.now)) in
+    let number : bus_in n ≡ Some c.bus-2.inside.0 = ap Some (sym c.bus.ensures.value ∙ sym c.bus-2.view_is) in
+    harts-put (OfTwo c.args.first c.args.second) c.bus-2.inside.0 n number c.args.known.now c.put_two.new.quiet c.if-bus-known.true c.put_two.ensures
+
+pub returns-else-bus-known-clause-learned : goal.returns-else-bus-known-clause-learned
+returns-else-bus-known-clause-learned g c =
+    let n = dir_node (g.P.Parent.state c.args.parent.now) (nodes (map g.C.Agent.value c.args.children.now)) in
+    let number : bus_in n ≡ Some c.bus-2.inside.0 = ap Some (sym c.bus.ensures.value ∙ sym c.bus-2.view_is) in
+    node-past (OfTwo c.args.first c.args.second) c.bus-2.inside.0 n number c.args.known.now c.if-bus-known.false
