@@ -14,7 +14,7 @@ pub const TRACE: &[&str] = &["trace", "image", "tree", "schedule"];
 pub const UNJAM: &[&str] = &["unjam", "image", "tree", "schedule"];
 
 /// The most bytes that a sink holds, and that it takes at a time.
-const ROOM: usize = 1 << 18;
+const ROOM: usize = 1 << 20;
 
 const TAKE: usize = 10;
 

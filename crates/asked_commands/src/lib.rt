@@ -3,3 +3,5 @@
 
 pub mod answers;
 pub mod files;
+
+pub use ddm_cli::{Status, code};

@@ -152,7 +152,10 @@ fn a_hart_of_another_tree(rt: HostRuntime) -> Result<(), Fail> {
             image: store_and_load(alloc)?,
             schedule: b"h 1 0\nend\n".to_vec(alloc)?,
         };
-        assert_eq!(rt; ddm_cli::code(&ask(alloc, RUN, &files)?.status), number);
+        assert_eq!(rt;
+            asked_commands::code(&ask(alloc, RUN, &files)?.status),
+            number
+        );
     }
     Ok(())
 }

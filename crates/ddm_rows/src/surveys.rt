@@ -1,8 +1,8 @@
 //! What the runs of many seeds come to.
 
 use asked_commands::answers::{ask, ask_with, output, shelf, sink};
+use asked_commands::code;
 use asked_commands::files::{Files, code_segment, image_of, store_and_load, tree};
-use ddm_cli::code;
 use std::alloc::Global;
 use std::test::Fail;
 

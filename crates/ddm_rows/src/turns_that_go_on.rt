@@ -1,8 +1,8 @@
 //! The turn of a bus that goes on where a leaf waits, of machines whose lists are large enough; and lists that aren't.
 
 use asked_commands::answers::{UNJAM, ask, ask_with, output, shelf, sink};
+use asked_commands::code;
 use asked_commands::files::{Files, TreeFile, add_to_one_word, load_and_exit, schedule, tree};
-use ddm_cli::code;
 use std::alloc::Global;
 use std::test::Fail;
 

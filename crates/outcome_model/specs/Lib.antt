@@ -6,3 +6,4 @@ pub mod TableLaws
 pub mod FlatOutcome
 pub mod Computing
 pub mod Examples
+pub mod AlikeOutcomes

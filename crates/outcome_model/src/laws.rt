@@ -1,5 +1,6 @@
 //! What holds of every outcome, as theorems: each clause is one, and there is nothing to run.
 
+ghost use Rattle.outcome_model.specs.AlikeOutcomes.{AlikeHaltAlike, AlikeHaveOneOutcome};
 ghost use Rattle.outcome_model.specs.FlatOutcome.{OutcomesAreLegal};
 ghost use Rattle.outcome_model.specs.Halted.{HaltedStays, LaterTurnsChangeNoOutcome};
 ghost use Rattle.outcome_model.specs.TableLaws.{TablesAreRight};
@@ -8,6 +9,13 @@ ghost use Rattle.outcome_model.specs.TableLaws.{TablesAreRight};
 pub fn halted_harts_keep_their_outcome()
     ensures turn { HaltedStays }
     ensures runs { LaterTurnsChangeNoOutcome }
+{}
+
+/// Machines that differ in time alone, and whose harts have put out the same, have one outcome, and all harts of both have halted or
+/// of neither.
+pub fn alike_machines_have_one_outcome()
+    ensures outcome { AlikeHaveOneOutcome }
+    ensures halted { AlikeHaltAlike }
 {}
 
 /// A table has exactly the outcomes that its seeds gave, each in one line with how many seeds gave it and the smallest of them, the

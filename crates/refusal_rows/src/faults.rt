@@ -4,7 +4,7 @@ use asked_commands::answers::{RUN, ask, ask_with, shelf, sink};
 use asked_commands::files::{
     Files, STORED_AND_LOADED, one_leaf, schedule, store_and_load, text_of,
 };
-use ddm_cli::{Status, code};
+use asked_commands::{Status, code};
 use std::test::Fail;
 
 // Each file is read twice: all of its bytes, and then none behind them.

@@ -1,0 +1,5 @@
+pub mod Run
+pub mod BrokenWitnesses
+pub mod BrokenRuns
+pub mod BrokenAnswers
+pub mod BrokenOutput

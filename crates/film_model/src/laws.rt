@@ -1,0 +1,12 @@
+//! What holds of all films, as theorems: each clause is one, and there is nothing to run.
+
+ghost use Rattle.std.specs.Prelude.{◌≡◌, List, map, true};
+ghost use Rattle.film_model.specs.Part.{Part, changes};
+ghost use Rattle.film_model.specs.Replay.{has_keys_once, part_key, replayed};
+
+/// What a turn changed, put into the parts before it, gives the parts after it: nothing is left out.
+pub fn changes_are_all()
+    ensures { (before after : List Part) → has_keys_once before ≡ true
+        → map part_key before ≡ map part_key after
+        → replayed (changes before after) before ≡ after }
+{}

@@ -1,0 +1,2 @@
+-- The draws of a seed.
+pub mod Draws
