@@ -1,7 +1,7 @@
 -- The value of a machine of any tree.
 -- To be believed with the contracts: they speak of it.
 use Rattle.std.specs.Prelude.{ℕ}
-use Rattle.ddm_tree.specs.Machine.{MachineState}
+use Rattle.any_machine.specs.DdmTree.Machine.{MachineState}
 use Rattle.any_machine.specs.declared.machine.AnyMachine.{AnyMachine}
 use Rattle.any_machine.specs.declared.machine.AnyMachine.TheVariants.{Narrow, Wide}
 use Rattle.any_machine.specs.declared.machine.Depths.{Depths}

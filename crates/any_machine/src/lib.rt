@@ -4,6 +4,16 @@
 
 mod depths_reading;
 mod machine;
+pub mod of_cluster;
+pub mod of_ddm_tree;
+pub mod of_ddm_types;
+pub mod of_leaf_protocol;
+pub mod of_operation_list;
+pub mod of_rv_hart;
+pub mod of_state_reading;
+pub mod of_state_words;
+pub mod of_top_node;
+pub mod of_tree_model;
 mod reading;
 mod releasing;
 

@@ -1,6 +1,6 @@
+use crate::of_ddm_tree::{Dir, Machine};
+use crate::of_leaf_protocol::Leaf;
 use cluster::Cluster;
-use ddm_tree::{Dir, Machine};
-use leaf_protocol::Leaf;
 
 /// A machine whose leaves have so many ways, with so many levels of buses above them.
 #[derive(Drop)]

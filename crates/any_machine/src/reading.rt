@@ -1,21 +1,21 @@
 ghost use Rattle.std.specs.Prelude.{◌≡◌, ◌<◌, ◌≤◌, Some, length, take, true};
-ghost use Rattle.ddm_types.specs.ItemTable.{item_count};
-ghost use Rattle.tree_model.specs.State.Shape.{IsShaped, tree_counts};
-ghost use Rattle.tree_model.specs.Turns.Found.{found_copy, states_of};
-ghost use Rattle.tree_model.specs.Turns.Machine.{child_count, names_part, turn_of};
-ghost use Rattle.tree_model.specs.Turns.Tree.{bus_of_number, leaf_of_number};
-ghost use Rattle.split_bus.specs.Outcomes.{is_granted};
-ghost use Rattle.ddm_tree.specs.Machine.{is_part};
-ghost use Rattle.ddm_tree.specs.Reads.{counted_hart_of, is_down_request_or_reply, state_of};
-ghost use Rattle.ddm_tree.specs.Rules.{KeepsRules};
+ghost use Rattle.any_machine.specs.DdmTypes.ItemTable.{item_count};
+ghost use Rattle.any_machine.specs.TreeModel.State.Shape.{IsShaped, tree_counts};
+ghost use Rattle.any_machine.specs.TreeModel.Turns.Found.{found_copy, states_of};
+ghost use Rattle.any_machine.specs.TreeModel.Turns.Machine.{child_count, names_part, turn_of};
+ghost use Rattle.any_machine.specs.TreeModel.Turns.Tree.{bus_of_number, leaf_of_number};
+ghost use Rattle.any_machine.specs.SplitBus.Outcomes.{is_granted};
+ghost use Rattle.any_machine.specs.DdmTree.Machine.{is_part};
+ghost use Rattle.any_machine.specs.DdmTree.Reads.{counted_hart_of, is_down_request_or_reply, state_of};
+ghost use Rattle.any_machine.specs.DdmTree.Rules.{KeepsRules};
 ghost use Rattle.any_machine.specs.Any.{machine_state, state_in};
 
 use crate::machine::{AnyMachine, Machines};
-use ddm_tree::Found;
-use ddm_types::{BusNo, HartNo, ItemId, Items, LeafNo, LeafState, TreeCounts, Turn};
-use operation_list::Operations;
-use rv_hart::Hart;
-use tree_model::Traffic;
+use crate::of_ddm_tree::Found;
+use crate::of_ddm_types::{BusNo, HartNo, ItemId, Items, LeafNo, LeafState, TreeCounts, Turn};
+use crate::of_operation_list::Operations;
+use crate::of_rv_hart::Hart;
+use crate::of_tree_model::Traffic;
 
 impl<const WORDS: usize> Machines<WORDS> {
     /// How many leaves, buses and levels of buses the tree has.

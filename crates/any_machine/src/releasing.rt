@@ -1,5 +1,5 @@
 use crate::machine::{AnyMachine, Depths, Machines};
-use ddm_tree::{Dir, Machine, Subtree};
+use crate::of_ddm_tree::{Dir, Machine, Subtree};
 
 fn release_machine<const WORDS: usize, C: Subtree<WORDS> + Drop>(machine: Machine<WORDS, C>) {
     drop(machine);

@@ -1,11 +1,11 @@
 -- Turns don't read the operations: without those so far they answer the same, and leave the same but for these.
 -- Letters: m and n are machines, a an answer, o whether there is one.
 use Rattle.std.proofs.Common.{◌≡◌, List, [], ◌∷◌, Option, Some, None, refl, sym, ap, ◌∙◌}
-use Rattle.ddm_types.specs.declared.answers.TurnAnswer.{TurnAnswer}
-use Rattle.ddm_types.specs.declared.turns.Turn.{Turn}
-use Rattle.tree_model.specs.State.Values.{MachineValue, Node, leaf_node, dir_node}
-use Rattle.tree_model.specs.Turns.Machine.{names_part, recorded, run_of, turn_answer, turn_of, turn_root, turned_by, with_root}
-use Rattle.ddm_tree.specs.Machine.{without_ops}
+use Rattle.any_runs.specs.DdmTypes.declared.answers.TurnAnswer.{TurnAnswer}
+use Rattle.any_runs.specs.DdmTypes.declared.turns.Turn.{Turn}
+use Rattle.any_runs.specs.TreeModel.State.Values.{MachineValue, Node, leaf_node, dir_node}
+use Rattle.any_runs.specs.TreeModel.Turns.Machine.{names_part, recorded, run_of, turn_answer, turn_of, turn_root, turned_by, with_root}
+use Rattle.any_runs.specs.DdmTree.Machine.{without_ops}
 
 root-without : (root : Node) (m : MachineValue) → with_root root (without_ops m) ≡ without_ops (with_root root m)
 root-without (leaf_node v) m = refl

@@ -3,17 +3,17 @@ use Rattle.std.proofs.Common.{◌≡◌, ℕ, suc, ◌+◌, ◌-◌, ◌<◌, �
 use Rattle.std.specs.Prelude.{slice_index_or}
 use Rattle.std.proofs.lemmas.List.{append-nil, length-append, length-take-le, take_more}
 use Rattle.std.proofs.lemmas.List.Elements.{All-get_or}
-use Rattle.ddm_types.specs.declared.answers.TurnAnswer.{TurnAnswer}
-use Rattle.ddm_types.specs.declared.turns.Turn.{Turn}
-use Rattle.tree_model.specs.State.Values.{MachineValue}
-use Rattle.tree_model.specs.State.Shape.{IsShaped}
-use Rattle.tree_model.specs.Turns.Machine.{names_part, turn_of, run_of}
+use Rattle.any_runs.specs.DdmTypes.declared.answers.TurnAnswer.{TurnAnswer}
+use Rattle.any_runs.specs.DdmTypes.declared.turns.Turn.{Turn}
+use Rattle.any_runs.specs.TreeModel.State.Values.{MachineValue}
+use Rattle.any_runs.specs.TreeModel.State.Shape.{IsShaped}
+use Rattle.any_runs.specs.TreeModel.Turns.Machine.{names_part, turn_of, run_of}
 use Rattle.text_model.specs.declared.RunCounts.{RunCounts}
 use Rattle.text_model.specs.Run.{counted_answer, counts_of, no_counts}
-use Rattle.ddm_tree.specs.Machine.{MachineState, spare_after, state_after}
-use Rattle.ddm_tree.specs.Rules.{KeepsRules, StaysInOrder}
-use Rattle.ddm_tree.proofs.RulesKept.{run-order}
-use Rattle.start_parts.proofs.Names.{run-names}
+use Rattle.any_runs.specs.DdmTree.Machine.{MachineState, spare_after, state_after}
+use Rattle.any_runs.specs.DdmTree.Rules.{KeepsRules, StaysInOrder}
+use Rattle.any_runs.proofs.DdmTree.RulesKept.{run-order}
+use Rattle.any_runs.proofs.StartParts.Names.{run-names}
 use Rattle.any_runs.specs.Run.{AreBelow, CanRun, NameParts, answers_in, counts_in, ran}
 
 -- ---- the tables' run

@@ -1,3 +1,14 @@
+pub mod AnyMachine
+pub mod BusLaws
+pub mod DdmText
+pub mod DdmTree
+pub mod DdmTypes
+pub mod RvHart
+pub mod StartParts
+pub mod StateJudging
+pub mod StateReading
+pub mod StateWords
+pub mod TreeModel
 pub use Rattle.any_machine.specs.Any
 pub use Rattle.any_machine.specs.Kind
 pub mod Run

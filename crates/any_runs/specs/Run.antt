@@ -2,13 +2,13 @@
 -- Letters: s is a machine.
 -- To be believed with the contracts: they speak of it.
 use Rattle.std.specs.Prelude.{◌≡◌, ℕ, ◌+◌, ◌-◌, ◌<◌, ◌≤◌, Bool, true, List, length, max, All, if◌then◌else◌}
-use Rattle.ddm_types.specs.declared.answers.TurnAnswer.{TurnAnswer}
-use Rattle.ddm_types.specs.declared.turns.Turn.{Turn}
-use Rattle.tree_model.specs.State.Values.{MachineValue}
-use Rattle.tree_model.specs.Turns.Machine.{names_part, run_of}
+use Rattle.any_runs.specs.DdmTypes.declared.answers.TurnAnswer.{TurnAnswer}
+use Rattle.any_runs.specs.DdmTypes.declared.turns.Turn.{Turn}
+use Rattle.any_runs.specs.TreeModel.State.Values.{MachineValue}
+use Rattle.any_runs.specs.TreeModel.Turns.Machine.{names_part, run_of}
 use Rattle.text_model.specs.declared.RunCounts.{RunCounts}
 use Rattle.text_model.specs.Run.{counts_of}
-use Rattle.ddm_tree.specs.Machine.{MachineState}
+use Rattle.any_runs.specs.DdmTree.Machine.{MachineState}
 
 -- each of the turns names a leaf, or a bus and a child, of the machine
 abbrev pub NameParts : List Turn → MachineValue → Type 0

@@ -1,10 +1,10 @@
 ghost use Rattle.std.specs.Prelude.{◌≡◌};
-ghost use Rattle.ddm_tree.specs.Copying.{CanCopy, copied};
+ghost use Rattle.any_runs.specs.DdmTree.Copying.{CanCopy, copied};
 ghost use Rattle.any_machine.specs.Any.{depths_state, machine_state, state_in};
 ghost use Rattle.any_machine.specs.Kind.{kind_in, kind_of, levels_in};
 
+use crate::of_ddm_tree::{CopyFrom, Dir, Machine};
 use any_machine::{AnyMachine, Depths, Machines};
-use ddm_tree::{CopyFrom, Dir, Machine};
 
 // The machine of directories over these children becomes a copy of another one: a check of three types within one another is
 // beyond its limits.

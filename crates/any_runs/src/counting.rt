@@ -2,7 +2,7 @@ ghost use Rattle.std.specs.Prelude.{◌≡◌};
 ghost use Rattle.text_model.specs.Run.{counted_answer, no_counts};
 ghost use Rattle.any_runs.specs.Run.{AreBelow};
 
-use ddm_types::TurnAnswer;
+use crate::of_ddm_types::TurnAnswer;
 use text_model::RunCounts;
 
 /// Before the first turn.

@@ -1,9 +1,9 @@
 ghost use Rattle.std.specs.Prelude.{◌≡◌};
-ghost use Rattle.ddm_tree.specs.Machine.{without_ops};
+ghost use Rattle.any_runs.specs.DdmTree.Machine.{without_ops};
 ghost use Rattle.any_machine.specs.Any.{depths_state, machine_state, state_in};
 
+use crate::of_ddm_tree::{Dir, Machine, Subtree};
 use any_machine::{AnyMachine, Depths, Machines};
-use ddm_tree::{Dir, Machine, Subtree};
 
 // The operations of a machine of directories over these children: a check of three types within one another is beyond its limits.
 fn forget_over<const WORDS: usize, C: Subtree<WORDS>>(machine: &mut Machine<WORDS, Dir<WORDS, C>>)

@@ -5,6 +5,16 @@
 mod copying;
 mod counting;
 mod forgetting;
+pub mod of_any_machine;
+pub mod of_cluster;
+pub mod of_ddm_tree;
+pub mod of_ddm_types;
+pub mod of_leaf_protocol;
+pub mod of_operation_list;
+pub mod of_state_reading;
+pub mod of_state_words;
+pub mod of_text_model;
+pub mod of_top_node;
 mod running;
 mod spared;
 

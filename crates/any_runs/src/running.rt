@@ -1,17 +1,17 @@
 ghost use Rattle.std.specs.Prelude.{◌≡◌, ◌+◌, ◌<◌, ◌≤◌, ◌++◌, ◌∷◌, [], Some, true, false, IfNone, IfOk, IfSome, OnErr, OnOk, OnSome, length, vec_capacity, vec_len, if◌then◌else◌};
-ghost use Rattle.ddm_types.specs.declared.answers.TurnAnswer.TheVariants.{Empty};
-ghost use Rattle.tree_model.specs.Turns.Machine.{names_part, turn_of};
+ghost use Rattle.any_runs.specs.DdmTypes.declared.answers.TurnAnswer.TheVariants.{Empty};
+ghost use Rattle.any_runs.specs.TreeModel.Turns.Machine.{names_part, turn_of};
 ghost use Rattle.text_model.specs.Run.{counted_answer};
-ghost use Rattle.ddm_tree.specs.Machine.{state_after};
-ghost use Rattle.ddm_tree.specs.Quiet.{is_hart_turn};
-ghost use Rattle.ddm_tree.specs.Rules.{StaysInOrder};
+ghost use Rattle.any_runs.specs.DdmTree.Machine.{state_after};
+ghost use Rattle.any_runs.specs.DdmTree.Quiet.{is_hart_turn};
+ghost use Rattle.any_runs.specs.DdmTree.Rules.{StaysInOrder};
 ghost use Rattle.any_machine.specs.Any.{depths_state, machine_state, state_in};
 ghost use Rattle.any_runs.specs.Run.{AreBelow, CanRun, NameParts, answers_in, counts_in, ran, with_room};
 
 use crate::counting::{count, no_counts};
+use crate::of_ddm_tree::{Dir, Machine, Subtree};
+use crate::of_ddm_types::{NoMemory, Turn, TurnAnswer};
 use any_machine::{AnyMachine, Depths, Machines};
-use ddm_tree::{Dir, Machine, Subtree};
-use ddm_types::{NoMemory, Turn, TurnAnswer};
 use text_model::RunCounts;
 
 /// Whether a turn is a hart's.

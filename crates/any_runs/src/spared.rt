@@ -3,9 +3,9 @@ ghost use Rattle.any_machine.specs.Any.{depths_state, machine_state, state_in};
 ghost use Rattle.any_machine.specs.Kind.{kind_in, kind_of, levels_in};
 ghost use Rattle.any_runs.specs.Run.{CanRun, NameParts, ran, roomed};
 
+use crate::of_ddm_tree::{Dir, Machine, Subtree};
+use crate::of_ddm_types::{NoMemory, Turn, TurnAnswer};
 use any_machine::{AnyMachine, Depths, Machines};
-use ddm_tree::{Dir, Machine, Subtree};
-use ddm_types::{NoMemory, Turn, TurnAnswer};
 
 fn make_turns<const WORDS: usize, C: Subtree<WORDS>>(
     machine: &mut Machine<WORDS, C>,

@@ -1,13 +1,13 @@
 ghost use Rattle.std.specs.Prelude.{◌≡◌, ◌≢◌, ◌<◌, ◌≤◌, ◌^◌, Ok, Err, drop, length, slice_index, IfErr, IfOk};
-ghost use Rattle.tree_model.specs.State.Shape.{frame_of};
-ghost use Rattle.state_reading.specs.declared.StateRefusal.TheVariants.{NoMemory};
-ghost use Rattle.state_judging.specs.Judged.{read_state};
-ghost use Rattle.any_machine.specs.Any.{depths_state, machine_state, state_in};
-ghost use Rattle.any_machine.specs.Kind.{kind_in, kind_of, levels_in};
+ghost use Rattle.any_states.specs.TreeModel.State.Shape.{frame_of};
+ghost use Rattle.any_states.specs.StateReading.declared.StateRefusal.TheVariants.{NoMemory};
+ghost use Rattle.any_states.specs.StateJudging.Judged.{read_state};
+ghost use Rattle.any_states.specs.AnyMachine.Any.{depths_state, machine_state, state_in};
+ghost use Rattle.any_states.specs.AnyMachine.Kind.{kind_in, kind_of, levels_in};
 
-use any_machine::{AnyMachine, Depths, Machines};
-use ddm_tree::{Dir, Machine, Subtree};
-use state_reading::StateRefusal;
+use crate::of_any_machine::{AnyMachine, Depths, Machines};
+use crate::of_ddm_tree::{Dir, Machine, Subtree};
+use crate::of_state_reading::StateRefusal;
 use std::alloc::Global;
 
 // Over children of bus 0 that are directories: a check of three types within one another is beyond its limits.

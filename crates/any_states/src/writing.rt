@@ -1,14 +1,14 @@
 ghost use Rattle.std.specs.Prelude.{◌≡◌, OnErr, OnOk};
-ghost use Rattle.ddm_text.specs.Adds.{Adds};
-ghost use Rattle.state_words.specs.Begins.{Begins};
-ghost use Rattle.state_words.specs.Machine.{sizes_of};
-ghost use Rattle.ddm_tree.specs.Written.{tree_words};
-ghost use Rattle.any_machine.specs.Any.{depths_state, machine_state, state_in};
+ghost use Rattle.any_states.specs.DdmText.Adds.{Adds};
+ghost use Rattle.any_states.specs.StateWords.Begins.{Begins};
+ghost use Rattle.any_states.specs.StateWords.Machine.{sizes_of};
+ghost use Rattle.any_states.specs.DdmTree.Written.{tree_words};
+ghost use Rattle.any_states.specs.AnyMachine.Any.{depths_state, machine_state, state_in};
 
-use any_machine::{AnyMachine, Depths, Machines};
-use ddm_tree::{Dir, Machine, Subtree};
-use ddm_types::NoMemory;
-use state_words::MachineSizes;
+use crate::of_any_machine::{AnyMachine, Depths, Machines};
+use crate::of_ddm_tree::{Dir, Machine, Subtree};
+use crate::of_ddm_types::NoMemory;
+use crate::of_state_words::MachineSizes;
 
 // For machines whose directories under bus 0 are over these children: a check of three types within one another is beyond its limits.
 

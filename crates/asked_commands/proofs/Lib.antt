@@ -1,1 +1,2 @@
+pub mod ElfLoad
 pub mod Short

@@ -3,9 +3,9 @@ use Rattle.std.proofs.Common.{◌≡◌, ℕ, ◌+◌, ◌*◌, ◌≤◌, List,
 use Rattle.std.specs.Prelude.{All}
 use Rattle.std.proofs.lemmas.List.{length-append}
 use Rattle.std.proofs.lemmas.List.Elements.{All-head, All-tail}
-use Rattle.tree_model.specs.Start.Sources.{SegmentValue}
-use Rattle.elf_load.specs.Written.{segment_bytes, written_image}
-use Rattle.elf_load.proofs.Pushes.{room_for_bytes}
+use Rattle.asked_commands.specs.TreeModel.Start.Sources.{SegmentValue}
+use Rattle.asked_commands.specs.ElfLoad.Written.{segment_bytes, written_image}
+use Rattle.asked_commands.proofs.ElfLoad.Pushes.{room_for_bytes}
 use Rattle.asked_commands.specs.Short.{IsShort}
 
 bytes_fit : (ss : List SegmentValue) → All IsShort ss → length (segment_bytes ss) ≤ 4096 * length ss

@@ -1,1 +1,4 @@
+pub mod DdmOutside
+pub mod ElfLoad
+pub mod TreeModel
 pub mod Short

@@ -1,6 +1,6 @@
 -- Segments of which the file has so few bytes that images of up to 64 of them are short.
 use Rattle.std.specs.Prelude.{◌≤◌, length}
-use Rattle.tree_model.specs.Start.Sources.{SegmentValue}
+use Rattle.asked_commands.specs.TreeModel.Start.Sources.{SegmentValue}
 
 abbrev pub IsShort : SegmentValue → Type 0
 IsShort s = length s.bytes ≤ 4096

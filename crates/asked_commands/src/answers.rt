@@ -1,9 +1,9 @@
 ghost use Rattle.std.specs.Prelude.{◌≡◌, All, IfOk};
 
 use crate::files::{Files, schedule};
+use crate::of_ddm_outside::{MemoryShelf, MemorySink, NamedFile, Shelf};
+use crate::of_ddm_text::Text;
 use ddm_cli::{Status, code, ddm_main};
-use ddm_outside::{MemoryShelf, MemorySink, NamedFile, Shelf};
-use ddm_text::Text;
 use std::alloc::Global;
 use std::test::Fail;
 

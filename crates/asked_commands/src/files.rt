@@ -1,8 +1,8 @@
 ghost use Rattle.std.specs.Prelude.{◌≤◌, All, IfOk, length};
-ghost use Rattle.elf_load.specs.ImageRule.{FitsMemory};
+ghost use Rattle.asked_commands.specs.ElfLoad.ImageRule.{FitsMemory};
 ghost use Rattle.asked_commands.specs.Short.{IsShort};
 
-use elf_load::{Segment, write_image};
+use crate::of_elf_load::{Segment, write_image};
 use std::alloc::Global;
 use std::test::Fail;
 

@@ -3,5 +3,10 @@
 
 pub mod answers;
 pub mod files;
+pub mod of_ddm_outside;
+pub mod of_ddm_text;
+pub mod of_ddm_types;
+pub mod of_elf_load;
+pub mod of_witness_check;
 
 pub use ddm_cli::{Status, code};

@@ -1,3 +1,4 @@
+pub mod DdmTypes
 pub mod Marks
 pub mod Memory
 pub mod Places

@@ -3,6 +3,7 @@
 
 mod marks;
 mod memory;
+pub mod of_ddm_types;
 mod places;
 
 pub use memory::{AttractionMem, SetFull};

@@ -9,14 +9,14 @@ use Rattle.tree_rules.specs.Order.Time.{keys_differ}
 use Rattle.tree_rules.specs.Examples.{causes_hold}
 use Rattle.tree_rules.specs.Statements.{each_pair}
 use Rattle.tree_rules.proofs.Statements.{Holds-from_test}
-use Rattle.tree_model.specs.Turns.Witness.{sorted_ops}
-use Rattle.tree_model.specs.declared.CopyPlace.{CopyPlace}
-use Rattle.tree_model.specs.Turns.Machine.{Ran, turn_of, run_of, machine_leaves}
-use Rattle.tree_model.specs.State.Values.{MachineValue}
-use Rattle.flat_model.specs.Legal.{is_of}
-use Rattle.flat_model.specs.Flat.{FlatMachine}
-use Rattle.ddm_types.specs.declared.operations.Op.{Op}
-use Rattle.ddm_types.specs.declared.turns.Turn.{Turn}
+use Rattle.broken_runs.specs.TreeModel.Turns.Witness.{sorted_ops}
+use Rattle.broken_runs.specs.TreeModel.declared.CopyPlace.{CopyPlace}
+use Rattle.broken_runs.specs.TreeModel.Turns.Machine.{Ran, turn_of, run_of, machine_leaves}
+use Rattle.broken_runs.specs.TreeModel.State.Values.{MachineValue}
+use Rattle.broken_runs.specs.FlatModel.Legal.{is_of}
+use Rattle.broken_runs.specs.FlatModel.Flat.{FlatMachine}
+use Rattle.broken_runs.specs.DdmTypes.declared.operations.Op.{Op}
+use Rattle.broken_runs.specs.DdmTypes.declared.turns.Turn.{Turn}
 use Rattle.broken_runs.specs.Run.{flat_start, turns, start, answers, ended, ended_0, ended_1, ended_ops, first_load, first_put, store, second_load, second_put}
 
 last-dropped : (p : Op → Bool) (a b c d e : Op) → p e ≡ false → filter p (a ∷ e ∷ b ∷ c ∷ d ∷ []) ≡ filter p (a ∷ b ∷ c ∷ d ∷ e ∷ [])

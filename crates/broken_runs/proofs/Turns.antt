@@ -6,19 +6,19 @@ use Rattle.tree_rules.specs.Computing.{rules_compute}
 use Rattle.tree_rules.specs.Examples.{causes_hold}
 use Rattle.tree_rules.specs.Small.{entry}
 use Rattle.tree_rules.specs.Witness.{IsWitnessed, IsHartOf, HasCurrentCopy, busy_has_cause, IsHaltedByTurn, IsRunWitnessed, EachTurnWitnessed}
-use Rattle.ddm_types.specs.declared.answers.BusyCause.{BusyCause}
-use Rattle.ddm_types.specs.declared.answers.QueueName.{QueueName}
-use Rattle.ddm_types.specs.declared.answers.TurnAnswer.{TurnAnswer}
-use Rattle.ddm_types.specs.declared.operations.Effect.{Effect}
-use Rattle.ddm_types.specs.declared.operations.HaltCause.{HaltCause}
-use Rattle.ddm_types.specs.declared.operations.Op.{Op}
-use Rattle.ddm_types.specs.declared.sizes.LeafState.{LeafState}
-use Rattle.ddm_types.specs.declared.turns.Turn.{Turn}
-use Rattle.flat_model.specs.Hart.{HartValue}
-use Rattle.flat_model.specs.Flat.{FlatMachine}
-use Rattle.tree_model.specs.declared.CopyPlace.{CopyPlace}
-use Rattle.tree_model.specs.State.Values.{LeafValue, MachineValue}
-use Rattle.tree_model.specs.Turns.Machine.{Ran, turn_of, run_of}
+use Rattle.broken_runs.specs.DdmTypes.declared.answers.BusyCause.{BusyCause}
+use Rattle.broken_runs.specs.DdmTypes.declared.answers.QueueName.{QueueName}
+use Rattle.broken_runs.specs.DdmTypes.declared.answers.TurnAnswer.{TurnAnswer}
+use Rattle.broken_runs.specs.DdmTypes.declared.operations.Effect.{Effect}
+use Rattle.broken_runs.specs.DdmTypes.declared.operations.HaltCause.{HaltCause}
+use Rattle.broken_runs.specs.DdmTypes.declared.operations.Op.{Op}
+use Rattle.broken_runs.specs.DdmTypes.declared.sizes.LeafState.{LeafState}
+use Rattle.broken_runs.specs.DdmTypes.declared.turns.Turn.{Turn}
+use Rattle.broken_runs.specs.FlatModel.Hart.{HartValue}
+use Rattle.broken_runs.specs.FlatModel.Flat.{FlatMachine}
+use Rattle.broken_runs.specs.TreeModel.declared.CopyPlace.{CopyPlace}
+use Rattle.broken_runs.specs.TreeModel.State.Values.{LeafValue, MachineValue}
+use Rattle.broken_runs.specs.TreeModel.Turns.Machine.{Ran, turn_of, run_of}
 use Rattle.broken_runs.specs.Run.{hart_at, leaf_at, machine_of, key_of}
 use Rattle.broken_runs.specs.BrokenRuns.{two_words, loads_flat, turn_of_hart_1, turn_of_hart_0, other_before_load, twins, twins_flat, too_many_replies, request_of_leaf_0}
 use Rattle.broken_runs.proofs.Positive.{run-witnessed, ran-witnessed}

@@ -1,13 +1,13 @@
 -- Answers told by hand that aren't those of the run in order. A run's answers are computed from its turns, so what is refused
 -- here is what a run's witness says of them.
 use Rattle.std.specs.Prelude.{◌≡◌, ℕ, List, [], ◌∷◌, ◌++◌, filter}
-use Rattle.ddm_types.specs.declared.answers.BusyCause.{BusyCause}
-use Rattle.ddm_types.specs.declared.answers.PendingWhy.{PendingWhy}
-use Rattle.ddm_types.specs.declared.answers.QueueName.{QueueName}
-use Rattle.ddm_types.specs.declared.answers.TurnAnswer.{TurnAnswer}
-use Rattle.ddm_types.specs.declared.operations.Effect.{Effect}
-use Rattle.ddm_types.specs.declared.operations.HaltCause.{HaltCause}
-use Rattle.ddm_types.specs.declared.turns.Turn.{Turn}
+use Rattle.broken_runs.specs.DdmTypes.declared.answers.BusyCause.{BusyCause}
+use Rattle.broken_runs.specs.DdmTypes.declared.answers.PendingWhy.{PendingWhy}
+use Rattle.broken_runs.specs.DdmTypes.declared.answers.QueueName.{QueueName}
+use Rattle.broken_runs.specs.DdmTypes.declared.answers.TurnAnswer.{TurnAnswer}
+use Rattle.broken_runs.specs.DdmTypes.declared.operations.Effect.{Effect}
+use Rattle.broken_runs.specs.DdmTypes.declared.operations.HaltCause.{HaltCause}
+use Rattle.broken_runs.specs.DdmTypes.declared.turns.Turn.{Turn}
 use Rattle.tree_rules.specs.Witness.{busy_has_cause, ops_of_answers, IsHaltedByTurn}
 use Rattle.broken_runs.specs.Run.{start, after, store, answers_with, ended_0, ended_ops}
 

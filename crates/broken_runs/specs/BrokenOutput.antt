@@ -1,10 +1,10 @@
 -- What a hart put out, in another order than in the witness.
 use Rattle.std.specs.Prelude.{◌≡◌, ℕ, List, [], ◌∷◌, None}
-use Rattle.ddm_types.specs.declared.operations.Effect.{Effect}
-use Rattle.ddm_types.specs.declared.operations.Op.{Op}
-use Rattle.tree_model.specs.State.Values.{MachineValue}
-use Rattle.tree_model.specs.Turns.Machine.{run_of}
-use Rattle.tree_model.specs.Turns.Witness.{sorted_ops}
+use Rattle.broken_runs.specs.DdmTypes.declared.operations.Effect.{Effect}
+use Rattle.broken_runs.specs.DdmTypes.declared.operations.Op.{Op}
+use Rattle.broken_runs.specs.TreeModel.State.Values.{MachineValue}
+use Rattle.broken_runs.specs.TreeModel.Turns.Machine.{run_of}
+use Rattle.broken_runs.specs.TreeModel.Turns.Witness.{sorted_ops}
 use Rattle.text_model.specs.Report.{put_texts}
 use Rattle.text_model.specs.Run.{HasWitnessedOutput, EachOutputWitnessed}
 use Rattle.broken_runs.specs.Run.{hart_at, leaf_at, machine_of, key_of}

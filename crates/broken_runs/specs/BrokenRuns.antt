@@ -1,11 +1,11 @@
 -- Turns from machines that no run comes to, each with what holds of it: the turns break one promise of a run alone.
 use Rattle.std.specs.Prelude.{List, [], ◌∷◌, Some, None}
-use Rattle.ddm_types.specs.declared.answers.TxKind.{TxKind}
-use Rattle.ddm_types.specs.declared.sizes.LeafState.{LeafState}
-use Rattle.ddm_types.specs.declared.turns.Turn.{Turn}
-use Rattle.flat_model.specs.Flat.{FlatMachine}
-use Rattle.tree_model.specs.State.Values.{CopyValue, MachineValue}
-use Rattle.tree_model.specs.Turns.Machine.{run_of}
+use Rattle.broken_runs.specs.DdmTypes.declared.answers.TxKind.{TxKind}
+use Rattle.broken_runs.specs.DdmTypes.declared.sizes.LeafState.{LeafState}
+use Rattle.broken_runs.specs.DdmTypes.declared.turns.Turn.{Turn}
+use Rattle.broken_runs.specs.FlatModel.Flat.{FlatMachine}
+use Rattle.broken_runs.specs.TreeModel.State.Values.{CopyValue, MachineValue}
+use Rattle.broken_runs.specs.TreeModel.Turns.Machine.{run_of}
 use Rattle.tree_rules.specs.Small.{entry}
 use Rattle.tree_rules.specs.Witness.{IsWitnessed, IsRunWitnessed, EachTurnWitnessed}
 use Rattle.broken_runs.specs.Run.{hart_at, leaf_at, machine_of, flat_of}

@@ -1,12 +1,12 @@
 -- Machines with their operations of which it doesn't hold that they are witnessed: each is the end of the run that is in order,
 -- or its start, with one thing changed.
 use Rattle.std.specs.Prelude.{List, [], ◌∷◌, true, Some, None}
-use Rattle.ddm_types.specs.declared.operations.Effect.{Effect}
-use Rattle.ddm_types.specs.declared.operations.HaltCause.{HaltCause}
-use Rattle.ddm_types.specs.declared.operations.Op.{Op}
-use Rattle.ddm_types.specs.declared.sizes.LeafState.{LeafState}
-use Rattle.flat_model.specs.Flat.{FlatMachine}
-use Rattle.tree_model.specs.State.Values.{LeafValue, MachineValue}
+use Rattle.broken_runs.specs.DdmTypes.declared.operations.Effect.{Effect}
+use Rattle.broken_runs.specs.DdmTypes.declared.operations.HaltCause.{HaltCause}
+use Rattle.broken_runs.specs.DdmTypes.declared.operations.Op.{Op}
+use Rattle.broken_runs.specs.DdmTypes.declared.sizes.LeafState.{LeafState}
+use Rattle.broken_runs.specs.FlatModel.Flat.{FlatMachine}
+use Rattle.broken_runs.specs.TreeModel.State.Values.{LeafValue, MachineValue}
 use Rattle.tree_rules.specs.Small.{entry}
 use Rattle.broken_runs.specs.Run.{hart_at, leaf_at, machine_of, flat_of, key_of, first_load, first_put, store, second_load, second_put, ended_0, ended_1, ended_ops, ended_with, ended}
 

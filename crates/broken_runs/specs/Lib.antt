@@ -1,3 +1,6 @@
+pub mod DdmTypes
+pub mod FlatModel
+pub mod TreeModel
 pub mod Run
 pub mod BrokenWitnesses
 pub mod BrokenRuns

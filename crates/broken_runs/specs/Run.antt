@@ -1,23 +1,23 @@
 -- A short run that is in order, told by hand: where it begins, its turns, what they answer, and where it ends. Two harts share
 -- one word: hart 0 loads it before hart 1 stores to it.
 use Rattle.std.specs.Prelude.{◌≡◌, ℕ, List, [], ◌∷◌, ◌++◌, map, replicate, take, Option, Some, None}
-use Rattle.ddm_types.specs.declared.answers.BusyCause.{BusyCause}
-use Rattle.ddm_types.specs.declared.answers.PendingWhy.{PendingWhy}
-use Rattle.ddm_types.specs.declared.answers.Place.{Place}
-use Rattle.ddm_types.specs.declared.answers.TurnAnswer.{TurnAnswer}
-use Rattle.ddm_types.specs.declared.answers.TxKind.{TxKind}
-use Rattle.ddm_types.specs.declared.keys.Key.{Key}
-use Rattle.ddm_types.specs.declared.operations.Effect.{Effect}
-use Rattle.ddm_types.specs.declared.operations.HaltCause.{HaltCause}
-use Rattle.ddm_types.specs.declared.operations.Op.{Op}
-use Rattle.ddm_types.specs.declared.sizes.LeafState.{LeafState}
-use Rattle.ddm_types.specs.declared.turns.Turn.{Turn}
-use Rattle.ddm_types.specs.CodeMap.{words_from}
-use Rattle.ddm_types.specs.Keys.{key_zero}
-use Rattle.flat_model.specs.Hart.{HartValue}
-use Rattle.flat_model.specs.Flat.{FlatHart, FlatMachine}
-use Rattle.tree_model.specs.State.Values.{WayValue, LeafValue, leaf_node, MachineValue}
-use Rattle.tree_model.specs.Turns.Machine.{no_traffic, run_of}
+use Rattle.broken_runs.specs.DdmTypes.declared.answers.BusyCause.{BusyCause}
+use Rattle.broken_runs.specs.DdmTypes.declared.answers.PendingWhy.{PendingWhy}
+use Rattle.broken_runs.specs.DdmTypes.declared.answers.Place.{Place}
+use Rattle.broken_runs.specs.DdmTypes.declared.answers.TurnAnswer.{TurnAnswer}
+use Rattle.broken_runs.specs.DdmTypes.declared.answers.TxKind.{TxKind}
+use Rattle.broken_runs.specs.DdmTypes.declared.keys.Key.{Key}
+use Rattle.broken_runs.specs.DdmTypes.declared.operations.Effect.{Effect}
+use Rattle.broken_runs.specs.DdmTypes.declared.operations.HaltCause.{HaltCause}
+use Rattle.broken_runs.specs.DdmTypes.declared.operations.Op.{Op}
+use Rattle.broken_runs.specs.DdmTypes.declared.sizes.LeafState.{LeafState}
+use Rattle.broken_runs.specs.DdmTypes.declared.turns.Turn.{Turn}
+use Rattle.broken_runs.specs.DdmTypes.CodeMap.{words_from}
+use Rattle.broken_runs.specs.DdmTypes.Keys.{key_zero}
+use Rattle.broken_runs.specs.FlatModel.Hart.{HartValue}
+use Rattle.broken_runs.specs.FlatModel.Flat.{FlatHart, FlatMachine}
+use Rattle.broken_runs.specs.TreeModel.State.Values.{WayValue, LeafValue, leaf_node, MachineValue}
+use Rattle.broken_runs.specs.TreeModel.Turns.Machine.{no_traffic, run_of}
 use Rattle.tree_rules.specs.Witness.{IsWitnessed, IsRunWitnessed}
 use Rattle.tree_rules.specs.Small.{leaf_value, entry, machine}
 

@@ -3,13 +3,13 @@
 use Rattle.std.proofs.Common.{◌≡◌, ◌∙◌, ap, sym, refl, ℕ, Bool, true, false, not, ◌&&◌, ◌||◌, List, [], ◌∷◌, is_some}
 use Rattle.std.specs.List.{list_all}
 use Rattle.std.specs.Bool.{beq}
-use Rattle.ddm_types.specs.declared.answers.TxKind.{TxKind}
-use Rattle.ddm_types.specs.declared.answers.TxKind.TheVariants.{EraseTx, ExclusiveTx}
-use Rattle.tree_model.specs.State.Kinds.{brings_copy, has_kind}
-use Rattle.tree_model.specs.State.Lists.{has_some}
-use Rattle.tree_model.specs.State.States.{is_held, is_exclusive, is_shared}
-use Rattle.tree_model.specs.State.Values.{Note, no_note, local, up_read, up_erase}
-use Rattle.tree_model.specs.State.Directory.{is_local, is_up_read, is_up_erase, note_why}
+use Rattle.bus_judging.specs.DdmTypes.declared.answers.TxKind.{TxKind}
+use Rattle.bus_judging.specs.DdmTypes.declared.answers.TxKind.TheVariants.{EraseTx, ExclusiveTx}
+use Rattle.bus_judging.specs.TreeModel.State.Kinds.{brings_copy, has_kind}
+use Rattle.bus_judging.specs.TreeModel.State.Lists.{has_some}
+use Rattle.bus_judging.specs.TreeModel.State.States.{is_held, is_exclusive, is_shared}
+use Rattle.bus_judging.specs.TreeModel.State.Values.{Note, no_note, local, up_read, up_erase}
+use Rattle.bus_judging.specs.TreeModel.State.Directory.{is_local, is_up_read, is_up_erase, note_why}
 use Rattle.tree_rules.specs.Bus.Faces.{ParentFace, face_above}
 use Rattle.tree_rules.specs.Bus.Item.{Bits, ItemRule, item_test, item_holds, implies, copies_in, starts_for, ends_with_inject, held_after, answering_held, exclusive_alone, parked_alone, exclusive_covered, queue_in_order, queue_start, inject_covered, erased_shared, hold_follows, local_noted, up_read_noted, data_read, up_erase_noted, erase_end, reads_noted, erases_noted, granted_held, exclusive_noted, giver, givers_held, read_answered, asked_alone, one_request, request_open, request_noted}
 use Rattle.bus_judging.specs.Queue.{first_kind, last_kind}

@@ -4,9 +4,9 @@ use Rattle.std.proofs.Common.{◌≡◌, ◌∙◌, ap, sym, refl, ℕ, zero, su
 use Rattle.std.specs.List.{list_all, list_any}
 use Rattle.std.proofs.Math.Dec.{eqb-suc-suc, eqb-suc-zero, eqb-zero-suc}
 use Rattle.std.proofs.lemmas.List.{length-append}
-use Rattle.tree_model.specs.State.Lists.{all_from}
-use Rattle.tree_model.specs.State.Values.{Note, no_note, local, up_read, up_erase}
-use Rattle.tree_model.specs.State.Directory.{is_reader, is_eraser}
+use Rattle.bus_judging.specs.TreeModel.State.Lists.{all_from}
+use Rattle.bus_judging.specs.TreeModel.State.Values.{Note, no_note, local, up_read, up_erase}
+use Rattle.bus_judging.specs.TreeModel.State.Directory.{is_reader, is_eraser}
 use Rattle.tree_rules.specs.Bus.Faces.{ChildFace}
 use Rattle.tree_rules.specs.Bus.Item.{holds_it, holds_exclusive, one_holds, gives_none, gives_one, one_gives, giver_holds, granted_fits, reader_is_granted, reader_is_noted, eraser_is_noted, eraser_is_granted, may_erase, child_passes}
 use Rattle.bus_judging.specs.Children.{ChildrenFacts, facts_among, with_child}

@@ -1,9 +1,9 @@
 -- What is gathered of requests, one more at a time.
 -- Letters: rs are their kinds, k is one more.
 use Rattle.std.proofs.Common.{◌≡◌, sym, refl, Bool, true, not, ◌&&◌, ◌||◌, List, [], ◌∷◌, ◌++◌}
-use Rattle.ddm_types.specs.declared.answers.TxKind.{TxKind}
-use Rattle.ddm_types.specs.declared.answers.TxKind.TheVariants.{ReadTx, EraseTx}
-use Rattle.tree_model.specs.State.Kinds.{is_kind, has_kind, goes_up}
+use Rattle.bus_judging.specs.DdmTypes.declared.answers.TxKind.{TxKind}
+use Rattle.bus_judging.specs.DdmTypes.declared.answers.TxKind.TheVariants.{ReadTx, EraseTx}
+use Rattle.bus_judging.specs.TreeModel.State.Kinds.{is_kind, has_kind, goes_up}
 use Rattle.tree_rules.specs.Bus.Item.{requests_fit}
 use Rattle.bus_judging.specs.Parent.{RequestFacts, has_any, request_facts}
 use Rattle.bus_judging.proofs.Gathered.{any-more}

@@ -3,8 +3,8 @@ use Rattle.std.proofs.Common.{◌≡◌, ℕ, Bool, true, false, cond, List, [],
 use Rattle.std.specs.List.{count_by}
 use Rattle.std.proofs.lemmas.List.{length-map}
 use Rattle.std.proofs.lemmas.List.Sums.{length-filter}
-use Rattle.tree_model.specs.State.Values.{CopyValue}
-use Rattle.tree_model.specs.State.Leaf.{copy_words, is_copy, words_of_item}
+use Rattle.bus_judging.specs.TreeModel.State.Values.{CopyValue}
+use Rattle.bus_judging.specs.TreeModel.State.Leaf.{copy_words, is_copy, words_of_item}
 
 module _ {X : Type 0} (f : X → CopyValue) where
   passing-map : (x : ℕ) (l : List X) → filter (is_copy x) (map f l) ≡ map f (filter (λ r. is_copy x (f r)) l)

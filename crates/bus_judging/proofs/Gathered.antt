@@ -2,10 +2,10 @@
 -- Letters: q is such a list, k a kind.
 use Rattle.std.proofs.Common.{◌≡◌, ◌∙◌, ap, sym, refl, Bool, true, false, cond, not, ◌&&◌, ◌||◌, List, [], ◌∷◌, ◌++◌, filter, Option, Some}
 use Rattle.std.specs.List.{list_all, list_any}
-use Rattle.ddm_types.specs.declared.answers.TxKind.{TxKind}
-use Rattle.ddm_types.specs.declared.answers.TxKind.TheVariants.{ReadTx, DataTx, EraseTx, ExclusiveTx, InjectTx, OutTx}
-use Rattle.tree_model.specs.State.Kinds.{is_kind}
-use Rattle.tree_model.specs.State.Lists.{first_some}
+use Rattle.bus_judging.specs.DdmTypes.declared.answers.TxKind.{TxKind}
+use Rattle.bus_judging.specs.DdmTypes.declared.answers.TxKind.TheVariants.{ReadTx, DataTx, EraseTx, ExclusiveTx, InjectTx, OutTx}
+use Rattle.bus_judging.specs.TreeModel.State.Kinds.{is_kind}
+use Rattle.bus_judging.specs.TreeModel.State.Lists.{first_some}
 use Rattle.tree_rules.specs.Bus.Item.{may_follow, moves_copies, queue_fits, copies_in}
 use Rattle.bus_judging.specs.Queue.{QueueFacts, facts_of, first_kind, last_kind, fits_behind, with_kind}
 

@@ -1,3 +1,5 @@
+pub mod DdmTypes
+pub mod TreeModel
 pub mod Gathered
 pub mod Among
 pub mod Asked

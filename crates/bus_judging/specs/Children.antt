@@ -3,8 +3,8 @@
 -- To be believed: contracts of code speak of it.
 use Rattle.std.specs.Prelude.{ℕ, ◌+◌, Bool, not, ◌&&◌, ◌||◌, List, length, if◌then◌else◌}
 use Rattle.std.specs.List.{list_any, list_all}
-use Rattle.tree_model.specs.State.Lists.{all_from}
-use Rattle.tree_model.specs.State.Values.{Note}
+use Rattle.bus_judging.specs.TreeModel.State.Lists.{all_from}
+use Rattle.bus_judging.specs.TreeModel.State.Values.{Note}
 use Rattle.tree_rules.specs.Bus.Faces.{ChildFace}
 use Rattle.tree_rules.specs.Bus.Item.{Bits, holds_it, holds_exclusive, one_holds, gives_none, gives_one, one_gives, giver_holds, granted_fits, reader_is_granted, reader_is_noted, eraser_is_noted, eraser_is_granted, may_erase, implies}
 

@@ -3,12 +3,12 @@
 -- To be believed: contracts of code speak of it.
 use Rattle.std.specs.Prelude.{Bool, true, false, List, [], ◌∷◌, Option, Some, None}
 use Rattle.std.specs.Bool.{beq}
-use Rattle.ddm_types.specs.declared.answers.TxKind.{TxKind}
-use Rattle.ddm_types.specs.declared.answers.TxKind.TheVariants.{ReadTx, EraseTx, InjectTx}
-use Rattle.ddm_types.specs.declared.answers.PendingWhy.{PendingWhy}
-use Rattle.ddm_types.specs.declared.sizes.Hold.{Hold}
-use Rattle.tree_model.specs.State.Kinds.{is_kind, has_kind, brings_copy}
-use Rattle.tree_model.specs.State.Directory.{note_why}
+use Rattle.bus_judging.specs.DdmTypes.declared.answers.TxKind.{TxKind}
+use Rattle.bus_judging.specs.DdmTypes.declared.answers.TxKind.TheVariants.{ReadTx, EraseTx, InjectTx}
+use Rattle.bus_judging.specs.DdmTypes.declared.answers.PendingWhy.{PendingWhy}
+use Rattle.bus_judging.specs.DdmTypes.declared.sizes.Hold.{Hold}
+use Rattle.bus_judging.specs.TreeModel.State.Kinds.{is_kind, has_kind, brings_copy}
+use Rattle.bus_judging.specs.TreeModel.State.Directory.{note_why}
 use Rattle.tree_rules.specs.Bus.Faces.{ParentFace}
 use Rattle.tree_rules.specs.Bus.Item.{requests_fit}
 use Rattle.bus_judging.specs.Queue.{QueueFacts, facts_of}

@@ -3,10 +3,10 @@
 -- To be believed: contracts of code speak of it.
 use Rattle.std.specs.Prelude.{Bool, not, ◌&&◌, ◌||◌, List, [], ◌∷◌, Option, Some, None, if◌then◌else◌}
 use Rattle.std.specs.List.{list_all}
-use Rattle.ddm_types.specs.declared.answers.TxKind.{TxKind}
-use Rattle.ddm_types.specs.declared.answers.TxKind.TheVariants.{ReadTx, DataTx, EraseTx, ExclusiveTx, InjectTx, OutTx}
-use Rattle.tree_model.specs.State.Kinds.{is_kind, has_kind}
-use Rattle.tree_model.specs.State.Lists.{first_some}
+use Rattle.bus_judging.specs.DdmTypes.declared.answers.TxKind.{TxKind}
+use Rattle.bus_judging.specs.DdmTypes.declared.answers.TxKind.TheVariants.{ReadTx, DataTx, EraseTx, ExclusiveTx, InjectTx, OutTx}
+use Rattle.bus_judging.specs.TreeModel.State.Kinds.{is_kind, has_kind}
+use Rattle.bus_judging.specs.TreeModel.State.Lists.{first_some}
 use Rattle.tree_rules.specs.Bus.Item.{may_follow, moves_copies, queue_fits, copies_in}
 
 abbrev pub first_kind : List TxKind → Option TxKind

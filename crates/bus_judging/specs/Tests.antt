@@ -3,8 +3,8 @@
 -- Proofs alone need it.
 use Rattle.std.specs.Prelude.{Bool, true, false, not, ◌&&◌, ◌||◌, Option, Some, None, is_some, if◌then◌else◌}
 use Rattle.std.specs.Bool.{beq}
-use Rattle.ddm_types.specs.declared.answers.PendingWhy.{PendingWhy}
-use Rattle.tree_model.specs.State.States.{is_held, is_exclusive, is_shared}
+use Rattle.bus_judging.specs.DdmTypes.declared.answers.PendingWhy.{PendingWhy}
+use Rattle.bus_judging.specs.TreeModel.State.States.{is_held, is_exclusive, is_shared}
 use Rattle.tree_rules.specs.Bus.Item.{Bits, ItemRule, implies, one_of_three, answering_held, exclusive_alone, parked_alone, exclusive_covered, queue_in_order, queue_start, inject_covered, erased_shared, hold_follows, local_noted, up_read_noted, data_read, up_erase_noted, erase_end, reads_noted, erases_noted, granted_held, exclusive_noted, giver, givers_held, read_answered, asked_alone, one_request, request_open, request_noted}
 use Rattle.bus_judging.specs.Queue.{QueueFacts}
 use Rattle.bus_judging.specs.Parent.{ParentFacts, starts_with, ends_in_inject, held_behind}

@@ -1,12 +1,12 @@
 ghost use Rattle.std.specs.Prelude.{◌≡◌, ◌<◌, ◌+◌, ◌^◌, ◌++◌, ◌∷◌, [], List, length, if◌then◌else◌};
-ghost use Rattle.tree_model.specs.State.States.{is_exclusive, is_held, is_shared};
-ghost use Rattle.tree_model.specs.State.Values.{Note};
-ghost use Rattle.tree_model.specs.State.Directory.{is_eraser, is_reader, is_up_erase};
+ghost use Rattle.bus_judging.specs.TreeModel.State.States.{is_exclusive, is_held, is_shared};
+ghost use Rattle.bus_judging.specs.TreeModel.State.Values.{Note};
+ghost use Rattle.bus_judging.specs.TreeModel.State.Directory.{is_eraser, is_reader, is_up_erase};
 ghost use Rattle.tree_rules.specs.Bus.Faces.{ChildFace as Face};
 ghost use Rattle.tree_rules.specs.Bus.Item.{gives_none, gives_one, giver_holds, granted_fits, implies, may_erase};
 ghost use Rattle.bus_judging.specs.Children.{bits_with, facts_among, with_child};
 
-use ddm_types::Hold;
+use crate::of_ddm_types::Hold;
 use std::marker::Model;
 
 /// What a bus sees of a child, of one item.

@@ -3,6 +3,8 @@
 #![tactic(auto)]
 
 mod children;
+pub mod of_ddm_types;
+pub mod of_tree_model;
 mod parent;
 mod queue;
 

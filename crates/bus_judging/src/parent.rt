@@ -1,6 +1,6 @@
 ghost use Rattle.std.specs.Prelude.{◌≡◌, ◌++◌, ◌∷◌, [], List};
-ghost use Rattle.ddm_types.specs.declared.answers.TxKind.{TxKind};
-ghost use Rattle.tree_model.specs.State.Kinds.{brings_copy, goes_up, is_kind};
+ghost use Rattle.bus_judging.specs.DdmTypes.declared.answers.TxKind.{TxKind};
+ghost use Rattle.bus_judging.specs.TreeModel.State.Kinds.{brings_copy, goes_up, is_kind};
 ghost use Rattle.tree_rules.specs.Bus.Faces.{ChildFace as Face, ParentFace, face_above};
 ghost use Rattle.tree_rules.specs.Bus.Item.{bits_of, item_holds, kept_place, one_of_three, top_holds, answering_held, exclusive_alone, parked_alone, exclusive_covered, queue_in_order, queue_start, inject_covered, erased_shared, hold_follows, local_noted, up_read_noted, data_read, up_erase_noted, erase_end, reads_noted, erases_noted, granted_held, exclusive_noted, giver, givers_held, read_answered, asked_alone, one_request, request_open, request_noted};
 ghost use Rattle.bus_judging.specs.Children.{facts_among};
@@ -10,8 +10,8 @@ ghost use Rattle.bus_judging.specs.Tests.{any_comes, erase_is_due, exclusive_is_
 use crate::children::{
     Bits, ChildFace, ChildrenFacts, either, implies, is_exclusive, is_held, is_shared,
 };
+use crate::of_ddm_types::{Hold, PendingWhy, TxKind};
 use crate::queue::{QueueFacts, is_kind};
-use ddm_types::{Hold, PendingWhy, TxKind};
 use std::marker::Model;
 
 /// What the rules of a bus ask of an item's requests of its parent.

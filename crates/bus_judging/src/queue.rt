@@ -1,11 +1,11 @@
 ghost use Rattle.std.specs.Prelude.{◌≡◌, ◌++◌, ◌∷◌, [], List, Some, if◌then◌else◌};
-ghost use Rattle.ddm_types.specs.declared.answers.TxKind.{TxKind};
-ghost use Rattle.tree_model.specs.State.Kinds.{is_kind};
-ghost use Rattle.tree_model.specs.State.Lists.{first_some};
+ghost use Rattle.bus_judging.specs.DdmTypes.declared.answers.TxKind.{TxKind};
+ghost use Rattle.bus_judging.specs.TreeModel.State.Kinds.{is_kind};
+ghost use Rattle.bus_judging.specs.TreeModel.State.Lists.{first_some};
 ghost use Rattle.tree_rules.specs.Bus.Item.{may_follow, moves_copies};
 ghost use Rattle.bus_judging.specs.Queue.{facts_of, fits_behind, with_kind};
 
-use ddm_types::TxKind;
+use crate::of_ddm_types::TxKind;
 use std::marker::Model;
 
 /// What the rules of a bus ask of an item's entries in a down list.

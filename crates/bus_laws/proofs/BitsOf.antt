@@ -4,9 +4,9 @@ use Rattle.std.specs.Prelude.{not, ◌&&◌, ◌||◌, slice_index_or, if◌then
 use Rattle.std.specs.List.{list_any, list_all}
 use Rattle.std.specs.Cmp.Derive.{both_true}
 use Rattle.std.proofs.lemmas.Bool.{and_parts, or_parts, not-true}
-use Rattle.tree_model.specs.State.Lists.{all_from}
+use Rattle.bus_laws.specs.TreeModel.State.Lists.{all_from}
 use Rattle.tree_rules.specs.Bus.Faces.{ChildFace}
-use Rattle.tree_model.specs.State.Values.{Note, no_note, local, up_read, up_erase}
+use Rattle.bus_laws.specs.TreeModel.State.Values.{Note, no_note, local, up_read, up_erase}
 use Rattle.tree_rules.specs.Bus.Item.{holds_it, one_holds, gives_none, gives_one, one_gives, may_erase, eraser_is_granted, child_passes}
 
 module _ {X : Type 0} (φ : X → ChildFace) (d : X) where

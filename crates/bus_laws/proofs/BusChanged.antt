@@ -2,11 +2,11 @@
 use Rattle.std.proofs.Common.{◌≡◌, ◌≢◌, ℕ, zero, suc, ◌+◌, ◌<◌, ◌≤◌, Bool, List, length, refl, sym, ap, subst, ◌∙◌, arith}
 use Rattle.std.specs.List.{range_with_len}
 use native.Mathlib.Decide.{ℕ_discrete}
-use Rattle.ddm_types.specs.declared.answers.TxKind.{TxKind}
-use Rattle.tree_model.specs.State.Lists.{has_some}
-use Rattle.tree_model.specs.State.Values.{DirItem, DirValue, Node}
-use Rattle.tree_model.specs.State.Leaf.{words_of_item}
-use Rattle.tree_model.specs.State.Directory.{dir_item, queue_kinds, request_kinds}
+use Rattle.bus_laws.specs.DdmTypes.declared.answers.TxKind.{TxKind}
+use Rattle.bus_laws.specs.TreeModel.State.Lists.{has_some}
+use Rattle.bus_laws.specs.TreeModel.State.Values.{DirItem, DirValue, Node}
+use Rattle.bus_laws.specs.TreeModel.State.Leaf.{words_of_item}
+use Rattle.bus_laws.specs.TreeModel.State.Directory.{dir_item, queue_kinds, request_kinds}
 use Rattle.tree_rules.specs.Bus.Faces.{ParentFace, parent_face, face_above, faces_of}
 use Rattle.tree_rules.specs.Bus.Own.{IsDirOk}
 use Rattle.tree_rules.specs.Bus.Item.{ItemRules, kept_place}

@@ -1,18 +1,18 @@
 -- One turn of a bus keeps its rules, those of each child, and what the bus above sees of the parent. By rows.
 use Rattle.std.proofs.Common.{◌≡◌, ℕ, List, refl}
 use Rattle.std.specs.List.{AllByRecursion}
-use Rattle.ddm_types.specs.declared.answers.TurnAnswer.{TurnAnswer}
-use Rattle.ddm_types.specs.declared.keys.Stamp.{Stamp}
-use Rattle.tree_model.specs.declared.BusTurn.{BusTurn}
-use Rattle.tree_model.specs.State.Values.{DirValue, Node}
-use Rattle.tree_model.specs.Turns.Grant.{Grant, Judged, nothing_there, refused, granted, bus_answer, outcome_of}
-use Rattle.tree_model.specs.Turns.RequestRead.{joins, read_of_child, read_of_parked, read_of_parent}
-use Rattle.tree_model.specs.Turns.RequestErase.{erase_of_all}
-use Rattle.tree_model.specs.Turns.Reply.{reply_to_readers, reply_to_parent}
-use Rattle.tree_model.specs.Turns.Down.{exclusive_to, erase_of_children, read_by_child, read_by_parked, data_to_readers, inject_to_reader, inject_to_readers, inject_to_child, inject_parked}
-use Rattle.tree_model.specs.Turns.Leave.{out_gone, leave_parked, leave_to}
-use Rattle.tree_model.specs.Turns.Bus.{bus_judged, bus_step}
-use Rattle.tree_model.proofs.Rows.{Row, row_joins, row_read_of_child, row_read_of_parked, row_read_of_parent, row_erase_of_all, row_reply_to_readers, row_reply_to_parent, row_exclusive_to, row_erase_of_children, row_read_by_child, row_read_by_parked, row_data_to_readers, row_inject_to_reader, row_inject_to_readers, row_inject_to_child, row_inject_parked, row_out_gone, row_out_parked, row_leave_to, row_inject_up, row-of}
+use Rattle.bus_laws.specs.DdmTypes.declared.answers.TurnAnswer.{TurnAnswer}
+use Rattle.bus_laws.specs.DdmTypes.declared.keys.Stamp.{Stamp}
+use Rattle.bus_laws.specs.TreeModel.declared.BusTurn.{BusTurn}
+use Rattle.bus_laws.specs.TreeModel.State.Values.{DirValue, Node}
+use Rattle.bus_laws.specs.TreeModel.Turns.Grant.{Grant, Judged, nothing_there, refused, granted, bus_answer, outcome_of}
+use Rattle.bus_laws.specs.TreeModel.Turns.RequestRead.{joins, read_of_child, read_of_parked, read_of_parent}
+use Rattle.bus_laws.specs.TreeModel.Turns.RequestErase.{erase_of_all}
+use Rattle.bus_laws.specs.TreeModel.Turns.Reply.{reply_to_readers, reply_to_parent}
+use Rattle.bus_laws.specs.TreeModel.Turns.Down.{exclusive_to, erase_of_children, read_by_child, read_by_parked, data_to_readers, inject_to_reader, inject_to_readers, inject_to_child, inject_parked}
+use Rattle.bus_laws.specs.TreeModel.Turns.Leave.{out_gone, leave_parked, leave_to}
+use Rattle.bus_laws.specs.TreeModel.Turns.Bus.{bus_judged, bus_step}
+use Rattle.bus_laws.proofs.TreeModel.Rows.{Row, row_joins, row_read_of_child, row_read_of_parked, row_read_of_parent, row_erase_of_all, row_reply_to_readers, row_reply_to_parent, row_exclusive_to, row_erase_of_children, row_read_by_child, row_read_by_parked, row_data_to_readers, row_inject_to_reader, row_inject_to_readers, row_inject_to_child, row_inject_parked, row_out_gone, row_out_parked, row_leave_to, row_inject_up, row-of}
 use Rattle.tree_rules.specs.Bus.Rules.{IsBusOk, IsChildOk}
 use Rattle.bus_laws.specs.KeepsBus.{as_before, KeepsBus}
 use Rattle.bus_laws.proofs.Joins.{joins-keeps}

@@ -3,16 +3,16 @@ use Rattle.std.proofs.Common.{◌≡◌, ℕ, ◌+◌, ◌-◌, ◌<◌, ◌≤�
 use Rattle.std.specs.Prelude.{not, ◌&&◌, option_map}
 use Rattle.std.specs.List.{list_all}
 use Rattle.std.proofs.lemmas.Bool.{and_parts}
-use Rattle.ddm_types.specs.declared.answers.TxKind.TheVariants.{ReadTx, DataTx, EraseTx, ExclusiveTx, InjectTx}
-use Rattle.ddm_types.specs.declared.sizes.Hold.{Hold}
-use Rattle.ddm_types.specs.declared.keys.Stamp.{Stamp}
-use Rattle.tree_model.specs.State.Lists.{first_of}
-use Rattle.tree_model.specs.State.States.{is_held, is_exclusive}
-use Rattle.tree_model.specs.State.Values.{RequestValue, CopyValue, LeafValue, DirValue, Node, Nodes, leaf_node, dir_node, children}
-use Rattle.tree_model.specs.State.Leaf.{copy_item, leaf_replies_full}
-use Rattle.tree_model.specs.State.Directory.{dir_hold, is_parked, down_full, inject_has_place, dir_room, dir_leaving, pending}
-use Rattle.tree_model.specs.State.Child.{child_full_for, child_room, reader_has_place, child_request, child_reply, child_leaving, pending_below, child_lose, child_take_data, child_take_exclusive, child_answer, child_take_inject, child_request_taken, child_reply_taken, child_give_up}
-use Rattle.tree_model.proofs.Tests.{some_if-none, not-true}
+use Rattle.bus_laws.specs.DdmTypes.declared.answers.TxKind.TheVariants.{ReadTx, DataTx, EraseTx, ExclusiveTx, InjectTx}
+use Rattle.bus_laws.specs.DdmTypes.declared.sizes.Hold.{Hold}
+use Rattle.bus_laws.specs.DdmTypes.declared.keys.Stamp.{Stamp}
+use Rattle.bus_laws.specs.TreeModel.State.Lists.{first_of}
+use Rattle.bus_laws.specs.TreeModel.State.States.{is_held, is_exclusive}
+use Rattle.bus_laws.specs.TreeModel.State.Values.{RequestValue, CopyValue, LeafValue, DirValue, Node, Nodes, leaf_node, dir_node, children}
+use Rattle.bus_laws.specs.TreeModel.State.Leaf.{copy_item, leaf_replies_full}
+use Rattle.bus_laws.specs.TreeModel.State.Directory.{dir_hold, is_parked, down_full, inject_has_place, dir_room, dir_leaving, pending}
+use Rattle.bus_laws.specs.TreeModel.State.Child.{child_full_for, child_room, reader_has_place, child_request, child_reply, child_leaving, pending_below, child_lose, child_take_data, child_take_exclusive, child_answer, child_take_inject, child_request_taken, child_reply_taken, child_give_up}
+use Rattle.bus_laws.proofs.TreeModel.Tests.{some_if-none, not-true}
 use Rattle.tree_rules.specs.Bus.Faces.{ChildFace, child_face}
 use Rattle.tree_rules.specs.Bus.Own.{request_fits, copy_fits, leaf_replies}
 use Rattle.tree_rules.specs.Bus.Rules.{IsBusOk, IsChildOk}

@@ -5,19 +5,19 @@ use Rattle.std.specs.Prelude.{not, ◌&&◌, ◌||◌, nat_eq, if◌then◌else�
 use Rattle.std.specs.List.{list_all}
 use Rattle.std.specs.Cmp.Derive.{both_true}
 use Rattle.std.proofs.lemmas.Bool.{and_parts, eqb-true}
-use Rattle.ddm_types.specs.declared.answers.TxKind.{TxKind}
-use Rattle.ddm_types.specs.declared.answers.TxKind.TheVariants.{ReadTx, DataTx, EraseTx, ExclusiveTx, InjectTx}
-use Rattle.ddm_types.specs.declared.sizes.Hold.{Hold}
-use Rattle.ddm_types.specs.declared.keys.Stamp.{Stamp}
-use Rattle.tree_model.specs.State.Lists.{without_first, has_some}
-use Rattle.tree_model.specs.State.Kinds.{is_kind}
-use Rattle.tree_model.specs.State.States.{is_held, is_exclusive}
-use Rattle.tree_model.specs.State.Values.{RequestValue, Note, no_note, local, up_read, up_erase, DirValue, Nodes, dir_node, children}
-use Rattle.tree_model.specs.State.Leaf.{blank, is_request, words_of_item}
-use Rattle.tree_model.specs.State.Directory.{dir_item, dir_hold, is_answering, is_up_read, struck, down_full, open_read, inject_has_place, dir_lost, dir_lose, dir_take_data, dir_take_exclusive, dir_answer, dir_take_inject}
-use Rattle.tree_model.proofs.DirRooms.{DirWithin, dir_lose-within, dir_take_data-within, dir_take_exclusive-within, dir_answer-within, dir_take_inject-within}
+use Rattle.bus_laws.specs.DdmTypes.declared.answers.TxKind.{TxKind}
+use Rattle.bus_laws.specs.DdmTypes.declared.answers.TxKind.TheVariants.{ReadTx, DataTx, EraseTx, ExclusiveTx, InjectTx}
+use Rattle.bus_laws.specs.DdmTypes.declared.sizes.Hold.{Hold}
+use Rattle.bus_laws.specs.DdmTypes.declared.keys.Stamp.{Stamp}
+use Rattle.bus_laws.specs.TreeModel.State.Lists.{without_first, has_some}
+use Rattle.bus_laws.specs.TreeModel.State.Kinds.{is_kind}
+use Rattle.bus_laws.specs.TreeModel.State.States.{is_held, is_exclusive}
+use Rattle.bus_laws.specs.TreeModel.State.Values.{RequestValue, Note, no_note, local, up_read, up_erase, DirValue, Nodes, dir_node, children}
+use Rattle.bus_laws.specs.TreeModel.State.Leaf.{blank, is_request, words_of_item}
+use Rattle.bus_laws.specs.TreeModel.State.Directory.{dir_item, dir_hold, is_answering, is_up_read, struck, down_full, open_read, inject_has_place, dir_lost, dir_lose, dir_take_data, dir_take_exclusive, dir_answer, dir_take_inject}
+use Rattle.bus_laws.proofs.TreeModel.DirRooms.{DirWithin, dir_lose-within, dir_take_data-within, dir_take_exclusive-within, dir_answer-within, dir_take_inject-within}
 use Rattle.bus_laws.specs.KeepsBus.{dir_face}
-use Rattle.tree_model.proofs.Tests.{not-true}
+use Rattle.bus_laws.proofs.TreeModel.Tests.{not-true}
 use Rattle.tree_rules.specs.Bus.Faces.{ChildFace, ParentFace, parent_face, face_reads, face_erases, face_above, faces_of}
 use Rattle.tree_rules.specs.Bus.Own.{item_fits, down_fits, request_fits}
 use Rattle.tree_rules.specs.Bus.Item.{implies, Bits, bits_of, item_holds, ItemRules, kept_place}

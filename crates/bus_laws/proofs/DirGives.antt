@@ -5,17 +5,17 @@ use Rattle.std.specs.Prelude.{not, ◌&&◌, nat_eq, if◌then◌else◌}
 use Rattle.std.specs.List.{list_any}
 use Rattle.std.specs.Cmp.Derive.{both_true}
 use Rattle.std.proofs.lemmas.Bool.{and_parts, eqb-true}
-use Rattle.ddm_types.specs.declared.answers.TxKind.{TxKind}
-use Rattle.ddm_types.specs.declared.answers.TxKind.TheVariants.{ReadTx, EraseTx}
-use Rattle.ddm_types.specs.declared.sizes.Hold.{Hold}
-use Rattle.tree_model.specs.State.Lists.{first_of, rest_of, has_some}
-use Rattle.tree_model.specs.State.Kinds.{is_kind}
-use Rattle.tree_model.specs.State.States.{is_held}
-use Rattle.tree_model.specs.State.Values.{Note, no_note, local, up_read, up_erase, DirValue, Nodes, dir_node, children}
-use Rattle.tree_model.specs.State.Leaf.{is_copy, copy_item, words_of_item}
-use Rattle.tree_model.specs.State.Directory.{dir_item, dir_hold, dir_note, is_answering, note_why, in_down, pending_by, pending, queue_kinds, is_parked, dir_give_up}
-use Rattle.tree_model.proofs.Tests.{not-true}
-use Rattle.tree_model.proofs.DirRooms.{dir_give_up-within, dir_request_taken-within, dir_reply_taken-within}
+use Rattle.bus_laws.specs.DdmTypes.declared.answers.TxKind.{TxKind}
+use Rattle.bus_laws.specs.DdmTypes.declared.answers.TxKind.TheVariants.{ReadTx, EraseTx}
+use Rattle.bus_laws.specs.DdmTypes.declared.sizes.Hold.{Hold}
+use Rattle.bus_laws.specs.TreeModel.State.Lists.{first_of, rest_of, has_some}
+use Rattle.bus_laws.specs.TreeModel.State.Kinds.{is_kind}
+use Rattle.bus_laws.specs.TreeModel.State.States.{is_held}
+use Rattle.bus_laws.specs.TreeModel.State.Values.{Note, no_note, local, up_read, up_erase, DirValue, Nodes, dir_node, children}
+use Rattle.bus_laws.specs.TreeModel.State.Leaf.{is_copy, copy_item, words_of_item}
+use Rattle.bus_laws.specs.TreeModel.State.Directory.{dir_item, dir_hold, dir_note, is_answering, note_why, in_down, pending_by, pending, queue_kinds, is_parked, dir_give_up}
+use Rattle.bus_laws.proofs.TreeModel.Tests.{not-true}
+use Rattle.bus_laws.proofs.TreeModel.DirRooms.{dir_give_up-within, dir_request_taken-within, dir_reply_taken-within}
 use Rattle.tree_rules.specs.Bus.Faces.{ChildFace, ParentFace, parent_face, face_above, faces_of}
 use Rattle.tree_rules.specs.Bus.Own.{item_fits, request_fits, copy_fits}
 use Rattle.tree_rules.specs.Bus.Item.{implies, holds_it, one_holds, Bits, bits_of, item_holds, kept_place}

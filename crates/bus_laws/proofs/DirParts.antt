@@ -6,18 +6,18 @@ use Rattle.std.specs.List.{list_all}
 use Rattle.std.specs.Cmp.Derive.{both_true}
 use Rattle.std.proofs.lemmas.Bool.{and_parts}
 use Rattle.std.proofs.lemmas.Bool.Decides.{nat_tests}
-use Rattle.ddm_types.specs.declared.sizes.Hold.{Hold}
-use Rattle.ddm_types.specs.declared.answers.TxKind.{TxKind}
-use Rattle.ddm_types.specs.declared.keys.Stamp.{Stamp}
-use Rattle.tree_model.specs.State.Kinds.{brings_copy, is_kind}
-use Rattle.tree_model.proofs.Tests.{not-true}
+use Rattle.bus_laws.specs.DdmTypes.declared.sizes.Hold.{Hold}
+use Rattle.bus_laws.specs.DdmTypes.declared.answers.TxKind.{TxKind}
+use Rattle.bus_laws.specs.DdmTypes.declared.keys.Stamp.{Stamp}
+use Rattle.bus_laws.specs.TreeModel.State.Kinds.{brings_copy, is_kind}
+use Rattle.bus_laws.proofs.TreeModel.Tests.{not-true}
 use Rattle.tree_rules.proofs.Implying.{implies-by}
-use Rattle.tree_model.specs.State.States.{is_held, is_exclusive, is_shared}
-use Rattle.tree_model.specs.State.Values.{Note, no_note, local, up_read, up_erase, DirItem, absent_item, DirValue}
-use Rattle.tree_model.specs.State.Leaf.{blank, copy_item}
-use Rattle.tree_model.specs.State.Directory.{dir_item, dir_note, with_item}
-use Rattle.tree_model.specs.State.Shape.{are_distinct}
-use Rattle.tree_model.proofs.DirRooms.{DirWithin, dir_within-facts, dir_within-test}
+use Rattle.bus_laws.specs.TreeModel.State.States.{is_held, is_exclusive, is_shared}
+use Rattle.bus_laws.specs.TreeModel.State.Values.{Note, no_note, local, up_read, up_erase, DirItem, absent_item, DirValue}
+use Rattle.bus_laws.specs.TreeModel.State.Leaf.{blank, copy_item}
+use Rattle.bus_laws.specs.TreeModel.State.Directory.{dir_item, dir_note, with_item}
+use Rattle.bus_laws.specs.TreeModel.State.Shape.{are_distinct}
+use Rattle.bus_laws.proofs.TreeModel.DirRooms.{DirWithin, dir_within-facts, dir_within-test}
 use Rattle.tree_rules.specs.Bus.Faces.{ChildFace, ParentFace, face_reads, face_erases, face_above}
 use Rattle.tree_rules.specs.Bus.Own.{copy_fits, are_zero, down_fits, request_fits, note_fits, item_fits, DirRule, dir_lists, notes_fit, down_entries, dir_requests, dir_replies, parked_fit, parked_once, dir_test, IsDirOk}
 

@@ -5,20 +5,20 @@ use Rattle.std.specs.Prelude.{not, ◌&&◌, nat_lt, if◌then◌else◌}
 use Rattle.std.specs.List.{AllByRecursion, list_any}
 use Rattle.std.specs.Cmp.Derive.{both_true}
 use Rattle.std.proofs.lemmas.Bool.{and_parts, or_parts, not-true}
-use Rattle.ddm_types.specs.declared.answers.TxKind.{TxKind}
-use Rattle.ddm_types.specs.declared.answers.TxKind.TheVariants.{DataTx, InjectTx}
-use Rattle.ddm_types.specs.declared.answers.TurnAnswer.{TurnAnswer}
-use Rattle.ddm_types.specs.declared.sizes.Hold.{Hold}
-use Rattle.ddm_types.specs.declared.keys.Stamp.{Stamp}
-use Rattle.tree_model.specs.State.Lists.{map_from, first_given, rest_of}
-use Rattle.tree_model.specs.State.Kinds.{is_kind}
-use Rattle.tree_model.specs.State.States.{is_held, is_exclusive}
-use Rattle.tree_model.specs.State.Values.{DownValue, Note, no_note, local, up_read, up_erase, DirValue, Node}
-use Rattle.tree_model.specs.State.Directory.{dir_note, is_reader, is_eraser, is_up_read, stamp_of, with_note, front_taken}
-use Rattle.tree_model.specs.State.Child.{child_take_data, child_full_for}
-use Rattle.tree_model.specs.State.Blank.{no_node}
-use Rattle.tree_model.specs.Turns.Children.{child_at, reader_full, reader_takes}
-use Rattle.tree_model.proofs.Children.{map_from-length, child_at-map_from, none-given}
+use Rattle.bus_laws.specs.DdmTypes.declared.answers.TxKind.{TxKind}
+use Rattle.bus_laws.specs.DdmTypes.declared.answers.TxKind.TheVariants.{DataTx, InjectTx}
+use Rattle.bus_laws.specs.DdmTypes.declared.answers.TurnAnswer.{TurnAnswer}
+use Rattle.bus_laws.specs.DdmTypes.declared.sizes.Hold.{Hold}
+use Rattle.bus_laws.specs.DdmTypes.declared.keys.Stamp.{Stamp}
+use Rattle.bus_laws.specs.TreeModel.State.Lists.{map_from, first_given, rest_of}
+use Rattle.bus_laws.specs.TreeModel.State.Kinds.{is_kind}
+use Rattle.bus_laws.specs.TreeModel.State.States.{is_held, is_exclusive}
+use Rattle.bus_laws.specs.TreeModel.State.Values.{DownValue, Note, no_note, local, up_read, up_erase, DirValue, Node}
+use Rattle.bus_laws.specs.TreeModel.State.Directory.{dir_note, is_reader, is_eraser, is_up_read, stamp_of, with_note, front_taken}
+use Rattle.bus_laws.specs.TreeModel.State.Child.{child_take_data, child_full_for}
+use Rattle.bus_laws.specs.TreeModel.State.Blank.{no_node}
+use Rattle.bus_laws.specs.TreeModel.Turns.Children.{child_at, reader_full, reader_takes}
+use Rattle.bus_laws.proofs.TreeModel.Children.{map_from-length, child_at-map_from, none-given}
 use Rattle.tree_rules.specs.Bus.Faces.{ParentFace, parent_face, child_face, faces_of}
 use Rattle.tree_rules.specs.Bus.Own.{note_fits}
 use Rattle.tree_rules.specs.Bus.Item.{implies, holds_it, Bits, bits_of}

@@ -5,18 +5,18 @@ use Rattle.std.specs.Prelude.{not, ◌&&◌, nat_eq}
 use Rattle.std.specs.List.{AllByRecursion}
 use Rattle.std.specs.Cmp.Derive.{both_true}
 use Rattle.std.proofs.lemmas.Bool.{and_parts, eqb-true, not-true}
-use Rattle.ddm_types.specs.declared.answers.TxKind.TheVariants.{EraseTx}
-use Rattle.ddm_types.specs.declared.answers.TurnAnswer.{TurnAnswer}
-use Rattle.ddm_types.specs.declared.sizes.Hold.{Hold}
-use Rattle.ddm_types.specs.declared.keys.Stamp.{Stamp}
-use Rattle.tree_model.specs.State.Lists.{map_from, first_given, rest_of}
-use Rattle.tree_model.specs.State.Values.{DownValue, Note, no_note, local, up_read, up_erase, DirValue, Node}
-use Rattle.tree_model.specs.State.Directory.{dir_note, is_local, is_up_read, is_up_erase, is_reader, stamp_of, without_parked, with_note, front_taken}
-use Rattle.tree_model.specs.State.Child.{child_lose}
-use Rattle.tree_model.specs.State.Blank.{no_node}
-use Rattle.tree_model.specs.Turns.Children.{child_at, full_to_lose, loses}
-use Rattle.tree_model.specs.Turns.Down.{without_up_erase}
-use Rattle.tree_model.proofs.Children.{map_from-length, child_at-map_from, none-given}
+use Rattle.bus_laws.specs.DdmTypes.declared.answers.TxKind.TheVariants.{EraseTx}
+use Rattle.bus_laws.specs.DdmTypes.declared.answers.TurnAnswer.{TurnAnswer}
+use Rattle.bus_laws.specs.DdmTypes.declared.sizes.Hold.{Hold}
+use Rattle.bus_laws.specs.DdmTypes.declared.keys.Stamp.{Stamp}
+use Rattle.bus_laws.specs.TreeModel.State.Lists.{map_from, first_given, rest_of}
+use Rattle.bus_laws.specs.TreeModel.State.Values.{DownValue, Note, no_note, local, up_read, up_erase, DirValue, Node}
+use Rattle.bus_laws.specs.TreeModel.State.Directory.{dir_note, is_local, is_up_read, is_up_erase, is_reader, stamp_of, without_parked, with_note, front_taken}
+use Rattle.bus_laws.specs.TreeModel.State.Child.{child_lose}
+use Rattle.bus_laws.specs.TreeModel.State.Blank.{no_node}
+use Rattle.bus_laws.specs.TreeModel.Turns.Children.{child_at, full_to_lose, loses}
+use Rattle.bus_laws.specs.TreeModel.Turns.Down.{without_up_erase}
+use Rattle.bus_laws.proofs.TreeModel.Children.{map_from-length, child_at-map_from, none-given}
 use Rattle.tree_rules.specs.Bus.Faces.{ParentFace, parent_face, face_reads, face_erases, child_face, faces_of}
 use Rattle.tree_rules.specs.Bus.Own.{note_fits}
 use Rattle.tree_rules.specs.Bus.Item.{implies, Bits, bits_of, item_holds, kept_place}

@@ -6,21 +6,21 @@ use Rattle.std.specs.List.{AllByRecursion, list_any, range_with_len}
 use native.Mathlib.Decide.{ℕ_discrete}
 use Rattle.std.specs.Cmp.Derive.{both_true}
 use Rattle.std.proofs.lemmas.Bool.{and_parts, or_parts, eqb-true, eqb-false, ne_eqb, not-true}
-use Rattle.ddm_types.specs.declared.answers.TxKind.TheVariants.{InjectTx}
-use Rattle.ddm_types.specs.declared.answers.TurnAnswer.{TurnAnswer}
-use Rattle.ddm_types.specs.declared.sizes.Hold.{Hold}
-use Rattle.ddm_types.specs.declared.keys.Stamp.{Stamp}
-use Rattle.tree_model.specs.State.Lists.{map_from, all_from, find_from, rest_of}
-use Rattle.tree_model.specs.State.Values.{DownValue, Note, no_note, local, up_read, up_erase, DirValue, Node}
-use Rattle.tree_model.specs.State.Directory.{dir_note, is_reader, is_eraser, is_local, is_up_read, is_up_erase, in_set, stamp_of, with_note, with_parked, place_released, front_taken}
-use Rattle.tree_model.specs.State.Child.{child_take_inject, child_full_for, reader_has_place}
-use Rattle.tree_model.specs.State.Blank.{no_node}
-use Rattle.tree_model.specs.Turns.Children.{child_at, only, waits_with_room, has_room}
-use Rattle.tree_model.specs.Turns.Down.{inject_taker}
-use Rattle.tree_model.proofs.Children.{found-within}
-use Rattle.tree_model.proofs.Sets.{in_set-empty}
-use Rattle.tree_model.proofs.Tests.{first_some-either}
-use Rattle.tree_model.proofs.BusRooms.{inject_taker-room}
+use Rattle.bus_laws.specs.DdmTypes.declared.answers.TxKind.TheVariants.{InjectTx}
+use Rattle.bus_laws.specs.DdmTypes.declared.answers.TurnAnswer.{TurnAnswer}
+use Rattle.bus_laws.specs.DdmTypes.declared.sizes.Hold.{Hold}
+use Rattle.bus_laws.specs.DdmTypes.declared.keys.Stamp.{Stamp}
+use Rattle.bus_laws.specs.TreeModel.State.Lists.{map_from, all_from, find_from, rest_of}
+use Rattle.bus_laws.specs.TreeModel.State.Values.{DownValue, Note, no_note, local, up_read, up_erase, DirValue, Node}
+use Rattle.bus_laws.specs.TreeModel.State.Directory.{dir_note, is_reader, is_eraser, is_local, is_up_read, is_up_erase, in_set, stamp_of, with_note, with_parked, place_released, front_taken}
+use Rattle.bus_laws.specs.TreeModel.State.Child.{child_take_inject, child_full_for, reader_has_place}
+use Rattle.bus_laws.specs.TreeModel.State.Blank.{no_node}
+use Rattle.bus_laws.specs.TreeModel.Turns.Children.{child_at, only, waits_with_room, has_room}
+use Rattle.bus_laws.specs.TreeModel.Turns.Down.{inject_taker}
+use Rattle.bus_laws.proofs.TreeModel.Children.{found-within}
+use Rattle.bus_laws.proofs.TreeModel.Sets.{in_set-empty}
+use Rattle.bus_laws.proofs.TreeModel.Tests.{first_some-either}
+use Rattle.bus_laws.proofs.TreeModel.BusRooms.{inject_taker-room}
 use Rattle.tree_rules.specs.Bus.Faces.{ChildFace, ParentFace, parent_face, child_face, faces_of}
 use Rattle.tree_rules.specs.Bus.Own.{note_fits}
 use Rattle.tree_rules.specs.Bus.Item.{implies, holds_it, reader_is_granted, eraser_is_granted, Bits, bits_of, item_holds, kept_place}

@@ -6,21 +6,21 @@ use Rattle.std.specs.List.{AllByRecursion, list_any, list_all}
 use native.Mathlib.Decide.{ℕ_discrete}
 use Rattle.std.specs.Cmp.Derive.{both_true}
 use Rattle.std.proofs.lemmas.Bool.{and_parts, eqb-true}
-use Rattle.ddm_types.specs.declared.answers.TxKind.TheVariants.{ReadTx}
-use Rattle.ddm_types.specs.declared.answers.TurnAnswer.{TurnAnswer}
-use Rattle.ddm_types.specs.declared.sizes.Hold.{Hold}
-use Rattle.ddm_types.specs.declared.keys.Stamp.{Stamp}
-use Rattle.tree_model.specs.State.Lists.{map_from, find_from, first_of, has_some, rest_of}
-use Rattle.tree_model.specs.State.States.{is_held, is_exclusive}
-use Rattle.tree_model.specs.State.Values.{DownValue, Note, no_note, local, up_read, up_erase, DirValue, Node}
-use Rattle.tree_model.specs.State.Leaf.{words_of_item}
-use Rattle.tree_model.specs.State.Directory.{dir_note, is_reader, is_eraser, is_local, parked_words, replies_full, stamp_of, with_hold, with_answering, pushed_reply, front_taken}
-use Rattle.tree_model.specs.State.Child.{child_answer, child_full_for}
-use Rattle.tree_model.specs.State.Blank.{no_node}
-use Rattle.tree_model.specs.Turns.Children.{child_at, holds_item, only}
-use Rattle.tree_model.specs.Turns.Grant.{own_replies_full}
-use Rattle.tree_model.proofs.Children.{found-within, found-passes}
-use Rattle.tree_model.proofs.Tests.{some_if-none}
+use Rattle.bus_laws.specs.DdmTypes.declared.answers.TxKind.TheVariants.{ReadTx}
+use Rattle.bus_laws.specs.DdmTypes.declared.answers.TurnAnswer.{TurnAnswer}
+use Rattle.bus_laws.specs.DdmTypes.declared.sizes.Hold.{Hold}
+use Rattle.bus_laws.specs.DdmTypes.declared.keys.Stamp.{Stamp}
+use Rattle.bus_laws.specs.TreeModel.State.Lists.{map_from, find_from, first_of, has_some, rest_of}
+use Rattle.bus_laws.specs.TreeModel.State.States.{is_held, is_exclusive}
+use Rattle.bus_laws.specs.TreeModel.State.Values.{DownValue, Note, no_note, local, up_read, up_erase, DirValue, Node}
+use Rattle.bus_laws.specs.TreeModel.State.Leaf.{words_of_item}
+use Rattle.bus_laws.specs.TreeModel.State.Directory.{dir_note, is_reader, is_eraser, is_local, parked_words, replies_full, stamp_of, with_hold, with_answering, pushed_reply, front_taken}
+use Rattle.bus_laws.specs.TreeModel.State.Child.{child_answer, child_full_for}
+use Rattle.bus_laws.specs.TreeModel.State.Blank.{no_node}
+use Rattle.bus_laws.specs.TreeModel.Turns.Children.{child_at, holds_item, only}
+use Rattle.bus_laws.specs.TreeModel.Turns.Grant.{own_replies_full}
+use Rattle.bus_laws.proofs.TreeModel.Children.{found-within, found-passes}
+use Rattle.bus_laws.proofs.TreeModel.Tests.{some_if-none}
 use Rattle.tree_rules.specs.Bus.Faces.{ChildFace, ParentFace, parent_face, face_reads, face_erases, face_above, child_face, faces_of}
 use Rattle.tree_rules.specs.Bus.Item.{implies, holds_it, holds_exclusive, gives_none, gives_one, one_gives, reader_is_granted, may_erase, Bits, bits_of, item_holds, kept_place}
 use Rattle.tree_rules.specs.Bus.Rules.{IsBusOk, IsChildOk}

@@ -1,9 +1,9 @@
 -- Tests of small types: a test that passes at each value, computed.
 use Rattle.std.specs.Prelude.{◌≡◌, Bool, true, false, ◌&&◌, List, [], ◌∷◌}
 use Rattle.std.proofs.lemmas.Bool.{and_parts}
-use Rattle.ddm_types.specs.declared.answers.TxKind.{TxKind}
-use Rattle.ddm_types.specs.declared.answers.TxKind.TheVariants.{ReadTx, DataTx, EraseTx, ExclusiveTx, InjectTx, OutTx}
-use Rattle.ddm_types.specs.declared.sizes.Hold.{Hold}
+use Rattle.bus_laws.specs.DdmTypes.declared.answers.TxKind.{TxKind}
+use Rattle.bus_laws.specs.DdmTypes.declared.answers.TxKind.TheVariants.{ReadTx, DataTx, EraseTx, ExclusiveTx, InjectTx, OutTx}
+use Rattle.bus_laws.specs.DdmTypes.declared.sizes.Hold.{Hold}
 use Rattle.tree_rules.specs.Bus.Item.{queue_fits, requests_fit}
 
 -- the second test wherever the first passes; the second isn't computed elsewhere

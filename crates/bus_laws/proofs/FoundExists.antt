@@ -4,17 +4,17 @@ use Rattle.std.specs.Prelude.{not, ◌||◌, nat_eq, nat_lt, is_some, filter, fi
 use Rattle.std.specs.List.{list_any, position_or_len}
 use Rattle.std.specs.Bool.{beq}
 use Rattle.std.proofs.lemmas.Bool.{and_parts, or_parts, not-true, ltb-true, lt-ltb, false_from_ne_true}
-use Rattle.ddm_types.specs.declared.answers.TxKind.{TxKind}
-use Rattle.ddm_types.specs.declared.answers.TxKind.TheVariants.{ReadTx, DataTx, EraseTx, ExclusiveTx, InjectTx, OutTx}
-use Rattle.tree_model.specs.declared.CopyPlace.{CopyPlace}
-use Rattle.tree_model.specs.State.Lists.{first_of, has_some, first_some}
-use Rattle.tree_model.specs.State.Kinds.{brings_copy}
-use Rattle.tree_model.specs.State.States.{is_held}
-use Rattle.tree_model.specs.State.Values.{CopyValue, DownValue, LeafValue, DirValue, Node, Nodes, leaf_node, dir_node, no_nodes, more_nodes, children, MachineValue}
-use Rattle.tree_model.specs.State.Leaf.{is_copy, copy_words, words_of_item, way_at, is_buffered, buffered, entry_at, leaf_entry, spot_at, leaf_hold}
-use Rattle.tree_model.specs.State.Directory.{entry_kind, queue_of, queue_kinds, parked_words, parked_place, is_parked}
-use Rattle.tree_model.specs.State.Child.{child_holds}
-use Rattle.tree_model.specs.Turns.Found.{words_of_entry, last_words, queue_words, words_found, words_among, found_words, leaf_place, last_place, down_place, place_found, place_among, found_place, found_of, found_copy}
+use Rattle.bus_laws.specs.DdmTypes.declared.answers.TxKind.{TxKind}
+use Rattle.bus_laws.specs.DdmTypes.declared.answers.TxKind.TheVariants.{ReadTx, DataTx, EraseTx, ExclusiveTx, InjectTx, OutTx}
+use Rattle.bus_laws.specs.TreeModel.declared.CopyPlace.{CopyPlace}
+use Rattle.bus_laws.specs.TreeModel.State.Lists.{first_of, has_some, first_some}
+use Rattle.bus_laws.specs.TreeModel.State.Kinds.{brings_copy}
+use Rattle.bus_laws.specs.TreeModel.State.States.{is_held}
+use Rattle.bus_laws.specs.TreeModel.State.Values.{CopyValue, DownValue, LeafValue, DirValue, Node, Nodes, leaf_node, dir_node, no_nodes, more_nodes, children, MachineValue}
+use Rattle.bus_laws.specs.TreeModel.State.Leaf.{is_copy, copy_words, words_of_item, way_at, is_buffered, buffered, entry_at, leaf_entry, spot_at, leaf_hold}
+use Rattle.bus_laws.specs.TreeModel.State.Directory.{entry_kind, queue_of, queue_kinds, parked_words, parked_place, is_parked}
+use Rattle.bus_laws.specs.TreeModel.State.Child.{child_holds}
+use Rattle.bus_laws.specs.TreeModel.Turns.Found.{words_of_entry, last_words, queue_words, words_found, words_among, found_words, leaf_place, last_place, down_place, place_found, place_among, found_place, found_of, found_copy}
 use Rattle.tree_rules.specs.Bus.Faces.{child_face, parent_face, faces_of}
 use Rattle.tree_rules.specs.Bus.Item.{holds_it, hold_follows, copies_in, held_after, bits_of}
 use Rattle.tree_rules.specs.Bus.Rules.{IsTreeOk, AreTreesOk, IsMachineOk, items_of_machine}

@@ -7,13 +7,13 @@ use Rattle.std.proofs.lemmas.Bool.{eqb-true, eqb-false, eq-eqb, ne_eqb, not-true
 use Rattle.std.proofs.lemmas.Bool.Decides.{eqb_tells}
 use Rattle.std.proofs.lemmas.List.{get_or-set_same, get_or-set_other, length-set}
 use Rattle.std.proofs.lemmas.List.Elements.{All-head, All-tail, All-push, All-map, All-weaker}
-use Rattle.ddm_types.specs.declared.sizes.LeafState.{LeafState}
-use Rattle.tree_model.specs.State.Lists.{first_some}
-use Rattle.tree_model.specs.State.States.{is_reading}
-use Rattle.tree_model.specs.State.Shape.{are_distinct}
-use Rattle.tree_model.specs.State.Values.{WayValue, BufferValue, LeafSizes}
-use Rattle.tree_model.specs.State.Leaf.{LeafEntry, way_at, buffer_item, is_buffered, buffered, way_entry, buffer_entry, entry_at, becomes, enters, ways_after, buffer_after, way_with, buffer_with}
-use Rattle.tree_model.proofs.Tests.{first_some-none_first, first_some-none_second}
+use Rattle.bus_laws.specs.DdmTypes.declared.sizes.LeafState.{LeafState}
+use Rattle.bus_laws.specs.TreeModel.State.Lists.{first_some}
+use Rattle.bus_laws.specs.TreeModel.State.States.{is_reading}
+use Rattle.bus_laws.specs.TreeModel.State.Shape.{are_distinct}
+use Rattle.bus_laws.specs.TreeModel.State.Values.{WayValue, BufferValue, LeafSizes}
+use Rattle.bus_laws.specs.TreeModel.State.Leaf.{LeafEntry, way_at, buffer_item, is_buffered, buffered, way_entry, buffer_entry, entry_at, becomes, enters, ways_after, buffer_after, way_with, buffer_with}
+use Rattle.bus_laws.proofs.TreeModel.Tests.{first_some-none_first, first_some-none_second}
 use Rattle.tree_rules.specs.Bus.Own.{are_zero, words_suit}
 use Rattle.tree_rules.specs.Bus.Item.{implies}
 use Rattle.tree_rules.proofs.Implying.{implies-false}

@@ -8,17 +8,17 @@ use Rattle.std.proofs.lemmas.Bool.{eqb-true, eqb-false, eq-eqb, ne_eqb, ltb-true
 use Rattle.std.proofs.lemmas.List.{get_or_default}
 use Rattle.std.proofs.lemmas.List.Elements.{All-nil, All-cons, All-head, All-tail}
 use Rattle.std.proofs.lemmas.List.Sums.{AllPass-from_list_all, list_all-from_AllPass}
-use Rattle.ddm_types.specs.declared.sizes.LeafState.{LeafState}
-use Rattle.tree_model.specs.State.Lists.{all_from, find_from, first_some}
-use Rattle.flat_model.specs.Flat.{has_reserved}
-use Rattle.tree_model.specs.State.States.{is_waiting}
-use Rattle.tree_model.specs.State.Rooms.{leaf_within}
-use Rattle.tree_model.specs.State.Shape.{are_distinct}
-use Rattle.tree_model.specs.State.Values.{WayValue, BufferValue, LeafSizes, LeafValue}
-use Rattle.tree_model.specs.State.Leaf.{way_at, buffer_item, is_buffered, buffered, entry_state, entry_at, state_at, way_waits, buffer_waits, waiting_item, stands_in}
-use Rattle.tree_model.proofs.Children.{found-passes, none-passes}
+use Rattle.bus_laws.specs.DdmTypes.declared.sizes.LeafState.{LeafState}
+use Rattle.bus_laws.specs.TreeModel.State.Lists.{all_from, find_from, first_some}
+use Rattle.bus_laws.specs.FlatModel.Flat.{has_reserved}
+use Rattle.bus_laws.specs.TreeModel.State.States.{is_waiting}
+use Rattle.bus_laws.specs.TreeModel.State.Rooms.{leaf_within}
+use Rattle.bus_laws.specs.TreeModel.State.Shape.{are_distinct}
+use Rattle.bus_laws.specs.TreeModel.State.Values.{WayValue, BufferValue, LeafSizes, LeafValue}
+use Rattle.bus_laws.specs.TreeModel.State.Leaf.{way_at, buffer_item, is_buffered, buffered, entry_state, entry_at, state_at, way_waits, buffer_waits, waiting_item, stands_in}
+use Rattle.bus_laws.proofs.TreeModel.Children.{found-passes, none-passes}
 use Rattle.tree_rules.specs.Bus.Own.{LeafRule, has_ways, leaf_lists, ways_fit, ways_alone, buffer_fit, buffered_once, one_waiting, slot_fits, leaf_replies, reservation_fits, leaf_test, IsLeafOk, copy_fits, state_waits, waits_alone, slot_suits, reserves_below, words_suit, way_fits, buffer_fits, same_if_there, has_way_alone}
-use Rattle.tree_model.proofs.Tests.{first_some-none_first, first_some-none_second, first_some-either}
+use Rattle.bus_laws.proofs.TreeModel.Tests.{first_some-none_first, first_some-none_second, first_some-either}
 use Rattle.tree_rules.proofs.Lists.{range-from_each, each-from_range}
 use Rattle.tree_rules.proofs.Implying.{implies-use, implies-by, implies-false}
 

@@ -7,25 +7,25 @@ use Rattle.std.proofs.lemmas.List.{append-nil}
 use Rattle.std.proofs.lemmas.List.Elements.{All-nil, All-cons}
 use Rattle.std.proofs.lemmas.Bool.{eqb-true, eq-eqb, ne_eqb, ltb-true, lt-ltb, and_parts}
 use Rattle.std.proofs.lemmas.Bool.Decides.{eqb_tells}
-use Rattle.ddm_types.specs.declared.answers.TxKind.{TxKind}
-use Rattle.ddm_types.specs.declared.answers.TxKind.TheVariants.{ReadTx, EraseTx}
-use Rattle.ddm_types.specs.declared.operations.HaltCause.{HaltCause}
-use Rattle.ddm_types.specs.declared.sizes.LeafState.{LeafState}
-use Rattle.ddm_types.specs.declared.keys.Key.{Key}
-use Rattle.ddm_types.specs.ItemTable.{ItemTable, item_count}
-use Rattle.ddm_types.specs.CodeMap.{CodeWord}
-use Rattle.flat_model.specs.declared.Ask.{Ask}
-use Rattle.flat_model.specs.Hart.{Finished, ask_of, finish_of}
-use Rattle.flat_model.specs.Flat.{Change, Stored, change_by, conditional, has_reserved, asked_item}
-use Rattle.flat_model.proofs.Items.{asks_inside}
-use Rattle.tree_model.specs.State.Kinds.{is_kind}
-use Rattle.tree_model.specs.State.Rooms.{leaf_within}
-use Rattle.tree_model.specs.State.States.{is_reading, is_upgrading, entry_hold}
-use Rattle.tree_model.specs.State.Values.{CopyValue, WayValue, BufferValue, LeafSizes, LeafValue}
-use Rattle.tree_model.specs.State.Leaf.{slot_has, blank, LeafEntry, way_at, entry_state, entry_at, leaf_entry, state_at, leaf_hold, stands_in, item_in_way, free_way, buffer_full, waiting_item, words_of_item}
-use Rattle.tree_model.specs.Turns.HartTurn.{Deed, has_halted, waits_for, halts, completes, fetches, upgrades, finds_buffer_full, Need, no_need, a_copy, no_other_copy, time, need_to_read, need_to_write, need_in_state, need_of, words_here, change_here, deed_of_change, replaces, deed_to_fetch, deed_by_need, deed_unless_waiting, deed_unless_halted, deed_of, ways_stored, buffer_stored, moved_entry, ways_without, moved_to_buffer, leaf_after_deed, leaf_step}
-use Rattle.tree_model.proofs.Children.{found-passes, none-passes}
-use Rattle.tree_model.proofs.HartRooms.{leaf_step-within}
+use Rattle.bus_laws.specs.DdmTypes.declared.answers.TxKind.{TxKind}
+use Rattle.bus_laws.specs.DdmTypes.declared.answers.TxKind.TheVariants.{ReadTx, EraseTx}
+use Rattle.bus_laws.specs.DdmTypes.declared.operations.HaltCause.{HaltCause}
+use Rattle.bus_laws.specs.DdmTypes.declared.sizes.LeafState.{LeafState}
+use Rattle.bus_laws.specs.DdmTypes.declared.keys.Key.{Key}
+use Rattle.bus_laws.specs.DdmTypes.ItemTable.{ItemTable, item_count}
+use Rattle.bus_laws.specs.DdmTypes.CodeMap.{CodeWord}
+use Rattle.bus_laws.specs.FlatModel.declared.Ask.{Ask}
+use Rattle.bus_laws.specs.FlatModel.Hart.{Finished, ask_of, finish_of}
+use Rattle.bus_laws.specs.FlatModel.Flat.{Change, Stored, change_by, conditional, has_reserved, asked_item}
+use Rattle.bus_laws.proofs.FlatModel.Items.{asks_inside}
+use Rattle.bus_laws.specs.TreeModel.State.Kinds.{is_kind}
+use Rattle.bus_laws.specs.TreeModel.State.Rooms.{leaf_within}
+use Rattle.bus_laws.specs.TreeModel.State.States.{is_reading, is_upgrading, entry_hold}
+use Rattle.bus_laws.specs.TreeModel.State.Values.{CopyValue, WayValue, BufferValue, LeafSizes, LeafValue}
+use Rattle.bus_laws.specs.TreeModel.State.Leaf.{slot_has, blank, LeafEntry, way_at, entry_state, entry_at, leaf_entry, state_at, leaf_hold, stands_in, item_in_way, free_way, buffer_full, waiting_item, words_of_item}
+use Rattle.bus_laws.specs.TreeModel.Turns.HartTurn.{Deed, has_halted, waits_for, halts, completes, fetches, upgrades, finds_buffer_full, Need, no_need, a_copy, no_other_copy, time, need_to_read, need_to_write, need_in_state, need_of, words_here, change_here, deed_of_change, replaces, deed_to_fetch, deed_by_need, deed_unless_waiting, deed_unless_halted, deed_of, ways_stored, buffer_stored, moved_entry, ways_without, moved_to_buffer, leaf_after_deed, leaf_step}
+use Rattle.bus_laws.proofs.TreeModel.Children.{found-passes, none-passes}
+use Rattle.bus_laws.proofs.TreeModel.HartRooms.{leaf_step-within}
 use Rattle.tree_rules.specs.Bus.Faces.{ChildFace, leaf_face, in_state}
 use Rattle.tree_rules.specs.Bus.Own.{copy_fits, IsLeafOk, has_ways, leaf_lists, slot_fits, leaf_replies, reservation_fits, state_waits, request_suits, slot_suits, reserves_below, are_zero}
 use Rattle.tree_rules.proofs.Implying.{implies-by}

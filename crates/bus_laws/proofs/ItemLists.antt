@@ -5,12 +5,12 @@ use Rattle.std.specs.List.{list_all}
 use Rattle.std.specs.Cmp.Derive.{both_true}
 use Rattle.std.proofs.lemmas.Bool.{eqb-true, eq-eqb, ne_eqb}
 use Rattle.std.proofs.lemmas.List.{map-append}
-use Rattle.ddm_types.specs.declared.answers.TxKind.{TxKind}
-use Rattle.tree_model.specs.State.Lists.{first_of, rest_of, has_some, without_first, names_item}
-use Rattle.tree_model.specs.State.Kinds.{is_kind}
-use Rattle.tree_model.specs.State.Values.{RequestValue, CopyValue, DownValue}
-use Rattle.tree_model.specs.State.Leaf.{is_request, is_copy, copy_item, copy_words, words_of_item}
-use Rattle.tree_model.specs.State.Directory.{entry_item, entry_kind, queue_of, queue_kinds, request_item, request_kind, request_kinds, struck}
+use Rattle.bus_laws.specs.DdmTypes.declared.answers.TxKind.{TxKind}
+use Rattle.bus_laws.specs.TreeModel.State.Lists.{first_of, rest_of, has_some, without_first, names_item}
+use Rattle.bus_laws.specs.TreeModel.State.Kinds.{is_kind}
+use Rattle.bus_laws.specs.TreeModel.State.Values.{RequestValue, CopyValue, DownValue}
+use Rattle.bus_laws.specs.TreeModel.State.Leaf.{is_request, is_copy, copy_item, copy_words, words_of_item}
+use Rattle.bus_laws.specs.TreeModel.State.Directory.{entry_item, entry_kind, queue_of, queue_kinds, request_item, request_kind, request_kinds, struck}
 use Rattle.bus_laws.proofs.Lists.{filter-pushed_same, filter-pushed_other}
 
 pub nat_eq-same : (x : ℕ) → nat_eq x x ≡ true

@@ -4,16 +4,16 @@ use Rattle.std.specs.Prelude.{not, ◌&&◌, nat_eq, option_map, if◌then◌els
 use native.Mathlib.Decide.{ℕ_discrete}
 use Rattle.std.proofs.Math.Bool.{and-false}
 use Rattle.std.proofs.lemmas.Bool.{ne_eqb, eq-eqb, and_parts, leb-false}
-use Rattle.ddm_types.specs.declared.answers.TxKind.{TxKind}
-use Rattle.ddm_types.specs.declared.answers.TxKind.TheVariants.{ReadTx, EraseTx}
-use Rattle.ddm_types.specs.declared.sizes.Hold.{Hold}
-use Rattle.ddm_types.specs.declared.sizes.LeafState.{LeafState}
-use Rattle.tree_model.specs.State.Kinds.{is_kind}
-use Rattle.tree_model.specs.State.States.{is_held, is_reading, is_upgrading, state_lost, asked_when_lost, state_with_data, asked_with_data, state_with_exclusive, state_answered}
-use Rattle.tree_model.specs.State.Values.{RequestValue, LeafValue, leaf_node}
-use Rattle.tree_model.specs.State.Leaf.{blank, stays, ends, becomes, with_fate, words_in, slot_has, words_of_item, LeafEntry, leaf_entry, entry_state, state_at, slot_asking, unreserved, fate_by_loss, fate_by, leaf_lose, leaf_take_data, leaf_take_exclusive, leaf_answer, leaf_replies_full}
-use Rattle.tree_model.proofs.LeafRooms.{LeafWithin, leaf_within-facts}
-use Rattle.tree_model.proofs.Tests.{not-true}
+use Rattle.bus_laws.specs.DdmTypes.declared.answers.TxKind.{TxKind}
+use Rattle.bus_laws.specs.DdmTypes.declared.answers.TxKind.TheVariants.{ReadTx, EraseTx}
+use Rattle.bus_laws.specs.DdmTypes.declared.sizes.Hold.{Hold}
+use Rattle.bus_laws.specs.DdmTypes.declared.sizes.LeafState.{LeafState}
+use Rattle.bus_laws.specs.TreeModel.State.Kinds.{is_kind}
+use Rattle.bus_laws.specs.TreeModel.State.States.{is_held, is_reading, is_upgrading, state_lost, asked_when_lost, state_with_data, asked_with_data, state_with_exclusive, state_answered}
+use Rattle.bus_laws.specs.TreeModel.State.Values.{RequestValue, LeafValue, leaf_node}
+use Rattle.bus_laws.specs.TreeModel.State.Leaf.{blank, stays, ends, becomes, with_fate, words_in, slot_has, words_of_item, LeafEntry, leaf_entry, entry_state, state_at, slot_asking, unreserved, fate_by_loss, fate_by, leaf_lose, leaf_take_data, leaf_take_exclusive, leaf_answer, leaf_replies_full}
+use Rattle.bus_laws.proofs.TreeModel.LeafRooms.{LeafWithin, leaf_within-facts}
+use Rattle.bus_laws.proofs.TreeModel.Tests.{not-true}
 use Rattle.tree_rules.specs.Bus.Faces.{ChildFace, leaf_face}
 use Rattle.tree_rules.specs.Bus.Item.{implies}
 use Rattle.tree_rules.specs.Bus.Own.{leaf_lists, slot_fits, leaf_replies, reservation_fits, IsLeafOk, words_suit, state_waits, request_suits, slot_suits, copy_fits, reserves_below}

@@ -5,8 +5,8 @@ use Rattle.std.proofs.lemmas.Bool.{eqb-true}
 use Rattle.std.proofs.lemmas.Bool.Decides.{eqb_tells}
 use Rattle.std.proofs.lemmas.List.{length-set}
 use Rattle.std.proofs.lemmas.List.Elements.{All-filter, All-weaker}
-use Rattle.tree_model.specs.State.Values.{WayValue, BufferValue, LeafSizes}
-use Rattle.tree_model.specs.State.Leaf.{way_at, buffer_item, is_buffered, entry_at, ends, ways_after, buffer_after}
+use Rattle.bus_laws.specs.TreeModel.State.Values.{WayValue, BufferValue, LeafSizes}
+use Rattle.bus_laws.specs.TreeModel.State.Leaf.{way_at, buffer_item, is_buffered, entry_at, ends, ways_after, buffer_after}
 use Rattle.bus_laws.proofs.Lists.{distinct-filter}
 use Rattle.bus_laws.proofs.HartFacts.{StandsAside, HasEntries}
 use Rattle.bus_laws.proofs.HartChanges.{way-set_other, way-set_none}

@@ -5,18 +5,18 @@ use Rattle.std.specs.List.{All, list_any}
 use Rattle.std.proofs.Math.Bool.{and-false}
 use Rattle.std.proofs.lemmas.Bool.{ne_eqb, eqb-true, eqb-false, and_parts, or_parts}
 use Rattle.std.proofs.lemmas.List.Elements.{All-nil, All-cons, All-head, All-tail}
-use Rattle.ddm_types.specs.declared.answers.TxKind.{TxKind}
-use Rattle.ddm_types.specs.declared.answers.TxKind.TheVariants.{ReadTx, EraseTx}
-use Rattle.ddm_types.specs.declared.sizes.Hold.{Hold}
-use Rattle.ddm_types.specs.declared.sizes.LeafState.{LeafState}
-use Rattle.tree_model.specs.State.Kinds.{is_kind}
-use Rattle.tree_model.specs.State.Lists.{rest_of, first_of}
-use Rattle.tree_model.specs.State.Shape.{are_distinct}
-use Rattle.tree_model.specs.State.States.{is_held, is_reading, state_with_inject, may_leave}
-use Rattle.tree_model.specs.State.Values.{RequestValue, CopyValue, BufferValue, LeafValue, leaf_node}
-use Rattle.tree_model.specs.State.Leaf.{stays, ends, becomes, enters, with_fate, slot_has, is_request, words_of_item, LeafEntry, leaf_entry, entry_at, buffered, buffer_item, entry_state, state_at, slot_struck, unreserved, fate_by, leaf_take_inject, leaf_give_up, leaf_room, free_way, way_at, may_leave_buffer, leaf_leaving}
-use Rattle.tree_model.proofs.LeafRooms.{leaf_within-facts, rest_of-length}
-use Rattle.tree_model.proofs.Tests.{not-true}
+use Rattle.bus_laws.specs.DdmTypes.declared.answers.TxKind.{TxKind}
+use Rattle.bus_laws.specs.DdmTypes.declared.answers.TxKind.TheVariants.{ReadTx, EraseTx}
+use Rattle.bus_laws.specs.DdmTypes.declared.sizes.Hold.{Hold}
+use Rattle.bus_laws.specs.DdmTypes.declared.sizes.LeafState.{LeafState}
+use Rattle.bus_laws.specs.TreeModel.State.Kinds.{is_kind}
+use Rattle.bus_laws.specs.TreeModel.State.Lists.{rest_of, first_of}
+use Rattle.bus_laws.specs.TreeModel.State.Shape.{are_distinct}
+use Rattle.bus_laws.specs.TreeModel.State.States.{is_held, is_reading, state_with_inject, may_leave}
+use Rattle.bus_laws.specs.TreeModel.State.Values.{RequestValue, CopyValue, BufferValue, LeafValue, leaf_node}
+use Rattle.bus_laws.specs.TreeModel.State.Leaf.{stays, ends, becomes, enters, with_fate, slot_has, is_request, words_of_item, LeafEntry, leaf_entry, entry_at, buffered, buffer_item, entry_state, state_at, slot_struck, unreserved, fate_by, leaf_take_inject, leaf_give_up, leaf_room, free_way, way_at, may_leave_buffer, leaf_leaving}
+use Rattle.bus_laws.proofs.TreeModel.LeafRooms.{leaf_within-facts, rest_of-length}
+use Rattle.bus_laws.proofs.TreeModel.Tests.{not-true}
 use Rattle.tree_rules.specs.Bus.Faces.{ChildFace, leaf_face}
 use Rattle.tree_rules.specs.Bus.Own.{leaf_lists, slot_fits, leaf_replies, reservation_fits, IsLeafOk, state_waits, request_suits, slot_suits, copy_fits}
 use Rattle.bus_laws.proofs.HartFacts.{entries-from_rules, state-known}

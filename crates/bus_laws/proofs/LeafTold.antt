@@ -5,15 +5,15 @@ use Rattle.std.specs.List.{list_all, range_with_len}
 use Rattle.std.specs.Cmp.Derive.{both_true}
 use native.Mathlib.Decide.{ℕ_discrete}
 use Rattle.std.proofs.lemmas.Bool.{ne_eqb, eq-eqb}
-use Rattle.ddm_types.specs.declared.answers.TxKind.{TxKind}
-use Rattle.ddm_types.specs.declared.answers.TxKind.TheVariants.{ReadTx, EraseTx}
-use Rattle.ddm_types.specs.declared.sizes.LeafState.{LeafState}
-use Rattle.tree_model.specs.State.Lists.{find_from}
-use Rattle.tree_model.proofs.Children.{none-passes}
-use Rattle.tree_model.specs.State.States.{entry_hold, is_reading, is_upgrading}
-use Rattle.tree_model.specs.State.Values.{WayValue, LeafSizes, RequestValue, CopyValue, LeafValue, leaf_node}
-use Rattle.tree_model.specs.State.Leaf.{Fate, stays, ends, becomes, enters, slot_has, words_of_item, leaf_entry, entry_state, state_at, ways_after, buffer_after, leaf_hold, way_at, stands_in, item_in_way, free_way}
-use Rattle.tree_model.proofs.LeafRooms.{leaf_within-facts, leaf_within-test, ways_after-length, buffer_after-length}
+use Rattle.bus_laws.specs.DdmTypes.declared.answers.TxKind.{TxKind}
+use Rattle.bus_laws.specs.DdmTypes.declared.answers.TxKind.TheVariants.{ReadTx, EraseTx}
+use Rattle.bus_laws.specs.DdmTypes.declared.sizes.LeafState.{LeafState}
+use Rattle.bus_laws.specs.TreeModel.State.Lists.{find_from}
+use Rattle.bus_laws.proofs.TreeModel.Children.{none-passes}
+use Rattle.bus_laws.specs.TreeModel.State.States.{entry_hold, is_reading, is_upgrading}
+use Rattle.bus_laws.specs.TreeModel.State.Values.{WayValue, LeafSizes, RequestValue, CopyValue, LeafValue, leaf_node}
+use Rattle.bus_laws.specs.TreeModel.State.Leaf.{Fate, stays, ends, becomes, enters, slot_has, words_of_item, leaf_entry, entry_state, state_at, ways_after, buffer_after, leaf_hold, way_at, stands_in, item_in_way, free_way}
+use Rattle.bus_laws.proofs.TreeModel.LeafRooms.{leaf_within-facts, leaf_within-test, ways_after-length, buffer_after-length}
 use Rattle.tree_rules.specs.Bus.Faces.{ChildFace, in_state, leaf_face}
 use Rattle.tree_rules.specs.Bus.Own.{has_ways, leaf_lists, IsLeafOk, words_suit, state_waits, request_suits, slot_suits, copy_fits, reserves_below}
 use Rattle.bus_laws.proofs.HartFacts.{find-holds, way-within, HasEntries, entries-from_rules, state_in, rules-from_entries, one-waits}

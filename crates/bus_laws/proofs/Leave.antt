@@ -6,21 +6,21 @@ use Rattle.std.specs.List.{AllByRecursion}
 use native.Mathlib.Decide.{ℕ_discrete}
 use Rattle.std.specs.Cmp.Derive.{both_true}
 use Rattle.std.proofs.lemmas.Bool.{and_parts, or_parts, eqb-true, eqb-false, eq-eqb, ne_eqb, not-true}
-use Rattle.ddm_types.specs.declared.answers.TurnAnswer.{TurnAnswer}
-use Rattle.ddm_types.specs.declared.sizes.Hold.{Hold}
-use Rattle.ddm_types.specs.declared.keys.Stamp.{Stamp}
-use Rattle.tree_model.specs.State.Lists.{map_from, find_from, first_some, has_some, all_from}
-use Rattle.tree_model.specs.State.States.{is_held, is_exclusive, is_shared}
-use Rattle.tree_model.specs.State.Values.{Note, no_note, local, up_read, up_erase, DirValue, Node}
-use Rattle.tree_model.specs.State.Directory.{is_top, dir_hold, is_reader, is_eraser, is_up_erase, is_parked, stamp_of, with_parked, counted, pending, parking_full}
-use Rattle.tree_model.specs.State.Child.{child_leaving, pending_below, child_hold, child_holds, child_given, child_give_up, child_take_inject}
-use Rattle.tree_model.specs.State.Blank.{no_node}
-use Rattle.tree_model.specs.Turns.Children.{child_at, only, other_holds, other_waits, room_after, room_before, passed_on}
-use Rattle.tree_model.specs.Turns.Leave.{other_copy, leave_taker}
-use Rattle.tree_model.proofs.Children.{map_from-length, child_at-map_from, found-within, found-passes, none-passes}
-use Rattle.tree_model.proofs.Tests.{first_some-either}
-use Rattle.tree_model.proofs.DirRooms.{parking-place}
-use Rattle.tree_model.proofs.BusRooms.{leave_taker-room}
+use Rattle.bus_laws.specs.DdmTypes.declared.answers.TurnAnswer.{TurnAnswer}
+use Rattle.bus_laws.specs.DdmTypes.declared.sizes.Hold.{Hold}
+use Rattle.bus_laws.specs.DdmTypes.declared.keys.Stamp.{Stamp}
+use Rattle.bus_laws.specs.TreeModel.State.Lists.{map_from, find_from, first_some, has_some, all_from}
+use Rattle.bus_laws.specs.TreeModel.State.States.{is_held, is_exclusive, is_shared}
+use Rattle.bus_laws.specs.TreeModel.State.Values.{Note, no_note, local, up_read, up_erase, DirValue, Node}
+use Rattle.bus_laws.specs.TreeModel.State.Directory.{is_top, dir_hold, is_reader, is_eraser, is_up_erase, is_parked, stamp_of, with_parked, counted, pending, parking_full}
+use Rattle.bus_laws.specs.TreeModel.State.Child.{child_leaving, pending_below, child_hold, child_holds, child_given, child_give_up, child_take_inject}
+use Rattle.bus_laws.specs.TreeModel.State.Blank.{no_node}
+use Rattle.bus_laws.specs.TreeModel.Turns.Children.{child_at, only, other_holds, other_waits, room_after, room_before, passed_on}
+use Rattle.bus_laws.specs.TreeModel.Turns.Leave.{other_copy, leave_taker}
+use Rattle.bus_laws.proofs.TreeModel.Children.{map_from-length, child_at-map_from, found-within, found-passes, none-passes}
+use Rattle.bus_laws.proofs.TreeModel.Tests.{first_some-either}
+use Rattle.bus_laws.proofs.TreeModel.DirRooms.{parking-place}
+use Rattle.bus_laws.proofs.TreeModel.BusRooms.{leave_taker-room}
 use Rattle.tree_rules.specs.Bus.Faces.{ChildFace, ParentFace, parent_face, child_face, faces_of}
 use Rattle.tree_rules.specs.Bus.Own.{top_level, IsTopOk}
 use Rattle.tree_rules.specs.Bus.Item.{implies, holds_exclusive, reader_is_granted, eraser_is_granted, exclusive_alone, exclusive_covered, Bits, bits_of, item_holds, kept_place, top_holds}

@@ -1,3 +1,6 @@
+pub mod FlatModel
+pub mod TreeModel
+pub mod TreeRules
 pub mod Every
 pub mod States
 pub mod Lists

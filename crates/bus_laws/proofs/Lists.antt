@@ -5,9 +5,9 @@ use Rattle.std.specs.List.{list_any, list_all}
 use Rattle.std.specs.Cmp.Derive.{both_true}
 use Rattle.std.proofs.lemmas.Bool.{and_parts, ne_eqb, eq-eqb}
 use Rattle.std.proofs.lemmas.List.Elements.{filter-append}
-use Rattle.tree_model.specs.State.Lists.{rest_of, without_first, chosen}
-use Rattle.tree_model.specs.State.Shape.{are_distinct}
-use Rattle.tree_model.proofs.Tests.{not-true}
+use Rattle.bus_laws.specs.TreeModel.State.Lists.{rest_of, without_first, chosen}
+use Rattle.bus_laws.specs.TreeModel.State.Shape.{are_distinct}
+use Rattle.bus_laws.proofs.TreeModel.Tests.{not-true}
 
 module _ {X : Type 0} (t : X → Bool) where
   pub pass-set : (xs : List X) (i : ℕ) (v : X) → list_all t xs ≡ true → t v ≡ true → list_all t (slice_set xs i v) ≡ true

@@ -4,15 +4,15 @@ use Rattle.std.specs.Prelude.{nat_eq, not, if◌then◌else◌}
 use Rattle.std.specs.List.{AllByRecursion, list_any}
 use native.Mathlib.Decide.{ℕ_discrete}
 use Rattle.std.proofs.lemmas.Bool.{eq-eqb, ne_eqb, not-true}
-use Rattle.ddm_types.specs.declared.sizes.Hold.{Hold}
-use Rattle.tree_model.specs.State.Lists.{map_from}
-use Rattle.tree_model.specs.State.States.{is_held, is_exclusive}
-use Rattle.tree_model.specs.State.Values.{RequestValue, CopyValue, DirValue, Node}
-use Rattle.tree_model.specs.State.Child.{child_request, child_reply, child_leaving}
-use Rattle.tree_model.specs.State.Leaf.{leaf_leaving}
-use Rattle.tree_model.specs.State.Blank.{no_node}
-use Rattle.tree_model.specs.Turns.Children.{child_at, only}
-use Rattle.tree_model.proofs.Children.{map_from-length, child_at-map_from}
+use Rattle.bus_laws.specs.DdmTypes.declared.sizes.Hold.{Hold}
+use Rattle.bus_laws.specs.TreeModel.State.Lists.{map_from}
+use Rattle.bus_laws.specs.TreeModel.State.States.{is_held, is_exclusive}
+use Rattle.bus_laws.specs.TreeModel.State.Values.{RequestValue, CopyValue, DirValue, Node}
+use Rattle.bus_laws.specs.TreeModel.State.Child.{child_request, child_reply, child_leaving}
+use Rattle.bus_laws.specs.TreeModel.State.Leaf.{leaf_leaving}
+use Rattle.bus_laws.specs.TreeModel.State.Blank.{no_node}
+use Rattle.bus_laws.specs.TreeModel.Turns.Children.{child_at, only}
+use Rattle.bus_laws.proofs.TreeModel.Children.{map_from-length, child_at-map_from}
 use Rattle.tree_rules.specs.Bus.Faces.{ChildFace, parent_face, child_face, faces_of}
 use Rattle.tree_rules.specs.Bus.Item.{holds_it, holds_exclusive, one_holds, bits_of, exclusive_alone, parked_alone}
 use Rattle.tree_rules.specs.Bus.Rules.{IsBusOk, IsChildOk}

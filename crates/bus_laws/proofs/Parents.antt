@@ -4,15 +4,15 @@ use Rattle.std.proofs.Common.{◌≡◌, ◌≢◌, ℕ, ◌+◌, ◌<◌, Bool,
 use Rattle.std.specs.Prelude.{not}
 use Rattle.std.specs.List.{list_all}
 use Rattle.std.proofs.lemmas.List.{length-set}
-use Rattle.ddm_types.specs.declared.answers.TxKind.{TxKind}
-use Rattle.ddm_types.specs.declared.sizes.Hold.{Hold}
-use Rattle.ddm_types.specs.declared.keys.Stamp.{Stamp}
-use Rattle.tree_model.specs.State.Lists.{rest_of, has_some}
-use Rattle.tree_model.specs.State.Kinds.{brings_copy}
-use Rattle.tree_model.specs.State.Values.{DownValue, Note, DirItem, DirValue}
-use Rattle.tree_model.specs.State.Leaf.{is_copy, copy_item, words_of_item}
-use Rattle.tree_model.specs.State.Directory.{queue_kinds, dir_item, with_item, with_hold, with_note, with_answering, down_full, requests_full, replies_full, pushed_down, pushed_request, pushed_reply, with_parked, without_parked, place_released, counted, front_taken}
-use Rattle.tree_model.proofs.DirRooms.{pushed-fits, without_copy-length, down-place, requests-place, replies-place}
+use Rattle.bus_laws.specs.DdmTypes.declared.answers.TxKind.{TxKind}
+use Rattle.bus_laws.specs.DdmTypes.declared.sizes.Hold.{Hold}
+use Rattle.bus_laws.specs.DdmTypes.declared.keys.Stamp.{Stamp}
+use Rattle.bus_laws.specs.TreeModel.State.Lists.{rest_of, has_some}
+use Rattle.bus_laws.specs.TreeModel.State.Kinds.{brings_copy}
+use Rattle.bus_laws.specs.TreeModel.State.Values.{DownValue, Note, DirItem, DirValue}
+use Rattle.bus_laws.specs.TreeModel.State.Leaf.{is_copy, copy_item, words_of_item}
+use Rattle.bus_laws.specs.TreeModel.State.Directory.{queue_kinds, dir_item, with_item, with_hold, with_note, with_answering, down_full, requests_full, replies_full, pushed_down, pushed_request, pushed_reply, with_parked, without_parked, place_released, counted, front_taken}
+use Rattle.bus_laws.proofs.TreeModel.DirRooms.{pushed-fits, without_copy-length, down-place, requests-place, replies-place}
 use Rattle.tree_rules.specs.Bus.Faces.{ParentFace, parent_face}
 use Rattle.tree_rules.specs.Bus.Own.{are_zero, copy_fits, down_fits, request_fits, note_fits, item_fits}
 use Rattle.bus_laws.proofs.Lists.{pass-set, pass-pushed, pass-behind, pass-filter, distinct-filter, distinct-pushed}

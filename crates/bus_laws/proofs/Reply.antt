@@ -6,21 +6,21 @@ use Rattle.std.specs.List.{AllByRecursion}
 use native.Mathlib.Decide.{ℕ_discrete}
 use Rattle.std.specs.Cmp.Derive.{both_true}
 use Rattle.std.proofs.lemmas.Bool.{and_parts, eqb-true, eq-eqb, ne_eqb}
-use Rattle.ddm_types.specs.declared.answers.TxKind.TheVariants.{DataTx}
-use Rattle.ddm_types.specs.declared.answers.TurnAnswer.{TurnAnswer}
-use Rattle.ddm_types.specs.declared.sizes.Hold.{Hold}
-use Rattle.ddm_types.specs.declared.keys.Stamp.{Stamp}
-use Rattle.tree_model.specs.State.Lists.{map_from, first_given}
-use Rattle.tree_model.specs.State.States.{is_held, is_exclusive, is_shared}
-use Rattle.tree_model.specs.State.Values.{Note, no_note, local, up_read, up_erase, DirValue, Node}
-use Rattle.tree_model.specs.State.Leaf.{words_of_item}
-use Rattle.tree_model.specs.State.Directory.{dir_note, is_answering, is_reader, is_eraser, is_local, stamp_of, with_note, with_hold, with_answering, pushed_reply, counted, replies_full}
-use Rattle.tree_model.specs.State.Child.{child_reply, child_reply_taken, child_take_data, child_full_for}
-use Rattle.tree_model.specs.State.Blank.{no_node}
-use Rattle.tree_model.specs.Turns.Children.{child_at, only, reader_full, replied_by}
-use Rattle.tree_model.specs.Turns.Grant.{own_replies_full}
-use Rattle.tree_model.proofs.Children.{map_from-length, child_at-map_from, none-given}
-use Rattle.tree_model.proofs.Tests.{some_if-none}
+use Rattle.bus_laws.specs.DdmTypes.declared.answers.TxKind.TheVariants.{DataTx}
+use Rattle.bus_laws.specs.DdmTypes.declared.answers.TurnAnswer.{TurnAnswer}
+use Rattle.bus_laws.specs.DdmTypes.declared.sizes.Hold.{Hold}
+use Rattle.bus_laws.specs.DdmTypes.declared.keys.Stamp.{Stamp}
+use Rattle.bus_laws.specs.TreeModel.State.Lists.{map_from, first_given}
+use Rattle.bus_laws.specs.TreeModel.State.States.{is_held, is_exclusive, is_shared}
+use Rattle.bus_laws.specs.TreeModel.State.Values.{Note, no_note, local, up_read, up_erase, DirValue, Node}
+use Rattle.bus_laws.specs.TreeModel.State.Leaf.{words_of_item}
+use Rattle.bus_laws.specs.TreeModel.State.Directory.{dir_note, is_answering, is_reader, is_eraser, is_local, stamp_of, with_note, with_hold, with_answering, pushed_reply, counted, replies_full}
+use Rattle.bus_laws.specs.TreeModel.State.Child.{child_reply, child_reply_taken, child_take_data, child_full_for}
+use Rattle.bus_laws.specs.TreeModel.State.Blank.{no_node}
+use Rattle.bus_laws.specs.TreeModel.Turns.Children.{child_at, only, reader_full, replied_by}
+use Rattle.bus_laws.specs.TreeModel.Turns.Grant.{own_replies_full}
+use Rattle.bus_laws.proofs.TreeModel.Children.{map_from-length, child_at-map_from, none-given}
+use Rattle.bus_laws.proofs.TreeModel.Tests.{some_if-none}
 use Rattle.tree_rules.specs.Bus.Faces.{ChildFace, ParentFace, parent_face, face_reads, face_erases, face_above, child_face, faces_of}
 use Rattle.tree_rules.specs.Bus.Item.{implies, holds_it, holds_exclusive, gives_none, has_reply, granted_fits, reader_is_granted, reader_is_noted, eraser_is_noted, may_erase, Bits, bits_of, item_holds, kept_place}
 use Rattle.tree_rules.specs.Bus.Rules.{IsBusOk, IsChildOk}

@@ -6,21 +6,21 @@ use Rattle.std.specs.List.{AllByRecursion}
 use native.Mathlib.Decide.{ℕ_discrete}
 use Rattle.std.specs.Cmp.Derive.{both_true}
 use Rattle.std.proofs.lemmas.Bool.{and_parts, eq-eqb, ne_eqb}
-use Rattle.ddm_types.specs.declared.answers.TxKind.TheVariants.{EraseTx, ExclusiveTx}
-use Rattle.ddm_types.specs.declared.answers.TurnAnswer.{TurnAnswer}
-use Rattle.ddm_types.specs.declared.sizes.Hold.{Hold}
-use Rattle.ddm_types.specs.declared.keys.Stamp.{Stamp}
-use Rattle.tree_model.specs.State.Lists.{map_from, first_given, has_some}
-use Rattle.tree_model.specs.State.States.{is_held, is_exclusive}
-use Rattle.tree_model.specs.State.Values.{Note, no_note, local, up_read, up_erase, DirValue, Node}
-use Rattle.tree_model.specs.State.Leaf.{blank}
-use Rattle.tree_model.specs.State.Directory.{dir_hold, is_reader, stamp_of, with_note, counted, pending, down_full, requests_full}
-use Rattle.tree_model.specs.State.Child.{child_request, child_request_taken, child_lose, child_full_for}
-use Rattle.tree_model.specs.State.Blank.{no_node}
-use Rattle.tree_model.specs.Turns.Children.{child_at, other_full, erased_by}
-use Rattle.tree_model.specs.Turns.RequestErase.{erase_noted, erase_list_full}
-use Rattle.tree_model.proofs.Children.{map_from-length, child_at-map_from, none-given}
-use Rattle.tree_model.proofs.Tests.{some_if-none}
+use Rattle.bus_laws.specs.DdmTypes.declared.answers.TxKind.TheVariants.{EraseTx, ExclusiveTx}
+use Rattle.bus_laws.specs.DdmTypes.declared.answers.TurnAnswer.{TurnAnswer}
+use Rattle.bus_laws.specs.DdmTypes.declared.sizes.Hold.{Hold}
+use Rattle.bus_laws.specs.DdmTypes.declared.keys.Stamp.{Stamp}
+use Rattle.bus_laws.specs.TreeModel.State.Lists.{map_from, first_given, has_some}
+use Rattle.bus_laws.specs.TreeModel.State.States.{is_held, is_exclusive}
+use Rattle.bus_laws.specs.TreeModel.State.Values.{Note, no_note, local, up_read, up_erase, DirValue, Node}
+use Rattle.bus_laws.specs.TreeModel.State.Leaf.{blank}
+use Rattle.bus_laws.specs.TreeModel.State.Directory.{dir_hold, is_reader, stamp_of, with_note, counted, pending, down_full, requests_full}
+use Rattle.bus_laws.specs.TreeModel.State.Child.{child_request, child_request_taken, child_lose, child_full_for}
+use Rattle.bus_laws.specs.TreeModel.State.Blank.{no_node}
+use Rattle.bus_laws.specs.TreeModel.Turns.Children.{child_at, other_full, erased_by}
+use Rattle.bus_laws.specs.TreeModel.Turns.RequestErase.{erase_noted, erase_list_full}
+use Rattle.bus_laws.proofs.TreeModel.Children.{map_from-length, child_at-map_from, none-given}
+use Rattle.bus_laws.proofs.TreeModel.Tests.{some_if-none}
 use Rattle.tree_rules.specs.Bus.Faces.{ChildFace, ParentFace, parent_face, child_face, faces_of}
 use Rattle.tree_rules.specs.Bus.Item.{implies, may_erase, eraser_is_granted, Bits, bits_of}
 use Rattle.tree_rules.specs.Bus.Rules.{IsBusOk, IsChildOk}

@@ -7,22 +7,22 @@ use native.Mathlib.Decide.{ℕ_discrete}
 use Rattle.std.specs.Cmp.Derive.{both_true}
 use Rattle.std.proofs.lemmas.Bool.{and_parts, or_parts, eqb-true, eq-eqb, ne_eqb, not-true}
 use Rattle.std.proofs.lemmas.Nat.{pow_pos}
-use Rattle.ddm_types.specs.declared.answers.TxKind.TheVariants.{ReadTx, DataTx}
-use Rattle.ddm_types.specs.declared.answers.TurnAnswer.{TurnAnswer}
-use Rattle.ddm_types.specs.declared.sizes.Hold.{Hold}
-use Rattle.ddm_types.specs.declared.keys.Stamp.{Stamp}
-use Rattle.tree_model.specs.State.Lists.{map_from, find_from, first_of, has_some, all_from}
-use Rattle.tree_model.specs.State.States.{is_held, is_exclusive}
-use Rattle.tree_model.specs.State.Values.{Note, no_note, local, up_read, up_erase, DirValue, Node}
-use Rattle.tree_model.specs.State.Leaf.{words_of_item}
-use Rattle.tree_model.specs.State.Directory.{dir_hold, is_reader, is_eraser, in_set, stamp_of, with_note, counted, pending, down_full, requests_full, parked_words, pushed_down, pushed_request, without_parked}
-use Rattle.tree_model.specs.State.Child.{child_request, child_request_taken, child_answer, child_full_for, child_holds}
-use Rattle.tree_model.specs.State.Blank.{no_node}
-use Rattle.tree_model.specs.Turns.Children.{child_at, other_holds, only, read_from}
-use Rattle.tree_model.specs.Turns.Grant.{own_down_full, own_requests_full}
-use Rattle.tree_model.proofs.Children.{map_from-length, child_at-map_from, found-passes, found-within, none-passes}
-use Rattle.tree_model.proofs.Sets.{in_set-empty}
-use Rattle.tree_model.proofs.Tests.{some_if-none}
+use Rattle.bus_laws.specs.DdmTypes.declared.answers.TxKind.TheVariants.{ReadTx, DataTx}
+use Rattle.bus_laws.specs.DdmTypes.declared.answers.TurnAnswer.{TurnAnswer}
+use Rattle.bus_laws.specs.DdmTypes.declared.sizes.Hold.{Hold}
+use Rattle.bus_laws.specs.DdmTypes.declared.keys.Stamp.{Stamp}
+use Rattle.bus_laws.specs.TreeModel.State.Lists.{map_from, find_from, first_of, has_some, all_from}
+use Rattle.bus_laws.specs.TreeModel.State.States.{is_held, is_exclusive}
+use Rattle.bus_laws.specs.TreeModel.State.Values.{Note, no_note, local, up_read, up_erase, DirValue, Node}
+use Rattle.bus_laws.specs.TreeModel.State.Leaf.{words_of_item}
+use Rattle.bus_laws.specs.TreeModel.State.Directory.{dir_hold, is_reader, is_eraser, in_set, stamp_of, with_note, counted, pending, down_full, requests_full, parked_words, pushed_down, pushed_request, without_parked}
+use Rattle.bus_laws.specs.TreeModel.State.Child.{child_request, child_request_taken, child_answer, child_full_for, child_holds}
+use Rattle.bus_laws.specs.TreeModel.State.Blank.{no_node}
+use Rattle.bus_laws.specs.TreeModel.Turns.Children.{child_at, other_holds, only, read_from}
+use Rattle.bus_laws.specs.TreeModel.Turns.Grant.{own_down_full, own_requests_full}
+use Rattle.bus_laws.proofs.TreeModel.Children.{map_from-length, child_at-map_from, found-passes, found-within, none-passes}
+use Rattle.bus_laws.proofs.TreeModel.Sets.{in_set-empty}
+use Rattle.bus_laws.proofs.TreeModel.Tests.{some_if-none}
 use Rattle.tree_rules.specs.Bus.Faces.{ChildFace, ParentFace, parent_face, child_face, faces_of}
 use Rattle.tree_rules.specs.Bus.Own.{note_fits, readers_fit}
 use Rattle.tree_rules.specs.Bus.Item.{implies, holds_it, holds_exclusive, gives_none, gives_one, one_gives, reader_is_granted, eraser_is_granted, Bits, bits_of}

@@ -2,13 +2,13 @@
 use Rattle.std.proofs.Common.{◌≡◌, ℕ, ◌+◌, ◌<◌, Bool, true, false, List, length, sym, ap, subst, ◌∙◌}
 use Rattle.std.specs.Prelude.{not, ◌&&◌, nat_eq}
 use Rattle.std.proofs.lemmas.Bool.{and_parts, eqb-true, not-true}
-use Rattle.ddm_types.specs.declared.keys.Stamp.{Stamp}
-use Rattle.ddm_types.specs.Keys.{stamp_zero}
-use Rattle.ddm_types.specs.declared.answers.TurnAnswer.{TurnAnswer}
-use Rattle.tree_model.specs.State.States.{is_exclusive}
-use Rattle.tree_model.specs.State.Values.{DirValue, Node}
-use Rattle.tree_model.specs.State.Directory.{dir_hold, is_answering}
-use Rattle.tree_model.specs.Turns.Children.{child_at}
+use Rattle.bus_laws.specs.DdmTypes.declared.keys.Stamp.{Stamp}
+use Rattle.bus_laws.specs.DdmTypes.Keys.{stamp_zero}
+use Rattle.bus_laws.specs.DdmTypes.declared.answers.TurnAnswer.{TurnAnswer}
+use Rattle.bus_laws.specs.TreeModel.State.States.{is_exclusive}
+use Rattle.bus_laws.specs.TreeModel.State.Values.{DirValue, Node}
+use Rattle.bus_laws.specs.TreeModel.State.Directory.{dir_hold, is_answering}
+use Rattle.bus_laws.specs.TreeModel.Turns.Children.{child_at}
 use Rattle.tree_rules.specs.Bus.Faces.{ChildFace, ParentFace, parent_face, face_reads, face_erases, faces_of}
 use Rattle.tree_rules.specs.Bus.Item.{implies, Bits, bits_of, item_holds, ItemRules, kept_place, top_holds}
 use Rattle.tree_rules.specs.Bus.Own.{IsTopOk}

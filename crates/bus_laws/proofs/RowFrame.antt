@@ -6,16 +6,16 @@ use Rattle.std.specs.List.{list_all, AllByRecursion}
 use Rattle.std.specs.Cmp.Derive.{both_true}
 use native.Mathlib.Decide.{ℕ_discrete}
 use Rattle.std.proofs.lemmas.Bool.{and_parts}
-use Rattle.ddm_types.specs.declared.answers.TurnAnswer.{TurnAnswer}
-use Rattle.ddm_types.specs.declared.keys.Stamp.{Stamp}
-use Rattle.ddm_types.specs.Keys.{stamp_zero}
-use Rattle.tree_model.specs.State.Lists.{has_some}
-use Rattle.tree_model.specs.State.States.{is_exclusive}
-use Rattle.tree_model.specs.State.Values.{Note, RequestValue, absent_item, DirValue, Node}
-use Rattle.tree_model.specs.State.Leaf.{words_of_item}
-use Rattle.tree_model.specs.State.Directory.{dir_hold, is_answering, request_kinds}
-use Rattle.tree_model.specs.State.Blank.{no_node}
-use Rattle.tree_model.specs.Turns.Children.{child_at}
+use Rattle.bus_laws.specs.DdmTypes.declared.answers.TurnAnswer.{TurnAnswer}
+use Rattle.bus_laws.specs.DdmTypes.declared.keys.Stamp.{Stamp}
+use Rattle.bus_laws.specs.DdmTypes.Keys.{stamp_zero}
+use Rattle.bus_laws.specs.TreeModel.State.Lists.{has_some}
+use Rattle.bus_laws.specs.TreeModel.State.States.{is_exclusive}
+use Rattle.bus_laws.specs.TreeModel.State.Values.{Note, RequestValue, absent_item, DirValue, Node}
+use Rattle.bus_laws.specs.TreeModel.State.Leaf.{words_of_item}
+use Rattle.bus_laws.specs.TreeModel.State.Directory.{dir_hold, is_answering, request_kinds}
+use Rattle.bus_laws.specs.TreeModel.State.Blank.{no_node}
+use Rattle.bus_laws.specs.TreeModel.Turns.Children.{child_at}
 use Rattle.tree_rules.specs.Bus.Faces.{ChildFace, ParentFace, parent_face, face_reads, face_erases, face_above, child_face, faces_of}
 use Rattle.tree_rules.specs.Bus.Own.{top_item, top_items, no_requests, IsTopOk, IsDirOk}
 use Rattle.tree_rules.specs.Bus.Item.{granted_fits, giver_holds, reader_is_noted, eraser_is_noted, Bits, bits_of, ItemRules, kept_place, top_holds}

@@ -9,18 +9,18 @@ use Rattle.std.proofs.lemmas.List.Elements.{All-nil}
 use Rattle.std.proofs.lemmas.List.Concat.{flat_map-cons}
 use Rattle.std.proofs.lemmas.List.Folds.{list_all-append}
 use Rattle.std.proofs.lemmas.List.FromFn.{length-range_with_len}
-use Rattle.ddm_types.specs.ItemTable.{IsItemSize, item_count, item_numbers, item_row, items_of}
-use Rattle.ddm_types.specs.declared.sizes.Span.{Span}
-use Rattle.tree_model.specs.State.Values.{WayValue, LeafSizes, LeafValue, absent_item, DirSizes, Node, leaf_node, nodes, MachineValue}
-use Rattle.tree_model.specs.State.Leaf.{way_at}
-use Rattle.tree_model.specs.State.Shape.{skeletons, first_levels, levels_fit_among, bone_count, widths_fit_among, buses_among, leaf_numbers_among, are_distinct, count_from, are_below, is_whole_word, ShapeRule, levels_known, widths_bounded, buses_differ, traffic_counted, leaves_numbered, items_of_words, shape_test, frame_of, IsShaped}
-use Rattle.tree_model.specs.Turns.Machine.{no_traffic}
-use Rattle.tree_model.specs.Start.Sources.{ImageValue, TreeValue, last_level, leaf_count, bus_widths, width_of, place_count, segment_span, stack_spans}
-use Rattle.tree_model.specs.Start.Memory.{start_items, start_words}
-use Rattle.tree_model.specs.Start.Nodes.{leaf_sizes, dir_sizes, top_sizes, held_exclusive, new_top, under_levels, held_if}
-use Rattle.tree_model.specs.Start.Machine.{start_leaf, start_leaves, start_machine, too_many_items, no_place, start_refusal, start_of}
-use Rattle.tree_model.proofs.Tests.{first_some-none_second}
-use Rattle.tree_model.proofs.Children.{children-nodes}
+use Rattle.bus_laws.specs.DdmTypes.ItemTable.{IsItemSize, item_count, item_numbers, item_row, items_of}
+use Rattle.bus_laws.specs.DdmTypes.declared.sizes.Span.{Span}
+use Rattle.bus_laws.specs.TreeModel.State.Values.{WayValue, LeafSizes, LeafValue, absent_item, DirSizes, Node, leaf_node, nodes, MachineValue}
+use Rattle.bus_laws.specs.TreeModel.State.Leaf.{way_at}
+use Rattle.bus_laws.specs.TreeModel.State.Shape.{skeletons, first_levels, levels_fit_among, bone_count, widths_fit_among, buses_among, leaf_numbers_among, are_distinct, count_from, are_below, is_whole_word, ShapeRule, levels_known, widths_bounded, buses_differ, traffic_counted, leaves_numbered, items_of_words, shape_test, frame_of, IsShaped}
+use Rattle.bus_laws.specs.TreeModel.Turns.Machine.{no_traffic}
+use Rattle.bus_laws.specs.TreeModel.Start.Sources.{ImageValue, TreeValue, last_level, leaf_count, bus_widths, width_of, place_count, segment_span, stack_spans}
+use Rattle.bus_laws.specs.TreeModel.Start.Memory.{start_items, start_words}
+use Rattle.bus_laws.specs.TreeModel.Start.Nodes.{leaf_sizes, dir_sizes, top_sizes, held_exclusive, new_top, under_levels, held_if}
+use Rattle.bus_laws.specs.TreeModel.Start.Machine.{start_leaf, start_leaves, start_machine, too_many_items, no_place, start_refusal, start_of}
+use Rattle.bus_laws.proofs.TreeModel.Tests.{first_some-none_second}
+use Rattle.bus_laws.proofs.TreeModel.Children.{children-nodes}
 use Rattle.tree_rules.specs.Bus.Faces.{parent_face, faces_of}
 use Rattle.tree_rules.specs.Bus.Own.{item_fits, top_item, TopRule, top_bus, top_level, top_items, no_requests, no_replies, none_parked, no_places, no_epoch, no_stamps, top_test, IsTopOk}
 use Rattle.tree_rules.specs.Bus.Item.{bits_of, top_holds, holds_it}

@@ -9,15 +9,15 @@ use Rattle.std.proofs.lemmas.Bool.Decides.{eqb_tells}
 use Rattle.std.proofs.lemmas.List.{length-map, get_or_default, get_or-set_same}
 use Rattle.std.proofs.lemmas.List.Elements.{All-head, All-tail}
 use Rattle.std.proofs.lemmas.List.FromFn.{get_or-range_with_len, get_or-map-range_with_len, length-range_with_len, length-map-range_with_len}
-use Rattle.ddm_types.specs.declared.sizes.LeafState.{LeafState}
-use Rattle.ddm_types.specs.declared.sizes.Hold.{Hold}
-use Rattle.tree_model.specs.State.Lists.{map_from}
-use Rattle.tree_model.specs.State.Values.{WayValue, LeafSizes, LeafValue}
-use Rattle.tree_model.specs.State.Blank.{no_leaf}
-use Rattle.tree_model.specs.State.Leaf.{way_at, entry_at, leaf_entry, state_at, leaf_hold, stands_in, item_in_way, free_way, enters, with_fate, enters_free, words_of_item}
-use Rattle.tree_model.specs.Start.Nodes.{has_way, cyclic_from, leaf_for, placed, placed_at, placed_in, placed_items}
-use Rattle.tree_model.proofs.Children.{map_from-keeps, found-passes, none-passes}
-use Rattle.tree_model.proofs.HartRooms.{free_way-free}
+use Rattle.bus_laws.specs.DdmTypes.declared.sizes.LeafState.{LeafState}
+use Rattle.bus_laws.specs.DdmTypes.declared.sizes.Hold.{Hold}
+use Rattle.bus_laws.specs.TreeModel.State.Lists.{map_from}
+use Rattle.bus_laws.specs.TreeModel.State.Values.{WayValue, LeafSizes, LeafValue}
+use Rattle.bus_laws.specs.TreeModel.State.Blank.{no_leaf}
+use Rattle.bus_laws.specs.TreeModel.State.Leaf.{way_at, entry_at, leaf_entry, state_at, leaf_hold, stands_in, item_in_way, free_way, enters, with_fate, enters_free, words_of_item}
+use Rattle.bus_laws.specs.TreeModel.Start.Nodes.{has_way, cyclic_from, leaf_for, placed, placed_at, placed_in, placed_items}
+use Rattle.bus_laws.proofs.TreeModel.Children.{map_from-keeps, found-passes, none-passes}
+use Rattle.bus_laws.proofs.TreeModel.HartRooms.{free_way-free}
 use Rattle.tree_rules.specs.Bus.Faces.{ChildFace, leaf_face}
 use Rattle.tree_rules.specs.Bus.Own.{IsLeafOk, state_waits}
 use Rattle.tree_rules.proofs.Implying.{implies-false}

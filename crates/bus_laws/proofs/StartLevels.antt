@@ -5,9 +5,9 @@ use Rattle.std.specs.List.{AllByRecursion, list_all, range_with_len}
 use Rattle.std.specs.Cmp.Derive.{both_true}
 use Rattle.std.proofs.lemmas.Bool.{eq-eqb, le-leb, lt-ltb, leb-true, and_parts}
 use Rattle.std.proofs.lemmas.List.Sums.{sum_by-cons}
-use Rattle.tree_model.specs.State.Values.{DirSizes, Node, nodes}
-use Rattle.tree_model.specs.State.Shape.{Skeleton, Skeletons, leaf_bone, dir_bone, no_bones, more_bones, skeleton, skeletons, first_levels, levels_fit, levels_fit_among, bone_count, widths_fit, widths_fit_among, buses_of, buses_among, leaf_numbers_of, leaf_numbers_among}
-use Rattle.tree_model.specs.Start.Nodes.{cut_in, dir_over, dirs_over, under_levels}
+use Rattle.bus_laws.specs.TreeModel.State.Values.{DirSizes, Node, nodes}
+use Rattle.bus_laws.specs.TreeModel.State.Shape.{Skeleton, Skeletons, leaf_bone, dir_bone, no_bones, more_bones, skeleton, skeletons, first_levels, levels_fit, levels_fit_among, bone_count, widths_fit, widths_fit_among, buses_of, buses_among, leaf_numbers_of, leaf_numbers_among}
+use Rattle.bus_laws.specs.TreeModel.Start.Nodes.{cut_in, dir_over, dirs_over, under_levels}
 use Rattle.bus_laws.specs.IsTree.{is_width, AreUnder}
 use Rattle.bus_laws.proofs.StartSums.{one_if, among}
 use Rattle.bus_laws.proofs.StartNodes.{some_of, has_held, IsIdle, AreIdle, holding, holding-is, dir-idle, dir-holds}

@@ -6,14 +6,14 @@ use Rattle.std.specs.Bool.{beq}
 use Rattle.std.specs.Cmp.Derive.{both_true}
 use Rattle.std.proofs.lemmas.Bool.{eq-eqb, le-leb}
 use Rattle.std.proofs.lemmas.List.{length-map}
-use Rattle.ddm_types.specs.declared.sizes.Hold.{Hold}
-use Rattle.tree_model.specs.State.Lists.{all_from}
-use Rattle.tree_model.specs.State.Values.{no_note, DirItem, absent_item, DirSizes, DirValue, Node, nodes}
-use Rattle.tree_model.specs.State.Leaf.{words_of_item}
-use Rattle.tree_model.specs.State.Directory.{queue_of, request_kinds}
-use Rattle.tree_model.specs.State.States.{is_held, is_exclusive}
-use Rattle.tree_model.specs.Start.Nodes.{new_dir, item_is_exclusive, held_by, or_each, held_below, held_if, dir_over}
-use Rattle.tree_model.proofs.Children.{children-nodes}
+use Rattle.bus_laws.specs.DdmTypes.declared.sizes.Hold.{Hold}
+use Rattle.bus_laws.specs.TreeModel.State.Lists.{all_from}
+use Rattle.bus_laws.specs.TreeModel.State.Values.{no_note, DirItem, absent_item, DirSizes, DirValue, Node, nodes}
+use Rattle.bus_laws.specs.TreeModel.State.Leaf.{words_of_item}
+use Rattle.bus_laws.specs.TreeModel.State.Directory.{queue_of, request_kinds}
+use Rattle.bus_laws.specs.TreeModel.State.States.{is_held, is_exclusive}
+use Rattle.bus_laws.specs.TreeModel.Start.Nodes.{new_dir, item_is_exclusive, held_by, or_each, held_below, held_if, dir_over}
+use Rattle.bus_laws.proofs.TreeModel.Children.{children-nodes}
 use Rattle.tree_rules.specs.Bus.Faces.{ChildFace, ParentFace, child_face, parent_face, face_above, faces_of}
 use Rattle.tree_rules.specs.Bus.Own.{DirRule, dir_lists, notes_fit, down_entries, dir_requests, dir_replies, parked_fit, parked_once, dir_test, item_fits}
 use Rattle.tree_rules.specs.Bus.Item.{holds_it, holds_exclusive, one_holds, gives_none, giver_holds, granted_fits, reader_is_noted, eraser_is_noted, bits_of, ItemRule, answering_held, exclusive_alone, parked_alone, exclusive_covered, queue_in_order, queue_start, inject_covered, erased_shared, hold_follows, local_noted, up_read_noted, data_read, up_erase_noted, erase_end, reads_noted, erases_noted, granted_held, exclusive_noted, giver, givers_held, read_answered, asked_alone, one_request, request_open, request_noted, item_test, ItemRules}

@@ -5,12 +5,12 @@ use Rattle.std.proofs.Common.{ap, subst}
 use Rattle.std.proofs.Math.Bool.{and-false}
 use Rattle.std.specs.List.{list_any, list_all}
 use Rattle.std.specs.Cmp.Derive.{both_true}
-use Rattle.ddm_types.specs.declared.answers.TxKind.{TxKind}
-use Rattle.ddm_types.specs.declared.sizes.Hold.{Hold}
-use Rattle.tree_model.specs.State.Lists.{all_from}
-use Rattle.tree_model.specs.State.States.{is_held, is_exclusive}
-use Rattle.tree_model.specs.State.Values.{Note, no_note, local, up_read, up_erase}
-use Rattle.tree_model.specs.State.Directory.{is_reader, is_local, is_up_read, is_up_erase}
+use Rattle.bus_laws.specs.DdmTypes.declared.answers.TxKind.{TxKind}
+use Rattle.bus_laws.specs.DdmTypes.declared.sizes.Hold.{Hold}
+use Rattle.bus_laws.specs.TreeModel.State.Lists.{all_from}
+use Rattle.bus_laws.specs.TreeModel.State.States.{is_held, is_exclusive}
+use Rattle.bus_laws.specs.TreeModel.State.Values.{Note, no_note, local, up_read, up_erase}
+use Rattle.bus_laws.specs.TreeModel.State.Directory.{is_reader, is_local, is_up_read, is_up_erase}
 use Rattle.tree_rules.specs.Bus.Faces.{ChildFace, ParentFace}
 use Rattle.tree_rules.specs.Bus.Item.{implies, holds_it, holds_exclusive, one_holds, gives_none, gives_one, one_gives, reader_is_granted, eraser_is_granted, Bits, bits_of, ItemRule, answering_held, exclusive_alone, parked_alone, exclusive_covered, queue_in_order, queue_start, inject_covered, erased_shared, hold_follows, local_noted, up_read_noted, data_read, up_erase_noted, erase_end, reads_noted, erases_noted, granted_held, exclusive_noted, giver, givers_held, read_answered, asked_alone, one_request, request_open, request_noted, item_test, ItemRules}
 use Rattle.tree_rules.proofs.Implying.{implies-by}

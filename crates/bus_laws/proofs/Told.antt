@@ -1,8 +1,8 @@
 -- A child that is told something of an item, or gives something of it to its bus: it keeps its own rules, it is seen so, and
 -- of every other item it is seen as before.
 use Rattle.std.proofs.Common.{◌≡◌, ◌≢◌, ℕ, ◌+◌, ◌<◌, length, refl, sym, ap, subst, ◌∙◌}
-use Rattle.tree_model.specs.State.Values.{DirValue, Node, Nodes, dir_node, children}
-use Rattle.tree_model.specs.State.Leaf.{words_of_item}
+use Rattle.bus_laws.specs.TreeModel.State.Values.{DirValue, Node, Nodes, dir_node, children}
+use Rattle.bus_laws.specs.TreeModel.State.Leaf.{words_of_item}
 use Rattle.tree_rules.specs.Bus.Faces.{ChildFace, ParentFace, parent_face, face_above, child_face, faces_of}
 use Rattle.tree_rules.specs.Bus.Item.{ItemRules, kept_place}
 use Rattle.tree_rules.specs.Bus.Rules.{IsBusOk, IsChildOk}

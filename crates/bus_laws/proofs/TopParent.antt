@@ -3,13 +3,13 @@ use Rattle.std.proofs.Common.{◌≡◌, ℕ, true, false, List, ◌∷◌, ap, 
 use Rattle.std.specs.Prelude.{not, nat_eq}
 use Rattle.std.specs.List.{list_all}
 use Rattle.std.specs.Cmp.Derive.{both_true}
-use Rattle.ddm_types.specs.declared.answers.TxKind.{TxKind}
-use Rattle.ddm_types.specs.declared.keys.Stamp.{Stamp}
-use Rattle.ddm_types.specs.Keys.{stamp_zero, stamp_numbers}
-use Rattle.tree_model.specs.State.Lists.{has_some}
-use Rattle.tree_model.specs.State.States.{is_exclusive}
-use Rattle.tree_model.specs.State.Values.{DownValue, Note, DirValue}
-use Rattle.tree_model.specs.State.Directory.{dir_hold, is_answering, is_top, with_note, pushed_down, counted, front_taken}
+use Rattle.bus_laws.specs.DdmTypes.declared.answers.TxKind.{TxKind}
+use Rattle.bus_laws.specs.DdmTypes.declared.keys.Stamp.{Stamp}
+use Rattle.bus_laws.specs.DdmTypes.Keys.{stamp_zero, stamp_numbers}
+use Rattle.bus_laws.specs.TreeModel.State.Lists.{has_some}
+use Rattle.bus_laws.specs.TreeModel.State.States.{is_exclusive}
+use Rattle.bus_laws.specs.TreeModel.State.Values.{DownValue, Note, DirValue}
+use Rattle.bus_laws.specs.TreeModel.State.Directory.{dir_hold, is_answering, is_top, with_note, pushed_down, counted, front_taken}
 use Rattle.tree_rules.specs.Bus.Own.{are_zero, top_item, has_no_stamp, TopRule, top_bus, top_level, top_items, no_requests, no_replies, none_parked, no_places, no_epoch, no_stamps, top_test, IsTopOk}
 use Rattle.bus_laws.proofs.Lists.{pass-set, pass-pushed, pass-behind}
 

@@ -1,22 +1,22 @@
 -- A turn keeps the rules of every bus, and so does a run.
 use Rattle.std.proofs.Common.{◌≡◌, ℕ, ◌<◌, true, false, List, [], ◌∷◌, map, refl, sym, ap, subst}
 use Rattle.std.specs.List.{AllByRecursion}
-use Rattle.ddm_types.specs.declared.answers.TurnAnswer.{TurnAnswer}
-use Rattle.ddm_types.specs.declared.turns.Turn.{Turn}
-use Rattle.ddm_types.specs.Keys.{stamp_zero}
-use Rattle.ddm_types.specs.ItemTable.{item_count}
-use Rattle.tree_model.specs.State.Values.{Node, Nodes, leaf_node, dir_node, no_nodes, more_nodes, nodes, children, MachineValue, root_of}
-use Rattle.tree_model.specs.State.Place.{Where, at_top, stamp_above, key_at_leaf}
-use Rattle.tree_model.specs.Turns.Grant.{Outcome}
-use Rattle.tree_model.specs.Turns.Bus.{bus_step}
-use Rattle.tree_model.specs.Turns.Tree.{has_node, ChangedAt}
-use Rattle.tree_model.specs.Turns.Machine.{named_by, node_after, bus_turn_of, victim_of, turn_of, run_of}
-use Rattle.tree_model.specs.Laws.{TurnsHere, kept_of}
-use Rattle.tree_model.proofs.Changed.{changed-holds}
-use Rattle.tree_model.proofs.Children.{children-nodes, nodes-children}
-use Rattle.tree_model.proofs.BusKeeps.{bus_step-keeps}
-use Rattle.tree_model.proofs.TurnChanges.{turn-changes_nothing, turn-changes_one_node}
-use Rattle.tree_model.proofs.FrameKept.{turn-frame}
+use Rattle.bus_laws.specs.DdmTypes.declared.answers.TurnAnswer.{TurnAnswer}
+use Rattle.bus_laws.specs.DdmTypes.declared.turns.Turn.{Turn}
+use Rattle.bus_laws.specs.DdmTypes.Keys.{stamp_zero}
+use Rattle.bus_laws.specs.DdmTypes.ItemTable.{item_count}
+use Rattle.bus_laws.specs.TreeModel.State.Values.{Node, Nodes, leaf_node, dir_node, no_nodes, more_nodes, nodes, children, MachineValue, root_of}
+use Rattle.bus_laws.specs.TreeModel.State.Place.{Where, at_top, stamp_above, key_at_leaf}
+use Rattle.bus_laws.specs.TreeModel.Turns.Grant.{Outcome}
+use Rattle.bus_laws.specs.TreeModel.Turns.Bus.{bus_step}
+use Rattle.bus_laws.specs.TreeModel.Turns.Tree.{has_node, ChangedAt}
+use Rattle.bus_laws.specs.TreeModel.Turns.Machine.{named_by, node_after, bus_turn_of, victim_of, turn_of, run_of}
+use Rattle.bus_laws.specs.TreeModel.Laws.{TurnsHere, kept_of}
+use Rattle.bus_laws.proofs.TreeModel.Changed.{changed-holds}
+use Rattle.bus_laws.proofs.TreeModel.Children.{children-nodes, nodes-children}
+use Rattle.bus_laws.proofs.TreeModel.BusKeeps.{bus_step-keeps}
+use Rattle.bus_laws.proofs.TreeModel.TurnChanges.{turn-changes_nothing, turn-changes_one_node}
+use Rattle.bus_laws.proofs.TreeModel.FrameKept.{turn-frame}
 use Rattle.tree_rules.specs.Bus.Faces.{parent_face}
 use Rattle.tree_rules.specs.Bus.Rules.{IsBusOk, IsChildOk, IsTreeOk, AreTreesOk, IsMachineOk, items_of_machine}
 use Rattle.bus_laws.specs.KeepsBus.{as_before, IsTopBusOk, KeepsBus}

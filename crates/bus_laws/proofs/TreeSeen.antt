@@ -4,12 +4,12 @@ use Rattle.std.specs.Prelude.{not, ◌&&◌, ◌||◌, nat_eq}
 use Rattle.std.specs.List.{list_any, list_all}
 use Rattle.std.specs.Cmp.Derive.{both_true}
 use Rattle.std.proofs.lemmas.Bool.{eqb-true, and_parts, and_right, or_right}
-use Rattle.tree_model.specs.State.States.{is_shared}
-use Rattle.tree_model.specs.State.Values.{Note, no_note, local, up_read, up_erase, DirValue, Node}
-use Rattle.tree_model.specs.State.Lists.{all_from}
+use Rattle.bus_laws.specs.TreeModel.State.States.{is_shared}
+use Rattle.bus_laws.specs.TreeModel.State.Values.{Note, no_note, local, up_read, up_erase, DirValue, Node}
+use Rattle.bus_laws.specs.TreeModel.State.Lists.{all_from}
 use Rattle.tree_rules.specs.Bus.Faces.{ChildFace, ParentFace, child_face, parent_face, faces_of}
 use Rattle.tree_rules.specs.Bus.Item.{implies, holds_it, holds_exclusive, one_holds, gives_none, gives_one, one_gives, giver_holds, granted_fits, reader_is_granted, reader_is_noted, eraser_is_noted, may_erase, child_passes, eraser_is_granted, Bits, bits_of, ItemRule, answering_held, exclusive_alone, parked_alone, exclusive_covered, queue_in_order, queue_start, inject_covered, erased_shared, hold_follows, local_noted, up_read_noted, data_read, up_erase_noted, erase_end, reads_noted, erases_noted, granted_held, exclusive_noted, giver, givers_held, read_answered, asked_alone, one_request, request_open, request_noted, item_test, ItemRules, asked_below, top_holds}
-use Rattle.tree_model.specs.State.Directory.{is_reader, is_eraser, is_local}
+use Rattle.bus_laws.specs.TreeModel.State.Directory.{is_reader, is_eraser, is_local}
 use Rattle.tree_rules.specs.Bus.Own.{IsDirOk}
 use Rattle.tree_rules.specs.Bus.Rules.{IsBusOk}
 use Rattle.tree_rules.proofs.Implying.{implies-use, implies-by}

@@ -2,8 +2,8 @@
 -- To be believed where a rule is relied on; the order of the witness needs no reader here.
 use Rattle.std.specs.Prelude.{◌≡◌, ℕ, ◌<◌, ◌≤◌, Bool, ◌&&◌, nat_le, List, [], ◌∷◌, length, sum, IsTrue}
 use Rattle.std.specs.List.{list_all}
-use Rattle.ddm_types.specs.ItemTable.{IsItemSize}
-use Rattle.tree_model.specs.Start.Sources.{TreeValue, bus_widths}
+use Rattle.bus_laws.specs.DdmTypes.ItemTable.{IsItemSize}
+use Rattle.bus_laws.specs.TreeModel.Start.Sources.{TreeValue, bus_widths}
 
 -- a number of children that a bus may have
 abbrev pub is_width : ℕ → Bool

@@ -3,13 +3,13 @@
 -- To be believed where a rule is relied on; the order of the witness needs no reader here.
 use Rattle.std.specs.Prelude.{◌≡◌, ℕ, ◌+◌, ◌<◌, true, false, List, length, IsTrue}
 use Rattle.std.specs.List.{AllByRecursion}
-use Rattle.ddm_types.specs.declared.sizes.Hold.{Hold}
-use Rattle.ddm_types.specs.declared.keys.Stamp.{Stamp}
-use Rattle.ddm_types.specs.Keys.{stamp_zero}
-use Rattle.tree_model.specs.State.States.{is_held}
-use Rattle.tree_model.specs.State.Values.{DirValue, Node}
-use Rattle.tree_model.specs.State.Leaf.{words_of_item}
-use Rattle.tree_model.specs.Turns.Grant.{Outcome}
+use Rattle.bus_laws.specs.DdmTypes.declared.sizes.Hold.{Hold}
+use Rattle.bus_laws.specs.DdmTypes.declared.keys.Stamp.{Stamp}
+use Rattle.bus_laws.specs.DdmTypes.Keys.{stamp_zero}
+use Rattle.bus_laws.specs.TreeModel.State.States.{is_held}
+use Rattle.bus_laws.specs.TreeModel.State.Values.{DirValue, Node}
+use Rattle.bus_laws.specs.TreeModel.State.Leaf.{words_of_item}
+use Rattle.bus_laws.specs.TreeModel.Turns.Grant.{Outcome}
 use Rattle.tree_rules.specs.Bus.Faces.{ChildFace, parent_face, face_above, faces_of}
 use Rattle.tree_rules.specs.Bus.Own.{IsTopOk}
 use Rattle.tree_rules.specs.Bus.Item.{bits_of, top_holds}

@@ -1,7 +1,7 @@
 -- What a hart's turn keeps of its leaf.
 -- To be believed where a rule is relied on; the order of the witness needs no reader here.
 use Rattle.std.specs.Prelude.{◌≡◌, ℕ}
-use Rattle.tree_model.specs.State.Values.{LeafValue}
+use Rattle.bus_laws.specs.TreeModel.State.Values.{LeafValue}
 use Rattle.tree_rules.specs.Bus.Faces.{leaf_face}
 use Rattle.tree_rules.specs.Bus.Own.{IsLeafOk}
 

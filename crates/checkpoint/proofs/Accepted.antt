@@ -6,20 +6,20 @@ use Rattle.std.specs.Int.{w32, to_le_bytes}
 use Rattle.std.proofs.Common.{ap, sym, ◌∙◌, arith, length-append, append-nil, true≢false}
 use Rattle.std.proofs.lemmas.Bool.{eqb-true, ltb-false}
 use Rattle.std.proofs.lemmas.List.{nil_from_length, take_all}
-use Rattle.tree_model.specs.State.Values.{Node, Nodes, leaf_node, dir_node, no_nodes, more_nodes, MachineValue, root_of}
-use Rattle.tree_model.specs.State.Shape.{Skeleton, Skeletons, leaf_bone, dir_bone, no_bones, more_bones, skeleton, skeletons, Frame, frame_of, leaf_numbers_of, buses_of}
-use Rattle.tree_model.specs.State.Lists.{first_some}
-use Rattle.tree_model.proofs.Tests.{first_some-none_first, first_some-none_second}
-use Rattle.ddm_types.specs.ItemTable.{item_count}
-use Rattle.text_model.specs.declared.RunCounts.{RunCounts}
-use Rattle.state_words.specs.declared.MachineSizes.{MachineSizes}
-use Rattle.state_words.specs.Machine.{way_count_of, first_way_count, sizes_of, state_words, head_words, checkpoint_words, checkpoint_bytes}
-use Rattle.state_reading.specs.declared.StateRefusal.{StateRefusal}
-use Rattle.state_reading.specs.Reading.{Read, and_then}
-use Rattle.state_reading.specs.Machine.{read_words}
-use Rattle.state_judging.specs.Judged.{judged, unless_judged, read_state}
-use Rattle.state_judging.specs.Read.{CanRead}
-use Rattle.state_judging.proofs.MachineRead.{what_is_read}
+use Rattle.checkpoint.specs.TreeModel.State.Values.{Node, Nodes, leaf_node, dir_node, no_nodes, more_nodes, MachineValue, root_of}
+use Rattle.checkpoint.specs.TreeModel.State.Shape.{Skeleton, Skeletons, leaf_bone, dir_bone, no_bones, more_bones, skeleton, skeletons, Frame, frame_of, leaf_numbers_of, buses_of}
+use Rattle.checkpoint.specs.TreeModel.State.Lists.{first_some}
+use Rattle.checkpoint.proofs.TreeModel.Tests.{first_some-none_first, first_some-none_second}
+use Rattle.checkpoint.specs.DdmTypes.ItemTable.{item_count}
+use Rattle.checkpoint.specs.TextModel.declared.RunCounts.{RunCounts}
+use Rattle.checkpoint.specs.StateWords.declared.MachineSizes.{MachineSizes}
+use Rattle.checkpoint.specs.StateWords.Machine.{way_count_of, first_way_count, sizes_of, state_words, head_words, checkpoint_words, checkpoint_bytes}
+use Rattle.checkpoint.specs.StateReading.declared.StateRefusal.{StateRefusal}
+use Rattle.checkpoint.specs.StateReading.Reading.{Read, and_then}
+use Rattle.checkpoint.specs.StateReading.Machine.{read_words}
+use Rattle.checkpoint.specs.StateJudging.Judged.{judged, unless_judged, read_state}
+use Rattle.checkpoint.specs.StateJudging.Read.{CanRead}
+use Rattle.checkpoint.proofs.StateJudging.MachineRead.{what_is_read}
 use Rattle.spelling_laws.proofs.Machine.{accepted-spelled}
 use Rattle.checkpoint.specs.declared.ResumeRefusal.{ResumeRefusal}
 use Rattle.checkpoint.specs.Saved.{saved}

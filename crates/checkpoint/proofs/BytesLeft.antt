@@ -3,12 +3,12 @@ use Rattle.std.proofs.Common.{◌≡◌, ℕ, ◌+◌, ◌≤◌, List, [], ◌�
 use Rattle.std.specs.List.{flat_map}
 use Rattle.std.proofs.lemmas.List.{drop_all, drop-drop, take-append-drop}
 use Rattle.std.proofs.lemmas.Grind.{flat_map-append}
-use Rattle.ddm_types.specs.declared.operations.Op.{Op}
-use Rattle.tree_model.specs.State.Values.{MachineValue}
-use Rattle.text_model.specs.declared.RunCounts.{RunCounts}
-use Rattle.state_words.specs.Parts.{op_words}
-use Rattle.state_words.specs.Machine.{checkpoint_bytes, checkpoint_words, head_words, sizes_of, state_words}
-use Rattle.ddm_tree.specs.Written.{tree_words}
+use Rattle.checkpoint.specs.DdmTypes.declared.operations.Op.{Op}
+use Rattle.checkpoint.specs.TreeModel.State.Values.{MachineValue}
+use Rattle.checkpoint.specs.TextModel.declared.RunCounts.{RunCounts}
+use Rattle.checkpoint.specs.StateWords.Parts.{op_words}
+use Rattle.checkpoint.specs.StateWords.Machine.{checkpoint_bytes, checkpoint_words, head_words, sizes_of, state_words}
+use Rattle.checkpoint.specs.DdmTree.Written.{tree_words}
 use Rattle.checkpoint.specs.Saved.{saved}
 use Rattle.checkpoint.specs.PiecesLeft.{bytes_left, front_words}
 use Rattle.checkpoint.proofs.WordBytes.{bytes_of, bytes-append}

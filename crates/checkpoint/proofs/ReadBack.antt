@@ -3,17 +3,17 @@
 use Rattle.std.specs.Prelude.{◌≡◌, ℕ, ◌+◌, ◌*◌, ◌≤◌, true, false, nat_eq, nat_lt, nat_le, List, [], ◌∷◌, ◌++◌, length, Some, None, Ok, Err, refl, if◌then◌else◌}
 use Rattle.std.proofs.Common.{ap, sym, ◌∙◌, subst, arith, append-nil}
 use Rattle.std.proofs.lemmas.Bool.{eq-eqb, le-leb, le-ltb}
-use Rattle.tree_model.specs.State.Lists.{first_some}
-use Rattle.tree_model.specs.State.Values.{MachineValue}
-use Rattle.tree_model.specs.State.Shape.{frame_of, shape_test, IsShaped}
-use Rattle.text_model.specs.declared.RunCounts.{RunCounts}
-use Rattle.state_words.specs.declared.MachineSizes.{MachineSizes}
-use Rattle.state_words.specs.Machine.{sizes_of, state_words, head_words, checkpoint_words, checkpoint_bytes}
-use Rattle.state_reading.specs.Parts.{most_counted}
-use Rattle.state_reading.specs.Reading.{and_then}
-use Rattle.state_reading.specs.Machine.{read_words}
-use Rattle.state_judging.specs.Judged.{judged, unless_judged, read_state}
-use Rattle.state_judging.specs.Read.{CanRead}
+use Rattle.checkpoint.specs.TreeModel.State.Lists.{first_some}
+use Rattle.checkpoint.specs.TreeModel.State.Values.{MachineValue}
+use Rattle.checkpoint.specs.TreeModel.State.Shape.{frame_of, shape_test, IsShaped}
+use Rattle.checkpoint.specs.TextModel.declared.RunCounts.{RunCounts}
+use Rattle.checkpoint.specs.StateWords.declared.MachineSizes.{MachineSizes}
+use Rattle.checkpoint.specs.StateWords.Machine.{sizes_of, state_words, head_words, checkpoint_words, checkpoint_bytes}
+use Rattle.checkpoint.specs.StateReading.Parts.{most_counted}
+use Rattle.checkpoint.specs.StateReading.Reading.{and_then}
+use Rattle.checkpoint.specs.StateReading.Machine.{read_words}
+use Rattle.checkpoint.specs.StateJudging.Judged.{judged, unless_judged, read_state}
+use Rattle.checkpoint.specs.StateJudging.Read.{CanRead}
 use Rattle.spelling_laws.specs.Small.{IsSmall}
 use Rattle.spelling_laws.specs.Spelled.{IsSpelled}
 use Rattle.spelling_laws.proofs.MachineTaken.{spelled-read}

@@ -2,24 +2,24 @@
 -- Letters: m is a machine, t a turn, ts are turns, a is an answer.
 use Rattle.std.specs.Prelude.{◌≡◌, ℕ, ◌+◌, ◌/◌, ◌<◌, ◌≤◌, true, List, [], ◌∷◌, length, Option, Some, None, Ok, refl}
 use Rattle.std.proofs.Common.{ap, sym, ◌∙◌, subst, arith, length-append}
-use Rattle.ddm_types.specs.declared.answers.TurnAnswer.{TurnAnswer}
-use Rattle.ddm_types.specs.declared.turns.Turn.{Turn}
-use Rattle.ddm_types.specs.ItemTable.{item_count}
-use Rattle.tree_model.specs.State.Values.{Node, leaf_node, dir_node, MachineValue}
-use Rattle.tree_model.specs.State.Shape.{Frame, frame_of, leaf_numbers_of, buses_of}
-use Rattle.tree_model.specs.Start.Sources.{ImageValue, TreeValue}
-use Rattle.tree_model.specs.Start.Machine.{start_machine, start_refusal, start_or, start_of}
-use Rattle.tree_model.specs.Turns.Machine.{turn_answer, turn_root, with_root, recorded, turned_by, turn_of, run_of}
-use Rattle.tree_model.proofs.FrameKept.{run-frame}
-use Rattle.text_model.specs.declared.RunCounts.{RunCounts}
-use Rattle.text_model.specs.Run.{counted_answer, counts_of}
-use Rattle.bus_laws.specs.IsTree.{IsTree}
-use Rattle.value_laws.specs.Images.{IsOfBytes}
-use Rattle.value_laws.proofs.RunForm.{every-run-form, greater-form}
-use Rattle.headline.proofs.Runs.{run-in_order}
-use Rattle.state_reading.specs.Parts.{most_counted}
-use Rattle.state_judging.proofs.Judging.{kept_rules_are_judged_so}
-use Rattle.state_judging.proofs.Started.{started_machines_can_be_read}
+use Rattle.checkpoint.specs.DdmTypes.declared.answers.TurnAnswer.{TurnAnswer}
+use Rattle.checkpoint.specs.DdmTypes.declared.turns.Turn.{Turn}
+use Rattle.checkpoint.specs.DdmTypes.ItemTable.{item_count}
+use Rattle.checkpoint.specs.TreeModel.State.Values.{Node, leaf_node, dir_node, MachineValue}
+use Rattle.checkpoint.specs.TreeModel.State.Shape.{Frame, frame_of, leaf_numbers_of, buses_of}
+use Rattle.checkpoint.specs.TreeModel.Start.Sources.{ImageValue, TreeValue}
+use Rattle.checkpoint.specs.TreeModel.Start.Machine.{start_machine, start_refusal, start_or, start_of}
+use Rattle.checkpoint.specs.TreeModel.Turns.Machine.{turn_answer, turn_root, with_root, recorded, turned_by, turn_of, run_of}
+use Rattle.checkpoint.proofs.TreeModel.FrameKept.{run-frame}
+use Rattle.checkpoint.specs.TextModel.declared.RunCounts.{RunCounts}
+use Rattle.checkpoint.specs.TextModel.Run.{counted_answer, counts_of}
+use Rattle.checkpoint.specs.BusLaws.IsTree.{IsTree}
+use Rattle.checkpoint.specs.ValueLaws.Images.{IsOfBytes}
+use Rattle.checkpoint.proofs.ValueLaws.RunForm.{every-run-form, greater-form}
+use Rattle.checkpoint.proofs.HeadlineCrate.Runs.{run-in_order}
+use Rattle.checkpoint.specs.StateReading.Parts.{most_counted}
+use Rattle.checkpoint.proofs.StateJudging.Judging.{kept_rules_are_judged_so}
+use Rattle.checkpoint.proofs.StateJudging.Started.{started_machines_can_be_read}
 use Rattle.spelling_laws.specs.Small.{rooms_small, IsSmall, HasSmallSizes}
 use Rattle.spelling_laws.proofs.Ruled.{ruled-spelled}
 use Rattle.spelling_laws.proofs.StartSmall.{started-small}

@@ -3,13 +3,13 @@
 use Rattle.std.specs.Prelude.{◌≡◌, ◌≢◌, ◌*◌, ◌<◌, ◌≤◌, ℕ, List, Some, None, Result, Ok, Err, drop, length, slice_index, if◌then◌else◌}
 use Rattle.std.proofs.Common.{ap, subst, sym, ◌∙◌}
 use Rattle.std.proofs.lemmas.Bool.{lt-ltb, le-ltb}
-use Rattle.tree_model.specs.State.Values.{MachineValue}
-use Rattle.text_model.specs.declared.RunCounts.{RunCounts}
-use Rattle.state_words.specs.declared.MachineSizes.{MachineSizes}
-use Rattle.state_words.specs.Machine.{sizes_of}
-use Rattle.state_reading.specs.declared.StateRefusal.{StateRefusal}
-use Rattle.state_reading.specs.Reading.{Read}
-use Rattle.state_judging.specs.Judged.{read_state}
+use Rattle.checkpoint.specs.TreeModel.State.Values.{MachineValue}
+use Rattle.checkpoint.specs.TextModel.declared.RunCounts.{RunCounts}
+use Rattle.checkpoint.specs.StateWords.declared.MachineSizes.{MachineSizes}
+use Rattle.checkpoint.specs.StateWords.Machine.{sizes_of}
+use Rattle.checkpoint.specs.StateReading.declared.StateRefusal.{StateRefusal}
+use Rattle.checkpoint.specs.StateReading.Reading.{Read}
+use Rattle.checkpoint.specs.StateJudging.Judged.{read_state}
 use Rattle.checkpoint.specs.declared.ResumeRefusal.{ResumeRefusal}
 use Rattle.checkpoint.specs.Resumed.{Resumed, counts_in, file_refusal, judged_head, resumed, resumed_by, resumed_unless, whole_words}
 

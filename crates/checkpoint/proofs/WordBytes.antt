@@ -4,8 +4,8 @@ use Rattle.std.specs.List.{flat_map}
 use Rattle.std.specs.Int.{w32, to_le_bytes}
 use Rattle.std.proofs.lemmas.List.{append-nil, take_more}
 use Rattle.std.proofs.lemmas.Grind.{flat_map-append}
-use Rattle.ddm_types.specs.declared.operations.Op.{Op}
-use Rattle.state_words.specs.Parts.{op_words}
+use Rattle.checkpoint.specs.DdmTypes.declared.operations.Op.{Op}
+use Rattle.checkpoint.specs.StateWords.Parts.{op_words}
 
 abbrev pub bytes_of : List ℕ → List ℕ
 bytes_of ws = flat_map (to_le_bytes w32) ws

@@ -1,9 +1,9 @@
 -- One name that opens every definition that a checkpoint of a run computes with.
 -- Proofs alone need it.
-use Rattle.tree_rules.specs.Computing.{rules_compute}
-use Rattle.text_model.specs.Run.{counts_of}
-use Rattle.state_reading.specs.Computing.{reading_computes}
-use Rattle.state_judging.specs.Judged.{judged, read_state}
+use Rattle.checkpoint.specs.TreeRules.Computing.{rules_compute}
+use Rattle.checkpoint.specs.TextModel.Run.{counts_of}
+use Rattle.checkpoint.specs.StateReading.Computing.{reading_computes}
+use Rattle.checkpoint.specs.StateJudging.Judged.{judged, read_state}
 use Rattle.checkpoint.specs.Resumed.{resumed}
 use Rattle.checkpoint.specs.Examples.{untouched, judgement}
 

@@ -1,8 +1,8 @@
 -- Two harts that store to one word, saved and read back after each turn; and the file before the first turn with one mistake.
 use Rattle.std.specs.Prelude.{◌≡◌, ℕ, true, List, [], ◌∷◌, ◌++◌, length, slice_set, take, Result, Ok, Err}
 use Rattle.std.specs.List.{list_all, range_with_len}
-use Rattle.tree_rules.specs.Examples.{two_writers_after}
-use Rattle.text_model.specs.Run.{no_counts}
+use Rattle.checkpoint.specs.TreeRules.Examples.{two_writers_after}
+use Rattle.checkpoint.specs.TextModel.Run.{no_counts}
 use Rattle.checkpoint.specs.declared.ResumeRefusal.{ResumeRefusal}
 use Rattle.checkpoint.specs.Saved.{saved}
 use Rattle.checkpoint.specs.Resumed.{Resumed, resumed}

@@ -1,8 +1,8 @@
 -- Counts that a checkpoint may have.
 -- To be believed with the laws: it is what they speak of.
 use Rattle.std.specs.Prelude.{◌≤◌}
-use Rattle.text_model.specs.declared.RunCounts.{RunCounts}
-use Rattle.state_reading.specs.Parts.{most_counted}
+use Rattle.checkpoint.specs.TextModel.declared.RunCounts.{RunCounts}
+use Rattle.checkpoint.specs.StateReading.Parts.{most_counted}
 
 -- none is above what a checkpoint may say
 pub record CountsFit (c : RunCounts) : Type 0 where

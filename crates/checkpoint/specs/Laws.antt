@@ -2,19 +2,19 @@
 -- Letters: m is a machine, fresh the one before its first turn of the same tree and image.
 use Rattle.std.specs.Prelude.{◌≡◌, ◌<◌, ◌≤◌, ℕ, Bool, true, false, ◌&&◌, nat_eq, List, [], ◌∷◌, length, Result, Ok, Err}
 use Rattle.std.specs.List.{AllByRecursion}
-use Rattle.ddm_types.specs.declared.turns.Turn.{Turn}
-use Rattle.tree_model.specs.State.Values.{MachineValue}
-use Rattle.tree_model.specs.Turns.Machine.{run_of}
-use Rattle.tree_model.specs.Start.Sources.{ImageValue, TreeValue}
-use Rattle.tree_model.specs.Start.Machine.{start_of}
-use Rattle.bus_laws.specs.IsTree.{IsTree}
-use Rattle.value_laws.specs.Images.{IsOfBytes}
-use Rattle.text_model.specs.Run.{counts_of}
-use Rattle.state_words.specs.Machine.{state_words}
-use Rattle.state_reading.specs.declared.StateRefusal.{StateRefusal}
-use Rattle.state_reading.specs.Reading.{Read}
-use Rattle.state_judging.specs.Judged.{read_state}
-use Rattle.state_judging.specs.Read.{CanRead}
+use Rattle.checkpoint.specs.DdmTypes.declared.turns.Turn.{Turn}
+use Rattle.checkpoint.specs.TreeModel.State.Values.{MachineValue}
+use Rattle.checkpoint.specs.TreeModel.Turns.Machine.{run_of}
+use Rattle.checkpoint.specs.TreeModel.Start.Sources.{ImageValue, TreeValue}
+use Rattle.checkpoint.specs.TreeModel.Start.Machine.{start_of}
+use Rattle.checkpoint.specs.BusLaws.IsTree.{IsTree}
+use Rattle.checkpoint.specs.ValueLaws.Images.{IsOfBytes}
+use Rattle.checkpoint.specs.TextModel.Run.{counts_of}
+use Rattle.checkpoint.specs.StateWords.Machine.{state_words}
+use Rattle.checkpoint.specs.StateReading.declared.StateRefusal.{StateRefusal}
+use Rattle.checkpoint.specs.StateReading.Reading.{Read}
+use Rattle.checkpoint.specs.StateJudging.Judged.{read_state}
+use Rattle.checkpoint.specs.StateJudging.Read.{CanRead}
 use Rattle.spelling_laws.specs.Small.{HasSmallSizes}
 use Rattle.checkpoint.specs.Saved.{saved}
 use Rattle.checkpoint.specs.Resumed.{Resumed, resumed}

@@ -1,3 +1,16 @@
+pub mod AnyMachine
+pub mod AnyRuns
+pub mod BusLaws
+pub mod DdmText
+pub mod DdmTree
+pub mod DdmTypes
+pub mod StateJudging
+pub mod StateReading
+pub mod StateWords
+pub mod TextModel
+pub mod TreeModel
+pub mod TreeRules
+pub mod ValueLaws
 pub mod Saved
 pub mod PiecesLeft
 pub mod FileBytes

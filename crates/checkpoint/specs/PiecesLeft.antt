@@ -2,12 +2,12 @@
 use Rattle.std.specs.Prelude.{ℕ, Bool, List, [], ◌∷◌, ◌++◌, drop, length, if◌then◌else◌}
 use Rattle.std.specs.List.{flat_map}
 use Rattle.std.specs.Int.{w32, to_le_bytes}
-use Rattle.ddm_types.specs.declared.operations.Op.{Op}
-use Rattle.tree_model.specs.State.Values.{MachineValue}
-use Rattle.text_model.specs.declared.RunCounts.{RunCounts}
-use Rattle.state_words.specs.Parts.{op_words}
-use Rattle.state_words.specs.Machine.{head_words, sizes_of}
-use Rattle.ddm_tree.specs.Written.{tree_words}
+use Rattle.checkpoint.specs.DdmTypes.declared.operations.Op.{Op}
+use Rattle.checkpoint.specs.TreeModel.State.Values.{MachineValue}
+use Rattle.checkpoint.specs.TextModel.declared.RunCounts.{RunCounts}
+use Rattle.checkpoint.specs.StateWords.Parts.{op_words}
+use Rattle.checkpoint.specs.StateWords.Machine.{head_words, sizes_of}
+use Rattle.checkpoint.specs.DdmTree.Written.{tree_words}
 use Rattle.checkpoint.specs.declared.pieces.CheckpointPieces.TheInside.{Inside}
 
 -- the words before those of the operations: of the head, of the tree, and how many operations there are

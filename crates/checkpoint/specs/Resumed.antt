@@ -4,16 +4,16 @@
 -- To be believed: it is how a checkpoint is judged.
 use Rattle.std.specs.Prelude.{ℕ, ◌+◌, ◌*◌, nat_eq, nat_lt, nat_le, List, [], ◌∷◌, drop, length, Option, Some, None, Result, Ok, Err, slice_index, if◌then◌else◌}
 use Rattle.std.specs.Int.{w32, from_le_bytes}
-use Rattle.tree_model.specs.State.Lists.{first_some}
-use Rattle.tree_model.specs.State.Values.{MachineValue}
-use Rattle.text_model.specs.declared.RunCounts.{RunCounts}
-use Rattle.state_words.specs.declared.MachineSizes.{MachineSizes}
-use Rattle.state_words.specs.Machine.{sizes_of}
-use Rattle.state_reading.specs.declared.StateRefusal.{StateRefusal}
-use Rattle.state_reading.specs.Parts.{most_counted}
-use Rattle.state_reading.specs.Reading.{Read}
+use Rattle.checkpoint.specs.TreeModel.State.Lists.{first_some}
+use Rattle.checkpoint.specs.TreeModel.State.Values.{MachineValue}
+use Rattle.checkpoint.specs.TextModel.declared.RunCounts.{RunCounts}
+use Rattle.checkpoint.specs.StateWords.declared.MachineSizes.{MachineSizes}
+use Rattle.checkpoint.specs.StateWords.Machine.{sizes_of}
+use Rattle.checkpoint.specs.StateReading.declared.StateRefusal.{StateRefusal}
+use Rattle.checkpoint.specs.StateReading.Parts.{most_counted}
+use Rattle.checkpoint.specs.StateReading.Reading.{Read}
 use Rattle.checkpoint.specs.declared.ResumeRefusal.{ResumeRefusal}
-use Rattle.state_judging.specs.Judged.{read_state}
+use Rattle.checkpoint.specs.StateJudging.Judged.{read_state}
 
 -- the words of which all four bytes are there
 abbrev pub whole_words : List ℕ → List ℕ

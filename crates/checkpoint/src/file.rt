@@ -4,7 +4,7 @@ ghost use Rattle.std.specs.Int.{w32, to_le_bytes};
 ghost use Rattle.checkpoint.specs.Resumed.{whole_words};
 ghost use Rattle.checkpoint.specs.FileBytes.{AreWords, bytes_in, rest_bytes};
 
-use ddm_types::NoMemory;
+use crate::of_ddm_types::NoMemory;
 use std::alloc::Global;
 use std::marker::Model;
 

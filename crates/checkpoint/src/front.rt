@@ -1,15 +1,15 @@
 ghost use Rattle.std.specs.Prelude.{◌≡◌, length, IfOk, OnOk};
-ghost use Rattle.ddm_text.specs.Adds.{Adds};
-ghost use Rattle.state_words.specs.Machine.{head_words};
-ghost use Rattle.any_machine.specs.Any.{machine_state};
+ghost use Rattle.checkpoint.specs.DdmText.Adds.{Adds};
+ghost use Rattle.checkpoint.specs.StateWords.Machine.{head_words};
+ghost use Rattle.checkpoint.specs.AnyMachine.Any.{machine_state};
 ghost use Rattle.checkpoint.specs.PiecesLeft.{front_words};
 
-use any_machine::AnyMachine;
+use crate::of_any_machine::AnyMachine;
+use crate::of_ddm_types::NoMemory;
+use crate::of_state_words::{MachineSizes, push_words};
+use crate::of_text_model::RunCounts;
 use any_states::{sizes, write_tree};
-use ddm_types::NoMemory;
-use state_words::{MachineSizes, push_words};
 use std::alloc::Global;
-use text_model::RunCounts;
 
 /// The name of the format, `DDMC`, and its version.
 const NAME: u32 = 0x434d_4444;

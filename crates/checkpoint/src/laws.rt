@@ -1,11 +1,11 @@
 //! What is accepted as a checkpoint and what is read back, as theorems: there is nothing to run.
 
 ghost use Rattle.std.specs.Prelude.{◌≡◌, ◌≤◌, length, None, Ok};
-ghost use Rattle.tree_model.specs.State.Values.{MachineValue};
-ghost use Rattle.tree_model.specs.State.Shape.{frame_of};
-ghost use Rattle.text_model.specs.declared.RunCounts.{RunCounts};
-ghost use Rattle.state_judging.specs.Judged.{judged};
-ghost use Rattle.state_judging.specs.Read.{CanRead};
+ghost use Rattle.checkpoint.specs.TreeModel.State.Values.{MachineValue};
+ghost use Rattle.checkpoint.specs.TreeModel.State.Shape.{frame_of};
+ghost use Rattle.checkpoint.specs.TextModel.declared.RunCounts.{RunCounts};
+ghost use Rattle.checkpoint.specs.StateJudging.Judged.{judged};
+ghost use Rattle.checkpoint.specs.StateJudging.Read.{CanRead};
 ghost use Rattle.spelling_laws.specs.Small.{IsSmall};
 ghost use Rattle.spelling_laws.specs.Spelled.{IsSpelled};
 ghost use Rattle.checkpoint.specs.Saved.{saved};

@@ -8,11 +8,17 @@ pub mod examples;
 mod file;
 mod front;
 pub mod laws;
+pub mod of_any_machine;
+pub mod of_ddm_types;
+pub mod of_operation_list;
+pub mod of_state_reading;
+pub mod of_state_words;
+pub mod of_text_model;
 mod pieces;
 mod resuming;
 mod saving;
 
-use ddm_types::NoMemory;
+use crate::of_ddm_types::NoMemory;
 pub use file::CheckpointFile;
 pub use pieces::CheckpointPieces;
 pub use resuming::{MOST_BYTES, resume};

@@ -1,19 +1,19 @@
 ghost use Rattle.std.specs.Prelude.{◌≡◌, ◌+◌, ◌-◌, ◌*◌, ◌≤◌, [], ◌++◌, drop, length, take, IfOk};
 ghost use Rattle.std.specs.List.{flat_map};
 ghost use Rattle.std.specs.Int.{w32, to_le_bytes};
-ghost use Rattle.state_words.specs.Parts.{op_words};
-ghost use Rattle.any_machine.specs.Any.{machine_state};
+ghost use Rattle.checkpoint.specs.StateWords.Parts.{op_words};
+ghost use Rattle.checkpoint.specs.AnyMachine.Any.{machine_state};
 ghost use Rattle.checkpoint.specs.Saved.{saved};
 
 use crate::front::front_of;
-use any_machine::AnyMachine;
-use ddm_types::{NoMemory, Op};
-use operation_list::Operations;
+use crate::of_any_machine::AnyMachine;
+use crate::of_ddm_types::{NoMemory, Op};
+use crate::of_operation_list::Operations;
+use crate::of_state_words::{effect_words, key_words};
+use crate::of_text_model::RunCounts;
 use report::{LINE_BYTES, Line, Parts};
-use state_words::{effect_words, key_words};
 use std::alloc::Global;
 use std::marker::Model;
-use text_model::RunCounts;
 
 /// The word behind all others.
 const END: u32 = 0x454d_4444;

@@ -1,19 +1,19 @@
 ghost use Rattle.std.specs.Prelude.{◌≡◌, ◌≢◌, ◌+◌, ◌*◌, ◌<◌, ◌≤◌, ◌^◌, ℕ, List, ◌∷◌, None, Some, Ok, Err, false, drop, length, slice_index, IfOk, IfErr, OnOk, nat_lt};
-ghost use Rattle.tree_model.specs.State.Shape.{frame_of};
-ghost use Rattle.any_machine.specs.Any.{machine_state};
-ghost use Rattle.any_machine.specs.Kind.{kind_of};
-ghost use Rattle.any_runs.specs.Run.{AreBelow};
+ghost use Rattle.checkpoint.specs.TreeModel.State.Shape.{frame_of};
+ghost use Rattle.checkpoint.specs.AnyMachine.Any.{machine_state};
+ghost use Rattle.checkpoint.specs.AnyMachine.Kind.{kind_of};
+ghost use Rattle.checkpoint.specs.AnyRuns.Run.{AreBelow};
 ghost use Rattle.checkpoint.specs.Resumed.{bad_count, bad_head, bad_name, counts_in, file_refusal, judged_head, other_machine, resumed, size_words, whole_words};
 ghost use Rattle.checkpoint.specs.declared.ResumeRefusal.TheVariants as refusal;
 
 use crate::ResumeRefusal;
 use crate::file::CheckpointFile;
-use any_machine::{AnyMachine, release};
+use crate::of_any_machine::{AnyMachine, release};
+use crate::of_state_reading::{MOST_COUNTED, StateRefusal};
+use crate::of_state_words::MachineSizes;
+use crate::of_text_model::RunCounts;
 use any_states::{read_state, sizes};
-use state_reading::{MOST_COUNTED, StateRefusal};
-use state_words::MachineSizes;
 use std::alloc::Global;
-use text_model::RunCounts;
 
 /// The most bytes of a checkpoint that are read.
 pub const MOST_BYTES: u64 = 536_870_912;

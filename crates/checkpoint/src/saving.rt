@@ -1,13 +1,13 @@
 ghost use Rattle.std.specs.Prelude.{◌≡◌, length, IfOk};
-ghost use Rattle.any_machine.specs.Any.{machine_state};
+ghost use Rattle.checkpoint.specs.AnyMachine.Any.{machine_state};
 ghost use Rattle.checkpoint.specs.Saved.{saved};
 
+use crate::of_any_machine::AnyMachine;
+use crate::of_ddm_types::NoMemory;
+use crate::of_text_model::RunCounts;
 use crate::pieces::CheckpointPieces;
-use any_machine::AnyMachine;
-use ddm_types::NoMemory;
 use report::joined;
 use std::alloc::Global;
-use text_model::RunCounts;
 
 /// The checkpoint of a machine whose turns so far came to these counts.
 pub fn save(alloc: Global, machine: &AnyMachine, counts: RunCounts) -> Result<Vec<u8>, NoMemory>

@@ -1,0 +1,5 @@
+pub mod BusLaws
+pub mod DdmTree
+pub mod HeadlineCrate
+pub mod OrderLists
+pub mod StateJudging

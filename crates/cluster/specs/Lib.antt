@@ -1,0 +1,11 @@
+pub mod BusLaws
+pub mod DdmTree
+pub mod DdmTypes
+pub mod ItemStates
+pub mod RvHart
+pub mod SplitBus
+pub mod StateJudging
+pub mod StateReading
+pub mod StateWords
+pub mod TreeModel
+pub mod TreeRules

@@ -1,12 +1,12 @@
 ghost use Rattle.std.specs.Prelude.{◌≡◌, ◌<◌, None, true, map};
-ghost use Rattle.ddm_types.specs.declared.answers.TxKind.TheVariants.{DataTx, InjectTx};
-ghost use Rattle.tree_model.specs.State.Values.{dir_node, leaf_node, nodes};
-ghost use Rattle.tree_model.specs.State.Child.{child_full_for, child_take_data, child_take_inject, reader_has_place};
-ghost use Rattle.item_states.specs.Parts.{node_items};
+ghost use Rattle.cluster.specs.DdmTypes.declared.answers.TxKind.TheVariants.{DataTx, InjectTx};
+ghost use Rattle.cluster.specs.TreeModel.State.Values.{dir_node, leaf_node, nodes};
+ghost use Rattle.cluster.specs.TreeModel.State.Child.{child_full_for, child_take_data, child_take_inject, reader_has_place};
+ghost use Rattle.cluster.specs.ItemStates.Parts.{node_items};
 
 use crate::cluster::Cluster;
-use ddm_types::{BusNo, Hold, ItemId, PendingWhy, QueueName, Stamp, TxKind, Words};
-use item_states::Agent;
+use crate::of_ddm_types::{BusNo, Hold, ItemId, PendingWhy, QueueName, Stamp, TxKind, Words};
+use crate::of_item_states::Agent;
 
 impl<const WAYS: usize, const WORDS: usize> Agent<WORDS> for Cluster<WAYS, WORDS> {
     ghost value = { λ s. dir_node s.dir.state (nodes (map leaf_node s.dir.children.items)) };

@@ -1,9 +1,9 @@
 ghost use Rattle.std.specs.Prelude.{◌≡◌, map, IfOk};
-ghost use Rattle.tree_model.specs.State.Values.{dir_node, leaf_node, nodes};
+ghost use Rattle.cluster.specs.TreeModel.State.Values.{dir_node, leaf_node, nodes};
 
+use crate::of_ddm_types::NoMemory;
+use crate::of_leaf_protocol::Leaf;
 use ddm_tree::Dir;
-use ddm_types::NoMemory;
-use leaf_protocol::Leaf;
 use std::alloc::Global;
 
 /// A directory over leaves.

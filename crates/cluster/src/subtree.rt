@@ -1,14 +1,14 @@
 use crate::cluster::Cluster;
-use bus_judging::ChildFace;
-use ddm_tree::{Found, Idle, Named, Quiet, Section, Subtree, TurnCall};
-use ddm_types::{
+use crate::of_bus_judging::ChildFace;
+use crate::of_ddm_types::{
     BusNo, ChildNo, Hold, ItemId, LeafNo, LeafState, NoMemory, Stamp, TurnAnswer, Words,
 };
-use item_states::DownEntry;
-use rv_hart::Hart;
-use state_reading::StateRefusal;
+use crate::of_item_states::DownEntry;
+use crate::of_rv_hart::Hart;
+use crate::of_state_reading::StateRefusal;
+use crate::of_tree_model::{BusTurn, LeafSpot, TreeChild};
+use ddm_tree::{Found, Idle, Named, Quiet, Section, Subtree, TurnCall};
 use std::alloc::Global;
-use tree_model::{BusTurn, LeafSpot, TreeChild};
 
 impl<const WAYS: usize, const WORDS: usize> Subtree<WORDS> for Cluster<WAYS, WORDS> {
     fn label(&self) -> TreeChild {

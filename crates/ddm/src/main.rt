@@ -1,9 +1,12 @@
 //! `ddm` runs programs on the machine of a tree, turn by turn, and prints what came of it. Its commands are in the README.
 #![tactic(auto)]
 
+pub mod of_ddm_outside;
+pub mod of_ddm_types;
+
+use crate::of_ddm_outside::{FileShelf, StdSink};
+use crate::of_ddm_types::NoMemory;
 use ddm_cli::{Status, code, ddm_main, first_fault, tell};
-use ddm_outside::{FileShelf, StdSink};
-use ddm_types::NoMemory;
 use std::alloc::Global;
 use std::env::{Env, FillError};
 use std::process::ExitCode;

@@ -6,19 +6,19 @@ use Rattle.std.proofs.lemmas.Bool.{leb-true}
 use Rattle.std.proofs.lemmas.Bool.Decides.{nat_tests}
 use Rattle.toml.specs.Parse.{parse_document}
 use Rattle.toml.specs.Data.{Data, Members, as_integer, as_str, get_member}
-use Rattle.tree_model.specs.Start.Sources.{TreeValue}
-use Rattle.ddm_types.specs.declared.sizes.TreeSizes.{TreeSizes}
-use Rattle.bus_laws.specs.IsTree.{IsTree}
-use Rattle.tree_config.specs.Levels.{IsShape, depth_of, is_uneven, leaves_of, levels_of}
-use Rattle.tree_config.specs.Ranges.{AreSizes, highest_end, is_allowed, stacks_end}
-use Rattle.tree_config.specs.ShapeText.{Tree, leaf_tree, group_tree, node_text, read_from, shape_of}
-use Rattle.tree_config.specs.TreeFile.{◌>>=◌, in_range, is_wide, item_bytes_at, judged_reading, judged_tree, key_name, least_unknown, levels_in, number, number_at, number_or, shape_at, shape_text, sizes_at, stack_bytes_at, tree_in, tree_of, tree_of_table, unless_unknown, value_at, whole_number}
-use Rattle.tree_config.specs.declared.refusal.TreeKey.{TreeKey}
-use Rattle.tree_config.specs.declared.refusal.TreeKey.TheVariants as key
-use Rattle.tree_config.specs.declared.refusal.TreeRefusal.{TreeRefusal}
-use Rattle.tree_config.specs.declared.refusal.TreeRefusal.TheVariants as refusal
-use Rattle.tree_config.proofs.Even.{IsShape-levels_of, depth_of-group}
-use Rattle.tree_config.proofs.GrammarScans.{err_ok, shape_of-text}
+use Rattle.ddm_cli.specs.TreeModel.Start.Sources.{TreeValue}
+use Rattle.ddm_cli.specs.DdmTypes.declared.sizes.TreeSizes.{TreeSizes}
+use Rattle.ddm_cli.specs.BusLaws.IsTree.{IsTree}
+use Rattle.ddm_cli.specs.TreeConfig.Levels.{IsShape, depth_of, is_uneven, leaves_of, levels_of}
+use Rattle.ddm_cli.specs.TreeConfig.Ranges.{AreSizes, highest_end, is_allowed, stacks_end}
+use Rattle.ddm_cli.specs.TreeConfig.ShapeText.{Tree, leaf_tree, group_tree, node_text, read_from, shape_of}
+use Rattle.ddm_cli.specs.TreeConfig.TreeFile.{◌>>=◌, in_range, is_wide, item_bytes_at, judged_reading, judged_tree, key_name, least_unknown, levels_in, number, number_at, number_or, shape_at, shape_text, sizes_at, stack_bytes_at, tree_in, tree_of, tree_of_table, unless_unknown, value_at, whole_number}
+use Rattle.ddm_cli.specs.TreeConfig.declared.refusal.TreeKey.{TreeKey}
+use Rattle.ddm_cli.specs.TreeConfig.declared.refusal.TreeKey.TheVariants as key
+use Rattle.ddm_cli.specs.TreeConfig.declared.refusal.TreeRefusal.{TreeRefusal}
+use Rattle.ddm_cli.specs.TreeConfig.declared.refusal.TreeRefusal.TheVariants as refusal
+use Rattle.ddm_cli.proofs.TreeConfig.Even.{IsShape-levels_of, depth_of-group}
+use Rattle.ddm_cli.proofs.TreeConfig.GrammarScans.{err_ok, shape_of-text}
 use Rattle.run_engine.proofs.TreeStart.{tree-is}
 
 -- where two steps pass, each does

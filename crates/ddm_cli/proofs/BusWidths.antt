@@ -7,14 +7,14 @@ use Rattle.std.proofs.lemmas.Bool.{eqb-true, ltb-true}
 use Rattle.std.proofs.lemmas.Bool.Decides.{nat_tests}
 use Rattle.std.proofs.lemmas.List.{length-take-le, length-drop}
 use Rattle.std.proofs.lemmas.List.Concat.{flat_map-cons}
-use Rattle.tree_model.specs.State.Values.{LeafValue, DirSizes, DirValue, Node, Nodes, leaf_node, dir_node, no_nodes, more_nodes, nodes, children}
-use Rattle.tree_model.specs.State.Place.{Where, at_child, where_path, spot_in}
-use Rattle.tree_model.specs.Start.Nodes.{cut_in, dirs_over, under_levels}
-use Rattle.tree_model.specs.Turns.Tree.{Name, bus_of_number, has_node, has_among, of_dir, read_in, read_among}
-use Rattle.tree_model.proofs.Children.{children-nodes}
-use Rattle.bus_laws.specs.IsTree.{AreUnder}
-use Rattle.bus_laws.proofs.StartLevels.{leaf_total, sum-more}
-use Rattle.start_parts.proofs.Levels.{levels-length}
+use Rattle.ddm_cli.specs.TreeModel.State.Values.{LeafValue, DirSizes, DirValue, Node, Nodes, leaf_node, dir_node, no_nodes, more_nodes, nodes, children}
+use Rattle.ddm_cli.specs.TreeModel.State.Place.{Where, at_child, where_path, spot_in}
+use Rattle.ddm_cli.specs.TreeModel.Start.Nodes.{cut_in, dirs_over, under_levels}
+use Rattle.ddm_cli.specs.TreeModel.Turns.Tree.{Name, bus_of_number, has_node, has_among, of_dir, read_in, read_among}
+use Rattle.ddm_cli.proofs.TreeModel.Children.{children-nodes}
+use Rattle.ddm_cli.specs.BusLaws.IsTree.{AreUnder}
+use Rattle.ddm_cli.proofs.BusLaws.StartLevels.{leaf_total, sum-more}
+use Rattle.ddm_cli.proofs.StartParts.Levels.{levels-length}
 
 -- ---- parts of a list
 

@@ -1,11 +1,11 @@
 -- The causes of one file, as those of a command.
 use Rattle.std.proofs.Common.{◌≡◌, ℕ, List, Option, Some, None, Ok, refl}
 use Rattle.std.specs.Prelude.{IfSome}
-use Rattle.ddm_types.specs.ItemTable.{item_count}
-use Rattle.tree_model.specs.Start.Sources.{TreeValue, ImageValue}
-use Rattle.tree_model.specs.Start.Machine.{start_refusal}
-use Rattle.tree_model.specs.Start.Memory.{start_items}
-use Rattle.elf_load.specs.ElfFile.{image_of}
+use Rattle.ddm_cli.specs.DdmTypes.ItemTable.{item_count}
+use Rattle.ddm_cli.specs.TreeModel.Start.Sources.{TreeValue, ImageValue}
+use Rattle.ddm_cli.specs.TreeModel.Start.Machine.{start_refusal}
+use Rattle.ddm_cli.specs.TreeModel.Start.Memory.{start_items}
+use Rattle.ddm_cli.specs.ElfLoad.ElfFile.{image_of}
 use Rattle.ddm_cli.specs.Causes.{AcceptedAs}
 use Rattle.ddm_cli.specs.Lists.{list_refused}
 use Rattle.ddm_cli.specs.Parts.{Parts, parts_for, tree_at}

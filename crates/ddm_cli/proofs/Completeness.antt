@@ -2,19 +2,19 @@
 use Rattle.std.proofs.Common.{◌≡◌, ℕ, Bool, true, false, cond, List, ap, Option, Some, None, Result, Ok, Err, inl, inr, refl, sym, ◌∙◌, arith}
 use Rattle.std.specs.Prelude.{IfSome, IsOkAnd, IsSomeAnd, is_none, option_and_then}
 use Rattle.std.specs.Option.{option_map}
-use Rattle.report.specs.declared.roles.FileRole.TheVariants.{ImageFile, TreeFile, ScheduleFile, WitnessFile, CheckpointFile}
-use Rattle.tree_model.specs.Start.Sources.{TreeValue, ImageValue}
-use Rattle.tree_model.specs.Start.Machine.{StartRefusal, start_machine, start_refusal}
+use Rattle.ddm_cli.specs.ReportCrate.declared.roles.FileRole.TheVariants.{ImageFile, TreeFile, ScheduleFile, WitnessFile, CheckpointFile}
+use Rattle.ddm_cli.specs.TreeModel.Start.Sources.{TreeValue, ImageValue}
+use Rattle.ddm_cli.specs.TreeModel.Start.Machine.{StartRefusal, start_machine, start_refusal}
 use Rattle.checkpoint.specs.Resumed.{Resumed}
 use Rattle.checkpoint.specs.declared.ResumeRefusal.{ResumeRefusal}
-use Rattle.elf_load.specs.ElfFile.{image_of}
-use Rattle.elf_load.specs.declared.refusal.ImageRefusal.{ImageRefusal}
-use Rattle.tree_config.specs.TreeFile.{tree_of}
-use Rattle.tree_config.specs.declared.refusal.TreeKey.{TreeKey}
-use Rattle.tree_config.specs.declared.refusal.TreeRefusal.{TreeRefusal}
+use Rattle.ddm_cli.specs.ElfLoad.ElfFile.{image_of}
+use Rattle.ddm_cli.specs.ElfLoad.declared.refusal.ImageRefusal.{ImageRefusal}
+use Rattle.ddm_cli.specs.TreeConfig.TreeFile.{tree_of}
+use Rattle.ddm_cli.specs.TreeConfig.declared.refusal.TreeKey.{TreeKey}
+use Rattle.ddm_cli.specs.TreeConfig.declared.refusal.TreeRefusal.{TreeRefusal}
 use Rattle.run_engine.specs.Build.{build_refusal, refusal_of}
 use Rattle.run_engine.specs.declared.refusal.BuildRefusal.{BuildRefusal}
-use Rattle.text_model.specs.declared.ScheduleRefusal.{ScheduleRefusal}
+use Rattle.ddm_cli.specs.TextModel.declared.ScheduleRefusal.{ScheduleRefusal}
 use Rattle.ddm_cli.specs.Causes.{HasNoSetting, HasSmallList, IsRefused, IsUnloaded, IsUnresumed, IsUnscheduled, IsUnstarted}
 use Rattle.witness_check.specs.Start.{Setting, check_of, judged}
 use Rattle.witness_check.specs.declared.refusal.CheckRefusal.{CheckRefusal}

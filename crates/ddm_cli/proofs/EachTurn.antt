@@ -1,11 +1,11 @@
 -- The order theorem, of the machine that a tree and an image start.
 use Rattle.std.proofs.Common.{◌≡◌, List, None, Ok, refl}
-use Rattle.ddm_types.specs.declared.turns.Turn.{Turn}
-use Rattle.tree_model.specs.Start.Sources.{TreeValue, ImageValue}
-use Rattle.tree_model.specs.Start.Machine.{flat_start_of, start_machine, start_of, start_refusal}
-use Rattle.tree_rules.specs.Witness.{EachTurnWitnessed}
-use Rattle.bus_laws.specs.IsTree.{IsTree}
-use Rattle.headline.proofs.Runs.{each-turn}
+use Rattle.ddm_cli.specs.DdmTypes.declared.turns.Turn.{Turn}
+use Rattle.ddm_cli.specs.TreeModel.Start.Sources.{TreeValue, ImageValue}
+use Rattle.ddm_cli.specs.TreeModel.Start.Machine.{flat_start_of, start_machine, start_of, start_refusal}
+use Rattle.ddm_cli.specs.TreeRules.Witness.{EachTurnWitnessed}
+use Rattle.ddm_cli.specs.BusLaws.IsTree.{IsTree}
+use Rattle.ddm_cli.proofs.HeadlineCrate.Runs.{each-turn}
 
 pub starts : (t : TreeValue) (i : ImageValue) → start_refusal t i ≡ None → start_of t i ≡ Ok (start_machine t i)
 unfolding start_of

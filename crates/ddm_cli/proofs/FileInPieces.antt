@@ -2,7 +2,7 @@
 use Rattle.std.proofs.Common.{◌≡◌, ℕ, ◌+◌, ◌≤◌, List, ◌++◌, length, take, drop, Option, Some, None, sym, ap, ◌∙◌, append_assoc, length-append, arith}
 use Rattle.std.specs.Prelude.{IfSome}
 use Rattle.std.proofs.lemmas.List.{length-take-le}
-use Rattle.ddm_outside.specs.Telling.{ReadsPart}
+use Rattle.ddm_cli.specs.DdmOutside.Telling.{ReadsPart}
 
 -- what was read is the front of the file, and so it is with a piece more
 pub piece_read : (told : Option (List ℕ)) (read longer into : List ℕ) (at n : ℕ) → IfSome told (λ file. file ≡ read ++ drop (length read) file) → at ≡ length read

@@ -1,9 +1,9 @@
 -- Why there is no machine and no setting of an image file, from what its image comes to.
 use Rattle.std.proofs.Common.{◌≡◌, ℕ, List, Option, Some, None, Result, Ok, Err}
 use Rattle.std.specs.Prelude.{IfOk, IfSome}
-use Rattle.tree_model.specs.Start.Sources.{TreeValue, ImageValue}
-use Rattle.elf_load.specs.ElfFile.{image_of}
-use Rattle.tree_model.specs.Start.Machine.{start_refusal}
+use Rattle.ddm_cli.specs.TreeModel.Start.Sources.{TreeValue, ImageValue}
+use Rattle.ddm_cli.specs.ElfLoad.ElfFile.{image_of}
+use Rattle.ddm_cli.specs.TreeModel.Start.Machine.{start_refusal}
 use Rattle.run_engine.specs.Build.{build_refusal}
 use Rattle.run_engine.specs.declared.refusal.BuildRefusal.{BuildRefusal}
 use Rattle.witness_check.specs.Reader.{ReaderView, begun, setting_of}

@@ -3,28 +3,28 @@ use Rattle.std.proofs.Common.{◌≡◌, ℕ, List, ◌++◌, length, take, Opti
 use Rattle.std.proofs.Math.Seq.{take-length}
 use Rattle.std.specs.Prelude.{IfOk, IfSome, is_none, option_and_then}
 use Rattle.std.specs.Result.{result_ok}
-use Rattle.ddm_types.specs.declared.turns.Turn.{Turn}
-use Rattle.tree_model.specs.Start.Sources.{TreeValue, ImageValue}
-use Rattle.tree_model.specs.Start.Machine.{flat_start_of, start_machine, start_refusal}
-use Rattle.text_model.specs.Run.{EachOutputWitnessed, HasWitnessedOutput}
-use Rattle.tree_model.specs.State.Values.{MachineValue}
-use Rattle.tree_model.specs.Turns.Machine.{run_of}
-use Rattle.ddm_tree.proofs.RulesKept.{run-order}
+use Rattle.ddm_cli.specs.DdmTypes.declared.turns.Turn.{Turn}
+use Rattle.ddm_cli.specs.TreeModel.Start.Sources.{TreeValue, ImageValue}
+use Rattle.ddm_cli.specs.TreeModel.Start.Machine.{flat_start_of, start_machine, start_refusal}
+use Rattle.ddm_cli.specs.TextModel.Run.{EachOutputWitnessed, HasWitnessedOutput}
+use Rattle.ddm_cli.specs.TreeModel.State.Values.{MachineValue}
+use Rattle.ddm_cli.specs.TreeModel.Turns.Machine.{run_of}
+use Rattle.ddm_cli.proofs.DdmTree.RulesKept.{run-order}
 use Rattle.checkpoint.specs.Resumed.{Resumed}
-use Rattle.text_model.proofs.Outputs.{put_texts-same}
-use Rattle.tree_rules.specs.Witness.{EachTurnWitnessed, IsWitnessed}
-use Rattle.bus_laws.specs.IsTree.{IsTree}
-use Rattle.elf_load.specs.ElfFile.{image_of}
-use Rattle.elf_load.specs.declared.refusal.ImageRefusal.{ImageRefusal}
-use Rattle.tree_config.specs.TreeFile.{tree_of}
-use Rattle.tree_config.specs.declared.refusal.TreeRefusal.{TreeRefusal}
+use Rattle.ddm_cli.proofs.TextModel.Outputs.{put_texts-same}
+use Rattle.ddm_cli.specs.TreeRules.Witness.{EachTurnWitnessed, IsWitnessed}
+use Rattle.ddm_cli.specs.BusLaws.IsTree.{IsTree}
+use Rattle.ddm_cli.specs.ElfLoad.ElfFile.{image_of}
+use Rattle.ddm_cli.specs.ElfLoad.declared.refusal.ImageRefusal.{ImageRefusal}
+use Rattle.ddm_cli.specs.TreeConfig.TreeFile.{tree_of}
+use Rattle.ddm_cli.specs.TreeConfig.declared.refusal.TreeRefusal.{TreeRefusal}
 use Rattle.ddm_cli.specs.Commands.{Command, Seeds, to_run, to_list, to_check, to_resume, to_survey, to_say, command_of}
 use Rattle.ddm_cli.specs.Parts.{Parts, if_started, parts_in, parts_of, resumed_at, tree_at, turns_at, turns_of}
 use Rattle.ddm_cli.specs.Told.{ScheduleGiven, image_told, schedule_told}
 use Rattle.ddm_cli.specs.Top.{Both, FilesInOrder, GoesOnInOrder, IsInOrder, OutcomesAreRuns, RestInOrder, RunsInOrder, RunIsWitnessed}
 use Rattle.ddm_cli.proofs.AcceptedTrees.{accepted_tree}
-use Rattle.outcome_model.proofs.Legal.{outcomes-legal}
-use Rattle.schedule_log.specs.Shapes.{shape_view}
+use Rattle.ddm_cli.proofs.OutcomeModel.Legal.{outcomes-legal}
+use Rattle.ddm_cli.specs.ScheduleLog.Shapes.{shape_view}
 use Rattle.ddm_cli.proofs.EachTurn.{each_turn, starts}
 use Rattle.ddm_cli.proofs.RunsInPieces.{machine_append}
 

@@ -2,12 +2,12 @@
 use Rattle.std.proofs.Common.{◌≡◌, ℕ, ◌<◌, List, length, Some, None, Ok, Err, refl}
 use Rattle.std.specs.Prelude.{IsSome}
 use Rattle.std.proofs.lemmas.Bool.{lt-ltb}
-use Rattle.tree_model.specs.Start.Sources.{TreeValue, ImageValue}
-use Rattle.tree_model.specs.Start.Machine.{start_refusal}
-use Rattle.elf_load.specs.ElfFile.{file_refusal, image_of}
-use Rattle.elf_load.specs.declared.refusal.ImageRefusal.TheVariants as image
-use Rattle.tree_config.specs.TreeFile.{tree_of}
-use Rattle.tree_config.specs.declared.refusal.TreeRefusal.TheVariants as tree
+use Rattle.ddm_cli.specs.TreeModel.Start.Sources.{TreeValue, ImageValue}
+use Rattle.ddm_cli.specs.TreeModel.Start.Machine.{start_refusal}
+use Rattle.ddm_cli.specs.ElfLoad.ElfFile.{file_refusal, image_of}
+use Rattle.ddm_cli.specs.ElfLoad.declared.refusal.ImageRefusal.TheVariants as image
+use Rattle.ddm_cli.specs.TreeConfig.TreeFile.{tree_of}
+use Rattle.ddm_cli.specs.TreeConfig.declared.refusal.TreeRefusal.TheVariants as tree
 use Rattle.ddm_cli.specs.Parts.{parts_in, parts_of, tree_at}
 
 pub tree_of-long : (file : List ℕ) → 65536 < length file → tree_of file ≡ Err tree.TooLong

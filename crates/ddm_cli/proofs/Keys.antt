@@ -1,8 +1,8 @@
 -- The keys of tree files are short.
 use Rattle.std.proofs.Common.{◌≤◌, length, arith}
-use Rattle.tree_config.specs.TreeFile.{key_name}
-use Rattle.tree_config.specs.declared.refusal.TreeKey.{TreeKey}
-use Rattle.tree_config.specs.declared.refusal.TreeKey.TheVariants as key
+use Rattle.ddm_cli.specs.TreeConfig.TreeFile.{key_name}
+use Rattle.ddm_cli.specs.TreeConfig.declared.refusal.TreeKey.{TreeKey}
+use Rattle.ddm_cli.specs.TreeConfig.declared.refusal.TreeKey.TheVariants as key
 
 pub key_short : (k : TreeKey) → length (key_name k) ≤ 11
 key_short key.Shape = omega arith

@@ -3,17 +3,17 @@ use Rattle.std.proofs.Common.{◌≡◌, ℕ, ◌*◌, Bool, true, false, List, 
 use Rattle.std.specs.Prelude.{nat_le, nat_lt}
 use Rattle.std.specs.Cmp.Derive.{both_true}
 use Rattle.std.proofs.lemmas.Bool.Decides.{nat_tests}
-use Rattle.ddm_types.specs.ItemTable.{item_count}
-use Rattle.ddm_types.specs.declared.sizes.TreeSizes.{TreeSizes}
-use Rattle.ddm_types.specs.declared.turns.Turn.{Turn}
-use Rattle.tree_model.specs.State.Values.{MachineValue}
-use Rattle.tree_model.specs.Start.Sources.{TreeValue, ImageValue}
-use Rattle.tree_model.specs.Start.Memory.{start_items}
-use Rattle.tree_model.specs.Start.Machine.{start_machine}
-use Rattle.tree_model.specs.Turns.Machine.{run_of}
-use Rattle.jam_laws.specs.GoesOn.{has_large_lists, sizes_are_large}
-use Rattle.jam_laws.proofs.LargeLists.{made-large, run-large}
-use Rattle.ddm_tree.specs.Machine.{MachineState}
+use Rattle.ddm_cli.specs.DdmTypes.ItemTable.{item_count}
+use Rattle.ddm_cli.specs.DdmTypes.declared.sizes.TreeSizes.{TreeSizes}
+use Rattle.ddm_cli.specs.DdmTypes.declared.turns.Turn.{Turn}
+use Rattle.ddm_cli.specs.TreeModel.State.Values.{MachineValue}
+use Rattle.ddm_cli.specs.TreeModel.Start.Sources.{TreeValue, ImageValue}
+use Rattle.ddm_cli.specs.TreeModel.Start.Memory.{start_items}
+use Rattle.ddm_cli.specs.TreeModel.Start.Machine.{start_machine}
+use Rattle.ddm_cli.specs.TreeModel.Turns.Machine.{run_of}
+use Rattle.ddm_cli.specs.JamLaws.GoesOn.{has_large_lists, sizes_are_large}
+use Rattle.ddm_cli.proofs.JamLaws.LargeLists.{made-large, run-large}
+use Rattle.ddm_cli.specs.DdmTree.Machine.{MachineState}
 use Rattle.ddm_cli.specs.Lists.{list_refused, small_list}
 use Rattle.ddm_cli.specs.Parts.{HasStart, IsStart}
 use Rattle.ddm_cli.specs.declared.command.Prints.{Prints}

@@ -1,3 +1,16 @@
+pub mod AnyRuns
+pub mod BusLaws
+pub mod DdmTree
+pub mod ElfLoad
+pub mod HeadlineCrate
+pub mod JamLaws
+pub mod OutcomeModel
+pub mod ReportCrate
+pub mod ScheduleLog
+pub mod StartParts
+pub mod TextModel
+pub mod TreeConfig
+pub mod TreeModel
 pub mod Judged
 pub mod Telling
 pub mod Numbers

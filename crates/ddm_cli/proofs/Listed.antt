@@ -1,8 +1,8 @@
 -- The lines of turns, one line after the other.
 use Rattle.std.proofs.Common.{◌≡◌, ◌<◌, ℕ, ◌+◌, ◌++◌, List, [], ◌∷◌, length, length-append, refl, sym, ap, ◌∙◌, append_assoc, arith, false, Bool}
 use Rattle.std.specs.Prelude.{codes}
-use Rattle.ddm_types.specs.declared.turns.Turn.{Turn}
-use Rattle.text_model.specs.Schedule.{schedule_text, turn_line, turn_lines, turn_text}
+use Rattle.ddm_cli.specs.DdmTypes.declared.turns.Turn.{Turn}
+use Rattle.ddm_cli.specs.TextModel.Schedule.{schedule_text, turn_line, turn_lines, turn_text}
 use Rattle.ddm_cli.specs.Listing.{lines_left}
 
 -- the next turn's line is put behind those that are there

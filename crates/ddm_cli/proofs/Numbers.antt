@@ -5,7 +5,7 @@ use Rattle.std.specs.List.{flat_map}
 use Rattle.std.proofs.Math.Seq.{take-suc}
 use Rattle.std.proofs.lemmas.List.{append-nil}
 use Rattle.std.proofs.lemmas.Grind.{flat_map-append}
-use Rattle.text_model.specs.Faults.{number_text, number_texts}
+use Rattle.ddm_cli.specs.TextModel.Faults.{number_text, number_texts}
 
 number_texts_more : (numbers : List ℕ) (k d : ℕ) → k < length numbers → number_texts (take (k + 1) numbers) ≡ number_texts (take k numbers) ++ number_text (slice_index_or numbers k d)
 unfolding number_texts

@@ -2,24 +2,24 @@
 use Rattle.std.proofs.Common.{◌≡◌, ℕ, ◌<◌, ◌≤◌, true, List, length, Option, Some, None, Ok, Err, refl, sym, ap, ◌∙◌, subst, arith}
 use Rattle.std.specs.Prelude.{IfSome, IsSome}
 use Rattle.std.proofs.lemmas.List.Elements.{All-weaker}
-use Rattle.tree_model.specs.Turns.Machine.{names_part}
+use Rattle.ddm_cli.specs.TreeModel.Turns.Machine.{names_part}
 use Rattle.std.proofs.lemmas.Bool.{lt-ltb}
-use Rattle.ddm_types.specs.declared.turns.Turn.{Turn}
-use Rattle.tree_model.specs.Start.Sources.{TreeValue, ImageValue}
-use Rattle.tree_model.specs.Start.Machine.{start_machine, start_refusal}
-use Rattle.tree_model.specs.State.Shape.{frame_of}
-use Rattle.tree_model.specs.State.Values.{MachineValue}
-use Rattle.text_model.specs.declared.RunCounts.{RunCounts}
-use Rattle.bus_laws.specs.IsTree.{IsTree}
-use Rattle.start_parts.proofs.Names.{frame-names}
-use Rattle.ddm_tree.specs.Machine.{MachineState}
-use Rattle.any_runs.specs.Run.{AreBelow}
-use Rattle.elf_load.specs.ElfFile.{image_of}
+use Rattle.ddm_cli.specs.DdmTypes.declared.turns.Turn.{Turn}
+use Rattle.ddm_cli.specs.TreeModel.Start.Sources.{TreeValue, ImageValue}
+use Rattle.ddm_cli.specs.TreeModel.Start.Machine.{start_machine, start_refusal}
+use Rattle.ddm_cli.specs.TreeModel.State.Shape.{frame_of}
+use Rattle.ddm_cli.specs.TreeModel.State.Values.{MachineValue}
+use Rattle.ddm_cli.specs.TextModel.declared.RunCounts.{RunCounts}
+use Rattle.ddm_cli.specs.BusLaws.IsTree.{IsTree}
+use Rattle.ddm_cli.proofs.StartParts.Names.{frame-names}
+use Rattle.ddm_cli.specs.DdmTree.Machine.{MachineState}
+use Rattle.ddm_cli.specs.AnyRuns.Run.{AreBelow}
+use Rattle.ddm_cli.specs.ElfLoad.ElfFile.{image_of}
 use Rattle.checkpoint.specs.Resumed.{Resumed, resumed}
 use Rattle.checkpoint.specs.declared.ResumeRefusal.{ResumeRefusal}
 use Rattle.checkpoint.specs.declared.ResumeRefusal.TheVariants as resume
-use Rattle.report.specs.declared.roles.FileRole.TheVariants.{ImageFile, TreeFile, ScheduleFile, WitnessFile, CheckpointFile}
-use Rattle.report.proofs.Written.{rose_before}
+use Rattle.ddm_cli.specs.ReportCrate.declared.roles.FileRole.TheVariants.{ImageFile, TreeFile, ScheduleFile, WitnessFile, CheckpointFile}
+use Rattle.ddm_cli.proofs.ReportCrate.Written.{rose_before}
 use Rattle.ddm_cli.specs.Causes.{AcceptedAs, CheckpointCause, IsUnresumed, IsUnscheduled, ScheduleCause}
 use Rattle.ddm_cli.specs.Commands.{Resumption}
 use Rattle.ddm_cli.specs.Made.{CanGoOn}

@@ -4,32 +4,32 @@ use Rattle.std.specs.Prelude.{All, IfOk, IfSome, Result, if◌then◌else◌}
 use Rattle.std.proofs.lemmas.List.{append-nil, length-append, take-append-drop}
 use Rattle.std.proofs.Math.Seq.{take-append_seam}
 use Rattle.std.proofs.lemmas.List.Elements.{All-drop, All-take, All-weaker}
-use Rattle.ddm_types.specs.declared.answers.TurnAnswer.{TurnAnswer}
-use Rattle.ddm_types.specs.declared.turns.Turn.{Turn}
-use Rattle.tree_model.specs.State.Values.{MachineValue}
-use Rattle.tree_model.specs.Start.Sources.{TreeValue}
-use Rattle.tree_model.specs.Turns.Machine.{names_part, run_of, turn_of}
-use Rattle.text_model.specs.declared.RunCounts.{RunCounts}
-use Rattle.text_model.specs.ReadBack.{GivesTurnsOf, IsTurnOf}
-use Rattle.text_model.specs.Run.{counted_answer, counts_of, no_counts, view_of}
-use Rattle.ddm_outside.specs.Telling.{ReadsPart}
-use Rattle.schedule_log.specs.Reader.{ReaderView, Fed}
-use Rattle.schedule_log.specs.Shapes.{shape_view}
-use Rattle.bus_laws.specs.IsTree.{IsTree}
-use Rattle.jam_laws.specs.GoesOn.{unjamming_turn}
-use Rattle.tree_rules.specs.Witness.{ops_of_answers}
-use Rattle.start_parts.proofs.Names.{run-names}
-use Rattle.headline.proofs.Runs.{run-ops}
+use Rattle.ddm_cli.specs.DdmTypes.declared.answers.TurnAnswer.{TurnAnswer}
+use Rattle.ddm_cli.specs.DdmTypes.declared.turns.Turn.{Turn}
+use Rattle.ddm_cli.specs.TreeModel.State.Values.{MachineValue}
+use Rattle.ddm_cli.specs.TreeModel.Start.Sources.{TreeValue}
+use Rattle.ddm_cli.specs.TreeModel.Turns.Machine.{names_part, run_of, turn_of}
+use Rattle.ddm_cli.specs.TextModel.declared.RunCounts.{RunCounts}
+use Rattle.ddm_cli.specs.TextModel.ReadBack.{GivesTurnsOf, IsTurnOf}
+use Rattle.ddm_cli.specs.TextModel.Run.{counted_answer, counts_of, no_counts, view_of}
+use Rattle.ddm_cli.specs.DdmOutside.Telling.{ReadsPart}
+use Rattle.ddm_cli.specs.ScheduleLog.Reader.{ReaderView, Fed}
+use Rattle.ddm_cli.specs.ScheduleLog.Shapes.{shape_view}
+use Rattle.ddm_cli.specs.BusLaws.IsTree.{IsTree}
+use Rattle.ddm_cli.specs.JamLaws.GoesOn.{unjamming_turn}
+use Rattle.ddm_cli.specs.TreeRules.Witness.{ops_of_answers}
+use Rattle.ddm_cli.proofs.StartParts.Names.{run-names}
+use Rattle.ddm_cli.proofs.HeadlineCrate.Runs.{run-ops}
 use Rattle.checkpoint.specs.Saved.{saved}
-use Rattle.ddm_tree.specs.Machine.{MachineState, without_ops}
-use Rattle.any_runs.specs.Run.{AreBelow, CanRun, NameParts, answers_in, counts_in, ran, with_room}
-use Rattle.any_runs.proofs.Forgotten.{names-alike, run-answers, run-machines}
-use Rattle.any_runs.proofs.RunMore.{counted-below, counted-plus, plus, plus-swap, same-counts}
-use Rattle.tree_model.specs.State.Shape.{Frame, depth_of, levels_of}
-use Rattle.tree_model.proofs.FrameKept.{run-frame}
-use Rattle.text_model.specs.Report.{report_of, summary_of}
-use Rattle.text_model.specs.Trace.{trace_from, trace_text}
-use Rattle.text_model.proofs.Numbered.{trace_from-append}
+use Rattle.ddm_cli.specs.DdmTree.Machine.{MachineState, without_ops}
+use Rattle.ddm_cli.specs.AnyRuns.Run.{AreBelow, CanRun, NameParts, answers_in, counts_in, ran, with_room}
+use Rattle.ddm_cli.proofs.AnyRuns.Forgotten.{names-alike, run-answers, run-machines}
+use Rattle.ddm_cli.proofs.AnyRuns.RunMore.{counted-below, counted-plus, plus, plus-swap, same-counts}
+use Rattle.ddm_cli.specs.TreeModel.State.Shape.{Frame, depth_of, levels_of}
+use Rattle.ddm_cli.proofs.TreeModel.FrameKept.{run-frame}
+use Rattle.ddm_cli.specs.TextModel.Report.{report_of, summary_of}
+use Rattle.ddm_cli.specs.TextModel.Trace.{trace_from, trace_text}
+use Rattle.ddm_cli.proofs.TextModel.Numbered.{trace_from-append}
 use Rattle.ddm_cli.specs.Made.{CanCount, CanGoOn, HasAllMade, HasMade, counts_plus, kept_of}
 use Rattle.ddm_cli.specs.Printed.{Writes, is_summary, is_trace, made_text, printed, resumed_report, unjam_line, unjam_text_of, saved_after}
 use Rattle.ddm_cli.specs.Reads.{HasRead, WritesRan, WritesRest}

@@ -2,10 +2,10 @@
 use Rattle.std.proofs.Common.{◌≡◌, ℕ, ◌+◌, ◌*◌, ◌≤◌, Bool, true, false, cond, nat_lt, List, [], ◌∷◌, length, Option, Some, None, refl, sym, arith}
 use Rattle.std.specs.Prelude.{nat_eq}
 use Rattle.std.proofs.lemmas.Bool.Decides.{nat_tests}
-use Rattle.ddm_types.specs.declared.turns.Turn.{Turn}
-use Rattle.text_model.specs.declared.ScheduleRefusal.{ScheduleRefusal}
-use Rattle.text_model.specs.Schedule.{ShapeView, Standing, in_line, at_end, refused_at, Reading, LineMeaning, turn_line_of, end_line, no_line, with_byte_before, pieces_at, meaning_of, refusal_of_turn, with_turn, after_end, unless_refused, line_reading, reading_from, reading_of}
-use Rattle.text_model.proofs.Given.{turns-reading_on}
+use Rattle.ddm_cli.specs.DdmTypes.declared.turns.Turn.{Turn}
+use Rattle.ddm_cli.specs.TextModel.declared.ScheduleRefusal.{ScheduleRefusal}
+use Rattle.ddm_cli.specs.TextModel.Schedule.{ShapeView, Standing, in_line, at_end, refused_at, Reading, LineMeaning, turn_line_of, end_line, no_line, with_byte_before, pieces_at, meaning_of, refusal_of_turn, with_turn, after_end, unless_refused, line_reading, reading_from, reading_of}
+use Rattle.ddm_cli.proofs.TextModel.Given.{turns-reading_on}
 
 -- a text that may go on, or has come to its end
 abbrev pub GoesOn : Standing → Type 0

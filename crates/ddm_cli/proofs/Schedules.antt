@@ -2,17 +2,17 @@
 use Rattle.std.proofs.Common.{◌≡◌, ℕ, ◌+◌, ◌≤◌, List, [], ◌++◌, length, take, drop, Option, Some, None, Ok, Err, refl, sym, ap, ◌∙◌, subst, arith, append_assoc, length-append}
 use Rattle.std.specs.Prelude.{IfSome}
 use Rattle.std.proofs.lemmas.List.{append-nil, length-take-le}
-use Rattle.ddm_types.specs.declared.turns.Turn.{Turn}
-use Rattle.ddm_outside.specs.Telling.{ReadsPart}
-use Rattle.text_model.specs.declared.ScheduleRefusal.{ScheduleRefusal}
-use Rattle.text_model.specs.Schedule.{ShapeView, Standing, in_line, at_end, refused_at, pieces_at, reading_from, reading_of, resumed, schedule_of}
-use Rattle.text_model.specs.ReadBack.{GivesTurnsOf}
-use Rattle.text_model.proofs.Given.{turns-reading_on}
-use Rattle.schedule_log.specs.Pieces.{reader_after, turns_of}
-use Rattle.schedule_log.specs.Reader.{ReaderView, Fed, answer_of, begun_behind, fed, finish_of, given}
-use Rattle.schedule_log.specs.Shapes.{shape_view}
-use Rattle.schedule_log.specs.declared.refusal.FeedError.TheVariants as error
-use Rattle.schedule_log.proofs.Cuttings.{finish_accepts, finish_refuses, no_piece, reader_cut, turns_cut}
+use Rattle.ddm_cli.specs.DdmTypes.declared.turns.Turn.{Turn}
+use Rattle.ddm_cli.specs.DdmOutside.Telling.{ReadsPart}
+use Rattle.ddm_cli.specs.TextModel.declared.ScheduleRefusal.{ScheduleRefusal}
+use Rattle.ddm_cli.specs.TextModel.Schedule.{ShapeView, Standing, in_line, at_end, refused_at, pieces_at, reading_from, reading_of, resumed, schedule_of}
+use Rattle.ddm_cli.specs.TextModel.ReadBack.{GivesTurnsOf}
+use Rattle.ddm_cli.proofs.TextModel.Given.{turns-reading_on}
+use Rattle.ddm_cli.specs.ScheduleLog.Pieces.{reader_after, turns_of}
+use Rattle.ddm_cli.specs.ScheduleLog.Reader.{ReaderView, Fed, answer_of, begun_behind, fed, finish_of, given}
+use Rattle.ddm_cli.specs.ScheduleLog.Shapes.{shape_view}
+use Rattle.ddm_cli.specs.ScheduleLog.declared.refusal.FeedError.TheVariants as error
+use Rattle.ddm_cli.proofs.ScheduleLog.Cuttings.{finish_accepts, finish_refuses, no_piece, reader_cut, turns_cut}
 use Rattle.ddm_cli.specs.Causes.{AcceptedAs, IsUnscheduled}
 use Rattle.ddm_cli.specs.Parts.{turns_at}
 use Rattle.ddm_cli.specs.Reads.{HasRead}

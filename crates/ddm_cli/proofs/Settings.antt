@@ -1,11 +1,11 @@
 -- The start that a witness is judged from, as that of the tables.
 use Rattle.std.proofs.Common.{◌≡◌, ℕ, ◌⊎◌, inl, inr, false, List, Option, Some, None, Ok, refl, sym, subst, ◌∙◌}
 use Rattle.std.specs.Prelude.{is_none, option_and_then}
-use Rattle.ddm_types.specs.declared.sizes.Start.{Start}
+use Rattle.ddm_cli.specs.DdmTypes.declared.sizes.Start.{Start}
 use Rattle.std.specs.Option.{option_map}
-use Rattle.tree_model.specs.Start.Sources.{TreeValue, ImageValue, start_of_harts}
-use Rattle.tree_model.specs.Start.Machine.{StartRefusal, start_refusal, too_many_items, stack_overlap, no_place}
-use Rattle.elf_load.specs.ElfFile.{image_of}
+use Rattle.ddm_cli.specs.TreeModel.Start.Sources.{TreeValue, ImageValue, start_of_harts}
+use Rattle.ddm_cli.specs.TreeModel.Start.Machine.{StartRefusal, start_refusal, too_many_items, stack_overlap, no_place}
+use Rattle.ddm_cli.specs.ElfLoad.ElfFile.{image_of}
 use Rattle.run_engine.specs.Build.{build_refusal, refusal_of}
 use Rattle.run_engine.specs.declared.refusal.BuildRefusal.{BuildRefusal}
 use Rattle.run_engine.specs.declared.refusal.BuildRefusal.TheVariants as build

@@ -6,31 +6,31 @@ use Rattle.std.proofs.lemmas.Bool.{eqb-true, ltb-true}
 use Rattle.std.proofs.lemmas.Bool.Decides.{nat_tests}
 use Rattle.std.proofs.lemmas.List.{length-map}
 use Rattle.std.proofs.lemmas.List.Elements.{All-weaker}
-use Rattle.ddm_types.specs.declared.turns.Turn.{Turn}
-use Rattle.ddm_types.specs.declared.sizes.TreeCounts.{TreeCounts}
-use Rattle.ddm_types.specs.Keys.{key_zero}
-use Rattle.tree_model.specs.State.Values.{DirSizes, Node, Nodes, leaf_node, dir_node, no_nodes, more_nodes, nodes, root_of}
-use Rattle.tree_model.specs.State.Place.{at_top, key_at_leaf}
-use Rattle.tree_model.specs.State.Shape.{skeleton, skeletons, leaf_numbers_of, leaf_numbers_among, count_from, leaves_numbered, depth_of}
-use Rattle.tree_model.specs.Start.Sources.{TreeValue, ImageValue, bus_widths, leaf_count, width_of}
-use Rattle.tree_model.specs.Start.Nodes.{dir_sizes, under_levels}
-use Rattle.tree_model.specs.Start.Machine.{start_leaves, start_machine, start_refusal}
-use Rattle.tree_model.specs.Turns.Machine.{child_count, is_child_of, names_part}
-use Rattle.tree_model.specs.Turns.Tree.{leaf_of_number, bus_of_number, has_node, has_among, of_dir, of_leaf}
-use Rattle.tree_model.proofs.NamedNode.{read_in-is_some}
-use Rattle.tree_model.proofs.Tests.{and-first, and-second}
-use Rattle.tree_model.proofs.Children.{children-nodes}
-use Rattle.bus_laws.specs.IsTree.{AreUnder, IsTree}
-use Rattle.bus_laws.proofs.StartLevels.{leaf_total, sum-more}
-use Rattle.text_model.specs.declared.ScheduleRefusal.{ScheduleRefusal}
-use Rattle.text_model.specs.Schedule.{child_fault, turn_fault}
-use Rattle.text_model.specs.ReadBack.{IsTurnOf}
-use Rattle.schedule_log.specs.Shapes.{shape_view}
-use Rattle.ddm_tree.specs.Machine.{MachineState}
-use Rattle.start_parts.specs.Parts.{start_kids}
-use Rattle.start_parts.proofs.Levels.{HasFirst, has-first, levels-length}
-use Rattle.start_parts.proofs.NewLeaves.{leaves-length}
-use Rattle.start_parts.proofs.StartNew.{start-new}
+use Rattle.ddm_cli.specs.DdmTypes.declared.turns.Turn.{Turn}
+use Rattle.ddm_cli.specs.DdmTypes.declared.sizes.TreeCounts.{TreeCounts}
+use Rattle.ddm_cli.specs.DdmTypes.Keys.{key_zero}
+use Rattle.ddm_cli.specs.TreeModel.State.Values.{DirSizes, Node, Nodes, leaf_node, dir_node, no_nodes, more_nodes, nodes, root_of}
+use Rattle.ddm_cli.specs.TreeModel.State.Place.{at_top, key_at_leaf}
+use Rattle.ddm_cli.specs.TreeModel.State.Shape.{skeleton, skeletons, leaf_numbers_of, leaf_numbers_among, count_from, leaves_numbered, depth_of}
+use Rattle.ddm_cli.specs.TreeModel.Start.Sources.{TreeValue, ImageValue, bus_widths, leaf_count, width_of}
+use Rattle.ddm_cli.specs.TreeModel.Start.Nodes.{dir_sizes, under_levels}
+use Rattle.ddm_cli.specs.TreeModel.Start.Machine.{start_leaves, start_machine, start_refusal}
+use Rattle.ddm_cli.specs.TreeModel.Turns.Machine.{child_count, is_child_of, names_part}
+use Rattle.ddm_cli.specs.TreeModel.Turns.Tree.{leaf_of_number, bus_of_number, has_node, has_among, of_dir, of_leaf}
+use Rattle.ddm_cli.proofs.TreeModel.NamedNode.{read_in-is_some}
+use Rattle.ddm_cli.proofs.TreeModel.Tests.{and-first, and-second}
+use Rattle.ddm_cli.proofs.TreeModel.Children.{children-nodes}
+use Rattle.ddm_cli.specs.BusLaws.IsTree.{AreUnder, IsTree}
+use Rattle.ddm_cli.proofs.BusLaws.StartLevels.{leaf_total, sum-more}
+use Rattle.ddm_cli.specs.TextModel.declared.ScheduleRefusal.{ScheduleRefusal}
+use Rattle.ddm_cli.specs.TextModel.Schedule.{child_fault, turn_fault}
+use Rattle.ddm_cli.specs.TextModel.ReadBack.{IsTurnOf}
+use Rattle.ddm_cli.specs.ScheduleLog.Shapes.{shape_view}
+use Rattle.ddm_cli.specs.DdmTree.Machine.{MachineState}
+use Rattle.ddm_cli.specs.StartParts.Parts.{start_kids}
+use Rattle.ddm_cli.proofs.StartParts.Levels.{HasFirst, has-first, levels-length}
+use Rattle.ddm_cli.proofs.StartParts.NewLeaves.{leaves-length}
+use Rattle.ddm_cli.proofs.StartParts.StartNew.{start-new}
 use Rattle.ddm_cli.specs.Parts.{HasStart}
 use Rattle.ddm_cli.proofs.BusWidths.{HasWidths, HaveWidths, flat, flat_cons, drop_cons, or_second, kids_wide, levels_named, width_read}
 

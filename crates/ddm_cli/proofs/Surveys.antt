@@ -1,14 +1,14 @@
 -- What a survey of seeds needs of a machine at its start, and its text as the command's.
 use Rattle.std.proofs.Common.{◌≡◌, ℕ, ◌≤◌, List, Option, Some, None, Ok, refl, sym, ap, subst, ◌∙◌, arith}
 use Rattle.std.specs.Prelude.{IfSome}
-use Rattle.tree_model.specs.Start.Sources.{TreeValue, ImageValue}
-use Rattle.tree_model.specs.Start.Machine.{start_machine}
-use Rattle.bus_laws.specs.IsTree.{IsTree}
-use Rattle.elf_load.specs.ElfFile.{image_of}
-use Rattle.ddm_tree.specs.Machine.{MachineState}
-use Rattle.any_runs.specs.Run.{NameParts}
-use Rattle.schedule_log.specs.Shapes.{shape_view}
-use Rattle.outcome_model.specs.Outcomes.{outcomes_text}
+use Rattle.ddm_cli.specs.TreeModel.Start.Sources.{TreeValue, ImageValue}
+use Rattle.ddm_cli.specs.TreeModel.Start.Machine.{start_machine}
+use Rattle.ddm_cli.specs.BusLaws.IsTree.{IsTree}
+use Rattle.ddm_cli.specs.ElfLoad.ElfFile.{image_of}
+use Rattle.ddm_cli.specs.DdmTree.Machine.{MachineState}
+use Rattle.ddm_cli.specs.AnyRuns.Run.{NameParts}
+use Rattle.ddm_cli.specs.ScheduleLog.Shapes.{shape_view}
+use Rattle.ddm_cli.specs.OutcomeModel.Outcomes.{outcomes_text}
 use Rattle.outcomes.specs.Runs.{HasShape, IsStart as CanBegin}
 use Rattle.ddm_cli.specs.Causes.{AcceptedAs}
 use Rattle.ddm_cli.specs.Commands.{Seeds}

@@ -2,26 +2,26 @@
 use Rattle.std.proofs.Common.{◌≡◌, ℕ, ◌≤◌, List, ◌++◌, Option, Some, None, Result, Ok, Err, refl, sym, ap, ◌∙◌, arith}
 use Rattle.std.specs.Prelude.{IfOk, IfSome, IsSome, OnOk}
 use Rattle.std.specs.Option.{option_map}
-use Rattle.ddm_types.specs.ItemTable.{item_count}
-use Rattle.ddm_types.specs.declared.answers.TurnAnswer.{TurnAnswer}
-use Rattle.ddm_types.specs.declared.turns.Turn.{Turn}
-use Rattle.tree_model.specs.State.Shape.{Frame, depth_of, levels_of}
-use Rattle.tree_model.specs.State.Values.{MachineValue}
-use Rattle.tree_model.specs.Start.Sources.{TreeValue, ImageValue}
-use Rattle.tree_model.specs.Start.Memory.{start_items}
-use Rattle.tree_model.specs.Start.Machine.{start_machine, start_refusal}
-use Rattle.tree_model.specs.Turns.Machine.{run_of}
-use Rattle.tree_model.proofs.FrameKept.{run-frame}
-use Rattle.text_model.specs.declared.RunCounts.{RunCounts}
-use Rattle.text_model.specs.Report.{report_of, summary_of}
-use Rattle.text_model.specs.Run.{counts_of, report_text_of, summary_text_of, trace_and_report_of, view_of}
-use Rattle.text_model.specs.Trace.{trace_text}
-use Rattle.text_model.specs.declared.ScheduleRefusal.{ScheduleRefusal}
-use Rattle.bus_laws.specs.IsTree.{IsTree}
-use Rattle.ddm_tree.specs.Machine.{MachineState}
-use Rattle.elf_load.specs.ElfFile.{image_of}
-use Rattle.tree_config.specs.declared.refusal.TreeKey.{TreeKey}
-use Rattle.report.specs.declared.roles.FileRole.TheVariants.{ImageFile, TreeFile, ScheduleFile, WitnessFile, CheckpointFile}
+use Rattle.ddm_cli.specs.DdmTypes.ItemTable.{item_count}
+use Rattle.ddm_cli.specs.DdmTypes.declared.answers.TurnAnswer.{TurnAnswer}
+use Rattle.ddm_cli.specs.DdmTypes.declared.turns.Turn.{Turn}
+use Rattle.ddm_cli.specs.TreeModel.State.Shape.{Frame, depth_of, levels_of}
+use Rattle.ddm_cli.specs.TreeModel.State.Values.{MachineValue}
+use Rattle.ddm_cli.specs.TreeModel.Start.Sources.{TreeValue, ImageValue}
+use Rattle.ddm_cli.specs.TreeModel.Start.Memory.{start_items}
+use Rattle.ddm_cli.specs.TreeModel.Start.Machine.{start_machine, start_refusal}
+use Rattle.ddm_cli.specs.TreeModel.Turns.Machine.{run_of}
+use Rattle.ddm_cli.proofs.TreeModel.FrameKept.{run-frame}
+use Rattle.ddm_cli.specs.TextModel.declared.RunCounts.{RunCounts}
+use Rattle.ddm_cli.specs.TextModel.Report.{report_of, summary_of}
+use Rattle.ddm_cli.specs.TextModel.Run.{counts_of, report_text_of, summary_text_of, trace_and_report_of, view_of}
+use Rattle.ddm_cli.specs.TextModel.Trace.{trace_text}
+use Rattle.ddm_cli.specs.TextModel.declared.ScheduleRefusal.{ScheduleRefusal}
+use Rattle.ddm_cli.specs.BusLaws.IsTree.{IsTree}
+use Rattle.ddm_cli.specs.DdmTree.Machine.{MachineState}
+use Rattle.ddm_cli.specs.ElfLoad.ElfFile.{image_of}
+use Rattle.ddm_cli.specs.TreeConfig.declared.refusal.TreeKey.{TreeKey}
+use Rattle.ddm_cli.specs.ReportCrate.declared.roles.FileRole.TheVariants.{ImageFile, TreeFile, ScheduleFile, WitnessFile, CheckpointFile}
 use Rattle.ddm_cli.specs.Causes.{AcceptedAs, Accepts, HasSmallList, IsRefused, IsUnscheduled, RanCause, ScheduleCause}
 use Rattle.ddm_cli.specs.Commands.{Run, TurnsFrom, schedule_named, turns_seeded}
 use Rattle.ddm_cli.specs.Lists.{list_refused}
@@ -34,7 +34,7 @@ use Rattle.ddm_cli.specs.declared.command.Prints.{Prints}
 use Rattle.ddm_cli.specs.declared.command.Prints.TheVariants.{Report, Trace, Summary}
 use Rattle.ddm_cli.specs.declared.status.Status.{Status}
 use Rattle.ddm_cli.specs.declared.status.Status.TheVariants.{Done, Usage, ImageLoad, ImageBuild, Tree, Schedule, Witness, Checkpoint, SmallLists, ReadFault, WriteFault, NoMemory}
-use Rattle.report.proofs.Written.{rose_before}
+use Rattle.ddm_cli.proofs.ReportCrate.Written.{rose_before}
 use Rattle.ddm_cli.proofs.Causes.{parts_are, takes_parts}
 use Rattle.ddm_cli.proofs.Judged.{parts_taken}
 use Rattle.ddm_cli.proofs.LargeLists.{items_started, started_large}

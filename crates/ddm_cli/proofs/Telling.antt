@@ -3,12 +3,12 @@ use Rattle.std.proofs.Common.{◌≡◌, ℕ, ◌+◌, ◌-◌, ◌≤◌, List,
 use Rattle.std.specs.Prelude.{OnOk, OnErr, codes}
 use Rattle.std.proofs.Math.Seq.{take-add, take-length}
 use Rattle.std.proofs.lemmas.List.{append-nil, map-append, take-append-drop}
-use Rattle.ddm_outside.specs.Causes.{HasCause, Rose}
-use Rattle.report.specs.Appends.{Appends, AppendsPart}
-use Rattle.report.proofs.Written.{appends_more, on_err, part_front, part_more, rose_before}
-use Rattle.text_model.specs.Faults.{key_refusal_text, name_words, shown_byte, shown_key, tree_key_fault}
-use Rattle.tree_config.specs.declared.refusal.TreeRefusal.{TreeRefusal}
-use Rattle.tree_config.specs.declared.refusal.TreeRefusal.TheVariants as tree
+use Rattle.ddm_cli.specs.DdmOutside.Causes.{HasCause, Rose}
+use Rattle.ddm_cli.specs.ReportCrate.Appends.{Appends, AppendsPart}
+use Rattle.ddm_cli.proofs.ReportCrate.Written.{appends_more, on_err, part_front, part_more, rose_before}
+use Rattle.ddm_cli.specs.TextModel.Faults.{key_refusal_text, name_words, shown_byte, shown_key, tree_key_fault}
+use Rattle.ddm_cli.specs.TreeConfig.declared.refusal.TreeRefusal.{TreeRefusal}
+use Rattle.ddm_cli.specs.TreeConfig.declared.refusal.TreeRefusal.TheVariants as tree
 use Rattle.ddm_cli.specs.Printed.{Writes}
 use Rattle.ddm_cli.specs.Refusals.{tree_line, tree_line_head, tree_line_rest}
 use Rattle.ddm_cli.specs.Top.{Offers, fault_line, line_head, line_rest}

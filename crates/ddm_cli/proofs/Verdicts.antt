@@ -3,10 +3,10 @@ use Rattle.std.proofs.Common.{◌≡◌, ℕ, ◌+◌, ◌≤◌, Bool, true, fa
 use Rattle.std.specs.Prelude.{IfSome}
 use Rattle.std.proofs.lemmas.Bool.Decides.{nat_tests}
 use Rattle.std.proofs.lemmas.List.{append-nil, length-take-le}
-use Rattle.ddm_outside.specs.Telling.{ReadsPart}
-use Rattle.report.proofs.Written.{rose_before}
-use Rattle.report.specs.declared.roles.FileRole.TheVariants.{ImageFile, TreeFile, ScheduleFile, WitnessFile, CheckpointFile}
-use Rattle.tree_model.specs.Start.Sources.{TreeValue}
+use Rattle.ddm_cli.specs.DdmOutside.Telling.{ReadsPart}
+use Rattle.ddm_cli.proofs.ReportCrate.Written.{rose_before}
+use Rattle.ddm_cli.specs.ReportCrate.declared.roles.FileRole.TheVariants.{ImageFile, TreeFile, ScheduleFile, WitnessFile, CheckpointFile}
+use Rattle.ddm_cli.specs.TreeModel.Start.Sources.{TreeValue}
 use Rattle.witness_check.specs.Judging.{Standing, answer_of, going, lines_of, refused, standing_of, text_limit}
 use Rattle.witness_check.specs.Reader.{ReaderView, begun, fed, feed_answer, reader_after}
 use Rattle.witness_check.specs.Start.{Setting, machine_of, program_of}

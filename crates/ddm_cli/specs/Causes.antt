@@ -1,21 +1,21 @@
 -- Why a file gave nothing, by the status that says so. A file of which nothing is told may be of any kind.
 use Rattle.std.specs.Prelude.{◌≡◌, ℕ, List, Option, Some, None, IsSome, IfSome, IsSomeAnd, IsOkAnd, Result, Err}
-use Rattle.ddm_outside.specs.Causes.{Rose}
-use Rattle.report.specs.declared.roles.FileRole.TheVariants.{ImageFile, TreeFile, ScheduleFile, WitnessFile, CheckpointFile}
-use Rattle.tree_model.specs.Start.Sources.{TreeValue, ImageValue}
-use Rattle.tree_model.specs.State.Values.{MachineValue}
-use Rattle.elf_load.specs.ElfFile.{image_of}
-use Rattle.elf_load.specs.declared.refusal.ImageRefusal.{ImageRefusal}
-use Rattle.tree_config.specs.TreeFile.{tree_of}
-use Rattle.tree_config.specs.declared.refusal.TreeKey.{TreeKey}
+use Rattle.ddm_cli.specs.DdmOutside.Causes.{Rose}
+use Rattle.ddm_cli.specs.ReportCrate.declared.roles.FileRole.TheVariants.{ImageFile, TreeFile, ScheduleFile, WitnessFile, CheckpointFile}
+use Rattle.ddm_cli.specs.TreeModel.Start.Sources.{TreeValue, ImageValue}
+use Rattle.ddm_cli.specs.TreeModel.State.Values.{MachineValue}
+use Rattle.ddm_cli.specs.ElfLoad.ElfFile.{image_of}
+use Rattle.ddm_cli.specs.ElfLoad.declared.refusal.ImageRefusal.{ImageRefusal}
+use Rattle.ddm_cli.specs.TreeConfig.TreeFile.{tree_of}
+use Rattle.ddm_cli.specs.TreeConfig.declared.refusal.TreeKey.{TreeKey}
 use Rattle.run_engine.specs.Build.{build_refusal}
 use Rattle.run_engine.specs.declared.refusal.BuildRefusal.{BuildRefusal}
 use Rattle.run_engine.specs.declared.refusal.BuildRefusal.TheVariants.{NoPlace}
 use Rattle.checkpoint.specs.Resumed.{resumed}
 use Rattle.checkpoint.specs.declared.ResumeRefusal.{ResumeRefusal}
-use Rattle.text_model.specs.Schedule.{schedule_of}
-use Rattle.text_model.specs.declared.ScheduleRefusal.{ScheduleRefusal}
-use Rattle.schedule_log.specs.Shapes.{shape_view}
+use Rattle.ddm_cli.specs.TextModel.Schedule.{schedule_of}
+use Rattle.ddm_cli.specs.TextModel.declared.ScheduleRefusal.{ScheduleRefusal}
+use Rattle.ddm_cli.specs.ScheduleLog.Shapes.{shape_view}
 use Rattle.witness_check.specs.Reader.{ReaderView, begun}
 use Rattle.witness_check.specs.Start as check
 use Rattle.witness_check.specs.Start.{Setting, check_of}

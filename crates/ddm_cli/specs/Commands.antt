@@ -3,7 +3,7 @@
 -- To be believed with the contracts: they speak of it.
 use Rattle.std.specs.Prelude.{ℕ, ◌+◌, ◌-◌, ◌*◌, ◌≤◌, min, nat_le, nat_lt, List, length, Result, Ok, Err, Option, Some, None, slice_get, option_and_then, if◌then◌else◌, bytes_eq, codes}
 use Rattle.std.specs.Result.{result_ok}
-use Rattle.ddm_text.specs.Numbers.{number_of}
+use Rattle.ddm_cli.specs.DdmText.Numbers.{number_of}
 use Rattle.ddm_cli.specs.declared.command.About.{About}
 use Rattle.ddm_cli.specs.declared.command.About.TheVariants as about
 use Rattle.ddm_cli.specs.declared.command.Prints.{Prints}

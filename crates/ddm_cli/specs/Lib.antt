@@ -1,3 +1,21 @@
+pub mod AnyMachine
+pub mod AnyRuns
+pub mod BusLaws
+pub mod DdmOutside
+pub mod DdmText
+pub mod DdmTree
+pub mod DdmTypes
+pub mod ElfLoad
+pub mod JamLaws
+pub mod MadeImage
+pub mod OutcomeModel
+pub mod ReportCrate
+pub mod ScheduleLog
+pub mod StartParts
+pub mod TextModel
+pub mod TreeConfig
+pub mod TreeModel
+pub mod TreeRules
 pub mod About
 pub mod Causes
 pub mod Code
@@ -12,3 +30,4 @@ pub mod Refusals
 pub mod Told
 pub mod Top
 pub mod Views
+pub mod Opened

@@ -1,9 +1,9 @@
 -- Lists that are large enough for the turn that goes on to be named.
 -- To be believed with the contracts: they speak of it.
 use Rattle.std.specs.Prelude.{ℕ, ◌*◌, nat_lt, Option, Some, None, if◌then◌else◌}
-use Rattle.ddm_types.specs.declared.sizes.TreeSizes.{TreeSizes}
-use Rattle.tree_config.specs.declared.refusal.TreeKey.{TreeKey}
-use Rattle.tree_config.specs.declared.refusal.TreeKey.TheVariants as key
+use Rattle.ddm_cli.specs.DdmTypes.declared.sizes.TreeSizes.{TreeSizes}
+use Rattle.ddm_cli.specs.TreeConfig.declared.refusal.TreeKey.{TreeKey}
+use Rattle.ddm_cli.specs.TreeConfig.declared.refusal.TreeKey.TheVariants as key
 use Rattle.ddm_cli.specs.declared.command.Prints.{Prints}
 use Rattle.ddm_cli.specs.declared.command.Prints.TheVariants.{Report, Trace, Summary, Unjamming, Checkpoint}
 

@@ -1,16 +1,16 @@
 -- What turns came to that were made piece by piece.
 -- Letters: s is a machine before them.
 use Rattle.std.specs.Prelude.{◌≡◌, ℕ, ◌+◌, ◌≤◌, All, Bool, true, false, List, [], length, Option, if◌then◌else◌}
-use Rattle.ddm_types.specs.declared.turns.Turn.{Turn}
-use Rattle.tree_model.specs.State.Values.{MachineValue}
-use Rattle.tree_model.specs.Turns.Machine.{run_of}
-use Rattle.text_model.specs.declared.RunCounts.{RunCounts}
-use Rattle.text_model.specs.ReadBack.{IsTurnOf}
-use Rattle.text_model.specs.Run.{counts_of}
-use Rattle.text_model.specs.Trace.{trace_from}
-use Rattle.any_runs.specs.Run.{AreBelow, NameParts}
-use Rattle.schedule_log.specs.Shapes.{shape_view}
-use Rattle.ddm_tree.specs.Machine.{MachineState, without_ops}
+use Rattle.ddm_cli.specs.DdmTypes.declared.turns.Turn.{Turn}
+use Rattle.ddm_cli.specs.TreeModel.State.Values.{MachineValue}
+use Rattle.ddm_cli.specs.TreeModel.Turns.Machine.{run_of}
+use Rattle.ddm_cli.specs.TextModel.declared.RunCounts.{RunCounts}
+use Rattle.ddm_cli.specs.TextModel.ReadBack.{IsTurnOf}
+use Rattle.ddm_cli.specs.TextModel.Run.{counts_of}
+use Rattle.ddm_cli.specs.TextModel.Trace.{trace_from}
+use Rattle.ddm_cli.specs.AnyRuns.Run.{AreBelow, NameParts}
+use Rattle.ddm_cli.specs.ScheduleLog.Shapes.{shape_view}
+use Rattle.ddm_cli.specs.DdmTree.Machine.{MachineState, without_ops}
 use Rattle.ddm_cli.specs.Causes.{AcceptedAs}
 use Rattle.ddm_cli.specs.declared.making.Made.{Made}
 

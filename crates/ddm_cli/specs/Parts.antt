@@ -1,20 +1,20 @@
 -- What a run is made from: the tree, the image and the schedule of three files; and what a witness is judged for.
 use Rattle.std.specs.Prelude.{◌≡◌, ℕ, List, Option, Some, None, is_none, Result, Ok, Err, if◌then◌else◌, option_and_then, IfSome}
 use Rattle.std.specs.Result.{result_ok}
-use Rattle.ddm_types.specs.declared.turns.Turn.{Turn}
-use Rattle.ddm_types.specs.ItemTable.{item_count}
-use Rattle.tree_model.specs.Start.Sources.{TreeValue, ImageValue}
-use Rattle.tree_model.specs.Start.Memory.{start_items}
-use Rattle.tree_model.specs.Start.Machine.{start_machine, start_refusal}
-use Rattle.ddm_tree.specs.Machine.{MachineState}
-use Rattle.elf_load.specs.ElfFile.{image_of}
-use Rattle.elf_load.specs.declared.refusal.ImageRefusal.{ImageRefusal}
-use Rattle.tree_config.specs.TreeFile.{tree_of}
+use Rattle.ddm_cli.specs.DdmTypes.declared.turns.Turn.{Turn}
+use Rattle.ddm_cli.specs.DdmTypes.ItemTable.{item_count}
+use Rattle.ddm_cli.specs.TreeModel.Start.Sources.{TreeValue, ImageValue}
+use Rattle.ddm_cli.specs.TreeModel.Start.Memory.{start_items}
+use Rattle.ddm_cli.specs.TreeModel.Start.Machine.{start_machine, start_refusal}
+use Rattle.ddm_cli.specs.DdmTree.Machine.{MachineState}
+use Rattle.ddm_cli.specs.ElfLoad.ElfFile.{image_of}
+use Rattle.ddm_cli.specs.ElfLoad.declared.refusal.ImageRefusal.{ImageRefusal}
+use Rattle.ddm_cli.specs.TreeConfig.TreeFile.{tree_of}
 use Rattle.run_engine.specs.Started.{started}
 use Rattle.checkpoint.specs.Resumed.{Resumed, resumed}
-use Rattle.text_model.specs.Schedule.{schedule_of}
-use Rattle.text_model.specs.Seeded.{seeded_turns}
-use Rattle.schedule_log.specs.Shapes.{shape_view}
+use Rattle.ddm_cli.specs.TextModel.Schedule.{schedule_of}
+use Rattle.ddm_cli.specs.TextModel.Seeded.{seeded_turns}
+use Rattle.ddm_cli.specs.ScheduleLog.Shapes.{shape_view}
 use Rattle.witness_check.specs.Reader.{ReaderView, begun, setting_of}
 use Rattle.witness_check.specs.Start as check
 use Rattle.witness_check.specs.Start.{Setting}

@@ -1,15 +1,15 @@
 -- What is printed of a run, and of a witness that is accepted.
 -- Letters: m is a machine, t a turn.
 use Rattle.std.specs.Prelude.{ℕ, Bool, false, true, List, ◌++◌, Option, Some, None, Result, MatchResult, codes, decimal}
-use Rattle.ddm_types.specs.declared.turns.Turn.{Turn}
-use Rattle.tree_model.specs.State.Values.{MachineValue}
-use Rattle.tree_model.specs.State.Shape.{depth_of}
-use Rattle.tree_model.specs.Turns.Machine.{run_of}
-use Rattle.text_model.specs.Report.{report_of, summary_of}
-use Rattle.text_model.specs.Run.{counts_of, report_text_of, summary_text_of, trace_and_report_of, view_of}
-use Rattle.text_model.specs.Schedule.{turn_text}
-use Rattle.jam_laws.specs.GoesOn.{unjamming_turn}
-use Rattle.report.specs.Appends.{Appends, AppendsPart}
+use Rattle.ddm_cli.specs.DdmTypes.declared.turns.Turn.{Turn}
+use Rattle.ddm_cli.specs.TreeModel.State.Values.{MachineValue}
+use Rattle.ddm_cli.specs.TreeModel.State.Shape.{depth_of}
+use Rattle.ddm_cli.specs.TreeModel.Turns.Machine.{run_of}
+use Rattle.ddm_cli.specs.TextModel.Report.{report_of, summary_of}
+use Rattle.ddm_cli.specs.TextModel.Run.{counts_of, report_text_of, summary_text_of, trace_and_report_of, view_of}
+use Rattle.ddm_cli.specs.TextModel.Schedule.{turn_text}
+use Rattle.ddm_cli.specs.JamLaws.GoesOn.{unjamming_turn}
+use Rattle.ddm_cli.specs.ReportCrate.Appends.{Appends, AppendsPart}
 use Rattle.checkpoint.specs.Resumed.{Resumed}
 use Rattle.checkpoint.specs.Saved.{saved}
 use Rattle.ddm_cli.specs.Made.{counts_plus}

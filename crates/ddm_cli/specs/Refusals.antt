@@ -1,12 +1,12 @@
 -- The fault lines of refusals: each by its name and its numbers, or by a key.
 use Rattle.std.specs.Prelude.{ℕ, List, [], ◌∷◌, ◌++◌, codes}
-use Rattle.text_model.specs.Faults.{checkpoint_fault, image_fault, shown_key, tree_fault, tree_key_fault, unknown_key_fault, witness_fault, witness_line_fault}
-use Rattle.elf_load.specs.declared.refusal.ImageRefusal.{ImageRefusal}
-use Rattle.elf_load.specs.declared.refusal.ImageRefusal.TheVariants as image
-use Rattle.tree_config.specs.TreeFile.{key_name}
-use Rattle.tree_config.specs.declared.refusal.TreeKey.{TreeKey}
-use Rattle.tree_config.specs.declared.refusal.TreeRefusal.{TreeRefusal}
-use Rattle.tree_config.specs.declared.refusal.TreeRefusal.TheVariants as tree
+use Rattle.ddm_cli.specs.TextModel.Faults.{checkpoint_fault, image_fault, shown_key, tree_fault, tree_key_fault, unknown_key_fault, witness_fault, witness_line_fault}
+use Rattle.ddm_cli.specs.ElfLoad.declared.refusal.ImageRefusal.{ImageRefusal}
+use Rattle.ddm_cli.specs.ElfLoad.declared.refusal.ImageRefusal.TheVariants as image
+use Rattle.ddm_cli.specs.TreeConfig.TreeFile.{key_name}
+use Rattle.ddm_cli.specs.TreeConfig.declared.refusal.TreeKey.{TreeKey}
+use Rattle.ddm_cli.specs.TreeConfig.declared.refusal.TreeRefusal.{TreeRefusal}
+use Rattle.ddm_cli.specs.TreeConfig.declared.refusal.TreeRefusal.TheVariants as tree
 use Rattle.run_engine.specs.declared.refusal.BuildRefusal.{BuildRefusal}
 use Rattle.run_engine.specs.declared.refusal.BuildRefusal.TheVariants as build
 use Rattle.checkpoint.specs.declared.ResumeRefusal.{ResumeRefusal}

@@ -2,7 +2,7 @@
 -- told, and never fails.
 use Rattle.std.specs.Prelude.{ℕ, List, Option, Some}
 use Rattle.std.specs.Option.{option_map}
-use Rattle.made_image.specs.MadeImage.{made_image}
+use Rattle.ddm_cli.specs.MadeImage.MadeImage.{made_image}
 use Rattle.ddm_cli.specs.Commands.{ImageFrom, TurnsFrom, image_named, image_made, schedule_named, turns_seeded}
 
 -- the bytes of a schedule file, or a seed and a number of turns

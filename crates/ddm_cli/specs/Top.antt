@@ -2,34 +2,34 @@
 use Rattle.std.specs.Prelude.{◌≡◌, ◌⊎◌, ℕ, List, [], length, take, Option, Some, IsSome, IfSome, option_and_then, option_map, IfOk, Result, Ok, Err, IsOkAnd}
 use Rattle.std.specs.List.{AllByRecursion}
 use Rattle.std.specs.Result.{result_ok}
-use Rattle.ddm_types.specs.declared.turns.Turn.{Turn}
-use Rattle.tree_model.specs.Start.Sources.{TreeValue}
-use Rattle.tree_model.specs.State.Shape.{IsShaped}
-use Rattle.tree_model.specs.Turns.Machine.{run_of}
-use Rattle.tree_model.specs.Start.Machine.{flat_start_of, start_machine}
-use Rattle.tree_rules.specs.Witness.{EachTurnWitnessed, IsWitnessed}
-use Rattle.text_model.specs.Faults.{usage_fault, schedule_fault, read_fault, write_fault, memory_fault}
-use Rattle.text_model.specs.Run.{EachOutputWitnessed, HasWitnessedOutput}
-use Rattle.text_model.specs.Schedule.{schedule_text}
-use Rattle.text_model.specs.Seeded.{seeded_turns}
-use Rattle.text_model.specs.declared.ScheduleRefusal.{ScheduleRefusal}
-use Rattle.report.specs.Appends.{Appends, AppendsPart}
-use Rattle.report.specs.Roles.{role_text}
-use Rattle.report.specs.declared.roles.FileRole.{FileRole}
-use Rattle.report.specs.declared.roles.FileRole.TheVariants.{ImageFile, TreeFile, ScheduleFile, WitnessFile, CheckpointFile}
-use Rattle.ddm_outside.specs.Causes.{Rose}
-use Rattle.schedule_log.specs.Shapes.{shape_view}
-use Rattle.tree_config.specs.TreeFile.{tree_of}
-use Rattle.ddm_tree.specs.Rules.{KeepsRules, StaysInOrder}
+use Rattle.ddm_cli.specs.DdmTypes.declared.turns.Turn.{Turn}
+use Rattle.ddm_cli.specs.TreeModel.Start.Sources.{TreeValue}
+use Rattle.ddm_cli.specs.TreeModel.State.Shape.{IsShaped}
+use Rattle.ddm_cli.specs.TreeModel.Turns.Machine.{run_of}
+use Rattle.ddm_cli.specs.TreeModel.Start.Machine.{flat_start_of, start_machine}
+use Rattle.ddm_cli.specs.TreeRules.Witness.{EachTurnWitnessed, IsWitnessed}
+use Rattle.ddm_cli.specs.TextModel.Faults.{usage_fault, schedule_fault, read_fault, write_fault, memory_fault}
+use Rattle.ddm_cli.specs.TextModel.Run.{EachOutputWitnessed, HasWitnessedOutput}
+use Rattle.ddm_cli.specs.TextModel.Schedule.{schedule_text}
+use Rattle.ddm_cli.specs.TextModel.Seeded.{seeded_turns}
+use Rattle.ddm_cli.specs.TextModel.declared.ScheduleRefusal.{ScheduleRefusal}
+use Rattle.ddm_cli.specs.ReportCrate.Appends.{Appends, AppendsPart}
+use Rattle.ddm_cli.specs.ReportCrate.Roles.{role_text}
+use Rattle.ddm_cli.specs.ReportCrate.declared.roles.FileRole.{FileRole}
+use Rattle.ddm_cli.specs.ReportCrate.declared.roles.FileRole.TheVariants.{ImageFile, TreeFile, ScheduleFile, WitnessFile, CheckpointFile}
+use Rattle.ddm_cli.specs.DdmOutside.Causes.{Rose}
+use Rattle.ddm_cli.specs.ScheduleLog.Shapes.{shape_view}
+use Rattle.ddm_cli.specs.TreeConfig.TreeFile.{tree_of}
+use Rattle.ddm_cli.specs.DdmTree.Rules.{KeepsRules, StaysInOrder}
 use Rattle.checkpoint.specs.Resumed.{Resumed}
 use Rattle.checkpoint.specs.declared.ResumeRefusal.{ResumeRefusal}
 use Rattle.witness_check.specs.Start.{Setting, check_of}
 use Rattle.witness_check.specs.declared.refusal.CheckRefusal.{CheckRefusal}
 use Rattle.ddm_cli.specs.About.{about_text}
 use Rattle.ddm_cli.specs.Causes.{Accepts, HasNoSetting, HasSmallList, IsRefused, IsUnloaded, IsUnresumed, IsUnscheduled, IsUnstarted, TreeCause}
-use Rattle.outcome_model.specs.FlatOutcome.{IsLegalOutcome}
-use Rattle.outcome_model.specs.Outcomes.{outcome_table, outcomes_text}
-use Rattle.outcome_model.specs.Table.{OutcomeLine}
+use Rattle.ddm_cli.specs.OutcomeModel.FlatOutcome.{IsLegalOutcome}
+use Rattle.ddm_cli.specs.OutcomeModel.Outcomes.{outcome_table, outcomes_text}
+use Rattle.ddm_cli.specs.OutcomeModel.Table.{OutcomeLine}
 use Rattle.ddm_cli.specs.Commands.{Check, Command, ImageFrom, Resumption, Run, Seeds, TurnsFrom, to_run, to_list, to_check, to_resume, to_survey, to_say, command_of, first_run}
 use Rattle.ddm_cli.specs.Parts.{Parts, parts_for, parts_of, resumed_at, setting_at, tree_at, turns_at, turns_of}
 use Rattle.ddm_cli.specs.Printed.{Writes, legal_line, printed, resumed_report}

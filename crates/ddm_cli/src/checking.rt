@@ -1,5 +1,5 @@
 ghost use Rattle.std.specs.Prelude.{◌≡◌, ◌<◌, Ok, IfErr, IfOk, IfSome, OnErr, length};
-ghost use Rattle.ddm_outside.specs.Causes.{HasCause};
+ghost use Rattle.ddm_cli.specs.DdmOutside.Causes.{HasCause};
 ghost use Rattle.witness_check.specs.Reader.{begun};
 ghost use Rattle.witness_check.specs.Start.{Setting};
 ghost use Rattle.ddm_cli.specs.Causes.{ComesTo, WitnessCause};
@@ -11,10 +11,10 @@ ghost use Rattle.ddm_cli.specs.Views.{check_from};
 
 use crate::command::Check;
 use crate::files::{setting_file, tree_file};
+use crate::of_ddm_outside::{Failed, Shelf, Sink};
+use crate::of_report::{FileRole, Line, write_all};
 use crate::reading::read_buffer;
 use crate::status::Status;
-use ddm_outside::{Failed, Shelf, Sink};
-use report::{FileRole, Line, write_all};
 use std::alloc::Global;
 use witness_check::WitnessReader;
 

@@ -1,14 +1,14 @@
 ghost use Rattle.std.specs.Prelude.{◌≡◌};
 ghost use Rattle.ddm_cli.specs.Top.{fault_line, line_head, Offers};
 
+use crate::of_ddm_outside::Sink;
+use crate::of_report::{FaultLine, memory_line, read_line, usage_line, write_all, write_line};
 use crate::refusal_lines::{
     build_line, checkpoint_line, image_line, schedule_line, small_lists_line, tree_line_head,
     witness_line,
 };
 use crate::status::Status;
 use crate::unknown_key::tell_rest;
-use ddm_outside::Sink;
-use report::{FaultLine, memory_line, read_line, usage_line, write_all, write_line};
 
 // The line of a status; for an unknown key what stands before it.
 #[tactic(auto, unfolding(crate::specs::Top::fault_line))]

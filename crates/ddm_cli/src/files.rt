@@ -1,10 +1,10 @@
 ghost use Rattle.std.specs.Prelude.{◌≡◌, ◌<◌, ◌≤◌, ℕ, List, Ok, Some, IsSome, length, IfOk, IfErr, IfSome};
-ghost use Rattle.tree_model.specs.Start.Sources.{ImageValue};
-ghost use Rattle.bus_laws.specs.IsTree.{IsTree};
-ghost use Rattle.elf_load.specs.ElfFile.{image_of};
-ghost use Rattle.made_image.specs.MadeImage.{made_image};
-ghost use Rattle.any_machine.specs.Any.{machine_state};
-ghost use Rattle.any_machine.specs.Kind.{kind_of};
+ghost use Rattle.ddm_cli.specs.TreeModel.Start.Sources.{ImageValue};
+ghost use Rattle.ddm_cli.specs.BusLaws.IsTree.{IsTree};
+ghost use Rattle.ddm_cli.specs.ElfLoad.ElfFile.{image_of};
+ghost use Rattle.ddm_cli.specs.MadeImage.MadeImage.{made_image};
+ghost use Rattle.ddm_cli.specs.AnyMachine.Any.{machine_state};
+ghost use Rattle.ddm_cli.specs.AnyMachine.Kind.{kind_of};
 ghost use Rattle.ddm_cli.specs.Causes.{ImageCause, AcceptedAs, Accepts, JudgedImageCause, NoImage, TreeCause};
 ghost use Rattle.ddm_cli.specs.Commands.{IsMakeable};
 ghost use Rattle.ddm_cli.specs.Parts.{BeginsFor, IsStart, parts_in, tree_at};
@@ -14,15 +14,15 @@ ghost use Rattle.ddm_cli.specs.Views.{image_from};
 use crate::command::ImageSource;
 use crate::judging::{begun, built, built_twice, judged_tree, loaded};
 use crate::limits::{MOST_IMAGE, MOST_TREE};
+use crate::of_ddm_outside::Shelf;
+use crate::of_elf_load::{Image, ImageRefusal};
+use crate::of_made_image::make_image;
+use crate::of_report::FileRole;
+use crate::of_tree_config::{TreeConfig, TreeRefusal};
 use crate::reading::{ReadError, read_whole};
 use crate::status::Status;
-use ddm_outside::Shelf;
-use elf_load::{Image, ImageRefusal};
-use made_image::make_image;
-use report::FileRole;
 use run_engine::AnyMachine;
 use std::alloc::Global;
-use tree_config::{TreeConfig, TreeRefusal};
 use witness_check::WitnessReader;
 
 /// The tree of a tree file.

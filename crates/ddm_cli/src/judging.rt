@@ -1,23 +1,23 @@
 ghost use Rattle.std.specs.Prelude.{◌≡◌, ◌≤◌, ◌+◌, ◌*◌, None, Ok, Some, IfOk, IfErr};
-ghost use Rattle.tree_model.specs.Start.Sources.{start_of_harts};
+ghost use Rattle.ddm_cli.specs.TreeModel.Start.Sources.{start_of_harts};
 ghost use Rattle.witness_check.specs.Reader.{begun, setting_of};
 ghost use Rattle.witness_check.specs.Start as check;
-ghost use Rattle.bus_laws.specs.IsTree.{IsTree};
-ghost use Rattle.elf_load.specs.ElfFile.{image_of};
-ghost use Rattle.tree_model.specs.Start.Machine.{start_refusal};
+ghost use Rattle.ddm_cli.specs.BusLaws.IsTree.{IsTree};
+ghost use Rattle.ddm_cli.specs.ElfLoad.ElfFile.{image_of};
+ghost use Rattle.ddm_cli.specs.TreeModel.Start.Machine.{start_refusal};
 ghost use Rattle.run_engine.specs.Started.{kind_of_tree, started};
-ghost use Rattle.any_machine.specs.Any.{machine_state};
-ghost use Rattle.any_machine.specs.Kind.{kind_of};
+ghost use Rattle.ddm_cli.specs.AnyMachine.Any.{machine_state};
+ghost use Rattle.ddm_cli.specs.AnyMachine.Kind.{kind_of};
 ghost use Rattle.ddm_cli.specs.Causes.{BuildCause, NoImage, SettingCause, TreeCause};
 ghost use Rattle.ddm_cli.specs.Parts.{tree_at};
 
+use crate::of_any_machine::release;
+use crate::of_ddm_types::Start;
+use crate::of_elf_load::{Image, ImageRefusal, load};
+use crate::of_tree_config::{TreeConfig, TreeRefusal, read_tree};
 use crate::status::Status;
-use any_machine::release;
-use ddm_types::Start;
-use elf_load::{Image, ImageRefusal, load};
 use run_engine::{AnyMachine, BuildRefusal, build};
 use std::alloc::Global;
-use tree_config::{TreeConfig, TreeRefusal, read_tree};
 use witness_check::{CheckRefusal, WitnessReader};
 
 /// The tree that a file's bytes say.

@@ -1,14 +1,14 @@
 ghost use Rattle.std.specs.Prelude.{◌≡◌, ◌<◌, ◌≤◌, ◌+◌, ◌++◌, [], length, IfOk};
-ghost use Rattle.text_model.specs.Schedule.{schedule_text, turn_line, turn_lines};
-ghost use Rattle.text_model.specs.Seeded.{seeded_turns};
-ghost use Rattle.schedule_log.specs.Shapes.{shape_view};
+ghost use Rattle.ddm_cli.specs.TextModel.Schedule.{schedule_text, turn_line, turn_lines};
+ghost use Rattle.ddm_cli.specs.TextModel.Seeded.{seeded_turns};
+ghost use Rattle.ddm_cli.specs.ScheduleLog.Shapes.{shape_view};
 
-use ddm_types::{NoMemory, Turn};
-use report::{LINE_BYTES, Line, Parts, push_turn};
-use schedule_log::SeededTurns;
+use crate::of_ddm_types::{NoMemory, Turn};
+use crate::of_report::{LINE_BYTES, Line, Parts, push_turn};
+use crate::of_schedule_log::SeededTurns;
+use crate::of_tree_config::Shape;
 use std::alloc::Global;
 use std::marker::Model;
-use tree_config::Shape;
 
 /// A line of a schedule has at most so many bytes.
 const TURN_BYTES: usize = 67;
@@ -33,7 +33,7 @@ impl Model for SchedulePieces {
 }
 
 // Puts the line of a turn at the end.
-#[tactic(auto, unfolding(text_model::specs::Schedule::turn_line))]
+#[tactic(auto, unfolding(crate::specs::Opened::turn_line))]
 fn put_turn(line: &mut Line, turn: Turn)
     requires room { length line.old + TURN_BYTES ≤ LINE_BYTES }
     ensures text { line.new ≡ line.old ++ turn_line turn }

@@ -1,9 +1,9 @@
 ghost use Rattle.std.specs.Prelude.{◌≡◌, ◌<◌, ◌≤◌, ◌+◌, ◌++◌, [], ℕ, List, Some, false, length, vec_len, IfOk, IfErr, OnOk, if◌then◌else◌};
-ghost use Rattle.text_model.specs.Run.{no_counts};
-ghost use Rattle.text_model.specs.Trace.{trace_from};
-ghost use Rattle.bus_laws.specs.IsTree.{IsTree};
-ghost use Rattle.any_machine.specs.Any.{machine_state};
-ghost use Rattle.any_runs.specs.Run.{CanRun, NameParts, answers_in, counts_in, ran, with_room};
+ghost use Rattle.ddm_cli.specs.TextModel.Run.{no_counts};
+ghost use Rattle.ddm_cli.specs.TextModel.Trace.{trace_from};
+ghost use Rattle.ddm_cli.specs.BusLaws.IsTree.{IsTree};
+ghost use Rattle.ddm_cli.specs.AnyMachine.Any.{machine_state};
+ghost use Rattle.ddm_cli.specs.AnyRuns.Run.{CanRun, NameParts, answers_in, counts_in, ran, with_room};
 ghost use Rattle.ddm_cli.specs.Causes.{IsRefused, IsUnscheduled, ScheduleCause};
 ghost use Rattle.ddm_cli.specs.Commands.{AreFew};
 ghost use Rattle.ddm_cli.specs.Made.{CanCount, CanGoOn, HasAllMade, counts_plus, kept_of};
@@ -15,15 +15,15 @@ ghost use Rattle.ddm_cli.specs.Views.{turns_from};
 
 use crate::command::{Prints, TurnSource};
 use crate::limits::BLOCK_TURNS;
+use crate::of_ddm_outside::Shelf;
+use crate::of_ddm_types::{BusNo, NoMemory, Turn, TurnAnswer};
+use crate::of_report::{FileRole, push_trace};
+use crate::of_schedule_log::{FeedError, ScheduleReader, SeededTurns};
+use crate::of_text_model::RunCounts;
+use crate::of_tree_config::TreeConfig;
 use crate::status::Status;
-use ddm_outside::Shelf;
-use ddm_types::{BusNo, NoMemory, Turn, TurnAnswer};
-use report::{FileRole, push_trace};
 use run_engine::{AnyMachine, forget_ops, run};
-use schedule_log::{FeedError, ScheduleReader, SeededTurns};
 use std::alloc::Global;
-use text_model::RunCounts;
-use tree_config::TreeConfig;
 
 /// What turns came to. The lines of their trace are kept, where it is asked for.
 #[derive(Drop)]

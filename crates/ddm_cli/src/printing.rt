@@ -1,14 +1,14 @@
 ghost use Rattle.std.specs.Prelude.{◌≡◌, ◌≤◌, ◌++◌, ℕ, List, None, true, false, length, IfOk, IfErr, OnOk, OnErr};
-ghost use Rattle.ddm_types.specs.ItemTable.{item_count};
-ghost use Rattle.tree_model.specs.State.Shape.{depth_of};
-ghost use Rattle.tree_model.specs.Turns.Witness.{sorted_ops};
-ghost use Rattle.text_model.specs.Report.{report_of, summary_of};
-ghost use Rattle.text_model.specs.Run.{view_of};
-ghost use Rattle.bus_laws.specs.IsTree.{IsTree};
-ghost use Rattle.any_machine.specs.Any.{machine_state};
-ghost use Rattle.ddm_outside.specs.Causes.{HasCause};
-ghost use Rattle.report.specs.Appends.{Appends, AppendsPart};
-ghost use Rattle.jam_laws.specs.GoesOn.{has_large_lists};
+ghost use Rattle.ddm_cli.specs.DdmTypes.ItemTable.{item_count};
+ghost use Rattle.ddm_cli.specs.TreeModel.State.Shape.{depth_of};
+ghost use Rattle.ddm_cli.specs.TreeModel.Turns.Witness.{sorted_ops};
+ghost use Rattle.ddm_cli.specs.TextModel.Report.{report_of, summary_of};
+ghost use Rattle.ddm_cli.specs.TextModel.Run.{view_of};
+ghost use Rattle.ddm_cli.specs.BusLaws.IsTree.{IsTree};
+ghost use Rattle.ddm_cli.specs.AnyMachine.Any.{machine_state};
+ghost use Rattle.ddm_cli.specs.DdmOutside.Causes.{HasCause};
+ghost use Rattle.ddm_cli.specs.ReportCrate.Appends.{Appends, AppendsPart};
+ghost use Rattle.ddm_cli.specs.JamLaws.GoesOn.{has_large_lists};
 ghost use Rattle.ddm_cli.specs.Causes.{RanCause};
 ghost use Rattle.ddm_cli.specs.Commands.{AreFew};
 ghost use Rattle.ddm_cli.specs.Lists.{list_refused};
@@ -21,15 +21,15 @@ ghost use Rattle.ddm_cli.specs.declared.command.Prints.TheVariants.{Unjamming};
 
 use crate::command::{Prints, TurnSource};
 use crate::making::{Made, turns_made};
+use crate::of_ddm_outside::{Failed, Shelf, Sink};
+use crate::of_ddm_types::NoMemory;
+use crate::of_report::{ReportPieces, sorted_witness, summary_text, write_all, write_pieces};
+use crate::of_tree_config::TreeConfig;
 use crate::status::Status;
 use crate::unjamming::{list_refused, write_unjamming};
 use checkpoint::CheckpointPieces;
-use ddm_outside::{Failed, Shelf, Sink};
-use ddm_types::NoMemory;
-use report::{ReportPieces, sorted_witness, summary_text, write_all, write_pieces};
 use run_engine::AnyMachine;
 use std::alloc::Global;
-use tree_config::TreeConfig;
 
 // Writes the trace that is kept, none where it isn't asked for, and then a report.
 fn write_run<K: Sink>(

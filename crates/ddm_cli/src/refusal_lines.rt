@@ -1,14 +1,14 @@
 ghost use Rattle.std.specs.Prelude.{◌≡◌, ◌+◌, ◌++◌, ◌≤◌, length, codes, decimal};
-ghost use Rattle.text_model.specs.Faults.{name_words, number_texts, schedule_fault, schedule_refusal_name};
-ghost use Rattle.tree_config.specs.TreeFile.{key_name};
+ghost use Rattle.ddm_cli.specs.TextModel.Faults.{name_words, number_texts, schedule_fault, schedule_refusal_name};
+ghost use Rattle.ddm_cli.specs.TreeConfig.TreeFile.{key_name};
 ghost use Rattle.ddm_cli.specs.Refusals.{build_line, checkpoint_line, image_line, small_lists_line, tree_line_head, witness_line};
 
+use crate::of_elf_load::ImageRefusal;
+use crate::of_report::FaultLine;
+use crate::of_text_model::ScheduleRefusal;
+use crate::of_tree_config::{TreeKey, TreeRefusal};
 use checkpoint::ResumeRefusal;
-use elf_load::ImageRefusal;
-use report::FaultLine;
 use run_engine::BuildRefusal;
-use text_model::ScheduleRefusal;
-use tree_config::{TreeKey, TreeRefusal};
 use witness_check::CheckRefusal;
 
 // Puts numbers at the end, each behind a space.
@@ -48,7 +48,7 @@ fn image(name: &[u8], numbers: &[u64]) -> FaultLine
 }
 
 /// The line for an image that isn't accepted.
-#[tactic(auto, unfolding(text_model::specs::Faults::image_fault, text_model::specs::Faults::refusal_text, text_model::specs::Faults::name_words))]
+#[tactic(auto, unfolding(crate::specs::Opened::image_fault, crate::specs::Opened::refusal_text, crate::specs::Opened::name_words))]
 pub fn image_line(refusal: &ImageRefusal) -> FaultLine
     ensures { result ≡ image_line refusal.now }
 {
@@ -78,7 +78,7 @@ pub fn image_line(refusal: &ImageRefusal) -> FaultLine
 }
 
 /// The line for an image of which a tree makes no machine.
-#[tactic(auto, unfolding(text_model::specs::Faults::image_fault, text_model::specs::Faults::refusal_text, text_model::specs::Faults::name_words))]
+#[tactic(auto, unfolding(crate::specs::Opened::image_fault, crate::specs::Opened::refusal_text, crate::specs::Opened::name_words))]
 pub fn build_line(refusal: &BuildRefusal) -> FaultLine
     ensures { result ≡ build_line refusal.now }
 {
@@ -134,7 +134,7 @@ fn before_key() -> FaultLine
 }
 
 /// The line for a tree file that isn't accepted; for an unknown key what stands before the key.
-#[tactic(auto, unfolding(text_model::specs::Faults::tree_fault, text_model::specs::Faults::tree_key_fault, text_model::specs::Faults::key_refusal_text, text_model::specs::Faults::refusal_text, text_model::specs::Faults::name_words))]
+#[tactic(auto, unfolding(crate::specs::Opened::tree_fault, crate::specs::Opened::tree_key_fault, crate::specs::Opened::key_refusal_text, crate::specs::Opened::refusal_text, crate::specs::Opened::name_words))]
 pub fn tree_line_head(refusal: &TreeRefusal) -> FaultLine
     ensures { result ≡ tree_line_head refusal.now }
 {
@@ -155,7 +155,7 @@ pub fn tree_line_head(refusal: &TreeRefusal) -> FaultLine
 }
 
 // The words of a schedule's refusal.
-#[tactic(auto, unfolding(text_model::specs::Faults::name_words))]
+#[tactic(auto, unfolding(crate::specs::Opened::name_words))]
 fn schedule_words(refusal: ScheduleRefusal) -> &'static [u8]
     ensures words { result.now ≡ name_words (schedule_refusal_name refusal) }
     ensures short { length result.now ≤ 14 }
@@ -172,7 +172,7 @@ fn schedule_words(refusal: ScheduleRefusal) -> &'static [u8]
 }
 
 /// The line for a schedule that is refused in a line.
-#[tactic(auto, unfolding(text_model::specs::Faults::schedule_fault))]
+#[tactic(auto, unfolding(crate::specs::Opened::schedule_fault))]
 pub fn schedule_line(line: u32, refusal: ScheduleRefusal) -> FaultLine
     ensures { result ≡ schedule_fault line refusal }
 {
@@ -212,7 +212,7 @@ fn witness_at(line: u32, name: &[u8]) -> FaultLine
 }
 
 /// The line for a witness that isn't accepted.
-#[tactic(auto, unfolding(text_model::specs::Faults::witness_fault, text_model::specs::Faults::witness_line_fault, text_model::specs::Faults::name_words))]
+#[tactic(auto, unfolding(crate::specs::Opened::witness_fault, crate::specs::Opened::witness_line_fault, crate::specs::Opened::name_words))]
 pub fn witness_line(refusal: &CheckRefusal) -> FaultLine
     ensures { result ≡ witness_line refusal.now }
 {
@@ -239,7 +239,7 @@ fn checkpoint(name: &[u8], numbers: &[u64]) -> FaultLine
 }
 
 /// The line for a checkpoint that isn't accepted.
-#[tactic(auto, unfolding(text_model::specs::Faults::checkpoint_fault, text_model::specs::Faults::refusal_text, text_model::specs::Faults::name_words))]
+#[tactic(auto, unfolding(crate::specs::Opened::checkpoint_fault, crate::specs::Opened::refusal_text, crate::specs::Opened::name_words))]
 pub fn checkpoint_line(refusal: &ResumeRefusal) -> FaultLine
     ensures { result ≡ checkpoint_line refusal.now }
 {

@@ -1,9 +1,9 @@
 ghost use Rattle.std.specs.Prelude.{◌≡◌, ◌<◌, ◌≤◌, ℕ, List, Ok, IfErr, IfOk, IfSome, OnErr, Some, length};
-ghost use Rattle.tree_model.specs.State.Shape.{frame_of};
-ghost use Rattle.any_machine.specs.Any.{machine_state};
-ghost use Rattle.any_runs.specs.Run.{AreBelow};
+ghost use Rattle.ddm_cli.specs.TreeModel.State.Shape.{frame_of};
+ghost use Rattle.ddm_cli.specs.AnyMachine.Any.{machine_state};
+ghost use Rattle.ddm_cli.specs.AnyRuns.Run.{AreBelow};
 ghost use Rattle.checkpoint.specs.Resumed.{resumed};
-ghost use Rattle.ddm_outside.specs.Causes.{HasCause};
+ghost use Rattle.ddm_cli.specs.DdmOutside.Causes.{HasCause};
 ghost use Rattle.ddm_cli.specs.Causes.{CheckpointCause, IsUnscheduled, ScheduleCause};
 ghost use Rattle.ddm_cli.specs.Commands.{to_resume};
 ghost use Rattle.ddm_cli.specs.Made.{CanGoOn};
@@ -14,17 +14,17 @@ ghost use Rattle.ddm_cli.specs.Views.{resumption_from};
 use crate::command::Resumption;
 use crate::files::{image_file, tree_file};
 use crate::making::schedule_made;
+use crate::of_any_machine::release;
+use crate::of_ddm_outside::{Failed, Shelf, Sink};
+use crate::of_report::FileRole;
+use crate::of_text_model::RunCounts;
+use crate::of_tree_config::TreeConfig;
 use crate::printing::write_report;
 use crate::reading::{ReadError, read_buffer};
 use crate::status::Status;
-use any_machine::release;
 use checkpoint::{CheckpointFile, MOST_BYTES, ResumeRefusal, resume};
-use ddm_outside::{Failed, Shelf, Sink};
-use report::FileRole;
 use run_engine::AnyMachine;
 use std::alloc::Global;
-use text_model::RunCounts;
-use tree_config::TreeConfig;
 
 // The machine that a checkpoint's bytes say, and what its turns came to.
 fn resumed(

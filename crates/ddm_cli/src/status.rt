@@ -2,13 +2,13 @@ ghost use Rattle.std.specs.Prelude.{◌≡◌};
 ghost use Rattle.ddm_cli.specs.Code.{exit_code};
 ghost use Rattle.ddm_cli.specs.declared.status.Status.TheVariants.{NoMemory};
 
+use crate::of_ddm_types::NoMemory;
+use crate::of_elf_load::ImageRefusal;
+use crate::of_report::FileRole;
+use crate::of_text_model::ScheduleRefusal;
+use crate::of_tree_config::{TreeKey, TreeRefusal};
 use checkpoint::ResumeRefusal;
-use ddm_types::NoMemory;
-use elf_load::ImageRefusal;
-use report::FileRole;
 use run_engine::BuildRefusal;
-use text_model::ScheduleRefusal;
-use tree_config::{TreeKey, TreeRefusal};
 use witness_check::CheckRefusal;
 
 /// How a command ended.

@@ -1,10 +1,10 @@
 ghost use Rattle.std.specs.Prelude.{◌≡◌, ◌+◌, ◌≤◌, IfErr, IfOk, OnErr};
-ghost use Rattle.bus_laws.specs.IsTree.{IsTree};
-ghost use Rattle.any_machine.specs.Any.{machine_state};
-ghost use Rattle.any_machine.specs.Kind.{kind_of};
-ghost use Rattle.ddm_outside.specs.Causes.{HasCause};
-ghost use Rattle.schedule_log.specs.Shapes.{shape_view};
-ghost use Rattle.outcome_model.specs.Outcomes.{outcomes_text};
+ghost use Rattle.ddm_cli.specs.BusLaws.IsTree.{IsTree};
+ghost use Rattle.ddm_cli.specs.AnyMachine.Any.{machine_state};
+ghost use Rattle.ddm_cli.specs.AnyMachine.Kind.{kind_of};
+ghost use Rattle.ddm_cli.specs.DdmOutside.Causes.{HasCause};
+ghost use Rattle.ddm_cli.specs.ScheduleLog.Shapes.{shape_view};
+ghost use Rattle.ddm_cli.specs.OutcomeModel.Outcomes.{outcomes_text};
 ghost use Rattle.ddm_cli.specs.Commands.{IsInRange, first_run, to_survey};
 ghost use Rattle.ddm_cli.specs.Parts.{HasStart};
 ghost use Rattle.ddm_cli.specs.Top.{HasAccepted, NoRun, WritesAccepted};
@@ -13,19 +13,19 @@ ghost use Rattle.ddm_cli.specs.declared.command.Prints.TheVariants.{Report};
 
 use crate::command::Seeds;
 use crate::files::{image_machines, tree_file};
+use crate::of_any_machine::release;
+use crate::of_ddm_outside::{Failed, Shelf, Sink};
+use crate::of_ddm_types::NoMemory;
+use crate::of_report::write_all;
+use crate::of_tree_config::TreeConfig;
 use crate::reading::read_buffer;
 use crate::status::Status;
-use any_machine::release;
-use ddm_outside::{Failed, Shelf, Sink};
-use ddm_types::NoMemory;
 use outcomes::{outcomes, push_table};
-use report::write_all;
 use run_engine::AnyMachine;
 use std::alloc::Global;
-use tree_config::TreeConfig;
 
 // The text of the outcomes, with one machine at its start and another one that makes the turns.
-#[tactic(auto, unfolding(outcome_model::specs::Outcomes::outcomes_text))]
+#[tactic(auto, unfolding(crate::specs::Opened::outcomes_text))]
 fn table_text(
     alloc: Global,
     tree: &TreeConfig,

@@ -1,5 +1,5 @@
 ghost use Rattle.std.specs.Prelude.{◌≡◌, ◌≤◌, length, map, IfOk, IfErr, OnErr};
-ghost use Rattle.ddm_outside.specs.Causes.{HasCause};
+ghost use Rattle.ddm_cli.specs.DdmOutside.Causes.{HasCause};
 ghost use Rattle.std.specs.String.{string_bytes};
 ghost use Rattle.ddm_cli.specs.Causes.{TreeCause};
 ghost use Rattle.ddm_cli.specs.Commands.{IsInRange, to_list, to_run};
@@ -12,15 +12,15 @@ use crate::command::{Command, Prints, Run};
 use crate::fault::tell;
 use crate::files::{image_machine, tree_file};
 use crate::listing::SchedulePieces;
+use crate::of_any_machine::release;
+use crate::of_ddm_outside::{Failed, Shelf, Sink};
+use crate::of_report::write_pieces;
 use crate::printing::write_ran;
 use crate::reading::read_buffer;
 use crate::resuming::write_resumed;
 use crate::status::Status;
 use crate::surveying::write_outcomes;
 use crate::words::command_said;
-use any_machine::release;
-use ddm_outside::{Failed, Shelf, Sink};
-use report::write_pieces;
 use std::alloc::Global;
 
 // Runs a machine and writes what is printed of it, or answers the status without a text.

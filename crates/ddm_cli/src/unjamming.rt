@@ -1,17 +1,17 @@
 ghost use Rattle.std.specs.Prelude.{◌≡◌, true};
-ghost use Rattle.any_machine.specs.Any.{machine_state};
-ghost use Rattle.ddm_outside.specs.Causes.{HasCause};
-ghost use Rattle.jam_laws.specs.GoesOn.{has_large_lists, unjamming_turn};
+ghost use Rattle.ddm_cli.specs.AnyMachine.Any.{machine_state};
+ghost use Rattle.ddm_cli.specs.DdmOutside.Causes.{HasCause};
+ghost use Rattle.ddm_cli.specs.JamLaws.GoesOn.{has_large_lists, unjamming_turn};
 ghost use Rattle.ddm_cli.specs.Lists.{list_refused, small_list};
 ghost use Rattle.ddm_cli.specs.Printed.{Writes, unjam_line};
 
 use crate::command::Prints;
-use ddm_outside::{Failed, Sink};
-use ddm_types::{TreeSizes, Turn};
+use crate::of_ddm_outside::{Failed, Sink};
+use crate::of_ddm_types::{TreeSizes, Turn};
+use crate::of_report::{Line, push_turn, write_all};
+use crate::of_tree_config::TreeKey;
 use no_jam::unjam;
-use report::{Line, push_turn, write_all};
 use run_engine::AnyMachine;
-use tree_config::TreeKey;
 
 // The first list that has less than eight places for each of so many items.
 fn small_list(sizes: &TreeSizes, items: u32) -> Option<TreeKey>

@@ -1,13 +1,13 @@
 ghost use Rattle.std.specs.Prelude.{◌≡◌, ◌≤◌, ◌++◌, length, map, codes, OnOk, OnErr};
-ghost use Rattle.ddm_outside.specs.Causes.{HasCause};
-ghost use Rattle.report.specs.Appends.{Appends, AppendsPart};
-ghost use Rattle.text_model.specs.Faults.{shown_byte, shown_key};
+ghost use Rattle.ddm_cli.specs.DdmOutside.Causes.{HasCause};
+ghost use Rattle.ddm_cli.specs.ReportCrate.Appends.{Appends, AppendsPart};
+ghost use Rattle.ddm_cli.specs.TextModel.Faults.{shown_byte, shown_key};
 ghost use Rattle.ddm_cli.specs.Top.{line_rest};
 
+use crate::of_ddm_outside::{Failed, Sink};
+use crate::of_report::{FaultLine, write_all};
+use crate::of_tree_config::TreeRefusal;
 use crate::status::Status;
-use ddm_outside::{Failed, Sink};
-use report::{FaultLine, write_all};
-use tree_config::TreeRefusal;
 
 // How many bytes of a key are written at a time.
 const PIECE_BYTES: usize = 64;

@@ -6,7 +6,7 @@ ghost use Rattle.ddm_cli.specs.Views.{command_from};
 use crate::command::{
     About, Check, Command, ImageSource, Prints, Resumption, Run, Seeds, TurnSource,
 };
-use ddm_text::read_decimal;
+use crate::of_ddm_text::read_decimal;
 
 const MOST_TURNS: u64 = 1_048_576;
 

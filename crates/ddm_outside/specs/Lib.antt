@@ -1,3 +1,4 @@
+pub mod DdmTypes
 pub mod Causes
 pub mod Telling
 pub mod NamedFiles

@@ -7,6 +7,8 @@ mod memory_shelf;
 mod memory_sink;
 mod named_file;
 mod named_files;
+pub mod of_ddm_text;
+pub mod of_ddm_types;
 mod outside;
 mod sound_shelf;
 mod sound_sink;

@@ -3,8 +3,8 @@ ghost use Rattle.ddm_outside.specs.Causes.{raised, HasCause};
 ghost use Rattle.ddm_outside.specs.Telling.{WritesTold};
 
 use crate::calls::is_listed;
+use crate::of_ddm_types::NoMemory;
 use crate::{Failed, Sink};
-use ddm_types::NoMemory;
 use std::alloc::Global;
 
 /// A sink in memory, which tells what it holds and fails where it is told to. It takes at most so many

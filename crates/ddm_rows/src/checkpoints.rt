@@ -1,12 +1,12 @@
 //! Checkpoints: what is refused of a file, and runs that go on from one.
 ghost use Rattle.std.specs.Prelude.{◌≡◌, All, IfOk};
 
+use crate::of_ddm_outside::{MemoryShelf, NamedFile};
 use crate::several_leaves::{FLAG_ASKED, FLAG_READ, WORD_READ, WORD_STORED};
 use asked_commands::answers::{Answer, RUN, Turn, ask_with, named, output, sink};
 use asked_commands::files::{
     Files, TreeFile, changed, one_leaf, schedule, store_and_load, tree, word_and_flag,
 };
-use ddm_outside::{MemoryShelf, NamedFile};
 use std::alloc::Global;
 use std::test::Fail;
 

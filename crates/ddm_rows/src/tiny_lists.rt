@@ -1,13 +1,13 @@
 //! Lists, buffers and parkings of one place each: whatever the schedule, the flat machine makes the operations of the witness, each
 //! with its effect.
 
+use crate::of_ddm_types::Start;
+use crate::of_elf_load::load;
+use crate::of_witness_check::check;
 use asked_commands::answers::output;
 use asked_commands::files::{Files, TreeFile, load_two_words, tree};
-use ddm_types::Start;
-use elf_load::load;
 use std::alloc::Global;
 use std::test::Fail;
-use witness_check::check;
 
 /// The harts of the tree of this test: two, without stacks.
 const TWO_HARTS: Start = Start {

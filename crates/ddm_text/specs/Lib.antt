@@ -1,3 +1,4 @@
+pub mod DdmTypes
 pub mod Adds
 pub mod Hex
 pub mod Numbers

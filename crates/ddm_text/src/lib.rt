@@ -3,6 +3,7 @@
 
 mod lines;
 mod numbers;
+pub mod of_ddm_types;
 mod reading;
 mod text;
 

@@ -2,20 +2,20 @@
 use Rattle.std.proofs.Common.{◌≡◌, ℕ, suc, ◌+◌, ◌<◌, ◌++◌, Bool, true, false, List, [], ◌∷◌, length, Option, Some, None, refl, sym, ap, ◌∙◌, arith, option_map}
 use Rattle.std.specs.Prelude.{is_some, slice_set, ◌||◌, if◌then◌else◌}
 use Rattle.std.proofs.lemmas.List.{append_assoc, append-nil}
-use Rattle.ddm_types.specs.declared.answers.TurnAnswer.{TurnAnswer}
-use Rattle.ddm_types.specs.declared.turns.Turn.{Turn}
-use Rattle.ddm_types.specs.Keys.{stamp_zero}
-use Rattle.ddm_types.specs.ItemTable.{ItemTable}
-use Rattle.ddm_types.specs.CodeMap.{CodeWord}
-use Rattle.tree_model.specs.State.Lists.{first_some, some_if}
-use Rattle.tree_model.specs.State.Values.{LeafValue, DirValue, Node, Nodes, leaf_node, dir_node, no_nodes, more_nodes, nodes, children, MachineValue, root_of}
-use Rattle.tree_model.specs.State.Place.{Where, at_top, at_child, where_path, stamp_above, spot_in}
-use Rattle.tree_model.specs.State.Shape.{skeleton, skeletons}
-use Rattle.tree_model.specs.Turns.Children.{child_at}
-use Rattle.tree_model.specs.Turns.Machine.{named_by, answer_here, node_after, turn_answer, turn_root, with_root, recorded, turn_of}
-use Rattle.tree_model.specs.Turns.Tree.{Name, leaf_of_number, bus_of_number, is_named, has_node, has_among, read_in, read_among, changed_in, changed_among}
-use Rattle.tree_model.proofs.Children.{nodes-children}
-use Rattle.tree_model.proofs.TurnChanges.{turn-changes_nothing}
+use Rattle.ddm_tree.specs.DdmTypes.declared.answers.TurnAnswer.{TurnAnswer}
+use Rattle.ddm_tree.specs.DdmTypes.declared.turns.Turn.{Turn}
+use Rattle.ddm_tree.specs.DdmTypes.Keys.{stamp_zero}
+use Rattle.ddm_tree.specs.DdmTypes.ItemTable.{ItemTable}
+use Rattle.ddm_tree.specs.DdmTypes.CodeMap.{CodeWord}
+use Rattle.ddm_tree.specs.TreeModel.State.Lists.{first_some, some_if}
+use Rattle.ddm_tree.specs.TreeModel.State.Values.{LeafValue, DirValue, Node, Nodes, leaf_node, dir_node, no_nodes, more_nodes, nodes, children, MachineValue, root_of}
+use Rattle.ddm_tree.specs.TreeModel.State.Place.{Where, at_top, at_child, where_path, stamp_above, spot_in}
+use Rattle.ddm_tree.specs.TreeModel.State.Shape.{skeleton, skeletons}
+use Rattle.ddm_tree.specs.TreeModel.Turns.Children.{child_at}
+use Rattle.ddm_tree.specs.TreeModel.Turns.Machine.{named_by, answer_here, node_after, turn_answer, turn_root, with_root, recorded, turn_of}
+use Rattle.ddm_tree.specs.TreeModel.Turns.Tree.{Name, leaf_of_number, bus_of_number, is_named, has_node, has_among, read_in, read_among, changed_in, changed_among}
+use Rattle.ddm_tree.proofs.TreeModel.Children.{nodes-children}
+use Rattle.ddm_tree.proofs.TreeModel.TurnChanges.{turn-changes_nothing}
 use Rattle.ddm_tree.specs.Path.{is_bone, step_down, path_to, path_among, below, present_below, node_at, present_at, put_at, node_answer, node_turned}
 
 -- ---- where the node at the path's end stands

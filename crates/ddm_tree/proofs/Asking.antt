@@ -3,21 +3,21 @@ use Rattle.std.proofs.Common.{◌≡◌, ◌<◌, ◌≤◌, ℕ, zero, suc, Boo
 use Rattle.std.specs.Prelude.{is_some}
 use Rattle.std.proofs.lemmas.Bool.{eqb-true}
 use Rattle.std.proofs.lemmas.List.{get_or-map, length-map}
-use Rattle.ddm_types.specs.declared.keys.Stamp.{Stamp}
-use Rattle.ddm_types.specs.declared.turns.Turn.{Turn}
-use Rattle.ddm_types.specs.Keys.{stamp_zero}
-use Rattle.tree_model.specs.declared.BusTurn.{BusTurn}
-use Rattle.tree_model.specs.State.Values.{DirValue, Node, leaf_node, dir_node, nodes, children, MachineValue, root_of}
-use Rattle.tree_model.specs.State.Blank.{no_node}
-use Rattle.tree_model.specs.State.Rooms.{dir_within, all_within, all_within_among}
-use Rattle.tree_model.specs.Turns.Bus.{bus_step}
-use Rattle.tree_model.specs.Turns.Children.{child_at}
-use Rattle.tree_model.specs.Turns.Machine.{named_by, names_part, bus_turn_of, turn_of}
-use Rattle.tree_model.specs.Turns.Tree.{Name, bus_of_number, is_named, has_node}
-use Rattle.tree_model.proofs.Children.{children-nodes}
-use Rattle.tree_model.proofs.DirRooms.{dir_within-facts}
-use Rattle.tree_model.proofs.Tests.{and-first, and-second}
-use Rattle.item_states.specs.Parts.{node_items}
+use Rattle.ddm_tree.specs.DdmTypes.declared.keys.Stamp.{Stamp}
+use Rattle.ddm_tree.specs.DdmTypes.declared.turns.Turn.{Turn}
+use Rattle.ddm_tree.specs.DdmTypes.Keys.{stamp_zero}
+use Rattle.ddm_tree.specs.TreeModel.declared.BusTurn.{BusTurn}
+use Rattle.ddm_tree.specs.TreeModel.State.Values.{DirValue, Node, leaf_node, dir_node, nodes, children, MachineValue, root_of}
+use Rattle.ddm_tree.specs.TreeModel.State.Blank.{no_node}
+use Rattle.ddm_tree.specs.TreeModel.State.Rooms.{dir_within, all_within, all_within_among}
+use Rattle.ddm_tree.specs.TreeModel.Turns.Bus.{bus_step}
+use Rattle.ddm_tree.specs.TreeModel.Turns.Children.{child_at}
+use Rattle.ddm_tree.specs.TreeModel.Turns.Machine.{named_by, names_part, bus_turn_of, turn_of}
+use Rattle.ddm_tree.specs.TreeModel.Turns.Tree.{Name, bus_of_number, is_named, has_node}
+use Rattle.ddm_tree.proofs.TreeModel.Children.{children-nodes}
+use Rattle.ddm_tree.proofs.TreeModel.DirRooms.{dir_within-facts}
+use Rattle.ddm_tree.proofs.TreeModel.Tests.{and-first, and-second}
+use Rattle.ddm_tree.specs.ItemStates.Parts.{node_items}
 use Rattle.split_bus.specs.Outcomes.{AreSized, NamesOneOf, goes_on_with, is_granted}
 use Rattle.ddm_tree.specs.Machine.{is_part}
 use Rattle.ddm_tree.specs.Path.{node_at, present_at, node_answer}

@@ -2,12 +2,12 @@
 -- Letters: n and m are nodes, v and w leaves, d a directory over the nodes ns, xs and ys lists of nodes, i a child.
 use Rattle.std.proofs.Common.{◌≡◌, ℕ, zero, suc, List, [], ◌∷◌, map, refl, ap, ◌∙◌}
 use Rattle.std.specs.Prelude.{slice_set}
-use Rattle.tree_model.specs.Laws.{KeepsParts, kept_of}
-use Rattle.tree_model.specs.State.Shape.{dir_bone, skeleton, skeletons}
-use Rattle.tree_model.specs.State.Values.{DirValue, Node, Nodes, leaf_node, dir_node, no_nodes, more_nodes, nodes, children}
-use Rattle.tree_model.specs.Turns.Children.{child_at}
-use Rattle.tree_model.specs.Turns.Grant.{Outcome}
-use Rattle.tree_model.proofs.Children.{nodes-children}
+use Rattle.ddm_tree.specs.TreeModel.Laws.{KeepsParts, kept_of}
+use Rattle.ddm_tree.specs.TreeModel.State.Shape.{dir_bone, skeleton, skeletons}
+use Rattle.ddm_tree.specs.TreeModel.State.Values.{DirValue, Node, Nodes, leaf_node, dir_node, no_nodes, more_nodes, nodes, children}
+use Rattle.ddm_tree.specs.TreeModel.Turns.Children.{child_at}
+use Rattle.ddm_tree.specs.TreeModel.Turns.Grant.{Outcome}
+use Rattle.ddm_tree.proofs.TreeModel.Children.{nodes-children}
 use Rattle.ddm_tree.specs.Path.{node_at, put_at}
 
 set-bones : (ns : Nodes) (i : ℕ) (m : Node) → skeleton m ≡ skeleton (child_at i (children ns)) → skeletons (nodes (slice_set (children ns) i m)) ≡ skeletons ns

@@ -6,20 +6,20 @@ use Rattle.std.specs.List.{range_with_len}
 use Rattle.std.proofs.lemmas.Bool.{eqb-true, eq-eqb}
 use Rattle.std.proofs.lemmas.List.{map-append}
 use Rattle.std.proofs.lemmas.List.FromFn.{get_or-range_with_len, length-range_with_len}
-use Rattle.ddm_types.specs.ItemTable.{item_count}
-use Rattle.tree_model.specs.declared.Traffic.{Traffic}
-use Rattle.tree_model.specs.State.Blank.{no_leaf}
-use Rattle.tree_model.specs.State.Place.{Where, at_top}
-use Rattle.tree_model.specs.State.Rooms.{all_within}
-use Rattle.tree_model.specs.State.Shape.{IsShaped, are_below, buses_of, frame_of, skeleton, tree_counts, traffic_counted}
-use Rattle.tree_model.specs.State.Values.{LeafValue, DirValue, Node, Nodes, leaf_node, dir_node, no_nodes, more_nodes, children, MachineValue, root_of}
-use Rattle.tree_model.specs.Turns.Machine.{ask_bus, with_root}
-use Rattle.tree_model.specs.Turns.Tree.{Name, bus_of_number, is_named, of_dir}
-use Rattle.tree_model.proofs.Tests.{and-first}
-use Rattle.state_reading.specs.declared.StateRefusal.{StateRefusal}
-use Rattle.state_reading.specs.Machine.{BusRead, bus_dir, bus_traffic, read_bus, read_bus_of, read_buses, refilled, refilled_among}
-use Rattle.state_reading.specs.Parts.{read_dir, read_traffic}
-use Rattle.state_reading.specs.Reading.{Read, and_then, given}
+use Rattle.ddm_tree.specs.DdmTypes.ItemTable.{item_count}
+use Rattle.ddm_tree.specs.TreeModel.declared.Traffic.{Traffic}
+use Rattle.ddm_tree.specs.TreeModel.State.Blank.{no_leaf}
+use Rattle.ddm_tree.specs.TreeModel.State.Place.{Where, at_top}
+use Rattle.ddm_tree.specs.TreeModel.State.Rooms.{all_within}
+use Rattle.ddm_tree.specs.TreeModel.State.Shape.{IsShaped, are_below, buses_of, frame_of, skeleton, tree_counts, traffic_counted}
+use Rattle.ddm_tree.specs.TreeModel.State.Values.{LeafValue, DirValue, Node, Nodes, leaf_node, dir_node, no_nodes, more_nodes, children, MachineValue, root_of}
+use Rattle.ddm_tree.specs.TreeModel.Turns.Machine.{ask_bus, with_root}
+use Rattle.ddm_tree.specs.TreeModel.Turns.Tree.{Name, bus_of_number, is_named, of_dir}
+use Rattle.ddm_tree.proofs.TreeModel.Tests.{and-first}
+use Rattle.ddm_tree.specs.StateReading.declared.StateRefusal.{StateRefusal}
+use Rattle.ddm_tree.specs.StateReading.Machine.{BusRead, bus_dir, bus_traffic, read_bus, read_bus_of, read_buses, refilled, refilled_among}
+use Rattle.ddm_tree.specs.StateReading.Parts.{read_dir, read_traffic}
+use Rattle.ddm_tree.specs.StateReading.Reading.{Read, and_then, given}
 use Rattle.state_judging.specs.Read.{CanRead}
 use Rattle.ddm_tree.specs.declared.section.Section.{Section}
 use Rattle.ddm_tree.specs.Machine.{is_part}

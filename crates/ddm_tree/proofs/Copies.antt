@@ -2,15 +2,15 @@
 use Rattle.std.proofs.Common.{◌≡◌, ◌∙◌, ap, sym, refl, ℕ, zero, suc, ◌+◌, ◌-◌, min, ◌<◌, ◌≤◌, true, nat_eq, Some, subst, List, [], ◌∷◌, ◌++◌, length, map, get_or, set, take, drop, arith, add-one}
 use Rattle.std.proofs.lemmas.Bool.{eqb-true}
 use Rattle.std.proofs.lemmas.List.{append-nil, drop_all, take_all}
-use Rattle.ddm_types.specs.declared.operations.Op.{Op}
-use Rattle.ddm_types.specs.declared.sizes.TreeCounts.{TreeCounts}
-use Rattle.ddm_types.specs.ItemTable.{item_count}
-use Rattle.tree_model.specs.declared.Traffic.{Traffic}
-use Rattle.tree_model.specs.State.Rooms.{all_within, all_within_among, dir_within}
-use Rattle.tree_model.specs.State.Shape.{Skeleton, buses_of, frame_of, leaf_numbers_of, levels_of, skeleton, skeletons, tree_counts}
-use Rattle.tree_model.specs.State.Values.{DirValue, LeafValue, MachineValue, Node, leaf_node, dir_node, nodes, root_of}
-use Rattle.tree_model.specs.Turns.Children.{child_at}
-use Rattle.tree_model.proofs.Tests.{and-first, and-second}
+use Rattle.ddm_tree.specs.DdmTypes.declared.operations.Op.{Op}
+use Rattle.ddm_tree.specs.DdmTypes.declared.sizes.TreeCounts.{TreeCounts}
+use Rattle.ddm_tree.specs.DdmTypes.ItemTable.{item_count}
+use Rattle.ddm_tree.specs.TreeModel.declared.Traffic.{Traffic}
+use Rattle.ddm_tree.specs.TreeModel.State.Rooms.{all_within, all_within_among, dir_within}
+use Rattle.ddm_tree.specs.TreeModel.State.Shape.{Skeleton, buses_of, frame_of, leaf_numbers_of, levels_of, skeleton, skeletons, tree_counts}
+use Rattle.ddm_tree.specs.TreeModel.State.Values.{DirValue, LeafValue, MachineValue, Node, leaf_node, dir_node, nodes, root_of}
+use Rattle.ddm_tree.specs.TreeModel.Turns.Children.{child_at}
+use Rattle.ddm_tree.proofs.TreeModel.Tests.{and-first, and-second}
 use Rattle.ddm_tree.specs.Copying.{AreAlike, copied}
 use Rattle.ddm_tree.specs.Machine.{IsMachine, MachineState, machine_of}
 use Rattle.ddm_tree.specs.Path.{path_to}

@@ -1,35 +1,35 @@
 -- A turn counts one instruction or one grant at most: no count of a machine rises by more than one.
 use Rattle.std.proofs.Common.{◌≡◌, ◌≤◌, ℕ, ◌+◌, Bool, true, false, List, [], ◌∷◌, map, Some, None, refl, sym, ap, subst, ◌∙◌, arith}
 use Rattle.std.specs.Prelude.{◌&&◌, nat_le}
-use Rattle.ddm_types.specs.declared.answers.TurnAnswer.{TurnAnswer}
-use Rattle.ddm_types.specs.declared.keys.Stamp.{Stamp}
-use Rattle.ddm_types.specs.declared.keys.Key.{Key}
-use Rattle.ddm_types.specs.declared.turns.Turn.{Turn}
-use Rattle.ddm_types.specs.ItemTable.{ItemTable}
-use Rattle.ddm_types.specs.CodeMap.{CodeWord}
-use Rattle.tree_model.specs.declared.BusTurn.{BusTurn}
-use Rattle.tree_model.specs.State.States.{is_exclusive}
-use Rattle.tree_model.specs.State.Values.{LeafValue, DirValue, Node, Nodes, leaf_node, dir_node, no_nodes, more_nodes, nodes, children, MachineValue, root_of}
-use Rattle.tree_model.specs.State.Directory.{dir_hold}
-use Rattle.tree_model.specs.State.Place.{Where, stamp_above, key_at_leaf, at_top}
-use Rattle.tree_model.specs.Turns.Grant.{Grant, Judged, nothing_there, refused, granted, outcome_of}
-use Rattle.tree_model.specs.Turns.RequestRead.{joins, read_of_child, read_of_parked, read_of_parent}
-use Rattle.tree_model.specs.Turns.RequestErase.{erase_noted, erase_of_all}
-use Rattle.tree_model.specs.Turns.Reply.{reply_to_readers, reply_to_parent}
-use Rattle.tree_model.specs.Turns.Down.{exclusive_to, erase_of_children, read_by_child, read_by_parked, data_to_readers, inject_to_reader, inject_to_readers, inject_to_child, inject_parked}
-use Rattle.tree_model.specs.Turns.Leave.{out_gone, leave_parked, leave_to}
-use Rattle.tree_model.specs.Turns.Bus.{bus_judged, bus_step}
-use Rattle.tree_model.specs.Turns.HartTurn.{Deed, has_halted, waits_for, halts, completes, fetches, upgrades, finds_buffer_full, deed_of, leaf_after_deed, leaf_step}
-use Rattle.tree_model.specs.Turns.Machine.{named_by, answer_here, node_after, bus_turn_of, victim_of, turn_answer, turn_root, turn_of}
-use Rattle.tree_model.specs.Laws.{TurnsHere, Kept, leaf_kept, dir_kept, kept_of}
+use Rattle.ddm_tree.specs.DdmTypes.declared.answers.TurnAnswer.{TurnAnswer}
+use Rattle.ddm_tree.specs.DdmTypes.declared.keys.Stamp.{Stamp}
+use Rattle.ddm_tree.specs.DdmTypes.declared.keys.Key.{Key}
+use Rattle.ddm_tree.specs.DdmTypes.declared.turns.Turn.{Turn}
+use Rattle.ddm_tree.specs.DdmTypes.ItemTable.{ItemTable}
+use Rattle.ddm_tree.specs.DdmTypes.CodeMap.{CodeWord}
+use Rattle.ddm_tree.specs.TreeModel.declared.BusTurn.{BusTurn}
+use Rattle.ddm_tree.specs.TreeModel.State.States.{is_exclusive}
+use Rattle.ddm_tree.specs.TreeModel.State.Values.{LeafValue, DirValue, Node, Nodes, leaf_node, dir_node, no_nodes, more_nodes, nodes, children, MachineValue, root_of}
+use Rattle.ddm_tree.specs.TreeModel.State.Directory.{dir_hold}
+use Rattle.ddm_tree.specs.TreeModel.State.Place.{Where, stamp_above, key_at_leaf, at_top}
+use Rattle.ddm_tree.specs.TreeModel.Turns.Grant.{Grant, Judged, nothing_there, refused, granted, outcome_of}
+use Rattle.ddm_tree.specs.TreeModel.Turns.RequestRead.{joins, read_of_child, read_of_parked, read_of_parent}
+use Rattle.ddm_tree.specs.TreeModel.Turns.RequestErase.{erase_noted, erase_of_all}
+use Rattle.ddm_tree.specs.TreeModel.Turns.Reply.{reply_to_readers, reply_to_parent}
+use Rattle.ddm_tree.specs.TreeModel.Turns.Down.{exclusive_to, erase_of_children, read_by_child, read_by_parked, data_to_readers, inject_to_reader, inject_to_readers, inject_to_child, inject_parked}
+use Rattle.ddm_tree.specs.TreeModel.Turns.Leave.{out_gone, leave_parked, leave_to}
+use Rattle.ddm_tree.specs.TreeModel.Turns.Bus.{bus_judged, bus_step}
+use Rattle.ddm_tree.specs.TreeModel.Turns.HartTurn.{Deed, has_halted, waits_for, halts, completes, fetches, upgrades, finds_buffer_full, deed_of, leaf_after_deed, leaf_step}
+use Rattle.ddm_tree.specs.TreeModel.Turns.Machine.{named_by, answer_here, node_after, bus_turn_of, victim_of, turn_answer, turn_root, turn_of}
+use Rattle.ddm_tree.specs.TreeModel.Laws.{TurnsHere, Kept, leaf_kept, dir_kept, kept_of}
 use Rattle.std.proofs.lemmas.Bool.{leb-true, le-leb}
-use Rattle.tree_model.proofs.Tests.{and-first, and-second, and-both}
-use Rattle.tree_model.proofs.Changed.{changed-keeps}
-use Rattle.tree_model.proofs.Children.{nodes-children}
-use Rattle.tree_model.proofs.NamedNode.{turned}
-use Rattle.tree_model.proofs.TurnChanges.{turn-root, turn-unanswered}
-use Rattle.tree_model.proofs.BusKeeps.{bus_step-keeps}
-use Rattle.tree_model.proofs.Rows.{Row, row_joins, row_read_of_child, row_read_of_parked, row_read_of_parent, row_erase_of_all, row_reply_to_readers, row_reply_to_parent, row_exclusive_to, row_erase_of_children, row_read_by_child, row_read_by_parked, row_data_to_readers, row_inject_to_reader, row_inject_to_readers, row_inject_to_child, row_inject_parked, row_out_gone, row_out_parked, row_leave_to, row_inject_up, row-of}
+use Rattle.ddm_tree.proofs.TreeModel.Tests.{and-first, and-second, and-both}
+use Rattle.ddm_tree.proofs.TreeModel.Changed.{changed-keeps}
+use Rattle.ddm_tree.proofs.TreeModel.Children.{nodes-children}
+use Rattle.ddm_tree.proofs.TreeModel.NamedNode.{turned}
+use Rattle.ddm_tree.proofs.TreeModel.TurnChanges.{turn-root, turn-unanswered}
+use Rattle.ddm_tree.proofs.TreeModel.BusKeeps.{bus_step-keeps}
+use Rattle.ddm_tree.proofs.TreeModel.Rows.{Row, row_joins, row_read_of_child, row_read_of_parked, row_read_of_parent, row_erase_of_all, row_reply_to_readers, row_reply_to_parent, row_exclusive_to, row_erase_of_children, row_read_by_child, row_read_by_parked, row_data_to_readers, row_inject_to_reader, row_inject_to_readers, row_inject_to_child, row_inject_parked, row_out_gone, row_out_parked, row_leave_to, row_inject_up, row-of}
 use Rattle.ddm_tree.specs.Counts.{counts_within, counts_among}
 
 -- ---- a bus

@@ -2,15 +2,15 @@
 use Rattle.std.proofs.Common.{◌≡◌, ◌<◌, ◌≤◌, ◌^◌, ℕ, ◌+◌, zero, suc, Bool, true, false, List, [], ◌∷◌, length, Option, Some, refl, sym, ap, ◌∙◌, arith}
 use Rattle.std.specs.Prelude.{nat_eq, nat_lt, nat_le, ◌&&◌, if◌then◌else◌}
 use Rattle.std.proofs.lemmas.Bool.{eqb-true, leb-true, ltb-true}
-use Rattle.tree_model.specs.State.Values.{DirValue, Node, Nodes, leaf_node, dir_node, no_nodes, more_nodes, children}
-use Rattle.tree_model.specs.State.Place.{Where}
-use Rattle.tree_model.specs.State.Rooms.{dir_within, all_within, all_within_among}
-use Rattle.tree_model.specs.State.Shape.{skeleton, skeletons, widths_fit, widths_fit_among, bone_count}
-use Rattle.tree_model.specs.Turns.Children.{child_at}
-use Rattle.tree_model.specs.Turns.Tree.{Name}
-use Rattle.tree_model.proofs.Tests.{and-first, and-second}
-use Rattle.tree_model.proofs.DirRooms.{dir_within-facts}
-use Rattle.item_states.specs.Parts.{node_items}
+use Rattle.ddm_tree.specs.TreeModel.State.Values.{DirValue, Node, Nodes, leaf_node, dir_node, no_nodes, more_nodes, children}
+use Rattle.ddm_tree.specs.TreeModel.State.Place.{Where}
+use Rattle.ddm_tree.specs.TreeModel.State.Rooms.{dir_within, all_within, all_within_among}
+use Rattle.ddm_tree.specs.TreeModel.State.Shape.{skeleton, skeletons, widths_fit, widths_fit_among, bone_count}
+use Rattle.ddm_tree.specs.TreeModel.Turns.Children.{child_at}
+use Rattle.ddm_tree.specs.TreeModel.Turns.Tree.{Name}
+use Rattle.ddm_tree.proofs.TreeModel.Tests.{and-first, and-second}
+use Rattle.ddm_tree.proofs.TreeModel.DirRooms.{dir_within-facts}
+use Rattle.ddm_tree.specs.ItemStates.Parts.{node_items}
 use Rattle.ddm_tree.specs.Path.{is_bone, path_to, path_among}
 use Rattle.ddm_tree.specs.Counts.{counts_within, counts_among}
 use Rattle.ddm_tree.specs.Ready.{words_are, words_are_among, IsReady, Leads}

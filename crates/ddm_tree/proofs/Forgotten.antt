@@ -1,9 +1,9 @@
 -- A machine without its operations keeps what it kept with them.
 use Rattle.std.proofs.Common.{ℕ, List}
-use Rattle.tree_model.specs.State.Values.{MachineValue}
-use Rattle.tree_rules.specs.Statements.{Holds}
-use Rattle.tree_rules.specs.Order.Places.{dirs_at}
-use Rattle.tree_rules.specs.Order.Rules.{TimeRule, keys_differ, ops_of_leaves, keys_end, keys_have_paths, keys_are_past, taken_is_past, stamps_between, stamps_rise, stamps_end, epochs_end, time_rule, IsTimed}
+use Rattle.ddm_tree.specs.TreeModel.State.Values.{MachineValue}
+use Rattle.ddm_tree.specs.TreeRules.Statements.{Holds}
+use Rattle.ddm_tree.specs.TreeRules.Order.Places.{dirs_at}
+use Rattle.ddm_tree.specs.TreeRules.Order.Rules.{TimeRule, keys_differ, ops_of_leaves, keys_end, keys_have_paths, keys_are_past, taken_is_past, stamps_between, stamps_rise, stamps_end, epochs_end, time_rule, IsTimed}
 use Rattle.ddm_tree.specs.Machine.{IsMachine, without_ops}
 use Rattle.ddm_tree.specs.Rules.{KeepsRules}
 use Rattle.ddm_tree.proofs.RulesKept.{rules-of, rules-buses, rules-timed}

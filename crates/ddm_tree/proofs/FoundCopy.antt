@@ -3,16 +3,16 @@ use Rattle.std.proofs.Common.{◌≡◌, ◌<◌, ◌≤◌, ℕ, ◌+◌, Bool,
 use Rattle.std.specs.Prelude.{if◌then◌else◌}
 use Rattle.std.proofs.lemmas.List.Elements.{All-nil, All-cons}
 use Rattle.std.proofs.lemmas.List.{drop_all}
-use Rattle.tree_model.specs.State.Lists.{first_some}
-use Rattle.tree_model.specs.State.Values.{DirValue, Node, Nodes, dir_node, no_nodes, more_nodes, nodes, children}
-use Rattle.tree_model.specs.State.Rooms.{dir_within, all_within, all_within_among}
-use Rattle.tree_model.specs.State.Child.{child_holds}
-use Rattle.tree_model.specs.State.Directory.{parked_place, parked_words, queue_of}
-use Rattle.tree_model.specs.declared.CopyPlace.{CopyPlace}
-use Rattle.tree_model.specs.Turns.Found.{FoundValue, found_of, place_found, place_among, words_found, words_among, down_place, queue_words}
-use Rattle.tree_model.proofs.Children.{children-nodes}
-use Rattle.tree_model.proofs.Tests.{and-first, and-second}
-use Rattle.item_states.specs.Parts.{node_items}
+use Rattle.ddm_tree.specs.TreeModel.State.Lists.{first_some}
+use Rattle.ddm_tree.specs.TreeModel.State.Values.{DirValue, Node, Nodes, dir_node, no_nodes, more_nodes, nodes, children}
+use Rattle.ddm_tree.specs.TreeModel.State.Rooms.{dir_within, all_within, all_within_among}
+use Rattle.ddm_tree.specs.TreeModel.State.Child.{child_holds}
+use Rattle.ddm_tree.specs.TreeModel.State.Directory.{parked_place, parked_words, queue_of}
+use Rattle.ddm_tree.specs.TreeModel.declared.CopyPlace.{CopyPlace}
+use Rattle.ddm_tree.specs.TreeModel.Turns.Found.{FoundValue, found_of, place_found, place_among, words_found, words_among, down_place, queue_words}
+use Rattle.ddm_tree.proofs.TreeModel.Children.{children-nodes}
+use Rattle.ddm_tree.proofs.TreeModel.Tests.{and-first, and-second}
+use Rattle.ddm_tree.specs.ItemStates.Parts.{node_items}
 use Rattle.ddm_tree.specs.Reads.{own_place, own_words}
 use Rattle.ddm_tree.specs.Ready.{IsItemIn}
 use Rattle.ddm_tree.proofs.Gathered.{drop-here}

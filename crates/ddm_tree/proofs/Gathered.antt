@@ -5,10 +5,10 @@ use Rattle.std.specs.List.{AllByRecursion}
 use Rattle.std.proofs.lemmas.List.{append_assoc, length-append}
 use Rattle.std.proofs.lemmas.List.Elements.{recursion_from_All}
 use Rattle.std.proofs.lemmas.List.Sums.{sum_by-cons}
-use Rattle.ddm_types.specs.declared.sizes.Hold.{Hold}
-use Rattle.tree_model.specs.State.Directory.{with_hold}
-use Rattle.tree_model.specs.State.Values.{DirItem, DirSizes, absent_item, Node}
-use Rattle.tree_model.specs.Start.Nodes.{cut_in, dir_over, dirs_over, held_below, held_by, held_if, new_dir}
+use Rattle.ddm_tree.specs.DdmTypes.declared.sizes.Hold.{Hold}
+use Rattle.ddm_tree.specs.TreeModel.State.Directory.{with_hold}
+use Rattle.ddm_tree.specs.TreeModel.State.Values.{DirItem, DirSizes, absent_item, Node}
+use Rattle.ddm_tree.specs.TreeModel.Start.Nodes.{cut_in, dir_over, dirs_over, held_below, held_by, held_if, new_dir}
 use Rattle.leaf_protocol.proofs.Marking.{each-length}
 use Rattle.ddm_tree.specs.Holders.{IsHolder}
 

@@ -4,33 +4,33 @@ use Rattle.std.specs.Prelude.{nat_lt, slice_get, slice_set}
 use Rattle.std.proofs.lemmas.Bool.{ltb-true, ltb-false}
 use Rattle.std.proofs.lemmas.List.{append-nil, get_or_past, get_or-set_same, get_or-set_other, set-get_or, set_past}
 use native.Mathlib.Decide.{ℕ_discrete}
-use Rattle.ddm_types.specs.declared.answers.LogEntry.{LogEntry}
-use Rattle.ddm_types.specs.declared.answers.TurnAnswer.{TurnAnswer}
-use Rattle.ddm_types.specs.declared.keys.Key.{Key}
-use Rattle.ddm_types.specs.declared.operations.HaltCause.{HaltCause}
-use Rattle.ddm_types.specs.declared.keys.Stamp.{Stamp}
-use Rattle.ddm_types.specs.declared.turns.Turn.{Turn}
-use Rattle.ddm_types.specs.CodeMap.{CodeWord}
-use Rattle.ddm_types.specs.ItemTable.{ItemTable}
-use Rattle.ddm_types.specs.Keys.{key_on}
-use Rattle.flat_model.specs.Hart.{ask_of}
-use Rattle.tree_model.specs.declared.BusTurn.{BusTurn}
-use Rattle.tree_model.specs.State.Values.{LeafValue, DirValue, Node, Nodes, leaf_node, dir_node, nodes, children, MachineValue, root_of}
-use Rattle.tree_model.specs.State.Blank.{no_leaf, no_node}
-use Rattle.tree_model.specs.State.Leaf.{buffer_full, free_way, waiting_item}
-use Rattle.tree_model.specs.State.Shape.{skeleton}
-use Rattle.tree_model.specs.Laws.{Kept, leaf_kept, dir_kept, kept_of}
-use Rattle.tree_model.specs.Turns.Bus.{bus_judged, bus_step}
-use Rattle.tree_model.specs.Turns.Children.{child_at}
-use Rattle.tree_model.specs.Turns.Grant.{Judged, nothing_there, refused, granted, Outcome, outcome_of}
-use Rattle.tree_model.specs.Turns.HartTurn.{Deed, has_halted, waits_for, halts, completes, fetches, upgrades, finds_buffer_full, Need, no_need, a_copy, no_other_copy, time, answer_of_deed, deed_by_need, deed_of, deed_to_fetch, deed_unless_halted, deed_unless_waiting, leaf_after_deed, leaf_step, need_of, replaces}
-use Rattle.tree_model.specs.Turns.Machine.{bus_turn_of, named_by, turn_of, victim_of}
-use Rattle.tree_model.specs.Turns.Tree.{Name, leaf_of_number, bus_of_number, is_named}
-use Rattle.tree_model.specs.State.Place.{Where, at_top}
-use Rattle.tree_model.proofs.BusKeeps.{bus_step-keeps}
-use Rattle.tree_model.proofs.Children.{children-nodes, nodes-children}
-use Rattle.tree_model.proofs.FrameKept.{turn-frame}
-use Rattle.tree_rules.specs.Bus.Rules.{IsTreeOk}
+use Rattle.ddm_tree.specs.DdmTypes.declared.answers.LogEntry.{LogEntry}
+use Rattle.ddm_tree.specs.DdmTypes.declared.answers.TurnAnswer.{TurnAnswer}
+use Rattle.ddm_tree.specs.DdmTypes.declared.keys.Key.{Key}
+use Rattle.ddm_tree.specs.DdmTypes.declared.operations.HaltCause.{HaltCause}
+use Rattle.ddm_tree.specs.DdmTypes.declared.keys.Stamp.{Stamp}
+use Rattle.ddm_tree.specs.DdmTypes.declared.turns.Turn.{Turn}
+use Rattle.ddm_tree.specs.DdmTypes.CodeMap.{CodeWord}
+use Rattle.ddm_tree.specs.DdmTypes.ItemTable.{ItemTable}
+use Rattle.ddm_tree.specs.DdmTypes.Keys.{key_on}
+use Rattle.ddm_tree.specs.FlatModel.Hart.{ask_of}
+use Rattle.ddm_tree.specs.TreeModel.declared.BusTurn.{BusTurn}
+use Rattle.ddm_tree.specs.TreeModel.State.Values.{LeafValue, DirValue, Node, Nodes, leaf_node, dir_node, nodes, children, MachineValue, root_of}
+use Rattle.ddm_tree.specs.TreeModel.State.Blank.{no_leaf, no_node}
+use Rattle.ddm_tree.specs.TreeModel.State.Leaf.{buffer_full, free_way, waiting_item}
+use Rattle.ddm_tree.specs.TreeModel.State.Shape.{skeleton}
+use Rattle.ddm_tree.specs.TreeModel.Laws.{Kept, leaf_kept, dir_kept, kept_of}
+use Rattle.ddm_tree.specs.TreeModel.Turns.Bus.{bus_judged, bus_step}
+use Rattle.ddm_tree.specs.TreeModel.Turns.Children.{child_at}
+use Rattle.ddm_tree.specs.TreeModel.Turns.Grant.{Judged, nothing_there, refused, granted, Outcome, outcome_of}
+use Rattle.ddm_tree.specs.TreeModel.Turns.HartTurn.{Deed, has_halted, waits_for, halts, completes, fetches, upgrades, finds_buffer_full, Need, no_need, a_copy, no_other_copy, time, answer_of_deed, deed_by_need, deed_of, deed_to_fetch, deed_unless_halted, deed_unless_waiting, leaf_after_deed, leaf_step, need_of, replaces}
+use Rattle.ddm_tree.specs.TreeModel.Turns.Machine.{bus_turn_of, named_by, turn_of, victim_of}
+use Rattle.ddm_tree.specs.TreeModel.Turns.Tree.{Name, leaf_of_number, bus_of_number, is_named}
+use Rattle.ddm_tree.specs.TreeModel.State.Place.{Where, at_top}
+use Rattle.ddm_tree.proofs.TreeModel.BusKeeps.{bus_step-keeps}
+use Rattle.ddm_tree.proofs.TreeModel.Children.{children-nodes, nodes-children}
+use Rattle.ddm_tree.proofs.TreeModel.FrameKept.{turn-frame}
+use Rattle.ddm_tree.specs.TreeRules.Bus.Rules.{IsTreeOk}
 use Rattle.split_bus.specs.Outcomes.{is_granted}
 use Rattle.ddm_tree.specs.declared.idle.Idle.{Idle}
 use Rattle.ddm_tree.specs.Idle.{AreIdle, AreNoted, IsFarFrom, IsIdle, IsKnown, IsLeftOut, IsUntouched, answered_by, idle_answer, idle_for, idle_there, idle_told, is_seen, is_told, may_change, node_rests, rests_by, still_known}

@@ -3,21 +3,21 @@ use Rattle.std.proofs.Common.{◌≡◌, ◌<◌, ◌≤◌, ◌+◌, ◌++◌, 
 use Rattle.std.specs.Prelude.{◌&&◌, ◌||◌, if◌then◌else◌}
 use Rattle.std.specs.List.{range_with_len}
 use Rattle.std.proofs.lemmas.List.{length-map, get_or-map, drop_all, take_more}
-use Rattle.tree_model.specs.State.Values.{DirValue, Node, dir_node, nodes, children}
-use Rattle.tree_model.specs.State.Blank.{no_node}
-use Rattle.tree_model.specs.State.Rooms.{dir_within, all_within, all_within_among}
-use Rattle.tree_model.specs.Turns.Children.{child_at}
-use Rattle.tree_model.specs.Turns.Tree.{Name}
-use Rattle.tree_model.proofs.Children.{children-nodes}
-use Rattle.tree_model.proofs.DirRooms.{dir_within-facts}
-use Rattle.tree_model.proofs.Tests.{and-first, and-second}
-use Rattle.tree_rules.specs.Bus.Faces.{parent_face, child_face, faces_of}
-use Rattle.ddm_types.specs.declared.answers.TxKind.TheVariants.{InjectTx}
-use Rattle.tree_model.specs.State.Directory.{is_top, is_up_read}
-use Rattle.tree_model.specs.State.Kinds.{has_kind}
-use Rattle.tree_rules.specs.Bus.Item.{bits_of, kept_place, starts_with_inject, top_holds}
-use Rattle.tree_rules.specs.Bus.Rules.{item_holds_at, kept_places}
-use Rattle.item_states.specs.Parts.{node_items}
+use Rattle.ddm_tree.specs.TreeModel.State.Values.{DirValue, Node, dir_node, nodes, children}
+use Rattle.ddm_tree.specs.TreeModel.State.Blank.{no_node}
+use Rattle.ddm_tree.specs.TreeModel.State.Rooms.{dir_within, all_within, all_within_among}
+use Rattle.ddm_tree.specs.TreeModel.Turns.Children.{child_at}
+use Rattle.ddm_tree.specs.TreeModel.Turns.Tree.{Name}
+use Rattle.ddm_tree.proofs.TreeModel.Children.{children-nodes}
+use Rattle.ddm_tree.proofs.TreeModel.DirRooms.{dir_within-facts}
+use Rattle.ddm_tree.proofs.TreeModel.Tests.{and-first, and-second}
+use Rattle.ddm_tree.specs.TreeRules.Bus.Faces.{parent_face, child_face, faces_of}
+use Rattle.ddm_tree.specs.DdmTypes.declared.answers.TxKind.TheVariants.{InjectTx}
+use Rattle.ddm_tree.specs.TreeModel.State.Directory.{is_top, is_up_read}
+use Rattle.ddm_tree.specs.TreeModel.State.Kinds.{has_kind}
+use Rattle.ddm_tree.specs.TreeRules.Bus.Item.{bits_of, kept_place, starts_with_inject, top_holds}
+use Rattle.ddm_tree.specs.TreeRules.Bus.Rules.{item_holds_at, kept_places}
+use Rattle.ddm_tree.specs.ItemStates.Parts.{node_items}
 use Rattle.ddm_tree.specs.Judging.{IsJudged, first_broken, keeps_places, keeps_rules, node_broken}
 use Rattle.ddm_tree.specs.Path.{node_at}
 use Rattle.ddm_tree.specs.Ready.{Leads}

@@ -5,24 +5,24 @@ use Rattle.std.proofs.Common.{◌≡◌, ℕ, zero, suc, ◌+◌, ◌<◌, ◌�
 use Rattle.std.specs.List.{list_all, AllByRecursion}
 use Rattle.std.proofs.lemmas.Bool.{and_parts, eqb-true, eq-eqb, ne_eqb, leb-true}
 use Rattle.std.proofs.lemmas.List.{length-append}
-use Rattle.ddm_types.specs.declared.keys.Key.{Key}
-use Rattle.ddm_types.specs.declared.operations.Op.{Op}
-use Rattle.ddm_types.specs.Keys.{key_numbers, key_less, key_zero}
-use Rattle.tree_model.specs.State.Values.{DirValue, Node, Nodes, leaf_node, dir_node, no_nodes, more_nodes, MachineValue, root_of}
-use Rattle.tree_model.specs.State.Place.{Spot, Where, at_child, spot_path, spot_in, key_at_leaf}
-use Rattle.tree_model.specs.State.Shape.{IsShaped, skeleton, skeletons, depth_of, levels_fit, levels_fit_among, levels_known}
-use Rattle.tree_model.specs.Turns.Machine.{now_of}
-use Rattle.tree_model.specs.Turns.Tree.{leaf_of_number, has_node, has_among, read_in, read_among, of_leaf}
-use Rattle.tree_rules.specs.Statements.{test_of, each}
-use Rattle.tree_rules.specs.Order.Moments.{less, key_path, same_numbers}
-use Rattle.tree_rules.specs.Order.Ops.{op_key, op_path}
-use Rattle.tree_rules.specs.Order.Places.{LeafAt, leaf_path, leaf_now, leaves_in, placed_leaves, leaves_at}
-use Rattle.tree_rules.specs.Order.Time.{is_leaf_of, has_leaf_path, is_before_now, key_ends}
-use Rattle.tree_rules.proofs.KeysNow.{key-now}
-use Rattle.order_lists.proofs.Filters.{each-append, each-both}
-use Rattle.order_lists.proofs.Keys.{key_less-numbers}
-use Rattle.order_lists.proofs.Moments.{same_numbers-true}
-use Rattle.order_laws.proofs.Hart.LeafPlaces.{IsOnlyOf, one_of_number}
+use Rattle.ddm_tree.specs.DdmTypes.declared.keys.Key.{Key}
+use Rattle.ddm_tree.specs.DdmTypes.declared.operations.Op.{Op}
+use Rattle.ddm_tree.specs.DdmTypes.Keys.{key_numbers, key_less, key_zero}
+use Rattle.ddm_tree.specs.TreeModel.State.Values.{DirValue, Node, Nodes, leaf_node, dir_node, no_nodes, more_nodes, MachineValue, root_of}
+use Rattle.ddm_tree.specs.TreeModel.State.Place.{Spot, Where, at_child, spot_path, spot_in, key_at_leaf}
+use Rattle.ddm_tree.specs.TreeModel.State.Shape.{IsShaped, skeleton, skeletons, depth_of, levels_fit, levels_fit_among, levels_known}
+use Rattle.ddm_tree.specs.TreeModel.Turns.Machine.{now_of}
+use Rattle.ddm_tree.specs.TreeModel.Turns.Tree.{leaf_of_number, has_node, has_among, read_in, read_among, of_leaf}
+use Rattle.ddm_tree.specs.TreeRules.Statements.{test_of, each}
+use Rattle.ddm_tree.specs.TreeRules.Order.Moments.{less, key_path, same_numbers}
+use Rattle.ddm_tree.specs.TreeRules.Order.Ops.{op_key, op_path}
+use Rattle.ddm_tree.specs.TreeRules.Order.Places.{LeafAt, leaf_path, leaf_now, leaves_in, placed_leaves, leaves_at}
+use Rattle.ddm_tree.specs.TreeRules.Order.Time.{is_leaf_of, has_leaf_path, is_before_now, key_ends}
+use Rattle.ddm_tree.proofs.TreeRules.KeysNow.{key-now}
+use Rattle.ddm_tree.proofs.OrderLists.Filters.{each-append, each-both}
+use Rattle.ddm_tree.proofs.OrderLists.Keys.{key_less-numbers}
+use Rattle.ddm_tree.proofs.OrderLists.Moments.{same_numbers-true}
+use Rattle.ddm_tree.proofs.OrderLaws.Hart.LeafPlaces.{IsOnlyOf, one_of_number}
 use Rattle.state_judging.specs.Judged.{is_key_of_leaf}
 use Rattle.ddm_tree.specs.Keys.{is_key_before, key_cut}
 

@@ -6,23 +6,23 @@ use Rattle.std.specs.Prelude.{is_some, slice_get, slice_set}
 use Rattle.std.specs.List.{list_any, AllByRecursion}
 use Rattle.std.proofs.lemmas.Bool.{eqb-true, eqb-false}
 use Rattle.std.proofs.lemmas.List.{drop_all}
-use Rattle.ddm_types.specs.declared.keys.Key.{Key}
-use Rattle.ddm_types.specs.declared.operations.Op.{Op}
-use Rattle.ddm_types.specs.Keys.{key_numbers, key_less, key_zero}
-use Rattle.ddm_types.proofs.KeyOrder.{key_less-irreflexive, key_less-asymmetric, key_less-total}
-use Rattle.tree_model.specs.State.Lists.{first_some}
-use Rattle.tree_model.specs.State.Values.{MachineValue, root_of}
-use Rattle.tree_model.specs.State.Place.{at_top, key_at_leaf}
-use Rattle.tree_model.specs.State.Shape.{IsShaped, depth_of, tree_counts}
-use Rattle.tree_model.specs.Turns.Machine.{now_of}
-use Rattle.tree_model.specs.Turns.Tree.{leaf_of_number, of_leaf}
-use Rattle.tree_model.proofs.NamedNode.{read_in-is_some}
-use Rattle.tree_rules.specs.Order.Moments.{key_path}
-use Rattle.tree_rules.specs.Order.Places.{LeafAt, leaf_path, leaves_at}
-use Rattle.order_lists.proofs.Filters.{each-weaker}
-use Rattle.order_lists.proofs.Moments.{least-less}
-use Rattle.order_lists.proofs.OneLeaf.{IsSameLeaf, one_at_path}
-use Rattle.state_reading.specs.declared.StateRefusal.TheVariants.{BrokenKey}
+use Rattle.ddm_tree.specs.DdmTypes.declared.keys.Key.{Key}
+use Rattle.ddm_tree.specs.DdmTypes.declared.operations.Op.{Op}
+use Rattle.ddm_tree.specs.DdmTypes.Keys.{key_numbers, key_less, key_zero}
+use Rattle.ddm_tree.proofs.DdmTypes.KeyOrder.{key_less-irreflexive, key_less-asymmetric, key_less-total}
+use Rattle.ddm_tree.specs.TreeModel.State.Lists.{first_some}
+use Rattle.ddm_tree.specs.TreeModel.State.Values.{MachineValue, root_of}
+use Rattle.ddm_tree.specs.TreeModel.State.Place.{at_top, key_at_leaf}
+use Rattle.ddm_tree.specs.TreeModel.State.Shape.{IsShaped, depth_of, tree_counts}
+use Rattle.ddm_tree.specs.TreeModel.Turns.Machine.{now_of}
+use Rattle.ddm_tree.specs.TreeModel.Turns.Tree.{leaf_of_number, of_leaf}
+use Rattle.ddm_tree.proofs.TreeModel.NamedNode.{read_in-is_some}
+use Rattle.ddm_tree.specs.TreeRules.Order.Moments.{key_path}
+use Rattle.ddm_tree.specs.TreeRules.Order.Places.{LeafAt, leaf_path, leaves_at}
+use Rattle.ddm_tree.proofs.OrderLists.Filters.{each-weaker}
+use Rattle.ddm_tree.proofs.OrderLists.Moments.{least-less}
+use Rattle.ddm_tree.proofs.OrderLists.OneLeaf.{IsSameLeaf, one_at_path}
+use Rattle.ddm_tree.specs.StateReading.declared.StateRefusal.TheVariants.{BrokenKey}
 use Rattle.state_judging.specs.Judged.{is_key_of_leaf, same_key, broken_key}
 use Rattle.ddm_tree.specs.Keys.{comes_behind, IsTaken}
 use Rattle.ddm_tree.proofs.KeysJudged.{own-leaf}

@@ -7,12 +7,12 @@ use Rattle.std.specs.Ordering.{ordering_then, eq_by_cmp, is_eq}
 use Rattle.std.specs.BTreeSet.{BTreeSet, contains}
 use Rattle.std.proofs.lemmas.Bool.Decides.{nat_tests}
 use Rattle.std.proofs.lemmas.List.{drop_all}
-use Rattle.ddm_types.specs.declared.keys.Key.{Key}
-use Rattle.ddm_types.specs.declared.operations.Op.{Op}
-use Rattle.ddm_types.specs.Keys.{key_less}
-use Rattle.tree_model.specs.State.Lists.{first_some}
-use Rattle.tree_model.specs.State.Values.{MachineValue}
-use Rattle.state_reading.specs.declared.StateRefusal.TheVariants.{BrokenKey, BrokenStamp}
+use Rattle.ddm_tree.specs.DdmTypes.declared.keys.Key.{Key}
+use Rattle.ddm_tree.specs.DdmTypes.declared.operations.Op.{Op}
+use Rattle.ddm_tree.specs.DdmTypes.Keys.{key_less}
+use Rattle.ddm_tree.specs.TreeModel.State.Lists.{first_some}
+use Rattle.ddm_tree.specs.TreeModel.State.Values.{MachineValue}
+use Rattle.ddm_tree.specs.StateReading.declared.StateRefusal.TheVariants.{BrokenKey, BrokenStamp}
 use Rattle.state_judging.specs.Judged.{is_key_of_leaf, same_key, broken_key}
 
 -- the order of keys as an answer

@@ -6,22 +6,22 @@ use Rattle.std.proofs.Common.{◌≡◌, ℕ, Bool, true, false, List, Option, S
 use Rattle.std.specs.Prelude.{Result, Ok, Err, option_map, if◌then◌else◌}
 use Rattle.std.proofs.lemmas.Bool.{eq-eqb}
 use native.Mathlib.Decide.{ℕ_discrete}
-use Rattle.ddm_types.specs.declared.answers.LogEntry.{LogEntry}
-use Rattle.ddm_types.specs.declared.answers.TurnAnswer.{TurnAnswer}
-use Rattle.ddm_types.specs.declared.operations.HaltCause.{HaltCause}
-use Rattle.ddm_types.specs.declared.sizes.LeafState.{LeafState}
-use Rattle.ddm_types.specs.declared.keys.Key.{Key}
-use Rattle.ddm_types.specs.CodeMap.{CodeWord}
-use Rattle.ddm_types.specs.ItemTable.{ItemTable}
-use Rattle.flat_model.specs.declared.Ask.{Ask}
-use Rattle.flat_model.specs.Flat.{Change, has_reserved}
-use Rattle.flat_model.specs.Hart.{ask_of}
-use Rattle.tree_model.specs.State.States.{is_waiting}
-use Rattle.tree_model.specs.State.Values.{LeafValue, Node, leaf_node, dir_node}
-use Rattle.tree_model.specs.State.Leaf.{LeafEntry, buffer_full, entry_state, free_way, leaf_entry, waiting_item}
-use Rattle.tree_model.specs.Turns.HartTurn.{Need, no_need, a_copy, no_other_copy, time, answer_of_deed, change_here, deed_by_need, deed_of, deed_of_change, deed_to_fetch, deed_unless_halted, deed_unless_waiting, leaf_after_deed, leaf_step, need_in_state, need_of, need_to_read, need_to_write, replaces}
-use Rattle.tree_rules.specs.Bus.Own.{state_waits}
-use Rattle.bus_laws.proofs.HartFacts.{waiting-none}
+use Rattle.ddm_tree.specs.DdmTypes.declared.answers.LogEntry.{LogEntry}
+use Rattle.ddm_tree.specs.DdmTypes.declared.answers.TurnAnswer.{TurnAnswer}
+use Rattle.ddm_tree.specs.DdmTypes.declared.operations.HaltCause.{HaltCause}
+use Rattle.ddm_tree.specs.DdmTypes.declared.sizes.LeafState.{LeafState}
+use Rattle.ddm_tree.specs.DdmTypes.declared.keys.Key.{Key}
+use Rattle.ddm_tree.specs.DdmTypes.CodeMap.{CodeWord}
+use Rattle.ddm_tree.specs.DdmTypes.ItemTable.{ItemTable}
+use Rattle.ddm_tree.specs.FlatModel.declared.Ask.{Ask}
+use Rattle.ddm_tree.specs.FlatModel.Flat.{Change, has_reserved}
+use Rattle.ddm_tree.specs.FlatModel.Hart.{ask_of}
+use Rattle.ddm_tree.specs.TreeModel.State.States.{is_waiting}
+use Rattle.ddm_tree.specs.TreeModel.State.Values.{LeafValue, Node, leaf_node, dir_node}
+use Rattle.ddm_tree.specs.TreeModel.State.Leaf.{LeafEntry, buffer_full, entry_state, free_way, leaf_entry, waiting_item}
+use Rattle.ddm_tree.specs.TreeModel.Turns.HartTurn.{Need, no_need, a_copy, no_other_copy, time, answer_of_deed, change_here, deed_by_need, deed_of, deed_of_change, deed_to_fetch, deed_unless_halted, deed_unless_waiting, leaf_after_deed, leaf_step, need_in_state, need_of, need_to_read, need_to_write, replaces}
+use Rattle.ddm_tree.specs.TreeRules.Bus.Own.{state_waits}
+use Rattle.ddm_tree.proofs.BusLaws.HartFacts.{waiting-none}
 use Rattle.ddm_tree.specs.declared.idle.Idle.{Idle}
 use Rattle.ddm_tree.specs.Idle.{IsIdle, answered_by, answers_none, idle_answer, may_change, node_rests, rests_by}
 use Rattle.ddm_tree.proofs.Untold.{IsUntold, node_halts, node_waits}

@@ -5,14 +5,14 @@ use Rattle.std.specs.Prelude.{is_some, slice_get, if◌then◌else◌}
 use Rattle.std.specs.List.{find}
 use Rattle.std.proofs.lemmas.Bool.{eqb-true, eq-eqb, ne_eqb}
 use Rattle.std.proofs.lemmas.List.{length-map}
-use Rattle.tree_model.specs.State.Lists.{first_some}
-use Rattle.tree_model.specs.State.Values.{LeafValue, DirValue, Node, Nodes, leaf_node, dir_node, no_nodes, more_nodes, MachineValue, root_of}
-use Rattle.tree_model.specs.State.Place.{Where, at_top, at_child, where_path, spot_in}
-use Rattle.tree_model.specs.State.Shape.{IsShaped, skeleton, skeletons, leaf_numbers_of, leaf_numbers_among, count_from, tree_counts, leaves_numbered}
-use Rattle.tree_model.specs.Turns.Machine.{ask_leaf, leaves_of, leaves_among, machine_leaves}
-use Rattle.tree_model.specs.Turns.Tree.{leaf_of_number, has_node, of_leaf, read_in, read_among}
-use Rattle.tree_model.proofs.NamedNode.{read_in-is_some}
-use Rattle.tree_model.proofs.Tests.{and-first, and-second}
+use Rattle.ddm_tree.specs.TreeModel.State.Lists.{first_some}
+use Rattle.ddm_tree.specs.TreeModel.State.Values.{LeafValue, DirValue, Node, Nodes, leaf_node, dir_node, no_nodes, more_nodes, MachineValue, root_of}
+use Rattle.ddm_tree.specs.TreeModel.State.Place.{Where, at_top, at_child, where_path, spot_in}
+use Rattle.ddm_tree.specs.TreeModel.State.Shape.{IsShaped, skeleton, skeletons, leaf_numbers_of, leaf_numbers_among, count_from, tree_counts, leaves_numbered}
+use Rattle.ddm_tree.specs.TreeModel.Turns.Machine.{ask_leaf, leaves_of, leaves_among, machine_leaves}
+use Rattle.ddm_tree.specs.TreeModel.Turns.Tree.{leaf_of_number, has_node, of_leaf, read_in, read_among}
+use Rattle.ddm_tree.proofs.TreeModel.NamedNode.{read_in-is_some}
+use Rattle.ddm_tree.proofs.TreeModel.Tests.{and-first, and-second}
 use Rattle.ddm_tree.specs.Machine.{is_part}
 
 abbrev number_of : LeafValue → ℕ

@@ -2,10 +2,10 @@
 -- loop goes over children, seen through f.
 use Rattle.std.proofs.Common.{◌≡◌, ◌<◌, ℕ, ◌+◌, List, [], ◌∷◌, ◌++◌, length, map, drop, get_or, Option, true, refl, sym, ap, ◌∙◌, add-one}
 use Rattle.std.proofs.lemmas.List.{append_assoc, length-append, map-append}
-use Rattle.ddm_types.specs.declared.sizes.LeafState.{LeafState}
-use Rattle.tree_model.specs.State.Values.{LeafValue, Node, Nodes, leaf_node, dir_node, no_nodes, more_nodes, nodes}
-use Rattle.tree_model.specs.State.Leaf.{state_at}
-use Rattle.tree_model.specs.Turns.Machine.{leaves_of, leaves_among}
+use Rattle.ddm_tree.specs.DdmTypes.declared.sizes.LeafState.{LeafState}
+use Rattle.ddm_tree.specs.TreeModel.State.Values.{LeafValue, Node, Nodes, leaf_node, dir_node, no_nodes, more_nodes, nodes}
+use Rattle.ddm_tree.specs.TreeModel.State.Leaf.{state_at}
+use Rattle.ddm_tree.specs.TreeModel.Turns.Machine.{leaves_of, leaves_among}
 use Rattle.ddm_tree.specs.Reads.{leaf_count, leaf_count_among, node_states, states_among}
 use Rattle.ddm_tree.proofs.Gathered.{drop-here}
 

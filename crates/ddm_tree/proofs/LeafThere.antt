@@ -4,13 +4,13 @@ use Rattle.std.proofs.Common.{◌≡◌, ◌<◌, ℕ, true, List, [], ◌∷◌
 use Rattle.std.specs.Prelude.{slice_index_or}
 use Rattle.std.proofs.lemmas.Bool.{eqb-true}
 use Rattle.std.proofs.lemmas.List.{get_or-map, length-map}
-use Rattle.tree_model.specs.declared.TreeChild.{TreeChild}
-use Rattle.tree_model.specs.State.Blank.{no_node}
-use Rattle.tree_model.specs.State.Child.{child_label}
-use Rattle.tree_model.specs.State.Values.{DirValue, LeafValue, Node, leaf_node, dir_node, nodes, children}
-use Rattle.tree_model.specs.Turns.Children.{child_at}
-use Rattle.tree_model.specs.Turns.Tree.{Name, leaf_of_number, is_named}
-use Rattle.tree_model.proofs.Children.{children-nodes}
+use Rattle.ddm_tree.specs.TreeModel.declared.TreeChild.{TreeChild}
+use Rattle.ddm_tree.specs.TreeModel.State.Blank.{no_node}
+use Rattle.ddm_tree.specs.TreeModel.State.Child.{child_label}
+use Rattle.ddm_tree.specs.TreeModel.State.Values.{DirValue, LeafValue, Node, leaf_node, dir_node, nodes, children}
+use Rattle.ddm_tree.specs.TreeModel.Turns.Children.{child_at}
+use Rattle.ddm_tree.specs.TreeModel.Turns.Tree.{Name, leaf_of_number, is_named}
+use Rattle.ddm_tree.proofs.TreeModel.Children.{children-nodes}
 use Rattle.ddm_tree.specs.Ready.{Leads}
 use Rattle.ddm_tree.proofs.Along.{some_if-same}
 use Rattle.ddm_tree.proofs.Descend.{LeadsOn, leads-child}

@@ -4,16 +4,16 @@ use Rattle.std.proofs.Common.{◌≡◌, ◌<◌, ◌≤◌, ℕ, zero, suc, ◌
 use Rattle.std.specs.Prelude.{slice_get, slice_index_or, Result, Ok, Err}
 use Rattle.std.proofs.lemmas.Bool.{eqb-true, eq-eqb}
 use Rattle.std.proofs.lemmas.List.{append_assoc, append-nil, length_push, drop_all}
-use Rattle.ddm_types.specs.ItemTable.{item_count}
-use Rattle.tree_model.specs.State.Values.{LeafValue, DirValue, Node, Nodes, leaf_node, dir_node, no_nodes, more_nodes, MachineValue, root_of}
-use Rattle.tree_model.specs.State.Place.{Where, at_top}
-use Rattle.tree_model.specs.State.Rooms.{all_within}
-use Rattle.tree_model.specs.State.Shape.{IsShaped, frame_of, skeleton}
-use Rattle.tree_model.specs.Turns.Machine.{machine_leaves, with_root}
-use Rattle.tree_model.specs.Turns.Tree.{leaf_of_number, is_named, of_leaf}
-use Rattle.state_reading.specs.declared.StateRefusal.{StateRefusal}
-use Rattle.state_reading.specs.Reading.{Read, and_then, given}
-use Rattle.state_reading.specs.Machine.{read_each, refilled, refilled_among}
+use Rattle.ddm_tree.specs.DdmTypes.ItemTable.{item_count}
+use Rattle.ddm_tree.specs.TreeModel.State.Values.{LeafValue, DirValue, Node, Nodes, leaf_node, dir_node, no_nodes, more_nodes, MachineValue, root_of}
+use Rattle.ddm_tree.specs.TreeModel.State.Place.{Where, at_top}
+use Rattle.ddm_tree.specs.TreeModel.State.Rooms.{all_within}
+use Rattle.ddm_tree.specs.TreeModel.State.Shape.{IsShaped, frame_of, skeleton}
+use Rattle.ddm_tree.specs.TreeModel.Turns.Machine.{machine_leaves, with_root}
+use Rattle.ddm_tree.specs.TreeModel.Turns.Tree.{leaf_of_number, is_named, of_leaf}
+use Rattle.ddm_tree.specs.StateReading.declared.StateRefusal.{StateRefusal}
+use Rattle.ddm_tree.specs.StateReading.Reading.{Read, and_then, given}
+use Rattle.ddm_tree.specs.StateReading.Machine.{read_each, refilled, refilled_among}
 use Rattle.state_judging.specs.Read.{CanRead}
 use Rattle.state_judging.proofs.Inverted.{and_then-ok}
 use Rattle.ddm_tree.specs.declared.section.Section.{Section}

@@ -1,3 +1,14 @@
+pub mod BusLaws
+pub mod DdmTypes
+pub mod DirectoryCrate
+pub mod HeadlineCrate
+pub mod OrderLaws
+pub mod OrderLists
+pub mod StateJudging
+pub mod StateReading
+pub mod StateWords
+pub mod TreeModel
+pub mod TreeRules
 pub mod Along
 pub mod CountsKept
 pub mod Numbered

@@ -2,10 +2,10 @@
 use Rattle.std.proofs.Common.{◌≡◌, ℕ, zero, suc, ◌<◌, List, [], ◌∷◌, length, map, Some, sym, ap, ◌∙◌, arith}
 use Rattle.std.specs.Prelude.{slice_get, slice_index_or}
 use Rattle.std.proofs.lemmas.List.{get_or-map}
-use Rattle.tree_model.specs.State.Values.{DirValue, Node, dir_node, nodes, children}
-use Rattle.tree_model.specs.State.Blank.{no_node}
-use Rattle.tree_model.specs.Turns.Children.{child_at}
-use Rattle.tree_model.proofs.Children.{children-nodes}
+use Rattle.ddm_tree.specs.TreeModel.State.Values.{DirValue, Node, dir_node, nodes, children}
+use Rattle.ddm_tree.specs.TreeModel.State.Blank.{no_node}
+use Rattle.ddm_tree.specs.TreeModel.Turns.Children.{child_at}
+use Rattle.ddm_tree.proofs.TreeModel.Children.{children-nodes}
 use Rattle.ddm_tree.specs.Path.{node_at}
 
 -- what stands in a list of paths

@@ -3,18 +3,18 @@ use Rattle.std.proofs.Common.{◌≡◌, ◌≤◌, ℕ, ◌+◌, zero, suc, tru
 use Rattle.std.specs.Prelude.{nat_le, slice_set, slice_index_or}
 use Rattle.std.specs.List.{list_all}
 use Rattle.std.proofs.lemmas.Bool.{leb-true, le-leb}
-use Rattle.ddm_types.specs.declared.answers.TxKind.{TxKind}
-use Rattle.ddm_types.specs.declared.answers.TurnAnswer.{TurnAnswer}
-use Rattle.ddm_types.specs.declared.turns.Turn.{Turn}
-use Rattle.ddm_types.specs.ItemTable.{item_count}
-use Rattle.tree_model.specs.declared.Traffic.{Traffic}
-use Rattle.tree_model.specs.State.Values.{Node, leaf_node, dir_node, MachineValue, root_of}
-use Rattle.tree_model.specs.State.Shape.{skeleton}
-use Rattle.tree_model.specs.Turns.Machine.{no_traffic, one_more, recorded, with_root, turn_answer, turn_root, turn_of}
-use Rattle.tree_model.proofs.Tests.{and-first, and-second, and-both}
-use Rattle.tree_model.proofs.FrameKept.{turn-frame, turn-shape}
-use Rattle.tree_model.proofs.RoomsKept.{turn-within}
-use Rattle.tree_model.proofs.TurnChanges.{turn-answered, turn-unanswered}
+use Rattle.ddm_tree.specs.DdmTypes.declared.answers.TxKind.{TxKind}
+use Rattle.ddm_tree.specs.DdmTypes.declared.answers.TurnAnswer.{TurnAnswer}
+use Rattle.ddm_tree.specs.DdmTypes.declared.turns.Turn.{Turn}
+use Rattle.ddm_tree.specs.DdmTypes.ItemTable.{item_count}
+use Rattle.ddm_tree.specs.TreeModel.declared.Traffic.{Traffic}
+use Rattle.ddm_tree.specs.TreeModel.State.Values.{Node, leaf_node, dir_node, MachineValue, root_of}
+use Rattle.ddm_tree.specs.TreeModel.State.Shape.{skeleton}
+use Rattle.ddm_tree.specs.TreeModel.Turns.Machine.{no_traffic, one_more, recorded, with_root, turn_answer, turn_root, turn_of}
+use Rattle.ddm_tree.proofs.TreeModel.Tests.{and-first, and-second, and-both}
+use Rattle.ddm_tree.proofs.TreeModel.FrameKept.{turn-frame, turn-shape}
+use Rattle.ddm_tree.proofs.TreeModel.RoomsKept.{turn-within}
+use Rattle.ddm_tree.proofs.TreeModel.TurnChanges.{turn-answered, turn-unanswered}
 use Rattle.ddm_tree.specs.Path.{path_to}
 use Rattle.ddm_tree.specs.Machine.{traffic_within, IsMachine}
 use Rattle.ddm_tree.specs.Ready.{words_are}

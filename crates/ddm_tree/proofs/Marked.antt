@@ -4,8 +4,8 @@ use Rattle.std.proofs.Common.{◌≡◌, ◌<◌, ◌≤◌, ℕ, zero, suc, ◌
 use Rattle.std.specs.Prelude.{if◌then◌else◌}
 use Rattle.std.proofs.Math.Bool.{or_assoc, or-true, or-false}
 use Rattle.std.proofs.lemmas.List.{drop_all, get_or-map, length-map}
-use Rattle.tree_model.specs.State.Values.{DirItem, absent_item, Node}
-use Rattle.tree_model.specs.Start.Nodes.{held_below, held_by, item_is_exclusive, or_each}
+use Rattle.ddm_tree.specs.TreeModel.State.Values.{DirItem, absent_item, Node}
+use Rattle.ddm_tree.specs.TreeModel.Start.Nodes.{held_below, held_by, item_is_exclusive, or_each}
 use Rattle.ddm_tree.proofs.Gathered.{drop-here}
 
 -- ---- either of two lists

@@ -3,10 +3,10 @@ use Rattle.std.proofs.Common.{◌≡◌, ℕ, ◌+◌, Bool, true, false, not, n
 use Rattle.std.specs.Prelude.{◌&&◌, ◌||◌, if◌then◌else◌, ⊤}
 use Rattle.std.specs.List.{list_any}
 use Rattle.std.proofs.lemmas.Bool.{eqb-true, eq-eqb, ne_eqb}
-use Rattle.tree_model.specs.State.Values.{LeafValue, DirValue, Node, Nodes, leaf_node, dir_node, no_nodes, more_nodes, MachineValue, root_of}
-use Rattle.tree_model.specs.State.Shape.{IsShaped, skeleton, skeletons, are_distinct, count_from, leaf_numbers_of, leaf_numbers_among, buses_of, buses_among, buses_differ, leaves_numbered}
-use Rattle.tree_model.specs.Turns.Tree.{Name, leaf_of_number, bus_of_number, is_named, has_node, has_among}
-use Rattle.tree_model.proofs.Tests.{and-first, and-second}
+use Rattle.ddm_tree.specs.TreeModel.State.Values.{LeafValue, DirValue, Node, Nodes, leaf_node, dir_node, no_nodes, more_nodes, MachineValue, root_of}
+use Rattle.ddm_tree.specs.TreeModel.State.Shape.{IsShaped, skeleton, skeletons, are_distinct, count_from, leaf_numbers_of, leaf_numbers_among, buses_of, buses_among, buses_differ, leaves_numbered}
+use Rattle.ddm_tree.specs.TreeModel.Turns.Tree.{Name, leaf_of_number, bus_of_number, is_named, has_node, has_among}
+use Rattle.ddm_tree.proofs.TreeModel.Tests.{and-first, and-second}
 
 -- ---- once
 

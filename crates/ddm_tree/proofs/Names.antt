@@ -2,15 +2,15 @@
 use Rattle.std.proofs.Common.{◌≡◌, ◌<◌, ℕ, true, List, length, Option, Some, None, refl, sym, ap, ◌∙◌}
 use Rattle.std.specs.Prelude.{is_some}
 use Rattle.std.proofs.lemmas.Bool.{ltb-true}
-use Rattle.ddm_types.specs.declared.turns.Turn.{Turn}
-use Rattle.ddm_types.specs.Keys.{key_zero}
-use Rattle.tree_model.specs.declared.BusTurn.{BusTurn}
-use Rattle.tree_model.specs.State.Values.{Node, leaf_node, dir_node, children, MachineValue, root_of}
-use Rattle.tree_model.specs.State.Place.{Where, at_top, key_at_leaf}
-use Rattle.tree_model.specs.State.Shape.{skeleton}
-use Rattle.tree_model.specs.Turns.Machine.{named_by, bus_turn_of, is_child_of, child_count, names_part}
-use Rattle.tree_model.specs.Turns.Tree.{Name, leaf_of_number, bus_of_number, has_node, of_leaf, of_dir}
-use Rattle.tree_model.proofs.NamedNode.{read_in-is_some}
+use Rattle.ddm_tree.specs.DdmTypes.declared.turns.Turn.{Turn}
+use Rattle.ddm_tree.specs.DdmTypes.Keys.{key_zero}
+use Rattle.ddm_tree.specs.TreeModel.declared.BusTurn.{BusTurn}
+use Rattle.ddm_tree.specs.TreeModel.State.Values.{Node, leaf_node, dir_node, children, MachineValue, root_of}
+use Rattle.ddm_tree.specs.TreeModel.State.Place.{Where, at_top, key_at_leaf}
+use Rattle.ddm_tree.specs.TreeModel.State.Shape.{skeleton}
+use Rattle.ddm_tree.specs.TreeModel.Turns.Machine.{named_by, bus_turn_of, is_child_of, child_count, names_part}
+use Rattle.ddm_tree.specs.TreeModel.Turns.Tree.{Name, leaf_of_number, bus_of_number, has_node, of_leaf, of_dir}
+use Rattle.ddm_tree.proofs.TreeModel.NamedNode.{read_in-is_some}
 use Rattle.split_bus.specs.Outcomes.{NamesOneOf}
 use Rattle.ddm_tree.specs.Path.{path_to, node_at}
 use Rattle.ddm_tree.specs.Ready.{Leads, HasChild}

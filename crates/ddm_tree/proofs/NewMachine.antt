@@ -2,14 +2,14 @@
 use Rattle.std.proofs.Common.{◌≡◌, ◌<◌, ℕ, zero, suc, true, List, [], length, replicate, Some, refl, ap, arith}
 use Rattle.std.specs.Prelude.{nat_eq, slice_get}
 use Rattle.std.specs.List.{list_all}
-use Rattle.ddm_types.specs.declared.sizes.TreeCounts.{TreeCounts}
-use Rattle.ddm_types.specs.CodeMap.{CodeWord}
-use Rattle.ddm_types.specs.ItemTable.{ItemTable}
-use Rattle.tree_model.specs.State.Values.{DirValue, Node, root_of}
-use Rattle.tree_model.specs.State.Shape.{are_below, buses_of, leaf_numbers_of, skeleton, leaves_numbered, traffic_counted}
-use Rattle.tree_model.specs.Turns.Machine.{no_traffic}
-use Rattle.tree_model.specs.Turns.Tree.{Name, leaf_of_number, bus_of_number}
-use Rattle.tree_model.proofs.Tests.{and-second}
+use Rattle.ddm_tree.specs.DdmTypes.declared.sizes.TreeCounts.{TreeCounts}
+use Rattle.ddm_tree.specs.DdmTypes.CodeMap.{CodeWord}
+use Rattle.ddm_tree.specs.DdmTypes.ItemTable.{ItemTable}
+use Rattle.ddm_tree.specs.TreeModel.State.Values.{DirValue, Node, root_of}
+use Rattle.ddm_tree.specs.TreeModel.State.Shape.{are_below, buses_of, leaf_numbers_of, skeleton, leaves_numbered, traffic_counted}
+use Rattle.ddm_tree.specs.TreeModel.Turns.Machine.{no_traffic}
+use Rattle.ddm_tree.specs.TreeModel.Turns.Tree.{Name, leaf_of_number, bus_of_number}
+use Rattle.ddm_tree.proofs.TreeModel.Tests.{and-second}
 use Rattle.std.proofs.lemmas.List.{length-replicate}
 use Rattle.ddm_tree.specs.Machine.{IsMachine, IsNew, listed_path, new_machine, traffic_within}
 use Rattle.ddm_tree.specs.Ready.{Leads}

@@ -6,24 +6,24 @@ use Rattle.std.specs.List.{list_any}
 use Rattle.std.specs.Bool.{beq}
 use Rattle.std.proofs.lemmas.Bool.{and_parts, or_parts}
 use Rattle.std.proofs.lemmas.List.Elements.{All-nil, All-cons}
-use Rattle.ddm_types.specs.declared.answers.PendingWhy.{PendingWhy}
-use Rattle.ddm_types.specs.declared.answers.TxKind.{TxKind}
-use Rattle.ddm_types.specs.declared.sizes.LeafState.{LeafState}
-use Rattle.tree_model.specs.State.Lists.{has_some}
-use Rattle.tree_model.specs.State.States.{entry_hold, is_held}
-use Rattle.tree_model.specs.State.Values.{LeafValue, DirValue, Node, Nodes, leaf_node, dir_node, no_nodes, more_nodes, nodes, children}
-use Rattle.tree_model.specs.State.Leaf.{leaf_hold, state_at, waiting_item}
-use Rattle.tree_model.specs.State.Directory.{dir_hold, dir_note, in_down, is_answering, note_why, pending, pending_by, queue_kinds}
-use Rattle.tree_model.specs.State.Child.{child_holds}
-use Rattle.tree_model.specs.Turns.Machine.{leaves_of, leaves_among}
-use Rattle.tree_model.proofs.Children.{children-nodes}
-use Rattle.tree_model.proofs.DirRooms.{dir_within-facts}
-use Rattle.tree_rules.specs.Bus.Faces.{parent_face, faces_of}
-use Rattle.tree_rules.specs.Bus.Item.{ItemRules, bits_of, copies_in, held_after, holds_it, hold_follows}
-use Rattle.tree_rules.specs.Bus.Own.{IsLeafOk, dir_lists, state_waits}
-use Rattle.tree_rules.specs.Bus.Rules.{AreTreesOk, IsTreeOk}
-use Rattle.bus_laws.proofs.HartFacts.{entries-from_rules, state-known}
-use Rattle.order_lists.proofs.NoHold.{none_counted}
+use Rattle.ddm_tree.specs.DdmTypes.declared.answers.PendingWhy.{PendingWhy}
+use Rattle.ddm_tree.specs.DdmTypes.declared.answers.TxKind.{TxKind}
+use Rattle.ddm_tree.specs.DdmTypes.declared.sizes.LeafState.{LeafState}
+use Rattle.ddm_tree.specs.TreeModel.State.Lists.{has_some}
+use Rattle.ddm_tree.specs.TreeModel.State.States.{entry_hold, is_held}
+use Rattle.ddm_tree.specs.TreeModel.State.Values.{LeafValue, DirValue, Node, Nodes, leaf_node, dir_node, no_nodes, more_nodes, nodes, children}
+use Rattle.ddm_tree.specs.TreeModel.State.Leaf.{leaf_hold, state_at, waiting_item}
+use Rattle.ddm_tree.specs.TreeModel.State.Directory.{dir_hold, dir_note, in_down, is_answering, note_why, pending, pending_by, queue_kinds}
+use Rattle.ddm_tree.specs.TreeModel.State.Child.{child_holds}
+use Rattle.ddm_tree.specs.TreeModel.Turns.Machine.{leaves_of, leaves_among}
+use Rattle.ddm_tree.proofs.TreeModel.Children.{children-nodes}
+use Rattle.ddm_tree.proofs.TreeModel.DirRooms.{dir_within-facts}
+use Rattle.ddm_tree.specs.TreeRules.Bus.Faces.{parent_face, faces_of}
+use Rattle.ddm_tree.specs.TreeRules.Bus.Item.{ItemRules, bits_of, copies_in, held_after, holds_it, hold_follows}
+use Rattle.ddm_tree.specs.TreeRules.Bus.Own.{IsLeafOk, dir_lists, state_waits}
+use Rattle.ddm_tree.specs.TreeRules.Bus.Rules.{AreTreesOk, IsTreeOk}
+use Rattle.ddm_tree.proofs.BusLaws.HartFacts.{entries-from_rules, state-known}
+use Rattle.ddm_tree.proofs.OrderLists.NoHold.{none_counted}
 use Rattle.ddm_tree.specs.Ready.{IsRuled}
 use Rattle.ddm_tree.specs.Reads.{is_without}
 use Rattle.ddm_tree.proofs.WaitsOn.{waits-for}

@@ -2,10 +2,10 @@
 use Rattle.std.proofs.Common.{◌≡◌, ◌<◌, ℕ, ◌+◌, Bool, true, false, List, [], ◌∷◌, length, Option, Some, None, refl, ap, arith}
 use Rattle.std.specs.Prelude.{is_some, nat_eq, nat_lt, option_map, if◌then◌else◌}
 use Rattle.std.proofs.lemmas.Bool.{eqb-true, lt-ltb, ltb-true}
-use Rattle.tree_model.specs.State.Lists.{first_some, some_if}
-use Rattle.tree_model.specs.State.Shape.{Skeleton, Skeletons, leaf_bone, dir_bone, no_bones, more_bones, buses_of, buses_among, leaf_numbers_of, leaf_numbers_among, count_from, are_below}
-use Rattle.tree_model.specs.Turns.Tree.{leaf_of_number, bus_of_number}
-use Rattle.tree_model.proofs.Tests.{and-first, and-second, and-both}
+use Rattle.ddm_tree.specs.TreeModel.State.Lists.{first_some, some_if}
+use Rattle.ddm_tree.specs.TreeModel.State.Shape.{Skeleton, Skeletons, leaf_bone, dir_bone, no_bones, more_bones, buses_of, buses_among, leaf_numbers_of, leaf_numbers_among, count_from, are_below}
+use Rattle.ddm_tree.specs.TreeModel.Turns.Tree.{leaf_of_number, bus_of_number}
+use Rattle.ddm_tree.proofs.TreeModel.Tests.{and-first, and-second, and-both}
 use Rattle.ddm_tree.specs.Path.{step_down, path_to, path_among}
 
 -- numbers that count from n are below n and how many they are

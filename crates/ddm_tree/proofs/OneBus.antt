@@ -5,11 +5,11 @@ use Rattle.std.specs.Prelude.{◌||◌, is_some}
 use Rattle.std.proofs.lemmas.Bool.{eq-eqb, eqb-true}
 use Rattle.std.proofs.lemmas.List.{get_or_past}
 use Rattle.std.proofs.lemmas.Option.{none-some, same_Some}
-use Rattle.tree_model.specs.declared.BusTurn.{BusTurn}
-use Rattle.tree_model.specs.State.Blank.{no_leaf, no_node}
-use Rattle.tree_model.specs.State.Values.{LeafValue, DirValue, Node, Nodes, leaf_node, dir_node, no_nodes, more_nodes, children}
-use Rattle.tree_model.specs.Turns.Children.{child_at}
-use Rattle.tree_model.specs.Turns.Tree.{bus_of_number, is_named, has_node, has_among}
+use Rattle.ddm_tree.specs.TreeModel.declared.BusTurn.{BusTurn}
+use Rattle.ddm_tree.specs.TreeModel.State.Blank.{no_leaf, no_node}
+use Rattle.ddm_tree.specs.TreeModel.State.Values.{LeafValue, DirValue, Node, Nodes, leaf_node, dir_node, no_nodes, more_nodes, children}
+use Rattle.ddm_tree.specs.TreeModel.Turns.Children.{child_at}
+use Rattle.ddm_tree.specs.TreeModel.Turns.Tree.{bus_of_number, is_named, has_node, has_among}
 use Rattle.ddm_tree.specs.Path.{node_at}
 use Rattle.ddm_tree.specs.Ready.{Leads}
 use Rattle.ddm_tree.specs.Quiet.{AreLearnedBelow, Entry, bus_in}

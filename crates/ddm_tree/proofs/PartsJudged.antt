@@ -4,22 +4,22 @@ use Rattle.std.proofs.Common.{◌≡◌, ◌<◌, ◌≤◌, ℕ, zero, suc, ◌
 use Rattle.std.specs.Prelude.{◌&&◌, ◌||◌, nat_eq, nat_le, if◌then◌else◌}
 use Rattle.std.specs.List.{range_with_len}
 use Rattle.std.proofs.lemmas.Bool.{eqb-true, ne_eqb}
-use Rattle.state_reading.specs.declared.StateRefusal.{StateRefusal}
-use Rattle.state_reading.specs.declared.StateRefusal.TheVariants.{BrokenRule}
-use Rattle.tree_model.specs.State.Lists.{first_some}
-use Rattle.tree_model.specs.State.Values.{DirValue, Node, Nodes, leaf_node, dir_node, no_nodes, more_nodes, children, MachineValue, root_of}
-use Rattle.tree_model.specs.State.Directory.{is_top}
-use Rattle.tree_model.specs.State.Place.{Where, at_top}
-use Rattle.tree_model.specs.State.Shape.{IsShaped, are_below, buses_of, levels_fit, levels_fit_among, levels_known, levels_of, skeleton, skeletons, traffic_counted, tree_counts}
-use Rattle.tree_model.specs.Turns.Children.{child_at}
-use Rattle.tree_model.specs.Turns.Machine.{ask_bus}
-use Rattle.tree_model.specs.Turns.Tree.{Name, bus_of_number, of_dir}
-use Rattle.tree_model.proofs.Tests.{and-first, and-second}
-use Rattle.tree_rules.specs.Bus.Faces.{parent_face, faces_of}
-use Rattle.tree_rules.specs.Bus.Item.{bits_of, top_holds}
-use Rattle.tree_rules.specs.Bus.Rules.{held_at_top, item_holds_at, items_of_machine}
+use Rattle.ddm_tree.specs.StateReading.declared.StateRefusal.{StateRefusal}
+use Rattle.ddm_tree.specs.StateReading.declared.StateRefusal.TheVariants.{BrokenRule}
+use Rattle.ddm_tree.specs.TreeModel.State.Lists.{first_some}
+use Rattle.ddm_tree.specs.TreeModel.State.Values.{DirValue, Node, Nodes, leaf_node, dir_node, no_nodes, more_nodes, children, MachineValue, root_of}
+use Rattle.ddm_tree.specs.TreeModel.State.Directory.{is_top}
+use Rattle.ddm_tree.specs.TreeModel.State.Place.{Where, at_top}
+use Rattle.ddm_tree.specs.TreeModel.State.Shape.{IsShaped, are_below, buses_of, levels_fit, levels_fit_among, levels_known, levels_of, skeleton, skeletons, traffic_counted, tree_counts}
+use Rattle.ddm_tree.specs.TreeModel.Turns.Children.{child_at}
+use Rattle.ddm_tree.specs.TreeModel.Turns.Machine.{ask_bus}
+use Rattle.ddm_tree.specs.TreeModel.Turns.Tree.{Name, bus_of_number, of_dir}
+use Rattle.ddm_tree.proofs.TreeModel.Tests.{and-first, and-second}
+use Rattle.ddm_tree.specs.TreeRules.Bus.Faces.{parent_face, faces_of}
+use Rattle.ddm_tree.specs.TreeRules.Bus.Item.{bits_of, top_holds}
+use Rattle.ddm_tree.specs.TreeRules.Bus.Rules.{held_at_top, item_holds_at, items_of_machine}
 use Rattle.state_judging.specs.Judged.{broken_among, broken_item, keeps_rules_at, or_none}
-use Rattle.ddm_types.specs.declared.sizes.TreeCounts.{TreeCounts}
+use Rattle.ddm_tree.specs.DdmTypes.declared.sizes.TreeCounts.{TreeCounts}
 use Rattle.ddm_tree.specs.Machine.{is_part}
 use Rattle.ddm_tree.specs.Judging.{first_broken, keeps_places, keeps_rules, node_broken}
 use Rattle.ddm_tree.specs.Path.{node_at}

@@ -2,22 +2,22 @@
 use Rattle.std.proofs.Common.{◌≡◌, ◌<◌, ℕ, zero, suc, true, List, [], ◌∷◌, length, drop, Some, refl, sym, ap, ◌∙◌, subst, arith}
 use Rattle.std.specs.Prelude.{IsTrue, nat_eq, slice_set, Result, Ok, Err}
 use Rattle.std.proofs.lemmas.Bool.{eqb-true}
-use Rattle.ddm_types.specs.ItemTable.{item_count}
-use Rattle.tree_model.specs.State.Rooms.{all_within, all_within_among, dir_within, leaf_within}
-use Rattle.tree_model.specs.State.Values.{LeafValue, DirValue, Node, Nodes, leaf_node, dir_node, no_nodes, more_nodes, nodes, children, MachineValue, root_of}
-use Rattle.tree_model.specs.State.Shape.{IsShaped, dir_bone, frame_of, shape_test, skeleton, skeletons, tree_counts}
-use Rattle.tree_model.specs.Turns.Children.{child_at}
-use Rattle.tree_model.specs.Turns.Tree.{Name}
-use Rattle.tree_model.proofs.Children.{nodes-children}
-use Rattle.tree_model.specs.Start.Nodes.{top_sizes}
-use Rattle.tree_model.proofs.Tests.{and-both, and-first, and-second}
-use Rattle.tree_rules.specs.Bus.Own.{dir_lists, leaf_lists, top_bus}
-use Rattle.tree_rules.specs.Bus.Own as own
-use Rattle.tree_rules.specs.Bus.Rules.{IsTreeOk, AreTreesOk, items_of_machine}
+use Rattle.ddm_tree.specs.DdmTypes.ItemTable.{item_count}
+use Rattle.ddm_tree.specs.TreeModel.State.Rooms.{all_within, all_within_among, dir_within, leaf_within}
+use Rattle.ddm_tree.specs.TreeModel.State.Values.{LeafValue, DirValue, Node, Nodes, leaf_node, dir_node, no_nodes, more_nodes, nodes, children, MachineValue, root_of}
+use Rattle.ddm_tree.specs.TreeModel.State.Shape.{IsShaped, dir_bone, frame_of, shape_test, skeleton, skeletons, tree_counts}
+use Rattle.ddm_tree.specs.TreeModel.Turns.Children.{child_at}
+use Rattle.ddm_tree.specs.TreeModel.Turns.Tree.{Name}
+use Rattle.ddm_tree.proofs.TreeModel.Children.{nodes-children}
+use Rattle.ddm_tree.specs.TreeModel.Start.Nodes.{top_sizes}
+use Rattle.ddm_tree.proofs.TreeModel.Tests.{and-both, and-first, and-second}
+use Rattle.ddm_tree.specs.TreeRules.Bus.Own.{dir_lists, leaf_lists, top_bus}
+use Rattle.ddm_tree.specs.TreeRules.Bus.Own as own
+use Rattle.ddm_tree.specs.TreeRules.Bus.Rules.{IsTreeOk, AreTreesOk, items_of_machine}
 use Rattle.state_judging.specs.Read.{CanRead, ways_exist, ways_exist_among}
-use Rattle.state_reading.specs.declared.StateRefusal.{StateRefusal}
-use Rattle.state_reading.specs.Reading.{Read, and_then, given}
-use Rattle.state_reading.specs.Parts.{read_dir, read_hart, read_leaf}
+use Rattle.ddm_tree.specs.StateReading.declared.StateRefusal.{StateRefusal}
+use Rattle.ddm_tree.specs.StateReading.Reading.{Read, and_then, given}
+use Rattle.ddm_tree.specs.StateReading.Parts.{read_dir, read_hart, read_leaf}
 use Rattle.ddm_tree.specs.declared.section.Section.{Section}
 use Rattle.ddm_tree.specs.Machine.{is_part, listed_path, machine_of}
 use Rattle.ddm_tree.specs.Parts.{IsParts, SectionRead, SectionRefused}
@@ -25,7 +25,7 @@ use Rattle.ddm_tree.specs.Path.{node_at, path_to, put_at}
 use Rattle.ddm_tree.specs.ReadBack.{IsPut, PartRead, node_read, section_name}
 use Rattle.ddm_tree.specs.Ready.{words_are, Leads}
 use Rattle.ddm_tree.specs.Rules.{KeepsRules}
-use Rattle.tree_rules.proofs.BusTests.{dir-at, leaf-at}
+use Rattle.ddm_tree.proofs.TreeRules.BusTests.{dir-at, leaf-at}
 use Rattle.state_judging.proofs.Inverted.{and_then-ok, given-so}
 use Rattle.state_judging.proofs.DirRead.{dir-ok}
 use Rattle.state_judging.proofs.LeafRead.{hart-ok, leaf-ok}

@@ -3,12 +3,12 @@ use Rattle.std.proofs.Common.{◌≡◌, ◌<◌, ◌≤◌, ℕ, suc, ◌+◌, 
 use Rattle.std.specs.Prelude.{is_some, nat_lt}
 use Rattle.std.specs.List.{find, position, position_or_len}
 use Rattle.std.proofs.lemmas.Bool.{ltb-true, ltb-false, lt-ltb, le-ltb}
-use Rattle.tree_model.specs.declared.LeafSpot.{LeafSpot}
-use Rattle.tree_model.specs.State.Lists.{first_some}
-use Rattle.tree_model.specs.State.Values.{DirValue, WayValue, BufferValue}
-use Rattle.tree_model.specs.State.Leaf.{buffer_entry, buffered, copy_words, entry_at, is_buffered, is_copy, spot_at, way_at, way_entry, way_spot}
-use Rattle.tree_model.specs.State.Directory.{parked_place, parked_words}
-use Rattle.directory.proofs.Lists.{parked-words}
+use Rattle.ddm_tree.specs.TreeModel.declared.LeafSpot.{LeafSpot}
+use Rattle.ddm_tree.specs.TreeModel.State.Lists.{first_some}
+use Rattle.ddm_tree.specs.TreeModel.State.Values.{DirValue, WayValue, BufferValue}
+use Rattle.ddm_tree.specs.TreeModel.State.Leaf.{buffer_entry, buffered, copy_words, entry_at, is_buffered, is_copy, spot_at, way_at, way_entry, way_spot}
+use Rattle.ddm_tree.specs.TreeModel.State.Directory.{parked_place, parked_words}
+use Rattle.ddm_tree.proofs.DirectoryCrate.Lists.{parked-words}
 
 lt-suc : (a b : ℕ) → nat_lt a b ≡ nat_lt (1 + a) (suc b)
 lt-suc a b =

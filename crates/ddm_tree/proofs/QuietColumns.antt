@@ -4,14 +4,14 @@
 use Rattle.std.proofs.Common.{◌≡◌, ◌<◌, ◌≤◌, ℕ, true, List, [], ◌∷◌, length, arith}
 use Rattle.std.specs.Prelude.{nat_lt, nat_le, ◌&&◌}
 use Rattle.std.proofs.lemmas.Bool.{leb-true}
-use Rattle.ddm_types.specs.declared.turns.Turn.{Turn}
-use Rattle.tree_model.specs.State.Shape.{skeleton, skeletons, bone_count, widths_fit, widths_fit_among}
-use Rattle.tree_model.specs.State.Values.{DirValue, Node, Nodes, leaf_node, dir_node, children}
-use Rattle.tree_model.specs.Turns.Children.{child_at}
-use Rattle.tree_model.specs.Turns.Machine.{bus_turn_of, named_by}
-use Rattle.tree_model.specs.Turns.Tree.{Name, bus_of_number, is_named}
-use Rattle.tree_model.specs.declared.BusTurn.{BusTurn}
-use Rattle.tree_model.proofs.Tests.{and-first, and-second}
+use Rattle.ddm_tree.specs.DdmTypes.declared.turns.Turn.{Turn}
+use Rattle.ddm_tree.specs.TreeModel.State.Shape.{skeleton, skeletons, bone_count, widths_fit, widths_fit_among}
+use Rattle.ddm_tree.specs.TreeModel.State.Values.{DirValue, Node, Nodes, leaf_node, dir_node, children}
+use Rattle.ddm_tree.specs.TreeModel.Turns.Children.{child_at}
+use Rattle.ddm_tree.specs.TreeModel.Turns.Machine.{bus_turn_of, named_by}
+use Rattle.ddm_tree.specs.TreeModel.Turns.Tree.{Name, bus_of_number, is_named}
+use Rattle.ddm_tree.specs.TreeModel.declared.BusTurn.{BusTurn}
+use Rattle.ddm_tree.proofs.TreeModel.Tests.{and-first, and-second}
 use Rattle.ddm_tree.specs.Path.{node_at}
 use Rattle.ddm_tree.specs.Ready.{HasChild, Leads}
 use Rattle.ddm_tree.proofs.Along.{some_if-same}

@@ -6,11 +6,11 @@ use Rattle.std.specs.Prelude.{nat_lt, slice_set}
 use Rattle.std.proofs.lemmas.Bool.{ltb-true, ltb-false}
 use Rattle.std.proofs.lemmas.List.{set_past}
 use native.Mathlib.Decide.{ℕ_discrete}
-use Rattle.tree_model.specs.declared.BusTurn.{BusTurn}
-use Rattle.tree_model.specs.Laws.{kept_of}
-use Rattle.tree_model.specs.State.Values.{DirValue, Node, Nodes, leaf_node, dir_node, nodes, children}
-use Rattle.tree_model.specs.Turns.Children.{child_at}
-use Rattle.tree_model.proofs.Children.{children-nodes}
+use Rattle.ddm_tree.specs.TreeModel.declared.BusTurn.{BusTurn}
+use Rattle.ddm_tree.specs.TreeModel.Laws.{kept_of}
+use Rattle.ddm_tree.specs.TreeModel.State.Values.{DirValue, Node, Nodes, leaf_node, dir_node, nodes, children}
+use Rattle.ddm_tree.specs.TreeModel.Turns.Children.{child_at}
+use Rattle.ddm_tree.proofs.TreeModel.Children.{children-nodes}
 use Rattle.ddm_tree.specs.Path.{node_at, put_at}
 use Rattle.ddm_tree.proofs.IdleHarts.{SameFrom, kid-other, kid-same, put-kids, put-same}
 use Rattle.ddm_tree.specs.Quiet.{KeepsQuiet, OfChild, finds_nothing}

@@ -6,11 +6,11 @@ use Rattle.std.proofs.lemmas.Bool.{lt-ltb, ltb-true}
 use Rattle.std.proofs.Common.{◌≡◌, ◌≢◌, ◌<◌, ◌≤◌, ◌+◌, ◌*◌, ◌⊎◌, ℕ, zero, suc, inl, inr, Bool, true, false, not, [], ◌∷◌, Option, Some, None, refl, sym, ap, subst, ◌∙◌, arith}
 use Rattle.std.proofs.lemmas.Option.{none-some, same_Some}
 use native.Mathlib.Decide.{ℕ_discrete}
-use Rattle.tree_model.specs.declared.BusTurn.{BusTurn}
-use Rattle.tree_model.specs.State.Child.{child_request, child_reply, child_leaving}
-use Rattle.tree_model.specs.State.Lists.{first_of}
-use Rattle.tree_model.specs.State.Values.{DirValue, Node, Nodes, dir_node, children}
-use Rattle.tree_model.specs.Turns.Children.{child_at}
+use Rattle.ddm_tree.specs.TreeModel.declared.BusTurn.{BusTurn}
+use Rattle.ddm_tree.specs.TreeModel.State.Child.{child_request, child_reply, child_leaving}
+use Rattle.ddm_tree.specs.TreeModel.State.Lists.{first_of}
+use Rattle.ddm_tree.specs.TreeModel.State.Values.{DirValue, Node, Nodes, dir_node, children}
+use Rattle.ddm_tree.specs.TreeModel.Turns.Children.{child_at}
 use Rattle.ddm_tree.specs.declared.quiet.Known.{Known}
 use Rattle.ddm_tree.specs.Quiet.{AreLearned, Entry, IsLearned, IsQuietOf, IsRight, OfChild, OfNamed, busy_at, busy_if, busy_of, column_of, known_there, quiet_if, row_of}
 use Rattle.ddm_tree.proofs.KeysRising.{set-other}

@@ -2,11 +2,11 @@
 -- Letters: t is a turn, s a machine with its room for operations, m a machine, path the path to the node that t names, a an answer, busy
 -- whether it is counted as a busy one.
 use Rattle.std.proofs.Common.{◌≡◌, ℕ, ◌+◌, Bool, false, List, Some, refl, ap, ◌∙◌}
-use Rattle.ddm_types.specs.declared.answers.TurnAnswer.{TurnAnswer}
-use Rattle.ddm_types.specs.declared.turns.Turn.{Turn}
-use Rattle.ddm_types.specs.Keys.{stamp_zero}
-use Rattle.tree_model.specs.State.Values.{MachineValue, root_of}
-use Rattle.tree_model.specs.Turns.Machine.{named_by, recorded, turn_of, with_root}
+use Rattle.ddm_tree.specs.DdmTypes.declared.answers.TurnAnswer.{TurnAnswer}
+use Rattle.ddm_tree.specs.DdmTypes.declared.turns.Turn.{Turn}
+use Rattle.ddm_tree.specs.DdmTypes.Keys.{stamp_zero}
+use Rattle.ddm_tree.specs.TreeModel.State.Values.{MachineValue, root_of}
+use Rattle.ddm_tree.specs.TreeModel.Turns.Machine.{named_by, recorded, turn_of, with_root}
 use Rattle.ddm_tree.specs.Machine.{MachineState, spare_after, state_after}
 use Rattle.ddm_tree.specs.Path.{present_at}
 use Rattle.ddm_tree.specs.Ready.{Leads}

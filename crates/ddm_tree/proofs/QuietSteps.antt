@@ -2,30 +2,30 @@
 use Rattle.std.proofs.Common.{◌≡◌, ℕ, ◌%◌, ◌<◌, Bool, true, false, List, [], ◌∷◌, length, Option, Some, None, Result, Ok, Err, refl, ap, subst, ◌∙◌, mod-lt, arith}
 use Rattle.std.specs.Prelude.{is_none, filter, find, option_map, if◌then◌else◌}
 use Rattle.std.proofs.lemmas.Option.{slice_get-get_or}
-use Rattle.ddm_types.specs.declared.answers.TurnAnswer.{TurnAnswer}
-use Rattle.ddm_types.specs.declared.keys.Key.{Key}
-use Rattle.ddm_types.specs.declared.keys.Stamp.{Stamp}
-use Rattle.ddm_types.specs.declared.operations.HaltCause.{HaltCause}
-use Rattle.ddm_types.specs.declared.sizes.LeafState.{LeafState}
-use Rattle.ddm_types.specs.declared.turns.Turn.{Turn}
-use Rattle.ddm_types.specs.CodeMap.{CodeWord}
-use Rattle.ddm_types.specs.ItemTable.{ItemTable}
-use Rattle.flat_model.specs.declared.Ask.{Ask}
-use Rattle.flat_model.specs.Hart.{Finished, ask_of, finish_of}
-use Rattle.flat_model.specs.Flat.{Change, Stored, change_by, conditional, has_reserved}
-use Rattle.tree_model.specs.declared.BusTurn.{BusTurn}
-use Rattle.tree_model.specs.State.Child.{child_request, child_reply, child_leaving}
-use Rattle.tree_model.specs.State.Directory.{dir_leaving}
-use Rattle.tree_model.specs.State.Leaf.{LeafEntry, becomes, buffer_after, buffer_entry, buffer_item, buffered, copy_item, entry_at, entry_state, is_buffered, leaf_entry, leaf_leaving, may_leave_buffer, state_at, waiting_item, way_at, buffer_full, free_way}
-use Rattle.tree_model.specs.State.Lists.{chosen, first_of}
-use Rattle.tree_model.specs.State.Values.{BufferValue, CopyValue, DirValue, DownValue, LeafValue, Node, Nodes, RequestValue, WayValue, leaf_node, dir_node, children}
-use Rattle.tree_model.specs.Turns.Bus.{bus_judged, bus_step, leave_turn, reply_turn, request_turn}
-use Rattle.tree_model.specs.Turns.Children.{child_at}
-use Rattle.tree_model.specs.Turns.Down.{down_turn}
-use Rattle.tree_model.specs.Turns.Grant.{nothing_there, outcome_of}
-use Rattle.tree_model.specs.Turns.HartTurn.{Deed, has_halted, waits_for, halts, completes, fetches, upgrades, finds_buffer_full, Need, no_need, a_copy, no_other_copy, time, answer_of_deed, buffer_stored, change_here, deed_by_need, deed_of, deed_of_change, deed_to_fetch, deed_unless_halted, deed_unless_waiting, leaf_after_deed, leaf_step, need_in_state, need_of, need_to_write, replaces, words_here}
-use Rattle.tree_model.specs.Turns.Machine.{bus_turn_of, outcome_node}
-use Rattle.tree_model.proofs.Children.{nodes-children}
+use Rattle.ddm_tree.specs.DdmTypes.declared.answers.TurnAnswer.{TurnAnswer}
+use Rattle.ddm_tree.specs.DdmTypes.declared.keys.Key.{Key}
+use Rattle.ddm_tree.specs.DdmTypes.declared.keys.Stamp.{Stamp}
+use Rattle.ddm_tree.specs.DdmTypes.declared.operations.HaltCause.{HaltCause}
+use Rattle.ddm_tree.specs.DdmTypes.declared.sizes.LeafState.{LeafState}
+use Rattle.ddm_tree.specs.DdmTypes.declared.turns.Turn.{Turn}
+use Rattle.ddm_tree.specs.DdmTypes.CodeMap.{CodeWord}
+use Rattle.ddm_tree.specs.DdmTypes.ItemTable.{ItemTable}
+use Rattle.ddm_tree.specs.FlatModel.declared.Ask.{Ask}
+use Rattle.ddm_tree.specs.FlatModel.Hart.{Finished, ask_of, finish_of}
+use Rattle.ddm_tree.specs.FlatModel.Flat.{Change, Stored, change_by, conditional, has_reserved}
+use Rattle.ddm_tree.specs.TreeModel.declared.BusTurn.{BusTurn}
+use Rattle.ddm_tree.specs.TreeModel.State.Child.{child_request, child_reply, child_leaving}
+use Rattle.ddm_tree.specs.TreeModel.State.Directory.{dir_leaving}
+use Rattle.ddm_tree.specs.TreeModel.State.Leaf.{LeafEntry, becomes, buffer_after, buffer_entry, buffer_item, buffered, copy_item, entry_at, entry_state, is_buffered, leaf_entry, leaf_leaving, may_leave_buffer, state_at, waiting_item, way_at, buffer_full, free_way}
+use Rattle.ddm_tree.specs.TreeModel.State.Lists.{chosen, first_of}
+use Rattle.ddm_tree.specs.TreeModel.State.Values.{BufferValue, CopyValue, DirValue, DownValue, LeafValue, Node, Nodes, RequestValue, WayValue, leaf_node, dir_node, children}
+use Rattle.ddm_tree.specs.TreeModel.Turns.Bus.{bus_judged, bus_step, leave_turn, reply_turn, request_turn}
+use Rattle.ddm_tree.specs.TreeModel.Turns.Children.{child_at}
+use Rattle.ddm_tree.specs.TreeModel.Turns.Down.{down_turn}
+use Rattle.ddm_tree.specs.TreeModel.Turns.Grant.{nothing_there, outcome_of}
+use Rattle.ddm_tree.specs.TreeModel.Turns.HartTurn.{Deed, has_halted, waits_for, halts, completes, fetches, upgrades, finds_buffer_full, Need, no_need, a_copy, no_other_copy, time, answer_of_deed, buffer_stored, change_here, deed_by_need, deed_of, deed_of_change, deed_to_fetch, deed_unless_halted, deed_unless_waiting, leaf_after_deed, leaf_step, need_in_state, need_of, need_to_write, replaces, words_here}
+use Rattle.ddm_tree.specs.TreeModel.Turns.Machine.{bus_turn_of, outcome_node}
+use Rattle.ddm_tree.proofs.TreeModel.Children.{nodes-children}
 use Rattle.ddm_tree.specs.Path.{node_answer, node_turned}
 use Rattle.ddm_tree.specs.Quiet.{KeepsQuiet, finds_nothing, touches}
 

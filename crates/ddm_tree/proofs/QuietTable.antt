@@ -7,10 +7,10 @@ use Rattle.std.specs.Prelude.{nat_lt, replicate, slice_get, slice_index_or, slic
 use Rattle.std.proofs.lemmas.Bool.{ltb-true, ltb-false}
 use Rattle.std.proofs.lemmas.Option.{none-some, same_Some, slice_get_past}
 use native.Mathlib.Decide.{ℕ_discrete}
-use Rattle.ddm_types.specs.declared.answers.TurnAnswer.{TurnAnswer}
-use Rattle.tree_model.specs.declared.BusTurn.{BusTurn}
-use Rattle.tree_model.specs.State.Values.{DirValue, Node, Nodes, dir_node, children}
-use Rattle.tree_model.specs.Turns.Children.{child_at}
+use Rattle.ddm_tree.specs.DdmTypes.declared.answers.TurnAnswer.{TurnAnswer}
+use Rattle.ddm_tree.specs.TreeModel.declared.BusTurn.{BusTurn}
+use Rattle.ddm_tree.specs.TreeModel.State.Values.{DirValue, Node, Nodes, dir_node, children}
+use Rattle.ddm_tree.specs.TreeModel.Turns.Children.{child_at}
 use Rattle.ddm_tree.specs.declared.idle.Idle.{Idle}
 use Rattle.ddm_tree.specs.declared.quiet.Known.{Known}
 use Rattle.ddm_tree.specs.Path.{node_at}

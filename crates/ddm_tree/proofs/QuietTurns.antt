@@ -5,26 +5,26 @@
 use Rattle.std.proofs.Common.{◌≡◌, ℕ, ◌++◌, ◌⊎◌, inl, inr, Bool, true, false, true≢false, List, [], ◌∷◌, Option, Some, None, refl, sym, ap, subst, ◌∙◌, arith}
 use Rattle.std.specs.Prelude.{is_none, slice_get}
 use Rattle.std.proofs.lemmas.Option.{none-some}
-use Rattle.ddm_types.specs.declared.answers.TurnAnswer.{TurnAnswer}
-use Rattle.ddm_types.specs.declared.keys.Stamp.{Stamp}
-use Rattle.ddm_types.specs.declared.turns.Turn.{Turn}
-use Rattle.ddm_types.specs.CodeMap.{CodeWord}
-use Rattle.ddm_types.specs.ItemTable.{ItemTable}
-use Rattle.ddm_types.specs.Keys.{key_on}
-use Rattle.tree_model.specs.declared.BusTurn.{BusTurn}
-use Rattle.tree_model.specs.State.Child.{child_request, child_reply, child_leaving}
-use Rattle.tree_model.specs.State.Values.{LeafValue, DirValue, Node, Nodes, leaf_node, dir_node, nodes, children, MachineValue, root_of}
-use Rattle.tree_model.specs.State.Shape.{IsShaped, skeleton}
-use Rattle.tree_model.specs.Laws.{kept_of}
-use Rattle.tree_model.specs.Turns.Bus.{bus_step}
-use Rattle.tree_model.specs.Turns.Children.{child_at}
-use Rattle.tree_model.specs.Turns.Grant.{Outcome}
-use Rattle.tree_model.specs.Turns.HartTurn.{leaf_step}
-use Rattle.tree_model.specs.Turns.Machine.{bus_turn_of, named_by, turn_of, victim_of}
-use Rattle.tree_model.specs.Turns.Tree.{Name, leaf_of_number, bus_of_number}
-use Rattle.tree_model.proofs.BusKeeps.{bus_step-keeps}
-use Rattle.tree_model.proofs.Children.{children-nodes, nodes-children}
-use Rattle.tree_model.proofs.FrameKept.{turn-frame}
+use Rattle.ddm_tree.specs.DdmTypes.declared.answers.TurnAnswer.{TurnAnswer}
+use Rattle.ddm_tree.specs.DdmTypes.declared.keys.Stamp.{Stamp}
+use Rattle.ddm_tree.specs.DdmTypes.declared.turns.Turn.{Turn}
+use Rattle.ddm_tree.specs.DdmTypes.CodeMap.{CodeWord}
+use Rattle.ddm_tree.specs.DdmTypes.ItemTable.{ItemTable}
+use Rattle.ddm_tree.specs.DdmTypes.Keys.{key_on}
+use Rattle.ddm_tree.specs.TreeModel.declared.BusTurn.{BusTurn}
+use Rattle.ddm_tree.specs.TreeModel.State.Child.{child_request, child_reply, child_leaving}
+use Rattle.ddm_tree.specs.TreeModel.State.Values.{LeafValue, DirValue, Node, Nodes, leaf_node, dir_node, nodes, children, MachineValue, root_of}
+use Rattle.ddm_tree.specs.TreeModel.State.Shape.{IsShaped, skeleton}
+use Rattle.ddm_tree.specs.TreeModel.Laws.{kept_of}
+use Rattle.ddm_tree.specs.TreeModel.Turns.Bus.{bus_step}
+use Rattle.ddm_tree.specs.TreeModel.Turns.Children.{child_at}
+use Rattle.ddm_tree.specs.TreeModel.Turns.Grant.{Outcome}
+use Rattle.ddm_tree.specs.TreeModel.Turns.HartTurn.{leaf_step}
+use Rattle.ddm_tree.specs.TreeModel.Turns.Machine.{bus_turn_of, named_by, turn_of, victim_of}
+use Rattle.ddm_tree.specs.TreeModel.Turns.Tree.{Name, leaf_of_number, bus_of_number}
+use Rattle.ddm_tree.proofs.TreeModel.BusKeeps.{bus_step-keeps}
+use Rattle.ddm_tree.proofs.TreeModel.Children.{children-nodes, nodes-children}
+use Rattle.ddm_tree.proofs.TreeModel.FrameKept.{turn-frame}
 use Rattle.split_bus.specs.Outcomes.{is_granted}
 use Rattle.ddm_tree.specs.declared.idle.Idle.{Idle}
 use Rattle.ddm_tree.specs.Idle.{AreIdle, idle_answer, idle_there}

@@ -2,21 +2,21 @@
 use Rattle.std.proofs.Common.{◌≡◌, ◌<◌, ℕ, zero, suc, true, List, [], ◌∷◌, length, map, get_or, Option, Some, None, refl, sym, ap, ◌∙◌, arith, true≢false}
 use Rattle.std.specs.Prelude.{nat_eq, slice_get, slice_index_or}
 use Rattle.std.proofs.lemmas.Bool.{eqb-true, ltb-true}
-use Rattle.ddm_types.specs.declared.keys.Stamp.{Stamp}
-use Rattle.ddm_types.specs.declared.sizes.Hold.{Hold}
-use Rattle.ddm_types.specs.Keys.{key_on, key_zero, stamp_zero}
-use Rattle.rv_hart.specs.HartState.{HartState}
-use Rattle.tree_model.specs.declared.TreeChild.{TreeChild}
-use Rattle.tree_model.specs.State.Values.{Node, leaf_node, dir_node, children, MachineValue, root_of}
-use Rattle.tree_model.specs.State.Child.{child_hold, child_label}
-use Rattle.tree_model.specs.State.Place.{Where, at_top, key_at_leaf, where_path, stamp_above}
-use Rattle.tree_model.specs.State.Rooms.{dir_within, all_within, all_within_among}
-use Rattle.tree_model.specs.Turns.Children.{child_at}
-use Rattle.tree_model.specs.Turns.Machine.{child_count, child_hold_of, child_of, down_entry_of, is_child_of, now_of}
-use Rattle.tree_model.specs.Turns.Tree.{Name, leaf_of_number, bus_of_number, is_named, read_in, of_leaf, of_dir}
-use Rattle.tree_model.proofs.DirRooms.{dir_within-facts}
-use Rattle.tree_model.proofs.Tests.{and-first, and-second}
-use Rattle.item_states.specs.Parts.{node_items}
+use Rattle.ddm_tree.specs.DdmTypes.declared.keys.Stamp.{Stamp}
+use Rattle.ddm_tree.specs.DdmTypes.declared.sizes.Hold.{Hold}
+use Rattle.ddm_tree.specs.DdmTypes.Keys.{key_on, key_zero, stamp_zero}
+use Rattle.ddm_tree.specs.RvHart.HartState.{HartState}
+use Rattle.ddm_tree.specs.TreeModel.declared.TreeChild.{TreeChild}
+use Rattle.ddm_tree.specs.TreeModel.State.Values.{Node, leaf_node, dir_node, children, MachineValue, root_of}
+use Rattle.ddm_tree.specs.TreeModel.State.Child.{child_hold, child_label}
+use Rattle.ddm_tree.specs.TreeModel.State.Place.{Where, at_top, key_at_leaf, where_path, stamp_above}
+use Rattle.ddm_tree.specs.TreeModel.State.Rooms.{dir_within, all_within, all_within_among}
+use Rattle.ddm_tree.specs.TreeModel.Turns.Children.{child_at}
+use Rattle.ddm_tree.specs.TreeModel.Turns.Machine.{child_count, child_hold_of, child_of, down_entry_of, is_child_of, now_of}
+use Rattle.ddm_tree.specs.TreeModel.Turns.Tree.{Name, leaf_of_number, bus_of_number, is_named, read_in, of_leaf, of_dir}
+use Rattle.ddm_tree.proofs.TreeModel.DirRooms.{dir_within-facts}
+use Rattle.ddm_tree.proofs.TreeModel.Tests.{and-first, and-second}
+use Rattle.ddm_tree.specs.ItemStates.Parts.{node_items}
 use Rattle.ddm_tree.specs.Machine.{IsMachine, is_part, listed_path}
 use Rattle.ddm_tree.specs.Path.{node_at, present_at}
 use Rattle.ddm_tree.specs.Ready.{IsChild, IsItemOf, Leads}
@@ -25,7 +25,7 @@ use Rattle.ddm_tree.proofs.Along.{along, where_end, where_end-path, where_end-pr
 use Rattle.ddm_tree.proofs.Descend.{leads-child, within-child}
 use Rattle.ddm_tree.proofs.Names.{bus-there, path-there}
 use Rattle.ddm_tree.proofs.Numbered.{bus-numbered}
-use Rattle.tree_model.specs.State.Shape.{IsShaped, are_below, buses_of, skeleton, traffic_counted}
+use Rattle.ddm_tree.specs.TreeModel.State.Shape.{IsShaped, are_below, buses_of, skeleton, traffic_counted}
 
 -- ---- paths in a list
 

@@ -3,12 +3,12 @@
 -- Letters: f and g say what becomes of leaves and of directories, f' and g' what becomes of them with one more replaced.
 use Rattle.std.proofs.Common.{◌≡◌, ◌<◌, ℕ, zero, suc, ◌+◌, Bool, true, false, List, [], ◌∷◌, length, map, refl, sym, ap, ◌∙◌, arith, true≢false}
 use Rattle.std.specs.Prelude.{is_some, slice_index_or, ◌||◌, if◌then◌else◌}
-use Rattle.tree_model.specs.State.Values.{LeafValue, DirValue, Node, Nodes, leaf_node, dir_node, no_nodes, more_nodes, children}
-use Rattle.tree_model.specs.State.Place.{Where, at_top, at_child, where_path, spot_in}
-use Rattle.tree_model.specs.State.Shape.{skeleton, skeletons}
-use Rattle.tree_model.specs.Turns.Children.{child_at}
-use Rattle.tree_model.specs.Turns.Tree.{Name, is_named, has_node, has_among, changed_in, changed_among}
-use Rattle.state_reading.specs.Machine.{refilled, refilled_among}
+use Rattle.ddm_tree.specs.TreeModel.State.Values.{LeafValue, DirValue, Node, Nodes, leaf_node, dir_node, no_nodes, more_nodes, children}
+use Rattle.ddm_tree.specs.TreeModel.State.Place.{Where, at_top, at_child, where_path, spot_in}
+use Rattle.ddm_tree.specs.TreeModel.State.Shape.{skeleton, skeletons}
+use Rattle.ddm_tree.specs.TreeModel.Turns.Children.{child_at}
+use Rattle.ddm_tree.specs.TreeModel.Turns.Tree.{Name, is_named, has_node, has_among, changed_in, changed_among}
+use Rattle.ddm_tree.specs.StateReading.Machine.{refilled, refilled_among}
 use Rattle.ddm_tree.specs.Path.{is_bone, path_to, node_at, put_at}
 use Rattle.ddm_tree.specs.Ready.{Leads}
 use Rattle.ddm_tree.proofs.Along.{along, bone-named, path_to-there, some_if-same}

@@ -7,12 +7,12 @@ use Rattle.std.proofs.lemmas.Bool.{ltb-true, ltb-false}
 use Rattle.std.proofs.lemmas.List.{set_past}
 use Rattle.std.proofs.lemmas.Option.{none-some, same_Some, slice_get_past}
 use native.Mathlib.Decide.{ℕ_discrete}
-use Rattle.ddm_types.specs.declared.answers.LogEntry.{LogEntry}
-use Rattle.ddm_types.specs.declared.answers.TurnAnswer.{TurnAnswer}
-use Rattle.ddm_types.specs.declared.turns.Turn.{Turn}
-use Rattle.tree_model.specs.State.Values.{Node}
-use Rattle.tree_model.specs.Turns.Machine.{named_by}
-use Rattle.tree_model.specs.Turns.Tree.{leaf_of_number, bus_of_number}
+use Rattle.ddm_tree.specs.DdmTypes.declared.answers.LogEntry.{LogEntry}
+use Rattle.ddm_tree.specs.DdmTypes.declared.answers.TurnAnswer.{TurnAnswer}
+use Rattle.ddm_tree.specs.DdmTypes.declared.turns.Turn.{Turn}
+use Rattle.ddm_tree.specs.TreeModel.State.Values.{Node}
+use Rattle.ddm_tree.specs.TreeModel.Turns.Machine.{named_by}
+use Rattle.ddm_tree.specs.TreeModel.Turns.Tree.{leaf_of_number, bus_of_number}
 use Rattle.ddm_tree.specs.declared.idle.Idle.{Idle}
 use Rattle.ddm_tree.specs.Idle.{AreNoted, AreSeen, IsFarFrom, IsKnown, IsLeftOut, IsLooked, IsLookedAfter, IsNoChild, IsSeen, IsSeenOr, NoneChanges, answered_by, idle_there, idle_told, is_seen, is_told, may_change, node_rests, still_known, with_idle}
 use Rattle.ddm_tree.specs.Path.{node_at}

@@ -1,16 +1,16 @@
 -- Every turn and every run keeps the rules, and the order of the witness from every start.
 use Rattle.std.proofs.Common.{◌≡◌, List, sym, subst}
-use Rattle.ddm_types.specs.declared.turns.Turn.{Turn}
-use Rattle.flat_model.specs.Flat.{FlatMachine}
-use Rattle.tree_model.specs.State.Values.{MachineValue}
-use Rattle.tree_model.specs.State.Shape.{IsShaped}
-use Rattle.tree_model.specs.Turns.Machine.{turn_of, run_of}
-use Rattle.tree_rules.specs.Bus.Rules.{IsMachineOk}
-use Rattle.tree_rules.specs.Order.Rules.{IsTimed, IsCore}
-use Rattle.tree_rules.specs.Witness.{IsWitnessed}
-use Rattle.bus_laws.proofs.TreeKept.{turn-keeps_rules}
-use Rattle.order_laws.specs.EveryTurn.{IsOrderly}
-use Rattle.order_laws.proofs.EveryTurn.{every_turn-keeps_time, turn-orderly, run-orderly}
+use Rattle.ddm_tree.specs.DdmTypes.declared.turns.Turn.{Turn}
+use Rattle.ddm_tree.specs.FlatModel.Flat.{FlatMachine}
+use Rattle.ddm_tree.specs.TreeModel.State.Values.{MachineValue}
+use Rattle.ddm_tree.specs.TreeModel.State.Shape.{IsShaped}
+use Rattle.ddm_tree.specs.TreeModel.Turns.Machine.{turn_of, run_of}
+use Rattle.ddm_tree.specs.TreeRules.Bus.Rules.{IsMachineOk}
+use Rattle.ddm_tree.specs.TreeRules.Order.Rules.{IsTimed, IsCore}
+use Rattle.ddm_tree.specs.TreeRules.Witness.{IsWitnessed}
+use Rattle.ddm_tree.proofs.BusLaws.TreeKept.{turn-keeps_rules}
+use Rattle.ddm_tree.specs.OrderLaws.EveryTurn.{IsOrderly}
+use Rattle.ddm_tree.proofs.OrderLaws.EveryTurn.{every_turn-keeps_time, turn-orderly, run-orderly}
 use Rattle.headline.proofs.Witnessed.{witnessed}
 use Rattle.ddm_tree.specs.Rules.{KeepsRules, StaysInOrder}
 

@@ -6,10 +6,10 @@ use Rattle.std.proofs.lemmas.Bool.Decides.{nat_tests}
 use Rattle.std.proofs.lemmas.List.{get_or-map, length-append, length-map, drop_all}
 use mathlib.Core.List.{reverse-cons}
 use Rattle.std.proofs.lemmas.List.Elements.{All-get_or}
-use Rattle.tree_model.specs.State.Lists.{first_some}
-use Rattle.tree_model.specs.State.Values.{Node, nodes}
-use Rattle.tree_model.specs.State.Shape.{skeleton, skeletons}
-use Rattle.tree_model.specs.Turns.Tree.{Name}
+use Rattle.ddm_tree.specs.TreeModel.State.Lists.{first_some}
+use Rattle.ddm_tree.specs.TreeModel.State.Values.{Node, nodes}
+use Rattle.ddm_tree.specs.TreeModel.State.Shape.{skeleton, skeletons}
+use Rattle.ddm_tree.specs.TreeModel.Turns.Tree.{Name}
 use Rattle.ddm_tree.specs.Path.{step_down, path_to, path_among}
 
 drop-here : {X : Type 0} (i : ℕ) (xs : List X) (d : X) → i < length xs → drop i xs ≡ get_or xs i d ∷ drop (suc i) xs

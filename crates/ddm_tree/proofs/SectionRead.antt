@@ -2,16 +2,16 @@
 use Rattle.std.proofs.Common.{◌≡◌, ◌<◌, ℕ, true, List, [], ◌∷◌, length, map, get_or, drop, refl, sym, ap, ◌∙◌, arith}
 use Rattle.std.specs.Prelude.{slice_set, Result, Ok, Err}
 use Rattle.std.proofs.lemmas.List.{get_or-map, length-map}
-use Rattle.tree_model.specs.State.Blank.{no_node}
-use Rattle.tree_model.specs.State.Shape.{skeleton, widths_fit}
-use Rattle.tree_model.specs.State.Values.{LeafValue, DirValue, Node, leaf_node, dir_node, nodes, children}
-use Rattle.tree_model.specs.Turns.Children.{child_at}
-use Rattle.tree_model.specs.Turns.Tree.{Name}
-use Rattle.tree_model.proofs.Children.{children-nodes}
-use Rattle.state_reading.specs.declared.StateRefusal.{StateRefusal}
-use Rattle.state_reading.specs.Gives.{IsRead}
-use Rattle.state_reading.specs.Reading.{Read, and_then, given}
-use Rattle.state_reading.specs.Parts.{read_hart, read_leaf, read_dir}
+use Rattle.ddm_tree.specs.TreeModel.State.Blank.{no_node}
+use Rattle.ddm_tree.specs.TreeModel.State.Shape.{skeleton, widths_fit}
+use Rattle.ddm_tree.specs.TreeModel.State.Values.{LeafValue, DirValue, Node, leaf_node, dir_node, nodes, children}
+use Rattle.ddm_tree.specs.TreeModel.Turns.Children.{child_at}
+use Rattle.ddm_tree.specs.TreeModel.Turns.Tree.{Name}
+use Rattle.ddm_tree.proofs.TreeModel.Children.{children-nodes}
+use Rattle.ddm_tree.specs.StateReading.declared.StateRefusal.{StateRefusal}
+use Rattle.ddm_tree.specs.StateReading.Gives.{IsRead}
+use Rattle.ddm_tree.specs.StateReading.Reading.{Read, and_then, given}
+use Rattle.ddm_tree.specs.StateReading.Parts.{read_hart, read_leaf, read_dir}
 use Rattle.ddm_tree.specs.declared.section.Section.{Section}
 use Rattle.ddm_tree.specs.Path.{put_at}
 use Rattle.ddm_tree.specs.ReadBack.{ChildRead, PartRead, node_read, section_name}

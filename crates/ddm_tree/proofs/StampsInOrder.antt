@@ -2,17 +2,17 @@
 -- Letters: c is a directory with its spot, above its path's, a and b are stamps, e and f entries of its down list.
 use Rattle.std.proofs.Common.{◌≡◌, ℕ, ◌+◌, ◌-◌, ◌<◌, List, [], ◌∷◌, length, refl, ap, ◌∙◌, arith}
 use Rattle.std.proofs.lemmas.List.{length-append, length-take-le}
-use Rattle.ddm_types.specs.declared.keys.Stamp.{Stamp}
-use Rattle.ddm_types.specs.Keys.{stamp_numbers}
-use Rattle.tree_model.specs.State.Values.{DownValue}
-use Rattle.tree_rules.specs.Statements.{Statement, test_of, each, each_pair}
-use Rattle.tree_rules.specs.Order.Moments.{less, moment_at}
-use Rattle.tree_rules.specs.Order.Places.{DirAt, dir_path}
-use Rattle.tree_rules.specs.Order.Time.{lies_between, may_stand_behind}
-use Rattle.order_lists.proofs.Levels.{IsLevelled}
-use Rattle.order_lists.proofs.Stamps.{moment-less}
+use Rattle.ddm_tree.specs.DdmTypes.declared.keys.Stamp.{Stamp}
+use Rattle.ddm_tree.specs.DdmTypes.Keys.{stamp_numbers}
+use Rattle.ddm_tree.specs.TreeModel.State.Values.{DownValue}
+use Rattle.ddm_tree.specs.TreeRules.Statements.{Statement, test_of, each, each_pair}
+use Rattle.ddm_tree.specs.TreeRules.Order.Moments.{less, moment_at}
+use Rattle.ddm_tree.specs.TreeRules.Order.Places.{DirAt, dir_path}
+use Rattle.ddm_tree.specs.TreeRules.Order.Time.{lies_between, may_stand_behind}
+use Rattle.ddm_tree.proofs.OrderLists.Levels.{IsLevelled}
+use Rattle.ddm_tree.proofs.OrderLists.Stamps.{moment-less}
 use Rattle.state_judging.specs.Judged.{stamps_in_order}
-use Rattle.directory.specs.Stamps.{stamp_before, stands_between, may_follow, stamps_fit}
+use Rattle.ddm_tree.specs.DirectoryCrate.Stamps.{stamp_before, stands_between, may_follow, stamps_fit}
 
 -- ---- statements whose tests agree
 

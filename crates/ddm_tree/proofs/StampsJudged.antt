@@ -5,14 +5,14 @@ use Rattle.std.proofs.Common.{◌≡◌, ℕ, ◌+◌, Bool, true, false, true�
 use Rattle.std.specs.List.{list_any, AllByRecursion}
 use Rattle.std.proofs.lemmas.Bool.{and_parts, eqb-true}
 use Rattle.std.proofs.lemmas.List.Folds.{list_any-append}
-use Rattle.ddm_types.specs.Keys.{stamp_zero}
-use Rattle.tree_model.specs.State.Values.{DirValue, Node, Nodes, leaf_node, dir_node, no_nodes, more_nodes, MachineValue, root_of}
-use Rattle.tree_model.specs.State.Place.{Spot, Where, at_top, at_child, stamp_above, spot_path, spot_in}
-use Rattle.tree_model.specs.State.Shape.{IsShaped, skeleton, skeletons, buses_of, buses_among, are_distinct, buses_differ}
-use Rattle.tree_model.specs.Turns.Tree.{bus_of_number, has_node, has_among, read_in, read_among}
-use Rattle.tree_rules.specs.Order.Places.{dirs_in, placed_dirs, dirs_at}
-use Rattle.order_lists.proofs.Filters.{each-left, each-right}
-use Rattle.order_lists.proofs.Levels.{IsLevelled, all_levelled}
+use Rattle.ddm_tree.specs.DdmTypes.Keys.{stamp_zero}
+use Rattle.ddm_tree.specs.TreeModel.State.Values.{DirValue, Node, Nodes, leaf_node, dir_node, no_nodes, more_nodes, MachineValue, root_of}
+use Rattle.ddm_tree.specs.TreeModel.State.Place.{Spot, Where, at_top, at_child, stamp_above, spot_path, spot_in}
+use Rattle.ddm_tree.specs.TreeModel.State.Shape.{IsShaped, skeleton, skeletons, buses_of, buses_among, are_distinct, buses_differ}
+use Rattle.ddm_tree.specs.TreeModel.Turns.Tree.{bus_of_number, has_node, has_among, read_in, read_among}
+use Rattle.ddm_tree.specs.TreeRules.Order.Places.{dirs_in, placed_dirs, dirs_at}
+use Rattle.ddm_tree.proofs.OrderLists.Filters.{each-left, each-right}
+use Rattle.ddm_tree.proofs.OrderLists.Levels.{IsLevelled, all_levelled}
 use Rattle.state_judging.specs.Judged.{stamps_in_order, is_over, stamps_broken}
 use Rattle.ddm_tree.specs.Path.{node_at, present_at}
 use Rattle.ddm_tree.specs.Ready.{Leads}

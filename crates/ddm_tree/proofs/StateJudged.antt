@@ -2,18 +2,18 @@
 use Rattle.std.proofs.Common.{◌≡◌, ℕ, true, length, [], List, Option, Some, None, option_map, refl, sym, ap, ◌∙◌}
 use Rattle.std.specs.Prelude.{find, nat_le, ◌&&◌, Ok, Err}
 use Rattle.std.specs.List.{list_all, range_with_len}
-use Rattle.tree_model.specs.State.Lists.{first_some}
-use Rattle.tree_model.specs.State.Shape.{frame_of}
-use Rattle.tree_model.specs.State.Values.{Node, Nodes, leaf_node, dir_node, no_nodes, more_nodes, children, MachineValue, root_of}
-use Rattle.tree_model.proofs.Tests.{and-both, and-first, and-second}
-use Rattle.tree_rules.specs.Bus.Own.{dir_holds, leaf_holds}
-use Rattle.tree_rules.specs.Bus.Rules.{items_of_machine}
-use Rattle.tree_rules.specs.Order.Places.{dirs_at}
-use Rattle.state_reading.specs.declared.StateRefusal.{StateRefusal}
-use Rattle.state_reading.specs.declared.StateRefusal.TheVariants.{BrokenStamp}
-use Rattle.state_reading.specs.Machine.{read_words}
-use Rattle.state_reading.specs.Parts.{most_counted}
-use Rattle.state_reading.specs.Reading.{and_then}
+use Rattle.ddm_tree.specs.TreeModel.State.Lists.{first_some}
+use Rattle.ddm_tree.specs.TreeModel.State.Shape.{frame_of}
+use Rattle.ddm_tree.specs.TreeModel.State.Values.{Node, Nodes, leaf_node, dir_node, no_nodes, more_nodes, children, MachineValue, root_of}
+use Rattle.ddm_tree.proofs.TreeModel.Tests.{and-both, and-first, and-second}
+use Rattle.ddm_tree.specs.TreeRules.Bus.Own.{dir_holds, leaf_holds}
+use Rattle.ddm_tree.specs.TreeRules.Bus.Rules.{items_of_machine}
+use Rattle.ddm_tree.specs.TreeRules.Order.Places.{dirs_at}
+use Rattle.ddm_tree.specs.StateReading.declared.StateRefusal.{StateRefusal}
+use Rattle.ddm_tree.specs.StateReading.declared.StateRefusal.TheVariants.{BrokenStamp}
+use Rattle.ddm_tree.specs.StateReading.Machine.{read_words}
+use Rattle.ddm_tree.specs.StateReading.Parts.{most_counted}
+use Rattle.ddm_tree.specs.StateReading.Reading.{and_then}
 use Rattle.state_judging.specs.Judged.{broken_among, broken_key, judged, read_state, stamps_broken, unless_judged}
 use Rattle.state_judging.specs.Read.{CanRead, IsRead, parts_hold, parts_hold_among}
 use Rattle.state_judging.proofs.Judging.{judged_states_keep_the_rules}

@@ -7,20 +7,20 @@ use Rattle.std.specs.Prelude.{nat_eq, slice_index_or, ◌||◌, Result, Ok, Err,
 use Rattle.std.specs.List.{AllByRecursion, range_with_len}
 use Rattle.std.proofs.lemmas.Bool.{and_parts, eqb-true}
 use Rattle.std.proofs.lemmas.List.{append_assoc, get_or_at, length_push}
-use Rattle.ddm_types.specs.declared.operations.Op.{Op}
-use Rattle.ddm_types.specs.ItemTable.{item_count}
-use Rattle.tree_model.specs.State.Place.{Where, at_top, at_child, where_path, spot_in}
-use Rattle.tree_model.specs.State.Rooms.{all_within, all_within_among, dir_within}
-use Rattle.tree_model.specs.State.Shape.{IsShaped, count_from, depth_of, frame_of, leaves_numbered, leaf_numbers_of, levels_of, tree_counts}
-use Rattle.tree_model.specs.State.Values.{LeafValue, DirValue, Node, Nodes, leaf_node, dir_node, no_nodes, more_nodes, children, MachineValue, root_of}
-use Rattle.tree_model.specs.Turns.Machine.{ask_bus, leaves_among, leaves_of, machine_leaves, with_root}
-use Rattle.tree_model.specs.Turns.Tree.{bus_of_number, has_among, has_node, of_dir, read_among, read_in}
-use Rattle.tree_model.proofs.Tests.{and-first, and-second}
-use Rattle.state_reading.specs.declared.StateRefusal.{StateRefusal}
-use Rattle.state_reading.specs.Reading.{Read, and_then, given, times, word_that}
-use Rattle.state_reading.specs.Parts.{read_leaf, read_op}
-use Rattle.state_reading.specs.Machine.{BusRead, bus_dir, bus_traffic, read_bus, read_bus_of, read_buses, read_each, read_words, refilled, refilled_among, refilled_machine}
-use Rattle.state_reading.proofs.Steps.{went_on, refused}
+use Rattle.ddm_tree.specs.DdmTypes.declared.operations.Op.{Op}
+use Rattle.ddm_tree.specs.DdmTypes.ItemTable.{item_count}
+use Rattle.ddm_tree.specs.TreeModel.State.Place.{Where, at_top, at_child, where_path, spot_in}
+use Rattle.ddm_tree.specs.TreeModel.State.Rooms.{all_within, all_within_among, dir_within}
+use Rattle.ddm_tree.specs.TreeModel.State.Shape.{IsShaped, count_from, depth_of, frame_of, leaves_numbered, leaf_numbers_of, levels_of, tree_counts}
+use Rattle.ddm_tree.specs.TreeModel.State.Values.{LeafValue, DirValue, Node, Nodes, leaf_node, dir_node, no_nodes, more_nodes, children, MachineValue, root_of}
+use Rattle.ddm_tree.specs.TreeModel.Turns.Machine.{ask_bus, leaves_among, leaves_of, machine_leaves, with_root}
+use Rattle.ddm_tree.specs.TreeModel.Turns.Tree.{bus_of_number, has_among, has_node, of_dir, read_among, read_in}
+use Rattle.ddm_tree.proofs.TreeModel.Tests.{and-first, and-second}
+use Rattle.ddm_tree.specs.StateReading.declared.StateRefusal.{StateRefusal}
+use Rattle.ddm_tree.specs.StateReading.Reading.{Read, and_then, given, times, word_that}
+use Rattle.ddm_tree.specs.StateReading.Parts.{read_leaf, read_op}
+use Rattle.ddm_tree.specs.StateReading.Machine.{BusRead, bus_dir, bus_traffic, read_bus, read_bus_of, read_buses, read_each, read_words, refilled, refilled_among, refilled_machine}
+use Rattle.ddm_tree.proofs.StateReading.Steps.{went_on, refused}
 use Rattle.state_judging.specs.Read.{CanRead}
 use Rattle.state_judging.proofs.Inverted.{Beside}
 use Rattle.state_judging.proofs.LeafRead.{HartRead}

@@ -3,28 +3,28 @@ use Rattle.std.proofs.Common.{◌≡◌, ◌<◌, ◌≤◌, ℕ, zero, suc, Boo
 use Rattle.std.specs.Prelude.{nat_eq, nat_lt, nat_le, slice_set, All}
 use Rattle.std.proofs.lemmas.Bool.{eqb-true, leb-true}
 use Rattle.std.proofs.lemmas.List.{get_or-map, map-set, length-map, nil_from_length}
-use Rattle.ddm_types.specs.declared.keys.Stamp.{Stamp}
-use Rattle.ddm_types.specs.declared.turns.Turn.{Turn}
-use Rattle.ddm_types.specs.ItemTable.{ItemTable}
-use Rattle.ddm_types.specs.CodeMap.{CodeWord}
-use Rattle.tree_model.specs.Turns.Bus.{bus_step}
-use Rattle.tree_model.specs.Turns.Machine.{bus_turn_of}
-use Rattle.tree_model.specs.declared.BusTurn.{BusTurn}
-use Rattle.tree_model.specs.State.Values.{DirValue, Node, leaf_node, dir_node, nodes, children}
-use Rattle.tree_model.specs.State.Blank.{no_node}
-use Rattle.tree_model.specs.State.Directory.{stamp_of}
-use Rattle.tree_model.specs.State.Child.{child_label, child_hold}
-use Rattle.tree_model.specs.State.Shape.{skeleton, skeletons, bone_count, widths_fit, widths_fit_among}
-use Rattle.tree_model.specs.Turns.Children.{child_at}
-use Rattle.tree_model.specs.Turns.Tree.{Name, leaf_of_number}
-use Rattle.tree_model.proofs.Children.{children-nodes}
-use Rattle.tree_model.proofs.Tests.{and-first, and-second}
-use Rattle.item_states.specs.Parts.{node_items}
+use Rattle.ddm_tree.specs.DdmTypes.declared.keys.Stamp.{Stamp}
+use Rattle.ddm_tree.specs.DdmTypes.declared.turns.Turn.{Turn}
+use Rattle.ddm_tree.specs.DdmTypes.ItemTable.{ItemTable}
+use Rattle.ddm_tree.specs.DdmTypes.CodeMap.{CodeWord}
+use Rattle.ddm_tree.specs.TreeModel.Turns.Bus.{bus_step}
+use Rattle.ddm_tree.specs.TreeModel.Turns.Machine.{bus_turn_of}
+use Rattle.ddm_tree.specs.TreeModel.declared.BusTurn.{BusTurn}
+use Rattle.ddm_tree.specs.TreeModel.State.Values.{DirValue, Node, leaf_node, dir_node, nodes, children}
+use Rattle.ddm_tree.specs.TreeModel.State.Blank.{no_node}
+use Rattle.ddm_tree.specs.TreeModel.State.Directory.{stamp_of}
+use Rattle.ddm_tree.specs.TreeModel.State.Child.{child_label, child_hold}
+use Rattle.ddm_tree.specs.TreeModel.State.Shape.{skeleton, skeletons, bone_count, widths_fit, widths_fit_among}
+use Rattle.ddm_tree.specs.TreeModel.Turns.Children.{child_at}
+use Rattle.ddm_tree.specs.TreeModel.Turns.Tree.{Name, leaf_of_number}
+use Rattle.ddm_tree.proofs.TreeModel.Children.{children-nodes}
+use Rattle.ddm_tree.proofs.TreeModel.Tests.{and-first, and-second}
+use Rattle.ddm_tree.specs.ItemStates.Parts.{node_items}
 use Rattle.split_bus.specs.Outcomes.{AreSized, NamesOneOf}
 use Rattle.ddm_tree.specs.Path.{node_at, present_at, put_at, node_answer, node_turned}
 use Rattle.ddm_tree.specs.Ready.{IsReady, Leads, LeadsBelow, HasChild, IsChild, IsItemOf}
 use Rattle.ddm_tree.specs.Reads.{node_children, node_child, node_child_hold}
-use Rattle.tree_model.specs.State.Place.{Where}
+use Rattle.ddm_tree.specs.TreeModel.State.Place.{Where}
 use Rattle.ddm_tree.proofs.Along.{leads-among, some_if-same}
 use Rattle.ddm_tree.proofs.Descend.{LeadsOn, leads-child, bones-counted, IsReadyBus, ready-bus, ready-items, buses-child}
 

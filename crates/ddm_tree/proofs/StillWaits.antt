@@ -4,30 +4,30 @@ use Rattle.std.proofs.Common.{◌≡◌, ℕ, Bool, true, false, List, Option, S
 use Rattle.std.specs.Prelude.{nat_eq, nat_lt, option_map, if◌then◌else◌}
 use Rattle.std.proofs.lemmas.Bool.{ltb-true, ltb-false}
 use Rattle.std.proofs.lemmas.List.{get_or_past}
-use Rattle.ddm_types.specs.declared.answers.LogEntry.{LogEntry}
-use Rattle.ddm_types.specs.declared.answers.TurnAnswer.{TurnAnswer}
-use Rattle.ddm_types.specs.declared.sizes.LeafState.{LeafState}
-use Rattle.ddm_types.specs.declared.keys.Stamp.{Stamp}
-use Rattle.tree_model.specs.declared.BusTurn.{BusTurn}
-use Rattle.tree_model.specs.State.Blank.{no_node}
-use Rattle.tree_model.specs.State.Lists.{map_from}
-use Rattle.tree_model.specs.State.States.{is_waiting, state_lost, state_answered}
-use Rattle.tree_model.specs.State.Values.{WayValue, BufferValue, DirValue, Node, leaf_node, dir_node}
-use Rattle.tree_model.specs.State.Leaf.{LeafEntry, Fate, entry_at, entry_state, leaf_entry, leaf_answer, leaf_lose, state_at, becomes, fate_answering, fate_by, fate_by_loss, fate_when_lost, ways_after, buffer_after}
-use Rattle.tree_model.specs.State.Directory.{stamp_of, counted, front_taken}
-use Rattle.tree_model.specs.State.Child.{child_answer, child_lose, child_request_taken}
-use Rattle.tree_model.specs.Turns.Bus.{bus_judged, bus_step}
-use Rattle.tree_model.specs.Turns.Children.{child_at, only, read_from, erased_by, loses}
-use Rattle.tree_model.specs.Turns.Grant.{Grant, Judged, nothing_there, refused, granted, outcome_of}
-use Rattle.tree_model.specs.Turns.RequestRead.{joins, read_of_child, read_of_parked, read_of_parent}
-use Rattle.tree_model.specs.Turns.RequestErase.{erase_of_all}
-use Rattle.tree_model.specs.Turns.Reply.{reply_to_readers, reply_to_parent}
-use Rattle.tree_model.specs.Turns.Down.{exclusive_to, erase_of_children, read_by_child, read_by_parked, data_to_readers, inject_to_reader, inject_to_readers, inject_to_child, inject_parked}
-use Rattle.tree_model.specs.Turns.Leave.{out_gone, leave_parked, leave_to}
-use Rattle.tree_model.proofs.Children.{child_at-map_from, map_from-past}
-use Rattle.tree_model.proofs.Rows.{Row, row_joins, row_read_of_child, row_read_of_parked, row_read_of_parent, row_erase_of_all, row_reply_to_readers, row_reply_to_parent, row_exclusive_to, row_erase_of_children, row_read_by_child, row_read_by_parked, row_data_to_readers, row_inject_to_reader, row_inject_to_readers, row_inject_to_child, row_inject_parked, row_out_gone, row_out_parked, row_leave_to, row_inject_up, row-of}
-use Rattle.tree_rules.specs.Bus.Own.{state_waits}
-use Rattle.bus_laws.proofs.HartChanges.{entry_with, entry-becomes}
+use Rattle.ddm_tree.specs.DdmTypes.declared.answers.LogEntry.{LogEntry}
+use Rattle.ddm_tree.specs.DdmTypes.declared.answers.TurnAnswer.{TurnAnswer}
+use Rattle.ddm_tree.specs.DdmTypes.declared.sizes.LeafState.{LeafState}
+use Rattle.ddm_tree.specs.DdmTypes.declared.keys.Stamp.{Stamp}
+use Rattle.ddm_tree.specs.TreeModel.declared.BusTurn.{BusTurn}
+use Rattle.ddm_tree.specs.TreeModel.State.Blank.{no_node}
+use Rattle.ddm_tree.specs.TreeModel.State.Lists.{map_from}
+use Rattle.ddm_tree.specs.TreeModel.State.States.{is_waiting, state_lost, state_answered}
+use Rattle.ddm_tree.specs.TreeModel.State.Values.{WayValue, BufferValue, DirValue, Node, leaf_node, dir_node}
+use Rattle.ddm_tree.specs.TreeModel.State.Leaf.{LeafEntry, Fate, entry_at, entry_state, leaf_entry, leaf_answer, leaf_lose, state_at, becomes, fate_answering, fate_by, fate_by_loss, fate_when_lost, ways_after, buffer_after}
+use Rattle.ddm_tree.specs.TreeModel.State.Directory.{stamp_of, counted, front_taken}
+use Rattle.ddm_tree.specs.TreeModel.State.Child.{child_answer, child_lose, child_request_taken}
+use Rattle.ddm_tree.specs.TreeModel.Turns.Bus.{bus_judged, bus_step}
+use Rattle.ddm_tree.specs.TreeModel.Turns.Children.{child_at, only, read_from, erased_by, loses}
+use Rattle.ddm_tree.specs.TreeModel.Turns.Grant.{Grant, Judged, nothing_there, refused, granted, outcome_of}
+use Rattle.ddm_tree.specs.TreeModel.Turns.RequestRead.{joins, read_of_child, read_of_parked, read_of_parent}
+use Rattle.ddm_tree.specs.TreeModel.Turns.RequestErase.{erase_of_all}
+use Rattle.ddm_tree.specs.TreeModel.Turns.Reply.{reply_to_readers, reply_to_parent}
+use Rattle.ddm_tree.specs.TreeModel.Turns.Down.{exclusive_to, erase_of_children, read_by_child, read_by_parked, data_to_readers, inject_to_reader, inject_to_readers, inject_to_child, inject_parked}
+use Rattle.ddm_tree.specs.TreeModel.Turns.Leave.{out_gone, leave_parked, leave_to}
+use Rattle.ddm_tree.proofs.TreeModel.Children.{child_at-map_from, map_from-past}
+use Rattle.ddm_tree.proofs.TreeModel.Rows.{Row, row_joins, row_read_of_child, row_read_of_parked, row_read_of_parent, row_erase_of_all, row_reply_to_readers, row_reply_to_parent, row_exclusive_to, row_erase_of_children, row_read_by_child, row_read_by_parked, row_data_to_readers, row_inject_to_reader, row_inject_to_readers, row_inject_to_child, row_inject_parked, row_out_gone, row_out_parked, row_leave_to, row_inject_up, row-of}
+use Rattle.ddm_tree.specs.TreeRules.Bus.Own.{state_waits}
+use Rattle.ddm_tree.proofs.BusLaws.HartChanges.{entry_with, entry-becomes}
 use Rattle.ddm_tree.specs.Idle.{answers_none}
 
 -- ---- an item's entry after its fate

@@ -3,11 +3,11 @@
 -- Letters: m is a machine, o an operation.
 use Rattle.std.proofs.Common.{◌≡◌, ℕ, ◌<◌, ◌≤◌, Bool, true, false, nat_eq, List, [], ◌∷◌, length, map, Some, refl, arith, true≢false}
 use Rattle.std.proofs.lemmas.Bool.{eqb-true}
-use Rattle.ddm_types.specs.declared.operations.Op.{Op}
-use Rattle.tree_model.specs.State.Values.{MachineValue, root_of}
-use Rattle.tree_model.specs.State.Shape.{IsShaped, are_below, buses_of, leaves_numbered, skeleton, traffic_counted, tree_counts}
-use Rattle.tree_model.specs.Turns.Tree.{Name, leaf_of_number, bus_of_number, has_node}
-use Rattle.tree_model.proofs.Tests.{and-first}
+use Rattle.ddm_tree.specs.DdmTypes.declared.operations.Op.{Op}
+use Rattle.ddm_tree.specs.TreeModel.State.Values.{MachineValue, root_of}
+use Rattle.ddm_tree.specs.TreeModel.State.Shape.{IsShaped, are_below, buses_of, leaves_numbered, skeleton, traffic_counted, tree_counts}
+use Rattle.ddm_tree.specs.TreeModel.Turns.Tree.{Name, leaf_of_number, bus_of_number, has_node}
+use Rattle.ddm_tree.proofs.TreeModel.Tests.{and-first}
 use Rattle.state_judging.specs.Judged.{is_key_of_leaf}
 use Rattle.ddm_tree.specs.Machine.{has_path, is_part, listed_path}
 use Rattle.ddm_tree.proofs.KeysJudged.{key-without_leaf}

@@ -4,25 +4,25 @@ use Rattle.std.proofs.Common.{◌≡◌, ℕ, Bool, true, false, true≢false, L
 use Rattle.std.specs.Prelude.{◌||◌, nat_eq, nat_lt, if◌then◌else◌}
 use Rattle.std.proofs.lemmas.Bool.{eqb-true, ltb-true, ltb-false}
 use Rattle.std.proofs.lemmas.List.{get_or_past}
-use Rattle.ddm_types.specs.declared.answers.Place.{Place}
-use Rattle.ddm_types.specs.declared.keys.Stamp.{Stamp}
-use Rattle.tree_model.specs.declared.BusTurn.{BusTurn}
-use Rattle.tree_model.specs.State.Blank.{no_node}
-use Rattle.tree_model.specs.State.Lists.{map_from}
-use Rattle.tree_model.specs.State.Values.{DirValue, Node, local, up_read}
-use Rattle.tree_model.specs.State.Child.{child_answer, child_give_up, child_given, child_reply_taken, child_request_taken, child_take_exclusive, child_take_inject}
-use Rattle.tree_model.specs.State.Directory.{counted, front_taken, in_set, stamp_of}
-use Rattle.tree_model.specs.Turns.Bus.{bus_judged, bus_step}
-use Rattle.tree_model.specs.Turns.Children.{child_at, only, passed_on, read_from, reader_takes, replied_by}
-use Rattle.tree_model.specs.Turns.Grant.{Grant, Judged, data_taker, granted, nothing_there, outcome_of, refused}
-use Rattle.tree_model.specs.Turns.RequestRead.{joins, read_of_child, read_of_parked, read_of_parent}
-use Rattle.tree_model.specs.Turns.RequestErase.{erase_of_all}
-use Rattle.tree_model.specs.Turns.Reply.{reply_to_readers, reply_to_parent}
-use Rattle.tree_model.specs.Turns.Down.{exclusive_to, erase_of_children, read_by_child, read_by_parked, data_to_readers, inject_to_reader, inject_to_readers, inject_to_child, inject_parked}
-use Rattle.tree_model.specs.Turns.Leave.{out_gone, leave_parked, leave_to}
-use Rattle.tree_model.proofs.Children.{child_at-map_from, map_from-past}
-use Rattle.tree_model.proofs.Rows.{Row, row_joins, row_read_of_child, row_read_of_parked, row_read_of_parent, row_erase_of_all, row_reply_to_readers, row_reply_to_parent, row_exclusive_to, row_erase_of_children, row_read_by_child, row_read_by_parked, row_data_to_readers, row_inject_to_reader, row_inject_to_readers, row_inject_to_child, row_inject_parked, row_out_gone, row_out_parked, row_leave_to, row_inject_up, row-of}
-use Rattle.tree_model.proofs.Sets.{in_set-empty}
+use Rattle.ddm_tree.specs.DdmTypes.declared.answers.Place.{Place}
+use Rattle.ddm_tree.specs.DdmTypes.declared.keys.Stamp.{Stamp}
+use Rattle.ddm_tree.specs.TreeModel.declared.BusTurn.{BusTurn}
+use Rattle.ddm_tree.specs.TreeModel.State.Blank.{no_node}
+use Rattle.ddm_tree.specs.TreeModel.State.Lists.{map_from}
+use Rattle.ddm_tree.specs.TreeModel.State.Values.{DirValue, Node, local, up_read}
+use Rattle.ddm_tree.specs.TreeModel.State.Child.{child_answer, child_give_up, child_given, child_reply_taken, child_request_taken, child_take_exclusive, child_take_inject}
+use Rattle.ddm_tree.specs.TreeModel.State.Directory.{counted, front_taken, in_set, stamp_of}
+use Rattle.ddm_tree.specs.TreeModel.Turns.Bus.{bus_judged, bus_step}
+use Rattle.ddm_tree.specs.TreeModel.Turns.Children.{child_at, only, passed_on, read_from, reader_takes, replied_by}
+use Rattle.ddm_tree.specs.TreeModel.Turns.Grant.{Grant, Judged, data_taker, granted, nothing_there, outcome_of, refused}
+use Rattle.ddm_tree.specs.TreeModel.Turns.RequestRead.{joins, read_of_child, read_of_parked, read_of_parent}
+use Rattle.ddm_tree.specs.TreeModel.Turns.RequestErase.{erase_of_all}
+use Rattle.ddm_tree.specs.TreeModel.Turns.Reply.{reply_to_readers, reply_to_parent}
+use Rattle.ddm_tree.specs.TreeModel.Turns.Down.{exclusive_to, erase_of_children, read_by_child, read_by_parked, data_to_readers, inject_to_reader, inject_to_readers, inject_to_child, inject_parked}
+use Rattle.ddm_tree.specs.TreeModel.Turns.Leave.{out_gone, leave_parked, leave_to}
+use Rattle.ddm_tree.proofs.TreeModel.Children.{child_at-map_from, map_from-past}
+use Rattle.ddm_tree.proofs.TreeModel.Rows.{Row, row_joins, row_read_of_child, row_read_of_parked, row_read_of_parent, row_erase_of_all, row_reply_to_readers, row_reply_to_parent, row_exclusive_to, row_erase_of_children, row_read_by_child, row_read_by_parked, row_data_to_readers, row_inject_to_reader, row_inject_to_readers, row_inject_to_child, row_inject_parked, row_out_gone, row_out_parked, row_leave_to, row_inject_up, row-of}
+use Rattle.ddm_tree.proofs.TreeModel.Sets.{in_set-empty}
 use Rattle.ddm_tree.specs.Quiet.{may_be_child, touches_child}
 
 pub not-true : (b : Bool) → (b ≡ true → ⊥) → b ≡ false

@@ -4,19 +4,19 @@ use Rattle.std.specs.Prelude.{nat_le}
 use Rattle.std.specs.List.{list_all}
 use Rattle.std.proofs.lemmas.Bool.{leb-true, le-leb}
 use Rattle.std.proofs.lemmas.List.{append-nil, drop_all, take_all}
-use Rattle.ddm_types.specs.declared.answers.TurnAnswer.{TurnAnswer}
-use Rattle.ddm_types.specs.declared.keys.Stamp.{Stamp}
-use Rattle.ddm_types.specs.declared.turns.Turn.{Turn}
-use Rattle.ddm_types.specs.Keys.{stamp_zero}
-use Rattle.ddm_types.specs.ItemTable.{item_count}
-use Rattle.tree_model.specs.declared.Traffic.{Traffic}
-use Rattle.tree_model.specs.State.Values.{DirValue, Node, Nodes, leaf_node, dir_node, no_nodes, more_nodes, nodes, MachineValue, root_of}
-use Rattle.tree_model.specs.State.Shape.{buses_of, leaf_numbers_of, levels_of, tree_counts, widths_bounded}
-use Rattle.tree_model.specs.Turns.Machine.{named_by, names_part, recorded, with_root, turn_of}
-use Rattle.tree_model.specs.Turns.Tree.{Name, leaf_of_number, bus_of_number}
-use Rattle.tree_model.proofs.FrameKept.{turn-frame}
-use Rattle.tree_model.proofs.Tests.{and-first, and-second, and-both}
-use Rattle.tree_rules.specs.Bus.Rules.{IsMachineOk, IsTreeOk}
+use Rattle.ddm_tree.specs.DdmTypes.declared.answers.TurnAnswer.{TurnAnswer}
+use Rattle.ddm_tree.specs.DdmTypes.declared.keys.Stamp.{Stamp}
+use Rattle.ddm_tree.specs.DdmTypes.declared.turns.Turn.{Turn}
+use Rattle.ddm_tree.specs.DdmTypes.Keys.{stamp_zero}
+use Rattle.ddm_tree.specs.DdmTypes.ItemTable.{item_count}
+use Rattle.ddm_tree.specs.TreeModel.declared.Traffic.{Traffic}
+use Rattle.ddm_tree.specs.TreeModel.State.Values.{DirValue, Node, Nodes, leaf_node, dir_node, no_nodes, more_nodes, nodes, MachineValue, root_of}
+use Rattle.ddm_tree.specs.TreeModel.State.Shape.{buses_of, leaf_numbers_of, levels_of, tree_counts, widths_bounded}
+use Rattle.ddm_tree.specs.TreeModel.Turns.Machine.{named_by, names_part, recorded, with_root, turn_of}
+use Rattle.ddm_tree.specs.TreeModel.Turns.Tree.{Name, leaf_of_number, bus_of_number}
+use Rattle.ddm_tree.proofs.TreeModel.FrameKept.{turn-frame}
+use Rattle.ddm_tree.proofs.TreeModel.Tests.{and-first, and-second, and-both}
+use Rattle.ddm_tree.specs.TreeRules.Bus.Rules.{IsMachineOk, IsTreeOk}
 use Rattle.ddm_tree.specs.Counts.{counts_within, counts_among}
 use Rattle.ddm_tree.specs.Machine.{IsFound, IsMachine, MachineState, has_path, listed_path, machine_of, ops_after, spare_after, state_after, traffic_after, traffic_within}
 use Rattle.ddm_tree.specs.Path.{node_at, present_at, put_at, node_answer, node_turned}

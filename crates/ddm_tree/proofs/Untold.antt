@@ -4,29 +4,29 @@ use Rattle.std.proofs.Common.{◌≡◌, ◌≢◌, ℕ, zero, suc, ◌+◌, Boo
 use Rattle.std.specs.Prelude.{not, ◌||◌, nat_eq, nat_lt, filter, find, option_map, slice_index_or, slice_set, if◌then◌else◌}
 use Rattle.std.proofs.lemmas.Bool.{ne_eqb, ltb-true, ltb-false}
 use Rattle.std.proofs.lemmas.List.{get_or_past}
-use Rattle.ddm_types.specs.declared.answers.LogEntry.{LogEntry}
-use Rattle.ddm_types.specs.declared.answers.TurnAnswer.{TurnAnswer}
-use Rattle.ddm_types.specs.declared.operations.HaltCause.{HaltCause}
-use Rattle.ddm_types.specs.declared.sizes.LeafState.{LeafState}
-use Rattle.ddm_types.specs.declared.keys.Stamp.{Stamp}
-use Rattle.tree_model.specs.declared.BusTurn.{BusTurn}
-use Rattle.tree_model.specs.State.Blank.{no_node}
-use Rattle.tree_model.specs.State.Lists.{find_from, first_some, map_from}
-use Rattle.tree_model.specs.State.States.{is_waiting, state_lost, state_with_data, state_with_exclusive, state_with_inject, state_answered}
-use Rattle.tree_model.specs.State.Values.{WayValue, BufferValue, LeafSizes, Note, local, up_read, DirValue, Node, leaf_node, dir_node}
-use Rattle.tree_model.specs.State.Leaf.{LeafEntry, Fate, stays, ends, becomes, enters, way_at, way_entry, buffer_entry, is_buffered, buffered, buffer_item, leaf_entry, entry_at, way_with, buffer_with, ways_after, buffer_after, way_waits, buffer_waits, waiting_item, fate_by, fate_by_loss, fate_when_lost, fate_with_data, fate_with_exclusive, fate_answering, enters_free, fate_with_inject, free_way, leaf_lose, leaf_take_data, leaf_take_exclusive, leaf_answer, leaf_take_inject}
-use Rattle.tree_model.specs.State.Directory.{is_reader, stamp_of, counted, front_taken, dir_lose, dir_take_data, dir_take_exclusive, dir_answer, dir_take_inject}
-use Rattle.tree_model.specs.State.Child.{child_lose, child_take_data, child_take_exclusive, child_answer, child_take_inject, child_request_taken, child_reply_taken, child_give_up, child_given}
-use Rattle.tree_model.specs.Turns.Bus.{bus_judged, bus_step}
-use Rattle.tree_model.specs.Turns.Children.{child_at, only, read_from, erased_by, loses, reader_takes, replied_by, passed_on}
-use Rattle.tree_model.specs.Turns.Grant.{Grant, Judged, nothing_there, refused, granted, outcome_of}
-use Rattle.tree_model.specs.Turns.RequestRead.{joins, read_of_child, read_of_parked, read_of_parent}
-use Rattle.tree_model.specs.Turns.RequestErase.{erase_of_all}
-use Rattle.tree_model.specs.Turns.Reply.{reply_to_readers, reply_to_parent}
-use Rattle.tree_model.specs.Turns.Down.{exclusive_to, erase_of_children, read_by_child, read_by_parked, data_to_readers, inject_to_reader, inject_to_readers, inject_to_child, inject_parked}
-use Rattle.tree_model.specs.Turns.Leave.{out_gone, leave_parked, leave_to}
-use Rattle.tree_model.proofs.Children.{child_at-map_from, map_from-past}
-use Rattle.tree_model.proofs.Rows.{Row, row_joins, row_read_of_child, row_read_of_parked, row_read_of_parent, row_erase_of_all, row_reply_to_readers, row_reply_to_parent, row_exclusive_to, row_erase_of_children, row_read_by_child, row_read_by_parked, row_data_to_readers, row_inject_to_reader, row_inject_to_readers, row_inject_to_child, row_inject_parked, row_out_gone, row_out_parked, row_leave_to, row_inject_up, row-of}
+use Rattle.ddm_tree.specs.DdmTypes.declared.answers.LogEntry.{LogEntry}
+use Rattle.ddm_tree.specs.DdmTypes.declared.answers.TurnAnswer.{TurnAnswer}
+use Rattle.ddm_tree.specs.DdmTypes.declared.operations.HaltCause.{HaltCause}
+use Rattle.ddm_tree.specs.DdmTypes.declared.sizes.LeafState.{LeafState}
+use Rattle.ddm_tree.specs.DdmTypes.declared.keys.Stamp.{Stamp}
+use Rattle.ddm_tree.specs.TreeModel.declared.BusTurn.{BusTurn}
+use Rattle.ddm_tree.specs.TreeModel.State.Blank.{no_node}
+use Rattle.ddm_tree.specs.TreeModel.State.Lists.{find_from, first_some, map_from}
+use Rattle.ddm_tree.specs.TreeModel.State.States.{is_waiting, state_lost, state_with_data, state_with_exclusive, state_with_inject, state_answered}
+use Rattle.ddm_tree.specs.TreeModel.State.Values.{WayValue, BufferValue, LeafSizes, Note, local, up_read, DirValue, Node, leaf_node, dir_node}
+use Rattle.ddm_tree.specs.TreeModel.State.Leaf.{LeafEntry, Fate, stays, ends, becomes, enters, way_at, way_entry, buffer_entry, is_buffered, buffered, buffer_item, leaf_entry, entry_at, way_with, buffer_with, ways_after, buffer_after, way_waits, buffer_waits, waiting_item, fate_by, fate_by_loss, fate_when_lost, fate_with_data, fate_with_exclusive, fate_answering, enters_free, fate_with_inject, free_way, leaf_lose, leaf_take_data, leaf_take_exclusive, leaf_answer, leaf_take_inject}
+use Rattle.ddm_tree.specs.TreeModel.State.Directory.{is_reader, stamp_of, counted, front_taken, dir_lose, dir_take_data, dir_take_exclusive, dir_answer, dir_take_inject}
+use Rattle.ddm_tree.specs.TreeModel.State.Child.{child_lose, child_take_data, child_take_exclusive, child_answer, child_take_inject, child_request_taken, child_reply_taken, child_give_up, child_given}
+use Rattle.ddm_tree.specs.TreeModel.Turns.Bus.{bus_judged, bus_step}
+use Rattle.ddm_tree.specs.TreeModel.Turns.Children.{child_at, only, read_from, erased_by, loses, reader_takes, replied_by, passed_on}
+use Rattle.ddm_tree.specs.TreeModel.Turns.Grant.{Grant, Judged, nothing_there, refused, granted, outcome_of}
+use Rattle.ddm_tree.specs.TreeModel.Turns.RequestRead.{joins, read_of_child, read_of_parked, read_of_parent}
+use Rattle.ddm_tree.specs.TreeModel.Turns.RequestErase.{erase_of_all}
+use Rattle.ddm_tree.specs.TreeModel.Turns.Reply.{reply_to_readers, reply_to_parent}
+use Rattle.ddm_tree.specs.TreeModel.Turns.Down.{exclusive_to, erase_of_children, read_by_child, read_by_parked, data_to_readers, inject_to_reader, inject_to_readers, inject_to_child, inject_parked}
+use Rattle.ddm_tree.specs.TreeModel.Turns.Leave.{out_gone, leave_parked, leave_to}
+use Rattle.ddm_tree.proofs.TreeModel.Children.{child_at-map_from, map_from-past}
+use Rattle.ddm_tree.proofs.TreeModel.Rows.{Row, row_joins, row_read_of_child, row_read_of_parked, row_read_of_parent, row_erase_of_all, row_reply_to_readers, row_reply_to_parent, row_exclusive_to, row_erase_of_children, row_read_by_child, row_read_by_parked, row_data_to_readers, row_inject_to_reader, row_inject_to_readers, row_inject_to_child, row_inject_parked, row_out_gone, row_out_parked, row_leave_to, row_inject_up, row-of}
 
 -- ---- searches of a list with one element put
 

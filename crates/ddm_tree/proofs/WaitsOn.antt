@@ -2,16 +2,16 @@
 -- Letters: n and m are nodes, v a leaf, x the item that is waited for, p and q paths.
 use Rattle.std.proofs.Common.{◌≡◌, ◌⊎◌, inl, inr, ℕ, zero, suc, ◌<◌, true, List, [], ◌∷◌, Option, Some, None, refl, sym, ap, subst, ◌∙◌, true≢false}
 use Rattle.std.proofs.lemmas.Bool.{eqb-true}
-use Rattle.flat_model.specs.Flat.{has_reserved}
-use Rattle.tree_model.specs.State.Blank.{no_leaf, no_node}
-use Rattle.tree_model.specs.State.Values.{LeafValue, Node, Nodes, leaf_node, dir_node, no_nodes, more_nodes, children}
-use Rattle.tree_model.specs.State.Leaf.{entry_at, state_at, waiting_item}
-use Rattle.tree_model.specs.Turns.Children.{child_at}
-use Rattle.tree_rules.specs.Bus.Own.{IsLeafOk, one_waiting, state_waits, waits_alone}
-use Rattle.tree_rules.specs.Bus.Rules.{AreTreesOk, IsTreeOk}
-use Rattle.tree_rules.proofs.Implying.{implies-use}
-use Rattle.tree_rules.proofs.Lists.{each-from_range}
-use Rattle.bus_laws.proofs.HartFacts.{entries-from_rules, state-known, waiting-some}
+use Rattle.ddm_tree.specs.FlatModel.Flat.{has_reserved}
+use Rattle.ddm_tree.specs.TreeModel.State.Blank.{no_leaf, no_node}
+use Rattle.ddm_tree.specs.TreeModel.State.Values.{LeafValue, Node, Nodes, leaf_node, dir_node, no_nodes, more_nodes, children}
+use Rattle.ddm_tree.specs.TreeModel.State.Leaf.{entry_at, state_at, waiting_item}
+use Rattle.ddm_tree.specs.TreeModel.Turns.Children.{child_at}
+use Rattle.ddm_tree.specs.TreeRules.Bus.Own.{IsLeafOk, one_waiting, state_waits, waits_alone}
+use Rattle.ddm_tree.specs.TreeRules.Bus.Rules.{AreTreesOk, IsTreeOk}
+use Rattle.ddm_tree.proofs.TreeRules.Implying.{implies-use}
+use Rattle.ddm_tree.proofs.TreeRules.Lists.{each-from_range}
+use Rattle.ddm_tree.proofs.BusLaws.HartFacts.{entries-from_rules, state-known, waiting-some}
 use Rattle.ddm_tree.specs.Path.{node_at}
 use Rattle.ddm_tree.proofs.StillWaits.{Still, node_awaits}
 use Rattle.ddm_tree.proofs.Untold.{node_waits}

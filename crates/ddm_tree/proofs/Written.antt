@@ -4,13 +4,13 @@ use Rattle.std.proofs.Common.{◌≡◌, ◌<◌, ℕ, zero, suc, ◌+◌, ◌++
 use Rattle.std.specs.Prelude.{slice_get}
 use Rattle.std.specs.List.{flat_map}
 use Rattle.std.proofs.lemmas.List.{append-nil}
-use Rattle.tree_model.specs.State.Values.{LeafValue, Node, leaf_node, dir_node, MachineValue, root_of}
-use Rattle.tree_model.specs.State.Place.{Where, at_top}
-use Rattle.tree_model.specs.State.Shape.{IsShaped}
-use Rattle.tree_model.specs.Turns.Machine.{machine_leaves}
-use Rattle.tree_model.specs.Turns.Tree.{leaf_of_number, bus_of_number, of_leaf, of_dir}
-use Rattle.state_words.specs.Parts.{dir_words}
-use Rattle.state_words.specs.Machine.{words_or_none}
+use Rattle.ddm_tree.specs.TreeModel.State.Values.{LeafValue, Node, leaf_node, dir_node, MachineValue, root_of}
+use Rattle.ddm_tree.specs.TreeModel.State.Place.{Where, at_top}
+use Rattle.ddm_tree.specs.TreeModel.State.Shape.{IsShaped}
+use Rattle.ddm_tree.specs.TreeModel.Turns.Machine.{machine_leaves}
+use Rattle.ddm_tree.specs.TreeModel.Turns.Tree.{leaf_of_number, bus_of_number, of_leaf, of_dir}
+use Rattle.ddm_tree.specs.StateWords.Parts.{dir_words}
+use Rattle.ddm_tree.specs.StateWords.Machine.{words_or_none}
 use Rattle.ddm_tree.specs.Path.{node_at}
 use Rattle.ddm_tree.specs.Ready.{Leads}
 use Rattle.ddm_tree.specs.Written.{node_words, node_dir_words, words_of_leaf, dir_words_of}

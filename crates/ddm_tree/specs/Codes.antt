@@ -3,12 +3,12 @@ use Rattle.std.specs.Prelude.{◌≡◌, ℕ, List, refl}
 use Rattle.std.proofs.Common.{ap}
 use Rattle.std.specs.Coded.{Coded, codes}
 use base.Stored.{Gv}
-use Rattle.ddm_types.specs.declared.operations.Op.{Op}
-use Rattle.ddm_types.specs.ItemTable.{ItemTable}
-use Rattle.ddm_types.specs.CodeMap.{CodeWord}
-use Rattle.tree_model.specs.declared.Traffic.{Traffic}
-use Rattle.tree_model.specs.State.Values.{DirValue, Nodes, dir_node, root_of, MachineValue}
-use Rattle.tree_model.specs.State.Codes.{stored_node, stored_node-injective}
+use Rattle.ddm_tree.specs.DdmTypes.declared.operations.Op.{Op}
+use Rattle.ddm_tree.specs.DdmTypes.ItemTable.{ItemTable}
+use Rattle.ddm_tree.specs.DdmTypes.CodeMap.{CodeWord}
+use Rattle.ddm_tree.specs.TreeModel.declared.Traffic.{Traffic}
+use Rattle.ddm_tree.specs.TreeModel.State.Values.{DirValue, Nodes, dir_node, root_of, MachineValue}
+use Rattle.ddm_tree.specs.TreeModel.State.Codes.{stored_node, stored_node-injective}
 use Rattle.ddm_tree.specs.Machine.{MachineState}
 
 -- the tree as it is stored

@@ -1,9 +1,9 @@
 -- When a part of a tree can become a copy of another one, and what a machine is that became one.
 -- To be believed with the contracts: it says which machines the call takes, and how much room they have afterwards.
 use Rattle.std.specs.Prelude.{◌≡◌, ℕ, ◌+◌, ◌-◌, ◌≤◌, true, length, min}
-use Rattle.tree_model.specs.State.Values.{Node}
-use Rattle.tree_model.specs.State.Rooms.{all_within}
-use Rattle.tree_model.specs.State.Shape.{frame_of, skeleton}
+use Rattle.ddm_tree.specs.TreeModel.State.Values.{Node}
+use Rattle.ddm_tree.specs.TreeModel.State.Rooms.{all_within}
+use Rattle.ddm_tree.specs.TreeModel.State.Shape.{frame_of, skeleton}
 use Rattle.ddm_tree.specs.Machine.{MachineState}
 
 -- two parts have the same nodes with the same sizes, and keep something of as many items

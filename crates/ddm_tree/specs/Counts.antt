@@ -2,7 +2,7 @@
 -- Letters: n is a node, v a leaf, d a directory over the nodes ns.
 -- To be believed with the contracts: it says when a machine may make another turn.
 use Rattle.std.specs.Prelude.{ℕ, Bool, true, ◌&&◌, nat_le}
-use Rattle.tree_model.specs.State.Values.{Node, Nodes, leaf_node, dir_node, no_nodes, more_nodes}
+use Rattle.ddm_tree.specs.TreeModel.State.Values.{Node, Nodes, leaf_node, dir_node, no_nodes, more_nodes}
 
 abbrev mutual
   pub counts_within : ℕ → Node → Bool

@@ -2,10 +2,10 @@
 -- Letters: n is a node, x an item.
 -- To be believed with the contracts: it says over which children a directory can be put.
 use Rattle.std.specs.Prelude.{◌≡◌, ℕ, ◌<◌, false, length, slice_index_or}
-use Rattle.tree_model.specs.State.States.{is_exclusive}
-use Rattle.tree_model.specs.State.Values.{Node}
-use Rattle.tree_model.specs.State.Child.{child_hold}
-use Rattle.tree_model.specs.Start.Nodes.{held_by}
+use Rattle.ddm_tree.specs.TreeModel.State.States.{is_exclusive}
+use Rattle.ddm_tree.specs.TreeModel.State.Values.{Node}
+use Rattle.ddm_tree.specs.TreeModel.State.Child.{child_hold}
+use Rattle.ddm_tree.specs.TreeModel.Start.Nodes.{held_by}
 
 -- of so many items the node holds, Exclusive, those that the tables count among its own
 pub record IsHolder (items : ℕ) (n : Node) : Type 0 where

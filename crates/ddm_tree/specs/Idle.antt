@@ -4,20 +4,20 @@
 -- have answered.
 -- To be believed with the contracts: it is what a machine remembers of its leaves.
 use Rattle.std.specs.Prelude.{◌≡◌, ◌≢◌, ◌⊎◌, ℕ, Bool, true, false, nat_eq, List, [], ◌∷◌, ◌++◌, Option, Some, None, length, slice_get, slice_set, if◌then◌else◌}
-use Rattle.ddm_types.specs.declared.answers.BusyCause.{BusyCause}
-use Rattle.ddm_types.specs.declared.answers.LogEntry.{LogEntry}
-use Rattle.ddm_types.specs.declared.answers.TurnAnswer.{TurnAnswer}
-use Rattle.ddm_types.specs.declared.answers.TxKind.{TxKind}
-use Rattle.ddm_types.specs.declared.operations.HaltCause.{HaltCause}
-use Rattle.ddm_types.specs.declared.keys.Key.{Key}
-use Rattle.ddm_types.specs.declared.turns.Turn.{Turn}
-use Rattle.ddm_types.specs.CodeMap.{CodeWord}
-use Rattle.ddm_types.specs.ItemTable.{ItemTable}
-use Rattle.tree_model.specs.State.Values.{LeafValue, Node, leaf_node, dir_node}
-use Rattle.tree_model.specs.State.Leaf.{waiting_item}
-use Rattle.tree_model.specs.Turns.HartTurn.{leaf_step}
-use Rattle.tree_model.specs.Turns.Machine.{named_by}
-use Rattle.tree_model.specs.Turns.Tree.{bus_of_number, leaf_of_number}
+use Rattle.ddm_tree.specs.DdmTypes.declared.answers.BusyCause.{BusyCause}
+use Rattle.ddm_tree.specs.DdmTypes.declared.answers.LogEntry.{LogEntry}
+use Rattle.ddm_tree.specs.DdmTypes.declared.answers.TurnAnswer.{TurnAnswer}
+use Rattle.ddm_tree.specs.DdmTypes.declared.answers.TxKind.{TxKind}
+use Rattle.ddm_tree.specs.DdmTypes.declared.operations.HaltCause.{HaltCause}
+use Rattle.ddm_tree.specs.DdmTypes.declared.keys.Key.{Key}
+use Rattle.ddm_tree.specs.DdmTypes.declared.turns.Turn.{Turn}
+use Rattle.ddm_tree.specs.DdmTypes.CodeMap.{CodeWord}
+use Rattle.ddm_tree.specs.DdmTypes.ItemTable.{ItemTable}
+use Rattle.ddm_tree.specs.TreeModel.State.Values.{LeafValue, Node, leaf_node, dir_node}
+use Rattle.ddm_tree.specs.TreeModel.State.Leaf.{waiting_item}
+use Rattle.ddm_tree.specs.TreeModel.Turns.HartTurn.{leaf_step}
+use Rattle.ddm_tree.specs.TreeModel.Turns.Machine.{named_by}
+use Rattle.ddm_tree.specs.TreeModel.Turns.Tree.{bus_of_number, leaf_of_number}
 use Rattle.ddm_tree.specs.declared.idle.Idle.{Idle}
 use Rattle.ddm_tree.specs.Path.{node_at}
 use Rattle.ddm_tree.specs.Quiet.{IsNoneOf, touches_child}

@@ -3,13 +3,13 @@
 -- To be believed with the contracts: it is what a read state is judged by.
 use Rattle.std.specs.Prelude.{◌≡◌, ℕ, Bool, true, not, ◌&&◌, ◌||◌, nat_eq, List, find, Option, Some, None, if◌then◌else◌}
 use Rattle.std.specs.List.{range_with_len}
-use Rattle.tree_model.specs.State.Values.{DirValue, Node, leaf_node, dir_node, children}
-use Rattle.tree_model.specs.State.Directory.{is_top}
-use Rattle.tree_model.specs.State.Rooms.{all_within}
-use Rattle.tree_model.specs.State.Shape.{skeleton, widths_fit}
-use Rattle.tree_rules.specs.Bus.Faces.{parent_face, faces_of}
-use Rattle.tree_rules.specs.Bus.Item.{bits_of, top_holds}
-use Rattle.tree_rules.specs.Bus.Rules.{item_holds_at, kept_places}
+use Rattle.ddm_tree.specs.TreeModel.State.Values.{DirValue, Node, leaf_node, dir_node, children}
+use Rattle.ddm_tree.specs.TreeModel.State.Directory.{is_top}
+use Rattle.ddm_tree.specs.TreeModel.State.Rooms.{all_within}
+use Rattle.ddm_tree.specs.TreeModel.State.Shape.{skeleton, widths_fit}
+use Rattle.ddm_tree.specs.TreeRules.Bus.Faces.{parent_face, faces_of}
+use Rattle.ddm_tree.specs.TreeRules.Bus.Item.{bits_of, top_holds}
+use Rattle.ddm_tree.specs.TreeRules.Bus.Rules.{item_holds_at, kept_places}
 
 -- the item keeps the rules of the bus, and over the top's bus, where the level is 0, that of the top
 unfoldable pub keeps_rules : DirValue → List Node → ℕ → Bool

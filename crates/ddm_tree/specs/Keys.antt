@@ -2,10 +2,10 @@
 -- Letters: depth is how many levels of buses the tree has, now the present key of the leaf, o an operation.
 -- To be believed with the contracts: it is what the calls that judge keys give.
 use Rattle.std.specs.Prelude.{◌≡◌, ℕ, ◌<◌, Bool, true, ◌&&◌, nat_lt, List, length, Option, Some, None, slice_get, slice_set, if◌then◌else◌}
-use Rattle.ddm_types.specs.declared.keys.Key.{Key}
-use Rattle.ddm_types.specs.declared.operations.Op.{Op}
-use Rattle.ddm_types.specs.Keys.{key_numbers, key_less}
-use Rattle.tree_rules.specs.Order.Moments.{less, key_path, same_numbers}
+use Rattle.ddm_tree.specs.DdmTypes.declared.keys.Key.{Key}
+use Rattle.ddm_tree.specs.DdmTypes.declared.operations.Op.{Op}
+use Rattle.ddm_tree.specs.DdmTypes.Keys.{key_numbers, key_less}
+use Rattle.ddm_tree.specs.TreeRules.Order.Moments.{less, key_path, same_numbers}
 
 -- it has the leaf's path, and is less than its present key
 unfoldable pub is_key_before : ℕ → Key → Key → Bool

@@ -1,3 +1,18 @@
+pub mod BusJudging
+pub mod BusLaws
+pub mod DdmText
+pub mod DdmTypes
+pub mod DirectoryCrate
+pub mod FlatModel
+pub mod ItemStates
+pub mod OrderLaws
+pub mod RvHart
+pub mod SplitBus
+pub mod StateJudging
+pub mod StateReading
+pub mod StateWords
+pub mod TreeModel
+pub mod TreeRules
 pub mod Path
 pub mod Counts
 pub mod Ready
@@ -16,3 +31,4 @@ pub mod Stamps
 pub mod Keys
 pub mod ReadBack
 pub mod Parts
+pub mod Opened

@@ -4,18 +4,18 @@
 -- To be believed with the contracts: they speak of it.
 use Rattle.std.specs.Prelude.{◌≡◌, ℕ, ◌+◌, ◌-◌, ◌<◌, Bool, true, ◌&&◌, nat_le, List, [], ◌∷◌, ◌++◌, replicate, Option, Some, slice_get}
 use Rattle.std.specs.List.{list_all}
-use Rattle.ddm_types.specs.declared.answers.TurnAnswer.{TurnAnswer}
-use Rattle.ddm_types.specs.declared.operations.Op.{Op}
-use Rattle.ddm_types.specs.declared.sizes.TreeCounts.{TreeCounts}
-use Rattle.ddm_types.specs.declared.turns.Turn.{Turn}
-use Rattle.ddm_types.specs.CodeMap.{CodeWord}
-use Rattle.ddm_types.specs.ItemTable.{ItemTable, item_count}
-use Rattle.tree_model.specs.declared.Traffic.{Traffic}
-use Rattle.tree_model.specs.State.Values.{DirValue, Node, MachineValue, nodes, root_of}
-use Rattle.tree_model.specs.State.Rooms.{all_within}
-use Rattle.tree_model.specs.State.Shape.{IsShaped, skeleton, tree_counts}
-use Rattle.tree_model.specs.Turns.Machine.{bus_turn_of, named_by, no_traffic, traffic_with, turn_of}
-use Rattle.tree_model.specs.Turns.Tree.{Name, leaf_of_number, bus_of_number, has_node}
+use Rattle.ddm_tree.specs.DdmTypes.declared.answers.TurnAnswer.{TurnAnswer}
+use Rattle.ddm_tree.specs.DdmTypes.declared.operations.Op.{Op}
+use Rattle.ddm_tree.specs.DdmTypes.declared.sizes.TreeCounts.{TreeCounts}
+use Rattle.ddm_tree.specs.DdmTypes.declared.turns.Turn.{Turn}
+use Rattle.ddm_tree.specs.DdmTypes.CodeMap.{CodeWord}
+use Rattle.ddm_tree.specs.DdmTypes.ItemTable.{ItemTable, item_count}
+use Rattle.ddm_tree.specs.TreeModel.declared.Traffic.{Traffic}
+use Rattle.ddm_tree.specs.TreeModel.State.Values.{DirValue, Node, MachineValue, nodes, root_of}
+use Rattle.ddm_tree.specs.TreeModel.State.Rooms.{all_within}
+use Rattle.ddm_tree.specs.TreeModel.State.Shape.{IsShaped, skeleton, tree_counts}
+use Rattle.ddm_tree.specs.TreeModel.Turns.Machine.{bus_turn_of, named_by, no_traffic, traffic_with, turn_of}
+use Rattle.ddm_tree.specs.TreeModel.Turns.Tree.{Name, leaf_of_number, bus_of_number, has_node}
 use Rattle.ddm_tree.specs.Counts.{counts_within}
 use Rattle.ddm_tree.specs.Path.{node_at}
 use Rattle.ddm_tree.specs.Ready.{words_are, HasChild, Leads}

@@ -1,5 +1,5 @@
 -- A name as the code has it.
-use Rattle.tree_model.specs.Turns.Tree.{Name, leaf_of_number, bus_of_number}
+use Rattle.ddm_tree.specs.TreeModel.Turns.Tree.{Name, leaf_of_number, bus_of_number}
 use Rattle.ddm_tree.specs.declared.named.Named.{Named}
 
 abbrev pub name_of : Named → Name

@@ -3,18 +3,18 @@
 -- To be believed with the contracts: it is what the calls that read give.
 use Rattle.std.specs.Prelude.{◌≡◌, ℕ, Bool, true, List, [], drop, length, map, slice_set, Some, Result, Ok, Err, if◌then◌else◌}
 use Rattle.std.specs.List.{range_with_len}
-use Rattle.ddm_types.specs.declared.operations.Op.{Op}
-use Rattle.ddm_types.specs.ItemTable.{item_count}
-use Rattle.tree_model.specs.declared.Traffic.{Traffic}
-use Rattle.tree_model.specs.State.Values.{LeafValue, MachineValue, root_of}
-use Rattle.tree_model.specs.State.Rooms.{all_within}
-use Rattle.tree_model.specs.State.Shape.{depth_of, frame_of, skeleton, tree_counts}
-use Rattle.tree_model.specs.Turns.Machine.{machine_leaves, with_root}
-use Rattle.tree_model.specs.Turns.Tree.{Name}
-use Rattle.state_reading.specs.declared.StateRefusal.{StateRefusal}
-use Rattle.state_reading.specs.Reading.{Read, times}
-use Rattle.state_reading.specs.Parts.{read_hart, read_leaf, read_op, read_traffic}
-use Rattle.state_reading.specs.Machine.{BusRead, bus_dir, bus_traffic, read_buses, read_each, refilled}
+use Rattle.ddm_tree.specs.DdmTypes.declared.operations.Op.{Op}
+use Rattle.ddm_tree.specs.DdmTypes.ItemTable.{item_count}
+use Rattle.ddm_tree.specs.TreeModel.declared.Traffic.{Traffic}
+use Rattle.ddm_tree.specs.TreeModel.State.Values.{LeafValue, MachineValue, root_of}
+use Rattle.ddm_tree.specs.TreeModel.State.Rooms.{all_within}
+use Rattle.ddm_tree.specs.TreeModel.State.Shape.{depth_of, frame_of, skeleton, tree_counts}
+use Rattle.ddm_tree.specs.TreeModel.Turns.Machine.{machine_leaves, with_root}
+use Rattle.ddm_tree.specs.TreeModel.Turns.Tree.{Name}
+use Rattle.ddm_tree.specs.StateReading.declared.StateRefusal.{StateRefusal}
+use Rattle.ddm_tree.specs.StateReading.Reading.{Read, times}
+use Rattle.ddm_tree.specs.StateReading.Parts.{read_hart, read_leaf, read_op, read_traffic}
+use Rattle.ddm_tree.specs.StateReading.Machine.{BusRead, bus_dir, bus_traffic, read_buses, read_each, refilled}
 use Rattle.state_judging.specs.Read.{CanRead}
 use Rattle.ddm_tree.specs.declared.section.Section.{Section}
 use Rattle.ddm_tree.specs.Machine.{listed_path}

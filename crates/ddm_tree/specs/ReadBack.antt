@@ -2,12 +2,12 @@
 -- Letters: n is a node, v a leaf, d the directory over the nodes ns, k the number of the next word, ws are the words from it on.
 -- To be believed with the contracts: it is what the calls that read give.
 use Rattle.std.specs.Prelude.{◌≡◌, ℕ, List, drop, length, slice_set, Result, Ok, Err}
-use Rattle.tree_model.specs.State.Values.{Node, leaf_node, dir_node, children}
-use Rattle.tree_model.specs.Turns.Children.{child_at}
-use Rattle.tree_model.specs.Turns.Tree.{Name, leaf_of_number, bus_of_number}
-use Rattle.state_reading.specs.declared.StateRefusal.{StateRefusal}
-use Rattle.state_reading.specs.Reading.{Read, and_then, given}
-use Rattle.state_reading.specs.Parts.{read_hart, read_leaf, read_dir}
+use Rattle.ddm_tree.specs.TreeModel.State.Values.{Node, leaf_node, dir_node, children}
+use Rattle.ddm_tree.specs.TreeModel.Turns.Children.{child_at}
+use Rattle.ddm_tree.specs.TreeModel.Turns.Tree.{Name, leaf_of_number, bus_of_number}
+use Rattle.ddm_tree.specs.StateReading.declared.StateRefusal.{StateRefusal}
+use Rattle.ddm_tree.specs.StateReading.Reading.{Read, and_then, given}
+use Rattle.ddm_tree.specs.StateReading.Parts.{read_hart, read_leaf, read_dir}
 use Rattle.ddm_tree.specs.declared.section.Section.{Section}
 use Rattle.ddm_tree.specs.Path.{node_at, put_at}
 

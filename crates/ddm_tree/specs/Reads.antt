@@ -2,26 +2,26 @@
 -- Letters: n is a node, v a leaf, d a directory over the nodes ns, x an item, c a child.
 -- To be believed with the contracts: it is what the calls that read give.
 use Rattle.std.specs.Prelude.{ℕ, Bool, true, false, not, ◌&&◌, List, [], length, map, Option, Some, None, is_none, option_map, slice_get}
-use Rattle.ddm_types.specs.declared.keys.Stamp.{Stamp}
-use Rattle.ddm_types.specs.declared.sizes.Hold.{Hold}
-use Rattle.ddm_types.specs.declared.sizes.LeafState.{LeafState}
-use Rattle.ddm_types.specs.declared.turns.Turn.{Turn}
-use Rattle.rv_hart.specs.HartState.{HartState}
-use Rattle.tree_model.specs.declared.BusTurn.{BusTurn}
-use Rattle.tree_model.specs.declared.CopyPlace.{CopyPlace}
-use Rattle.tree_model.specs.declared.LeafSpot.{LeafSpot}
-use Rattle.tree_model.specs.declared.TreeChild.{TreeChild}
-use Rattle.tree_model.specs.State.Lists.{first_some}
-use Rattle.tree_model.specs.State.States.{is_held}
-use Rattle.tree_model.specs.State.Values.{DownValue, DirValue, Node, leaf_node, dir_node, nodes, children, MachineValue}
-use Rattle.tree_model.specs.State.Blank.{no_hart}
-use Rattle.tree_model.specs.State.Leaf.{LeafEntry, leaf_entry, spot_at, state_at}
-use Rattle.tree_model.specs.State.Directory.{dir_hold, parked_words, parked_place, pending, queue_of}
-use Rattle.tree_model.specs.State.Child.{child_label, child_hold}
-use Rattle.tree_model.specs.Turns.Bus.{bus_step}
-use Rattle.tree_model.specs.Turns.Children.{child_at}
-use Rattle.tree_model.specs.Turns.Found.{down_place, queue_words}
-use Rattle.tree_model.specs.Turns.Machine.{ask_leaf, ask_bus, leaves_of, leaves_among}
+use Rattle.ddm_tree.specs.DdmTypes.declared.keys.Stamp.{Stamp}
+use Rattle.ddm_tree.specs.DdmTypes.declared.sizes.Hold.{Hold}
+use Rattle.ddm_tree.specs.DdmTypes.declared.sizes.LeafState.{LeafState}
+use Rattle.ddm_tree.specs.DdmTypes.declared.turns.Turn.{Turn}
+use Rattle.ddm_tree.specs.RvHart.HartState.{HartState}
+use Rattle.ddm_tree.specs.TreeModel.declared.BusTurn.{BusTurn}
+use Rattle.ddm_tree.specs.TreeModel.declared.CopyPlace.{CopyPlace}
+use Rattle.ddm_tree.specs.TreeModel.declared.LeafSpot.{LeafSpot}
+use Rattle.ddm_tree.specs.TreeModel.declared.TreeChild.{TreeChild}
+use Rattle.ddm_tree.specs.TreeModel.State.Lists.{first_some}
+use Rattle.ddm_tree.specs.TreeModel.State.States.{is_held}
+use Rattle.ddm_tree.specs.TreeModel.State.Values.{DownValue, DirValue, Node, leaf_node, dir_node, nodes, children, MachineValue}
+use Rattle.ddm_tree.specs.TreeModel.State.Blank.{no_hart}
+use Rattle.ddm_tree.specs.TreeModel.State.Leaf.{LeafEntry, leaf_entry, spot_at, state_at}
+use Rattle.ddm_tree.specs.TreeModel.State.Directory.{dir_hold, parked_words, parked_place, pending, queue_of}
+use Rattle.ddm_tree.specs.TreeModel.State.Child.{child_label, child_hold}
+use Rattle.ddm_tree.specs.TreeModel.Turns.Bus.{bus_step}
+use Rattle.ddm_tree.specs.TreeModel.Turns.Children.{child_at}
+use Rattle.ddm_tree.specs.TreeModel.Turns.Found.{down_place, queue_words}
+use Rattle.ddm_tree.specs.TreeModel.Turns.Machine.{ask_leaf, ask_bus, leaves_of, leaves_among}
 use Rattle.split_bus.specs.Outcomes.{is_granted}
 
 -- a leaf's hart, with how many instructions it has completed

@@ -2,14 +2,14 @@
 -- Letters: n is a node, d a directory over the nodes ns.
 -- To be believed with the contracts: it says which machines a call takes.
 use Rattle.std.specs.Prelude.{◌≡◌, ℕ, ◌<◌, ◌^◌, Bool, true, ◌&&◌, nat_eq, List, [], length, Some, ⊤}
-use Rattle.tree_model.specs.declared.BusTurn.{BusTurn}
-use Rattle.tree_model.specs.State.Values.{Node, leaf_node, dir_node, children}
-use Rattle.tree_model.specs.State.Rooms.{all_within}
-use Rattle.tree_model.specs.State.Shape.{Skeleton, Skeletons, leaf_bone, dir_bone, no_bones, more_bones, skeleton, widths_fit}
-use Rattle.tree_model.specs.Turns.Tree.{Name}
-use Rattle.tree_model.specs.Turns.Children.{child_at}
-use Rattle.tree_rules.specs.Bus.Rules.{IsTreeOk}
-use Rattle.item_states.specs.Parts.{node_items}
+use Rattle.ddm_tree.specs.TreeModel.declared.BusTurn.{BusTurn}
+use Rattle.ddm_tree.specs.TreeModel.State.Values.{Node, leaf_node, dir_node, children}
+use Rattle.ddm_tree.specs.TreeModel.State.Rooms.{all_within}
+use Rattle.ddm_tree.specs.TreeModel.State.Shape.{Skeleton, Skeletons, leaf_bone, dir_bone, no_bones, more_bones, skeleton, widths_fit}
+use Rattle.ddm_tree.specs.TreeModel.Turns.Tree.{Name}
+use Rattle.ddm_tree.specs.TreeModel.Turns.Children.{child_at}
+use Rattle.ddm_tree.specs.TreeRules.Bus.Rules.{IsTreeOk}
+use Rattle.ddm_tree.specs.ItemStates.Parts.{node_items}
 use Rattle.split_bus.specs.Outcomes.{NamesOneOf}
 use Rattle.ddm_tree.specs.Path.{path_to}
 use Rattle.ddm_tree.specs.Counts.{counts_within}

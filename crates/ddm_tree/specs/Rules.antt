@@ -1,11 +1,11 @@
 -- The rules that a machine keeps from its first turn on, and what a turn keeps of the order of its witness.
 -- Letters: m is a machine, s a flat machine.
 -- To be believed with the contracts: they say what whoever holds a machine can rely on.
-use Rattle.flat_model.specs.Flat.{FlatMachine}
-use Rattle.tree_model.specs.State.Values.{MachineValue}
-use Rattle.tree_rules.specs.Bus.Rules.{IsMachineOk}
-use Rattle.tree_rules.specs.Order.Rules.{IsTimed, IsCore}
-use Rattle.tree_rules.specs.Witness.{IsWitnessed}
+use Rattle.ddm_tree.specs.FlatModel.Flat.{FlatMachine}
+use Rattle.ddm_tree.specs.TreeModel.State.Values.{MachineValue}
+use Rattle.ddm_tree.specs.TreeRules.Bus.Rules.{IsMachineOk}
+use Rattle.ddm_tree.specs.TreeRules.Order.Rules.{IsTimed, IsCore}
+use Rattle.ddm_tree.specs.TreeRules.Witness.{IsWitnessed}
 
 -- the rules of every bus, and those of time
 unfoldable pub KeepsRules : MachineValue → Type 0

@@ -4,10 +4,10 @@
 -- To be believed with the contracts: it is what the calls that write give.
 use Rattle.std.specs.Prelude.{ℕ, List, [], ◌++◌, length}
 use Rattle.std.specs.List.{flat_map, range_with_len}
-use Rattle.tree_model.specs.State.Values.{LeafValue, Node, leaf_node, dir_node, MachineValue}
-use Rattle.tree_model.specs.Turns.Machine.{ask_leaf, ask_bus, machine_leaves}
-use Rattle.state_words.specs.Parts.{dir_words, hart_words, leaf_words}
-use Rattle.state_words.specs.Machine.{bus_words, words_or_none}
+use Rattle.ddm_tree.specs.TreeModel.State.Values.{LeafValue, Node, leaf_node, dir_node, MachineValue}
+use Rattle.ddm_tree.specs.TreeModel.Turns.Machine.{ask_leaf, ask_bus, machine_leaves}
+use Rattle.ddm_tree.specs.StateWords.Parts.{dir_words, hart_words, leaf_words}
+use Rattle.ddm_tree.specs.StateWords.Machine.{bus_words, words_or_none}
 
 -- these words of a leaf
 abbrev pub node_words : (LeafValue → List ℕ) → Node → List ℕ

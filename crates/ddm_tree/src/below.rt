@@ -1,13 +1,13 @@
 ghost use Rattle.std.specs.Prelude.{◌≡◌, ℕ, ◌+◌, ◌*◌, ◌<◌, ◌≤◌, ◌++◌, All, true, length, map, slice_set, take};
-ghost use Rattle.ddm_types.specs.declared.keys.Stamp.{Stamp};
-ghost use Rattle.tree_model.specs.State.Values.{DirValue, dir_node, nodes};
-ghost use Rattle.tree_model.specs.State.Shape.{skeleton, widths_fit};
-ghost use Rattle.tree_model.specs.State.Directory.{stamp_of};
-ghost use Rattle.ddm_types.specs.ItemTable.{item_count};
-ghost use Rattle.tree_model.specs.Turns.Machine.{named_by, bus_turn_of};
-ghost use Rattle.tree_model.specs.Turns.Children.{child_at};
-ghost use Rattle.tree_model.specs.Turns.Tree.{leaf_of_number, bus_of_number};
-ghost use Rattle.item_states.specs.Parts.{node_items};
+ghost use Rattle.ddm_tree.specs.DdmTypes.declared.keys.Stamp.{Stamp};
+ghost use Rattle.ddm_tree.specs.TreeModel.State.Values.{DirValue, dir_node, nodes};
+ghost use Rattle.ddm_tree.specs.TreeModel.State.Shape.{skeleton, widths_fit};
+ghost use Rattle.ddm_tree.specs.TreeModel.State.Directory.{stamp_of};
+ghost use Rattle.ddm_tree.specs.DdmTypes.ItemTable.{item_count};
+ghost use Rattle.ddm_tree.specs.TreeModel.Turns.Machine.{named_by, bus_turn_of};
+ghost use Rattle.ddm_tree.specs.TreeModel.Turns.Children.{child_at};
+ghost use Rattle.ddm_tree.specs.TreeModel.Turns.Tree.{leaf_of_number, bus_of_number};
+ghost use Rattle.ddm_tree.specs.ItemStates.Parts.{node_items};
 ghost use Rattle.split_bus.specs.Outcomes.{goes_on_with};
 ghost use Rattle.ddm_tree.specs.Path.{node_at, present_at, put_at, node_answer, node_turned};
 ghost use Rattle.ddm_tree.specs.Judging.{IsJudged};
@@ -16,14 +16,16 @@ ghost use Rattle.ddm_tree.specs.Ready.{IsAskable, IsReady, Leads, LeadsBelow, Ha
 ghost use Rattle.ddm_tree.specs.Reads.{leaf_count_among, node_hart, node_entry, node_children, node_child, node_child_hold, node_down, node_down_len, node_grants, node_parked, node_state, states_among};
 
 use crate::named::Named;
+use crate::of_ddm_types::{
+    BusNo, ChildNo, Hold, ItemId, LeafNo, LeafState, Stamp, TurnAnswer, Words,
+};
+use crate::of_item_states::{DownEntry, Parent};
+use crate::of_rv_hart::Hart;
+use crate::of_tree_model::{BusTurn, LeafSpot, TreeChild};
 use crate::subtree::Subtree;
 use crate::turn_call::TurnCall;
 use crate::turns::on_bus;
-use ddm_types::{BusNo, ChildNo, Hold, ItemId, LeafNo, LeafState, Stamp, TurnAnswer, Words};
-use item_states::{DownEntry, Parent};
-use rv_hart::Hart;
 use split_bus::{grant_into, would_grant};
-use tree_model::{BusTurn, LeafSpot, TreeChild};
 
 /// The child of a directory that a path leads to, and the rest of the path.
 pub(crate) fn next<'a, 'b, const WORDS: usize, P: Parent<WORDS>, C: Subtree<WORDS>>(

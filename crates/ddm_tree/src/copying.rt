@@ -1,6 +1,6 @@
 ghost use Rattle.std.specs.Prelude.{◌≡◌, ℕ, ◌+◌, ◌-◌, ◌<◌, ◌≤◌, ◌^◌, length, map, min, slice_set};
-ghost use Rattle.tree_model.specs.State.Values.{dir_node, nodes};
-ghost use Rattle.tree_model.specs.Turns.Children.{child_at};
+ghost use Rattle.ddm_tree.specs.TreeModel.State.Values.{dir_node, nodes};
+ghost use Rattle.ddm_tree.specs.TreeModel.Turns.Children.{child_at};
 ghost use Rattle.ddm_tree.specs.Copying.{AreAlike, CanCopy, copied};
 
 use crate::idle::forget_all;

@@ -1,8 +1,8 @@
 ghost use Rattle.std.specs.Prelude.{◌≡◌, ◌<◌, None, true, drop, map};
-ghost use Rattle.ddm_types.specs.declared.answers.TxKind.TheVariants.{DataTx, InjectTx};
-ghost use Rattle.tree_model.specs.State.Values.{dir_node, nodes};
-ghost use Rattle.tree_model.specs.State.Child.{child_full_for, child_take_data, child_take_inject, reader_has_place};
-ghost use Rattle.item_states.specs.Parts.{node_items};
+ghost use Rattle.ddm_tree.specs.DdmTypes.declared.answers.TxKind.TheVariants.{DataTx, InjectTx};
+ghost use Rattle.ddm_tree.specs.TreeModel.State.Values.{dir_node, nodes};
+ghost use Rattle.ddm_tree.specs.TreeModel.State.Child.{child_full_for, child_take_data, child_take_inject, reader_has_place};
+ghost use Rattle.ddm_tree.specs.ItemStates.Parts.{node_items};
 
 use crate::below::{
     child_under, children_under, down_len_under, down_under, entry_under, grants_under, hart_under,
@@ -14,6 +14,16 @@ use crate::idle::{Idle, leaf_under, rest_under};
 use crate::judging::broken_under;
 use crate::marking::mark_exclusive;
 use crate::named::Named;
+use crate::of_bus_judging::ChildFace;
+use crate::of_ddm_types::{
+    BusNo, ChildNo, Hold, ItemId, LeafNo, LeafState, NoMemory, PendingWhy, QueueName, Stamp,
+    TurnAnswer, TxKind, Words,
+};
+use crate::of_directory::DirState;
+use crate::of_item_states::{Agent, DownEntry, Parent};
+use crate::of_rv_hart::Hart;
+use crate::of_state_reading::StateRefusal;
+use crate::of_tree_model::{BusTurn, LeafSpot, TreeChild};
 use crate::paths::path_up_under;
 use crate::quiet::{Quiet, learn_down_of, learn_under};
 use crate::read_back::read_under;
@@ -23,17 +33,7 @@ use crate::subtree::Subtree;
 use crate::turn_call::TurnCall;
 use crate::unheld::{is_without, unheld_states_under};
 use crate::writing::{ways_among, write_hart_under, write_leaf_under, write_part_under};
-use bus_judging::ChildFace;
-use ddm_types::{
-    BusNo, ChildNo, Hold, ItemId, LeafNo, LeafState, NoMemory, PendingWhy, QueueName, Stamp,
-    TurnAnswer, TxKind, Words,
-};
-use directory::DirState;
-use item_states::{Agent, DownEntry, Parent};
-use rv_hart::Hart;
-use state_reading::StateRefusal;
 use std::alloc::Global;
-use tree_model::{BusTurn, LeafSpot, TreeChild};
 
 /// A directory over its children.
 #[derive(Drop)]

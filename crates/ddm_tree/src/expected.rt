@@ -1,7 +1,7 @@
 ghost use Rattle.std.specs.Prelude.{◌≡◌, ◌≤◌, ◌<◌, ◌^◌, Ok, Err, drop, length, nat_eq, IfErr, OnOk};
-ghost use Rattle.state_reading.specs.Reading.{word_that};
+ghost use Rattle.ddm_tree.specs.StateReading.Reading.{word_that};
 
-use state_reading::{StateRefusal, keep, look};
+use crate::of_state_reading::{StateRefusal, keep, look};
 
 /// The next word, which has to be this one.
 pub(crate) fn expect_word(words: &[u32], at: &mut u32, word: u32) -> Result<(), StateRefusal>

@@ -1,16 +1,16 @@
 ghost use Rattle.std.specs.Prelude.{◌≡◌, ◌<◌, All, length, map, option_map};
-ghost use Rattle.tree_model.specs.State.States.{is_held};
-ghost use Rattle.tree_model.specs.State.Values.{nodes};
-ghost use Rattle.tree_model.specs.Turns.Found.{found_of, place_among, place_at, words_among};
+ghost use Rattle.ddm_tree.specs.TreeModel.State.States.{is_held};
+ghost use Rattle.ddm_tree.specs.TreeModel.State.Values.{nodes};
+ghost use Rattle.ddm_tree.specs.TreeModel.Turns.Found.{found_of, place_among, place_at, words_among};
 ghost use Rattle.ddm_tree.specs.Reads.{own_place, own_words};
 ghost use Rattle.ddm_tree.specs.Ready.{IsItemIn};
 
+use crate::of_ddm_types::{Hold, ItemId, LeafNo, Words};
+use crate::of_directory::DirState;
+use crate::of_item_states::Parent;
+use crate::of_tree_model::{CopyPlace, LeafSpot};
 use crate::subtree::Subtree;
-use ddm_types::{Hold, ItemId, LeafNo, Words};
-use directory::DirState;
-use item_states::Parent;
 use std::marker::Model;
-use tree_model::{CopyPlace, LeafSpot};
 
 /// A copy of an item: where it stands, and its words.
 #[derive(Clone, Copy)]
@@ -20,7 +20,7 @@ pub struct Found<const WORDS: usize> {
 }
 
 impl<const WORDS: usize> Model for Found<WORDS> {
-    ghost use Rattle.tree_model.specs.Turns.Found.{FoundValue};
+    ghost use Rattle.ddm_tree.specs.TreeModel.Turns.Found.{FoundValue};
 
     ghost Value = { FoundValue };
 

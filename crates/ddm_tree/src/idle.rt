@@ -1,8 +1,8 @@
 ghost use Rattle.std.specs.Prelude.{◌≡◌, ◌⊎◌, ℕ, [], ◌∷◌, ◌++◌, Some, None, false, IfOk, IfSome, length, map, slice_get, slice_set, vec_items};
-ghost use Rattle.tree_model.specs.declared.TreeChild.{TreeChild};
-ghost use Rattle.tree_model.specs.State.Values.{DirValue, dir_node, nodes};
-ghost use Rattle.tree_model.specs.Turns.Machine.{named_by};
-ghost use Rattle.tree_model.specs.Turns.Tree.{bus_of_number, leaf_of_number};
+ghost use Rattle.ddm_tree.specs.TreeModel.declared.TreeChild.{TreeChild};
+ghost use Rattle.ddm_tree.specs.TreeModel.State.Values.{DirValue, dir_node, nodes};
+ghost use Rattle.ddm_tree.specs.TreeModel.Turns.Machine.{named_by};
+ghost use Rattle.ddm_tree.specs.TreeModel.Turns.Tree.{bus_of_number, leaf_of_number};
 ghost use Rattle.ddm_tree.specs.Idle.{AreNoted, IsNoChild, IsNothing, AreSeen, NoneChanges, IsLooked, IsLookedAfter, IsSeen, answered_by, idle_answer, idle_for, idle_there, idle_told, may_change, node_rests, rests_by, with_idle};
 ghost use Rattle.ddm_tree.specs.Path.{node_at};
 ghost use Rattle.ddm_tree.specs.Quiet.{HartsAgree, IsNoneOf, KeepsBuses, idle_as};
@@ -10,14 +10,14 @@ ghost use Rattle.ddm_tree.specs.Ready.{Leads};
 
 use crate::machine::named;
 use crate::named::Named;
-use crate::quiet::{Quiet, note_hart, two_touched};
-use crate::subtree::Subtree;
-use ddm_types::{
+use crate::of_ddm_types::{
     BusyCause, ChildNo, HaltCause, ItemId, LeafNo, LogEntry, NoMemory, Turn, TurnAnswer, TxKind,
 };
+use crate::of_tree_model::TreeChild;
+use crate::quiet::{Quiet, note_hart, two_touched};
+use crate::subtree::Subtree;
 use std::alloc::Global;
 use std::marker::Model;
-use tree_model::TreeChild;
 
 /// Why a turn of a hart changes nothing, and none will before its bus tells its leaf something.
 #[derive(Clone, Copy)]

@@ -1,17 +1,17 @@
 ghost use Rattle.std.specs.Prelude.{◌≡◌, None, length, true};
 ghost use Rattle.std.specs.List.{range_with_len};
-ghost use Rattle.tree_model.specs.Turns.Machine.{ask_bus};
-ghost use Rattle.tree_model.specs.Turns.Tree.{bus_of_number};
+ghost use Rattle.ddm_tree.specs.TreeModel.Turns.Machine.{ask_bus};
+ghost use Rattle.ddm_tree.specs.TreeModel.Turns.Tree.{bus_of_number};
 ghost use Rattle.state_judging.specs.Judged.{broken_among, broken_item, or_none};
 ghost use Rattle.ddm_tree.specs.Machine.{is_part};
 
 use crate::judging::broken_under;
 use crate::machine::path_of;
 use crate::named::Named;
+use crate::of_ddm_types::{BusNo, ItemId};
+use crate::of_state_reading::StateRefusal;
 use crate::parts::Parts;
 use crate::subtree::Subtree;
-use ddm_types::{BusNo, ItemId};
-use state_reading::StateRefusal;
 
 impl<const WORDS: usize, C: Subtree<WORDS>> Parts<WORDS, C> {
     /// The least item that breaks a rule of a bus: item 0 where places aren't kept. It takes no memory.

@@ -1,20 +1,20 @@
 ghost use Rattle.std.specs.Prelude.{◌≡◌, ◌||◌, ◌<◌, ◌≤◌, ◌+◌, ◌^◌, ◌++◌, ◌∷◌, [], List, All, length, map, nat_eq};
-ghost use Rattle.tree_model.specs.State.Directory.{dir_note, in_set, is_eraser, is_reader, is_up_erase, note_why};
-ghost use Rattle.tree_model.specs.State.Values.{Note, dir_node, nodes};
-ghost use Rattle.tree_model.specs.Turns.Tree.{bus_of_number};
-ghost use Rattle.tree_rules.specs.Bus.Faces.{ChildFace as Face, child_face, faces_of};
-ghost use Rattle.item_states.specs.Parts.{joined_in, node_items};
-ghost use Rattle.bus_judging.specs.Children.{facts_among};
+ghost use Rattle.ddm_tree.specs.TreeModel.State.Directory.{dir_note, in_set, is_eraser, is_reader, is_up_erase, note_why};
+ghost use Rattle.ddm_tree.specs.TreeModel.State.Values.{Note, dir_node, nodes};
+ghost use Rattle.ddm_tree.specs.TreeModel.Turns.Tree.{bus_of_number};
+ghost use Rattle.ddm_tree.specs.TreeRules.Bus.Faces.{ChildFace as Face, child_face, faces_of};
+ghost use Rattle.ddm_tree.specs.ItemStates.Parts.{joined_in, node_items};
+ghost use Rattle.ddm_tree.specs.BusJudging.Children.{facts_among};
 ghost use Rattle.ddm_tree.specs.Judging.{IsJudged, first_broken, keeps_places, keeps_rules, node_broken};
 ghost use Rattle.ddm_tree.specs.Path.{node_at};
 ghost use Rattle.ddm_tree.specs.Ready.{Leads};
 
 use crate::below::next;
 use crate::named::Named;
+use crate::of_bus_judging::ChildrenFacts;
+use crate::of_ddm_types::{BusNo, ChildNo, ItemId, PendingWhy};
+use crate::of_directory::JudgedParent;
 use crate::subtree::Subtree;
-use bus_judging::ChildrenFacts;
-use ddm_types::{BusNo, ChildNo, ItemId, PendingWhy};
-use directory::JudgedParent;
 
 /// Whether the child is the first reader or one that joined it.
 fn is_among(first: ChildNo, joined: u16, child: u32) -> bool

@@ -1,7 +1,7 @@
 ghost use Rattle.std.specs.Prelude.{◌≡◌, ◌<◌, ◌≤◌, ◌&&◌, nat_eq};
 ghost use Rattle.ddm_tree.specs.Keys.{is_key_before, key_cut};
 
-use ddm_types::Key;
+use crate::of_ddm_types::Key;
 
 /// The key with the numbers of so many levels, and 0 in place of the others.
 fn cut(key: &Key, depth: u32) -> Key

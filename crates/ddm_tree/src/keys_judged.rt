@@ -1,15 +1,15 @@
 ghost use Rattle.std.specs.Prelude.{◌≡◌, ◌<◌, ◌^◌, [], true, IfOk, IfSome, find, length, option_map};
 ghost use Rattle.std.specs.List.{range_with_len};
-ghost use Rattle.state_reading.specs.declared.StateRefusal.TheVariants.{BrokenStamp};
-ghost use Rattle.tree_rules.specs.Order.Places.{dirs_at};
-ghost use Rattle.tree_model.specs.State.Shape.{tree_counts};
+ghost use Rattle.ddm_tree.specs.StateReading.declared.StateRefusal.TheVariants.{BrokenStamp};
+ghost use Rattle.ddm_tree.specs.TreeRules.Order.Places.{dirs_at};
+ghost use Rattle.ddm_tree.specs.TreeModel.State.Shape.{tree_counts};
 ghost use Rattle.ddm_tree.specs.Keys.{comes_behind, IsTaken};
 ghost use Rattle.state_judging.specs.Judged.{broken_key, stamps_broken};
 
+use crate::of_ddm_types::{BusNo, Key, NoMemory, Op};
+use crate::of_state_reading::StateRefusal;
 use crate::parts::Parts;
 use crate::subtree::Subtree;
-use ddm_types::{BusNo, Key, NoMemory, Op};
-use state_reading::StateRefusal;
 use std::alloc::Global;
 use std::collections::BTreeSet;
 

@@ -1,22 +1,22 @@
 use crate::found::{Found, place_at};
 use crate::idle::{Idle, rests_by};
 use crate::named::Named;
+use crate::of_bus_judging::ChildFace;
+use crate::of_ddm_types::{
+    BusNo, ChildNo, Hold, ItemId, LeafNo, LeafState, NoMemory, Stamp, TurnAnswer, Words,
+};
+use crate::of_item_states::DownEntry;
+use crate::of_rv_hart::Hart;
+use crate::of_state_reading::StateRefusal;
+use crate::of_tree_model::{BusTurn, LeafSpot, TreeChild};
 use crate::quiet::Quiet;
 use crate::section::Section;
 use crate::subtree::Subtree;
 use crate::turn_call::TurnCall;
 use crate::turns::{key_on, victim};
 use crate::unheld::unheld_state;
-use bus_judging::ChildFace;
-use ddm_types::{
-    BusNo, ChildNo, Hold, ItemId, LeafNo, LeafState, NoMemory, Stamp, TurnAnswer, Words,
-};
-use item_states::DownEntry;
 use leaf_protocol::Leaf;
-use rv_hart::Hart;
-use state_reading::StateRefusal;
 use std::alloc::Global;
-use tree_model::{BusTurn, LeafSpot, TreeChild};
 
 impl<const WAYS: usize, const WORDS: usize> Subtree<WORDS> for Leaf<WAYS, WORDS> {
     fn label(&self) -> TreeChild {

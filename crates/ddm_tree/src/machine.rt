@@ -1,14 +1,14 @@
 ghost use Rattle.std.specs.Prelude.{◌≡◌, ℕ, List, ◌+◌, ◌*◌, ◌<◌, ◌≤◌, ◌^◌, [], Some, true, false, is_ok, length, map, max, slice_get, vec_items, IfNone, IfOk, IfSome, OnSome, if◌then◌else◌};
-ghost use Rattle.ddm_types.specs.declared.answers.TurnAnswer.TheVariants.{Empty};
-ghost use Rattle.tree_model.specs.Turns.Machine.{named_by, names_part, no_traffic, turn_of};
-ghost use Rattle.ddm_types.specs.Keys.{stamp_zero};
-ghost use Rattle.ddm_types.specs.ItemTable.{item_count};
-ghost use Rattle.tree_model.specs.State.Values.{dir_node, nodes};
+ghost use Rattle.ddm_tree.specs.DdmTypes.declared.answers.TurnAnswer.TheVariants.{Empty};
+ghost use Rattle.ddm_tree.specs.TreeModel.Turns.Machine.{named_by, names_part, no_traffic, turn_of};
+ghost use Rattle.ddm_tree.specs.DdmTypes.Keys.{stamp_zero};
+ghost use Rattle.ddm_tree.specs.DdmTypes.ItemTable.{item_count};
+ghost use Rattle.ddm_tree.specs.TreeModel.State.Values.{dir_node, nodes};
 ghost use Rattle.ddm_tree.specs.Named.{name_of};
 ghost use Rattle.ddm_tree.specs.Path.{node_at, present_at, put_at, node_answer, node_turned};
 ghost use Rattle.ddm_tree.specs.Ready.{IsReady, Leads};
-ghost use Rattle.tree_model.specs.Turns.Tree.{leaf_of_number};
-ghost use Rattle.tree_rules.specs.Bus.Rules.{IsTreeOk};
+ghost use Rattle.ddm_tree.specs.TreeModel.Turns.Tree.{leaf_of_number};
+ghost use Rattle.ddm_tree.specs.TreeRules.Bus.Rules.{IsTreeOk};
 ghost use Rattle.ddm_tree.specs.Rules.{StaysInOrder};
 ghost use Rattle.ddm_tree.specs.Idle.{AreIdle};
 ghost use Rattle.ddm_tree.specs.Quiet.{AreLearnedBelow, AreNear, HartsAgree, IsTouchedBy, is_hart_turn, passed_as};
@@ -17,17 +17,19 @@ ghost use Rattle.ddm_tree.specs.Machine.{IsFound, IsNew, has_path, listed_path, 
 use crate::below::turn_under;
 use crate::idle::{IdleHarts, idle_answer, idle_for, note, nothing_known};
 use crate::named::Named;
+use crate::of_ddm_types::{
+    ChildNo, Code, Items, LeafNo, NoMemory, Stamp, TreeCounts, Turn, TurnAnswer,
+};
+use crate::of_tree_model::Traffic;
 use crate::paths::{bus_paths, leaf_paths};
 use crate::quiet::{Quiet, known_as, near_lists, note_buses, nothing_quiet};
 use crate::record::record;
 use crate::subtree::Subtree;
 use crate::turn_call::TurnCall;
-use ddm_types::{ChildNo, Code, Items, LeafNo, NoMemory, Stamp, TreeCounts, Turn, TurnAnswer};
 use operation_list::Operations;
 use std::alloc::Global;
 use std::marker::Model;
 use top_node::TopState;
-use tree_model::Traffic;
 
 /// The machine: the top over the children of bus 0.
 #[derive(Drop)]
@@ -56,11 +58,11 @@ pub struct Machine<const WORDS: usize, C: Subtree<WORDS>> {
 
 impl<const WORDS: usize, C: Subtree<WORDS>> Model for Machine<WORDS, C> {
     ghost use Rattle.std.specs.Prelude.{◌≡◌, ℕ, List, ◌*◌, ◌≤◌, ◌^◌, ◌<◌, map, vec_items};
-    ghost use Rattle.tree_model.specs.State.Shape.{tree_counts};
+    ghost use Rattle.ddm_tree.specs.TreeModel.State.Shape.{tree_counts};
     ghost use Rattle.ddm_tree.specs.Idle.{AreIdle};
     ghost use Rattle.ddm_tree.specs.Quiet.{AreNear, AreQuiet, HartsAgree};
     ghost use Rattle.ddm_tree.specs.Machine.{MachineState, IsMachine, machine_of};
-    ghost use Rattle.tree_model.specs.State.Values.{dir_node, nodes};
+    ghost use Rattle.ddm_tree.specs.TreeModel.State.Values.{dir_node, nodes};
     ghost use Rattle.ddm_tree.specs.Codes.{machine_code};
 
     ghost Value = { MachineState };

@@ -1,10 +1,10 @@
 ghost use Rattle.std.specs.Prelude.{◌≡◌, ◌<◌, ◌^◌, All, length, map, slice_set, true, if◌then◌else◌};
-ghost use Rattle.tree_model.specs.Start.Nodes.{held_below, held_by, item_is_exclusive, or_each};
-ghost use Rattle.tree_model.specs.State.States.{is_exclusive};
+ghost use Rattle.ddm_tree.specs.TreeModel.Start.Nodes.{held_below, held_by, item_is_exclusive, or_each};
+ghost use Rattle.ddm_tree.specs.TreeModel.State.States.{is_exclusive};
 
+use crate::of_ddm_types::{Hold, ItemId};
+use crate::of_directory::DirState;
 use crate::subtree::Subtree;
-use ddm_types::{Hold, ItemId};
-use directory::DirState;
 
 fn is_exclusive(hold: Hold) -> bool
     ensures { result ≡ is_exclusive hold }

@@ -1,4 +1,4 @@
-use ddm_types::{BusNo, LeafNo};
+use crate::of_ddm_types::{BusNo, LeafNo};
 
 /// The leaf, or the directory over the bus, of this number.
 #[derive(Clone, Copy)]

@@ -1,16 +1,16 @@
 ghost use Rattle.std.specs.Prelude.{◌≡◌, ◌+◌, ◌<◌, ◌≤◌, ◌^◌, ◌++◌, All, IfOk, OnOk, drop, length, map, sum, take, if◌then◌else◌};
 ghost use Rattle.std.specs.Vec.Iter.{into_iter_items, into_iter_len};
-ghost use Rattle.tree_model.specs.Start.Nodes.{cut_in, dir_over, dir_sizes, dirs_over, held_below};
-ghost use Rattle.ddm_types.specs.declared.sizes.Hold.TheVariants.{Exclusive};
-ghost use Rattle.tree_model.specs.State.Directory.{with_hold};
-ghost use Rattle.tree_model.specs.State.Values.{dir_node, nodes};
+ghost use Rattle.ddm_tree.specs.TreeModel.Start.Nodes.{cut_in, dir_over, dir_sizes, dirs_over, held_below};
+ghost use Rattle.ddm_tree.specs.DdmTypes.declared.sizes.Hold.TheVariants.{Exclusive};
+ghost use Rattle.ddm_tree.specs.TreeModel.State.Directory.{with_hold};
+ghost use Rattle.ddm_tree.specs.TreeModel.State.Values.{dir_node, nodes};
 ghost use Rattle.ddm_tree.specs.Holders.{IsHolder};
 
 use crate::dir::Dir;
 use crate::marking::mark_children;
+use crate::of_ddm_types::{BusNo, ItemId, NoMemory, TreeSizes};
+use crate::of_directory::DirState;
 use crate::subtree::Subtree;
-use ddm_types::{BusNo, ItemId, NoMemory, TreeSizes};
-use directory::DirState;
 use std::alloc::Global;
 use std::vec::IntoIter;
 

@@ -1,9 +1,9 @@
 ghost use Rattle.std.specs.Prelude.{◌≡◌, ◌<◌, ◌≤◌, ◌^◌, ℕ, List, Some, true, length, map, vec_items, IfErr, IfOk};
 ghost use Rattle.std.specs.List.{list_all};
-ghost use Rattle.ddm_types.specs.ItemTable.{item_count};
-ghost use Rattle.tree_model.specs.State.Rooms.{all_within};
-ghost use Rattle.tree_model.specs.State.Shape.{skeleton, tree_counts, widths_fit};
-ghost use Rattle.tree_model.specs.State.Values.{dir_node, nodes, root_of};
+ghost use Rattle.ddm_tree.specs.DdmTypes.ItemTable.{item_count};
+ghost use Rattle.ddm_tree.specs.TreeModel.State.Rooms.{all_within};
+ghost use Rattle.ddm_tree.specs.TreeModel.State.Shape.{skeleton, tree_counts, widths_fit};
+ghost use Rattle.ddm_tree.specs.TreeModel.State.Values.{dir_node, nodes, root_of};
 ghost use Rattle.state_judging.specs.Read.{CanRead};
 ghost use Rattle.ddm_tree.specs.Counts.{counts_within};
 ghost use Rattle.ddm_tree.specs.Machine.{has_path, is_part, listed_path, traffic_within};
@@ -16,16 +16,16 @@ ghost use Rattle.ddm_tree.specs.Rules.{KeepsRules};
 use crate::idle::{IdleHarts, forget_all};
 use crate::machine::{Machine, path_of};
 use crate::named::Named;
+use crate::of_ddm_types::{ChildNo, Code, Items, TreeCounts};
+use crate::of_state_reading::StateRefusal;
+use crate::of_tree_model::Traffic;
 use crate::quiet::{Quiet, forget_quiet};
 use crate::read_back::read_under;
 use crate::section::Section;
 use crate::subtree::Subtree;
-use ddm_types::{ChildNo, Code, Items, TreeCounts};
 use operation_list::Operations;
-use state_reading::StateRefusal;
 use std::marker::Model;
 use top_node::TopState;
-use tree_model::Traffic;
 
 /// A machine taken apart, so that words can be read into it. It keeps its shape, and no rule of a bus.
 #[derive(Drop)]
@@ -48,8 +48,8 @@ pub struct Parts<const WORDS: usize, C: Subtree<WORDS>> {
 
 impl<const WORDS: usize, C: Subtree<WORDS>> Model for Parts<WORDS, C> {
     ghost use Rattle.std.specs.Prelude.{◌≡◌, ◌*◌, ◌^◌, ◌<◌, map, vec_items};
-    ghost use Rattle.tree_model.specs.State.Shape.{tree_counts};
-    ghost use Rattle.tree_model.specs.State.Values.{MachineValue};
+    ghost use Rattle.ddm_tree.specs.TreeModel.State.Shape.{tree_counts};
+    ghost use Rattle.ddm_tree.specs.TreeModel.State.Values.{MachineValue};
     ghost use Rattle.ddm_tree.specs.Codes.{value_code};
     ghost use Rattle.ddm_tree.specs.Machine.{machine_of};
     ghost use Rattle.ddm_tree.specs.Parts.{IsParts};

@@ -1,15 +1,15 @@
 ghost use Rattle.std.specs.Prelude.{◌≡◌, ℕ, ◌<◌, ◌≤◌, All, List, Some, true, IfOk, length, map, option_map, reverse, slice_get, vec_items};
-ghost use Rattle.tree_model.specs.State.Values.{dir_node, nodes};
-ghost use Rattle.tree_model.specs.State.Shape.{skeleton, skeletons, widths_fit};
+ghost use Rattle.ddm_tree.specs.TreeModel.State.Values.{dir_node, nodes};
+ghost use Rattle.ddm_tree.specs.TreeModel.State.Shape.{skeleton, skeletons, widths_fit};
 ghost use Rattle.ddm_tree.specs.Path.{path_to, path_among, is_bus_named};
-ghost use Rattle.tree_model.specs.Turns.Tree.{leaf_of_number, bus_of_number};
+ghost use Rattle.ddm_tree.specs.TreeModel.Turns.Tree.{leaf_of_number, bus_of_number};
 ghost use Rattle.ddm_tree.specs.Named.{name_of};
 ghost use Rattle.ddm_tree.specs.Ready.{Leads};
 
 use crate::named::Named;
+use crate::of_ddm_types::{BusNo, ChildNo, LeafNo, NoMemory};
+use crate::of_item_states::Parent;
 use crate::subtree::Subtree;
-use ddm_types::{BusNo, ChildNo, LeafNo, NoMemory};
-use item_states::Parent;
 use std::alloc::Global;
 
 /// The path to a leaf or a bus below these children, from its end on.

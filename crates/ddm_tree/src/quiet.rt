@@ -1,16 +1,16 @@
 ghost use Rattle.std.specs.Prelude.{◌≡◌, ◌<◌, ◌^◌, ◌⊎◌, ⊤, [], ◌∷◌, List, ℕ, false, true, IfOk, IfSome, Some, length, map, vec_items};
-ghost use Rattle.ddm_types.specs.declared.answers.TurnAnswer.{TurnAnswer as Answer};
-ghost use Rattle.tree_model.specs.declared.BusTurn.{BusTurn};
-ghost use Rattle.tree_model.specs.State.Values.{DirValue, Node, Nodes, children as children_of, dir_node, nodes};
-ghost use Rattle.tree_model.specs.Turns.Children.{child_at};
-ghost use Rattle.tree_model.specs.Turns.Machine.{named_by};
+ghost use Rattle.ddm_tree.specs.DdmTypes.declared.answers.TurnAnswer.{TurnAnswer as Answer};
+ghost use Rattle.ddm_tree.specs.TreeModel.declared.BusTurn.{BusTurn};
+ghost use Rattle.ddm_tree.specs.TreeModel.State.Values.{DirValue, Node, Nodes, children as children_of, dir_node, nodes};
+ghost use Rattle.ddm_tree.specs.TreeModel.Turns.Children.{child_at};
+ghost use Rattle.ddm_tree.specs.TreeModel.Turns.Machine.{named_by};
 ghost use Rattle.ddm_tree.specs.Machine.{has_path, listed_path};
 ghost use Rattle.ddm_tree.specs.Quiet.{AreApart, AreLearned, AreLearnedBelow, AreNear, IsBlank, IsHartNoted, IsNear, IsTouched, IsTouchedBy, KeepsHarts, OfChild, OfNamed, OfTwo, busy_if, known_as, may_be_child, number_of, quiet_if, touches_child, turn_column, turn_row};
 
 use crate::machine::{named, path_of};
+use crate::of_ddm_types::{ChildNo, NoMemory, Place, Turn, TurnAnswer};
+use crate::of_item_states::{Agent, Parent};
 use crate::subtree::Subtree;
-use ddm_types::{ChildNo, NoMemory, Place, Turn, TurnAnswer};
-use item_states::{Agent, Parent};
 use std::alloc::Global;
 use top_node::TopState;
 

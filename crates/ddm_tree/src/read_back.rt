@@ -1,15 +1,15 @@
 ghost use Rattle.std.specs.Prelude.{◌≡◌, ◌<◌, ◌≤◌, ◌^◌, true, length, map, IfOk};
-ghost use Rattle.tree_model.specs.State.Shape.{skeleton, widths_fit};
-ghost use Rattle.tree_model.specs.State.Values.{dir_node, nodes};
-ghost use Rattle.tree_model.specs.Turns.Children.{child_at};
+ghost use Rattle.ddm_tree.specs.TreeModel.State.Shape.{skeleton, widths_fit};
+ghost use Rattle.ddm_tree.specs.TreeModel.State.Values.{dir_node, nodes};
+ghost use Rattle.ddm_tree.specs.TreeModel.Turns.Children.{child_at};
 ghost use Rattle.ddm_tree.specs.ReadBack.{ChildRead, PartRead, section_name};
 ghost use Rattle.ddm_tree.specs.Ready.{Leads};
 
+use crate::of_ddm_types::ChildNo;
+use crate::of_item_states::Parent;
+use crate::of_state_reading::StateRefusal;
 use crate::section::Section;
 use crate::subtree::Subtree;
-use ddm_types::ChildNo;
-use item_states::Parent;
-use state_reading::StateRefusal;
 
 /// Reads a section into a child, or into a part below it.
 fn read_child<const WORDS: usize, C: Subtree<WORDS>>(

@@ -1,22 +1,22 @@
 ghost use Rattle.std.specs.Prelude.{◌≡◌, ◌+◌, ◌<◌, ◌≤◌, ◌^◌, ◌≢◌, [], true, Ok, Err, drop, length, IfErr, IfOk, OnOk};
 ghost use Rattle.std.specs.List.{range_with_len};
-ghost use Rattle.ddm_types.specs.ItemTable.{item_count};
-ghost use Rattle.tree_model.specs.State.Shape.{depth_of, frame_of, tree_counts};
-ghost use Rattle.tree_model.specs.Turns.Tree.{bus_of_number};
-ghost use Rattle.state_reading.specs.declared.StateRefusal.TheVariants.{NoMemory};
-ghost use Rattle.state_reading.specs.Machine.{read_buses};
-ghost use Rattle.state_reading.specs.Parts.{read_op};
-ghost use Rattle.state_reading.specs.Reading.{times};
+ghost use Rattle.ddm_tree.specs.DdmTypes.ItemTable.{item_count};
+ghost use Rattle.ddm_tree.specs.TreeModel.State.Shape.{depth_of, frame_of, tree_counts};
+ghost use Rattle.ddm_tree.specs.TreeModel.Turns.Tree.{bus_of_number};
+ghost use Rattle.ddm_tree.specs.StateReading.declared.StateRefusal.TheVariants.{NoMemory};
+ghost use Rattle.ddm_tree.specs.StateReading.Machine.{read_buses};
+ghost use Rattle.ddm_tree.specs.StateReading.Parts.{read_op};
+ghost use Rattle.ddm_tree.specs.StateReading.Reading.{times};
 ghost use Rattle.ddm_tree.specs.Machine.{is_part};
 ghost use Rattle.ddm_tree.specs.Parts.{BusesAreRead, BusIsRead, BusIsRefused, OpsAreRead};
 
+use crate::of_ddm_types::{BusNo, TreeCounts};
+use crate::of_state_reading::StateRefusal;
 use crate::parts::Parts;
 use crate::read_records::{read_op, read_traffic};
 use crate::section::Section;
 use crate::subtree::Subtree;
-use ddm_types::{BusNo, TreeCounts};
 use operation_list::Operations;
-use state_reading::StateRefusal;
 
 /// How many words an operation has.
 const OP_WORDS: usize = 15;

@@ -1,13 +1,13 @@
 ghost use Rattle.std.specs.Prelude.{◌≡◌, ◌<◌, ◌≤◌, ◌^◌, Err, drop, length, IfErr, IfOk};
-ghost use Rattle.tree_model.specs.Turns.Machine.{machine_leaves};
-ghost use Rattle.state_reading.specs.Machine.{read_each};
+ghost use Rattle.ddm_tree.specs.TreeModel.Turns.Machine.{machine_leaves};
+ghost use Rattle.ddm_tree.specs.StateReading.Machine.{read_each};
 ghost use Rattle.ddm_tree.specs.Parts.{LeavesRead, leaf_read, leaf_section};
 
+use crate::of_ddm_types::LeafNo;
+use crate::of_state_reading::StateRefusal;
 use crate::parts::Parts;
 use crate::section::Section;
 use crate::subtree::Subtree;
-use ddm_types::LeafNo;
-use state_reading::StateRefusal;
 
 /// A section of a leaf: that of its hart, or the rest.
 fn leaf_section(harts: bool, leaf: LeafNo) -> Section

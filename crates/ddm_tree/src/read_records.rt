@@ -1,15 +1,17 @@
 ghost use Rattle.std.specs.Prelude.{◌≡◌, ◌<◌, ◌≤◌, ◌^◌, ◌++◌, ◌∷◌, ◌||◌, [], List, Ok, Err, drop, length, nat_eq, nat_le, nat_lt, IfErr, IfOk, if◌then◌else◌};
-ghost use Rattle.ddm_types.specs.declared.operations.Op.{Op as OpValue};
-ghost use Rattle.state_reading.specs.Gives.{Gives};
-ghost use Rattle.state_reading.specs.Parts.{effect_of, effect_size, read_key, read_op, read_traffic};
-ghost use Rattle.state_reading.specs.Reading.{word_that};
+ghost use Rattle.ddm_tree.specs.DdmTypes.declared.operations.Op.{Op as OpValue};
+ghost use Rattle.ddm_tree.specs.StateReading.Gives.{Gives};
+ghost use Rattle.ddm_tree.specs.StateReading.Parts.{effect_of, effect_size, read_key, read_op, read_traffic};
+ghost use Rattle.ddm_tree.specs.StateReading.Reading.{word_that};
 
-use ddm_types::{Effect, HartNo, Key, Op};
-use state_reading::{StateRefusal, any_word, count_word, keep, look, word_below, word_if, word_to};
-use tree_model::Traffic;
+use crate::of_ddm_types::{Effect, HartNo, Key, Op};
+use crate::of_state_reading::{
+    StateRefusal, any_word, count_word, keep, look, word_below, word_if, word_to,
+};
+use crate::of_tree_model::Traffic;
 
 /// Reads what a bus has granted.
-#[tactic(auto, unfolding(state_reading::specs::Parts::read_traffic))]
+#[tactic(auto, unfolding(crate::specs::Opened::read_traffic))]
 pub(crate) fn read_traffic(words: &[u32], at: &mut u32) -> Result<Traffic, StateRefusal>
     requires few { length words.now < 2 ^ 32 }
     requires inside { at.old ≤ length words.now }

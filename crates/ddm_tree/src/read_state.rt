@@ -1,15 +1,15 @@
 ghost use Rattle.std.specs.Prelude.{◌≡◌, ◌≢◌, ◌<◌, ◌≤◌, ◌^◌, None, Some, Ok, Err, drop, length, slice_index, IfErr, IfOk, OnOk};
-ghost use Rattle.tree_model.specs.State.Shape.{frame_of};
-ghost use Rattle.state_reading.specs.declared.StateRefusal.TheVariants.{NoMemory as WantOfMemory};
-ghost use Rattle.state_reading.specs.Machine.{read_words};
+ghost use Rattle.ddm_tree.specs.TreeModel.State.Shape.{frame_of};
+ghost use Rattle.ddm_tree.specs.StateReading.declared.StateRefusal.TheVariants.{NoMemory as WantOfMemory};
+ghost use Rattle.ddm_tree.specs.StateReading.Machine.{read_words};
 ghost use Rattle.state_judging.specs.Judged.{judged, read_state};
 
 use crate::expected::expect_word;
 use crate::machine::Machine;
+use crate::of_ddm_types::NoMemory;
+use crate::of_state_reading::StateRefusal;
 use crate::parts::Parts;
 use crate::subtree::Subtree;
-use ddm_types::NoMemory;
-use state_reading::StateRefusal;
 use std::alloc::Global;
 
 /// The word behind all others.

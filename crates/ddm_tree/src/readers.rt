@@ -1,11 +1,11 @@
 ghost use Rattle.std.specs.Prelude.{◌≡◌, ◌<◌, ◌≤◌, Some, is_some, true, length, map, option_copied, take, vec_items};
-ghost use Rattle.ddm_types.specs.ItemTable.{item_count};
-ghost use Rattle.tree_model.specs.State.Shape.{IsShaped, tree_counts};
-ghost use Rattle.tree_model.specs.State.Values.{root_of};
-ghost use Rattle.tree_model.specs.Turns.Found.{found_copy, states_of};
-ghost use Rattle.tree_model.specs.Turns.Machine.{child_count, child_hold_of, child_of, down_entry_of, granted_of, grants_of, is_child_of, named_by, names_part, now_of, turn_of};
+ghost use Rattle.ddm_tree.specs.DdmTypes.ItemTable.{item_count};
+ghost use Rattle.ddm_tree.specs.TreeModel.State.Shape.{IsShaped, tree_counts};
+ghost use Rattle.ddm_tree.specs.TreeModel.State.Values.{root_of};
+ghost use Rattle.ddm_tree.specs.TreeModel.Turns.Found.{found_copy, states_of};
+ghost use Rattle.ddm_tree.specs.TreeModel.Turns.Machine.{child_count, child_hold_of, child_of, down_entry_of, granted_of, grants_of, is_child_of, named_by, names_part, now_of, turn_of};
 ghost use Rattle.split_bus.specs.Outcomes.{is_granted};
-ghost use Rattle.tree_model.specs.Turns.Tree.{leaf_of_number, bus_of_number};
+ghost use Rattle.ddm_tree.specs.TreeModel.Turns.Tree.{leaf_of_number, bus_of_number};
 ghost use Rattle.ddm_tree.specs.Machine.{is_part};
 ghost use Rattle.ddm_tree.specs.Rules.{KeepsRules};
 ghost use Rattle.ddm_tree.specs.Ready.{Leads};
@@ -17,16 +17,16 @@ use crate::below::{
 };
 use crate::found::{Found, found_among};
 use crate::machine::Machine;
-use crate::subtree::Subtree;
-use crate::turns::{key_on, on_bus};
-use ddm_types::{
+use crate::of_ddm_types::{
     BusNo, ChildNo, HartNo, Hold, ItemId, Items, Key, LeafNo, LeafState, TreeCounts, Turn, TxKind,
     Words,
 };
-use item_states::{DownEntry, Parent};
+use crate::of_item_states::{DownEntry, Parent};
+use crate::of_rv_hart::Hart;
+use crate::of_tree_model::{LeafSpot, Traffic, TreeChild};
+use crate::subtree::Subtree;
+use crate::turns::{key_on, on_bus};
 use operation_list::Operations;
-use rv_hart::Hart;
-use tree_model::{LeafSpot, Traffic, TreeChild};
 
 impl<const WORDS: usize, C: Subtree<WORDS>> Machine<WORDS, C> {
     /// The key that an instruction completing now at this leaf would have.

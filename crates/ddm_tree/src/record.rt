@@ -1,11 +1,11 @@
 ghost use Rattle.std.specs.Prelude.{◌≡◌, ◌<◌, ◌≤◌, true};
 ghost use Rattle.std.specs.List.{list_all};
-ghost use Rattle.tree_model.specs.Turns.Machine.{one_more, traffic_with};
+ghost use Rattle.ddm_tree.specs.TreeModel.Turns.Machine.{one_more, traffic_with};
 ghost use Rattle.ddm_tree.specs.Machine.{ops_after, traffic_after, spare_after, traffic_within};
 
-use ddm_types::{LogEntry, TurnAnswer, TxKind};
+use crate::of_ddm_types::{LogEntry, TurnAnswer, TxKind};
+use crate::of_tree_model::Traffic;
 use operation_list::Operations;
-use tree_model::Traffic;
 
 /// Keeps what an answer adds: an operation that completed, a transaction that was granted.
 #[inline(always)]

@@ -1,4 +1,4 @@
-use ddm_types::{BusNo, LeafNo};
+use crate::of_ddm_types::{BusNo, LeafNo};
 
 /// A section of a checkpoint's words that is of one node.
 #[derive(Clone, Copy)]

@@ -1,16 +1,16 @@
 ghost use Rattle.std.specs.Prelude.{◌≡◌, ◌<◌, length, map};
-ghost use Rattle.ddm_types.specs.declared.keys.Stamp.{Stamp};
-ghost use Rattle.tree_model.specs.State.Values.{dir_node, nodes};
-ghost use Rattle.tree_model.specs.Turns.Tree.{bus_of_number};
+ghost use Rattle.ddm_tree.specs.DdmTypes.declared.keys.Stamp.{Stamp};
+ghost use Rattle.ddm_tree.specs.TreeModel.State.Values.{dir_node, nodes};
+ghost use Rattle.ddm_tree.specs.TreeModel.Turns.Tree.{bus_of_number};
 ghost use Rattle.ddm_tree.specs.Path.{node_at, present_at};
 ghost use Rattle.ddm_tree.specs.Ready.{Leads};
 ghost use Rattle.ddm_tree.specs.Stamps.{node_stamps_fit};
 
 use crate::below::next;
 use crate::named::Named;
+use crate::of_ddm_types::{BusNo, ChildNo};
+use crate::of_item_states::Parent;
 use crate::subtree::Subtree;
-use ddm_types::{BusNo, ChildNo};
-use item_states::Parent;
 
 /// Whether the stamps are in order that the directory over a bus below a directory keeps.
 pub(crate) fn stamps_fit_under<const WORDS: usize, P: Parent<WORDS>, C: Subtree<WORDS>>(

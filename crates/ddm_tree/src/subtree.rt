@@ -1,21 +1,21 @@
 ghost use Rattle.std.specs.Prelude.{◌≡◌, ℕ, [], ◌∷◌, ◌+◌, ◌*◌, ◌<◌, ◌≤◌, ◌^◌, ◌++◌, true, false, length, take, Some, IfOk, IfSome, OnErr, OnOk, option_map, reverse, vec_items};
-ghost use Rattle.ddm_types.specs.ItemTable.{item_count};
-ghost use Rattle.tree_model.specs.declared.BusTurn.{BusTurn};
-ghost use Rattle.tree_model.specs.Start.Nodes.{held_by, or_each};
-ghost use Rattle.tree_model.specs.State.Child.{child_holds, child_label};
-ghost use Rattle.tree_model.specs.State.Shape.{skeleton, widths_fit};
-ghost use Rattle.tree_model.specs.Turns.Found.{found_of, place_found, words_found};
-ghost use Rattle.tree_model.specs.Turns.Machine.{named_by, bus_turn_of};
-ghost use Rattle.tree_model.specs.Turns.Tree.{leaf_of_number, bus_of_number};
-ghost use Rattle.ddm_types.specs.declared.keys.Stamp.{Stamp};
-ghost use Rattle.item_states.specs.Parts.{node_items};
-ghost use Rattle.ddm_text.specs.Adds.{Adds};
-ghost use Rattle.state_words.specs.Begins.{Begins};
-ghost use Rattle.state_words.specs.Parts.{hart_words, leaf_words};
-ghost use Rattle.state_words.specs.Machine.{way_count_of};
+ghost use Rattle.ddm_tree.specs.DdmTypes.ItemTable.{item_count};
+ghost use Rattle.ddm_tree.specs.TreeModel.declared.BusTurn.{BusTurn};
+ghost use Rattle.ddm_tree.specs.TreeModel.Start.Nodes.{held_by, or_each};
+ghost use Rattle.ddm_tree.specs.TreeModel.State.Child.{child_holds, child_label};
+ghost use Rattle.ddm_tree.specs.TreeModel.State.Shape.{skeleton, widths_fit};
+ghost use Rattle.ddm_tree.specs.TreeModel.Turns.Found.{found_of, place_found, words_found};
+ghost use Rattle.ddm_tree.specs.TreeModel.Turns.Machine.{named_by, bus_turn_of};
+ghost use Rattle.ddm_tree.specs.TreeModel.Turns.Tree.{leaf_of_number, bus_of_number};
+ghost use Rattle.ddm_tree.specs.DdmTypes.declared.keys.Stamp.{Stamp};
+ghost use Rattle.ddm_tree.specs.ItemStates.Parts.{node_items};
+ghost use Rattle.ddm_tree.specs.DdmText.Adds.{Adds};
+ghost use Rattle.ddm_tree.specs.StateWords.Begins.{Begins};
+ghost use Rattle.ddm_tree.specs.StateWords.Parts.{hart_words, leaf_words};
+ghost use Rattle.ddm_tree.specs.StateWords.Machine.{way_count_of};
 ghost use Rattle.split_bus.specs.Outcomes.{goes_on_with};
 ghost use Rattle.ddm_tree.specs.Path.{path_to, node_at, present_at, put_at, node_answer, node_turned};
-ghost use Rattle.tree_rules.specs.Bus.Faces.{child_face};
+ghost use Rattle.ddm_tree.specs.TreeRules.Bus.Faces.{child_face};
 ghost use Rattle.ddm_tree.specs.Idle.{node_rests};
 ghost use Rattle.ddm_tree.specs.Judging.{IsJudged, node_broken};
 ghost use Rattle.ddm_tree.specs.Named.{name_of};
@@ -29,18 +29,18 @@ ghost use Rattle.ddm_tree.specs.Written.{node_dir_words, node_words};
 use crate::found::Found;
 use crate::idle::Idle;
 use crate::named::Named;
+use crate::of_bus_judging::ChildFace;
+use crate::of_ddm_types::{
+    BusNo, ChildNo, Hold, ItemId, LeafNo, LeafState, NoMemory, Stamp, TurnAnswer, Words,
+};
+use crate::of_item_states::{Agent, DownEntry};
+use crate::of_rv_hart::Hart;
+use crate::of_state_reading::StateRefusal;
+use crate::of_tree_model::{BusTurn, LeafSpot, TreeChild};
 use crate::quiet::Quiet;
 use crate::section::Section;
 use crate::turn_call::TurnCall;
-use bus_judging::ChildFace;
-use ddm_types::{
-    BusNo, ChildNo, Hold, ItemId, LeafNo, LeafState, NoMemory, Stamp, TurnAnswer, Words,
-};
-use item_states::{Agent, DownEntry};
-use rv_hart::Hart;
-use state_reading::StateRefusal;
 use std::alloc::Global;
-use tree_model::{BusTurn, LeafSpot, TreeChild};
 
 /// A part of the tree below a bus. A path has the child numbers from this part down to a leaf or a bus.
 pub trait Subtree<const WORDS: usize>: Agent<WORDS> {

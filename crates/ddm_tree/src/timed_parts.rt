@@ -1,9 +1,9 @@
 ghost use Rattle.std.specs.Prelude.{◌≡◌, true, Some};
-ghost use Rattle.tree_model.specs.Turns.Machine.{now_of};
-ghost use Rattle.tree_model.specs.State.Shape.{IsShaped};
-ghost use Rattle.tree_model.specs.State.Values.{root_of};
-ghost use Rattle.tree_model.specs.Turns.Tree.{leaf_of_number, bus_of_number};
-ghost use Rattle.tree_rules.specs.Order.Places.{dirs_at};
+ghost use Rattle.ddm_tree.specs.TreeModel.Turns.Machine.{now_of};
+ghost use Rattle.ddm_tree.specs.TreeModel.State.Shape.{IsShaped};
+ghost use Rattle.ddm_tree.specs.TreeModel.State.Values.{root_of};
+ghost use Rattle.ddm_tree.specs.TreeModel.Turns.Tree.{leaf_of_number, bus_of_number};
+ghost use Rattle.ddm_tree.specs.TreeRules.Order.Places.{dirs_at};
 ghost use Rattle.state_judging.specs.Judged.{is_key_of_leaf, stamps_broken};
 ghost use Rattle.ddm_tree.specs.Machine.{is_part};
 ghost use Rattle.ddm_tree.specs.Named.{name_of};
@@ -13,11 +13,11 @@ use crate::below::{hart_under, stamp_under};
 use crate::keys::is_key_before;
 use crate::machine::path_of;
 use crate::named::Named;
+use crate::of_ddm_types::{BusNo, ChildNo, Key, LeafNo, Op};
 use crate::parts::Parts;
 use crate::stamps::stamps_fit_under;
 use crate::subtree::Subtree;
 use crate::turns::key_on;
-use ddm_types::{BusNo, ChildNo, Key, LeafNo, Op};
 
 impl<const WORDS: usize, C: Subtree<WORDS>> Parts<WORDS, C> {
     /// The path from the top to a leaf or a bus.

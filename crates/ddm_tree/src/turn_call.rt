@@ -1,4 +1,4 @@
-use ddm_types::{ChildNo, Code, Items, Turn};
+use crate::of_ddm_types::{ChildNo, Code, Items, Turn};
 
 /// A turn, with what it needs on the way down: the code, the items, and the path from the top to the leaf or bus that it names.
 #[derive(Clone, Copy)]

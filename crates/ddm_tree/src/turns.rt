@@ -1,9 +1,9 @@
 ghost use Rattle.std.specs.Prelude.{◌≡◌, slice_index};
-ghost use Rattle.ddm_types.specs.Keys.{key_on};
-ghost use Rattle.tree_model.specs.Turns.Machine.{bus_turn_of, victim_of};
+ghost use Rattle.ddm_tree.specs.DdmTypes.Keys.{key_on};
+ghost use Rattle.ddm_tree.specs.TreeModel.Turns.Machine.{bus_turn_of, victim_of};
 
-use ddm_types::{ChildNo, Key, Stamp, Turn};
-use tree_model::BusTurn;
+use crate::of_ddm_types::{ChildNo, Key, Stamp, Turn};
+use crate::of_tree_model::BusTurn;
 
 /// A turn as its bus sees it.
 pub(crate) fn on_bus(turn: &Turn) -> BusTurn

@@ -1,13 +1,13 @@
 ghost use Rattle.std.specs.Prelude.{◌≡◌, ◌+◌, ◌<◌, ◌≤◌, ◌++◌, All, false, length, map, take};
-ghost use Rattle.tree_model.specs.State.Values.{leaf_node};
-ghost use Rattle.tree_model.specs.State.Leaf.{state_at};
-ghost use Rattle.tree_model.specs.State.Child.{child_holds};
+ghost use Rattle.ddm_tree.specs.TreeModel.State.Values.{leaf_node};
+ghost use Rattle.ddm_tree.specs.TreeModel.State.Leaf.{state_at};
+ghost use Rattle.ddm_tree.specs.TreeModel.State.Child.{child_holds};
 ghost use Rattle.ddm_tree.specs.Ready.{IsRuled};
 ghost use Rattle.ddm_tree.specs.Reads.{is_without, leaf_count_among, states_among};
 
+use crate::of_ddm_types::{Hold, ItemId, LeafState};
+use crate::of_item_states::Parent;
 use crate::subtree::Subtree;
-use ddm_types::{Hold, ItemId, LeafState};
-use item_states::Parent;
 use leaf_protocol::Leaf;
 
 /// Whether a directory neither holds an item nor has anything of it pending: then none of its children holds the item.

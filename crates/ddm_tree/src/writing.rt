@@ -1,12 +1,12 @@
 ghost use Rattle.std.specs.Prelude.{◌≡◌, ◌<◌, ◌^◌, true, length, map, OnErr, OnOk};
 ghost use Rattle.std.specs.List.{flat_map, range_with_len};
-ghost use Rattle.ddm_text.specs.Adds.{Adds};
-ghost use Rattle.tree_model.specs.State.Values.{dir_node, nodes};
-ghost use Rattle.tree_model.specs.Turns.Machine.{machine_leaves};
-ghost use Rattle.tree_model.specs.Turns.Tree.{leaf_of_number, bus_of_number};
-ghost use Rattle.state_words.specs.Begins.{Begins};
-ghost use Rattle.state_words.specs.Machine.{bus_words, first_way_count, sizes_of, state_words};
-ghost use Rattle.state_words.specs.Parts.{counted, hart_words, leaf_words, op_words};
+ghost use Rattle.ddm_tree.specs.DdmText.Adds.{Adds};
+ghost use Rattle.ddm_tree.specs.TreeModel.State.Values.{dir_node, nodes};
+ghost use Rattle.ddm_tree.specs.TreeModel.Turns.Machine.{machine_leaves};
+ghost use Rattle.ddm_tree.specs.TreeModel.Turns.Tree.{leaf_of_number, bus_of_number};
+ghost use Rattle.ddm_tree.specs.StateWords.Begins.{Begins};
+ghost use Rattle.ddm_tree.specs.StateWords.Machine.{bus_words, first_way_count, sizes_of, state_words};
+ghost use Rattle.ddm_tree.specs.StateWords.Parts.{counted, hart_words, leaf_words, op_words};
 ghost use Rattle.ddm_tree.specs.Machine.{is_part};
 ghost use Rattle.ddm_tree.specs.Path.{node_at};
 ghost use Rattle.ddm_tree.specs.Ready.{Leads};
@@ -15,11 +15,11 @@ ghost use Rattle.ddm_tree.specs.Written.{dir_words_of, node_dir_words, node_word
 use crate::below::next;
 use crate::machine::Machine;
 use crate::named::Named;
+use crate::of_ddm_types::{BusNo, ChildNo, LeafNo, NoMemory};
+use crate::of_item_states::Parent;
+use crate::of_state_words::{MachineSizes, Spelled, push_words, traffic_words};
 use crate::subtree::Subtree;
-use ddm_types::{BusNo, ChildNo, LeafNo, NoMemory};
-use item_states::Parent;
 use operation_list::Operations;
-use state_words::{MachineSizes, Spelled, push_words, traffic_words};
 
 /// The word behind all others.
 const END: u32 = 0x454d_4444;

@@ -1,11 +1,11 @@
 -- A directory that loses an item or a parked copy.
 use Rattle.std.proofs.Common.{◌≡◌, sym, subst, refl, ℕ, ◌<◌, true, false, not, List, filter, Option, Some, None, is_some, unwrap_or}
 use Rattle.std.proofs.lemmas.List.Elements.{All-filter}
-use Rattle.ddm_types.specs.declared.keys.Stamp.{Stamp}
-use Rattle.tree_model.specs.State.States.{is_held}
-use Rattle.tree_model.specs.State.Values.{CopyValue, DirValue}
-use Rattle.tree_model.specs.State.Leaf.{is_copy}
-use Rattle.tree_model.specs.State.Directory.{dir_hold, dir_lost, dir_lose}
+use Rattle.directory.specs.DdmTypes.declared.keys.Stamp.{Stamp}
+use Rattle.directory.specs.TreeModel.State.States.{is_held}
+use Rattle.directory.specs.TreeModel.State.Values.{CopyValue, DirValue}
+use Rattle.directory.specs.TreeModel.State.Leaf.{is_copy}
+use Rattle.directory.specs.TreeModel.State.Directory.{dir_hold, dir_lost, dir_lose}
 use Rattle.directory.specs.DirParts.{AreCopiesBelow, IsDirectory}
 
 -- ---- told to lose an item

@@ -2,10 +2,10 @@
 use Rattle.std.proofs.Common.{◌≡◌, ◌<◌, ℕ, zero, suc, ◌+◌, ◌++◌, Bool, true, false, cond, nat_eq, List, [], ◌∷◌, length, take, map, filter, Some, refl, sym, ap, ◌∙◌, arith, add-one}
 use Rattle.std.specs.Prelude.{slice_get, if◌then◌else◌}
 use Rattle.std.specs.List.{list_any}
-use Rattle.ddm_types.specs.declared.answers.TxKind.{TxKind}
-use Rattle.tree_model.specs.State.Lists.{has_some, names_item}
-use Rattle.tree_model.specs.State.Values.{DownValue}
-use Rattle.tree_model.specs.State.Directory.{entry_item, entry_kind, queue_of, queue_kinds, request_item, request_kind, request_kinds}
+use Rattle.directory.specs.DdmTypes.declared.answers.TxKind.{TxKind}
+use Rattle.directory.specs.TreeModel.State.Lists.{has_some, names_item}
+use Rattle.directory.specs.TreeModel.State.Values.{DownValue}
+use Rattle.directory.specs.TreeModel.State.Directory.{entry_item, entry_kind, queue_of, queue_kinds, request_item, request_kind, request_kinds}
 use Rattle.bus_judging.specs.Parent.{RequestFacts, request_facts}
 use Rattle.bus_judging.specs.Queue.{QueueFacts, facts_of}
 use Rattle.directory.specs.DirParts.{request_of}

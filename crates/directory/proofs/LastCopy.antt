@@ -3,11 +3,11 @@ use Rattle.std.proofs.Common.{◌≡◌, ◌<◌, ℕ, zero, suc, ◌+◌, ◌++
 use Rattle.std.specs.Prelude.{slice_get, if◌then◌else◌}
 use Rattle.std.proofs.lemmas.List.{append-nil, length-take-le}
 use Rattle.std.proofs.lemmas.List.Elements.{filter-append}
-use Rattle.tree_model.specs.State.Lists.{names_item}
-use Rattle.tree_model.specs.State.Kinds.{brings_copy}
-use Rattle.tree_model.specs.State.Values.{DownValue}
-use Rattle.tree_model.specs.State.Directory.{entry_item, queue_of}
-use Rattle.tree_model.specs.Turns.Found.{last_place, last_words, down_place, queue_words}
+use Rattle.directory.specs.TreeModel.State.Lists.{names_item}
+use Rattle.directory.specs.TreeModel.State.Kinds.{brings_copy}
+use Rattle.directory.specs.TreeModel.State.Values.{DownValue}
+use Rattle.directory.specs.TreeModel.State.Directory.{entry_item, queue_of}
+use Rattle.directory.specs.TreeModel.Turns.Found.{last_place, last_words, down_place, queue_words}
 
 -- a copy and its place are those of the last one in this part of the list
 pub record IsLast (x : ℕ) (es : List DownValue) (last : Option (ℕ × List ℕ)) : Type 0 where

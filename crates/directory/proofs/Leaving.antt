@@ -4,10 +4,10 @@ use Rattle.std.specs.List.{find, slice_get}
 use Rattle.std.proofs.lemmas.Bool.{eq-eqb}
 use Rattle.std.proofs.lemmas.List.Elements.{All-get_or}
 use Rattle.std.proofs.lemmas.Option.{get_or_from_slice_get, slice_get_within}
-use Rattle.tree_model.specs.State.Lists.{chosen}
-use Rattle.tree_model.specs.State.Values.{CopyValue, DirValue}
-use Rattle.tree_model.specs.State.Leaf.{is_copy, copy_item, copy_words}
-use Rattle.tree_model.specs.State.Directory.{parked_words, dir_leaving}
+use Rattle.directory.specs.TreeModel.State.Lists.{chosen}
+use Rattle.directory.specs.TreeModel.State.Values.{CopyValue, DirValue}
+use Rattle.directory.specs.TreeModel.State.Leaf.{is_copy, copy_item, copy_words}
+use Rattle.directory.specs.TreeModel.State.Directory.{parked_words, dir_leaving}
 use Rattle.directory.specs.DirParts.{AreCopiesBelow}
 use Rattle.directory.proofs.Lists.{parked-words}
 

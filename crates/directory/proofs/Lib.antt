@@ -1,3 +1,6 @@
+pub mod DdmTypes
+pub mod StateReading
+pub mod StateWords
 pub mod Changes
 pub mod ItemWords
 pub mod LastCopy

@@ -1,14 +1,14 @@
 -- The lists of a directory as its parts keep them, and as its value has them.
 use Rattle.std.proofs.Common.{◌≡◌, ap, refl, ℕ, Bool, true, false, cond, ◌&&◌, ◌||◌, nat_eq, List, [], ◌∷◌, map, filter, Some, None, option_map}
 use Rattle.std.specs.List.{find, list_any, slice_get}
-use Rattle.ddm_types.specs.declared.answers.TxKind.{TxKind}
-use Rattle.tree_model.specs.State.Lists.{first_of, has_some, without_first, names_item}
-use Rattle.tree_model.specs.State.Kinds.{is_kind, has_kind}
-use Rattle.tree_model.specs.State.Values.{CopyValue, DownValue}
-use Rattle.tree_model.specs.State.Leaf.{is_request, is_copy, copy_words, words_of_item}
-use Rattle.tree_model.specs.State.Directory.{entry_item, entry_kind, queue_of, queue_kinds, request_item, request_kind, request_kinds, struck}
+use Rattle.directory.specs.DdmTypes.declared.answers.TxKind.{TxKind}
+use Rattle.directory.specs.TreeModel.State.Lists.{first_of, has_some, without_first, names_item}
+use Rattle.directory.specs.TreeModel.State.Kinds.{is_kind, has_kind}
+use Rattle.directory.specs.TreeModel.State.Values.{CopyValue, DownValue}
+use Rattle.directory.specs.TreeModel.State.Leaf.{is_request, is_copy, copy_words, words_of_item}
+use Rattle.directory.specs.TreeModel.State.Directory.{entry_item, entry_kind, queue_of, queue_kinds, request_item, request_kind, request_kinds, struck}
 use Rattle.tx_queue.specs.Requests.{is_request as is_pair_of}
-use Rattle.item_states.specs.Parts.{request_pair, copy_pair}
+use Rattle.directory.specs.ItemStates.Parts.{request_pair, copy_pair}
 use Rattle.directory.specs.DirParts.{request_of, copy_of}
 
 module _ {X Y : Type 0} (f : X → Y) where

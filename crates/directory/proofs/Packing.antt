@@ -1,10 +1,10 @@
 -- An item as a word, and back.
 use Rattle.std.proofs.Common.{◌≡◌, ◌∙◌, ap, sym, refl, ℕ, ◌+◌, ◌*◌, ◌/◌, ◌%◌, ◌<◌, ◌^◌, Bool, true, false, cond, nat_eq, Option, Some, None, arith, eqb-true}
-use Rattle.ddm_types.specs.declared.answers.PendingWhy.{PendingWhy}
-use Rattle.ddm_types.specs.declared.sizes.Hold.{Hold}
-use Rattle.tree_model.specs.State.Values.{Note, no_note, local, up_read, up_erase, DirItem}
-use Rattle.tree_model.specs.State.Directory.{is_up_read}
-use Rattle.item_states.specs.Parts.{joined_in, note_of, NamesChild}
+use Rattle.directory.specs.DdmTypes.declared.answers.PendingWhy.{PendingWhy}
+use Rattle.directory.specs.DdmTypes.declared.sizes.Hold.{Hold}
+use Rattle.directory.specs.TreeModel.State.Values.{Note, no_note, local, up_read, up_erase, DirItem}
+use Rattle.directory.specs.TreeModel.State.Directory.{is_up_read}
+use Rattle.directory.specs.ItemStates.Parts.{joined_in, note_of, NamesChild}
 use Rattle.directory.specs.Packed.{hold_bits, note_bits, answering_bits, packed_item, hold_in, note_in, note_with, unpacked_item, IsPacked}
 
 -- ---- notes

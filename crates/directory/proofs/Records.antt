@@ -1,8 +1,8 @@
 -- The records of items, one item more at a time.
 use Rattle.std.proofs.Common.{◌≡◌, ℕ, zero, suc, ◌+◌, ◌<◌, ◌++◌, Bool, List, [], ◌∷◌, length, take, get_or, sym, ap, ◌∙◌, arith, add-one, add-zero, zero-add, append_assoc}
 use Rattle.std.proofs.lemmas.List.{append-nil}
-use Rattle.tree_model.specs.State.Values.{DirItem}
-use Rattle.state_words.specs.Parts.{record_of, records_from}
+use Rattle.directory.specs.TreeModel.State.Values.{DirItem}
+use Rattle.directory.specs.StateWords.Parts.{record_of, records_from}
 
 module _ (top : Bool) where
   further : (x k : ℕ) (items : List DirItem) (d : DirItem) → k < length items → records_from top x (take (suc k) items) ≡ records_from top x (take k items) ++ record_of top (x + k) (get_or items k d)

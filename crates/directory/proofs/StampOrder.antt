@@ -6,13 +6,13 @@ use Rattle.std.specs.Prelude.{slice_get}
 use Rattle.std.proofs.lemmas.Bool.{and_parts}
 use Rattle.std.proofs.lemmas.List.{drop_all}
 use Rattle.std.specs.Cmp.Derive.{both_true}
-use Rattle.ddm_types.specs.declared.answers.TxKind.{TxKind}
-use Rattle.ddm_types.specs.declared.keys.Stamp.{Stamp}
-use Rattle.ddm_types.specs.Keys.{stamp_numbers, numbers_less}
-use Rattle.ddm_types.proofs.KeyOrder.{numbers_less-transitive, numbers_less-total}
-use Rattle.tree_model.specs.State.Values.{DownValue, DirValue}
-use Rattle.tree_rules.specs.Statements.{test_of, each, each_pair}
-use Rattle.tree_rules.specs.Order.Time.{comes_later}
+use Rattle.directory.specs.DdmTypes.declared.answers.TxKind.{TxKind}
+use Rattle.directory.specs.DdmTypes.declared.keys.Stamp.{Stamp}
+use Rattle.directory.specs.DdmTypes.Keys.{stamp_numbers, numbers_less}
+use Rattle.directory.proofs.DdmTypes.KeyOrder.{numbers_less-transitive, numbers_less-total}
+use Rattle.directory.specs.TreeModel.State.Values.{DownValue, DirValue}
+use Rattle.directory.specs.TreeRules.Statements.{test_of, each, each_pair}
+use Rattle.directory.specs.TreeRules.Order.Time.{comes_later}
 use Rattle.directory.specs.Stamps.{stamp_before, stands_between, may_follow, may_come, may_come_all, stamps_fit}
 
 -- ---- lists of numbers, where one isn't less than another

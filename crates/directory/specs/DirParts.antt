@@ -2,8 +2,8 @@
 -- To be believed: contracts of code speak of it.
 use Rattle.std.specs.Prelude.{◌≡◌, ℕ, ◌<◌, ◌≤◌, ◌^◌, List}
 use Rattle.std.specs.List.{All}
-use Rattle.ddm_types.specs.declared.answers.TxKind.{TxKind}
-use Rattle.tree_model.specs.State.Values.{RequestValue, CopyValue}
+use Rattle.directory.specs.DdmTypes.declared.answers.TxKind.{TxKind}
+use Rattle.directory.specs.TreeModel.State.Values.{RequestValue, CopyValue}
 
 -- a pair as a request and as a copy
 abbrev pub request_of : TxKind × ℕ → RequestValue

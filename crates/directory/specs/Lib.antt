@@ -1,3 +1,11 @@
+pub mod DdmText
+pub mod DdmTypes
+pub mod ItemStates
+pub mod StateReading
+pub mod StateWords
+pub mod TreeModel
+pub mod TreeRules
 pub mod Packed
 pub mod DirParts
 pub mod Stamps
+pub mod Opened

@@ -2,9 +2,9 @@
 -- bits 4 to 7 its child, bit 8 is set where it is answering, and bit 16 + c where child c joined.
 -- To be believed: it is what is lent of a directory.
 use Rattle.std.specs.Prelude.{◌≡◌, ℕ, ◌+◌, ◌*◌, ◌/◌, ◌%◌, ◌<◌, ◌^◌, Bool, nat_eq, Option, Some, None, if◌then◌else◌}
-use Rattle.ddm_types.specs.declared.answers.PendingWhy.{PendingWhy}
-use Rattle.ddm_types.specs.declared.sizes.Hold.{Hold}
-use Rattle.tree_model.specs.State.Values.{Note, no_note, local, up_read, up_erase, DirItem}
+use Rattle.directory.specs.DdmTypes.declared.answers.PendingWhy.{PendingWhy}
+use Rattle.directory.specs.DdmTypes.declared.sizes.Hold.{Hold}
+use Rattle.directory.specs.TreeModel.State.Values.{Note, no_note, local, up_read, up_erase, DirItem}
 
 -- ---- an item as a word
 

@@ -2,12 +2,12 @@
 -- Letters: d is a directory, a and b stamps, e and f entries of its down list, above how many buses are above the bus above it.
 -- To be believed with the contracts: it says which stamps are judged to be in order.
 use Rattle.std.specs.Prelude.{ℕ, ◌-◌, Bool, true, not, ◌&&◌, List, [], ◌∷◌, Option, Some, None, if◌then◌else◌}
-use Rattle.ddm_types.specs.declared.answers.TxKind.{TxKind}
-use Rattle.ddm_types.specs.declared.keys.Stamp.{Stamp}
-use Rattle.ddm_types.specs.Keys.{stamp_numbers, numbers_less}
-use Rattle.tree_model.specs.State.Values.{DownValue, DirValue}
-use Rattle.tree_rules.specs.Statements.{Statement, is_so, is_not, both, each, each_pair, where_so, test_of}
-use Rattle.tree_rules.specs.Order.Time.{comes_later}
+use Rattle.directory.specs.DdmTypes.declared.answers.TxKind.{TxKind}
+use Rattle.directory.specs.DdmTypes.declared.keys.Stamp.{Stamp}
+use Rattle.directory.specs.DdmTypes.Keys.{stamp_numbers, numbers_less}
+use Rattle.directory.specs.TreeModel.State.Values.{DownValue, DirValue}
+use Rattle.directory.specs.TreeRules.Statements.{Statement, is_so, is_not, both, each, each_pair, where_so, test_of}
+use Rattle.directory.specs.TreeRules.Order.Time.{comes_later}
 
 module _ (above : ℕ) where
   -- in the numbers that a bus with so many above it has

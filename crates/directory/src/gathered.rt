@@ -1,14 +1,14 @@
 ghost use Rattle.std.specs.Prelude.{◌≡◌, ℕ, ◌<◌, ◌++◌, ◌∷◌, [], List, Some, length, map, nat_eq, slice_get, if◌then◌else◌};
-ghost use Rattle.ddm_types.specs.declared.answers.TxKind.{TxKind};
-ghost use Rattle.tree_model.specs.State.Values.{DownValue};
-ghost use Rattle.tree_model.specs.State.Directory.{queue_kinds, request_kinds};
+ghost use Rattle.directory.specs.DdmTypes.declared.answers.TxKind.{TxKind};
+ghost use Rattle.directory.specs.TreeModel.State.Values.{DownValue};
+ghost use Rattle.directory.specs.TreeModel.State.Directory.{queue_kinds, request_kinds};
 ghost use Rattle.bus_judging.specs.Parent.{request_facts};
 ghost use Rattle.bus_judging.specs.Queue.{facts_of};
 ghost use Rattle.directory.specs.DirParts.{request_of};
 
+use crate::of_ddm_types::{ItemId, TxKind};
+use crate::of_item_states::DownEntry;
 use bus_judging::{QueueFacts, RequestFacts};
-use ddm_types::{ItemId, TxKind};
-use item_states::DownEntry;
 use tx_queue::Queue;
 
 /// The entry at this place of a down list is gathered, where it is one of the item.

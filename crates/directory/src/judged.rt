@@ -1,13 +1,13 @@
 ghost use Rattle.std.specs.Prelude.{◌≡◌, ◌<◌, length};
-ghost use Rattle.tree_model.specs.State.Leaf.{words_of_item};
-ghost use Rattle.tree_rules.specs.Bus.Faces.{face_above, parent_face};
+ghost use Rattle.directory.specs.TreeModel.State.Leaf.{words_of_item};
+ghost use Rattle.directory.specs.TreeRules.Bus.Faces.{face_above, parent_face};
 ghost use Rattle.bus_judging.specs.Parent.{facts_at};
 
 use crate::DirState;
 use crate::gathered::{asked_facts, down_facts};
+use crate::of_ddm_types::ItemId;
+use crate::of_item_states::Parent;
 use bus_judging::{ChildFace, ParentFacts};
-use ddm_types::ItemId;
-use item_states::Parent;
 
 /// A bus's parent as the rules of that bus see it.
 pub trait JudgedParent<const WORDS: usize>: Parent<WORDS> {

@@ -1,10 +1,10 @@
 ghost use Rattle.std.specs.Prelude.{◌≡◌, ◌<◌, ◌&&◌, Some, length, nat_eq, slice_get, if◌then◌else◌};
-ghost use Rattle.tree_model.specs.State.Kinds.{brings_copy};
-ghost use Rattle.tree_model.specs.State.Values.{DownValue};
+ghost use Rattle.directory.specs.TreeModel.State.Kinds.{brings_copy};
+ghost use Rattle.directory.specs.TreeModel.State.Values.{DownValue};
 
-use ddm_types::{ItemId, Words};
-use item_states::DownEntry;
-use state_reading::brings_copy;
+use crate::of_ddm_types::{ItemId, Words};
+use crate::of_item_states::DownEntry;
+use crate::of_state_reading::brings_copy;
 use tx_queue::Queue;
 
 /// The copy at this place of a down list, where it is one of the item; else what was found before.

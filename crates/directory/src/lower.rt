@@ -1,11 +1,13 @@
 ghost use Rattle.std.specs.Prelude.{◌≡◌, ◌+◌, ◌<◌, ◌^◌, ◌++◌, ◌∷◌, [], false, nat_eq, nat_le, length, if◌then◌else◌};
-ghost use Rattle.tree_model.specs.State.Values.{DirValue};
-ghost use Rattle.tree_model.specs.State.Directory.{down_full, replies_full, is_parked, pushed_reply, with_parked, place_released};
-ghost use Rattle.item_states.specs.Parts.{CanPark};
+ghost use Rattle.directory.specs.TreeModel.State.Values.{DirValue};
+ghost use Rattle.directory.specs.TreeModel.State.Directory.{down_full, replies_full, is_parked, pushed_reply, with_parked, place_released};
+ghost use Rattle.directory.specs.ItemStates.Parts.{CanPark};
 
 use crate::DirState;
-use ddm_types::{BusNo, ChildNo, Hold, ItemId, PendingWhy, QueueName, Stamp, TxKind, Words};
-use item_states::{DownEntry, Parent, ParentList};
+use crate::of_ddm_types::{
+    BusNo, ChildNo, Hold, ItemId, PendingWhy, QueueName, Stamp, TxKind, Words,
+};
+use crate::of_item_states::{DownEntry, Parent, ParentList};
 
 impl<const WORDS: usize> Parent<WORDS> for DirState<WORDS> {
     ghost state = { λ d. d };

@@ -1,10 +1,10 @@
 ghost use Rattle.std.specs.Prelude.{◌≡◌, ℕ, ◌<◌, ◌^◌, Bool, Option};
-ghost use Rattle.tree_model.specs.State.Values.{DirItem, absent_item};
-ghost use Rattle.tree_model.specs.State.Directory.{is_up_read, note_why, joined_by};
-ghost use Rattle.item_states.specs.Parts.{note_of, joined_in, NamesChild};
+ghost use Rattle.directory.specs.TreeModel.State.Values.{DirItem, absent_item};
+ghost use Rattle.directory.specs.TreeModel.State.Directory.{is_up_read, note_why, joined_by};
+ghost use Rattle.directory.specs.ItemStates.Parts.{note_of, joined_in, NamesChild};
 ghost use Rattle.directory.specs.Packed.{hold_bits, note_bits, answering_bits, packed_item, unpacked_item, hold_in, noted, note_in, note_with, IsPacked};
 
-use ddm_types::{ChildNo, Hold, PendingWhy};
+use crate::of_ddm_types::{ChildNo, Hold, PendingWhy};
 use std::marker::Model;
 
 /// What a directory keeps of an item, as one word.
@@ -14,7 +14,7 @@ pub(crate) struct PackedItem {
 }
 
 impl Model for PackedItem {
-    ghost use Rattle.tree_model.specs.State.Values.{DirItem};
+    ghost use Rattle.directory.specs.TreeModel.State.Values.{DirItem};
     ghost use Rattle.directory.specs.Packed.{packed_item, unpacked_item, IsPacked};
     ghost use Rattle.std.proofs.Common.{ap};
 

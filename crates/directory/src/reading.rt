@@ -1,19 +1,19 @@
 ghost use Rattle.std.specs.Prelude.{◌≡◌, ℕ, ◌<◌, ◌≤◌, ◌^◌, ◌+◌, ◌&&◌, ◌||◌, not, nat_eq, nat_le, nat_lt, false, [], None, Some, Ok, Err, drop, length, map, replicate, IfErr, IfOk, OnOk, if◌then◌else◌};
-ghost use Rattle.tree_model.specs.State.Values.{absent_item};
-ghost use Rattle.item_states.specs.Parts.{note_of, NamesChild};
-ghost use Rattle.state_words.specs.Parts.{is_recorded};
-ghost use Rattle.state_reading.specs.Gives.{Gives, IsRead};
-ghost use Rattle.state_reading.specs.Reading.{and_then, any_word, times, word_that};
-ghost use Rattle.state_reading.specs.Parts.{at_rest, comes_after, hold_of, joins_fit, note_of_words, read_dir, read_record, read_records, word_to};
+ghost use Rattle.directory.specs.TreeModel.State.Values.{absent_item};
+ghost use Rattle.directory.specs.ItemStates.Parts.{note_of, NamesChild};
+ghost use Rattle.directory.specs.StateWords.Parts.{is_recorded};
+ghost use Rattle.directory.specs.StateReading.Gives.{Gives, IsRead};
+ghost use Rattle.directory.specs.StateReading.Reading.{and_then, any_word, times, word_that};
+ghost use Rattle.directory.specs.StateReading.Parts.{at_rest, comes_after, hold_of, joins_fit, note_of_words, read_dir, read_record, read_records, word_to};
 ghost use Rattle.directory.specs.Packed.{note_with};
 
+use crate::of_ddm_types::{ChildNo, Hold, ItemId, PendingWhy};
+use crate::of_state_reading::{
+    StateRefusal, any_word, count_word, hold_of, keep, look, stamp_words, word_to,
+};
 use crate::packed::PackedItem;
 use crate::state::DirState;
 use crate::table::ItemTable;
-use ddm_types::{ChildNo, Hold, ItemId, PendingWhy};
-use state_reading::{
-    StateRefusal, any_word, count_word, hold_of, keep, look, stamp_words, word_to,
-};
 
 /// The note by its number, 0 to 3, and its child.
 fn note_of_words(kind: u32, child: u32) -> Option<PendingWhy>

@@ -1,10 +1,10 @@
 ghost use Rattle.std.specs.Prelude.{◌≡◌, ◌-◌, ◌<◌, ◌≤◌, None};
-ghost use Rattle.tree_rules.specs.Order.Time.{comes_later};
+ghost use Rattle.directory.specs.TreeRules.Order.Time.{comes_later};
 ghost use Rattle.directory.specs.Stamps.{may_come, may_come_all, stamp_before, stamps_fit};
 
 use crate::DirState;
-use ddm_types::{Stamp, TxKind};
-use item_states::DownEntry;
+use crate::of_ddm_types::{Stamp, TxKind};
+use crate::of_item_states::DownEntry;
 use tx_queue::Queue;
 
 /// Whether the first stamp is before the second one, in the first `numbers` of their numbers.

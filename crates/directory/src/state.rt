@@ -1,15 +1,15 @@
 ghost use Rattle.std.specs.Prelude.{◌≡◌, ℕ, ◌+◌, ◌<◌, ◌≤◌, ◌^◌, false, true, List, [], length, map, replicate, Option, None, option_copied, option_map, slice_get, IfOk, IfSome, is_some, unwrap_or};
-ghost use Rattle.ddm_types.specs.declared.sizes.Hold.TheVariants.{Exclusive};
-ghost use Rattle.tree_model.specs.State.Values.{DirValue, absent_item};
-ghost use Rattle.tree_model.specs.State.Directory.{parked_place, queue_of, with_hold};
-ghost use Rattle.tree_model.specs.Turns.Found.{down_place, queue_words};
-ghost use Rattle.tree_model.specs.Start.Nodes.{dir_sizes, new_dir};
+ghost use Rattle.directory.specs.DdmTypes.declared.sizes.Hold.TheVariants.{Exclusive};
+ghost use Rattle.directory.specs.TreeModel.State.Values.{DirValue, absent_item};
+ghost use Rattle.directory.specs.TreeModel.State.Directory.{parked_place, queue_of, with_hold};
+ghost use Rattle.directory.specs.TreeModel.Turns.Found.{down_place, queue_words};
+ghost use Rattle.directory.specs.TreeModel.Start.Nodes.{dir_sizes, new_dir};
 ghost use Rattle.directory.specs.Packed.{packed_item};
 
 use crate::ItemTable;
 use crate::last_copy::later_copy;
-use ddm_types::{BusNo, Hold, ItemId, NoMemory, Stamp, TreeSizes, TxKind, Words};
-use item_states::DownEntry;
+use crate::of_ddm_types::{BusNo, Hold, ItemId, NoMemory, Stamp, TreeSizes, TxKind, Words};
+use crate::of_item_states::DownEntry;
 use replacement::Parking;
 use std::alloc::Global;
 use std::marker::Model;
@@ -31,7 +31,7 @@ pub struct DirState<const WORDS: usize> {
 
 impl<const WORDS: usize> Model for DirState<WORDS> {
     ghost use Rattle.std.specs.Prelude.{length, map};
-    ghost use Rattle.tree_model.specs.State.Values.{DirValue};
+    ghost use Rattle.directory.specs.TreeModel.State.Values.{DirValue};
     ghost use Rattle.directory.specs.DirParts.{request_of, copy_of, IsDirectory};
 
     ghost Value = { DirValue };

@@ -1,11 +1,11 @@
 ghost use Rattle.std.specs.Prelude.{◌≡◌, ℕ, ◌<◌, length, map, replicate, slice_index_or, slice_set, IfOk};
-ghost use Rattle.tree_model.specs.State.Values.{DirItem, absent_item};
-ghost use Rattle.tree_model.specs.State.Directory.{is_up_read, note_why, joined_by};
-ghost use Rattle.item_states.specs.Parts.{note_of, joined_in, NamesChild};
+ghost use Rattle.directory.specs.TreeModel.State.Values.{DirItem, absent_item};
+ghost use Rattle.directory.specs.TreeModel.State.Directory.{is_up_read, note_why, joined_by};
+ghost use Rattle.directory.specs.ItemStates.Parts.{note_of, joined_in, NamesChild};
 ghost use Rattle.directory.specs.Packed.{packed_item};
 
+use crate::of_ddm_types::{ChildNo, Hold, ItemId, NoMemory, PendingWhy};
 use crate::packed::PackedItem;
-use ddm_types::{ChildNo, Hold, ItemId, NoMemory, PendingWhy};
 use std::alloc::Global;
 use std::marker::Model;
 
@@ -18,7 +18,7 @@ pub struct ItemTable {
 impl Model for ItemTable {
     ghost use Rattle.std.specs.Prelude.{List, map};
     ghost use Rattle.std.specs.List.{All};
-    ghost use Rattle.tree_model.specs.State.Values.{DirItem};
+    ghost use Rattle.directory.specs.TreeModel.State.Values.{DirItem};
     ghost use Rattle.directory.specs.Packed.{unpacked_item, IsPacked};
 
     ghost Value = { List DirItem };

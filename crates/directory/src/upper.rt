@@ -1,15 +1,15 @@
 ghost use Rattle.std.specs.Prelude.{◌≡◌, ℕ, ◌+◌, ◌<◌, ◌++◌, ◌∷◌, [], Bool, false, true, not, ◌&&◌, ◌||◌, length, replicate, Option, None, IfSome, is_some, option_map, unwrap_or, if◌then◌else◌};
-ghost use Rattle.ddm_types.specs.declared.answers.TxKind.TheVariants.{ReadTx, DataTx, EraseTx, ExclusiveTx, InjectTx};
-ghost use Rattle.tree_model.specs.State.Lists.{first_of, rest_of};
-ghost use Rattle.tree_model.specs.State.States.{is_held};
-ghost use Rattle.tree_model.specs.State.Values.{DirValue};
-ghost use Rattle.tree_model.specs.State.Child.{dir_full_for};
-ghost use Rattle.tree_model.specs.State.Directory.{dir_hold, dir_waits, dir_room, dir_leaving, inject_has_place, open_read, in_down, pending, pending_by, down_full, parking_full, parked_words, pushed_down, struck, dir_lose, dir_take_data, dir_take_exclusive, dir_answer, dir_take_inject, dir_give_up};
-ghost use Rattle.item_states.specs.Parts.{request_pair, copy_pair};
+ghost use Rattle.directory.specs.DdmTypes.declared.answers.TxKind.TheVariants.{ReadTx, DataTx, EraseTx, ExclusiveTx, InjectTx};
+ghost use Rattle.directory.specs.TreeModel.State.Lists.{first_of, rest_of};
+ghost use Rattle.directory.specs.TreeModel.State.States.{is_held};
+ghost use Rattle.directory.specs.TreeModel.State.Values.{DirValue};
+ghost use Rattle.directory.specs.TreeModel.State.Child.{dir_full_for};
+ghost use Rattle.directory.specs.TreeModel.State.Directory.{dir_hold, dir_waits, dir_room, dir_leaving, inject_has_place, open_read, in_down, pending, pending_by, down_full, parking_full, parked_words, pushed_down, struck, dir_lose, dir_take_data, dir_take_exclusive, dir_answer, dir_take_inject, dir_give_up};
+ghost use Rattle.directory.specs.ItemStates.Parts.{request_pair, copy_pair};
 
 use crate::DirState;
-use ddm_types::{BusNo, Hold, ItemId, PendingWhy, QueueName, Stamp, TxKind, Words};
-use item_states::DownEntry;
+use crate::of_ddm_types::{BusNo, Hold, ItemId, PendingWhy, QueueName, Stamp, TxKind, Words};
+use crate::of_item_states::DownEntry;
 
 /// Whether something is held.
 fn is_held(hold: Hold) -> bool
@@ -74,7 +74,7 @@ impl<const WORDS: usize> DirState<WORDS> {
         self.has_open_read(item) || !self.parking.is_full()
     }
 
-    #[tactic(auto, unfolding(tree_model::specs::State::Directory::dir_room))]
+    #[tactic(auto, unfolding(crate::specs::Opened::dir_room))]
     pub fn up_room(&self, item: ItemId) -> bool
         requires { item < length self.now.items }
         ensures { result ≡ dir_room item self.now }
@@ -121,7 +121,7 @@ impl<const WORDS: usize> DirState<WORDS> {
     }
 
     /// Why the item is pending on the bus below.
-    #[tactic(auto, unfolding(tree_model::specs::State::Directory::pending))]
+    #[tactic(auto, unfolding(crate::specs::Opened::pending))]
     pub(crate) fn why_pending(&self, item: ItemId) -> Option<PendingWhy>
         requires { item < length self.now.items }
         ensures { result ≡ pending item self.now }
@@ -203,7 +203,7 @@ impl<const WORDS: usize> DirState<WORDS> {
         }
     }
 
-    #[tactic(auto, unfolding(tree_model::specs::State::Directory::dir_take_data))]
+    #[tactic(auto, unfolding(crate::specs::Opened::dir_take_data))]
     pub fn up_take_data(&mut self, item: ItemId, words: Words<WORDS>, stamp: Stamp)
         requires in_range { item < length self.old.items }
         requires room { dir_full_for DataTx item self.old ≡ None }
@@ -213,7 +213,7 @@ impl<const WORDS: usize> DirState<WORDS> {
         self.tell(TxKind::DataTx, item, words, stamp);
     }
 
-    #[tactic(auto, unfolding(tree_model::specs::State::Directory::dir_take_exclusive))]
+    #[tactic(auto, unfolding(crate::specs::Opened::dir_take_exclusive))]
     pub fn up_take_exclusive(&mut self, item: ItemId, stamp: Stamp)
         requires in_range { item < length self.old.items }
         requires room { dir_full_for ExclusiveTx item self.old ≡ None }
@@ -223,7 +223,7 @@ impl<const WORDS: usize> DirState<WORDS> {
         self.tell_kind(TxKind::ExclusiveTx, item, stamp);
     }
 
-    #[tactic(auto, unfolding(tree_model::specs::State::Directory::dir_answer))]
+    #[tactic(auto, unfolding(crate::specs::Opened::dir_answer))]
     pub fn up_answer(&mut self, item: ItemId, stamp: Stamp)
         requires in_range { item < length self.old.items }
         requires room { dir_full_for ReadTx item self.old ≡ None }
@@ -244,7 +244,7 @@ impl<const WORDS: usize> DirState<WORDS> {
         }
     }
 
-    #[tactic(auto, unfolding(tree_model::specs::State::Directory::dir_take_inject))]
+    #[tactic(auto, unfolding(crate::specs::Opened::dir_take_inject))]
     pub fn up_take_inject(&mut self, item: ItemId, words: Words<WORDS>, stamp: Stamp)
         requires in_range { item < length self.old.items }
         requires room { dir_full_for InjectTx item self.old ≡ None }

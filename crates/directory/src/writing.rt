@@ -1,15 +1,15 @@
 ghost use Rattle.std.specs.Prelude.{◌≡◌, ◌<◌, ◌^◌, count_by, length, OnErr, OnOk};
-ghost use Rattle.ddm_text.specs.Adds.{Adds};
-ghost use Rattle.tree_model.specs.State.States.{is_held};
-ghost use Rattle.state_words.specs.Begins.{Begins};
-ghost use Rattle.state_words.specs.Numbers.{note_words};
-ghost use Rattle.state_words.specs.Parts.{dir_words, is_noted, is_recorded, record_of, records};
+ghost use Rattle.directory.specs.DdmText.Adds.{Adds};
+ghost use Rattle.directory.specs.TreeModel.State.States.{is_held};
+ghost use Rattle.directory.specs.StateWords.Begins.{Begins};
+ghost use Rattle.directory.specs.StateWords.Numbers.{note_words};
+ghost use Rattle.directory.specs.StateWords.Parts.{dir_words, is_noted, is_recorded, record_of, records};
 
+use crate::of_ddm_types::{ChildNo, Hold, ItemId, NoMemory, PendingWhy};
+use crate::of_state_words::{flag_number, hold_number, push_words, stamp_words};
 use crate::packed::PackedItem;
 use crate::state::DirState;
 use crate::table::ItemTable;
-use ddm_types::{ChildNo, Hold, ItemId, NoMemory, PendingWhy};
-use state_words::{flag_number, hold_number, push_words, stamp_words};
 
 fn is_held(hold: Hold) -> bool
     ensures { result ≡ is_held hold }
@@ -82,7 +82,7 @@ impl ItemTable {
     }
 
     /// Puts the records of a directory, or of the top, at the end, with how many there are before them.
-    #[tactic(auto, unfolding(state_words::specs::Parts::records_from, state_words::specs::Parts::records))]
+    #[tactic(auto, unfolding(crate::specs::Opened::records_from, crate::specs::Opened::records))]
     pub fn write(&self, top: bool, out: &mut Vec<u32>) -> Result<(), NoMemory>
         requires { length self.now < 2 ^ 32 }
         ensures ok { OnOk result (Adds out.old.items out.new.items (records top self.now)) }

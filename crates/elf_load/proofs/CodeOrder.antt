@@ -7,8 +7,8 @@ use Rattle.std.proofs.lemmas.Bool.{cases_lt, cases_Bool}
 use Rattle.std.proofs.lemmas.Bool.Decides.{nat_tests}
 use Rattle.std.proofs.lemmas.List.Elements.{All-head, All-tail}
 use Rattle.std.proofs.lemmas.List.FromFn.{length-map-range_with_len}
-use Rattle.ddm_types.specs.CodeMap.{CodeWord, word_at, words_from, code_of}
-use Rattle.ddm_types.proofs.Entries.{AreFrom, IsAscending, from-weaker, from-append, word_at-nil, word_at-other, word_at-append, word_at_below, option_or-none, code_of-unique}
+use Rattle.elf_load.specs.DdmTypes.CodeMap.{CodeWord, word_at, words_from, code_of}
+use Rattle.elf_load.proofs.DdmTypes.Entries.{AreFrom, IsAscending, from-weaker, from-append, word_at-nil, word_at-other, word_at-append, word_at_below, option_or-none, code_of-unique}
 use Rattle.tree_model.specs.Start.Sources.{SegmentValue, ImageValue, is_executable}
 use Rattle.tree_model.specs.Start.Memory.{start_code}
 use Rattle.elf_load.specs.ImageRule.{HasMemory, AreApart}

@@ -5,8 +5,8 @@ use Rattle.std.specs.List.{flat_map}
 use Rattle.std.proofs.Math.Seq.{take-suc}
 use Rattle.std.proofs.lemmas.Bool.Decides.{nat_tests}
 use Rattle.std.proofs.lemmas.List.FromFn.{length-map-range_with_len}
-use Rattle.ddm_types.specs.declared.code_map.CodePart.{CodePart}
-use Rattle.ddm_types.specs.CodeMap.{words_from, part_words, part_end, IsInPart, AreDisjoint}
+use Rattle.elf_load.specs.DdmTypes.declared.code_map.CodePart.{CodePart}
+use Rattle.elf_load.specs.DdmTypes.CodeMap.{words_from, part_words, part_end, IsInPart, AreDisjoint}
 use Rattle.tree_model.specs.Start.Sources.{SegmentValue, is_executable}
 use Rattle.elf_load.specs.ImageRule.{EndsInside, AreApart}
 use Rattle.tree_model.specs.Start.Memory.{first_word, segment_code}

@@ -9,8 +9,8 @@ use Rattle.std.proofs.lemmas.List.FromFn.{map-range_with_len_more}
 use Rattle.std.proofs.lemmas.List.Sums.{sum_by_more}
 use Rattle.std.proofs.lemmas.List.Elements.{All-map}
 use Rattle.elf_load.specs.declared.refusal.ImageRefusal.{ImageRefusal}
-use Rattle.ddm_types.specs.declared.sizes.Span.{Span}
-use Rattle.ddm_types.specs.ItemTable.{span_end}
+use Rattle.elf_load.specs.DdmTypes.declared.sizes.Span.{Span}
+use Rattle.elf_load.specs.DdmTypes.ItemTable.{span_end}
 use Rattle.elf_load.specs.declared.headers.ProgramHeader.{ProgramHeader}
 use Rattle.elf_load.specs.ElfFile.{segment_of, header_at, header_span, code_bytes_of, header_refusal, headers_refusal}
 

@@ -12,7 +12,7 @@ use Rattle.std.proofs.lemmas.List.FromFn.{length-range_with_len, get_or-range_wi
 use Rattle.tree_model.specs.State.Lists.{first_some}
 use Rattle.tree_model.specs.Start.Sources.{SegmentValue}
 use Rattle.tree_model.specs.Start.Memory.{start_code}
-use Rattle.ddm_types.specs.CodeMap.{CodeWord, word_at}
+use Rattle.elf_load.specs.DdmTypes.CodeMap.{CodeWord, word_at}
 use Rattle.elf_load.specs.declared.headers.ProgramHeader.{ProgramHeader}
 use Rattle.elf_load.specs.declared.refusal.ImageRefusal.{ImageRefusal}
 use Rattle.elf_load.specs.ElfFile.{refused_if, outside_at, is_elf, is_outside, header_size, header_count, header_place, kind_refusal, flags_refusal, table_refusal, file_refusal, header_at, is_load, has_memory, bytes_outside, wraps, meets, overlap_with, header_refusal, headers_refusal, headers_of, loaded_headers, segment_of, segments_of, image_in, image_of, sizes_refusal, entry_refusal, judged_entry, is_dynamic}

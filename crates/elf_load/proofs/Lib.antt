@@ -1,3 +1,4 @@
+pub mod DdmTypes
 pub mod Finds
 pub mod HeaderSteps
 pub mod SegmentBytes

@@ -1,8 +1,8 @@
 -- The code of segments, part by part.
 use Rattle.std.specs.Prelude.{◌≡◌, ℕ, ◌+◌, ◌-◌, ◌*◌, ◌/◌, ◌%◌, ◌^◌, ◌<◌, ◌≤◌, List, [], ◌∷◌, length, map, min}
 use Rattle.std.specs.List.{range_with_len, AllZip}
-use Rattle.ddm_types.specs.declared.code_map.CodePart.{CodePart}
-use Rattle.ddm_types.specs.CodeMap.{part_words, part_end, IsInPart}
+use Rattle.elf_load.specs.DdmTypes.declared.code_map.CodePart.{CodePart}
+use Rattle.elf_load.specs.DdmTypes.CodeMap.{part_words, part_end, IsInPart}
 use Rattle.tree_model.specs.Start.Sources.{SegmentValue}
 use Rattle.tree_model.specs.Start.Memory.{memory_word, first_word, past_word, segment_code}
 

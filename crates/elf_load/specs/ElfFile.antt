@@ -2,9 +2,9 @@
 use Rattle.std.specs.Prelude.{ℕ, ◌+◌, ◌*◌, Bool, true, false, not, ◌&&◌, ◌||◌, nat_eq, nat_lt, List, [], ◌∷◌, ◌++◌, map, length, take, drop, filter, sum_by, find, Option, Some, None, is_none, Result, Ok, Err, slice_index, bit_and, if◌then◌else◌}
 use Rattle.std.specs.List.{range_with_len}
 use Rattle.byteorder.specs.Endian.{little_number}
-use Rattle.ddm_types.specs.ItemTable.{item_count, items_of}
-use Rattle.ddm_types.specs.CodeMap.{word_at}
-use Rattle.ddm_types.specs.declared.sizes.Span.{Span}
+use Rattle.elf_load.specs.DdmTypes.ItemTable.{item_count, items_of}
+use Rattle.elf_load.specs.DdmTypes.CodeMap.{word_at}
+use Rattle.elf_load.specs.DdmTypes.declared.sizes.Span.{Span}
 use Rattle.tree_model.specs.State.Lists.{first_some}
 use Rattle.tree_model.specs.Start.Sources.{SegmentValue, ImageValue, is_executable, segment_span}
 use Rattle.tree_model.specs.Start.Machine.{spans_meet}

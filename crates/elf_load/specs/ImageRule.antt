@@ -1,6 +1,6 @@
 -- What holds of every image.
 use Rattle.std.specs.Prelude.{◌≡◌, ℕ, ◌+◌, ◌^◌, ◌<◌, ◌≤◌, true, false, is_some, List, length, All, AllPairs}
-use Rattle.ddm_types.specs.CodeMap.{CodeWord, word_at}
+use Rattle.elf_load.specs.DdmTypes.CodeMap.{CodeWord, word_at}
 use Rattle.tree_model.specs.Start.Sources.{SegmentValue, ImageValue, segment_span}
 use Rattle.tree_model.specs.Start.Machine.{spans_meet}
 use Rattle.tree_model.specs.Start.Memory.{start_code}

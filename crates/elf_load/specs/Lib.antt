@@ -1,3 +1,5 @@
+pub mod DdmTypes
+pub mod TreeModel
 pub mod ImageRule
 pub mod ElfFile
 pub mod HeaderRule

@@ -1,6 +1,6 @@
 -- Segments at the edges of memory and of each other.
 use Rattle.std.specs.Prelude.{◌≡◌, true, List, [], ◌∷◌, map, take, Ok, Err}
-use Rattle.ddm_types.specs.ItemTable.{items_of}
+use Rattle.elf_load.specs.DdmTypes.ItemTable.{items_of}
 use Rattle.tree_model.specs.Start.Sources.{SegmentValue, ImageValue, segment_span}
 use Rattle.elf_load.specs.declared.refusal.ImageRefusal.TheVariants.{NotElf, Compressed, HeaderOutside, AddressWraps, SegmentsOverlap}
 use Rattle.elf_load.specs.SmallFile.{code_segment, data_segment, blank_segment, small_file, changed_at, read_small, read_with}

@@ -7,7 +7,7 @@ ghost use Rattle.elf_load.specs.CodeOf.{ArePartsOf, IsPartOf, file_word_count, f
 
 use crate::fields::word_in;
 use crate::image::Segment;
-use ddm_types::{Code, CodePart, NoMemory};
+use crate::of_ddm_types::{Code, CodePart, NoMemory};
 use std::alloc::Global;
 
 fn byte_or_zero(bytes: &[u8], at: usize) -> u8

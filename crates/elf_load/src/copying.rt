@@ -3,7 +3,7 @@ ghost use Rattle.tree_model.specs.Start.Memory.{start_code};
 
 use crate::code::code_of;
 use crate::image::Image;
-use ddm_types::{Code, NoMemory};
+use crate::of_ddm_types::{Code, NoMemory};
 use std::alloc::Global;
 
 /// The code of an image once more, for a machine to keep.

@@ -1,11 +1,11 @@
 ghost use Rattle.std.specs.Prelude.{◌≡◌, ℕ, ◌+◌, ◌<◌, ◌≤◌, All, AllPairs, IfOk, OnOk, length, false, map, None};
-ghost use Rattle.ddm_types.specs.ItemTable.{IsItemSize};
+ghost use Rattle.elf_load.specs.DdmTypes.ItemTable.{IsItemSize};
 ghost use Rattle.elf_load.specs.ElfFile.{code_bytes, code_refusal, has_memory, header_at, header_count, header_place, header_refusal, header_span, headers_of, headers_refusal, items_met, loaded_headers, meets};
 ghost use Rattle.elf_load.specs.HeaderRule.{HasTable, IsLoadable};
 
 use crate::fields::{half_at, word_in};
+use crate::of_ddm_types::{NoMemory, Span, count_items};
 use crate::refusal::ImageRefusal;
-use ddm_types::{NoMemory, Span, count_items};
 use std::alloc::Global;
 
 /// A program header of the file: the words that are read of it, and its number.

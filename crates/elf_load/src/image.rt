@@ -1,4 +1,4 @@
-use ddm_types::Code;
+use crate::of_ddm_types::Code;
 use std::marker::Model;
 
 /// A segment of memory: the bytes that the file has of it, followed by zeros up to `memsz`.

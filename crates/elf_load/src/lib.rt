@@ -11,6 +11,7 @@ mod header_rules;
 mod headers;
 mod image;
 mod loading;
+pub mod of_ddm_types;
 mod refusal;
 mod round_trip;
 mod segments;

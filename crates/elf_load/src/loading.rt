@@ -10,10 +10,10 @@ use crate::file_rules::file_refusal;
 use crate::header_rules::{headers_refusal, keep_loaded};
 use crate::headers::{ProgramHeader, headers_of};
 use crate::image::{Image, Segment};
+use crate::of_ddm_types::Code;
 use crate::refusal::ImageRefusal;
 use crate::segments::segments_of;
 use crate::sizes::sizes_refusal;
-use ddm_types::Code;
 use std::alloc::Global;
 
 /// The program headers of the image's segments.

@@ -57,10 +57,10 @@ pub enum ImageRefusal {
     NoMemory,
 }
 
-impl From<ddm_types::NoMemory> for ImageRefusal {
+impl From<crate::of_ddm_types::NoMemory> for ImageRefusal {
     ghost from_gives = { λ _ refusal. refusal ≡ NoMemory };
 
-    fn from(_: ddm_types::NoMemory) -> Self {
+    fn from(_: crate::of_ddm_types::NoMemory) -> Self {
         ImageRefusal::NoMemory
     }
 }

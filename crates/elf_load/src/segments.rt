@@ -4,7 +4,7 @@ ghost use Rattle.elf_load.specs.HeaderRule.{IsLoadable};
 
 use crate::headers::ProgramHeader;
 use crate::image::Segment;
-use ddm_types::NoMemory;
+use crate::of_ddm_types::NoMemory;
 use std::alloc::Global;
 
 /// The file's bytes of a segment.

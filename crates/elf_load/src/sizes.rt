@@ -1,10 +1,10 @@
 ghost use Rattle.std.specs.Prelude.{◌≡◌, ◌⊎◌, ◌+◌, ◌^◌, ◌<◌, ◌≤◌, All, IfOk, IfErr, length, None, Some, map};
-ghost use Rattle.ddm_types.specs.ItemTable.{IsItemSize};
+ghost use Rattle.elf_load.specs.DdmTypes.ItemTable.{IsItemSize};
 ghost use Rattle.elf_load.specs.ElfFile.{code_bytes, code_bytes_of, code_refusal, header_span, items_met, sizes_refusal};
 
 use crate::headers::ProgramHeader;
+use crate::of_ddm_types::{MOST_ITEMS, NoMemory, Span, count_items};
 use crate::refusal::{ImageRefusal, first_refusal, refused_if};
-use ddm_types::{MOST_ITEMS, NoMemory, Span, count_items};
 use std::alloc::Global;
 
 /// The most bytes of executable segments.

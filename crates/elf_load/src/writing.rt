@@ -3,7 +3,7 @@ ghost use Rattle.elf_load.specs.ImageRule.{FitsMemory};
 ghost use Rattle.elf_load.specs.Written.{file_header, halves, program_header, program_headers, segment_bytes, words, written_image};
 
 use crate::image::Segment;
-use ddm_types::NoMemory;
+use crate::of_ddm_types::NoMemory;
 use std::alloc::Global;
 
 /// The magic bytes, 32 bits, little-endian, version 1.

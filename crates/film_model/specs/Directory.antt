@@ -3,13 +3,13 @@
 -- To be believed: it is the written format.
 use Rattle.std.specs.Prelude.{ℕ, Bool, List, [], ◌∷◌, ◌++◌, codes, filter, take, nat_eq, flat_map, if◌then◌else◌}
 use Rattle.std.specs.List.{range_with_len}
-use Rattle.ddm_types.specs.declared.answers.TxKind.{TxKind}
-use Rattle.ddm_types.specs.declared.sizes.Hold.{Hold}
-use Rattle.ddm_types.specs.declared.keys.Stamp.{Stamp}
-use Rattle.ddm_types.specs.Keys.{stamp_numbers}
-use Rattle.tree_model.specs.State.Kinds.{brings_copy}
-use Rattle.tree_model.specs.State.Values.{DownValue, Note, no_note, local, up_read, up_erase, DirItem, DirValue}
-use Rattle.tree_model.specs.State.Directory.{in_set, stamp_of}
+use Rattle.film_model.specs.DdmTypes.declared.answers.TxKind.{TxKind}
+use Rattle.film_model.specs.DdmTypes.declared.sizes.Hold.{Hold}
+use Rattle.film_model.specs.DdmTypes.declared.keys.Stamp.{Stamp}
+use Rattle.film_model.specs.DdmTypes.Keys.{stamp_numbers}
+use Rattle.film_model.specs.TreeModel.State.Kinds.{brings_copy}
+use Rattle.film_model.specs.TreeModel.State.Values.{DownValue, Note, no_note, local, up_read, up_erase, DirItem, DirValue}
+use Rattle.film_model.specs.TreeModel.State.Directory.{in_set, stamp_of}
 use Rattle.text_model.specs.Words.{kind_text}
 use Rattle.text_model.specs.Report.{word_texts}
 use Rattle.film_model.specs.Part.{Part, key_of, item_key_of, number_text, stamp_text, listed, numbered}

@@ -1,10 +1,10 @@
 -- Worked examples: the films of small runs. Each has a tree, a program, a schedule and the film, as an independent model printed it.
 use Rattle.std.specs.Prelude.{◌≡◌, ℕ, ◌*◌, true, List, [], ◌∷◌, length, flat_map, codes}
 use Rattle.std.specs.Int.{w32, to_le_bytes}
-use Rattle.ddm_types.specs.declared.turns.Turn.{Turn}
-use Rattle.ddm_types.specs.declared.turns.Turn.TheVariants.{Hart, Down, Request, Reply, Leave}
-use Rattle.tree_model.specs.Start.Sources.{ImageValue, TreeValue}
-use Rattle.tree_model.specs.Start.Machine.{start_machine}
+use Rattle.film_model.specs.DdmTypes.declared.turns.Turn.{Turn}
+use Rattle.film_model.specs.DdmTypes.declared.turns.Turn.TheVariants.{Hart, Down, Request, Reply, Leave}
+use Rattle.film_model.specs.TreeModel.Start.Sources.{ImageValue, TreeValue}
+use Rattle.film_model.specs.TreeModel.Start.Machine.{start_machine}
 use Rattle.film_model.specs.Still.{still}
 use Rattle.film_model.specs.Film.{film_of}
 use Rattle.film_model.specs.Replay.{has_keys_once}

@@ -2,13 +2,13 @@
 -- Letters: m is a machine, t a turn.
 -- To be believed: it is the written format.
 use Rattle.std.specs.Prelude.{ℕ, ◌+◌, Bool, List, [], ◌∷◌, ◌++◌, length, flat_map, codes, if◌then◌else◌}
-use Rattle.ddm_text.specs.Hex.{hex8}
-use Rattle.ddm_types.specs.declared.sizes.TreeSizes.{TreeSizes}
-use Rattle.ddm_types.specs.declared.turns.Turn.{Turn}
-use Rattle.ddm_types.specs.ItemTable.{ItemRow}
-use Rattle.tree_model.specs.State.Values.{MachineValue}
-use Rattle.tree_model.specs.Start.Sources.{TreeValue, bus_widths}
-use Rattle.tree_model.specs.Turns.Machine.{turn_of}
+use Rattle.film_model.specs.DdmText.Hex.{hex8}
+use Rattle.film_model.specs.DdmTypes.declared.sizes.TreeSizes.{TreeSizes}
+use Rattle.film_model.specs.DdmTypes.declared.turns.Turn.{Turn}
+use Rattle.film_model.specs.DdmTypes.ItemTable.{ItemRow}
+use Rattle.film_model.specs.TreeModel.State.Values.{MachineValue}
+use Rattle.film_model.specs.TreeModel.Start.Sources.{TreeValue, bus_widths}
+use Rattle.film_model.specs.TreeModel.Turns.Machine.{turn_of}
 use Rattle.text_model.specs.Trace.{trace_line}
 use Rattle.text_model.specs.Run.{report_text_of}
 use Rattle.film_model.specs.Part.{number_text, valued, changed}

@@ -2,10 +2,10 @@
 -- Letters: v is a leaf, x an item, e an entry.
 -- To be believed: it is the written format.
 use Rattle.std.specs.Prelude.{ℕ, List, [], ◌∷◌, ◌++◌, Option, Some, None, codes, drop, nat_eq, if◌then◌else◌}
-use Rattle.ddm_text.specs.Hex.{hex8}
-use Rattle.ddm_types.specs.declared.operations.HaltCause.{HaltCause}
-use Rattle.ddm_types.specs.declared.sizes.LeafState.{LeafState}
-use Rattle.tree_model.specs.State.Values.{RequestValue, CopyValue, WayValue, BufferValue, LeafValue}
+use Rattle.film_model.specs.DdmText.Hex.{hex8}
+use Rattle.film_model.specs.DdmTypes.declared.operations.HaltCause.{HaltCause}
+use Rattle.film_model.specs.DdmTypes.declared.sizes.LeafState.{LeafState}
+use Rattle.film_model.specs.TreeModel.State.Values.{RequestValue, CopyValue, WayValue, BufferValue, LeafValue}
 use Rattle.text_model.specs.Words.{halt_text, kind_text}
 use Rattle.text_model.specs.Report.{word_texts, letter_text}
 use Rattle.film_model.specs.Part.{Part, key_of, item_key_of, number_text, listed, numbered}

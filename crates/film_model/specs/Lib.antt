@@ -1,3 +1,6 @@
+pub mod DdmText
+pub mod DdmTypes
+pub mod TreeModel
 pub mod Part
 pub mod Leaf
 pub mod Directory

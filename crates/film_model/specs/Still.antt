@@ -4,12 +4,12 @@
 -- To be believed: it is the written format.
 use Rattle.std.specs.Prelude.{ℕ, List, [], ◌++◌, length, flat_map, map, Option, Some, None, codes}
 use Rattle.std.specs.List.{range_with_len}
-use Rattle.ddm_types.specs.ItemTable.{item_count}
-use Rattle.tree_model.specs.declared.CopyPlace.{CopyPlace}
-use Rattle.tree_model.specs.declared.CopyPlace.TheVariants.{LeafWay, LeafBuffer, Parking, DownList}
-use Rattle.tree_model.specs.State.Values.{MachineValue}
-use Rattle.tree_model.specs.Turns.Machine.{ask_bus, machine_leaves}
-use Rattle.tree_model.specs.Turns.Found.{found_place}
+use Rattle.film_model.specs.DdmTypes.ItemTable.{item_count}
+use Rattle.film_model.specs.TreeModel.declared.CopyPlace.{CopyPlace}
+use Rattle.film_model.specs.TreeModel.declared.CopyPlace.TheVariants.{LeafWay, LeafBuffer, Parking, DownList}
+use Rattle.film_model.specs.TreeModel.State.Values.{MachineValue}
+use Rattle.film_model.specs.TreeModel.Turns.Machine.{ask_bus, machine_leaves}
+use Rattle.film_model.specs.TreeModel.Turns.Found.{found_place}
 use Rattle.film_model.specs.Part.{Part, key_of, number_text}
 use Rattle.film_model.specs.Leaf.{leaf_parts}
 use Rattle.film_model.specs.Directory.{dir_parts}

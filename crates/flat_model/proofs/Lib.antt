@@ -1,3 +1,4 @@
+pub mod DdmTypes
 pub mod Programs
 pub mod Instructions
 pub mod Halts

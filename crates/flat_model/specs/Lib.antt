@@ -1,3 +1,5 @@
+pub mod DdmTypes
+pub mod RvDecode
 pub mod Hart
 pub mod Flat
 pub mod Legal

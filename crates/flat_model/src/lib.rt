@@ -2,6 +2,9 @@
 //! machine of all harts over one memory, and the legal lists of completed instructions.
 #![tactic(auto)]
 
+pub mod of_ddm_types;
+pub mod of_rv_decode;
+
 ghost use Rattle.flat_model.specs.Examples.{StoreAndLoadBack, StoreAndLoadEnd, StoreAndLoadLegal, OneByteOfOutput, ReservationKept, ReservationLost, FailedConditional, OwnStore, Results, Jumps, BytesAndHalves, OtherWords, AtomicOperations, AmoOverAddress, Asks, Halts, EffectsOnItems};
 
 use ddm_types::{HaltCause, ItemId};

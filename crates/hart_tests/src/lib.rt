@@ -2,6 +2,8 @@
 #![tactic(auto)]
 
 #[cfg(test)]
+pub mod of_ddm_types;
+pub mod of_rv_hart;
 mod with_rv_decode;
 #[cfg(test)]
 mod with_rv_flat;

@@ -1,7 +1,7 @@
 ghost use Rattle.std.specs.Prelude.{◌≡◌, ◌*◌, ◌<◌, IfOk, length};
 ghost use Rattle.rv_flat.specs.FlatState.{HasItems};
 
-use ddm_types::{
+use crate::of_ddm_types::{
     Code, CodePart, Effect, HaltCause, HartNo, Items, MOST_ITEMS, NoMemory, Span, Start,
     count_items,
 };

@@ -1,10 +1,10 @@
 ghost use Rattle.std.specs.Prelude.{◌≡◌, IfOk, None};
 
-use ddm_types::{
+use crate::of_ddm_types::{
     Code, CodePart, Effect, HaltCause, Items, MOST_ITEMS, NoMemory, Span, Words, count_items,
 };
+use crate::of_rv_hart::{Ask, Hart};
 use rv_decode::Reg;
-use rv_hart::{Ask, Hart};
 use std::alloc::Global;
 use std::test::Fail;
 
@@ -22,7 +22,7 @@ fn code_of_word(alloc: Global, word: u32) -> Result<Code, NoMemory> {
 }
 
 /// The table of one item of four words.
-#[tactic(auto, unfolding(ddm_types::specs::ItemTable::items_of))]
+#[tactic(auto, unfolding(crate::specs::Opened::items_of))]
 fn one_item(alloc: Global) -> Result<Items, NoMemory>
     ensures { IfOk result (λ items. items.size ≡ 16) }
 {

@@ -4,10 +4,10 @@ use Rattle.std.proofs.Common.{◌≡◌, ℕ, ◌<◌, Bool, true, false, not, �
 use Rattle.std.specs.Prelude.{IfSome}
 use Rattle.std.specs.List.{AllByRecursion}
 use Rattle.std.proofs.lemmas.Bool.{and_parts, not-true, true≢false, false≢true, eqb-true, eq-eqb, ltb-true}
-use Rattle.tree_rules.specs.Order.Moments.{less, less_at, before, parted, is_under, same_numbers, GoesOn}
-use Rattle.tree_rules.specs.Order.Places.{DirAt, dir_path}
-use Rattle.tree_rules.specs.Order.Written as written
-use Rattle.order_lists.proofs.Moments.{less-parts, less-head, less-tail, less-least, same_numbers-itself}
+use Rattle.headline.specs.TreeRules.Order.Moments.{less, less_at, before, parted, is_under, same_numbers, GoesOn}
+use Rattle.headline.specs.TreeRules.Order.Places.{DirAt, dir_path}
+use Rattle.headline.specs.TreeRules.Order.Written as written
+use Rattle.headline.proofs.OrderLists.Moments.{less-parts, less-head, less-tail, less-least, same_numbers-itself}
 
 -- ---- lists of numbers
 

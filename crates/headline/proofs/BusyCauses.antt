@@ -2,31 +2,31 @@
 use Rattle.std.proofs.Common.{◌≡◌, ℕ, ◌%◌, Bool, true, false, nat_eq, List, length, Option, Some, None, Result, Ok, Err, refl, sym, ap, subst, ◌∙◌}
 use Rattle.std.specs.Prelude.{⊤}
 use Rattle.std.proofs.lemmas.Bool.{eqb-true}
-use Rattle.ddm_types.specs.declared.answers.TurnAnswer.{TurnAnswer}
-use Rattle.ddm_types.specs.declared.operations.HaltCause.{HaltCause}
-use Rattle.ddm_types.specs.declared.keys.Key.{Key}
-use Rattle.ddm_types.specs.declared.sizes.LeafState.{LeafState}
-use Rattle.ddm_types.specs.declared.turns.Turn.{Turn}
-use Rattle.ddm_types.specs.ItemTable.{ItemTable}
-use Rattle.ddm_types.specs.CodeMap.{CodeWord}
-use Rattle.flat_model.specs.Hart.{ask_of}
-use Rattle.flat_model.specs.Flat.{Change}
-use Rattle.tree_model.specs.declared.BusTurn.{BusTurn}
-use Rattle.tree_model.specs.State.Values.{LeafValue, DirValue, Node, Nodes, leaf_node, dir_node, children, MachineValue, root_of}
-use Rattle.tree_model.specs.State.Leaf.{free_way, buffer_full, waiting_item}
-use Rattle.tree_model.specs.State.Child.{child_request, child_reply, child_leaving}
-use Rattle.tree_model.specs.State.Place.{Where, at_top, stamp_above, key_at_leaf}
-use Rattle.tree_model.specs.State.Shape.{IsShaped}
-use Rattle.tree_model.specs.Turns.HartTurn.{Deed, has_halted, waits_for, halts, completes, fetches, upgrades, finds_buffer_full, Need, no_need, a_copy, no_other_copy, time, need_of, change_here, deed_of_change, replaces, deed_to_fetch, deed_by_need, deed_unless_waiting, deed_unless_halted, deed_of, answer_of_deed, leaf_step}
-use Rattle.tree_model.specs.Turns.Children.{child_at}
-use Rattle.tree_model.specs.Turns.Bus.{bus_judged, bus_step}
-use Rattle.tree_model.specs.Turns.Tree.{is_named}
-use Rattle.tree_model.specs.Turns.Machine.{named_by, answer_here, turn_answer, turn_of}
-use Rattle.tree_model.proofs.TurnChanges.{turn-unanswered, turn-answered}
-use Rattle.tree_model.proofs.LeafRooms.{leaf_within-facts}
-use Rattle.tree_rules.specs.Bus.Own.{leaf_lists}
-use Rattle.tree_rules.specs.Bus.Rules.{items_of_machine, IsMachineOk}
-use Rattle.tree_rules.specs.Witness.{none_has_room, busy_has_cause}
+use Rattle.headline.specs.DdmTypes.declared.answers.TurnAnswer.{TurnAnswer}
+use Rattle.headline.specs.DdmTypes.declared.operations.HaltCause.{HaltCause}
+use Rattle.headline.specs.DdmTypes.declared.keys.Key.{Key}
+use Rattle.headline.specs.DdmTypes.declared.sizes.LeafState.{LeafState}
+use Rattle.headline.specs.DdmTypes.declared.turns.Turn.{Turn}
+use Rattle.headline.specs.DdmTypes.ItemTable.{ItemTable}
+use Rattle.headline.specs.DdmTypes.CodeMap.{CodeWord}
+use Rattle.headline.specs.FlatModel.Hart.{ask_of}
+use Rattle.headline.specs.FlatModel.Flat.{Change}
+use Rattle.headline.specs.TreeModel.declared.BusTurn.{BusTurn}
+use Rattle.headline.specs.TreeModel.State.Values.{LeafValue, DirValue, Node, Nodes, leaf_node, dir_node, children, MachineValue, root_of}
+use Rattle.headline.specs.TreeModel.State.Leaf.{free_way, buffer_full, waiting_item}
+use Rattle.headline.specs.TreeModel.State.Child.{child_request, child_reply, child_leaving}
+use Rattle.headline.specs.TreeModel.State.Place.{Where, at_top, stamp_above, key_at_leaf}
+use Rattle.headline.specs.TreeModel.State.Shape.{IsShaped}
+use Rattle.headline.specs.TreeModel.Turns.HartTurn.{Deed, has_halted, waits_for, halts, completes, fetches, upgrades, finds_buffer_full, Need, no_need, a_copy, no_other_copy, time, need_of, change_here, deed_of_change, replaces, deed_to_fetch, deed_by_need, deed_unless_waiting, deed_unless_halted, deed_of, answer_of_deed, leaf_step}
+use Rattle.headline.specs.TreeModel.Turns.Children.{child_at}
+use Rattle.headline.specs.TreeModel.Turns.Bus.{bus_judged, bus_step}
+use Rattle.headline.specs.TreeModel.Turns.Tree.{is_named}
+use Rattle.headline.specs.TreeModel.Turns.Machine.{named_by, answer_here, turn_answer, turn_of}
+use Rattle.headline.proofs.TreeModel.TurnChanges.{turn-unanswered, turn-answered}
+use Rattle.headline.proofs.TreeModel.LeafRooms.{leaf_within-facts}
+use Rattle.headline.specs.TreeRules.Bus.Own.{leaf_lists}
+use Rattle.headline.specs.TreeRules.Bus.Rules.{items_of_machine, IsMachineOk}
+use Rattle.headline.specs.TreeRules.Witness.{none_has_room, busy_has_cause}
 use Rattle.headline.specs.Causes.{BusyHasItsCause}
 use Rattle.headline.proofs.Standing.{StandsIn, stands-ok, WasRead, was-read}
 use Rattle.headline.proofs.Numbered.{told-leaf}

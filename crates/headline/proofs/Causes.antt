@@ -4,29 +4,29 @@ use Rattle.std.proofs.Common.{◌≡◌, ℕ, ◌<◌, ◌≤◌, Bool, true, fa
 use Rattle.std.specs.Prelude.{⊤, if◌then◌else◌}
 use Rattle.std.specs.List.{AllByRecursion}
 use Rattle.std.proofs.lemmas.Bool.{eq-eqb, cases_lt}
-use Rattle.ddm_types.specs.declared.answers.TxKind.{TxKind}
-use Rattle.ddm_types.specs.declared.answers.TxKind.TheVariants.{ReadTx, DataTx, EraseTx, ExclusiveTx, InjectTx, OutTx}
-use Rattle.ddm_types.specs.declared.answers.PendingWhy.{PendingWhy}
-use Rattle.ddm_types.specs.declared.answers.QueueName.{QueueName}
-use Rattle.ddm_types.specs.declared.turns.Turn.{Turn}
-use Rattle.ddm_types.specs.declared.keys.Stamp.{Stamp}
-use Rattle.tree_model.specs.State.Lists.{first_some, first_given, find_from}
-use Rattle.tree_model.specs.State.States.{is_held, is_exclusive}
-use Rattle.tree_model.specs.State.Values.{RequestValue, CopyValue, DownValue, Note, no_note, local, up_read, up_erase, DirValue, Node, Nodes, dir_node, children, MachineValue, root_of}
-use Rattle.tree_model.specs.State.Blank.{no_node}
-use Rattle.tree_model.specs.State.Directory.{dir_hold, dir_note, is_answering, is_reader, is_parked, down_full, requests_full, replies_full, parked_words, pending, front_taken}
-use Rattle.tree_model.specs.State.Child.{child_full_for, reader_has_place}
-use Rattle.tree_model.specs.State.Shape.{IsShaped}
-use Rattle.tree_model.specs.Turns.Grant.{Grant, Judged, nothing_there, refused, granted, is_pending, unless_full, bus_answer, own_down_full, own_requests_full, own_replies_full}
-use Rattle.tree_model.specs.Turns.Children.{child_at, holds_item, other_holds, other_full, full_to_lose, reader_full}
-use Rattle.tree_model.specs.Turns.RequestRead.{read_of_child, read_of_parked, read_of_parent, read_held, read_granted, read_unless_pending, request_read}
-use Rattle.tree_model.specs.Turns.RequestErase.{erase_list_full, erase_of_all, request_erase}
-use Rattle.tree_model.specs.Turns.Reply.{reply_to_readers, reply_to_parent, reply_answering, reply_by_note}
-use Rattle.tree_model.specs.Turns.Down.{exclusive_to, down_exclusive, erase_of_children, down_erase, read_by_child, read_by_parked, down_read, data_to_readers, down_data, inject_to_reader, inject_to_readers, inject_parked, inject_to_parking, inject_to_taker, inject_to_only_reader, inject_to_read, inject_taker, down_inject, down_by_kind, down_by_note, down_turn}
-use Rattle.tree_model.specs.Turns.Bus.{request_by_kind, request_turn, reply_turn}
-use Rattle.tree_model.proofs.Children.{found-within}
-use Rattle.tree_rules.specs.Bus.Rules.{IsMachineOk}
-use Rattle.tree_rules.specs.Witness.{is_note_of, pends_by, cause_holds, busy_has_cause}
+use Rattle.headline.specs.DdmTypes.declared.answers.TxKind.{TxKind}
+use Rattle.headline.specs.DdmTypes.declared.answers.TxKind.TheVariants.{ReadTx, DataTx, EraseTx, ExclusiveTx, InjectTx, OutTx}
+use Rattle.headline.specs.DdmTypes.declared.answers.PendingWhy.{PendingWhy}
+use Rattle.headline.specs.DdmTypes.declared.answers.QueueName.{QueueName}
+use Rattle.headline.specs.DdmTypes.declared.turns.Turn.{Turn}
+use Rattle.headline.specs.DdmTypes.declared.keys.Stamp.{Stamp}
+use Rattle.headline.specs.TreeModel.State.Lists.{first_some, first_given, find_from}
+use Rattle.headline.specs.TreeModel.State.States.{is_held, is_exclusive}
+use Rattle.headline.specs.TreeModel.State.Values.{RequestValue, CopyValue, DownValue, Note, no_note, local, up_read, up_erase, DirValue, Node, Nodes, dir_node, children, MachineValue, root_of}
+use Rattle.headline.specs.TreeModel.State.Blank.{no_node}
+use Rattle.headline.specs.TreeModel.State.Directory.{dir_hold, dir_note, is_answering, is_reader, is_parked, down_full, requests_full, replies_full, parked_words, pending, front_taken}
+use Rattle.headline.specs.TreeModel.State.Child.{child_full_for, reader_has_place}
+use Rattle.headline.specs.TreeModel.State.Shape.{IsShaped}
+use Rattle.headline.specs.TreeModel.Turns.Grant.{Grant, Judged, nothing_there, refused, granted, is_pending, unless_full, bus_answer, own_down_full, own_requests_full, own_replies_full}
+use Rattle.headline.specs.TreeModel.Turns.Children.{child_at, holds_item, other_holds, other_full, full_to_lose, reader_full}
+use Rattle.headline.specs.TreeModel.Turns.RequestRead.{read_of_child, read_of_parked, read_of_parent, read_held, read_granted, read_unless_pending, request_read}
+use Rattle.headline.specs.TreeModel.Turns.RequestErase.{erase_list_full, erase_of_all, request_erase}
+use Rattle.headline.specs.TreeModel.Turns.Reply.{reply_to_readers, reply_to_parent, reply_answering, reply_by_note}
+use Rattle.headline.specs.TreeModel.Turns.Down.{exclusive_to, down_exclusive, erase_of_children, down_erase, read_by_child, read_by_parked, down_read, data_to_readers, down_data, inject_to_reader, inject_to_readers, inject_parked, inject_to_parking, inject_to_taker, inject_to_only_reader, inject_to_read, inject_taker, down_inject, down_by_kind, down_by_note, down_turn}
+use Rattle.headline.specs.TreeModel.Turns.Bus.{request_by_kind, request_turn, reply_turn}
+use Rattle.headline.proofs.TreeModel.Children.{found-within}
+use Rattle.headline.specs.TreeRules.Bus.Rules.{IsMachineOk}
+use Rattle.headline.specs.TreeRules.Witness.{is_note_of, pends_by, cause_holds, busy_has_cause}
 use Rattle.headline.proofs.Standing.{StandsIn, in_below, stands-under}
 use Rattle.headline.proofs.Numbered.{told-dir}
 use Rattle.headline.proofs.FullLists.{pends, among-at, among-each, past-end, FullHolds, first-full, some-full, given-full, child-full, down-is_full, requests-are_full, replies-are_full}

@@ -2,37 +2,37 @@
 use Rattle.std.proofs.Common.{◌≡◌, ℕ, ◌+◌, Bool, true, false, List, [], ◌++◌, filter, Option, Some, None, Result, Ok, refl, sym, ap, subst, ◌∙◌}
 use Rattle.std.specs.Prelude.{option_and_then, ⊤}
 use Rattle.std.specs.List.{AllByRecursion}
-use Rattle.ddm_types.specs.declared.answers.TurnAnswer.{TurnAnswer}
-use Rattle.ddm_types.specs.declared.operations.Effect.{Effect}
-use Rattle.ddm_types.specs.declared.operations.Effect.TheVariants.{Plain, Put, Load, Store, Lr, ScOk, ScFail, Amo}
-use Rattle.ddm_types.specs.declared.operations.HaltCause.{HaltCause}
-use Rattle.ddm_types.specs.declared.operations.Op.{Op}
-use Rattle.ddm_types.specs.declared.turns.Turn.{Turn}
-use Rattle.ddm_types.specs.Keys.{key_less}
-use Rattle.ddm_types.specs.CodeMap.{CodeWord}
-use Rattle.ddm_types.specs.ItemTable.{ItemTable, item_at}
-use Rattle.flat_model.specs.Hart.{HartValue, Action, Halts, Computes, Puts, Loads, Stores, Reserves, StoresIfReserved, Changes, action_of, ask_by, ask_of, finish_by, finish_of}
-use Rattle.flat_model.specs.Flat.{FlatMachine, Change, flat_hart, has_reserved, conditional, change_by}
-use Rattle.flat_model.specs.Legal.{HasWholeWords, reservation, legal_run}
-use Rattle.flat_model.proofs.Actions.{IsActionOf, action_is}
-use Rattle.flat_model.proofs.Items.{item_at_word}
-use Rattle.flat_model.proofs.Runs.{legal_run_append}
-use Rattle.flat_model.proofs.Steps.{same_change}
-use Rattle.flat_model.proofs.Reserving.{run_reserves}
-use Rattle.tree_model.specs.State.Values.{LeafValue, DirValue, Node, Nodes, leaf_node, dir_node, no_nodes, more_nodes, MachineValue, root_of}
-use Rattle.tree_model.specs.State.Place.{Spot, spot_path, spot_in}
-use Rattle.tree_model.specs.State.Shape.{depth_of, IsShaped}
-use Rattle.tree_model.specs.Turns.HartTurn.{change_here, words_here}
-use Rattle.tree_model.specs.Turns.Tree.{leaf_of_number, has_node}
-use Rattle.tree_model.specs.Turns.Witness.{sorted_ops}
-use Rattle.tree_model.proofs.TurnChanges.{turn-changes_nothing}
-use Rattle.tree_rules.specs.Statements.{Holds, if_there}
-use Rattle.tree_rules.specs.Order.Moments.{less}
-use Rattle.tree_rules.specs.Order.Ops.{op_key}
-use Rattle.tree_rules.specs.Order.Places.{LeafAt, leaf_now, leaves_in, placed_leaves, leaves_at}
-use Rattle.tree_rules.specs.Order.Core as core
-use Rattle.order_lists.proofs.Filters.{each-weaker, each-both, each-append}
-use Rattle.order_lists.proofs.Sorted.{lesser, greater}
+use Rattle.headline.specs.DdmTypes.declared.answers.TurnAnswer.{TurnAnswer}
+use Rattle.headline.specs.DdmTypes.declared.operations.Effect.{Effect}
+use Rattle.headline.specs.DdmTypes.declared.operations.Effect.TheVariants.{Plain, Put, Load, Store, Lr, ScOk, ScFail, Amo}
+use Rattle.headline.specs.DdmTypes.declared.operations.HaltCause.{HaltCause}
+use Rattle.headline.specs.DdmTypes.declared.operations.Op.{Op}
+use Rattle.headline.specs.DdmTypes.declared.turns.Turn.{Turn}
+use Rattle.headline.specs.DdmTypes.Keys.{key_less}
+use Rattle.headline.specs.DdmTypes.CodeMap.{CodeWord}
+use Rattle.headline.specs.DdmTypes.ItemTable.{ItemTable, item_at}
+use Rattle.headline.specs.FlatModel.Hart.{HartValue, Action, Halts, Computes, Puts, Loads, Stores, Reserves, StoresIfReserved, Changes, action_of, ask_by, ask_of, finish_by, finish_of}
+use Rattle.headline.specs.FlatModel.Flat.{FlatMachine, Change, flat_hart, has_reserved, conditional, change_by}
+use Rattle.headline.specs.FlatModel.Legal.{HasWholeWords, reservation, legal_run}
+use Rattle.headline.proofs.FlatModel.Actions.{IsActionOf, action_is}
+use Rattle.headline.proofs.FlatModel.Items.{item_at_word}
+use Rattle.headline.proofs.FlatModel.Runs.{legal_run_append}
+use Rattle.headline.proofs.FlatModel.Steps.{same_change}
+use Rattle.headline.proofs.FlatModel.Reserving.{run_reserves}
+use Rattle.headline.specs.TreeModel.State.Values.{LeafValue, DirValue, Node, Nodes, leaf_node, dir_node, no_nodes, more_nodes, MachineValue, root_of}
+use Rattle.headline.specs.TreeModel.State.Place.{Spot, spot_path, spot_in}
+use Rattle.headline.specs.TreeModel.State.Shape.{depth_of, IsShaped}
+use Rattle.headline.specs.TreeModel.Turns.HartTurn.{change_here, words_here}
+use Rattle.headline.specs.TreeModel.Turns.Tree.{leaf_of_number, has_node}
+use Rattle.headline.specs.TreeModel.Turns.Witness.{sorted_ops}
+use Rattle.headline.proofs.TreeModel.TurnChanges.{turn-changes_nothing}
+use Rattle.headline.specs.TreeRules.Statements.{Holds, if_there}
+use Rattle.headline.specs.TreeRules.Order.Moments.{less}
+use Rattle.headline.specs.TreeRules.Order.Ops.{op_key}
+use Rattle.headline.specs.TreeRules.Order.Places.{LeafAt, leaf_now, leaves_in, placed_leaves, leaves_at}
+use Rattle.headline.specs.TreeRules.Order.Core as core
+use Rattle.headline.proofs.OrderLists.Filters.{each-weaker, each-both, each-append}
+use Rattle.headline.proofs.OrderLists.Sorted.{lesser, greater}
 use Rattle.order_laws.proofs.Hart.HartMachine.{Tip, hart_turned}
 use Rattle.order_laws.proofs.Hart.LeafPlaces.{IsOnlyOf}
 use Rattle.order_laws.proofs.Hart.FromRules.{facts_from_rules}

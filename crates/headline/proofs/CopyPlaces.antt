@@ -5,24 +5,24 @@ use Rattle.std.specs.Prelude.{IfSome}
 use Rattle.std.specs.List.{AllByRecursion}
 use Rattle.std.proofs.lemmas.Bool.{true≢false}
 use Rattle.std.proofs.lemmas.List.{length-append}
-use Rattle.ddm_types.specs.declared.answers.TxKind.TheVariants.{EraseTx}
-use Rattle.tree_model.specs.State.Kinds.{is_kind, brings_copy}
-use Rattle.tree_model.specs.State.States.{entry_hold, is_held}
-use Rattle.tree_model.specs.State.Values.{DownValue, DirValue, Node, Nodes, leaf_node, dir_node, no_nodes, more_nodes, MachineValue}
-use Rattle.tree_model.specs.State.Leaf.{words_of_item, LeafEntry, leaf_entry}
-use Rattle.tree_model.specs.State.Directory.{queue_of}
-use Rattle.tree_model.specs.State.Child.{child_replies}
-use Rattle.tree_model.specs.State.Place.{Spot, spot_path, spot_in}
-use Rattle.tree_rules.specs.Order.Moments.{is_under, moment_at, moment_length, spot_moment, GoesOn}
-use Rattle.tree_rules.specs.Order.Copies.{CopyAt, cut, first_erase, downs, copies_here, entry_copies, inner, handed, copies_of}
-use Rattle.tree_rules.specs.Order.Places.{LeafAt, leaf_path, leaves_in, placed_leaves, leaves_at, DirAt, dir_path, taken_moment, dirs_in, placed_dirs, dirs_at}
-use Rattle.order_lists.proofs.Filters.{each-weaker, each-both, each-append, each-left, each-right}
-use Rattle.order_lists.proofs.Paths.{IsFrom, from_child, from_later, under-trans, under-shorter, under-length, leaves_under, placed_from, dirs_under, dirs_from}
-use Rattle.order_lists.proofs.Placed.{inner_under}
-use Rattle.order_lists.proofs.Stamps.{moment_at-length}
-use Rattle.order_lists.proofs.Clocks.{shallow, below_goes_on}
-use Rattle.order_lists.proofs.Queues.{IsOrdered, some_first, first_erase-each}
-use Rattle.order_lists.proofs.Ends.{IsTimely, handed-timely}
+use Rattle.headline.specs.DdmTypes.declared.answers.TxKind.TheVariants.{EraseTx}
+use Rattle.headline.specs.TreeModel.State.Kinds.{is_kind, brings_copy}
+use Rattle.headline.specs.TreeModel.State.States.{entry_hold, is_held}
+use Rattle.headline.specs.TreeModel.State.Values.{DownValue, DirValue, Node, Nodes, leaf_node, dir_node, no_nodes, more_nodes, MachineValue}
+use Rattle.headline.specs.TreeModel.State.Leaf.{words_of_item, LeafEntry, leaf_entry}
+use Rattle.headline.specs.TreeModel.State.Directory.{queue_of}
+use Rattle.headline.specs.TreeModel.State.Child.{child_replies}
+use Rattle.headline.specs.TreeModel.State.Place.{Spot, spot_path, spot_in}
+use Rattle.headline.specs.TreeRules.Order.Moments.{is_under, moment_at, moment_length, spot_moment, GoesOn}
+use Rattle.headline.specs.TreeRules.Order.Copies.{CopyAt, cut, first_erase, downs, copies_here, entry_copies, inner, handed, copies_of}
+use Rattle.headline.specs.TreeRules.Order.Places.{LeafAt, leaf_path, leaves_in, placed_leaves, leaves_at, DirAt, dir_path, taken_moment, dirs_in, placed_dirs, dirs_at}
+use Rattle.headline.proofs.OrderLists.Filters.{each-weaker, each-both, each-append, each-left, each-right}
+use Rattle.headline.proofs.OrderLists.Paths.{IsFrom, from_child, from_later, under-trans, under-shorter, under-length, leaves_under, placed_from, dirs_under, dirs_from}
+use Rattle.headline.proofs.OrderLists.Placed.{inner_under}
+use Rattle.headline.proofs.OrderLists.Stamps.{moment_at-length}
+use Rattle.headline.proofs.OrderLists.Clocks.{shallow, below_goes_on}
+use Rattle.headline.proofs.OrderLists.Queues.{IsOrdered, some_first, first_erase-each}
+use Rattle.headline.proofs.OrderLists.Ends.{IsTimely, handed-timely}
 
 -- ---- the parts of a node's copies
 

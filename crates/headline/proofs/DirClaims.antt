@@ -2,21 +2,21 @@
 use Rattle.std.proofs.Common.{◌≡◌, ℕ, ◌+◌, ◌<◌, true, List, [], ◌∷◌, length, Option, Some, None, refl, subst}
 use Rattle.std.specs.Prelude.{IfSome, unwrap_or, if◌then◌else◌}
 use Rattle.std.specs.List.{AllByRecursion}
-use Rattle.tree_model.specs.State.Lists.{first_some}
-use Rattle.tree_model.specs.State.States.{is_exclusive}
-use Rattle.tree_model.specs.State.Values.{DownValue, DirValue, Node, Nodes, leaf_node, dir_node, no_nodes, more_nodes, MachineValue}
-use Rattle.tree_model.specs.State.Directory.{dir_hold, queue_of}
-use Rattle.tree_model.specs.State.Place.{Spot, spot_path, spot_in}
-use Rattle.tree_rules.specs.Order.Moments.{moment_at, moment_length, GoesOn}
-use Rattle.tree_rules.specs.Order.Claims.{last_exclusive, claim, first_claim, ClaimAt, claim_here, claims_in, claims_among, claims_of}
-use Rattle.tree_rules.specs.Order.Places.{DirAt, dir_path, taken_moment, dirs_in, placed_dirs, dirs_at}
-use Rattle.tree_rules.specs.Order.Written.{exclusive_since}
-use Rattle.order_lists.proofs.Filters.{each-append, each-left, each-right}
-use Rattle.order_lists.proofs.Moments.{GoesOn-refl}
-use Rattle.order_lists.proofs.Stamps.{moment_at-length}
-use Rattle.order_lists.proofs.Clocks.{below_goes_on}
-use Rattle.order_lists.proofs.Queues.{IsOrdered}
-use Rattle.order_lists.proofs.Holders.{last-each, first_claim_goes_on}
+use Rattle.headline.specs.TreeModel.State.Lists.{first_some}
+use Rattle.headline.specs.TreeModel.State.States.{is_exclusive}
+use Rattle.headline.specs.TreeModel.State.Values.{DownValue, DirValue, Node, Nodes, leaf_node, dir_node, no_nodes, more_nodes, MachineValue}
+use Rattle.headline.specs.TreeModel.State.Directory.{dir_hold, queue_of}
+use Rattle.headline.specs.TreeModel.State.Place.{Spot, spot_path, spot_in}
+use Rattle.headline.specs.TreeRules.Order.Moments.{moment_at, moment_length, GoesOn}
+use Rattle.headline.specs.TreeRules.Order.Claims.{last_exclusive, claim, first_claim, ClaimAt, claim_here, claims_in, claims_among, claims_of}
+use Rattle.headline.specs.TreeRules.Order.Places.{DirAt, dir_path, taken_moment, dirs_in, placed_dirs, dirs_at}
+use Rattle.headline.specs.TreeRules.Order.Written.{exclusive_since}
+use Rattle.headline.proofs.OrderLists.Filters.{each-append, each-left, each-right}
+use Rattle.headline.proofs.OrderLists.Moments.{GoesOn-refl}
+use Rattle.headline.proofs.OrderLists.Stamps.{moment_at-length}
+use Rattle.headline.proofs.OrderLists.Clocks.{below_goes_on}
+use Rattle.headline.proofs.OrderLists.Queues.{IsOrdered}
+use Rattle.headline.proofs.OrderLists.Holders.{last-each, first_claim_goes_on}
 
 module _ (x : ℕ) where
   -- the claim of this directory, of which this is known

@@ -3,24 +3,24 @@ use Rattle.std.proofs.Common.{◌≡◌, ℕ, zero, suc, ◌+◌, ◌<◌, ◌�
 use Rattle.std.specs.Prelude.{IfSome, nat_le}
 use Rattle.std.specs.List.{AllByRecursion}
 use Rattle.std.proofs.lemmas.Bool.{and_parts, eq-eqb, leb-true}
-use Rattle.ddm_types.specs.declared.answers.TxKind.{TxKind}
-use Rattle.ddm_types.specs.declared.answers.TxKind.TheVariants.{ReadTx, DataTx, EraseTx, ExclusiveTx, InjectTx, OutTx}
-use Rattle.ddm_types.specs.declared.answers.PendingWhy.{PendingWhy}
-use Rattle.ddm_types.specs.declared.answers.QueueName.{QueueName}
-use Rattle.tree_model.specs.State.Lists.{some_if, first_some, first_given}
-use Rattle.tree_model.specs.State.States.{is_held}
-use Rattle.tree_model.specs.State.Values.{LeafValue, Note, no_note, local, up_read, up_erase, DirValue, Node, Nodes, leaf_node, dir_node, no_nodes, more_nodes, children, MachineValue, root_of}
-use Rattle.tree_model.specs.State.Blank.{no_node}
-use Rattle.tree_model.specs.State.Leaf.{leaf_replies_full}
-use Rattle.tree_model.specs.State.Directory.{dir_hold, dir_note, is_answering, in_down, down_full, requests_full, replies_full, pending, note_why, pending_by}
-use Rattle.tree_model.specs.State.Child.{child_full_for}
-use Rattle.tree_model.specs.State.Shape.{IsShaped}
-use Rattle.tree_model.specs.Turns.Children.{child_at}
-use Rattle.tree_model.proofs.DirRooms.{DirWithin, dir_within-facts}
-use Rattle.tree_model.proofs.LeafRooms.{leaf_within-facts}
-use Rattle.tree_rules.specs.Bus.Own.{leaf_lists, dir_lists}
-use Rattle.tree_rules.specs.Bus.Rules.{items_of_machine, IsMachineOk}
-use Rattle.tree_rules.specs.Witness.{is_note_of, pends_by, is_full}
+use Rattle.headline.specs.DdmTypes.declared.answers.TxKind.{TxKind}
+use Rattle.headline.specs.DdmTypes.declared.answers.TxKind.TheVariants.{ReadTx, DataTx, EraseTx, ExclusiveTx, InjectTx, OutTx}
+use Rattle.headline.specs.DdmTypes.declared.answers.PendingWhy.{PendingWhy}
+use Rattle.headline.specs.DdmTypes.declared.answers.QueueName.{QueueName}
+use Rattle.headline.specs.TreeModel.State.Lists.{some_if, first_some, first_given}
+use Rattle.headline.specs.TreeModel.State.States.{is_held}
+use Rattle.headline.specs.TreeModel.State.Values.{LeafValue, Note, no_note, local, up_read, up_erase, DirValue, Node, Nodes, leaf_node, dir_node, no_nodes, more_nodes, children, MachineValue, root_of}
+use Rattle.headline.specs.TreeModel.State.Blank.{no_node}
+use Rattle.headline.specs.TreeModel.State.Leaf.{leaf_replies_full}
+use Rattle.headline.specs.TreeModel.State.Directory.{dir_hold, dir_note, is_answering, in_down, down_full, requests_full, replies_full, pending, note_why, pending_by}
+use Rattle.headline.specs.TreeModel.State.Child.{child_full_for}
+use Rattle.headline.specs.TreeModel.State.Shape.{IsShaped}
+use Rattle.headline.specs.TreeModel.Turns.Children.{child_at}
+use Rattle.headline.proofs.TreeModel.DirRooms.{DirWithin, dir_within-facts}
+use Rattle.headline.proofs.TreeModel.LeafRooms.{leaf_within-facts}
+use Rattle.headline.specs.TreeRules.Bus.Own.{leaf_lists, dir_lists}
+use Rattle.headline.specs.TreeRules.Bus.Rules.{items_of_machine, IsMachineOk}
+use Rattle.headline.specs.TreeRules.Witness.{is_note_of, pends_by, is_full}
 use Rattle.headline.proofs.Standing.{StandsIn, in_here, StandsAmong, in_first, in_later, stands-ok}
 use Rattle.headline.proofs.Numbered.{told-dir, told-leaf}
 

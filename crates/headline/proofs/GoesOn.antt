@@ -2,28 +2,28 @@
 use Rattle.std.proofs.Common.{◌≡◌, ℕ, ◌%◌, Bool, true, false, nat_eq, inl, inr, List, [], ◌∷◌, Option, Some, None, Result, Ok, Err, refl, sym, ap, subst, ◌∙◌}
 use Rattle.std.specs.List.{AllByRecursion}
 use Rattle.std.proofs.lemmas.Bool.{eqb-true, true≢false}
-use Rattle.ddm_types.specs.declared.answers.TurnAnswer.{TurnAnswer}
-use Rattle.ddm_types.specs.declared.operations.HaltCause.{HaltCause}
-use Rattle.ddm_types.specs.declared.turns.Turn.{Turn}
-use Rattle.ddm_types.specs.declared.keys.Key.{Key}
-use Rattle.ddm_types.specs.declared.sizes.LeafState.{LeafState}
-use Rattle.ddm_types.specs.ItemTable.{ItemTable}
-use Rattle.ddm_types.specs.CodeMap.{CodeWord}
-use Rattle.flat_model.specs.Hart.{ask_of}
-use Rattle.flat_model.specs.Flat.{FlatMachine, Change}
-use Rattle.tree_model.specs.State.Values.{LeafValue, MachineValue, root_of}
-use Rattle.tree_model.specs.State.Place.{at_child, key_at_leaf}
-use Rattle.tree_model.specs.State.Leaf.{free_way, buffer_full, waiting_item}
-use Rattle.tree_model.specs.Turns.HartTurn.{Deed, Need, no_need, a_copy, no_other_copy, time, need_of, change_here, deed_of_change, replaces, deed_to_fetch, deed_by_need, deed_unless_waiting, deed_unless_halted, deed_of, answer_of_deed, leaf_after_deed, leaf_step}
-use Rattle.tree_model.specs.Turns.Tree.{leaf_of_number, has_node}
-use Rattle.tree_model.specs.Turns.Machine.{turn_of}
-use Rattle.tree_model.proofs.HartKeeps.{leaf_step-keeps}
-use Rattle.tree_model.proofs.TurnChanges.{turn-changes_nothing}
-use Rattle.tree_rules.specs.Order.Moments.{is_under}
-use Rattle.tree_rules.specs.Order.Places.{LeafAt, leaf_path, leaves_at}
-use Rattle.tree_rules.specs.Order.Rules.{commands_past_taken}
-use Rattle.tree_rules.specs.Witness.{halts_hart}
-use Rattle.order_lists.proofs.Paths.{under-itself}
+use Rattle.headline.specs.DdmTypes.declared.answers.TurnAnswer.{TurnAnswer}
+use Rattle.headline.specs.DdmTypes.declared.operations.HaltCause.{HaltCause}
+use Rattle.headline.specs.DdmTypes.declared.turns.Turn.{Turn}
+use Rattle.headline.specs.DdmTypes.declared.keys.Key.{Key}
+use Rattle.headline.specs.DdmTypes.declared.sizes.LeafState.{LeafState}
+use Rattle.headline.specs.DdmTypes.ItemTable.{ItemTable}
+use Rattle.headline.specs.DdmTypes.CodeMap.{CodeWord}
+use Rattle.headline.specs.FlatModel.Hart.{ask_of}
+use Rattle.headline.specs.FlatModel.Flat.{FlatMachine, Change}
+use Rattle.headline.specs.TreeModel.State.Values.{LeafValue, MachineValue, root_of}
+use Rattle.headline.specs.TreeModel.State.Place.{at_child, key_at_leaf}
+use Rattle.headline.specs.TreeModel.State.Leaf.{free_way, buffer_full, waiting_item}
+use Rattle.headline.specs.TreeModel.Turns.HartTurn.{Deed, Need, no_need, a_copy, no_other_copy, time, need_of, change_here, deed_of_change, replaces, deed_to_fetch, deed_by_need, deed_unless_waiting, deed_unless_halted, deed_of, answer_of_deed, leaf_after_deed, leaf_step}
+use Rattle.headline.specs.TreeModel.Turns.Tree.{leaf_of_number, has_node}
+use Rattle.headline.specs.TreeModel.Turns.Machine.{turn_of}
+use Rattle.headline.proofs.TreeModel.HartKeeps.{leaf_step-keeps}
+use Rattle.headline.proofs.TreeModel.TurnChanges.{turn-changes_nothing}
+use Rattle.headline.specs.TreeRules.Order.Moments.{is_under}
+use Rattle.headline.specs.TreeRules.Order.Places.{LeafAt, leaf_path, leaves_at}
+use Rattle.headline.specs.TreeRules.Order.Rules.{commands_past_taken}
+use Rattle.headline.specs.TreeRules.Witness.{halts_hart}
+use Rattle.headline.proofs.OrderLists.Paths.{under-itself}
 use Rattle.order_laws.specs.Moves.CopiesMoved.{IsBusTurn}
 use Rattle.order_laws.specs.Moves.LeavesKept.{LeafKept}
 use Rattle.order_laws.proofs.Moves.CopiesMoved.{reservations-kept}

@@ -3,26 +3,26 @@
 use Rattle.std.proofs.Common.{◌≡◌, ℕ, ◌+◌, ◌<◌, ◌≤◌, Bool, true, false, not, ◌&&◌, ◌||◌, nat_eq, ◌⊎◌, inl, inr, List, [], ◌∷◌, length, Option, Some, None, refl, sym, subst, ◌∙◌, arith}
 use Rattle.std.specs.Prelude.{if◌then◌else◌}
 use Rattle.std.proofs.lemmas.Bool.{true≢false, eqb-false, cases_lt, lt-ltb}
-use Rattle.ddm_types.specs.declared.answers.TxKind.{TxKind}
-use Rattle.ddm_types.specs.declared.answers.TxKind.TheVariants.{InjectTx, OutTx}
-use Rattle.ddm_types.specs.declared.answers.PendingWhy.{PendingWhy}
-use Rattle.ddm_types.specs.declared.answers.BusyCause.{BusyCause}
-use Rattle.ddm_types.specs.declared.sizes.Hold.{Hold}
-use Rattle.ddm_types.specs.declared.turns.Turn.{Turn}
-use Rattle.ddm_types.specs.declared.keys.Stamp.{Stamp}
-use Rattle.tree_model.specs.State.Lists.{first_some, find_from, all_from}
-use Rattle.tree_model.specs.State.States.{is_shared}
-use Rattle.tree_model.specs.State.Values.{DirValue, Node, Nodes, leaf_node, dir_node, children, MachineValue, root_of}
-use Rattle.tree_model.specs.State.Blank.{no_node}
-use Rattle.tree_model.specs.State.Directory.{is_top, dir_hold, is_parked, parking_full, pending}
-use Rattle.tree_model.specs.State.Child.{child_hold, child_room, pending_below}
-use Rattle.tree_model.specs.State.Shape.{IsShaped}
-use Rattle.tree_model.specs.Turns.Grant.{Judged, nothing_there, refused, granted, is_pending}
-use Rattle.tree_model.specs.Turns.Children.{child_at, other_waits, room_after, room_before}
-use Rattle.tree_model.specs.Turns.Leave.{leave_parked, leave_taker, parked_unless_full, leave_inject, leave_shared, other_copy, leave_by_hold, leave_unless_pending}
-use Rattle.tree_model.specs.Turns.Bus.{leave_turn}
-use Rattle.tree_rules.specs.Bus.Rules.{IsMachineOk}
-use Rattle.tree_rules.specs.Witness.{pends_by, none_has_room, leaves_nowhere, cause_holds}
+use Rattle.headline.specs.DdmTypes.declared.answers.TxKind.{TxKind}
+use Rattle.headline.specs.DdmTypes.declared.answers.TxKind.TheVariants.{InjectTx, OutTx}
+use Rattle.headline.specs.DdmTypes.declared.answers.PendingWhy.{PendingWhy}
+use Rattle.headline.specs.DdmTypes.declared.answers.BusyCause.{BusyCause}
+use Rattle.headline.specs.DdmTypes.declared.sizes.Hold.{Hold}
+use Rattle.headline.specs.DdmTypes.declared.turns.Turn.{Turn}
+use Rattle.headline.specs.DdmTypes.declared.keys.Stamp.{Stamp}
+use Rattle.headline.specs.TreeModel.State.Lists.{first_some, find_from, all_from}
+use Rattle.headline.specs.TreeModel.State.States.{is_shared}
+use Rattle.headline.specs.TreeModel.State.Values.{DirValue, Node, Nodes, leaf_node, dir_node, children, MachineValue, root_of}
+use Rattle.headline.specs.TreeModel.State.Blank.{no_node}
+use Rattle.headline.specs.TreeModel.State.Directory.{is_top, dir_hold, is_parked, parking_full, pending}
+use Rattle.headline.specs.TreeModel.State.Child.{child_hold, child_room, pending_below}
+use Rattle.headline.specs.TreeModel.State.Shape.{IsShaped}
+use Rattle.headline.specs.TreeModel.Turns.Grant.{Judged, nothing_there, refused, granted, is_pending}
+use Rattle.headline.specs.TreeModel.Turns.Children.{child_at, other_waits, room_after, room_before}
+use Rattle.headline.specs.TreeModel.Turns.Leave.{leave_parked, leave_taker, parked_unless_full, leave_inject, leave_shared, other_copy, leave_by_hold, leave_unless_pending}
+use Rattle.headline.specs.TreeModel.Turns.Bus.{leave_turn}
+use Rattle.headline.specs.TreeRules.Bus.Rules.{IsMachineOk}
+use Rattle.headline.specs.TreeRules.Witness.{pends_by, none_has_room, leaves_nowhere, cause_holds}
 use Rattle.headline.proofs.Standing.{StandsIn}
 use Rattle.headline.proofs.Numbered.{told-dir}
 use Rattle.headline.proofs.FullLists.{full-is, pends, past-end, within}

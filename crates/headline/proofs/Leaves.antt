@@ -2,10 +2,10 @@
 use Rattle.std.proofs.Common.{◌≡◌, ℕ, ◌+◌, List, [], ◌∷◌, ◌++◌, map, refl, sym, ap, subst, ◌∙◌, append_assoc, append-nil}
 use Rattle.std.specs.List.{AllByRecursion}
 use Rattle.std.proofs.lemmas.List.{map-append}
-use Rattle.tree_model.specs.State.Values.{LeafValue, DirValue, Node, Nodes, leaf_node, dir_node, no_nodes, more_nodes, MachineValue}
-use Rattle.tree_model.specs.State.Place.{Spot, spot_path, spot_in}
-use Rattle.tree_model.specs.Turns.Machine.{leaves_of, leaves_among, machine_leaves}
-use Rattle.tree_rules.specs.Order.Places.{LeafAt, leaves_in, placed_leaves, leaves_at}
+use Rattle.headline.specs.TreeModel.State.Values.{LeafValue, DirValue, Node, Nodes, leaf_node, dir_node, no_nodes, more_nodes, MachineValue}
+use Rattle.headline.specs.TreeModel.State.Place.{Spot, spot_path, spot_in}
+use Rattle.headline.specs.TreeModel.Turns.Machine.{leaves_of, leaves_among, machine_leaves}
+use Rattle.headline.specs.TreeRules.Order.Places.{LeafAt, leaves_in, placed_leaves, leaves_at}
 
 abbrev pub value_of : LeafAt → LeafValue
 value_of a = a.leaf

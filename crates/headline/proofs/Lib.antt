@@ -1,3 +1,9 @@
+pub mod BusLaws
+pub mod FlatModel
+pub mod OrderLaws
+pub mod OrderLists
+pub mod TreeModel
+pub mod TreeRules
 pub mod Leaves
 pub mod Witnessed
 pub mod Standing

@@ -2,13 +2,13 @@
 use Rattle.std.proofs.Common.{◌≡◌, ℕ, ◌+◌, ◌<◌, ◌≤◌, Bool, true, false, not, nat_eq, List, [], ◌∷◌, Some, refl, sym, ap, subst, ◌∙◌, arith}
 use Rattle.std.specs.List.{list_any}
 use Rattle.std.proofs.lemmas.Bool.{and_parts, or_parts, not-true, true≢false, eqb-true, eq-eqb}
-use Rattle.tree_model.specs.State.Values.{LeafValue, DirValue, Node, Nodes, leaf_node, dir_node, no_nodes, more_nodes, children, MachineValue, root_of}
-use Rattle.tree_model.specs.State.Shape.{skeleton, skeletons, buses_of, buses_among, leaf_numbers_of, leaf_numbers_among, are_distinct, count_from, buses_differ, leaves_numbered, IsShaped}
-use Rattle.tree_model.specs.State.Place.{at_top}
-use Rattle.tree_model.specs.Turns.Tree.{leaf_of_number, bus_of_number, of_leaf, of_dir}
-use Rattle.tree_model.specs.Turns.Machine.{ask_leaf, ask_bus}
-use Rattle.tree_rules.specs.Witness.{is_told}
-use Rattle.bus_laws.proofs.StartSums.{one_if}
+use Rattle.headline.specs.TreeModel.State.Values.{LeafValue, DirValue, Node, Nodes, leaf_node, dir_node, no_nodes, more_nodes, children, MachineValue, root_of}
+use Rattle.headline.specs.TreeModel.State.Shape.{skeleton, skeletons, buses_of, buses_among, leaf_numbers_of, leaf_numbers_among, are_distinct, count_from, buses_differ, leaves_numbered, IsShaped}
+use Rattle.headline.specs.TreeModel.State.Place.{at_top}
+use Rattle.headline.specs.TreeModel.Turns.Tree.{leaf_of_number, bus_of_number, of_leaf, of_dir}
+use Rattle.headline.specs.TreeModel.Turns.Machine.{ask_leaf, ask_bus}
+use Rattle.headline.specs.TreeRules.Witness.{is_told}
+use Rattle.headline.proofs.BusLaws.StartSums.{one_if}
 use Rattle.headline.proofs.Standing.{StandsIn, named_in, named_among, read-one}
 
 -- ---- numbers

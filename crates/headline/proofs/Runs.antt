@@ -3,17 +3,17 @@
 use Rattle.std.proofs.Common.{◌≡◌, Bool, true, false, ◌||◌, List, [], ◌∷◌, ◌++◌, None, refl, sym, ap, ◌∙◌, append_assoc}
 use Rattle.std.specs.Prelude.{take}
 use Rattle.std.proofs.lemmas.List.{append-nil}
-use Rattle.ddm_types.specs.declared.answers.TurnAnswer.{TurnAnswer}
-use Rattle.ddm_types.specs.declared.operations.Op.{Op}
-use Rattle.ddm_types.specs.declared.turns.Turn.{Turn}
-use Rattle.flat_model.specs.Flat.{FlatMachine}
-use Rattle.tree_model.specs.State.Values.{MachineValue}
-use Rattle.tree_model.specs.Turns.Machine.{turn_of, run_of}
-use Rattle.tree_model.specs.Start.Sources.{TreeValue, ImageValue}
-use Rattle.tree_model.specs.Start.Machine.{start_machine, flat_start_of, start_refusal, start_or, start_of}
-use Rattle.tree_rules.specs.Order.Places.{LeafAt, leaves_at}
-use Rattle.tree_rules.specs.Witness.{EachCauseHolds, op_of_answer, ops_of_answers, halts_hart, some_halts, IsHaltedByTurn, IsRunWitnessed, EachTurnWitnessed}
-use Rattle.bus_laws.specs.IsTree.{IsTree}
+use Rattle.headline.specs.DdmTypes.declared.answers.TurnAnswer.{TurnAnswer}
+use Rattle.headline.specs.DdmTypes.declared.operations.Op.{Op}
+use Rattle.headline.specs.DdmTypes.declared.turns.Turn.{Turn}
+use Rattle.headline.specs.FlatModel.Flat.{FlatMachine}
+use Rattle.headline.specs.TreeModel.State.Values.{MachineValue}
+use Rattle.headline.specs.TreeModel.Turns.Machine.{turn_of, run_of}
+use Rattle.headline.specs.TreeModel.Start.Sources.{TreeValue, ImageValue}
+use Rattle.headline.specs.TreeModel.Start.Machine.{start_machine, flat_start_of, start_refusal, start_or, start_of}
+use Rattle.headline.specs.TreeRules.Order.Places.{LeafAt, leaves_at}
+use Rattle.headline.specs.TreeRules.Witness.{EachCauseHolds, op_of_answer, ops_of_answers, halts_hart, some_halts, IsHaltedByTurn, IsRunWitnessed, EachTurnWitnessed}
+use Rattle.headline.specs.BusLaws.IsTree.{IsTree}
 use Rattle.order_laws.specs.EveryTurn.{IsOrderly}
 use Rattle.order_laws.proofs.EveryTurn.{turn-orderly, run-orderly}
 use Rattle.order_laws.specs.Pairs.{Pairs}

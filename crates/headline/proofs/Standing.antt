@@ -2,11 +2,11 @@
 use Rattle.std.proofs.Common.{◌≡◌, ℕ, ◌+◌, ◌≤◌, Bool, true, false, ◌||◌, List, Option, Some, None, refl, sym, ◌∙◌, arith}
 use Rattle.std.specs.Prelude.{if◌then◌else◌}
 use Rattle.std.proofs.lemmas.Bool.{true≢false}
-use Rattle.tree_model.specs.State.Values.{DirValue, Node, Nodes, leaf_node, dir_node, no_nodes, more_nodes}
-use Rattle.tree_model.specs.State.Place.{Where, at_child, where_path, spot_in}
-use Rattle.tree_model.specs.Turns.Tree.{Name, is_named, has_node, has_among, read_in, read_among}
-use Rattle.tree_rules.specs.Bus.Rules.{IsTreeOk, AreTreesOk}
-use Rattle.bus_laws.proofs.StartSums.{one_if}
+use Rattle.headline.specs.TreeModel.State.Values.{DirValue, Node, Nodes, leaf_node, dir_node, no_nodes, more_nodes}
+use Rattle.headline.specs.TreeModel.State.Place.{Where, at_child, where_path, spot_in}
+use Rattle.headline.specs.TreeModel.Turns.Tree.{Name, is_named, has_node, has_among, read_in, read_among}
+use Rattle.headline.specs.TreeRules.Bus.Rules.{IsTreeOk, AreTreesOk}
+use Rattle.headline.proofs.BusLaws.StartSums.{one_if}
 
 -- ---- a node of a tree
 

@@ -4,25 +4,25 @@ use Rattle.std.proofs.Common.{◌≡◌, ℕ, ◌+◌, ◌<◌, Bool, true, fals
 use Rattle.std.specs.Prelude.{slice_index_or, nat_eq}
 use Rattle.std.specs.List.{AllByRecursion, list_any}
 use Rattle.std.proofs.lemmas.Bool.{and_parts, or_parts, true≢false, false≢true}
-use Rattle.ddm_types.specs.declared.sizes.Start.{Start}
-use Rattle.ddm_types.specs.declared.sizes.Hold.{Hold}
-use Rattle.ddm_types.specs.declared.sizes.LeafState.{LeafState}
-use Rattle.tree_model.specs.State.Lists.{first_some}
-use Rattle.tree_model.specs.State.States.{entry_hold, is_held, is_exclusive}
-use Rattle.tree_model.specs.State.Values.{WayValue, LeafValue, DirValue, Node, Nodes, leaf_node, dir_node, no_nodes, more_nodes, children}
-use Rattle.tree_model.specs.State.Leaf.{words_of_item, LeafEntry, entry_state, entry_at, leaf_entry, way_at, way_entry, buffer_entry, buffered, leaf_hold}
-use Rattle.tree_model.specs.State.Directory.{queue_of, dir_hold}
-use Rattle.tree_model.specs.State.Child.{child_hold, child_replies}
-use Rattle.tree_model.specs.State.Place.{Spot, spot_path, spot_in}
-use Rattle.tree_rules.specs.Bus.Faces.{child_face, parent_face, faces_of}
-use Rattle.tree_rules.specs.Bus.Item.{holds_it, holds_exclusive, ItemRules}
-use Rattle.tree_rules.specs.Bus.Rules.{IsTreeOk, AreTreesOk}
-use Rattle.tree_rules.specs.Order.Moments.{is_under, parted, moment_at, spot_moment}
-use Rattle.tree_rules.specs.Order.Copies.{CopyAt, cut, first_erase, downs, copies_here, entry_copies, inner, handed}
-use Rattle.tree_rules.specs.Order.Claims.{child_is_exclusive, claims_in, claims_among}
-use Rattle.order_lists.proofs.Filters.{each-append}
-use Rattle.order_lists.proofs.NoHold.{HasEnd, seen_hold, none_held, none_counted}
-use Rattle.order_lists.proofs.ExclusiveClaims.{dir_above}
+use Rattle.headline.specs.DdmTypes.declared.sizes.Start.{Start}
+use Rattle.headline.specs.DdmTypes.declared.sizes.Hold.{Hold}
+use Rattle.headline.specs.DdmTypes.declared.sizes.LeafState.{LeafState}
+use Rattle.headline.specs.TreeModel.State.Lists.{first_some}
+use Rattle.headline.specs.TreeModel.State.States.{entry_hold, is_held, is_exclusive}
+use Rattle.headline.specs.TreeModel.State.Values.{WayValue, LeafValue, DirValue, Node, Nodes, leaf_node, dir_node, no_nodes, more_nodes, children}
+use Rattle.headline.specs.TreeModel.State.Leaf.{words_of_item, LeafEntry, entry_state, entry_at, leaf_entry, way_at, way_entry, buffer_entry, buffered, leaf_hold}
+use Rattle.headline.specs.TreeModel.State.Directory.{queue_of, dir_hold}
+use Rattle.headline.specs.TreeModel.State.Child.{child_hold, child_replies}
+use Rattle.headline.specs.TreeModel.State.Place.{Spot, spot_path, spot_in}
+use Rattle.headline.specs.TreeRules.Bus.Faces.{child_face, parent_face, faces_of}
+use Rattle.headline.specs.TreeRules.Bus.Item.{holds_it, holds_exclusive, ItemRules}
+use Rattle.headline.specs.TreeRules.Bus.Rules.{IsTreeOk, AreTreesOk}
+use Rattle.headline.specs.TreeRules.Order.Moments.{is_under, parted, moment_at, spot_moment}
+use Rattle.headline.specs.TreeRules.Order.Copies.{CopyAt, cut, first_erase, downs, copies_here, entry_copies, inner, handed}
+use Rattle.headline.specs.TreeRules.Order.Claims.{child_is_exclusive, claims_in, claims_among}
+use Rattle.headline.proofs.OrderLists.Filters.{each-append}
+use Rattle.headline.proofs.OrderLists.NoHold.{HasEnd, seen_hold, none_held, none_counted}
+use Rattle.headline.proofs.OrderLists.ExclusiveClaims.{dir_above}
 use Rattle.headline.proofs.StartFresh.{IsFreshLeaf, IsFreshDir, IsFresh, AreFresh}
 
 -- ---- paths

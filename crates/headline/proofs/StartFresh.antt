@@ -4,21 +4,21 @@ use Rattle.std.proofs.Common.{◌≡◌, ℕ, zero, suc, ◌+◌, ◌<◌, ◌�
 use Rattle.std.specs.Prelude.{nat_eq, slice_index_or, slice_set, if◌then◌else◌}
 use Rattle.std.specs.List.{AllByRecursion, range_with_len}
 use Rattle.std.proofs.lemmas.Bool.Decides.{eqb_tells}
-use Rattle.ddm_types.specs.declared.sizes.Start.{Start}
-use Rattle.ddm_types.specs.declared.sizes.Hold.{Hold}
-use Rattle.ddm_types.specs.declared.sizes.LeafState.{LeafState}
-use Rattle.ddm_types.specs.Keys.{stamp_zero}
-use Rattle.ddm_types.specs.ItemTable.{item_count}
-use Rattle.flat_model.specs.Hart.{hart_start}
-use Rattle.tree_model.specs.State.Lists.{map_from}
-use Rattle.tree_model.specs.State.Values.{WayValue, LeafValue, DirItem, absent_item, DirSizes, DirValue, Node, Nodes, leaf_node, dir_node, no_nodes, more_nodes, nodes, MachineValue}
-use Rattle.tree_model.specs.State.Leaf.{way_at, free_way}
-use Rattle.tree_model.specs.Start.Sources.{ImageValue, TreeValue, leaf_count, width_of, start_of_harts}
-use Rattle.tree_model.specs.Start.Memory.{start_items, start_words}
-use Rattle.tree_model.specs.Start.Nodes.{dir_sizes, held_exclusive, leaf_for, placed, placed_at, placed_in, placed_items, cut_in, held_below, held_if, dirs_over, under_levels}
-use Rattle.tree_model.specs.Start.Machine.{start_leaf, start_leaves, start_machine}
-use Rattle.bus_laws.proofs.HartChanges.{way-set_other}
-use Rattle.bus_laws.proofs.StartLevels.{each-take, each-drop}
+use Rattle.headline.specs.DdmTypes.declared.sizes.Start.{Start}
+use Rattle.headline.specs.DdmTypes.declared.sizes.Hold.{Hold}
+use Rattle.headline.specs.DdmTypes.declared.sizes.LeafState.{LeafState}
+use Rattle.headline.specs.DdmTypes.Keys.{stamp_zero}
+use Rattle.headline.specs.DdmTypes.ItemTable.{item_count}
+use Rattle.headline.specs.FlatModel.Hart.{hart_start}
+use Rattle.headline.specs.TreeModel.State.Lists.{map_from}
+use Rattle.headline.specs.TreeModel.State.Values.{WayValue, LeafValue, DirItem, absent_item, DirSizes, DirValue, Node, Nodes, leaf_node, dir_node, no_nodes, more_nodes, nodes, MachineValue}
+use Rattle.headline.specs.TreeModel.State.Leaf.{way_at, free_way}
+use Rattle.headline.specs.TreeModel.Start.Sources.{ImageValue, TreeValue, leaf_count, width_of, start_of_harts}
+use Rattle.headline.specs.TreeModel.Start.Memory.{start_items, start_words}
+use Rattle.headline.specs.TreeModel.Start.Nodes.{dir_sizes, held_exclusive, leaf_for, placed, placed_at, placed_in, placed_items, cut_in, held_below, held_if, dirs_over, under_levels}
+use Rattle.headline.specs.TreeModel.Start.Machine.{start_leaf, start_leaves, start_machine}
+use Rattle.headline.proofs.BusLaws.HartChanges.{way-set_other}
+use Rattle.headline.proofs.BusLaws.StartLevels.{each-take, each-drop}
 
 -- ---- a leaf and a directory
 

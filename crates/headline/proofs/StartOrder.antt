@@ -5,36 +5,36 @@ use Rattle.std.specs.Prelude.{slice_index_or, unwrap_or, nat_lt, if◌then◌els
 use Rattle.std.specs.List.{AllByRecursion}
 use Rattle.std.proofs.lemmas.Bool.{eq-eqb, eqb-true, true≢false}
 use Rattle.std.proofs.lemmas.List.FromFn.{get_or-map-range_with_len}
-use Rattle.ddm_types.specs.declared.operations.Op.{Op}
-use Rattle.ddm_types.specs.declared.keys.Stamp.{Stamp}
-use Rattle.ddm_types.specs.declared.sizes.Start.{Start}
-use Rattle.ddm_types.specs.Keys.{stamp_zero, stamp_at}
-use Rattle.flat_model.specs.Hart.{HartValue, hart_start}
-use Rattle.flat_model.specs.Flat.{FlatMachine, FlatHart, flat_hart_start, no_flat_hart, flat_start, flat_hart}
-use Rattle.flat_model.specs.Legal.{words_after, legal_run}
-use Rattle.tree_model.specs.State.Values.{DirValue, Node, Nodes, leaf_node, dir_node, no_nodes, more_nodes, MachineValue}
-use Rattle.tree_model.specs.State.Directory.{stamp_of}
-use Rattle.tree_model.specs.State.Place.{Spot, spot_path, spot_in}
-use Rattle.tree_model.specs.State.Shape.{depth_of, IsShaped}
-use Rattle.tree_model.specs.Start.Sources.{start_of_harts}
-use Rattle.tree_model.specs.Start.Memory.{start_words}
-use Rattle.tree_model.specs.Start.Machine.{StartRefusal, start_machine, flat_start_of, start_refusal, start_or, start_of}
-use Rattle.tree_model.specs.Turns.Witness.{sorted_ops}
-use Rattle.tree_rules.specs.Statements.{Statement, Holds, each, each_pair, if_there}
-use Rattle.tree_rules.proofs.Statements.{facts-each}
-use Rattle.tree_rules.specs.Bus.Own.{are_zero}
-use Rattle.tree_rules.specs.Bus.Rules.{items_of_machine, IsMachineOk}
-use Rattle.tree_rules.specs.Order.Moments.{less, moment_at, is_under, parted, same_numbers}
-use Rattle.tree_rules.specs.Order.Places.{LeafAt, leaves_in, placed_leaves, leaves_at, DirAt, dir_path, taken_moment, dirs_in, placed_dirs, dirs_at}
-use Rattle.tree_rules.specs.Order.Copies.{CopyAt, copies_of}
-use Rattle.tree_rules.specs.Order.Claims.{ClaimAt, claims_of}
-use Rattle.tree_rules.specs.Order.Ops.{op_count, words_where, flat_now}
-use Rattle.tree_rules.specs.Order.Time as time
-use Rattle.tree_rules.specs.Order.Core as core
-use Rattle.tree_rules.specs.Order.Rules.{TimeRule, keys_differ, ops_of_leaves, keys_end, keys_have_paths, keys_are_past, taken_is_past, stamps_between, stamps_rise, stamps_end, epochs_end, time_rule, IsTimed, CoreRule, commands_past_taken, reservations_kept, legal, harts_follow, counts_follow, halts_follow, own_order, core_rule, CopyRule, words_right, claims_after_ops, claims_after_copies, clocks_know, copy_rule, IsCore}
-use Rattle.bus_laws.proofs.StartKept.{start-kept}
-use Rattle.order_lists.proofs.Filters.{each-weaker, each-append}
-use Rattle.order_lists.proofs.Moments.{less-irreflexive, same_numbers-itself}
+use Rattle.headline.specs.DdmTypes.declared.operations.Op.{Op}
+use Rattle.headline.specs.DdmTypes.declared.keys.Stamp.{Stamp}
+use Rattle.headline.specs.DdmTypes.declared.sizes.Start.{Start}
+use Rattle.headline.specs.DdmTypes.Keys.{stamp_zero, stamp_at}
+use Rattle.headline.specs.FlatModel.Hart.{HartValue, hart_start}
+use Rattle.headline.specs.FlatModel.Flat.{FlatMachine, FlatHart, flat_hart_start, no_flat_hart, flat_start, flat_hart}
+use Rattle.headline.specs.FlatModel.Legal.{words_after, legal_run}
+use Rattle.headline.specs.TreeModel.State.Values.{DirValue, Node, Nodes, leaf_node, dir_node, no_nodes, more_nodes, MachineValue}
+use Rattle.headline.specs.TreeModel.State.Directory.{stamp_of}
+use Rattle.headline.specs.TreeModel.State.Place.{Spot, spot_path, spot_in}
+use Rattle.headline.specs.TreeModel.State.Shape.{depth_of, IsShaped}
+use Rattle.headline.specs.TreeModel.Start.Sources.{start_of_harts}
+use Rattle.headline.specs.TreeModel.Start.Memory.{start_words}
+use Rattle.headline.specs.TreeModel.Start.Machine.{StartRefusal, start_machine, flat_start_of, start_refusal, start_or, start_of}
+use Rattle.headline.specs.TreeModel.Turns.Witness.{sorted_ops}
+use Rattle.headline.specs.TreeRules.Statements.{Statement, Holds, each, each_pair, if_there}
+use Rattle.headline.proofs.TreeRules.Statements.{facts-each}
+use Rattle.headline.specs.TreeRules.Bus.Own.{are_zero}
+use Rattle.headline.specs.TreeRules.Bus.Rules.{items_of_machine, IsMachineOk}
+use Rattle.headline.specs.TreeRules.Order.Moments.{less, moment_at, is_under, parted, same_numbers}
+use Rattle.headline.specs.TreeRules.Order.Places.{LeafAt, leaves_in, placed_leaves, leaves_at, DirAt, dir_path, taken_moment, dirs_in, placed_dirs, dirs_at}
+use Rattle.headline.specs.TreeRules.Order.Copies.{CopyAt, copies_of}
+use Rattle.headline.specs.TreeRules.Order.Claims.{ClaimAt, claims_of}
+use Rattle.headline.specs.TreeRules.Order.Ops.{op_count, words_where, flat_now}
+use Rattle.headline.specs.TreeRules.Order.Time as time
+use Rattle.headline.specs.TreeRules.Order.Core as core
+use Rattle.headline.specs.TreeRules.Order.Rules.{TimeRule, keys_differ, ops_of_leaves, keys_end, keys_have_paths, keys_are_past, taken_is_past, stamps_between, stamps_rise, stamps_end, epochs_end, time_rule, IsTimed, CoreRule, commands_past_taken, reservations_kept, legal, harts_follow, counts_follow, halts_follow, own_order, core_rule, CopyRule, words_right, claims_after_ops, claims_after_copies, clocks_know, copy_rule, IsCore}
+use Rattle.headline.proofs.BusLaws.StartKept.{start-kept}
+use Rattle.headline.proofs.OrderLists.Filters.{each-weaker, each-append}
+use Rattle.headline.proofs.OrderLists.Moments.{less-irreflexive, same_numbers-itself}
 use Rattle.order_laws.proofs.Hart.Halting.{is_flat}
 use Rattle.order_laws.specs.EveryTurn.{IsOrderly}
 use Rattle.headline.specs.Runs.{StartIsOrderly}

@@ -4,22 +4,22 @@ use Rattle.std.specs.Prelude.{if◌then◌else◌}
 use Rattle.std.specs.List.{AllByRecursion, list_any}
 use Rattle.std.proofs.lemmas.Bool.{not-true, true≢false}
 use Rattle.std.proofs.lemmas.List.{length-append}
-use Rattle.ddm_types.specs.declared.sizes.Start.{Start}
-use Rattle.tree_model.specs.State.States.{entry_hold, is_held, is_exclusive}
-use Rattle.tree_model.specs.State.Values.{DirValue, Node, Nodes, leaf_node, dir_node, no_nodes, more_nodes, children, MachineValue}
-use Rattle.tree_model.specs.State.Leaf.{words_of_item, LeafEntry, leaf_entry}
-use Rattle.tree_model.specs.State.Place.{Spot, spot_path, spot_in}
-use Rattle.tree_rules.specs.Bus.Faces.{child_face, parent_face, faces_of}
-use Rattle.tree_rules.specs.Bus.Item.{holds_it, holds_exclusive, one_holds, ItemRules}
-use Rattle.tree_rules.specs.Bus.Rules.{IsTreeOk, AreTreesOk, items_of_machine, IsMachineOk}
-use Rattle.tree_rules.specs.Order.Moments.{is_under, moment_at, spot_moment}
-use Rattle.tree_rules.specs.Order.Copies.{CopyAt, cut, entry_copies, inner, handed, copies_of}
-use Rattle.tree_rules.specs.Order.Claims.{ClaimAt, claim, child_is_exclusive, claim_here, claims_in, claims_among, claims_of}
-use Rattle.order_lists.proofs.Filters.{each-append}
-use Rattle.order_lists.proofs.Paths.{under-itself, under_child}
-use Rattle.order_lists.proofs.NoHold.{seen_hold}
-use Rattle.order_lists.proofs.AboveExclusive.{exclusive_held, holder_of_exclusive}
-use Rattle.order_lists.proofs.ExclusiveClaims.{dir_above, first_other}
+use Rattle.headline.specs.DdmTypes.declared.sizes.Start.{Start}
+use Rattle.headline.specs.TreeModel.State.States.{entry_hold, is_held, is_exclusive}
+use Rattle.headline.specs.TreeModel.State.Values.{DirValue, Node, Nodes, leaf_node, dir_node, no_nodes, more_nodes, children, MachineValue}
+use Rattle.headline.specs.TreeModel.State.Leaf.{words_of_item, LeafEntry, leaf_entry}
+use Rattle.headline.specs.TreeModel.State.Place.{Spot, spot_path, spot_in}
+use Rattle.headline.specs.TreeRules.Bus.Faces.{child_face, parent_face, faces_of}
+use Rattle.headline.specs.TreeRules.Bus.Item.{holds_it, holds_exclusive, one_holds, ItemRules}
+use Rattle.headline.specs.TreeRules.Bus.Rules.{IsTreeOk, AreTreesOk, items_of_machine, IsMachineOk}
+use Rattle.headline.specs.TreeRules.Order.Moments.{is_under, moment_at, spot_moment}
+use Rattle.headline.specs.TreeRules.Order.Copies.{CopyAt, cut, entry_copies, inner, handed, copies_of}
+use Rattle.headline.specs.TreeRules.Order.Claims.{ClaimAt, claim, child_is_exclusive, claim_here, claims_in, claims_among, claims_of}
+use Rattle.headline.proofs.OrderLists.Filters.{each-append}
+use Rattle.headline.proofs.OrderLists.Paths.{under-itself, under_child}
+use Rattle.headline.proofs.OrderLists.NoHold.{seen_hold}
+use Rattle.headline.proofs.OrderLists.AboveExclusive.{exclusive_held, holder_of_exclusive}
+use Rattle.headline.proofs.OrderLists.ExclusiveClaims.{dir_above, first_other}
 use Rattle.headline.proofs.StartFresh.{IsFresh, AreFresh, IsFreshMachine}
 use Rattle.headline.proofs.StartCopies.{not_held, none_parked, no_words, dir-each, child-each, handed-start, no_copies, none-handed, no_claims, none-claimed, IsStartCopy}
 

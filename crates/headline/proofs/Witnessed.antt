@@ -4,29 +4,29 @@ use Rattle.std.proofs.Common.{◌≡◌, ℕ, ◌<◌, Bool, true, false, List, 
 use Rattle.std.specs.Prelude.{unwrap_or, IfSome}
 use Rattle.std.specs.List.{AllByRecursion}
 use Rattle.std.proofs.lemmas.Bool.{eqb-true}
-use Rattle.ddm_types.specs.declared.operations.HaltCause.{HaltCause}
-use Rattle.ddm_types.specs.declared.operations.HaltCause.TheVariants.{Exit, Illegal, Breakpoint, UnknownCall, MisalignedTarget, FetchOutside, MisalignedAccess, LoadOutside, StoreOutside}
-use Rattle.ddm_types.specs.declared.operations.Op.{Op}
-use Rattle.flat_model.specs.Flat.{FlatMachine, FlatStepped, item_words, flat_step}
-use Rattle.flat_model.specs.Legal.{words_after, legal_run}
-use Rattle.flat_model.proofs.Storing.{words_is}
-use Rattle.tree_model.specs.declared.CopyPlace.{CopyPlace}
-use Rattle.tree_model.specs.State.Values.{MachineValue}
-use Rattle.tree_model.specs.State.Shape.{IsShaped}
-use Rattle.tree_model.specs.Turns.Found.{found_words, found_place, found_of, found_copy}
-use Rattle.tree_model.specs.Turns.Witness.{sorted_ops}
-use Rattle.tree_rules.specs.Statements.{Holds, if_there}
-use Rattle.tree_rules.proofs.Statements.{each-facts}
-use Rattle.tree_rules.specs.Bus.Rules.{items_of_machine, IsMachineOk}
-use Rattle.tree_rules.specs.Order.Ops.{words_where, flat_now}
-use Rattle.tree_rules.specs.Order.Places.{LeafAt, leaves_at}
-use Rattle.tree_rules.specs.Order.Core.{any_op, same_halt, halts_with, halts_next, has_flat_hart, has_counted, halts_as_flat}
-use Rattle.tree_rules.specs.Order.Rules.{IsTimed, keys_differ, IsCore, legal, harts_follow, counts_follow, halts_follow, own_order, words_right}
-use Rattle.tree_rules.specs.Witness.{IsHartOf, HasCurrentCopy, IsWitnessed}
-use Rattle.bus_laws.proofs.FoundExists.{found_copy-exists}
-use Rattle.order_lists.proofs.Filters.{filter-all, each-both}
-use Rattle.order_lists.proofs.OwnOrder.{own}
-use Rattle.order_lists.proofs.Found.{found_is_current}
+use Rattle.headline.specs.DdmTypes.declared.operations.HaltCause.{HaltCause}
+use Rattle.headline.specs.DdmTypes.declared.operations.HaltCause.TheVariants.{Exit, Illegal, Breakpoint, UnknownCall, MisalignedTarget, FetchOutside, MisalignedAccess, LoadOutside, StoreOutside}
+use Rattle.headline.specs.DdmTypes.declared.operations.Op.{Op}
+use Rattle.headline.specs.FlatModel.Flat.{FlatMachine, FlatStepped, item_words, flat_step}
+use Rattle.headline.specs.FlatModel.Legal.{words_after, legal_run}
+use Rattle.headline.proofs.FlatModel.Storing.{words_is}
+use Rattle.headline.specs.TreeModel.declared.CopyPlace.{CopyPlace}
+use Rattle.headline.specs.TreeModel.State.Values.{MachineValue}
+use Rattle.headline.specs.TreeModel.State.Shape.{IsShaped}
+use Rattle.headline.specs.TreeModel.Turns.Found.{found_words, found_place, found_of, found_copy}
+use Rattle.headline.specs.TreeModel.Turns.Witness.{sorted_ops}
+use Rattle.headline.specs.TreeRules.Statements.{Holds, if_there}
+use Rattle.headline.proofs.TreeRules.Statements.{each-facts}
+use Rattle.headline.specs.TreeRules.Bus.Rules.{items_of_machine, IsMachineOk}
+use Rattle.headline.specs.TreeRules.Order.Ops.{words_where, flat_now}
+use Rattle.headline.specs.TreeRules.Order.Places.{LeafAt, leaves_at}
+use Rattle.headline.specs.TreeRules.Order.Core.{any_op, same_halt, halts_with, halts_next, has_flat_hart, has_counted, halts_as_flat}
+use Rattle.headline.specs.TreeRules.Order.Rules.{IsTimed, keys_differ, IsCore, legal, harts_follow, counts_follow, halts_follow, own_order, words_right}
+use Rattle.headline.specs.TreeRules.Witness.{IsHartOf, HasCurrentCopy, IsWitnessed}
+use Rattle.headline.proofs.BusLaws.FoundExists.{found_copy-exists}
+use Rattle.headline.proofs.OrderLists.Filters.{filter-all, each-both}
+use Rattle.headline.proofs.OrderLists.OwnOrder.{own}
+use Rattle.headline.proofs.OrderLists.Found.{found_is_current}
 use Rattle.order_laws.proofs.Hart.Halting.{flat_is}
 use Rattle.order_laws.proofs.Hart.Completed.{whole_words}
 use Rattle.headline.proofs.Leaves.{each_leaf}

@@ -5,35 +5,35 @@ use Rattle.std.specs.Prelude.{IfSome, if◌then◌else◌}
 use Rattle.std.specs.List.{AllByRecursion}
 use Rattle.std.proofs.lemmas.Bool.{true≢false, false≢true, eq-eqb, lt-ltb}
 use Rattle.std.proofs.lemmas.List.{length-append}
-use Rattle.ddm_types.specs.declared.operations.Op.{Op}
-use Rattle.flat_model.specs.Flat.{FlatMachine}
-use Rattle.flat_model.specs.Legal.{changes_item}
-use Rattle.tree_model.specs.State.Values.{MachineValue}
-use Rattle.tree_model.specs.State.Leaf.{LeafEntry}
-use Rattle.tree_model.specs.State.Shape.{depth_of, IsShaped}
-use Rattle.tree_rules.specs.Statements.{Holds, is_so, is_not, each, if_there, there_and}
-use Rattle.tree_rules.proofs.Statements.{each-facts, facts-each}
-use Rattle.tree_rules.specs.Bus.Rules.{items_of_machine, IsMachineOk}
-use Rattle.tree_rules.specs.Order.Moments.{less, less_at, moment_length, before, past, parted, is_under, same_numbers, spot_moment}
-use Rattle.tree_rules.specs.Order.Ops.{op_key, op_path}
-use Rattle.tree_rules.specs.Order.Places.{LeafAt, leaf_path, leaf_now, leaves_at, DirAt, dir_path, taken_moment, dirs_at}
-use Rattle.tree_rules.specs.Order.Copies.{CopyAt, copies_of}
-use Rattle.tree_rules.specs.Order.Claims.{ClaimAt, claims_of}
-use Rattle.tree_rules.specs.Order.Core.{ended_before, knows_change, claim_level, parts_at_claim, claim_is_after_op, claim_is_after_end, claim_is_after_copy}
-use Rattle.tree_rules.specs.Order.Written as written
-use Rattle.tree_rules.specs.Order.Rules.{IsTimed, IsCore, epochs_end, commands_past_taken, claims_after_ops, claims_after_copies, clocks_know, WrittenRule, ends_later, writer_alone, writer_latest, ops_beside, copies_beside, leaf_knows, dirs_know, written_rule, IsWritten}
-use Rattle.order_lists.specs.Copies.{IsOwnOrEnded, IsAloneWhereExclusive}
-use Rattle.order_lists.proofs.Filters.{each-weaker, each-both, each-swap}
-use Rattle.order_lists.proofs.Moments.{less_at-less, before-not_past, past-not_before, same_numbers-true}
-use Rattle.order_lists.proofs.Paths.{under-itself, under-trans, under-same}
-use Rattle.order_lists.proofs.Levels.{IsAtDepth, all_at_depth}
-use Rattle.order_lists.proofs.Stamps.{moment_at-length}
-use Rattle.order_lists.proofs.Clocks.{shallow}
-use Rattle.order_lists.proofs.Queues.{IsOrdered}
-use Rattle.order_lists.proofs.Ends.{IsTimely}
-use Rattle.order_lists.proofs.Late.{IsBelowEnd, IsLate}
-use Rattle.order_lists.proofs.State.{all_ordered, ops_at_depth, copies_timely, copies_late}
-use Rattle.order_lists.proofs.Contracts.{exclusive-alone}
+use Rattle.headline.specs.DdmTypes.declared.operations.Op.{Op}
+use Rattle.headline.specs.FlatModel.Flat.{FlatMachine}
+use Rattle.headline.specs.FlatModel.Legal.{changes_item}
+use Rattle.headline.specs.TreeModel.State.Values.{MachineValue}
+use Rattle.headline.specs.TreeModel.State.Leaf.{LeafEntry}
+use Rattle.headline.specs.TreeModel.State.Shape.{depth_of, IsShaped}
+use Rattle.headline.specs.TreeRules.Statements.{Holds, is_so, is_not, each, if_there, there_and}
+use Rattle.headline.proofs.TreeRules.Statements.{each-facts, facts-each}
+use Rattle.headline.specs.TreeRules.Bus.Rules.{items_of_machine, IsMachineOk}
+use Rattle.headline.specs.TreeRules.Order.Moments.{less, less_at, moment_length, before, past, parted, is_under, same_numbers, spot_moment}
+use Rattle.headline.specs.TreeRules.Order.Ops.{op_key, op_path}
+use Rattle.headline.specs.TreeRules.Order.Places.{LeafAt, leaf_path, leaf_now, leaves_at, DirAt, dir_path, taken_moment, dirs_at}
+use Rattle.headline.specs.TreeRules.Order.Copies.{CopyAt, copies_of}
+use Rattle.headline.specs.TreeRules.Order.Claims.{ClaimAt, claims_of}
+use Rattle.headline.specs.TreeRules.Order.Core.{ended_before, knows_change, claim_level, parts_at_claim, claim_is_after_op, claim_is_after_end, claim_is_after_copy}
+use Rattle.headline.specs.TreeRules.Order.Written as written
+use Rattle.headline.specs.TreeRules.Order.Rules.{IsTimed, IsCore, epochs_end, commands_past_taken, claims_after_ops, claims_after_copies, clocks_know, WrittenRule, ends_later, writer_alone, writer_latest, ops_beside, copies_beside, leaf_knows, dirs_know, written_rule, IsWritten}
+use Rattle.headline.specs.OrderLists.Copies.{IsOwnOrEnded, IsAloneWhereExclusive}
+use Rattle.headline.proofs.OrderLists.Filters.{each-weaker, each-both, each-swap}
+use Rattle.headline.proofs.OrderLists.Moments.{less_at-less, before-not_past, past-not_before, same_numbers-true}
+use Rattle.headline.proofs.OrderLists.Paths.{under-itself, under-trans, under-same}
+use Rattle.headline.proofs.OrderLists.Levels.{IsAtDepth, all_at_depth}
+use Rattle.headline.proofs.OrderLists.Stamps.{moment_at-length}
+use Rattle.headline.proofs.OrderLists.Clocks.{shallow}
+use Rattle.headline.proofs.OrderLists.Queues.{IsOrdered}
+use Rattle.headline.proofs.OrderLists.Ends.{IsTimely}
+use Rattle.headline.proofs.OrderLists.Late.{IsBelowEnd, IsLate}
+use Rattle.headline.proofs.OrderLists.State.{all_ordered, ops_at_depth, copies_timely, copies_late}
+use Rattle.headline.proofs.OrderLists.Contracts.{exclusive-alone}
 use Rattle.order_laws.specs.Moves.Moved.{In}
 use Rattle.order_laws.proofs.Moves.Sources.{each-in}
 use Rattle.order_laws.proofs.Grant.ReservedKept.{each-member, HeldEntry, held-entry}

@@ -1,12 +1,12 @@
 -- The causes of answers, as facts of the state before.
 -- To be believed: it is what is claimed of every answer.
 use Rattle.std.specs.Prelude.{IsTrue}
-use Rattle.ddm_types.specs.declared.turns.Turn.{Turn}
-use Rattle.tree_model.specs.State.Values.{MachineValue}
-use Rattle.tree_model.specs.State.Shape.{IsShaped}
-use Rattle.tree_model.specs.Turns.Machine.{turn_of}
-use Rattle.tree_rules.specs.Bus.Rules.{IsMachineOk}
-use Rattle.tree_rules.specs.Witness.{busy_has_cause}
+use Rattle.headline.specs.DdmTypes.declared.turns.Turn.{Turn}
+use Rattle.headline.specs.TreeModel.State.Values.{MachineValue}
+use Rattle.headline.specs.TreeModel.State.Shape.{IsShaped}
+use Rattle.headline.specs.TreeModel.Turns.Machine.{turn_of}
+use Rattle.headline.specs.TreeRules.Bus.Rules.{IsMachineOk}
+use Rattle.headline.specs.TreeRules.Witness.{busy_has_cause}
 
 -- where a turn answers busy, the cause that it names is a fact of the machine before it
 abbrev pub BusyHasItsCause : Type 0

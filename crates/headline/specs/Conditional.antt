@@ -1,21 +1,21 @@
 -- Conditional stores: an SC stores just where its hart's reservation holds, and where it stores the flat machine's holds.
 -- To be believed: it is what is claimed of every turn.
 use Rattle.std.specs.Prelude.{◌≡◌, ℕ, false, filter, Option, Some, None, ⊤}
-use Rattle.ddm_types.specs.declared.answers.TurnAnswer.{TurnAnswer}
-use Rattle.ddm_types.specs.declared.operations.Effect.{Effect}
-use Rattle.ddm_types.specs.declared.operations.Effect.TheVariants.{Plain, Put, Load, Store, Lr, ScOk, ScFail, Amo}
-use Rattle.ddm_types.specs.declared.operations.Op.{Op}
-use Rattle.ddm_types.specs.declared.turns.Turn.{Turn}
-use Rattle.ddm_types.specs.Keys.{key_less}
-use Rattle.ddm_types.specs.ItemTable.{item_at}
-use Rattle.flat_model.specs.Flat.{FlatMachine, flat_hart, has_reserved}
-use Rattle.flat_model.specs.Legal.{legal_run}
-use Rattle.tree_model.specs.State.Values.{MachineValue}
-use Rattle.tree_model.specs.State.Shape.{IsShaped}
-use Rattle.tree_model.specs.Turns.Machine.{turn_of, ask_leaf}
-use Rattle.tree_model.specs.Turns.Witness.{sorted_ops}
-use Rattle.tree_rules.specs.Bus.Rules.{IsMachineOk}
-use Rattle.tree_rules.specs.Order.Rules.{IsTimed, IsCore}
+use Rattle.headline.specs.DdmTypes.declared.answers.TurnAnswer.{TurnAnswer}
+use Rattle.headline.specs.DdmTypes.declared.operations.Effect.{Effect}
+use Rattle.headline.specs.DdmTypes.declared.operations.Effect.TheVariants.{Plain, Put, Load, Store, Lr, ScOk, ScFail, Amo}
+use Rattle.headline.specs.DdmTypes.declared.operations.Op.{Op}
+use Rattle.headline.specs.DdmTypes.declared.turns.Turn.{Turn}
+use Rattle.headline.specs.DdmTypes.Keys.{key_less}
+use Rattle.headline.specs.DdmTypes.ItemTable.{item_at}
+use Rattle.headline.specs.FlatModel.Flat.{FlatMachine, flat_hart, has_reserved}
+use Rattle.headline.specs.FlatModel.Legal.{legal_run}
+use Rattle.headline.specs.TreeModel.State.Values.{MachineValue}
+use Rattle.headline.specs.TreeModel.State.Shape.{IsShaped}
+use Rattle.headline.specs.TreeModel.Turns.Machine.{turn_of, ask_leaf}
+use Rattle.headline.specs.TreeModel.Turns.Witness.{sorted_ops}
+use Rattle.headline.specs.TreeRules.Bus.Rules.{IsMachineOk}
+use Rattle.headline.specs.TreeRules.Order.Rules.{IsTimed, IsCore}
 
 -- the item that the hart of a leaf has reserved; None where there is no such leaf
 abbrev pub reservation_of : ℕ → MachineValue → Option (Option ℕ)

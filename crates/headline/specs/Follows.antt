@@ -1,11 +1,11 @@
 -- What follows from the rules of order in one state of a machine.
 -- To be believed: it is what is claimed of every state.
-use Rattle.flat_model.specs.Flat.{FlatMachine}
-use Rattle.tree_model.specs.State.Values.{MachineValue}
-use Rattle.tree_model.specs.State.Shape.{IsShaped}
-use Rattle.tree_rules.specs.Bus.Rules.{IsMachineOk}
-use Rattle.tree_rules.specs.Order.Rules.{IsTimed, IsCore, IsWritten}
-use Rattle.tree_rules.specs.Witness.{IsWitnessed}
+use Rattle.headline.specs.FlatModel.Flat.{FlatMachine}
+use Rattle.headline.specs.TreeModel.State.Values.{MachineValue}
+use Rattle.headline.specs.TreeModel.State.Shape.{IsShaped}
+use Rattle.headline.specs.TreeRules.Bus.Rules.{IsMachineOk}
+use Rattle.headline.specs.TreeRules.Order.Rules.{IsTimed, IsCore, IsWritten}
+use Rattle.headline.specs.TreeRules.Witness.{IsWitnessed}
 
 -- the witness: what a reader is told of a machine and its operations
 abbrev pub WitnessFollows : Type 0

@@ -1,3 +1,10 @@
+pub mod BusLaws
+pub mod DdmTypes
+pub mod FlatModel
+pub mod OrderLaws
+pub mod OrderLists
+pub mod TreeModel
+pub mod TreeRules
 pub mod Follows
 pub mod Runs
 pub mod Causes

@@ -2,15 +2,15 @@
 -- the flat machine.
 -- To be believed: it is what is claimed of every run.
 use Rattle.std.specs.Prelude.{◌≡◌, List, Ok}
-use Rattle.ddm_types.specs.declared.turns.Turn.{Turn}
-use Rattle.tree_model.specs.State.Values.{MachineValue}
-use Rattle.tree_model.specs.Turns.Machine.{run_of}
-use Rattle.tree_model.specs.Start.Sources.{TreeValue, ImageValue}
-use Rattle.tree_model.specs.Start.Machine.{flat_start_of, start_of}
-use Rattle.tree_rules.specs.Bus.Rules.{IsMachineOk}
-use Rattle.tree_rules.specs.Order.Rules.{IsInOrder}
-use Rattle.tree_rules.specs.Witness.{EachTurnWitnessed}
-use Rattle.bus_laws.specs.IsTree.{IsTree}
+use Rattle.headline.specs.DdmTypes.declared.turns.Turn.{Turn}
+use Rattle.headline.specs.TreeModel.State.Values.{MachineValue}
+use Rattle.headline.specs.TreeModel.Turns.Machine.{run_of}
+use Rattle.headline.specs.TreeModel.Start.Sources.{TreeValue, ImageValue}
+use Rattle.headline.specs.TreeModel.Start.Machine.{flat_start_of, start_of}
+use Rattle.headline.specs.TreeRules.Bus.Rules.{IsMachineOk}
+use Rattle.headline.specs.TreeRules.Order.Rules.{IsInOrder}
+use Rattle.headline.specs.TreeRules.Witness.{EachTurnWitnessed}
+use Rattle.headline.specs.BusLaws.IsTree.{IsTree}
 use Rattle.order_laws.specs.EveryTurn.{IsOrderly}
 
 -- ---- the start

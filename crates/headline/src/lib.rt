@@ -3,3 +3,5 @@
 #![tactic(auto)]
 
 pub mod laws;
+pub mod of_ddm_types;
+pub mod of_tree_model;

@@ -2,25 +2,25 @@
 use Rattle.std.proofs.Common.{◌≡◌, ◌<◌, ℕ, suc, ◌+◌, ◌++◌, Bool, true, false, not, List, [], ◌∷◌, length, take, Option, Some, None, option_map, refl, sym, ap, ◌∙◌, arith, add-one, add-zero, zero-add}
 use Rattle.std.specs.Prelude.{is_some, slice_get, unwrap_or, if◌then◌else◌}
 use Rattle.std.proofs.lemmas.List.{append-nil, append_assoc, length-take-le}
-use Rattle.ddm_types.specs.declared.sizes.LeafState.{LeafState}
-use Rattle.tree_model.specs.declared.LeafSpot.{LeafSpot}
-use Rattle.tree_model.specs.State.States.{is_reading}
-use Rattle.tree_model.specs.State.Values.{DownValue, LeafValue, Node, leaf_node, dir_node, MachineValue, root_of}
-use Rattle.tree_model.specs.State.Directory.{parked_place, parked_words}
-use Rattle.tree_model.specs.State.Leaf.{LeafEntry, entry_state, leaf_entry, spot_at}
-use Rattle.tree_model.specs.State.Place.{Where, at_top}
-use Rattle.tree_model.specs.State.Shape.{IsShaped}
-use Rattle.tree_model.specs.Turns.Found.{place_at}
-use Rattle.tree_model.specs.Turns.Machine.{down_entry_of, machine_leaves, parked_place_of}
-use Rattle.tree_model.specs.Turns.Tree.{bus_of_number, of_dir, read_in}
-use Rattle.ddm_tree.specs.Machine.{is_part}
-use Rattle.ddm_tree.specs.Path.{node_at}
-use Rattle.ddm_tree.specs.Reads.{copy_pair, down_len_of, entry_at, entry_triple, parked_at}
-use Rattle.ddm_tree.proofs.Along.{where_end}
-use Rattle.ddm_tree.proofs.LeafList.{leaf-listed, leaf-number}
-use Rattle.ddm_tree.proofs.Names.{path-there}
-use Rattle.ddm_tree.proofs.Places.{entry-alike, parked-alike}
-use Rattle.ddm_tree.proofs.Reading.{read-is}
+use Rattle.inspector.specs.DdmTypes.declared.sizes.LeafState.{LeafState}
+use Rattle.inspector.specs.TreeModel.declared.LeafSpot.{LeafSpot}
+use Rattle.inspector.specs.TreeModel.State.States.{is_reading}
+use Rattle.inspector.specs.TreeModel.State.Values.{DownValue, LeafValue, Node, leaf_node, dir_node, MachineValue, root_of}
+use Rattle.inspector.specs.TreeModel.State.Directory.{parked_place, parked_words}
+use Rattle.inspector.specs.TreeModel.State.Leaf.{LeafEntry, entry_state, leaf_entry, spot_at}
+use Rattle.inspector.specs.TreeModel.State.Place.{Where, at_top}
+use Rattle.inspector.specs.TreeModel.State.Shape.{IsShaped}
+use Rattle.inspector.specs.TreeModel.Turns.Found.{place_at}
+use Rattle.inspector.specs.TreeModel.Turns.Machine.{down_entry_of, machine_leaves, parked_place_of}
+use Rattle.inspector.specs.TreeModel.Turns.Tree.{bus_of_number, of_dir, read_in}
+use Rattle.inspector.specs.DdmTree.Machine.{is_part}
+use Rattle.inspector.specs.DdmTree.Path.{node_at}
+use Rattle.inspector.specs.DdmTree.Reads.{copy_pair, down_len_of, entry_at, entry_triple, parked_at}
+use Rattle.inspector.proofs.DdmTree.Along.{where_end}
+use Rattle.inspector.proofs.DdmTree.LeafList.{leaf-listed, leaf-number}
+use Rattle.inspector.proofs.DdmTree.Names.{path-there}
+use Rattle.inspector.proofs.DdmTree.Places.{entry-alike, parked-alike}
+use Rattle.inspector.proofs.DdmTree.Reading.{read-is}
 use Rattle.inspector.specs.Copies.{down_copies, down_of, has_words, leaf_copies, parked_copies, place_list}
 use Rattle.inspector.specs.Entries.{down_copy, entry_copy, parked_copy}
 use Rattle.inspector.proofs.OneMore.{item-there, mapped-at, taken-one}

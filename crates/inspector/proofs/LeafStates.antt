@@ -1,14 +1,14 @@
 -- The states of all leaves are read one after the other.
 use Rattle.std.proofs.Common.{◌≡◌, ℕ, ◌+◌, List, [], ◌∷◌, ◌++◌, map, length, take, Option, Some, None, sym, ◌∙◌, add-one}
 use Rattle.std.proofs.lemmas.List.{length-map}
-use Rattle.ddm_types.specs.declared.sizes.LeafState.{LeafState}
-use Rattle.tree_model.specs.State.Values.{MachineValue}
-use Rattle.tree_model.specs.State.Leaf.{state_at}
-use Rattle.tree_model.specs.State.Shape.{IsShaped, tree_counts}
-use Rattle.tree_model.specs.Turns.Found.{states_of}
-use Rattle.tree_model.specs.Turns.Machine.{machine_leaves}
-use Rattle.ddm_tree.specs.Reads.{state_of}
-use Rattle.ddm_tree.proofs.LeafList.{leaf-listed, leaves-counted}
+use Rattle.inspector.specs.DdmTypes.declared.sizes.LeafState.{LeafState}
+use Rattle.inspector.specs.TreeModel.State.Values.{MachineValue}
+use Rattle.inspector.specs.TreeModel.State.Leaf.{state_at}
+use Rattle.inspector.specs.TreeModel.State.Shape.{IsShaped, tree_counts}
+use Rattle.inspector.specs.TreeModel.Turns.Found.{states_of}
+use Rattle.inspector.specs.TreeModel.Turns.Machine.{machine_leaves}
+use Rattle.inspector.specs.DdmTree.Reads.{state_of}
+use Rattle.inspector.proofs.DdmTree.LeafList.{leaf-listed, leaves-counted}
 use Rattle.inspector.proofs.OneMore.{taken-one}
 
 -- one state more

@@ -4,15 +4,15 @@
 -- To be believed with the contracts: they speak of it.
 use Rattle.std.specs.Prelude.{ℕ, ◌+◌, Bool, false, not, ◌&&◌, nat_eq, List, [], ◌∷◌, ◌++◌, Option, Some, None, unwrap_or, if◌then◌else◌}
 use Rattle.std.specs.List.{flat_map, range_with_len}
-use Rattle.ddm_types.specs.declared.sizes.LeafState.{LeafState}
-use Rattle.tree_model.specs.declared.CopyPlace.{CopyPlace}
-use Rattle.tree_model.specs.State.Kinds.{brings_copy}
-use Rattle.tree_model.specs.State.States.{is_reading}
-use Rattle.tree_model.specs.State.Values.{DownValue, LeafValue, MachineValue}
-use Rattle.tree_model.specs.State.Leaf.{state_at}
-use Rattle.tree_model.specs.State.Shape.{tree_counts}
-use Rattle.tree_model.specs.Turns.Found.{leaf_place}
-use Rattle.tree_model.specs.Turns.Machine.{ask_bus, machine_leaves, parked_place_of}
+use Rattle.inspector.specs.DdmTypes.declared.sizes.LeafState.{LeafState}
+use Rattle.inspector.specs.TreeModel.declared.CopyPlace.{CopyPlace}
+use Rattle.inspector.specs.TreeModel.State.Kinds.{brings_copy}
+use Rattle.inspector.specs.TreeModel.State.States.{is_reading}
+use Rattle.inspector.specs.TreeModel.State.Values.{DownValue, LeafValue, MachineValue}
+use Rattle.inspector.specs.TreeModel.State.Leaf.{state_at}
+use Rattle.inspector.specs.TreeModel.State.Shape.{tree_counts}
+use Rattle.inspector.specs.TreeModel.Turns.Found.{leaf_place}
+use Rattle.inspector.specs.TreeModel.Turns.Machine.{ask_bus, machine_leaves, parked_place_of}
 
 -- an entry that waits for data has no words
 abbrev pub has_words : Option LeafState → Bool

@@ -1,13 +1,13 @@
 -- Where what a machine's calls give of a leaf's entry, of parking and of a down list is a copy of an item.
 -- Letters: e is an entry, x an item.
 use Rattle.std.specs.Prelude.{ℕ, ◌&&◌, nat_eq, List, Option, Some, None, if◌then◌else◌}
-use Rattle.ddm_types.specs.declared.sizes.LeafState.{LeafState}
-use Rattle.tree_model.specs.declared.CopyPlace.{CopyPlace}
-use Rattle.tree_model.specs.declared.LeafSpot.{LeafSpot}
-use Rattle.tree_model.specs.State.Kinds.{brings_copy}
-use Rattle.tree_model.specs.State.States.{is_reading}
-use Rattle.tree_model.specs.State.Values.{DownValue}
-use Rattle.tree_model.specs.Turns.Found.{place_at}
+use Rattle.inspector.specs.DdmTypes.declared.sizes.LeafState.{LeafState}
+use Rattle.inspector.specs.TreeModel.declared.CopyPlace.{CopyPlace}
+use Rattle.inspector.specs.TreeModel.declared.LeafSpot.{LeafSpot}
+use Rattle.inspector.specs.TreeModel.State.Kinds.{brings_copy}
+use Rattle.inspector.specs.TreeModel.State.States.{is_reading}
+use Rattle.inspector.specs.TreeModel.State.Values.{DownValue}
+use Rattle.inspector.specs.TreeModel.Turns.Found.{place_at}
 
 abbrev pub entry_copy : ℕ → Option (LeafState × List ℕ × LeafSpot) → Option CopyPlace
 entry_copy leaf None = None

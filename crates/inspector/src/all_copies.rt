@@ -1,19 +1,19 @@
 ghost use Rattle.std.specs.Prelude.{◌≡◌, ◌<◌, ◌≤◌, ◌++◌, [], true, IfOk, OnOk, unwrap_or};
 ghost use Rattle.std.specs.List.{flat_map};
-ghost use Rattle.ddm_types.specs.ItemTable.{item_count};
-ghost use Rattle.tree_model.specs.State.States.{is_reading};
-ghost use Rattle.tree_model.specs.Turns.Machine.{machine_leaves, parked_place_of};
-ghost use Rattle.tree_model.specs.Turns.Tree.{bus_of_number};
-ghost use Rattle.ddm_tree.specs.Machine.{is_part};
+ghost use Rattle.inspector.specs.DdmTypes.ItemTable.{item_count};
+ghost use Rattle.inspector.specs.TreeModel.State.States.{is_reading};
+ghost use Rattle.inspector.specs.TreeModel.Turns.Machine.{machine_leaves, parked_place_of};
+ghost use Rattle.inspector.specs.TreeModel.Turns.Tree.{bus_of_number};
+ghost use Rattle.inspector.specs.DdmTree.Machine.{is_part};
 ghost use Rattle.inspector.specs.Copies.{buses_of, copies_in, down_copies, down_of, leaf_copies, parked_copies, place_list};
 ghost use Rattle.inspector.specs.Entries.{down_copy, entry_copy, parked_copy};
 
-use ddm_tree::{Machine, Subtree, place_at};
-use ddm_types::{BusNo, ItemId, LeafNo, LeafState, NoMemory, Words};
-use directory::brings_copy;
-use item_states::DownEntry;
+use crate::of_ddm_tree::{Machine, Subtree, place_at};
+use crate::of_ddm_types::{BusNo, ItemId, LeafNo, LeafState, NoMemory, Words};
+use crate::of_directory::brings_copy;
+use crate::of_item_states::DownEntry;
+use crate::of_tree_model::{CopyPlace, LeafSpot};
 use std::alloc::Global;
-use tree_model::{CopyPlace, LeafSpot};
 
 /// Whether an entry in this state waits for data.
 fn is_reading(state: LeafState) -> bool

@@ -3,21 +3,26 @@
 #![tactic(auto)]
 
 mod all_copies;
+pub mod of_ddm_tree;
+pub mod of_ddm_types;
+pub mod of_directory;
+pub mod of_item_states;
+pub mod of_tree_model;
 
 ghost use Rattle.std.specs.Prelude.{◌≡◌, ◌<◌, ◌≤◌, Some, true, IfOk, slice_index_or};
-ghost use Rattle.ddm_types.specs.ItemTable.{item_count};
-ghost use Rattle.tree_model.specs.Turns.Found.{found_copy, states_of};
-ghost use Rattle.tree_model.specs.Turns.Machine.{no_traffic};
-ghost use Rattle.tree_model.specs.Turns.Tree.{leaf_of_number, bus_of_number};
-ghost use Rattle.ddm_tree.specs.Machine.{is_part};
-ghost use Rattle.ddm_tree.specs.Reads.{state_of};
+ghost use Rattle.inspector.specs.DdmTypes.ItemTable.{item_count};
+ghost use Rattle.inspector.specs.TreeModel.Turns.Found.{found_copy, states_of};
+ghost use Rattle.inspector.specs.TreeModel.Turns.Machine.{no_traffic};
+ghost use Rattle.inspector.specs.TreeModel.Turns.Tree.{leaf_of_number, bus_of_number};
+ghost use Rattle.inspector.specs.DdmTree.Machine.{is_part};
+ghost use Rattle.inspector.specs.DdmTree.Reads.{state_of};
 
+pub use crate::of_ddm_tree::Found;
+use crate::of_ddm_tree::{Machine, Subtree};
+use crate::of_ddm_types::{BusNo, ItemId, LeafNo, LeafState, NoMemory, TxKind};
+use crate::of_tree_model::Traffic;
 pub use all_copies::copies;
-pub use ddm_tree::Found;
-use ddm_tree::{Machine, Subtree};
-use ddm_types::{BusNo, ItemId, LeafNo, LeafState, NoMemory, TxKind};
 use std::alloc::Global;
-use tree_model::Traffic;
 
 /// The current copy of an item, as the report shows it. Every item has one.
 pub fn find<const WORDS: usize, C: Subtree<WORDS>>(

@@ -2,10 +2,10 @@
 -- entries as the code has them.
 -- To be believed: contracts of code speak of it.
 use Rattle.std.specs.Prelude.{◌≡◌, ℕ, ◌+◌, ◌<◌, Bool, true, false, List, length, Option, Some, None, is_some, ⊤}
-use Rattle.ddm_types.specs.declared.answers.TxKind.{TxKind}
-use Rattle.ddm_types.specs.declared.answers.PendingWhy.{PendingWhy}
-use Rattle.ddm_types.specs.declared.answers.QueueName.{QueueName}
-use Rattle.ddm_types.specs.declared.keys.Stamp.{Stamp}
+use Rattle.item_states.specs.DdmTypes.declared.answers.TxKind.{TxKind}
+use Rattle.item_states.specs.DdmTypes.declared.answers.PendingWhy.{PendingWhy}
+use Rattle.item_states.specs.DdmTypes.declared.answers.QueueName.{QueueName}
+use Rattle.item_states.specs.DdmTypes.declared.keys.Stamp.{Stamp}
 use Rattle.tree_model.specs.State.Values.{RequestValue, CopyValue, Note, no_note, local, up_read, up_erase, DirValue, Node, leaf_node, dir_node}
 use Rattle.tree_model.specs.State.Leaf.{buffered}
 use Rattle.tree_model.specs.State.Directory.{is_top, parking_full, parked_words}

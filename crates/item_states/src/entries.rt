@@ -1,4 +1,4 @@
-use ddm_types::{ItemId, Stamp, TxKind, Words};
+use crate::of_ddm_types::{ItemId, Stamp, TxKind, Words};
 use std::marker::Model;
 
 /// An entry of a down list: what the bus above told a directory, and when.

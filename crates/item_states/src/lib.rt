@@ -5,6 +5,8 @@
 mod agent;
 mod entries;
 mod named;
+pub mod of_ddm_types;
+pub mod of_tree_model;
 mod parent;
 mod tables;
 

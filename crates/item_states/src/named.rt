@@ -1,7 +1,7 @@
 ghost use Rattle.std.specs.Prelude.{◌≡◌, ℕ};
 
 use crate::DownEntry;
-use ddm_types::{ItemId, TxKind, Words};
+use crate::of_ddm_types::{ItemId, TxKind, Words};
 
 /// What names an item: an entry of a list of transactions.
 pub trait Named {

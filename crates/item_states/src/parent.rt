@@ -1,12 +1,14 @@
 ghost use Rattle.std.specs.Prelude.{◌≡◌, ◌+◌, ◌<◌, ◌^◌, false, ◌++◌, ◌∷◌, [], length, nat_eq, nat_lt, IfSome, if◌then◌else◌};
-ghost use Rattle.ddm_types.specs.declared.sizes.Hold.TheVariants.{Shared};
+ghost use Rattle.item_states.specs.DdmTypes.declared.sizes.Hold.TheVariants.{Shared};
 ghost use Rattle.tree_model.specs.State.Values.{DirValue};
 ghost use Rattle.tree_model.specs.State.Lists.{first_of, rest_of};
 ghost use Rattle.tree_model.specs.State.Directory.{is_top, dir_hold, dir_note, is_answering, with_hold, with_note, with_answering, joined_by, note_why, down_full, requests_full, replies_full, parking_full, parked_words, is_parked, pushed_request, pushed_reply, with_parked, without_parked, place_released, pending, stamp_of};
 ghost use Rattle.item_states.specs.Parts.{note_of, joined_in, own_list_full, advanced, NamesChild, CanPark, TakesOver};
 
 use crate::DownEntry;
-use ddm_types::{BusNo, ChildNo, Hold, ItemId, PendingWhy, QueueName, Stamp, TxKind, Words};
+use crate::of_ddm_types::{
+    BusNo, ChildNo, Hold, ItemId, PendingWhy, QueueName, Stamp, TxKind, Words,
+};
 
 /// The lists of a bus's parent.
 #[derive(Clone, Copy, Debug, PartialEq, Eq)]

@@ -1,7 +1,7 @@
 ghost use Rattle.std.specs.Prelude.{◌≡◌};
 ghost use Rattle.tree_model.specs.State.States.{entry_hold, state_answered, state_lost, state_with_data};
 
-use ddm_types::{Hold, LeafState};
+use crate::of_ddm_types::{Hold, LeafState};
 
 /// The state of an entry whose leaf is told to lose the item. None: no entry is left.
 pub fn leaf_lose(s: LeafState) -> Option<LeafState>

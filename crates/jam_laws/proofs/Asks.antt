@@ -6,30 +6,30 @@ use Rattle.std.specs.List.{AllByRecursion, list_all}
 use native.Mathlib.Decide.{ℕ_discrete}
 use Rattle.std.specs.Cmp.Derive.{both_true}
 use Rattle.std.proofs.lemmas.Bool.{ne_eqb, true≢false}
-use Rattle.ddm_types.specs.declared.answers.PendingWhy.{PendingWhy}
-use Rattle.ddm_types.specs.declared.answers.TxKind.{TxKind}
-use Rattle.ddm_types.specs.declared.answers.TxKind.TheVariants.{ReadTx, DataTx, EraseTx, ExclusiveTx, InjectTx, OutTx}
-use Rattle.ddm_types.specs.declared.sizes.Hold.{Hold}
-use Rattle.ddm_types.specs.declared.sizes.LeafState.{LeafState}
-use Rattle.ddm_types.specs.declared.keys.Stamp.{Stamp}
-use Rattle.tree_model.specs.State.Lists.{has_some, first_of, find_from, names_item}
-use Rattle.tree_model.specs.State.Kinds.{goes_up}
-use Rattle.tree_model.specs.State.States.{is_held}
-use Rattle.tree_model.specs.State.Values.{RequestValue, DownValue, LeafValue, Note, no_note, local, up_read, up_erase, DirValue, Node, leaf_node, dir_node, children}
-use Rattle.tree_model.specs.State.Leaf.{state_at}
-use Rattle.tree_model.specs.State.Directory.{dir_hold, dir_note, is_answering, is_local, is_up_read, is_up_erase, is_reader, is_eraser, parked_words, pending, pending_by, note_why, in_down, entry_item, entry_kind, queue_of}
-use Rattle.tree_model.specs.State.Child.{child_request, child_holds}
-use Rattle.tree_model.specs.State.Blank.{no_node}
-use Rattle.tree_model.specs.Turns.Children.{child_at, other_holds}
-use Rattle.tree_model.specs.Turns.RequestRead.{read_held, read_granted, read_unless_pending, request_read}
-use Rattle.tree_model.specs.Turns.RequestErase.{request_erase}
-use Rattle.tree_model.specs.Turns.Bus.{request_by_kind, request_turn}
-use Rattle.tree_model.proofs.Children.{none-passes}
-use Rattle.tree_rules.specs.Bus.Faces.{ParentFace, ChildFace, parent_face, face_reads, face_erases, child_face, faces_of}
-use Rattle.tree_rules.specs.Bus.Own.{slot_suits, request_suits, slot_fits, request_fits, IsLeafOk}
-use Rattle.tree_rules.specs.Bus.Item.{implies, Bits, bits_of, one_request, requests_fit}
-use Rattle.tree_rules.specs.Bus.Rules.{IsBusOk, IsChildOk}
-use Rattle.tree_rules.proofs.Implying.{implies-use}
+use Rattle.jam_laws.specs.DdmTypes.declared.answers.PendingWhy.{PendingWhy}
+use Rattle.jam_laws.specs.DdmTypes.declared.answers.TxKind.{TxKind}
+use Rattle.jam_laws.specs.DdmTypes.declared.answers.TxKind.TheVariants.{ReadTx, DataTx, EraseTx, ExclusiveTx, InjectTx, OutTx}
+use Rattle.jam_laws.specs.DdmTypes.declared.sizes.Hold.{Hold}
+use Rattle.jam_laws.specs.DdmTypes.declared.sizes.LeafState.{LeafState}
+use Rattle.jam_laws.specs.DdmTypes.declared.keys.Stamp.{Stamp}
+use Rattle.jam_laws.specs.TreeModel.State.Lists.{has_some, first_of, find_from, names_item}
+use Rattle.jam_laws.specs.TreeModel.State.Kinds.{goes_up}
+use Rattle.jam_laws.specs.TreeModel.State.States.{is_held}
+use Rattle.jam_laws.specs.TreeModel.State.Values.{RequestValue, DownValue, LeafValue, Note, no_note, local, up_read, up_erase, DirValue, Node, leaf_node, dir_node, children}
+use Rattle.jam_laws.specs.TreeModel.State.Leaf.{state_at}
+use Rattle.jam_laws.specs.TreeModel.State.Directory.{dir_hold, dir_note, is_answering, is_local, is_up_read, is_up_erase, is_reader, is_eraser, parked_words, pending, pending_by, note_why, in_down, entry_item, entry_kind, queue_of}
+use Rattle.jam_laws.specs.TreeModel.State.Child.{child_request, child_holds}
+use Rattle.jam_laws.specs.TreeModel.State.Blank.{no_node}
+use Rattle.jam_laws.specs.TreeModel.Turns.Children.{child_at, other_holds}
+use Rattle.jam_laws.specs.TreeModel.Turns.RequestRead.{read_held, read_granted, read_unless_pending, request_read}
+use Rattle.jam_laws.specs.TreeModel.Turns.RequestErase.{request_erase}
+use Rattle.jam_laws.specs.TreeModel.Turns.Bus.{request_by_kind, request_turn}
+use Rattle.jam_laws.proofs.TreeModel.Children.{none-passes}
+use Rattle.jam_laws.specs.TreeRules.Bus.Faces.{ParentFace, ChildFace, parent_face, face_reads, face_erases, child_face, faces_of}
+use Rattle.jam_laws.specs.TreeRules.Bus.Own.{slot_suits, request_suits, slot_fits, request_fits, IsLeafOk}
+use Rattle.jam_laws.specs.TreeRules.Bus.Item.{implies, Bits, bits_of, one_request, requests_fit}
+use Rattle.jam_laws.specs.TreeRules.Bus.Rules.{IsBusOk, IsChildOk}
+use Rattle.jam_laws.proofs.TreeRules.Implying.{implies-use}
 use Rattle.bus_laws.proofs.States.{each_state, state-at}
 use Rattle.bus_laws.proofs.ItemLists.{kinds-first}
 use Rattle.bus_laws.proofs.DirParts.{dir-parts, lt-fact, is_no_note}

@@ -4,33 +4,33 @@ use Rattle.std.proofs.Common.{◌≡◌, ℕ, zero, suc, ◌+◌, ◌<◌, Bool,
 use Rattle.std.specs.Prelude.{◌&&◌, nat_eq, if◌then◌else◌}
 use Rattle.std.specs.List.{AllByRecursion}
 use Rattle.std.proofs.lemmas.Bool.{true≢false}
-use Rattle.ddm_types.specs.declared.answers.PendingWhy.{PendingWhy}
-use Rattle.ddm_types.specs.declared.answers.QueueName.{QueueName}
-use Rattle.ddm_types.specs.declared.answers.TxKind.{TxKind}
-use Rattle.ddm_types.specs.declared.answers.TxKind.TheVariants.{ReadTx, DataTx, EraseTx, ExclusiveTx, InjectTx, OutTx}
-use Rattle.ddm_types.specs.declared.sizes.Hold.{Hold}
-use Rattle.ddm_types.specs.declared.keys.Stamp.{Stamp}
-use Rattle.tree_model.specs.declared.BusTurn.{BusTurn}
-use Rattle.tree_model.specs.State.Lists.{find_from, first_given, first_some, some_if}
-use Rattle.tree_model.specs.State.States.{is_held, is_exclusive, is_shared}
-use Rattle.tree_model.specs.State.Values.{RequestValue, CopyValue, DownValue, Note, no_note, local, up_read, up_erase, DirValue, Node, leaf_node, dir_node}
-use Rattle.tree_model.specs.State.Leaf.{leaf_replies_full}
-use Rattle.tree_model.specs.State.Directory.{is_top, dir_hold, dir_note, is_answering, is_reader, is_parked, parked_words, parking_full, pending, front_taken, down_full, requests_full, replies_full}
-use Rattle.tree_model.specs.State.Child.{child_hold, child_request, child_reply, child_leaving, child_full_for, pending_below, reader_has_place}
-use Rattle.tree_model.specs.State.Blank.{no_node}
-use Rattle.tree_model.specs.Turns.Grant.{granted, nothing_there, own_down_full, own_requests_full, own_replies_full}
-use Rattle.tree_model.specs.Turns.Children.{child_at, holds_item, other_holds, other_full, full_to_lose, reader_full}
-use Rattle.tree_model.specs.Turns.RequestRead.{read_held, read_granted, read_unless_pending, request_read}
-use Rattle.tree_model.specs.Turns.RequestErase.{erase_list_full, request_erase}
-use Rattle.tree_model.specs.Turns.Reply.{reply_answering, reply_by_note}
-use Rattle.tree_model.specs.Turns.Down.{down_exclusive, down_read, down_data, inject_parked, inject_to_taker, inject_to_only_reader, inject_to_read, inject_taker, down_inject, down_by_kind, down_by_note, down_turn}
-use Rattle.tree_model.specs.Turns.Leave.{other_copy, leave_taker, parked_unless_full, leave_inject, leave_shared, leave_by_hold, leave_unless_pending}
-use Rattle.tree_model.specs.Turns.Bus.{request_by_kind, request_turn, reply_turn, leave_turn, bus_judged}
-use Rattle.tree_model.proofs.Children.{found-within}
-use Rattle.tree_rules.specs.Bus.Faces.{ParentFace, parent_face, faces_of}
-use Rattle.tree_rules.specs.Bus.Item.{implies, Bits}
-use Rattle.tree_rules.specs.Bus.Rules.{IsBusOk, IsChildOk}
-use Rattle.tree_rules.proofs.Implying.{implies-use}
+use Rattle.jam_laws.specs.DdmTypes.declared.answers.PendingWhy.{PendingWhy}
+use Rattle.jam_laws.specs.DdmTypes.declared.answers.QueueName.{QueueName}
+use Rattle.jam_laws.specs.DdmTypes.declared.answers.TxKind.{TxKind}
+use Rattle.jam_laws.specs.DdmTypes.declared.answers.TxKind.TheVariants.{ReadTx, DataTx, EraseTx, ExclusiveTx, InjectTx, OutTx}
+use Rattle.jam_laws.specs.DdmTypes.declared.sizes.Hold.{Hold}
+use Rattle.jam_laws.specs.DdmTypes.declared.keys.Stamp.{Stamp}
+use Rattle.jam_laws.specs.TreeModel.declared.BusTurn.{BusTurn}
+use Rattle.jam_laws.specs.TreeModel.State.Lists.{find_from, first_given, first_some, some_if}
+use Rattle.jam_laws.specs.TreeModel.State.States.{is_held, is_exclusive, is_shared}
+use Rattle.jam_laws.specs.TreeModel.State.Values.{RequestValue, CopyValue, DownValue, Note, no_note, local, up_read, up_erase, DirValue, Node, leaf_node, dir_node}
+use Rattle.jam_laws.specs.TreeModel.State.Leaf.{leaf_replies_full}
+use Rattle.jam_laws.specs.TreeModel.State.Directory.{is_top, dir_hold, dir_note, is_answering, is_reader, is_parked, parked_words, parking_full, pending, front_taken, down_full, requests_full, replies_full}
+use Rattle.jam_laws.specs.TreeModel.State.Child.{child_hold, child_request, child_reply, child_leaving, child_full_for, pending_below, reader_has_place}
+use Rattle.jam_laws.specs.TreeModel.State.Blank.{no_node}
+use Rattle.jam_laws.specs.TreeModel.Turns.Grant.{granted, nothing_there, own_down_full, own_requests_full, own_replies_full}
+use Rattle.jam_laws.specs.TreeModel.Turns.Children.{child_at, holds_item, other_holds, other_full, full_to_lose, reader_full}
+use Rattle.jam_laws.specs.TreeModel.Turns.RequestRead.{read_held, read_granted, read_unless_pending, request_read}
+use Rattle.jam_laws.specs.TreeModel.Turns.RequestErase.{erase_list_full, request_erase}
+use Rattle.jam_laws.specs.TreeModel.Turns.Reply.{reply_answering, reply_by_note}
+use Rattle.jam_laws.specs.TreeModel.Turns.Down.{down_exclusive, down_read, down_data, inject_parked, inject_to_taker, inject_to_only_reader, inject_to_read, inject_taker, down_inject, down_by_kind, down_by_note, down_turn}
+use Rattle.jam_laws.specs.TreeModel.Turns.Leave.{other_copy, leave_taker, parked_unless_full, leave_inject, leave_shared, leave_by_hold, leave_unless_pending}
+use Rattle.jam_laws.specs.TreeModel.Turns.Bus.{request_by_kind, request_turn, reply_turn, leave_turn, bus_judged}
+use Rattle.jam_laws.proofs.TreeModel.Children.{found-within}
+use Rattle.jam_laws.specs.TreeRules.Bus.Faces.{ParentFace, parent_face, faces_of}
+use Rattle.jam_laws.specs.TreeRules.Bus.Item.{implies, Bits}
+use Rattle.jam_laws.specs.TreeRules.Bus.Rules.{IsBusOk, IsChildOk}
+use Rattle.jam_laws.proofs.TreeRules.Implying.{implies-use}
 use Rattle.bus_laws.proofs.States.{each_state, state-at}
 use Rattle.bus_laws.proofs.DirParts.{starts_with}
 use Rattle.bus_laws.proofs.Calls.{child-read-taken, child-erase-taken, child-reply-taken}

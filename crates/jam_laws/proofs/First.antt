@@ -6,14 +6,14 @@ use Rattle.std.specs.List.{AllByRecursion, list_any, flat_map, range_with_len}
 use native.Mathlib.Decide.{ℕ_discrete}
 use Rattle.std.proofs.lemmas.Bool.{and_parts, or_right, eqb-true, lt-ltb, ltb-true, true≢false}
 use Rattle.std.proofs.lemmas.List.Concat.{flat_map-cons}
-use Rattle.ddm_types.specs.declared.turns.Turn.{Turn}
-use Rattle.tree_model.specs.State.Values.{MachineValue, root_of}
-use Rattle.tree_model.specs.State.Place.{at_top}
-use Rattle.tree_model.specs.State.Shape.{IsShaped, skeleton, buses_of, are_below, tree_counts, traffic_counted}
-use Rattle.tree_model.specs.Turns.Tree.{bus_of_number, has_node, of_dir}
-use Rattle.tree_model.specs.Turns.Machine.{named_by, child_count, names_part, is_child_of}
-use Rattle.tree_model.proofs.NamedNode.{read_in-is_some}
-use Rattle.tree_model.proofs.TurnChanges.{turn-changes_nothing}
+use Rattle.jam_laws.specs.DdmTypes.declared.turns.Turn.{Turn}
+use Rattle.jam_laws.specs.TreeModel.State.Values.{MachineValue, root_of}
+use Rattle.jam_laws.specs.TreeModel.State.Place.{at_top}
+use Rattle.jam_laws.specs.TreeModel.State.Shape.{IsShaped, skeleton, buses_of, are_below, tree_counts, traffic_counted}
+use Rattle.jam_laws.specs.TreeModel.Turns.Tree.{bus_of_number, has_node, of_dir}
+use Rattle.jam_laws.specs.TreeModel.Turns.Machine.{named_by, child_count, names_part, is_child_of}
+use Rattle.jam_laws.proofs.TreeModel.NamedNode.{read_in-is_some}
+use Rattle.jam_laws.proofs.TreeModel.TurnChanges.{turn-changes_nothing}
 use Rattle.jam_laws.specs.GoesOn.{is_granted, would_grant, turns_of_bus, bus_turns, first_granted, is_down_reply_or_request, SomeTurn, IsFirstGranted}
 use Rattle.jam_laws.proofs.Named.{or-first, number-in}
 

@@ -6,26 +6,26 @@ use Rattle.std.specs.List.{AllByRecursion, list_any, list_all, range_with_len}
 use native.Mathlib.Decide.{ℕ_discrete}
 use Rattle.std.proofs.Math.Bool.{and-false}
 use Rattle.std.proofs.lemmas.Bool.{and_parts, eqb-true, eq-eqb, ne_eqb, not-true, true≢false}
-use Rattle.ddm_types.specs.declared.answers.TxKind.{TxKind}
-use Rattle.ddm_types.specs.declared.answers.TxKind.TheVariants.{ReadTx, DataTx, EraseTx, ExclusiveTx, InjectTx, OutTx}
-use Rattle.ddm_types.specs.declared.keys.Stamp.{Stamp}
-use Rattle.tree_model.specs.State.Lists.{first_of, has_some, find_from}
-use Rattle.tree_model.specs.State.States.{is_held}
-use Rattle.tree_model.specs.State.Values.{CopyValue, DownValue, Note, no_note, local, up_read, up_erase, DirValue, Node, leaf_node, dir_node}
-use Rattle.tree_model.specs.State.Leaf.{words_of_item}
-use Rattle.tree_model.specs.State.Directory.{dir_note, is_answering, is_local, is_up_read, is_up_erase, is_reader, is_parked, parked_words, front_taken, queue_kinds}
-use Rattle.tree_model.specs.State.Child.{child_reply, child_holds, reader_has_place}
-use Rattle.tree_model.specs.State.Blank.{no_node}
-use Rattle.tree_model.specs.Turns.Children.{child_at, holds_item}
-use Rattle.tree_model.specs.Turns.Reply.{reply_answering, reply_by_note}
-use Rattle.tree_model.specs.Turns.Down.{down_exclusive, down_read, down_data, inject_to_parking, inject_to_taker, inject_to_read, inject_taker, down_inject, down_by_kind, down_by_note, down_turn}
-use Rattle.tree_model.specs.Turns.Bus.{reply_turn}
-use Rattle.tree_model.proofs.Children.{none-passes}
-use Rattle.tree_rules.specs.Bus.Faces.{ParentFace, parent_face, child_face, faces_of}
-use Rattle.tree_rules.specs.Bus.Own.{note_fits}
-use Rattle.tree_rules.specs.Bus.Item.{implies, holds_it, gives_none, Bits, bits_of, kept_place}
-use Rattle.tree_rules.specs.Bus.Rules.{IsBusOk, IsChildOk, kept_places}
-use Rattle.tree_rules.proofs.Implying.{implies-use}
+use Rattle.jam_laws.specs.DdmTypes.declared.answers.TxKind.{TxKind}
+use Rattle.jam_laws.specs.DdmTypes.declared.answers.TxKind.TheVariants.{ReadTx, DataTx, EraseTx, ExclusiveTx, InjectTx, OutTx}
+use Rattle.jam_laws.specs.DdmTypes.declared.keys.Stamp.{Stamp}
+use Rattle.jam_laws.specs.TreeModel.State.Lists.{first_of, has_some, find_from}
+use Rattle.jam_laws.specs.TreeModel.State.States.{is_held}
+use Rattle.jam_laws.specs.TreeModel.State.Values.{CopyValue, DownValue, Note, no_note, local, up_read, up_erase, DirValue, Node, leaf_node, dir_node}
+use Rattle.jam_laws.specs.TreeModel.State.Leaf.{words_of_item}
+use Rattle.jam_laws.specs.TreeModel.State.Directory.{dir_note, is_answering, is_local, is_up_read, is_up_erase, is_reader, is_parked, parked_words, front_taken, queue_kinds}
+use Rattle.jam_laws.specs.TreeModel.State.Child.{child_reply, child_holds, reader_has_place}
+use Rattle.jam_laws.specs.TreeModel.State.Blank.{no_node}
+use Rattle.jam_laws.specs.TreeModel.Turns.Children.{child_at, holds_item}
+use Rattle.jam_laws.specs.TreeModel.Turns.Reply.{reply_answering, reply_by_note}
+use Rattle.jam_laws.specs.TreeModel.Turns.Down.{down_exclusive, down_read, down_data, inject_to_parking, inject_to_taker, inject_to_read, inject_taker, down_inject, down_by_kind, down_by_note, down_turn}
+use Rattle.jam_laws.specs.TreeModel.Turns.Bus.{reply_turn}
+use Rattle.jam_laws.proofs.TreeModel.Children.{none-passes}
+use Rattle.jam_laws.specs.TreeRules.Bus.Faces.{ParentFace, parent_face, child_face, faces_of}
+use Rattle.jam_laws.specs.TreeRules.Bus.Own.{note_fits}
+use Rattle.jam_laws.specs.TreeRules.Bus.Item.{implies, holds_it, gives_none, Bits, bits_of, kept_place}
+use Rattle.jam_laws.specs.TreeRules.Bus.Rules.{IsBusOk, IsChildOk, kept_places}
+use Rattle.jam_laws.proofs.TreeRules.Implying.{implies-use}
 use Rattle.bus_laws.proofs.States.{each_state, state-at}
 use Rattle.bus_laws.proofs.BitsOf.{any-false, all-at}
 use Rattle.bus_laws.proofs.ItemLists.{queue-front}

@@ -1,9 +1,9 @@
 -- What was judged of a turn goes on: it is granted, or a list that needs a place is full.
 use Rattle.std.proofs.Common.{◌≡◌, ℕ, Bool, true, false, Option, Some, None, refl}
 use Rattle.std.specs.Prelude.{◌||◌}
-use Rattle.ddm_types.specs.declared.answers.BusyCause.{BusyCause}
-use Rattle.ddm_types.specs.declared.answers.QueueName.{QueueName}
-use Rattle.tree_model.specs.Turns.Grant.{Grant, Judged, nothing_there, refused, granted, unless_full, bus_answer}
+use Rattle.jam_laws.specs.DdmTypes.declared.answers.BusyCause.{BusyCause}
+use Rattle.jam_laws.specs.DdmTypes.declared.answers.QueueName.{QueueName}
+use Rattle.jam_laws.specs.TreeModel.Turns.Grant.{Grant, Judged, nothing_there, refused, granted, unless_full, bus_answer}
 use Rattle.jam_laws.specs.GoesOn.{is_granted, finds_list_full}
 
 -- a list is full

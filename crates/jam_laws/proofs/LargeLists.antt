@@ -5,18 +5,18 @@ use Rattle.std.specs.Prelude.{◌&&◌, nat_eq, nat_le, if◌then◌else◌}
 use Rattle.std.specs.List.{list_all, range_with_len}
 use Rattle.std.specs.Cmp.Derive.{both_true}
 use Rattle.std.proofs.lemmas.Bool.{and_parts}
-use Rattle.ddm_types.specs.declared.turns.Turn.{Turn}
-use Rattle.ddm_types.specs.ItemTable.{item_count}
-use Rattle.tree_model.specs.State.Lists.{map_from}
-use Rattle.tree_model.specs.State.Values.{LeafValue, DirSizes, Node, leaf_node, nodes, MachineValue}
-use Rattle.tree_model.specs.State.Shape.{Skeleton, leaf_bone, dir_bone, skeleton, skeletons, Frame}
-use Rattle.tree_model.specs.Turns.Machine.{turn_of, run_of}
-use Rattle.tree_model.specs.Start.Sources.{TreeValue, ImageValue, width_of, leaf_count}
-use Rattle.tree_model.specs.Start.Memory.{start_items, start_words}
-use Rattle.tree_model.specs.Start.Nodes.{dir_sizes, leaf_for, placed, placed_at, placed_in, placed_items, cut_in, dir_over, dirs_over, under_levels}
-use Rattle.tree_model.specs.Start.Machine.{StartRefusal, start_leaf, start_leaves, start_machine, start_refusal, start_or, start_of}
-use Rattle.tree_model.proofs.FrameKept.{turn-frame, run-frame}
-use Rattle.tree_rules.specs.Bus.Rules.{items_of_machine}
+use Rattle.jam_laws.specs.DdmTypes.declared.turns.Turn.{Turn}
+use Rattle.jam_laws.specs.DdmTypes.ItemTable.{item_count}
+use Rattle.jam_laws.specs.TreeModel.State.Lists.{map_from}
+use Rattle.jam_laws.specs.TreeModel.State.Values.{LeafValue, DirSizes, Node, leaf_node, nodes, MachineValue}
+use Rattle.jam_laws.specs.TreeModel.State.Shape.{Skeleton, leaf_bone, dir_bone, skeleton, skeletons, Frame}
+use Rattle.jam_laws.specs.TreeModel.Turns.Machine.{turn_of, run_of}
+use Rattle.jam_laws.specs.TreeModel.Start.Sources.{TreeValue, ImageValue, width_of, leaf_count}
+use Rattle.jam_laws.specs.TreeModel.Start.Memory.{start_items, start_words}
+use Rattle.jam_laws.specs.TreeModel.Start.Nodes.{dir_sizes, leaf_for, placed, placed_at, placed_in, placed_items, cut_in, dir_over, dirs_over, under_levels}
+use Rattle.jam_laws.specs.TreeModel.Start.Machine.{StartRefusal, start_leaf, start_leaves, start_machine, start_refusal, start_or, start_of}
+use Rattle.jam_laws.proofs.TreeModel.FrameKept.{turn-frame, run-frame}
+use Rattle.jam_laws.specs.TreeRules.Bus.Rules.{items_of_machine}
 use Rattle.jam_laws.specs.GoesOn.{lists_have, lists_have_among, has_large_lists, sizes_are_large}
 
 -- ---- the lists are what no turn changes

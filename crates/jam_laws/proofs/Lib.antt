@@ -1,3 +1,6 @@
+pub mod BusLaws
+pub mod TreeModel
+pub mod TreeRules
 pub mod Judged
 pub mod Goes
 pub mod Asks

@@ -4,15 +4,15 @@ use Rattle.std.proofs.Common.{◌≡◌, ℕ, ◌+◌, Bool, true, false, inl, i
 use Rattle.std.specs.Prelude.{not, ◌||◌, is_some, nat_eq, option_map}
 use Rattle.std.specs.List.{list_any}
 use Rattle.std.proofs.lemmas.Bool.{and_parts, eqb-true, eq-eqb, ne_eqb, not-true, or_right, true≢false}
-use Rattle.ddm_types.specs.declared.turns.Turn.{Turn}
-use Rattle.tree_model.specs.declared.BusTurn.{BusTurn}
-use Rattle.tree_model.specs.State.Values.{DirValue, Node, Nodes, leaf_node, dir_node, no_nodes, more_nodes, children, MachineValue, root_of}
-use Rattle.tree_model.specs.State.Place.{Where, at_top, at_child, stamp_above, where_path, spot_in}
-use Rattle.tree_model.specs.State.Shape.{IsShaped, skeleton, skeletons, buses_of, buses_among, are_distinct, buses_differ}
-use Rattle.tree_model.specs.Turns.Bus.{bus_judged, bus_step}
-use Rattle.tree_model.specs.Turns.Tree.{Name, bus_of_number, is_named, has_node, has_among, read_in, read_among, of_dir}
-use Rattle.tree_model.specs.Turns.Machine.{named_by, bus_turn_of, answer_here, turn_of, child_count, is_child_of}
-use Rattle.tree_model.proofs.TurnChanges.{turn-answered}
+use Rattle.jam_laws.specs.DdmTypes.declared.turns.Turn.{Turn}
+use Rattle.jam_laws.specs.TreeModel.declared.BusTurn.{BusTurn}
+use Rattle.jam_laws.specs.TreeModel.State.Values.{DirValue, Node, Nodes, leaf_node, dir_node, no_nodes, more_nodes, children, MachineValue, root_of}
+use Rattle.jam_laws.specs.TreeModel.State.Place.{Where, at_top, at_child, stamp_above, where_path, spot_in}
+use Rattle.jam_laws.specs.TreeModel.State.Shape.{IsShaped, skeleton, skeletons, buses_of, buses_among, are_distinct, buses_differ}
+use Rattle.jam_laws.specs.TreeModel.Turns.Bus.{bus_judged, bus_step}
+use Rattle.jam_laws.specs.TreeModel.Turns.Tree.{Name, bus_of_number, is_named, has_node, has_among, read_in, read_among, of_dir}
+use Rattle.jam_laws.specs.TreeModel.Turns.Machine.{named_by, bus_turn_of, answer_here, turn_of, child_count, is_child_of}
+use Rattle.jam_laws.proofs.TreeModel.TurnChanges.{turn-answered}
 use Rattle.jam_laws.specs.GoesOn.{granted_or_full, SomeTurn}
 use Rattle.jam_laws.proofs.Judged.{goes, goes-answer}
 use Rattle.jam_laws.proofs.Walk.{is_onward, BusGoes, SomeGoes, SomeGoesAmong}

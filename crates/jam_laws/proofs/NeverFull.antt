@@ -4,26 +4,26 @@ use Rattle.std.proofs.Common.{◌≡◌, ℕ, zero, suc, ◌+◌, ◌*◌, ◌<�
 use Rattle.std.specs.Prelude.{not, nat_le, slice_index_or}
 use Rattle.std.specs.List.{AllByRecursion, list_all}
 use Rattle.std.proofs.lemmas.Bool.{and_parts, leb-true, not-true, true≢false, false_from_ne_true}
-use Rattle.ddm_types.specs.declared.answers.TurnAnswer.{TurnAnswer}
-use Rattle.ddm_types.specs.declared.turns.Turn.{Turn}
-use Rattle.ddm_types.specs.declared.keys.Key.{Key}
-use Rattle.ddm_types.specs.declared.keys.Stamp.{Stamp}
-use Rattle.ddm_types.specs.CodeMap.{CodeWord}
-use Rattle.ddm_types.specs.ItemTable.{ItemTable}
-use Rattle.tree_model.specs.declared.BusTurn.{BusTurn}
-use Rattle.tree_model.specs.State.States.{is_exclusive}
-use Rattle.tree_model.specs.State.Values.{absent_item, LeafValue, DirValue, Node, Nodes, leaf_node, dir_node, no_nodes, more_nodes, children, MachineValue}
-use Rattle.tree_model.specs.State.Leaf.{leaf_replies_full}
-use Rattle.tree_model.specs.State.Directory.{dir_hold, is_answering, down_full}
-use Rattle.tree_model.specs.State.Child.{child_replies}
-use Rattle.tree_model.specs.State.Place.{Where, at_top, at_child, stamp_above, where_path, spot_in, key_at_leaf}
-use Rattle.tree_model.specs.State.Shape.{skeleton, skeletons}
-use Rattle.tree_model.specs.Turns.Bus.{bus_judged, bus_step}
-use Rattle.tree_model.specs.Turns.HartTurn.{Deed, has_halted, waits_for, halts, completes, fetches, upgrades, finds_buffer_full, deed_of, answer_of_deed, leaf_step}
-use Rattle.tree_model.specs.Turns.Tree.{is_named, has_node, read_in, read_among}
-use Rattle.tree_model.specs.Turns.Machine.{named_by, bus_turn_of, victim_of, answer_here, turn_answer, turned_by, turn_root, turn_of}
-use Rattle.tree_rules.specs.Bus.Own.{top_item, top_items}
-use Rattle.tree_rules.specs.Bus.Rules.{IsBusOk, IsTreeOk, AreTreesOk, IsMachineOk, items_of_machine}
+use Rattle.jam_laws.specs.DdmTypes.declared.answers.TurnAnswer.{TurnAnswer}
+use Rattle.jam_laws.specs.DdmTypes.declared.turns.Turn.{Turn}
+use Rattle.jam_laws.specs.DdmTypes.declared.keys.Key.{Key}
+use Rattle.jam_laws.specs.DdmTypes.declared.keys.Stamp.{Stamp}
+use Rattle.jam_laws.specs.DdmTypes.CodeMap.{CodeWord}
+use Rattle.jam_laws.specs.DdmTypes.ItemTable.{ItemTable}
+use Rattle.jam_laws.specs.TreeModel.declared.BusTurn.{BusTurn}
+use Rattle.jam_laws.specs.TreeModel.State.States.{is_exclusive}
+use Rattle.jam_laws.specs.TreeModel.State.Values.{absent_item, LeafValue, DirValue, Node, Nodes, leaf_node, dir_node, no_nodes, more_nodes, children, MachineValue}
+use Rattle.jam_laws.specs.TreeModel.State.Leaf.{leaf_replies_full}
+use Rattle.jam_laws.specs.TreeModel.State.Directory.{dir_hold, is_answering, down_full}
+use Rattle.jam_laws.specs.TreeModel.State.Child.{child_replies}
+use Rattle.jam_laws.specs.TreeModel.State.Place.{Where, at_top, at_child, stamp_above, where_path, spot_in, key_at_leaf}
+use Rattle.jam_laws.specs.TreeModel.State.Shape.{skeleton, skeletons}
+use Rattle.jam_laws.specs.TreeModel.Turns.Bus.{bus_judged, bus_step}
+use Rattle.jam_laws.specs.TreeModel.Turns.HartTurn.{Deed, has_halted, waits_for, halts, completes, fetches, upgrades, finds_buffer_full, deed_of, answer_of_deed, leaf_step}
+use Rattle.jam_laws.specs.TreeModel.Turns.Tree.{is_named, has_node, read_in, read_among}
+use Rattle.jam_laws.specs.TreeModel.Turns.Machine.{named_by, bus_turn_of, victim_of, answer_here, turn_answer, turned_by, turn_root, turn_of}
+use Rattle.jam_laws.specs.TreeRules.Bus.Own.{top_item, top_items}
+use Rattle.jam_laws.specs.TreeRules.Bus.Rules.{IsBusOk, IsTreeOk, AreTreesOk, IsMachineOk, items_of_machine}
 use Rattle.bus_laws.proofs.DirParts.{dir-parts}
 use Rattle.jam_laws.specs.GoesOn.{lists_have, lists_have_among, has_large_lists, finds_list_full}
 use Rattle.jam_laws.proofs.Judged.{full-answer}

@@ -3,15 +3,15 @@
 use Rattle.std.proofs.Common.{◌≡◌, Bool, true, false, List, Some, None, Ok, refl, sym, ap, ◌∙◌}
 use Rattle.std.specs.Prelude.{◌||◌, is_some, if◌then◌else◌}
 use Rattle.std.proofs.lemmas.Bool.{true≢false}
-use Rattle.ddm_types.specs.declared.answers.TurnAnswer.{TurnAnswer}
-use Rattle.ddm_types.specs.declared.turns.Turn.{Turn}
-use Rattle.tree_model.specs.State.Values.{MachineValue}
-use Rattle.tree_model.specs.State.Shape.{IsShaped}
-use Rattle.tree_model.specs.Turns.Machine.{turn_of, run_of}
-use Rattle.tree_model.specs.Start.Sources.{TreeValue, ImageValue}
-use Rattle.tree_model.specs.Start.Machine.{start_of}
-use Rattle.tree_model.proofs.FrameKept.{run-shape}
-use Rattle.tree_rules.specs.Bus.Rules.{IsMachineOk, items_of_machine}
+use Rattle.jam_laws.specs.DdmTypes.declared.answers.TurnAnswer.{TurnAnswer}
+use Rattle.jam_laws.specs.DdmTypes.declared.turns.Turn.{Turn}
+use Rattle.jam_laws.specs.TreeModel.State.Values.{MachineValue}
+use Rattle.jam_laws.specs.TreeModel.State.Shape.{IsShaped}
+use Rattle.jam_laws.specs.TreeModel.Turns.Machine.{turn_of, run_of}
+use Rattle.jam_laws.specs.TreeModel.Start.Sources.{TreeValue, ImageValue}
+use Rattle.jam_laws.specs.TreeModel.Start.Machine.{start_of}
+use Rattle.jam_laws.proofs.TreeModel.FrameKept.{run-shape}
+use Rattle.jam_laws.specs.TreeRules.Bus.Rules.{IsMachineOk, items_of_machine}
 use Rattle.bus_laws.specs.IsTree.{IsTree}
 use Rattle.bus_laws.proofs.TreeKept.{run-keeps_rules}
 use Rattle.bus_laws.proofs.StartKept.{start-kept}

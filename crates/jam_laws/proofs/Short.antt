@@ -6,17 +6,17 @@ use Rattle.std.specs.List.{list_all, AllByRecursion}
 use Rattle.std.specs.Cmp.Derive.{both_true}
 use Rattle.std.proofs.lemmas.Bool.{and_parts, eqb-true, eqb-false, ltb-true, lt-ltb, leb-true, true≢false}
 use Rattle.std.proofs.lemmas.List.{length-map}
-use Rattle.tree_model.specs.State.Lists.{names_item}
-use Rattle.tree_model.specs.State.Values.{Note, no_note, local, up_read, up_erase, DirValue, Node, leaf_node, dir_node, children}
-use Rattle.tree_model.specs.State.Leaf.{copy_item, words_of_item, is_copy, copy_words}
-use Rattle.tree_model.specs.State.Directory.{is_local, entry_item, entry_kind, queue_of, queue_kinds, request_item, request_kind, request_kinds}
-use Rattle.tree_model.specs.State.Child.{child_replies}
-use Rattle.tree_model.specs.State.Blank.{no_node}
-use Rattle.tree_model.specs.Turns.Children.{child_at}
-use Rattle.tree_rules.specs.Bus.Faces.{ParentFace, ChildFace, parent_face, child_face, faces_of}
-use Rattle.tree_rules.specs.Bus.Own.{copy_fits, down_fits, leaf_replies}
-use Rattle.tree_rules.specs.Bus.Item.{implies, gives_none, gives_one, one_gives, asked_below, Bits, bits_of, giver}
-use Rattle.tree_rules.specs.Bus.Rules.{IsBusOk, IsChildOk}
+use Rattle.jam_laws.specs.TreeModel.State.Lists.{names_item}
+use Rattle.jam_laws.specs.TreeModel.State.Values.{Note, no_note, local, up_read, up_erase, DirValue, Node, leaf_node, dir_node, children}
+use Rattle.jam_laws.specs.TreeModel.State.Leaf.{copy_item, words_of_item, is_copy, copy_words}
+use Rattle.jam_laws.specs.TreeModel.State.Directory.{is_local, entry_item, entry_kind, queue_of, queue_kinds, request_item, request_kind, request_kinds}
+use Rattle.jam_laws.specs.TreeModel.State.Child.{child_replies}
+use Rattle.jam_laws.specs.TreeModel.State.Blank.{no_node}
+use Rattle.jam_laws.specs.TreeModel.Turns.Children.{child_at}
+use Rattle.jam_laws.specs.TreeRules.Bus.Faces.{ParentFace, ChildFace, parent_face, child_face, faces_of}
+use Rattle.jam_laws.specs.TreeRules.Bus.Own.{copy_fits, down_fits, leaf_replies}
+use Rattle.jam_laws.specs.TreeRules.Bus.Item.{implies, gives_none, gives_one, one_gives, asked_below, Bits, bits_of, giver}
+use Rattle.jam_laws.specs.TreeRules.Bus.Rules.{IsBusOk, IsChildOk}
 use Rattle.bus_laws.proofs.States.{each_state, state-at}
 use Rattle.bus_laws.proofs.BitsOf.{all-at, gift-at}
 use Rattle.bus_laws.proofs.DirParts.{dir-parts}

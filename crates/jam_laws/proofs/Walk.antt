@@ -15,25 +15,25 @@ use Rattle.std.specs.Prelude.{not, ◌&&◌, ◌||◌, nat_eq, nat_lt, is_some}
 use Rattle.std.specs.List.{list_any, list_all, AllByRecursion}
 use Rattle.std.specs.Cmp.Derive.{both_true}
 use Rattle.std.proofs.lemmas.Bool.{and_parts, lt-ltb, not-true, true≢false}
-use Rattle.ddm_types.specs.declared.sizes.Hold.{Hold}
-use Rattle.ddm_types.specs.declared.sizes.LeafState.{LeafState}
-use Rattle.ddm_types.specs.declared.keys.Stamp.{Stamp}
-use Rattle.tree_model.specs.declared.BusTurn.{BusTurn}
-use Rattle.tree_model.specs.State.Lists.{has_some, first_of}
-use Rattle.tree_model.specs.State.States.{is_exclusive, is_shared}
-use Rattle.tree_model.specs.State.Values.{RequestValue, CopyValue, DownValue, LeafValue, DirValue, Node, Nodes, leaf_node, dir_node, no_nodes, more_nodes, children, MachineValue, root_of}
-use Rattle.tree_model.specs.State.Leaf.{waiting_item, words_of_item, state_at}
-use Rattle.tree_model.specs.State.Directory.{dir_hold, dir_note, is_answering, is_local, is_up_read, in_down, queue_of, queue_kinds, request_kinds}
-use Rattle.tree_model.specs.State.Child.{child_request, child_reply, child_replies}
-use Rattle.tree_model.specs.State.Place.{Where, at_top, at_child, stamp_above, where_path, spot_in}
-use Rattle.tree_model.specs.Turns.Children.{child_at}
-use Rattle.tree_model.specs.Turns.Bus.{request_turn, bus_judged}
-use Rattle.tree_model.specs.Turns.Machine.{leaves_of, leaves_among}
-use Rattle.tree_rules.specs.Bus.Faces.{parent_face, face_reads, face_erases, child_face, faces_of}
-use Rattle.tree_rules.specs.Bus.Own.{IsLeafOk, state_waits, no_requests}
-use Rattle.tree_rules.specs.Bus.Item.{implies, gives_none, Bits, bits_of, up_read_noted, top_holds}
-use Rattle.tree_rules.specs.Bus.Rules.{IsBusOk, IsChildOk, IsTreeOk, AreTreesOk, IsMachineOk, items_of_machine}
-use Rattle.tree_rules.proofs.Implying.{implies-use}
+use Rattle.jam_laws.specs.DdmTypes.declared.sizes.Hold.{Hold}
+use Rattle.jam_laws.specs.DdmTypes.declared.sizes.LeafState.{LeafState}
+use Rattle.jam_laws.specs.DdmTypes.declared.keys.Stamp.{Stamp}
+use Rattle.jam_laws.specs.TreeModel.declared.BusTurn.{BusTurn}
+use Rattle.jam_laws.specs.TreeModel.State.Lists.{has_some, first_of}
+use Rattle.jam_laws.specs.TreeModel.State.States.{is_exclusive, is_shared}
+use Rattle.jam_laws.specs.TreeModel.State.Values.{RequestValue, CopyValue, DownValue, LeafValue, DirValue, Node, Nodes, leaf_node, dir_node, no_nodes, more_nodes, children, MachineValue, root_of}
+use Rattle.jam_laws.specs.TreeModel.State.Leaf.{waiting_item, words_of_item, state_at}
+use Rattle.jam_laws.specs.TreeModel.State.Directory.{dir_hold, dir_note, is_answering, is_local, is_up_read, in_down, queue_of, queue_kinds, request_kinds}
+use Rattle.jam_laws.specs.TreeModel.State.Child.{child_request, child_reply, child_replies}
+use Rattle.jam_laws.specs.TreeModel.State.Place.{Where, at_top, at_child, stamp_above, where_path, spot_in}
+use Rattle.jam_laws.specs.TreeModel.Turns.Children.{child_at}
+use Rattle.jam_laws.specs.TreeModel.Turns.Bus.{request_turn, bus_judged}
+use Rattle.jam_laws.specs.TreeModel.Turns.Machine.{leaves_of, leaves_among}
+use Rattle.jam_laws.specs.TreeRules.Bus.Faces.{parent_face, face_reads, face_erases, child_face, faces_of}
+use Rattle.jam_laws.specs.TreeRules.Bus.Own.{IsLeafOk, state_waits, no_requests}
+use Rattle.jam_laws.specs.TreeRules.Bus.Item.{implies, gives_none, Bits, bits_of, up_read_noted, top_holds}
+use Rattle.jam_laws.specs.TreeRules.Bus.Rules.{IsBusOk, IsChildOk, IsTreeOk, AreTreesOk, IsMachineOk, items_of_machine}
+use Rattle.jam_laws.proofs.TreeRules.Implying.{implies-use}
 use Rattle.bus_laws.specs.KeepsBus.{IsTopBusOk}
 use Rattle.bus_laws.proofs.States.{state-at}
 use Rattle.bus_laws.proofs.DirParts.{dir-parts}

@@ -1,15 +1,15 @@
 -- Runs on which the turn that goes on is computed; and one that jams, for its lists have one place each.
 use Rattle.std.specs.Prelude.{◌≡◌, ℕ, Bool, true, false, List, [], ◌∷◌, ◌++◌, map, replicate, take, Some, None}
 use Rattle.std.specs.List.{list_all}
-use Rattle.ddm_types.specs.declared.answers.TurnAnswer.{TurnAnswer}
-use Rattle.ddm_types.specs.declared.sizes.TreeSizes.{TreeSizes}
-use Rattle.ddm_types.specs.declared.turns.Turn.{Turn}
-use Rattle.tree_model.specs.State.Values.{MachineValue}
-use Rattle.tree_model.specs.State.Shape.{is_shaped}
-use Rattle.tree_model.specs.Turns.Machine.{turn_of, run_of}
-use Rattle.tree_model.specs.Start.Sources.{ImageValue, TreeValue}
-use Rattle.tree_model.specs.Start.Machine.{start_machine}
-use Rattle.tree_rules.specs.Bus.Rules.{items_of_machine, machine_holds}
+use Rattle.jam_laws.specs.DdmTypes.declared.answers.TurnAnswer.{TurnAnswer}
+use Rattle.jam_laws.specs.DdmTypes.declared.sizes.TreeSizes.{TreeSizes}
+use Rattle.jam_laws.specs.DdmTypes.declared.turns.Turn.{Turn}
+use Rattle.jam_laws.specs.TreeModel.State.Values.{MachineValue}
+use Rattle.jam_laws.specs.TreeModel.State.Shape.{is_shaped}
+use Rattle.jam_laws.specs.TreeModel.Turns.Machine.{turn_of, run_of}
+use Rattle.jam_laws.specs.TreeModel.Start.Sources.{ImageValue, TreeValue}
+use Rattle.jam_laws.specs.TreeModel.Start.Machine.{start_machine}
+use Rattle.jam_laws.specs.TreeRules.Bus.Rules.{items_of_machine, machine_holds}
 use Rattle.jam_laws.specs.GoesOn.{some_leaf_waits, has_large_lists, finds_list_full, first_granted, unjamming_turn}
 
 -- so many sets, and lists of so many places

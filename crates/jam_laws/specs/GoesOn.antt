@@ -3,16 +3,16 @@
 -- To be believed with the laws: it is what they speak of.
 use Rattle.std.specs.Prelude.{◌≡◌, ℕ, ◌*◌, ◌≤◌, Bool, true, false, ◌&&◌, ◌||◌, nat_le, List, ◌∷◌, ◌++◌, length, map, find, Option, None, is_some, unwrap_or, if◌then◌else◌}
 use Rattle.std.specs.List.{AllByRecursion, list_any, flat_map, range_with_len}
-use Rattle.ddm_types.specs.declared.answers.BusyCause.{BusyCause}
-use Rattle.ddm_types.specs.declared.answers.TurnAnswer.{TurnAnswer}
-use Rattle.ddm_types.specs.declared.sizes.TreeSizes.{TreeSizes}
-use Rattle.ddm_types.specs.declared.turns.Turn.{Turn}
-use Rattle.tree_model.specs.State.Values.{LeafValue, DirValue, Node, MachineValue}
-use Rattle.tree_model.specs.State.Leaf.{waiting_item}
-use Rattle.tree_model.specs.State.Child.{child_replies}
-use Rattle.tree_model.specs.State.Shape.{Skeleton, Skeletons, leaf_bone, dir_bone, no_bones, more_bones, skeletons, tree_counts}
-use Rattle.tree_model.specs.Turns.Machine.{turn_of, child_count, names_part, machine_leaves}
-use Rattle.tree_rules.specs.Bus.Rules.{items_of_machine}
+use Rattle.jam_laws.specs.DdmTypes.declared.answers.BusyCause.{BusyCause}
+use Rattle.jam_laws.specs.DdmTypes.declared.answers.TurnAnswer.{TurnAnswer}
+use Rattle.jam_laws.specs.DdmTypes.declared.sizes.TreeSizes.{TreeSizes}
+use Rattle.jam_laws.specs.DdmTypes.declared.turns.Turn.{Turn}
+use Rattle.jam_laws.specs.TreeModel.State.Values.{LeafValue, DirValue, Node, MachineValue}
+use Rattle.jam_laws.specs.TreeModel.State.Leaf.{waiting_item}
+use Rattle.jam_laws.specs.TreeModel.State.Child.{child_replies}
+use Rattle.jam_laws.specs.TreeModel.State.Shape.{Skeleton, Skeletons, leaf_bone, dir_bone, no_bones, more_bones, skeletons, tree_counts}
+use Rattle.jam_laws.specs.TreeModel.Turns.Machine.{turn_of, child_count, names_part, machine_leaves}
+use Rattle.jam_laws.specs.TreeRules.Bus.Rules.{items_of_machine}
 
 -- ---- waiting
 

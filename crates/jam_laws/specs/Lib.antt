@@ -1,2 +1,5 @@
+pub mod DdmTypes
+pub mod TreeModel
+pub mod TreeRules
 pub mod GoesOn
 pub mod Examples

@@ -2,13 +2,13 @@
 
 ghost use Rattle.std.specs.Prelude.{◌≡◌, ℕ, true, false, List, Ok, Some, None};
 ghost use Rattle.std.specs.List.{AllByRecursion};
-ghost use Rattle.ddm_types.specs.declared.turns.Turn.{Turn};
-ghost use Rattle.tree_model.specs.State.Values.{DirValue, Node, MachineValue};
-ghost use Rattle.tree_model.specs.State.Shape.{IsShaped};
-ghost use Rattle.tree_model.specs.Turns.Machine.{turn_of, run_of};
-ghost use Rattle.tree_model.specs.Start.Sources.{TreeValue, ImageValue};
-ghost use Rattle.tree_model.specs.Start.Machine.{start_of};
-ghost use Rattle.tree_rules.specs.Bus.Rules.{IsBusOk, IsChildOk, IsMachineOk, items_of_machine};
+ghost use Rattle.jam_laws.specs.DdmTypes.declared.turns.Turn.{Turn};
+ghost use Rattle.jam_laws.specs.TreeModel.State.Values.{DirValue, Node, MachineValue};
+ghost use Rattle.jam_laws.specs.TreeModel.State.Shape.{IsShaped};
+ghost use Rattle.jam_laws.specs.TreeModel.Turns.Machine.{turn_of, run_of};
+ghost use Rattle.jam_laws.specs.TreeModel.Start.Sources.{TreeValue, ImageValue};
+ghost use Rattle.jam_laws.specs.TreeModel.Start.Machine.{start_of};
+ghost use Rattle.jam_laws.specs.TreeRules.Bus.Rules.{IsBusOk, IsChildOk, IsMachineOk, items_of_machine};
 ghost use Rattle.bus_laws.specs.IsTree.{IsTree};
 ghost use Rattle.jam_laws.specs.GoesOn.{some_leaf_waits, has_large_lists, sizes_are_large, HasShortLists, is_granted, finds_list_full, granted_or_full, unjamming_turn, SomeTurn, IsFirstGranted};
 

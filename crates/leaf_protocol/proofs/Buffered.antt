@@ -4,10 +4,10 @@ use Rattle.std.specs.Prelude.{filter, find, is_some}
 use Rattle.std.specs.List.{list_any}
 use Rattle.std.proofs.lemmas.Bool.{eqb-true, eq-eqb, ne_eqb}
 use Rattle.std.proofs.lemmas.Option.{same_Some}
-use Rattle.ddm_types.specs.declared.sizes.LeafState.{LeafState}
-use Rattle.tree_model.specs.State.Shape.{are_distinct}
-use Rattle.tree_model.specs.State.Values.{BufferValue}
-use Rattle.tree_model.specs.State.Leaf.{buffer_item, buffer_with, is_buffered, buffered}
+use Rattle.leaf_protocol.specs.DdmTypes.declared.sizes.LeafState.{LeafState}
+use Rattle.leaf_protocol.specs.TreeModel.State.Shape.{are_distinct}
+use Rattle.leaf_protocol.specs.TreeModel.State.Values.{BufferValue}
+use Rattle.leaf_protocol.specs.TreeModel.State.Leaf.{buffer_item, buffer_with, is_buffered, buffered}
 use Rattle.replacement.specs.Arrived.{with_state, with_words}
 use Rattle.replacement.proofs.Once.{left, right, named-map, once-filter}
 

@@ -6,12 +6,12 @@ use Rattle.std.specs.FinMap.{get-empty}
 use Rattle.std.proofs.lemmas.Bool.{eq-eqb, ne_eqb}
 use Rattle.std.proofs.lemmas.Option.{none-some, same_Some}
 use Rattle.std.proofs.lemmas.List.{append-nil}
-use Rattle.ddm_types.specs.declared.sizes.LeafState.{LeafState}
-use Rattle.flat_model.specs.Flat.{has_reserved}
-use Rattle.tree_model.specs.State.States.{is_waiting, is_reading}
-use Rattle.tree_model.specs.State.Values.{WayValue, BufferValue}
-use Rattle.tree_model.specs.State.Leaf.{blank, way_at, way_with, entry_at, entry_words, buffer_item, buffer_with, is_buffered, buffered, Fate, ends, becomes, enters, enters_free, ways_after, buffer_after, words_in, waiting_item, item_in_way}
-use Rattle.tree_model.specs.Turns.HartTurn.{ways_without, moved_to_buffer, moved_entry}
+use Rattle.leaf_protocol.specs.DdmTypes.declared.sizes.LeafState.{LeafState}
+use Rattle.leaf_protocol.specs.FlatModel.Flat.{has_reserved}
+use Rattle.leaf_protocol.specs.TreeModel.State.States.{is_waiting, is_reading}
+use Rattle.leaf_protocol.specs.TreeModel.State.Values.{WayValue, BufferValue}
+use Rattle.leaf_protocol.specs.TreeModel.State.Leaf.{blank, way_at, way_with, entry_at, entry_words, buffer_item, buffer_with, is_buffered, buffered, Fate, ends, becomes, enters, enters_free, ways_after, buffer_after, words_in, waiting_item, item_in_way}
+use Rattle.leaf_protocol.specs.TreeModel.Turns.HartTurn.{ways_without, moved_to_buffer, moved_entry}
 use Rattle.attraction_mem.specs.Memory.{EntryValue, MemoryValue, entry_of, empty_memory, StandsIn, IsFree, IsFull, IsLowestFree, with_entry, without_entry, way_and_state}
 use Rattle.attraction_mem.proofs.Changing.{without_absent}
 use Rattle.attraction_mem.proofs.Holding.{equal_or_not}

@@ -2,22 +2,22 @@
 -- Letters: v is the leaf before, x an item, c a change.
 use Rattle.std.proofs.Common.{◌≡◌, ℕ, ◌+◌, ◌%◌, Bool, true, false, ◌&&◌, List, [], Option, Some, None, Ok, refl, ap, ◌∙◌}
 use Rattle.std.specs.Prelude.{option_map, if◌then◌else◌}
-use Rattle.ddm_types.specs.declared.answers.TurnAnswer.{TurnAnswer}
-use Rattle.ddm_types.specs.declared.answers.TurnAnswer.TheVariants.{Retired}
-use Rattle.ddm_types.specs.declared.operations.Effect.{Effect}
-use Rattle.ddm_types.specs.declared.operations.HaltCause.{HaltCause}
-use Rattle.ddm_types.specs.declared.sizes.LeafState.{LeafState}
-use Rattle.ddm_types.specs.declared.keys.Key.{Key}
-use Rattle.ddm_types.specs.CodeMap.{CodeWord}
-use Rattle.ddm_types.specs.ItemTable.{ItemTable}
-use Rattle.flat_model.specs.declared.Ask.{Ask}
-use Rattle.flat_model.specs.declared.Ask.TheVariants.{Plain, Put, NeedsShared, NeedsExclusive, Conditional, Halt}
-use Rattle.flat_model.specs.Hart.{HartValue, Finished, ask_of, finish_of}
-use Rattle.flat_model.specs.Flat.{Change, has_reserved, asked_item, leaving, storing_to, conditional, change_by}
+use Rattle.leaf_protocol.specs.DdmTypes.declared.answers.TurnAnswer.{TurnAnswer}
+use Rattle.leaf_protocol.specs.DdmTypes.declared.answers.TurnAnswer.TheVariants.{Retired}
+use Rattle.leaf_protocol.specs.DdmTypes.declared.operations.Effect.{Effect}
+use Rattle.leaf_protocol.specs.DdmTypes.declared.operations.HaltCause.{HaltCause}
+use Rattle.leaf_protocol.specs.DdmTypes.declared.sizes.LeafState.{LeafState}
+use Rattle.leaf_protocol.specs.DdmTypes.declared.keys.Key.{Key}
+use Rattle.leaf_protocol.specs.DdmTypes.CodeMap.{CodeWord}
+use Rattle.leaf_protocol.specs.DdmTypes.ItemTable.{ItemTable}
+use Rattle.leaf_protocol.specs.FlatModel.declared.Ask.{Ask}
+use Rattle.leaf_protocol.specs.FlatModel.declared.Ask.TheVariants.{Plain, Put, NeedsShared, NeedsExclusive, Conditional, Halt}
+use Rattle.leaf_protocol.specs.FlatModel.Hart.{HartValue, Finished, ask_of, finish_of}
+use Rattle.leaf_protocol.specs.FlatModel.Flat.{Change, has_reserved, asked_item, leaving, storing_to, conditional, change_by}
 use Rattle.rv_hart.specs.Steps.{IsReady}
-use Rattle.tree_model.specs.State.Values.{LeafValue}
-use Rattle.tree_model.specs.State.Leaf.{LeafEntry, leaf_entry, entry_state, entry_words, state_at, becomes, ways_after, buffer_after, buffer_full, free_way, waiting_item}
-use Rattle.tree_model.specs.Turns.HartTurn.{Deed, halts, upgrades, need_to_write, has_halted, waits_for, fetches, finds_buffer_full, need_of, words_here, change_here, deed_of_change, deed_to_fetch, replaces, deed_by_need, deed_unless_waiting, deed_unless_halted, deed_of, ways_stored, buffer_stored, leaf_step}
+use Rattle.leaf_protocol.specs.TreeModel.State.Values.{LeafValue}
+use Rattle.leaf_protocol.specs.TreeModel.State.Leaf.{LeafEntry, leaf_entry, entry_state, entry_words, state_at, becomes, ways_after, buffer_after, buffer_full, free_way, waiting_item}
+use Rattle.leaf_protocol.specs.TreeModel.Turns.HartTurn.{Deed, halts, upgrades, need_to_write, has_halted, waits_for, fetches, finds_buffer_full, need_of, words_here, change_here, deed_of_change, deed_to_fetch, replaces, deed_by_need, deed_unless_waiting, deed_unless_halted, deed_of, ways_stored, buffer_stored, leaf_step}
 use Rattle.leaf_protocol.specs.Entries.{way_to_take}
 use Rattle.leaf_protocol.specs.Leaf.{IsDone, write_ask}
 

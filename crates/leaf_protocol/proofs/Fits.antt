@@ -3,13 +3,13 @@ use Rattle.std.proofs.Common.{◌≡◌, ◌≢◌, ℕ, ◌<◌, ◌≤◌, Boo
 use Rattle.std.specs.Prelude.{find, is_some, option_map}
 use Rattle.std.proofs.lemmas.Bool.{eqb-true, eq-eqb, ne_eqb}
 use Rattle.std.proofs.lemmas.Option.{same_Some}
-use Rattle.ddm_types.specs.declared.sizes.LeafState.{LeafState}
-use Rattle.flat_model.specs.Flat.{has_reserved}
-use Rattle.tree_model.specs.State.States.{is_waiting}
-use Rattle.tree_model.specs.State.Shape.{are_distinct}
-use Rattle.tree_model.specs.State.Lists.{find_from, first_some}
-use Rattle.tree_model.specs.State.Values.{WayValue, BufferValue}
-use Rattle.tree_model.specs.State.Leaf.{LeafEntry, way_entry, buffer_entry, way_at, entry_at, buffer_item, buffered, buffer_waits, way_waits, waiting_item}
+use Rattle.leaf_protocol.specs.DdmTypes.declared.sizes.LeafState.{LeafState}
+use Rattle.leaf_protocol.specs.FlatModel.Flat.{has_reserved}
+use Rattle.leaf_protocol.specs.TreeModel.State.States.{is_waiting}
+use Rattle.leaf_protocol.specs.TreeModel.State.Shape.{are_distinct}
+use Rattle.leaf_protocol.specs.TreeModel.State.Lists.{find_from, first_some}
+use Rattle.leaf_protocol.specs.TreeModel.State.Values.{WayValue, BufferValue}
+use Rattle.leaf_protocol.specs.TreeModel.State.Leaf.{LeafEntry, way_entry, buffer_entry, way_at, entry_at, buffer_item, buffered, buffer_waits, way_waits, waiting_item}
 use Rattle.attraction_mem.specs.Memory.{MemoryValue}
 use Rattle.attraction_mem.proofs.Holding.{equal_or_not}
 use Rattle.leaf_protocol.specs.Entries.{way_of, ways_of, ItemFits, AreEntries, waiting_after, waits_now, may_be}

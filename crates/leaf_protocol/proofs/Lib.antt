@@ -1,3 +1,7 @@
+pub mod FlatModel
+pub mod StateReading
+pub mod StateWords
+pub mod TreeModel
 pub mod Ways
 pub mod Buffered
 pub mod Fits

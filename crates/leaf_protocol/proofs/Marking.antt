@@ -8,8 +8,8 @@ use Rattle.std.proofs.Math.Seq.{drop-cons}
 use Rattle.std.proofs.lemmas.Bool.{eq-eqb, ne_eqb}
 use Rattle.std.proofs.lemmas.List.{same_lists, drop_all, get_or-set_same, get_or-set_other, get_or_past, length-map, get_or-map, get_or_default}
 use Rattle.std.proofs.lemmas.List.Folds.{list_any_at, list_any_none}
-use Rattle.ddm_types.specs.declared.sizes.LeafState.{LeafState}
-use Rattle.tree_model.specs.Start.Nodes.{or_each}
+use Rattle.leaf_protocol.specs.DdmTypes.declared.sizes.LeafState.{LeafState}
+use Rattle.leaf_protocol.specs.TreeModel.Start.Nodes.{or_each}
 use Rattle.attraction_mem.specs.Memory.{EntryValue, MemoryValue, entry_of, StandsAs}
 use Rattle.attraction_mem.proofs.Holding.{equal_or_not}
 use Rattle.attraction_mem.proofs.Standing.{place_again}

@@ -3,11 +3,11 @@ use Rattle.std.proofs.Common.{◌≡◌, ◌≢◌, ℕ, ◌%◌, ◌<◌, true,
 use Rattle.std.specs.Prelude.{is_some}
 use Rattle.std.proofs.lemmas.Bool.{eq-eqb, ne_eqb}
 use Rattle.std.proofs.lemmas.Option.{none-some, same_Some}
-use Rattle.ddm_types.specs.declared.sizes.LeafState.{LeafState}
-use Rattle.flat_model.specs.Flat.{has_reserved}
-use Rattle.tree_model.specs.State.States.{is_waiting}
-use Rattle.tree_model.specs.State.Values.{BufferValue}
-use Rattle.tree_model.specs.State.Leaf.{entry_at, buffer_item, buffered, is_buffered, words_in, waiting_item, item_in_way}
+use Rattle.leaf_protocol.specs.DdmTypes.declared.sizes.LeafState.{LeafState}
+use Rattle.leaf_protocol.specs.FlatModel.Flat.{has_reserved}
+use Rattle.leaf_protocol.specs.TreeModel.State.States.{is_waiting}
+use Rattle.leaf_protocol.specs.TreeModel.State.Values.{BufferValue}
+use Rattle.leaf_protocol.specs.TreeModel.State.Leaf.{entry_at, buffer_item, buffered, is_buffered, words_in, waiting_item, item_in_way}
 use Rattle.attraction_mem.specs.Memory.{MemoryValue, StandsIn, with_entry}
 use Rattle.replacement.proofs.Once.{once-append}
 use Rattle.leaf_protocol.specs.Entries.{ways_of, EntryFits, AreEntries, waiting_after, waits_now, may_be}

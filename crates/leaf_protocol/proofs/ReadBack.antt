@@ -3,19 +3,19 @@ use Rattle.std.proofs.Common.{◌≡◌, ℕ, zero, suc, ◌+◌, ◌-◌, ◌<�
 use Rattle.std.specs.Prelude.{replicate, option_map, if◌then◌else◌, Result, Ok, Err}
 use Rattle.std.proofs.lemmas.Bool.{eqb-true}
 use Rattle.std.proofs.lemmas.List.{length-replicate}
-use Rattle.ddm_types.specs.declared.answers.TxKind.{TxKind}
-use Rattle.ddm_types.specs.declared.sizes.LeafState.{LeafState}
+use Rattle.leaf_protocol.specs.DdmTypes.declared.answers.TxKind.{TxKind}
+use Rattle.leaf_protocol.specs.DdmTypes.declared.sizes.LeafState.{LeafState}
 use Rattle.rv_hart.specs.HartState.{HartState}
-use Rattle.tree_model.specs.State.States.{is_reading}
-use Rattle.tree_model.specs.State.Shape.{are_distinct}
-use Rattle.tree_model.specs.State.Values.{BufferValue, CopyValue, LeafValue}
-use Rattle.tree_model.specs.State.Leaf.{words_in}
-use Rattle.state_words.specs.Parts.{StandingValue}
-use Rattle.state_reading.specs.declared.StateRefusal.{StateRefusal}
-use Rattle.state_reading.specs.declared.StateRefusal.TheVariants.{BadWord, BrokenLeaf}
-use Rattle.state_reading.specs.Reading.{Read, and_then, given, times, word_that, any_word, words_that}
-use Rattle.state_reading.specs.Parts.{not_before, way_not_before, word_to, word_below, word_from_1, item_words, state_of, slot_of, reserved_of, ways_with, last_of, read_standing, read_buffered, read_copy, read_leaf, standing_item, item_of_buffer, standing_state, buffer_state, places_differ, waiting_states, slot_fits, is_whole_leaf, unless_broken}
-use Rattle.state_reading.proofs.Steps.{times_begun, times_went_on, times_refused, times_done}
+use Rattle.leaf_protocol.specs.TreeModel.State.States.{is_reading}
+use Rattle.leaf_protocol.specs.TreeModel.State.Shape.{are_distinct}
+use Rattle.leaf_protocol.specs.TreeModel.State.Values.{BufferValue, CopyValue, LeafValue}
+use Rattle.leaf_protocol.specs.TreeModel.State.Leaf.{words_in}
+use Rattle.leaf_protocol.specs.StateWords.Parts.{StandingValue}
+use Rattle.leaf_protocol.specs.StateReading.declared.StateRefusal.{StateRefusal}
+use Rattle.leaf_protocol.specs.StateReading.declared.StateRefusal.TheVariants.{BadWord, BrokenLeaf}
+use Rattle.leaf_protocol.specs.StateReading.Reading.{Read, and_then, given, times, word_that, any_word, words_that}
+use Rattle.leaf_protocol.specs.StateReading.Parts.{not_before, way_not_before, word_to, word_below, word_from_1, item_words, state_of, slot_of, reserved_of, ways_with, last_of, read_standing, read_buffered, read_copy, read_leaf, standing_item, item_of_buffer, standing_state, buffer_state, places_differ, waiting_states, slot_fits, is_whole_leaf, unless_broken}
+use Rattle.leaf_protocol.proofs.StateReading.Steps.{times_begun, times_went_on, times_refused, times_done}
 use Rattle.tx_queue.specs.QueueList.{QueueList}
 use Rattle.leaf_protocol.specs.Entries.{EntriesValue}
 use Rattle.leaf_protocol.specs.Leaf.{copy_value, leaf_of, request_value}

@@ -4,11 +4,11 @@ use Rattle.std.specs.Prelude.{filter, position, is_some, option_map}
 use Rattle.std.specs.List.{slice_get}
 use Rattle.std.proofs.lemmas.Bool.{eq-eqb}
 use Rattle.std.proofs.lemmas.Option.{same_Some}
-use Rattle.ddm_types.specs.declared.sizes.LeafState.{LeafState}
-use Rattle.tree_model.specs.declared.LeafSpot.{LeafSpot}
-use Rattle.tree_model.specs.State.Lists.{chosen, first_some}
-use Rattle.tree_model.specs.State.Values.{WayValue, BufferValue}
-use Rattle.tree_model.specs.State.Leaf.{LeafEntry, entry_at, entry_state, buffer_item, buffered, is_buffered, leaf_leaving, may_leave_buffer, spot_at, way_spot}
+use Rattle.leaf_protocol.specs.DdmTypes.declared.sizes.LeafState.{LeafState}
+use Rattle.leaf_protocol.specs.TreeModel.declared.LeafSpot.{LeafSpot}
+use Rattle.leaf_protocol.specs.TreeModel.State.Lists.{chosen, first_some}
+use Rattle.leaf_protocol.specs.TreeModel.State.Values.{WayValue, BufferValue}
+use Rattle.leaf_protocol.specs.TreeModel.State.Leaf.{LeafEntry, entry_at, entry_state, buffer_item, buffered, is_buffered, leaf_leaving, may_leave_buffer, spot_at, way_spot}
 use Rattle.attraction_mem.specs.Memory.{EntryValue, MemoryValue, entry_of, IsLowestFree, IsFull, place_of, way_and_state}
 use Rattle.leaf_protocol.specs.Entries.{standing_place, way_value, way_of, ways_of, ItemFits, AreEntries, lowest_way}
 use Rattle.leaf_protocol.proofs.Ways.{lowest-some, lowest-none, ways_of-length}

@@ -6,10 +6,10 @@ use Rattle.std.proofs.Math.Nat.{mod-eq_of_lt}
 use Rattle.std.proofs.lemmas.List.{append-nil}
 use Rattle.std.proofs.lemmas.Option.{none-some, same_Some}
 use Rattle.std.proofs.lemmas.Grind.{flat_map-append}
-use Rattle.tree_model.specs.State.Values.{WayValue}
+use Rattle.leaf_protocol.specs.TreeModel.State.Values.{WayValue}
 use Rattle.attraction_mem.specs.Memory.{EntryValue, MemoryValue, entry_of, StandsIn}
-use Rattle.state_words.specs.Parts.{StandingValue, standing_words, standing_of, standing_at, standing_in, standing}
-use Rattle.state_words.proofs.OneMore.{filter_map-more, flat_map-more}
+use Rattle.leaf_protocol.specs.StateWords.Parts.{StandingValue, standing_words, standing_of, standing_at, standing_in, standing}
+use Rattle.leaf_protocol.proofs.StateWords.OneMore.{filter_map-more, flat_map-more}
 use Rattle.leaf_protocol.specs.Entries.{way_value, ways_of}
 use Rattle.leaf_protocol.proofs.Ways.{AreBelow, way_at-ways_of, item_in_way-only, item_in_way-none}
 

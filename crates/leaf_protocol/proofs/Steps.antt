@@ -1,10 +1,10 @@
 -- What the step of a hart's next instruction tells: what the instruction asks for, that it goes on where that is no halt, and what it
 -- leaves.
 use Rattle.std.proofs.Common.{◌≡◌, ◌*◌, ℕ, Bool, List, sym, ap, ◌∙◌}
-use Rattle.ddm_types.specs.CodeMap.{CodeWord}
-use Rattle.ddm_types.specs.ItemTable.{ItemTable}
-use Rattle.flat_model.specs.declared.Ask.{Ask}
-use Rattle.flat_model.specs.Hart.{HartValue, Action, Halts, Computes, Puts, Loads, Stores, Reserves, StoresIfReserved, Changes, action_of, ask_by, ask_of, finish_by, finish_of}
+use Rattle.leaf_protocol.specs.DdmTypes.CodeMap.{CodeWord}
+use Rattle.leaf_protocol.specs.DdmTypes.ItemTable.{ItemTable}
+use Rattle.leaf_protocol.specs.FlatModel.declared.Ask.{Ask}
+use Rattle.leaf_protocol.specs.FlatModel.Hart.{HartValue, Action, Halts, Computes, Puts, Loads, Stores, Reserves, StoresIfReserved, Changes, action_of, ask_by, ask_of, finish_by, finish_of}
 use Rattle.rv_hart.specs.declared.steps.Step.{Step}
 use Rattle.rv_hart.specs.Steps.{GoesOn, IsInside, IsReady, action_by}
 use Rattle.leaf_protocol.specs.Leaf.{IsStep}

@@ -8,15 +8,15 @@ use Rattle.std.proofs.lemmas.Bool.{eq-eqb, ne_eqb}
 use Rattle.std.proofs.lemmas.Bool.Decides.{nat_tests}
 use Rattle.std.proofs.lemmas.List.{length-replicate, get_or-replicate, get_or-set_same, get_or-set_other, map-append}
 use Rattle.std.proofs.lemmas.List.Folds.{list_any-append}
-use Rattle.ddm_types.specs.declared.sizes.LeafState.{LeafState}
-use Rattle.tree_model.specs.State.States.{is_waiting}
-use Rattle.tree_model.specs.State.Shape.{are_distinct}
-use Rattle.tree_model.specs.State.Lists.{find_from, first_some}
-use Rattle.tree_model.specs.State.Values.{WayValue, BufferValue}
-use Rattle.tree_model.specs.State.Leaf.{entry_at, way_at, way_entry, buffer_entry, buffered, is_buffered, item_in_way, stands_in, waiting_item, way_waits, buffer_waits, buffer_item}
+use Rattle.leaf_protocol.specs.DdmTypes.declared.sizes.LeafState.{LeafState}
+use Rattle.leaf_protocol.specs.TreeModel.State.States.{is_waiting}
+use Rattle.leaf_protocol.specs.TreeModel.State.Shape.{are_distinct}
+use Rattle.leaf_protocol.specs.TreeModel.State.Lists.{find_from, first_some}
+use Rattle.leaf_protocol.specs.TreeModel.State.Values.{WayValue, BufferValue}
+use Rattle.leaf_protocol.specs.TreeModel.State.Leaf.{entry_at, way_at, way_entry, buffer_entry, buffered, is_buffered, item_in_way, stands_in, waiting_item, way_waits, buffer_waits, buffer_item}
 use Rattle.attraction_mem.proofs.Holding.{equal_or_not}
-use Rattle.state_words.specs.Parts.{StandingValue}
-use Rattle.state_reading.specs.Parts.{ways_with, standing_item, item_of_buffer, same_place, places_differ, waiting_states, standing_state, buffer_state}
+use Rattle.leaf_protocol.specs.StateWords.Parts.{StandingValue}
+use Rattle.leaf_protocol.specs.StateReading.Parts.{ways_with, standing_item, item_of_buffer, same_place, places_differ, waiting_states, standing_state, buffer_state}
 use Rattle.leaf_protocol.specs.Entries.{EntriesValue}
 use Rattle.leaf_protocol.specs.ReadBack.{AreThere, AllInside, are_together, may_come, may_stand}
 use Rattle.leaf_protocol.proofs.Ways.{find_from-none}

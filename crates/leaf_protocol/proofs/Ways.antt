@@ -8,11 +8,11 @@ use Rattle.std.proofs.lemmas.Bool.{eqb-true, eq-eqb}
 use Rattle.std.proofs.lemmas.Option.{same_Some}
 use Rattle.std.proofs.lemmas.List.{same_lists, get_or-set_same, get_or-set_other, get_or_past, length-replicate, get_or-replicate}
 use Rattle.std.proofs.lemmas.List.FromFn.{get_or-map-range_with_len, length-map-range_with_len}
-use Rattle.ddm_types.specs.declared.sizes.LeafState.{LeafState}
-use Rattle.tree_model.specs.State.Lists.{find_from}
-use Rattle.tree_model.specs.State.Values.{WayValue}
-use Rattle.tree_model.specs.State.Leaf.{way_at, stands_in, item_in_way, words_in}
-use Rattle.tree_model.specs.State.States.{is_reading}
+use Rattle.leaf_protocol.specs.DdmTypes.declared.sizes.LeafState.{LeafState}
+use Rattle.leaf_protocol.specs.TreeModel.State.Lists.{find_from}
+use Rattle.leaf_protocol.specs.TreeModel.State.Values.{WayValue}
+use Rattle.leaf_protocol.specs.TreeModel.State.Leaf.{way_at, stands_in, item_in_way, words_in}
+use Rattle.leaf_protocol.specs.TreeModel.State.States.{is_reading}
 use Rattle.attraction_mem.specs.Memory.{EntryValue, MemoryValue, entry_of, StandsIn, IsFree, IsTaken, IsLowestFree, IsFull, with_entry, without_entry, with_state, with_words, changed_state, changed_words}
 use Rattle.attraction_mem.proofs.Holding.{equal_or_not, same_key, other_key}
 use Rattle.leaf_protocol.specs.Entries.{way_value, way_of, ways_of, lowest_way}

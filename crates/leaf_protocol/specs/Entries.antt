@@ -3,13 +3,13 @@
 -- Proofs alone need it.
 use Rattle.std.specs.Prelude.{◌≡◌, ℕ, ◌+◌, ◌*◌, ◌%◌, ◌<◌, ◌^◌, Bool, true, false, not, ◌||◌, List, ◌++◌, map, find, slice_set, Option, Some, None, option_map, is_none, if◌then◌else◌}
 use Rattle.std.specs.List.{range_with_len}
-use Rattle.ddm_types.specs.declared.sizes.LeafState.{LeafState}
-use Rattle.flat_model.specs.Flat.{has_reserved}
-use Rattle.tree_model.specs.State.States.{is_waiting}
-use Rattle.tree_model.specs.State.Shape.{are_distinct}
-use Rattle.tree_model.specs.State.Values.{WayValue, BufferValue}
-use Rattle.tree_model.specs.State.Leaf.{LeafEntry, Fate, way_at, ways_after, buffer_after, buffer_item, buffered, words_in, item_in_way}
-use Rattle.tree_model.specs.Turns.HartTurn.{ways_without, moved_to_buffer}
+use Rattle.leaf_protocol.specs.DdmTypes.declared.sizes.LeafState.{LeafState}
+use Rattle.leaf_protocol.specs.FlatModel.Flat.{has_reserved}
+use Rattle.leaf_protocol.specs.TreeModel.State.States.{is_waiting}
+use Rattle.leaf_protocol.specs.TreeModel.State.Shape.{are_distinct}
+use Rattle.leaf_protocol.specs.TreeModel.State.Values.{WayValue, BufferValue}
+use Rattle.leaf_protocol.specs.TreeModel.State.Leaf.{LeafEntry, Fate, way_at, ways_after, buffer_after, buffer_item, buffered, words_in, item_in_way}
+use Rattle.leaf_protocol.specs.TreeModel.Turns.HartTurn.{ways_without, moved_to_buffer}
 use Rattle.attraction_mem.specs.Memory.{EntryValue, MemoryValue, entry_of}
 
 -- ---- what they are seen as

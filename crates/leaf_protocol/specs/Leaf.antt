@@ -2,22 +2,22 @@
 -- Letters: v is a leaf, e its entries, x an item.
 -- Proofs alone need it, but for `state_and_words`, of which a contract speaks.
 use Rattle.std.specs.Prelude.{◌≡◌, ℕ, ◌+◌, ◌*◌, ◌<◌, ◌^◌, Bool, List, length, map, Option, Some, None, option_map, IfSome, if◌then◌else◌}
-use Rattle.ddm_types.specs.declared.answers.TxKind.{TxKind}
-use Rattle.ddm_types.specs.declared.answers.TxKind.TheVariants.{ReadTx}
-use Rattle.ddm_types.specs.declared.answers.TurnAnswer.{TurnAnswer}
-use Rattle.ddm_types.specs.declared.keys.Key.{Key}
-use Rattle.ddm_types.specs.CodeMap.{CodeWord}
-use Rattle.ddm_types.specs.ItemTable.{ItemTable, item_count}
-use Rattle.ddm_types.specs.declared.sizes.LeafState.{LeafState}
-use Rattle.flat_model.specs.declared.Ask.{Ask}
-use Rattle.flat_model.specs.declared.Ask.TheVariants.{NeedsExclusive, Conditional}
-use Rattle.flat_model.specs.Hart.{HartValue, action_of}
+use Rattle.leaf_protocol.specs.DdmTypes.declared.answers.TxKind.{TxKind}
+use Rattle.leaf_protocol.specs.DdmTypes.declared.answers.TxKind.TheVariants.{ReadTx}
+use Rattle.leaf_protocol.specs.DdmTypes.declared.answers.TurnAnswer.{TurnAnswer}
+use Rattle.leaf_protocol.specs.DdmTypes.declared.keys.Key.{Key}
+use Rattle.leaf_protocol.specs.DdmTypes.CodeMap.{CodeWord}
+use Rattle.leaf_protocol.specs.DdmTypes.ItemTable.{ItemTable, item_count}
+use Rattle.leaf_protocol.specs.DdmTypes.declared.sizes.LeafState.{LeafState}
+use Rattle.leaf_protocol.specs.FlatModel.declared.Ask.{Ask}
+use Rattle.leaf_protocol.specs.FlatModel.declared.Ask.TheVariants.{NeedsExclusive, Conditional}
+use Rattle.leaf_protocol.specs.FlatModel.Hart.{HartValue, action_of}
 use Rattle.rv_hart.specs.declared.steps.Step.{Step}
 use Rattle.rv_hart.specs.HartState.{HartState}
 use Rattle.rv_hart.specs.Steps.{IsInside, action_by}
-use Rattle.tree_model.specs.State.Values.{RequestValue, CopyValue, LeafValue}
-use Rattle.tree_model.specs.State.Leaf.{LeafEntry, slot_has, waiting_item}
-use Rattle.tree_model.specs.Turns.HartTurn.{Deed, answer_of_deed, leaf_after_deed}
+use Rattle.leaf_protocol.specs.TreeModel.State.Values.{RequestValue, CopyValue, LeafValue}
+use Rattle.leaf_protocol.specs.TreeModel.State.Leaf.{LeafEntry, slot_has, waiting_item}
+use Rattle.leaf_protocol.specs.TreeModel.Turns.HartTurn.{Deed, answer_of_deed, leaf_after_deed}
 use Rattle.tx_queue.specs.QueueList.{QueueList, AllBelow}
 use Rattle.leaf_protocol.specs.Entries.{EntriesValue}
 

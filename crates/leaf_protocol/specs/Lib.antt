@@ -1,3 +1,14 @@
+pub mod BusJudging
+pub mod DdmText
+pub mod DdmTypes
+pub mod FlatModel
+pub mod ItemStates
+pub mod RvHart
+pub mod StateReading
+pub mod StateWords
+pub mod TreeModel
+pub mod TreeRules
 pub mod Entries
 pub mod Leaf
 pub mod ReadBack
+pub mod Opened

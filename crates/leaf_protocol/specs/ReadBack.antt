@@ -3,15 +3,15 @@
 -- in the buffer.
 -- Proofs alone need it.
 use Rattle.std.specs.Prelude.{◌≡◌, ℕ, ◌<◌, Bool, true, not, ◌&&◌, nat_le, nat_lt, List, [], ◌∷◌, ◌++◌, drop, map, replicate, length, Option, None, is_some, is_none, Result, Ok}
-use Rattle.ddm_types.specs.declared.sizes.LeafState.{LeafState}
-use Rattle.tree_model.specs.State.States.{is_reading}
-use Rattle.tree_model.specs.State.Shape.{are_distinct}
-use Rattle.tree_model.specs.State.Values.{BufferValue, LeafValue}
-use Rattle.tree_model.specs.State.Leaf.{entry_at, item_in_way, waiting_item}
-use Rattle.state_words.specs.Parts.{StandingValue}
-use Rattle.state_reading.specs.declared.StateRefusal.{StateRefusal}
-use Rattle.state_reading.specs.Reading.{Read, and_then, given, times, word_that, any_word}
-use Rattle.state_reading.specs.Parts.{not_before, way_not_before, word_to, word_below, word_from_1, item_words, state_of, read_standing, read_buffered, ways_with, standing_item, item_of_buffer, places_differ, waiting_states, standing_state, buffer_state}
+use Rattle.leaf_protocol.specs.DdmTypes.declared.sizes.LeafState.{LeafState}
+use Rattle.leaf_protocol.specs.TreeModel.State.States.{is_reading}
+use Rattle.leaf_protocol.specs.TreeModel.State.Shape.{are_distinct}
+use Rattle.leaf_protocol.specs.TreeModel.State.Values.{BufferValue, LeafValue}
+use Rattle.leaf_protocol.specs.TreeModel.State.Leaf.{entry_at, item_in_way, waiting_item}
+use Rattle.leaf_protocol.specs.StateWords.Parts.{StandingValue}
+use Rattle.leaf_protocol.specs.StateReading.declared.StateRefusal.{StateRefusal}
+use Rattle.leaf_protocol.specs.StateReading.Reading.{Read, and_then, given, times, word_that, any_word}
+use Rattle.leaf_protocol.specs.StateReading.Parts.{not_before, way_not_before, word_to, word_below, word_from_1, item_words, state_of, read_standing, read_buffered, ways_with, standing_item, item_of_buffer, places_differ, waiting_states, standing_state, buffer_state}
 use Rattle.leaf_protocol.specs.Entries.{EntriesValue, may_be}
 use Rattle.leaf_protocol.specs.Leaf.{leaf_of}
 

@@ -1,16 +1,16 @@
 ghost use Rattle.std.specs.Prelude.{◌≡◌, ◌<◌, None, true};
-ghost use Rattle.ddm_types.specs.declared.answers.TxKind.TheVariants.{DataTx, InjectTx};
-ghost use Rattle.tree_model.specs.State.Values.{leaf_node};
-ghost use Rattle.tree_model.specs.State.Child.{child_full_for, child_take_data, child_take_inject, reader_has_place};
-ghost use Rattle.item_states.specs.Parts.{node_items};
+ghost use Rattle.leaf_protocol.specs.DdmTypes.declared.answers.TxKind.TheVariants.{DataTx, InjectTx};
+ghost use Rattle.leaf_protocol.specs.TreeModel.State.Values.{leaf_node};
+ghost use Rattle.leaf_protocol.specs.TreeModel.State.Child.{child_full_for, child_take_data, child_take_inject, reader_has_place};
+ghost use Rattle.leaf_protocol.specs.ItemStates.Parts.{node_items};
 
 use crate::asking::{
     asked_when_lost, asked_with_data, asks_to_read, leaf_exclusive, leaf_inject, slot_asked,
     slot_struck,
 };
 use crate::leaf::Leaf;
-use ddm_types::{BusNo, Hold, ItemId, PendingWhy, QueueName, Stamp, TxKind, Words};
-use item_states::{Agent, leaf_answer, leaf_data, leaf_hold, leaf_lose};
+use crate::of_ddm_types::{BusNo, Hold, ItemId, PendingWhy, QueueName, Stamp, TxKind, Words};
+use crate::of_item_states::{Agent, leaf_answer, leaf_data, leaf_hold, leaf_lose};
 
 impl<const WAYS: usize, const WORDS: usize> Agent<WORDS> for Leaf<WAYS, WORDS> {
     ghost value = { leaf_node };

@@ -1,10 +1,10 @@
 ghost use Rattle.std.specs.Prelude.{◌≡◌, option_map};
-ghost use Rattle.tree_model.specs.State.States.{asked_when_lost, asked_with_data, state_with_exclusive, state_with_inject};
-ghost use Rattle.ddm_types.specs.declared.answers.TxKind.TheVariants.{ReadTx};
-ghost use Rattle.tree_model.specs.State.Leaf.{slot_has};
+ghost use Rattle.leaf_protocol.specs.TreeModel.State.States.{asked_when_lost, asked_with_data, state_with_exclusive, state_with_inject};
+ghost use Rattle.leaf_protocol.specs.DdmTypes.declared.answers.TxKind.TheVariants.{ReadTx};
+ghost use Rattle.leaf_protocol.specs.TreeModel.State.Leaf.{slot_has};
 ghost use Rattle.leaf_protocol.specs.Leaf.{request_value, slot_asked, slot_read_struck};
 
-use ddm_types::{ItemId, LeafState, TxKind};
+use crate::of_ddm_types::{ItemId, LeafState, TxKind};
 
 /// What a leaf asks for that is told to lose an item whose entry is in this state.
 pub fn asked_when_lost(state: LeafState) -> Option<TxKind>

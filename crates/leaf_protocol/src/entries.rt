@@ -1,17 +1,17 @@
 ghost use Rattle.std.specs.Prelude.{◌≡◌, ◌++◌, ◌∷◌, ◌%◌, ◌<◌, ◌≤◌, ◌^◌, [], true, false, Option, Some, None, IfOk, IfErr, IfSome, IsSome, is_some, length, map, nat_le, option_map, replicate, unwrap_or};
-ghost use Rattle.ddm_types.specs.declared.sizes.LeafState.TheVariants.{Exclusive};
-ghost use Rattle.tree_model.specs.State.States.{is_reading, is_waiting};
-ghost use Rattle.tree_model.specs.State.Leaf.{LeafEntry, blank, becomes, ends, enters, enters_free, entry_at, entry_state, entry_words, item_in_way, leaf_leaving, spot_at, waiting_item, words_in, buffered};
-ghost use Rattle.tree_model.specs.State.Child.{buffer_words};
-ghost use Rattle.tree_model.specs.Start.Nodes.{or_each};
+ghost use Rattle.leaf_protocol.specs.DdmTypes.declared.sizes.LeafState.TheVariants.{Exclusive};
+ghost use Rattle.leaf_protocol.specs.TreeModel.State.States.{is_reading, is_waiting};
+ghost use Rattle.leaf_protocol.specs.TreeModel.State.Leaf.{LeafEntry, blank, becomes, ends, enters, enters_free, entry_at, entry_state, entry_words, item_in_way, leaf_leaving, spot_at, waiting_item, words_in, buffered};
+ghost use Rattle.leaf_protocol.specs.TreeModel.State.Child.{buffer_words};
+ghost use Rattle.leaf_protocol.specs.TreeModel.Start.Nodes.{or_each};
 ghost use Rattle.leaf_protocol.specs.Entries.{cleared, cleared_if, lowest_way, may_be, standing_place, waits_now, waiting_after, way_to_take, with_fate, with_mark};
 
+use crate::of_ddm_types::{ItemId, LeafState, NoMemory, Words};
+use crate::of_tree_model::LeafSpot;
 use attraction_mem::{AttractionMem, SetFull};
-use ddm_types::{ItemId, LeafState, NoMemory, Words};
 use replacement::Buffer;
 use std::alloc::Global;
 use std::marker::Model;
-use tree_model::LeafSpot;
 
 /// The entries of a leaf: those in the ways of its memory, those in its buffer, and the item whose entry waits.
 #[derive(Drop)]

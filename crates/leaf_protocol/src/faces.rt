@@ -1,15 +1,15 @@
 ghost use Rattle.std.specs.Prelude.{◌≡◌, ◌<◌, length, option_map};
-ghost use Rattle.ddm_types.specs.declared.answers.TxKind.TheVariants.{EraseTx};
-ghost use Rattle.tree_model.specs.State.States.{is_reading, is_upgrading};
-ghost use Rattle.tree_model.specs.State.Leaf.{slot_has, words_of_item};
-ghost use Rattle.tree_rules.specs.Bus.Faces.{in_state, leaf_face};
+ghost use Rattle.leaf_protocol.specs.DdmTypes.declared.answers.TxKind.TheVariants.{EraseTx};
+ghost use Rattle.leaf_protocol.specs.TreeModel.State.States.{is_reading, is_upgrading};
+ghost use Rattle.leaf_protocol.specs.TreeModel.State.Leaf.{slot_has, words_of_item};
+ghost use Rattle.leaf_protocol.specs.TreeRules.Bus.Faces.{in_state, leaf_face};
 ghost use Rattle.leaf_protocol.specs.Leaf.{request_value};
 
 use crate::asking::asks_to_read;
 use crate::leaf::Leaf;
+use crate::of_ddm_types::{ItemId, LeafState, TxKind};
+use crate::of_item_states::leaf_hold;
 use bus_judging::ChildFace;
-use ddm_types::{ItemId, LeafState, TxKind};
-use item_states::leaf_hold;
 
 /// Whether an entry waits for data.
 fn waits_for_data(state: Option<LeafState>) -> bool

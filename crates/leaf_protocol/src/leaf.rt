@@ -1,17 +1,19 @@
 ghost use Rattle.std.specs.Prelude.{◌≡◌, ◌%◌, ◌+◌, ◌*◌, ◌<◌, ◌≤◌, ◌^◌, Some, None, IfOk, IfErr, is_some, length, map, option_map, slice_get};
-ghost use Rattle.tree_model.specs.State.Leaf.{free_way, leaf_entry, spot_at, state_at, waiting_item};
-ghost use Rattle.tree_model.specs.Start.Nodes.{leaf_sizes, new_leaf, or_each, placed};
+ghost use Rattle.leaf_protocol.specs.TreeModel.State.Leaf.{free_way, leaf_entry, spot_at, state_at, waiting_item};
+ghost use Rattle.leaf_protocol.specs.TreeModel.Start.Nodes.{leaf_sizes, new_leaf, or_each, placed};
 ghost use Rattle.leaf_protocol.specs.Leaf.{state_and_words};
 
 use crate::entries::Entries;
+use crate::of_ddm_types::{
+    HartNo, ItemId, LeafNo, LeafState, NoMemory, Start, TreeSizes, TxKind, Words,
+};
+use crate::of_tree_model::LeafSpot;
 use crate::replies::Replies;
 use attraction_mem::SetFull;
-use ddm_types::{HartNo, ItemId, LeafNo, LeafState, NoMemory, Start, TreeSizes, TxKind, Words};
 use reservations::Reservation;
 use rv_hart::Hart;
 use std::alloc::Global;
 use std::marker::Model;
-use tree_model::LeafSpot;
 
 /// A leaf: a hart with the entries of its memory and buffer.
 #[derive(Drop)]
@@ -26,7 +28,7 @@ pub struct Leaf<const WAYS: usize, const WORDS: usize> {
 }
 
 impl<const WAYS: usize, const WORDS: usize> Model for Leaf<WAYS, WORDS> {
-    ghost use Rattle.tree_model.specs.State.Values.{LeafValue};
+    ghost use Rattle.leaf_protocol.specs.TreeModel.State.Values.{LeafValue};
     ghost use Rattle.leaf_protocol.specs.Leaf.{leaf_of, AreParts};
 
     ghost Value = { LeafValue };

@@ -1,19 +1,19 @@
 ghost use Rattle.std.specs.Prelude.{◌≡◌, ℕ, ◌<◌, ◌≤◌, ◌^◌, ◌+◌, [], Ok, Err, drop, length, map, nat_eq, nat_lt, option_map, slice_index, if◌then◌else◌, IfErr, IfOk, IfSome, OnOk};
 ghost use Rattle.tx_queue.specs.QueueList.{AllBelow};
-ghost use Rattle.state_reading.specs.Gives.{Gives, IsRead};
-ghost use Rattle.state_reading.specs.Reading.{any_word, times, word_that, words_that};
-ghost use Rattle.state_reading.specs.Parts.{halt_has_number, read_copy, read_hart, read_leaf, reserved_of, slot_fits, slot_of, slot_state_fits};
+ghost use Rattle.leaf_protocol.specs.StateReading.Gives.{Gives, IsRead};
+ghost use Rattle.leaf_protocol.specs.StateReading.Reading.{any_word, times, word_that, words_that};
+ghost use Rattle.leaf_protocol.specs.StateReading.Parts.{halt_has_number, read_copy, read_hart, read_leaf, reserved_of, slot_fits, slot_of, slot_state_fits};
 ghost use Rattle.leaf_protocol.specs.Leaf.{copied_item, copy_value, request_value};
 
 use crate::leaf::Leaf;
-use crate::replies::Replies;
-use ddm_types::{ItemId, LeafState, TxKind, Words};
-use reservations::Reservation;
-use rv_hart::Hart;
-use state_reading::{
+use crate::of_ddm_types::{ItemId, LeafState, TxKind, Words};
+use crate::of_state_reading::{
     StateRefusal, any_word, count_word, halt_of, item_words, keep, look, word_below, word_if,
     word_to, words_if,
 };
+use crate::replies::Replies;
+use reservations::Reservation;
+use rv_hart::Hart;
 
 /// The item of a reservation by its word, which is the item plus 1, or 0 for none.
 fn reserved_of(word: u32) -> Reservation
@@ -141,7 +141,7 @@ fn has_number(code: u32) -> bool
 
 impl<const WAYS: usize, const WORDS: usize> Leaf<WAYS, WORDS> {
     /// Reads the words of its hart, and answers the number of the word behind them.
-    #[tactic(auto, unfolding(state_reading::specs::Parts::read_hart))]
+    #[tactic(auto, unfolding(crate::specs::Opened::read_hart))]
     pub fn read_hart(&mut self, words: &[u32], from: u32) -> Result<u32, StateRefusal>
         requires few { length words.now < 2 ^ 32 }
         requires inside { from ≤ length words.now }

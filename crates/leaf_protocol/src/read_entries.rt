@@ -1,20 +1,20 @@
 ghost use Rattle.std.specs.Prelude.{◌≡◌, ◌<◌, ◌≤◌, ◌^◌, ◌+◌, ◌∷◌, ◌++◌, ◌&&◌, [], Ok, Err, List, Some, drop, length, nat_lt, slice_set, not, IfErr, IfOk};
 ghost use Rattle.std.specs.Bool.{OnTrue};
-ghost use Rattle.state_words.specs.Parts.{StandingValue};
-ghost use Rattle.tree_model.specs.State.States.{is_reading};
-ghost use Rattle.tree_model.specs.State.Values.{BufferValue};
-ghost use Rattle.tree_model.specs.State.Leaf.{words_in};
-ghost use Rattle.state_reading.specs.Gives.{Gives};
-ghost use Rattle.state_reading.specs.Reading.{times, word_that};
-ghost use Rattle.state_reading.specs.Parts.{last_of, not_before, read_buffered, read_standing, way_not_before};
+ghost use Rattle.leaf_protocol.specs.StateWords.Parts.{StandingValue};
+ghost use Rattle.leaf_protocol.specs.TreeModel.State.States.{is_reading};
+ghost use Rattle.leaf_protocol.specs.TreeModel.State.Values.{BufferValue};
+ghost use Rattle.leaf_protocol.specs.TreeModel.State.Leaf.{words_in};
+ghost use Rattle.leaf_protocol.specs.StateReading.Gives.{Gives};
+ghost use Rattle.leaf_protocol.specs.StateReading.Reading.{times, word_that};
+ghost use Rattle.leaf_protocol.specs.StateReading.Parts.{last_of, not_before, read_buffered, read_standing, way_not_before};
 ghost use Rattle.leaf_protocol.specs.ReadBack.{AreThere, BufferRead, IsSized, StandingRead, EntriesRead, bare, buffered_read, entries_read, entry_read, may_come, may_stand};
 
 use crate::entries::{Entries, waits};
-use crate::writing::Standing;
-use ddm_types::{ItemId, LeafState, Words};
-use state_reading::{
+use crate::of_ddm_types::{ItemId, LeafState, Words};
+use crate::of_state_reading::{
     StateRefusal, any_word, item_words, keep, look, state_of, word_below, word_from_1, word_to,
 };
+use crate::writing::Standing;
 
 /// Whether an entry in this state has words.
 fn has_words(state: LeafState) -> bool

@@ -1,15 +1,15 @@
 ghost use Rattle.std.specs.Prelude.{◌≡◌, ℕ, ◌^◌, ◌≤◌, ◌<◌, ◌↔◌, ◌++◌, ◌∷◌, [], drop, length, nat_le, option_copied, slice_get, IfErr, IfOk, IsErr, IsTrue, OnErr, OnOk, is_err};
 ghost use Rattle.std.specs.List.{flat_map};
-ghost use Rattle.ddm_text.specs.Adds.{Adds};
-ghost use Rattle.state_words.specs.Begins.{Begins};
-ghost use Rattle.state_words.specs.Parts.{counted, item_and_words};
-ghost use Rattle.tree_model.specs.State.Lists.{names_item};
+ghost use Rattle.leaf_protocol.specs.DdmText.Adds.{Adds};
+ghost use Rattle.leaf_protocol.specs.StateWords.Begins.{Begins};
+ghost use Rattle.leaf_protocol.specs.StateWords.Parts.{counted, item_and_words};
+ghost use Rattle.leaf_protocol.specs.TreeModel.State.Lists.{names_item};
 ghost use Rattle.tx_queue.specs.QueueList.{count_naming};
 ghost use Rattle.leaf_protocol.specs.Leaf.{copied_item, copy_value};
 
+use crate::of_ddm_types::{ItemId, NoMemory, Words};
+use crate::of_state_words::{Spelled, push_words};
 use circular_buffer::HeapCircularBuffer;
-use ddm_types::{ItemId, NoMemory, Words};
-use state_words::{Spelled, push_words};
 use std::alloc::Global;
 use std::marker::Model;
 

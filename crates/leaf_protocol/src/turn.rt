@@ -1,20 +1,20 @@
 ghost use Rattle.std.specs.Prelude.{◌≡◌, ◌+◌, ◌*◌, ◌<◌, ◌^◌, ℕ, Some, None, true, false, length, if◌then◌else◌};
-ghost use Rattle.ddm_types.specs.declared.answers.TurnAnswer.TheVariants.{Retired};
-ghost use Rattle.ddm_types.specs.ItemTable.{item_count};
-ghost use Rattle.ddm_types.specs.declared.keys.Key.{Key as KeyValue};
-ghost use Rattle.ddm_types.specs.declared.sizes.LeafState.TheVariants.{Exclusive, Shared};
-ghost use Rattle.flat_model.specs.declared.Ask.TheVariants.{Conditional, NeedsShared};
-ghost use Rattle.flat_model.specs.Hart.{ask_of, finish_of};
-ghost use Rattle.flat_model.specs.Flat.{asked_item, has_reserved};
+ghost use Rattle.leaf_protocol.specs.DdmTypes.declared.answers.TurnAnswer.TheVariants.{Retired};
+ghost use Rattle.leaf_protocol.specs.DdmTypes.ItemTable.{item_count};
+ghost use Rattle.leaf_protocol.specs.DdmTypes.declared.keys.Key.{Key as KeyValue};
+ghost use Rattle.leaf_protocol.specs.DdmTypes.declared.sizes.LeafState.TheVariants.{Exclusive, Shared};
+ghost use Rattle.leaf_protocol.specs.FlatModel.declared.Ask.TheVariants.{Conditional, NeedsShared};
+ghost use Rattle.leaf_protocol.specs.FlatModel.Hart.{ask_of, finish_of};
+ghost use Rattle.leaf_protocol.specs.FlatModel.Flat.{asked_item, has_reserved};
 ghost use Rattle.rv_hart.specs.Steps.{IsReady};
-ghost use Rattle.tree_model.specs.State.States.{is_reading};
-ghost use Rattle.tree_model.specs.State.Leaf.{free_way, leaf_entry, state_at, waiting_item};
-ghost use Rattle.tree_model.specs.Turns.HartTurn.{change_here, deed_by_need, deed_of_change, deed_to_fetch, halts, leaf_step, need_of, need_to_read, need_to_write, upgrades, words_here};
+ghost use Rattle.leaf_protocol.specs.TreeModel.State.States.{is_reading};
+ghost use Rattle.leaf_protocol.specs.TreeModel.State.Leaf.{free_way, leaf_entry, state_at, waiting_item};
+ghost use Rattle.leaf_protocol.specs.TreeModel.Turns.HartTurn.{change_here, deed_by_need, deed_of_change, deed_to_fetch, halts, leaf_step, need_of, need_to_read, need_to_write, upgrades, words_here};
 ghost use Rattle.leaf_protocol.specs.Entries.{standing_place};
 ghost use Rattle.leaf_protocol.specs.Leaf.{CanTry, IsDone, IsStep, write_ask};
 
 use crate::leaf::Leaf;
-use ddm_types::{
+use crate::of_ddm_types::{
     BusyCause, Code, HaltCause, HartNo, ItemId, Items, Key, LeafState, Op, TurnAnswer, TxKind,
     Words,
 };

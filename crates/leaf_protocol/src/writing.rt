@@ -1,15 +1,17 @@
 ghost use Rattle.std.specs.Prelude.{◌≡◌, ◌<◌, ◌≤◌, drop, length, option_map, OnErr, OnOk};
 ghost use Rattle.std.specs.List.{flat_map};
-ghost use Rattle.ddm_text.specs.Adds.{Adds};
-ghost use Rattle.state_words.specs.Begins.{Begins};
-ghost use Rattle.state_words.specs.Numbers.{slot_words};
-ghost use Rattle.state_words.specs.Parts.{buffer_words, counted, hart_words, leaf_words, standing, standing_at, standing_in, standing_words};
+ghost use Rattle.leaf_protocol.specs.DdmText.Adds.{Adds};
+ghost use Rattle.leaf_protocol.specs.StateWords.Begins.{Begins};
+ghost use Rattle.leaf_protocol.specs.StateWords.Numbers.{slot_words};
+ghost use Rattle.leaf_protocol.specs.StateWords.Parts.{buffer_words, counted, hart_words, leaf_words, standing, standing_at, standing_in, standing_words};
 ghost use Rattle.leaf_protocol.specs.Leaf.{request_value};
 
 use crate::entries::Entries;
 use crate::leaf::Leaf;
-use ddm_types::{ItemId, LeafState, NoMemory, TxKind, Words};
-use state_words::{Spelled, halt_words, push_words, reserved_word, slot_number, state_number};
+use crate::of_ddm_types::{ItemId, LeafState, NoMemory, TxKind, Words};
+use crate::of_state_words::{
+    Spelled, halt_words, push_words, reserved_word, slot_number, state_number,
+};
 use std::marker::Model;
 
 /// An entry that stands in a way, with its item.
@@ -22,7 +24,7 @@ pub(crate) struct Standing<const WORDS: usize> {
 }
 
 impl<const WORDS: usize> Model for Standing<WORDS> {
-    ghost use Rattle.state_words.specs.Parts.{StandingValue};
+    ghost use Rattle.leaf_protocol.specs.StateWords.Parts.{StandingValue};
 
     ghost Value = { StandingValue };
 

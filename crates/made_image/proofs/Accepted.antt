@@ -5,11 +5,11 @@ use Rattle.std.proofs.lemmas.Bool.Decides.{nat_tests}
 use Rattle.byteorder.specs.Endian.{little_bytes, little_number}
 use Rattle.byteorder.specs.Numbers.{little_number-reads_back}
 use Rattle.std.proofs.Math.Seq.{take-append_seam}
-use Rattle.ddm_types.specs.ItemTable.{IsItemSize, item_count, items_of}
-use Rattle.ddm_types.specs.declared.sizes.Span.{Span}
-use Rattle.ddm_types.specs.CodeMap.{word_at, words_from}
-use Rattle.tree_model.specs.Start.Sources.{ImageValue}
-use Rattle.tree_model.specs.Start.Memory.{start_code}
+use Rattle.made_image.specs.DdmTypes.ItemTable.{IsItemSize, item_count, items_of}
+use Rattle.made_image.specs.DdmTypes.declared.sizes.Span.{Span}
+use Rattle.made_image.specs.DdmTypes.CodeMap.{word_at, words_from}
+use Rattle.made_image.specs.TreeModel.Start.Sources.{ImageValue}
+use Rattle.made_image.specs.TreeModel.Start.Memory.{start_code}
 use Rattle.elf_load.specs.declared.headers.ProgramHeader.{ProgramHeader}
 use Rattle.elf_load.specs.ElfFile.{image_of, image_in, file_refusal, headers_refusal, header_refusal, sizes_refusal, entry_refusal, judged_entry, headers_of, loaded_headers, is_elf, kind_refusal, flags_refusal, table_refusal, header_count, header_size, table_of, word_in, entry_of, code_refusal, code_bytes, items_refusal, items_met, header_span, segments_of}
 use Rattle.elf_load.specs.ImageRule.{image_value}

@@ -6,8 +6,8 @@ use Rattle.std.proofs.Math.Nat.{div-mul-le_self}
 use Rattle.std.proofs.lemmas.Nat.{le-div}
 use Rattle.std.proofs.lemmas.List.{length-map}
 use Rattle.std.proofs.lemmas.List.FromFn.{length-range_with_len}
-use Rattle.ddm_types.specs.declared.sizes.Span.{Span}
-use Rattle.ddm_types.specs.ItemTable.{item_count, item_numbers, items_of, item_row, span_numbers, with_number}
+use Rattle.made_image.specs.DdmTypes.declared.sizes.Span.{Span}
+use Rattle.made_image.specs.DdmTypes.ItemTable.{item_count, item_numbers, items_of, item_row, span_numbers, with_number}
 
 with-at_most : (ms : List ℕ) (n : ℕ) → length (with_number ms n) ≤ length ms + 1
 unfolding with_number

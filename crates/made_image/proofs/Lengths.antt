@@ -5,9 +5,9 @@ use Rattle.std.proofs.lemmas.List.Elements.{All-nil, All-cons}
 use Rattle.byteorder.specs.Endian.{little_bytes}
 use Rattle.rand_pcg.specs.Lcg.{Lcg}
 use Rattle.rand_pcg.specs.Pcg.{pcg32}
-use Rattle.rv_decode.specs.declared.instructions.Instr.{Instr}
-use Rattle.rv_decode.specs.Encode.{encode_of}
-use Rattle.tree_model.specs.Start.Sources.{SegmentValue}
+use Rattle.made_image.specs.RvDecode.declared.instructions.Instr.{Instr}
+use Rattle.made_image.specs.RvDecode.Encode.{encode_of}
+use Rattle.made_image.specs.TreeModel.Start.Sources.{SegmentValue}
 use Rattle.text_model.specs.Seeded.{seeded_generator, words_of}
 use Rattle.elf_load.specs.ImageRule.{FitsMemory}
 use Rattle.elf_load.specs.Written.{segment_bytes, written_image}

@@ -6,8 +6,8 @@ use Rattle.std.proofs.lemmas.List.{append-nil}
 use Rattle.byteorder.specs.Endian.{little_bytes}
 use Rattle.rand_pcg.specs.Lcg.{Lcg}
 use Rattle.rand_pcg.specs.Pcg.{pcg32}
-use Rattle.rv_decode.specs.declared.instructions.Instr.{Instr}
-use Rattle.rv_decode.specs.Encode.{encode_of}
+use Rattle.made_image.specs.RvDecode.declared.instructions.Instr.{Instr}
+use Rattle.made_image.specs.RvDecode.Encode.{encode_of}
 use Rattle.text_model.specs.Seeded.{seeded_generator, words_of}
 use Rattle.made_image.specs.MadeImage.{ending, made_program, opening, program_bytes, round_of, rounds_of}
 

@@ -2,8 +2,8 @@
 use Rattle.std.proofs.Common.{◌≡◌, ℕ, ◌+◌, ◌%◌, ◌<◌, List, [], ◌∷◌, ◌++◌, length, get_or, refl, sym, ap, ◌∙◌, arith}
 use Rattle.std.proofs.lemmas.List.FromFn.{get_or-map-range_with_len, length-map-range_with_len, map-range_with_len_more}
 use Rattle.byteorder.specs.Endian.{little_bytes}
-use Rattle.rv_decode.specs.declared.instructions.Instr.{Instr}
-use Rattle.rv_decode.specs.Encode.{encode_of}
+use Rattle.made_image.specs.RvDecode.declared.instructions.Instr.{Instr}
+use Rattle.made_image.specs.RvDecode.Encode.{encode_of}
 use Rattle.made_image.specs.MadeImage.{kind_of, offset_of, program_bytes, round_of}
 use Rattle.made_image.specs.Rounds.{first_rounds, round_bytes}
 

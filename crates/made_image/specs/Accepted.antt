@@ -1,6 +1,6 @@
 -- Every made image is accepted, and read as its two segments.
 use Rattle.std.specs.Prelude.{◌≡◌, ℕ, ◌≤◌, Ok}
-use Rattle.ddm_types.specs.ItemTable.{IsItemSize}
+use Rattle.made_image.specs.DdmTypes.ItemTable.{IsItemSize}
 use Rattle.elf_load.specs.ElfFile.{image_of}
 use Rattle.elf_load.specs.ImageRule.{image_value}
 use Rattle.made_image.specs.MadeImage.{made_image, made_program, made_segments, program_bytes}

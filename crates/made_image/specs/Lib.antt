@@ -1,3 +1,6 @@
+pub mod DdmTypes
+pub mod RvDecode
+pub mod TreeModel
 pub mod MadeImage
 pub mod Rounds
 pub mod Accepted

@@ -1,6 +1,6 @@
 -- The image of the seed 42 with two rounds, and a word for each kind of round.
 use Rattle.std.specs.Prelude.{◌≡◌, ℕ, List, [], ◌∷◌, ◌++◌, map, Ok}
-use Rattle.rv_decode.specs.Encode.{encode_of}
+use Rattle.made_image.specs.RvDecode.Encode.{encode_of}
 use Rattle.text_model.specs.Seeded.{seeded_generator, words_of}
 use Rattle.elf_load.specs.ElfFile.{image_of}
 use Rattle.elf_load.specs.ImageRule.{image_value}

@@ -2,15 +2,15 @@
 use Rattle.std.specs.Prelude.{ℕ, ◌*◌, ◌/◌, ◌%◌, nat_eq, pos, false, List, [], ◌∷◌, ◌++◌, length, if◌then◌else◌}
 use Rattle.std.specs.List.{flat_map}
 use Rattle.byteorder.specs.Endian.{little_bytes}
-use Rattle.rv_decode.specs.declared.instructions.LoadOp.TheVariants.{Lw}
-use Rattle.rv_decode.specs.declared.instructions.StoreOp.TheVariants.{Sw}
-use Rattle.rv_decode.specs.declared.instructions.ImmOp.TheVariants.{Addi}
-use Rattle.rv_decode.specs.declared.instructions.RegOp.TheVariants.{Add}
-use Rattle.rv_decode.specs.declared.instructions.AmoOp.TheVariants.{Add as AmoAdd, Swap as AmoSwap}
-use Rattle.rv_decode.specs.declared.instructions.Instr.{Instr}
-use Rattle.rv_decode.specs.declared.instructions.Instr.TheVariants.{Lui, Load, Store, Immediate, Register, Ecall, Amo}
-use Rattle.rv_decode.specs.Encode.{encode_of}
-use Rattle.tree_model.specs.Start.Sources.{SegmentValue}
+use Rattle.made_image.specs.RvDecode.declared.instructions.LoadOp.TheVariants.{Lw}
+use Rattle.made_image.specs.RvDecode.declared.instructions.StoreOp.TheVariants.{Sw}
+use Rattle.made_image.specs.RvDecode.declared.instructions.ImmOp.TheVariants.{Addi}
+use Rattle.made_image.specs.RvDecode.declared.instructions.RegOp.TheVariants.{Add}
+use Rattle.made_image.specs.RvDecode.declared.instructions.AmoOp.TheVariants.{Add as AmoAdd, Swap as AmoSwap}
+use Rattle.made_image.specs.RvDecode.declared.instructions.Instr.{Instr}
+use Rattle.made_image.specs.RvDecode.declared.instructions.Instr.TheVariants.{Lui, Load, Store, Immediate, Register, Ecall, Amo}
+use Rattle.made_image.specs.RvDecode.Encode.{encode_of}
+use Rattle.made_image.specs.TreeModel.Start.Sources.{SegmentValue}
 use Rattle.text_model.specs.Seeded.{seeded_generator, words_of}
 use Rattle.elf_load.specs.Written.{written_image}
 

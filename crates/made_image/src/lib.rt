@@ -4,6 +4,8 @@
 mod examples;
 mod laws;
 mod making;
+pub mod of_ddm_types;
+pub mod of_rv_decode;
 mod program;
 
 pub use examples::made_example;

@@ -1,14 +1,14 @@
 ghost use Rattle.std.specs.Prelude.{◌≡◌, ◌≤◌, ◌+◌, ◌*◌, ◌++◌, All, IfOk, OnOk, length};
-ghost use Rattle.rv_decode.specs.Valid.{IsValid};
+ghost use Rattle.made_image.specs.RvDecode.Valid.{IsValid};
 ghost use Rattle.made_image.specs.MadeImage.{made_image, made_program, made_segments, program_bytes};
 ghost use Rattle.made_image.specs.Rounds.{first_rounds, round_bytes};
 
+use crate::of_ddm_types::NoMemory;
+use crate::of_rv_decode::{Instr, encode};
 use crate::program::{ending, opening, round_of};
-use ddm_types::NoMemory;
 use elf_load::{Segment, write_image};
 use rand_core::utils::NextWord;
 use rand_pcg::Pcg32;
-use rv_decode::{Instr, encode};
 use std::alloc::Global;
 
 /// The stream of the generator.

@@ -1,11 +1,11 @@
 //! The program of a made image: the instructions before the rounds, those of a round, and those after the rounds.
 ghost use Rattle.std.specs.Prelude.{◌≡◌, ◌<◌, pos, All};
-ghost use Rattle.rv_decode.specs.declared.instructions.ImmOp.TheVariants.{Addi};
-ghost use Rattle.rv_decode.specs.declared.instructions.Instr.TheVariants.{Immediate};
-ghost use Rattle.rv_decode.specs.Valid.{IsValid};
+ghost use Rattle.made_image.specs.RvDecode.declared.instructions.ImmOp.TheVariants.{Addi};
+ghost use Rattle.made_image.specs.RvDecode.declared.instructions.Instr.TheVariants.{Immediate};
+ghost use Rattle.made_image.specs.RvDecode.Valid.{IsValid};
 ghost use Rattle.made_image.specs.MadeImage.{adding, ending, loading, opening, round_of, storing, swapping};
 
-use rv_decode::{AmoOp, ImmOp, Instr, LoadOp, Reg, RegOp, StoreOp};
+use crate::of_rv_decode::{AmoOp, ImmOp, Instr, LoadOp, Reg, RegOp, StoreOp};
 
 /// The address of the first of the 64 words.
 const FIRST: Reg = Reg(5);

@@ -6,19 +6,19 @@ use Rattle.std.specs.List.{AllByRecursion, list_any}
 use native.Mathlib.Decide.{ℕ_discrete}
 use Rattle.std.proofs.lemmas.Bool.{ltb-true, or_right, true≢false}
 use Rattle.std.proofs.lemmas.Bool.Decides.{nat_tests}
-use Rattle.ddm_types.specs.declared.sizes.LeafState.{LeafState}
-use Rattle.ddm_types.specs.declared.turns.Turn.{Turn}
-use Rattle.tree_model.specs.State.Values.{LeafValue, Node, Nodes, leaf_node, dir_node, no_nodes, more_nodes, MachineValue, root_of}
-use Rattle.tree_model.specs.State.Leaf.{state_at, waiting_item}
-use Rattle.tree_model.specs.State.Shape.{IsShaped, tree_counts}
-use Rattle.tree_model.specs.Turns.Machine.{leaves_of, leaves_among, machine_leaves}
-use Rattle.tree_rules.specs.Bus.Own.{IsLeafOk, state_waits}
-use Rattle.tree_rules.specs.Bus.Rules.{AreTreesOk, IsMachineOk, IsTreeOk, items_of_machine}
-use Rattle.bus_laws.proofs.HartFacts.{entries-from_rules, state-known, waiting-none, waiting-some}
-use Rattle.ddm_tree.specs.Rules.{KeepsRules}
-use Rattle.ddm_tree.proofs.LeafList.{leaf-listed, leaves-counted}
-use Rattle.ddm_tree.specs.Reads.{state_of}
-use Rattle.inspector.proofs.OneMore.{item-there, mapped-at}
+use Rattle.no_jam.specs.DdmTypes.declared.sizes.LeafState.{LeafState}
+use Rattle.no_jam.specs.DdmTypes.declared.turns.Turn.{Turn}
+use Rattle.no_jam.specs.TreeModel.State.Values.{LeafValue, Node, Nodes, leaf_node, dir_node, no_nodes, more_nodes, MachineValue, root_of}
+use Rattle.no_jam.specs.TreeModel.State.Leaf.{state_at, waiting_item}
+use Rattle.no_jam.specs.TreeModel.State.Shape.{IsShaped, tree_counts}
+use Rattle.no_jam.specs.TreeModel.Turns.Machine.{leaves_of, leaves_among, machine_leaves}
+use Rattle.no_jam.specs.TreeRules.Bus.Own.{IsLeafOk, state_waits}
+use Rattle.no_jam.specs.TreeRules.Bus.Rules.{AreTreesOk, IsMachineOk, IsTreeOk, items_of_machine}
+use Rattle.no_jam.proofs.BusLaws.HartFacts.{entries-from_rules, state-known, waiting-none, waiting-some}
+use Rattle.no_jam.specs.DdmTree.Rules.{KeepsRules}
+use Rattle.no_jam.proofs.DdmTree.LeafList.{leaf-listed, leaves-counted}
+use Rattle.no_jam.specs.DdmTree.Reads.{state_of}
+use Rattle.no_jam.proofs.InspectorCrate.OneMore.{item-there, mapped-at}
 use Rattle.jam_laws.specs.GoesOn.{IsFirstGranted, first_granted, leaf_is_waiting, some_leaf_waits, unjamming_turn}
 use Rattle.jam_laws.proofs.NoJam.{named-first}
 use Rattle.no_jam.specs.Waits.{waits_of}

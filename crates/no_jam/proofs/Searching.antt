@@ -5,7 +5,7 @@ use Rattle.std.specs.Option.{option_or}
 use Rattle.std.specs.List.{flat_map, range_with_len}
 use Rattle.std.proofs.lemmas.List.Concat.{flat_map-cons}
 use Rattle.std.proofs.lemmas.List.Folds.{find-append}
-use Rattle.ddm_types.specs.declared.turns.Turn.{Turn}
+use Rattle.no_jam.specs.DdmTypes.declared.turns.Turn.{Turn}
 use Rattle.jam_laws.specs.GoesOn.{turns_of_bus}
 use Rattle.no_jam.specs.Asked.{child_turn}
 use Rattle.no_jam.specs.declared.search.Asked.{Asked}

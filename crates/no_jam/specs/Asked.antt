@@ -1,6 +1,6 @@
 -- The turns of one child of a bus.
 use Rattle.std.specs.Prelude.{ℕ}
-use Rattle.ddm_types.specs.declared.turns.Turn.{Turn}
+use Rattle.no_jam.specs.DdmTypes.declared.turns.Turn.{Turn}
 use Rattle.no_jam.specs.declared.search.Asked.{Asked}
 
 -- its reply, or its request

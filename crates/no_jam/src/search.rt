@@ -1,15 +1,15 @@
 ghost use Rattle.std.specs.Prelude.{◌≡◌, ◌<◌, Some, find, map, true, unwrap_or};
 ghost use Rattle.std.specs.List.{range_with_len};
-ghost use Rattle.ddm_types.specs.declared.turns.Turn.{Turn};
-ghost use Rattle.tree_model.specs.Turns.Machine.{child_count, is_child_of};
-ghost use Rattle.tree_model.specs.Turns.Tree.{bus_of_number};
-ghost use Rattle.ddm_tree.specs.Machine.{is_part};
+ghost use Rattle.no_jam.specs.DdmTypes.declared.turns.Turn.{Turn};
+ghost use Rattle.no_jam.specs.TreeModel.Turns.Machine.{child_count, is_child_of};
+ghost use Rattle.no_jam.specs.TreeModel.Turns.Tree.{bus_of_number};
+ghost use Rattle.no_jam.specs.DdmTree.Machine.{is_part};
 ghost use Rattle.any_machine.specs.Any.{machine_state};
 ghost use Rattle.jam_laws.specs.GoesOn.{first_granted, turns_of_bus, would_grant};
 ghost use Rattle.no_jam.specs.Asked.{child_turn};
 
+use crate::of_ddm_types::{BusNo, ChildNo, Turn};
 use any_machine::AnyMachine;
-use ddm_types::{BusNo, ChildNo, Turn};
 
 /// A turn that names a child.
 #[derive(Clone, Copy)]

@@ -2,10 +2,10 @@ ghost use Rattle.std.specs.Prelude.{◌≡◌, None, IfSome, true, false};
 ghost use Rattle.any_machine.specs.Any.{machine_state};
 ghost use Rattle.jam_laws.specs.GoesOn.{IsFirstGranted, has_large_lists, some_leaf_waits, unjamming_turn};
 
+use crate::of_ddm_types::Turn;
 use crate::search::first_granted;
 use crate::waiting::some_leaf_waits;
 use any_machine::AnyMachine;
-use ddm_types::Turn;
 
 /// The turn that goes on where a leaf waits, which there always is: the first that would be granted, buses by number, and on a bus
 /// Down, then Reply by child, then Request by child. It takes no memory.

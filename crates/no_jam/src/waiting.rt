@@ -1,12 +1,12 @@
 ghost use Rattle.std.specs.Prelude.{◌≡◌, ◌<◌, Some};
-ghost use Rattle.tree_model.specs.State.Shape.{tree_counts};
-ghost use Rattle.tree_rules.specs.Bus.Own.{state_waits};
+ghost use Rattle.no_jam.specs.TreeModel.State.Shape.{tree_counts};
+ghost use Rattle.no_jam.specs.TreeRules.Bus.Own.{state_waits};
 ghost use Rattle.any_machine.specs.Any.{machine_state};
 ghost use Rattle.jam_laws.specs.GoesOn.{some_leaf_waits};
 ghost use Rattle.no_jam.specs.Waits.{waits_of};
 
+use crate::of_ddm_types::{ItemId, LeafNo, LeafState};
 use any_machine::AnyMachine;
-use ddm_types::{ItemId, LeafNo, LeafState};
 
 /// Whether an entry in this state waits for a transaction.
 fn state_waits(state: Option<LeafState>) -> bool

@@ -1,3 +1,4 @@
+pub mod DdmTypes
 pub mod Pushed
 pub mod SameMoment
 pub mod Taken

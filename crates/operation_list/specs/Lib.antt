@@ -1,1 +1,2 @@
+pub mod DdmTypes
 pub mod Kept

@@ -3,5 +3,6 @@
 
 mod list;
 mod moments;
+pub mod of_ddm_types;
 
 pub use list::Operations;

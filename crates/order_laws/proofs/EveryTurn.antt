@@ -1,13 +1,13 @@
 -- Every turn, a hart's or one of a bus, keeps the rules of time and the core rules; so does a run.
 use Rattle.std.proofs.Common.{[], ◌∷◌}
-use Rattle.ddm_types.specs.declared.turns.Turn.{Turn}
-use Rattle.flat_model.specs.Flat.{FlatMachine}
-use Rattle.tree_model.specs.State.Values.{MachineValue}
-use Rattle.tree_model.specs.State.Shape.{IsShaped}
-use Rattle.tree_model.specs.Turns.Machine.{turn_of, run_of}
-use Rattle.tree_model.proofs.FrameKept.{turn-shape}
-use Rattle.tree_rules.specs.Bus.Rules.{IsMachineOk}
-use Rattle.tree_rules.specs.Order.Rules.{commands_past_taken, IsTimed, IsCore}
+use Rattle.order_laws.specs.DdmTypes.declared.turns.Turn.{Turn}
+use Rattle.order_laws.specs.FlatModel.Flat.{FlatMachine}
+use Rattle.order_laws.specs.TreeModel.State.Values.{MachineValue}
+use Rattle.order_laws.specs.TreeModel.State.Shape.{IsShaped}
+use Rattle.order_laws.specs.TreeModel.Turns.Machine.{turn_of, run_of}
+use Rattle.order_laws.proofs.TreeModel.FrameKept.{turn-shape}
+use Rattle.order_laws.specs.TreeRules.Bus.Rules.{IsMachineOk}
+use Rattle.order_laws.specs.TreeRules.Order.Rules.{commands_past_taken, IsTimed, IsCore}
 use Rattle.bus_laws.proofs.TreeKept.{turn-keeps_rules}
 use Rattle.order_laws.specs.EveryTurn.{EveryTurnKeepsTime, TurnKeepsCore, IsOrderly, RunStaysOrderly}
 use Rattle.order_laws.specs.Moves.CopiesMoved.{IsBusTurn}

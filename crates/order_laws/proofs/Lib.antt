@@ -1,3 +1,8 @@
+pub mod BusLaws
+pub mod FlatModel
+pub mod OrderLists
+pub mod TreeModel
+pub mod TreeRules
 pub mod Pairs
 pub mod Hart
 pub mod Timed

@@ -1,14 +1,14 @@
 -- What a bus's turn keeps of the core rules of order, and the three of them that are taken from elsewhere.
 -- Proofs alone need it.
 use Rattle.std.specs.Prelude.{ℕ, ◌<◌}
-use Rattle.ddm_types.specs.declared.turns.Turn.{Turn}
-use Rattle.flat_model.specs.Flat.{FlatMachine}
-use Rattle.tree_model.specs.State.Values.{MachineValue}
-use Rattle.tree_model.specs.State.Shape.{IsShaped}
-use Rattle.tree_model.specs.Turns.Machine.{turn_of}
-use Rattle.tree_rules.specs.Statements.{Holds}
-use Rattle.tree_rules.specs.Bus.Rules.{items_of_machine, IsMachineOk}
-use Rattle.tree_rules.specs.Order.Rules.{commands_past_taken, reservations_kept, core_rule, claims_after_copies, copy_rule, IsTimed, IsCore}
+use Rattle.order_laws.specs.DdmTypes.declared.turns.Turn.{Turn}
+use Rattle.order_laws.specs.FlatModel.Flat.{FlatMachine}
+use Rattle.order_laws.specs.TreeModel.State.Values.{MachineValue}
+use Rattle.order_laws.specs.TreeModel.State.Shape.{IsShaped}
+use Rattle.order_laws.specs.TreeModel.Turns.Machine.{turn_of}
+use Rattle.order_laws.specs.TreeRules.Statements.{Holds}
+use Rattle.order_laws.specs.TreeRules.Bus.Rules.{items_of_machine, IsMachineOk}
+use Rattle.order_laws.specs.TreeRules.Order.Rules.{commands_past_taken, reservations_kept, core_rule, claims_after_copies, copy_rule, IsTimed, IsCore}
 use Rattle.order_laws.specs.Moves.CopiesMoved.{IsBusTurn}
 
 -- the machine after the turn

@@ -1,13 +1,13 @@
 -- What a hart's turn keeps of the rules of order, whatever it answers.
 -- Proofs alone need it.
 use Rattle.std.specs.Prelude.{ℕ}
-use Rattle.ddm_types.specs.declared.turns.Turn.{Turn}
-use Rattle.flat_model.specs.Flat.{FlatMachine}
-use Rattle.tree_model.specs.State.Values.{MachineValue}
-use Rattle.tree_model.specs.State.Shape.{IsShaped}
-use Rattle.tree_model.specs.Turns.Machine.{turn_of}
-use Rattle.tree_rules.specs.Bus.Rules.{IsMachineOk}
-use Rattle.tree_rules.specs.Order.Rules.{IsTimed, IsCore}
+use Rattle.order_laws.specs.DdmTypes.declared.turns.Turn.{Turn}
+use Rattle.order_laws.specs.FlatModel.Flat.{FlatMachine}
+use Rattle.order_laws.specs.TreeModel.State.Values.{MachineValue}
+use Rattle.order_laws.specs.TreeModel.State.Shape.{IsShaped}
+use Rattle.order_laws.specs.TreeModel.Turns.Machine.{turn_of}
+use Rattle.order_laws.specs.TreeRules.Bus.Rules.{IsMachineOk}
+use Rattle.order_laws.specs.TreeRules.Order.Rules.{IsTimed, IsCore}
 
 -- the machine after the turn of a leaf's hart, with this number for what it replaces
 abbrev pub after_hart : ℕ → ℕ → MachineValue → MachineValue

@@ -1,3 +1,9 @@
+pub mod BusLaws
+pub mod DdmTypes
+pub mod FlatModel
+pub mod OrderLists
+pub mod TreeModel
+pub mod TreeRules
 pub mod Pairs
 pub mod Hart
 pub mod Timed

@@ -1,12 +1,12 @@
 -- What every turn keeps of the rules of time and of the commands of down lists.
 -- Proofs alone need it.
 use Rattle.std.specs.Prelude.{◌≡◌}
-use Rattle.ddm_types.specs.declared.turns.Turn.{Turn}
-use Rattle.tree_model.specs.State.Values.{MachineValue}
-use Rattle.tree_model.specs.State.Shape.{IsShaped}
-use Rattle.tree_model.specs.Turns.Machine.{turn_of}
-use Rattle.tree_rules.specs.Bus.Own.{IsTopOk}
-use Rattle.tree_rules.specs.Order.Rules.{IsTimed}
+use Rattle.order_laws.specs.DdmTypes.declared.turns.Turn.{Turn}
+use Rattle.order_laws.specs.TreeModel.State.Values.{MachineValue}
+use Rattle.order_laws.specs.TreeModel.State.Shape.{IsShaped}
+use Rattle.order_laws.specs.TreeModel.Turns.Machine.{turn_of}
+use Rattle.order_laws.specs.TreeRules.Bus.Own.{IsTopOk}
+use Rattle.order_laws.specs.TreeRules.Order.Rules.{IsTimed}
 use Rattle.order_lists.specs.Commands.{CommandsArePastTaken}
 use Rattle.order_laws.specs.Moves.CopiesMoved.{IsBusTurn}
 

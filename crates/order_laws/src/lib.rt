@@ -2,3 +2,5 @@
 #![tactic(auto)]
 
 pub mod laws;
+pub mod of_ddm_types;
+pub mod of_tree_model;

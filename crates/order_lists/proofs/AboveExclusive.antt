@@ -4,13 +4,13 @@ use Rattle.std.proofs.Common.{◌≡◌, ℕ, zero, suc, Bool, true, false, not,
 use Rattle.std.specs.List.{list_any, list_all}
 use Rattle.std.specs.Bool.{beq}
 use Rattle.std.proofs.lemmas.Bool.{and_parts, or_left, or_right, not-true, true≢false, false≢true}
-use Rattle.ddm_types.specs.declared.answers.TxKind.{TxKind}
-use Rattle.ddm_types.specs.declared.answers.TxKind.TheVariants.{EraseTx, ExclusiveTx}
-use Rattle.ddm_types.specs.declared.sizes.Hold.{Hold}
-use Rattle.tree_model.specs.State.Kinds.{is_kind, has_kind}
-use Rattle.tree_model.specs.State.States.{is_held, is_exclusive, is_shared}
-use Rattle.tree_model.specs.State.Values.{Note, no_note, local, up_read, up_erase}
-use Rattle.tree_model.specs.State.Directory.{is_up_erase}
+use Rattle.order_lists.specs.DdmTypes.declared.answers.TxKind.{TxKind}
+use Rattle.order_lists.specs.DdmTypes.declared.answers.TxKind.TheVariants.{EraseTx, ExclusiveTx}
+use Rattle.order_lists.specs.DdmTypes.declared.sizes.Hold.{Hold}
+use Rattle.order_lists.specs.TreeModel.State.Kinds.{is_kind, has_kind}
+use Rattle.order_lists.specs.TreeModel.State.States.{is_held, is_exclusive, is_shared}
+use Rattle.order_lists.specs.TreeModel.State.Values.{Note, no_note, local, up_read, up_erase}
+use Rattle.order_lists.specs.TreeModel.State.Directory.{is_up_erase}
 use Rattle.tree_rules.specs.Bus.Faces.{ChildFace, ParentFace}
 use Rattle.tree_rules.specs.Bus.Item.{implies, holds_it, holds_exclusive, one_holds, granted_fits, child_passes, may_erase, eraser_is_granted, moves_copies, copies_in, starts_for, bits_of, ItemRules, exclusive_alone, exclusive_covered, queue_start, erased_shared, up_erase_noted, granted_held, exclusive_noted}
 use Rattle.order_lists.proofs.NoHold.{implied}

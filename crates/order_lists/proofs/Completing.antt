@@ -4,15 +4,15 @@ use Rattle.std.specs.Prelude.{option_and_then}
 use Rattle.std.specs.List.{AllByRecursion}
 use Rattle.std.proofs.lemmas.Bool.{true≢false, false_from_ne_true}
 use Rattle.std.proofs.lemmas.List.Elements.{filter-append}
-use Rattle.ddm_types.specs.declared.operations.Op.{Op}
-use Rattle.ddm_types.specs.Keys.{key_less}
-use Rattle.ddm_types.specs.CodeMap.{CodeWord}
-use Rattle.ddm_types.specs.ItemTable.{ItemTable}
-use Rattle.flat_model.specs.Flat.{FlatMachine, flat_hart}
-use Rattle.flat_model.specs.Legal.{is_of, changed_item, effect_item, HasWholeWords, legal_step, legal_run, reservation}
-use Rattle.flat_model.proofs.Runs.{legal_run_append}
-use Rattle.flat_model.proofs.Insert.{IsElsewhere, Elsewhere, EndsAlike}
-use Rattle.tree_model.specs.Turns.Witness.{sorted_ops}
+use Rattle.order_lists.specs.DdmTypes.declared.operations.Op.{Op}
+use Rattle.order_lists.specs.DdmTypes.Keys.{key_less}
+use Rattle.order_lists.specs.DdmTypes.CodeMap.{CodeWord}
+use Rattle.order_lists.specs.DdmTypes.ItemTable.{ItemTable}
+use Rattle.order_lists.specs.FlatModel.Flat.{FlatMachine, flat_hart}
+use Rattle.order_lists.specs.FlatModel.Legal.{is_of, changed_item, effect_item, HasWholeWords, legal_step, legal_run, reservation}
+use Rattle.order_lists.proofs.FlatModel.Runs.{legal_run_append}
+use Rattle.order_lists.proofs.FlatModel.Insert.{IsElsewhere, Elsewhere, EndsAlike}
+use Rattle.order_lists.specs.TreeModel.Turns.Witness.{sorted_ops}
 use Rattle.order_lists.proofs.Keys.{key_less-asymmetric}
 use Rattle.order_lists.proofs.Filters.{filter-yes, filter-no, each-weaker, each-passing}
 use Rattle.order_lists.proofs.Sorted.{IsNew, KeysDiffer, lesser, greater, sorted-each, sorted-rise, push}

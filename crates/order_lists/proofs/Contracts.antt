@@ -1,15 +1,15 @@
 -- The crate's theorems as its contracts say them.
 use Rattle.std.proofs.Common.{◌≡◌, ℕ, ◌<◌, List, [], ◌∷◌, ◌++◌, Some, sym}
 use Rattle.std.specs.List.{AllByRecursion}
-use Rattle.ddm_types.specs.declared.operations.Op.{Op}
-use Rattle.ddm_types.specs.CodeMap.{CodeWord}
-use Rattle.ddm_types.specs.ItemTable.{ItemTable}
-use Rattle.flat_model.specs.Flat.{FlatMachine}
-use Rattle.flat_model.specs.Legal.{changed_item, HasWholeWords, legal_run}
-use Rattle.flat_model.proofs.Insert.{EndsAlike}
-use Rattle.tree_model.specs.State.Values.{MachineValue}
-use Rattle.tree_model.specs.State.Shape.{IsShaped}
-use Rattle.tree_model.specs.Turns.Witness.{sorted_ops}
+use Rattle.order_lists.specs.DdmTypes.declared.operations.Op.{Op}
+use Rattle.order_lists.specs.DdmTypes.CodeMap.{CodeWord}
+use Rattle.order_lists.specs.DdmTypes.ItemTable.{ItemTable}
+use Rattle.order_lists.specs.FlatModel.Flat.{FlatMachine}
+use Rattle.order_lists.specs.FlatModel.Legal.{changed_item, HasWholeWords, legal_run}
+use Rattle.order_lists.proofs.FlatModel.Insert.{EndsAlike}
+use Rattle.order_lists.specs.TreeModel.State.Values.{MachineValue}
+use Rattle.order_lists.specs.TreeModel.State.Shape.{IsShaped}
+use Rattle.order_lists.specs.TreeModel.Turns.Witness.{sorted_ops}
 use Rattle.tree_rules.specs.Statements.{Holds, each_pair}
 use Rattle.tree_rules.specs.Bus.Rules.{IsMachineOk, items_of_machine}
 use Rattle.tree_rules.specs.Order.Copies.{copies_of}

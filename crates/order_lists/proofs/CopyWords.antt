@@ -2,10 +2,10 @@
 -- the copy's end: from the rules of time, of commands, of words and of clocks.
 use Rattle.std.proofs.Common.{◌≡◌, ℕ, Bool, []}
 use Rattle.std.specs.List.{AllByRecursion}
-use Rattle.ddm_types.specs.declared.operations.Op.{Op}
-use Rattle.flat_model.specs.Flat.{FlatMachine}
-use Rattle.tree_model.specs.State.Values.{MachineValue}
-use Rattle.tree_model.specs.State.Shape.{depth_of, IsShaped}
+use Rattle.order_lists.specs.DdmTypes.declared.operations.Op.{Op}
+use Rattle.order_lists.specs.FlatModel.Flat.{FlatMachine}
+use Rattle.order_lists.specs.TreeModel.State.Values.{MachineValue}
+use Rattle.order_lists.specs.TreeModel.State.Shape.{depth_of, IsShaped}
 use Rattle.tree_rules.specs.Statements.{Holds}
 use Rattle.tree_rules.specs.Order.Ops.{words_where}
 use Rattle.tree_rules.specs.Order.Copies.{CopyAt, copies_of}

@@ -3,14 +3,14 @@
 use Rattle.std.proofs.Common.{◌≡◌, ℕ, ◌+◌, ◌<◌, Bool, true, false, not, List, [], ◌∷◌, ◌++◌, Some, None, refl, sym, ap, subst, ◌∙◌, if◌then◌else◌}
 use Rattle.std.specs.List.{AllByRecursion, list_any}
 use Rattle.std.proofs.lemmas.Bool.{or_parts, or_left, or_right, not-true, true≢false}
-use Rattle.ddm_types.specs.declared.answers.TxKind.{TxKind}
-use Rattle.ddm_types.specs.declared.answers.TxKind.TheVariants.{ReadTx, DataTx, EraseTx, ExclusiveTx, InjectTx, OutTx}
-use Rattle.tree_model.specs.State.Kinds.{is_kind, has_kind}
-use Rattle.tree_model.specs.State.States.{is_exclusive}
-use Rattle.tree_model.specs.State.Values.{DownValue, DirValue, Node, Nodes, leaf_node, dir_node, no_nodes, more_nodes, children}
-use Rattle.tree_model.specs.State.Leaf.{leaf_hold}
-use Rattle.tree_model.specs.State.Directory.{queue_of, dir_hold}
-use Rattle.tree_model.specs.State.Place.{Spot, spot_path, spot_in}
+use Rattle.order_lists.specs.DdmTypes.declared.answers.TxKind.{TxKind}
+use Rattle.order_lists.specs.DdmTypes.declared.answers.TxKind.TheVariants.{ReadTx, DataTx, EraseTx, ExclusiveTx, InjectTx, OutTx}
+use Rattle.order_lists.specs.TreeModel.State.Kinds.{is_kind, has_kind}
+use Rattle.order_lists.specs.TreeModel.State.States.{is_exclusive}
+use Rattle.order_lists.specs.TreeModel.State.Values.{DownValue, DirValue, Node, Nodes, leaf_node, dir_node, no_nodes, more_nodes, children}
+use Rattle.order_lists.specs.TreeModel.State.Leaf.{leaf_hold}
+use Rattle.order_lists.specs.TreeModel.State.Directory.{queue_of, dir_hold}
+use Rattle.order_lists.specs.TreeModel.State.Place.{Spot, spot_path, spot_in}
 use Rattle.tree_rules.specs.Bus.Faces.{parent_face, child_face, faces_of}
 use Rattle.tree_rules.specs.Bus.Item.{holds_it, holds_exclusive, one_holds, copies_in, ItemRules}
 use Rattle.tree_rules.specs.Bus.Rules.{IsTreeOk, AreTreesOk}

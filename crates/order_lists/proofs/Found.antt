@@ -4,19 +4,19 @@ use Rattle.std.proofs.Common.{◌≡◌, ℕ, ◌+◌, ◌<◌, Bool, true, fals
 use Rattle.std.specs.List.{AllByRecursion, list_any}
 use Rattle.std.specs.Bool.{beq}
 use Rattle.std.proofs.lemmas.Bool.{and_parts, false≢true}
-use Rattle.ddm_types.specs.declared.answers.TxKind.{TxKind}
-use Rattle.ddm_types.specs.declared.answers.TxKind.TheVariants.{ReadTx, DataTx, EraseTx, ExclusiveTx, InjectTx, OutTx}
-use Rattle.flat_model.specs.Flat.{FlatMachine}
-use Rattle.tree_model.specs.State.Lists.{first_some, first_of, has_some}
-use Rattle.tree_model.specs.State.Kinds.{brings_copy}
-use Rattle.tree_model.specs.State.States.{entry_hold, is_held}
-use Rattle.tree_model.specs.State.Values.{DownValue, DirValue, LeafValue, Node, Nodes, leaf_node, dir_node, no_nodes, more_nodes, children, MachineValue}
-use Rattle.tree_model.specs.State.Shape.{depth_of}
-use Rattle.tree_model.specs.State.Leaf.{words_of_item, LeafEntry, entry_state, leaf_entry, leaf_hold}
-use Rattle.tree_model.specs.State.Directory.{queue_of, dir_hold}
-use Rattle.tree_model.specs.State.Child.{child_holds, child_replies}
-use Rattle.tree_model.specs.State.Place.{Spot, spot_path, spot_in}
-use Rattle.tree_model.specs.Turns.Found.{words_of_entry, last_words, queue_words, words_found, words_among, found_words}
+use Rattle.order_lists.specs.DdmTypes.declared.answers.TxKind.{TxKind}
+use Rattle.order_lists.specs.DdmTypes.declared.answers.TxKind.TheVariants.{ReadTx, DataTx, EraseTx, ExclusiveTx, InjectTx, OutTx}
+use Rattle.order_lists.specs.FlatModel.Flat.{FlatMachine}
+use Rattle.order_lists.specs.TreeModel.State.Lists.{first_some, first_of, has_some}
+use Rattle.order_lists.specs.TreeModel.State.Kinds.{brings_copy}
+use Rattle.order_lists.specs.TreeModel.State.States.{entry_hold, is_held}
+use Rattle.order_lists.specs.TreeModel.State.Values.{DownValue, DirValue, LeafValue, Node, Nodes, leaf_node, dir_node, no_nodes, more_nodes, children, MachineValue}
+use Rattle.order_lists.specs.TreeModel.State.Shape.{depth_of}
+use Rattle.order_lists.specs.TreeModel.State.Leaf.{words_of_item, LeafEntry, entry_state, leaf_entry, leaf_hold}
+use Rattle.order_lists.specs.TreeModel.State.Directory.{queue_of, dir_hold}
+use Rattle.order_lists.specs.TreeModel.State.Child.{child_holds, child_replies}
+use Rattle.order_lists.specs.TreeModel.State.Place.{Spot, spot_path, spot_in}
+use Rattle.order_lists.specs.TreeModel.Turns.Found.{words_of_entry, last_words, queue_words, words_found, words_among, found_words}
 use Rattle.tree_rules.specs.Bus.Faces.{ChildFace, ParentFace, child_face, parent_face, faces_of}
 use Rattle.tree_rules.specs.Bus.Item.{holds_it, copies_in, held_after, bits_of, top_holds, ItemRules, hold_follows}
 use Rattle.tree_rules.specs.Bus.Rules.{IsTreeOk, AreTreesOk, IsMachineOk, items_of_machine}

@@ -2,15 +2,15 @@
 use Rattle.std.proofs.Common.{◌≡◌, ℕ, ◌+◌, Bool, true, false, List, [], ◌∷◌, map, Option, Some, None, IfSome, refl, sym, ◌∙◌, if◌then◌else◌}
 use Rattle.std.proofs.lemmas.Bool.{false≢true}
 use Rattle.std.specs.List.{AllByRecursion}
-use Rattle.ddm_types.specs.declared.answers.TxKind.TheVariants.{EraseTx}
-use Rattle.tree_model.specs.State.Lists.{first_some}
-use Rattle.tree_model.specs.State.Kinds.{is_kind, brings_copy}
-use Rattle.tree_model.specs.State.States.{entry_hold, is_held}
-use Rattle.tree_model.specs.State.Values.{DownValue, DirValue, Node, Nodes, leaf_node, dir_node, no_nodes, more_nodes}
-use Rattle.tree_model.specs.State.Leaf.{words_of_item, LeafEntry, leaf_entry}
-use Rattle.tree_model.specs.State.Directory.{queue_of, stamp_of}
-use Rattle.tree_model.specs.State.Child.{child_replies}
-use Rattle.tree_model.specs.State.Place.{Spot, spot_path, spot_in}
+use Rattle.order_lists.specs.DdmTypes.declared.answers.TxKind.TheVariants.{EraseTx}
+use Rattle.order_lists.specs.TreeModel.State.Lists.{first_some}
+use Rattle.order_lists.specs.TreeModel.State.Kinds.{is_kind, brings_copy}
+use Rattle.order_lists.specs.TreeModel.State.States.{entry_hold, is_held}
+use Rattle.order_lists.specs.TreeModel.State.Values.{DownValue, DirValue, Node, Nodes, leaf_node, dir_node, no_nodes, more_nodes}
+use Rattle.order_lists.specs.TreeModel.State.Leaf.{words_of_item, LeafEntry, leaf_entry}
+use Rattle.order_lists.specs.TreeModel.State.Directory.{queue_of, stamp_of}
+use Rattle.order_lists.specs.TreeModel.State.Child.{child_replies}
+use Rattle.order_lists.specs.TreeModel.State.Place.{Spot, spot_path, spot_in}
 use Rattle.tree_rules.specs.Order.Moments.{moment_at, spot_moment, GoesOn}
 use Rattle.tree_rules.specs.Order.Places.{dirs_in, placed_dirs}
 use Rattle.tree_rules.specs.Order.Copies.{CopyAt, cut, first_erase, downs, copies_here, entry_copies, inner, handed, erases_of, erases_in, erases_among}

@@ -2,13 +2,13 @@
 use Rattle.std.proofs.Common.{◌≡◌, ℕ, false, inl, List, ◌∷◌, ◌++◌, Option, Some, None, refl, sym, ap, ◌∙◌, arith}
 use Rattle.std.specs.Prelude.{option_and_then}
 use Rattle.std.specs.List.{AllByRecursion}
-use Rattle.ddm_types.specs.declared.operations.Op.{Op}
-use Rattle.ddm_types.specs.CodeMap.{CodeWord}
-use Rattle.ddm_types.specs.ItemTable.{ItemTable}
-use Rattle.flat_model.specs.Flat.{FlatMachine, flat_hart}
-use Rattle.flat_model.specs.Legal.{is_of, changed_item, HasWholeWords, legal_step, legal_run}
-use Rattle.flat_model.proofs.Runs.{legal_run_append}
-use Rattle.flat_model.proofs.Insert.{Alike, Elsewhere, EndsAlike, runs_alike, insert}
+use Rattle.order_lists.specs.DdmTypes.declared.operations.Op.{Op}
+use Rattle.order_lists.specs.DdmTypes.CodeMap.{CodeWord}
+use Rattle.order_lists.specs.DdmTypes.ItemTable.{ItemTable}
+use Rattle.order_lists.specs.FlatModel.Flat.{FlatMachine, flat_hart}
+use Rattle.order_lists.specs.FlatModel.Legal.{is_of, changed_item, HasWholeWords, legal_step, legal_run}
+use Rattle.order_lists.proofs.FlatModel.Runs.{legal_run_append}
+use Rattle.order_lists.proofs.FlatModel.Insert.{Alike, Elsewhere, EndsAlike, runs_alike, insert}
 use Rattle.order_lists.proofs.Filters.{each-weaker}
 
 -- none of the list is of this hart

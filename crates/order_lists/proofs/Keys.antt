@@ -1,12 +1,12 @@
 -- The order of keys: a strict total order, and that of their numbers down to the tree's depth where the others are 0.
 use Rattle.std.proofs.Common.{◌≡◌, ℕ, zero, suc, ◌*◌, true, ◌&&◌, ◌||◌, nat_eq, nat_lt, List, [], ◌∷◌, ◌++◌, length, take, drop, refl, sym, ap, arith}
 use Rattle.std.proofs.lemmas.Bool.{eqb-true, and_parts}
-use Rattle.ddm_types.specs.declared.keys.Key.{Key}
-use Rattle.ddm_types.specs.Keys.{key_numbers, key_less}
+use Rattle.order_lists.specs.DdmTypes.declared.keys.Key.{Key}
+use Rattle.order_lists.specs.DdmTypes.Keys.{key_numbers, key_less}
 use Rattle.tree_rules.specs.Bus.Own.{are_zero}
 use Rattle.tree_rules.specs.Order.Moments.{less}
 use Rattle.tree_rules.specs.Order.Time.{key_ends}
-pub use Rattle.ddm_types.proofs.KeyOrder.{key_less-irreflexive, key_less-transitive, key_less-asymmetric, key_less-total}
+pub use Rattle.order_lists.proofs.DdmTypes.KeyOrder.{key_less-irreflexive, key_less-transitive, key_less-asymmetric, key_less-total}
 
 -- ---- numbers that are 0 decide nothing
 

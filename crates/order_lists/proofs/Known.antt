@@ -3,8 +3,8 @@ use Rattle.std.proofs.Common.{◌≡◌, ℕ, ◌+◌, true, List, [], ◌∷◌
 use Rattle.std.specs.List.{AllByRecursion}
 use Rattle.std.proofs.lemmas.Bool.{true≢false}
 use Rattle.std.proofs.lemmas.List.{length-append}
-use Rattle.tree_model.specs.State.Values.{DirValue, Node, Nodes, leaf_node, dir_node, no_nodes, more_nodes}
-use Rattle.tree_model.specs.State.Place.{Spot, spot_path, spot_in}
+use Rattle.order_lists.specs.TreeModel.State.Values.{DirValue, Node, Nodes, leaf_node, dir_node, no_nodes, more_nodes}
+use Rattle.order_lists.specs.TreeModel.State.Place.{Spot, spot_path, spot_in}
 use Rattle.tree_rules.specs.Order.Moments.{is_under, GoesOn}
 use Rattle.tree_rules.specs.Order.Places.{LeafAt, leaf_path, leaf_now, DirAt, dir_path, taken_moment, leaves_in, placed_leaves, dirs_in, placed_dirs}
 use Rattle.order_lists.proofs.Filters.{each-weaker, each-both, each-append, each-left, each-right}

@@ -3,11 +3,11 @@
 use Rattle.std.proofs.Common.{◌≡◌, ℕ, ◌<◌, Bool, true, false, ◌⊎◌, inl, inr, [], length, None, refl, sym, subst, ◌∙◌, arith}
 use Rattle.std.specs.List.{AllByRecursion}
 use Rattle.std.proofs.lemmas.Bool.{true≢false}
-use Rattle.ddm_types.specs.declared.operations.Op.{Op}
-use Rattle.flat_model.specs.Flat.{FlatMachine}
-use Rattle.flat_model.specs.Legal.{on_item}
-use Rattle.tree_model.specs.State.Values.{MachineValue}
-use Rattle.tree_model.specs.State.Shape.{depth_of, IsShaped}
+use Rattle.order_lists.specs.DdmTypes.declared.operations.Op.{Op}
+use Rattle.order_lists.specs.FlatModel.Flat.{FlatMachine}
+use Rattle.order_lists.specs.FlatModel.Legal.{on_item}
+use Rattle.order_lists.specs.TreeModel.State.Values.{MachineValue}
+use Rattle.order_lists.specs.TreeModel.State.Shape.{depth_of, IsShaped}
 use Rattle.tree_rules.specs.Bus.Rules.{items_of_machine, IsMachineOk}
 use Rattle.tree_rules.specs.Statements.{Holds}
 use Rattle.tree_rules.specs.Order.Moments.{less, is_under}

@@ -4,9 +4,9 @@ use Rattle.std.proofs.Common.{◌≡◌, ℕ, ◌+◌, ◌<◌, ◌≤◌, true,
 use Rattle.std.specs.List.{AllByRecursion}
 use Rattle.std.proofs.lemmas.Bool.{and_parts, eqb-true, leb-true}
 use Rattle.std.proofs.lemmas.List.{length-append}
-use Rattle.tree_model.specs.State.Values.{DirValue, Node, Nodes, leaf_node, dir_node, no_nodes, more_nodes, MachineValue}
-use Rattle.tree_model.specs.State.Shape.{skeleton, skeletons, depth_of, levels_fit, levels_fit_among, levels_known, IsShaped}
-use Rattle.tree_model.specs.State.Place.{Spot, spot_path, spot_in}
+use Rattle.order_lists.specs.TreeModel.State.Values.{DirValue, Node, Nodes, leaf_node, dir_node, no_nodes, more_nodes, MachineValue}
+use Rattle.order_lists.specs.TreeModel.State.Shape.{skeleton, skeletons, depth_of, levels_fit, levels_fit_among, levels_known, IsShaped}
+use Rattle.order_lists.specs.TreeModel.State.Place.{Spot, spot_path, spot_in}
 use Rattle.tree_rules.specs.Order.Places.{LeafAt, leaf_path, DirAt, dir_path, leaves_in, placed_leaves, leaves_at, dirs_in, placed_dirs, dirs_at}
 use Rattle.order_lists.proofs.Filters.{each-append}
 

@@ -1,3 +1,5 @@
+pub mod DdmTypes
+pub mod FlatModel
 pub mod Filters
 pub mod Moments
 pub mod Stamps

@@ -3,9 +3,9 @@
 use Rattle.std.proofs.Common.{◌≡◌, ◌≢◌, ℕ, true, inl, inr, List, [], ◌∷◌, ◌++◌, filter, sym, ap, subst, ◌∙◌}
 use Rattle.std.specs.List.{AllByRecursion}
 use Rattle.std.proofs.lemmas.Bool.{true≢false}
-use Rattle.ddm_types.specs.declared.operations.Op.{Op}
-use Rattle.ddm_types.specs.Keys.{key_less}
-use Rattle.tree_model.specs.Turns.Witness.{sorted_ops}
+use Rattle.order_lists.specs.DdmTypes.declared.operations.Op.{Op}
+use Rattle.order_lists.specs.DdmTypes.Keys.{key_less}
+use Rattle.order_lists.specs.TreeModel.Turns.Witness.{sorted_ops}
 use Rattle.tree_rules.specs.Statements.{Statement, Holds, each, each_pair}
 use Rattle.tree_rules.specs.Order.Moments.{less}
 use Rattle.tree_rules.specs.Order.Ops.{op_key}

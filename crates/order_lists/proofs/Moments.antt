@@ -3,7 +3,7 @@ use Rattle.std.proofs.Common.{◌≡◌, ℕ, zero, suc, ◌+◌, ◌<◌, ◌�
 use Rattle.std.proofs.lemmas.Bool.{and_parts, and_from, eqb-true, eq-eqb}
 use Rattle.std.proofs.lemmas.List.{take_all}
 use Rattle.tree_rules.specs.Order.Moments.{less, less_at, before, past, same_numbers, GoesOn}
-pub use Rattle.ddm_types.proofs.KeyOrder.{numbers_less-head as less-head, numbers_less-tail as less-tail, numbers_less-parts as less-parts, numbers_least-parts as least-parts, numbers_least-head as least-head, numbers_least-tail as least-tail, numbers_less-irreflexive as less-irreflexive, numbers_less-transitive as less-transitive, numbers_less-total as less-total, numbers_less-asymmetric as less-asymmetric}
+pub use Rattle.order_lists.proofs.DdmTypes.KeyOrder.{numbers_less-head as less-head, numbers_less-tail as less-tail, numbers_less-parts as less-parts, numbers_least-parts as least-parts, numbers_least-head as least-head, numbers_least-tail as least-tail, numbers_less-irreflexive as less-irreflexive, numbers_less-transitive as less-transitive, numbers_less-total as less-total, numbers_less-asymmetric as less-asymmetric}
 
 -- ---- not greater, `less b a ≡ false`, with less
 

@@ -4,16 +4,16 @@ use Rattle.std.specs.List.{AllByRecursion, list_any, list_all}
 use Rattle.std.specs.Bool.{beq}
 use Rattle.std.proofs.lemmas.Bool.{and_parts, or_parts, eqb-true, true≢false, false≢true}
 use Rattle.std.proofs.lemmas.List.{nil_from_length}
-use Rattle.ddm_types.specs.declared.answers.TxKind.{TxKind}
-use Rattle.ddm_types.specs.declared.answers.TxKind.TheVariants.{ReadTx, DataTx, EraseTx, ExclusiveTx, InjectTx, OutTx}
-use Rattle.ddm_types.specs.declared.sizes.Hold.{Hold}
-use Rattle.tree_model.specs.State.Lists.{first_some, has_some}
-use Rattle.tree_model.specs.State.States.{entry_hold, is_held, is_shared}
-use Rattle.tree_model.specs.State.Values.{CopyValue, DownValue, DirValue, LeafValue, Node, Nodes, leaf_node, dir_node, no_nodes, more_nodes, children}
-use Rattle.tree_model.specs.State.Leaf.{words_of_item, LeafEntry, entry_state, leaf_entry, leaf_hold}
-use Rattle.tree_model.specs.State.Directory.{queue_of, entry_kind, dir_hold, is_parked}
-use Rattle.tree_model.specs.State.Child.{child_hold, child_replies}
-use Rattle.tree_model.specs.State.Place.{Spot, spot_path, spot_in}
+use Rattle.order_lists.specs.DdmTypes.declared.answers.TxKind.{TxKind}
+use Rattle.order_lists.specs.DdmTypes.declared.answers.TxKind.TheVariants.{ReadTx, DataTx, EraseTx, ExclusiveTx, InjectTx, OutTx}
+use Rattle.order_lists.specs.DdmTypes.declared.sizes.Hold.{Hold}
+use Rattle.order_lists.specs.TreeModel.State.Lists.{first_some, has_some}
+use Rattle.order_lists.specs.TreeModel.State.States.{entry_hold, is_held, is_shared}
+use Rattle.order_lists.specs.TreeModel.State.Values.{CopyValue, DownValue, DirValue, LeafValue, Node, Nodes, leaf_node, dir_node, no_nodes, more_nodes, children}
+use Rattle.order_lists.specs.TreeModel.State.Leaf.{words_of_item, LeafEntry, entry_state, leaf_entry, leaf_hold}
+use Rattle.order_lists.specs.TreeModel.State.Directory.{queue_of, entry_kind, dir_hold, is_parked}
+use Rattle.order_lists.specs.TreeModel.State.Child.{child_hold, child_replies}
+use Rattle.order_lists.specs.TreeModel.State.Place.{Spot, spot_path, spot_in}
 use Rattle.tree_rules.specs.Bus.Faces.{parent_face, child_face, faces_of}
 use Rattle.tree_rules.specs.Bus.Item.{implies, holds_it, giver_holds, bits_of, copies_in, held_after, ItemRules, hold_follows, givers_held}
 use Rattle.tree_rules.specs.Bus.Rules.{IsTreeOk, AreTreesOk}

@@ -3,16 +3,16 @@ use Rattle.std.proofs.Common.{◌≡◌, ℕ, ◌+◌, ◌<◌, Bool, true, fals
 use Rattle.std.specs.List.{AllByRecursion, list_any, list_all}
 use Rattle.std.proofs.lemmas.Bool.{and_parts, not-true, true≢false, false≢true}
 use Rattle.std.proofs.lemmas.List.{length-append}
-use Rattle.ddm_types.specs.declared.answers.TxKind.{TxKind}
-use Rattle.ddm_types.specs.declared.answers.TxKind.TheVariants.{ReadTx, DataTx, EraseTx, ExclusiveTx, InjectTx, OutTx}
-use Rattle.ddm_types.specs.declared.sizes.Hold.{Hold}
-use Rattle.tree_model.specs.State.Lists.{first_some}
-use Rattle.tree_model.specs.State.States.{entry_hold, is_held, is_exclusive, is_shared}
-use Rattle.tree_model.specs.State.Values.{DownValue, DirValue, Node, Nodes, leaf_node, dir_node, no_nodes, more_nodes, children, MachineValue}
-use Rattle.tree_model.specs.State.Leaf.{words_of_item, LeafEntry, leaf_entry}
-use Rattle.tree_model.specs.State.Directory.{queue_of}
-use Rattle.tree_model.specs.State.Child.{child_hold, child_replies}
-use Rattle.tree_model.specs.State.Place.{Spot, spot_path, spot_in}
+use Rattle.order_lists.specs.DdmTypes.declared.answers.TxKind.{TxKind}
+use Rattle.order_lists.specs.DdmTypes.declared.answers.TxKind.TheVariants.{ReadTx, DataTx, EraseTx, ExclusiveTx, InjectTx, OutTx}
+use Rattle.order_lists.specs.DdmTypes.declared.sizes.Hold.{Hold}
+use Rattle.order_lists.specs.TreeModel.State.Lists.{first_some}
+use Rattle.order_lists.specs.TreeModel.State.States.{entry_hold, is_held, is_exclusive, is_shared}
+use Rattle.order_lists.specs.TreeModel.State.Values.{DownValue, DirValue, Node, Nodes, leaf_node, dir_node, no_nodes, more_nodes, children, MachineValue}
+use Rattle.order_lists.specs.TreeModel.State.Leaf.{words_of_item, LeafEntry, leaf_entry}
+use Rattle.order_lists.specs.TreeModel.State.Directory.{queue_of}
+use Rattle.order_lists.specs.TreeModel.State.Child.{child_hold, child_replies}
+use Rattle.order_lists.specs.TreeModel.State.Place.{Spot, spot_path, spot_in}
 use Rattle.tree_rules.specs.Bus.Faces.{child_face, parent_face, faces_of}
 use Rattle.tree_rules.specs.Bus.Item.{holds_it, holds_exclusive, one_holds, giver_holds, copies_in, ItemRules, givers_held}
 use Rattle.tree_rules.specs.Bus.Rules.{IsTreeOk, AreTreesOk, items_of_machine, IsMachineOk}

@@ -2,13 +2,13 @@
 use Rattle.std.proofs.Common.{◌≡◌, ℕ, Bool, true, false, nat_eq, List, [], ◌∷◌, filter, refl, sym, ap, ◌∙◌}
 use Rattle.std.specs.List.{AllByRecursion}
 use Rattle.std.proofs.lemmas.Bool.{eqb-true, eq-eqb}
-use Rattle.ddm_types.specs.declared.operations.Op.{Op}
-use Rattle.ddm_types.specs.Keys.{key_less}
-use Rattle.flat_model.specs.Legal.{is_of}
+use Rattle.order_lists.specs.DdmTypes.declared.operations.Op.{Op}
+use Rattle.order_lists.specs.DdmTypes.Keys.{key_less}
+use Rattle.order_lists.specs.FlatModel.Legal.{is_of}
 use Rattle.tree_rules.specs.Statements.{Holds, each_pair}
 use Rattle.tree_rules.specs.Order.Core.{is_in_own_order}
 use Rattle.tree_rules.proofs.Statements.{each-facts}
-use Rattle.tree_model.specs.Turns.Witness.{with_op, sorted_ops}
+use Rattle.order_lists.specs.TreeModel.Turns.Witness.{with_op, sorted_ops}
 use Rattle.order_lists.proofs.Filters.{filter-yes, filter-no}
 use Rattle.order_lists.proofs.Sorted.{with_op-less, with_op-least, sorted-each}
 

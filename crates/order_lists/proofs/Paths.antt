@@ -3,8 +3,8 @@ use Rattle.std.proofs.Common.{◌≡◌, ℕ, ◌+◌, ◌<◌, ◌≤◌, Bool,
 use Rattle.std.specs.List.{AllByRecursion}
 use Rattle.std.proofs.lemmas.Bool.{and_parts, and_from, eqb-true, eq-eqb, false_from_ne_true}
 use Rattle.std.proofs.lemmas.List.{length-append}
-use Rattle.tree_model.specs.State.Values.{DirValue, Node, Nodes, leaf_node, dir_node, no_nodes, more_nodes}
-use Rattle.tree_model.specs.State.Place.{Spot, spot_path, spot_in}
+use Rattle.order_lists.specs.TreeModel.State.Values.{DirValue, Node, Nodes, leaf_node, dir_node, no_nodes, more_nodes}
+use Rattle.order_lists.specs.TreeModel.State.Place.{Spot, spot_path, spot_in}
 use Rattle.tree_rules.specs.Order.Moments.{parted, is_under}
 use Rattle.tree_rules.specs.Order.Places.{leaf_path, dir_path, leaves_in, placed_leaves, dirs_in, placed_dirs}
 use Rattle.order_lists.proofs.Filters.{each-weaker, each-append}

@@ -2,13 +2,13 @@
 -- stamp above, and that of a read, an erase or an inject is past all before it.
 use Rattle.std.proofs.Common.{◌≡◌, ℕ, Bool, true, false, List, [], ◌∷◌, length, filter, Option, Some, None, IfSome, refl, arith}
 use Rattle.std.specs.List.{AllByRecursion}
-use Rattle.ddm_types.specs.declared.answers.TxKind.{TxKind}
-use Rattle.ddm_types.specs.declared.answers.TxKind.TheVariants.{ReadTx, DataTx, EraseTx, ExclusiveTx, InjectTx, OutTx}
-use Rattle.tree_model.specs.State.Lists.{first_some}
-use Rattle.tree_model.specs.State.Kinds.{is_kind}
-use Rattle.tree_model.specs.State.Values.{DownValue, DirValue}
-use Rattle.tree_model.specs.State.Directory.{queue_of}
-use Rattle.tree_model.specs.State.Place.{Spot}
+use Rattle.order_lists.specs.DdmTypes.declared.answers.TxKind.{TxKind}
+use Rattle.order_lists.specs.DdmTypes.declared.answers.TxKind.TheVariants.{ReadTx, DataTx, EraseTx, ExclusiveTx, InjectTx, OutTx}
+use Rattle.order_lists.specs.TreeModel.State.Lists.{first_some}
+use Rattle.order_lists.specs.TreeModel.State.Kinds.{is_kind}
+use Rattle.order_lists.specs.TreeModel.State.Values.{DownValue, DirValue}
+use Rattle.order_lists.specs.TreeModel.State.Directory.{queue_of}
+use Rattle.order_lists.specs.TreeModel.State.Place.{Spot}
 use Rattle.tree_rules.specs.Statements.{Holds, each_pair}
 use Rattle.tree_rules.specs.Order.Moments.{less, moment_at, spot_moment, GoesOn}
 use Rattle.tree_rules.specs.Order.Places.{DirAt}

@@ -5,13 +5,13 @@ use Rattle.std.specs.List.{AllByRecursion}
 use Rattle.std.proofs.lemmas.List.Folds.{fold_along}
 use Rattle.std.proofs.lemmas.Grind.{fold-append}
 use Rattle.std.proofs.lemmas.Bool.{eqb-true, eq-eqb, ne_eqb}
-use Rattle.ddm_types.specs.declared.operations.Effect.{Effect}
-use Rattle.ddm_types.specs.declared.operations.Effect.TheVariants.{Plain, Put, Load, Store, Lr, ScOk, ScFail, Amo}
-use Rattle.ddm_types.specs.declared.operations.Op.{Op}
-use Rattle.ddm_types.specs.ItemTable.{ItemTable}
-use Rattle.flat_model.specs.Flat.{has_reserved}
-use Rattle.flat_model.proofs.Insert.{SameReserved}
-use Rattle.flat_model.specs.Legal.{changed_item, reserved_by_own, reserved_by_other, reserved_by, reservation}
+use Rattle.order_lists.specs.DdmTypes.declared.operations.Effect.{Effect}
+use Rattle.order_lists.specs.DdmTypes.declared.operations.Effect.TheVariants.{Plain, Put, Load, Store, Lr, ScOk, ScFail, Amo}
+use Rattle.order_lists.specs.DdmTypes.declared.operations.Op.{Op}
+use Rattle.order_lists.specs.DdmTypes.ItemTable.{ItemTable}
+use Rattle.order_lists.specs.FlatModel.Flat.{has_reserved}
+use Rattle.order_lists.proofs.FlatModel.Insert.{SameReserved}
+use Rattle.order_lists.specs.FlatModel.Legal.{changed_item, reserved_by_own, reserved_by_other, reserved_by, reservation}
 
 -- an operation of its own that is no LR and no SC
 abbrev pub leaves_own : Effect → Bool

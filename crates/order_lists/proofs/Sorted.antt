@@ -3,9 +3,9 @@ use Rattle.std.proofs.Common.{◌≡◌, ◌≢◌, Bool, true, false, ◌⊎◌
 use Rattle.std.specs.List.{AllByRecursion}
 use Rattle.std.specs.List.Sorted.{IsPermutation}
 use Rattle.std.proofs.lemmas.List.Sorted.{IsPermutation-refl, IsPermutation-cons, IsPermutation-trans, IsPermutation-swap}
-use Rattle.ddm_types.specs.declared.operations.Op.{Op}
-use Rattle.ddm_types.specs.Keys.{key_less}
-use Rattle.tree_model.specs.Turns.Witness.{with_op, sorted_ops}
+use Rattle.order_lists.specs.DdmTypes.declared.operations.Op.{Op}
+use Rattle.order_lists.specs.DdmTypes.Keys.{key_less}
+use Rattle.order_lists.specs.TreeModel.Turns.Witness.{with_op, sorted_ops}
 use Rattle.order_lists.proofs.Keys.{key_less-transitive, key_less-total, key_less-asymmetric}
 use Rattle.order_lists.proofs.Filters.{filter-yes, filter-no, filter-all, filter-none, each-weaker}
 

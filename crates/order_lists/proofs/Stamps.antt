@@ -2,9 +2,9 @@
 use Rattle.std.proofs.Common.{◌≡◌, ℕ, zero, suc, ◌+◌, ◌*◌, ◌<◌, Bool, true, false, ◌&&◌, ◌||◌, nat_eq, nat_lt, ◌⊎◌, inl, inr, List, [], ◌∷◌, ◌++◌, length, take, refl, sym, ap, ◌∙◌, arith}
 use Rattle.std.proofs.lemmas.Bool.{eq-eqb, le-ltb}
 use Rattle.std.proofs.lemmas.List.{take_at, take-take, length-append}
-use Rattle.ddm_types.specs.declared.keys.Stamp.{Stamp}
-use Rattle.ddm_types.specs.Keys.{stamp_at, stamp_numbers}
-use Rattle.tree_model.specs.State.Place.{Spot, spot_path}
+use Rattle.order_lists.specs.DdmTypes.declared.keys.Stamp.{Stamp}
+use Rattle.order_lists.specs.DdmTypes.Keys.{stamp_at, stamp_numbers}
+use Rattle.order_lists.specs.TreeModel.State.Place.{Spot, spot_path}
 use Rattle.tree_rules.specs.Order.Moments.{less, moment_of, moment_at, moment_length}
 use Rattle.order_lists.proofs.Moments.{less-head, less-tail, least-parts}
 

@@ -2,10 +2,10 @@
 use Rattle.std.proofs.Common.{◌≡◌, ℕ, ◌+◌, ◌*◌, ◌≤◌, true, List, [], ◌∷◌, length, refl, ap, subst, ◌∙◌, arith}
 use Rattle.std.specs.List.{AllByRecursion}
 use Rattle.std.proofs.lemmas.List.{length-append}
-use Rattle.ddm_types.specs.declared.operations.Op.{Op}
-use Rattle.tree_model.specs.State.Values.{MachineValue}
-use Rattle.tree_model.specs.State.Shape.{depth_of, IsShaped}
-use Rattle.tree_model.specs.State.Leaf.{words_of_item}
+use Rattle.order_lists.specs.DdmTypes.declared.operations.Op.{Op}
+use Rattle.order_lists.specs.TreeModel.State.Values.{MachineValue}
+use Rattle.order_lists.specs.TreeModel.State.Shape.{depth_of, IsShaped}
+use Rattle.order_lists.specs.TreeModel.State.Leaf.{words_of_item}
 use Rattle.tree_rules.specs.Statements.{Holds, each, each_pair}
 use Rattle.tree_rules.specs.Order.Moments.{less, is_under, key_path, GoesOn}
 use Rattle.tree_rules.specs.Order.Ops.{op_key, op_path}

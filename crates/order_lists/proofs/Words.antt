@@ -3,11 +3,11 @@
 use Rattle.std.proofs.Common.{◌≡◌, ℕ, ◌<◌, ◌≤◌, Bool, true, false, not, ◌⊎◌, inl, inr, List, length, take, Option, Some, None, IfSome, refl, sym, ap, subst, ◌∙◌}
 use Rattle.std.specs.List.{AllByRecursion}
 use Rattle.std.proofs.lemmas.Bool.{cases_lt, true≢false}
-use Rattle.ddm_types.specs.declared.operations.Op.{Op}
-use Rattle.ddm_types.specs.ItemTable.{ItemTable}
-use Rattle.flat_model.specs.Flat.{FlatMachine, item_words}
-use Rattle.flat_model.specs.Legal.{changes_item}
-use Rattle.tree_model.specs.Turns.Witness.{sorted_ops}
+use Rattle.order_lists.specs.DdmTypes.declared.operations.Op.{Op}
+use Rattle.order_lists.specs.DdmTypes.ItemTable.{ItemTable}
+use Rattle.order_lists.specs.FlatModel.Flat.{FlatMachine, item_words}
+use Rattle.order_lists.specs.FlatModel.Legal.{changes_item}
+use Rattle.order_lists.specs.TreeModel.Turns.Witness.{sorted_ops}
 use Rattle.tree_rules.specs.Statements.{Holds, test_of, is_so, there_and}
 use Rattle.tree_rules.specs.Order.Moments.{less_at, before, past, parted, is_under, moment_length}
 use Rattle.tree_rules.specs.Order.Ops.{op_key, op_path, words_where}

@@ -1,6 +1,6 @@
 -- The rule of commands, by itself: it needs no start.
 -- To be believed with the laws: it is what they speak of.
-use Rattle.tree_model.specs.State.Values.{MachineValue}
+use Rattle.order_lists.specs.TreeModel.State.Values.{MachineValue}
 use Rattle.tree_rules.specs.Statements.{Holds, each}
 use Rattle.tree_rules.specs.Order.Places.{dirs_at}
 use Rattle.tree_rules.specs.Order.Core.{is_past_taken}

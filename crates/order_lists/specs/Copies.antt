@@ -2,13 +2,13 @@
 -- To be believed with the laws: it is what they speak of.
 use Rattle.std.specs.Prelude.{◌≡◌, ℕ, Bool, true, not, ◌⊎◌, None, IfSome}
 use Rattle.std.specs.List.{AllByRecursion}
-use Rattle.ddm_types.specs.declared.operations.Op.{Op}
-use Rattle.flat_model.specs.Flat.{FlatMachine}
-use Rattle.flat_model.specs.Legal.{on_item, changes_item}
-use Rattle.tree_model.specs.State.Values.{MachineValue}
-use Rattle.tree_model.specs.State.Shape.{depth_of}
-use Rattle.tree_model.specs.State.States.{is_exclusive}
-use Rattle.tree_model.specs.State.Leaf.{leaf_hold}
+use Rattle.order_lists.specs.DdmTypes.declared.operations.Op.{Op}
+use Rattle.order_lists.specs.FlatModel.Flat.{FlatMachine}
+use Rattle.order_lists.specs.FlatModel.Legal.{on_item, changes_item}
+use Rattle.order_lists.specs.TreeModel.State.Values.{MachineValue}
+use Rattle.order_lists.specs.TreeModel.State.Shape.{depth_of}
+use Rattle.order_lists.specs.TreeModel.State.States.{is_exclusive}
+use Rattle.order_lists.specs.TreeModel.State.Leaf.{leaf_hold}
 use Rattle.tree_rules.specs.Statements.{Holds, test_of}
 use Rattle.tree_rules.specs.Order.Moments.{less, before}
 use Rattle.tree_rules.specs.Order.Ops.{op_key, words_where}

@@ -2,13 +2,13 @@
 -- To be believed with the laws: it is what they speak of.
 use Rattle.std.specs.Prelude.{◌≡◌, ◌≢◌, ℕ, true, List, [], ◌∷◌, ◌++◌, filter, Some}
 use Rattle.std.specs.List.Sorted.{IsPermutation}
-use Rattle.ddm_types.specs.declared.operations.Op.{Op}
-use Rattle.ddm_types.specs.Keys.{key_less}
-use Rattle.ddm_types.specs.CodeMap.{CodeWord}
-use Rattle.ddm_types.specs.ItemTable.{ItemTable}
-use Rattle.flat_model.specs.Flat.{FlatMachine, flat_hart, item_words}
-use Rattle.flat_model.specs.Legal.{is_of, changed_item, effect_item, legal_step, legal_run}
-use Rattle.tree_model.specs.Turns.Witness.{sorted_ops}
+use Rattle.order_lists.specs.DdmTypes.declared.operations.Op.{Op}
+use Rattle.order_lists.specs.DdmTypes.Keys.{key_less}
+use Rattle.order_lists.specs.DdmTypes.CodeMap.{CodeWord}
+use Rattle.order_lists.specs.DdmTypes.ItemTable.{ItemTable}
+use Rattle.order_lists.specs.FlatModel.Flat.{FlatMachine, flat_hart, item_words}
+use Rattle.order_lists.specs.FlatModel.Legal.{is_of, changed_item, effect_item, legal_step, legal_run}
+use Rattle.order_lists.specs.TreeModel.Turns.Witness.{sorted_ops}
 use Rattle.tree_rules.specs.Statements.{Statement, Holds, is_so, each_pair}
 
 -- ---- the sorted list

@@ -2,15 +2,15 @@
 
 ghost use Rattle.std.specs.Prelude.{◌≡◌, ℕ, ◌<◌, List, [], ◌∷◌, ◌++◌, filter, Some};
 ghost use Rattle.std.specs.List.{AllByRecursion};
-ghost use Rattle.ddm_types.specs.declared.operations.Op.{Op};
-ghost use Rattle.ddm_types.specs.ItemTable.{ItemTable};
-ghost use Rattle.ddm_types.specs.CodeMap.{CodeWord};
-ghost use Rattle.flat_model.specs.Flat.{FlatMachine};
-ghost use Rattle.flat_model.specs.Legal.{is_of, HasWholeWords, legal_run};
-ghost use Rattle.tree_model.specs.State.Values.{MachineValue};
-ghost use Rattle.tree_model.specs.State.Shape.{IsShaped};
-ghost use Rattle.tree_model.specs.Turns.Found.{found_words};
-ghost use Rattle.tree_model.specs.Turns.Witness.{sorted_ops};
+ghost use Rattle.order_lists.specs.DdmTypes.declared.operations.Op.{Op};
+ghost use Rattle.order_lists.specs.DdmTypes.ItemTable.{ItemTable};
+ghost use Rattle.order_lists.specs.DdmTypes.CodeMap.{CodeWord};
+ghost use Rattle.order_lists.specs.FlatModel.Flat.{FlatMachine};
+ghost use Rattle.order_lists.specs.FlatModel.Legal.{is_of, HasWholeWords, legal_run};
+ghost use Rattle.order_lists.specs.TreeModel.State.Values.{MachineValue};
+ghost use Rattle.order_lists.specs.TreeModel.State.Shape.{IsShaped};
+ghost use Rattle.order_lists.specs.TreeModel.Turns.Found.{found_words};
+ghost use Rattle.order_lists.specs.TreeModel.Turns.Witness.{sorted_ops};
 ghost use Rattle.tree_rules.specs.Statements.{Holds, each_pair};
 ghost use Rattle.tree_rules.specs.Bus.Rules.{IsMachineOk, items_of_machine};
 ghost use Rattle.tree_rules.specs.Order.Time.{keys_differ};

@@ -5,11 +5,11 @@ use Rattle.std.proofs.Common.{◌≡◌, ℕ, Bool, true, false, List, [], ◌�
 use Rattle.std.specs.Prelude.{nat_eq, flat_map, codes, decimal, if◌then◌else◌}
 use Rattle.std.specs.List.{list_all}
 use Rattle.std.proofs.lemmas.Grind.{flat_map-append}
-use Rattle.ddm_text.specs.Hex.{hex2}
-use Rattle.ddm_types.specs.declared.operations.Effect.{Effect}
-use Rattle.ddm_types.specs.declared.operations.Op.{Op}
-use Rattle.tree_model.specs.State.Values.{LeafValue, MachineValue}
-use Rattle.tree_model.specs.Turns.Machine.{machine_leaves}
+use Rattle.outcome_model.specs.DdmText.Hex.{hex2}
+use Rattle.outcome_model.specs.DdmTypes.declared.operations.Effect.{Effect}
+use Rattle.outcome_model.specs.DdmTypes.declared.operations.Op.{Op}
+use Rattle.outcome_model.specs.TreeModel.State.Values.{LeafValue, MachineValue}
+use Rattle.outcome_model.specs.TreeModel.Turns.Machine.{machine_leaves}
 use Rattle.text_model.specs.Report.{or_dash, put_text, put_text_by, put_texts}
 use Rattle.text_model.specs.Words.{state_text}
 use Rattle.time_laws.specs.Forget.{forget_leaf, put_by_effect, put_by, put_bytes, Alike}

@@ -4,24 +4,24 @@ use Rattle.std.proofs.Common.{◌≡◌, ℕ, Bool, true, false, List, [], ◌�
 use Rattle.std.specs.Prelude.{is_some}
 use Rattle.std.specs.List.{list_all}
 use Rattle.std.proofs.lemmas.List.{map-append}
-use Rattle.ddm_types.specs.declared.operations.HaltCause.{HaltCause}
-use Rattle.ddm_types.specs.declared.answers.TurnAnswer.{TurnAnswer}
-use Rattle.ddm_types.specs.declared.turns.Turn.{Turn}
-use Rattle.ddm_types.specs.declared.operations.Op.{Op}
-use Rattle.tree_model.specs.State.Values.{LeafValue, DirValue, Node, Nodes, leaf_node, dir_node, no_nodes, more_nodes, nodes, children, MachineValue, root_of}
-use Rattle.tree_model.specs.State.Place.{Where, at_top, stamp_above, key_at_leaf}
-use Rattle.tree_model.specs.Turns.Bus.{bus_step, bus_judged}
-use Rattle.tree_model.specs.Turns.Grant.{Judged, nothing_there, refused, granted, bus_answer}
-use Rattle.tree_model.specs.Turns.HartTurn.{deed_of, leaf_step}
-use Rattle.tree_model.specs.Turns.Machine.{named_by, answer_here, node_after, bus_turn_of, victim_of, turn_answer, turn_root, with_root, recorded, turn_of, run_of, leaves_of, leaves_among, machine_leaves}
-use Rattle.tree_model.specs.Laws.{TurnsHere, Kept, leaf_kept, dir_kept, kept_of}
-use Rattle.tree_model.proofs.BusKeeps.{bus_step-keeps}
-use Rattle.tree_model.proofs.Changed.{changed-keeps}
-use Rattle.tree_model.proofs.Children.{nodes-children}
-use Rattle.tree_model.proofs.NamedNode.{turned}
-use Rattle.tree_model.proofs.Tests.{and-first, and-second, and-both}
-use Rattle.tree_model.proofs.TurnChanges.{turn-root, turn-unanswered, turn-answered}
-use Rattle.tree_rules.specs.Witness.{op_of_answer}
+use Rattle.outcome_model.specs.DdmTypes.declared.operations.HaltCause.{HaltCause}
+use Rattle.outcome_model.specs.DdmTypes.declared.answers.TurnAnswer.{TurnAnswer}
+use Rattle.outcome_model.specs.DdmTypes.declared.turns.Turn.{Turn}
+use Rattle.outcome_model.specs.DdmTypes.declared.operations.Op.{Op}
+use Rattle.outcome_model.specs.TreeModel.State.Values.{LeafValue, DirValue, Node, Nodes, leaf_node, dir_node, no_nodes, more_nodes, nodes, children, MachineValue, root_of}
+use Rattle.outcome_model.specs.TreeModel.State.Place.{Where, at_top, stamp_above, key_at_leaf}
+use Rattle.outcome_model.specs.TreeModel.Turns.Bus.{bus_step, bus_judged}
+use Rattle.outcome_model.specs.TreeModel.Turns.Grant.{Judged, nothing_there, refused, granted, bus_answer}
+use Rattle.outcome_model.specs.TreeModel.Turns.HartTurn.{deed_of, leaf_step}
+use Rattle.outcome_model.specs.TreeModel.Turns.Machine.{named_by, answer_here, node_after, bus_turn_of, victim_of, turn_answer, turn_root, with_root, recorded, turn_of, run_of, leaves_of, leaves_among, machine_leaves}
+use Rattle.outcome_model.specs.TreeModel.Laws.{TurnsHere, Kept, leaf_kept, dir_kept, kept_of}
+use Rattle.outcome_model.proofs.TreeModel.BusKeeps.{bus_step-keeps}
+use Rattle.outcome_model.proofs.TreeModel.Changed.{changed-keeps}
+use Rattle.outcome_model.proofs.TreeModel.Children.{nodes-children}
+use Rattle.outcome_model.proofs.TreeModel.NamedNode.{turned}
+use Rattle.outcome_model.proofs.TreeModel.Tests.{and-first, and-second, and-both}
+use Rattle.outcome_model.proofs.TreeModel.TurnChanges.{turn-root, turn-unanswered, turn-answered}
+use Rattle.outcome_model.specs.TreeRules.Witness.{op_of_answer}
 use Rattle.headline.proofs.Runs.{run-ops}
 use Rattle.outcome_model.specs.Halted.{HaltedStays, LaterTurnsChangeNoOutcome, all_halted, has_halted}
 use Rattle.outcome_model.specs.Outcome.{HartEnd, end_of, ends_text, outcome_of}

@@ -1,21 +1,21 @@
 -- The outcome of a machine whose witness is one run of the flat machine, and the outcomes of a table of runs from a start.
 use Rattle.std.proofs.Common.{◌≡◌, ℕ, ◌+◌, zero, suc, Bool, true, false, cond, List, [], ◌∷◌, ◌++◌, map, Ok, refl, sym, ap, subst, ◌∙◌}
 use Rattle.std.specs.List.{AllByRecursion, range_with_len}
-use Rattle.ddm_types.specs.declared.operations.Op.{Op}
-use Rattle.ddm_types.specs.declared.turns.Turn.{Turn}
-use Rattle.ddm_types.specs.CodeMap.{CodeWord}
-use Rattle.ddm_types.specs.ItemTable.{ItemTable}
-use Rattle.flat_model.specs.Flat.{FlatMachine}
-use Rattle.tree_model.specs.State.Values.{LeafValue, MachineValue}
-use Rattle.tree_model.specs.State.Shape.{Frame, frame_of}
-use Rattle.tree_model.specs.Start.Sources.{ImageValue, TreeValue}
-use Rattle.tree_model.specs.Start.Machine.{flat_start_of, start_of}
-use Rattle.tree_model.specs.Turns.Machine.{machine_leaves, run_of}
-use Rattle.tree_model.specs.Turns.Witness.{sorted_ops}
-use Rattle.tree_model.proofs.FrameKept.{run-frame}
-use Rattle.tree_rules.specs.Order.Ops.{flat_now}
-use Rattle.tree_rules.specs.Witness.{IsHartOf, IsWitnessed}
-use Rattle.bus_laws.specs.IsTree.{IsTree}
+use Rattle.outcome_model.specs.DdmTypes.declared.operations.Op.{Op}
+use Rattle.outcome_model.specs.DdmTypes.declared.turns.Turn.{Turn}
+use Rattle.outcome_model.specs.DdmTypes.CodeMap.{CodeWord}
+use Rattle.outcome_model.specs.DdmTypes.ItemTable.{ItemTable}
+use Rattle.outcome_model.specs.FlatModel.Flat.{FlatMachine}
+use Rattle.outcome_model.specs.TreeModel.State.Values.{LeafValue, MachineValue}
+use Rattle.outcome_model.specs.TreeModel.State.Shape.{Frame, frame_of}
+use Rattle.outcome_model.specs.TreeModel.Start.Sources.{ImageValue, TreeValue}
+use Rattle.outcome_model.specs.TreeModel.Start.Machine.{flat_start_of, start_of}
+use Rattle.outcome_model.specs.TreeModel.Turns.Machine.{machine_leaves, run_of}
+use Rattle.outcome_model.specs.TreeModel.Turns.Witness.{sorted_ops}
+use Rattle.outcome_model.proofs.TreeModel.FrameKept.{run-frame}
+use Rattle.outcome_model.specs.TreeRules.Order.Ops.{flat_now}
+use Rattle.outcome_model.specs.TreeRules.Witness.{IsHartOf, IsWitnessed}
+use Rattle.outcome_model.specs.BusLaws.IsTree.{IsTree}
 use Rattle.headline.proofs.Runs.{run-witnessed}
 use Rattle.headline.proofs.StartOrder.{start-orderly}
 use Rattle.text_model.specs.Report.{or_dash, put_texts}

@@ -1,3 +1,7 @@
+pub mod BusLaws
+pub mod HeadlineCrate
+pub mod TextModel
+pub mod TreeModel
 pub mod Tables
 pub mod Legal
 pub mod Halted

@@ -7,7 +7,7 @@ use Rattle.std.specs.Cmp.Lexicographic.{pointwise}
 use Rattle.std.proofs.lemmas.Bool.{eqb-true, ltb-false, le-ltb}
 use Rattle.std.proofs.lemmas.List.Sums.{sum_by-cons, sum_by_push}
 use Rattle.std.proofs.lemmas.List.{append-nil, length-append}
-use Rattle.tree_model.proofs.Tests.{and-first, and-second, and-both}
+use Rattle.outcome_model.proofs.TreeModel.Tests.{and-first, and-second, and-both}
 use Rattle.outcome_model.specs.Table.{OutcomeLine, counted, in_order, is_outcome, placed, stands_before, table_of, tallied}
 use Rattle.outcome_model.specs.TableLaws.{AreDifferent, AreInOrder, Gave, IsLine, IsTable, TablesAreRight, times_given}
 use Rattle.outcome_model.proofs.Tables.{in_order-all, placed-all}

@@ -2,7 +2,7 @@
 -- Letters: m and n are machines.
 -- To be believed: it is what is claimed of them.
 use Rattle.std.specs.Prelude.{◌≡◌}
-use Rattle.tree_model.specs.State.Values.{MachineValue}
+use Rattle.outcome_model.specs.TreeModel.State.Values.{MachineValue}
 use Rattle.time_laws.specs.Forget.{Alike}
 use Rattle.outcome_model.specs.Outcome.{outcome_of}
 use Rattle.outcome_model.specs.Halted.{all_halted}

@@ -2,11 +2,11 @@
 -- exit with their numbers in two instructions each. How many turns each hart has in six is counted by hand, from the published
 -- generator.
 use Rattle.std.specs.Prelude.{◌≡◌, ℕ, ◌*◌, ◌/◌, ◌%◌, List, [], ◌∷◌, ◌++◌, codes, flat_map, length}
-use Rattle.ddm_types.specs.declared.turns.Turn.{Turn}
-use Rattle.tree_model.specs.State.Values.{MachineValue}
-use Rattle.tree_model.specs.Start.Machine.{start_machine}
-use Rattle.tree_model.specs.Start.Sources.{ImageValue, TreeValue, bus_widths, leaf_count}
-use Rattle.tree_model.specs.Turns.Machine.{run_of}
+use Rattle.outcome_model.specs.DdmTypes.declared.turns.Turn.{Turn}
+use Rattle.outcome_model.specs.TreeModel.State.Values.{MachineValue}
+use Rattle.outcome_model.specs.TreeModel.Start.Machine.{start_machine}
+use Rattle.outcome_model.specs.TreeModel.Start.Sources.{ImageValue, TreeValue, bus_widths, leaf_count}
+use Rattle.outcome_model.specs.TreeModel.Turns.Machine.{run_of}
 use Rattle.text_model.specs.Schedule.{ShapeView, hart_turns}
 use Rattle.outcome_model.specs.Outcome.{outcome_of}
 use Rattle.outcome_model.specs.Outcomes.{outcomes_text}

@@ -3,16 +3,16 @@
 -- To be believed: it is what is claimed of every outcome.
 use Rattle.std.specs.Prelude.{◌≡◌, ℕ, Bool, List, None, Ok, Err, IfSome}
 use Rattle.std.specs.List.{AllByRecursion}
-use Rattle.ddm_types.specs.declared.operations.Op.{Op}
-use Rattle.ddm_types.specs.CodeMap.{CodeWord}
-use Rattle.ddm_types.specs.ItemTable.{ItemTable}
-use Rattle.flat_model.specs.Flat.{FlatMachine, flat_step}
-use Rattle.flat_model.specs.Legal.{Legal, flat_after}
-use Rattle.tree_model.specs.State.Values.{MachineValue}
-use Rattle.tree_model.specs.Start.Sources.{ImageValue, TreeValue}
-use Rattle.tree_model.specs.Start.Machine.{flat_start_of, start_of}
+use Rattle.outcome_model.specs.DdmTypes.declared.operations.Op.{Op}
+use Rattle.outcome_model.specs.DdmTypes.CodeMap.{CodeWord}
+use Rattle.outcome_model.specs.DdmTypes.ItemTable.{ItemTable}
+use Rattle.outcome_model.specs.FlatModel.Flat.{FlatMachine, flat_step}
+use Rattle.outcome_model.specs.FlatModel.Legal.{Legal, flat_after}
+use Rattle.outcome_model.specs.TreeModel.State.Values.{MachineValue}
+use Rattle.outcome_model.specs.TreeModel.Start.Sources.{ImageValue, TreeValue}
+use Rattle.outcome_model.specs.TreeModel.Start.Machine.{flat_start_of, start_of}
 use Rattle.text_model.specs.Schedule.{ShapeView}
-use Rattle.bus_laws.specs.IsTree.{IsTree}
+use Rattle.outcome_model.specs.BusLaws.IsTree.{IsTree}
 use Rattle.outcome_model.specs.Outcome.{HartEnd, ends_text}
 use Rattle.outcome_model.specs.Outcomes.{outcome_table}
 use Rattle.outcome_model.specs.Table.{OutcomeLine}

@@ -3,9 +3,9 @@
 -- To be believed: it is what is claimed of every run.
 use Rattle.std.specs.Prelude.{◌≡◌, Bool, true, List, ◌++◌, is_some}
 use Rattle.std.specs.List.{list_all}
-use Rattle.ddm_types.specs.declared.turns.Turn.{Turn}
-use Rattle.tree_model.specs.State.Values.{LeafValue, MachineValue}
-use Rattle.tree_model.specs.Turns.Machine.{machine_leaves, run_of, turn_of}
+use Rattle.outcome_model.specs.DdmTypes.declared.turns.Turn.{Turn}
+use Rattle.outcome_model.specs.TreeModel.State.Values.{LeafValue, MachineValue}
+use Rattle.outcome_model.specs.TreeModel.Turns.Machine.{machine_leaves, run_of, turn_of}
 use Rattle.outcome_model.specs.Outcome.{outcome_of}
 
 abbrev pub has_halted : LeafValue → Bool

@@ -1,3 +1,10 @@
+pub mod BusLaws
+pub mod DdmText
+pub mod DdmTypes
+pub mod FlatModel
+pub mod TextModel
+pub mod TreeModel
+pub mod TreeRules
 pub mod Outcome
 pub mod Table
 pub mod Outcomes

@@ -3,10 +3,10 @@
 -- To be believed: it is what is printed of them.
 use Rattle.std.specs.Prelude.{ℕ, List, [], ◌∷◌, ◌++◌, map, flat_map, codes, decimal, Option}
 use Rattle.std.specs.List.{range_with_len}
-use Rattle.ddm_types.specs.declared.operations.HaltCause.{HaltCause}
-use Rattle.ddm_types.specs.declared.operations.Op.{Op}
-use Rattle.tree_model.specs.State.Values.{LeafValue, MachineValue}
-use Rattle.tree_model.specs.Turns.Machine.{machine_leaves, run_of}
+use Rattle.outcome_model.specs.DdmTypes.declared.operations.HaltCause.{HaltCause}
+use Rattle.outcome_model.specs.DdmTypes.declared.operations.Op.{Op}
+use Rattle.outcome_model.specs.TreeModel.State.Values.{LeafValue, MachineValue}
+use Rattle.outcome_model.specs.TreeModel.Turns.Machine.{machine_leaves, run_of}
 use Rattle.text_model.specs.Report.{or_dash, put_texts}
 use Rattle.text_model.specs.Schedule.{ShapeView}
 use Rattle.text_model.specs.Seeded.{seeded_turns}

@@ -1,7 +1,7 @@
 -- What is printed of the outcomes of a machine's seeds.
 -- To be believed: it is what the command prints.
 use Rattle.std.specs.Prelude.{ℕ, List}
-use Rattle.tree_model.specs.State.Values.{MachineValue}
+use Rattle.outcome_model.specs.TreeModel.State.Values.{MachineValue}
 use Rattle.text_model.specs.Schedule.{ShapeView}
 use Rattle.outcome_model.specs.Outcome.{seed_outcomes}
 use Rattle.outcome_model.specs.Table.{OutcomeLine, table_of, table_text}

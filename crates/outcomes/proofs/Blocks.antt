@@ -5,22 +5,22 @@ use Rattle.std.specs.Prelude.{All}
 use Rattle.std.proofs.Math.Seq.{drop-append_seam, take-append_seam}
 use Rattle.std.proofs.lemmas.List.{append-nil, length-append, take-append-drop}
 use Rattle.std.proofs.lemmas.List.Elements.{All-drop, All-take, All-weaker}
-use Rattle.ddm_types.specs.declared.answers.TurnAnswer.{TurnAnswer}
-use Rattle.ddm_types.specs.declared.turns.Turn.{Turn}
-use Rattle.tree_model.specs.State.Values.{MachineValue}
-use Rattle.tree_model.specs.Turns.Machine.{names_part, run_of}
-use Rattle.tree_rules.specs.Witness.{ops_of_answers}
-use Rattle.headline.proofs.Runs.{run-ops}
-use Rattle.text_model.specs.Run.{counts_of}
-use Rattle.ddm_tree.specs.Machine.{MachineState}
-use Rattle.any_machine.specs.Any.{machine_state}
-use Rattle.any_machine.specs.Kind.{kind_of}
+use Rattle.outcomes.specs.DdmTypes.declared.answers.TurnAnswer.{TurnAnswer}
+use Rattle.outcomes.specs.DdmTypes.declared.turns.Turn.{Turn}
+use Rattle.outcomes.specs.TreeModel.State.Values.{MachineValue}
+use Rattle.outcomes.specs.TreeModel.Turns.Machine.{names_part, run_of}
+use Rattle.outcomes.specs.TreeRules.Witness.{ops_of_answers}
+use Rattle.outcomes.proofs.HeadlineCrate.Runs.{run-ops}
+use Rattle.outcomes.specs.TextModel.Run.{counts_of}
+use Rattle.outcomes.specs.DdmTree.Machine.{MachineState}
+use Rattle.outcomes.specs.AnyMachine.Any.{machine_state}
+use Rattle.outcomes.specs.AnyMachine.Kind.{kind_of}
 use Rattle.any_runs.specs.Run.{CanRun, NameParts, answers_in, ran}
-use Rattle.any_machine.specs.declared.machine.AnyMachine.{AnyMachine}
-use Rattle.start_parts.proofs.Names.{run-names}
+use Rattle.outcomes.specs.AnyMachine.declared.machine.AnyMachine.{AnyMachine}
+use Rattle.outcomes.proofs.StartParts.Names.{run-names}
 use Rattle.any_runs.proofs.RunMore.{answers-length}
-use Rattle.tree_model.specs.State.Shape.{frame_of}
-use Rattle.tree_model.proofs.FrameKept.{run-frame}
+use Rattle.outcomes.specs.TreeModel.State.Shape.{frame_of}
+use Rattle.outcomes.proofs.TreeModel.FrameKept.{run-frame}
 use Rattle.outcomes.specs.Runs.{KeepsRoom}
 use Rattle.outcome_model.specs.Halted.{all_halted}
 use Rattle.outcome_model.specs.Outcome.{outcome_of}

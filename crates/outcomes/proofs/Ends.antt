@@ -4,13 +4,13 @@ use Rattle.std.proofs.Common.{◌≡◌, ◌∙◌, ap, sym, refl, ℕ, zero, su
 use Rattle.std.specs.Prelude.{is_some, slice_get}
 use Rattle.std.specs.List.{list_all}
 use Rattle.std.proofs.lemmas.List.{drop_all, length-map}
-use Rattle.rv_hart.specs.HartState.{HartState}
-use Rattle.tree_model.specs.State.Blank.{no_hart}
-use Rattle.tree_model.specs.State.Shape.{IsShaped, tree_counts}
-use Rattle.tree_model.specs.State.Values.{LeafValue, MachineValue}
-use Rattle.tree_model.specs.Turns.Machine.{machine_leaves}
-use Rattle.ddm_tree.specs.Reads.{counted_hart_of}
-use Rattle.ddm_tree.proofs.LeafList.{leaf-listed, leaf-number, leaves-counted}
+use Rattle.outcomes.specs.RvHart.HartState.{HartState}
+use Rattle.outcomes.specs.TreeModel.State.Blank.{no_hart}
+use Rattle.outcomes.specs.TreeModel.State.Shape.{IsShaped, tree_counts}
+use Rattle.outcomes.specs.TreeModel.State.Values.{LeafValue, MachineValue}
+use Rattle.outcomes.specs.TreeModel.Turns.Machine.{machine_leaves}
+use Rattle.outcomes.specs.DdmTree.Reads.{counted_hart_of}
+use Rattle.outcomes.proofs.DdmTree.LeafList.{leaf-listed, leaf-number, leaves-counted}
 use Rattle.outcome_model.specs.Halted.{all_halted}
 use Rattle.outcome_model.specs.Outcome.{HartEnd, end_of}
 use Rattle.outcome_model.proofs.Halted.{halted-ends}

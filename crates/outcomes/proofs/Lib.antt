@@ -1,3 +1,13 @@
+pub mod AnyRuns
+pub mod BusLaws
+pub mod DdmTree
+pub mod HeadlineCrate
+pub mod InspectorCrate
+pub mod OutcomeModel
+pub mod ReportCrate
+pub mod ScheduleLog
+pub mod StartParts
+pub mod TreeModel
 pub mod Lines
 pub mod Ends
 pub mod Blocks

@@ -6,8 +6,8 @@ use Rattle.std.specs.Cmp.Lexicographic.{pointwise}
 use Rattle.std.proofs.lemmas.List.FromFn.{length-map-range_with_len, map-range_with_len_more}
 use Rattle.std.proofs.lemmas.List.Elements.{All-from_recursion}
 use Rattle.std.proofs.lemmas.List.Sums.{count_by-le-length}
-use Rattle.tree_model.specs.State.Values.{MachineValue}
-use Rattle.text_model.specs.Schedule.{ShapeView}
+use Rattle.outcomes.specs.TreeModel.State.Values.{MachineValue}
+use Rattle.outcomes.specs.TextModel.Schedule.{ShapeView}
 use Rattle.outcome_model.specs.Outcome.{seed_outcome, seed_outcomes}
 use Rattle.outcome_model.specs.Table.{OutcomeLine, counted, tallied}
 use Rattle.outcome_model.specs.TableLaws.{IsLine}

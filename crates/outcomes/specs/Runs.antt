@@ -2,17 +2,17 @@
 -- Letters: s is a machine as the code has it.
 -- To be believed with the contracts: it says which machines the calls take.
 use Rattle.std.specs.Prelude.{◌≡◌, ℕ, ◌+◌, ◌<◌, ◌≤◌, List, [], All, length}
-use Rattle.ddm_types.specs.declared.turns.Turn.{Turn}
-use Rattle.tree_model.specs.State.Values.{MachineValue}
-use Rattle.tree_model.specs.State.Shape.{frame_of}
-use Rattle.text_model.specs.ReadBack.{IsTurnOf}
-use Rattle.text_model.specs.Schedule.{ShapeView}
-use Rattle.ddm_tree.specs.Machine.{MachineState}
-use Rattle.any_machine.specs.Any.{machine_state}
-use Rattle.any_machine.specs.Kind.{kind_of}
+use Rattle.outcomes.specs.DdmTypes.declared.turns.Turn.{Turn}
+use Rattle.outcomes.specs.TreeModel.State.Values.{MachineValue}
+use Rattle.outcomes.specs.TreeModel.State.Shape.{frame_of}
+use Rattle.outcomes.specs.TextModel.ReadBack.{IsTurnOf}
+use Rattle.outcomes.specs.TextModel.Schedule.{ShapeView}
+use Rattle.outcomes.specs.DdmTree.Machine.{MachineState}
+use Rattle.outcomes.specs.AnyMachine.Any.{machine_state}
+use Rattle.outcomes.specs.AnyMachine.Kind.{kind_of}
 use Rattle.any_runs.specs.Run.{NameParts}
 use Rattle.outcome_model.specs.Table.{OutcomeLine}
-use Rattle.any_machine.specs.declared.machine.AnyMachine.{AnyMachine}
+use Rattle.outcomes.specs.AnyMachine.declared.machine.AnyMachine.{AnyMachine}
 
 -- each turn of a schedule for this shape names a part of the machine
 abbrev pub HasShape : ShapeView → MachineValue → Type 0

@@ -4,7 +4,7 @@ ghost use Rattle.outcome_model.specs.Table.{counted, is_outcome};
 ghost use Rattle.outcomes.specs.Runs.{AreFew};
 
 use crate::line::OutcomeLine;
-use ddm_types::NoMemory;
+use crate::of_ddm_types::NoMemory;
 use std::alloc::Global;
 
 impl OutcomeLine {

@@ -1,12 +1,12 @@
 ghost use Rattle.std.specs.Prelude.{◌≡◌, ◌<◌, None, OnOk};
-ghost use Rattle.ddm_text.specs.Adds.{Adds};
-ghost use Rattle.any_machine.specs.Any.{machine_state, state_in};
+ghost use Rattle.outcomes.specs.DdmText.Adds.{Adds};
+ghost use Rattle.outcomes.specs.AnyMachine.Any.{machine_state, state_in};
 ghost use Rattle.outcome_model.specs.Halted.{all_halted};
 ghost use Rattle.outcome_model.specs.Outcome.{end_text, outcome_of};
 
-use any_machine::{AnyMachine, Machines};
-use ddm_types::{HaltCause, HartNo, NoMemory};
-use operation_list::Operations;
+use crate::of_any_machine::{AnyMachine, Machines};
+use crate::of_ddm_types::{HaltCause, HartNo, NoMemory};
+use crate::of_operation_list::Operations;
 use report::{push_bytes, push_number, push_output, push_state};
 
 fn have_halted<const WORDS: usize>(machine: &Machines<WORDS>) -> bool

@@ -5,6 +5,15 @@
 mod counting;
 mod ending;
 mod line;
+pub mod of_any_machine;
+pub mod of_ddm_outside;
+pub mod of_ddm_text;
+pub mod of_ddm_types;
+pub mod of_operation_list;
+pub mod of_report;
+pub mod of_schedule_log;
+pub mod of_text_model;
+pub mod of_tree_config;
 mod ordering;
 mod runs;
 mod text;

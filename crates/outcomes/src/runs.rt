@@ -1,8 +1,8 @@
 ghost use Rattle.std.specs.Prelude.{◌≡◌, ◌+◌, ◌≤◌, ◌^◌, ℕ, [], IfOk, OnErr, OnOk, length};
-ghost use Rattle.tree_model.specs.State.Shape.{frame_of};
-ghost use Rattle.tree_model.specs.Turns.Machine.{run_of};
-ghost use Rattle.any_machine.specs.Any.{machine_state};
-ghost use Rattle.any_machine.specs.Kind.{kind_of};
+ghost use Rattle.outcomes.specs.TreeModel.State.Shape.{frame_of};
+ghost use Rattle.outcomes.specs.TreeModel.Turns.Machine.{run_of};
+ghost use Rattle.outcomes.specs.AnyMachine.Any.{machine_state};
+ghost use Rattle.outcomes.specs.AnyMachine.Kind.{kind_of};
 ghost use Rattle.any_runs.specs.Run.{CanRun, NameParts};
 ghost use Rattle.schedule_log.specs.Shapes.{shape_view};
 ghost use Rattle.outcome_model.specs.Outcome.{outcome_of, seed_outcome};
@@ -13,13 +13,13 @@ ghost use Rattle.outcomes.specs.Runs.{AreFew, HasShape, IsStart, IsTwin, KeepsRo
 use crate::counting::count_outcome;
 use crate::ending::{all_halted, put_outcome};
 use crate::line::OutcomeLine;
+use crate::of_any_machine::AnyMachine;
+use crate::of_ddm_types::{BusNo, NoMemory, Turn};
+use crate::of_tree_config::Shape;
 use crate::ordering::in_order;
-use any_machine::AnyMachine;
 use any_runs::{copy_from, reserve, run_spared};
-use ddm_types::{BusNo, NoMemory, Turn};
 use schedule_log::SeededTurns;
 use std::alloc::Global;
-use tree_config::Shape;
 
 /// So many turns are made at a time; then it is asked whether all harts have halted.
 const BLOCK: usize = 64;

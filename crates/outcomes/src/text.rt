@@ -1,10 +1,10 @@
 ghost use Rattle.std.specs.Prelude.{◌≡◌, OnOk, flat_map};
-ghost use Rattle.ddm_text.specs.Adds.{Adds};
+ghost use Rattle.outcomes.specs.DdmText.Adds.{Adds};
 ghost use Rattle.outcome_model.specs.Table.{line_text, table_text};
 
 use crate::line::OutcomeLine;
-use ddm_text::push_decimal;
-use ddm_types::NoMemory;
+use crate::of_ddm_text::push_decimal;
+use crate::of_ddm_types::NoMemory;
 use report::push_bytes;
 
 // The line of an outcome.

@@ -1,0 +1,3 @@
+pub mod DdmTypes
+pub mod TreeModel
+pub mod Opened

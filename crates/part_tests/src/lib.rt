@@ -2,6 +2,14 @@
 #![tactic(auto)]
 
 #[cfg(test)]
+pub mod of_attraction_mem;
+pub mod of_ddm_types;
+pub mod of_directory;
+pub mod of_item_states;
+pub mod of_replacement;
+pub mod of_reservations;
+pub mod of_tree_model;
+pub mod of_tx_queue;
 mod with_attraction_mem;
 #[cfg(test)]
 mod with_code;

@@ -1,7 +1,7 @@
 ghost use Rattle.std.specs.Prelude.{◌≡◌};
 
-use attraction_mem::{AttractionMem, SetFull};
-use ddm_types::{ItemId, LeafState, Words};
+use crate::of_attraction_mem::{AttractionMem, SetFull};
+use crate::of_ddm_types::{ItemId, LeafState, Words};
 use std::test::Fail;
 
 type Small = AttractionMem<2, 2>;

@@ -1,4 +1,4 @@
-use ddm_types::{Code, CodePart};
+use crate::of_ddm_types::{Code, CodePart};
 use std::test::Fail;
 
 #[test]

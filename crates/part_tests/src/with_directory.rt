@@ -1,8 +1,10 @@
 ghost use Rattle.std.specs.Prelude.{◌<◌, ◌↔◌, IsTrue, length};
 
-use ddm_types::{BusNo, ChildNo, ItemId, NoMemory, PendingWhy, Stamp, TreeSizes, TxKind, Words};
-use directory::DirState;
-use item_states::Parent;
+use crate::of_ddm_types::{
+    BusNo, ChildNo, ItemId, NoMemory, PendingWhy, Stamp, TreeSizes, TxKind, Words,
+};
+use crate::of_directory::DirState;
+use crate::of_item_states::Parent;
 use std::alloc::Global;
 use std::test::Fail;
 

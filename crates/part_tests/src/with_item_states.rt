@@ -1,5 +1,5 @@
-use ddm_types::{ItemId, Stamp, TxKind, Words};
-use item_states::{DownEntry, Named};
+use crate::of_ddm_types::{ItemId, Stamp, TxKind, Words};
+use crate::of_item_states::{DownEntry, Named};
 
 fn named<T: Named>(entry: &T) -> u32 {
     entry.item().0

@@ -1,7 +1,7 @@
 ghost use Rattle.std.specs.Prelude.{◌≤◌, ◌^◌, All};
-ghost use Rattle.ddm_types.specs.ItemTable.{IsItemSize, span_end};
+ghost use Rattle.part_tests.specs.DdmTypes.ItemTable.{IsItemSize, span_end};
 
-use ddm_types::{ItemId, Items, MOST_ITEMS, NoMemory, Span, count_items};
+use crate::of_ddm_types::{ItemId, Items, MOST_ITEMS, NoMemory, Span, count_items};
 use std::alloc::Global;
 use std::test::Fail;
 

@@ -1,15 +1,15 @@
 ghost use Rattle.std.specs.Prelude.{◌≡◌, ◌<◌, true, IfOk};
-ghost use Rattle.tree_model.specs.State.Rooms.{leaf_within};
+ghost use Rattle.part_tests.specs.TreeModel.State.Rooms.{leaf_within};
 
-use ddm_types::{
+use crate::of_ddm_types::{
     Code, CodePart, Effect, ItemId, Items, Key, LeafNo, LeafState, MOST_ITEMS, NoMemory, Span,
     Stamp, Start, TreeSizes, TurnAnswer, TxKind, Words, count_items,
 };
-use item_states::Agent;
+use crate::of_item_states::Agent;
+use crate::of_tree_model::LeafSpot;
 use leaf_protocol::Leaf;
 use std::alloc::Global;
 use std::test::Fail;
-use tree_model::LeafSpot;
 
 const CODE: u32 = 0x10000;
 
@@ -46,7 +46,7 @@ fn code(alloc: Global) -> Result<Code, NoMemory> {
 }
 
 /// Three items of four words.
-#[tactic(auto, unfolding(ddm_types::specs::ItemTable::items_of))]
+#[tactic(auto, unfolding(crate::specs::Opened::items_of))]
 fn items(alloc: Global) -> Result<Items, NoMemory>
     ensures { IfOk result (λ items. items.size ≡ 16) }
 {

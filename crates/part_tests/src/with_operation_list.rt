@@ -1,4 +1,4 @@
-use ddm_types::{Effect, HartNo, Key, Op};
+use crate::of_ddm_types::{Effect, HartNo, Key, Op};
 use operation_list::Operations;
 use std::test::Fail;
 

@@ -1,5 +1,5 @@
-use ddm_types::{ItemId, LeafState, Words};
-use replacement::{Buffer, Full, Parking};
+use crate::of_ddm_types::{ItemId, LeafState, Words};
+use crate::of_replacement::{Buffer, Full, Parking};
 use std::process::Abort;
 use std::test::Fail;
 

@@ -1,5 +1,5 @@
-use ddm_types::ItemId;
-use reservations::Reservation;
+use crate::of_ddm_types::ItemId;
+use crate::of_reservations::Reservation;
 
 #[test]
 fn cleared_where_covered(rt: HostRuntime) {

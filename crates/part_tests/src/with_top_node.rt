@@ -1,5 +1,5 @@
-use ddm_types::{ChildNo, ItemId, PendingWhy, TxKind, Words};
-use item_states::{DownEntry, Parent, ParentList};
+use crate::of_ddm_types::{ChildNo, ItemId, PendingWhy, TxKind, Words};
+use crate::of_item_states::{DownEntry, Parent, ParentList};
 use std::test::Fail;
 use top_node::TopState;
 

@@ -1,8 +1,8 @@
-use ddm_types::{ItemId, Stamp, TxKind, Words};
-use item_states::DownEntry;
+use crate::of_ddm_types::{ItemId, Stamp, TxKind, Words};
+use crate::of_item_states::DownEntry;
+use crate::of_tx_queue::Queue;
 use std::process::Abort;
 use std::test::Fail;
-use tx_queue::Queue;
 
 fn check_first(rt: &impl Abort, queue: &Queue<(TxKind, ItemId)>, kind: TxKind, item: u32) {
     let first = queue.first().expect(rt, "a first entry");

@@ -1,24 +1,24 @@
 -- A turn that does nothing leaves the machine as it is.
 -- Letters: t is a turn, m a machine, a an answer, n and k nodes, w where a node stands, v a leaf, d a directory over the children ns.
 use Rattle.std.proofs.Common.{◌≡◌, ℕ, ◌+◌, Bool, true, false, List, Option, Some, None, is_some, option_map, refl, sym, ap, subst, ◌∙◌, if◌then◌else◌}
-use Rattle.ddm_types.specs.declared.operations.HaltCause.{HaltCause}
-use Rattle.ddm_types.specs.declared.answers.TurnAnswer.{TurnAnswer}
-use Rattle.ddm_types.specs.declared.keys.Key.{Key}
-use Rattle.ddm_types.specs.declared.turns.Turn.{Turn}
-use Rattle.flat_model.specs.Hart.{HartValue}
-use Rattle.tree_model.specs.State.Blank.{no_hart}
-use Rattle.tree_model.specs.State.Values.{LeafValue, DirValue, Node, Nodes, leaf_node, dir_node, no_nodes, more_nodes, nodes, children, MachineValue, root_of}
-use Rattle.tree_model.specs.State.Place.{Where, at_top, at_child, spot_in, where_path, stamp_above, key_at_leaf}
-use Rattle.tree_model.specs.Turns.Bus.{bus_step, bus_judged}
-use Rattle.tree_model.specs.Turns.Grant.{Judged, nothing_there, refused, granted, bus_answer, parent_after, kids_after}
-use Rattle.tree_model.specs.Turns.HartTurn.{Deed, has_halted, waits_for, halts, completes, fetches, upgrades, finds_buffer_full, answer_of_deed, deed_of, deed_unless_halted, leaf_after_deed, leaf_step}
-use Rattle.tree_model.specs.Turns.Machine.{named_by, answer_here, node_after, bus_turn_of, victim_of, turn_answer, turn_root, with_root, recorded, turn_of, hart_of}
-use Rattle.tree_model.specs.Turns.Tree.{Name, is_named, has_node, of_leaf, read_in, read_among}
-use Rattle.tree_model.specs.Laws.{ReadAndChanged}
-use Rattle.tree_model.proofs.Changed.{changed-keeps}
-use Rattle.tree_model.proofs.Children.{nodes-children}
-use Rattle.tree_model.proofs.NamedNode.{turned}
-use Rattle.tree_model.proofs.TurnChanges.{turn-answered, turn-unanswered}
+use Rattle.recording_model.specs.DdmTypes.declared.operations.HaltCause.{HaltCause}
+use Rattle.recording_model.specs.DdmTypes.declared.answers.TurnAnswer.{TurnAnswer}
+use Rattle.recording_model.specs.DdmTypes.declared.keys.Key.{Key}
+use Rattle.recording_model.specs.DdmTypes.declared.turns.Turn.{Turn}
+use Rattle.recording_model.specs.FlatModel.Hart.{HartValue}
+use Rattle.recording_model.specs.TreeModel.State.Blank.{no_hart}
+use Rattle.recording_model.specs.TreeModel.State.Values.{LeafValue, DirValue, Node, Nodes, leaf_node, dir_node, no_nodes, more_nodes, nodes, children, MachineValue, root_of}
+use Rattle.recording_model.specs.TreeModel.State.Place.{Where, at_top, at_child, spot_in, where_path, stamp_above, key_at_leaf}
+use Rattle.recording_model.specs.TreeModel.Turns.Bus.{bus_step, bus_judged}
+use Rattle.recording_model.specs.TreeModel.Turns.Grant.{Judged, nothing_there, refused, granted, bus_answer, parent_after, kids_after}
+use Rattle.recording_model.specs.TreeModel.Turns.HartTurn.{Deed, has_halted, waits_for, halts, completes, fetches, upgrades, finds_buffer_full, answer_of_deed, deed_of, deed_unless_halted, leaf_after_deed, leaf_step}
+use Rattle.recording_model.specs.TreeModel.Turns.Machine.{named_by, answer_here, node_after, bus_turn_of, victim_of, turn_answer, turn_root, with_root, recorded, turn_of, hart_of}
+use Rattle.recording_model.specs.TreeModel.Turns.Tree.{Name, is_named, has_node, of_leaf, read_in, read_among}
+use Rattle.recording_model.specs.TreeModel.Laws.{ReadAndChanged}
+use Rattle.recording_model.proofs.TreeModel.Changed.{changed-keeps}
+use Rattle.recording_model.proofs.TreeModel.Children.{nodes-children}
+use Rattle.recording_model.proofs.TreeModel.NamedNode.{turned}
+use Rattle.recording_model.proofs.TreeModel.TurnChanges.{turn-answered, turn-unanswered}
 use Rattle.recording_model.specs.Doing.{does_by, does_something, had_halted, is_halted}
 
 -- ---- two things that are read of one node

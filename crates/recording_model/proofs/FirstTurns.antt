@@ -5,10 +5,10 @@ use Rattle.std.proofs.Common.{◌≡◌, ◌≤◌, ℕ, zero, suc, ◌+◌, ◌
 use Rattle.std.proofs.lemmas.List.{map-append}
 use Rattle.rand_pcg.specs.Lcg.{Lcg}
 use Rattle.rand_pcg.specs.Pcg.{pcg32}
-use Rattle.ddm_types.specs.declared.turns.Turn.{Turn}
-use Rattle.tree_model.specs.State.Values.{MachineValue}
-use Rattle.text_model.specs.Schedule.{ShapeView}
-use Rattle.text_model.specs.Seeded.{seeded_generator, seeded_turn, seeded_turns, turns_of_words, words_of}
+use Rattle.recording_model.specs.DdmTypes.declared.turns.Turn.{Turn}
+use Rattle.recording_model.specs.TreeModel.State.Values.{MachineValue}
+use Rattle.recording_model.specs.TextModel.Schedule.{ShapeView}
+use Rattle.recording_model.specs.TextModel.Seeded.{seeded_generator, seeded_turn, seeded_turns, turns_of_words, words_of}
 use Rattle.recording_model.specs.declared.RunEnd.{RunEnd}
 use Rattle.recording_model.specs.declared.SeedKind.{SeedKind}
 use Rattle.recording_model.specs.LetBy.{Draw, draws_of, even_draw, let_by_rate, rate_of, seed_draws, skew_of, skewed_draws}

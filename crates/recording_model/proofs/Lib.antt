@@ -1,3 +1,5 @@
+pub mod TextModel
+pub mod TreeModel
 pub mod Doing
 pub mod Recordings
 pub mod FirstTurns

@@ -4,16 +4,16 @@ use Rattle.std.proofs.Common.{◌≡◌, ◌⊎◌, ◌≤◌, ◌<◌, ℕ, ◌
 use Rattle.std.specs.List.{AllByRecursion}
 use Rattle.std.proofs.lemmas.Bool.{eqb-false, eqb-true}
 use Rattle.std.proofs.lemmas.List.Elements.{All-cons, All-nil, All-head, All-tail}
-use Rattle.ddm_types.specs.declared.answers.TurnAnswer.{TurnAnswer}
-use Rattle.ddm_types.specs.declared.turns.Turn.{Turn}
-use Rattle.tree_model.specs.State.Values.{MachineValue}
-use Rattle.tree_model.specs.Turns.Machine.{run_of, turn_of}
-use Rattle.text_model.specs.declared.RunCounts.{RunCounts}
-use Rattle.text_model.specs.ReadBack.{IsSmallShape, IsTurnOf}
-use Rattle.text_model.specs.Report.{report_of}
-use Rattle.text_model.specs.Run.{counted_answer, counts_of, report_text_of, view_of}
-use Rattle.text_model.specs.Schedule.{ShapeView}
-use Rattle.text_model.proofs.ReadBack.{schedule_of-schedule_text}
+use Rattle.recording_model.specs.DdmTypes.declared.answers.TurnAnswer.{TurnAnswer}
+use Rattle.recording_model.specs.DdmTypes.declared.turns.Turn.{Turn}
+use Rattle.recording_model.specs.TreeModel.State.Values.{MachineValue}
+use Rattle.recording_model.specs.TreeModel.Turns.Machine.{run_of, turn_of}
+use Rattle.recording_model.specs.TextModel.declared.RunCounts.{RunCounts}
+use Rattle.recording_model.specs.TextModel.ReadBack.{IsSmallShape, IsTurnOf}
+use Rattle.recording_model.specs.TextModel.Report.{report_of}
+use Rattle.recording_model.specs.TextModel.Run.{counted_answer, counts_of, report_text_of, view_of}
+use Rattle.recording_model.specs.TextModel.Schedule.{ShapeView}
+use Rattle.recording_model.proofs.TextModel.ReadBack.{schedule_of-schedule_text}
 use Rattle.outcome_model.specs.Halted.{all_halted}
 use Rattle.recording_model.specs.declared.RunEnd.{RunEnd}
 use Rattle.recording_model.specs.Doing.{does_by, does_something, had_halted}

@@ -2,11 +2,11 @@
 -- Letters: t is a turn, m a machine.
 -- To be believed: it is what is recorded of a run.
 use Rattle.std.specs.Prelude.{Bool, true, false, not, Option, Some, None, is_some}
-use Rattle.ddm_types.specs.declared.answers.TurnAnswer.{TurnAnswer}
-use Rattle.ddm_types.specs.declared.turns.Turn.{Turn}
-use Rattle.flat_model.specs.Hart.{HartValue}
-use Rattle.tree_model.specs.State.Values.{MachineValue}
-use Rattle.tree_model.specs.Turns.Machine.{hart_of, turn_of}
+use Rattle.recording_model.specs.DdmTypes.declared.answers.TurnAnswer.{TurnAnswer}
+use Rattle.recording_model.specs.DdmTypes.declared.turns.Turn.{Turn}
+use Rattle.recording_model.specs.FlatModel.Hart.{HartValue}
+use Rattle.recording_model.specs.TreeModel.State.Values.{MachineValue}
+use Rattle.recording_model.specs.TreeModel.Turns.Machine.{hart_of, turn_of}
 
 abbrev pub is_halted : Option HartValue → Bool
 is_halted None = false

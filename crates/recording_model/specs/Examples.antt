@@ -1,10 +1,10 @@
 -- Worked examples: what is recorded of seeds of small trees whose harts load a word of the first item and exit with it. The expected
 -- values are those of an independent program.
 use Rattle.std.specs.Prelude.{◌≡◌, ℕ, List, [], ◌∷◌, codes, length}
-use Rattle.tree_model.specs.State.Values.{MachineValue}
-use Rattle.tree_model.specs.Start.Machine.{start_machine}
-use Rattle.tree_model.specs.Start.Sources.{TreeValue, bus_widths, leaf_count}
-use Rattle.text_model.specs.Schedule.{ShapeView, schedule_text}
+use Rattle.recording_model.specs.TreeModel.State.Values.{MachineValue}
+use Rattle.recording_model.specs.TreeModel.Start.Machine.{start_machine}
+use Rattle.recording_model.specs.TreeModel.Start.Sources.{TreeValue, bus_widths, leaf_count}
+use Rattle.recording_model.specs.TextModel.Schedule.{ShapeView, schedule_text}
 use Rattle.outcome_model.specs.Examples.{program, tree_with}
 use Rattle.recording_model.specs.declared.RunEnd.{RunEnd}
 use Rattle.recording_model.specs.declared.SeedKind.{SeedKind}

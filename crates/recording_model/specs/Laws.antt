@@ -3,13 +3,13 @@
 -- To be believed: it is what is claimed of them.
 use Rattle.std.specs.Prelude.{◌≡◌, ◌⊎◌, ◌≤◌, ◌<◌, ℕ, true, false, List, ◌++◌, All, length, take}
 use Rattle.std.specs.List.{AllByRecursion}
-use Rattle.ddm_types.specs.declared.turns.Turn.{Turn}
-use Rattle.tree_model.specs.State.Values.{MachineValue}
-use Rattle.tree_model.specs.Turns.Machine.{run_of, turn_of}
-use Rattle.text_model.specs.ReadBack.{IsReadBack, IsSmallShape, IsTurnOf}
-use Rattle.text_model.specs.Report.{report_of}
-use Rattle.text_model.specs.Run.{counts_of, report_text_of, view_of}
-use Rattle.text_model.specs.Schedule.{ShapeView}
+use Rattle.recording_model.specs.DdmTypes.declared.turns.Turn.{Turn}
+use Rattle.recording_model.specs.TreeModel.State.Values.{MachineValue}
+use Rattle.recording_model.specs.TreeModel.Turns.Machine.{run_of, turn_of}
+use Rattle.recording_model.specs.TextModel.ReadBack.{IsReadBack, IsSmallShape, IsTurnOf}
+use Rattle.recording_model.specs.TextModel.Report.{report_of}
+use Rattle.recording_model.specs.TextModel.Run.{counts_of, report_text_of, view_of}
+use Rattle.recording_model.specs.TextModel.Schedule.{ShapeView}
 use Rattle.outcome_model.specs.Halted.{all_halted}
 use Rattle.recording_model.specs.declared.RunEnd.{RunEnd}
 use Rattle.recording_model.specs.declared.SeedKind.{SeedKind}

@@ -4,9 +4,9 @@
 use Rattle.std.specs.Prelude.{ℕ, zero, suc, ◌+◌, ◌*◌, ◌%◌, ◌^◌, Bool, true, nat_eq, List, [], ◌∷◌, length, map, sum_by, take, slice_index_or}
 use Rattle.rand_pcg.specs.Lcg.{Lcg, started, increment_of}
 use Rattle.rand_pcg.specs.Pcg.{pcg32, multiplier_64}
-use Rattle.ddm_types.specs.declared.turns.Turn.{Turn}
-use Rattle.text_model.specs.Schedule.{ShapeView}
-use Rattle.text_model.specs.Seeded.{seeded_turns}
+use Rattle.recording_model.specs.DdmTypes.declared.turns.Turn.{Turn}
+use Rattle.recording_model.specs.TextModel.Schedule.{ShapeView}
+use Rattle.recording_model.specs.TextModel.Seeded.{seeded_turns}
 use Rattle.recording_model.specs.declared.SeedKind.{SeedKind}
 
 -- a drawn turn, and whether it is let by

@@ -1,3 +1,7 @@
+pub mod DdmTypes
+pub mod FlatModel
+pub mod TextModel
+pub mod TreeModel
 pub mod Doing
 pub mod LetBy
 pub mod Recording

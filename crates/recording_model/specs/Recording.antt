@@ -2,10 +2,10 @@
 -- Letters: d is a drawn turn, m a machine.
 -- To be believed: it is what is recorded of a run.
 use Rattle.std.specs.Prelude.{ℕ, ◌+◌, ◌-◌, Bool, ◌&&◌, nat_eq, List, [], ◌∷◌, filter, map, Option, Some, None, if◌then◌else◌}
-use Rattle.ddm_types.specs.declared.turns.Turn.{Turn}
-use Rattle.tree_model.specs.State.Values.{MachineValue}
-use Rattle.tree_model.specs.Turns.Machine.{turn_of}
-use Rattle.text_model.specs.Schedule.{ShapeView, schedule_text}
+use Rattle.recording_model.specs.DdmTypes.declared.turns.Turn.{Turn}
+use Rattle.recording_model.specs.TreeModel.State.Values.{MachineValue}
+use Rattle.recording_model.specs.TreeModel.Turns.Machine.{turn_of}
+use Rattle.recording_model.specs.TextModel.Schedule.{ShapeView, schedule_text}
 use Rattle.outcome_model.specs.Halted.{all_halted}
 use Rattle.recording_model.specs.declared.RunEnd.{RunEnd}
 use Rattle.recording_model.specs.declared.SeedKind.{SeedKind}

@@ -1,7 +1,7 @@
 -- A read into the front of a buffer is a read into the buffer.
 use Rattle.std.proofs.Common.{◌≡◌, ℕ, ◌≤◌, List, ◌++◌, length, take, drop}
 use Rattle.std.proofs.lemmas.List.{take-append-le}
-use Rattle.ddm_outside.specs.Telling.{ReadsPart}
+use Rattle.refusal_rows.specs.DdmOutside.Telling.{ReadsPart}
 
 pub front_part : (file front rest : List ℕ) (at n : ℕ) → n ≤ length front
     → ReadsPart file at n front → ReadsPart file at n (front ++ rest)

@@ -1,8 +1,8 @@
 //! Files that come a byte at a time: what is put out is the same.
 
+use crate::of_ddm_outside::{Failed, MemoryShelf, Shelf};
 use asked_commands::answers::{ask_with, output, shelf, sink};
 use asked_commands::files::{Files, load_and_exit, schedule, tree};
-use ddm_outside::{Failed, MemoryShelf, Shelf};
 use std::test::Fail;
 
 /// A shelf that gives one byte of a file in a read.
@@ -12,7 +12,7 @@ struct OneByteShelf {
 }
 
 impl Shelf for OneByteShelf {
-    ghost use Rattle.ddm_outside.specs.MemoryShelf.{told_of, count_of};
+    ghost use Rattle.refusal_rows.specs.DdmOutside.MemoryShelf.{told_of, count_of};
 
     ghost told = { λ one. told_of one.shelf };
 

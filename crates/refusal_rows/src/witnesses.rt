@@ -1,9 +1,9 @@
 //! Witnesses that are judged by the flat machine alone.
 ghost use Rattle.std.specs.Prelude.{◌≡◌, All, IfOk};
 
+use crate::of_ddm_outside::{MemoryShelf, NamedFile};
 use asked_commands::answers::{Answer, ask_with, named, sink};
 use asked_commands::files::{one_leaf, store_and_load, text_of};
-use ddm_outside::{MemoryShelf, NamedFile};
 use std::alloc::Global;
 use std::test::Fail;
 

@@ -2,8 +2,8 @@
 use Rattle.std.proofs.Common.{◌≡◌, refl, ℕ, ◌<◌, Bool, true, false, cond, ◌||◌, List, [], ◌∷◌, ◌++◌, Some, None}
 use Rattle.std.specs.List.{All, find, list_any}
 use Rattle.std.proofs.lemmas.List.Elements.{All-push}
-use Rattle.tree_model.specs.State.Values.{CopyValue}
-use Rattle.tree_model.specs.State.Leaf.{is_copy}
+use Rattle.replacement.specs.TreeModel.State.Values.{CopyValue}
+use Rattle.replacement.specs.TreeModel.State.Leaf.{is_copy}
 
 module _ {X : Type 0} (p : X → Bool) where
   some-found : (xs : List X) (x : X) → find p xs ≡ Some x → list_any p xs ≡ true

@@ -3,7 +3,7 @@ use Rattle.std.proofs.Common.{◌≡◌, ◌∙◌, ap, ℕ, ◌<◌, ◌%◌, L
 use Rattle.std.specs.Option.{option_map}
 use Rattle.std.specs.List.{slice_get}
 use Rattle.std.proofs.lemmas.Option.{slice_get_read}
-use Rattle.tree_model.specs.State.Lists.{chosen}
+use Rattle.replacement.specs.TreeModel.State.Lists.{chosen}
 
 pub chosen_none : {X : Type 0} (named : X → ℕ) (choice : ℕ) (xs : List X) → length xs ≡ 0 → chosen named choice xs ≡ None
 chosen_none named choice [] e = refl

@@ -1,8 +1,8 @@
 -- The first entry of an item, where no item stands twice: it is the only one.
 use Rattle.std.proofs.Common.{◌≡◌, ◌∙◌, ap, sym, refl, ℕ, ◌+◌, ◌<◌, ◌≤◌, Bool, true, false, cond, not, ◌||◌, nat_eq, nat_lt, List, [], ◌∷◌, map, length, get_or, set, remove, Some, None, position, filter, arith, one-add, eqb-true, ltb-true, ltb-false}
 use Rattle.std.specs.List.{list_any, position_or_len}
-use Rattle.tree_model.specs.State.Shape.{are_distinct}
-use Rattle.tree_model.specs.State.Lists.{names_item}
+use Rattle.replacement.specs.TreeModel.State.Shape.{are_distinct}
+use Rattle.replacement.specs.TreeModel.State.Lists.{names_item}
 use Rattle.std.proofs.lemmas.Option.{cond_some}
 use Rattle.replacement.proofs.Finds.{test_of_none}
 use Rattle.replacement.proofs.Once.{left, right, first_fails, rest_fails}

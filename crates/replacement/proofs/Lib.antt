@@ -1,3 +1,5 @@
+pub mod StateReading
+pub mod StateWords
 pub mod Absent
 pub mod Chosen
 pub mod Finds

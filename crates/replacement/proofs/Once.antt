@@ -4,12 +4,12 @@ use Rattle.std.specs.List.{find, filter, list_any}
 use lib.ListN.{length-map}
 use Rattle.std.proofs.lemmas.List.Sums.{length-filter, count_by-le-length}
 use Rattle.std.proofs.lemmas.Bool.Decides.{nat_tests}
-use Rattle.tree_model.specs.State.Shape.{are_distinct}
-use Rattle.tree_model.specs.State.Leaf.{buffer_item}
-use Rattle.ddm_types.specs.declared.sizes.LeafState.{LeafState}
-use Rattle.tree_model.specs.State.Leaf.{is_buffered}
-use Rattle.tree_model.specs.State.Values.{BufferValue}
-use Rattle.tree_model.specs.State.Lists.{names_item}
+use Rattle.replacement.specs.TreeModel.State.Shape.{are_distinct}
+use Rattle.replacement.specs.TreeModel.State.Leaf.{buffer_item}
+use Rattle.replacement.specs.DdmTypes.declared.sizes.LeafState.{LeafState}
+use Rattle.replacement.specs.TreeModel.State.Leaf.{is_buffered}
+use Rattle.replacement.specs.TreeModel.State.Values.{BufferValue}
+use Rattle.replacement.specs.TreeModel.State.Lists.{names_item}
 use Rattle.replacement.specs.Arrived.{with_state, with_words, IsHeld}
 use Rattle.replacement.specs.Places.{ArrivedList}
 

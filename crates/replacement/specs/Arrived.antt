@@ -1,9 +1,9 @@
 -- Lists in order of arrival: what a buffer and a parking are seen as, and what their calls give.
 use Rattle.std.specs.Prelude.{◌≡◌, ℕ, ◌^◌, ◌<◌, ◌≤◌, true, List, if◌then◌else◌}
-use Rattle.ddm_types.specs.declared.sizes.LeafState.{LeafState}
-use Rattle.tree_model.specs.State.Values.{BufferValue, CopyValue}
-use Rattle.tree_model.specs.State.Leaf.{is_buffered}
-use Rattle.tree_model.specs.State.Shape.{are_distinct}
+use Rattle.replacement.specs.DdmTypes.declared.sizes.LeafState.{LeafState}
+use Rattle.replacement.specs.TreeModel.State.Values.{BufferValue, CopyValue}
+use Rattle.replacement.specs.TreeModel.State.Leaf.{is_buffered}
+use Rattle.replacement.specs.TreeModel.State.Shape.{are_distinct}
 
 -- the entries of a buffer in order of arrival, and how many there may be
 pub record BufferList : Type 0 where

@@ -1,10 +1,10 @@
 ghost use Rattle.std.specs.Prelude.{◌≡◌, ℕ, ◌+◌, ◌<◌, ◌≤◌, ◌++◌, ◌∷◌, [], true, not, length, map, filter, find, position, remove, option_map, nat_le, nat_lt, slice_get, slice_index_or, slice_set, if◌then◌else◌, IfOk, IfSome, vec_capacity, vec_len};
-ghost use Rattle.tree_model.specs.State.Shape.{are_distinct};
-ghost use Rattle.tree_model.specs.State.Lists.{names_item};
+ghost use Rattle.replacement.specs.TreeModel.State.Shape.{are_distinct};
+ghost use Rattle.replacement.specs.TreeModel.State.Lists.{names_item};
 ghost use Rattle.replacement.specs.Places.{times};
 
-use ddm_types::{ItemId, NoMemory};
-use item_states::Named;
+use crate::of_ddm_types::{ItemId, NoMemory};
+use crate::of_item_states::Named;
 use std::alloc::Global;
 use std::marker::Model;
 

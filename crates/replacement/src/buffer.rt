@@ -1,15 +1,15 @@
 ghost use Rattle.std.specs.Prelude.{◌≡◌, ◌<◌, ◌↔◌, ◌^◌, None, true, if◌then◌else◌, ◌++◌, ◌∷◌, [], length, filter, find, map, not, nat_le, position, option_map, slice_get, IfOk, IsErr, IsSome, OnErr, OnOk, is_err};
-ghost use Rattle.tree_model.specs.State.Leaf.{is_buffered};
-ghost use Rattle.tree_model.specs.State.Shape.{are_distinct};
-ghost use Rattle.tree_model.specs.State.Leaf.{buffer_item};
-ghost use Rattle.tree_model.specs.State.States.{may_leave};
-ghost use Rattle.tree_model.specs.State.Lists.{chosen};
+ghost use Rattle.replacement.specs.TreeModel.State.Leaf.{is_buffered};
+ghost use Rattle.replacement.specs.TreeModel.State.Shape.{are_distinct};
+ghost use Rattle.replacement.specs.TreeModel.State.Leaf.{buffer_item};
+ghost use Rattle.replacement.specs.TreeModel.State.States.{may_leave};
+ghost use Rattle.replacement.specs.TreeModel.State.Lists.{chosen};
 ghost use Rattle.replacement.specs.Arrived.{with_state, with_words};
 
 use crate::Full;
 use crate::arrivals::Arrivals;
 use crate::entries::BufferEntry;
-use ddm_types::{ItemId, LeafState, NoMemory, Words};
+use crate::of_ddm_types::{ItemId, LeafState, NoMemory, Words};
 use std::alloc::Global;
 use std::marker::Model;
 
@@ -21,7 +21,7 @@ pub struct Buffer<const WORDS: usize> {
 
 impl<const WORDS: usize> Model for Buffer<WORDS> {
     ghost use Rattle.std.specs.Prelude.{length, map};
-    ghost use Rattle.tree_model.specs.State.Leaf.{buffer_item};
+    ghost use Rattle.replacement.specs.TreeModel.State.Leaf.{buffer_item};
     ghost use Rattle.replacement.specs.Arrived.{BufferList, IsHeld};
 
     ghost Value = { BufferList };

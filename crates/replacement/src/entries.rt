@@ -1,9 +1,9 @@
 ghost use Rattle.std.specs.Prelude.{◌≡◌, replicate};
-ghost use Rattle.ddm_types.specs.declared.sizes.LeafState.{LeafState};
+ghost use Rattle.replacement.specs.DdmTypes.declared.sizes.LeafState.{LeafState};
 ghost use Rattle.replacement.specs.Arrived.{with_state, with_words};
 
-use ddm_types::{ItemId, LeafState, Words};
-use item_states::Named;
+use crate::of_ddm_types::{ItemId, LeafState, Words};
+use crate::of_item_states::Named;
 use std::marker::Model;
 
 /// An entry that was moved to the buffer.
@@ -15,7 +15,7 @@ pub(crate) struct BufferEntry<const WORDS: usize> {
 }
 
 impl<const WORDS: usize> Model for BufferEntry<WORDS> {
-    ghost use Rattle.tree_model.specs.State.Values.{BufferValue};
+    ghost use Rattle.replacement.specs.TreeModel.State.Values.{BufferValue};
 
     ghost Value = { BufferValue };
 
@@ -83,7 +83,7 @@ pub(crate) struct ParkedCopy<const WORDS: usize> {
 }
 
 impl<const WORDS: usize> Model for ParkedCopy<WORDS> {
-    ghost use Rattle.tree_model.specs.State.Values.{CopyValue};
+    ghost use Rattle.replacement.specs.TreeModel.State.Values.{CopyValue};
 
     ghost Value = { CopyValue };
 

@@ -5,6 +5,10 @@
 mod arrivals;
 mod buffer;
 mod entries;
+pub mod of_ddm_types;
+pub mod of_item_states;
+pub mod of_state_reading;
+pub mod of_state_words;
 mod parking;
 mod reading;
 mod writing;

@@ -1,13 +1,13 @@
 ghost use Rattle.std.specs.Prelude.{◌≡◌, ◌+◌, ◌-◌, ◌^◌, ◌<◌, ◌≤◌, ◌↔◌, ◌++◌, ◌∷◌, [], None, true, length, map, filter, find, not, nat_le, position, option_map, slice_get, IfOk, IsErr, OnErr, OnOk, is_err};
-ghost use Rattle.tree_model.specs.State.Leaf.{is_copy};
-ghost use Rattle.tree_model.specs.State.Shape.{are_distinct};
-ghost use Rattle.tree_model.specs.State.Leaf.{copy_item};
-ghost use Rattle.tree_model.specs.State.Lists.{chosen};
+ghost use Rattle.replacement.specs.TreeModel.State.Leaf.{is_copy};
+ghost use Rattle.replacement.specs.TreeModel.State.Shape.{are_distinct};
+ghost use Rattle.replacement.specs.TreeModel.State.Leaf.{copy_item};
+ghost use Rattle.replacement.specs.TreeModel.State.Lists.{chosen};
 
 use crate::Full;
 use crate::arrivals::Arrivals;
 use crate::entries::ParkedCopy;
-use ddm_types::{ItemId, NoMemory, Words};
+use crate::of_ddm_types::{ItemId, NoMemory, Words};
 use std::alloc::Global;
 use std::marker::Model;
 
@@ -21,7 +21,7 @@ pub struct Parking<const WORDS: usize> {
 
 impl<const WORDS: usize> Model for Parking<WORDS> {
     ghost use Rattle.std.specs.Prelude.{◌+◌, length, map};
-    ghost use Rattle.tree_model.specs.State.Leaf.{copy_item};
+    ghost use Rattle.replacement.specs.TreeModel.State.Leaf.{copy_item};
     ghost use Rattle.replacement.specs.Arrived.{IsHeld, ParkingList};
 
     ghost Value = { ParkingList };

@@ -1,12 +1,12 @@
 ghost use Rattle.std.specs.Prelude.{◌≡◌, ◌+◌, ◌<◌, ◌≤◌, ◌^◌, ◌&&◌, false, not, nat_lt, Ok, Err, drop, length, IfErr, IfOk, OnOk};
 ghost use Rattle.std.specs.List.{All, list_any};
-ghost use Rattle.tree_model.specs.State.Leaf.{is_copy};
+ghost use Rattle.replacement.specs.TreeModel.State.Leaf.{is_copy};
 ghost use Rattle.state_reading.specs.Gives.{Gives};
 ghost use Rattle.state_reading.specs.Reading.{word_that};
 ghost use Rattle.state_reading.specs.Parts.{listed, read_copy};
 
+use crate::of_ddm_types::{ItemId, Words};
 use crate::parking::Parking;
-use ddm_types::{ItemId, Words};
 use state_reading::{StateRefusal, item_words, keep, look, word_to};
 
 impl<const WORDS: usize> Parking<WORDS> {

@@ -1,14 +1,14 @@
 ghost use Rattle.std.specs.Prelude.{◌<◌, ◌^◌, length, OnErr, OnOk};
-ghost use Rattle.ddm_text.specs.Adds.{Adds};
-ghost use Rattle.state_words.specs.Begins.{Begins};
-ghost use Rattle.state_words.specs.Parts.{buffer_words, counted, item_and_words};
+ghost use Rattle.replacement.specs.DdmText.Adds.{Adds};
+ghost use Rattle.replacement.specs.StateWords.Begins.{Begins};
+ghost use Rattle.replacement.specs.StateWords.Parts.{buffer_words, counted, item_and_words};
 
 use crate::arrivals::Arrivals;
 use crate::buffer::Buffer;
 use crate::entries::{BufferEntry, ParkedCopy};
+use crate::of_ddm_types::NoMemory;
+use crate::of_state_words::{Spelled, push_words, state_number};
 use crate::parking::Parking;
-use ddm_types::NoMemory;
-use state_words::{Spelled, push_words, state_number};
 
 impl<const WORDS: usize> Spelled for BufferEntry<WORDS> {
     ghost words = { buffer_words };

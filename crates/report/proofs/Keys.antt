@@ -2,7 +2,7 @@
 use Rattle.std.proofs.Common.{◌≡◌, ℕ, List, [], ◌++◌, take, refl, decimal, append_assoc}
 use Rattle.std.specs.Prelude.{codes}
 use Rattle.std.proofs.lemmas.List.{append-nil}
-use Rattle.ddm_types.specs.declared.keys.Key.{Key}
+use Rattle.report.specs.DdmTypes.declared.keys.Key.{Key}
 use Rattle.text_model.specs.Report.{level_numbers, number_stops}
 
 -- the two numbers of a level

@@ -3,7 +3,7 @@
 use Rattle.std.proofs.Common.{◌≡◌, ◌<◌, ◌≤◌, ℕ, suc, ◌+◌, ◌-◌, List, [], ◌∷◌, ◌++◌, length, map, take, drop, get_or, set, replicate, Option, Some, None, refl, sym, ap, subst, ◌∙◌, add-zero, arith, append_assoc}
 use Rattle.std.proofs.Math.Seq.{set-append_seam, take-append_seam}
 use Rattle.std.proofs.lemmas.List.{append-nil, drop-take, length-map, length-take, length-take-le, map-append, take_all, take_more}
-use Rattle.ddm_types.specs.declared.sizes.LeafState.{LeafState}
+use Rattle.report.specs.DdmTypes.declared.sizes.LeafState.{LeafState}
 use Rattle.text_model.specs.Report.{letter_text, letter_texts}
 
 abbrev pub letter_code : Option LeafState → ℕ

@@ -1,3 +1,7 @@
+pub mod DdmTree
+pub mod InspectorCrate
+pub mod OrderLists
+pub mod TreeModel
 pub mod Decimals
 pub mod Keys
 pub mod Letters

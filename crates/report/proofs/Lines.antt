@@ -4,7 +4,7 @@ use Rattle.std.specs.Prelude.{codes, nat_eq, if◌then◌else◌}
 use Rattle.std.specs.List.{flat_map}
 use Rattle.std.proofs.lemmas.List.{append-nil, at_drop_more, drop_all, take-append-drop}
 use Rattle.std.proofs.lemmas.Grind.{flat_map-append}
-use Rattle.ddm_types.specs.declared.operations.Op.{Op}
+use Rattle.report.specs.DdmTypes.declared.operations.Op.{Op}
 use Rattle.text_model.specs.Report.{ItemView, item_line, letter_texts, or_dash, put_text, put_text_by, put_texts}
 use Rattle.report.specs.LineParts.{any_byte, are_silent, dash_behind, item_front}
 

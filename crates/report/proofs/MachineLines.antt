@@ -3,22 +3,22 @@ use Rattle.std.proofs.Common.{◌≡◌, ◌<◌, ◌≤◌, ℕ, zero, suc, ◌
 use Rattle.std.specs.Prelude.{slice_get, nat_le, nat_eq}
 use Rattle.std.proofs.lemmas.Bool.{eqb-true, leb-true}
 use Rattle.std.proofs.lemmas.List.{append-nil, append_assoc, length-take-le, length-map}
-use Rattle.ddm_types.specs.declared.sizes.LeafState.{LeafState}
-use Rattle.ddm_types.specs.ItemTable.{ItemRow, no_row}
-use Rattle.rv_hart.specs.HartState.{HartState}
-use Rattle.tree_model.specs.declared.Traffic.{Traffic}
-use Rattle.tree_model.specs.State.Values.{LeafValue, MachineValue, root_of}
-use Rattle.tree_model.specs.State.Blank.{no_hart}
-use Rattle.tree_model.specs.State.Shape.{IsShaped, Skeleton, Skeletons, leaf_bone, dir_bone, no_bones, more_bones, skeleton, levels_of, first_levels, levels_fit, levels_fit_among, are_below, depth_of, tree_counts, buses_of, levels_known, traffic_counted}
-use Rattle.tree_model.specs.State.Leaf.{state_at}
-use Rattle.tree_model.specs.Turns.Found.{states_of}
-use Rattle.tree_model.specs.Turns.Machine.{machine_leaves, no_traffic}
-use Rattle.tree_model.proofs.Tests.{and-first, and-second}
+use Rattle.report.specs.DdmTypes.declared.sizes.LeafState.{LeafState}
+use Rattle.report.specs.DdmTypes.ItemTable.{ItemRow, no_row}
+use Rattle.report.specs.RvHart.HartState.{HartState}
+use Rattle.report.specs.TreeModel.declared.Traffic.{Traffic}
+use Rattle.report.specs.TreeModel.State.Values.{LeafValue, MachineValue, root_of}
+use Rattle.report.specs.TreeModel.State.Blank.{no_hart}
+use Rattle.report.specs.TreeModel.State.Shape.{IsShaped, Skeleton, Skeletons, leaf_bone, dir_bone, no_bones, more_bones, skeleton, levels_of, first_levels, levels_fit, levels_fit_among, are_below, depth_of, tree_counts, buses_of, levels_known, traffic_counted}
+use Rattle.report.specs.TreeModel.State.Leaf.{state_at}
+use Rattle.report.specs.TreeModel.Turns.Found.{states_of}
+use Rattle.report.specs.TreeModel.Turns.Machine.{machine_leaves, no_traffic}
+use Rattle.report.proofs.TreeModel.Tests.{and-first, and-second}
 use Rattle.text_model.specs.Report.{HartView, ItemView, bus_line, bus_lines, bus_lines_from}
 use Rattle.text_model.specs.Run.{item_view, item_views, view_of}
-use Rattle.ddm_tree.specs.Reads.{counted_hart_of, state_of}
-use Rattle.ddm_tree.proofs.LeafList.{leaf-listed, leaf-number, leaves-counted}
-use Rattle.inspector.proofs.OneMore.{got-some, taken-one}
+use Rattle.report.specs.DdmTree.Reads.{counted_hart_of, state_of}
+use Rattle.report.proofs.DdmTree.LeafList.{leaf-listed, leaf-number, leaves-counted}
+use Rattle.report.proofs.InspectorCrate.OneMore.{got-some, taken-one}
 use Rattle.report.specs.MachineView.{harts_of}
 
 -- ---- harts

@@ -2,13 +2,13 @@
 use Rattle.std.proofs.Common.{◌≢◌, List, [], ◌∷◌, arith}
 use Rattle.std.proofs.lemmas.List.Elements.{All-from_recursion}
 use Rattle.std.proofs.lemmas.List.Kept.{AllPairs-cons}
-use Rattle.ddm_types.specs.declared.operations.Op.{Op}
-use Rattle.tree_model.specs.State.Values.{MachineValue}
-use Rattle.tree_rules.specs.Order.Rules.{keys_differ}
-use Rattle.order_lists.proofs.Listed.{KeysDiffer-from_rule}
-use Rattle.order_lists.proofs.Sorted.{KeysDiffer}
-use Rattle.ddm_tree.specs.Rules.{KeepsRules}
-use Rattle.ddm_tree.proofs.RulesKept.{rules-timed}
+use Rattle.report.specs.DdmTypes.declared.operations.Op.{Op}
+use Rattle.report.specs.TreeModel.State.Values.{MachineValue}
+use Rattle.report.specs.TreeRules.Order.Rules.{keys_differ}
+use Rattle.report.proofs.OrderLists.Listed.{KeysDiffer-from_rule}
+use Rattle.report.proofs.OrderLists.Sorted.{KeysDiffer}
+use Rattle.report.specs.DdmTree.Rules.{KeepsRules}
+use Rattle.report.proofs.DdmTree.RulesKept.{rules-timed}
 use Rattle.witness_order.specs.Order.{HaveOtherKeys}
 
 other_keys : (ops : List Op) → KeysDiffer ops → HaveOtherKeys ops

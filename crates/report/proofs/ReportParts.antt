@@ -5,9 +5,9 @@ use Rattle.std.specs.Prelude.{codes, decimal, nat_lt}
 use Rattle.std.specs.List.{flat_map}
 use Rattle.std.proofs.lemmas.Bool.{ltb-true, ltb-false}
 use Rattle.std.proofs.lemmas.List.{append-nil, drop_all, drop_more}
-use Rattle.ddm_types.specs.declared.operations.Op.{Op}
-use Rattle.tree_model.specs.declared.Traffic.{Traffic}
-use Rattle.tree_model.specs.Turns.Machine.{no_traffic}
+use Rattle.report.specs.DdmTypes.declared.operations.Op.{Op}
+use Rattle.report.specs.TreeModel.declared.Traffic.{Traffic}
+use Rattle.report.specs.TreeModel.Turns.Machine.{no_traffic}
 use Rattle.text_model.specs.declared.RunCounts.{RunCounts}
 use Rattle.text_model.specs.Report.{HartView, ItemView, ReportView, bus_line, bus_lines_from, hart_line_of, hart_lines, head_lines, item_line, item_lines, letter_texts, op_line, op_lines, out_line, put_texts, regs_line, report_of, hart_line}
 use Rattle.report.specs.LineParts.{dash_behind, item_front}

@@ -3,19 +3,19 @@
 use Rattle.std.proofs.Common.{◌≡◌, ◌<◌, ◌≤◌, ℕ, zero, suc, ◌+◌, List, [], ◌∷◌, ◌++◌, length, map, drop, get_or, Option, Some, refl, sym, ap, subst, ◌∙◌, arith}
 use Rattle.std.specs.Prelude.{codes, slice_get}
 use Rattle.std.proofs.lemmas.List.{append-nil, drop_all}
-use Rattle.ddm_types.specs.declared.operations.Op.{Op}
-use Rattle.ddm_types.specs.declared.sizes.LeafState.{LeafState}
-use Rattle.ddm_types.specs.ItemTable.{item_count, row_at}
-use Rattle.tree_model.specs.State.Shape.{IsShaped, depth_of, tree_counts}
-use Rattle.tree_model.specs.State.Values.{LeafValue, MachineValue}
-use Rattle.tree_model.specs.Turns.Found.{states_of}
-use Rattle.tree_model.specs.Turns.Machine.{machine_leaves, no_traffic}
-use Rattle.tree_model.specs.Turns.Witness.{sorted_ops}
+use Rattle.report.specs.DdmTypes.declared.operations.Op.{Op}
+use Rattle.report.specs.DdmTypes.declared.sizes.LeafState.{LeafState}
+use Rattle.report.specs.DdmTypes.ItemTable.{item_count, row_at}
+use Rattle.report.specs.TreeModel.State.Shape.{IsShaped, depth_of, tree_counts}
+use Rattle.report.specs.TreeModel.State.Values.{LeafValue, MachineValue}
+use Rattle.report.specs.TreeModel.Turns.Found.{states_of}
+use Rattle.report.specs.TreeModel.Turns.Machine.{machine_leaves, no_traffic}
+use Rattle.report.specs.TreeModel.Turns.Witness.{sorted_ops}
 use Rattle.text_model.specs.declared.RunCounts.{RunCounts}
 use Rattle.text_model.specs.Report.{HartView, ReportView, bus_line, head_lines, letter_texts, op_lines}
 use Rattle.text_model.specs.Run.{item_view, view_of}
-use Rattle.ddm_tree.proofs.LeafList.{leaf-number, leaves-counted}
-use Rattle.inspector.proofs.LeafStates.{states-counted}
+use Rattle.report.proofs.DdmTree.LeafList.{leaf-number, leaves-counted}
+use Rattle.report.proofs.InspectorCrate.LeafStates.{states-counted}
 use Rattle.report.specs.MachineView.{harts_of, shown, IsGiven}
 use Rattle.report.specs.ReportLeft.{front_of, hart_front, no_item, no_view, states_shown, HasPart, operation_part, item_part, bus_part, hart_part, Gives, HasSize}
 use Rattle.report.specs.declared.report_parts.ReportPart.{ReportPart}

@@ -1,8 +1,8 @@
 -- A trace as its lines, one behind the other.
 use Rattle.std.proofs.Common.{◌≡◌, ◌<◌, ◌≤◌, ℕ, ◌+◌, List, [], ◌++◌, length, drop, take, get_or, refl, sym, ap, ◌∙◌, append_assoc}
 use Rattle.std.proofs.lemmas.List.{drop_all, drop_more}
-use Rattle.ddm_types.specs.declared.turns.Turn.{Turn}
-use Rattle.ddm_types.specs.declared.answers.TurnAnswer.{TurnAnswer}
+use Rattle.report.specs.DdmTypes.declared.turns.Turn.{Turn}
+use Rattle.report.specs.DdmTypes.declared.answers.TurnAnswer.{TurnAnswer}
 use Rattle.text_model.specs.Trace.{trace_from, trace_line}
 use Rattle.text_model.proofs.Numbered.{trace_from-take}
 use Rattle.report.proofs.Lines.{not-empty}

@@ -3,7 +3,7 @@ use Rattle.std.proofs.Common.{◌≡◌, ◌<◌, ◌≤◌, ℕ, ◌+◌, List,
 use Rattle.std.specs.Prelude.{codes}
 use Rattle.std.proofs.lemmas.Grind.{flat_map-append}
 use Rattle.std.proofs.lemmas.List.{append-nil, take_all, take_more}
-use Rattle.ddm_text.specs.Hex.{hex8}
+use Rattle.report.specs.DdmText.Hex.{hex8}
 use Rattle.text_model.specs.Report.{word_texts}
 
 abbrev word_text : ℕ → List ℕ

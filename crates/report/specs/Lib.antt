@@ -1,3 +1,12 @@
+pub mod AnyMachine
+pub mod DdmOutside
+pub mod DdmText
+pub mod DdmTree
+pub mod DdmTypes
+pub mod RvHart
+pub mod TextModel
+pub mod TreeModel
+pub mod TreeRules
 pub mod Appends
 pub mod LineParts
 pub mod MachineView
@@ -6,3 +15,4 @@ pub mod ReportLeft
 pub mod Roles
 pub mod Room
 pub mod TraceLeft
+pub mod Opened

@@ -1,8 +1,8 @@
 -- Parts of the lines of a report.
 use Rattle.std.specs.Prelude.{ℕ, Bool, true, false, List, [], ◌∷◌, ◌++◌, codes, decimal, if◌then◌else◌}
-use Rattle.ddm_text.specs.Hex.{hex8}
-use Rattle.ddm_types.specs.declared.operations.Op.{Op}
-use Rattle.tree_model.specs.declared.CopyPlace.{CopyPlace}
+use Rattle.report.specs.DdmText.Hex.{hex8}
+use Rattle.report.specs.DdmTypes.declared.operations.Op.{Op}
+use Rattle.report.specs.TreeModel.declared.CopyPlace.{CopyPlace}
 use Rattle.text_model.specs.Report.{copy_place_text, put_text, word_texts}
 
 abbrev pub any_byte : List ℕ → Bool

@@ -1,9 +1,9 @@
 -- What a report shows of a machine.
 use Rattle.std.specs.Prelude.{◌≡◌, List}
-use Rattle.ddm_types.specs.declared.operations.Op.{Op}
-use Rattle.tree_model.specs.State.Shape.{IsShaped, depth_of}
-use Rattle.tree_model.specs.State.Values.{MachineValue}
-use Rattle.tree_model.specs.Turns.Witness.{sorted_ops}
+use Rattle.report.specs.DdmTypes.declared.operations.Op.{Op}
+use Rattle.report.specs.TreeModel.State.Shape.{IsShaped, depth_of}
+use Rattle.report.specs.TreeModel.State.Values.{MachineValue}
+use Rattle.report.specs.TreeModel.Turns.Witness.{sorted_ops}
 use Rattle.text_model.specs.declared.RunCounts.{RunCounts}
 use Rattle.text_model.specs.Report.{HartView, ReportView}
 use Rattle.text_model.specs.Run.{no_counts, view_of}

@@ -2,9 +2,9 @@
 -- Letters: v is what a report shows, k and n are numbers of parts.
 use Rattle.std.specs.Prelude.{◌≡◌, ℕ, ◌+◌, ◌<◌, ◌≤◌, nat_lt, Option, List, [], ◌++◌, length, drop, codes, decimal, slice_index_or, ⊤, if◌then◌else◌}
 use Rattle.std.specs.List.{flat_map}
-use Rattle.ddm_types.specs.declared.sizes.LeafState.{LeafState}
-use Rattle.tree_model.specs.declared.CopyPlace.{CopyPlace}
-use Rattle.tree_model.specs.State.Blank.{no_hart}
+use Rattle.report.specs.DdmTypes.declared.sizes.LeafState.{LeafState}
+use Rattle.report.specs.TreeModel.declared.CopyPlace.{CopyPlace}
+use Rattle.report.specs.TreeModel.State.Blank.{no_hart}
 use Rattle.text_model.specs.Report.{HartView, ItemView, ReportView, bus_lines_from, hart_line_of, hart_lines, item_lines, letter_texts, op_lines, put_texts, regs_line, report_of}
 use Rattle.report.specs.LineParts.{are_silent, dash_behind, item_front}
 use Rattle.report.specs.declared.report_parts.ReportPart.{ReportPart}

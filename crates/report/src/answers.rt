@@ -1,13 +1,15 @@
 ghost use Rattle.std.specs.Prelude.{OnOk};
-ghost use Rattle.ddm_text.specs.Adds.{Adds};
+ghost use Rattle.report.specs.DdmText.Adds.{Adds};
 ghost use Rattle.text_model.specs.Words.{answer_text, busy_text, entry_text, kind_text, place_text, queue_text, why_text};
 ghost use Rattle.report.specs.Room.{UsesRoom};
 
 use crate::buffers::TextBuffer;
 use crate::effects::{push_effect, push_halt};
 use crate::numbers::{push_bus, push_child, push_item, push_named_leaf};
+use crate::of_ddm_types::{
+    BusyCause, LogEntry, NoMemory, PendingWhy, Place, QueueName, TurnAnswer, TxKind,
+};
 use crate::pieces::push_bytes;
-use ddm_types::{BusyCause, LogEntry, NoMemory, PendingWhy, Place, QueueName, TurnAnswer, TxKind};
 
 /// Puts a kind of transaction at the end.
 #[tactic(auto, unfolding(text_model::specs::Words::kind_text))]

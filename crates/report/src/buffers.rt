@@ -1,8 +1,8 @@
 ghost use Rattle.std.specs.Prelude.{ℕ, List, length, OnOk};
-ghost use Rattle.ddm_text.specs.Adds.{Adds};
+ghost use Rattle.report.specs.DdmText.Adds.{Adds};
 ghost use Rattle.report.specs.Room.{UsesRoom};
 
-use ddm_types::NoMemory;
+use crate::of_ddm_types::NoMemory;
 
 /// What text is put into, at the end of what is there.
 pub trait TextBuffer {

@@ -1,13 +1,13 @@
 ghost use Rattle.std.specs.Prelude.{OnOk};
-ghost use Rattle.ddm_text.specs.Adds.{Adds};
+ghost use Rattle.report.specs.DdmText.Adds.{Adds};
 ghost use Rattle.text_model.specs.Report.{bus_line};
 ghost use Rattle.report.specs.Room.{UsesRoom};
 
 use crate::buffers::TextBuffer;
 use crate::numbers::push_bus;
+use crate::of_ddm_types::{BusNo, NoMemory};
+use crate::of_tree_model::Traffic;
 use crate::pieces::{push_bytes, push_number};
-use ddm_types::{BusNo, NoMemory};
-use tree_model::Traffic;
 
 /// Puts at the end the line of the transactions that a bus has granted.
 pub fn push_bus_line<W: TextBuffer>(

@@ -1,11 +1,11 @@
 ghost use Rattle.std.specs.Prelude.{◌≡◌, ◌+◌, ◌/◌, ◌%◌, ◌<◌, ◌≤◌, [], ◌∷◌, ◌++◌, OnOk, codes, decimal, false};
-ghost use Rattle.ddm_text.specs.Adds.{Adds};
-ghost use Rattle.ddm_text.specs.Hex.{hex2, hex8};
+ghost use Rattle.report.specs.DdmText.Adds.{Adds};
+ghost use Rattle.report.specs.DdmText.Hex.{hex2, hex8};
 ghost use Rattle.report.specs.Room.{UsesRoom};
 
 use crate::buffers::TextBuffer;
-use ddm_text::{MOST_DIGITS, write_digits};
-use ddm_types::NoMemory;
+use crate::of_ddm_text::{MOST_DIGITS, write_digits};
+use crate::of_ddm_types::NoMemory;
 
 // The two digits of each byte, one behind the other.
 static PAIRS: [u8; 512] = *b"000102030405060708090a0b0c0d0e0f\
@@ -153,7 +153,7 @@ pub fn hex2_digits(n: u32) -> [u8; 2]
 
 /// The eight hexadecimal digits of a number.
 #[inline(always)]
-#[tactic(auto, unfolding(ddm_text::specs::Hex::hex8))]
+#[tactic(auto, unfolding(crate::specs::Opened::hex8))]
 pub fn hex8_digits(n: u32) -> [u8; 8]
     ensures { result ≡ hex8 n }
 {

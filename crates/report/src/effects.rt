@@ -1,13 +1,13 @@
 ghost use Rattle.std.specs.Prelude.{◌++◌, OnOk, codes};
-ghost use Rattle.ddm_text.specs.Adds.{Adds};
-ghost use Rattle.ddm_text.specs.Hex.{hex8};
+ghost use Rattle.report.specs.DdmText.Adds.{Adds};
+ghost use Rattle.report.specs.DdmText.Hex.{hex8};
 ghost use Rattle.text_model.specs.Words.{effect_text, halt_text, state_text};
 ghost use Rattle.report.specs.Room.{UsesRoom};
 
 use crate::buffers::TextBuffer;
 use crate::digits::{hex2_digits, hex8_digits};
+use crate::of_ddm_types::{Effect, HaltCause, NoMemory};
 use crate::pieces::{push_bytes, push_named, push_named_word};
-use ddm_types::{Effect, HaltCause, NoMemory};
 
 // A load: its address and the word there. Here and below all bytes are put at once.
 fn push_load<W: TextBuffer>(out: &mut W, address: u32, word: u32) -> Result<(), NoMemory>

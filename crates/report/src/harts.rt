@@ -1,5 +1,5 @@
 ghost use Rattle.std.specs.Prelude.{◌≡◌, ◌<◌, ◌≤◌, ◌+◌, ◌*◌, OnOk, length, take};
-ghost use Rattle.ddm_text.specs.Adds.{Adds};
+ghost use Rattle.report.specs.DdmText.Adds.{Adds};
 ghost use Rattle.text_model.specs.Report.{hart_line, head_lines, or_dash, out_line, put_text, put_text_by, put_texts, regs_line, turns_line};
 ghost use Rattle.report.specs.LineParts.{any_byte, are_silent, dash_behind};
 ghost use Rattle.report.specs.ReportLeft.{hart_front};
@@ -9,10 +9,10 @@ use crate::buffers::TextBuffer;
 use crate::digits::{push_hex2, push_hex8};
 use crate::effects::push_state;
 use crate::numbers::push_hart;
+use crate::of_ddm_types::{Effect, HaltCause, HartNo, NoMemory, Op};
+use crate::of_operation_list::Operations;
+use crate::of_rv_hart::Hart;
 use crate::pieces::{push_bytes, push_number, push_words};
-use ddm_types::{Effect, HaltCause, HartNo, NoMemory, Op};
-use operation_list::Operations;
-use rv_hart::Hart;
 use text_model::RunCounts;
 
 /// Puts at the end the line that says what the turns came to.
@@ -108,7 +108,7 @@ pub fn push_put_by<W: TextBuffer>(out: &mut W, hart: HartNo, op: Op) -> Result<(
 
 // Whether an instruction puts a byte.
 #[inline(always)]
-#[tactic(auto, unfolding(ddm_text::specs::Hex::hex2))]
+#[tactic(auto, unfolding(crate::specs::Opened::hex2))]
 fn is_put(effect: Effect) -> bool
     ensures { result ≡ any_byte (put_text effect) }
 {

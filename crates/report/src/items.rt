@@ -1,5 +1,5 @@
 ghost use Rattle.std.specs.Prelude.{◌≡◌, ◌+◌, ◌*◌, ◌∷◌, ◌++◌, [], OnOk, Some, codes, decimal, length};
-ghost use Rattle.ddm_text.specs.Adds.{Adds};
+ghost use Rattle.report.specs.DdmText.Adds.{Adds};
 ghost use Rattle.text_model.specs.Report.{copy_place_text, item_line, letter_text, letter_texts};
 ghost use Rattle.report.specs.LineParts.{item_front};
 ghost use Rattle.report.specs.Room.{UsesRoom};
@@ -7,9 +7,9 @@ ghost use Rattle.report.specs.Room.{UsesRoom};
 use crate::buffers::TextBuffer;
 use crate::digits::push_spaced_hex8;
 use crate::numbers::{push_bus, push_item, push_named_leaf};
+use crate::of_ddm_types::{ItemId, LeafNo, LeafState, NoMemory};
+use crate::of_tree_model::CopyPlace;
 use crate::pieces::{push_bytes, push_named, push_number, push_words};
-use ddm_types::{ItemId, LeafNo, LeafState, NoMemory};
-use tree_model::CopyPlace;
 
 /// Puts at the end where an item's current copy is.
 #[tactic(auto, unfolding(text_model::specs::Report::copy_place_text))]

@@ -2,9 +2,9 @@ ghost use Rattle.std.specs.Prelude.{◌≡◌, ◌+◌, ◌-◌, ◌≤◌, ◌�
 ghost use Rattle.report.specs.Roles.{role_text};
 
 use crate::buffers::TextBuffer;
+use crate::of_ddm_text::{MOST_DIGITS, write_digits};
+use crate::of_ddm_types::NoMemory;
 use crate::roles::FileRole;
-use ddm_text::{MOST_DIGITS, write_digits};
-use ddm_types::NoMemory;
 use std::marker::Model;
 
 /// The most bytes of a line in a buffer of its own.

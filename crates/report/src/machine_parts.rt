@@ -1,8 +1,8 @@
 ghost use Rattle.std.specs.Prelude.{◌≡◌, ◌<◌, ◌≤◌, ◌++◌, [], true, codes, drop, length, slice_index_or};
-ghost use Rattle.ddm_types.specs.ItemTable.{item_count, row_at};
-ghost use Rattle.tree_model.specs.State.Shape.{IsShaped, tree_counts};
-ghost use Rattle.tree_model.specs.Turns.Found.{states_of};
-ghost use Rattle.tree_model.specs.Turns.Machine.{no_traffic};
+ghost use Rattle.report.specs.DdmTypes.ItemTable.{item_count, row_at};
+ghost use Rattle.report.specs.TreeModel.State.Shape.{IsShaped, tree_counts};
+ghost use Rattle.report.specs.TreeModel.Turns.Found.{states_of};
+ghost use Rattle.report.specs.TreeModel.Turns.Machine.{no_traffic};
 ghost use Rattle.text_model.specs.Report.{bus_line, head_lines, letter_texts, op_line, op_lines, put_texts};
 ghost use Rattle.text_model.specs.Run.{item_view};
 ghost use Rattle.any_machine.specs.Any.{state_in};
@@ -14,11 +14,11 @@ use crate::buses::push_bus_line;
 use crate::harts::{has_output, push_hart_front, push_head, push_put_by};
 use crate::items::{letter, push_item_front, push_letter};
 use crate::line::Line;
+use crate::of_ddm_types::{BusNo, HartNo, ItemId, LEVELS, LeafNo, LeafState, Op};
+use crate::of_operation_list::Operations;
 use crate::operations::push_op_line;
 use crate::pieces::push_bytes;
 use any_machine::Machines;
-use ddm_types::{BusNo, HartNo, ItemId, LEVELS, LeafNo, LeafState, Op};
-use operation_list::Operations;
 use text_model::RunCounts;
 use witness_order::Ordered;
 

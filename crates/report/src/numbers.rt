@@ -1,10 +1,10 @@
 ghost use Rattle.std.specs.Prelude.{◌+◌, ◌++◌, OnOk, decimal, length};
-ghost use Rattle.ddm_text.specs.Adds.{Adds};
+ghost use Rattle.report.specs.DdmText.Adds.{Adds};
 ghost use Rattle.report.specs.Room.{UsesRoom};
 
 use crate::buffers::TextBuffer;
+use crate::of_ddm_types::{BusNo, ChildNo, HartNo, ItemId, LeafNo, NoMemory};
 use crate::pieces::{push_named, push_number};
-use ddm_types::{BusNo, ChildNo, HartNo, ItemId, LeafNo, NoMemory};
 
 /// Puts the number of a hart at the end.
 #[inline(always)]

@@ -1,6 +1,6 @@
 ghost use Rattle.std.specs.Prelude.{◌*◌, ◌≤◌, ◌++◌, OnOk, codes, decimal, take};
-ghost use Rattle.ddm_text.specs.Adds.{Adds};
-ghost use Rattle.ddm_text.specs.Hex.{hex8};
+ghost use Rattle.report.specs.DdmText.Adds.{Adds};
+ghost use Rattle.report.specs.DdmText.Hex.{hex8};
 ghost use Rattle.text_model.specs.Words.{effect_text};
 ghost use Rattle.text_model.specs.Report.{key_text, level_numbers, number_stops, op_line, op_lines};
 ghost use Rattle.report.specs.Room.{UsesRoom};
@@ -9,8 +9,8 @@ use crate::buffers::TextBuffer;
 use crate::digits::{hex8_digits, push_hex8_between};
 use crate::effects::push_effect;
 use crate::numbers::push_hart;
+use crate::of_ddm_types::{Effect, HartNo, Key, LEVELS, NoMemory, Op};
 use crate::pieces::{push_bytes, push_number};
-use ddm_types::{Effect, HartNo, Key, LEVELS, NoMemory, Op};
 
 // The two numbers of a level, each with a full stop behind it. A child of one digit, as mostly, is put with both stops.
 fn push_long_level<W: TextBuffer>(out: &mut W, stamp: u32, child: u32) -> Result<(), NoMemory>

@@ -1,7 +1,7 @@
 ghost use Rattle.std.specs.Prelude.{◌≡◌, ◌≤◌, ℕ, List, [], ◌++◌, length, take, IfOk};
 
 use crate::line::{LINE_BYTES, Line};
-use ddm_types::NoMemory;
+use crate::of_ddm_types::NoMemory;
 use std::alloc::Global;
 
 /// The least length of a slice that pieces of a text are put into.

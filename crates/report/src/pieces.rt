@@ -1,12 +1,12 @@
 ghost use Rattle.std.specs.Prelude.{◌+◌, ◌*◌, ◌++◌, OnOk, codes, decimal, length};
-ghost use Rattle.ddm_text.specs.Adds.{Adds};
-ghost use Rattle.ddm_text.specs.Hex.{hex8};
+ghost use Rattle.report.specs.DdmText.Adds.{Adds};
+ghost use Rattle.report.specs.DdmText.Hex.{hex8};
 ghost use Rattle.text_model.specs.Report.{word_texts};
 ghost use Rattle.report.specs.Room.{UsesRoom};
 
 use crate::buffers::TextBuffer;
 use crate::digits::{hex8_digits, push_decimal, push_hex8, push_spaced_hex8};
-use ddm_types::NoMemory;
+use crate::of_ddm_types::NoMemory;
 
 /// Puts these bytes at the end.
 #[inline(always)]

@@ -1,6 +1,6 @@
 ghost use Rattle.std.specs.Prelude.{◌≡◌, ◌<◌, ◌≤◌, ◌↔◌, [], ◌++◌, IfOk, length, take};
-ghost use Rattle.tree_model.specs.State.Shape.{IsShaped, depth_of};
-ghost use Rattle.tree_model.specs.Turns.Witness.{sorted_ops};
+ghost use Rattle.report.specs.TreeModel.State.Shape.{IsShaped, depth_of};
+ghost use Rattle.report.specs.TreeModel.Turns.Witness.{sorted_ops};
 ghost use Rattle.text_model.specs.Report.{ReportView, report_of};
 ghost use Rattle.text_model.specs.Run.{view_of};
 ghost use Rattle.any_machine.specs.Any.{machine_state, state_in};
@@ -14,11 +14,11 @@ use crate::machine_parts::{
     end_line, end_output, put_bus, put_end, put_hart, put_head, put_item, put_operations,
     put_output, put_silence, put_states,
 };
+use crate::of_ddm_types::{HartNo, ItemId, NoMemory, Op};
+use crate::of_operation_list::Operations;
 use crate::parts::{LEAST_PIECE, Parts, joined, put_piece};
 use crate::report_parts::{ReportPart, ReportSize};
 use any_machine::{AnyMachine, Machines};
-use ddm_types::{HartNo, ItemId, NoMemory, Op};
-use operation_list::Operations;
 use std::alloc::Global;
 use std::marker::Model;
 use text_model::RunCounts;

@@ -1,7 +1,7 @@
 ghost use Rattle.std.specs.Prelude.{◌≡◌, IfOk, OnOk};
 ghost use Rattle.std.specs.List.{flat_map};
-ghost use Rattle.ddm_text.specs.Adds.{Adds};
-ghost use Rattle.tree_model.specs.State.Shape.{depth_of};
+ghost use Rattle.report.specs.DdmText.Adds.{Adds};
+ghost use Rattle.report.specs.TreeModel.State.Shape.{depth_of};
 ghost use Rattle.text_model.specs.Report.{bus_lines, hart_line_of, summary_of};
 ghost use Rattle.text_model.specs.Run.{view_of};
 ghost use Rattle.any_machine.specs.Any.{machine_state, state_in};
@@ -9,9 +9,9 @@ ghost use Rattle.report.specs.MachineView.{harts_of};
 
 use crate::buses::push_bus_line;
 use crate::harts::{push_hart_line, push_head};
+use crate::of_ddm_types::{BusNo, HartNo, NoMemory};
 use crate::pieces::push_bytes;
 use any_machine::{AnyMachine, Machines};
-use ddm_types::{BusNo, HartNo, NoMemory};
 use std::alloc::Global;
 use text_model::RunCounts;
 

@@ -1,5 +1,5 @@
 ghost use Rattle.std.specs.Prelude.{◌≡◌, [], ◌∷◌, ◌++◌, OnOk, codes, decimal, length};
-ghost use Rattle.ddm_text.specs.Adds.{Adds};
+ghost use Rattle.report.specs.DdmText.Adds.{Adds};
 ghost use Rattle.text_model.specs.Schedule.{turn_text};
 ghost use Rattle.text_model.specs.Trace.{trace_from, trace_line};
 ghost use Rattle.report.specs.Room.{UsesRoom};
@@ -9,8 +9,8 @@ use crate::buffers::TextBuffer;
 use crate::digits::{byte_digits, push_decimal, push_spaced_byte};
 use crate::line::Line;
 use crate::numbers::{push_bus, push_child, push_hart};
+use crate::of_ddm_types::{BusNo, ChildNo, HartNo, NoMemory, Turn, TurnAnswer};
 use crate::pieces::push_bytes;
-use ddm_types::{BusNo, ChildNo, HartNo, NoMemory, Turn, TurnAnswer};
 
 // Puts the turn of a hart at the end. Where the hart's number has one digit, as mostly, its bytes are put at once.
 fn push_hart_turn<W: TextBuffer>(out: &mut W, hart: HartNo, victim: u8) -> Result<(), NoMemory>

@@ -2,9 +2,9 @@ ghost use Rattle.std.specs.Prelude.{◌≡◌, ◌≤◌, ◌↔◌, [], ◌++�
 ghost use Rattle.text_model.specs.Trace.{trace_text};
 
 use crate::line::Line;
+use crate::of_ddm_types::{NoMemory, Turn, TurnAnswer};
 use crate::parts::{LEAST_PIECE, Parts, joined, put_piece};
 use crate::trace::push_trace_line;
-use ddm_types::{NoMemory, Turn, TurnAnswer};
 use std::alloc::Global;
 use std::marker::Model;
 

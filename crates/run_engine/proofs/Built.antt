@@ -2,11 +2,11 @@
 use Rattle.std.proofs.Common.{◌≡◌, ℕ, ◌*◌, ◌/◌, ◌≤◌, Bool, true, false, List, ◌++◌, map, Option, Some, None, refl, sym, arith, cond}
 use Rattle.std.specs.Prelude.{nat_lt}
 use Rattle.std.proofs.lemmas.Bool.Decides.{nat_tests}
-use Rattle.ddm_types.specs.declared.sizes.Span.{Span}
-use Rattle.ddm_types.specs.ItemTable.{items_of, item_count}
-use Rattle.tree_model.specs.Start.Sources.{TreeValue, ImageValue, segment_span, stack_spans}
-use Rattle.tree_model.specs.Start.Machine.{StartRefusal, start_refusal}
-use Rattle.tree_model.specs.Start.Memory.{start_items}
+use Rattle.run_engine.specs.DdmTypes.declared.sizes.Span.{Span}
+use Rattle.run_engine.specs.DdmTypes.ItemTable.{items_of, item_count}
+use Rattle.run_engine.specs.TreeModel.Start.Sources.{TreeValue, ImageValue, segment_span, stack_spans}
+use Rattle.run_engine.specs.TreeModel.Start.Machine.{StartRefusal, start_refusal}
+use Rattle.run_engine.specs.TreeModel.Start.Memory.{start_items}
 
 pub accepted_few : (t : TreeValue) (i : ImageValue) → start_refusal t i ≡ None → item_count (start_items t i) ≤ 65536
 unfolding start_refusal

@@ -4,8 +4,8 @@ use Rattle.std.proofs.Common.{◌≡◌, ℕ, ◌+◌, ◌*◌, Bool, true, fals
 use Rattle.std.specs.Prelude.{◌||◌, ◌&&◌, nat_lt, if◌then◌else◌}
 use Rattle.std.proofs.lemmas.Bool.{ltb-false}
 use Rattle.std.specs.List.{flat_map, fold, list_any}
-use Rattle.ddm_types.specs.declared.sizes.Span.{Span}
-use Rattle.ddm_types.specs.ItemTable.{ItemRow, item_numbers, item_row, items_of, overlaps, span_end, span_numbers, with_number, writes}
+use Rattle.run_engine.specs.DdmTypes.declared.sizes.Span.{Span}
+use Rattle.run_engine.specs.DdmTypes.ItemTable.{ItemRow, item_numbers, item_row, items_of, overlaps, span_end, span_numbers, with_number, writes}
 use Rattle.run_engine.specs.Build.{has_bytes}
 
 module _ (size : ℕ) where

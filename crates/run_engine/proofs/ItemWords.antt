@@ -2,9 +2,9 @@
 use Rattle.std.proofs.Common.{◌≡◌, ℕ, ◌+◌, ◌<◌, List, [], ◌∷◌, ◌++◌, map, length, take, slice_index_or, ap, ◌∙◌, add-one}
 use Rattle.std.proofs.Math.Seq.{take-suc}
 use Rattle.std.proofs.lemmas.List.{map-append}
-use Rattle.ddm_types.specs.ItemTable.{ItemRow}
-use Rattle.tree_model.specs.Start.Sources.{SegmentValue}
-use Rattle.tree_model.specs.Start.Memory.{item_words}
+use Rattle.run_engine.specs.DdmTypes.ItemTable.{ItemRow}
+use Rattle.run_engine.specs.TreeModel.Start.Sources.{SegmentValue}
+use Rattle.run_engine.specs.TreeModel.Start.Memory.{item_words}
 
 -- the words of the first items
 abbrev pub first_item_words : ℕ → List SegmentValue → List ItemRow → ℕ → List (List ℕ)

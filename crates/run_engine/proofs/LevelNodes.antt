@@ -5,20 +5,20 @@ use Rattle.std.specs.List.{AllByRecursion, flat_map, list_all}
 use Rattle.std.proofs.lemmas.Bool.{leb-true}
 use Rattle.std.proofs.lemmas.List.{length-append}
 use Rattle.std.proofs.lemmas.List.Elements.{All-from_recursion}
-use Rattle.ddm_types.specs.ItemTable.{item_count}
-use Rattle.tree_model.specs.State.Values.{Node, leaf_node}
-use Rattle.tree_model.specs.Start.Nodes.{cut_in, dir_sizes, dirs_over, under_levels}
-use Rattle.tree_model.specs.Start.Machine.{start_leaves}
-use Rattle.tree_model.specs.Start.Memory.{start_items}
-use Rattle.tree_model.specs.Start.Sources.{TreeValue, ImageValue, width_of}
-use Rattle.tree_model.proofs.Tests.{and-first, and-second}
+use Rattle.run_engine.specs.DdmTypes.ItemTable.{item_count}
+use Rattle.run_engine.specs.TreeModel.State.Values.{Node, leaf_node}
+use Rattle.run_engine.specs.TreeModel.Start.Nodes.{cut_in, dir_sizes, dirs_over, under_levels}
+use Rattle.run_engine.specs.TreeModel.Start.Machine.{start_leaves}
+use Rattle.run_engine.specs.TreeModel.Start.Memory.{start_items}
+use Rattle.run_engine.specs.TreeModel.Start.Sources.{TreeValue, ImageValue, width_of}
+use Rattle.run_engine.proofs.TreeModel.Tests.{and-first, and-second}
 use Rattle.tree_config.specs.Levels.{IsShape}
 use Rattle.tree_config.specs.Ranges.{IsInRange}
 use Rattle.tree_config.proofs.Counts.{IsShape-buses}
-use Rattle.bus_laws.specs.IsTree.{is_width}
-use Rattle.ddm_tree.specs.Holders.{IsHolder}
-use Rattle.start_parts.specs.Held.{AreHeld}
-use Rattle.start_parts.proofs.EachLevel.{level-count, level-held, level-wide}
+use Rattle.run_engine.specs.BusLaws.IsTree.{is_width}
+use Rattle.run_engine.specs.DdmTree.Holders.{IsHolder}
+use Rattle.run_engine.specs.StartParts.Held.{AreHeld}
+use Rattle.run_engine.proofs.StartParts.EachLevel.{level-count, level-held, level-wide}
 use Rattle.run_engine.specs.Started.{nodes_at}
 use Rattle.run_engine.proofs.TreeStart.{tree-is}
 

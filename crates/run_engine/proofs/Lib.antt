@@ -1,3 +1,8 @@
+pub mod BusLaws
+pub mod DdmTree
+pub mod StartParts
+pub mod TreeConfig
+pub mod TreeModel
 pub mod ItemWords
 pub mod Sizes
 pub mod Built

@@ -4,12 +4,12 @@ use Rattle.std.specs.Prelude.{nat_eq, if◌then◌else◌}
 use Rattle.std.specs.List.{AllByRecursion}
 use Rattle.std.proofs.lemmas.List.{length-set}
 use Rattle.std.proofs.lemmas.List.Elements.{All-from_recursion, recursion_from_All}
-use Rattle.ddm_types.specs.declared.sizes.LeafState.{LeafState}
-use Rattle.tree_model.specs.State.Lists.{first_some, map_from}
-use Rattle.tree_model.specs.State.Values.{LeafValue}
-use Rattle.tree_model.specs.State.Leaf.{leaf_entry, entry_at, free_way, way_entry, buffer_entry, buffered, enters, enters_free, with_fate}
-use Rattle.tree_model.specs.Start.Nodes.{leaf_for, placed, placed_at, placed_in, placed_items}
-use Rattle.bus_laws.proofs.HartChanges.{way-set_other}
+use Rattle.run_engine.specs.DdmTypes.declared.sizes.LeafState.{LeafState}
+use Rattle.run_engine.specs.TreeModel.State.Lists.{first_some, map_from}
+use Rattle.run_engine.specs.TreeModel.State.Values.{LeafValue}
+use Rattle.run_engine.specs.TreeModel.State.Leaf.{leaf_entry, entry_at, free_way, way_entry, buffer_entry, buffered, enters, enters_free, with_fate}
+use Rattle.run_engine.specs.TreeModel.Start.Nodes.{leaf_for, placed, placed_at, placed_in, placed_items}
+use Rattle.run_engine.proofs.BusLaws.HartChanges.{way-set_other}
 use Rattle.run_engine.specs.Placement.{IsBlank, TakesItem}
 
 -- the leaf knows so many items, and has no entry of one from a number on

@@ -7,14 +7,14 @@ use Rattle.std.proofs.lemmas.List.{get_or-set_other}
 use Rattle.std.proofs.lemmas.List.Elements.{All-from_recursion, recursion_from_All}
 use Rattle.std.proofs.lemmas.Nat.{mod_below}
 use native.Mathlib.Decide.{ℕ_discrete}
-use Rattle.ddm_types.specs.declared.sizes.LeafState.{LeafState}
-use Rattle.tree_model.specs.State.Lists.{find_from, map_from}
-use Rattle.tree_model.specs.State.Values.{LeafSizes, LeafValue, WayValue}
-use Rattle.tree_model.specs.State.Blank.{no_leaf}
-use Rattle.tree_model.specs.State.Leaf.{entry_at, enters_free, free_way, item_in_way, leaf_entry, stands_in, way_at, way_entry, with_fate}
-use Rattle.tree_model.specs.Start.Nodes.{has_way, leaf_for, placed, placed_at, placed_in, placed_items}
-use Rattle.tree_model.proofs.Children.{map_from-length}
-use Rattle.tree_model.proofs.Tests.{first_some-none_first}
+use Rattle.run_engine.specs.DdmTypes.declared.sizes.LeafState.{LeafState}
+use Rattle.run_engine.specs.TreeModel.State.Lists.{find_from, map_from}
+use Rattle.run_engine.specs.TreeModel.State.Values.{LeafSizes, LeafValue, WayValue}
+use Rattle.run_engine.specs.TreeModel.State.Blank.{no_leaf}
+use Rattle.run_engine.specs.TreeModel.State.Leaf.{entry_at, enters_free, free_way, item_in_way, leaf_entry, stands_in, way_at, way_entry, with_fate}
+use Rattle.run_engine.specs.TreeModel.Start.Nodes.{has_way, leaf_for, placed, placed_at, placed_in, placed_items}
+use Rattle.run_engine.proofs.TreeModel.Children.{map_from-length}
+use Rattle.run_engine.proofs.TreeModel.Tests.{first_some-none_first}
 use Rattle.run_engine.specs.declared.leaves.Passed.{Passed}
 use Rattle.run_engine.specs.Placement.{ArePassed, HasSets, TakesItem, in_turn}
 

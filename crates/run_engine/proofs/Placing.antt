@@ -4,11 +4,11 @@ use Rattle.std.specs.Prelude.{IfOk, IfErr, is_ok, is_some, nat_eq, find, slice_i
 use Rattle.std.specs.List.{range_with_len}
 use Rattle.std.proofs.lemmas.List.{map-append}
 use Rattle.std.proofs.lemmas.Bool.Decides.{nat_tests}
-use Rattle.tree_model.specs.State.Lists.{map_from}
-use Rattle.tree_model.specs.State.Values.{LeafValue}
-use Rattle.tree_model.specs.State.Blank.{no_leaf}
-use Rattle.tree_model.specs.State.Leaf.{free_way}
-use Rattle.tree_model.specs.Start.Nodes.{has_way, leaf_for, placed, placed_at, placed_in}
+use Rattle.run_engine.specs.TreeModel.State.Lists.{map_from}
+use Rattle.run_engine.specs.TreeModel.State.Values.{LeafValue}
+use Rattle.run_engine.specs.TreeModel.State.Blank.{no_leaf}
+use Rattle.run_engine.specs.TreeModel.State.Leaf.{free_way}
+use Rattle.run_engine.specs.TreeModel.Start.Nodes.{has_way, leaf_for, placed, placed_at, placed_in}
 use Rattle.run_engine.specs.Placement.{ArePassed, in_turn}
 
 -- ---- an item is placed at one leaf

@@ -5,26 +5,26 @@ use Rattle.std.specs.List.{AllByRecursion, range_with_len}
 use Rattle.std.proofs.lemmas.Bool.{eqb-true, leb-true}
 use Rattle.std.proofs.lemmas.List.{length-map, length-replicate}
 use Rattle.std.proofs.lemmas.List.Elements.{All-from_recursion}
-use Rattle.ddm_types.specs.declared.sizes.Start.{Start}
-use Rattle.ddm_types.specs.ItemTable.{ItemRow, ItemTable, IsItemSize, item_count, items_of}
-use Rattle.ddm_types.specs.declared.sizes.TreeCounts.{TreeCounts}
-use Rattle.ddm_types.specs.CodeMap.{CodeWord}
-use Rattle.tree_model.specs.State.Values.{DirValue, LeafSizes, LeafValue, MachineValue, Node, WayValue}
-use Rattle.tree_model.specs.State.Leaf.{entry_at}
-use Rattle.tree_model.specs.Start.Nodes.{leaf_sizes, new_leaf, new_top, placed_items, top_sizes}
-use Rattle.tree_model.specs.Start.Machine.{start_leaves, start_machine, start_refusal}
-use Rattle.tree_model.specs.Start.Memory.{item_words, start_code, start_items, start_words}
-use Rattle.tree_model.specs.Start.Sources.{TreeValue, ImageValue, leaf_count, start_of_harts, width_of}
-use Rattle.tree_model.proofs.Tests.{and-first, and-second}
+use Rattle.run_engine.specs.DdmTypes.declared.sizes.Start.{Start}
+use Rattle.run_engine.specs.DdmTypes.ItemTable.{ItemRow, ItemTable, IsItemSize, item_count, items_of}
+use Rattle.run_engine.specs.DdmTypes.declared.sizes.TreeCounts.{TreeCounts}
+use Rattle.run_engine.specs.DdmTypes.CodeMap.{CodeWord}
+use Rattle.run_engine.specs.TreeModel.State.Values.{DirValue, LeafSizes, LeafValue, MachineValue, Node, WayValue}
+use Rattle.run_engine.specs.TreeModel.State.Leaf.{entry_at}
+use Rattle.run_engine.specs.TreeModel.Start.Nodes.{leaf_sizes, new_leaf, new_top, placed_items, top_sizes}
+use Rattle.run_engine.specs.TreeModel.Start.Machine.{start_leaves, start_machine, start_refusal}
+use Rattle.run_engine.specs.TreeModel.Start.Memory.{item_words, start_code, start_items, start_words}
+use Rattle.run_engine.specs.TreeModel.Start.Sources.{TreeValue, ImageValue, leaf_count, start_of_harts, width_of}
+use Rattle.run_engine.proofs.TreeModel.Tests.{and-first, and-second}
 use Rattle.tree_config.specs.Levels.{IsShape}
 use Rattle.tree_config.specs.Levels as config
 use Rattle.tree_config.specs.Ranges.{IsInRange}
-use Rattle.bus_laws.specs.IsTree.{AreUnder, IsTree}
-use Rattle.ddm_tree.specs.Machine.{IsNew, new_machine}
-use Rattle.start_parts.specs.Counts.{counts_of}
-use Rattle.start_parts.specs.Parts.{start_kids, start_top}
-use Rattle.start_parts.proofs.Made.{start-made}
-use Rattle.start_parts.proofs.StartNew.{start-new}
+use Rattle.run_engine.specs.BusLaws.IsTree.{AreUnder, IsTree}
+use Rattle.run_engine.specs.DdmTree.Machine.{IsNew, new_machine}
+use Rattle.run_engine.specs.StartParts.Counts.{counts_of}
+use Rattle.run_engine.specs.StartParts.Parts.{start_kids, start_top}
+use Rattle.run_engine.proofs.StartParts.Made.{start-made}
+use Rattle.run_engine.proofs.StartParts.StartNew.{start-new}
 use Rattle.run_engine.specs.Placement.{CanPlace, HasSets, IsBlank}
 use Rattle.run_engine.proofs.Built.{accepted_few, quarter}
 

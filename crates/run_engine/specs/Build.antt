@@ -1,9 +1,9 @@
 -- What is made of a tree and an image.
 use Rattle.std.specs.Prelude.{Bool, Option, nat_lt}
 use Rattle.std.specs.Option.{option_map}
-use Rattle.ddm_types.specs.declared.sizes.Span.{Span}
-use Rattle.tree_model.specs.Start.Sources.{TreeValue, ImageValue}
-use Rattle.tree_model.specs.Start.Machine.{StartRefusal, too_many_items, stack_overlap, no_place, start_refusal}
+use Rattle.run_engine.specs.DdmTypes.declared.sizes.Span.{Span}
+use Rattle.run_engine.specs.TreeModel.Start.Sources.{TreeValue, ImageValue}
+use Rattle.run_engine.specs.TreeModel.Start.Machine.{StartRefusal, too_many_items, stack_overlap, no_place, start_refusal}
 use Rattle.run_engine.specs.declared.refusal.BuildRefusal.{BuildRefusal}
 use Rattle.run_engine.specs.declared.refusal.BuildRefusal.TheVariants.{TooManyItems, StackOverlap, NoPlace}
 

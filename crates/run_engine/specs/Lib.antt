@@ -1,3 +1,12 @@
+pub mod AnyMachine
+pub mod BusLaws
+pub mod DdmTree
+pub mod DdmTypes
+pub mod MadeImage
+pub mod StartParts
+pub mod TreeConfig
+pub mod TreeModel
 pub mod Build
 pub mod Placement
 pub mod Started
+pub mod Opened

@@ -2,9 +2,9 @@
 -- Letters: v is a leaf, ls are leaves, x is an item.
 -- To be believed with the contracts: it says which leaves a call takes.
 use Rattle.std.specs.Prelude.{◌≡◌, ℕ, ◌+◌, ◌<◌, ◌≤◌, ◌^◌, ◌%◌, false, List, length, None, All}
-use Rattle.tree_model.specs.State.Values.{LeafValue}
-use Rattle.tree_model.specs.State.Leaf.{leaf_entry}
-use Rattle.tree_model.specs.Start.Nodes.{has_way}
+use Rattle.run_engine.specs.TreeModel.State.Values.{LeafValue}
+use Rattle.run_engine.specs.TreeModel.State.Leaf.{leaf_entry}
+use Rattle.run_engine.specs.TreeModel.Start.Nodes.{has_way}
 
 -- the leaf knows the item, and has no entry of it
 pub record TakesItem (x : ℕ) (v : LeafValue) : Type 0 where

@@ -2,15 +2,15 @@
 -- Letters: t is a tree, i an image.
 -- To be believed with the contracts: they speak of it.
 use Rattle.std.specs.Prelude.{◌≡◌, ℕ, ◌*◌, ◌≤◌, List, None, drop, length, map}
-use Rattle.ddm_types.specs.CodeMap.{CodeWord}
-use Rattle.ddm_types.specs.ItemTable.{ItemTable}
-use Rattle.tree_model.specs.State.Values.{Node, leaf_node}
-use Rattle.tree_model.specs.Start.Sources.{TreeValue, ImageValue, width_of}
-use Rattle.tree_model.specs.Start.Memory.{start_code, start_items}
-use Rattle.tree_model.specs.Start.Nodes.{dir_sizes, under_levels}
-use Rattle.tree_model.specs.Start.Machine.{start_leaves, start_machine, start_refusal}
-use Rattle.ddm_tree.specs.Machine.{MachineState}
-use Rattle.any_machine.specs.Kind.{Kind}
+use Rattle.run_engine.specs.DdmTypes.CodeMap.{CodeWord}
+use Rattle.run_engine.specs.DdmTypes.ItemTable.{ItemTable}
+use Rattle.run_engine.specs.TreeModel.State.Values.{Node, leaf_node}
+use Rattle.run_engine.specs.TreeModel.Start.Sources.{TreeValue, ImageValue, width_of}
+use Rattle.run_engine.specs.TreeModel.Start.Memory.{start_code, start_items}
+use Rattle.run_engine.specs.TreeModel.Start.Nodes.{dir_sizes, under_levels}
+use Rattle.run_engine.specs.TreeModel.Start.Machine.{start_leaves, start_machine, start_refusal}
+use Rattle.run_engine.specs.DdmTree.Machine.{MachineState}
+use Rattle.run_engine.specs.AnyMachine.Kind.{Kind}
 
 abbrev pub started : TreeValue → ImageValue → MachineState
 started t i = record { machine = start_machine t i; spare = 0; turns = 0 }

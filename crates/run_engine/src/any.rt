@@ -1,18 +1,18 @@
 ghost use Rattle.std.specs.Prelude.{◌≡◌, ◌⊎◌, ◌*◌, ◌≤◌, IfErr, IfOk, None, Ok, Some, length};
-ghost use Rattle.tree_model.specs.Start.Machine.{start_machine, start_of, start_refusal};
-ghost use Rattle.any_machine.specs.Any.{depths_state, machine_state, state_in};
-ghost use Rattle.any_machine.specs.Kind.{kind_in, kind_of, levels_in};
+ghost use Rattle.run_engine.specs.TreeModel.Start.Machine.{start_machine, start_of, start_refusal};
+ghost use Rattle.run_engine.specs.AnyMachine.Any.{depths_state, machine_state, state_in};
+ghost use Rattle.run_engine.specs.AnyMachine.Kind.{kind_in, kind_of, levels_in};
 ghost use Rattle.run_engine.specs.Build.{build_refusal};
 ghost use Rattle.run_engine.specs.Started.{CanMake, CanStart, kind_of_tree, started};
 ghost use Rattle.run_engine.specs.declared.refusal.BuildRefusal.TheVariants as refusal;
 
 use crate::contents::items;
 use crate::depths::{four_levels, one_level, three_levels, two_levels};
+use crate::of_any_machine::{AnyMachine, Depths, Machines};
+use crate::of_ddm_types::{Code, Items, NoMemory};
+use crate::of_elf_load::{Image, copied_code};
 use crate::refusal::BuildRefusal;
 use crate::tree::item_bytes;
-use any_machine::{AnyMachine, Depths, Machines};
-use ddm_types::{Code, Items, NoMemory};
-use elf_load::{Image, copied_code};
 use std::alloc::Global;
 use tree_config::TreeConfig;
 

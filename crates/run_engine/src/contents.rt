@@ -1,18 +1,18 @@
 ghost use Rattle.std.specs.Prelude.{◌≡◌, ℕ, ◌^◌, ◌⊎◌, ◌≤◌, map, All, None, Some, IfOk, IfErr, OnOk};
-ghost use Rattle.ddm_types.specs.ItemTable.{item_count, items_of, span_end};
-ghost use Rattle.tree_model.specs.Start.Memory.{item_words, start_items};
-ghost use Rattle.tree_model.specs.Start.Sources.{stack_spans};
-ghost use Rattle.tree_model.specs.Start.Machine.{overlap_from, start_refusal};
+ghost use Rattle.run_engine.specs.DdmTypes.ItemTable.{item_count, items_of, span_end};
+ghost use Rattle.run_engine.specs.TreeModel.Start.Memory.{item_words, start_items};
+ghost use Rattle.run_engine.specs.TreeModel.Start.Sources.{stack_spans};
+ghost use Rattle.run_engine.specs.TreeModel.Start.Machine.{overlap_from, start_refusal};
 ghost use Rattle.std.specs.Option.{option_map};
 ghost use Rattle.run_engine.specs.Build.{build_refusal, has_bytes, refusal_of};
 ghost use Rattle.run_engine.specs.declared.refusal.BuildRefusal.TheVariants as refusal;
 
 use crate::harts::start_of_harts;
 use crate::memory::item_words;
+use crate::of_ddm_types::{ItemId, Items, MOST_ITEMS, NoMemory, Span, Words, count_items};
+use crate::of_elf_load::{Image, Segment};
 use crate::refusal::BuildRefusal;
 use crate::tree::{item_bytes, place_count};
-use ddm_types::{ItemId, Items, MOST_ITEMS, NoMemory, Span, Words, count_items};
-use elf_load::{Image, Segment};
 use start_memory::{first_overlap, spans_of};
 use std::alloc::Global;
 use tree_config::TreeConfig;
@@ -32,7 +32,7 @@ fn judge_stacks(tree: &TreeConfig, image: &Image) -> Result<(), BuildRefusal>
 }
 
 // Whether the machine has a start, with this many items.
-#[tactic(auto, unfolding(tree_model::specs::Start::Machine::start_refusal))]
+#[tactic(auto, unfolding(crate::specs::Opened::start_refusal))]
 fn judge(tree: &TreeConfig, image: &Image, count: u64) -> Result<(), BuildRefusal>
     requires { count ≡ item_count (start_items tree.now image.now) }
     ensures none { OnOk result (start_refusal tree.now image.now ≡ None) }
@@ -64,7 +64,7 @@ fn keep_filled(spans: &mut Vec<Span>)
 }
 
 /// The items of a machine that has a start.
-#[tactic(auto, unfolding(tree_model::specs::Start::Memory::start_items))]
+#[tactic(auto, unfolding(crate::specs::Opened::start_items))]
 pub fn items(alloc: Global, tree: &TreeConfig, image: &Image) -> Result<Items, BuildRefusal>
     ensures items { IfOk result (λ items. items ≡ start_items tree.now image.now) }
     ensures none { IfOk result (λ items. start_refusal tree.now image.now ≡ None) }

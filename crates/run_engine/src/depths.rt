@@ -1,15 +1,15 @@
 ghost use Rattle.std.specs.Prelude.{◌≡◌, ◌+◌, ◌*◌, ◌<◌, ◌≤◌, IfOk, length, map, slice_index_or, [], None};
-ghost use Rattle.tree_model.specs.Start.Machine.{start_refusal};
-ghost use Rattle.tree_model.specs.Start.Memory.{start_code, start_items};
-ghost use Rattle.tree_model.specs.State.Values.{dir_node, leaf_node, nodes};
+ghost use Rattle.run_engine.specs.TreeModel.Start.Machine.{start_refusal};
+ghost use Rattle.run_engine.specs.TreeModel.Start.Memory.{start_code, start_items};
+ghost use Rattle.run_engine.specs.TreeModel.State.Values.{dir_node, leaf_node, nodes};
 ghost use Rattle.run_engine.specs.Started.{CanFill, CanStart, nodes_at, started};
 
+use crate::of_cluster::{Cluster, clusters};
+use crate::of_ddm_tree::{Dir, Machine, Subtree, directories};
+use crate::of_ddm_types::{Code, Items, NoMemory};
+use crate::of_elf_load::Image;
+use crate::of_leaf_protocol::Leaf;
 use crate::trees::{start_leaves, start_machine};
-use cluster::{Cluster, clusters};
-use ddm_tree::{Dir, Machine, Subtree, directories};
-use ddm_types::{Code, Items, NoMemory};
-use elf_load::Image;
-use leaf_protocol::Leaf;
 use std::alloc::Global;
 use tree_config::TreeConfig;
 

@@ -1,9 +1,9 @@
 ghost use Rattle.std.specs.Prelude.{◌≡◌, ◌≤◌, ◌+◌, ◌*◌};
-ghost use Rattle.tree_model.specs.Start.Sources.{start_of_harts};
+ghost use Rattle.run_engine.specs.TreeModel.Start.Sources.{start_of_harts};
 
+use crate::of_ddm_types::Start;
+use crate::of_elf_load::Image;
 use crate::tree::harts;
-use ddm_types::Start;
-use elf_load::Image;
 use tree_config::TreeConfig;
 
 /// What the harts begin with.

@@ -1,11 +1,11 @@
 ghost use Rattle.std.specs.Prelude.{◌≡◌, ◌+◌, ◌*◌, ◌%◌, ◌<◌, ◌≤◌, ◌^◌, map, length, All, IfOk, if◌then◌else◌};
 ghost use Rattle.std.specs.List.{range_with_len};
-ghost use Rattle.tree_model.specs.Start.Nodes.{has_way, leaf_for, leaf_sizes, new_leaf, placed_at, placed_in, placed_items};
-ghost use Rattle.tree_model.specs.State.Lists.{map_from};
+ghost use Rattle.run_engine.specs.TreeModel.Start.Nodes.{has_way, leaf_for, leaf_sizes, new_leaf, placed_at, placed_in, placed_items};
+ghost use Rattle.run_engine.specs.TreeModel.State.Lists.{map_from};
 ghost use Rattle.run_engine.specs.Placement.{ArePassed, CanPlace, HasSets, TakesItem};
 
-use ddm_types::{ItemId, LeafNo, NoMemory, Start, TreeSizes, Words};
-use leaf_protocol::Leaf;
+use crate::of_ddm_types::{ItemId, LeafNo, NoMemory, Start, TreeSizes, Words};
+use crate::of_leaf_protocol::Leaf;
 use std::alloc::Global;
 
 /// The leaves of a tree, with no entries: one for each hart, of this many items.

@@ -1,8 +1,8 @@
 ghost use Rattle.std.specs.Prelude.{◌≡◌, ◌≤◌};
-ghost use Rattle.tree_model.specs.Start.Memory.{item_words};
+ghost use Rattle.run_engine.specs.TreeModel.Start.Memory.{item_words};
 
-use ddm_types::Words;
-use elf_load::Segment;
+use crate::of_ddm_types::Words;
+use crate::of_elf_load::Segment;
 use start_memory::memory_words;
 
 /// The words of the item at this address, at the start.

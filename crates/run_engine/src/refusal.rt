@@ -1,7 +1,7 @@
 ghost use Rattle.std.specs.Prelude.{◌≡◌};
 ghost use Rattle.run_engine.specs.declared.refusal.BuildRefusal.TheVariants as refusal;
 
-use ddm_types::{ItemId, NoMemory};
+use crate::of_ddm_types::{ItemId, NoMemory};
 use thiserror::Error;
 
 /// Why there is no machine of a tree and an image.

@@ -1,5 +1,5 @@
 ghost use Rattle.std.specs.Prelude.{◌≡◌, ◌⊎◌, ◌≤◌, ◌+◌, ◌*◌};
-ghost use Rattle.tree_model.specs.Start.Sources.{leaf_count, place_count};
+ghost use Rattle.run_engine.specs.TreeModel.Start.Sources.{leaf_count, place_count};
 
 use tree_config::TreeConfig;
 

@@ -1,17 +1,17 @@
 ghost use Rattle.std.specs.Prelude.{◌≡◌, ◌≤◌, ◌<◌, ◌*◌, None, map, IfOk};
-ghost use Rattle.tree_model.specs.Start.Machine.{start_leaves, start_machine, start_refusal};
-ghost use Rattle.tree_model.specs.Start.Memory.{start_code, start_items};
-ghost use Rattle.start_parts.specs.Parts.{start_kids};
+ghost use Rattle.run_engine.specs.TreeModel.Start.Machine.{start_leaves, start_machine, start_refusal};
+ghost use Rattle.run_engine.specs.TreeModel.Start.Memory.{start_code, start_items};
+ghost use Rattle.run_engine.specs.StartParts.Parts.{start_kids};
 
 use crate::contents::words;
 use crate::harts::start_of_harts;
 use crate::leaves::{new_leaves, place_items};
-use ddm_tree::{Machine, Subtree};
-use ddm_types::{Code, Items, NoMemory, TreeCounts};
-use elf_load::Image;
-use leaf_protocol::Leaf;
+use crate::of_ddm_tree::{Machine, Subtree};
+use crate::of_ddm_types::{Code, Items, NoMemory, TreeCounts};
+use crate::of_elf_load::Image;
+use crate::of_leaf_protocol::Leaf;
+use crate::of_top_node::TopState;
 use std::alloc::Global;
-use top_node::TopState;
 use tree_config::TreeConfig;
 
 /// The leaves of a tree, with the items of an image placed.

@@ -1,13 +1,13 @@
 -- What an instruction asks for, and what one without an item reads.
 use Rattle.std.proofs.Common.{◌≡◌, ℕ, ◌<◌, false, List, [], Some, None, refl, sym, ap}
-use Rattle.ddm_types.specs.CodeMap.{CodeWord}
-use Rattle.ddm_types.specs.ItemTable.{ItemTable, item_count}
-use Rattle.flat_model.specs.declared.Ask.{Ask}
-use Rattle.flat_model.specs.declared.Ask.TheVariants.{Plain, Put, NeedsShared, NeedsExclusive, Conditional, Halt}
-use Rattle.flat_model.specs.Hart.{HartValue, ask_of, finish_of}
-use Rattle.flat_model.specs.Flat.{asked_item}
-use Rattle.flat_model.proofs.Steps.{finish_plain}
-use Rattle.flat_model.proofs.Items.{asks_inside}
+use Rattle.rv_flat.specs.DdmTypes.CodeMap.{CodeWord}
+use Rattle.rv_flat.specs.DdmTypes.ItemTable.{ItemTable, item_count}
+use Rattle.rv_flat.specs.FlatModel.declared.Ask.{Ask}
+use Rattle.rv_flat.specs.FlatModel.declared.Ask.TheVariants.{Plain, Put, NeedsShared, NeedsExclusive, Conditional, Halt}
+use Rattle.rv_flat.specs.FlatModel.Hart.{HartValue, ask_of, finish_of}
+use Rattle.rv_flat.specs.FlatModel.Flat.{asked_item}
+use Rattle.rv_flat.proofs.FlatModel.Steps.{finish_plain}
+use Rattle.rv_flat.proofs.FlatModel.Items.{asks_inside}
 use Rattle.rv_flat.specs.Asks.{IsOfItem, IsOfNoItem}
 
 asked_of_item : (ask : Ask) (x : ℕ) → IsOfItem x ask → asked_item ask ≡ Some x

@@ -1,3 +1,5 @@
+pub mod FlatModel
+pub mod RvHart
 pub mod RegistersKept
 pub mod Asked
 pub mod Lists

@@ -4,17 +4,17 @@ use Rattle.std.specs.Prelude.{Result, if◌then◌else◌}
 use Rattle.std.specs.List.{range_with_len}
 use Rattle.std.proofs.Math.ListN.{length-set}
 use Rattle.std.proofs.lemmas.List.FromFn.{length-map-range_with_len}
-use Rattle.ddm_types.specs.declared.sizes.Start.{Start}
-use Rattle.flat_model.proofs.Frames.{same_counts}
-use Rattle.flat_model.proofs.Steps.{finish_keeps, finish_failing_keeps}
+use Rattle.rv_flat.specs.DdmTypes.declared.sizes.Start.{Start}
+use Rattle.rv_flat.proofs.FlatModel.Frames.{same_counts}
+use Rattle.rv_flat.proofs.FlatModel.Steps.{finish_keeps, finish_failing_keeps}
 use Rattle.rv_flat.specs.ItemWords.{words_by_item, words_of_item}
-use Rattle.ddm_types.specs.declared.operations.HaltCause.{HaltCause}
-use Rattle.ddm_types.specs.CodeMap.{CodeWord}
-use Rattle.ddm_types.specs.ItemTable.{ItemTable, item_count}
-use Rattle.flat_model.specs.declared.Ask.{Ask}
-use Rattle.flat_model.specs.declared.Ask.TheVariants.{Plain, Put, NeedsShared, NeedsExclusive, Conditional, Halt}
-use Rattle.flat_model.specs.Hart.{Finished, ask_of, finish_of}
-use Rattle.flat_model.specs.Flat.{FlatHart, FlatMachine, FlatStepped, Change, change_by, conditional, flat_halted, flat_hart, flat_hart_start, flat_step, machine_after, has_reserved, hart_step, item_words, leaving, storing_to, stepped, unless_halted, with_change}
+use Rattle.rv_flat.specs.DdmTypes.declared.operations.HaltCause.{HaltCause}
+use Rattle.rv_flat.specs.DdmTypes.CodeMap.{CodeWord}
+use Rattle.rv_flat.specs.DdmTypes.ItemTable.{ItemTable, item_count}
+use Rattle.rv_flat.specs.FlatModel.declared.Ask.{Ask}
+use Rattle.rv_flat.specs.FlatModel.declared.Ask.TheVariants.{Plain, Put, NeedsShared, NeedsExclusive, Conditional, Halt}
+use Rattle.rv_flat.specs.FlatModel.Hart.{Finished, ask_of, finish_of}
+use Rattle.rv_flat.specs.FlatModel.Flat.{FlatHart, FlatMachine, FlatStepped, Change, change_by, conditional, flat_halted, flat_hart, flat_hart_start, flat_step, machine_after, has_reserved, hart_step, item_words, leaving, storing_to, stepped, unless_halted, with_change}
 use Rattle.rv_hart.specs.Steps.{IsReady}
 use Rattle.rv_flat.specs.Asks.{IsOfItem, IsOfNoItem, ask_unless_halted, next_ask}
 use Rattle.rv_flat.proofs.Asked.{asked_inside}

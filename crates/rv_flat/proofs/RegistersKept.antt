@@ -4,11 +4,11 @@ use Rattle.std.proofs.Math.ListN.{length-set}
 use Rattle.std.proofs.lemmas.Bool.{eqb-false}
 use Rattle.std.proofs.lemmas.List.{get_or-set_other}
 use Rattle.std.specs.Prelude.{slice_set, if◌then◌else◌}
-use Rattle.ddm_types.specs.CodeMap.{CodeWord}
-use Rattle.ddm_types.specs.ItemTable.{ItemTable}
-use Rattle.rv_decode.specs.declared.instructions.Reg.{Reg}
-use Rattle.flat_model.specs.Hart.{HartValue, Action, with_register, Halts, Computes, Puts, Loads, Stores, Reserves, StoresIfReserved, Changes, action_of, finish_by, finish_of, storing_if}
-use Rattle.flat_model.proofs.Actions.{IsNextOf, IsActionOf, action_is}
+use Rattle.rv_flat.specs.DdmTypes.CodeMap.{CodeWord}
+use Rattle.rv_flat.specs.DdmTypes.ItemTable.{ItemTable}
+use Rattle.rv_flat.specs.RvDecode.declared.instructions.Reg.{Reg}
+use Rattle.rv_flat.specs.FlatModel.Hart.{HartValue, Action, with_register, Halts, Computes, Puts, Loads, Stores, Reserves, StoresIfReserved, Changes, action_of, finish_by, finish_of, storing_if}
+use Rattle.rv_flat.proofs.FlatModel.Actions.{IsNextOf, IsActionOf, action_is}
 use Rattle.rv_flat.specs.Registers.{IsHart}
 
 set_register : (h : HartValue) (rd : Reg) (v : ℕ) → IsHart h → IsHart (with_register h rd v)

@@ -1,12 +1,12 @@
 -- What a hart's next instruction asks for.
 use Rattle.std.specs.Prelude.{◌≡◌, ℕ, List, Option, Some, None}
-use Rattle.ddm_types.specs.declared.operations.HaltCause.{HaltCause}
-use Rattle.ddm_types.specs.CodeMap.{CodeWord}
-use Rattle.ddm_types.specs.ItemTable.{ItemTable}
-use Rattle.flat_model.specs.declared.Ask.{Ask}
-use Rattle.flat_model.specs.declared.Ask.TheVariants.{Plain, Put, NeedsShared, NeedsExclusive, Conditional, Halt}
-use Rattle.flat_model.specs.Hart.{ask_of}
-use Rattle.flat_model.specs.Flat.{FlatHart}
+use Rattle.rv_flat.specs.DdmTypes.declared.operations.HaltCause.{HaltCause}
+use Rattle.rv_flat.specs.DdmTypes.CodeMap.{CodeWord}
+use Rattle.rv_flat.specs.DdmTypes.ItemTable.{ItemTable}
+use Rattle.rv_flat.specs.FlatModel.declared.Ask.{Ask}
+use Rattle.rv_flat.specs.FlatModel.declared.Ask.TheVariants.{Plain, Put, NeedsShared, NeedsExclusive, Conditional, Halt}
+use Rattle.rv_flat.specs.FlatModel.Hart.{ask_of}
+use Rattle.rv_flat.specs.FlatModel.Flat.{FlatHart}
 
 abbrev pub ask_unless_halted : Option HaltCause → Ask → Ask
 ask_unless_halted None ask = ask

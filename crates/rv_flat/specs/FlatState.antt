@@ -1,9 +1,9 @@
 -- A flat machine with the size of its items.
 use Rattle.std.specs.Prelude.{◌≡◌, ℕ, ◌-◌, ◌/◌, Option, Some, None, Result, Ok, Err, length, slice_index}
-use Rattle.ddm_types.specs.declared.operations.Effect.{Effect}
-use Rattle.ddm_types.specs.declared.operations.HaltCause.{HaltCause}
-use Rattle.ddm_types.specs.ItemTable.{ItemTable, item_at, item_count, row_at}
-use Rattle.flat_model.specs.Flat.{FlatMachine, FlatStepped, item_words}
+use Rattle.rv_flat.specs.DdmTypes.declared.operations.Effect.{Effect}
+use Rattle.rv_flat.specs.DdmTypes.declared.operations.HaltCause.{HaltCause}
+use Rattle.rv_flat.specs.DdmTypes.ItemTable.{ItemTable, item_at, item_count, row_at}
+use Rattle.rv_flat.specs.FlatModel.Flat.{FlatMachine, FlatStepped, item_words}
 
 pub record FlatState : Type 0 where
   pub machine : FlatMachine

@@ -1,4 +1,9 @@
+pub mod DdmTypes
+pub mod FlatModel
+pub mod RvDecode
+pub mod RvHart
 pub mod Registers
 pub mod FlatState
 pub mod ItemWords
 pub mod Asks
+pub mod Opened

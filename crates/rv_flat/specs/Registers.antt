@@ -1,6 +1,6 @@
 -- What is true of each hart's registers.
 use Rattle.std.specs.Prelude.{◌≡◌, length, slice_index}
-use Rattle.flat_model.specs.Hart.{HartValue}
+use Rattle.rv_flat.specs.FlatModel.Hart.{HartValue}
 
 -- there are 32 registers, and the first of them is 0
 pub record IsHart (h : HartValue) : Type 0 where

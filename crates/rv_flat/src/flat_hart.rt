@@ -1,13 +1,13 @@
 ghost use Rattle.std.specs.Prelude.{◌≡◌, ◌+◌, ◌*◌, ◌<◌, ◌≤◌, None, Some, IfOk, map};
 ghost use Rattle.std.specs.List.{range_with_len};
-ghost use Rattle.flat_model.specs.Hart.{ask_of, finish_of, register};
-ghost use Rattle.flat_model.specs.Flat.{flat_hart_start, has_reserved, without_reserved};
+ghost use Rattle.rv_flat.specs.FlatModel.Hart.{ask_of, finish_of, register};
+ghost use Rattle.rv_flat.specs.FlatModel.Flat.{flat_hart_start, has_reserved, without_reserved};
 ghost use Rattle.rv_hart.specs.Steps.{IsReady};
 ghost use Rattle.rv_flat.specs.Asks.{next_ask};
 ghost use Rattle.rv_flat.specs.Registers.{IsHart};
 
-use ddm_types::{Code, Effect, HaltCause, HartNo, ItemId, Items, NoMemory, Start, Words};
-use rv_decode::Reg;
+use crate::of_ddm_types::{Code, Effect, HaltCause, HartNo, ItemId, Items, NoMemory, Start, Words};
+use crate::of_rv_decode::Reg;
 use rv_hart::{Ask, Hart};
 use std::alloc::Global;
 use std::marker::Model;
@@ -20,7 +20,7 @@ pub struct FlatHart {
 }
 
 impl Model for FlatHart {
-    ghost use Rattle.flat_model.specs.Flat.{FlatHart as FlatHartValue};
+    ghost use Rattle.rv_flat.specs.FlatModel.Flat.{FlatHart as FlatHartValue};
     ghost use Rattle.rv_flat.specs.Registers.{IsHart};
 
     ghost Value = { FlatHartValue };

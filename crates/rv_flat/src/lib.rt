@@ -4,5 +4,8 @@
 mod flat_hart;
 mod machine;
 mod memory;
+pub mod of_ddm_types;
+pub mod of_rv_decode;
+pub mod of_rv_hart;
 
 pub use machine::FlatMachine;

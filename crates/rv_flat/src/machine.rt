@@ -1,15 +1,15 @@
 ghost use Rattle.std.specs.Prelude.{◌≡◌, ◌+◌, ◌*◌, ◌/◌, ◌<◌, ◌≤◌, ◌&&◌, false, None, Some, IfOk, [], length, if◌then◌else◌};
-ghost use Rattle.ddm_types.specs.ItemTable.{IsItemSize, item_count};
-ghost use Rattle.flat_model.specs.Hart.{finish_of, register};
-ghost use Rattle.flat_model.specs.Flat.{flat_halted, flat_hart, flat_start, flat_step, has_reserved, item_words, leaving, machine_after, storing_to, with_change};
+ghost use Rattle.rv_flat.specs.DdmTypes.ItemTable.{IsItemSize, item_count};
+ghost use Rattle.rv_flat.specs.FlatModel.Hart.{finish_of, register};
+ghost use Rattle.rv_flat.specs.FlatModel.Flat.{flat_halted, flat_hart, flat_start, flat_step, has_reserved, item_words, leaving, machine_after, storing_to, with_change};
 ghost use Rattle.rv_flat.specs.Asks.{IsOfItem, IsOfNoItem, next_ask};
 ghost use Rattle.rv_flat.specs.FlatState.{HasItems, outcome_of, with_machine, word_at};
 ghost use Rattle.rv_flat.specs.ItemWords.{words_by_item};
 
 use crate::flat_hart::{FlatHart, free_all, harts_at_start};
 use crate::memory::Memory;
-use ddm_types::{Code, Effect, HaltCause, HartNo, ItemId, Items, NoMemory, Start};
-use rv_decode::Reg;
+use crate::of_ddm_types::{Code, Effect, HaltCause, HartNo, ItemId, Items, NoMemory, Start};
+use crate::of_rv_decode::Reg;
 use rv_hart::Ask;
 use std::alloc::Global;
 use std::marker::Model;
@@ -33,7 +33,7 @@ impl Model for FlatMachine {
 
 impl FlatMachine {
     /// The machine at its start. `words` has the words of all items, in order of address.
-    #[tactic(auto, using(crate::proofs::Outcomes::start_harts, crate::proofs::Outcomes::start_items), unfolding(flat_model::specs::Flat::flat_start))]
+    #[tactic(auto, using(crate::proofs::Outcomes::start_harts, crate::proofs::Outcomes::start_items), unfolding(crate::specs::Opened::flat_start))]
     pub fn new(
         alloc: Global,
         items: &Items,
@@ -85,7 +85,7 @@ impl FlatMachine {
         sc_ok && self.harts[hart.0 as usize].has_reserved(item)
     }
 
-    #[tactic(auto, unfolding(flat_model::specs::Flat::flat_halted))]
+    #[tactic(auto, unfolding(crate::specs::Opened::flat_halted))]
     fn halt(&mut self, hart: HartNo, cause: HaltCause)
         requires { hart < length self.old.machine.harts }
         ensures { self.new ≡ with_machine self.old (flat_halted self.old.machine hart cause) }

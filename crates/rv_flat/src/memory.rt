@@ -1,12 +1,12 @@
 ghost use Rattle.std.specs.Prelude.{◌≡◌, ◌⊎◌, ◌*◌, ◌/◌, ◌<◌, ◌≤◌, false, None, Some, IfOk, length, slice_index, slice_index_or, slice_set, []};
-ghost use Rattle.flat_model.specs.Hart.{ask_of, finish_of};
-ghost use Rattle.ddm_types.specs.ItemTable.{IsItemSize};
+ghost use Rattle.rv_flat.specs.FlatModel.Hart.{ask_of, finish_of};
+ghost use Rattle.rv_flat.specs.DdmTypes.ItemTable.{IsItemSize};
 ghost use Rattle.rv_hart.specs.Steps.{IsReady};
 ghost use Rattle.rv_flat.specs.ItemWords.{memory_size, memory_words, words_by_item};
 ghost use Rattle.rv_flat.specs.Asks.{IsOfNoItem};
 
 use crate::flat_hart::FlatHart;
-use ddm_types::{Code, Effect, ItemId, Items, NoMemory, Words};
+use crate::of_ddm_types::{Code, Effect, ItemId, Items, NoMemory, Words};
 use std::alloc::Global;
 
 /// The words of all items: items of 4 words, or of 16.

@@ -1,7 +1,7 @@
 -- The item that has a byte.
 use Rattle.std.proofs.Common.{◌≡◌, ℕ, ◌+◌, ◌<◌, ◌≤◌, true, Some, arith}
 use Rattle.std.proofs.lemmas.List.Quantifiers.{position-Some}
-use Rattle.ddm_types.specs.ItemTable.{ItemTable, ItemRow, item_at, row_at, row_has, no_row}
+use Rattle.rv_hart.specs.DdmTypes.ItemTable.{ItemTable, ItemRow, item_at, row_at, row_has, no_row}
 
 row_from : (size a : ℕ) (row : ItemRow) → row_has size a row ≡ true → (row.address ≤ a) × (a < row.address + size)
 row_from size a row h = grind arith

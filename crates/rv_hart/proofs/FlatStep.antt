@@ -2,7 +2,7 @@
 use Rattle.std.proofs.Common.{ℕ, Bool, true, false, ◌&&◌, List, Option, refl, sym, ap, ◌∙◌, subst}
 use Rattle.std.specs.Result.{IsOkAnd}
 use Rattle.flat_model.specs.declared.Ask.TheVariants.{Conditional}
-use Rattle.rv_decode.specs.declared.instructions.Reg.{Reg}
+use Rattle.rv_hart.specs.RvDecode.declared.instructions.Reg.{Reg}
 use Rattle.flat_model.specs.Hart.{HartValue, Access, Action, storing_if, Halts, Computes, Puts, Loads, Stores, Reserves, StoresIfReserved, Changes, action_of, ask_by, ask_of, finish_by, finish_of}
 use Rattle.flat_model.specs.Flat.{change_by, conditional, has_reserved, unless_halted, hart_step}
 use Rattle.rv_hart.specs.Steps.{IsReady}

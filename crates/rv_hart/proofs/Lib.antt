@@ -1,3 +1,4 @@
+pub mod FlatModel
 pub mod Accesses
 pub mod Ready
 pub mod FlatStep

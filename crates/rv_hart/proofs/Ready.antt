@@ -1,6 +1,6 @@
 -- Whatever a hart asks for that isn't a halt is ready.
 use Rattle.std.proofs.Common.{◌≡◌, refl}
-use Rattle.ddm_types.specs.declared.operations.HaltCause.{HaltCause}
+use Rattle.rv_hart.specs.DdmTypes.declared.operations.HaltCause.{HaltCause}
 use Rattle.flat_model.specs.declared.Ask.{Ask}
 use Rattle.flat_model.specs.declared.Ask.TheVariants.{Plain, Put, NeedsShared, NeedsExclusive, Conditional, Halt}
 use Rattle.rv_hart.specs.Steps.{IsReady}

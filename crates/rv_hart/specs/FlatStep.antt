@@ -1,9 +1,9 @@
 -- A hart's instruction on the words of its item, as the flat machine's step.
 use Rattle.std.specs.Prelude.{◌≡◌, ℕ, Bool, ◌&&◌, List, Option, Some, None, Err, IfSome}
 use Rattle.std.specs.Result.{IsOkAnd}
-use Rattle.ddm_types.specs.declared.operations.HaltCause.{HaltCause}
-use Rattle.ddm_types.specs.CodeMap.{CodeWord}
-use Rattle.ddm_types.specs.ItemTable.{ItemTable}
+use Rattle.rv_hart.specs.DdmTypes.declared.operations.HaltCause.{HaltCause}
+use Rattle.rv_hart.specs.DdmTypes.CodeMap.{CodeWord}
+use Rattle.rv_hart.specs.DdmTypes.ItemTable.{ItemTable}
 use Rattle.flat_model.specs.declared.Ask.{Ask}
 use Rattle.flat_model.specs.declared.Ask.TheVariants.{Conditional, Halt}
 use Rattle.flat_model.specs.Hart.{Finished, ask_of, finish_of}

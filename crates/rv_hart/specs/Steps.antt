@@ -1,13 +1,13 @@
 -- The parts of an instruction: its word, the item of its access, and what it does.
 use Rattle.std.specs.Prelude.{◌≡◌, ℕ, ◌+◌, ◌*◌, ◌%◌, ◌<◌, ◌≤◌, nat_eq, List, Option, Some, None, Result, Ok, Err, if◌then◌else◌}
-use Rattle.ddm_types.specs.declared.operations.Effect.{Effect}
-use Rattle.ddm_types.specs.declared.operations.HaltCause.{HaltCause}
-use Rattle.ddm_types.specs.declared.operations.HaltCause.TheVariants.{Illegal, FetchOutside, MisalignedAccess, LoadOutside, StoreOutside}
-use Rattle.ddm_types.specs.CodeMap.{CodeWord, word_at}
-use Rattle.ddm_types.specs.ItemTable.{ItemTable, item_at, row_at}
-use Rattle.rv_decode.specs.declared.instructions.Instr.{Instr}
-use Rattle.rv_decode.specs.declared.instructions.Instr.TheVariants.{Load as LoadInstr, Store as StoreInstr, Lr, Sc, Amo}
-use Rattle.rv_decode.specs.Table.{decode_of}
+use Rattle.rv_hart.specs.DdmTypes.declared.operations.Effect.{Effect}
+use Rattle.rv_hart.specs.DdmTypes.declared.operations.HaltCause.{HaltCause}
+use Rattle.rv_hart.specs.DdmTypes.declared.operations.HaltCause.TheVariants.{Illegal, FetchOutside, MisalignedAccess, LoadOutside, StoreOutside}
+use Rattle.rv_hart.specs.DdmTypes.CodeMap.{CodeWord, word_at}
+use Rattle.rv_hart.specs.DdmTypes.ItemTable.{ItemTable, item_at, row_at}
+use Rattle.rv_hart.specs.RvDecode.declared.instructions.Instr.{Instr}
+use Rattle.rv_hart.specs.RvDecode.declared.instructions.Instr.TheVariants.{Load as LoadInstr, Store as StoreInstr, Lr, Sc, Amo}
+use Rattle.rv_hart.specs.RvDecode.Table.{decode_of}
 use Rattle.flat_model.specs.declared.Ask.{Ask}
 use Rattle.flat_model.specs.declared.Ask.TheVariants.{Plain, Put as PutAsk, NeedsShared, NeedsExclusive, Conditional, Halt as HaltAsk}
 use Rattle.flat_model.specs.Hart.{HartValue, Finished, Access as AccessValue, Action, Halts, Computes, Puts, Loads, Stores, Reserves, StoresIfReserved, Changes, advanced, written, with_register, next_pc, load_bytes, store_bytes}

@@ -2,7 +2,7 @@
 ghost use Rattle.std.specs.Prelude.{◌≡◌, ◌+◌, ◌<◌, ◌≤◌};
 ghost use Rattle.flat_model.specs.Hart.{byte_in, half_in, load_bytes, loaded_value, store_bytes, stored_word};
 
-use rv_decode::{LoadOp, StoreOp};
+use crate::of_rv_decode::{LoadOp, StoreOp};
 
 /// How many bytes a load reads.
 pub fn load_bytes(op: LoadOp) -> u32

@@ -1,18 +1,18 @@
 ghost use Rattle.std.specs.Prelude.{◌≡◌, ◌+◌, ◌*◌, ◌<◌, ◌≤◌, ℕ, None, Some, slice_index};
-ghost use Rattle.ddm_types.specs.ItemTable.{ItemTable};
+ghost use Rattle.rv_hart.specs.DdmTypes.ItemTable.{ItemTable};
 ghost use Rattle.flat_model.specs.Hart.{action_of, advanced, ask_of, call, changing, finish_by, finish_of, hart_start, instr_action, is_taken, load_bytes, loading, next_pc, offset_by, register, reserving, store_bytes, storing, storing_if, with_register, written};
 ghost use Rattle.rv_hart.specs.HartState.{with_hart};
 ghost use Rattle.rv_hart.specs.Steps.{HasNoAccess, IsFinished, IsInWord, IsInside, IsReady, access_value, action_by, fetched, GoesOn};
 
 use crate::bytes::{loaded_value, stored_word};
+use crate::of_ddm_types::{Code, Effect, HaltCause, HartNo, Items, Start, Words};
+use crate::of_rv_decode::{AmoOp, BranchOp, Instr, LoadOp, Reg, StoreOp, decode};
 use crate::results::{amo_result, immediate_result, is_taken, offset_by, register_result};
 use crate::steps::{
     Access, Step, change_step, jump_step, link_step, load_step, reserve_step,
     store_if_reserved_step, store_step,
 };
-use ddm_types::{Code, Effect, HaltCause, HartNo, Items, Start, Words};
 use flat_model::Ask;
-use rv_decode::{AmoOp, BranchOp, Instr, LoadOp, Reg, StoreOp, decode};
 use std::marker::Model;
 
 /// A hart: its registers, its pc, why it stopped if it did, and how many instructions it has completed.

@@ -6,6 +6,8 @@ ghost use Rattle.rv_hart.specs.FlatStep.{FinishesAsFlat, HaltsAsFlat};
 
 mod bytes;
 mod hart;
+pub mod of_ddm_types;
+pub mod of_rv_decode;
 mod results;
 mod steps;
 

@@ -2,7 +2,7 @@
 ghost use Rattle.std.specs.Prelude.{◌≡◌, int_lt};
 ghost use Rattle.flat_model.specs.Hart.{amo_result, immediate_result, is_taken, offset_by, operation, register_result, signed_word};
 
-use rv_decode::{AmoOp, BranchOp, ImmOp, RegOp};
+use crate::of_rv_decode::{AmoOp, BranchOp, ImmOp, RegOp};
 
 /// The address at this offset.
 pub fn offset_by(base: u32, offset: i32) -> u32

@@ -1,13 +1,13 @@
 //! What an instruction does, as far as that is known before the words of its item are.
 ghost use Rattle.std.specs.Prelude.{◌≡◌, ℕ, ◌*◌, ◌<◌, Some};
-ghost use Rattle.ddm_types.specs.ItemTable.{item_at};
+ghost use Rattle.rv_hart.specs.DdmTypes.ItemTable.{item_at};
 ghost use Rattle.flat_model.specs.Hart.{ask_by, access_in, aligned, jump, next_pc, with_register, byte_place, word_address, load_at, store_at, load_bytes, store_bytes, Loads, Stores, Reserves, StoresIfReserved, Changes, HartValue};
 ghost use Rattle.rv_hart.specs.Steps.{load_item, store_item, access_value, action_by, IsInside};
 
 use crate::bytes::{load_bytes, store_bytes};
-use ddm_types::{HaltCause, ItemId, Items};
+use crate::of_ddm_types::{HaltCause, ItemId, Items};
+use crate::of_rv_decode::{AmoOp, LoadOp, Reg, StoreOp};
 use flat_model::Ask;
-use rv_decode::{AmoOp, LoadOp, Reg, StoreOp};
 
 /// A byte address, its item, and which word of the item it is in.
 #[derive(Clone, Copy)]

@@ -8,7 +8,7 @@ use Rattle.std.proofs.lemmas.Bool.{eqb-true}
 use Rattle.std.proofs.lemmas.List.{get_or-take, length-take, length-drop, take_all}
 use Rattle.std.proofs.lemmas.List.Quantifiers.{position-Some}
 use Rattle.text_model.specs.Schedule.{pieces_at}
-use Rattle.ddm_text.specs.Numbers.{number_of, number_stop, value_of, at_most, unless_stopped}
+use Rattle.schedule_log.specs.DdmText.Numbers.{number_of, number_stop, value_of, at_most, unless_stopped}
 use Rattle.std.proofs.lemmas.Bool.Decides.{nat_tests}
 use Rattle.text_model.specs.Lines.{Lacks}
 use Rattle.text_model.proofs.Pieces.{pieces_at-whole, pieces_at-append}

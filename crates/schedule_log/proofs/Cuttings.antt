@@ -2,7 +2,7 @@
 use Rattle.std.proofs.Common.{◌≡◌, ℕ, zero, suc, ◌+◌, ◌<◌, ◌≤◌, nat_eq, Option, Some, None, take, drop, arith, List, [], ◌∷◌, ◌++◌, length, Ok, Err, refl, sym, ap, ◌∙◌, add-zero, length-append, append_assoc}
 use Rattle.std.proofs.lemmas.List.{append-nil, length-drop}
 use Rattle.std.specs.Prelude.{position}
-use Rattle.ddm_types.specs.declared.turns.Turn.{Turn}
+use Rattle.schedule_log.specs.DdmTypes.declared.turns.Turn.{Turn}
 use Rattle.text_model.specs.declared.ScheduleRefusal.{ScheduleRefusal}
 use Rattle.text_model.specs.Schedule.{ShapeView, Standing, in_line, at_end, refused_at, Reading, pieces_at, reading_from, reading_of, reading_on, held_of, with_turns, resumed, end_with, schedule_of, finished}
 use Rattle.text_model.proofs.Resumed.{reading_on-append}

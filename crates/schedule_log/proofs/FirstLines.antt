@@ -4,9 +4,9 @@ use Rattle.std.specs.Prelude.{position, bytes_eq, codes}
 use Rattle.std.proofs.lemmas.Bool.{le-ltb}
 use Rattle.std.proofs.lemmas.Bool.Decides.{nat_tests}
 use Rattle.std.proofs.lemmas.List.{length-take, get_or-take, take-take, take_all, take-append-drop}
-use Rattle.ddm_types.specs.declared.turns.Turn.{Turn}
-use Rattle.ddm_text.specs.Lines.{first_line, cut_at, is_line_feed}
-use Rattle.ddm_text.specs.declared.lines.LineCut.TheVariants.{Line, LineTooLong, NoEndOfLine}
+use Rattle.schedule_log.specs.DdmTypes.declared.turns.Turn.{Turn}
+use Rattle.schedule_log.specs.DdmText.Lines.{first_line, cut_at, is_line_feed}
+use Rattle.schedule_log.specs.DdmText.declared.lines.LineCut.TheVariants.{Line, LineTooLong, NoEndOfLine}
 use Rattle.text_model.specs.declared.ScheduleRefusal.{ScheduleRefusal}
 use Rattle.text_model.specs.declared.ScheduleRefusal.TheVariants.{BadTurn, TooManyTurns}
 use Rattle.text_model.specs.Schedule.{ShapeView, pieces_at, turn_of_words, turn_text, line_of_turn, meaning_of, LineMeaning, turn_line_of, end_line, no_line, turn_fault, refusal_of_turn, refused_at, nothing_but, with_turn, unless_refused, reading_on, reading_of_line, end_with, held_of, last_piece}

@@ -3,7 +3,7 @@
 -- left of the text; turn is that of the next line, which has `used` bytes.
 use Rattle.std.proofs.Common.{◌≡◌, ℕ, ◌+◌, ◌-◌, ◌≤◌, List, [], ◌∷◌, ◌++◌, length, take, drop, sym, ap, ◌∙◌, append_assoc, length-take, length-drop, arith}
 use Rattle.std.proofs.lemmas.List.{drop-drop, take-append-le, take_rest}
-use Rattle.ddm_types.specs.declared.turns.Turn.{Turn}
+use Rattle.schedule_log.specs.DdmTypes.declared.turns.Turn.{Turn}
 use Rattle.text_model.specs.Schedule.{ShapeView, Reading, reading_on, with_turn}
 use Rattle.schedule_log.specs.Reader.{ReadUpTo}
 use Rattle.schedule_log.specs.Steps.{BeginsWithTurn}

@@ -4,7 +4,7 @@ use Rattle.std.specs.Prelude.{All, nat_eq, nat_lt, slice_get, slice_index_or}
 use Rattle.std.proofs.Math.Nat.{mod-lt}
 use Rattle.std.proofs.lemmas.Bool.{eqb-false, lt-ltb, ltb-true, ltb-false}
 use Rattle.std.proofs.lemmas.List.Elements.{All-nil, All-cons}
-use Rattle.ddm_types.specs.declared.turns.Turn.{Turn}
+use Rattle.schedule_log.specs.DdmTypes.declared.turns.Turn.{Turn}
 use Rattle.rand_pcg.specs.Lcg.{Lcg}
 use Rattle.text_model.specs.Schedule.{ShapeView, child_fault, turn_fault}
 use Rattle.text_model.specs.ReadBack.{IsTurnOf}

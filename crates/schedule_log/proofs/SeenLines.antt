@@ -5,7 +5,7 @@ use Rattle.std.specs.Prelude.{codes, is_none}
 use Rattle.std.proofs.lemmas.Bool.{lt-ltb}
 use Rattle.std.proofs.lemmas.List.{length-append, take-append-drop}
 use Rattle.std.proofs.Math.Seq.{take-add, take-append_seam, take-take}
-use Rattle.ddm_types.specs.declared.turns.Turn.{Turn}
+use Rattle.schedule_log.specs.DdmTypes.declared.turns.Turn.{Turn}
 use Rattle.text_model.specs.Schedule.{ShapeView, refusal_of_turn, turn_fault, turn_text}
 use Rattle.schedule_log.specs.Seen.{IsFrontOf, IsSeen, IsSeenLine}
 use Rattle.schedule_log.specs.Spelled.{BeginsWithLine}

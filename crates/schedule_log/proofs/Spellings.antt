@@ -3,7 +3,7 @@ use Rattle.std.proofs.Common.{◌≡◌, ℕ, ◌+◌, ◌*◌, ◌%◌, ◌<◌
 use Rattle.std.proofs.lemmas.Fmt.{decimal_digit, decimal_step}
 use Rattle.std.proofs.lemmas.Nat.{div-mul-add, mod-mul-add}
 use Rattle.std.specs.Prelude.{codes}
-use Rattle.ddm_types.specs.declared.turns.Turn.{Turn}
+use Rattle.schedule_log.specs.DdmTypes.declared.turns.Turn.{Turn}
 use Rattle.text_model.specs.Schedule.{turn_text}
 use Rattle.text_model.proofs.TurnTexts.{IsShort, meaning_of-turn_text, Lacks-turn_text}
 use Rattle.schedule_log.specs.Spelled.{Begins, BeginsWithChild, BeginsWithDigit, BeginsWithLine, BeginsWithNumber}

@@ -1,3 +1,6 @@
+pub mod DdmText
+pub mod DdmTypes
+pub mod TextModel
 pub mod Shapes
 pub mod Seeding
 pub mod Standings

@@ -1,7 +1,7 @@
 -- A reader that was given a text, in whatever pieces.
 -- Letters: made is how many turns were there before the text.
 use Rattle.std.specs.Prelude.{ℕ, ◌+◌, List, length}
-use Rattle.ddm_types.specs.declared.turns.Turn.{Turn}
+use Rattle.schedule_log.specs.DdmTypes.declared.turns.Turn.{Turn}
 use Rattle.text_model.specs.Schedule.{ShapeView, reading_of}
 use Rattle.schedule_log.specs.Standings.{held_in}
 use Rattle.schedule_log.specs.Reader.{ReaderView}

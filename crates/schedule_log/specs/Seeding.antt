@@ -1,7 +1,7 @@
 -- The turns of a seed that are still to come.
 use Rattle.std.specs.Prelude.{◌≡◌, ℕ, ◌+◌, ◌*◌, ◌/◌, ◌%◌, ◌≤◌, List, length, map, replicate, slice_index_or}
 use Rattle.std.specs.List.{range_with_len}
-use Rattle.ddm_types.specs.declared.turns.Turn.{Turn}
+use Rattle.schedule_log.specs.DdmTypes.declared.turns.Turn.{Turn}
 use Rattle.rand_pcg.specs.Lcg.{Lcg}
 use Rattle.text_model.specs.Schedule.{ShapeView}
 use Rattle.text_model.specs.Seeded.{bus_turn_from, turns_of_words, words_of}

@@ -1,7 +1,7 @@
 -- Lines of a schedule that are told by the front of a text: its first eight bytes and the last four of its first line.
 use Rattle.std.specs.Prelude.{◌≡◌, ℕ, ◌+◌, ◌-◌, ◌≤◌, List, length, drop, take, None}
 use Rattle.std.specs.Int.{to_le_bytes, w32, w64}
-use Rattle.ddm_types.specs.declared.turns.Turn.{Turn}
+use Rattle.schedule_log.specs.DdmTypes.declared.turns.Turn.{Turn}
 use Rattle.text_model.specs.Schedule.{ShapeView, turn_fault, turn_text}
 use Rattle.schedule_log.specs.declared.front.Front.{Front}
 use Rattle.schedule_log.specs.declared.seen.Seen.{Seen}

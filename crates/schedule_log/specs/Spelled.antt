@@ -1,6 +1,6 @@
 -- A text that begins with a turn's line in its one spelling.
 use Rattle.std.specs.Prelude.{◌≡◌, ℕ, ◌+◌, ◌<◌, List, [], ◌∷◌, ◌++◌, codes, decimal}
-use Rattle.ddm_types.specs.declared.turns.Turn.{Turn}
+use Rattle.schedule_log.specs.DdmTypes.declared.turns.Turn.{Turn}
 use Rattle.text_model.specs.Schedule.{meaning_of, turn_line_of, turn_text}
 use Rattle.text_model.specs.Lines.{Lacks}
 

@@ -1,6 +1,6 @@
 -- What a text begins with.
 use Rattle.std.specs.Prelude.{◌≡◌, ℕ, ◌+◌, ◌<◌, ◌≤◌, List, ◌∷◌, ◌++◌, length, take, drop, Option, Some, None}
-use Rattle.ddm_types.specs.declared.turns.Turn.{Turn as OneTurn}
+use Rattle.schedule_log.specs.DdmTypes.declared.turns.Turn.{Turn as OneTurn}
 use Rattle.text_model.specs.Schedule.{ShapeView, nothing_but, with_turn, reading_on, held_of}
 use Rattle.text_model.specs.declared.ScheduleRefusal.{ScheduleRefusal}
 use Rattle.text_model.specs.Lines.{Lacks}

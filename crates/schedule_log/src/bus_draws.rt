@@ -5,8 +5,8 @@ ghost use Rattle.schedule_log.specs.Draws.{widths_drawn};
 ghost use Rattle.schedule_log.specs.Seeding.{AreAll, buses_of, even_turns};
 
 use crate::bus_turns::{BusTurns, bus_turn};
+use crate::of_ddm_types::{BusNo, Divisor, NoMemory, Turn};
 use crate::parts::width_at;
-use ddm_types::{BusNo, Divisor, NoMemory, Turn};
 use std::alloc::Global;
 use std::marker::Model;
 use tree_config::Shape;

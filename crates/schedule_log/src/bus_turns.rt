@@ -2,7 +2,7 @@ ghost use Rattle.std.specs.Prelude.{◌≡◌, ◌≤◌, ◌<◌, ◌+◌, ◌*
 ghost use Rattle.text_model.specs.Seeded.{bus_turn_from};
 ghost use Rattle.schedule_log.specs.Seeding.{turns_of_bus};
 
-use ddm_types::{BusNo, ChildNo, Divisor, NoMemory, Turn};
+use crate::of_ddm_types::{BusNo, ChildNo, Divisor, NoMemory, Turn};
 use std::alloc::Global;
 use std::marker::Model;
 

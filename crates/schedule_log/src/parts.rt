@@ -3,7 +3,7 @@ ghost use Rattle.tree_config.specs.Levels.{leaves_of, widths_of};
 ghost use Rattle.text_model.specs.Schedule.{ShapeView};
 ghost use Rattle.schedule_log.specs.Shapes.{shape_view};
 
-use ddm_types::BusNo;
+use crate::of_ddm_types::BusNo;
 use std::marker::Model;
 use tree_config::Shape;
 

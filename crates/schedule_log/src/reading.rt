@@ -1,14 +1,14 @@
 ghost use Rattle.std.specs.Prelude.{◌≡◌, ◌+◌, ◌*◌, ◌<◌, ◌≤◌, ℕ, List, [], ◌++◌, IfOk, IsOk, OnErr, drop, length, nat_eq, position, take, vec_capacity, vec_len};
-ghost use Rattle.ddm_types.specs.declared.turns.Turn.{Turn as OneTurn};
+ghost use Rattle.schedule_log.specs.DdmTypes.declared.turns.Turn.{Turn as OneTurn};
 ghost use Rattle.schedule_log.specs.Reader.{FeedGives, IsInLine, LinesRead, ReadUpTo, begun, begun_behind, finish_of};
 ghost use Rattle.schedule_log.specs.Shapes.{shape_view};
 ghost use Rattle.text_model.specs.Schedule.{held_of};
 
+use crate::of_ddm_types::{NoMemory, Turn};
 use crate::refusal::FeedError;
 use crate::seen::SeenLines;
 use crate::standing::Standing;
 use crate::steps::{MOST_TURNS, Step, first_step, remembered};
-use ddm_types::{NoMemory, Turn};
 use std::alloc::Global;
 use std::marker::Model;
 use text_model::ScheduleRefusal;

@@ -1,5 +1,5 @@
 ghost use Rattle.std.specs.Prelude.{◌≡◌, ◌≤◌, ℕ, ◌<◌, ◌+◌, ◌*◌, ◌/◌, ◌%◌, ◌++◌, [], ◌∷◌, drop, length, min, slice_index_or, take, All, IfOk};
-ghost use Rattle.ddm_types.specs.declared.turns.Turn.{Turn as OneTurn};
+ghost use Rattle.schedule_log.specs.DdmTypes.declared.turns.Turn.{Turn as OneTurn};
 ghost use Rattle.rand_pcg.specs.Pcg.{pcg32};
 ghost use Rattle.tree_config.specs.Levels.{leaves_of, widths_of};
 ghost use Rattle.text_model.specs.ReadBack.{IsTurnOf};
@@ -9,7 +9,7 @@ ghost use Rattle.schedule_log.specs.Seeding.{turns_left};
 ghost use Rattle.schedule_log.specs.Shapes.{shape_view};
 
 use crate::bus_draws::{BusDraws, TreeDraws};
-use ddm_types::{BusNo, Divisor, HartNo, NoMemory, Turn};
+use crate::of_ddm_types::{BusNo, Divisor, HartNo, NoMemory, Turn};
 use rand_core::utils::NextWord;
 use rand_pcg::Pcg32;
 use std::alloc::Global;

@@ -4,8 +4,8 @@ ghost use Rattle.schedule_log.specs.Seen.{IsSeen, IsSeenAt};
 ghost use Rattle.schedule_log.specs.Shapes.{shape_view};
 
 use crate::front::Front;
+use crate::of_ddm_types::{BusNo, NoMemory, Turn};
 use crate::parts::Parts;
-use ddm_types::{BusNo, NoMemory, Turn};
 use std::alloc::Global;
 use std::marker::Model;
 use tree_config::Shape;

@@ -1,7 +1,7 @@
 ghost use Rattle.std.specs.Prelude.{◌≡◌, ◌≤◌, ◌+◌, ◌<◌, [], ◌∷◌, IfSome, length};
 ghost use Rattle.schedule_log.specs.Spelled.{Begins, BeginsWithChild, BeginsWithDigit, BeginsWithLine, BeginsWithNumber};
 
-use ddm_types::{BusNo, ChildNo, HartNo, Turn};
+use crate::of_ddm_types::{BusNo, ChildNo, HartNo, Turn};
 
 /// So many bytes are looked at where a line is read in its one spelling: the longest line has as many.
 pub(crate) const SPELLED_BYTES: usize = 16;

@@ -5,13 +5,13 @@ ghost use Rattle.schedule_log.specs.Standings.{standing_of};
 ghost use Rattle.schedule_log.specs.Steps.{BeginsWithTurn, IsLine, StepGives, step_by};
 
 use crate::front::Front;
+use crate::of_ddm_text::{LineCut, cut_line};
+use crate::of_ddm_types::{BusNo, ChildNo, Turn};
 use crate::parts::Parts;
 use crate::seen::{Seen, SeenLines, line_at};
 use crate::spelled::{SPELLED_BYTES, spelled_line};
 use crate::standing::Standing;
 use crate::words::turn_of_line;
-use ddm_text::{LineCut, cut_line};
-use ddm_types::{BusNo, ChildNo, Turn};
 use text_model::ScheduleRefusal;
 
 /// The most turns of a schedule.

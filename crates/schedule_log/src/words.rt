@@ -1,8 +1,8 @@
 ghost use Rattle.std.specs.Prelude.{◌≡◌, ◌<◌, ◌≤◌, ◌+◌, [], ◌∷◌, drop, length, nat_eq, position, take};
 ghost use Rattle.text_model.specs.Schedule.{choice_in, pieces_at, place_in, turn_of_five, turn_of_four, turn_of_three, turn_of_words};
 
-use ddm_text::read_decimal;
-use ddm_types::{BusNo, ChildNo, HartNo, Turn};
+use crate::of_ddm_text::read_decimal;
+use crate::of_ddm_types::{BusNo, ChildNo, HartNo, Turn};
 
 const HART: &[u8] = b"h";
 

@@ -1,12 +1,12 @@
 ghost use Rattle.std.specs.Prelude.{◌≡◌, OnOk, IfOk, codes, decimal};
-ghost use Rattle.ddm_text.specs.Adds.{Adds};
+ghost use Rattle.schedule_log.specs.DdmText.Adds.{Adds};
 ghost use Rattle.text_model.specs.Schedule.{schedule_text, turn_line, turn_lines, turn_text};
 ghost use Rattle.text_model.specs.Seeded.{seeded_turns};
 ghost use Rattle.schedule_log.specs.Shapes.{shape_view};
 
+use crate::of_ddm_text::push_decimal;
+use crate::of_ddm_types::{NoMemory, Turn};
 use crate::seeding::SeededTurns;
-use ddm_text::push_decimal;
-use ddm_types::{NoMemory, Turn};
 use std::alloc::Global;
 use tree_config::Shape;
 

@@ -9,10 +9,10 @@ use Rattle.std.proofs.lemmas.List.Elements.{All-cons, All-head, All-nil, All-tai
 use Rattle.std.proofs.lemmas.List.Sums.{sum_by-append}
 use Rattle.rand_pcg.specs.Lcg.{Lcg}
 use Rattle.rand_pcg.specs.Pcg.{pcg32}
-use Rattle.ddm_types.specs.declared.turns.Turn.{Turn}
-use Rattle.text_model.specs.Schedule.{ShapeView}
-use Rattle.text_model.specs.ReadBack.{IsTurnOf}
-use Rattle.text_model.specs.Seeded.{seeded_turns}
+use Rattle.seed_draws.specs.DdmTypes.declared.turns.Turn.{Turn}
+use Rattle.seed_draws.specs.TextModel.Schedule.{ShapeView}
+use Rattle.seed_draws.specs.TextModel.ReadBack.{IsTurnOf}
+use Rattle.seed_draws.specs.TextModel.Seeded.{seeded_turns}
 use Rattle.recording_model.specs.declared.SeedKind.{SeedKind}
 use Rattle.recording_model.specs.LetBy.{Draw, Skew, draws_of, seed_draws, skew_of, even_draw, let_by_rate, rate_of, rate_of_word, skew_from, skewed_draws, turns_before, turns_of_bus, turns_of_tree}
 use Rattle.seed_draws.specs.Parts.{ArePlaces, DrawsView, SkewView, draws_left}

@@ -2,8 +2,8 @@
 use Rattle.std.specs.Prelude.{◌≡◌, ℕ, List, length, map}
 use Rattle.std.specs.List.{range_with_len}
 use Rattle.rand_pcg.specs.Lcg.{Lcg}
-use Rattle.ddm_types.specs.declared.turns.Turn.{Turn}
-use Rattle.text_model.specs.Schedule.{ShapeView}
+use Rattle.seed_draws.specs.DdmTypes.declared.turns.Turn.{Turn}
+use Rattle.seed_draws.specs.TextModel.Schedule.{ShapeView}
 use Rattle.recording_model.specs.declared.SeedKind.{SeedKind}
 use Rattle.recording_model.specs.LetBy.{Draw, even_draw, skewed_draws, turns_before, turns_of_tree}
 

@@ -1,19 +1,19 @@
 //! The drawn turns of a seed.
 
 ghost use Rattle.std.specs.Prelude.{◌≡◌, ◌<◌, List, ◌∷◌, [], All, IfOk, length};
-ghost use Rattle.ddm_types.specs.declared.turns.Turn.{Turn as OneTurn};
+ghost use Rattle.seed_draws.specs.DdmTypes.declared.turns.Turn.{Turn as OneTurn};
 ghost use Rattle.seed_draws.specs.Parts.{draws_left};
 ghost use Rattle.schedule_log.specs.Shapes.{shape_view};
-ghost use Rattle.text_model.specs.ReadBack.{IsTurnOf};
+ghost use Rattle.seed_draws.specs.TextModel.ReadBack.{IsTurnOf};
 ghost use Rattle.recording_model.specs.LetBy.{Draw, seed_draws};
 
+use crate::of_ddm_types::{NoMemory, Turn};
+use crate::of_tree_config::Shape;
 use crate::skewing::Skewing;
-use ddm_types::{NoMemory, Turn};
 use recording_model::SeedKind;
 use schedule_log::SeededTurns;
 use std::alloc::Global;
 use std::marker::Model;
-use tree_config::Shape;
 
 // Whether the next turn of a seed of this kind is let by.
 #[inline(always)]

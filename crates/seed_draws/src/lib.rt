@@ -2,6 +2,8 @@
 #![tactic(auto)]
 
 mod drawing;
+pub mod of_ddm_types;
+pub mod of_tree_config;
 mod places;
 mod skewing;
 

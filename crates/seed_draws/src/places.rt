@@ -4,10 +4,10 @@ ghost use Rattle.std.specs.Prelude.{◌≡◌, ◌≤◌, ◌<◌, IfOk, length,
 ghost use Rattle.schedule_log.specs.Shapes.{shape_view};
 ghost use Rattle.recording_model.specs.LetBy.{place_of, turns_before, turns_of_tree};
 
-use ddm_types::{BusNo, NoMemory, Turn};
+use crate::of_ddm_types::{BusNo, NoMemory, Turn};
+use crate::of_tree_config::Shape;
 use std::alloc::Global;
 use std::marker::Model;
-use tree_config::Shape;
 
 // The number of children of a bus of the tree.
 fn width_at(shape: &Shape, bus: u32) -> u32
@@ -37,7 +37,7 @@ pub(crate) struct Places {
 }
 
 impl Model for Places {
-    ghost use Rattle.text_model.specs.Schedule.{ShapeView};
+    ghost use Rattle.seed_draws.specs.TextModel.Schedule.{ShapeView};
     ghost use Rattle.seed_draws.specs.Parts.{ArePlaces};
 
     ghost Value = { ShapeView };

@@ -4,13 +4,13 @@ ghost use Rattle.std.specs.Prelude.{◌≡◌, ◌≤◌, All, IfOk, length};
 ghost use Rattle.schedule_log.specs.Shapes.{shape_view};
 ghost use Rattle.recording_model.specs.LetBy.{let_by_rate, rate_of, skew_from, skew_of};
 
+use crate::of_ddm_types::{NoMemory, Turn};
+use crate::of_tree_config::Shape;
 use crate::places::Places;
-use ddm_types::{NoMemory, Turn};
 use rand_core::utils::NextWord;
 use rand_pcg::Pcg32;
 use std::alloc::Global;
 use std::marker::Model;
-use tree_config::Shape;
 
 /// The stream of the generator.
 const STREAM: u64 = 55;

@@ -6,13 +6,13 @@ use Rattle.std.specs.List.{AllByRecursion, list_any, range_with_len}
 use Rattle.std.proofs.Common.{ap, sym, ◌∙◌, subst, arith, append_assoc, length-append, cond}
 use Rattle.std.proofs.lemmas.List.{get_or_at, ext_get_or}
 use Rattle.std.proofs.lemmas.Bool.{eqb-true, eq-eqb, ltb-true, and_parts, or_parts, not-true}
-use Rattle.tree_model.specs.State.Lists.{first_some}
-use Rattle.tree_model.specs.State.Values.{LeafValue, DirValue, Node, Nodes, leaf_node, dir_node, no_nodes, more_nodes, children, MachineValue, root_of}
-use Rattle.tree_model.specs.State.Place.{Where, at_top, at_child, where_path, spot_in}
-use Rattle.tree_model.specs.State.Shape.{IsShaped, skeleton, skeletons, buses_of, buses_among, are_distinct, are_below, count_from, buses_differ, traffic_counted}
-use Rattle.tree_model.specs.Turns.Tree.{bus_of_number, has_node, of_dir, read_in, read_among}
-use Rattle.tree_model.specs.Turns.Machine.{leaves_of, leaves_among, machine_leaves}
-use Rattle.tree_model.proofs.NamedNode.{read_in-is_some}
+use Rattle.spelling_laws.specs.TreeModel.State.Lists.{first_some}
+use Rattle.spelling_laws.specs.TreeModel.State.Values.{LeafValue, DirValue, Node, Nodes, leaf_node, dir_node, no_nodes, more_nodes, children, MachineValue, root_of}
+use Rattle.spelling_laws.specs.TreeModel.State.Place.{Where, at_top, at_child, where_path, spot_in}
+use Rattle.spelling_laws.specs.TreeModel.State.Shape.{IsShaped, skeleton, skeletons, buses_of, buses_among, are_distinct, are_below, count_from, buses_differ, traffic_counted}
+use Rattle.spelling_laws.specs.TreeModel.Turns.Tree.{bus_of_number, has_node, of_dir, read_in, read_among}
+use Rattle.spelling_laws.specs.TreeModel.Turns.Machine.{leaves_of, leaves_among, machine_leaves}
+use Rattle.spelling_laws.proofs.TreeModel.NamedNode.{read_in-is_some}
 use Rattle.spelling_laws.proofs.Refilled.{DirOver, bus_asked, number_of, leaves-counted}
 
 abbrev pub over_bus : DirOver → ℕ

@@ -2,15 +2,15 @@
 use Rattle.std.specs.Prelude.{◌≡◌, ℕ, ◌+◌, ◌-◌, Bool, true, false, nat_eq, nat_lt, nat_le, ◌||◌, [], ◌∷◌, Option, Some, None, refl, if◌then◌else◌}
 use Rattle.std.proofs.Common.{ap, ◌∙◌, arith}
 use Rattle.std.proofs.lemmas.Bool.{ne_eqb, le-leb}
-use Rattle.ddm_types.specs.declared.answers.TxKind.{TxKind}
-use Rattle.ddm_types.specs.declared.sizes.Hold.{Hold}
-use Rattle.ddm_types.specs.declared.sizes.LeafState.{LeafState}
-use Rattle.ddm_types.specs.declared.operations.HaltCause.{HaltCause}
-use Rattle.ddm_types.specs.declared.operations.Effect.{Effect}
-use Rattle.tree_model.specs.State.Kinds.{kind_number, goes_up}
-use Rattle.tree_model.specs.State.Values.{RequestValue, Note}
-use Rattle.state_reading.specs.Parts.{halt_of, halt_has_number, state_of, slot_of, reserved_of, hold_of, note_of_words, joins_fit, kind_of, effect_size, effect_of}
-use Rattle.state_words.specs.Numbers.{halt_words, state_number, slot_words, reserved_word, hold_number, note_words, flag_number, effect_words}
+use Rattle.spelling_laws.specs.DdmTypes.declared.answers.TxKind.{TxKind}
+use Rattle.spelling_laws.specs.DdmTypes.declared.sizes.Hold.{Hold}
+use Rattle.spelling_laws.specs.DdmTypes.declared.sizes.LeafState.{LeafState}
+use Rattle.spelling_laws.specs.DdmTypes.declared.operations.HaltCause.{HaltCause}
+use Rattle.spelling_laws.specs.DdmTypes.declared.operations.Effect.{Effect}
+use Rattle.spelling_laws.specs.TreeModel.State.Kinds.{kind_number, goes_up}
+use Rattle.spelling_laws.specs.TreeModel.State.Values.{RequestValue, Note}
+use Rattle.spelling_laws.specs.StateReading.Parts.{halt_of, halt_has_number, state_of, slot_of, reserved_of, hold_of, note_of_words, joins_fit, kind_of, effect_size, effect_of}
+use Rattle.spelling_laws.specs.StateWords.Numbers.{halt_words, state_number, slot_words, reserved_word, hold_number, note_words, flag_number, effect_words}
 use Rattle.value_laws.specs.Values.{comes_down, EffectHasForm}
 use Rattle.spelling_laws.proofs.Numbers.{is_first_of}
 use Rattle.spelling_laws.proofs.Steps.{is_to, is_from_1, is_if}

@@ -1,13 +1,13 @@
 -- What is read of a directory is what is spelled of it.
 use Rattle.std.specs.Prelude.{◌≡◌, ℕ, ◌-◌, Bool, not, nat_lt, ◌&&◌, List, length, Ok, refl}
 use Rattle.std.specs.List.{list_any}
-use Rattle.tree_model.specs.State.Values.{CopyValue, DirValue}
-use Rattle.tree_model.specs.State.Leaf.{is_copy}
-use Rattle.tree_model.specs.State.Directory.{is_top}
-use Rattle.state_reading.specs.Reading.{Read}
-use Rattle.state_reading.specs.Parts as reading
-use Rattle.state_reading.specs.Parts.{listed, read_records, read_down, read_request, read_copy, read_dir}
-use Rattle.state_words.specs.Parts.{dir_words, down_words, request_words, item_and_words}
+use Rattle.spelling_laws.specs.TreeModel.State.Values.{CopyValue, DirValue}
+use Rattle.spelling_laws.specs.TreeModel.State.Leaf.{is_copy}
+use Rattle.spelling_laws.specs.TreeModel.State.Directory.{is_top}
+use Rattle.spelling_laws.specs.StateReading.Reading.{Read}
+use Rattle.spelling_laws.specs.StateReading.Parts as reading
+use Rattle.spelling_laws.specs.StateReading.Parts.{listed, read_records, read_down, read_request, read_copy, read_dir}
+use Rattle.spelling_laws.specs.StateWords.Parts.{dir_words, down_words, request_words, item_and_words}
 use Rattle.spelling_laws.specs.Spells.{Spells}
 use Rattle.spelling_laws.proofs.Lists.{stamp-read, copy-read, request-read, down-read}
 use Rattle.spelling_laws.proofs.Records.{records-read}

@@ -3,18 +3,18 @@ use Rattle.std.specs.Prelude.{◌≡◌, ℕ, ◌+◌, ◌-◌, ◌≤◌, Bool,
 use Rattle.std.specs.List.{AllByRecursion, list_all, list_any}
 use Rattle.std.proofs.Common.{ap, ◌∙◌, subst, arith, append_assoc}
 use Rattle.std.proofs.lemmas.Bool.{eqb-true, le-leb, leb-true, and_parts, and_from, or_parts, not-true, not_from_false}
-use Rattle.tree_model.specs.State.Kinds.{brings_copy}
-use Rattle.tree_model.specs.State.Values.{RequestValue, CopyValue, DownValue, DirItem, DirValue}
-use Rattle.tree_model.specs.State.Leaf.{copy_item, is_copy}
-use Rattle.tree_model.specs.State.Directory.{is_top}
-use Rattle.tree_model.specs.State.Shape.{are_distinct}
-use Rattle.tree_rules.specs.Bus.Item.{implies}
-use Rattle.tree_rules.specs.Bus.Own.{are_zero, copy_fits, down_fits, request_fits, item_fits, IsDirOk, dir_lists, notes_fit, down_entries, dir_requests, dir_replies, parked_fit, parked_once}
-use Rattle.tree_rules.specs.Order.Time.{stamp_ends}
-use Rattle.state_reading.specs.Parts as reading
-use Rattle.state_reading.specs.Parts.{most_counted, listed, read_records, read_down, read_request, read_copy, read_dir}
-use Rattle.state_words.specs.Numbers.{stamp_words}
-use Rattle.state_words.specs.Parts.{counted, dir_words, down_words, request_words, item_and_words, records}
+use Rattle.spelling_laws.specs.TreeModel.State.Kinds.{brings_copy}
+use Rattle.spelling_laws.specs.TreeModel.State.Values.{RequestValue, CopyValue, DownValue, DirItem, DirValue}
+use Rattle.spelling_laws.specs.TreeModel.State.Leaf.{copy_item, is_copy}
+use Rattle.spelling_laws.specs.TreeModel.State.Directory.{is_top}
+use Rattle.spelling_laws.specs.TreeModel.State.Shape.{are_distinct}
+use Rattle.spelling_laws.specs.TreeRules.Bus.Item.{implies}
+use Rattle.spelling_laws.specs.TreeRules.Bus.Own.{are_zero, copy_fits, down_fits, request_fits, item_fits, IsDirOk, dir_lists, notes_fit, down_entries, dir_requests, dir_replies, parked_fit, parked_once}
+use Rattle.spelling_laws.specs.TreeRules.Order.Time.{stamp_ends}
+use Rattle.spelling_laws.specs.StateReading.Parts as reading
+use Rattle.spelling_laws.specs.StateReading.Parts.{most_counted, listed, read_records, read_down, read_request, read_copy, read_dir}
+use Rattle.spelling_laws.specs.StateWords.Numbers.{stamp_words}
+use Rattle.spelling_laws.specs.StateWords.Parts.{counted, dir_words, down_words, request_words, item_and_words, records}
 use Rattle.value_laws.specs.Values.{DirHasForm, DownHasForm, RequestHasForm, CopyHasForm}
 use Rattle.state_judging.proofs.Lists.{same-test}
 use Rattle.spelling_laws.proofs.Dir.{any_item, other_item}

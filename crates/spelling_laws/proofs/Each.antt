@@ -1,9 +1,9 @@
 -- One of each, read in their order.
 use Rattle.std.specs.Prelude.{◌≡◌, ℕ, List, [], ◌∷◌, Result, Ok}
 use Rattle.std.specs.List.{AllByRecursion, flat_map}
-use Rattle.state_reading.specs.declared.StateRefusal.{StateRefusal}
-use Rattle.state_reading.specs.Reading.{Read}
-use Rattle.state_reading.specs.Machine.{read_each}
+use Rattle.spelling_laws.specs.StateReading.declared.StateRefusal.{StateRefusal}
+use Rattle.spelling_laws.specs.StateReading.Reading.{Read}
+use Rattle.spelling_laws.specs.StateReading.Machine.{read_each}
 use Rattle.spelling_laws.specs.Spells.{Spells}
 use Rattle.spelling_laws.proofs.Steps.{step, ended, spells-none, spells-both}
 

@@ -2,12 +2,12 @@
 -- Letters: n and p are nodes, ns and ps are nodes in a row.
 use Rattle.std.specs.Prelude.{◌≡◌, ℕ, ◌+◌, Bool, true, false, nat_eq, ◌||◌, List, [], ◌∷◌, length, Option, Some, None, option_map, slice_index_or, refl, if◌then◌else◌}
 use Rattle.std.proofs.Common.{ap, sym, ◌∙◌, arith}
-use Rattle.tree_model.specs.State.Values.{LeafValue, DirValue, DirSizes, Node, Nodes, leaf_node, dir_node, no_nodes, more_nodes, children}
-use Rattle.tree_model.specs.State.Place.{Where, at_top, at_child, where_path, spot_in}
-use Rattle.tree_model.specs.State.Shape.{Skeleton, Skeletons, leaf_bone, dir_bone, no_bones, more_bones, skeleton, skeletons, bone_count}
-use Rattle.tree_model.specs.Turns.Tree.{bus_of_number, has_node, has_among, of_dir, read_in, read_among}
-use Rattle.tree_model.specs.Turns.Machine.{leaves_of, leaves_among}
-use Rattle.state_reading.specs.Machine.{refilled, refilled_among}
+use Rattle.spelling_laws.specs.TreeModel.State.Values.{LeafValue, DirValue, DirSizes, Node, Nodes, leaf_node, dir_node, no_nodes, more_nodes, children}
+use Rattle.spelling_laws.specs.TreeModel.State.Place.{Where, at_top, at_child, where_path, spot_in}
+use Rattle.spelling_laws.specs.TreeModel.State.Shape.{Skeleton, Skeletons, leaf_bone, dir_bone, no_bones, more_bones, skeleton, skeletons, bone_count}
+use Rattle.spelling_laws.specs.TreeModel.Turns.Tree.{bus_of_number, has_node, has_among, of_dir, read_in, read_among}
+use Rattle.spelling_laws.specs.TreeModel.Turns.Machine.{leaves_of, leaves_among}
+use Rattle.spelling_laws.specs.StateReading.Machine.{refilled, refilled_among}
 use Rattle.spelling_laws.proofs.ByNumber.{AllParts, AllPartsAmong}
 use Rattle.spelling_laws.proofs.Refilled.{DirOver}
 

@@ -1,10 +1,10 @@
 -- What is read of a hart is what is spelled of it.
 use Rattle.std.specs.Prelude.{◌≡◌, ℕ, List, ◌∷◌, ◌++◌, Ok, refl}
 use Rattle.std.proofs.Common.{ap}
-use Rattle.tree_model.specs.State.Values.{LeafValue}
-use Rattle.state_reading.specs.Reading.{Read, any_word, words_that}
-use Rattle.state_reading.specs.Parts.{read_hart, halt_of, halt_has_number}
-use Rattle.state_words.specs.Parts.{hart_words}
+use Rattle.spelling_laws.specs.TreeModel.State.Values.{LeafValue}
+use Rattle.spelling_laws.specs.StateReading.Reading.{Read, any_word, words_that}
+use Rattle.spelling_laws.specs.StateReading.Parts.{read_hart, halt_of, halt_has_number}
+use Rattle.spelling_laws.specs.StateWords.Parts.{hart_words}
 use Rattle.spelling_laws.specs.Spells.{Spells}
 use Rattle.spelling_laws.proofs.Numbers.{halt-spelled}
 use Rattle.spelling_laws.proofs.Steps.{is_count, is_to, is_if, step, word-step, ended, many-read, spells-both, spells-as}

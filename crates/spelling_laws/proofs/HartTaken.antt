@@ -3,10 +3,10 @@ use Rattle.std.specs.Prelude.{◌≡◌, ℕ, ◌≤◌, true, List, [], ◌∷�
 use Rattle.std.specs.List.{list_all}
 use Rattle.std.proofs.Common.{sym, ap, ◌∙◌, arith}
 use Rattle.std.proofs.lemmas.Bool.{le-leb}
-use Rattle.tree_model.specs.State.Values.{LeafValue}
-use Rattle.state_reading.specs.Reading.{any_word, words_that}
-use Rattle.state_reading.specs.Parts.{most_counted, read_hart, halt_of, halt_has_number}
-use Rattle.state_words.specs.Parts.{hart_words}
+use Rattle.spelling_laws.specs.TreeModel.State.Values.{LeafValue}
+use Rattle.spelling_laws.specs.StateReading.Reading.{any_word, words_that}
+use Rattle.spelling_laws.specs.StateReading.Parts.{most_counted, read_hart, halt_of, halt_has_number}
+use Rattle.spelling_laws.specs.StateWords.Parts.{hart_words}
 use Rattle.value_laws.specs.Values.{HartHasForm}
 use Rattle.spelling_laws.proofs.Codes.{halt-coded}
 use Rattle.spelling_laws.proofs.Steps.{is_count, is_to, is_if, spells-as}

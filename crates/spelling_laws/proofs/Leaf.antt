@@ -4,13 +4,13 @@ use Rattle.std.specs.List.{flat_map, list_any}
 use Rattle.std.proofs.Common.{ap, sym, ◌∙◌, subst, arith, append-nil, append_assoc, length-append}
 use Rattle.std.proofs.lemmas.Bool.{and_parts, and_from, or_parts, not-true, not_from_false, ltb-true}
 use Rattle.std.proofs.lemmas.List.Concat.{flat_map-append}
-use Rattle.tree_model.specs.State.States.{is_reading}
-use Rattle.tree_model.specs.State.Shape.{are_distinct}
-use Rattle.tree_model.specs.State.Values.{BufferValue, LeafValue}
-use Rattle.state_reading.specs.declared.StateRefusal.TheVariants.{BrokenLeaf}
-use Rattle.state_reading.specs.Reading.{Read, any_word, given, times}
-use Rattle.state_reading.specs.Parts.{not_before, way_not_before, last_of, state_of, item_words, read_standing, read_buffered, read_copy, ways_with, standing_item, item_of_buffer, places_differ, is_whole_leaf, unless_broken, slot_of, reserved_of, read_leaf}
-use Rattle.state_words.specs.Parts.{StandingValue, counted, standing, standing_words, buffer_words, item_and_words, leaf_words}
+use Rattle.spelling_laws.specs.TreeModel.State.States.{is_reading}
+use Rattle.spelling_laws.specs.TreeModel.State.Shape.{are_distinct}
+use Rattle.spelling_laws.specs.TreeModel.State.Values.{BufferValue, LeafValue}
+use Rattle.spelling_laws.specs.StateReading.declared.StateRefusal.TheVariants.{BrokenLeaf}
+use Rattle.spelling_laws.specs.StateReading.Reading.{Read, any_word, given, times}
+use Rattle.spelling_laws.specs.StateReading.Parts.{not_before, way_not_before, last_of, state_of, item_words, read_standing, read_buffered, read_copy, ways_with, standing_item, item_of_buffer, places_differ, is_whole_leaf, unless_broken, slot_of, reserved_of, read_leaf}
+use Rattle.spelling_laws.specs.StateWords.Parts.{StandingValue, counted, standing, standing_words, buffer_words, item_and_words, leaf_words}
 use Rattle.spelling_laws.specs.Spells.{Spells}
 use Rattle.spelling_laws.proofs.Numbers.{state-spelled, slot-spelled, reserved-spelled}
 use Rattle.spelling_laws.proofs.Lists.{item-words-read, copy-read}

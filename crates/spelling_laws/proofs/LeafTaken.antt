@@ -3,17 +3,17 @@ use Rattle.std.specs.Prelude.{◌≡◌, ℕ, zero, suc, ◌+◌, ◌<◌, ◌�
 use Rattle.std.specs.List.{AllByRecursion, flat_map, list_all}
 use Rattle.std.proofs.Common.{ap, sym, ◌∙◌, subst, arith}
 use Rattle.std.proofs.lemmas.Bool.{ltb-true, lt-ltb, le-leb, and_parts, and_from, not-false}
-use Rattle.ddm_types.specs.declared.sizes.LeafState.{LeafState}
-use Rattle.tree_model.specs.State.States.{is_reading}
-use Rattle.tree_model.specs.State.Lists.{all_from}
-use Rattle.tree_model.specs.State.Values.{RequestValue, WayValue, BufferValue, LeafValue}
-use Rattle.tree_model.specs.State.Leaf.{way_at}
-use Rattle.tree_rules.specs.Bus.Own.{are_zero, words_suit, way_fits, buffer_fits, same_if_there, has_way_alone, reserves_below, IsLeafOk, has_ways, leaf_lists, ways_fit, ways_alone, buffer_fit, leaf_replies, reservation_fits}
-use Rattle.state_reading.specs.declared.StateRefusal.TheVariants.{BrokenLeaf}
-use Rattle.state_reading.specs.Reading.{any_word, given, times}
-use Rattle.state_reading.specs.Parts.{most_counted, not_before, way_not_before, last_of, state_of, item_words, read_standing, read_buffered, read_copy, ways_with, unless_broken, slot_of, reserved_of, read_leaf}
-use Rattle.state_words.specs.Numbers.{state_number, reserved_word, slot_words}
-use Rattle.state_words.specs.Parts.{StandingValue, counted, standing, standing_words, buffer_words, item_and_words, leaf_words}
+use Rattle.spelling_laws.specs.DdmTypes.declared.sizes.LeafState.{LeafState}
+use Rattle.spelling_laws.specs.TreeModel.State.States.{is_reading}
+use Rattle.spelling_laws.specs.TreeModel.State.Lists.{all_from}
+use Rattle.spelling_laws.specs.TreeModel.State.Values.{RequestValue, WayValue, BufferValue, LeafValue}
+use Rattle.spelling_laws.specs.TreeModel.State.Leaf.{way_at}
+use Rattle.spelling_laws.specs.TreeRules.Bus.Own.{are_zero, words_suit, way_fits, buffer_fits, same_if_there, has_way_alone, reserves_below, IsLeafOk, has_ways, leaf_lists, ways_fit, ways_alone, buffer_fit, leaf_replies, reservation_fits}
+use Rattle.spelling_laws.specs.StateReading.declared.StateRefusal.TheVariants.{BrokenLeaf}
+use Rattle.spelling_laws.specs.StateReading.Reading.{any_word, given, times}
+use Rattle.spelling_laws.specs.StateReading.Parts.{most_counted, not_before, way_not_before, last_of, state_of, item_words, read_standing, read_buffered, read_copy, ways_with, unless_broken, slot_of, reserved_of, read_leaf}
+use Rattle.spelling_laws.specs.StateWords.Numbers.{state_number, reserved_word, slot_words}
+use Rattle.spelling_laws.specs.StateWords.Parts.{StandingValue, counted, standing, standing_words, buffer_words, item_and_words, leaf_words}
 use Rattle.value_laws.specs.Values.{AreWords, WayHasForm, BufferHasForm, SlotHasForm, LeafHasForm}
 use Rattle.spelling_laws.proofs.Codes.{SlotCoded, none-coded, some-coded, state-fits, state-back, reserved-back}
 use Rattle.spelling_laws.proofs.DirTaken.{copies-taken}

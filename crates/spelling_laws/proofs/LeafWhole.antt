@@ -5,18 +5,18 @@ use Rattle.std.specs.List.{list_any, list_all, range_with_len}
 use Rattle.std.proofs.Common.{ap, sym, ◌∙◌, subst, arith, append_assoc, inl, inr, true≢false, cond}
 use Rattle.std.proofs.lemmas.List.{get_or_past}
 use Rattle.std.proofs.lemmas.Bool.{eqb-true, eq-eqb, ltb-true, lt-ltb, le-leb, and_parts, and_from, or_parts, or_from, not-true, not_from_false, cases_lt, false_from_ne_true}
-use Rattle.ddm_types.specs.declared.answers.TxKind.{TxKind}
-use Rattle.ddm_types.specs.declared.sizes.LeafState.{LeafState}
-use Rattle.tree_model.specs.State.Lists.{first_some}
-use Rattle.tree_model.specs.State.States.{is_waiting}
-use Rattle.tree_model.specs.State.Shape.{are_distinct}
-use Rattle.tree_model.specs.State.Values.{RequestValue, WayValue, BufferValue, LeafValue}
-use Rattle.tree_model.specs.State.Leaf.{way_at, buffer_item, is_buffered, buffered, way_entry, buffer_entry, entry_state, entry_at, state_at, waiting_item}
-use Rattle.flat_model.specs.Flat.{has_reserved}
-use Rattle.tree_rules.specs.Bus.Own.{words_suit, buffer_fits, state_waits, waits_alone, request_suits, slot_suits, IsLeafOk, leaf_lists, buffer_fit, buffered_once, one_waiting, slot_fits}
-use Rattle.state_words.specs.Parts.{StandingValue}
-use Rattle.state_reading.specs.Parts as reading
-use Rattle.state_reading.specs.Parts.{standing_item, item_of_buffer, places_differ, waiting_states, standing_state, buffer_state, slot_state_fits, is_whole_leaf}
+use Rattle.spelling_laws.specs.DdmTypes.declared.answers.TxKind.{TxKind}
+use Rattle.spelling_laws.specs.DdmTypes.declared.sizes.LeafState.{LeafState}
+use Rattle.spelling_laws.specs.TreeModel.State.Lists.{first_some}
+use Rattle.spelling_laws.specs.TreeModel.State.States.{is_waiting}
+use Rattle.spelling_laws.specs.TreeModel.State.Shape.{are_distinct}
+use Rattle.spelling_laws.specs.TreeModel.State.Values.{RequestValue, WayValue, BufferValue, LeafValue}
+use Rattle.spelling_laws.specs.TreeModel.State.Leaf.{way_at, buffer_item, is_buffered, buffered, way_entry, buffer_entry, entry_state, entry_at, state_at, waiting_item}
+use Rattle.spelling_laws.specs.FlatModel.Flat.{has_reserved}
+use Rattle.spelling_laws.specs.TreeRules.Bus.Own.{words_suit, buffer_fits, state_waits, waits_alone, request_suits, slot_suits, IsLeafOk, leaf_lists, buffer_fit, buffered_once, one_waiting, slot_fits}
+use Rattle.spelling_laws.specs.StateWords.Parts.{StandingValue}
+use Rattle.spelling_laws.specs.StateReading.Parts as reading
+use Rattle.spelling_laws.specs.StateReading.Parts.{standing_item, item_of_buffer, places_differ, waiting_states, standing_state, buffer_state, slot_state_fits, is_whole_leaf}
 use Rattle.state_judging.proofs.Lists.{same-test}
 use Rattle.spelling_laws.proofs.Listed.{implied, Descending, items-differ, places-all-differ}
 

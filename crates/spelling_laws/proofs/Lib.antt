@@ -1,3 +1,8 @@
+pub mod BusLaws
+pub mod StateJudging
+pub mod TreeModel
+pub mod TreeRules
+pub mod ValueLaws
 pub mod Steps
 pub mod Numbers
 pub mod Hart

@@ -8,14 +8,14 @@ use Rattle.std.proofs.Math.Path.{fun_ext}
 use Rattle.std.proofs.Math.Nat.{mod-eq_of_lt, mod-mod, mul-le-mul_right}
 use Rattle.std.proofs.lemmas.List.{get_or-replicate, ext_get_or}
 use Rattle.std.proofs.lemmas.Bool.{eqb-true, eqb-false, eq-eqb, lt-ltb, le-leb, and_parts, and_from, or_right, not_from_false, cases_lt, false_from_ne_true}
-use Rattle.tree_model.specs.State.Lists.{find_from, all_from}
-use Rattle.tree_model.specs.State.Values.{WayValue}
-use Rattle.tree_model.specs.State.Shape.{are_distinct}
-use Rattle.tree_model.specs.State.Leaf.{way_at, stands_in, item_in_way}
-use Rattle.tree_rules.specs.Bus.Item.{implies}
-use Rattle.tree_rules.specs.Bus.Own.{same_if_there}
-use Rattle.state_words.specs.Parts.{StandingValue, standing_of, standing_at, standing_in, standing}
-use Rattle.state_reading.specs.Parts.{not_before, way_not_before, last_of, standing_item, same_place, places_differ}
+use Rattle.spelling_laws.specs.TreeModel.State.Lists.{find_from, all_from}
+use Rattle.spelling_laws.specs.TreeModel.State.Values.{WayValue}
+use Rattle.spelling_laws.specs.TreeModel.State.Shape.{are_distinct}
+use Rattle.spelling_laws.specs.TreeModel.State.Leaf.{way_at, stands_in, item_in_way}
+use Rattle.spelling_laws.specs.TreeRules.Bus.Item.{implies}
+use Rattle.spelling_laws.specs.TreeRules.Bus.Own.{same_if_there}
+use Rattle.spelling_laws.specs.StateWords.Parts.{StandingValue, standing_of, standing_at, standing_in, standing}
+use Rattle.spelling_laws.specs.StateReading.Parts.{not_before, way_not_before, last_of, standing_item, same_place, places_differ}
 use Rattle.spelling_laws.proofs.Rows.{filter_map-flat}
 use Rattle.spelling_laws.proofs.Standing.{ways_of, ways-many}
 

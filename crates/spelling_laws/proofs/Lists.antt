@@ -1,14 +1,14 @@
 -- What is read of stamps, copies, requests and entries of down lists is what is spelled of them.
 use Rattle.std.specs.Prelude.{◌≡◌, ℕ, Bool, true, nat_eq, nat_lt, ◌||◌, List, [], ◌∷◌, ◌++◌, Ok, refl}
 use Rattle.std.proofs.Common.{ap}
-use Rattle.ddm_types.specs.declared.keys.Stamp.{Stamp}
-use Rattle.tree_model.specs.State.Kinds.{brings_copy}
-use Rattle.tree_model.specs.State.Values.{RequestValue, CopyValue, DownValue}
-use Rattle.state_reading.specs.Reading.{Read}
-use Rattle.state_reading.specs.Parts as reading
-use Rattle.state_reading.specs.Parts.{item_words, kind_of, read_copy, read_request, read_down}
-use Rattle.state_words.specs.Numbers.{stamp_words}
-use Rattle.state_words.specs.Parts.{item_and_words, request_words, down_words}
+use Rattle.spelling_laws.specs.DdmTypes.declared.keys.Stamp.{Stamp}
+use Rattle.spelling_laws.specs.TreeModel.State.Kinds.{brings_copy}
+use Rattle.spelling_laws.specs.TreeModel.State.Values.{RequestValue, CopyValue, DownValue}
+use Rattle.spelling_laws.specs.StateReading.Reading.{Read}
+use Rattle.spelling_laws.specs.StateReading.Parts as reading
+use Rattle.spelling_laws.specs.StateReading.Parts.{item_words, kind_of, read_copy, read_request, read_down}
+use Rattle.spelling_laws.specs.StateWords.Numbers.{stamp_words}
+use Rattle.spelling_laws.specs.StateWords.Parts.{item_and_words, request_words, down_words}
 use Rattle.spelling_laws.specs.Spells.{Spells}
 use Rattle.spelling_laws.proofs.Numbers.{kind-spelled, asked-spelled}
 use Rattle.spelling_laws.proofs.Steps.{Added, is_below, is_from_1, is_if, step, word-step, many-read, ended, spells-both, spells-as}

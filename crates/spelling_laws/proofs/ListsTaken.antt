@@ -3,15 +3,15 @@ use Rattle.std.specs.Prelude.{◌≡◌, ℕ, Bool, true, false, nat_eq, nat_lt,
 use Rattle.std.specs.List.{list_all}
 use Rattle.std.proofs.Common.{sym, ap, ◌∙◌}
 use Rattle.std.proofs.lemmas.Bool.{eqb-true, and_parts, and_from}
-use Rattle.ddm_types.specs.declared.keys.Stamp.{Stamp}
-use Rattle.tree_model.specs.State.Kinds.{kind_number, brings_copy, goes_up}
-use Rattle.tree_model.specs.State.Values.{RequestValue, CopyValue, DownValue}
-use Rattle.tree_rules.specs.Bus.Own.{are_zero}
-use Rattle.tree_rules.specs.Order.Time.{stamp_ends}
-use Rattle.state_reading.specs.Parts as reading
-use Rattle.state_reading.specs.Parts.{item_words, kind_of, read_copy, read_request, read_down}
-use Rattle.state_words.specs.Numbers.{stamp_words}
-use Rattle.state_words.specs.Parts.{item_and_words, request_words, down_words}
+use Rattle.spelling_laws.specs.DdmTypes.declared.keys.Stamp.{Stamp}
+use Rattle.spelling_laws.specs.TreeModel.State.Kinds.{kind_number, brings_copy, goes_up}
+use Rattle.spelling_laws.specs.TreeModel.State.Values.{RequestValue, CopyValue, DownValue}
+use Rattle.spelling_laws.specs.TreeRules.Bus.Own.{are_zero}
+use Rattle.spelling_laws.specs.TreeRules.Order.Time.{stamp_ends}
+use Rattle.spelling_laws.specs.StateReading.Parts as reading
+use Rattle.spelling_laws.specs.StateReading.Parts.{item_words, kind_of, read_copy, read_request, read_down}
+use Rattle.spelling_laws.specs.StateWords.Numbers.{stamp_words}
+use Rattle.spelling_laws.specs.StateWords.Parts.{item_and_words, request_words, down_words}
 use Rattle.value_laws.specs.Values.{comes_down}
 use Rattle.spelling_laws.proofs.Codes.{kind-fits, kind-back, asked-fits, asked-back}
 use Rattle.spelling_laws.proofs.OpsTaken.{if-zero, end-fits}

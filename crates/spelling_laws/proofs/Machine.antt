@@ -5,17 +5,17 @@ use Rattle.std.specs.List.{AllByRecursion, flat_map, range_with_len}
 use Rattle.std.proofs.Common.{ap, sym, ◌∙◌, subst, arith, append_assoc, append-nil, length-append, zero-add}
 use Rattle.std.proofs.lemmas.Bool.{eqb-true}
 use Rattle.std.proofs.lemmas.List.{get_or_at, length-map, map-append}
-use Rattle.ddm_types.specs.declared.operations.Op.{Op}
-use Rattle.ddm_types.specs.ItemTable.{item_count}
-use Rattle.tree_model.specs.State.Values.{LeafValue, DirValue, MachineValue, root_of}
-use Rattle.tree_model.specs.State.Place.{at_top}
-use Rattle.tree_model.specs.State.Shape.{IsShaped, tree_counts, depth_of}
-use Rattle.tree_model.specs.Turns.Machine.{no_traffic, ask_bus, machine_leaves}
-use Rattle.state_reading.specs.Reading.{Read, and_then, given, times}
-use Rattle.state_reading.specs.Parts.{read_hart, read_leaf, read_dir, read_traffic, read_op}
-use Rattle.state_reading.specs.Machine.{BusRead, bus_dir, bus_traffic, read_each, read_bus_of, read_bus, read_buses, refilled_machine, read_words}
-use Rattle.state_words.specs.Parts.{counted, hart_words, leaf_words, dir_words, traffic_words, op_words}
-use Rattle.state_words.specs.Machine.{words_or_none, bus_words, state_words}
+use Rattle.spelling_laws.specs.DdmTypes.declared.operations.Op.{Op}
+use Rattle.spelling_laws.specs.DdmTypes.ItemTable.{item_count}
+use Rattle.spelling_laws.specs.TreeModel.State.Values.{LeafValue, DirValue, MachineValue, root_of}
+use Rattle.spelling_laws.specs.TreeModel.State.Place.{at_top}
+use Rattle.spelling_laws.specs.TreeModel.State.Shape.{IsShaped, tree_counts, depth_of}
+use Rattle.spelling_laws.specs.TreeModel.Turns.Machine.{no_traffic, ask_bus, machine_leaves}
+use Rattle.spelling_laws.specs.StateReading.Reading.{Read, and_then, given, times}
+use Rattle.spelling_laws.specs.StateReading.Parts.{read_hart, read_leaf, read_dir, read_traffic, read_op}
+use Rattle.spelling_laws.specs.StateReading.Machine.{BusRead, bus_dir, bus_traffic, read_each, read_bus_of, read_bus, read_buses, refilled_machine, read_words}
+use Rattle.spelling_laws.specs.StateWords.Parts.{counted, hart_words, leaf_words, dir_words, traffic_words, op_words}
+use Rattle.spelling_laws.specs.StateWords.Machine.{words_or_none, bus_words, state_words}
 use Rattle.state_judging.specs.Read.{CanRead}
 use Rattle.spelling_laws.specs.Spells.{Spells}
 use Rattle.spelling_laws.proofs.Hart.{hart-read}

@@ -4,19 +4,19 @@ use Rattle.std.specs.Prelude.{◌≡◌, ℕ, zero, suc, ◌+◌, ◌<◌, true,
 use Rattle.std.specs.List.{AllByRecursion, flat_map, range_with_len}
 use Rattle.std.proofs.Common.{ap, sym, ◌∙◌, subst, arith, append_assoc, append-nil, zero-add}
 use Rattle.std.proofs.lemmas.Bool.{eq-eqb}
-use Rattle.ddm_types.specs.ItemTable.{item_count}
-use Rattle.tree_model.specs.declared.Traffic.{Traffic}
-use Rattle.tree_model.specs.State.Values.{LeafValue, DirValue, Node, Nodes, leaf_node, dir_node, no_nodes, more_nodes, MachineValue, root_of}
-use Rattle.tree_model.specs.State.Place.{at_top}
-use Rattle.tree_model.specs.State.Shape.{Frame, frame_of, IsShaped, shape_test, skeleton, tree_counts, depth_of, leaf_numbers_of, levels_of}
-use Rattle.tree_model.specs.Turns.Machine.{no_traffic, ask_bus, machine_leaves, with_root}
-use Rattle.tree_model.specs.Turns.Tree.{bus_of_number, read_in, of_dir}
-use Rattle.tree_rules.specs.Bus.Rules.{items_of_machine}
-use Rattle.state_reading.specs.Reading.{and_then, given, times}
-use Rattle.state_reading.specs.Parts.{most_counted, read_hart, read_leaf, read_dir, read_traffic, read_op}
-use Rattle.state_reading.specs.Machine.{BusRead, bus_dir, bus_traffic, read_each, read_bus_of, read_bus, read_buses, refilled, refilled_among, refilled_machine, read_words}
-use Rattle.state_words.specs.Parts.{counted, hart_words, leaf_words, dir_words, traffic_words, op_words}
-use Rattle.state_words.specs.Machine.{words_or_none, bus_words, state_words}
+use Rattle.spelling_laws.specs.DdmTypes.ItemTable.{item_count}
+use Rattle.spelling_laws.specs.TreeModel.declared.Traffic.{Traffic}
+use Rattle.spelling_laws.specs.TreeModel.State.Values.{LeafValue, DirValue, Node, Nodes, leaf_node, dir_node, no_nodes, more_nodes, MachineValue, root_of}
+use Rattle.spelling_laws.specs.TreeModel.State.Place.{at_top}
+use Rattle.spelling_laws.specs.TreeModel.State.Shape.{Frame, frame_of, IsShaped, shape_test, skeleton, tree_counts, depth_of, leaf_numbers_of, levels_of}
+use Rattle.spelling_laws.specs.TreeModel.Turns.Machine.{no_traffic, ask_bus, machine_leaves, with_root}
+use Rattle.spelling_laws.specs.TreeModel.Turns.Tree.{bus_of_number, read_in, of_dir}
+use Rattle.spelling_laws.specs.TreeRules.Bus.Rules.{items_of_machine}
+use Rattle.spelling_laws.specs.StateReading.Reading.{and_then, given, times}
+use Rattle.spelling_laws.specs.StateReading.Parts.{most_counted, read_hart, read_leaf, read_dir, read_traffic, read_op}
+use Rattle.spelling_laws.specs.StateReading.Machine.{BusRead, bus_dir, bus_traffic, read_each, read_bus_of, read_bus, read_buses, refilled, refilled_among, refilled_machine, read_words}
+use Rattle.spelling_laws.specs.StateWords.Parts.{counted, hart_words, leaf_words, dir_words, traffic_words, op_words}
+use Rattle.spelling_laws.specs.StateWords.Machine.{words_or_none, bus_words, state_words}
 use Rattle.state_judging.specs.Read.{CanRead}
 use Rattle.value_laws.specs.Values.{TrafficHasForm}
 use Rattle.spelling_laws.specs.Spelled.{IsSpelled}

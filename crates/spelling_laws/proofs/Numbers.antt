@@ -2,9 +2,9 @@
 use Rattle.std.specs.Prelude.{◌≡◌, ℕ, zero, suc, ◌-◌, Bool, true, false, nat_eq, nat_lt, nat_le, ◌||◌, [], ◌∷◌, Some, None, refl, if◌then◌else◌}
 use Rattle.std.proofs.Common.{ap, arith, inl, inr}
 use Rattle.std.proofs.lemmas.Bool.{eqb-true, eqb-false, leb-true, and_parts, or_cases}
-use Rattle.tree_model.specs.State.Kinds.{kind_number}
-use Rattle.state_reading.specs.Parts.{halt_of, halt_has_number, state_of, slot_of, reserved_of, hold_of, note_of_words, kind_of, effect_size, effect_of}
-use Rattle.state_words.specs.Numbers.{halt_words, state_number, slot_words, reserved_word, hold_number, note_words, flag_number, effect_words}
+use Rattle.spelling_laws.specs.TreeModel.State.Kinds.{kind_number}
+use Rattle.spelling_laws.specs.StateReading.Parts.{halt_of, halt_has_number, state_of, slot_of, reserved_of, hold_of, note_of_words, kind_of, effect_size, effect_of}
+use Rattle.spelling_laws.specs.StateWords.Numbers.{halt_words, state_number, slot_words, reserved_word, hold_number, note_words, flag_number, effect_words}
 use Rattle.spelling_laws.proofs.Steps.{is_to, is_from_1, is_if}
 
 pub halt-spelled : (code number : ℕ) → is_to 9 code ≡ true → is_if (halt_has_number code) number ≡ true → code ∷ number ∷ [] ≡ halt_words (halt_of code number)

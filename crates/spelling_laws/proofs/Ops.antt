@@ -1,13 +1,13 @@
 -- What is read of an operation and of a bus's traffic is what is spelled of them.
 use Rattle.std.specs.Prelude.{◌≡◌, ℕ, nat_lt, List, [], ◌∷◌, ◌++◌, Ok, refl}
 use Rattle.std.proofs.Common.{ap}
-use Rattle.ddm_types.specs.declared.operations.Op.{Op}
-use Rattle.ddm_types.specs.declared.keys.Key.{Key}
-use Rattle.tree_model.specs.declared.Traffic.{Traffic}
-use Rattle.state_reading.specs.Reading.{Read, any_word}
-use Rattle.state_reading.specs.Parts.{read_traffic, read_key, read_op, effect_size, effect_of}
-use Rattle.state_words.specs.Parts.{traffic_words, op_words}
-use Rattle.state_words.specs.Numbers.{key_words}
+use Rattle.spelling_laws.specs.DdmTypes.declared.operations.Op.{Op}
+use Rattle.spelling_laws.specs.DdmTypes.declared.keys.Key.{Key}
+use Rattle.spelling_laws.specs.TreeModel.declared.Traffic.{Traffic}
+use Rattle.spelling_laws.specs.StateReading.Reading.{Read, any_word}
+use Rattle.spelling_laws.specs.StateReading.Parts.{read_traffic, read_key, read_op, effect_size, effect_of}
+use Rattle.spelling_laws.specs.StateWords.Parts.{traffic_words, op_words}
+use Rattle.spelling_laws.specs.StateWords.Numbers.{key_words}
 use Rattle.spelling_laws.specs.Spells.{Spells}
 use Rattle.spelling_laws.proofs.Numbers.{is_first_of, effect-spelled}
 use Rattle.spelling_laws.proofs.Steps.{Added, is_count, is_below, is_to, is_if, step, word-step, ended, spells-both, spells-as}

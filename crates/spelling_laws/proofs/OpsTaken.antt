@@ -2,15 +2,15 @@
 use Rattle.std.specs.Prelude.{◌≡◌, ℕ, zero, suc, ◌*◌, ◌≤◌, Bool, true, false, nat_eq, nat_lt, List, [], ◌∷◌, ◌++◌, drop, slice_index_or, Ok, refl}
 use Rattle.std.proofs.Common.{sym, ap, ◌∙◌, arith}
 use Rattle.std.proofs.lemmas.Bool.{eqb-true, eq-eqb, ltb-false, le-leb, and_parts}
-use Rattle.ddm_types.specs.declared.operations.Op.{Op}
-use Rattle.ddm_types.specs.declared.keys.Key.{Key}
-use Rattle.tree_model.specs.declared.Traffic.{Traffic}
-use Rattle.tree_rules.specs.Bus.Own.{are_zero}
-use Rattle.tree_rules.specs.Order.Time.{key_ends}
-use Rattle.state_reading.specs.Reading.{any_word}
-use Rattle.state_reading.specs.Parts.{most_counted, read_traffic, read_key, read_op, effect_size}
-use Rattle.state_words.specs.Parts.{traffic_words, op_words}
-use Rattle.state_words.specs.Numbers.{key_words}
+use Rattle.spelling_laws.specs.DdmTypes.declared.operations.Op.{Op}
+use Rattle.spelling_laws.specs.DdmTypes.declared.keys.Key.{Key}
+use Rattle.spelling_laws.specs.TreeModel.declared.Traffic.{Traffic}
+use Rattle.spelling_laws.specs.TreeRules.Bus.Own.{are_zero}
+use Rattle.spelling_laws.specs.TreeRules.Order.Time.{key_ends}
+use Rattle.spelling_laws.specs.StateReading.Reading.{any_word}
+use Rattle.spelling_laws.specs.StateReading.Parts.{most_counted, read_traffic, read_key, read_op, effect_size}
+use Rattle.spelling_laws.specs.StateWords.Parts.{traffic_words, op_words}
+use Rattle.spelling_laws.specs.StateWords.Numbers.{key_words}
 use Rattle.value_laws.specs.Values.{EffectHasForm, TrafficHasForm}
 use Rattle.spelling_laws.proofs.Codes.{effect-coded}
 use Rattle.spelling_laws.proofs.Numbers.{is_first_of}

@@ -5,11 +5,11 @@ use Rattle.std.proofs.Common.{ap, sym, ◌∙◌, subst, arith, append_assoc, ap
 use Rattle.std.proofs.lemmas.Bool.{eqb-true, ltb-true, and_parts, and_from}
 use Rattle.std.proofs.lemmas.List.{drop-drop, length-replicate}
 use Rattle.std.proofs.lemmas.List.Sums.{sum_by-cons}
-use Rattle.tree_model.specs.State.Values.{DirItem}
-use Rattle.state_reading.specs.Reading.{Read, any_word, times}
-use Rattle.state_reading.specs.Parts.{hold_of, note_of_words, joins_fit, Recorded, comes_after, read_record, at_rest, read_records}
-use Rattle.state_words.specs.Numbers.{hold_number, note_words}
-use Rattle.state_words.specs.Parts.{is_recorded, record_words, record_of, records_from, records}
+use Rattle.spelling_laws.specs.TreeModel.State.Values.{DirItem}
+use Rattle.spelling_laws.specs.StateReading.Reading.{Read, any_word, times}
+use Rattle.spelling_laws.specs.StateReading.Parts.{hold_of, note_of_words, joins_fit, Recorded, comes_after, read_record, at_rest, read_records}
+use Rattle.spelling_laws.specs.StateWords.Numbers.{hold_number, note_words}
+use Rattle.spelling_laws.specs.StateWords.Parts.{is_recorded, record_words, record_of, records_from, records}
 use Rattle.spelling_laws.specs.Spells.{Spells}
 use Rattle.spelling_laws.proofs.Numbers.{hold-spelled, note-spelled, flag-spelled}
 use Rattle.spelling_laws.proofs.Steps.{is_to, step, word-step, ended, spells-none, spells-both, spells-as}

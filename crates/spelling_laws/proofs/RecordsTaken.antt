@@ -5,15 +5,15 @@ use Rattle.std.proofs.Common.{ap, sym, ◌∙◌, subst, arith, append_assoc, le
 use Rattle.std.proofs.lemmas.Bool.{lt-ltb, and_parts, and_from, or_parts}
 use Rattle.std.proofs.lemmas.List.{set_at}
 use Rattle.std.proofs.lemmas.List.Sums.{sum_by-cons}
-use Rattle.ddm_types.specs.declared.sizes.Hold.{Hold}
-use Rattle.tree_model.specs.State.States.{is_held, is_exclusive}
-use Rattle.tree_model.specs.State.Values.{Note, no_note, local, up_read, up_erase, DirItem}
-use Rattle.tree_model.specs.State.Directory.{in_set}
-use Rattle.tree_rules.specs.Bus.Own.{item_fits, note_fits, top_item}
-use Rattle.state_reading.specs.Reading.{any_word, times}
-use Rattle.state_reading.specs.Parts.{hold_of, note_of_words, joins_fit, Recorded, comes_after, read_record, at_rest, read_records}
-use Rattle.state_words.specs.Numbers.{hold_number, flag_number}
-use Rattle.state_words.specs.Parts.{is_noted, is_recorded, record_words, records_from, records}
+use Rattle.spelling_laws.specs.DdmTypes.declared.sizes.Hold.{Hold}
+use Rattle.spelling_laws.specs.TreeModel.State.States.{is_held, is_exclusive}
+use Rattle.spelling_laws.specs.TreeModel.State.Values.{Note, no_note, local, up_read, up_erase, DirItem}
+use Rattle.spelling_laws.specs.TreeModel.State.Directory.{in_set}
+use Rattle.spelling_laws.specs.TreeRules.Bus.Own.{item_fits, note_fits, top_item}
+use Rattle.spelling_laws.specs.StateReading.Reading.{any_word, times}
+use Rattle.spelling_laws.specs.StateReading.Parts.{hold_of, note_of_words, joins_fit, Recorded, comes_after, read_record, at_rest, read_records}
+use Rattle.spelling_laws.specs.StateWords.Numbers.{hold_number, flag_number}
+use Rattle.spelling_laws.specs.StateWords.Parts.{is_noted, is_recorded, record_words, records_from, records}
 use Rattle.spelling_laws.proofs.Codes.{NoteCoded, hold-fits, hold-back, flag-fits, flag-back}
 use Rattle.spelling_laws.proofs.Steps.{is_to, spells-as}
 use Rattle.spelling_laws.proofs.Taken.{Takes, take-part, take-word, taken-all}

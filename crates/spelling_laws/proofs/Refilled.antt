@@ -5,13 +5,13 @@ use Rattle.std.specs.List.{AllByRecursion}
 use Rattle.std.proofs.Common.{ap, sym, ◌∙◌, subst, arith, append_assoc, length-append, true≢false}
 use Rattle.std.proofs.lemmas.List.{get_or_at}
 use Rattle.std.proofs.lemmas.Bool.{eqb-true, ltb-true, and_parts}
-use Rattle.tree_model.specs.State.Values.{LeafValue, DirValue, Node, Nodes, leaf_node, dir_node, no_nodes, more_nodes, children, MachineValue, root_of}
-use Rattle.tree_model.specs.State.Place.{Where, at_top, at_child, where_path, spot_in}
-use Rattle.tree_model.specs.State.Shape.{IsShaped, skeleton, skeletons, leaf_numbers_of, leaf_numbers_among, count_from, leaves_numbered}
-use Rattle.tree_model.specs.Turns.Tree.{Name, bus_of_number, is_named, has_node, has_among, read_in, read_among, of_dir}
-use Rattle.tree_model.specs.Turns.Machine.{ask_bus, leaves_of, leaves_among, machine_leaves}
-use Rattle.tree_model.proofs.NamedNode.{read_in-is_some}
-use Rattle.state_reading.specs.Machine.{refilled, refilled_among}
+use Rattle.spelling_laws.specs.TreeModel.State.Values.{LeafValue, DirValue, Node, Nodes, leaf_node, dir_node, no_nodes, more_nodes, children, MachineValue, root_of}
+use Rattle.spelling_laws.specs.TreeModel.State.Place.{Where, at_top, at_child, where_path, spot_in}
+use Rattle.spelling_laws.specs.TreeModel.State.Shape.{IsShaped, skeleton, skeletons, leaf_numbers_of, leaf_numbers_among, count_from, leaves_numbered}
+use Rattle.spelling_laws.specs.TreeModel.Turns.Tree.{Name, bus_of_number, is_named, has_node, has_among, read_in, read_among, of_dir}
+use Rattle.spelling_laws.specs.TreeModel.Turns.Machine.{ask_bus, leaves_of, leaves_among, machine_leaves}
+use Rattle.spelling_laws.proofs.TreeModel.NamedNode.{read_in-is_some}
+use Rattle.spelling_laws.specs.StateReading.Machine.{refilled, refilled_among}
 use Rattle.state_judging.specs.Read.{ways_exist, ways_exist_among}
 use Rattle.state_judging.proofs.BusNumbers.{numbered-bus, buses-counted}
 

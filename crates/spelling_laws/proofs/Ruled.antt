@@ -3,12 +3,12 @@
 use Rattle.std.specs.Prelude.{◌≡◌, ℕ, true, List, [], ◌∷◌, refl}
 use Rattle.std.specs.List.{AllByRecursion, list_all}
 use Rattle.std.proofs.lemmas.Bool.{and_from, le-leb}
-use Rattle.tree_model.specs.declared.Traffic.{Traffic}
-use Rattle.tree_model.specs.State.Values.{Node, Nodes, leaf_node, dir_node, no_nodes, more_nodes, MachineValue, root_of}
-use Rattle.tree_rules.specs.Bus.Rules.{IsTreeOk, AreTreesOk, IsMachineOk, items_of_machine}
-use Rattle.tree_rules.specs.Order.Rules.{IsTimed, ops_of_leaves, keys_end, stamps_end, epochs_end}
-use Rattle.tree_rules.proofs.BusTests.{test-from_IsLeafOk, test-from_IsDirOk}
-use Rattle.state_reading.specs.Parts.{most_counted}
+use Rattle.spelling_laws.specs.TreeModel.declared.Traffic.{Traffic}
+use Rattle.spelling_laws.specs.TreeModel.State.Values.{Node, Nodes, leaf_node, dir_node, no_nodes, more_nodes, MachineValue, root_of}
+use Rattle.spelling_laws.specs.TreeRules.Bus.Rules.{IsTreeOk, AreTreesOk, IsMachineOk, items_of_machine}
+use Rattle.spelling_laws.specs.TreeRules.Order.Rules.{IsTimed, ops_of_leaves, keys_end, stamps_end, epochs_end}
+use Rattle.spelling_laws.proofs.TreeRules.BusTests.{test-from_IsLeafOk, test-from_IsDirOk}
+use Rattle.spelling_laws.specs.StateReading.Parts.{most_counted}
 use Rattle.state_judging.specs.Read.{parts_hold, parts_hold_among, is_counted}
 use Rattle.value_laws.specs.Values.{TrafficHasForm, PartsHaveForm, PartsHaveFormAmong, HasForm}
 use Rattle.spelling_laws.specs.Spelled.{IsSpelled}

@@ -8,23 +8,23 @@ use Rattle.std.proofs.lemmas.List.{length-map}
 use Rattle.std.proofs.lemmas.List.Sums.{count_by-le-length}
 use Rattle.std.proofs.lemmas.Map.Steps.{length-le_from_distinct_below}
 use Rattle.std.proofs.lemmas.Nat.{pow_below}
-use Rattle.ddm_types.specs.declared.answers.TxKind.{TxKind}
-use Rattle.ddm_types.specs.declared.sizes.Hold.{Hold}
-use Rattle.ddm_types.specs.declared.sizes.LeafState.{LeafState}
-use Rattle.ddm_types.specs.declared.operations.HaltCause.{HaltCause}
-use Rattle.ddm_types.specs.declared.operations.Effect.{Effect}
-use Rattle.ddm_types.specs.declared.operations.Op.{Op}
-use Rattle.ddm_types.specs.declared.keys.Stamp.{Stamp}
-use Rattle.ddm_types.specs.declared.keys.Key.{Key}
-use Rattle.tree_model.specs.declared.Traffic.{Traffic}
-use Rattle.tree_model.specs.State.Kinds.{kind_number}
-use Rattle.tree_model.specs.State.Values.{RequestValue, CopyValue, DownValue, BufferValue, LeafValue, Note, no_note, local, up_read, up_erase, DirItem, DirValue}
-use Rattle.tree_model.specs.State.Leaf.{way_at}
-use Rattle.tree_model.specs.State.Directory.{is_top, in_set}
-use Rattle.tree_rules.specs.Bus.Own.{words_suit, buffer_fits, copy_fits, down_fits, request_fits, item_fits, note_fits, reserves_below, leaf_lists, buffer_fit, leaf_replies, reservation_fits, dir_lists, notes_fit, down_entries, dir_requests, dir_replies, parked_fit}
-use Rattle.state_words.specs.Numbers.{hold_number, note_words, flag_number, state_number, slot_number, slot_words, reserved_word, halt_words, effect_words, stamp_words, key_words}
-use Rattle.state_words.specs.Parts.{StandingValue, counted, hart_words, standing, standing_words, buffer_words, item_and_words, leaf_words, is_recorded, record_words, record_of, records_from, records, down_words, request_words, dir_words, traffic_words, op_words}
-use Rattle.state_reading.specs.Parts.{most_counted, standing_item}
+use Rattle.spelling_laws.specs.DdmTypes.declared.answers.TxKind.{TxKind}
+use Rattle.spelling_laws.specs.DdmTypes.declared.sizes.Hold.{Hold}
+use Rattle.spelling_laws.specs.DdmTypes.declared.sizes.LeafState.{LeafState}
+use Rattle.spelling_laws.specs.DdmTypes.declared.operations.HaltCause.{HaltCause}
+use Rattle.spelling_laws.specs.DdmTypes.declared.operations.Effect.{Effect}
+use Rattle.spelling_laws.specs.DdmTypes.declared.operations.Op.{Op}
+use Rattle.spelling_laws.specs.DdmTypes.declared.keys.Stamp.{Stamp}
+use Rattle.spelling_laws.specs.DdmTypes.declared.keys.Key.{Key}
+use Rattle.spelling_laws.specs.TreeModel.declared.Traffic.{Traffic}
+use Rattle.spelling_laws.specs.TreeModel.State.Kinds.{kind_number}
+use Rattle.spelling_laws.specs.TreeModel.State.Values.{RequestValue, CopyValue, DownValue, BufferValue, LeafValue, Note, no_note, local, up_read, up_erase, DirItem, DirValue}
+use Rattle.spelling_laws.specs.TreeModel.State.Leaf.{way_at}
+use Rattle.spelling_laws.specs.TreeModel.State.Directory.{is_top, in_set}
+use Rattle.spelling_laws.specs.TreeRules.Bus.Own.{words_suit, buffer_fits, copy_fits, down_fits, request_fits, item_fits, note_fits, reserves_below, leaf_lists, buffer_fit, leaf_replies, reservation_fits, dir_lists, notes_fit, down_entries, dir_requests, dir_replies, parked_fit}
+use Rattle.spelling_laws.specs.StateWords.Numbers.{hold_number, note_words, flag_number, state_number, slot_number, slot_words, reserved_word, halt_words, effect_words, stamp_words, key_words}
+use Rattle.spelling_laws.specs.StateWords.Parts.{StandingValue, counted, hart_words, standing, standing_words, buffer_words, item_and_words, leaf_words, is_recorded, record_words, record_of, records_from, records, down_words, request_words, dir_words, traffic_words, op_words}
+use Rattle.spelling_laws.specs.StateReading.Parts.{most_counted, standing_item}
 use Rattle.value_laws.specs.Values.{IsWord, HaltHasForm, HartHasForm, BufferHasForm, CopyHasForm, StampHasForm, DownHasForm, KeyHasForm, EffectHasForm, OpHasForm, TrafficHasForm}
 use Rattle.state_judging.proofs.BusNumbers.{all-differ}
 use Rattle.spelling_laws.proofs.DirTaken.{DirSpelled}

@@ -4,14 +4,14 @@ use Rattle.std.specs.Prelude.{◌≡◌, ℕ, zero, suc, ◌+◌, ◌<◌, ◌�
 use Rattle.std.specs.List.{AllByRecursion, flat_map, range_with_len}
 use Rattle.std.proofs.Common.{ap, sym, ◌∙◌, subst, arith}
 use Rattle.std.proofs.lemmas.Bool.{ltb-true, leb-true, and_parts}
-use Rattle.tree_model.specs.State.Values.{LeafValue, Node, Nodes, leaf_node, dir_node, no_nodes, more_nodes, MachineValue, root_of}
-use Rattle.tree_model.specs.State.Place.{at_top}
-use Rattle.tree_model.specs.State.Shape.{IsShaped, skeleton, skeletons, bone_count, widths_fit, widths_fit_among, widths_bounded}
-use Rattle.tree_model.specs.Turns.Machine.{no_traffic, machine_leaves}
-use Rattle.tree_rules.specs.Bus.Rules.{items_of_machine}
-use Rattle.state_words.specs.Parts.{counted, hart_words, leaf_words, dir_words, traffic_words, op_words}
-use Rattle.state_words.specs.Machine.{words_or_none, bus_words, state_words, way_count_of, first_way_count, head_words, checkpoint_words}
-use Rattle.state_reading.specs.Parts.{most_counted}
+use Rattle.spelling_laws.specs.TreeModel.State.Values.{LeafValue, Node, Nodes, leaf_node, dir_node, no_nodes, more_nodes, MachineValue, root_of}
+use Rattle.spelling_laws.specs.TreeModel.State.Place.{at_top}
+use Rattle.spelling_laws.specs.TreeModel.State.Shape.{IsShaped, skeleton, skeletons, bone_count, widths_fit, widths_fit_among, widths_bounded}
+use Rattle.spelling_laws.specs.TreeModel.Turns.Machine.{no_traffic, machine_leaves}
+use Rattle.spelling_laws.specs.TreeRules.Bus.Rules.{items_of_machine}
+use Rattle.spelling_laws.specs.StateWords.Parts.{counted, hart_words, leaf_words, dir_words, traffic_words, op_words}
+use Rattle.spelling_laws.specs.StateWords.Machine.{words_or_none, bus_words, state_words, way_count_of, first_way_count, head_words, checkpoint_words}
+use Rattle.spelling_laws.specs.StateReading.Parts.{most_counted}
 use Rattle.value_laws.specs.Values.{IsWord}
 use Rattle.spelling_laws.specs.Spelled.{IsSpelled}
 use Rattle.spelling_laws.specs.Small.{is_word, rooms_small, rooms_small_among, IsSmall}

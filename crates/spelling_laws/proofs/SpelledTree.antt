@@ -4,20 +4,20 @@ use Rattle.std.specs.Prelude.{◌≡◌, ℕ, ◌+◌, ◌<◌, Bool, true, fals
 use Rattle.std.specs.List.{AllByRecursion, list_any, list_all}
 use Rattle.std.proofs.Common.{ap, sym, ◌∙◌, subst, arith, length-append, true≢false}
 use Rattle.std.proofs.lemmas.Bool.{eqb-true, ne_eqb, lt-ltb, and_parts, and_from}
-use Rattle.ddm_types.specs.declared.operations.Op.{Op}
-use Rattle.tree_model.specs.State.Values.{LeafValue, DownValue, DirItem, DirValue, Node, Nodes, leaf_node, dir_node, no_nodes, more_nodes, children, MachineValue, root_of}
-use Rattle.tree_model.specs.State.Place.{Spot, spot_path, spot_in}
-use Rattle.tree_model.specs.State.Directory.{is_top}
-use Rattle.tree_model.specs.State.Shape.{IsShaped, skeleton, skeletons, levels_fit, levels_fit_among, levels_known, count_from, tree_counts, depth_of}
-use Rattle.tree_model.specs.Turns.Machine.{leaves_of, leaves_among, machine_leaves}
-use Rattle.tree_rules.specs.Statements.{Statement, Holds, each}
-use Rattle.tree_rules.specs.Bus.Own.{dir_holds, leaf_holds, top_items, no_epoch, no_stamps}
-use Rattle.tree_rules.specs.Bus.Rules.{items_of_machine}
-use Rattle.tree_rules.specs.Order.Places.{DirAt, leaves_in, placed_leaves, leaves_at, dirs_in, placed_dirs, dirs_at}
-use Rattle.tree_rules.specs.Order.Time.{is_leaf_of, has_leaf, has_ending_key, stamp_ends, entry_ends, epoch_ends}
-use Rattle.tree_rules.proofs.BusTests.{IsLeafOk-from_test, IsDirOk-from_test}
-use Rattle.state_reading.specs.Parts.{most_counted, read_op}
-use Rattle.state_words.specs.Parts.{op_words}
+use Rattle.spelling_laws.specs.DdmTypes.declared.operations.Op.{Op}
+use Rattle.spelling_laws.specs.TreeModel.State.Values.{LeafValue, DownValue, DirItem, DirValue, Node, Nodes, leaf_node, dir_node, no_nodes, more_nodes, children, MachineValue, root_of}
+use Rattle.spelling_laws.specs.TreeModel.State.Place.{Spot, spot_path, spot_in}
+use Rattle.spelling_laws.specs.TreeModel.State.Directory.{is_top}
+use Rattle.spelling_laws.specs.TreeModel.State.Shape.{IsShaped, skeleton, skeletons, levels_fit, levels_fit_among, levels_known, count_from, tree_counts, depth_of}
+use Rattle.spelling_laws.specs.TreeModel.Turns.Machine.{leaves_of, leaves_among, machine_leaves}
+use Rattle.spelling_laws.specs.TreeRules.Statements.{Statement, Holds, each}
+use Rattle.spelling_laws.specs.TreeRules.Bus.Own.{dir_holds, leaf_holds, top_items, no_epoch, no_stamps}
+use Rattle.spelling_laws.specs.TreeRules.Bus.Rules.{items_of_machine}
+use Rattle.spelling_laws.specs.TreeRules.Order.Places.{DirAt, leaves_in, placed_leaves, leaves_at, dirs_in, placed_dirs, dirs_at}
+use Rattle.spelling_laws.specs.TreeRules.Order.Time.{is_leaf_of, has_leaf, has_ending_key, stamp_ends, entry_ends, epoch_ends}
+use Rattle.spelling_laws.proofs.TreeRules.BusTests.{IsLeafOk-from_test, IsDirOk-from_test}
+use Rattle.spelling_laws.specs.StateReading.Parts.{most_counted, read_op}
+use Rattle.spelling_laws.specs.StateWords.Parts.{op_words}
 use Rattle.state_judging.specs.Read.{parts_hold, parts_hold_among}
 use Rattle.value_laws.specs.Values.{LeafHasForm, DirHasForm, PartsHaveForm, PartsHaveFormAmong, OpHasForm}
 use Rattle.spelling_laws.specs.Spelled.{IsSpelled}

@@ -7,12 +7,12 @@ use Rattle.std.proofs.Math.Path.{fun_ext}
 use Rattle.std.proofs.Math.Nat.{mod-eq_of_lt}
 use Rattle.std.proofs.lemmas.List.{length-replicate, get_or-replicate, get_or_past}
 use Rattle.std.proofs.lemmas.Bool.{eqb-true, eqb-false, eq-eqb, ltb-true, leb-true, and_parts, and_from, or_cases, or_parts, not-true, cases_lt, false_from_ne_true}
-use Rattle.tree_model.specs.State.Lists.{find_from}
-use Rattle.tree_model.specs.State.Values.{WayValue}
-use Rattle.tree_model.specs.State.Shape.{are_distinct}
-use Rattle.tree_model.specs.State.Leaf.{way_at, stands_in, item_in_way}
-use Rattle.state_words.specs.Parts.{StandingValue, standing_of, standing_at, standing_in, standing}
-use Rattle.state_reading.specs.Parts.{not_before, way_not_before, last_of, ways_with, standing_item, same_place, places_differ}
+use Rattle.spelling_laws.specs.TreeModel.State.Lists.{find_from}
+use Rattle.spelling_laws.specs.TreeModel.State.Values.{WayValue}
+use Rattle.spelling_laws.specs.TreeModel.State.Shape.{are_distinct}
+use Rattle.spelling_laws.specs.TreeModel.State.Leaf.{way_at, stands_in, item_in_way}
+use Rattle.spelling_laws.specs.StateWords.Parts.{StandingValue, standing_of, standing_at, standing_in, standing}
+use Rattle.spelling_laws.specs.StateReading.Parts.{not_before, way_not_before, last_of, ways_with, standing_item, same_place, places_differ}
 use Rattle.spelling_laws.proofs.Rows.{filter_map-flat, nothing-along, one-grows}
 
 abbrev pub backwards : List StandingValue → List StandingValue

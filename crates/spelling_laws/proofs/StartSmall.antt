@@ -5,16 +5,16 @@ use Rattle.std.specs.List.{list_all, range_with_len}
 use Rattle.std.proofs.Common.{ap, ◌∙◌, subst, arith, inl, inr}
 use Rattle.std.proofs.Math.Nat.{mul-le-mul_right}
 use Rattle.std.proofs.lemmas.Bool.{leb-true, ltb-false, lt-ltb, and_parts, and_from}
-use Rattle.ddm_types.specs.ItemTable.{item_count, items_of}
-use Rattle.tree_model.specs.State.Lists.{map_from}
-use Rattle.tree_model.specs.State.Values.{LeafValue, DirSizes, Node, leaf_node, nodes, MachineValue, root_of}
-use Rattle.tree_model.specs.State.Shape.{Skeleton, Skeletons, leaf_bone, dir_bone, no_bones, more_bones, skeleton, skeletons, IsShaped, levels_of, levels_fit, levels_fit_among, levels_known, bone_count, widths_fit, widths_fit_among, widths_bounded, leaf_numbers_of, leaf_numbers_among, buses_of, buses_among}
-use Rattle.tree_model.specs.Start.Sources.{TreeValue, ImageValue, width_of, leaf_count}
-use Rattle.tree_model.specs.Start.Memory.{start_items, start_words}
-use Rattle.tree_model.specs.Start.Nodes.{dir_sizes, leaf_for, placed, placed_at, placed_in, placed_items, cut_in, dir_over, dirs_over, under_levels}
-use Rattle.tree_model.specs.Start.Machine.{StartRefusal, too_many_items, start_leaf, start_leaves, start_machine, start_refusal, start_or, start_of}
-use Rattle.bus_laws.specs.IsTree.{IsTree}
-use Rattle.bus_laws.proofs.StartKept.{start-kept}
+use Rattle.spelling_laws.specs.DdmTypes.ItemTable.{item_count, items_of}
+use Rattle.spelling_laws.specs.TreeModel.State.Lists.{map_from}
+use Rattle.spelling_laws.specs.TreeModel.State.Values.{LeafValue, DirSizes, Node, leaf_node, nodes, MachineValue, root_of}
+use Rattle.spelling_laws.specs.TreeModel.State.Shape.{Skeleton, Skeletons, leaf_bone, dir_bone, no_bones, more_bones, skeleton, skeletons, IsShaped, levels_of, levels_fit, levels_fit_among, levels_known, bone_count, widths_fit, widths_fit_among, widths_bounded, leaf_numbers_of, leaf_numbers_among, buses_of, buses_among}
+use Rattle.spelling_laws.specs.TreeModel.Start.Sources.{TreeValue, ImageValue, width_of, leaf_count}
+use Rattle.spelling_laws.specs.TreeModel.Start.Memory.{start_items, start_words}
+use Rattle.spelling_laws.specs.TreeModel.Start.Nodes.{dir_sizes, leaf_for, placed, placed_at, placed_in, placed_items, cut_in, dir_over, dirs_over, under_levels}
+use Rattle.spelling_laws.specs.TreeModel.Start.Machine.{StartRefusal, too_many_items, start_leaf, start_leaves, start_machine, start_refusal, start_or, start_of}
+use Rattle.spelling_laws.specs.BusLaws.IsTree.{IsTree}
+use Rattle.spelling_laws.proofs.BusLaws.StartKept.{start-kept}
 use Rattle.value_laws.specs.Values.{IsWord}
 use Rattle.spelling_laws.specs.Small.{is_word, rooms_small, rooms_small_among, IsSmall, HasSmallSizes}
 

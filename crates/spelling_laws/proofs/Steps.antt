@@ -3,11 +3,11 @@
 use Rattle.std.specs.Prelude.{◌≡◌, ℕ, zero, suc, ◌+◌, Bool, true, false, ◌&&◌, ◌||◌, nat_eq, nat_lt, nat_le, List, [], ◌∷◌, ◌++◌, length, Result, Ok, Err, refl, if◌then◌else◌}
 use Rattle.std.specs.List.{flat_map}
 use Rattle.std.proofs.Common.{sym, ◌∙◌, ap, subst, append_assoc, append-nil, length-append, arith}
-use Rattle.state_reading.specs.declared.StateRefusal.{StateRefusal}
-use Rattle.state_reading.specs.declared.StateRefusal.TheVariants.{BadWord}
-use Rattle.state_reading.specs.Reading.{Read, and_then, given, times, word_that, words_that}
-use Rattle.state_reading.specs.Parts.{most_counted, listed}
-use Rattle.state_words.specs.Parts.{counted}
+use Rattle.spelling_laws.specs.StateReading.declared.StateRefusal.{StateRefusal}
+use Rattle.spelling_laws.specs.StateReading.declared.StateRefusal.TheVariants.{BadWord}
+use Rattle.spelling_laws.specs.StateReading.Reading.{Read, and_then, given, times, word_that, words_that}
+use Rattle.spelling_laws.specs.StateReading.Parts.{most_counted, listed}
+use Rattle.spelling_laws.specs.StateWords.Parts.{counted}
 use Rattle.spelling_laws.specs.Spells.{Spells}
 
 -- ---- one step

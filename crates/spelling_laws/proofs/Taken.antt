@@ -4,11 +4,11 @@ use Rattle.std.specs.Prelude.{◌≡◌, ℕ, zero, suc, ◌+◌, ◌≤◌, Boo
 use Rattle.std.specs.List.{flat_map, list_all}
 use Rattle.std.proofs.Common.{sym, ◌∙◌, ap, append_assoc, append-nil, length-append, arith}
 use Rattle.std.proofs.lemmas.Bool.{and_parts, le-leb}
-use Rattle.state_reading.specs.declared.StateRefusal.{StateRefusal}
-use Rattle.state_reading.specs.declared.StateRefusal.TheVariants.{BadWord}
-use Rattle.state_reading.specs.Reading.{Read, and_then, given, times, word_that, words_that}
-use Rattle.state_reading.specs.Parts.{listed}
-use Rattle.state_words.specs.Parts.{counted}
+use Rattle.spelling_laws.specs.StateReading.declared.StateRefusal.{StateRefusal}
+use Rattle.spelling_laws.specs.StateReading.declared.StateRefusal.TheVariants.{BadWord}
+use Rattle.spelling_laws.specs.StateReading.Reading.{Read, and_then, given, times, word_that, words_that}
+use Rattle.spelling_laws.specs.StateReading.Parts.{listed}
+use Rattle.spelling_laws.specs.StateWords.Parts.{counted}
 use Rattle.spelling_laws.specs.Spells.{Spells}
 use Rattle.spelling_laws.proofs.Steps.{is_to}
 

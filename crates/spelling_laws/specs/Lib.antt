@@ -1,3 +1,13 @@
+pub mod BusLaws
+pub mod DdmText
+pub mod DdmTypes
+pub mod FlatModel
+pub mod StateJudging
+pub mod StateReading
+pub mod StateWords
+pub mod TreeModel
+pub mod TreeRules
+pub mod ValueLaws
 pub mod Spells
 pub mod Spelled
 pub mod Small

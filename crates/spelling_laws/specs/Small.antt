@@ -1,10 +1,10 @@
 -- A machine of which there are so few items, leaves, buses, places and operations that their numbers are words of a checkpoint.
 -- To be believed with the laws: it is what they speak of.
 use Rattle.std.specs.Prelude.{◌≡◌, ◌/◌, ℕ, Bool, true, nat_lt, ◌&&◌, length}
-use Rattle.tree_model.specs.State.Values.{MachineValue, root_of}
-use Rattle.tree_model.specs.State.Shape.{Skeleton, Skeletons, leaf_bone, dir_bone, no_bones, more_bones, skeleton, tree_counts}
-use Rattle.tree_model.specs.Start.Sources.{TreeValue}
-use Rattle.tree_rules.specs.Bus.Rules.{items_of_machine}
+use Rattle.spelling_laws.specs.TreeModel.State.Values.{MachineValue, root_of}
+use Rattle.spelling_laws.specs.TreeModel.State.Shape.{Skeleton, Skeletons, leaf_bone, dir_bone, no_bones, more_bones, skeleton, tree_counts}
+use Rattle.spelling_laws.specs.TreeModel.Start.Sources.{TreeValue}
+use Rattle.spelling_laws.specs.TreeRules.Bus.Rules.{items_of_machine}
 use Rattle.value_laws.specs.Values.{IsWord}
 
 abbrev pub is_word : ℕ → Bool

@@ -1,7 +1,7 @@
 -- What a machine has whose words are read again.
 -- To be believed with the laws: it is what they speak of.
-use Rattle.tree_model.specs.State.Values.{MachineValue}
-use Rattle.state_reading.specs.Parts.{most_counted}
+use Rattle.spelling_laws.specs.TreeModel.State.Values.{MachineValue}
+use Rattle.spelling_laws.specs.StateReading.Parts.{most_counted}
 use Rattle.state_judging.specs.Read.{IsRead}
 use Rattle.value_laws.specs.Values.{HasForm}
 

@@ -2,16 +2,16 @@
 
 ghost use Rattle.std.specs.Prelude.{◌≡◌, ℕ, ◌+◌, ◌≤◌, List, ◌++◌, length, Ok};
 ghost use Rattle.std.specs.List.{AllByRecursion};
-ghost use Rattle.tree_model.specs.State.Values.{MachineValue};
-ghost use Rattle.tree_model.specs.State.Shape.{IsShaped, frame_of};
-ghost use Rattle.tree_model.specs.Start.Sources.{ImageValue, TreeValue};
-ghost use Rattle.tree_model.specs.Start.Machine.{start_of};
-ghost use Rattle.bus_laws.specs.IsTree.{IsTree};
-ghost use Rattle.tree_rules.specs.Bus.Rules.{IsMachineOk};
-ghost use Rattle.tree_rules.specs.Order.Rules.{IsTimed};
-ghost use Rattle.state_words.specs.Machine.{checkpoint_words, state_words};
-ghost use Rattle.state_reading.specs.Machine.{read_words};
-ghost use Rattle.state_reading.specs.Parts.{most_counted};
+ghost use Rattle.spelling_laws.specs.TreeModel.State.Values.{MachineValue};
+ghost use Rattle.spelling_laws.specs.TreeModel.State.Shape.{IsShaped, frame_of};
+ghost use Rattle.spelling_laws.specs.TreeModel.Start.Sources.{ImageValue, TreeValue};
+ghost use Rattle.spelling_laws.specs.TreeModel.Start.Machine.{start_of};
+ghost use Rattle.spelling_laws.specs.BusLaws.IsTree.{IsTree};
+ghost use Rattle.spelling_laws.specs.TreeRules.Bus.Rules.{IsMachineOk};
+ghost use Rattle.spelling_laws.specs.TreeRules.Order.Rules.{IsTimed};
+ghost use Rattle.spelling_laws.specs.StateWords.Machine.{checkpoint_words, state_words};
+ghost use Rattle.spelling_laws.specs.StateReading.Machine.{read_words};
+ghost use Rattle.spelling_laws.specs.StateReading.Parts.{most_counted};
 ghost use Rattle.state_judging.specs.Read.{CanRead};
 ghost use Rattle.value_laws.specs.Values.{HasForm, IsWord};
 ghost use Rattle.spelling_laws.specs.Small.{HasSmallSizes, IsSmall};

@@ -3,3 +3,6 @@
 #![tactic(auto)]
 
 pub mod laws;
+pub mod of_ddm_types;
+pub mod of_state_reading;
+pub mod of_state_words;

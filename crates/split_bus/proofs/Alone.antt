@@ -1,11 +1,11 @@
 -- One child alone is told something, seen through the children's values by f.
 use Rattle.std.proofs.Common.{◌≡◌, ℕ, ◌<◌, ◌≤◌, List, length, get_or, set, map, sym, ◌∙◌, ap, arith}
 use Rattle.std.proofs.lemmas.List.{get_or-map, map-set, length-map}
-use Rattle.tree_model.specs.State.Lists.{map_from}
-use Rattle.tree_model.specs.State.Values.{Node}
-use Rattle.tree_model.specs.State.Blank.{no_node}
-use Rattle.tree_model.specs.Turns.Children.{child_at, only}
-use Rattle.tree_model.proofs.Children.{only-set, only-absent}
+use Rattle.split_bus.specs.TreeModel.State.Lists.{map_from}
+use Rattle.split_bus.specs.TreeModel.State.Values.{Node}
+use Rattle.split_bus.specs.TreeModel.State.Blank.{no_node}
+use Rattle.split_bus.specs.TreeModel.Turns.Children.{child_at, only}
+use Rattle.split_bus.proofs.TreeModel.Children.{only-set, only-absent}
 
 module _ {A : Type 0} (f : A → Node) where
   -- the child at k

@@ -2,17 +2,17 @@
 use Rattle.std.proofs.Common.{◌≡◌, ℕ, ◌+◌, ◌<◌, Bool, true, false, List, [], ◌∷◌, length, Some, None, refl, arith}
 use Rattle.std.specs.Prelude.{not, ◌&&◌, nat_eq, nat_lt}
 use Rattle.std.proofs.lemmas.Bool.{ltb-true, ne_eqb}
-use Rattle.ddm_types.specs.declared.answers.TxKind.TheVariants.{InjectTx}
-use Rattle.ddm_types.specs.declared.answers.QueueName.{QueueName}
-use Rattle.tree_model.specs.State.Lists.{find_from, first_some, some_if}
-use Rattle.tree_model.specs.State.Values.{DirValue, Node, leaf_node, dir_node}
-use Rattle.tree_model.specs.State.Blank.{no_node}
-use Rattle.tree_model.specs.State.Directory.{dir_room, down_full, inject_has_place, is_top}
-use Rattle.tree_model.specs.State.Child.{child_full_for, child_holds, child_room, child_waits, reader_has_place}
-use Rattle.tree_model.specs.Turns.Children.{child_at, has_room, other_holds, other_waits, room_after, room_before, waits_with_room}
-use Rattle.tree_model.specs.Turns.Leave.{leave_taker}
-use Rattle.tree_model.proofs.Children.{found-passes, found-within}
-use Rattle.tree_model.proofs.Tests.{and-first, and-second, first_some-either, not-true}
+use Rattle.split_bus.specs.DdmTypes.declared.answers.TxKind.TheVariants.{InjectTx}
+use Rattle.split_bus.specs.DdmTypes.declared.answers.QueueName.{QueueName}
+use Rattle.split_bus.specs.TreeModel.State.Lists.{find_from, first_some, some_if}
+use Rattle.split_bus.specs.TreeModel.State.Values.{DirValue, Node, leaf_node, dir_node}
+use Rattle.split_bus.specs.TreeModel.State.Blank.{no_node}
+use Rattle.split_bus.specs.TreeModel.State.Directory.{dir_room, down_full, inject_has_place, is_top}
+use Rattle.split_bus.specs.TreeModel.State.Child.{child_full_for, child_holds, child_room, child_waits, reader_has_place}
+use Rattle.split_bus.specs.TreeModel.Turns.Children.{child_at, has_room, other_holds, other_waits, room_after, room_before, waits_with_room}
+use Rattle.split_bus.specs.TreeModel.Turns.Leave.{leave_taker}
+use Rattle.split_bus.proofs.TreeModel.Children.{found-passes, found-within}
+use Rattle.split_bus.proofs.TreeModel.Tests.{and-first, and-second, first_some-either, not-true}
 
 -- another holder is another child
 pub other_holder-apart : (c x k : ℕ) (ns : List Node) → find_from (other_holds c x) 0 ns ≡ Some k → nat_eq k c ≡ false

@@ -1,13 +1,13 @@
 -- What is granted: where no list that needs a place is full, and as it is answered.
 use Rattle.std.proofs.Common.{◌≡◌, ℕ, ◌^◌, ◌<◌, List, length, Option, Some, None, option_map, is_none, refl, ap}
-use Rattle.ddm_types.specs.declared.answers.QueueName.{QueueName}
-use Rattle.ddm_types.specs.declared.answers.TxKind.{TxKind}
-use Rattle.ddm_types.specs.declared.keys.Stamp.{Stamp}
-use Rattle.tree_model.specs.State.Values.{RequestValue, DirValue, Node}
-use Rattle.tree_model.specs.State.Blank.{no_node}
-use Rattle.tree_model.specs.Turns.Bus.{request_by_kind, request_turn}
-use Rattle.tree_model.specs.Turns.Children.{child_at}
-use Rattle.tree_model.specs.Turns.Grant.{Judged, nothing_there, refused, granted, Grant, unless_full, bus_answer}
+use Rattle.split_bus.specs.DdmTypes.declared.answers.QueueName.{QueueName}
+use Rattle.split_bus.specs.DdmTypes.declared.answers.TxKind.{TxKind}
+use Rattle.split_bus.specs.DdmTypes.declared.keys.Stamp.{Stamp}
+use Rattle.split_bus.specs.TreeModel.State.Values.{RequestValue, DirValue, Node}
+use Rattle.split_bus.specs.TreeModel.State.Blank.{no_node}
+use Rattle.split_bus.specs.TreeModel.Turns.Bus.{request_by_kind, request_turn}
+use Rattle.split_bus.specs.TreeModel.Turns.Children.{child_at}
+use Rattle.split_bus.specs.TreeModel.Turns.Grant.{Judged, nothing_there, refused, granted, Grant, unless_full, bus_answer}
 use Rattle.item_states.specs.Parts.{node_items, request_pair}
 use Rattle.split_bus.specs.Outcomes.{AreSized, IsKept, grants, is_granted}
 

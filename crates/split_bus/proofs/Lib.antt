@@ -1,3 +1,4 @@
+pub mod TreeModel
 pub mod Loops
 pub mod Alone
 pub mod Maps

@@ -3,8 +3,8 @@
 use Rattle.std.proofs.Common.{◌≡◌, ℕ, zero, suc, ◌+◌, ◌<◌, ◌≤◌, Bool, true, false, List, [], ◌∷◌, length, get_or, drop, set, map, cond, refl, sym, ◌∙◌, ap, arith, All, add-one, Option, Some, None, is_some}
 use Rattle.std.proofs.lemmas.List.{get_or-map, map-set, length-map}
 use Rattle.std.proofs.lemmas.List.Elements.{All-get_or}
-use Rattle.tree_model.specs.State.Lists.{map_from, find_from, first_given, first_some}
-use Rattle.tree_model.proofs.Children.{none-given}
+use Rattle.split_bus.specs.TreeModel.State.Lists.{map_from, find_from, first_given, first_some}
+use Rattle.split_bus.proofs.TreeModel.Children.{none-given}
 
 -- g of each index and element, at the first k elements alone
 abbrev pub map_first : {X : Type 0} → (ℕ → X → X) → ℕ → ℕ → List X → List X

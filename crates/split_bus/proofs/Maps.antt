@@ -3,13 +3,13 @@ use Rattle.std.proofs.Common.{◌≡◌, ℕ, ◌+◌, ◌<◌, true, false, Lis
 use Rattle.std.specs.Prelude.{nat_eq, if◌then◌else◌}
 use Rattle.std.proofs.lemmas.List.{length-set}
 use Rattle.std.proofs.lemmas.Bool.{eqb-true, eqb-false, ne_eqb}
-use Rattle.ddm_types.specs.declared.answers.TxKind.TheVariants.{DataTx}
-use Rattle.tree_model.specs.State.Lists.{map_from, first_given, first_some}
-use Rattle.tree_model.specs.State.Values.{Note, Node, leaf_node, dir_node}
-use Rattle.tree_model.specs.State.Directory.{is_reader}
-use Rattle.tree_model.specs.State.Child.{child_full_for, child_give_up, child_reply_taken}
-use Rattle.tree_model.specs.Turns.Children.{child_at, only, reader_full}
-use Rattle.tree_model.proofs.Children.{child_at-map_from, map_from-at, map_from-length}
+use Rattle.split_bus.specs.DdmTypes.declared.answers.TxKind.TheVariants.{DataTx}
+use Rattle.split_bus.specs.TreeModel.State.Lists.{map_from, first_given, first_some}
+use Rattle.split_bus.specs.TreeModel.State.Values.{Note, Node, leaf_node, dir_node}
+use Rattle.split_bus.specs.TreeModel.State.Directory.{is_reader}
+use Rattle.split_bus.specs.TreeModel.State.Child.{child_full_for, child_give_up, child_reply_taken}
+use Rattle.split_bus.specs.TreeModel.Turns.Children.{child_at, only, reader_full}
+use Rattle.split_bus.proofs.TreeModel.Children.{child_at-map_from, map_from-at, map_from-length}
 use Rattle.item_states.specs.Parts.{node_items}
 
 module _ {X : Type 0} where

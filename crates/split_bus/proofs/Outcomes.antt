@@ -1,11 +1,11 @@
 -- Outcomes of turns: where a list is full, and where none is.
 use Rattle.std.proofs.Common.{◌≡◌, List, Option, Some, None, refl}
-use Rattle.ddm_types.specs.declared.answers.QueueName.{QueueName}
-use Rattle.ddm_types.specs.declared.answers.BusyCause.TheVariants.{QueueFull}
-use Rattle.ddm_types.specs.declared.answers.TurnAnswer.{TurnAnswer}
-use Rattle.ddm_types.specs.declared.answers.TurnAnswer.TheVariants.{Busy}
-use Rattle.tree_model.specs.State.Values.{DirValue, Node}
-use Rattle.tree_model.specs.Turns.Grant.{Grant, granted, unless_full, outcome_of}
+use Rattle.split_bus.specs.DdmTypes.declared.answers.QueueName.{QueueName}
+use Rattle.split_bus.specs.DdmTypes.declared.answers.BusyCause.TheVariants.{QueueFull}
+use Rattle.split_bus.specs.DdmTypes.declared.answers.TurnAnswer.{TurnAnswer}
+use Rattle.split_bus.specs.DdmTypes.declared.answers.TurnAnswer.TheVariants.{Busy}
+use Rattle.split_bus.specs.TreeModel.State.Values.{DirValue, Node}
+use Rattle.split_bus.specs.TreeModel.Turns.Grant.{Grant, granted, unless_full, outcome_of}
 use Rattle.split_bus.specs.Outcomes.{IsOutcome}
 
 module _ (p : DirValue) (ns : List Node) (needed : Option QueueName) (g : Grant) where

@@ -1,8 +1,8 @@
 -- Where a turn is ready to move the item that a child names.
 use Rattle.std.proofs.Common.{◌≡◌, ℕ, ◌+◌, ◌^◌, ◌<◌, List, length}
-use Rattle.tree_model.specs.State.Values.{DirValue, Node}
-use Rattle.tree_model.specs.State.Blank.{no_node}
-use Rattle.tree_model.specs.Turns.Children.{child_at}
+use Rattle.split_bus.specs.TreeModel.State.Values.{DirValue, Node}
+use Rattle.split_bus.specs.TreeModel.State.Blank.{no_node}
+use Rattle.split_bus.specs.TreeModel.Turns.Children.{child_at}
 use Rattle.item_states.specs.Parts.{node_items}
 use Rattle.split_bus.specs.Outcomes.{AreSized, IsReady}
 

@@ -1,2 +1,5 @@
+pub mod DdmTypes
+pub mod ItemStates
+pub mod TreeModel
 pub mod Children
 pub mod Outcomes

@@ -1,12 +1,12 @@
 -- What a turn of a bus needs to be safe, and its outcome part by part.
 -- To be believed: contracts of code speak of it.
 use Rattle.std.specs.Prelude.{◌≡◌, ℕ, ◌+◌, ◌^◌, ◌<◌, Bool, true, false, List, length, All, ⊤}
-use Rattle.ddm_types.specs.declared.answers.TurnAnswer.{TurnAnswer}
-use Rattle.tree_model.specs.declared.BusTurn.{BusTurn}
-use Rattle.tree_model.specs.State.Lists.{rest_of}
-use Rattle.tree_model.specs.State.Directory.{front_taken}
-use Rattle.tree_model.specs.State.Values.{DownValue, DirValue, Node}
-use Rattle.tree_model.specs.Turns.Grant.{Judged, nothing_there, refused, granted, Outcome}
+use Rattle.split_bus.specs.DdmTypes.declared.answers.TurnAnswer.{TurnAnswer}
+use Rattle.split_bus.specs.TreeModel.declared.BusTurn.{BusTurn}
+use Rattle.split_bus.specs.TreeModel.State.Lists.{rest_of}
+use Rattle.split_bus.specs.TreeModel.State.Directory.{front_taken}
+use Rattle.split_bus.specs.TreeModel.State.Values.{DownValue, DirValue, Node}
+use Rattle.split_bus.specs.TreeModel.Turns.Grant.{Judged, nothing_there, refused, granted, Outcome}
 use Rattle.item_states.specs.Parts.{node_items}
 
 -- the answer, the parent and the children after a turn are those of the outcome

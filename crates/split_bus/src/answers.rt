@@ -1,8 +1,10 @@
 ghost use Rattle.std.specs.Prelude.{◌≡◌};
-ghost use Rattle.ddm_types.specs.declared.answers.BusyCause.TheVariants.{ItemPending, QueueFull};
-ghost use Rattle.ddm_types.specs.declared.answers.TurnAnswer.TheVariants.{Busy, Granted};
+ghost use Rattle.split_bus.specs.DdmTypes.declared.answers.BusyCause.TheVariants.{ItemPending, QueueFull};
+ghost use Rattle.split_bus.specs.DdmTypes.declared.answers.TurnAnswer.TheVariants.{Busy, Granted};
 
-use ddm_types::{BusyCause, ItemId, LogEntry, PendingWhy, Place, QueueName, TurnAnswer, TxKind};
+use crate::of_ddm_types::{
+    BusyCause, ItemId, LogEntry, PendingWhy, Place, QueueName, TurnAnswer, TxKind,
+};
 use item_states::Parent;
 
 /// A transaction was granted on this parent's bus.

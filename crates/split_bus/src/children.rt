@@ -1,11 +1,11 @@
 ghost use Rattle.std.specs.Prelude.{◌≡◌, ◌<◌, length, map};
-ghost use Rattle.ddm_types.specs.declared.answers.TxKind.TheVariants.{ExclusiveTx, InjectTx, ReadTx};
-ghost use Rattle.tree_model.specs.State.Child.{child_full_for, reader_has_place};
-ghost use Rattle.tree_model.specs.Turns.Children.{child_at};
+ghost use Rattle.split_bus.specs.DdmTypes.declared.answers.TxKind.TheVariants.{ExclusiveTx, InjectTx, ReadTx};
+ghost use Rattle.split_bus.specs.TreeModel.State.Child.{child_full_for, reader_has_place};
+ghost use Rattle.split_bus.specs.TreeModel.Turns.Children.{child_at};
 ghost use Rattle.item_states.specs.Parts.{node_items};
 ghost use Rattle.split_bus.specs.Outcomes.{HaveItem};
 
-use ddm_types::{ChildNo, ItemId, QueueName, TxKind};
+use crate::of_ddm_types::{ChildNo, ItemId, QueueName, TxKind};
 use item_states::Agent;
 
 /// Child `c`.

@@ -1,11 +1,11 @@
 ghost use Rattle.std.specs.Prelude.{◌≡◌, ◌+◌, ◌<◌, ◌≤◌, ◌^◌, length, map};
-ghost use Rattle.ddm_types.specs.declared.answers.TxKind.TheVariants.{ExclusiveTx, ReadTx};
-ghost use Rattle.tree_model.specs.State.Lists.{find_from, first_given};
-ghost use Rattle.tree_model.specs.State.Directory.{dir_note, parked_words, with_note, without_parked};
-ghost use Rattle.tree_model.specs.State.Child.{child_full_for};
-ghost use Rattle.tree_model.specs.Turns.Grant.{outcome_of, own_replies_full, unless_full};
-ghost use Rattle.tree_model.specs.Turns.Children.{child_at, holds_item, reader_full};
-ghost use Rattle.tree_model.specs.Turns.Down.{data_to_readers, down_by_kind, down_by_note, down_data, down_erase, down_exclusive, down_read, down_turn, exclusive_to, read_by_child, read_by_parked, without_up_erase};
+ghost use Rattle.split_bus.specs.DdmTypes.declared.answers.TxKind.TheVariants.{ExclusiveTx, ReadTx};
+ghost use Rattle.split_bus.specs.TreeModel.State.Lists.{find_from, first_given};
+ghost use Rattle.split_bus.specs.TreeModel.State.Directory.{dir_note, parked_words, with_note, without_parked};
+ghost use Rattle.split_bus.specs.TreeModel.State.Child.{child_full_for};
+ghost use Rattle.split_bus.specs.TreeModel.Turns.Grant.{outcome_of, own_replies_full, unless_full};
+ghost use Rattle.split_bus.specs.TreeModel.Turns.Children.{child_at, holds_item, reader_full};
+ghost use Rattle.split_bus.specs.TreeModel.Turns.Down.{data_to_readers, down_by_kind, down_by_note, down_data, down_erase, down_exclusive, down_read, down_turn, exclusive_to, read_by_child, read_by_parked, without_up_erase};
 ghost use Rattle.split_bus.specs.Children.{note_of, note_of_readers};
 ghost use Rattle.split_bus.specs.Outcomes.{AreSized, IsOutcome, IsReady, fronted};
 
@@ -13,12 +13,12 @@ use crate::answers::{full, granted, pending};
 use crate::children::{full_to_answer, full_to_take_exclusive};
 use crate::hearers::{Hearers, find_full};
 use crate::inject::down_inject;
+use crate::of_ddm_types::{ChildNo, ItemId, PendingWhy, Place, TurnAnswer, TxKind, Words};
 use crate::parent::take_front;
 use crate::readers::{Noted, Readers};
 use crate::reply::send_data;
 use crate::sought::{Sought, find};
 use crate::told::{answer, lose_all, take_data, take_exclusive};
-use ddm_types::{ChildNo, ItemId, PendingWhy, Place, TurnAnswer, TxKind, Words};
 use item_states::{Agent, DownEntry, Parent, ParentList};
 
 /// The child that erases is told exclusive.

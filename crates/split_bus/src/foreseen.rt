@@ -1,17 +1,17 @@
 #![tactic(auto, using(crate::proofs::Granting::grants_unless_full))]
 
 ghost use Rattle.std.specs.Prelude.{◌≡◌, ◌<◌, ◌≤◌, ◌^◌, IfSome, length, map, option_map, true};
-ghost use Rattle.ddm_types.specs.declared.keys.Stamp.{Stamp};
-ghost use Rattle.tree_model.specs.State.Lists.{find_from};
-ghost use Rattle.tree_model.specs.State.States.{is_held};
-ghost use Rattle.tree_model.specs.State.Child.{child_reply, child_request};
-ghost use Rattle.tree_model.specs.State.Directory.{dir_hold, dir_note, is_answering, parked_words, pending};
-ghost use Rattle.tree_model.specs.Turns.Bus.{bus_step, reply_turn, request_by_kind, request_turn};
-ghost use Rattle.tree_model.specs.Turns.Children.{child_at, holds_item, other_holds};
-ghost use Rattle.tree_model.specs.Turns.Down.{down_by_kind, down_by_note, down_data, down_erase, down_exclusive, down_inject, down_read, down_turn, inject_taker, inject_to_read, inject_to_taker};
-ghost use Rattle.tree_model.specs.Turns.Reply.{reply_answering, reply_by_note};
-ghost use Rattle.tree_model.specs.Turns.RequestErase.{request_erase};
-ghost use Rattle.tree_model.specs.Turns.RequestRead.{read_granted, read_held, request_read};
+ghost use Rattle.split_bus.specs.DdmTypes.declared.keys.Stamp.{Stamp};
+ghost use Rattle.split_bus.specs.TreeModel.State.Lists.{find_from};
+ghost use Rattle.split_bus.specs.TreeModel.State.States.{is_held};
+ghost use Rattle.split_bus.specs.TreeModel.State.Child.{child_reply, child_request};
+ghost use Rattle.split_bus.specs.TreeModel.State.Directory.{dir_hold, dir_note, is_answering, parked_words, pending};
+ghost use Rattle.split_bus.specs.TreeModel.Turns.Bus.{bus_step, reply_turn, request_by_kind, request_turn};
+ghost use Rattle.split_bus.specs.TreeModel.Turns.Children.{child_at, holds_item, other_holds};
+ghost use Rattle.split_bus.specs.TreeModel.Turns.Down.{down_by_kind, down_by_note, down_data, down_erase, down_exclusive, down_inject, down_read, down_turn, inject_taker, inject_to_read, inject_to_taker};
+ghost use Rattle.split_bus.specs.TreeModel.Turns.Reply.{reply_answering, reply_by_note};
+ghost use Rattle.split_bus.specs.TreeModel.Turns.RequestErase.{request_erase};
+ghost use Rattle.split_bus.specs.TreeModel.Turns.RequestRead.{read_granted, read_held, request_read};
 ghost use Rattle.item_states.specs.Parts.{copy_pair, request_pair};
 ghost use Rattle.split_bus.specs.Children.{note_of};
 ghost use Rattle.split_bus.specs.Outcomes.{AreSized, IsKept, NamesOneOf, fronted, goes_on_with, grants, is_granted};
@@ -21,13 +21,13 @@ use crate::children::{
 };
 use crate::hearers::{Hearers, find_full};
 use crate::inject::inject_taker;
+use crate::of_ddm_types::{ChildNo, ItemId, Stamp, TxKind, Words};
+use crate::of_tree_model::BusTurn;
 use crate::parent::is_parked;
 use crate::readers::{Noted, Readers};
 use crate::request_erase::full_to_erase;
 use crate::sought::{Sought, find, is_exclusive, is_held};
-use ddm_types::{ChildNo, ItemId, Stamp, TxKind, Words};
 use item_states::{Agent, DownEntry, Parent, ParentList};
-use tree_model::BusTurn;
 
 /// A read that comes down finds a child or the parked copy to answer it.
 fn down_read_goes<const WORDS: usize, P: Parent<WORDS>, C: Agent<WORDS>>(

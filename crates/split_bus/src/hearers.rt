@@ -1,11 +1,11 @@
 ghost use Rattle.std.specs.Prelude.{◌≡◌, ◌<◌, ◌≤◌, length, map};
-ghost use Rattle.tree_model.specs.State.Lists.{first_given};
+ghost use Rattle.split_bus.specs.TreeModel.State.Lists.{first_given};
 ghost use Rattle.item_states.specs.Parts.{node_items};
 ghost use Rattle.split_bus.specs.Children.{full_to_hear};
 ghost use Rattle.split_bus.specs.Outcomes.{HaveItem};
 
+use crate::of_ddm_types::{ChildNo, ItemId, QueueName, TxKind};
 use crate::readers::Readers;
-use ddm_types::{ChildNo, ItemId, QueueName, TxKind};
 use item_states::Agent;
 
 /// The children that a turn tells something, and what.

@@ -1,22 +1,22 @@
 ghost use Rattle.std.specs.Prelude.{◌≡◌, ◌≤◌, Some, false, nat_eq, true, length, map};
-ghost use Rattle.ddm_types.specs.declared.answers.TxKind.TheVariants.{InjectTx};
-ghost use Rattle.tree_model.specs.State.Lists.{first_given};
-ghost use Rattle.tree_model.specs.State.Directory.{is_parked};
-ghost use Rattle.tree_model.specs.State.Child.{child_full_for, reader_has_place};
-ghost use Rattle.tree_model.specs.Turns.Grant.{granted, outcome_of, unless_full};
-ghost use Rattle.tree_model.specs.Turns.Children.{child_at, reader_full};
-ghost use Rattle.tree_model.specs.Turns.Down.{down_inject, inject_parked, inject_taker, inject_to_child, inject_to_parking, inject_to_read, inject_to_reader, inject_to_readers, inject_to_taker};
+ghost use Rattle.split_bus.specs.DdmTypes.declared.answers.TxKind.TheVariants.{InjectTx};
+ghost use Rattle.split_bus.specs.TreeModel.State.Lists.{first_given};
+ghost use Rattle.split_bus.specs.TreeModel.State.Directory.{is_parked};
+ghost use Rattle.split_bus.specs.TreeModel.State.Child.{child_full_for, reader_has_place};
+ghost use Rattle.split_bus.specs.TreeModel.Turns.Grant.{granted, outcome_of, unless_full};
+ghost use Rattle.split_bus.specs.TreeModel.Turns.Children.{child_at, reader_full};
+ghost use Rattle.split_bus.specs.TreeModel.Turns.Down.{down_inject, inject_parked, inject_taker, inject_to_child, inject_to_parking, inject_to_read, inject_to_reader, inject_to_readers, inject_to_taker};
 ghost use Rattle.split_bus.specs.Children.{note_of, note_of_readers};
 ghost use Rattle.split_bus.specs.Outcomes.{HaveItem, IsOutcome, IsReady, fronted};
 
 use crate::answers::{full, granted};
 use crate::children::{full_to_take_inject, reader_has_place};
 use crate::hearers::{Hearers, find_full};
+use crate::of_ddm_types::{ChildNo, Place, TurnAnswer, TxKind};
 use crate::parent::{is_parked, take_front};
 use crate::readers::{Noted, Readers};
 use crate::sought::{Sought, find};
 use crate::told::{take_data, take_inject};
-use ddm_types::{ChildNo, Place, TurnAnswer, TxKind};
 use item_states::{Agent, DownEntry, Parent};
 
 /// The only reader is told inject.

@@ -1,19 +1,19 @@
 ghost use Rattle.std.specs.Prelude.{◌≡◌, ◌<◌, ◌≤◌, Some, false, true, length, map};
-ghost use Rattle.tree_model.specs.State.States.{is_shared};
-ghost use Rattle.tree_model.specs.State.Directory.{dir_hold, is_parked, parking_full};
-ghost use Rattle.tree_model.specs.State.Child.{child_hold};
-ghost use Rattle.tree_model.specs.Turns.Grant.{granted, outcome_of};
-ghost use Rattle.tree_model.specs.Turns.Children.{child_at};
-ghost use Rattle.tree_model.specs.Turns.Leave.{leave_by_hold, leave_inject, leave_of, leave_parked, leave_shared, leave_taker, leave_to, other_copy, out_gone, parked_unless_full};
+ghost use Rattle.split_bus.specs.TreeModel.State.States.{is_shared};
+ghost use Rattle.split_bus.specs.TreeModel.State.Directory.{dir_hold, is_parked, parking_full};
+ghost use Rattle.split_bus.specs.TreeModel.State.Child.{child_hold};
+ghost use Rattle.split_bus.specs.TreeModel.Turns.Grant.{granted, outcome_of};
+ghost use Rattle.split_bus.specs.TreeModel.Turns.Children.{child_at};
+ghost use Rattle.split_bus.specs.TreeModel.Turns.Leave.{leave_by_hold, leave_inject, leave_of, leave_parked, leave_shared, leave_taker, leave_to, other_copy, out_gone, parked_unless_full};
 ghost use Rattle.item_states.specs.Parts.{has_given};
 ghost use Rattle.split_bus.specs.Outcomes.{HaveItem, IsOutcome, IsReady};
 
 use crate::answers::{granted, pending};
 use crate::children::child;
+use crate::of_ddm_types::{BusyCause, ChildNo, Hold, ItemId, Place, TurnAnswer, TxKind};
 use crate::parent::{is_parked, is_top};
 use crate::sought::{Sought, find, is_shared};
 use crate::told::{give_up, take_inject};
-use ddm_types::{BusyCause, ChildNo, Hold, ItemId, Place, TurnAnswer, TxKind};
 use item_states::{Agent, Parent};
 
 /// Whether another child than `c`, or the parked copy, holds the item.

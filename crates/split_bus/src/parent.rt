@@ -1,8 +1,8 @@
 ghost use Rattle.std.specs.Prelude.{◌≡◌, ◌+◌, ◌<◌, ◌^◌, None, Some, length, if◌then◌else◌};
-ghost use Rattle.tree_model.specs.State.Lists.{rest_of};
-ghost use Rattle.tree_model.specs.State.Directory.{front_taken, is_parked, is_top, stamp_of};
+ghost use Rattle.split_bus.specs.TreeModel.State.Lists.{rest_of};
+ghost use Rattle.split_bus.specs.TreeModel.State.Directory.{front_taken, is_parked, is_top, stamp_of};
 
-use ddm_types::{ItemId, Stamp};
+use crate::of_ddm_types::{ItemId, Stamp};
 use item_states::Parent;
 
 /// Whether no bus is above the parent's.

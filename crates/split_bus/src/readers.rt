@@ -1,9 +1,9 @@
 ghost use Rattle.std.specs.Prelude.{◌≡◌, ◌<◌, length};
-ghost use Rattle.tree_model.specs.State.Directory.{dir_note, is_reader};
-ghost use Rattle.tree_model.specs.Turns.Grant.{data_taker};
+ghost use Rattle.split_bus.specs.TreeModel.State.Directory.{dir_note, is_reader};
+ghost use Rattle.split_bus.specs.TreeModel.Turns.Grant.{data_taker};
 ghost use Rattle.split_bus.specs.Children.{note_of, note_of_readers};
 
-use ddm_types::{ChildNo, ItemId, PendingWhy, Place};
+use crate::of_ddm_types::{ChildNo, ItemId, PendingWhy, Place};
 use item_states::Parent;
 
 /// The children that read an item: the one whose read was granted first, and those that joined it, child c where bit c is set.

@@ -1,18 +1,18 @@
 ghost use Rattle.std.specs.Prelude.{◌≡◌, ◌<◌, ◌≤◌, false, length, map};
-ghost use Rattle.ddm_types.specs.declared.sizes.Hold.TheVariants.{Shared};
-ghost use Rattle.tree_model.specs.State.Lists.{first_given};
-ghost use Rattle.tree_model.specs.State.Directory.{dir_note, is_answering, pushed_reply, replies_full, with_answering, with_hold};
-ghost use Rattle.tree_model.specs.Turns.Grant.{outcome_of, own_replies_full, unless_full};
-ghost use Rattle.tree_model.specs.Turns.Children.{reader_full};
-ghost use Rattle.tree_model.specs.Turns.Reply.{reply_answering, reply_by_note, reply_to_parent, reply_to_readers};
+ghost use Rattle.split_bus.specs.DdmTypes.declared.sizes.Hold.TheVariants.{Shared};
+ghost use Rattle.split_bus.specs.TreeModel.State.Lists.{first_given};
+ghost use Rattle.split_bus.specs.TreeModel.State.Directory.{dir_note, is_answering, pushed_reply, replies_full, with_answering, with_hold};
+ghost use Rattle.split_bus.specs.TreeModel.Turns.Grant.{outcome_of, own_replies_full, unless_full};
+ghost use Rattle.split_bus.specs.TreeModel.Turns.Children.{reader_full};
+ghost use Rattle.split_bus.specs.TreeModel.Turns.Reply.{reply_answering, reply_by_note, reply_to_parent, reply_to_readers};
 ghost use Rattle.split_bus.specs.Children.{note_of_readers};
 ghost use Rattle.split_bus.specs.Outcomes.{IsOutcome, IsReady};
 
 use crate::answers::{full, granted};
 use crate::hearers::{Hearers, find_full};
+use crate::of_ddm_types::{ChildNo, ItemId, Place, TurnAnswer, TxKind, Words};
 use crate::readers::{Noted, Readers};
 use crate::told::{take_data, take_reply};
-use ddm_types::{ChildNo, ItemId, Place, TurnAnswer, TxKind, Words};
 use item_states::{Agent, Parent, ParentList};
 
 /// Every reader is told data.

@@ -1,19 +1,21 @@
 ghost use Rattle.std.specs.Prelude.{◌≡◌, ◌<◌, ◌≤◌, ◌^◌, false, length, map, if◌then◌else◌};
-ghost use Rattle.ddm_types.specs.declared.answers.TxKind.TheVariants.{EraseTx, ExclusiveTx};
-ghost use Rattle.tree_model.specs.State.Lists.{first_given, first_some};
-ghost use Rattle.tree_model.specs.State.States.{is_exclusive};
-ghost use Rattle.tree_model.specs.State.Leaf.{blank};
-ghost use Rattle.tree_model.specs.State.Directory.{dir_hold, down_full, pending, pushed_down, pushed_request, requests_full};
-ghost use Rattle.tree_model.specs.Turns.Grant.{outcome_of, unless_full};
-ghost use Rattle.tree_model.specs.Turns.Children.{other_full};
-ghost use Rattle.tree_model.specs.Turns.RequestErase.{erase_list_full, erase_of_all, request_erase};
+ghost use Rattle.split_bus.specs.DdmTypes.declared.answers.TxKind.TheVariants.{EraseTx, ExclusiveTx};
+ghost use Rattle.split_bus.specs.TreeModel.State.Lists.{first_given, first_some};
+ghost use Rattle.split_bus.specs.TreeModel.State.States.{is_exclusive};
+ghost use Rattle.split_bus.specs.TreeModel.State.Leaf.{blank};
+ghost use Rattle.split_bus.specs.TreeModel.State.Directory.{dir_hold, down_full, pending, pushed_down, pushed_request, requests_full};
+ghost use Rattle.split_bus.specs.TreeModel.Turns.Grant.{outcome_of, unless_full};
+ghost use Rattle.split_bus.specs.TreeModel.Turns.Children.{other_full};
+ghost use Rattle.split_bus.specs.TreeModel.Turns.RequestErase.{erase_list_full, erase_of_all, request_erase};
 ghost use Rattle.split_bus.specs.Outcomes.{HaveItem, IsOutcome, IsReady};
 
 use crate::answers::{full, granted, pending};
 use crate::hearers::{Hearers, find_full};
+use crate::of_ddm_types::{
+    ChildNo, ItemId, PendingWhy, Place, QueueName, Stamp, TurnAnswer, TxKind, Words,
+};
 use crate::sought::is_exclusive;
 use crate::told::lose_others;
-use ddm_types::{ChildNo, ItemId, PendingWhy, Place, QueueName, Stamp, TurnAnswer, TxKind, Words};
 use item_states::{Agent, DownEntry, Parent, ParentList};
 
 /// The first list that needs a place and is full.

@@ -1,20 +1,20 @@
 ghost use Rattle.std.specs.Prelude.{◌≡◌, ◌<◌, ◌≤◌, Some, length, map};
-ghost use Rattle.ddm_types.specs.declared.answers.TxKind.TheVariants.{ReadTx};
-ghost use Rattle.tree_model.specs.State.Lists.{find_from};
-ghost use Rattle.tree_model.specs.State.States.{is_held};
-ghost use Rattle.tree_model.specs.State.Directory.{dir_hold, dir_note, parked_words};
-ghost use Rattle.tree_model.specs.State.Child.{child_full_for};
-ghost use Rattle.tree_model.specs.Turns.Grant.{granted, outcome_of, own_down_full, own_requests_full, unless_full};
-ghost use Rattle.tree_model.specs.Turns.Children.{child_at, other_holds};
-ghost use Rattle.tree_model.specs.Turns.RequestRead.{joins, read_granted, read_held, read_of_child, read_of_parent, read_of_parked, request_read};
+ghost use Rattle.split_bus.specs.DdmTypes.declared.answers.TxKind.TheVariants.{ReadTx};
+ghost use Rattle.split_bus.specs.TreeModel.State.Lists.{find_from};
+ghost use Rattle.split_bus.specs.TreeModel.State.States.{is_held};
+ghost use Rattle.split_bus.specs.TreeModel.State.Directory.{dir_hold, dir_note, parked_words};
+ghost use Rattle.split_bus.specs.TreeModel.State.Child.{child_full_for};
+ghost use Rattle.split_bus.specs.TreeModel.Turns.Grant.{granted, outcome_of, own_down_full, own_requests_full, unless_full};
+ghost use Rattle.split_bus.specs.TreeModel.Turns.Children.{child_at, other_holds};
+ghost use Rattle.split_bus.specs.TreeModel.Turns.RequestRead.{joins, read_granted, read_held, read_of_child, read_of_parent, read_of_parked, request_read};
 ghost use Rattle.split_bus.specs.Outcomes.{IsOutcome, IsReady};
 
 use crate::answers::{full, granted, pending};
 use crate::children::full_to_answer;
+use crate::of_ddm_types::{ChildNo, ItemId, PendingWhy, Place, Stamp, TurnAnswer, TxKind, Words};
 use crate::readers::Noted;
 use crate::sought::{Sought, find, is_held};
 use crate::told::{answer, take_request};
-use ddm_types::{ChildNo, ItemId, PendingWhy, Place, Stamp, TurnAnswer, TxKind, Words};
 use item_states::{Agent, DownEntry, Parent, ParentList};
 
 /// The request joins the read that is under way.

@@ -1,12 +1,12 @@
 ghost use Rattle.std.specs.Prelude.{◌≡◌, ◌<◌, ◌≤◌, IfSome, length, map};
-ghost use Rattle.tree_model.specs.State.Lists.{find_from};
-ghost use Rattle.tree_model.specs.State.States.{is_exclusive, is_held, is_shared};
-ghost use Rattle.tree_model.specs.State.Child.{child_holds};
+ghost use Rattle.split_bus.specs.TreeModel.State.Lists.{find_from};
+ghost use Rattle.split_bus.specs.TreeModel.State.States.{is_exclusive, is_held, is_shared};
+ghost use Rattle.split_bus.specs.TreeModel.State.Child.{child_holds};
 ghost use Rattle.item_states.specs.Parts.{node_items};
 ghost use Rattle.split_bus.specs.Children.{is_sought};
 ghost use Rattle.split_bus.specs.Outcomes.{HaveItem};
 
-use ddm_types::{ChildNo, Hold, ItemId};
+use crate::of_ddm_types::{ChildNo, Hold, ItemId};
 use item_states::Agent;
 
 /// A child that a turn seeks.

@@ -1,15 +1,15 @@
 ghost use Rattle.std.specs.Prelude.{◌≡◌, ◌^◌, ◌<◌, ◌≤◌, None, true, length, map};
-ghost use Rattle.ddm_types.specs.declared.answers.TxKind.TheVariants.{ExclusiveTx, InjectTx, ReadTx};
-ghost use Rattle.tree_model.specs.State.Lists.{first_given, map_from};
-ghost use Rattle.tree_model.specs.State.Child.{child_answer, child_full_for, child_give_up, child_given, child_reply_taken, child_request_taken, child_take_exclusive, child_take_inject, reader_has_place};
-ghost use Rattle.tree_model.specs.Turns.Children.{child_at, erased_by, loses, only, reader_takes};
+ghost use Rattle.split_bus.specs.DdmTypes.declared.answers.TxKind.TheVariants.{ExclusiveTx, InjectTx, ReadTx};
+ghost use Rattle.split_bus.specs.TreeModel.State.Lists.{first_given, map_from};
+ghost use Rattle.split_bus.specs.TreeModel.State.Child.{child_answer, child_full_for, child_give_up, child_given, child_reply_taken, child_request_taken, child_take_exclusive, child_take_inject, reader_has_place};
+ghost use Rattle.split_bus.specs.TreeModel.Turns.Children.{child_at, erased_by, loses, only, reader_takes};
 ghost use Rattle.item_states.specs.Parts.{has_given, node_items};
 ghost use Rattle.split_bus.specs.Children.{full_to_hear, note_of_readers};
 ghost use Rattle.split_bus.specs.Outcomes.{HaveItem};
 ghost use Rattle.split_bus.specs.declared.hearers.Hearers.TheVariants.{LoseAll, LoseOthers, TakeData};
 
+use crate::of_ddm_types::{ChildNo, ItemId, Stamp, Words};
 use crate::readers::Readers;
-use ddm_types::{ChildNo, ItemId, Stamp, Words};
 use item_states::Agent;
 
 /// Child `c`'s request was granted.

@@ -1,20 +1,20 @@
 ghost use Rattle.std.specs.Prelude.{◌≡◌, ◌+◌, ◌<◌, ◌≤◌, ◌^◌, IfSome, length, map, option_map, true};
-ghost use Rattle.ddm_types.specs.declared.keys.Stamp.{Stamp};
-ghost use Rattle.tree_model.specs.State.Child.{child_leaving, child_reply, child_request};
-ghost use Rattle.tree_model.specs.Turns.Grant.{outcome_of};
-ghost use Rattle.tree_model.specs.Turns.Children.{child_at};
-ghost use Rattle.tree_model.specs.Turns.Bus.{bus_step, leave_turn, reply_turn, request_turn};
+ghost use Rattle.split_bus.specs.DdmTypes.declared.keys.Stamp.{Stamp};
+ghost use Rattle.split_bus.specs.TreeModel.State.Child.{child_leaving, child_reply, child_request};
+ghost use Rattle.split_bus.specs.TreeModel.Turns.Grant.{outcome_of};
+ghost use Rattle.split_bus.specs.TreeModel.Turns.Children.{child_at};
+ghost use Rattle.split_bus.specs.TreeModel.Turns.Bus.{bus_step, leave_turn, reply_turn, request_turn};
 ghost use Rattle.item_states.specs.Parts.{copy_pair, has_given, request_pair};
 ghost use Rattle.split_bus.specs.Outcomes.{AreSized, IsOutcome, IsReady, NamesOneOf};
 
 use crate::down::down;
 use crate::leave::leave;
+use crate::of_ddm_types::{ChildNo, ItemId, Stamp, TurnAnswer, TxKind, Words};
+use crate::of_tree_model::BusTurn;
 use crate::reply::reply;
 use crate::request_erase::request_erase;
 use crate::request_read::request_read;
-use ddm_types::{ChildNo, ItemId, Stamp, TurnAnswer, TxKind, Words};
 use item_states::{Agent, Parent};
-use tree_model::BusTurn;
 
 /// The request of child `c`.
 fn request_of<const WORDS: usize, P: Parent<WORDS>, C: Agent<WORDS>>(

@@ -1,8 +1,8 @@
 -- A byte of memory is that of the first segment that has it.
 use Rattle.std.proofs.Common.{◌≡◌, ℕ, zero, suc, ◌+◌, ◌-◌, ◌<◌, ◌≤◌, Bool, true, false, ◌&&◌, List, [], ◌∷◌, length, drop, slice_index_or, refl, sym, arith, add-one}
 use Rattle.std.specs.Prelude.{nat_le, nat_lt}
-use Rattle.tree_model.specs.Start.Sources.{SegmentValue}
-use Rattle.tree_model.specs.Start.Memory.{byte_at}
+use Rattle.start_memory.specs.TreeModel.Start.Sources.{SegmentValue}
+use Rattle.start_memory.specs.TreeModel.Start.Memory.{byte_at}
 
 abbrev pub has : ℕ → SegmentValue → Bool
 has a s = nat_le s.vaddr a && nat_lt a (s.vaddr + s.memsz)

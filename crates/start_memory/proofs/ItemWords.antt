@@ -5,9 +5,9 @@ use Rattle.std.proofs.Math.Seq.{take-suc}
 use Rattle.std.proofs.lemmas.List.{append-nil, get_or-drop, get_or-take}
 use Rattle.std.proofs.lemmas.List.Concat.{flat_map-append}
 use Rattle.byteorder.specs.Endian.{little_number}
-use Rattle.ddm_types.specs.ItemTable.{ItemRow}
-use Rattle.tree_model.specs.Start.Sources.{SegmentValue}
-use Rattle.tree_model.specs.Start.Memory.{item_words, memory_word}
+use Rattle.start_memory.specs.DdmTypes.ItemTable.{ItemRow}
+use Rattle.start_memory.specs.TreeModel.Start.Sources.{SegmentValue}
+use Rattle.start_memory.specs.TreeModel.Start.Memory.{item_words, memory_word}
 use Rattle.elf_load.proofs.SegmentBytes.{own_word}
 
 -- a byte, and a word, of those of a segment that are read together from the file's bytes

@@ -1,3 +1,4 @@
+pub mod ElfLoad
 pub mod ByteAt
 pub mod WordAt
 pub mod ItemWords

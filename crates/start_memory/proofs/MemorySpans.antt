@@ -6,10 +6,10 @@ use Rattle.std.proofs.Math.Nat.{mul-le-mul_right}
 use Rattle.std.proofs.lemmas.List.{append_assoc}
 use Rattle.std.proofs.lemmas.List.Elements.{All-nil, All-cons, All-head, All-tail}
 use Rattle.std.proofs.lemmas.List.FromFn.{map-range_with_len_more}
-use Rattle.ddm_types.specs.declared.sizes.Span.{Span}
-use Rattle.ddm_types.specs.declared.sizes.Start.{Start}
-use Rattle.ddm_types.specs.ItemTable.{span_end}
-use Rattle.tree_model.specs.Start.Sources.{SegmentValue, segment_span}
+use Rattle.start_memory.specs.DdmTypes.declared.sizes.Span.{Span}
+use Rattle.start_memory.specs.DdmTypes.declared.sizes.Start.{Start}
+use Rattle.start_memory.specs.DdmTypes.ItemTable.{span_end}
+use Rattle.start_memory.specs.TreeModel.Start.Sources.{SegmentValue, segment_span}
 use Rattle.elf_load.specs.ImageRule.{EndsInside}
 use Rattle.start_memory.specs.Memory.{stack_of, stacks_of}
 

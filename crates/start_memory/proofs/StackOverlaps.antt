@@ -1,10 +1,10 @@
 -- The first stack that meets a segment, while a loop goes over the harts.
 use Rattle.std.proofs.Common.{◌≡◌, ◌<◌, ◌≤◌, ℕ, suc, ◌+◌, ◌-◌, List, map, Option, Some, None, sym, ap, ◌∙◌, arith}
 use Rattle.std.specs.List.{range_with_len}
-use Rattle.ddm_types.specs.declared.sizes.Start.{Start}
-use Rattle.tree_model.specs.State.Lists.{first_some}
-use Rattle.tree_model.specs.Start.Machine.{header_met, overlap_from, overlap_of, StartRefusal, stack_overlap}
-use Rattle.tree_model.specs.Start.Sources.{SegmentValue}
+use Rattle.start_memory.specs.DdmTypes.declared.sizes.Start.{Start}
+use Rattle.start_memory.specs.TreeModel.State.Lists.{first_some}
+use Rattle.start_memory.specs.TreeModel.Start.Machine.{header_met, overlap_from, overlap_of, StartRefusal, stack_overlap}
+use Rattle.start_memory.specs.TreeModel.Start.Sources.{SegmentValue}
 use Rattle.start_memory.specs.Memory.{stack_of, stacks_of}
 
 module _ (start : Start) (segments : List SegmentValue) where

@@ -2,8 +2,8 @@
 use Rattle.std.proofs.Common.{◌≡◌, ℕ, ◌+◌, ◌<◌, ◌≤◌, Bool, true, ◌&&◌, ◌||◌, List, [], ◌∷◌, length, drop, slice_index_or, sym, ◌∙◌, arith}
 use Rattle.std.specs.Prelude.{nat_le}
 use Rattle.std.proofs.lemmas.Bool.Decides.{nat_tests}
-use Rattle.tree_model.specs.Start.Sources.{SegmentValue}
-use Rattle.tree_model.specs.Start.Memory.{byte_at, memory_word}
+use Rattle.start_memory.specs.TreeModel.Start.Sources.{SegmentValue}
+use Rattle.start_memory.specs.TreeModel.Start.Memory.{byte_at, memory_word}
 use Rattle.start_memory.proofs.ByteAt.{has, byte_at-here, rest_has, rest_none, rest_past}
 
 -- the segment has all bytes of the word

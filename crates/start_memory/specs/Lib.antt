@@ -1,1 +1,5 @@
+pub mod DdmTypes
+pub mod ElfLoad
+pub mod TreeModel
 pub mod Memory
+pub mod Opened

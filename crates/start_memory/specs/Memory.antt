@@ -2,11 +2,11 @@
 -- To be believed: it is what the machine starts from.
 use Rattle.std.specs.Prelude.{ℕ, ◌+◌, ◌*◌, ◌/◌, true, List, ◌++◌, map}
 use Rattle.std.specs.List.{range_with_len}
-use Rattle.ddm_types.specs.declared.sizes.Span.{Span}
-use Rattle.ddm_types.specs.declared.sizes.Start.{Start}
-use Rattle.ddm_types.specs.ItemTable.{ItemRow, ItemTable, items_of}
-use Rattle.tree_model.specs.Start.Sources.{SegmentValue, segment_span}
-use Rattle.tree_model.specs.Start.Memory.{item_words}
+use Rattle.start_memory.specs.DdmTypes.declared.sizes.Span.{Span}
+use Rattle.start_memory.specs.DdmTypes.declared.sizes.Start.{Start}
+use Rattle.start_memory.specs.DdmTypes.ItemTable.{ItemRow, ItemTable, items_of}
+use Rattle.start_memory.specs.TreeModel.Start.Sources.{SegmentValue, segment_span}
+use Rattle.start_memory.specs.TreeModel.Start.Memory.{item_words}
 
 -- the stack of a hart
 abbrev pub stack_of : Start → ℕ → Span

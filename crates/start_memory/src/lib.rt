@@ -3,6 +3,8 @@
 #![tactic(auto)]
 
 mod laws;
+pub mod of_ddm_types;
+pub mod of_elf_load;
 mod overlaps;
 mod spans;
 mod words;

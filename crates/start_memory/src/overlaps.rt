@@ -1,10 +1,10 @@
 ghost use Rattle.std.specs.Prelude.{◌≡◌, ◌≤◌, ◌<◌, ◌+◌, ◌*◌, ◌^◌, None, Some, MatchOption};
-ghost use Rattle.tree_model.specs.Start.Machine.{header_met, overlap_from, spans_meet, stack_overlap};
-ghost use Rattle.tree_model.specs.Start.Sources.{segment_span};
+ghost use Rattle.start_memory.specs.TreeModel.Start.Machine.{header_met, overlap_from, spans_meet, stack_overlap};
+ghost use Rattle.start_memory.specs.TreeModel.Start.Sources.{segment_span};
 ghost use Rattle.start_memory.specs.Memory.{stacks_of};
 
+use crate::of_ddm_types::{Span, Start};
 use crate::spans::stack_span;
-use ddm_types::{Span, Start};
 use elf_load::Segment;
 
 /// A hart's stack and the segment of a header that have a byte in common.

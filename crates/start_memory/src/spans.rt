@@ -1,10 +1,10 @@
 ghost use Rattle.std.specs.Prelude.{◌≡◌, ◌≤◌, ◌<◌, ◌+◌, ◌*◌, All, IfOk};
-ghost use Rattle.ddm_types.specs.ItemTable.{span_end};
-ghost use Rattle.tree_model.specs.Start.Sources.{segment_span};
+ghost use Rattle.start_memory.specs.DdmTypes.ItemTable.{span_end};
+ghost use Rattle.start_memory.specs.TreeModel.Start.Sources.{segment_span};
 ghost use Rattle.elf_load.specs.ImageRule.{EndsInside};
 ghost use Rattle.start_memory.specs.Memory.{memory_spans, stack_of};
 
-use ddm_types::{NoMemory, Span, Start};
+use crate::of_ddm_types::{NoMemory, Span, Start};
 use elf_load::Segment;
 use std::alloc::Global;
 

@@ -1,9 +1,9 @@
 ghost use Rattle.std.specs.Prelude.{◌≡◌, ◌≤◌, ◌^◌, ◌&&◌, ◌||◌, ◌+◌, ◌-◌, ◌*◌, ◌/◌, ◌++◌, ◌∷◌, [], length, nat_le, nat_lt, slice_index_or, flat_map, IfOk, OnOk};
-ghost use Rattle.ddm_types.specs.ItemTable.{IsItemSize};
-ghost use Rattle.tree_model.specs.Start.Memory.{byte_at, item_words, memory_word};
+ghost use Rattle.start_memory.specs.DdmTypes.ItemTable.{IsItemSize};
+ghost use Rattle.start_memory.specs.TreeModel.Start.Memory.{byte_at, item_words, memory_word};
 
+use crate::of_ddm_types::{ItemId, Items, NoMemory};
 use byteorder::{ByteOrder, LittleEndian};
-use ddm_types::{ItemId, Items, NoMemory};
 use elf_load::{Segment, segment_word};
 use std::alloc::Global;
 
@@ -40,7 +40,7 @@ fn byte_at(segments: &[Segment], a: u64) -> u8
 }
 
 /// A word of memory that is looked up byte by byte: its bytes may lie in several segments.
-#[tactic(auto, unfolding(tree_model::specs::Start::Memory::memory_word))]
+#[tactic(auto, unfolding(crate::specs::Opened::memory_word))]
 fn word_by_bytes(segments: &[Segment], a: u64) -> u32
     requires { a ≤ 2 ^ 33 }
     ensures { result ≡ memory_word segments.now a }

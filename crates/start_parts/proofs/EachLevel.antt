@@ -3,14 +3,14 @@ use Rattle.std.proofs.Common.{◌≡◌, ℕ, zero, suc, ◌≤◌, true, List, 
 use Rattle.std.specs.Prelude.{sum}
 use Rattle.std.specs.List.{list_all}
 use Rattle.std.proofs.lemmas.List.{length-map}
-use Rattle.ddm_types.specs.ItemTable.{item_count}
-use Rattle.tree_model.specs.State.Values.{DirSizes, leaf_node}
-use Rattle.tree_model.specs.Start.Sources.{TreeValue, ImageValue, last_level, leaf_count}
-use Rattle.tree_model.specs.Start.Memory.{start_items}
-use Rattle.tree_model.specs.Start.Nodes.{under_levels}
-use Rattle.tree_model.specs.Start.Machine.{start_leaves}
-use Rattle.bus_laws.specs.IsTree.{IsTree, is_width, AreUnder}
-use Rattle.bus_laws.proofs.StartLevels.{leaf_total, AreLevelsWide}
+use Rattle.start_parts.specs.DdmTypes.ItemTable.{item_count}
+use Rattle.start_parts.specs.TreeModel.State.Values.{DirSizes, leaf_node}
+use Rattle.start_parts.specs.TreeModel.Start.Sources.{TreeValue, ImageValue, last_level, leaf_count}
+use Rattle.start_parts.specs.TreeModel.Start.Memory.{start_items}
+use Rattle.start_parts.specs.TreeModel.Start.Nodes.{under_levels}
+use Rattle.start_parts.specs.TreeModel.Start.Machine.{start_leaves}
+use Rattle.start_parts.specs.BusLaws.IsTree.{IsTree, is_width, AreUnder}
+use Rattle.start_parts.proofs.BusLaws.StartLevels.{leaf_total, AreLevelsWide}
 use Rattle.start_parts.specs.Held.{IsHeld, AreHeld}
 use Rattle.start_parts.proofs.NewLeaves.{leaves-length}
 use Rattle.start_parts.proofs.HeldBelow.{dir-held}

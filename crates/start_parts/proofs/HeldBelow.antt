@@ -2,11 +2,11 @@
 use Rattle.std.proofs.Common.{◌≡◌, ℕ, zero, suc, ◌≤◌, Bool, false, List, [], ◌∷◌, map, length, refl, sym, ap, ◌∙◌, arith}
 use Rattle.std.specs.Prelude.{◌||◌, slice_index_or}
 use Rattle.std.proofs.lemmas.List.{length-map}
-use Rattle.tree_model.specs.State.States.{is_exclusive}
-use Rattle.tree_model.specs.State.Values.{DirItem, absent_item, DirSizes, Node}
-use Rattle.tree_model.specs.Start.Nodes.{item_is_exclusive, held_by, or_each, held_below, held_if, dir_over}
+use Rattle.start_parts.specs.TreeModel.State.States.{is_exclusive}
+use Rattle.start_parts.specs.TreeModel.State.Values.{DirItem, absent_item, DirSizes, Node}
+use Rattle.start_parts.specs.TreeModel.Start.Nodes.{item_is_exclusive, held_by, or_each, held_below, held_if, dir_over}
 use Rattle.start_parts.specs.Held.{some_exclusive, IsHeld, AreHeld}
-use Rattle.bus_laws.proofs.StartNodes.{or_each-at, or_each-length}
+use Rattle.start_parts.proofs.BusLaws.StartNodes.{or_each-at, or_each-length}
 
 item-at : (bs : List Bool) (x : ℕ) → slice_index_or (map held_if bs) x absent_item ≡ held_if (slice_index_or bs x false)
 item-at [] x = refl

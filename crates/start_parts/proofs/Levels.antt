@@ -5,12 +5,12 @@ use Rattle.std.specs.List.{AllByRecursion, list_all, flat_map}
 use Rattle.std.proofs.lemmas.Bool.{and_parts}
 use Rattle.std.proofs.lemmas.List.Concat.{flat_map-cons}
 use Rattle.std.proofs.lemmas.List.Folds.{list_all-append}
-use Rattle.tree_model.specs.State.Values.{DirSizes, Node, nodes}
-use Rattle.tree_model.specs.State.Shape.{skeleton, skeletons, first_levels, leaf_numbers_of, leaf_numbers_among}
-use Rattle.tree_model.specs.Start.Sources.{TreeValue, last_level, leaf_count}
-use Rattle.tree_model.specs.Start.Nodes.{cut_in, dir_over, dirs_over, under_levels}
-use Rattle.bus_laws.specs.IsTree.{IsTree, is_width, AreUnder}
-use Rattle.bus_laws.proofs.StartLevels.{each-take, each-drop, sum-more, width-parts, leaf_total, AreLevelsWide, sum-some}
+use Rattle.start_parts.specs.TreeModel.State.Values.{DirSizes, Node, nodes}
+use Rattle.start_parts.specs.TreeModel.State.Shape.{skeleton, skeletons, first_levels, leaf_numbers_of, leaf_numbers_among}
+use Rattle.start_parts.specs.TreeModel.Start.Sources.{TreeValue, last_level, leaf_count}
+use Rattle.start_parts.specs.TreeModel.Start.Nodes.{cut_in, dir_over, dirs_over, under_levels}
+use Rattle.start_parts.specs.BusLaws.IsTree.{IsTree, is_width, AreUnder}
+use Rattle.start_parts.proofs.BusLaws.StartLevels.{each-take, each-drop, sum-more, width-parts, leaf_total, AreLevelsWide, sum-some}
 
 -- ---- parts of a list
 

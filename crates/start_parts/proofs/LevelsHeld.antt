@@ -2,13 +2,13 @@
 use Rattle.std.proofs.Common.{◌≡◌, ℕ, true, List, [], ◌∷◌, map, length}
 use Rattle.std.specs.Prelude.{sum}
 use Rattle.std.specs.List.{list_all}
-use Rattle.ddm_types.specs.ItemTable.{item_count}
-use Rattle.tree_model.specs.State.Values.{LeafSizes, LeafValue, DirSizes, Node, leaf_node}
-use Rattle.tree_model.specs.Start.Sources.{TreeValue, ImageValue, width_of}
-use Rattle.tree_model.specs.Start.Memory.{start_items}
-use Rattle.tree_model.specs.Start.Nodes.{leaf_sizes, cut_in, dirs_over}
-use Rattle.tree_model.specs.Start.Machine.{start_leaves}
-use Rattle.bus_laws.specs.IsTree.{is_width}
+use Rattle.start_parts.specs.DdmTypes.ItemTable.{item_count}
+use Rattle.start_parts.specs.TreeModel.State.Values.{LeafSizes, LeafValue, DirSizes, Node, leaf_node}
+use Rattle.start_parts.specs.TreeModel.Start.Sources.{TreeValue, ImageValue, width_of}
+use Rattle.start_parts.specs.TreeModel.Start.Memory.{start_items}
+use Rattle.start_parts.specs.TreeModel.Start.Nodes.{leaf_sizes, cut_in, dirs_over}
+use Rattle.start_parts.specs.TreeModel.Start.Machine.{start_leaves}
+use Rattle.start_parts.specs.BusLaws.IsTree.{is_width}
 use Rattle.start_parts.specs.Held.{IsHeld, AreHeld}
 use Rattle.start_parts.proofs.NewLeaves.{AreNewLeaves, leaf-held, leaves-new}
 use Rattle.start_parts.proofs.HeldBelow.{dir-held}

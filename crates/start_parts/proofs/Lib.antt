@@ -1,3 +1,8 @@
+pub mod BusLaws
+pub mod DdmTree
+pub mod HeadlineCrate
+pub mod StateJudging
+pub mod TreeModel
 pub mod Made
 pub mod NewLeaves
 pub mod HeldBelow

@@ -1,9 +1,9 @@
 -- The start's machine is a new machine of its parts: the traffic of each bus is none.
 use Rattle.std.proofs.Common.{◌≡◌, ℕ, List, [], ◌∷◌, map, length, replicate, refl, ap}
-use Rattle.tree_model.specs.Turns.Machine.{no_traffic}
-use Rattle.tree_model.specs.Start.Sources.{TreeValue, ImageValue, bus_widths}
-use Rattle.tree_model.specs.Start.Memory.{start_code, start_items}
-use Rattle.tree_model.specs.Start.Machine.{start_machine}
+use Rattle.start_parts.specs.TreeModel.Turns.Machine.{no_traffic}
+use Rattle.start_parts.specs.TreeModel.Start.Sources.{TreeValue, ImageValue, bus_widths}
+use Rattle.start_parts.specs.TreeModel.Start.Memory.{start_code, start_items}
+use Rattle.start_parts.specs.TreeModel.Start.Machine.{start_machine}
 use Rattle.ddm_tree.specs.Machine.{machine_of, new_machine}
 use Rattle.start_parts.specs.Counts.{counts_of}
 pub use Rattle.start_parts.specs.Parts.{start_top, start_kids}

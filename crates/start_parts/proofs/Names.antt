@@ -1,15 +1,15 @@
 -- Which turns name a leaf, or a bus and a child, of a machine is a fact of its skeleton, which no turn changes.
 use Rattle.std.proofs.Common.{◌≡◌, ℕ, ◌+◌, Bool, List, length, Option, Some, None, refl, sym, ap, ◌∙◌, arith}
 use Rattle.std.specs.Prelude.{is_some, nat_eq, if◌then◌else◌}
-use Rattle.ddm_types.specs.declared.turns.Turn.{Turn}
-use Rattle.ddm_types.specs.Keys.{key_zero}
-use Rattle.tree_model.specs.State.Values.{DirValue, Node, Nodes, leaf_node, dir_node, no_nodes, more_nodes, children, MachineValue, root_of}
-use Rattle.tree_model.specs.State.Place.{Where, at_top, at_child, where_path, spot_in, key_at_leaf}
-use Rattle.tree_model.specs.State.Shape.{Skeleton, Skeletons, leaf_bone, dir_bone, no_bones, more_bones, skeleton, skeletons, bone_count, frame_of}
-use Rattle.tree_model.specs.Turns.Machine.{is_child_of, names_part, turn_of, run_of}
-use Rattle.tree_model.specs.Turns.Tree.{leaf_of_number, bus_of_number, read_in, read_among, of_leaf, of_dir}
-use Rattle.tree_model.proofs.NamedNode.{read_in-is_some}
-use Rattle.tree_model.proofs.FrameKept.{turn-frame, run-frame}
+use Rattle.start_parts.specs.DdmTypes.declared.turns.Turn.{Turn}
+use Rattle.start_parts.specs.DdmTypes.Keys.{key_zero}
+use Rattle.start_parts.specs.TreeModel.State.Values.{DirValue, Node, Nodes, leaf_node, dir_node, no_nodes, more_nodes, children, MachineValue, root_of}
+use Rattle.start_parts.specs.TreeModel.State.Place.{Where, at_top, at_child, where_path, spot_in, key_at_leaf}
+use Rattle.start_parts.specs.TreeModel.State.Shape.{Skeleton, Skeletons, leaf_bone, dir_bone, no_bones, more_bones, skeleton, skeletons, bone_count, frame_of}
+use Rattle.start_parts.specs.TreeModel.Turns.Machine.{is_child_of, names_part, turn_of, run_of}
+use Rattle.start_parts.specs.TreeModel.Turns.Tree.{leaf_of_number, bus_of_number, read_in, read_among, of_leaf, of_dir}
+use Rattle.start_parts.proofs.TreeModel.NamedNode.{read_in-is_some}
+use Rattle.start_parts.proofs.TreeModel.FrameKept.{turn-frame, run-frame}
 use Rattle.ddm_tree.specs.Path.{path_to}
 use Rattle.ddm_tree.proofs.Along.{path_to-there}
 

@@ -4,16 +4,16 @@ use Rattle.std.specs.Prelude.{is_some, nat_eq, slice_set, slice_index_or, if◌t
 use Rattle.std.specs.List.{AllByRecursion, range_with_len}
 use Rattle.std.proofs.lemmas.List.{length-map, length-replicate, length-set}
 use Rattle.std.proofs.lemmas.List.FromFn.{length-range_with_len}
-use Rattle.ddm_types.specs.ItemTable.{item_count}
-use Rattle.ddm_types.specs.declared.sizes.LeafState.{LeafState}
-use Rattle.tree_model.specs.State.Lists.{map_from}
-use Rattle.tree_model.specs.State.States.{is_exclusive}
-use Rattle.tree_model.specs.State.Values.{WayValue, LeafSizes, LeafValue, leaf_node}
-use Rattle.tree_model.specs.State.Leaf.{way_at, entry_at, leaf_hold, free_way, with_fate, enters_free}
-use Rattle.tree_model.specs.Start.Sources.{TreeValue, ImageValue, leaf_count, width_of}
-use Rattle.tree_model.specs.Start.Memory.{start_items, start_words}
-use Rattle.tree_model.specs.Start.Nodes.{leaf_sizes, placed, placed_at, placed_in, placed_items, leaf_for}
-use Rattle.tree_model.specs.Start.Machine.{start_leaf, start_leaves}
+use Rattle.start_parts.specs.DdmTypes.ItemTable.{item_count}
+use Rattle.start_parts.specs.DdmTypes.declared.sizes.LeafState.{LeafState}
+use Rattle.start_parts.specs.TreeModel.State.Lists.{map_from}
+use Rattle.start_parts.specs.TreeModel.State.States.{is_exclusive}
+use Rattle.start_parts.specs.TreeModel.State.Values.{WayValue, LeafSizes, LeafValue, leaf_node}
+use Rattle.start_parts.specs.TreeModel.State.Leaf.{way_at, entry_at, leaf_hold, free_way, with_fate, enters_free}
+use Rattle.start_parts.specs.TreeModel.Start.Sources.{TreeValue, ImageValue, leaf_count, width_of}
+use Rattle.start_parts.specs.TreeModel.Start.Memory.{start_items, start_words}
+use Rattle.start_parts.specs.TreeModel.Start.Nodes.{leaf_sizes, placed, placed_at, placed_in, placed_items, leaf_for}
+use Rattle.start_parts.specs.TreeModel.Start.Machine.{start_leaf, start_leaves}
 use Rattle.start_parts.specs.Held.{IsHeld}
 
 -- ---- ways

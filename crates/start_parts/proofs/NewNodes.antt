@@ -3,10 +3,10 @@ use Rattle.std.proofs.Common.{◌≡◌, ℕ, ◌+◌, ◌≤◌, true, List, []
 use Rattle.std.specs.List.{AllByRecursion}
 use Rattle.std.specs.Cmp.Derive.{both_true}
 use Rattle.std.proofs.lemmas.Bool.{eq-eqb, le-leb}
-use Rattle.tree_model.specs.State.Values.{LeafSizes, LeafValue, DirSizes, Node, leaf_node, nodes}
-use Rattle.tree_model.specs.State.Shape.{skeleton, skeletons}
-use Rattle.tree_model.specs.State.Rooms.{all_within, all_within_among}
-use Rattle.tree_model.specs.Start.Nodes.{dir_over}
+use Rattle.start_parts.specs.TreeModel.State.Values.{LeafSizes, LeafValue, DirSizes, Node, leaf_node, nodes}
+use Rattle.start_parts.specs.TreeModel.State.Shape.{skeleton, skeletons}
+use Rattle.start_parts.specs.TreeModel.State.Rooms.{all_within, all_within_among}
+use Rattle.start_parts.specs.TreeModel.Start.Nodes.{dir_over}
 use Rattle.ddm_tree.specs.Counts.{counts_within, counts_among}
 use Rattle.ddm_tree.specs.Ready.{words_are, words_are_among}
 use Rattle.start_parts.specs.Held.{IsHeld, AreHeld}

@@ -4,20 +4,20 @@ use Rattle.std.specs.Prelude.{nat_eq, sum}
 use Rattle.std.specs.Cmp.Derive.{both_true}
 use Rattle.std.proofs.lemmas.Bool.{eqb-true, eq-eqb, le-leb, and_parts}
 use Rattle.std.proofs.lemmas.List.{length-map, length-replicate}
-use Rattle.ddm_types.specs.declared.sizes.TreeCounts.{TreeCounts}
-use Rattle.ddm_types.specs.ItemTable.{item_count}
-use Rattle.tree_model.specs.State.Values.{LeafValue, DirSizes, Node, leaf_node, nodes, root_of}
-use Rattle.tree_model.specs.State.Rooms.{all_within}
-use Rattle.tree_model.specs.State.Shape.{IsShaped, skeleton, skeletons, first_levels, buses_among, leaf_numbers_among, are_below, traffic_counted, tree_counts}
-use Rattle.tree_model.specs.Turns.Machine.{no_traffic}
-use Rattle.tree_model.specs.Start.Sources.{TreeValue, ImageValue, leaf_count, bus_widths, width_of}
-use Rattle.tree_model.specs.Start.Memory.{start_items}
-use Rattle.tree_model.specs.Start.Nodes.{leaf_sizes, dir_sizes, top_sizes, held_exclusive, under_levels}
-use Rattle.tree_model.specs.Start.Machine.{flat_start_of, start_leaves, start_machine, start_refusal, start_of}
-use Rattle.bus_laws.specs.IsTree.{IsTree}
-use Rattle.bus_laws.proofs.StartLevels.{leaf_total}
-use Rattle.order_laws.specs.EveryTurn.{IsOrderly}
-use Rattle.headline.proofs.StartOrder.{start-orderly}
+use Rattle.start_parts.specs.DdmTypes.declared.sizes.TreeCounts.{TreeCounts}
+use Rattle.start_parts.specs.DdmTypes.ItemTable.{item_count}
+use Rattle.start_parts.specs.TreeModel.State.Values.{LeafValue, DirSizes, Node, leaf_node, nodes, root_of}
+use Rattle.start_parts.specs.TreeModel.State.Rooms.{all_within}
+use Rattle.start_parts.specs.TreeModel.State.Shape.{IsShaped, skeleton, skeletons, first_levels, buses_among, leaf_numbers_among, are_below, traffic_counted, tree_counts}
+use Rattle.start_parts.specs.TreeModel.Turns.Machine.{no_traffic}
+use Rattle.start_parts.specs.TreeModel.Start.Sources.{TreeValue, ImageValue, leaf_count, bus_widths, width_of}
+use Rattle.start_parts.specs.TreeModel.Start.Memory.{start_items}
+use Rattle.start_parts.specs.TreeModel.Start.Nodes.{leaf_sizes, dir_sizes, top_sizes, held_exclusive, under_levels}
+use Rattle.start_parts.specs.TreeModel.Start.Machine.{flat_start_of, start_leaves, start_machine, start_refusal, start_of}
+use Rattle.start_parts.specs.BusLaws.IsTree.{IsTree}
+use Rattle.start_parts.proofs.BusLaws.StartLevels.{leaf_total}
+use Rattle.start_parts.specs.OrderLaws.EveryTurn.{IsOrderly}
+use Rattle.start_parts.proofs.HeadlineCrate.StartOrder.{start-orderly}
 use Rattle.ddm_tree.specs.Counts.{counts_within}
 use Rattle.ddm_tree.specs.Machine.{IsNew}
 use Rattle.ddm_tree.proofs.RulesKept.{rules-of}

@@ -3,10 +3,10 @@
 -- To be believed with the contracts: they speak of it.
 use Rattle.std.specs.Prelude.{◌≡◌, ℕ, Bool, false, List, length, slice_index_or}
 use Rattle.std.specs.List.{AllByRecursion, list_any}
-use Rattle.tree_model.specs.State.Values.{Node}
-use Rattle.tree_model.specs.State.Child.{child_hold}
-use Rattle.tree_model.specs.State.States.{is_exclusive}
-use Rattle.tree_model.specs.Start.Nodes.{held_by}
+use Rattle.start_parts.specs.TreeModel.State.Values.{Node}
+use Rattle.start_parts.specs.TreeModel.State.Child.{child_hold}
+use Rattle.start_parts.specs.TreeModel.State.States.{is_exclusive}
+use Rattle.start_parts.specs.TreeModel.Start.Nodes.{held_by}
 
 -- the node holds the item Exclusive
 abbrev pub has_exclusive : ℕ → Node → Bool

@@ -2,15 +2,15 @@
 
 ghost use Rattle.std.specs.Prelude.{◌≡◌, ℕ, ◌≤◌, true, List, ◌∷◌, map, drop, length, sum, slice_index_or, None};
 ghost use Rattle.std.specs.List.{list_all};
-ghost use Rattle.ddm_types.specs.declared.turns.Turn.{Turn};
-ghost use Rattle.ddm_types.specs.ItemTable.{item_count};
-ghost use Rattle.tree_model.specs.State.Values.{absent_item, DirSizes, Node, leaf_node, MachineValue};
-ghost use Rattle.tree_model.specs.Turns.Machine.{names_part, turn_of, run_of};
-ghost use Rattle.tree_model.specs.Start.Sources.{TreeValue, ImageValue, width_of};
-ghost use Rattle.tree_model.specs.Start.Memory.{start_code, start_items};
-ghost use Rattle.tree_model.specs.Start.Nodes.{dir_sizes, top_sizes, new_top, under_levels, cut_in, dirs_over, held_below, held_if};
-ghost use Rattle.tree_model.specs.Start.Machine.{start_leaves, start_machine, start_refusal};
-ghost use Rattle.bus_laws.specs.IsTree.{IsTree, is_width};
+ghost use Rattle.start_parts.specs.DdmTypes.declared.turns.Turn.{Turn};
+ghost use Rattle.start_parts.specs.DdmTypes.ItemTable.{item_count};
+ghost use Rattle.start_parts.specs.TreeModel.State.Values.{absent_item, DirSizes, Node, leaf_node, MachineValue};
+ghost use Rattle.start_parts.specs.TreeModel.Turns.Machine.{names_part, turn_of, run_of};
+ghost use Rattle.start_parts.specs.TreeModel.Start.Sources.{TreeValue, ImageValue, width_of};
+ghost use Rattle.start_parts.specs.TreeModel.Start.Memory.{start_code, start_items};
+ghost use Rattle.start_parts.specs.TreeModel.Start.Nodes.{dir_sizes, top_sizes, new_top, under_levels, cut_in, dirs_over, held_below, held_if};
+ghost use Rattle.start_parts.specs.TreeModel.Start.Machine.{start_leaves, start_machine, start_refusal};
+ghost use Rattle.start_parts.specs.BusLaws.IsTree.{IsTree, is_width};
 ghost use Rattle.ddm_tree.specs.Machine.{new_machine, IsNew};
 ghost use Rattle.start_parts.specs.Counts.{counts_of};
 ghost use Rattle.start_parts.specs.Held.{some_exclusive, AreHeld};

@@ -2,3 +2,8 @@
 #![tactic(auto)]
 
 pub mod laws;
+pub mod of_ddm_tree;
+pub mod of_ddm_types;
+pub mod of_directory;
+pub mod of_item_states;
+pub mod of_tree_model;

@@ -4,13 +4,13 @@ use Rattle.std.specs.List.{list_any, AllByRecursion, IsDistinct}
 use Rattle.std.proofs.Common.{sym, ap, ◌∙◌, arith, true≢false}
 use Rattle.std.proofs.lemmas.Bool.{and_parts, eqb-true}
 use Rattle.std.proofs.lemmas.Map.Steps.{length-le_from_distinct_below}
-use Rattle.tree_model.specs.State.Place.{Where, at_top, at_child, where_path, spot_in}
-use Rattle.tree_model.specs.State.Values.{DirValue, Node, Nodes, leaf_node, dir_node, no_nodes, more_nodes, children, MachineValue, root_of}
-use Rattle.tree_model.specs.State.Shape.{IsShaped, skeleton, buses_of, are_distinct, are_below, tree_counts, buses_differ, traffic_counted}
-use Rattle.tree_model.specs.Turns.Machine.{ask_bus}
-use Rattle.tree_model.specs.Turns.Tree.{bus_of_number, has_node, read_in, read_among, of_dir}
-use Rattle.tree_model.proofs.NamedNode.{read_in-is_some}
-use Rattle.tree_model.proofs.Tests.{not-true}
+use Rattle.state_judging.specs.TreeModel.State.Place.{Where, at_top, at_child, where_path, spot_in}
+use Rattle.state_judging.specs.TreeModel.State.Values.{DirValue, Node, Nodes, leaf_node, dir_node, no_nodes, more_nodes, children, MachineValue, root_of}
+use Rattle.state_judging.specs.TreeModel.State.Shape.{IsShaped, skeleton, buses_of, are_distinct, are_below, tree_counts, buses_differ, traffic_counted}
+use Rattle.state_judging.specs.TreeModel.Turns.Machine.{ask_bus}
+use Rattle.state_judging.specs.TreeModel.Turns.Tree.{bus_of_number, has_node, read_in, read_among, of_dir}
+use Rattle.state_judging.proofs.TreeModel.NamedNode.{read_in-is_some}
+use Rattle.state_judging.proofs.TreeModel.Tests.{not-true}
 use Rattle.state_judging.proofs.EachBus.{numbered-in, below-any, shaped-below}
 
 -- ---- as many numbers as there can be

@@ -6,15 +6,15 @@ use Rattle.std.proofs.Common.{arith, inl, inr, subst}
 use Rattle.std.proofs.lemmas.Bool.{eqb-true, eq-eqb, and_parts}
 use Rattle.std.proofs.lemmas.Bool.Decides.{eqb_tells}
 use Rattle.std.specs.Cmp.Derive.{both_true}
-use Rattle.tree_model.specs.State.Values.{DirValue, Node, Nodes, leaf_node, dir_node, no_nodes, more_nodes, children, MachineValue, root_of}
-use Rattle.tree_model.specs.State.Directory.{is_top}
-use Rattle.tree_model.specs.State.Shape.{IsShaped, levels_known}
-use Rattle.tree_model.specs.Turns.Machine.{ask_bus}
-use Rattle.tree_model.proofs.Tests.{first_some-none_first, first_some-none_second}
-use Rattle.tree_rules.specs.Bus.Own.{dir_holds, leaf_holds, IsTopOk}
-use Rattle.tree_rules.specs.Bus.Rules.{IsBusOk, IsTreeOk, AreTreesOk, IsMachineOk, items_of_machine, item_holds_at, held_at_top}
-use Rattle.tree_rules.specs.Bus.Faces.{parent_face, faces_of}
-use Rattle.tree_rules.proofs.BusTests.{IsDirOk-from_test, IsLeafOk-from_test, ItemRules-from_test, test-from_ItemRules}
+use Rattle.state_judging.specs.TreeModel.State.Values.{DirValue, Node, Nodes, leaf_node, dir_node, no_nodes, more_nodes, children, MachineValue, root_of}
+use Rattle.state_judging.specs.TreeModel.State.Directory.{is_top}
+use Rattle.state_judging.specs.TreeModel.State.Shape.{IsShaped, levels_known}
+use Rattle.state_judging.specs.TreeModel.Turns.Machine.{ask_bus}
+use Rattle.state_judging.proofs.TreeModel.Tests.{first_some-none_first, first_some-none_second}
+use Rattle.state_judging.specs.TreeRules.Bus.Own.{dir_holds, leaf_holds, IsTopOk}
+use Rattle.state_judging.specs.TreeRules.Bus.Rules.{IsBusOk, IsTreeOk, AreTreesOk, IsMachineOk, items_of_machine, item_holds_at, held_at_top}
+use Rattle.state_judging.specs.TreeRules.Bus.Faces.{parent_face, faces_of}
+use Rattle.state_judging.proofs.TreeRules.BusTests.{IsDirOk-from_test, IsLeafOk-from_test, ItemRules-from_test, test-from_ItemRules}
 use Rattle.state_reading.specs.declared.StateRefusal.TheVariants.{BrokenRule}
 use Rattle.state_judging.specs.Judged.{keeps_rules_at, keeps_places, broken_item, broken_at, broken_among, or_none}
 use Rattle.state_judging.specs.Read.{parts_hold, parts_hold_among}

@@ -5,9 +5,9 @@ use Rattle.std.specs.Prelude.{◌≡◌, ◌<◌, ◌≤◌, ℕ, zero, suc, ◌
 use Rattle.std.specs.List.{list_all, range_with_len, AllByRecursion}
 use Rattle.std.proofs.Common.{sym, ap, subst, ◌∙◌, arith, append_assoc, append-nil}
 use Rattle.std.specs.Cmp.Derive.{both_true}
-use Rattle.tree_model.specs.State.Shape.{IsShaped}
-use Rattle.tree_model.specs.State.Values.{DirValue, Node, MachineValue, root_of}
-use Rattle.tree_model.specs.Turns.Machine.{ask_bus}
+use Rattle.state_judging.specs.TreeModel.State.Shape.{IsShaped}
+use Rattle.state_judging.specs.TreeModel.State.Values.{DirValue, Node, MachineValue, root_of}
+use Rattle.state_judging.specs.TreeModel.Turns.Machine.{ask_bus}
 use Rattle.state_reading.specs.Reading.{Read, and_then, given}
 use Rattle.state_reading.specs.Parts.{read_dir, read_traffic}
 use Rattle.state_reading.specs.Machine.{BusRead, bus_dir, bus_traffic, read_bus_of, read_bus, read_buses}

@@ -8,18 +8,18 @@ use Rattle.std.proofs.Common.{sym, ap, subst, ◌∙◌, arith}
 use Rattle.std.proofs.lemmas.Bool.{and_parts, eqb-true, eq-eqb, leb-true, le-leb}
 use Rattle.std.proofs.lemmas.List.{length_push, length-set, length-replicate, map-append}
 use Rattle.std.specs.Cmp.Derive.{both_true}
-use Rattle.ddm_types.specs.declared.keys.Stamp.{Stamp}
-use Rattle.tree_model.specs.State.Kinds.{brings_copy}
-use Rattle.tree_model.specs.State.Shape.{are_distinct}
-use Rattle.tree_model.specs.State.Values.{RequestValue, CopyValue, DownValue, Note, DirItem, DirValue}
-use Rattle.tree_model.specs.State.Leaf.{copy_item, is_copy}
-use Rattle.tree_model.specs.State.Directory.{is_top}
-use Rattle.tree_rules.specs.Bus.Own.{are_zero, copy_fits, down_fits, request_fits, note_fits, item_fits, top_item, DirRule, dir_lists, notes_fit, down_entries, dir_requests, dir_replies, parked_fit, parked_once, dir_test, dir_rules, dir_holds}
-use Rattle.tree_rules.specs.Bus.Item.{implies}
-use Rattle.tree_rules.specs.Order.Time.{stamp_ends}
-use Rattle.tree_rules.proofs.Lists.{all-pass}
+use Rattle.state_judging.specs.DdmTypes.declared.keys.Stamp.{Stamp}
+use Rattle.state_judging.specs.TreeModel.State.Kinds.{brings_copy}
+use Rattle.state_judging.specs.TreeModel.State.Shape.{are_distinct}
+use Rattle.state_judging.specs.TreeModel.State.Values.{RequestValue, CopyValue, DownValue, Note, DirItem, DirValue}
+use Rattle.state_judging.specs.TreeModel.State.Leaf.{copy_item, is_copy}
+use Rattle.state_judging.specs.TreeModel.State.Directory.{is_top}
+use Rattle.state_judging.specs.TreeRules.Bus.Own.{are_zero, copy_fits, down_fits, request_fits, note_fits, item_fits, top_item, DirRule, dir_lists, notes_fit, down_entries, dir_requests, dir_replies, parked_fit, parked_once, dir_test, dir_rules, dir_holds}
+use Rattle.state_judging.specs.TreeRules.Bus.Item.{implies}
+use Rattle.state_judging.specs.TreeRules.Order.Time.{stamp_ends}
+use Rattle.state_judging.proofs.TreeRules.Lists.{all-pass}
 use Rattle.bus_laws.proofs.Lists.{pass-set, pass-pushed}
-use Rattle.state_words.specs.Parts.{is_recorded}
+use Rattle.state_judging.specs.StateWords.Parts.{is_recorded}
 use Rattle.state_reading.specs.declared.StateRefusal.{StateRefusal}
 use Rattle.state_reading.specs.Reading.{Read, and_then, given, times, word_that, any_word}
 use Rattle.state_reading.specs.Parts.{most_counted, count_word, word_to, word_below, word_from_1, word_if, item_words, listed, stamp_words, hold_of, note_of_words, joins_fit, Recorded, comes_after, read_record, kind_of, read_down, read_request, read_copy, at_rest, read_records, read_dir}

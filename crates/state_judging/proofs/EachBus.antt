@@ -4,12 +4,12 @@ use Rattle.std.specs.Prelude.{◌≡◌, ◌<◌, ℕ, ◌+◌, Bool, true, fals
 use Rattle.std.specs.List.{list_any}
 use Rattle.std.proofs.Common.{sym, ap, ◌∙◌, true≢false}
 use Rattle.std.proofs.lemmas.Bool.{eqb-true, eq-eqb, ltb-true}
-use Rattle.tree_model.specs.State.Values.{DirValue, Node, Nodes, leaf_node, dir_node, no_nodes, more_nodes, children, MachineValue, root_of}
-use Rattle.tree_model.specs.State.Place.{Where, at_top, at_child, where_path, spot_in}
-use Rattle.tree_model.specs.State.Shape.{IsShaped, skeleton, skeletons, buses_of, buses_among, are_distinct, are_below, buses_differ, traffic_counted}
-use Rattle.tree_model.specs.Turns.Machine.{ask_bus}
-use Rattle.tree_model.specs.Turns.Tree.{bus_of_number, has_node, has_among, read_in, read_among, of_dir}
-use Rattle.tree_model.proofs.Tests.{and-first, and-second, not-true}
+use Rattle.state_judging.specs.TreeModel.State.Values.{DirValue, Node, Nodes, leaf_node, dir_node, no_nodes, more_nodes, children, MachineValue, root_of}
+use Rattle.state_judging.specs.TreeModel.State.Place.{Where, at_top, at_child, where_path, spot_in}
+use Rattle.state_judging.specs.TreeModel.State.Shape.{IsShaped, skeleton, skeletons, buses_of, buses_among, are_distinct, are_below, buses_differ, traffic_counted}
+use Rattle.state_judging.specs.TreeModel.Turns.Machine.{ask_bus}
+use Rattle.state_judging.specs.TreeModel.Turns.Tree.{bus_of_number, has_node, has_among, read_in, read_among, of_dir}
+use Rattle.state_judging.proofs.TreeModel.Tests.{and-first, and-second, not-true}
 use Rattle.state_judging.proofs.Lists.{same-test}
 
 -- ---- what holds at every directory of a tree

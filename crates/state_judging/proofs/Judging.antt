@@ -1,14 +1,14 @@
 -- What was read, and in which no rule is broken, keeps the rules of every bus and of time; and what keeps them is judged so.
 use Rattle.std.specs.Prelude.{◌≡◌, [], Option, None, option_map, length}
 use Rattle.std.specs.List.{range_with_len, find}
-use Rattle.tree_model.specs.State.Lists.{first_some}
-use Rattle.tree_model.specs.State.Shape.{IsShaped}
-use Rattle.tree_model.specs.State.Values.{MachineValue}
-use Rattle.tree_model.proofs.Tests.{first_some-none_first, first_some-none_second}
-use Rattle.tree_rules.specs.Bus.Rules.{IsMachineOk}
-use Rattle.tree_rules.specs.Statements.{Holds}
-use Rattle.tree_rules.specs.Order.Places.{dirs_at}
-use Rattle.tree_rules.specs.Order.Rules.{TimeRule, keys_differ, ops_of_leaves, keys_end, keys_have_paths, keys_are_past, taken_is_past, stamps_between, stamps_rise, stamps_end, epochs_end, time_rule, IsTimed}
+use Rattle.state_judging.specs.TreeModel.State.Lists.{first_some}
+use Rattle.state_judging.specs.TreeModel.State.Shape.{IsShaped}
+use Rattle.state_judging.specs.TreeModel.State.Values.{MachineValue}
+use Rattle.state_judging.proofs.TreeModel.Tests.{first_some-none_first, first_some-none_second}
+use Rattle.state_judging.specs.TreeRules.Bus.Rules.{IsMachineOk}
+use Rattle.state_judging.specs.TreeRules.Statements.{Holds}
+use Rattle.state_judging.specs.TreeRules.Order.Places.{dirs_at}
+use Rattle.state_judging.specs.TreeRules.Order.Rules.{TimeRule, keys_differ, ops_of_leaves, keys_end, keys_have_paths, keys_are_past, taken_is_past, stamps_between, stamps_rise, stamps_end, epochs_end, time_rule, IsTimed}
 use Rattle.state_reading.specs.declared.StateRefusal.{StateRefusal}
 use Rattle.state_reading.specs.declared.StateRefusal.TheVariants.{BrokenStamp}
 use Rattle.state_judging.specs.Judged.{broken_among, stamps_broken, broken_key, judged}

@@ -5,16 +5,16 @@ use Rattle.std.specs.List.{list_any, AllByRecursion}
 use Rattle.std.proofs.Common.{inl, inr}
 use Rattle.std.proofs.lemmas.Bool.{and_parts}
 use Rattle.std.specs.Cmp.Derive.{both_true}
-use Rattle.ddm_types.specs.declared.operations.Op.{Op}
-use Rattle.ddm_types.specs.Keys.{key_less}
-use Rattle.tree_model.specs.State.Shape.{depth_of}
-use Rattle.tree_model.specs.State.Values.{MachineValue}
-use Rattle.tree_model.proofs.Tests.{first_some-none_first, first_some-none_second, or-false_first, or-false_second}
-use Rattle.tree_rules.specs.Statements.{Holds, both, each, each_pair}
-use Rattle.tree_rules.specs.Order.Places.{leaves_at}
-use Rattle.tree_rules.specs.Order.Rules.{keys_differ, keys_have_paths, keys_are_past, time_rule, IsTimed}
-use Rattle.tree_rules.specs.Order.Time as time
-use Rattle.tree_rules.proofs.Statements.{Holds-from_test, test-from_Holds, each-facts, facts-each}
+use Rattle.state_judging.specs.DdmTypes.declared.operations.Op.{Op}
+use Rattle.state_judging.specs.DdmTypes.Keys.{key_less}
+use Rattle.state_judging.specs.TreeModel.State.Shape.{depth_of}
+use Rattle.state_judging.specs.TreeModel.State.Values.{MachineValue}
+use Rattle.state_judging.proofs.TreeModel.Tests.{first_some-none_first, first_some-none_second, or-false_first, or-false_second}
+use Rattle.state_judging.specs.TreeRules.Statements.{Holds, both, each, each_pair}
+use Rattle.state_judging.specs.TreeRules.Order.Places.{leaves_at}
+use Rattle.state_judging.specs.TreeRules.Order.Rules.{keys_differ, keys_have_paths, keys_are_past, time_rule, IsTimed}
+use Rattle.state_judging.specs.TreeRules.Order.Time as time
+use Rattle.state_judging.proofs.TreeRules.Statements.{Holds-from_test, test-from_Holds, each-facts, facts-each}
 use Rattle.state_reading.specs.declared.StateRefusal.{StateRefusal}
 use Rattle.state_reading.specs.declared.StateRefusal.TheVariants.{BrokenKey}
 use Rattle.state_judging.specs.Judged.{is_key_of_leaf, same_key, broken_key}

@@ -8,19 +8,19 @@ use Rattle.std.proofs.lemmas.Bool.{and_parts, eq-eqb, leb-true, le-leb, lt-ltb}
 use Rattle.std.proofs.lemmas.Bool.Decides.{nat_tests}
 use Rattle.std.proofs.lemmas.List.{length_push}
 use Rattle.std.specs.Cmp.Derive.{both_true}
-use Rattle.ddm_types.specs.declared.answers.TxKind.{TxKind}
-use Rattle.ddm_types.specs.declared.answers.TxKind.TheVariants.{ReadTx, DataTx, EraseTx, ExclusiveTx, InjectTx, OutTx}
-use Rattle.ddm_types.specs.declared.sizes.LeafState.{LeafState}
-use Rattle.tree_model.specs.State.States.{is_reading}
-use Rattle.tree_model.specs.State.Shape.{are_distinct}
-use Rattle.tree_model.specs.State.Values.{RequestValue, CopyValue, BufferValue, LeafValue}
-use Rattle.tree_model.specs.State.Leaf.{way_at, state_at}
-use Rattle.tree_rules.specs.Bus.Own.{are_zero, copy_fits, words_suit, buffer_fits, request_suits, slot_suits, reserves_below, LeafRule, has_ways, leaf_lists, ways_fit, ways_alone, buffer_fit, buffered_once, one_waiting, slot_fits, leaf_replies, reservation_fits, leaf_test, leaf_rules, leaf_holds}
-use Rattle.tree_rules.specs.Bus.Item.{implies}
-use Rattle.tree_rules.proofs.Implying.{implies-true, implies-false}
-use Rattle.tree_rules.proofs.Lists.{all-pass}
+use Rattle.state_judging.specs.DdmTypes.declared.answers.TxKind.{TxKind}
+use Rattle.state_judging.specs.DdmTypes.declared.answers.TxKind.TheVariants.{ReadTx, DataTx, EraseTx, ExclusiveTx, InjectTx, OutTx}
+use Rattle.state_judging.specs.DdmTypes.declared.sizes.LeafState.{LeafState}
+use Rattle.state_judging.specs.TreeModel.State.States.{is_reading}
+use Rattle.state_judging.specs.TreeModel.State.Shape.{are_distinct}
+use Rattle.state_judging.specs.TreeModel.State.Values.{RequestValue, CopyValue, BufferValue, LeafValue}
+use Rattle.state_judging.specs.TreeModel.State.Leaf.{way_at, state_at}
+use Rattle.state_judging.specs.TreeRules.Bus.Own.{are_zero, copy_fits, words_suit, buffer_fits, request_suits, slot_suits, reserves_below, LeafRule, has_ways, leaf_lists, ways_fit, ways_alone, buffer_fit, buffered_once, one_waiting, slot_fits, leaf_replies, reservation_fits, leaf_test, leaf_rules, leaf_holds}
+use Rattle.state_judging.specs.TreeRules.Bus.Item.{implies}
+use Rattle.state_judging.proofs.TreeRules.Implying.{implies-true, implies-false}
+use Rattle.state_judging.proofs.TreeRules.Lists.{all-pass}
 use Rattle.bus_laws.proofs.Lists.{pass-pushed}
-use Rattle.state_words.specs.Parts.{StandingValue}
+use Rattle.state_judging.specs.StateWords.Parts.{StandingValue}
 use Rattle.state_reading.specs.declared.StateRefusal.{StateRefusal}
 use Rattle.state_reading.specs.declared.StateRefusal.TheVariants.{BrokenLeaf}
 use Rattle.state_reading.specs.Reading.{Read, and_then, given, times, word_that, any_word, words_that}

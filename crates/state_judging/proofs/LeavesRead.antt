@@ -5,10 +5,10 @@ use Rattle.std.specs.List.{AllByRecursion}
 use Rattle.std.proofs.Common.{sym, ap, subst, ◌∙◌, append_assoc}
 use Rattle.std.proofs.lemmas.Bool.{and_parts, eqb-true}
 use Rattle.std.proofs.lemmas.List.{get_or_at, length_push}
-use Rattle.tree_model.specs.State.Shape.{IsShaped, skeleton, skeletons, leaf_numbers_of, leaf_numbers_among, count_from, leaves_numbered}
-use Rattle.tree_model.specs.State.Values.{LeafSizes, LeafValue, Node, Nodes, leaf_node, dir_node, no_nodes, more_nodes, MachineValue, root_of}
-use Rattle.tree_model.specs.Turns.Machine.{leaves_of, leaves_among, machine_leaves}
-use Rattle.tree_rules.specs.Bus.Own.{leaf_holds}
+use Rattle.state_judging.specs.TreeModel.State.Shape.{IsShaped, skeleton, skeletons, leaf_numbers_of, leaf_numbers_among, count_from, leaves_numbered}
+use Rattle.state_judging.specs.TreeModel.State.Values.{LeafSizes, LeafValue, Node, Nodes, leaf_node, dir_node, no_nodes, more_nodes, MachineValue, root_of}
+use Rattle.state_judging.specs.TreeModel.Turns.Machine.{leaves_of, leaves_among, machine_leaves}
+use Rattle.state_judging.specs.TreeRules.Bus.Own.{leaf_holds}
 use Rattle.state_reading.specs.Reading.{Read}
 use Rattle.state_reading.specs.Parts.{most_counted, read_hart, read_leaf}
 use Rattle.state_reading.specs.Machine.{read_each}

@@ -1,3 +1,8 @@
+pub mod BusLaws
+pub mod StateReading
+pub mod StateWords
+pub mod TreeModel
+pub mod TreeRules
 pub mod EachBus
 pub mod Searches
 pub mod BusesJudged

@@ -4,9 +4,9 @@ use Rattle.std.specs.List.{list_any, list_all, AllByRecursion}
 use Rattle.std.proofs.Common.{sym, ap, subst, ◌∙◌, arith, cond, true≢false}
 use Rattle.std.proofs.lemmas.Bool.{and_parts, eqb-true, eq-eqb, ne_eqb}
 use Rattle.std.specs.Cmp.Derive.{both_true}
-use Rattle.tree_model.specs.State.Lists.{all_from}
-use Rattle.tree_model.specs.State.Shape.{are_distinct}
-use Rattle.tree_model.proofs.Tests.{not-true, or-false_first, or-false_second}
+use Rattle.state_judging.specs.TreeModel.State.Lists.{all_from}
+use Rattle.state_judging.specs.TreeModel.State.Shape.{are_distinct}
+use Rattle.state_judging.proofs.TreeModel.Tests.{not-true, or-false_first, or-false_second}
 use Rattle.state_judging.proofs.Searches.{each-so}
 
 -- ---- every entry passes

@@ -6,15 +6,15 @@ use Rattle.std.specs.List.{list_all, range_with_len}
 use Rattle.std.proofs.Common.{sym, ap, subst, ◌∙◌, arith}
 use Rattle.std.proofs.lemmas.Bool.{and_parts, eqb-true, eq-eqb, leb-true}
 use Rattle.std.proofs.lemmas.List.{length-map}
-use Rattle.ddm_types.specs.declared.operations.Op.{Op}
-use Rattle.ddm_types.specs.ItemTable.{item_count}
-use Rattle.tree_model.specs.State.Lists.{has_some}
-use Rattle.tree_model.specs.State.Directory.{is_top}
-use Rattle.tree_model.specs.State.Shape.{IsShaped, Frame, frame_of, shape_test, skeleton, levels_of, depth_of, tree_counts, leaf_numbers_of}
-use Rattle.tree_model.specs.State.Values.{LeafValue, DirValue, children, MachineValue, root_of}
-use Rattle.tree_model.specs.Turns.Machine.{machine_leaves}
-use Rattle.tree_rules.specs.Bus.Own.{TopRule, top_bus, top_level, top_items, no_requests, no_replies, none_parked, no_places, no_epoch, no_stamps, top_test, IsTopOk, dir_test, dir_lists}
-use Rattle.tree_rules.proofs.BusTests.{dir-at}
+use Rattle.state_judging.specs.DdmTypes.declared.operations.Op.{Op}
+use Rattle.state_judging.specs.DdmTypes.ItemTable.{item_count}
+use Rattle.state_judging.specs.TreeModel.State.Lists.{has_some}
+use Rattle.state_judging.specs.TreeModel.State.Directory.{is_top}
+use Rattle.state_judging.specs.TreeModel.State.Shape.{IsShaped, Frame, frame_of, shape_test, skeleton, levels_of, depth_of, tree_counts, leaf_numbers_of}
+use Rattle.state_judging.specs.TreeModel.State.Values.{LeafValue, DirValue, children, MachineValue, root_of}
+use Rattle.state_judging.specs.TreeModel.Turns.Machine.{machine_leaves}
+use Rattle.state_judging.specs.TreeRules.Bus.Own.{TopRule, top_bus, top_level, top_items, no_requests, no_replies, none_parked, no_places, no_epoch, no_stamps, top_test, IsTopOk, dir_test, dir_lists}
+use Rattle.state_judging.proofs.TreeRules.BusTests.{dir-at}
 use Rattle.state_reading.specs.declared.StateRefusal.{StateRefusal}
 use Rattle.state_reading.specs.Reading.{Read, and_then, given, times, word_that}
 use Rattle.state_reading.specs.Parts.{read_hart, read_leaf, read_op}

@@ -7,17 +7,17 @@ use Rattle.std.proofs.lemmas.Bool.{and_parts, eqb-true, eq-eqb, leb-true, leb-fa
 use Rattle.std.proofs.lemmas.Bool.Decides.{nat_tests}
 use Rattle.std.proofs.lemmas.List.{get_or_past}
 use Rattle.std.specs.Cmp.Derive.{both_true}
-use Rattle.ddm_types.specs.declared.sizes.LeafState.{LeafState}
-use Rattle.flat_model.specs.Flat.{has_reserved}
-use Rattle.tree_model.specs.State.Lists.{first_some, find_from}
-use Rattle.tree_model.specs.State.States.{is_waiting}
-use Rattle.tree_model.specs.State.Values.{WayValue, BufferValue, LeafValue}
-use Rattle.tree_model.specs.State.Leaf.{way_at, way_entry, buffer_entry, buffered, is_buffered, buffer_item, entry_at, entry_state, state_at, way_waits, buffer_waits, waiting_item}
-use Rattle.tree_model.proofs.Children.{found-passes, none-passes}
-use Rattle.tree_rules.specs.Bus.Own.{state_waits, waits_alone}
-use Rattle.tree_rules.proofs.Implying.{implies-by}
-use Rattle.tree_rules.proofs.Lists.{range-from_each}
-use Rattle.state_words.specs.Parts.{StandingValue}
+use Rattle.state_judging.specs.DdmTypes.declared.sizes.LeafState.{LeafState}
+use Rattle.state_judging.specs.FlatModel.Flat.{has_reserved}
+use Rattle.state_judging.specs.TreeModel.State.Lists.{first_some, find_from}
+use Rattle.state_judging.specs.TreeModel.State.States.{is_waiting}
+use Rattle.state_judging.specs.TreeModel.State.Values.{WayValue, BufferValue, LeafValue}
+use Rattle.state_judging.specs.TreeModel.State.Leaf.{way_at, way_entry, buffer_entry, buffered, is_buffered, buffer_item, entry_at, entry_state, state_at, way_waits, buffer_waits, waiting_item}
+use Rattle.state_judging.proofs.TreeModel.Children.{found-passes, none-passes}
+use Rattle.state_judging.specs.TreeRules.Bus.Own.{state_waits, waits_alone}
+use Rattle.state_judging.proofs.TreeRules.Implying.{implies-by}
+use Rattle.state_judging.proofs.TreeRules.Lists.{range-from_each}
+use Rattle.state_judging.specs.StateWords.Parts.{StandingValue}
 use Rattle.state_reading.specs.Parts.{waiting_states, standing_state, buffer_state}
 use Rattle.state_judging.proofs.Lists.{find-passes}
 use Rattle.state_judging.proofs.WaysRead.{ways_of, AllWithin, Apart, found-in, one-item}

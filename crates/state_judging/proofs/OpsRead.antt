@@ -6,11 +6,11 @@ use Rattle.std.specs.List.{list_all}
 use Rattle.std.proofs.Common.{ap, ◌∙◌, arith}
 use Rattle.std.proofs.lemmas.List.{drop_all}
 use Rattle.std.specs.Cmp.Derive.{both_true}
-use Rattle.ddm_types.specs.declared.keys.Key.{Key}
-use Rattle.ddm_types.specs.declared.operations.Op.{Op}
-use Rattle.tree_model.specs.declared.Traffic.{Traffic}
-use Rattle.tree_rules.specs.Bus.Own.{are_zero}
-use Rattle.tree_rules.specs.Order.Time.{key_ends}
+use Rattle.state_judging.specs.DdmTypes.declared.keys.Key.{Key}
+use Rattle.state_judging.specs.DdmTypes.declared.operations.Op.{Op}
+use Rattle.state_judging.specs.TreeModel.declared.Traffic.{Traffic}
+use Rattle.state_judging.specs.TreeRules.Bus.Own.{are_zero}
+use Rattle.state_judging.specs.TreeRules.Order.Time.{key_ends}
 use Rattle.bus_laws.proofs.Lists.{pass-pushed}
 use Rattle.state_reading.specs.declared.StateRefusal.{StateRefusal}
 use Rattle.state_reading.specs.Reading.{Read, and_then, given, times, word_that, any_word}

@@ -5,10 +5,10 @@ use Rattle.std.specs.Prelude.{◌≡◌, ℕ, suc, true, List, length, slice_ind
 use Rattle.std.specs.List.{list_all}
 use Rattle.std.proofs.Common.{sym, ap, subst, ◌∙◌}
 use Rattle.std.specs.Cmp.Derive.{both_true}
-use Rattle.tree_model.specs.State.Shape.{skeleton, skeletons}
-use Rattle.tree_model.specs.State.Values.{LeafValue, DownValue, DirValue, Node, Nodes, leaf_node, dir_node, no_nodes, more_nodes, children}
-use Rattle.tree_rules.specs.Bus.Own.{dir_holds}
-use Rattle.tree_rules.specs.Order.Time.{stamp_ends}
+use Rattle.state_judging.specs.TreeModel.State.Shape.{skeleton, skeletons}
+use Rattle.state_judging.specs.TreeModel.State.Values.{LeafValue, DownValue, DirValue, Node, Nodes, leaf_node, dir_node, no_nodes, more_nodes, children}
+use Rattle.state_judging.specs.TreeRules.Bus.Own.{dir_holds}
+use Rattle.state_judging.specs.TreeRules.Order.Time.{stamp_ends}
 use Rattle.state_reading.specs.Machine.{refilled, refilled_among}
 use Rattle.state_judging.specs.Read.{parts_hold, parts_hold_among}
 use Rattle.state_judging.proofs.DirRead.{DirRead}

@@ -2,7 +2,7 @@
 use Rattle.std.specs.Prelude.{◌≡◌, ◌<◌, ℕ, Bool, true, false, not, ◌&&◌, ◌||◌, List, [], ◌∷◌, ◌++◌, Option, Some, None, option_map, refl}
 use Rattle.std.specs.List.{list_all, find, range_with_len, AllByRecursion}
 use Rattle.std.proofs.Common.{cond}
-use Rattle.tree_rules.proofs.Lists.{each-from_range, range-from_each}
+use Rattle.state_judging.proofs.TreeRules.Lists.{each-from_range, range-from_each}
 
 -- ---- tests
 

@@ -3,16 +3,16 @@
 use Rattle.std.specs.Prelude.{◌≡◌, ◌<◌, ℕ, ◌+◌, Bool, true, false, not, ◌&&◌, nat_eq, nat_lt, List, [], ◌∷◌, length, None, refl}
 use Rattle.std.specs.List.{list_any, range_with_len, find, AllByRecursion}
 use Rattle.std.proofs.lemmas.Bool.{eq-eqb, ltb-true, and_parts}
-use Rattle.tree_model.specs.State.Values.{DirValue, Node, Nodes, leaf_node, dir_node, no_nodes, more_nodes, MachineValue}
-use Rattle.tree_model.specs.State.Place.{Spot, spot_path, spot_in}
-use Rattle.tree_model.specs.State.Shape.{IsShaped, skeleton, skeletons, buses_of, buses_among, are_below}
-use Rattle.tree_model.proofs.Tests.{or-false_first, or-false_second}
-use Rattle.tree_rules.specs.Statements.{Holds, both, each, each_pair}
-use Rattle.tree_rules.specs.Order.Places.{DirAt, dirs_in, placed_dirs, dirs_at}
-use Rattle.tree_rules.specs.Order.Time.{takes_past, lies_between, may_stand_behind}
-use Rattle.tree_rules.specs.Order.Rules.{taken_is_past, stamps_between, stamps_rise, time_rule, IsTimed}
-use Rattle.tree_rules.proofs.Statements.{Holds-from_test, test-from_Holds, each-facts, facts-each}
-use Rattle.tree_rules.proofs.Lists.{each-from_range, range-from_each}
+use Rattle.state_judging.specs.TreeModel.State.Values.{DirValue, Node, Nodes, leaf_node, dir_node, no_nodes, more_nodes, MachineValue}
+use Rattle.state_judging.specs.TreeModel.State.Place.{Spot, spot_path, spot_in}
+use Rattle.state_judging.specs.TreeModel.State.Shape.{IsShaped, skeleton, skeletons, buses_of, buses_among, are_below}
+use Rattle.state_judging.proofs.TreeModel.Tests.{or-false_first, or-false_second}
+use Rattle.state_judging.specs.TreeRules.Statements.{Holds, both, each, each_pair}
+use Rattle.state_judging.specs.TreeRules.Order.Places.{DirAt, dirs_in, placed_dirs, dirs_at}
+use Rattle.state_judging.specs.TreeRules.Order.Time.{takes_past, lies_between, may_stand_behind}
+use Rattle.state_judging.specs.TreeRules.Order.Rules.{taken_is_past, stamps_between, stamps_rise, time_rule, IsTimed}
+use Rattle.state_judging.proofs.TreeRules.Statements.{Holds-from_test, test-from_Holds, each-facts, facts-each}
+use Rattle.state_judging.proofs.TreeRules.Lists.{each-from_range, range-from_each}
 use Rattle.state_judging.specs.Judged.{stamps_in_order, is_over, stamps_broken}
 use Rattle.state_judging.proofs.EachBus.{shaped-below}
 use Rattle.state_judging.proofs.Searches.{none-found, found-none, and-other, not-false, each-append, each-so, each-both}

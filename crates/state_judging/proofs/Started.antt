@@ -3,12 +3,12 @@
 use Rattle.std.specs.Prelude.{◌≡◌, ℕ, Bool, true, ◌&&◌, nat_eq, Some, None, Ok, refl}
 use Rattle.std.proofs.Common.{sym, subst}
 use Rattle.std.specs.Cmp.Derive.{both_true}
-use Rattle.tree_model.specs.State.Shape.{Skeleton, leaf_bone, dir_bone, IsShaped, Frame, frame_of, skeleton, skeletons}
-use Rattle.tree_model.specs.State.Values.{Node, Nodes, leaf_node, dir_node, no_nodes, more_nodes, MachineValue, root_of}
-use Rattle.tree_model.specs.Start.Sources.{ImageValue, TreeValue}
-use Rattle.tree_model.specs.Start.Machine.{start_machine, start_refusal, start_or, start_of}
-use Rattle.tree_rules.specs.Bus.Own.{has_ways}
-use Rattle.tree_rules.specs.Bus.Rules.{IsTreeOk, AreTreesOk, IsMachineOk, items_of_machine}
+use Rattle.state_judging.specs.TreeModel.State.Shape.{Skeleton, leaf_bone, dir_bone, IsShaped, Frame, frame_of, skeleton, skeletons}
+use Rattle.state_judging.specs.TreeModel.State.Values.{Node, Nodes, leaf_node, dir_node, no_nodes, more_nodes, MachineValue, root_of}
+use Rattle.state_judging.specs.TreeModel.Start.Sources.{ImageValue, TreeValue}
+use Rattle.state_judging.specs.TreeModel.Start.Machine.{start_machine, start_refusal, start_or, start_of}
+use Rattle.state_judging.specs.TreeRules.Bus.Own.{has_ways}
+use Rattle.state_judging.specs.TreeRules.Bus.Rules.{IsTreeOk, AreTreesOk, IsMachineOk, items_of_machine}
 use Rattle.bus_laws.specs.IsTree.{IsTree}
 use Rattle.bus_laws.proofs.StartKept.{start-kept}
 use Rattle.state_judging.specs.Read.{ways_exist, ways_exist_among, is_top_alone, CanRead}

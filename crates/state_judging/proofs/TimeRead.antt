@@ -6,15 +6,15 @@ use Rattle.std.proofs.Common.{sym, ap, subst, ◌∙◌, arith, append_assoc, ap
 use Rattle.std.proofs.lemmas.Bool.{and_parts, eqb-true, ltb-true}
 use Rattle.std.proofs.lemmas.Bool.Decides.{nat_tests}
 use Rattle.std.proofs.lemmas.List.{length_push, map-append}
-use Rattle.ddm_types.specs.declared.operations.Op.{Op}
-use Rattle.tree_model.specs.State.Place.{Spot, spot_path, spot_in}
-use Rattle.tree_model.specs.State.Shape.{IsShaped, skeleton, skeletons, leaf_numbers_of, leaf_numbers_among, count_from, levels_of, levels_fit, levels_fit_among, depth_of, tree_counts, levels_known, leaves_numbered}
-use Rattle.tree_model.specs.State.Values.{DownValue, DirValue, Node, Nodes, leaf_node, dir_node, no_nodes, more_nodes, MachineValue, root_of}
-use Rattle.tree_rules.specs.Statements.{Holds, is_so, each}
-use Rattle.tree_rules.specs.Order.Places.{LeafAt, leaves_in, placed_leaves, leaves_at, DirAt, dirs_in, placed_dirs, dirs_at}
-use Rattle.tree_rules.specs.Order.Time.{has_leaf, key_ends, has_ending_key, stamp_ends, entry_ends, epoch_ends}
-use Rattle.tree_rules.specs.Order.Rules.{stamps_end, epochs_end, time_rule}
-use Rattle.tree_rules.proofs.Statements.{facts-each}
+use Rattle.state_judging.specs.DdmTypes.declared.operations.Op.{Op}
+use Rattle.state_judging.specs.TreeModel.State.Place.{Spot, spot_path, spot_in}
+use Rattle.state_judging.specs.TreeModel.State.Shape.{IsShaped, skeleton, skeletons, leaf_numbers_of, leaf_numbers_among, count_from, levels_of, levels_fit, levels_fit_among, depth_of, tree_counts, levels_known, leaves_numbered}
+use Rattle.state_judging.specs.TreeModel.State.Values.{DownValue, DirValue, Node, Nodes, leaf_node, dir_node, no_nodes, more_nodes, MachineValue, root_of}
+use Rattle.state_judging.specs.TreeRules.Statements.{Holds, is_so, each}
+use Rattle.state_judging.specs.TreeRules.Order.Places.{LeafAt, leaves_in, placed_leaves, leaves_at, DirAt, dirs_in, placed_dirs, dirs_at}
+use Rattle.state_judging.specs.TreeRules.Order.Time.{has_leaf, key_ends, has_ending_key, stamp_ends, entry_ends, epoch_ends}
+use Rattle.state_judging.specs.TreeRules.Order.Rules.{stamps_end, epochs_end, time_rule}
+use Rattle.state_judging.proofs.TreeRules.Statements.{facts-each}
 use Rattle.state_judging.proofs.EachBus.{AtDirs, AtDirsAmong}
 use Rattle.state_judging.proofs.Lists.{any-map, pass-each}
 use Rattle.state_judging.proofs.OpsRead.{op_fits}

@@ -6,14 +6,14 @@ use Rattle.std.proofs.Common.{sym, ap, subst, ◌∙◌, arith, true≢false}
 use Rattle.std.proofs.lemmas.Bool.{and_parts, eqb-true, eq-eqb, ltb-true}
 use Rattle.std.proofs.lemmas.List.{get_or-set_same, get_or-set_other, length-set, length-replicate}
 use Rattle.std.specs.Cmp.Derive.{both_true}
-use Rattle.tree_model.specs.State.Lists.{all_from}
-use Rattle.tree_model.specs.State.Values.{WayValue, LeafValue}
-use Rattle.tree_model.specs.State.Leaf.{way_at, stands_in}
-use Rattle.tree_model.proofs.Tests.{not-true, or-false_first, or-false_second}
-use Rattle.tree_rules.specs.Bus.Own.{words_suit, way_fits, same_if_there, has_way_alone}
-use Rattle.tree_rules.proofs.Implying.{implies-by, implies-false}
+use Rattle.state_judging.specs.TreeModel.State.Lists.{all_from}
+use Rattle.state_judging.specs.TreeModel.State.Values.{WayValue, LeafValue}
+use Rattle.state_judging.specs.TreeModel.State.Leaf.{way_at, stands_in}
+use Rattle.state_judging.proofs.TreeModel.Tests.{not-true, or-false_first, or-false_second}
+use Rattle.state_judging.specs.TreeRules.Bus.Own.{words_suit, way_fits, same_if_there, has_way_alone}
+use Rattle.state_judging.proofs.TreeRules.Implying.{implies-by, implies-false}
 use Rattle.bus_laws.proofs.Lists.{pass-set}
-use Rattle.state_words.specs.Parts.{StandingValue}
+use Rattle.state_judging.specs.StateWords.Parts.{StandingValue}
 use Rattle.state_reading.specs.Parts.{ways_with, same_place, places_differ}
 use Rattle.state_judging.proofs.Lists.{pass-replicate, all-from}
 

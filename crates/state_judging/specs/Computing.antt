@@ -1,6 +1,6 @@
 -- One name that opens every definition of this crate that is shut by default, and of those that it stands on.
 -- Proofs alone need it.
-use Rattle.tree_rules.specs.Computing.{rules_compute}
+use Rattle.state_judging.specs.TreeRules.Computing.{rules_compute}
 use Rattle.state_reading.specs.Computing.{reading_computes}
 use Rattle.state_judging.specs.Judged.{judged, read_state}
 

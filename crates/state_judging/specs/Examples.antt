@@ -1,9 +1,9 @@
 -- Machines that are judged: after each turn of three runs, and changed by hand.
 -- Letters: m is a machine, d a directory, ns are nodes.
 use Rattle.std.specs.Prelude.{◌≡◌, Bool, true, [], ◌∷◌, ◌++◌, Some, None, is_none}
-use Rattle.ddm_types.specs.Keys.{stamp_zero}
-use Rattle.tree_model.specs.State.Values.{LeafValue, DirValue, Node, Nodes, leaf_node, dir_node, no_nodes, more_nodes, MachineValue}
-use Rattle.tree_rules.specs.Examples.{two_writers_turns, two_writers_start, two_writers_after, stale_load_all, stale_load_start, last_copy_turns, last_copy_start, run_keeps}
+use Rattle.state_judging.specs.DdmTypes.Keys.{stamp_zero}
+use Rattle.state_judging.specs.TreeModel.State.Values.{LeafValue, DirValue, Node, Nodes, leaf_node, dir_node, no_nodes, more_nodes, MachineValue}
+use Rattle.state_judging.specs.TreeRules.Examples.{two_writers_turns, two_writers_start, two_writers_after, stale_load_all, stale_load_start, last_copy_turns, last_copy_start, run_keeps}
 use Rattle.state_reading.specs.declared.StateRefusal.TheVariants.{BrokenRule, BrokenStamp, BrokenKey}
 use Rattle.state_judging.specs.Judged.{judged}
 

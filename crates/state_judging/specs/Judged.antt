@@ -3,17 +3,17 @@
 -- To be believed: it is how a checkpoint is judged.
 use Rattle.std.specs.Prelude.{ℕ, ◌+◌, Bool, not, ◌&&◌, ◌||◌, nat_eq, List, [], ◌∷◌, length, find, Option, Some, None, option_map, Result, Err, if◌then◌else◌}
 use Rattle.std.specs.List.{list_any, range_with_len}
-use Rattle.ddm_types.specs.declared.operations.Op.{Op}
-use Rattle.ddm_types.specs.Keys.{key_less}
-use Rattle.tree_model.specs.State.Lists.{first_some}
-use Rattle.tree_model.specs.State.Values.{DirValue, Node, MachineValue}
-use Rattle.tree_model.specs.State.Directory.{is_top}
-use Rattle.tree_model.specs.State.Shape.{depth_of}
-use Rattle.tree_model.specs.Turns.Machine.{ask_bus}
-use Rattle.tree_rules.specs.Statements.{test_of, each, each_pair, both}
-use Rattle.tree_rules.specs.Bus.Rules.{items_of_machine, item_holds_at, kept_places, held_at_top}
-use Rattle.tree_rules.specs.Order.Places.{DirAt, leaves_at, dirs_at}
-use Rattle.tree_rules.specs.Order.Time.{has_leaf_path, is_before_now, takes_past, lies_between, may_stand_behind}
+use Rattle.state_judging.specs.DdmTypes.declared.operations.Op.{Op}
+use Rattle.state_judging.specs.DdmTypes.Keys.{key_less}
+use Rattle.state_judging.specs.TreeModel.State.Lists.{first_some}
+use Rattle.state_judging.specs.TreeModel.State.Values.{DirValue, Node, MachineValue}
+use Rattle.state_judging.specs.TreeModel.State.Directory.{is_top}
+use Rattle.state_judging.specs.TreeModel.State.Shape.{depth_of}
+use Rattle.state_judging.specs.TreeModel.Turns.Machine.{ask_bus}
+use Rattle.state_judging.specs.TreeRules.Statements.{test_of, each, each_pair, both}
+use Rattle.state_judging.specs.TreeRules.Bus.Rules.{items_of_machine, item_holds_at, kept_places, held_at_top}
+use Rattle.state_judging.specs.TreeRules.Order.Places.{DirAt, leaves_at, dirs_at}
+use Rattle.state_judging.specs.TreeRules.Order.Time.{has_leaf_path, is_before_now, takes_past, lies_between, may_stand_behind}
 use Rattle.state_reading.specs.declared.StateRefusal.{StateRefusal}
 use Rattle.state_reading.specs.declared.StateRefusal.TheVariants.{BrokenRule, BrokenStamp, BrokenKey}
 use Rattle.state_reading.specs.Reading.{Read, and_then, given}

@@ -1,3 +1,11 @@
+pub mod BusLaws
+pub mod DdmText
+pub mod DdmTypes
+pub mod FlatModel
+pub mod StateReading
+pub mod StateWords
+pub mod TreeModel
+pub mod TreeRules
 pub mod Judged
 pub mod Read
 pub mod Examples

@@ -4,13 +4,13 @@
 -- To be believed with the contracts: laws speak of it.
 use Rattle.std.specs.Prelude.{◌≡◌, ℕ, Bool, true, ◌&&◌, nat_eq, nat_le, nat_lt, length}
 use Rattle.std.specs.List.{list_all}
-use Rattle.tree_model.specs.declared.Traffic.{Traffic}
-use Rattle.tree_model.specs.State.Values.{DirValue, Node, Nodes, leaf_node, dir_node, no_nodes, more_nodes, children, MachineValue, root_of}
-use Rattle.tree_model.specs.State.Shape.{Skeleton, Skeletons, leaf_bone, dir_bone, no_bones, more_bones, skeleton, IsShaped}
-use Rattle.tree_rules.specs.Statements.{Holds}
-use Rattle.tree_rules.specs.Bus.Own.{leaf_holds, dir_holds, IsTopOk}
-use Rattle.tree_rules.specs.Bus.Rules.{items_of_machine}
-use Rattle.tree_rules.specs.Order.Rules.{ops_of_leaves, keys_end, stamps_end, epochs_end, time_rule}
+use Rattle.state_judging.specs.TreeModel.declared.Traffic.{Traffic}
+use Rattle.state_judging.specs.TreeModel.State.Values.{DirValue, Node, Nodes, leaf_node, dir_node, no_nodes, more_nodes, children, MachineValue, root_of}
+use Rattle.state_judging.specs.TreeModel.State.Shape.{Skeleton, Skeletons, leaf_bone, dir_bone, no_bones, more_bones, skeleton, IsShaped}
+use Rattle.state_judging.specs.TreeRules.Statements.{Holds}
+use Rattle.state_judging.specs.TreeRules.Bus.Own.{leaf_holds, dir_holds, IsTopOk}
+use Rattle.state_judging.specs.TreeRules.Bus.Rules.{items_of_machine}
+use Rattle.state_judging.specs.TreeRules.Order.Rules.{ops_of_leaves, keys_end, stamps_end, epochs_end, time_rule}
 use Rattle.state_reading.specs.Parts.{most_counted}
 
 -- ---- before the reading

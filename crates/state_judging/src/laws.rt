@@ -1,12 +1,12 @@
 //! What was read and is judged well keeps the rules, and what keeps them is judged well, as theorems: there is nothing to run.
 
 ghost use Rattle.std.specs.Prelude.{◌≡◌, ◌<◌, ℕ, List, ◌∷◌, None, Ok};
-ghost use Rattle.tree_model.specs.State.Values.{MachineValue};
-ghost use Rattle.tree_model.specs.State.Shape.{IsShaped, frame_of};
-ghost use Rattle.tree_model.specs.Start.Sources.{SegmentValue, ImageValue, TreeValue};
-ghost use Rattle.tree_model.specs.Start.Machine.{start_of};
-ghost use Rattle.tree_rules.specs.Bus.Rules.{IsMachineOk, items_of_machine};
-ghost use Rattle.tree_rules.specs.Order.Rules.{IsTimed};
+ghost use Rattle.state_judging.specs.TreeModel.State.Values.{MachineValue};
+ghost use Rattle.state_judging.specs.TreeModel.State.Shape.{IsShaped, frame_of};
+ghost use Rattle.state_judging.specs.TreeModel.Start.Sources.{SegmentValue, ImageValue, TreeValue};
+ghost use Rattle.state_judging.specs.TreeModel.Start.Machine.{start_of};
+ghost use Rattle.state_judging.specs.TreeRules.Bus.Rules.{IsMachineOk, items_of_machine};
+ghost use Rattle.state_judging.specs.TreeRules.Order.Rules.{IsTimed};
 ghost use Rattle.bus_laws.specs.IsTree.{IsTree};
 ghost use Rattle.state_reading.specs.Machine.{read_words};
 ghost use Rattle.state_judging.specs.Judged.{judged};

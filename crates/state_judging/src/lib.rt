@@ -4,3 +4,5 @@
 
 pub mod examples;
 pub mod laws;
+pub mod of_state_reading;
+pub mod of_state_words;

@@ -1,3 +1,8 @@
+pub mod DdmText
+pub mod DdmTypes
+pub mod ItemStates
+pub mod StateWords
+pub mod TreeModel
 pub mod Reading
 pub mod Gives
 pub mod Parts

@@ -3,12 +3,12 @@
 -- To be believed: it is how a checkpoint is judged.
 use Rattle.std.specs.Prelude.{ℕ, ◌+◌, nat_eq, List, [], ◌∷◌, ◌++◌, length, map, Option, Some, None, Result, slice_index_or}
 use Rattle.std.specs.List.{range_with_len}
-use Rattle.ddm_types.specs.declared.operations.Op.{Op}
-use Rattle.ddm_types.specs.ItemTable.{item_count}
-use Rattle.tree_model.specs.declared.Traffic.{Traffic}
-use Rattle.tree_model.specs.State.Values.{LeafValue, DirValue, Node, Nodes, leaf_node, dir_node, no_nodes, more_nodes, children, MachineValue, root_of}
-use Rattle.tree_model.specs.State.Shape.{tree_counts, depth_of}
-use Rattle.tree_model.specs.Turns.Machine.{ask_bus, machine_leaves, with_root}
+use Rattle.state_reading.specs.DdmTypes.declared.operations.Op.{Op}
+use Rattle.state_reading.specs.DdmTypes.ItemTable.{item_count}
+use Rattle.state_reading.specs.TreeModel.declared.Traffic.{Traffic}
+use Rattle.state_reading.specs.TreeModel.State.Values.{LeafValue, DirValue, Node, Nodes, leaf_node, dir_node, no_nodes, more_nodes, children, MachineValue, root_of}
+use Rattle.state_reading.specs.TreeModel.State.Shape.{tree_counts, depth_of}
+use Rattle.state_reading.specs.TreeModel.Turns.Machine.{ask_bus, machine_leaves, with_root}
 use Rattle.state_reading.specs.declared.StateRefusal.{StateRefusal}
 use Rattle.state_reading.specs.Reading.{Read, and_then, given, times, word_that}
 use Rattle.state_reading.specs.Parts.{read_hart, read_leaf, read_dir, read_traffic, read_op}

@@ -4,22 +4,22 @@
 -- To be believed: it is how a checkpoint is judged.
 use Rattle.std.specs.Prelude.{ℕ, ◌+◌, ◌-◌, ◌%◌, ◌^◌, Bool, true, false, not, ◌&&◌, ◌||◌, nat_eq, nat_lt, nat_le, List, [], ◌∷◌, ◌++◌, length, map, replicate, slice_set, slice_index_or, Option, Some, None, Result, Err, if◌then◌else◌}
 use Rattle.std.specs.List.{list_any}
-use Rattle.ddm_types.specs.declared.answers.TxKind.{TxKind}
-use Rattle.ddm_types.specs.declared.sizes.Hold.{Hold}
-use Rattle.ddm_types.specs.declared.sizes.LeafState.{LeafState}
-use Rattle.ddm_types.specs.declared.operations.HaltCause.{HaltCause}
-use Rattle.ddm_types.specs.declared.operations.Effect.{Effect}
-use Rattle.ddm_types.specs.declared.operations.Op.{Op}
-use Rattle.ddm_types.specs.declared.keys.Stamp.{Stamp}
-use Rattle.ddm_types.specs.declared.keys.Key.{Key}
-use Rattle.tree_model.specs.declared.Traffic.{Traffic}
-use Rattle.tree_model.specs.State.Kinds.{brings_copy}
-use Rattle.tree_model.specs.State.States.{is_reading, is_waiting, is_upgrading}
-use Rattle.tree_model.specs.State.Shape.{are_distinct}
-use Rattle.tree_model.specs.State.Values.{RequestValue, CopyValue, DownValue, WayValue, BufferValue, LeafValue, Note, no_note, local, up_read, up_erase, DirItem, DirValue, absent_item}
-use Rattle.tree_model.specs.State.Leaf.{state_at, is_copy}
-use Rattle.tree_model.specs.State.Directory.{is_top, in_set}
-use Rattle.tree_model.specs.Start.Nodes.{held_exclusive}
+use Rattle.state_reading.specs.DdmTypes.declared.answers.TxKind.{TxKind}
+use Rattle.state_reading.specs.DdmTypes.declared.sizes.Hold.{Hold}
+use Rattle.state_reading.specs.DdmTypes.declared.sizes.LeafState.{LeafState}
+use Rattle.state_reading.specs.DdmTypes.declared.operations.HaltCause.{HaltCause}
+use Rattle.state_reading.specs.DdmTypes.declared.operations.Effect.{Effect}
+use Rattle.state_reading.specs.DdmTypes.declared.operations.Op.{Op}
+use Rattle.state_reading.specs.DdmTypes.declared.keys.Stamp.{Stamp}
+use Rattle.state_reading.specs.DdmTypes.declared.keys.Key.{Key}
+use Rattle.state_reading.specs.TreeModel.declared.Traffic.{Traffic}
+use Rattle.state_reading.specs.TreeModel.State.Kinds.{brings_copy}
+use Rattle.state_reading.specs.TreeModel.State.States.{is_reading, is_waiting, is_upgrading}
+use Rattle.state_reading.specs.TreeModel.State.Shape.{are_distinct}
+use Rattle.state_reading.specs.TreeModel.State.Values.{RequestValue, CopyValue, DownValue, WayValue, BufferValue, LeafValue, Note, no_note, local, up_read, up_erase, DirItem, DirValue, absent_item}
+use Rattle.state_reading.specs.TreeModel.State.Leaf.{state_at, is_copy}
+use Rattle.state_reading.specs.TreeModel.State.Directory.{is_top, in_set}
+use Rattle.state_reading.specs.TreeModel.Start.Nodes.{held_exclusive}
 use Rattle.state_reading.specs.declared.StateRefusal.{StateRefusal}
 use Rattle.state_reading.specs.declared.StateRefusal.TheVariants.{BrokenLeaf}
 use Rattle.state_words.specs.Parts.{StandingValue, is_recorded}

@@ -3,6 +3,9 @@
 #![tactic(auto)]
 
 mod numbers;
+pub mod of_ddm_types;
+pub mod of_item_states;
+pub mod of_state_words;
 mod words;
 
 pub use numbers::{brings_copy, halt_of, hold_of, kind_of, state_of};

@@ -1,8 +1,8 @@
 ghost use Rattle.std.specs.Prelude.{◌≡◌, ◌≤◌};
-ghost use Rattle.tree_model.specs.State.Kinds.{brings_copy};
+ghost use Rattle.state_reading.specs.TreeModel.State.Kinds.{brings_copy};
 ghost use Rattle.state_reading.specs.Parts.{halt_of, hold_of, kind_of, state_of};
 
-use ddm_types::{HaltCause, Hold, LeafState, TxKind};
+use crate::of_ddm_types::{HaltCause, Hold, LeafState, TxKind};
 
 /// The state of an entry by its number, 1 to 5.
 pub fn state_of(code: u32) -> LeafState

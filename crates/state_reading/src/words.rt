@@ -1,12 +1,12 @@
 ghost use Rattle.std.specs.Prelude.{◌≡◌, ◌<◌, ◌≤◌, ◌+◌, ◌∷◌, ◌^◌, true, false, [], drop, length, nat_eq, nat_le, nat_lt, ◌||◌, OnOk, IfOk, IfErr, Ok, Err, ◌&&◌};
-ghost use Rattle.ddm_types.specs.Keys.{stamp_zero};
+ghost use Rattle.state_reading.specs.DdmTypes.Keys.{stamp_zero};
 ghost use Rattle.state_reading.specs.declared.StateRefusal.TheVariants.{BadWord, Cut};
 ghost use Rattle.state_reading.specs.Gives.{Gives};
 ghost use Rattle.state_reading.specs.Reading.{any_word, word_that, words_that};
 ghost use Rattle.state_reading.specs.Parts.{count_word, item_words, most_counted, stamp_words, word_below, word_from_1, word_if, word_to};
 
 use crate::StateRefusal;
-use ddm_types::{Stamp, Words};
+use crate::of_ddm_types::{Stamp, Words};
 
 /// No count of a checkpoint is above this.
 pub const MOST_COUNTED: u32 = 1_048_576;

@@ -1,3 +1,7 @@
+pub mod DdmText
+pub mod DdmTypes
+pub mod ItemStates
+pub mod TreeModel
 pub mod Numbers
 pub mod Begins
 pub mod Parts

@@ -4,10 +4,10 @@
 use Rattle.std.specs.Prelude.{ℕ, ◌/◌, List, [], ◌∷◌, ◌++◌, length, Option, Some, None, slice_index_or}
 use Rattle.std.specs.List.{flat_map, range_with_len}
 use Rattle.std.specs.Int.{w32, to_le_bytes}
-use Rattle.ddm_types.specs.ItemTable.{item_count}
-use Rattle.tree_model.specs.State.Values.{Node, Nodes, leaf_node, dir_node, no_nodes, more_nodes, MachineValue, root_of}
-use Rattle.tree_model.specs.State.Shape.{tree_counts}
-use Rattle.tree_model.specs.Turns.Machine.{no_traffic, ask_bus, machine_leaves}
+use Rattle.state_words.specs.DdmTypes.ItemTable.{item_count}
+use Rattle.state_words.specs.TreeModel.State.Values.{Node, Nodes, leaf_node, dir_node, no_nodes, more_nodes, MachineValue, root_of}
+use Rattle.state_words.specs.TreeModel.State.Shape.{tree_counts}
+use Rattle.state_words.specs.TreeModel.Turns.Machine.{no_traffic, ask_bus, machine_leaves}
 use Rattle.state_words.specs.declared.MachineSizes.{MachineSizes}
 use Rattle.state_words.specs.Parts.{counted, hart_words, leaf_words, dir_words, traffic_words, op_words}
 

@@ -2,14 +2,14 @@
 -- stopped, what an instruction did. Kinds of transactions have the numbers of `kind_number`.
 -- To be believed: it is the written format.
 use Rattle.std.specs.Prelude.{ℕ, ◌+◌, Bool, List, [], ◌∷◌, Option, Some, None, if◌then◌else◌}
-use Rattle.ddm_types.specs.declared.answers.TxKind.{TxKind}
-use Rattle.ddm_types.specs.declared.sizes.Hold.{Hold}
-use Rattle.ddm_types.specs.declared.sizes.LeafState.{LeafState}
-use Rattle.ddm_types.specs.declared.operations.HaltCause.{HaltCause}
-use Rattle.ddm_types.specs.declared.operations.Effect.{Effect}
-use Rattle.ddm_types.specs.declared.keys.Stamp.{Stamp}
-use Rattle.ddm_types.specs.declared.keys.Key.{Key}
-use Rattle.tree_model.specs.State.Values.{RequestValue, Note, no_note, local, up_read, up_erase}
+use Rattle.state_words.specs.DdmTypes.declared.answers.TxKind.{TxKind}
+use Rattle.state_words.specs.DdmTypes.declared.sizes.Hold.{Hold}
+use Rattle.state_words.specs.DdmTypes.declared.sizes.LeafState.{LeafState}
+use Rattle.state_words.specs.DdmTypes.declared.operations.HaltCause.{HaltCause}
+use Rattle.state_words.specs.DdmTypes.declared.operations.Effect.{Effect}
+use Rattle.state_words.specs.DdmTypes.declared.keys.Stamp.{Stamp}
+use Rattle.state_words.specs.DdmTypes.declared.keys.Key.{Key}
+use Rattle.state_words.specs.TreeModel.State.Values.{RequestValue, Note, no_note, local, up_read, up_erase}
 
 abbrev pub hold_number : Hold → ℕ
 hold_number Hold.Invalid = 0

@@ -3,13 +3,13 @@
 -- To be believed: it is the written format.
 use Rattle.std.specs.Prelude.{ℕ, ◌+◌, Bool, true, false, ◌||◌, List, [], ◌∷◌, ◌++◌, length, drop, count_by, filter_map, option_map, Option, Some, None, if◌then◌else◌}
 use Rattle.std.specs.List.{flat_map, range_with_len}
-use Rattle.ddm_types.specs.declared.operations.Op.{Op}
-use Rattle.tree_model.specs.declared.Traffic.{Traffic}
-use Rattle.tree_model.specs.State.Values.{RequestValue, CopyValue, DownValue, WayValue, BufferValue, LeafValue, Note, no_note, local, up_read, up_erase, DirItem, DirValue}
-use Rattle.tree_model.specs.State.Kinds.{kind_number}
-use Rattle.tree_model.specs.State.States.{is_held}
-use Rattle.tree_model.specs.State.Leaf.{way_at, item_in_way}
-use Rattle.tree_model.specs.State.Directory.{is_top}
+use Rattle.state_words.specs.DdmTypes.declared.operations.Op.{Op}
+use Rattle.state_words.specs.TreeModel.declared.Traffic.{Traffic}
+use Rattle.state_words.specs.TreeModel.State.Values.{RequestValue, CopyValue, DownValue, WayValue, BufferValue, LeafValue, Note, no_note, local, up_read, up_erase, DirItem, DirValue}
+use Rattle.state_words.specs.TreeModel.State.Kinds.{kind_number}
+use Rattle.state_words.specs.TreeModel.State.States.{is_held}
+use Rattle.state_words.specs.TreeModel.State.Leaf.{way_at, item_in_way}
+use Rattle.state_words.specs.TreeModel.State.Directory.{is_top}
 use Rattle.state_words.specs.Numbers.{hold_number, note_words, flag_number, state_number, slot_words, reserved_word, halt_words, effect_words, stamp_words, key_words}
 
 -- how many there are, and then the words of each

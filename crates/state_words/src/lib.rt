@@ -3,6 +3,9 @@
 #![tactic(auto)]
 
 mod numbers;
+pub mod of_ddm_types;
+pub mod of_item_states;
+pub mod of_tree_model;
 mod spelled;
 
 pub use numbers::{

@@ -1,10 +1,10 @@
 ghost use Rattle.std.specs.Prelude.{◌≡◌, ◌+◌, ◌<◌, ◌^◌, IfSome};
-ghost use Rattle.tree_model.specs.State.Kinds.{kind_number};
+ghost use Rattle.state_words.specs.TreeModel.State.Kinds.{kind_number};
 ghost use Rattle.state_words.specs.Numbers.{effect_words, flag_number, halt_words, hold_number, key_words, reserved_word, slot_number, stamp_words, state_number};
 ghost use Rattle.state_words.specs.Parts.{traffic_words};
 
-use ddm_types::{Effect, HaltCause, Hold, ItemId, Key, LeafState, Stamp, TxKind};
-use tree_model::Traffic;
+use crate::of_ddm_types::{Effect, HaltCause, Hold, ItemId, Key, LeafState, Stamp, TxKind};
+use crate::of_tree_model::Traffic;
 
 pub fn kind_number(kind: TxKind) -> u32
     ensures { result ≡ kind_number kind }

@@ -1,11 +1,11 @@
 ghost use Rattle.std.specs.Prelude.{◌≡◌, ℕ, ◌<◌, ◌^◌, List, length, OnErr, OnOk};
 ghost use Rattle.ddm_text.specs.Adds.{Adds};
-ghost use Rattle.tree_model.specs.State.Values.{RequestValue, CopyValue};
+ghost use Rattle.state_words.specs.TreeModel.State.Values.{RequestValue, CopyValue};
 ghost use Rattle.state_words.specs.Begins.{Begins};
 ghost use Rattle.state_words.specs.Parts.{counted, down_words, item_and_words, op_words, request_words};
 
 use crate::numbers::{effect_words, key_words, kind_number, stamp_words};
-use ddm_types::{ItemId, NoMemory, Op, TxKind, Words};
+use crate::of_ddm_types::{ItemId, NoMemory, Op, TxKind, Words};
 use item_states::DownEntry;
 
 /// Puts words at the end.

@@ -1,3 +1,5 @@
+pub mod DdmText
+pub mod TreeModel
 pub mod Pieces
 pub mod TurnTexts
 pub mod ReadBack

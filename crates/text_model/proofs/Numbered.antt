@@ -1,7 +1,7 @@
 -- Lines with a number that counts up, for loops that print them: a further line stands at the end.
 use Rattle.std.proofs.Common.{◌≡◌, ℕ, ◌+◌, ◌<◌, List, [], ◌∷◌, ◌++◌, length, take, get_or, sym, ap, ◌∙◌, subst, append_assoc, add-zero, zero-add, arith}
-use Rattle.ddm_types.specs.declared.turns.Turn.{Turn}
-use Rattle.ddm_types.specs.declared.answers.TurnAnswer.{TurnAnswer}
+use Rattle.text_model.specs.DdmTypes.declared.turns.Turn.{Turn}
+use Rattle.text_model.specs.DdmTypes.declared.answers.TurnAnswer.{TurnAnswer}
 use Rattle.tree_model.specs.declared.Traffic.{Traffic}
 use Rattle.ddm_text.specs.Adds.{Adds, ◌▸◌}
 use Rattle.text_model.specs.Trace.{trace_line, trace_from}

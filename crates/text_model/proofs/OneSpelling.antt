@@ -5,8 +5,8 @@ use Rattle.std.specs.List.{join_with_byte}
 use Rattle.std.specs.Result.{result_ok}
 use Rattle.std.proofs.lemmas.Bool.{eqb-true}
 use Rattle.std.proofs.lemmas.Slice.Eq.{bytes_eq-Decides}
-use Rattle.ddm_types.specs.declared.turns.Turn.{Turn}
-use Rattle.ddm_types.specs.declared.turns.Turn.TheVariants.{Hart, Down, Request, Reply, Leave}
+use Rattle.text_model.specs.DdmTypes.declared.turns.Turn.{Turn}
+use Rattle.text_model.specs.DdmTypes.declared.turns.Turn.TheVariants.{Hart, Down, Request, Reply, Leave}
 use Rattle.ddm_text.specs.declared.reading.NumberRefusal.{NumberRefusal}
 use Rattle.ddm_text.specs.Numbers.{number_of}
 use Rattle.ddm_text.proofs.Spellings.{spelling-number_of}

@@ -1,7 +1,7 @@
 -- A hart's output comes of its own operations.
 use Rattle.std.proofs.Common.{◌≡◌, ℕ, Bool, true, false, cond, nat_eq, List, [], ◌∷◌, ◌++◌, filter, refl, sym, ap, ◌∙◌}
 use Rattle.std.specs.Prelude.{flat_map}
-use Rattle.ddm_types.specs.declared.operations.Op.{Op}
+use Rattle.text_model.specs.DdmTypes.declared.operations.Op.{Op}
 use Rattle.text_model.specs.Report.{put_text, put_text_by, put_texts}
 
 put_texts-filter : (hart : ℕ) (ops : List Op) → put_texts hart (filter (λ (op : Op). nat_eq op.hart hart) ops) ≡ put_texts hart ops

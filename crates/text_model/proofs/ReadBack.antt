@@ -3,7 +3,7 @@ use Rattle.std.proofs.Common.{◌≡◌, ℕ, ◌+◌, ◌<◌, ◌≤◌, cond,
 use Rattle.std.specs.Prelude.{codes, All}
 use Rattle.std.proofs.lemmas.Bool.{lt-ltb}
 use Rattle.std.proofs.lemmas.List.Elements.{All-tail}
-use Rattle.ddm_types.specs.declared.turns.Turn.{Turn}
+use Rattle.text_model.specs.DdmTypes.declared.turns.Turn.{Turn}
 use Rattle.text_model.specs.declared.ScheduleRefusal.TheVariants.{TooManyTurns}
 use Rattle.text_model.specs.Schedule.{ShapeView, turn_text, turn_lines, schedule_text, pieces_at, meaning_of, turn_fault, refusal_of_turn, Reading, at_end, with_turn, unless_refused, line_reading, reading_from, reading_of, finished, schedule_of}
 use Rattle.text_model.specs.ReadBack.{IsTurnOf, IsSmallShape, IsReadBack}

@@ -1,7 +1,7 @@
 -- A text that is read part by part.
 use Rattle.std.proofs.Common.{◌≡◌, ℕ, ◌+◌, ◌≤◌, Bool, true, false, not, cond, ◌&&◌, nat_eq, nat_lt, List, [], ◌∷◌, ◌++◌, length, Option, Some, None, refl, sym, ap, ◌∙◌, subst, length-append, add-zero, arith}
 use Rattle.std.specs.List.{list_all}
-use Rattle.ddm_types.specs.declared.turns.Turn.{Turn}
+use Rattle.text_model.specs.DdmTypes.declared.turns.Turn.{Turn}
 use Rattle.text_model.specs.declared.ScheduleRefusal.{ScheduleRefusal}
 use Rattle.text_model.specs.declared.ScheduleRefusal.TheVariants.{BadTurn}
 use Rattle.text_model.specs.Schedule.{ShapeView, with_byte_before, pieces_at, meaning_of, LineMeaning, turn_line_of, end_line, no_line, refusal_of_turn, Standing, in_line, at_end, refused_at, Reading, nothing_but, with_turn, after_end, unless_refused, line_reading, reading_from, reading_on, last_piece, held_of, with_turns, resumed}

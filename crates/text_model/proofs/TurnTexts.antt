@@ -8,8 +8,8 @@ use Rattle.std.proofs.lemmas.Option.{slice_get_within, get_or_from_slice_get}
 use Rattle.text_model.specs.declared.ScheduleRefusal.{ScheduleRefusal}
 use Rattle.text_model.specs.declared.ScheduleRefusal.TheVariants.{NoSuchHart, NoSuchBus, NoSuchChild}
 use Rattle.text_model.specs.ReadBack.{IsTurnOf, IsSmallShape}
-use Rattle.ddm_types.specs.declared.turns.Turn.{Turn}
-use Rattle.ddm_types.specs.declared.turns.Turn.TheVariants.{Hart, Down, Request, Reply, Leave}
+use Rattle.text_model.specs.DdmTypes.declared.turns.Turn.{Turn}
+use Rattle.text_model.specs.DdmTypes.declared.turns.Turn.TheVariants.{Hart, Down, Request, Reply, Leave}
 use Rattle.ddm_text.proofs.Spellings.{number_of-decimal}
 use Rattle.text_model.specs.Schedule.{ShapeView, turn_fault, child_fault, turn_text, turn_line, turn_lines, schedule_text, pieces_at, number_in, place_in, choice_in, turn_of_words, meaning_of, LineMeaning, turn_line_of, end_line, no_line, hart_turn_of, down_turn_of, request_turn_of, reply_turn_of, leave_turn_of, line_of_turn}
 use Rattle.text_model.specs.Lines.{Lacks}

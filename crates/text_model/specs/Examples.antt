@@ -1,23 +1,23 @@
 -- Worked examples: small schedules, and the report and the trace of small runs.
 use Rattle.std.specs.Prelude.{◌≡◌, ℕ, ◌+◌, ◌/◌, ◌<◌, List, [], ◌∷◌, Some, None, Ok, Err, codes, replicate, take}
-use Rattle.ddm_types.specs.declared.turns.Turn.{Turn}
-use Rattle.ddm_types.specs.declared.turns.Turn.TheVariants.{Hart, Down, Request, Reply, Leave}
-use Rattle.ddm_types.specs.declared.keys.Key.{Key}
-use Rattle.ddm_types.specs.declared.operations.HaltCause.TheVariants.{Exit, FetchOutside}
-use Rattle.ddm_types.specs.declared.operations.Effect.{Effect}
-use Rattle.ddm_types.specs.declared.operations.Effect.TheVariants.{Plain, Put, Load, Store}
-use Rattle.ddm_types.specs.declared.operations.Op.{Op}
-use Rattle.ddm_types.specs.declared.answers.TxKind.{TxKind}
-use Rattle.ddm_types.specs.declared.answers.TxKind.TheVariants.{ReadTx, DataTx, EraseTx, ExclusiveTx, InjectTx, OutTx}
-use Rattle.ddm_types.specs.declared.answers.PendingWhy.TheVariants.{UpErase}
-use Rattle.ddm_types.specs.declared.answers.QueueName.TheVariants.{Down as DownListOf}
-use Rattle.ddm_types.specs.declared.answers.BusyCause.TheVariants.{ItemPending, QueueFull, BufferFull, NoRoom}
-use Rattle.ddm_types.specs.declared.answers.Place.{Place}
-use Rattle.ddm_types.specs.declared.answers.Place.TheVariants.{Parent, Child, Parking, All, Gone, Joined, Readers}
-use Rattle.ddm_types.specs.declared.answers.TurnAnswer.{TurnAnswer}
-use Rattle.ddm_types.specs.declared.answers.TurnAnswer.TheVariants.{Retired, Issued, Waiting, Halted, Granted, Empty, Busy}
-use Rattle.ddm_types.specs.declared.sizes.LeafState.TheVariants.{Shared, Exclusive}
-use Rattle.flat_model.specs.Hart.{HartValue}
+use Rattle.text_model.specs.DdmTypes.declared.turns.Turn.{Turn}
+use Rattle.text_model.specs.DdmTypes.declared.turns.Turn.TheVariants.{Hart, Down, Request, Reply, Leave}
+use Rattle.text_model.specs.DdmTypes.declared.keys.Key.{Key}
+use Rattle.text_model.specs.DdmTypes.declared.operations.HaltCause.TheVariants.{Exit, FetchOutside}
+use Rattle.text_model.specs.DdmTypes.declared.operations.Effect.{Effect}
+use Rattle.text_model.specs.DdmTypes.declared.operations.Effect.TheVariants.{Plain, Put, Load, Store}
+use Rattle.text_model.specs.DdmTypes.declared.operations.Op.{Op}
+use Rattle.text_model.specs.DdmTypes.declared.answers.TxKind.{TxKind}
+use Rattle.text_model.specs.DdmTypes.declared.answers.TxKind.TheVariants.{ReadTx, DataTx, EraseTx, ExclusiveTx, InjectTx, OutTx}
+use Rattle.text_model.specs.DdmTypes.declared.answers.PendingWhy.TheVariants.{UpErase}
+use Rattle.text_model.specs.DdmTypes.declared.answers.QueueName.TheVariants.{Down as DownListOf}
+use Rattle.text_model.specs.DdmTypes.declared.answers.BusyCause.TheVariants.{ItemPending, QueueFull, BufferFull, NoRoom}
+use Rattle.text_model.specs.DdmTypes.declared.answers.Place.{Place}
+use Rattle.text_model.specs.DdmTypes.declared.answers.Place.TheVariants.{Parent, Child, Parking, All, Gone, Joined, Readers}
+use Rattle.text_model.specs.DdmTypes.declared.answers.TurnAnswer.{TurnAnswer}
+use Rattle.text_model.specs.DdmTypes.declared.answers.TurnAnswer.TheVariants.{Retired, Issued, Waiting, Halted, Granted, Empty, Busy}
+use Rattle.text_model.specs.DdmTypes.declared.sizes.LeafState.TheVariants.{Shared, Exclusive}
+use Rattle.text_model.specs.FlatModel.Hart.{HartValue}
 use Rattle.tree_model.specs.declared.CopyPlace.{CopyPlace}
 use Rattle.tree_model.specs.declared.Traffic.{Traffic}
 use Rattle.tree_model.specs.Turns.Machine.{no_traffic}

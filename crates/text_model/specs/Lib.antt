@@ -1,3 +1,8 @@
+pub mod DdmText
+pub mod DdmTypes
+pub mod FlatModel
+pub mod RvDecode
+pub mod TreeModel
 pub mod Schedule
 pub mod Words
 pub mod Trace

@@ -1,14 +1,14 @@
 -- The report of a machine after a run, and its summary.
 use Rattle.std.specs.Prelude.{ℕ, ◌+◌, ◌*◌, nat_eq, List, [], ◌∷◌, ◌++◌, Option, Some, None, codes, decimal, drop, take, flat_map, if◌then◌else◌}
 use Rattle.ddm_text.specs.Hex.{hex2, hex8}
-use Rattle.ddm_types.specs.declared.operations.HaltCause.{HaltCause}
-use Rattle.ddm_types.specs.declared.operations.Effect.{Effect}
-use Rattle.ddm_types.specs.declared.operations.Effect.TheVariants.{Plain, Put, Load, Store, Lr, ScOk, ScFail, Amo}
-use Rattle.ddm_types.specs.declared.operations.Op.{Op}
-use Rattle.ddm_types.specs.declared.keys.Key.{Key}
-use Rattle.ddm_types.specs.declared.sizes.LeafState.{LeafState}
-use Rattle.ddm_types.specs.declared.sizes.LeafState.TheVariants.{Shared, Exclusive, Waiting, Reading, ReadingWaiting}
-use Rattle.flat_model.specs.Hart.{HartValue}
+use Rattle.text_model.specs.DdmTypes.declared.operations.HaltCause.{HaltCause}
+use Rattle.text_model.specs.DdmTypes.declared.operations.Effect.{Effect}
+use Rattle.text_model.specs.DdmTypes.declared.operations.Effect.TheVariants.{Plain, Put, Load, Store, Lr, ScOk, ScFail, Amo}
+use Rattle.text_model.specs.DdmTypes.declared.operations.Op.{Op}
+use Rattle.text_model.specs.DdmTypes.declared.keys.Key.{Key}
+use Rattle.text_model.specs.DdmTypes.declared.sizes.LeafState.{LeafState}
+use Rattle.text_model.specs.DdmTypes.declared.sizes.LeafState.TheVariants.{Shared, Exclusive, Waiting, Reading, ReadingWaiting}
+use Rattle.text_model.specs.FlatModel.Hart.{HartValue}
 use Rattle.tree_model.specs.declared.CopyPlace.{CopyPlace}
 use Rattle.tree_model.specs.declared.CopyPlace.TheVariants.{LeafWay, LeafBuffer, Parking, DownList}
 use Rattle.tree_model.specs.declared.Traffic.{Traffic}

@@ -1,8 +1,8 @@
 -- The texts of a run: from a machine and its turns to the bytes that are printed.
 use Rattle.std.specs.Prelude.{◌≡◌, ℕ, ◌+◌, List, [], ◌∷◌, ◌++◌, map, take, Option, Some, None}
-use Rattle.ddm_types.specs.declared.answers.TurnAnswer.{TurnAnswer}
-use Rattle.ddm_types.specs.declared.turns.Turn.{Turn}
-use Rattle.ddm_types.specs.ItemTable.{ItemRow}
+use Rattle.text_model.specs.DdmTypes.declared.answers.TurnAnswer.{TurnAnswer}
+use Rattle.text_model.specs.DdmTypes.declared.turns.Turn.{Turn}
+use Rattle.text_model.specs.DdmTypes.ItemTable.{ItemRow}
 use Rattle.tree_model.specs.declared.CopyPlace.{CopyPlace}
 use Rattle.tree_model.specs.State.Values.{LeafValue, MachineValue}
 use Rattle.tree_model.specs.Turns.Machine.{run_of, machine_leaves}

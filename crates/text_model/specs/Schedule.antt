@@ -1,8 +1,8 @@
 -- The text of a schedule: a line for each turn, then the line `end`. Each line ends with a line feed.
 use Rattle.std.specs.Prelude.{ℕ, ◌+◌, ◌&&◌, nat_eq, nat_lt, bytes_eq, List, [], ◌∷◌, ◌++◌, length, Option, Some, None, Result, Ok, Err, codes, decimal, flat_map, replicate, slice_get, if◌then◌else◌}
 use Rattle.std.specs.Result.{result_ok}
-use Rattle.ddm_types.specs.declared.turns.Turn.{Turn}
-use Rattle.ddm_types.specs.declared.turns.Turn.TheVariants.{Hart, Down, Request, Reply, Leave}
+use Rattle.text_model.specs.DdmTypes.declared.turns.Turn.{Turn}
+use Rattle.text_model.specs.DdmTypes.declared.turns.Turn.TheVariants.{Hart, Down, Request, Reply, Leave}
 use Rattle.ddm_text.specs.Numbers.{number_of}
 use Rattle.text_model.specs.declared.ScheduleRefusal.{ScheduleRefusal}
 use Rattle.text_model.specs.declared.ScheduleRefusal.TheVariants.{BadTurn, TooManyTurns, NoSuchHart, NoSuchBus, NoSuchChild, NoEnd, AfterEnd}

@@ -1,6 +1,6 @@
 -- The schedule of a seed: two words of the generator PCG XSH RR 64/32 (stream 54) for each turn.
 use Rattle.std.specs.Prelude.{ℕ, zero, suc, ◌+◌, ◌-◌, ◌*◌, ◌/◌, ◌%◌, nat_lt, nat_eq, List, [], ◌∷◌, length, slice_index_or, if◌then◌else◌}
-use Rattle.ddm_types.specs.declared.turns.Turn.{Turn}
+use Rattle.text_model.specs.DdmTypes.declared.turns.Turn.{Turn}
 use Rattle.rand_pcg.specs.Lcg.{Lcg, started, increment_of}
 use Rattle.rand_pcg.specs.Pcg.{pcg32, multiplier_64}
 use Rattle.text_model.specs.Schedule.{ShapeView}

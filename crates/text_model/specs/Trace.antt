@@ -1,7 +1,7 @@
 -- The trace of a run: a line for each turn, with what it answered.
 use Rattle.std.specs.Prelude.{ℕ, ◌+◌, List, [], ◌∷◌, ◌++◌, codes, decimal}
-use Rattle.ddm_types.specs.declared.turns.Turn.{Turn}
-use Rattle.ddm_types.specs.declared.answers.TurnAnswer.{TurnAnswer}
+use Rattle.text_model.specs.DdmTypes.declared.turns.Turn.{Turn}
+use Rattle.text_model.specs.DdmTypes.declared.answers.TurnAnswer.{TurnAnswer}
 use Rattle.text_model.specs.Schedule.{turn_text}
 use Rattle.text_model.specs.Words.{answer_text}
 

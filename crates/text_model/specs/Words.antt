@@ -1,23 +1,23 @@
 -- The words of an answer and of a report: what an instruction did, how a hart stands, what a turn answered.
 use Rattle.std.specs.Prelude.{ℕ, List, ◌++◌, Option, Some, None, codes, decimal}
 use Rattle.ddm_text.specs.Hex.{hex2, hex8}
-use Rattle.ddm_types.specs.declared.operations.HaltCause.{HaltCause}
-use Rattle.ddm_types.specs.declared.operations.HaltCause.TheVariants.{Exit, Illegal, Breakpoint, UnknownCall, MisalignedTarget, FetchOutside, MisalignedAccess, LoadOutside, StoreOutside}
-use Rattle.ddm_types.specs.declared.operations.Effect.{Effect}
-use Rattle.ddm_types.specs.declared.operations.Effect.TheVariants.{Plain, Put, Load, Store, Lr, ScOk, ScFail, Amo}
-use Rattle.ddm_types.specs.declared.answers.TxKind.{TxKind}
-use Rattle.ddm_types.specs.declared.answers.TxKind.TheVariants.{ReadTx, DataTx, EraseTx, ExclusiveTx, InjectTx, OutTx}
-use Rattle.ddm_types.specs.declared.answers.PendingWhy.{PendingWhy}
-use Rattle.ddm_types.specs.declared.answers.PendingWhy.TheVariants.{Local, UpRead, UpErase, Answering, InDown}
-use Rattle.ddm_types.specs.declared.answers.QueueName.{QueueName}
-use Rattle.ddm_types.specs.declared.answers.QueueName.TheVariants.{Down, Requests, Replies, LeafReplies}
-use Rattle.ddm_types.specs.declared.answers.BusyCause.{BusyCause}
-use Rattle.ddm_types.specs.declared.answers.BusyCause.TheVariants.{ItemPending, QueueFull, BufferFull, ParkingFull, NoRoom}
-use Rattle.ddm_types.specs.declared.answers.Place.{Place}
-use Rattle.ddm_types.specs.declared.answers.Place.TheVariants.{Parent, Child, Parking, All, Gone, Joined, Readers}
-use Rattle.ddm_types.specs.declared.answers.LogEntry.{LogEntry}
-use Rattle.ddm_types.specs.declared.answers.TurnAnswer.{TurnAnswer}
-use Rattle.ddm_types.specs.declared.answers.TurnAnswer.TheVariants.{Retired, Issued, Waiting, Halted, Granted, Empty, Busy}
+use Rattle.text_model.specs.DdmTypes.declared.operations.HaltCause.{HaltCause}
+use Rattle.text_model.specs.DdmTypes.declared.operations.HaltCause.TheVariants.{Exit, Illegal, Breakpoint, UnknownCall, MisalignedTarget, FetchOutside, MisalignedAccess, LoadOutside, StoreOutside}
+use Rattle.text_model.specs.DdmTypes.declared.operations.Effect.{Effect}
+use Rattle.text_model.specs.DdmTypes.declared.operations.Effect.TheVariants.{Plain, Put, Load, Store, Lr, ScOk, ScFail, Amo}
+use Rattle.text_model.specs.DdmTypes.declared.answers.TxKind.{TxKind}
+use Rattle.text_model.specs.DdmTypes.declared.answers.TxKind.TheVariants.{ReadTx, DataTx, EraseTx, ExclusiveTx, InjectTx, OutTx}
+use Rattle.text_model.specs.DdmTypes.declared.answers.PendingWhy.{PendingWhy}
+use Rattle.text_model.specs.DdmTypes.declared.answers.PendingWhy.TheVariants.{Local, UpRead, UpErase, Answering, InDown}
+use Rattle.text_model.specs.DdmTypes.declared.answers.QueueName.{QueueName}
+use Rattle.text_model.specs.DdmTypes.declared.answers.QueueName.TheVariants.{Down, Requests, Replies, LeafReplies}
+use Rattle.text_model.specs.DdmTypes.declared.answers.BusyCause.{BusyCause}
+use Rattle.text_model.specs.DdmTypes.declared.answers.BusyCause.TheVariants.{ItemPending, QueueFull, BufferFull, ParkingFull, NoRoom}
+use Rattle.text_model.specs.DdmTypes.declared.answers.Place.{Place}
+use Rattle.text_model.specs.DdmTypes.declared.answers.Place.TheVariants.{Parent, Child, Parking, All, Gone, Joined, Readers}
+use Rattle.text_model.specs.DdmTypes.declared.answers.LogEntry.{LogEntry}
+use Rattle.text_model.specs.DdmTypes.declared.answers.TurnAnswer.{TurnAnswer}
+use Rattle.text_model.specs.DdmTypes.declared.answers.TurnAnswer.TheVariants.{Retired, Issued, Waiting, Halted, Granted, Empty, Busy}
 
 -- what an instruction did
 unfoldable pub effect_text : Effect → List ℕ

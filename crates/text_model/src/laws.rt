@@ -1,10 +1,10 @@
 //! What holds of all schedules, as theorems: each clause is one, and there is nothing to run.
 
 ghost use Rattle.std.specs.Prelude.{◌≡◌, ℕ, ◌+◌, ◌<◌, ◌≤◌, List, [], ◌∷◌, ◌++◌, length, filter, All};
-ghost use Rattle.ddm_types.specs.declared.turns.Turn.{Turn};
+ghost use Rattle.text_model.specs.DdmTypes.declared.turns.Turn.{Turn};
 ghost use Rattle.text_model.specs.Schedule.{ShapeView, meaning_of, Reading, in_line, refused_at, nothing_but, schedule_of, schedule_text, reading_on, held_of, resumed, reading_of_line};
-ghost use Rattle.ddm_types.specs.declared.operations.Op.{Op};
-ghost use Rattle.flat_model.specs.Legal.{is_of};
+ghost use Rattle.text_model.specs.DdmTypes.declared.operations.Op.{Op};
+ghost use Rattle.text_model.specs.FlatModel.Legal.{is_of};
 ghost use Rattle.text_model.specs.Report.{put_texts};
 ghost use Rattle.text_model.specs.ReadBack.{IsTurnOf, IsSmallShape, IsReadBack, GivesTurnsOf};
 ghost use Rattle.text_model.specs.Lines.{Lacks};

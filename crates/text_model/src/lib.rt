@@ -3,6 +3,10 @@
 
 pub mod examples;
 pub mod laws;
+pub mod of_ddm_text;
+pub mod of_ddm_types;
+pub mod of_rv_decode;
+pub mod of_tree_model;
 
 /// Why the text of a schedule is refused.
 #[derive(Clone, Copy, Debug, PartialEq, Eq)]

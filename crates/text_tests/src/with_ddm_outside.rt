@@ -1,10 +1,10 @@
 ghost use Rattle.std.specs.Prelude.{◌≡◌, ◌<◌, ◌≤◌, All, length, IfOk};
 
-use ddm_outside::{
+use crate::of_ddm_outside::{
     Failed, FileShelf, MemoryShelf, MemorySink, NamedFile, Shelf, Sink, SoundShelf, SoundSink,
     StdSink,
 };
-use ddm_text::Text;
+use crate::of_ddm_text::Text;
 use std::alloc::Global;
 use std::fs;
 use std::test::Fail;

@@ -1,4 +1,4 @@
-use ddm_text::{
+use crate::of_ddm_text::{
     LineCut, NumberRefusal, Text, cut_line, push_decimal, push_hex2, push_hex8, read_decimal,
 };
 use std::test::Fail;

@@ -2,7 +2,7 @@ ghost use Rattle.std.specs.Prelude.{◌≡◌, ◌≤◌, All, IfOk, length};
 ghost use Rattle.elf_load.specs.ImageRule.{FitsMemory};
 ghost use Rattle.elf_load.specs.Written.{segment_bytes};
 
-use ddm_types::NoMemory;
+use crate::of_ddm_types::NoMemory;
 use elf_load::*;
 use std::alloc::Global;
 use std::test::Fail;

@@ -1,14 +1,14 @@
-use ddm_outside::MemorySink;
-use ddm_types::{
+use crate::of_ddm_outside::MemorySink;
+use crate::of_ddm_types::{
     BusNo, ChildNo, Effect, HaltCause, HartNo, ItemId, Key, LeafNo, LeafState, LogEntry, Op, Place,
     Turn, TurnAnswer, TxKind,
 };
+use crate::of_tree_model::{CopyPlace, Traffic};
 use report::{
     TracePieces, memory_line, push_bus_line, push_hart_line, push_item_line, push_op_line,
     push_trace, trace_text, usage_line, write_all,
 };
 use std::test::Fail;
-use tree_model::{CopyPlace, Traffic};
 
 #[test]
 fn lines_of_a_report(rt: HostRuntime) -> Result<(), Fail> {

@@ -1,11 +1,11 @@
-use ddm_types::{BusNo, ChildNo, HartNo, Turn};
+use crate::of_ddm_types::{BusNo, ChildNo, HartNo, Turn};
+use crate::of_tree_config::{Shape, read_tree};
 use schedule_log::{
     FeedError, ScheduleReader, ScheduleRefusal, SeededTurns, seeded, seeded_text, write_schedule,
 };
 use std::alloc::Global;
 use std::process::Abort;
 use std::test::Fail;
-use tree_config::{Shape, read_tree};
 
 // One bus with two leaves.
 const TWO_LEAVES: &str =

@@ -1,8 +1,8 @@
-use ddm_types::BusNo;
+use crate::of_ddm_types::BusNo;
+use crate::of_tree_config::{TreeKey, TreeRefusal, read_tree};
 use std::alloc::Global;
 use std::process::Abort;
 use std::test::Fail;
-use tree_config::{TreeKey, TreeRefusal, read_tree};
 
 const PLAIN: &str =
     "shape = \"((LL)(L))\"\nways = 4\nsets = 1\nbuffer = 2\nparking = 3\ndown = 16\nrequests = 17\nreplies = 18\nstack_base = 196608\nstack_bytes = 16\n";

@@ -1,4 +1,4 @@
-use ddm_types::Start;
+use crate::of_ddm_types::Start;
 use elf_load::load;
 use std::test::Fail;
 use witness_check::*;

@@ -1,8 +1,8 @@
-use ddm_types::{Effect, HartNo, Key, NoMemory, Op};
-use operation_list::Operations;
+use crate::of_ddm_types::{Effect, HartNo, Key, NoMemory, Op};
+use crate::of_operation_list::Operations;
+use crate::of_witness_order::{Ordered, Witness};
 use std::alloc::Global;
 use std::test::Fail;
-use witness_order::{Ordered, Witness};
 
 // An operation of a hart in a tree of two levels of buses.
 fn op(hart: u32, numbers: [u32; 5]) -> Op {

@@ -4,14 +4,14 @@
 use Rattle.std.proofs.Common.{◌≡◌, ℕ, Bool, true, false, List, [], ◌∷◌, ◌++◌, map, length, Option, Some, None, refl, sym, ap, subst, ◌∙◌}
 use Rattle.std.specs.Prelude.{nat_eq, nat_lt, is_some, ◌||◌, ◌&&◌, not, if◌then◌else◌}
 use Rattle.std.proofs.lemmas.List.{length-map, map-append}
-use Rattle.ddm_types.specs.declared.answers.PendingWhy.{PendingWhy}
-use Rattle.ddm_types.specs.declared.answers.QueueName.{QueueName}
-use Rattle.ddm_types.specs.declared.answers.BusyCause.{BusyCause}
-use Rattle.ddm_types.specs.declared.answers.BusyCause.TheVariants.{ItemPending, NoRoom, ParkingFull, QueueFull}
-use Rattle.ddm_types.specs.declared.answers.TxKind.{TxKind}
-use Rattle.ddm_types.specs.declared.answers.TxKind.TheVariants.{ReadTx, DataTx, EraseTx, ExclusiveTx, InjectTx, OutTx}
-use Rattle.ddm_types.specs.declared.sizes.Hold.{Hold}
-use Rattle.ddm_types.specs.declared.keys.Stamp.{Stamp}
+use Rattle.time_laws.specs.DdmTypes.declared.answers.PendingWhy.{PendingWhy}
+use Rattle.time_laws.specs.DdmTypes.declared.answers.QueueName.{QueueName}
+use Rattle.time_laws.specs.DdmTypes.declared.answers.BusyCause.{BusyCause}
+use Rattle.time_laws.specs.DdmTypes.declared.answers.BusyCause.TheVariants.{ItemPending, NoRoom, ParkingFull, QueueFull}
+use Rattle.time_laws.specs.DdmTypes.declared.answers.TxKind.{TxKind}
+use Rattle.time_laws.specs.DdmTypes.declared.answers.TxKind.TheVariants.{ReadTx, DataTx, EraseTx, ExclusiveTx, InjectTx, OutTx}
+use Rattle.time_laws.specs.DdmTypes.declared.sizes.Hold.{Hold}
+use Rattle.time_laws.specs.DdmTypes.declared.keys.Stamp.{Stamp}
 use Rattle.tree_model.specs.declared.BusTurn.{BusTurn}
 use Rattle.tree_model.specs.State.Lists.{map_from, find_from, first_given, first_some}
 use Rattle.tree_model.specs.State.States.{is_held, is_exclusive, is_shared}

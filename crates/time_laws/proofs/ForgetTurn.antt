@@ -4,15 +4,15 @@
 use Rattle.std.proofs.Common.{◌≡◌, ℕ, ◌+◌, Bool, true, false, List, [], ◌∷◌, Option, Some, None, refl, sym, ap, ◌∙◌}
 use Rattle.std.specs.Prelude.{option_map, ◌||◌, if◌then◌else◌}
 use Rattle.std.proofs.Math.Seq.{map-set_same}
-use Rattle.ddm_types.specs.declared.answers.TurnAnswer.{TurnAnswer}
-use Rattle.ddm_types.specs.declared.operations.HaltCause.{HaltCause}
-use Rattle.ddm_types.specs.declared.sizes.LeafState.{LeafState}
-use Rattle.ddm_types.specs.declared.turns.Turn.{Turn}
-use Rattle.ddm_types.specs.declared.keys.Key.{Key}
-use Rattle.ddm_types.specs.ItemTable.{ItemTable}
-use Rattle.ddm_types.specs.CodeMap.{CodeWord}
-use Rattle.flat_model.specs.declared.Ask.{Ask}
-use Rattle.flat_model.specs.Hart.{ask_of}
+use Rattle.time_laws.specs.DdmTypes.declared.answers.TurnAnswer.{TurnAnswer}
+use Rattle.time_laws.specs.DdmTypes.declared.operations.HaltCause.{HaltCause}
+use Rattle.time_laws.specs.DdmTypes.declared.sizes.LeafState.{LeafState}
+use Rattle.time_laws.specs.DdmTypes.declared.turns.Turn.{Turn}
+use Rattle.time_laws.specs.DdmTypes.declared.keys.Key.{Key}
+use Rattle.time_laws.specs.DdmTypes.ItemTable.{ItemTable}
+use Rattle.time_laws.specs.DdmTypes.CodeMap.{CodeWord}
+use Rattle.time_laws.specs.FlatModel.declared.Ask.{Ask}
+use Rattle.time_laws.specs.FlatModel.Hart.{ask_of}
 use Rattle.tree_model.specs.declared.Traffic.{Traffic}
 use Rattle.tree_model.specs.State.Values.{LeafValue, DirValue, Node, Nodes, leaf_node, dir_node, no_nodes, more_nodes, nodes, children, MachineValue, root_of}
 use Rattle.tree_model.specs.State.Leaf.{free_way, waiting_item}

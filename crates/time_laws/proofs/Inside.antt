@@ -2,10 +2,10 @@
 -- Letters: n is a child, v a leaf, d a directory over the children ns, x is an item, s a stamp.
 use Rattle.std.proofs.Common.{◌≡◌, ℕ, Bool, true, false, List, Option, None, refl}
 use Rattle.std.specs.Prelude.{nat_eq, if◌then◌else◌}
-use Rattle.ddm_types.specs.declared.answers.TxKind.{TxKind}
-use Rattle.ddm_types.specs.declared.answers.TxKind.TheVariants.{ReadTx, DataTx, EraseTx, ExclusiveTx, InjectTx, OutTx}
-use Rattle.ddm_types.specs.declared.keys.Stamp.{Stamp}
-use Rattle.flat_model.specs.Hart.{HartValue}
+use Rattle.time_laws.specs.DdmTypes.declared.answers.TxKind.{TxKind}
+use Rattle.time_laws.specs.DdmTypes.declared.answers.TxKind.TheVariants.{ReadTx, DataTx, EraseTx, ExclusiveTx, InjectTx, OutTx}
+use Rattle.time_laws.specs.DdmTypes.declared.keys.Stamp.{Stamp}
+use Rattle.time_laws.specs.FlatModel.Hart.{HartValue}
 use Rattle.tree_model.specs.State.Values.{Node, Nodes, leaf_node, dir_node}
 use Rattle.tree_model.specs.State.Leaf.{leaf_hold, leaf_room, leaf_lose, leaf_take_data, leaf_take_exclusive, leaf_answer, leaf_take_inject, unreserved}
 use Rattle.tree_model.specs.State.Child.{child_full_for, child_lose, child_take_data, child_take_exclusive, child_answer, child_take_inject, child_request_taken, child_reply_taken, child_give_up}

@@ -2,7 +2,7 @@
 -- Letters: R relates the child n of the one bus to the child m at the same place i of the other.
 use Rattle.std.proofs.Common.{◌≡◌, ℕ, zero, suc, ◌+◌, Bool, true, false, List, [], ◌∷◌, Option, Some, refl, ap}
 use Rattle.std.specs.Prelude.{nat_eq, if◌then◌else◌}
-use Rattle.ddm_types.specs.declared.keys.Stamp.{Stamp}
+use Rattle.time_laws.specs.DdmTypes.declared.keys.Stamp.{Stamp}
 use Rattle.tree_model.specs.State.Lists.{map_from, find_from, first_given, first_some}
 use Rattle.tree_model.specs.State.Values.{Note, Node}
 use Rattle.tree_model.specs.State.Directory.{is_reader}

@@ -2,7 +2,7 @@
 -- children of two buses.
 -- Letters: f is the change, n a child, m the child in its place, x an item, s and r are stamps.
 use Rattle.std.proofs.Common.{◌≡◌, ℕ, ◌+◌, List, [], ◌∷◌, map, refl, ap, ◌∙◌}
-use Rattle.ddm_types.specs.declared.keys.Stamp.{Stamp}
+use Rattle.time_laws.specs.DdmTypes.declared.keys.Stamp.{Stamp}
 use Rattle.tree_model.specs.declared.BusTurn.{BusTurn}
 use Rattle.tree_model.specs.State.Lists.{map_from}
 use Rattle.tree_model.specs.State.Values.{DirValue, Node}

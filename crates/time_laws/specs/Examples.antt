@@ -1,13 +1,13 @@
 -- A worked example: hart 0 is at a store and hart 1 at a load of one word. Each takes the item from the other before the other's
 -- hart has its turn, and six turns later the machine is where it was, but for its time.
 use Rattle.std.specs.Prelude.{◌≡◌, ℕ, true, false, [], ◌∷◌, replicate, Option, Some, None}
-use Rattle.ddm_types.specs.declared.answers.TurnAnswer.{TurnAnswer}
-use Rattle.ddm_types.specs.declared.operations.Effect.{Effect}
-use Rattle.ddm_types.specs.declared.operations.Op.{Op}
-use Rattle.ddm_types.specs.declared.sizes.Hold.{Hold}
-use Rattle.ddm_types.specs.declared.sizes.LeafState.{LeafState}
-use Rattle.ddm_types.specs.declared.turns.Turn.{Turn}
-use Rattle.ddm_types.specs.Keys.{key_zero, stamp_zero}
+use Rattle.time_laws.specs.DdmTypes.declared.answers.TurnAnswer.{TurnAnswer}
+use Rattle.time_laws.specs.DdmTypes.declared.operations.Effect.{Effect}
+use Rattle.time_laws.specs.DdmTypes.declared.operations.Op.{Op}
+use Rattle.time_laws.specs.DdmTypes.declared.sizes.Hold.{Hold}
+use Rattle.time_laws.specs.DdmTypes.declared.sizes.LeafState.{LeafState}
+use Rattle.time_laws.specs.DdmTypes.declared.turns.Turn.{Turn}
+use Rattle.time_laws.specs.DdmTypes.Keys.{key_zero, stamp_zero}
 use Rattle.tree_model.specs.State.Values.{WayValue, LeafValue, DirValue, no_note, leaf_node, no_nodes, more_nodes, MachineValue}
 use Rattle.tree_model.specs.Turns.Machine.{no_traffic, run_of, turn_of}
 use Rattle.time_laws.specs.Forget.{forget_answer, puts_of, Alike}

@@ -2,10 +2,10 @@
 -- Letters: v is a leaf, d a directory over the children ns, e an entry of its down list, m and n are machines.
 -- To be believed with the laws: it is what they speak of.
 use Rattle.std.specs.Prelude.{◌≡◌, ℕ, nat_eq, List, [], ◌∷◌, map, flat_map, if◌then◌else◌}
-use Rattle.ddm_types.specs.declared.answers.TurnAnswer.{TurnAnswer}
-use Rattle.ddm_types.specs.declared.operations.Effect.{Effect}
-use Rattle.ddm_types.specs.declared.operations.Op.{Op}
-use Rattle.ddm_types.specs.Keys.{stamp_zero, key_zero}
+use Rattle.time_laws.specs.DdmTypes.declared.answers.TurnAnswer.{TurnAnswer}
+use Rattle.time_laws.specs.DdmTypes.declared.operations.Effect.{Effect}
+use Rattle.time_laws.specs.DdmTypes.declared.operations.Op.{Op}
+use Rattle.time_laws.specs.DdmTypes.Keys.{stamp_zero, key_zero}
 use Rattle.tree_model.specs.declared.Traffic.{Traffic}
 use Rattle.tree_model.specs.State.Values.{DownValue, LeafValue, DirValue, Node, Nodes, leaf_node, dir_node, no_nodes, more_nodes, MachineValue}
 use Rattle.tree_model.specs.Turns.Machine.{no_traffic, machine_leaves}

@@ -1,3 +1,5 @@
+pub mod DdmTypes
+pub mod FlatModel
 pub mod Forget
 pub mod Blind
 pub mod Examples

@@ -1,9 +1,9 @@
 //! What time can't change, as theorems: each clause is one, and there is nothing to run.
 
 ghost use Rattle.std.specs.Prelude.{◌≡◌, ℕ, Bool, List, ◌++◌, map};
-ghost use Rattle.ddm_types.specs.declared.keys.Stamp.{Stamp};
-ghost use Rattle.ddm_types.specs.declared.turns.Turn.{Turn};
-ghost use Rattle.flat_model.specs.Hart.{HartValue};
+ghost use Rattle.time_laws.specs.DdmTypes.declared.keys.Stamp.{Stamp};
+ghost use Rattle.time_laws.specs.DdmTypes.declared.turns.Turn.{Turn};
+ghost use Rattle.time_laws.specs.FlatModel.Hart.{HartValue};
 ghost use Rattle.tree_model.specs.declared.BusTurn.{BusTurn};
 ghost use Rattle.tree_model.specs.State.Lists.{map_from};
 ghost use Rattle.tree_model.specs.State.Values.{DirValue, Node, Nodes, MachineValue};

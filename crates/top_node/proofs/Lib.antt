@@ -1,1 +1,3 @@
+pub mod DirectoryCrate
+pub mod StateReading
 mod NoEntries

@@ -1,9 +1,9 @@
 -- A list without room: its words say that it has no entries, or are refused.
 use Rattle.std.proofs.Common.{◌≡◌, ◌∙◌, ap, ℕ, ◌≤◌, List, [], Result, Ok, Err, arith}
-use Rattle.state_reading.specs.declared.StateRefusal.{StateRefusal}
-use Rattle.state_reading.specs.Reading.{Read, times}
-use Rattle.state_reading.specs.Parts.{listed, word_to}
-use Rattle.state_reading.proofs.Steps.{went_on, refused}
+use Rattle.top_node.specs.StateReading.declared.StateRefusal.{StateRefusal}
+use Rattle.top_node.specs.StateReading.Reading.{Read, times}
+use Rattle.top_node.specs.StateReading.Parts.{listed, word_to}
+use Rattle.top_node.proofs.StateReading.Steps.{went_on, refused}
 
 module _ {A : Type 0} (step : List A → ℕ → List ℕ → Result (Read (List A)) StateRefusal) where
   pub no_entries : (k : ℕ) (ws : List ℕ) (w j : ℕ) (vs : List ℕ) → w ≤ 0 → word_to 0 k ws ≡ Ok (record { value = w; at = j; rest = vs }) → listed 0 step k ws ≡ Ok (record { value = []; at = j; rest = vs })

@@ -1,1 +1,9 @@
+pub mod DdmText
+pub mod DdmTypes
+pub mod DirectoryCrate
+pub mod ItemStates
+pub mod StateReading
+pub mod StateWords
+pub mod TreeModel
 pub mod TopParts
+pub mod Opened

@@ -1,9 +1,9 @@
 -- What the top's value is of the parts that keep it, and what these have to be.
 -- To be believed: contracts of code speak of it.
 use Rattle.std.specs.Prelude.{◌≡◌, ℕ, ◌<◌, ◌^◌, List, []}
-use Rattle.ddm_types.specs.Keys.{stamp_zero}
-use Rattle.tree_model.specs.State.Values.{DownValue, DirItem, DirValue}
-use Rattle.tree_model.specs.Start.Nodes.{top_sizes}
+use Rattle.top_node.specs.DdmTypes.Keys.{stamp_zero}
+use Rattle.top_node.specs.TreeModel.State.Values.{DownValue, DirItem, DirValue}
+use Rattle.top_node.specs.TreeModel.Start.Nodes.{top_sizes}
 
 -- the top with this of each item, this down list and its room, and so many grants
 abbrev pub top_value : ℕ → List DirItem → List DownValue → ℕ → ℕ → DirValue

@@ -1,6 +1,6 @@
 use crate::TopState;
-use bus_judging::{ParentFacts, RequestFacts};
-use ddm_types::ItemId;
+use crate::of_bus_judging::{ParentFacts, RequestFacts};
+use crate::of_ddm_types::ItemId;
 use directory::{JudgedParent, down_facts};
 
 // `let _ = &self.count` lets a proof see the fields, and does nothing.

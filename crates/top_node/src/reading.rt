@@ -1,9 +1,9 @@
 ghost use Rattle.std.specs.Prelude.{◌<◌, ◌≤◌, ◌^◌, drop, length, IfOk};
-ghost use Rattle.state_reading.specs.Gives.{IsRead};
-ghost use Rattle.state_reading.specs.Parts.{read_dir};
+ghost use Rattle.top_node.specs.StateReading.Gives.{IsRead};
+ghost use Rattle.top_node.specs.StateReading.Parts.{read_dir};
 
+use crate::of_state_reading::{StateRefusal, count_word, stamp_words, word_to};
 use crate::state::TopState;
-use state_reading::{StateRefusal, count_word, stamp_words, word_to};
 
 impl<const WORDS: usize> TopState<WORDS> {
     /// Reads its words, from number `from` on, in place of all that it has, where bus 0 has so many children. Gives the number of

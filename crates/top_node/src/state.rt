@@ -1,17 +1,17 @@
 ghost use Rattle.std.specs.Prelude.{◌≡◌, ◌<◌, ◌^◌, ◌++◌, ◌∷◌, [], false, length, option_copied, slice_get, IfOk, if◌then◌else◌};
-ghost use Rattle.tree_model.specs.State.Values.{DirValue};
-ghost use Rattle.tree_model.specs.State.Directory.{down_full, in_down, is_parked, parked_place, place_released, pushed_reply, replies_full, with_parked};
-ghost use Rattle.tree_model.specs.Start.Nodes.{new_top, top_sizes};
-ghost use Rattle.item_states.specs.Parts.{CanPark};
+ghost use Rattle.top_node.specs.TreeModel.State.Values.{DirValue};
+ghost use Rattle.top_node.specs.TreeModel.State.Directory.{down_full, in_down, is_parked, parked_place, place_released, pushed_reply, replies_full, with_parked};
+ghost use Rattle.top_node.specs.TreeModel.Start.Nodes.{new_top, top_sizes};
+ghost use Rattle.top_node.specs.ItemStates.Parts.{CanPark};
 
-use ddm_types::{
+use crate::of_ddm_types::{
     BusNo, ChildNo, Hold, ItemId, NoMemory, PendingWhy, QueueName, Stamp, TxKind, Words,
 };
+use crate::of_item_states::{DownEntry, Parent, ParentList};
+use crate::of_tx_queue::Queue;
 use directory::{ItemTable, pending_by};
-use item_states::{DownEntry, Parent, ParentList};
 use std::alloc::Global;
 use std::marker::Model;
-use tx_queue::Queue;
 
 /// The top, without the children below it. It sends and parks nothing.
 #[derive(Drop)]
@@ -23,7 +23,7 @@ pub struct TopState<const WORDS: usize> {
 
 impl<const WORDS: usize> Model for TopState<WORDS> {
     ghost use Rattle.std.specs.Prelude.{length};
-    ghost use Rattle.tree_model.specs.State.Values.{DirValue};
+    ghost use Rattle.top_node.specs.TreeModel.State.Values.{DirValue};
     ghost use Rattle.top_node.specs.TopParts.{top_value, IsTop};
 
     ghost Value = { DirValue };
@@ -125,7 +125,7 @@ impl<const WORDS: usize> Parent<WORDS> for TopState<WORDS> {
         self.kept.answering(item)
     }
 
-    #[tactic(auto, unfolding(tree_model::specs::State::Directory::pending))]
+    #[tactic(auto, unfolding(crate::specs::Opened::pending))]
     fn pending(&self, item: ItemId) -> Option<PendingWhy> {
         pending_by(
             self.kept.note(item),
@@ -138,7 +138,7 @@ impl<const WORDS: usize> Parent<WORDS> for TopState<WORDS> {
         self.down.first().copied()
     }
 
-    #[tactic(auto, unfolding(tree_model::specs::State::Leaf::words_of_item))]
+    #[tactic(auto, unfolding(crate::specs::Opened::words_of_item))]
     fn parked(&self, _item: ItemId) -> Option<Words<WORDS>> {
         let _ = &self.count;
         None

@@ -1,11 +1,11 @@
 ghost use Rattle.std.specs.Prelude.{OnErr, OnOk};
-ghost use Rattle.ddm_text.specs.Adds.{Adds};
-ghost use Rattle.state_words.specs.Begins.{Begins};
-ghost use Rattle.state_words.specs.Parts.{dir_words};
+ghost use Rattle.top_node.specs.DdmText.Adds.{Adds};
+ghost use Rattle.top_node.specs.StateWords.Begins.{Begins};
+ghost use Rattle.top_node.specs.StateWords.Parts.{dir_words};
 
+use crate::of_ddm_types::NoMemory;
+use crate::of_state_words::push_words;
 use crate::state::TopState;
-use ddm_types::NoMemory;
-use state_words::push_words;
 
 impl<const WORDS: usize> TopState<WORDS> {
     /// Puts its words at the end. Its epoch is 0; it has no requests, replies and parked copies, and keeps no place.

@@ -1,3 +1,5 @@
+pub mod DdmTypes
+pub mod TreeModel
 pub mod ShapeText
 pub mod ShapeGrammar
 pub mod ShapeScan

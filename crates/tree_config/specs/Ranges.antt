@@ -1,6 +1,6 @@
 -- The ranges of a tree's numbers.
 use Rattle.std.specs.Prelude.{ℕ, ◌+◌, ◌*◌, ◌%◌, ◌≤◌, Bool, false, ◌&&◌, ◌||◌, nat_eq, nat_le, IsTrue}
-use Rattle.ddm_types.specs.declared.sizes.TreeSizes.{TreeSizes}
+use Rattle.tree_config.specs.DdmTypes.declared.sizes.TreeSizes.{TreeSizes}
 use Rattle.tree_model.specs.Start.Sources.{TreeValue, leaf_count}
 use Rattle.tree_config.specs.declared.refusal.TreeKey.{TreeKey}
 use Rattle.tree_config.specs.declared.refusal.TreeKey.TheVariants as key

@@ -6,7 +6,7 @@ use Rattle.std.specs.Cmp.Lexicographic.{slice_cmp}
 use Rattle.std.specs.Str.{is_utf8}
 use Rattle.toml.specs.Data.{Data, as_integer, as_str, Members, no_members, member, get_member}
 use Rattle.toml.specs.Parse.{parse_document}
-use Rattle.ddm_types.specs.declared.sizes.TreeSizes.{TreeSizes}
+use Rattle.tree_config.specs.DdmTypes.declared.sizes.TreeSizes.{TreeSizes}
 use Rattle.tree_model.specs.Start.Sources.{TreeValue}
 use Rattle.tree_config.specs.declared.refusal.TreeKey.{TreeKey}
 use Rattle.tree_config.specs.declared.refusal.TreeKey.TheVariants as key

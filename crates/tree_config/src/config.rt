@@ -1,8 +1,8 @@
 ghost use Rattle.std.specs.Prelude.{◌≡◌};
 ghost use Rattle.tree_config.specs.Ranges.{IsInRange};
 
+use crate::of_ddm_types::TreeSizes;
 use crate::shape::Shape;
-use ddm_types::TreeSizes;
 use std::marker::Model;
 
 /// A tree: its shape, the ways and sets of a leaf's memory, the places of its lists, its stacks and the bytes of an item.

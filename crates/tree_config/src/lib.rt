@@ -5,6 +5,7 @@ mod config;
 mod grammar;
 mod keys;
 mod numbers;
+pub mod of_ddm_types;
 mod reading;
 mod refusal;
 mod shape;

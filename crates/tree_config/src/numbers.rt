@@ -6,8 +6,8 @@ ghost use Rattle.tree_config.specs.Ranges.{AreSizes, highest_end, is_allowed, st
 ghost use Rattle.tree_config.specs.TreeFile.{in_range, item_bytes_at, key_name, number, number_at, sizes_at, stack_bytes_at};
 
 use crate::keys::is_allowed_number;
+use crate::of_ddm_types::TreeSizes;
 use crate::refusal::{TreeKey, TreeRefusal};
-use ddm_types::TreeSizes;
 use toml::{Table, Value};
 
 /// Where no stack goes past.

@@ -1,8 +1,8 @@
 ghost use Rattle.std.specs.Prelude.{◌≡◌};
 ghost use Rattle.tree_config.specs.declared.refusal.TreeRefusal.TheVariants.{NoMemory};
 
+use crate::of_ddm_types::NoMemory;
 use ddm_text::Text;
-use ddm_types::NoMemory;
 use thiserror::Error;
 
 /// The keys of a tree file, in the order in which they are judged.

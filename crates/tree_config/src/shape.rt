@@ -1,7 +1,7 @@
 ghost use Rattle.std.specs.Prelude.{◌≡◌, ◌≤◌, ◌<◌, ◌^◌, ◌↔◌, Some, IfSome, IsNone, IsTrue, length, slice_get, sum};
 ghost use Rattle.tree_config.specs.Levels.{IsShape, is_width, leaves_of, widths_of};
 
-use ddm_types::BusNo;
+use crate::of_ddm_types::BusNo;
 use std::marker::Model;
 
 /// The buses and leaves of a tree. A contract sees it as its levels of buses, from the top, and each level as the

@@ -4,7 +4,7 @@ ghost use Rattle.tree_config.specs.Lists.{lists_of};
 ghost use Rattle.tree_config.specs.ShapeText.{leaf_byte};
 ghost use Rattle.tree_config.specs.ShapeScan.{closed, count_after, depth_after, depths_in, ends_group, is_whole, open_count, place_from, progress_after, widths_in, with_if};
 
-use ddm_types::NoMemory;
+use crate::of_ddm_types::NoMemory;
 use std::alloc::Global;
 
 /// How far the text of a shape is read.

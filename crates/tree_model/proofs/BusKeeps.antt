@@ -1,7 +1,7 @@
 -- One turn of a bus, whatever the state: its parent keeps its bus, level and sizes, and each child what no turn of its bus
 -- changes. By rows.
 use Rattle.std.proofs.Common.{◌≡◌, ℕ, Bool, true, false, List, map, refl, ap}
-use Rattle.ddm_types.specs.declared.keys.Stamp.{Stamp}
+use Rattle.tree_model.specs.DdmTypes.declared.keys.Stamp.{Stamp}
 use Rattle.tree_model.specs.declared.BusTurn.{BusTurn}
 use Rattle.tree_model.specs.State.Lists.{map_from}
 use Rattle.tree_model.specs.State.States.{is_exclusive}

@@ -1,8 +1,8 @@
 -- What a bus tells a child, or takes from it, keeps all below within their rooms, where the list that it needs has a place.
 use Rattle.std.proofs.Common.{◌≡◌, ℕ, true, false, List, None, refl}
 use Rattle.std.specs.Prelude.{◌&&◌, not}
-use Rattle.ddm_types.specs.declared.answers.TxKind.TheVariants.{ReadTx, DataTx, EraseTx, ExclusiveTx, InjectTx}
-use Rattle.ddm_types.specs.declared.keys.Stamp.{Stamp}
+use Rattle.tree_model.specs.DdmTypes.declared.answers.TxKind.TheVariants.{ReadTx, DataTx, EraseTx, ExclusiveTx, InjectTx}
+use Rattle.tree_model.specs.DdmTypes.declared.keys.Stamp.{Stamp}
 use Rattle.tree_model.specs.State.Lists.{rest_of}
 use Rattle.tree_model.specs.State.States.{is_held}
 use Rattle.tree_model.specs.State.Values.{LeafValue, DirValue, Node, Nodes, leaf_node, dir_node}

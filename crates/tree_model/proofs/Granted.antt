@@ -1,7 +1,7 @@
 -- A grant, save where a list is full.
 use Rattle.std.proofs.Common.{◌≡◌, Some, None, refl}
-use Rattle.ddm_types.specs.declared.answers.QueueName.{QueueName}
-use Rattle.ddm_types.specs.declared.answers.BusyCause.TheVariants.{QueueFull}
+use Rattle.tree_model.specs.DdmTypes.declared.answers.QueueName.{QueueName}
+use Rattle.tree_model.specs.DdmTypes.declared.answers.BusyCause.TheVariants.{QueueFull}
 use Rattle.tree_model.specs.Turns.Grant.{Grant, granted, refused, unless_full}
 
 pub unless_full-none : (g : Grant) → unless_full None g ≡ granted g

@@ -1,8 +1,8 @@
 -- A hart's turn keeps the number and the sizes of its leaf.
 use Rattle.std.proofs.Common.{ℕ, List, refl}
-use Rattle.ddm_types.specs.declared.keys.Key.{Key}
-use Rattle.ddm_types.specs.ItemTable.{ItemTable}
-use Rattle.ddm_types.specs.CodeMap.{CodeWord}
+use Rattle.tree_model.specs.DdmTypes.declared.keys.Key.{Key}
+use Rattle.tree_model.specs.DdmTypes.ItemTable.{ItemTable}
+use Rattle.tree_model.specs.DdmTypes.CodeMap.{CodeWord}
 use Rattle.tree_model.specs.State.Values.{LeafValue}
 use Rattle.tree_model.specs.Turns.HartTurn.{Deed, has_halted, waits_for, halts, completes, fetches, upgrades, finds_buffer_full, deed_of, leaf_after_deed, leaf_step}
 use Rattle.tree_model.specs.Laws.{KeepsLeaf}

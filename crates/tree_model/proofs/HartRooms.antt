@@ -4,11 +4,11 @@ use Rattle.std.specs.Prelude.{is_none, find}
 use Rattle.std.specs.List.{range_with_len}
 use Rattle.std.proofs.lemmas.Bool.{leb-false}
 use Rattle.std.proofs.lemmas.List.{length-set}
-use Rattle.ddm_types.specs.declared.operations.HaltCause.{HaltCause}
-use Rattle.ddm_types.specs.declared.sizes.LeafState.{LeafState}
-use Rattle.ddm_types.specs.declared.keys.Key.{Key}
-use Rattle.ddm_types.specs.ItemTable.{ItemTable}
-use Rattle.ddm_types.specs.CodeMap.{CodeWord}
+use Rattle.tree_model.specs.DdmTypes.declared.operations.HaltCause.{HaltCause}
+use Rattle.tree_model.specs.DdmTypes.declared.sizes.LeafState.{LeafState}
+use Rattle.tree_model.specs.DdmTypes.declared.keys.Key.{Key}
+use Rattle.tree_model.specs.DdmTypes.ItemTable.{ItemTable}
+use Rattle.tree_model.specs.DdmTypes.CodeMap.{CodeWord}
 use Rattle.flat_model.specs.Hart.{ask_of}
 use Rattle.flat_model.specs.Flat.{Change, Stored}
 use Rattle.tree_model.specs.State.Values.{WayValue, BufferValue, LeafSizes, LeafValue}

@@ -1,7 +1,7 @@
 -- What a bus tells a child, or takes from it, leaves what no turn of its bus changes.
 use Rattle.std.proofs.Common.{◌≡◌, ℕ, Bool, true, false, List, refl, ◌∙◌}
 use Rattle.std.specs.Prelude.{nat_eq, if◌then◌else◌}
-use Rattle.ddm_types.specs.declared.keys.Stamp.{Stamp}
+use Rattle.tree_model.specs.DdmTypes.declared.keys.Stamp.{Stamp}
 use Rattle.tree_model.specs.State.Values.{Note, Node, leaf_node, dir_node}
 use Rattle.tree_model.specs.State.Leaf.{leaf_lose, leaf_take_data, leaf_take_exclusive, leaf_answer, leaf_take_inject}
 use Rattle.tree_model.specs.State.Directory.{is_reader, dir_lose, dir_take_data, dir_take_exclusive, dir_answer, dir_take_inject}

@@ -3,7 +3,7 @@ use Rattle.std.proofs.Common.{◌≡◌, ℕ, ◌<◌, ◌≤◌, Bool, true, fa
 use Rattle.std.specs.Prelude.{not, nat_eq, is_some, filter, option_map}
 use Rattle.std.proofs.lemmas.Bool.{eqb-true, eq-eqb, leb-true, le-leb, leb-false}
 use Rattle.std.proofs.lemmas.List.{length-set, length-map}
-use Rattle.ddm_types.specs.declared.sizes.LeafState.{LeafState}
+use Rattle.tree_model.specs.DdmTypes.declared.sizes.LeafState.{LeafState}
 use Rattle.tree_model.specs.State.Lists.{rest_of}
 use Rattle.tree_model.specs.State.Values.{WayValue, BufferValue, LeafValue}
 use Rattle.tree_model.specs.State.Leaf.{Fate, stays, ends, becomes, enters, way_at, is_buffered, way_with, buffer_with, ways_after, buffer_after, with_fate, leaf_entry, LeafEntry, fate_when_lost, fate_with_data, fate_with_exclusive, fate_answering, fate_with_inject, leaf_replies_full, reply_by, reply_of, leaf_lose, leaf_take_data, leaf_take_exclusive, leaf_answer, leaf_take_inject, leaf_give_up}

@@ -1,3 +1,5 @@
+pub mod DdmTypes
+pub mod FlatModel
 pub mod Tests
 pub mod NamedNode
 pub mod Changed

@@ -1,8 +1,8 @@
 -- A turn of the machine changes the node that it names, and what its answer adds.
 use Rattle.std.proofs.Common.{◌≡◌, true, false, Some, None, refl, sym, ap, subst, ◌∙◌}
 use Rattle.std.specs.Prelude.{is_some}
-use Rattle.ddm_types.specs.declared.answers.TurnAnswer.{TurnAnswer}
-use Rattle.ddm_types.specs.declared.turns.Turn.{Turn}
+use Rattle.tree_model.specs.DdmTypes.declared.answers.TurnAnswer.{TurnAnswer}
+use Rattle.tree_model.specs.DdmTypes.declared.turns.Turn.{Turn}
 use Rattle.tree_model.specs.State.Values.{MachineValue, root_of}
 use Rattle.tree_model.specs.State.Place.{at_top}
 use Rattle.tree_model.specs.Turns.Tree.{is_named, has_node, ChangedAt}

@@ -1,9 +1,9 @@
 -- Laws of every turn, in the words of the contracts of src/laws.rt: no premise says that a machine is well-formed or reached.
 -- To be believed with the laws: it is what they speak of.
 use Rattle.std.specs.Prelude.{◌≡◌, ℕ, true, List, map}
-use Rattle.ddm_types.specs.declared.answers.TurnAnswer.{TurnAnswer}
-use Rattle.ddm_types.specs.declared.turns.Turn.{Turn}
-use Rattle.ddm_types.specs.declared.keys.Stamp.{Stamp}
+use Rattle.tree_model.specs.DdmTypes.declared.answers.TurnAnswer.{TurnAnswer}
+use Rattle.tree_model.specs.DdmTypes.declared.turns.Turn.{Turn}
+use Rattle.tree_model.specs.DdmTypes.declared.keys.Stamp.{Stamp}
 use Rattle.flat_model.specs.Hart.{HartValue}
 use Rattle.tree_model.specs.State.Values.{LeafSizes, DirSizes, LeafValue, DirValue, Node, Nodes, leaf_node, dir_node, MachineValue, root_of}
 use Rattle.tree_model.specs.State.Place.{Where, at_top}

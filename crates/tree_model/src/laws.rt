@@ -1,11 +1,11 @@
 //! What holds of every turn, whatever the state, as theorems: each clause is one, and there is nothing to run.
 
 ghost use Rattle.std.specs.Prelude.{◌≡◌, ℕ, true, false, List};
-ghost use Rattle.ddm_types.specs.declared.turns.Turn.{Turn};
-ghost use Rattle.ddm_types.specs.declared.keys.Stamp.{Stamp};
-ghost use Rattle.ddm_types.specs.declared.keys.Key.{Key};
-ghost use Rattle.ddm_types.specs.ItemTable.{ItemTable};
-ghost use Rattle.ddm_types.specs.CodeMap.{CodeWord};
+ghost use Rattle.tree_model.specs.DdmTypes.declared.turns.Turn.{Turn};
+ghost use Rattle.tree_model.specs.DdmTypes.declared.keys.Stamp.{Stamp};
+ghost use Rattle.tree_model.specs.DdmTypes.declared.keys.Key.{Key};
+ghost use Rattle.tree_model.specs.DdmTypes.ItemTable.{ItemTable};
+ghost use Rattle.tree_model.specs.DdmTypes.CodeMap.{CodeWord};
 ghost use Rattle.tree_model.specs.declared.BusTurn.{BusTurn};
 ghost use Rattle.tree_model.specs.State.Values.{LeafValue, DirValue, Node, MachineValue, root_of};
 ghost use Rattle.tree_model.specs.State.Shape.{IsShaped, frame_of};

@@ -2,8 +2,10 @@
 #![tactic(auto)]
 
 pub mod laws;
+pub mod of_ddm_types;
+pub mod of_rv_decode;
 
-use ddm_types::{BusNo, ChildNo, LeafNo};
+use crate::of_ddm_types::{BusNo, ChildNo, LeafNo};
 
 /// One turn of a bus, seen from it.
 #[derive(Clone, Copy, Debug, PartialEq, Eq)]

@@ -2,8 +2,8 @@
 -- number, and last the count of its hart's instructions.
 use Rattle.std.specs.Prelude.{◌≡◌, ℕ, ◌+◌, ◌≤◌, List, [], ◌∷◌, ◌++◌, length, refl}
 use Rattle.std.proofs.Common.{arith}
-use Rattle.ddm_types.specs.declared.keys.Stamp.{Stamp}
-use Rattle.ddm_types.specs.Keys.{key_numbers}
+use Rattle.tree_rules.specs.DdmTypes.declared.keys.Stamp.{Stamp}
+use Rattle.tree_rules.specs.DdmTypes.Keys.{key_numbers}
 use Rattle.tree_model.specs.State.Place.{Spot, at_child, key_at_leaf}
 use Rattle.tree_rules.specs.Order.Moments.{spot_moment}
 

@@ -1,3 +1,6 @@
+pub mod DdmTypes
+pub mod FlatModel
+pub mod TreeModel
 pub mod Lists
 pub mod Statements
 pub mod KeysNow

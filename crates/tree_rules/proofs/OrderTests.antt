@@ -3,7 +3,7 @@ use Rattle.std.specs.Prelude.{◌≡◌, ℕ, Bool, true, ◌&&◌}
 use Rattle.std.specs.List.{list_all, range_with_len}
 use Rattle.std.proofs.lemmas.Bool.{and_parts}
 use Rattle.std.specs.Cmp.Derive.{both_true}
-use Rattle.flat_model.specs.Flat.{FlatMachine}
+use Rattle.tree_rules.specs.FlatModel.Flat.{FlatMachine}
 use Rattle.tree_model.specs.State.Values.{MachineValue}
 use Rattle.tree_rules.specs.Statements.{test_of}
 use Rattle.tree_rules.specs.Bus.Rules.{items_of_machine}

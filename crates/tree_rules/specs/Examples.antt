@@ -1,10 +1,10 @@
 -- Runs that the definitions are computed on.
 use Rattle.std.specs.Prelude.{◌≡◌, ℕ, Bool, true, ◌&&◌, List, [], ◌∷◌, ◌++◌, length, take}
-use Rattle.ddm_types.specs.declared.turns.Turn.{Turn}
+use Rattle.tree_rules.specs.DdmTypes.declared.turns.Turn.{Turn}
 use Rattle.tree_model.specs.State.Values.{MachineValue}
 use Rattle.tree_model.specs.State.Shape.{is_shaped}
 use Rattle.tree_model.specs.Turns.Machine.{turn_of, run_of}
-use Rattle.flat_model.specs.Flat.{FlatMachine}
+use Rattle.tree_rules.specs.FlatModel.Flat.{FlatMachine}
 use Rattle.tree_model.specs.Start.Sources.{ImageValue, TreeValue}
 use Rattle.tree_model.specs.Start.Machine.{start_machine, flat_start_of}
 use Rattle.tree_rules.specs.Bus.Rules.{run_holds}

@@ -1,14 +1,14 @@
 -- Why the rules of order speak of claims and clocks. A bus keeps the last stamp that it took over, and a bus two levels below
 -- may still keep an older one. Each state here keeps all rules but one, and after one turn another rule is broken.
 use Rattle.std.specs.Prelude.{◌≡◌, ℕ, Bool, true, false, List, [], ◌∷◌, map, replicate}
-use Rattle.ddm_types.specs.declared.answers.TxKind.{TxKind}
-use Rattle.ddm_types.specs.declared.sizes.Hold.{Hold}
-use Rattle.ddm_types.specs.declared.sizes.LeafState.{LeafState}
-use Rattle.ddm_types.specs.declared.keys.Stamp.{Stamp}
-use Rattle.ddm_types.specs.declared.operations.Effect.{Effect}
-use Rattle.ddm_types.specs.declared.operations.Op.{Op}
-use Rattle.ddm_types.specs.declared.turns.Turn.{Turn}
-use Rattle.flat_model.specs.Flat.{FlatMachine}
+use Rattle.tree_rules.specs.DdmTypes.declared.answers.TxKind.{TxKind}
+use Rattle.tree_rules.specs.DdmTypes.declared.sizes.Hold.{Hold}
+use Rattle.tree_rules.specs.DdmTypes.declared.sizes.LeafState.{LeafState}
+use Rattle.tree_rules.specs.DdmTypes.declared.keys.Stamp.{Stamp}
+use Rattle.tree_rules.specs.DdmTypes.declared.operations.Effect.{Effect}
+use Rattle.tree_rules.specs.DdmTypes.declared.operations.Op.{Op}
+use Rattle.tree_rules.specs.DdmTypes.declared.turns.Turn.{Turn}
+use Rattle.tree_rules.specs.FlatModel.Flat.{FlatMachine}
 use Rattle.tree_model.specs.State.Values.{DownValue, Note, no_note, up_erase, Node, leaf_node, dir_node, nodes, MachineValue}
 use Rattle.tree_model.specs.Turns.Machine.{turn_of}
 use Rattle.tree_rules.specs.Statements.{test_of}

@@ -1,3 +1,7 @@
+pub mod DdmTypes
+pub mod FlatModel
+pub mod RvDecode
+pub mod TreeModel
 pub mod Statements
 pub mod Bus
 pub mod Order

@@ -1,14 +1,14 @@
 -- States that the rules of a bus refuse, each beside one that differs little and is kept; and for each rule that is easily
 -- forgotten a state that breaks it alone.
 use Rattle.std.specs.Prelude.{◌≡◌, ℕ, zero, suc, ◌+◌, Bool, true, false, not, List, [], ◌∷◌, map, replicate, reverse, Some, None}
-use Rattle.ddm_types.specs.declared.answers.TxKind.{TxKind}
-use Rattle.ddm_types.specs.declared.answers.TxKind.TheVariants.{ReadTx, DataTx, ExclusiveTx}
-use Rattle.ddm_types.specs.declared.sizes.Hold.{Hold}
-use Rattle.ddm_types.specs.declared.sizes.LeafState.{LeafState}
-use Rattle.ddm_types.specs.declared.turns.Turn.{Turn}
-use Rattle.ddm_types.specs.Keys.{stamp_zero}
-use Rattle.ddm_types.specs.declared.operations.HaltCause.{HaltCause}
-use Rattle.flat_model.specs.Flat.{FlatMachine, FlatHart}
+use Rattle.tree_rules.specs.DdmTypes.declared.answers.TxKind.{TxKind}
+use Rattle.tree_rules.specs.DdmTypes.declared.answers.TxKind.TheVariants.{ReadTx, DataTx, ExclusiveTx}
+use Rattle.tree_rules.specs.DdmTypes.declared.sizes.Hold.{Hold}
+use Rattle.tree_rules.specs.DdmTypes.declared.sizes.LeafState.{LeafState}
+use Rattle.tree_rules.specs.DdmTypes.declared.turns.Turn.{Turn}
+use Rattle.tree_rules.specs.DdmTypes.Keys.{stamp_zero}
+use Rattle.tree_rules.specs.DdmTypes.declared.operations.HaltCause.{HaltCause}
+use Rattle.tree_rules.specs.FlatModel.Flat.{FlatMachine, FlatHart}
 use Rattle.tree_model.specs.State.Lists.{has_some}
 use Rattle.tree_model.specs.State.Values.{Note, no_note, local, up_read, up_erase, LeafValue, DirValue, Node, dir_node, nodes, MachineValue}
 use Rattle.tree_model.specs.State.Shape.{shape_test, shape_rules, frame_of}

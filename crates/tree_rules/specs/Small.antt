@@ -1,13 +1,13 @@
 -- Small states, made by hand: buses and machines of one item of one word.
 use Rattle.std.specs.Prelude.{ℕ, ◌-◌, Bool, true, false, List, [], ◌∷◌, ◌++◌, replicate, slice_set, Option, Some, None}
-use Rattle.ddm_types.specs.declared.sizes.Hold.{Hold}
-use Rattle.ddm_types.specs.declared.sizes.LeafState.{LeafState}
-use Rattle.ddm_types.specs.declared.keys.Stamp.{Stamp}
-use Rattle.ddm_types.specs.declared.operations.Op.{Op}
-use Rattle.ddm_types.specs.Keys.{stamp_zero}
-use Rattle.ddm_types.specs.CodeMap.{words_from}
-use Rattle.flat_model.specs.Hart.{HartValue}
-use Rattle.flat_model.specs.Flat.{FlatMachine}
+use Rattle.tree_rules.specs.DdmTypes.declared.sizes.Hold.{Hold}
+use Rattle.tree_rules.specs.DdmTypes.declared.sizes.LeafState.{LeafState}
+use Rattle.tree_rules.specs.DdmTypes.declared.keys.Stamp.{Stamp}
+use Rattle.tree_rules.specs.DdmTypes.declared.operations.Op.{Op}
+use Rattle.tree_rules.specs.DdmTypes.Keys.{stamp_zero}
+use Rattle.tree_rules.specs.DdmTypes.CodeMap.{words_from}
+use Rattle.tree_rules.specs.FlatModel.Hart.{HartValue}
+use Rattle.tree_rules.specs.FlatModel.Flat.{FlatMachine}
 use Rattle.tree_model.specs.State.Values.{CopyValue, DownValue, WayValue, LeafSizes, LeafValue, Note, no_note, DirSizes, DirValue, Node, leaf_node, nodes, MachineValue}
 use Rattle.tree_model.specs.Turns.Machine.{no_traffic}
 

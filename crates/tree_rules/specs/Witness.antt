@@ -3,15 +3,15 @@
 -- To be believed: it is what is claimed of every run.
 use Rattle.std.specs.Prelude.{◌≡◌, ℕ, ◌<◌, Bool, true, false, not, ◌||◌, nat_eq, List, [], ◌∷◌, ◌++◌, ◌+◌, length, filter, take, Option, Some, None, IfSome, IsTrue, Err, ⊤}
 use Rattle.std.specs.List.{AllByRecursion}
-use Rattle.ddm_types.specs.declared.answers.TurnAnswer.{TurnAnswer}
-use Rattle.ddm_types.specs.declared.answers.PendingWhy.{PendingWhy}
-use Rattle.ddm_types.specs.declared.answers.QueueName.{QueueName}
-use Rattle.ddm_types.specs.declared.answers.BusyCause.{BusyCause}
-use Rattle.ddm_types.specs.declared.turns.Turn.{Turn}
-use Rattle.ddm_types.specs.declared.operations.Op.{Op}
-use Rattle.ddm_types.specs.ItemTable.{item_count}
-use Rattle.flat_model.specs.Flat.{FlatMachine, flat_hart, item_words, flat_step}
-use Rattle.flat_model.specs.Legal.{Legal, is_of}
+use Rattle.tree_rules.specs.DdmTypes.declared.answers.TurnAnswer.{TurnAnswer}
+use Rattle.tree_rules.specs.DdmTypes.declared.answers.PendingWhy.{PendingWhy}
+use Rattle.tree_rules.specs.DdmTypes.declared.answers.QueueName.{QueueName}
+use Rattle.tree_rules.specs.DdmTypes.declared.answers.BusyCause.{BusyCause}
+use Rattle.tree_rules.specs.DdmTypes.declared.turns.Turn.{Turn}
+use Rattle.tree_rules.specs.DdmTypes.declared.operations.Op.{Op}
+use Rattle.tree_rules.specs.DdmTypes.ItemTable.{item_count}
+use Rattle.tree_rules.specs.FlatModel.Flat.{FlatMachine, flat_hart, item_words, flat_step}
+use Rattle.tree_rules.specs.FlatModel.Legal.{Legal, is_of}
 use Rattle.tree_model.specs.State.Lists.{all_from}
 use Rattle.tree_model.specs.State.Values.{LeafValue, Note, local, up_read, up_erase, DirValue, MachineValue}
 use Rattle.tree_model.specs.State.Directory.{dir_note, is_answering, in_down}

@@ -1,7 +1,7 @@
 //! What holds of the rules themselves.
 
 ghost use Rattle.std.specs.Prelude.{◌≡◌, true};
-ghost use Rattle.flat_model.specs.Flat.{FlatMachine};
+ghost use Rattle.tree_rules.specs.FlatModel.Flat.{FlatMachine};
 ghost use Rattle.tree_model.specs.State.Values.{MachineValue};
 ghost use Rattle.tree_rules.specs.Bus.Rules.{IsMachineOk, machine_holds};
 ghost use Rattle.tree_rules.specs.Order.Rules.{IsInOrder, order_holds};

@@ -4,3 +4,5 @@
 
 pub mod examples;
 pub mod laws;
+pub mod of_ddm_types;
+pub mod of_tree_model;

@@ -6,9 +6,9 @@ use Rattle.std.proofs.lemmas.Bool.{eqb-true, eqb-false, lt-ltb}
 use Rattle.std.proofs.lemmas.Grind.{get_or-set_at}
 use Rattle.std.proofs.lemmas.List.Sums.{sum_by-cons, sum_by-append}
 use Rattle.std.proofs.lemmas.List.{get_or-set_other}
-use Rattle.tree_model.specs.State.Lists.{names_item}
+use Rattle.tx_queue.specs.TreeModel.State.Lists.{names_item}
 use Rattle.tx_queue.specs.QueueList.{count_naming, AllBelow, IsCounted}
-use Rattle.tree_model.specs.State.Lists.{without_first}
+use Rattle.tx_queue.specs.TreeModel.State.Lists.{without_first}
 
 count-cons : {X : Type 0} (p : X → Bool) (x : X) (xs : List X) → count_by p (x ∷ xs) ≡ cond (p x) 1 0 + count_by p xs
 count-cons p x xs = sum_by-cons (λ y. cond (p y) 1 0) x xs

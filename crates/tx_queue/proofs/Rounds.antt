@@ -3,7 +3,7 @@ use Rattle.std.proofs.Common.{◌≡◌, ◌∙◌, ap, sym, refl, ℕ, zero, su
 use Rattle.std.specs.List.{list_any}
 use Rattle.std.proofs.lemmas.List.Folds.{list_any_more}
 use Rattle.std.proofs.lemmas.List.{take_more, length-take}
-use Rattle.tree_model.specs.State.Lists.{without_first}
+use Rattle.tx_queue.specs.TreeModel.State.Lists.{without_first}
 use Rattle.tx_queue.specs.Requests.{rotated, found_so_far}
 
 module _ {X : Type 0} (p : X → Bool) where

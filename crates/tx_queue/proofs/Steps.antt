@@ -4,11 +4,11 @@ use Rattle.std.proofs.Math.ListN.{set}
 use Rattle.std.specs.List.{slice_get, list_any}
 use Rattle.std.proofs.lemmas.Bool.{eqb-true}
 use Rattle.std.proofs.lemmas.List.Sums.{count_by-le-length}
-use Rattle.ddm_types.specs.declared.answers.TxKind.{TxKind}
-use Rattle.tree_model.specs.State.Kinds.{is_kind}
-use Rattle.tree_model.specs.State.Lists.{names_item}
+use Rattle.tx_queue.specs.DdmTypes.declared.answers.TxKind.{TxKind}
+use Rattle.tx_queue.specs.TreeModel.State.Kinds.{is_kind}
+use Rattle.tx_queue.specs.TreeModel.State.Lists.{names_item}
 use Rattle.tx_queue.specs.QueueList.{count_naming, IsCounted}
-use Rattle.tree_model.specs.State.Lists.{without_first}
+use Rattle.tx_queue.specs.TreeModel.State.Lists.{without_first}
 use Rattle.tx_queue.specs.Requests.{is_request}
 use Rattle.tx_queue.proofs.Counts.{counted_push, counted_first, counted_pop, counted_some, counted_without, any_of_count}
 

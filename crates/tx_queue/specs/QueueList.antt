@@ -1,6 +1,6 @@
 -- What a list of transactions is seen as, and what its table of counts says.
 use Rattle.std.specs.Prelude.{◌≡◌, ℕ, ◌<◌, ◌≤◌, ◌^◌, List, [], ◌∷◌, length, count_by, slice_index_or, refl}
-use Rattle.tree_model.specs.State.Lists.{names_item}
+use Rattle.tx_queue.specs.TreeModel.State.Lists.{names_item}
 use Rattle.std.specs.Coded.{Coded, code_by, coded×, coded_list, coded_ℕ}
 
 -- the entries from the first to the last, how many there may be, and the items that they may name: those below `items`

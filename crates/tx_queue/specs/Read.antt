@@ -1,8 +1,8 @@
 -- The entries of lists as what is read of a checkpoint has them.
 -- To be believed: contracts of code speak of it.
 use Rattle.std.specs.Prelude.{ℕ, List}
-use Rattle.ddm_types.specs.declared.answers.TxKind.{TxKind}
-use Rattle.tree_model.specs.State.Values.{RequestValue, CopyValue}
+use Rattle.tx_queue.specs.DdmTypes.declared.answers.TxKind.{TxKind}
+use Rattle.tx_queue.specs.TreeModel.State.Values.{RequestValue, CopyValue}
 
 abbrev pub request_value : TxKind × ℕ → RequestValue
 request_value r = record { kind = r.0; item = r.1 }

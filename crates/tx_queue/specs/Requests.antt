@@ -1,7 +1,7 @@
 -- Requests of a list by kind and item, and how the first of them is taken out of a ring.
 use Rattle.std.specs.Prelude.{ℕ, Bool, not, ◌&&◌, ◌||◌, nat_eq, List, [], ◌∷◌, ◌++◌, if◌then◌else◌}
-use Rattle.ddm_types.specs.declared.answers.TxKind.{TxKind}
-use Rattle.tree_model.specs.State.Kinds.{is_kind}
+use Rattle.tx_queue.specs.DdmTypes.declared.answers.TxKind.{TxKind}
+use Rattle.tx_queue.specs.TreeModel.State.Kinds.{is_kind}
 
 -- the request is of this kind and item
 abbrev pub is_request : TxKind → ℕ → (TxKind × ℕ) → Bool

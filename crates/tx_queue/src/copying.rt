@@ -1,7 +1,7 @@
 ghost use Rattle.std.specs.Prelude.{◌≡◌};
 
 use crate::Queue;
-use item_states::Named;
+use crate::of_item_states::Named;
 
 impl<T: Named + Copy> Queue<T> {
     /// Becomes a copy of another list with as many places, of as many items. It takes no memory.

@@ -2,6 +2,9 @@
 #![tactic(auto)]
 
 mod copying;
+pub mod of_ddm_types;
+pub mod of_item_states;
+pub mod of_state_words;
 mod queue;
 mod reading;
 mod requests;

@@ -1,12 +1,12 @@
 ghost use Rattle.std.specs.Prelude.{◌≡◌, ℕ, ◌<◌, ◌↔◌, ◌++◌, ◌∷◌, [], false, drop, length, nat_le, option_copied, slice_get, slice_index, IfErr, IfOk, IfSome, IsErr, IsTrue, OnOk, is_err};
 ghost use Rattle.std.specs.List.{list_any};
 ghost use Rattle.circular_buffer.specs.Buffer.{buffer};
-ghost use Rattle.tree_model.specs.State.Lists.{names_item};
+ghost use Rattle.tx_queue.specs.TreeModel.State.Lists.{names_item};
 ghost use Rattle.tx_queue.specs.QueueList.{count_naming};
 
+use crate::of_ddm_types::{ItemId, NoMemory};
+use crate::of_item_states::Named;
 use circular_buffer::HeapCircularBuffer;
-use ddm_types::{ItemId, NoMemory};
-use item_states::Named;
 use std::alloc::Global;
 use std::marker::Model;
 

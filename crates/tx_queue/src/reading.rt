@@ -5,8 +5,8 @@ ghost use Rattle.state_reading.specs.Parts.{listed, read_copy, read_down, read_r
 ghost use Rattle.tx_queue.specs.Read.{copy_value, request_value};
 
 use crate::Queue;
-use ddm_types::{ItemId, TxKind, Words};
-use item_states::DownEntry;
+use crate::of_ddm_types::{ItemId, TxKind, Words};
+use crate::of_item_states::DownEntry;
 use state_reading::{
     StateRefusal, brings_copy, item_words, keep, kind_of, look, stamp_words, word_below,
     word_from_1, word_to,

@@ -1,12 +1,12 @@
 ghost use Rattle.std.specs.Prelude.{◌≡◌, ◌<◌, ◌≤◌, ◌&&◌, not, length};
 ghost use Rattle.std.specs.List.{list_any};
 ghost use Rattle.circular_buffer.specs.Buffer.{buffer};
-ghost use Rattle.tree_model.specs.State.Lists.{without_first};
+ghost use Rattle.tx_queue.specs.TreeModel.State.Lists.{without_first};
 ghost use Rattle.tx_queue.specs.Requests.{found_so_far, is_request, rotated};
 
 use crate::Queue;
+use crate::of_ddm_types::{ItemId, TxKind};
 use circular_buffer::HeapCircularBuffer;
-use ddm_types::{ItemId, TxKind};
 
 /// Whether the request is the first one of this kind and item.
 fn is_taken(request: &(TxKind, ItemId), kind: TxKind, item: ItemId, found: bool) -> bool

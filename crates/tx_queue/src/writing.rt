@@ -1,12 +1,12 @@
 ghost use Rattle.std.specs.Prelude.{OnErr, OnOk};
-ghost use Rattle.ddm_text.specs.Adds.{Adds};
-ghost use Rattle.state_words.specs.Begins.{Begins};
-ghost use Rattle.state_words.specs.Parts.{counted};
+ghost use Rattle.tx_queue.specs.DdmText.Adds.{Adds};
+ghost use Rattle.tx_queue.specs.StateWords.Begins.{Begins};
+ghost use Rattle.tx_queue.specs.StateWords.Parts.{counted};
 
 use crate::Queue;
-use ddm_types::NoMemory;
-use item_states::Named;
-use state_words::{Spelled, push_words};
+use crate::of_ddm_types::NoMemory;
+use crate::of_item_states::Named;
+use crate::of_state_words::{Spelled, push_words};
 
 impl<T: Named + Spelled> Queue<T> {
     /// Puts the words of its entries at the end, with how many there are before them.

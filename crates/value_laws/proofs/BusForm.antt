@@ -2,26 +2,26 @@
 use Rattle.std.proofs.Common.{◌≡◌, ℕ, ◌+◌, Bool, true, false, cond, List, ◌∷◌, Some, refl, subst}
 use Rattle.std.specs.Prelude.{IfSome, nat_eq}
 use Rattle.std.specs.List.{AllByRecursion}
-use Rattle.ddm_types.specs.declared.answers.TxKind.{TxKind}
-use Rattle.ddm_types.specs.declared.answers.TxKind.TheVariants.{ReadTx, DataTx, EraseTx, ExclusiveTx, InjectTx, OutTx}
-use Rattle.ddm_types.specs.declared.sizes.Hold.{Hold}
-use Rattle.ddm_types.specs.declared.keys.Stamp.{Stamp}
-use Rattle.tree_model.specs.declared.BusTurn.{BusTurn}
-use Rattle.tree_model.specs.State.Lists.{map_from}
-use Rattle.tree_model.specs.State.States.{is_exclusive}
-use Rattle.tree_model.specs.State.Values.{DownValue, Note, no_note, local, up_read, up_erase, DirItem, DirValue, Node}
-use Rattle.tree_model.specs.State.Leaf.{blank}
-use Rattle.tree_model.specs.State.Directory.{is_reader, dir_hold, dir_note, joined_by, parked_words, with_note, with_hold, with_answering, without_parked, place_released, stamp_of, counted, front_taken}
-use Rattle.tree_model.specs.State.Child.{child_lose, child_take_data, child_take_exclusive, child_answer, child_take_inject, child_request_taken, child_reply_taken, child_given, child_give_up, child_leaving}
-use Rattle.tree_model.specs.Turns.Children.{child_at, only, read_from, erased_by, loses, reader_takes, replied_by, passed_on}
-use Rattle.tree_model.specs.Turns.Grant.{Grant, Judged, nothing_there, refused, granted, outcome_of}
-use Rattle.tree_model.specs.Turns.RequestRead.{joins, read_of_child, read_of_parked, read_of_parent}
-use Rattle.tree_model.specs.Turns.RequestErase.{erase_noted, erase_of_all}
-use Rattle.tree_model.specs.Turns.Reply.{reply_to_readers, reply_to_parent}
-use Rattle.tree_model.specs.Turns.Down.{without_up_erase, exclusive_to, erase_of_children, read_by_child, read_by_parked, data_to_readers, inject_to_reader, inject_to_readers, inject_to_child, inject_parked}
-use Rattle.tree_model.specs.Turns.Leave.{out_gone, leave_parked, leave_to}
-use Rattle.tree_model.specs.Turns.Bus.{bus_judged, bus_step}
-use Rattle.tree_model.proofs.Rows.{Row, row_joins, row_read_of_child, row_read_of_parked, row_read_of_parent, row_erase_of_all, row_reply_to_readers, row_reply_to_parent, row_exclusive_to, row_erase_of_children, row_read_by_child, row_read_by_parked, row_data_to_readers, row_inject_to_reader, row_inject_to_readers, row_inject_to_child, row_inject_parked, row_out_gone, row_out_parked, row_leave_to, row_inject_up, row-of}
+use Rattle.value_laws.specs.DdmTypes.declared.answers.TxKind.{TxKind}
+use Rattle.value_laws.specs.DdmTypes.declared.answers.TxKind.TheVariants.{ReadTx, DataTx, EraseTx, ExclusiveTx, InjectTx, OutTx}
+use Rattle.value_laws.specs.DdmTypes.declared.sizes.Hold.{Hold}
+use Rattle.value_laws.specs.DdmTypes.declared.keys.Stamp.{Stamp}
+use Rattle.value_laws.specs.TreeModel.declared.BusTurn.{BusTurn}
+use Rattle.value_laws.specs.TreeModel.State.Lists.{map_from}
+use Rattle.value_laws.specs.TreeModel.State.States.{is_exclusive}
+use Rattle.value_laws.specs.TreeModel.State.Values.{DownValue, Note, no_note, local, up_read, up_erase, DirItem, DirValue, Node}
+use Rattle.value_laws.specs.TreeModel.State.Leaf.{blank}
+use Rattle.value_laws.specs.TreeModel.State.Directory.{is_reader, dir_hold, dir_note, joined_by, parked_words, with_note, with_hold, with_answering, without_parked, place_released, stamp_of, counted, front_taken}
+use Rattle.value_laws.specs.TreeModel.State.Child.{child_lose, child_take_data, child_take_exclusive, child_answer, child_take_inject, child_request_taken, child_reply_taken, child_given, child_give_up, child_leaving}
+use Rattle.value_laws.specs.TreeModel.Turns.Children.{child_at, only, read_from, erased_by, loses, reader_takes, replied_by, passed_on}
+use Rattle.value_laws.specs.TreeModel.Turns.Grant.{Grant, Judged, nothing_there, refused, granted, outcome_of}
+use Rattle.value_laws.specs.TreeModel.Turns.RequestRead.{joins, read_of_child, read_of_parked, read_of_parent}
+use Rattle.value_laws.specs.TreeModel.Turns.RequestErase.{erase_noted, erase_of_all}
+use Rattle.value_laws.specs.TreeModel.Turns.Reply.{reply_to_readers, reply_to_parent}
+use Rattle.value_laws.specs.TreeModel.Turns.Down.{without_up_erase, exclusive_to, erase_of_children, read_by_child, read_by_parked, data_to_readers, inject_to_reader, inject_to_readers, inject_to_child, inject_parked}
+use Rattle.value_laws.specs.TreeModel.Turns.Leave.{out_gone, leave_parked, leave_to}
+use Rattle.value_laws.specs.TreeModel.Turns.Bus.{bus_judged, bus_step}
+use Rattle.value_laws.proofs.TreeModel.Rows.{Row, row_joins, row_read_of_child, row_read_of_parked, row_read_of_parent, row_erase_of_all, row_reply_to_readers, row_reply_to_parent, row_exclusive_to, row_erase_of_children, row_read_by_child, row_read_by_parked, row_data_to_readers, row_inject_to_reader, row_inject_to_readers, row_inject_to_child, row_inject_parked, row_out_gone, row_out_parked, row_leave_to, row_inject_up, row-of}
 use Rattle.value_laws.specs.Values.{AreWords, StampHasForm, DirHasForm, PartsHaveForm}
 use Rattle.value_laws.proofs.Lists.{all-map_from, all-more}
 use Rattle.value_laws.proofs.LeafForm.{blank-here}

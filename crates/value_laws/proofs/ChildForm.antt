@@ -3,13 +3,13 @@ use Rattle.std.proofs.Common.{◌≡◌, ℕ, zero, suc, ◌+◌, ◌<◌, true,
 use Rattle.std.specs.Prelude.{IfSome, filter, option_map, unwrap_or}
 use Rattle.std.specs.List.{AllByRecursion}
 use Rattle.std.proofs.lemmas.Bool.{eq-eqb}
-use Rattle.ddm_types.specs.declared.keys.Stamp.{Stamp}
-use Rattle.tree_model.specs.State.Lists.{first_of, has_some}
-use Rattle.tree_model.specs.State.Values.{CopyValue, BufferValue, LeafValue, DirValue, Node, Nodes, leaf_node, dir_node, no_nodes, more_nodes, nodes, children}
-use Rattle.tree_model.specs.State.Leaf.{buffer_item, copy_item, is_buffered, buffered, may_leave_buffer, leaf_leaving, words_of_item}
-use Rattle.tree_model.specs.State.Directory.{parked_words, dir_leaving}
-use Rattle.tree_model.specs.State.Child.{child_replies, child_reply, child_leaving, child_lose, child_take_data, child_take_exclusive, child_answer, child_take_inject, child_request_taken, child_reply_taken, buffer_words, child_given, child_give_up}
-use Rattle.tree_model.specs.Turns.Children.{child_at}
+use Rattle.value_laws.specs.DdmTypes.declared.keys.Stamp.{Stamp}
+use Rattle.value_laws.specs.TreeModel.State.Lists.{first_of, has_some}
+use Rattle.value_laws.specs.TreeModel.State.Values.{CopyValue, BufferValue, LeafValue, DirValue, Node, Nodes, leaf_node, dir_node, no_nodes, more_nodes, nodes, children}
+use Rattle.value_laws.specs.TreeModel.State.Leaf.{buffer_item, copy_item, is_buffered, buffered, may_leave_buffer, leaf_leaving, words_of_item}
+use Rattle.value_laws.specs.TreeModel.State.Directory.{parked_words, dir_leaving}
+use Rattle.value_laws.specs.TreeModel.State.Child.{child_replies, child_reply, child_leaving, child_lose, child_take_data, child_take_exclusive, child_answer, child_take_inject, child_request_taken, child_reply_taken, buffer_words, child_given, child_give_up}
+use Rattle.value_laws.specs.TreeModel.Turns.Children.{child_at}
 use Rattle.bus_laws.proofs.Lists.{chosen-get}
 use Rattle.bus_laws.proofs.ItemLists.{words-got}
 use Rattle.bus_laws.proofs.OneChild.{replies-there, leaves-there}

@@ -3,16 +3,16 @@
 use Rattle.std.proofs.Common.{◌≡◌, ℕ, ◌+◌, ◌≤◌, Bool, true, false, cond, List, ◌∷◌, Option, Some, None, refl, subst, arith}
 use Rattle.std.specs.Prelude.{IfSome, not, nat_eq, nat_lt, filter, map}
 use Rattle.std.specs.List.{AllByRecursion}
-use Rattle.ddm_types.specs.declared.answers.TxKind.{TxKind}
-use Rattle.ddm_types.specs.declared.answers.TxKind.TheVariants.{ReadTx, DataTx, EraseTx, ExclusiveTx, InjectTx}
-use Rattle.ddm_types.specs.declared.keys.Stamp.{Stamp}
-use Rattle.ddm_types.specs.Keys.{stamp_zero, stamp_at}
-use Rattle.tree_model.specs.State.Kinds.{goes_up}
-use Rattle.tree_model.specs.State.Lists.{first_of}
-use Rattle.tree_model.specs.State.States.{is_held}
-use Rattle.tree_model.specs.State.Values.{RequestValue, DownValue, DirValue}
-use Rattle.tree_model.specs.State.Leaf.{blank, is_request, is_copy, copy_words, words_of_item}
-use Rattle.tree_model.specs.State.Directory.{is_top, dir_hold, parked_words, pushed_down, pushed_request, pushed_reply, with_parked, without_parked, struck, stamp_of, counted, front_taken, dir_lost, dir_lose, dir_take_data, dir_take_exclusive, dir_answer, dir_take_inject, dir_give_up}
+use Rattle.value_laws.specs.DdmTypes.declared.answers.TxKind.{TxKind}
+use Rattle.value_laws.specs.DdmTypes.declared.answers.TxKind.TheVariants.{ReadTx, DataTx, EraseTx, ExclusiveTx, InjectTx}
+use Rattle.value_laws.specs.DdmTypes.declared.keys.Stamp.{Stamp}
+use Rattle.value_laws.specs.DdmTypes.Keys.{stamp_zero, stamp_at}
+use Rattle.value_laws.specs.TreeModel.State.Kinds.{goes_up}
+use Rattle.value_laws.specs.TreeModel.State.Lists.{first_of}
+use Rattle.value_laws.specs.TreeModel.State.States.{is_held}
+use Rattle.value_laws.specs.TreeModel.State.Values.{RequestValue, DownValue, DirValue}
+use Rattle.value_laws.specs.TreeModel.State.Leaf.{blank, is_request, is_copy, copy_words, words_of_item}
+use Rattle.value_laws.specs.TreeModel.State.Directory.{is_top, dir_hold, parked_words, pushed_down, pushed_request, pushed_reply, with_parked, without_parked, struck, stamp_of, counted, front_taken, dir_lost, dir_lose, dir_take_data, dir_take_exclusive, dir_answer, dir_take_inject, dir_give_up}
 use Rattle.value_laws.specs.Values.{AreWords, CopyHasForm, RequestHasForm, DownHasForm, StampHasForm, DirHasForm, comes_down}
 use Rattle.value_laws.proofs.Lists.{all-filter, all-map, all-more, all-pushed, all-first, all-without_first}
 use Rattle.value_laws.proofs.LeafForm.{blank-here}

@@ -2,17 +2,17 @@
 use Rattle.std.proofs.Common.{◌≡◌, ℕ, ◌+◌, ◌*◌, ◌/◌, ◌%◌, Bool, true, false, cond, List, Option, Some, None, Result, Ok, Err, refl, arith}
 use Rattle.std.specs.Prelude.{IfSome, slice_index}
 use Rattle.std.specs.List.{AllByRecursion}
-use Rattle.ddm_types.specs.declared.answers.TxKind.TheVariants.{ReadTx, EraseTx}
-use Rattle.ddm_types.specs.declared.operations.HaltCause.{HaltCause}
-use Rattle.ddm_types.specs.declared.sizes.LeafState.{LeafState}
-use Rattle.ddm_types.specs.declared.keys.Key.{Key}
-use Rattle.ddm_types.specs.ItemTable.{ItemTable}
-use Rattle.ddm_types.specs.CodeMap.{CodeWord}
-use Rattle.flat_model.specs.Hart.{HartValue, Action, Halts, Computes, Puts, Loads, Stores, Reserves, StoresIfReserved, Changes, action_of, ask_by, ask_of, finish_by, finish_of}
-use Rattle.flat_model.specs.Flat.{Change, Stored, change_by, conditional, has_reserved}
-use Rattle.tree_model.specs.State.Values.{WayValue, LeafValue}
-use Rattle.tree_model.specs.State.Leaf.{blank, LeafEntry, way_at, leaf_entry, entry_words, free_way, item_in_way, becomes, enters, buffer_full, waiting_item}
-use Rattle.tree_model.specs.Turns.HartTurn.{Deed, has_halted, waits_for, halts, completes, fetches, upgrades, finds_buffer_full, Need, no_need, a_copy, no_other_copy, time, need_to_read, need_in_state, need_to_write, need_of, words_here, change_here, deed_of_change, replaces, deed_to_fetch, deed_by_need, deed_unless_waiting, deed_unless_halted, deed_of, ways_stored, buffer_stored, moved_entry, ways_without, moved_to_buffer, leaf_after_deed}
+use Rattle.value_laws.specs.DdmTypes.declared.answers.TxKind.TheVariants.{ReadTx, EraseTx}
+use Rattle.value_laws.specs.DdmTypes.declared.operations.HaltCause.{HaltCause}
+use Rattle.value_laws.specs.DdmTypes.declared.sizes.LeafState.{LeafState}
+use Rattle.value_laws.specs.DdmTypes.declared.keys.Key.{Key}
+use Rattle.value_laws.specs.DdmTypes.ItemTable.{ItemTable}
+use Rattle.value_laws.specs.DdmTypes.CodeMap.{CodeWord}
+use Rattle.value_laws.specs.FlatModel.Hart.{HartValue, Action, Halts, Computes, Puts, Loads, Stores, Reserves, StoresIfReserved, Changes, action_of, ask_by, ask_of, finish_by, finish_of}
+use Rattle.value_laws.specs.FlatModel.Flat.{Change, Stored, change_by, conditional, has_reserved}
+use Rattle.value_laws.specs.TreeModel.State.Values.{WayValue, LeafValue}
+use Rattle.value_laws.specs.TreeModel.State.Leaf.{blank, LeafEntry, way_at, leaf_entry, entry_words, free_way, item_in_way, becomes, enters, buffer_full, waiting_item}
+use Rattle.value_laws.specs.TreeModel.Turns.HartTurn.{Deed, has_halted, waits_for, halts, completes, fetches, upgrades, finds_buffer_full, Need, no_need, a_copy, no_other_copy, time, need_to_read, need_in_state, need_to_write, need_of, words_here, change_here, deed_of_change, replaces, deed_to_fetch, deed_by_need, deed_unless_waiting, deed_unless_halted, deed_of, ways_stored, buffer_stored, moved_entry, ways_without, moved_to_buffer, leaf_after_deed}
 use Rattle.value_laws.specs.Values.{IsWord, AreWords, CauseHasForm, HartHasForm, CodeHasForm, WayHasForm, BufferHasForm, LeafHasForm, KeyHasForm, EffectHasForm, OpHasForm}
 use Rattle.value_laws.proofs.Lists.{all-set, all-joined}
 use Rattle.value_laws.proofs.Words.{amo_words, loaded_words, stored_words, word-at, words-set}

@@ -4,13 +4,13 @@ use Rattle.std.specs.Prelude.{nat_eq, IfSome, slice_index, slice_set}
 use Rattle.std.specs.List.{AllByRecursion}
 use Rattle.std.proofs.lemmas.Bool.{ne_eqb}
 use Rattle.std.specs.Int.{w32, cast_unsigned}
-use Rattle.ddm_types.specs.declared.operations.HaltCause.TheVariants.{Exit, UnknownCall, MisalignedAccess, MisalignedTarget, StoreOutside}
-use Rattle.ddm_types.specs.CodeMap.{CodeWord, word_at}
-use Rattle.ddm_types.specs.ItemTable.{ItemTable, item_at, row_at}
-use Rattle.rv_decode.specs.declared.instructions.Instr.{Instr}
-use Rattle.rv_decode.specs.declared.instructions.Instr.TheVariants.{Lui, Auipc, Jal, Jalr, Branch, Load, Store, Immediate, Register, Fence, Ecall, Ebreak, Lr, Sc, Amo}
-use Rattle.rv_decode.specs.Table.{Row, decode_by, decode_of, field, fits, signed, table}
-use Rattle.flat_model.specs.Hart.{Access, Action, Halts, Computes, Puts, Loads, Stores, Reserves, StoresIfReserved, Changes, HartValue, access_in, action_of, aligned, decoded_action, fetched_action, instr_action, is_taken, jump, load_at, load_found, next_pc, offset_by, operation, register, store_at, store_found, with_register, written}
+use Rattle.value_laws.specs.DdmTypes.declared.operations.HaltCause.TheVariants.{Exit, UnknownCall, MisalignedAccess, MisalignedTarget, StoreOutside}
+use Rattle.value_laws.specs.DdmTypes.CodeMap.{CodeWord, word_at}
+use Rattle.value_laws.specs.DdmTypes.ItemTable.{ItemTable, item_at, row_at}
+use Rattle.value_laws.specs.RvDecode.declared.instructions.Instr.{Instr}
+use Rattle.value_laws.specs.RvDecode.declared.instructions.Instr.TheVariants.{Lui, Auipc, Jal, Jalr, Branch, Load, Store, Immediate, Register, Fence, Ecall, Ebreak, Lr, Sc, Amo}
+use Rattle.value_laws.specs.RvDecode.Table.{Row, decode_by, decode_of, field, fits, signed, table}
+use Rattle.value_laws.specs.FlatModel.Hart.{Access, Action, Halts, Computes, Puts, Loads, Stores, Reserves, StoresIfReserved, Changes, HartValue, access_in, action_of, aligned, decoded_action, fetched_action, instr_action, is_taken, jump, load_at, load_found, next_pc, offset_by, operation, register, store_at, store_found, with_register, written}
 use Rattle.value_laws.specs.Values.{IsWord, AreWords, CauseHasForm, HartHasForm, CodeHasForm}
 use Rattle.value_laws.proofs.Words.{one_of, register_words, signed_immediate, word-at, words-set, wraps}
 

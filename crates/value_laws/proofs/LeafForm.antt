@@ -2,14 +2,14 @@
 use Rattle.std.proofs.Common.{◌≡◌, ℕ, zero, suc, Bool, true, false, cond, List, [], ◌∷◌, Option, Some, None, refl, subst}
 use Rattle.std.specs.Prelude.{IfSome, not, is_some, map, option_map}
 use Rattle.std.specs.List.{AllByRecursion}
-use Rattle.ddm_types.specs.declared.answers.TxKind.{TxKind}
-use Rattle.ddm_types.specs.declared.sizes.LeafState.{LeafState}
-use Rattle.tree_model.specs.State.Kinds.{goes_up}
-use Rattle.tree_model.specs.State.Lists.{first_some}
-use Rattle.tree_model.specs.State.States.{is_reading, state_lost, asked_when_lost, state_with_data, asked_with_data, state_with_exclusive, state_with_inject, state_answered}
-use Rattle.tree_model.specs.State.Values.{RequestValue, WayValue, BufferValue, LeafSizes, LeafValue}
-use Rattle.tree_model.specs.State.Leaf.{blank, LeafEntry, way_at, way_entry, buffer_entry, is_buffered, buffered, entry_at, leaf_entry, free_way, Fate, stays, ends, becomes, enters, words_in, way_with, buffer_with, ways_after, buffer_after, enters_free, slot_has, slot_asking, slot_struck, fate_by, fate_by_loss, fate_when_lost, fate_with_data, fate_with_exclusive, fate_answering, fate_with_inject, asked_by, reply_by, reply_of, leaf_lose, leaf_take_data, leaf_take_exclusive, leaf_answer, leaf_take_inject, leaf_give_up}
-use Rattle.ddm_types.specs.declared.answers.TxKind.TheVariants.{ReadTx}
+use Rattle.value_laws.specs.DdmTypes.declared.answers.TxKind.{TxKind}
+use Rattle.value_laws.specs.DdmTypes.declared.sizes.LeafState.{LeafState}
+use Rattle.value_laws.specs.TreeModel.State.Kinds.{goes_up}
+use Rattle.value_laws.specs.TreeModel.State.Lists.{first_some}
+use Rattle.value_laws.specs.TreeModel.State.States.{is_reading, state_lost, asked_when_lost, state_with_data, asked_with_data, state_with_exclusive, state_with_inject, state_answered}
+use Rattle.value_laws.specs.TreeModel.State.Values.{RequestValue, WayValue, BufferValue, LeafSizes, LeafValue}
+use Rattle.value_laws.specs.TreeModel.State.Leaf.{blank, LeafEntry, way_at, way_entry, buffer_entry, is_buffered, buffered, entry_at, leaf_entry, free_way, Fate, stays, ends, becomes, enters, words_in, way_with, buffer_with, ways_after, buffer_after, enters_free, slot_has, slot_asking, slot_struck, fate_by, fate_by_loss, fate_when_lost, fate_with_data, fate_with_exclusive, fate_answering, fate_with_inject, asked_by, reply_by, reply_of, leaf_lose, leaf_take_data, leaf_take_exclusive, leaf_answer, leaf_take_inject, leaf_give_up}
+use Rattle.value_laws.specs.DdmTypes.declared.answers.TxKind.TheVariants.{ReadTx}
 use Rattle.value_laws.specs.Values.{AreWords, WayHasForm, BufferHasForm, CopyHasForm, SlotHasForm, LeafHasForm}
 use Rattle.value_laws.proofs.Lists.{all-set, all-filter, all-found, all-map, all-joined}
 use Rattle.value_laws.proofs.Words.{blank-words}

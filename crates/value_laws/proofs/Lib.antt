@@ -1,3 +1,6 @@
+pub mod BusLaws
+pub mod TreeModel
+pub mod TreeRules
 pub mod Lists
 pub mod Words
 pub mod Instructions

@@ -2,7 +2,7 @@
 use Rattle.std.proofs.Common.{◌≡◌, ℕ, zero, suc, ◌+◌, subst, Bool, true, false, cond, List, [], ◌∷◌, ◌++◌, map, replicate, Some, None, refl}
 use Rattle.std.specs.Prelude.{filter, find, slice_get, slice_set}
 use Rattle.std.specs.List.{AllByRecursion}
-use Rattle.tree_model.specs.State.Lists.{map_from, rest_of, without_first, first_of}
+use Rattle.value_laws.specs.TreeModel.State.Lists.{map_from, rest_of, without_first, first_of}
 
 module _ {X : Type 0} (P : X → Type 0) where
   pub all-set : (xs : List X) (i : ℕ) (v : X) → AllByRecursion P xs → P v → AllByRecursion P (slice_set xs i v)

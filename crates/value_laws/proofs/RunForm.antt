@@ -1,10 +1,10 @@
 -- Every machine of a run has the form, and counts no more than the turns; and a greater bound is one, too.
 use Rattle.std.proofs.Common.{◌≡◌, ℕ, zero, suc, ◌+◌, ◌-◌, ◌≤◌, List, length, Ok, subst, arith}
-use Rattle.ddm_types.specs.declared.turns.Turn.{Turn}
-use Rattle.tree_model.specs.State.Values.{MachineValue}
-use Rattle.tree_model.specs.Start.Machine.{start_of}
-use Rattle.tree_model.specs.Start.Sources.{ImageValue, TreeValue}
-use Rattle.tree_model.specs.Turns.Machine.{run_of}
+use Rattle.value_laws.specs.DdmTypes.declared.turns.Turn.{Turn}
+use Rattle.value_laws.specs.TreeModel.State.Values.{MachineValue}
+use Rattle.value_laws.specs.TreeModel.Start.Machine.{start_of}
+use Rattle.value_laws.specs.TreeModel.Start.Sources.{ImageValue, TreeValue}
+use Rattle.value_laws.specs.TreeModel.Turns.Machine.{run_of}
 use Rattle.bus_laws.specs.IsTree.{IsTree}
 use Rattle.bus_laws.proofs.StartKept.{start-kept}
 use Rattle.value_laws.specs.Images.{IsOfBytes}

@@ -4,19 +4,19 @@ use Rattle.std.specs.Prelude.{IfSome, find, nat_eq, nat_lt, slice_index_or, slic
 use Rattle.std.specs.List.{AllByRecursion, flat_map, fold, list_all, range_with_len}
 use Rattle.std.proofs.lemmas.List.Concat.{flat_map-cons}
 use Rattle.std.proofs.lemmas.List.FromFn.{length-map-range_with_len}
-use Rattle.ddm_types.specs.declared.sizes.LeafState.{LeafState}
-use Rattle.ddm_types.specs.declared.sizes.Start.{Start}
-use Rattle.ddm_types.specs.ItemTable.{ItemRow, item_count}
-use Rattle.ddm_types.specs.CodeMap.{words_from}
-use Rattle.flat_model.specs.Hart.{hart_start}
-use Rattle.tree_model.specs.State.Values.{LeafValue, DirItem, DirSizes, Node, leaf_node, MachineValue}
-use Rattle.tree_model.specs.State.Leaf.{free_way, enters_free}
-use Rattle.tree_model.specs.Turns.Machine.{no_traffic}
-use Rattle.tree_model.specs.Start.Sources.{ImageValue, SegmentValue, TreeValue, bus_widths, is_executable, last_level, leaf_count, start_of_harts, width_of}
-use Rattle.tree_model.specs.Start.Memory.{byte_at, byte_of, has_byte, first_word, past_word, item_words, memory_word, put_segment, segment_code, start_code, start_items, start_words}
-use Rattle.tree_model.specs.Start.Nodes.{cut_in, dir_sizes, dirs_over, held_below, held_if, leaf_for, new_dir, placed, placed_at, placed_in, placed_items, under_levels}
-use Rattle.tree_model.specs.Start.Machine.{start_leaf, start_leaves, start_machine, start_of, start_refusal}
-use Rattle.tree_model.proofs.Tests.{and-first, and-second}
+use Rattle.value_laws.specs.DdmTypes.declared.sizes.LeafState.{LeafState}
+use Rattle.value_laws.specs.DdmTypes.declared.sizes.Start.{Start}
+use Rattle.value_laws.specs.DdmTypes.ItemTable.{ItemRow, item_count}
+use Rattle.value_laws.specs.DdmTypes.CodeMap.{words_from}
+use Rattle.value_laws.specs.FlatModel.Hart.{hart_start}
+use Rattle.value_laws.specs.TreeModel.State.Values.{LeafValue, DirItem, DirSizes, Node, leaf_node, MachineValue}
+use Rattle.value_laws.specs.TreeModel.State.Leaf.{free_way, enters_free}
+use Rattle.value_laws.specs.TreeModel.Turns.Machine.{no_traffic}
+use Rattle.value_laws.specs.TreeModel.Start.Sources.{ImageValue, SegmentValue, TreeValue, bus_widths, is_executable, last_level, leaf_count, start_of_harts, width_of}
+use Rattle.value_laws.specs.TreeModel.Start.Memory.{byte_at, byte_of, has_byte, first_word, past_word, item_words, memory_word, put_segment, segment_code, start_code, start_items, start_words}
+use Rattle.value_laws.specs.TreeModel.Start.Nodes.{cut_in, dir_sizes, dirs_over, held_below, held_if, leaf_for, new_dir, placed, placed_at, placed_in, placed_items, under_levels}
+use Rattle.value_laws.specs.TreeModel.Start.Machine.{start_leaf, start_leaves, start_machine, start_of, start_refusal}
+use Rattle.value_laws.proofs.TreeModel.Tests.{and-first, and-second}
 use Rattle.bus_laws.specs.IsTree.{AreUnder, IsTree, is_width}
 use Rattle.bus_laws.proofs.StartLevels.{each-drop, each-take, sum-more, width-parts}
 use Rattle.value_laws.specs.Values.{IsWord, AreWords, CodeHasForm, HartHasForm, WayHasForm, LeafHasForm, DirHasForm, PartsHaveForm, TrafficHasForm, HasForm}

@@ -3,31 +3,31 @@ use Rattle.std.proofs.Common.{◌≡◌, ℕ, zero, suc, ◌+◌, ◌<◌, ◌�
 use Rattle.std.specs.Prelude.{nat_le, nat_lt, slice_index, slice_index_or}
 use Rattle.std.specs.List.{AllByRecursion}
 use Rattle.std.proofs.lemmas.Bool.{leb-true}
-use Rattle.ddm_types.specs.declared.answers.TurnAnswer.{TurnAnswer}
-use Rattle.ddm_types.specs.declared.answers.LogEntry.{LogEntry}
-use Rattle.ddm_types.specs.declared.answers.TxKind.{TxKind}
-use Rattle.ddm_types.specs.declared.keys.Stamp.{Stamp}
-use Rattle.ddm_types.specs.declared.keys.Key.{Key}
-use Rattle.ddm_types.specs.declared.operations.Op.{Op}
-use Rattle.ddm_types.specs.declared.turns.Turn.{Turn}
-use Rattle.ddm_types.specs.ItemTable.{ItemTable}
-use Rattle.ddm_types.specs.CodeMap.{CodeWord}
-use Rattle.tree_model.specs.declared.BusTurn.{BusTurn}
-use Rattle.tree_model.specs.declared.Traffic.{Traffic}
-use Rattle.tree_model.specs.State.Values.{LeafValue, DirValue, Node, Nodes, leaf_node, dir_node, children, MachineValue, root_of}
-use Rattle.tree_model.specs.State.Place.{Where, at_child, at_top, key_at_leaf, spot_in, stamp_above, where_path}
-use Rattle.tree_model.specs.State.Shape.{bone_count, skeleton, skeletons, widths_fit, widths_fit_among, widths_bounded, IsShaped}
-use Rattle.tree_model.specs.Turns.Tree.{ChangedAt}
-use Rattle.tree_model.specs.Turns.Grant.{Judged, nothing_there, refused, granted, outcome_of}
-use Rattle.tree_model.specs.Turns.Bus.{bus_judged, bus_step}
-use Rattle.tree_model.specs.Turns.HartTurn.{Deed, has_halted, waits_for, halts, completes, fetches, upgrades, finds_buffer_full, answer_of_deed, deed_of, leaf_step}
-use Rattle.tree_model.specs.Turns.Machine.{no_traffic, one_more, traffic_with, answer_here, bus_turn_of, named_by, node_after, recorded, run_of, turn_answer, turn_of, turn_root, victim_of, with_root}
-use Rattle.tree_model.specs.Laws.{TurnsHere}
-use Rattle.tree_model.proofs.Changed.{changed-holds}
-use Rattle.tree_model.proofs.FrameKept.{turn-shape}
-use Rattle.tree_model.proofs.NamedNode.{turned}
-use Rattle.tree_model.proofs.Tests.{and-first, and-second}
-use Rattle.tree_model.proofs.TurnChanges.{turn-answered, turn-unanswered}
+use Rattle.value_laws.specs.DdmTypes.declared.answers.TurnAnswer.{TurnAnswer}
+use Rattle.value_laws.specs.DdmTypes.declared.answers.LogEntry.{LogEntry}
+use Rattle.value_laws.specs.DdmTypes.declared.answers.TxKind.{TxKind}
+use Rattle.value_laws.specs.DdmTypes.declared.keys.Stamp.{Stamp}
+use Rattle.value_laws.specs.DdmTypes.declared.keys.Key.{Key}
+use Rattle.value_laws.specs.DdmTypes.declared.operations.Op.{Op}
+use Rattle.value_laws.specs.DdmTypes.declared.turns.Turn.{Turn}
+use Rattle.value_laws.specs.DdmTypes.ItemTable.{ItemTable}
+use Rattle.value_laws.specs.DdmTypes.CodeMap.{CodeWord}
+use Rattle.value_laws.specs.TreeModel.declared.BusTurn.{BusTurn}
+use Rattle.value_laws.specs.TreeModel.declared.Traffic.{Traffic}
+use Rattle.value_laws.specs.TreeModel.State.Values.{LeafValue, DirValue, Node, Nodes, leaf_node, dir_node, children, MachineValue, root_of}
+use Rattle.value_laws.specs.TreeModel.State.Place.{Where, at_child, at_top, key_at_leaf, spot_in, stamp_above, where_path}
+use Rattle.value_laws.specs.TreeModel.State.Shape.{bone_count, skeleton, skeletons, widths_fit, widths_fit_among, widths_bounded, IsShaped}
+use Rattle.value_laws.specs.TreeModel.Turns.Tree.{ChangedAt}
+use Rattle.value_laws.specs.TreeModel.Turns.Grant.{Judged, nothing_there, refused, granted, outcome_of}
+use Rattle.value_laws.specs.TreeModel.Turns.Bus.{bus_judged, bus_step}
+use Rattle.value_laws.specs.TreeModel.Turns.HartTurn.{Deed, has_halted, waits_for, halts, completes, fetches, upgrades, finds_buffer_full, answer_of_deed, deed_of, leaf_step}
+use Rattle.value_laws.specs.TreeModel.Turns.Machine.{no_traffic, one_more, traffic_with, answer_here, bus_turn_of, named_by, node_after, recorded, run_of, turn_answer, turn_of, turn_root, victim_of, with_root}
+use Rattle.value_laws.specs.TreeModel.Laws.{TurnsHere}
+use Rattle.value_laws.proofs.TreeModel.Changed.{changed-holds}
+use Rattle.value_laws.proofs.TreeModel.FrameKept.{turn-shape}
+use Rattle.value_laws.proofs.TreeModel.NamedNode.{turned}
+use Rattle.value_laws.proofs.TreeModel.Tests.{and-first, and-second}
+use Rattle.value_laws.proofs.TreeModel.TurnChanges.{turn-answered, turn-unanswered}
 use Rattle.value_laws.specs.Values.{StampHasForm, LeafHasForm, DirHasForm, PartsHaveForm, PartsHaveFormAmong, CodeHasForm, KeyHasForm, OpHasForm, TrafficHasForm, HasForm}
 use Rattle.value_laws.proofs.Lists.{all-set, all-pushed, all-more}
 use Rattle.value_laws.proofs.DirForm.{zero-form, stamp_at-form, dir-more}

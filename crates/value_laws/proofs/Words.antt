@@ -6,17 +6,17 @@ use Rattle.std.specs.Int.{w32, cast_unsigned, int_shr, to_le_bytes, from_le_byte
 use native.Mathlib.Nat.{div-le_self}
 use Rattle.std.proofs.lemmas.Nat.{and_le_l, or_lt, xor_lt}
 use Rattle.std.proofs.lemmas.List.{length-set}
-use Rattle.rv_decode.specs.declared.instructions.RegOp.{RegOp}
-use Rattle.rv_decode.specs.declared.instructions.RegOp.TheVariants.{Add, Sub, Sll, Slt, Sltu, Xor, Srl, Sra, Or, And}
-use Rattle.rv_decode.specs.declared.instructions.AmoOp.{AmoOp}
-use Rattle.rv_decode.specs.declared.instructions.AmoOp.TheVariants.{Add as AmoAdd, Swap as AmoSwap, Xor as AmoXor, Or as AmoOr, And as AmoAnd, Min as AmoMin, Max as AmoMax, Minu as AmoMinu, Maxu as AmoMaxu}
-use Rattle.rv_decode.specs.declared.instructions.LoadOp.{LoadOp}
-use Rattle.rv_decode.specs.declared.instructions.LoadOp.TheVariants.{Lb, Lh, Lw, Lbu, Lhu}
-use Rattle.rv_decode.specs.declared.instructions.StoreOp.{StoreOp}
-use Rattle.rv_decode.specs.declared.instructions.StoreOp.TheVariants.{Sb, Sh, Sw}
-use Rattle.rv_decode.specs.Table.{signed}
-use Rattle.flat_model.specs.Hart.{amo_result, byte_in, half_in, loaded_value, register_result, signed_word, stored_word}
-use Rattle.tree_model.specs.State.Leaf.{blank}
+use Rattle.value_laws.specs.RvDecode.declared.instructions.RegOp.{RegOp}
+use Rattle.value_laws.specs.RvDecode.declared.instructions.RegOp.TheVariants.{Add, Sub, Sll, Slt, Sltu, Xor, Srl, Sra, Or, And}
+use Rattle.value_laws.specs.RvDecode.declared.instructions.AmoOp.{AmoOp}
+use Rattle.value_laws.specs.RvDecode.declared.instructions.AmoOp.TheVariants.{Add as AmoAdd, Swap as AmoSwap, Xor as AmoXor, Or as AmoOr, And as AmoAnd, Min as AmoMin, Max as AmoMax, Minu as AmoMinu, Maxu as AmoMaxu}
+use Rattle.value_laws.specs.RvDecode.declared.instructions.LoadOp.{LoadOp}
+use Rattle.value_laws.specs.RvDecode.declared.instructions.LoadOp.TheVariants.{Lb, Lh, Lw, Lbu, Lhu}
+use Rattle.value_laws.specs.RvDecode.declared.instructions.StoreOp.{StoreOp}
+use Rattle.value_laws.specs.RvDecode.declared.instructions.StoreOp.TheVariants.{Sb, Sh, Sw}
+use Rattle.value_laws.specs.RvDecode.Table.{signed}
+use Rattle.value_laws.specs.FlatModel.Hart.{amo_result, byte_in, half_in, loaded_value, register_result, signed_word, stored_word}
+use Rattle.value_laws.specs.TreeModel.State.Leaf.{blank}
 use Rattle.value_laws.specs.Values.{IsWord, AreWords}
 use Rattle.value_laws.proofs.Lists.{all-set, all-replicate}
 

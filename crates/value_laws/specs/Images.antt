@@ -3,7 +3,7 @@
 -- To be believed with the laws: it is what they speak of.
 use Rattle.std.specs.Prelude.{◌<◌}
 use Rattle.std.specs.List.{AllByRecursion}
-use Rattle.tree_model.specs.Start.Sources.{ImageValue, SegmentValue}
+use Rattle.value_laws.specs.TreeModel.Start.Sources.{ImageValue, SegmentValue}
 use Rattle.value_laws.specs.Values.{IsWord}
 
 -- the image is made of bytes, and begins at an address

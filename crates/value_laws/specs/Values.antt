@@ -5,17 +5,17 @@
 -- To be believed with the laws: it is what they speak of.
 use Rattle.std.specs.Prelude.{◌≡◌, ℕ, ◌<◌, ◌≤◌, Bool, true, false, List, length, slice_index, Option, Some, None, ⊤}
 use Rattle.std.specs.List.{AllByRecursion}
-use Rattle.ddm_types.specs.declared.answers.TxKind.{TxKind}
-use Rattle.ddm_types.specs.declared.operations.Effect.{Effect}
-use Rattle.ddm_types.specs.declared.operations.HaltCause.{HaltCause}
-use Rattle.ddm_types.specs.declared.operations.Op.{Op}
-use Rattle.ddm_types.specs.declared.keys.Stamp.{Stamp}
-use Rattle.ddm_types.specs.declared.keys.Key.{Key}
-use Rattle.ddm_types.specs.CodeMap.{CodeWord}
-use Rattle.flat_model.specs.Hart.{HartValue}
-use Rattle.tree_model.specs.declared.Traffic.{Traffic}
-use Rattle.tree_model.specs.State.Kinds.{goes_up}
-use Rattle.tree_model.specs.State.Values.{RequestValue, CopyValue, DownValue, WayValue, BufferValue, LeafValue, DirValue, Node, Nodes, leaf_node, dir_node, no_nodes, more_nodes, MachineValue, root_of}
+use Rattle.value_laws.specs.DdmTypes.declared.answers.TxKind.{TxKind}
+use Rattle.value_laws.specs.DdmTypes.declared.operations.Effect.{Effect}
+use Rattle.value_laws.specs.DdmTypes.declared.operations.HaltCause.{HaltCause}
+use Rattle.value_laws.specs.DdmTypes.declared.operations.Op.{Op}
+use Rattle.value_laws.specs.DdmTypes.declared.keys.Stamp.{Stamp}
+use Rattle.value_laws.specs.DdmTypes.declared.keys.Key.{Key}
+use Rattle.value_laws.specs.DdmTypes.CodeMap.{CodeWord}
+use Rattle.value_laws.specs.FlatModel.Hart.{HartValue}
+use Rattle.value_laws.specs.TreeModel.declared.Traffic.{Traffic}
+use Rattle.value_laws.specs.TreeModel.State.Kinds.{goes_up}
+use Rattle.value_laws.specs.TreeModel.State.Values.{RequestValue, CopyValue, DownValue, WayValue, BufferValue, LeafValue, DirValue, Node, Nodes, leaf_node, dir_node, no_nodes, more_nodes, MachineValue, root_of}
 
 -- a number of 32 bits
 abbrev pub IsWord : ℕ → Type 0

@@ -1,12 +1,12 @@
 //! What the numbers and the lists of words in a machine of a run are, as theorems: there is nothing to run.
 
 ghost use Rattle.std.specs.Prelude.{◌≡◌, ℕ, ◌+◌, ◌≤◌, List, length, Ok};
-ghost use Rattle.ddm_types.specs.declared.turns.Turn.{Turn};
-ghost use Rattle.tree_model.specs.State.Values.{MachineValue};
-ghost use Rattle.tree_model.specs.State.Shape.{IsShaped};
-ghost use Rattle.tree_model.specs.Turns.Machine.{turn_of, run_of};
-ghost use Rattle.tree_model.specs.Start.Sources.{TreeValue, ImageValue};
-ghost use Rattle.tree_model.specs.Start.Machine.{start_of};
+ghost use Rattle.value_laws.specs.DdmTypes.declared.turns.Turn.{Turn};
+ghost use Rattle.value_laws.specs.TreeModel.State.Values.{MachineValue};
+ghost use Rattle.value_laws.specs.TreeModel.State.Shape.{IsShaped};
+ghost use Rattle.value_laws.specs.TreeModel.Turns.Machine.{turn_of, run_of};
+ghost use Rattle.value_laws.specs.TreeModel.Start.Sources.{TreeValue, ImageValue};
+ghost use Rattle.value_laws.specs.TreeModel.Start.Machine.{start_of};
 ghost use Rattle.bus_laws.specs.IsTree.{IsTree};
 ghost use Rattle.value_laws.specs.Values.{HasForm};
 ghost use Rattle.value_laws.specs.Images.{IsOfBytes};

@@ -4,9 +4,9 @@ use Rattle.std.specs.Prelude.{option_and_then, IsSome}
 use Rattle.std.specs.List.{list_all}
 use Rattle.std.proofs.lemmas.Bool.{eqb-true, lt-ltb, le-ltb, ltb-true}
 use Rattle.std.proofs.lemmas.List.{append-nil}
-use Rattle.ddm_types.specs.declared.operations.Op.{Op}
-use Rattle.flat_model.specs.Flat.{FlatMachine}
-use Rattle.flat_model.specs.Legal.{Legal, legal_step, legal_run}
+use Rattle.witness_check.specs.DdmTypes.declared.operations.Op.{Op}
+use Rattle.witness_check.specs.FlatModel.Flat.{FlatMachine}
+use Rattle.witness_check.specs.FlatModel.Legal.{Legal, legal_step, legal_run}
 use Rattle.text_model.specs.Lines.{Lacks}
 use Rattle.text_model.proofs.Pieces.{both}
 use Rattle.witness_check.specs.declared.refusal.CheckRefusal.{CheckRefusal}

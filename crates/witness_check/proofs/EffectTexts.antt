@@ -3,9 +3,9 @@ use Rattle.std.proofs.Common.{◌≡◌, ℕ, ◌<◌, Bool, true, false, cond, 
 use Rattle.std.specs.Prelude.{codes, bytes_eq, option_map}
 use Rattle.std.specs.List.{join_with_byte}
 use Rattle.std.proofs.lemmas.Slice.Eq.{bytes_eq-Decides}
-use Rattle.ddm_types.specs.declared.operations.Effect.{Effect}
-use Rattle.ddm_types.specs.declared.operations.Effect.TheVariants.{Plain, Put, Load, Store, Lr, ScOk, ScFail, Amo}
-use Rattle.ddm_text.specs.Hex.{hex2, hex8}
+use Rattle.witness_check.specs.DdmTypes.declared.operations.Effect.{Effect}
+use Rattle.witness_check.specs.DdmTypes.declared.operations.Effect.TheVariants.{Plain, Put, Load, Store, Lr, ScOk, ScFail, Amo}
+use Rattle.witness_check.specs.DdmText.Hex.{hex2, hex8}
 use Rattle.text_model.specs.Words.{effect_text}
 use Rattle.witness_check.specs.Lines.{hex2_in, hex8_in, with_both, with_all, effect_of_words}
 use Rattle.witness_check.specs.Witness.{IsEffect}

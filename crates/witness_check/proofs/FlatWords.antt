@@ -4,10 +4,10 @@ use Rattle.std.specs.Prelude.{flat_map}
 use Rattle.std.specs.List.{range_with_len}
 use Rattle.std.proofs.Math.Seq.{drop-append_seam, take-append_seam}
 use Rattle.std.proofs.lemmas.List.FromFn.{length-map-range_with_len}
-use Rattle.ddm_types.specs.declared.sizes.Start.{Start}
-use Rattle.ddm_types.specs.ItemTable.{ItemRow, ItemTable, item_count, items_of}
-use Rattle.tree_model.specs.Start.Sources.{SegmentValue}
-use Rattle.tree_model.specs.Start.Memory.{item_words, memory_word}
+use Rattle.witness_check.specs.DdmTypes.declared.sizes.Start.{Start}
+use Rattle.witness_check.specs.DdmTypes.ItemTable.{ItemRow, ItemTable, item_count, items_of}
+use Rattle.witness_check.specs.TreeModel.Start.Sources.{SegmentValue}
+use Rattle.witness_check.specs.TreeModel.Start.Memory.{item_words, memory_word}
 use Rattle.rv_flat.specs.ItemWords.{words_of_item, words_by_item}
 use Rattle.start_memory.specs.Memory.{memory_items, memory_words}
 

@@ -4,7 +4,7 @@ use Rattle.std.specs.Prelude.{nat_le, nat_lt}
 use Rattle.std.specs.Fmt.{digit_glyph}
 use Rattle.std.proofs.lemmas.Bool.{lt-ltb, le-ltb, le-leb, lt-leb, leb-true}
 use Rattle.std.proofs.lemmas.List.{take-append-drop}
-use Rattle.ddm_text.specs.Hex.{hex2, hex8}
+use Rattle.witness_check.specs.DdmText.Hex.{hex2, hex8}
 use Rattle.text_model.proofs.Pieces.{both}
 use Rattle.witness_check.specs.Lines.{hex_digit, with_part, hex2_in, hex4_in, hex8_in}
 

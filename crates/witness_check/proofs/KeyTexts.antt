@@ -5,10 +5,10 @@ use Rattle.std.specs.List.{join_with_byte}
 use Rattle.std.specs.Result.{result_ok}
 use Rattle.std.proofs.lemmas.Bool.{eqb-true}
 use Rattle.std.proofs.lemmas.List.{append-nil}
-use Rattle.ddm_types.specs.declared.keys.Key.{Key}
-use Rattle.ddm_types.specs.Keys.{key_zero}
-use Rattle.ddm_text.specs.Numbers.{is_digit, number_of}
-use Rattle.ddm_text.proofs.Spellings.{spelling-number_of, number_of-within, number_of-decimal}
+use Rattle.witness_check.specs.DdmTypes.declared.keys.Key.{Key}
+use Rattle.witness_check.specs.DdmTypes.Keys.{key_zero}
+use Rattle.witness_check.specs.DdmText.Numbers.{is_digit, number_of}
+use Rattle.witness_check.proofs.DdmText.Spellings.{spelling-number_of, number_of-within, number_of-decimal}
 use Rattle.text_model.specs.Schedule.{pieces_at, place_in, with_byte_before}
 use Rattle.text_model.specs.Lines.{Lacks}
 use Rattle.text_model.specs.Report.{key_text, level_numbers, number_stops}

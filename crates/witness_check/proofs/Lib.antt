@@ -1,3 +1,6 @@
+pub mod DdmText
+pub mod ElfLoad
+pub mod TextModel
 pub mod Steps
 pub mod Pieces
 pub mod Cuts

@@ -7,13 +7,13 @@ use Rattle.std.proofs.lemmas.Bool.{eqb-true, le-leb, leb-true}
 use Rattle.std.proofs.lemmas.List.{append_cancel_right, length-take}
 use Rattle.std.proofs.lemmas.List.Folds.{list_all-append}
 use Rattle.std.proofs.lemmas.Fmt.{length-decimal-le}
-use Rattle.ddm_types.specs.declared.operations.Effect.{Effect}
-use Rattle.ddm_types.specs.declared.operations.Effect.TheVariants.{Plain, Put, Load, Store, Lr, ScOk, ScFail, Amo}
-use Rattle.ddm_types.specs.declared.operations.Op.{Op}
-use Rattle.ddm_types.specs.declared.keys.Key.{Key}
-use Rattle.ddm_text.specs.Hex.{hex2, hex8}
-use Rattle.ddm_text.specs.Numbers.{is_digit}
-use Rattle.ddm_text.proofs.Spellings.{AreDigits, AreDigits-decimal}
+use Rattle.witness_check.specs.DdmTypes.declared.operations.Effect.{Effect}
+use Rattle.witness_check.specs.DdmTypes.declared.operations.Effect.TheVariants.{Plain, Put, Load, Store, Lr, ScOk, ScFail, Amo}
+use Rattle.witness_check.specs.DdmTypes.declared.operations.Op.{Op}
+use Rattle.witness_check.specs.DdmTypes.declared.keys.Key.{Key}
+use Rattle.witness_check.specs.DdmText.Hex.{hex2, hex8}
+use Rattle.witness_check.specs.DdmText.Numbers.{is_digit}
+use Rattle.witness_check.proofs.DdmText.Spellings.{AreDigits, AreDigits-decimal}
 use Rattle.text_model.specs.Schedule.{pieces_at, place_in}
 use Rattle.text_model.specs.Lines.{Lacks}
 use Rattle.text_model.specs.Words.{effect_text}

@@ -9,7 +9,7 @@ use Rattle.std.proofs.lemmas.List.{append-nil, take-append-drop}
 use Rattle.std.proofs.lemmas.List.Sums.{fold-append}
 use Rattle.text_model.specs.Lines.{Lacks}
 use Rattle.text_model.proofs.Pieces.{both}
-use Rattle.flat_model.specs.Flat.{FlatMachine}
+use Rattle.witness_check.specs.FlatModel.Flat.{FlatMachine}
 use Rattle.witness_check.specs.declared.refusal.CheckRefusal.{CheckRefusal}
 use Rattle.witness_check.specs.declared.refusal.CheckRefusal.TheVariants.{BadLine, TooManyLines}
 use Rattle.witness_check.specs.Judging.{Program, Standing, going, refused, in_line, in_text, lines_of, longer_line, with_byte}

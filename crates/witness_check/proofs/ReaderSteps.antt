@@ -2,9 +2,9 @@
 use Rattle.std.proofs.Common.{◌≡◌, ℕ, ◌+◌, ◌<◌, Bool, true, false, not, List, [], Option, Some, None, take, refl, sym, ap, ◌∙◌, subst}
 use Rattle.std.specs.Prelude.{is_some, option_map}
 use Rattle.std.proofs.lemmas.Bool.{lt-ltb}
-use Rattle.ddm_types.specs.declared.operations.Op.{Op}
-use Rattle.flat_model.specs.Flat.{FlatMachine}
-use Rattle.flat_model.specs.Legal.{legal_step}
+use Rattle.witness_check.specs.DdmTypes.declared.operations.Op.{Op}
+use Rattle.witness_check.specs.FlatModel.Flat.{FlatMachine}
+use Rattle.witness_check.specs.FlatModel.Legal.{legal_step}
 use Rattle.witness_check.specs.declared.refusal.CheckRefusal.{CheckRefusal}
 use Rattle.witness_check.specs.declared.refusal.CheckRefusal.TheVariants.{NotLegal}
 use Rattle.witness_check.specs.Lines.{op_in, without_key}

@@ -3,14 +3,14 @@ use Rattle.std.proofs.Common.{◌≡◌, ◌≢◌, ℕ, ◌+◌, ◌<◌, ◌�
 use Rattle.std.specs.Prelude.{option_and_then, IsSome}
 use Rattle.std.specs.List.{list_all}
 use Rattle.std.proofs.lemmas.Bool.{eqb-true, ltb-true, ltb-false}
-use Rattle.ddm_types.specs.declared.operations.Op.{Op}
-use Rattle.flat_model.specs.Flat.{FlatMachine}
-use Rattle.flat_model.specs.Legal.{Legal, legal_step, legal_run}
+use Rattle.witness_check.specs.DdmTypes.declared.operations.Op.{Op}
+use Rattle.witness_check.specs.FlatModel.Flat.{FlatMachine}
+use Rattle.witness_check.specs.FlatModel.Legal.{Legal, legal_step, legal_run}
 use Rattle.text_model.specs.Schedule.{pieces_at}
 use Rattle.text_model.specs.Lines.{Lacks}
 use Rattle.text_model.proofs.Pieces.{Lacks-append, both, pieces_at-append}
-use Rattle.ddm_types.specs.ItemTable.{item_count}
-use Rattle.tree_model.specs.Start.Machine.{StartRefusal, too_many_items, stack_overlap, no_place, overlap_from}
+use Rattle.witness_check.specs.DdmTypes.ItemTable.{item_count}
+use Rattle.witness_check.specs.TreeModel.Start.Machine.{StartRefusal, too_many_items, stack_overlap, no_place, overlap_from}
 use Rattle.start_memory.specs.Memory.{memory_items, stacks_of}
 use Rattle.witness_check.specs.declared.refusal.CheckRefusal.{CheckRefusal}
 use Rattle.witness_check.specs.declared.refusal.CheckRefusal.TheVariants.{TooLong, TooManyItems, StackOverlap, BadLine, TooManyLines, NotLegal, NoMemory}

@@ -6,8 +6,8 @@ use Rattle.std.proofs.lemmas.Bool.Decides.{nat_tests}
 use Rattle.std.proofs.lemmas.List.Sums.{prefix_len-le-length}
 use Rattle.std.specs.List.{list_all, position_or_len}
 use Rattle.std.proofs.lemmas.Bool.{eqb-false, eqb-true, le-leb, leb-true}
-use Rattle.ddm_text.specs.Numbers.{is_digit, number_of, number_stop, stop_after_zero, unless_stopped, at_most, value_from, value_of}
-use Rattle.ddm_text.specs.declared.reading.NumberRefusal.TheVariants.{TooLarge}
+use Rattle.witness_check.specs.DdmText.Numbers.{is_digit, number_of, number_stop, stop_after_zero, unless_stopped, at_most, value_from, value_of}
+use Rattle.witness_check.specs.DdmText.declared.reading.NumberRefusal.TheVariants.{TooLarge}
 use Rattle.text_model.specs.Schedule.{pieces_at, place_in}
 use Rattle.text_model.proofs.Pieces.{both, Lacks-AreDigits}
 use Rattle.text_model.specs.Lines.{Lacks}

@@ -1,11 +1,11 @@
 -- The start that operations are judged from is that of the tables.
 use Rattle.std.proofs.Common.{◌≡◌, ℕ, Bool, true, false, cond, Option, Some, None, refl, nat_lt}
 use Rattle.std.specs.Prelude.{option_and_then}
-use Rattle.ddm_types.specs.ItemTable.{item_count}
-use Rattle.tree_model.specs.State.Lists.{first_some}
-use Rattle.tree_model.specs.Start.Sources.{TreeValue, ImageValue, place_count, stack_spans}
-use Rattle.tree_model.specs.Start.Memory.{start_items}
-use Rattle.tree_model.specs.Start.Machine.{StartRefusal, no_place, overlap_from, start_refusal as tables_refusal, too_many_items}
+use Rattle.witness_check.specs.DdmTypes.ItemTable.{item_count}
+use Rattle.witness_check.specs.TreeModel.State.Lists.{first_some}
+use Rattle.witness_check.specs.TreeModel.Start.Sources.{TreeValue, ImageValue, place_count, stack_spans}
+use Rattle.witness_check.specs.TreeModel.Start.Memory.{start_items}
+use Rattle.witness_check.specs.TreeModel.Start.Machine.{StartRefusal, no_place, overlap_from, start_refusal as tables_refusal, too_many_items}
 use Rattle.start_memory.specs.Memory.{memory_items}
 use Rattle.witness_check.specs.declared.refusal.CheckRefusal.TheVariants.{TooManyItems}
 use Rattle.witness_check.specs.Reader.{setting_of}

@@ -2,13 +2,13 @@
 use Rattle.std.proofs.Common.{◌≡◌, ℕ, ◌≤◌, Bool, true, false, cond, nat_eq, List, length, Option, Some, None, Result, Ok, Err, refl, sym, ap, ◌∙◌, subst, arith}
 use Rattle.std.specs.Prelude.{slice_index_or}
 use Rattle.std.proofs.lemmas.List.{get_or_past}
-use Rattle.ddm_types.specs.declared.operations.Effect.{Effect}
-use Rattle.ddm_types.specs.declared.operations.HaltCause.{HaltCause}
-use Rattle.ddm_types.specs.declared.operations.Op.{Op}
-use Rattle.ddm_types.specs.CodeMap.{CodeWord}
-use Rattle.ddm_types.specs.ItemTable.{ItemTable}
-use Rattle.flat_model.specs.Flat.{FlatHart, FlatMachine, FlatStepped, flat_hart, flat_step, hart_step, item_words, machine_after, no_flat_hart, stepped}
-use Rattle.flat_model.specs.Legal.{if_effect, is_sc_ok, legal_step, same_effect}
+use Rattle.witness_check.specs.DdmTypes.declared.operations.Effect.{Effect}
+use Rattle.witness_check.specs.DdmTypes.declared.operations.HaltCause.{HaltCause}
+use Rattle.witness_check.specs.DdmTypes.declared.operations.Op.{Op}
+use Rattle.witness_check.specs.DdmTypes.CodeMap.{CodeWord}
+use Rattle.witness_check.specs.DdmTypes.ItemTable.{ItemTable}
+use Rattle.witness_check.specs.FlatModel.Flat.{FlatHart, FlatMachine, FlatStepped, flat_hart, flat_step, hart_step, item_words, machine_after, no_flat_hart, stepped}
+use Rattle.witness_check.specs.FlatModel.Legal.{if_effect, is_sc_ok, legal_step, same_effect}
 use Rattle.rv_flat.specs.FlatState.{outcome_of}
 use Rattle.witness_check.specs.Reader.{JudgeView, StepGives}
 

@@ -1,5 +1,5 @@
 -- One name that opens every definition that a check computes with. Proofs alone need it.
-use Rattle.tree_model.specs.Computing.{tree_computes}
+use Rattle.witness_check.specs.TreeModel.Computing.{tree_computes}
 use Rattle.text_model.specs.Compute.{texts_compute}
 use Rattle.start_memory.specs.Memory.{memory_items, memory_words}
 use Rattle.witness_check.specs.Lines.{hex2_in, hex4_in, hex8_in, key_in, effect_of_words, op_of_words, op_in}

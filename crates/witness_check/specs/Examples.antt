@@ -1,9 +1,9 @@
 -- Worked examples: the texts of two witnesses, and what is made of them.
 use Rattle.std.specs.Prelude.{◌≡◌, ℕ, ◌*◌, ◌/◌, ◌%◌, List, [], ◌∷◌, ◌++◌, codes, flat_map, length, Some, None, Ok, Err}
-use Rattle.ddm_types.specs.declared.operations.Effect.TheVariants.{Plain, Put, ScFail}
-use Rattle.ddm_types.specs.declared.operations.Op.{Op}
-use Rattle.ddm_types.specs.Keys.{key_zero}
-use Rattle.tree_model.specs.Start.Sources.{ImageValue}
+use Rattle.witness_check.specs.DdmTypes.declared.operations.Effect.TheVariants.{Plain, Put, ScFail}
+use Rattle.witness_check.specs.DdmTypes.declared.operations.Op.{Op}
+use Rattle.witness_check.specs.DdmTypes.Keys.{key_zero}
+use Rattle.witness_check.specs.TreeModel.Start.Sources.{ImageValue}
 use Rattle.witness_check.specs.declared.refusal.CheckRefusal.TheVariants.{StackOverlap, BadLine, NotLegal}
 use Rattle.witness_check.specs.Lines.{op_in}
 use Rattle.witness_check.specs.Start.{Setting, check_of}

@@ -1,10 +1,10 @@
 -- How a text stands that is read as a witness, byte by byte.
 use Rattle.std.specs.Prelude.{ℕ, ◌+◌, Bool, true, false, nat_eq, nat_lt, List, [], ◌∷◌, ◌++◌, fold, length, Option, Some, None, Result, Ok, Err, if◌then◌else◌}
-use Rattle.ddm_types.specs.declared.operations.Op.{Op}
-use Rattle.ddm_types.specs.CodeMap.{CodeWord}
-use Rattle.ddm_types.specs.ItemTable.{ItemTable}
-use Rattle.flat_model.specs.Flat.{FlatMachine}
-use Rattle.flat_model.specs.Legal.{legal_step}
+use Rattle.witness_check.specs.DdmTypes.declared.operations.Op.{Op}
+use Rattle.witness_check.specs.DdmTypes.CodeMap.{CodeWord}
+use Rattle.witness_check.specs.DdmTypes.ItemTable.{ItemTable}
+use Rattle.witness_check.specs.FlatModel.Flat.{FlatMachine}
+use Rattle.witness_check.specs.FlatModel.Legal.{legal_step}
 use Rattle.witness_check.specs.declared.refusal.CheckRefusal.{CheckRefusal}
 use Rattle.witness_check.specs.declared.refusal.CheckRefusal.TheVariants.{TooLong, BadLine, TooManyLines, NotLegal}
 use Rattle.witness_check.specs.Lines.{op_in}

@@ -1,3 +1,10 @@
+pub mod DdmText
+pub mod DdmTypes
+pub mod ElfLoad
+pub mod FlatModel
+pub mod StartMemory
+pub mod TextModel
+pub mod TreeModel
 pub mod Lines
 pub mod Judging
 pub mod Start

@@ -1,10 +1,10 @@
 -- The operation that a line of a witness is: the line that a report has of it, read backwards.
 use Rattle.std.specs.Prelude.{ℕ, ◌+◌, ◌-◌, ◌*◌, ◌&&◌, nat_eq, nat_le, bytes_eq, List, [], ◌∷◌, length, take, drop, Option, Some, None, codes, option_map, option_and_then, if◌then◌else◌}
-use Rattle.ddm_types.specs.declared.operations.Effect.{Effect}
-use Rattle.ddm_types.specs.declared.operations.Effect.TheVariants.{Plain, Put, Load, Store, Lr, ScOk, ScFail, Amo}
-use Rattle.ddm_types.specs.declared.operations.Op.{Op}
-use Rattle.ddm_types.specs.declared.keys.Key.{Key}
-use Rattle.ddm_types.specs.Keys.{key_zero}
+use Rattle.witness_check.specs.DdmTypes.declared.operations.Effect.{Effect}
+use Rattle.witness_check.specs.DdmTypes.declared.operations.Effect.TheVariants.{Plain, Put, Load, Store, Lr, ScOk, ScFail, Amo}
+use Rattle.witness_check.specs.DdmTypes.declared.operations.Op.{Op}
+use Rattle.witness_check.specs.DdmTypes.declared.keys.Key.{Key}
+use Rattle.witness_check.specs.DdmTypes.Keys.{key_zero}
 use Rattle.text_model.specs.Schedule.{pieces_at, place_in}
 
 -- ---- hexadecimal numbers

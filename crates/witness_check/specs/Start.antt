@@ -1,12 +1,12 @@
 -- What a program starts from, and why it has no start.
 -- Letters: i is an image.
 use Rattle.std.specs.Prelude.{ℕ, nat_lt, Option, Some, None, option_and_then, Result, Err, List, if◌then◌else◌}
-use Rattle.ddm_types.specs.declared.sizes.Start.{Start}
-use Rattle.ddm_types.specs.ItemTable.{item_count}
-use Rattle.flat_model.specs.Flat.{FlatMachine, flat_start}
-use Rattle.tree_model.specs.Start.Sources.{ImageValue}
-use Rattle.tree_model.specs.Start.Memory.{start_code}
-use Rattle.tree_model.specs.Start.Machine.{StartRefusal, too_many_items, stack_overlap, no_place, overlap_from}
+use Rattle.witness_check.specs.DdmTypes.declared.sizes.Start.{Start}
+use Rattle.witness_check.specs.DdmTypes.ItemTable.{item_count}
+use Rattle.witness_check.specs.FlatModel.Flat.{FlatMachine, flat_start}
+use Rattle.witness_check.specs.TreeModel.Start.Sources.{ImageValue}
+use Rattle.witness_check.specs.TreeModel.Start.Memory.{start_code}
+use Rattle.witness_check.specs.TreeModel.Start.Machine.{StartRefusal, too_many_items, stack_overlap, no_place, overlap_from}
 use Rattle.start_memory.specs.Memory.{memory_items, memory_words, stacks_of}
 use Rattle.witness_check.specs.declared.refusal.CheckRefusal.{CheckRefusal}
 use Rattle.witness_check.specs.declared.refusal.CheckRefusal.TheVariants.{TooManyItems, StackOverlap}

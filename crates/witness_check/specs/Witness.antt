@@ -1,11 +1,11 @@
 -- What is accepted: a text of the lines of operations that are legal, from a start that isn't refused; and what is refused.
 -- To be believed: it is what a check promises.
 use Rattle.std.specs.Prelude.{◌≡◌, ◌≢◌, ℕ, ◌+◌, ◌<◌, ◌≤◌, List, [], ◌∷◌, ◌++◌, length, Some, None}
-use Rattle.ddm_types.specs.declared.operations.Effect.{Effect}
-use Rattle.ddm_types.specs.declared.operations.Effect.TheVariants.{Plain, Put, Load, Store, Lr, ScOk, ScFail, Amo}
-use Rattle.ddm_types.specs.declared.operations.Op.{Op}
-use Rattle.ddm_types.specs.declared.keys.Key.{Key}
-use Rattle.flat_model.specs.Legal.{Legal}
+use Rattle.witness_check.specs.DdmTypes.declared.operations.Effect.{Effect}
+use Rattle.witness_check.specs.DdmTypes.declared.operations.Effect.TheVariants.{Plain, Put, Load, Store, Lr, ScOk, ScFail, Amo}
+use Rattle.witness_check.specs.DdmTypes.declared.operations.Op.{Op}
+use Rattle.witness_check.specs.DdmTypes.declared.keys.Key.{Key}
+use Rattle.witness_check.specs.FlatModel.Legal.{Legal}
 use Rattle.text_model.specs.Report.{op_line}
 use Rattle.witness_check.specs.declared.refusal.CheckRefusal.{CheckRefusal}
 use Rattle.witness_check.specs.declared.refusal.CheckRefusal.TheVariants.{TooLong, TooManyItems, StackOverlap, BadLine, TooManyLines, NotLegal, NoMemory}

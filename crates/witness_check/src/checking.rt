@@ -1,14 +1,14 @@
 ghost use Rattle.std.specs.Prelude.{◌≡◌, ◌⊎◌, ◌≤◌, ◌+◌, ◌*◌, ℕ, Ok, Err, IfErr, IfOk};
-ghost use Rattle.ddm_types.specs.ItemTable.{IsItemSize};
+ghost use Rattle.witness_check.specs.DdmTypes.ItemTable.{IsItemSize};
 ghost use Rattle.witness_check.specs.Start.{check_of};
 ghost use Rattle.witness_check.specs.Reader.{setting};
 ghost use Rattle.witness_check.specs.Witness.{IsAccepted, IsRefused};
 ghost use Rattle.witness_check.specs.declared.refusal.CheckRefusal.TheVariants as refusal;
 
+use crate::of_ddm_types::Start;
+use crate::of_elf_load::Image;
 use crate::reader::WitnessReader;
 use crate::refusal::CheckRefusal;
-use ddm_types::Start;
-use elf_load::Image;
 use std::alloc::Global;
 
 // What a text comes to.

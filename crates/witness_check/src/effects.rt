@@ -3,8 +3,8 @@ ghost use Rattle.text_model.specs.Schedule.{pieces_at};
 ghost use Rattle.witness_check.specs.Lines.{effect_of_one, effect_of_three, effect_of_two, effect_of_words};
 
 use crate::hex::{hex2, hex8};
+use crate::of_ddm_types::Effect;
 use crate::words::cut_word;
-use ddm_types::Effect;
 
 const PUT: &[u8] = b"put";
 

@@ -1,14 +1,14 @@
 ghost use Rattle.std.specs.Prelude.{◌≡◌, ◌⊎◌, ◌≤◌, ◌+◌, ◌*◌, None, Some, IfErr, IfOk};
-ghost use Rattle.ddm_types.specs.ItemTable.{IsItemSize};
-ghost use Rattle.flat_model.specs.Legal.{is_sc_ok, legal_step, same_effect};
+ghost use Rattle.witness_check.specs.DdmTypes.ItemTable.{IsItemSize};
+ghost use Rattle.witness_check.specs.FlatModel.Legal.{is_sc_ok, legal_step, same_effect};
 ghost use Rattle.start_memory.specs.Memory.{memory_items};
 ghost use Rattle.witness_check.specs.Start.{start_refusal};
 ghost use Rattle.witness_check.specs.Reader.{StepGives, judge_at_start, setting};
 ghost use Rattle.witness_check.specs.declared.refusal.CheckRefusal.TheVariants as refusal;
 
+use crate::of_ddm_types::{Code, Effect, Items, MOST_ITEMS, Op, Start, count_items};
+use crate::of_elf_load::{Image, copied_code};
 use crate::refusal::CheckRefusal;
-use ddm_types::{Code, Effect, Items, MOST_ITEMS, Op, Start, count_items};
-use elf_load::{Image, copied_code};
 use rv_flat::FlatMachine;
 use start_memory::{first_overlap, spans_of, words_of_items};
 use std::alloc::Global;

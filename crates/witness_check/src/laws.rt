@@ -2,9 +2,9 @@
 
 ghost use Rattle.std.specs.Prelude.{◌≡◌, ℕ, [], List, ◌++◌, None, option_and_then};
 ghost use Rattle.witness_check.specs.Judging.{answer_of};
-ghost use Rattle.tree_model.specs.Start.Sources.{ImageValue, TreeValue};
-ghost use Rattle.tree_model.specs.Start.Memory.{start_code, start_items};
-ghost use Rattle.tree_model.specs.Start.Machine.{flat_start_of, start_refusal as tables_refusal};
+ghost use Rattle.witness_check.specs.TreeModel.Start.Sources.{ImageValue, TreeValue};
+ghost use Rattle.witness_check.specs.TreeModel.Start.Memory.{start_code, start_items};
+ghost use Rattle.witness_check.specs.TreeModel.Start.Machine.{flat_start_of, start_refusal as tables_refusal};
 ghost use Rattle.witness_check.specs.Start.{Setting, check_of, judged, machine_of, program_of, start_refusal};
 ghost use Rattle.witness_check.specs.Reader.{begun, fed, reader_after, setting_of};
 

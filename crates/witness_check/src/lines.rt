@@ -4,8 +4,8 @@ ghost use Rattle.witness_check.specs.Lines.{op_in, op_of_words, without_key};
 
 use crate::effects::effect_of;
 use crate::hex::hex8;
+use crate::of_ddm_types::{HartNo, Key, Op};
 use crate::words::{cut_word, is_key, number};
-use ddm_types::{HartNo, Key, Op};
 
 const MARK: &[u8] = b"op";
 

@@ -1,7 +1,7 @@
 ghost use Rattle.std.specs.Prelude.{◌≡◌, ◌⊎◌, ◌≤◌, ◌+◌, ◌*◌, ℕ, List, ◌++◌, None, Some, IfErr, IfOk, length, take};
 ghost use Rattle.text_model.specs.Lines.{Lacks};
-ghost use Rattle.ddm_types.specs.ItemTable.{IsItemSize};
-ghost use Rattle.flat_model.specs.Flat.{FlatMachine};
+ghost use Rattle.witness_check.specs.DdmTypes.ItemTable.{IsItemSize};
+ghost use Rattle.witness_check.specs.FlatModel.Flat.{FlatMachine};
 ghost use Rattle.witness_check.specs.Judging.{answer_of, going, lines_of, with_byte};
 ghost use Rattle.witness_check.specs.Start.{start_refusal};
 ghost use Rattle.witness_check.specs.Reader.{begun, fed, feed_answer, setting, with_standing, IsAtLineEnd};
@@ -9,10 +9,10 @@ ghost use Rattle.witness_check.specs.declared.refusal.CheckRefusal.TheVariants a
 
 use crate::judge::Judge;
 use crate::lines::op_of_line;
+use crate::of_ddm_types::Start;
+use crate::of_elf_load::Image;
 use crate::places::place_of;
 use crate::refusal::CheckRefusal;
-use ddm_types::Start;
-use elf_load::Image;
 use std::alloc::Global;
 use std::marker::Model;
 

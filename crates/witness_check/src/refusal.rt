@@ -1,7 +1,7 @@
 ghost use Rattle.std.specs.Prelude.{◌≡◌};
 ghost use Rattle.witness_check.specs.declared.refusal.CheckRefusal.TheVariants as refusal;
 
-use ddm_types::NoMemory;
+use crate::of_ddm_types::NoMemory;
 
 /// Why a text isn't accepted as a witness. Lines are counted from 1.
 #[derive(Clone, Copy, Debug, PartialEq, Eq)]

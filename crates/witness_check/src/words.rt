@@ -1,11 +1,11 @@
 ghost use Rattle.std.specs.Prelude.{◌≡◌, ◌≤◌, ◌<◌, ◌+◌, [], ◌∷◌, ◌||◌, ◌&&◌, true, drop, if◌then◌else◌, is_some, length, MatchOption, nat_eq, nat_le, not, option_map, position, slice_index, take};
 ghost use Rattle.std.specs.List.{position_or_len};
-ghost use Rattle.ddm_text.specs.Numbers.{is_digit};
+ghost use Rattle.witness_check.specs.DdmText.Numbers.{is_digit};
 ghost use Rattle.text_model.specs.Schedule.{pieces_at, place_in};
 ghost use Rattle.witness_check.specs.Lines.{key_in, numbers_in};
 
+use crate::of_ddm_text::read_decimal;
 use crate::places::{place_near, place_of};
-use ddm_text::read_decimal;
 
 /// The first word of a text and what is behind its space, where there is a space.
 pub(crate) fn cut_word(text: &[u8]) -> Option<(&[u8], &[u8])>

@@ -1,1 +1,4 @@
+pub mod OrderLaws
+pub mod OrderLists
+pub mod TreeModel
 pub mod Printed

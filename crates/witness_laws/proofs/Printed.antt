@@ -4,36 +4,36 @@ use Rattle.std.specs.Prelude.{codes, decimal, flat_map, option_and_then}
 use Rattle.std.specs.List.{AllByRecursion}
 use Rattle.std.proofs.Math.Seq.{take-length}
 use Rattle.std.proofs.lemmas.List.Concat.{flat_map-cons}
-use Rattle.ddm_types.specs.declared.answers.TurnAnswer.{TurnAnswer}
-use Rattle.ddm_types.specs.declared.operations.Effect.{Effect}
-use Rattle.ddm_types.specs.declared.operations.Op.{Op}
-use Rattle.ddm_types.specs.declared.turns.Turn.{Turn}
-use Rattle.ddm_types.specs.CodeMap.{CodeWord}
-use Rattle.ddm_types.specs.ItemTable.{ItemTable}
-use Rattle.flat_model.specs.Legal.{Legal}
-use Rattle.tree_model.specs.State.Shape.{Frame}
-use Rattle.tree_model.specs.State.Values.{MachineValue}
-use Rattle.tree_model.specs.Start.Sources.{ImageValue, TreeValue}
-use Rattle.tree_model.specs.Start.Memory.{start_code, start_items, start_words}
-use Rattle.tree_model.specs.Start.Machine.{flat_start_of, start_machine, start_of, start_refusal}
-use Rattle.tree_model.specs.Turns.Machine.{run_of, turn_of}
-use Rattle.ddm_types.specs.Keys.{key_less}
-use Rattle.tree_model.specs.Turns.Witness.{sorted_ops, with_op}
-use Rattle.tree_model.proofs.FrameKept.{run-frame}
-use Rattle.tree_rules.specs.Witness.{IsRunWitnessed}
-use Rattle.text_model.specs.Report.{key_text, op_line, op_lines, report_of}
-use Rattle.text_model.specs.Run.{report_text_of, view_of}
-use Rattle.text_model.specs.Words.{effect_text}
-use Rattle.ddm_text.specs.Hex.{hex8}
-use Rattle.bus_laws.specs.IsTree.{IsTree}
-use Rattle.order_lists.proofs.Sorted.{sorted-each, with_op-least, with_op-less}
-use Rattle.order_laws.proofs.Hart.HartMachine.{ops_after, ops_with}
+use Rattle.witness_laws.specs.DdmTypes.declared.answers.TurnAnswer.{TurnAnswer}
+use Rattle.witness_laws.specs.DdmTypes.declared.operations.Effect.{Effect}
+use Rattle.witness_laws.specs.DdmTypes.declared.operations.Op.{Op}
+use Rattle.witness_laws.specs.DdmTypes.declared.turns.Turn.{Turn}
+use Rattle.witness_laws.specs.DdmTypes.CodeMap.{CodeWord}
+use Rattle.witness_laws.specs.DdmTypes.ItemTable.{ItemTable}
+use Rattle.witness_laws.specs.FlatModel.Legal.{Legal}
+use Rattle.witness_laws.specs.TreeModel.State.Shape.{Frame}
+use Rattle.witness_laws.specs.TreeModel.State.Values.{MachineValue}
+use Rattle.witness_laws.specs.TreeModel.Start.Sources.{ImageValue, TreeValue}
+use Rattle.witness_laws.specs.TreeModel.Start.Memory.{start_code, start_items, start_words}
+use Rattle.witness_laws.specs.TreeModel.Start.Machine.{flat_start_of, start_machine, start_of, start_refusal}
+use Rattle.witness_laws.specs.TreeModel.Turns.Machine.{run_of, turn_of}
+use Rattle.witness_laws.specs.DdmTypes.Keys.{key_less}
+use Rattle.witness_laws.specs.TreeModel.Turns.Witness.{sorted_ops, with_op}
+use Rattle.witness_laws.proofs.TreeModel.FrameKept.{run-frame}
+use Rattle.witness_laws.specs.TreeRules.Witness.{IsRunWitnessed}
+use Rattle.witness_laws.specs.TextModel.Report.{key_text, op_line, op_lines, report_of}
+use Rattle.witness_laws.specs.TextModel.Run.{report_text_of, view_of}
+use Rattle.witness_laws.specs.TextModel.Words.{effect_text}
+use Rattle.witness_laws.specs.DdmText.Hex.{hex8}
+use Rattle.witness_laws.specs.BusLaws.IsTree.{IsTree}
+use Rattle.witness_laws.proofs.OrderLists.Sorted.{sorted-each, with_op-least, with_op-less}
+use Rattle.witness_laws.proofs.OrderLaws.Hart.HartMachine.{ops_after, ops_with}
 use Rattle.headline.proofs.Runs.{each-turn}
 use Rattle.value_laws.specs.Images.{IsOfBytes}
 use Rattle.value_laws.specs.Values.{EffectHasForm, OpHasForm}
 use Rattle.value_laws.proofs.Lists.{all-more}
 use Rattle.value_laws.proofs.RunForm.{every-run-form}
-use Rattle.start_memory.specs.Memory.{memory_items, memory_words}
+use Rattle.witness_laws.specs.StartMemory.Memory.{memory_items, memory_words}
 use Rattle.witness_check.specs.Reader.{setting_of}
 use Rattle.witness_check.specs.Start.{judged, start_refusal as judged_refusal}
 use Rattle.witness_check.specs.Witness.{AreLegal, BeginsWith, IsAccepted, IsEffect, IsOp}

@@ -1,2 +1,10 @@
+pub mod BusLaws
+pub mod DdmText
+pub mod DdmTypes
+pub mod FlatModel
+pub mod StartMemory
+pub mod TextModel
+pub mod TreeModel
+pub mod TreeRules
 pub mod Judgements
 pub mod Printed

@@ -2,15 +2,15 @@
 -- Letters: t is a tree, i an image.
 -- To be believed: it is what is claimed of every run.
 use Rattle.std.specs.Prelude.{◌≡◌, ℕ, ◌≤◌, List, ◌++◌, length, None, Ok, codes}
-use Rattle.ddm_types.specs.declared.turns.Turn.{Turn}
-use Rattle.ddm_types.specs.declared.operations.Op.{Op}
-use Rattle.tree_model.specs.Start.Sources.{ImageValue, TreeValue}
-use Rattle.tree_model.specs.Start.Machine.{start_machine, start_refusal}
-use Rattle.tree_model.specs.Turns.Machine.{run_of}
-use Rattle.tree_model.specs.Turns.Witness.{sorted_ops}
-use Rattle.text_model.specs.Report.{op_lines}
-use Rattle.text_model.specs.Run.{report_text_of}
-use Rattle.bus_laws.specs.IsTree.{IsTree}
+use Rattle.witness_laws.specs.DdmTypes.declared.turns.Turn.{Turn}
+use Rattle.witness_laws.specs.DdmTypes.declared.operations.Op.{Op}
+use Rattle.witness_laws.specs.TreeModel.Start.Sources.{ImageValue, TreeValue}
+use Rattle.witness_laws.specs.TreeModel.Start.Machine.{start_machine, start_refusal}
+use Rattle.witness_laws.specs.TreeModel.Turns.Machine.{run_of}
+use Rattle.witness_laws.specs.TreeModel.Turns.Witness.{sorted_ops}
+use Rattle.witness_laws.specs.TextModel.Report.{op_lines}
+use Rattle.witness_laws.specs.TextModel.Run.{report_text_of}
+use Rattle.witness_laws.specs.BusLaws.IsTree.{IsTree}
 use Rattle.value_laws.specs.Images.{IsOfBytes}
 use Rattle.witness_check.specs.Reader.{setting_of}
 use Rattle.witness_check.specs.Start.{check_of}

@@ -1,3 +1,4 @@
+pub mod DdmTypes
 pub mod Members
 pub mod Orders
 pub mod PlacesMoved

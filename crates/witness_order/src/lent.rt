@@ -1,8 +1,8 @@
 ghost use Rattle.std.specs.Prelude.{◌≡◌, ◌<◌, length, slice_index_or};
-ghost use Rattle.ddm_types.specs.declared.operations.Op.{Op};
+ghost use Rattle.witness_order.specs.DdmTypes.declared.operations.Op.{Op};
 ghost use Rattle.witness_order.specs.LentOps.{lent_ops};
 
-use ddm_types::Op;
+use crate::of_ddm_types::Op;
 use operation_list::Operations;
 
 /// Operations that stand elsewhere.

@@ -1,6 +1,6 @@
 -- A victim goes to the buffer; a second one finds it full, until the copy in it leaves.
 use Rattle.std.specs.Prelude.{◌≡◌, ℕ, List, [], ◌∷◌, ◌++◌, codes}
-use Rattle.tree_model.specs.Start.Sources.{ImageValue, TreeValue}
+use Rattle.worked_examples.specs.TreeModel.Start.Sources.{ImageValue, TreeValue}
 use Rattle.worked_examples.specs.Programs.{program, tree_of, trace_in, completed_keys_in, ended}
 
 abbrev pub tree : TreeValue

@@ -1,6 +1,6 @@
 -- A read joins a read that is under way, and the data goes to both.
 use Rattle.std.specs.Prelude.{◌≡◌, ℕ, List, [], ◌∷◌, codes}
-use Rattle.tree_model.specs.Start.Sources.{TreeValue}
+use Rattle.worked_examples.specs.TreeModel.Start.Sources.{TreeValue}
 use Rattle.worked_examples.specs.Programs.{tree_of, trace_in, letters_in, completed_keys_in}
 use Rattle.worked_examples.specs.OneRead.{image}
 

@@ -1,6 +1,6 @@
 -- A load of the old word is later in turns than the store, and earlier in the witness. Then the old word can't be read after the flag.
 use Rattle.std.specs.Prelude.{◌≡◌, ℕ, List, [], ◌∷◌, ◌++◌, codes}
-use Rattle.tree_model.specs.Start.Sources.{ImageValue, TreeValue}
+use Rattle.worked_examples.specs.TreeModel.Start.Sources.{ImageValue, TreeValue}
 use Rattle.worked_examples.specs.Programs.{program, tree_of, with_down, trace_in, completed_keys_in, ended}
 
 abbrev pub tree : TreeValue

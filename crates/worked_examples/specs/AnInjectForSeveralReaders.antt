@@ -1,6 +1,6 @@
 -- Two leaves read an item that comes to their bus as an inject: both get data.
 use Rattle.std.specs.Prelude.{◌≡◌, ℕ, List, [], ◌∷◌, codes}
-use Rattle.tree_model.specs.Start.Sources.{ImageValue, TreeValue}
+use Rattle.worked_examples.specs.TreeModel.Start.Sources.{ImageValue, TreeValue}
 use Rattle.worked_examples.specs.Programs.{program, tree_of, trace_in, counts_in, item_in, completed_keys_in}
 
 abbrev pub tree : TreeValue

@@ -1,10 +1,10 @@
 -- Where a machine can't be built, and which items segments and stacks make.
 use Rattle.std.specs.Prelude.{◌≡◌, true, false, List, [], ◌∷◌, Some, None}
-use Rattle.ddm_types.specs.declared.sizes.Span.{Span}
-use Rattle.ddm_types.specs.ItemTable.{items_of, item_count}
-use Rattle.tree_model.specs.Start.Sources.{ImageValue, TreeValue}
-use Rattle.tree_model.specs.Start.Machine.{no_place, stack_overlap, start_refusal}
-use Rattle.tree_model.specs.Start.Memory.{start_items}
+use Rattle.worked_examples.specs.DdmTypes.declared.sizes.Span.{Span}
+use Rattle.worked_examples.specs.DdmTypes.ItemTable.{items_of, item_count}
+use Rattle.worked_examples.specs.TreeModel.Start.Sources.{ImageValue, TreeValue}
+use Rattle.worked_examples.specs.TreeModel.Start.Machine.{no_place, stack_overlap, start_refusal}
+use Rattle.worked_examples.specs.TreeModel.Start.Memory.{start_items}
 use Rattle.worked_examples.specs.Programs.{tree_of}
 use Rattle.worked_examples.specs.OneRead as read
 use Rattle.worked_examples.specs.StoreAndLoadBack as store

@@ -1,3 +1,5 @@
+pub mod DdmTypes
+pub mod TreeModel
 pub mod Programs
 pub mod Computing
 pub mod StoreAndLoadBack

@@ -1,6 +1,6 @@
 -- A hart puts one byte, and then runs out of code.
 use Rattle.std.specs.Prelude.{◌≡◌, ℕ, List, [], ◌∷◌, codes}
-use Rattle.tree_model.specs.Start.Sources.{ImageValue, TreeValue}
+use Rattle.worked_examples.specs.TreeModel.Start.Sources.{ImageValue, TreeValue}
 use Rattle.worked_examples.specs.Programs.{code_alone, tree_of, trace_in, output_in}
 
 abbrev pub tree : TreeValue

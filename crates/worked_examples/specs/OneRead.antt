@@ -1,6 +1,6 @@
 -- A hart loads a word of an item that another leaf holds.
 use Rattle.std.specs.Prelude.{◌≡◌, ℕ, List, [], ◌∷◌, codes}
-use Rattle.tree_model.specs.Start.Sources.{ImageValue, TreeValue}
+use Rattle.worked_examples.specs.TreeModel.Start.Sources.{ImageValue, TreeValue}
 use Rattle.worked_examples.specs.Programs.{program, tree_of, trace_in, counts_in, traffic_in, item_in, operations_in}
 
 abbrev pub tree : TreeValue

@@ -1,14 +1,14 @@
 -- How an example is told: a program, a tree, a schedule as text, and what is printed.
 use Rattle.std.specs.Prelude.{ℕ, ◌*◌, ◌/◌, ◌%◌, List, [], ◌∷◌, ◌++◌, codes, length, Result, Ok, Err}
 use Rattle.std.specs.List.{flat_map}
-use Rattle.ddm_types.specs.declared.turns.Turn.{Turn}
-use Rattle.ddm_types.specs.declared.operations.Op.{Op}
-use Rattle.ddm_types.specs.ItemTable.{row_at}
-use Rattle.tree_model.specs.Turns.Machine.{Ran, run_of}
-use Rattle.tree_model.specs.Start.Sources.{SegmentValue, ImageValue, TreeValue, leaf_count, bus_widths}
-use Rattle.tree_model.specs.Start.Machine.{start_machine}
-use Rattle.tree_model.specs.Turns.Witness.{sorted_ops}
-use Rattle.tree_model.specs.Turns.Found.{states_of}
+use Rattle.worked_examples.specs.DdmTypes.declared.turns.Turn.{Turn}
+use Rattle.worked_examples.specs.DdmTypes.declared.operations.Op.{Op}
+use Rattle.worked_examples.specs.DdmTypes.ItemTable.{row_at}
+use Rattle.worked_examples.specs.TreeModel.Turns.Machine.{Ran, run_of}
+use Rattle.worked_examples.specs.TreeModel.Start.Sources.{SegmentValue, ImageValue, TreeValue, leaf_count, bus_widths}
+use Rattle.worked_examples.specs.TreeModel.Start.Machine.{start_machine}
+use Rattle.worked_examples.specs.TreeModel.Turns.Witness.{sorted_ops}
+use Rattle.worked_examples.specs.TreeModel.Turns.Found.{states_of}
 use Rattle.text_model.specs.declared.ScheduleRefusal.{ScheduleRefusal}
 use Rattle.text_model.specs.Schedule.{ShapeView, schedule_of}
 use Rattle.text_model.specs.Trace.{trace_text}

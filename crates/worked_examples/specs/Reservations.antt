@@ -1,6 +1,6 @@
 -- An LR and an SC: the reservation is kept, or lost to another hart.
 use Rattle.std.specs.Prelude.{◌≡◌, ℕ, List, [], ◌∷◌, codes}
-use Rattle.tree_model.specs.Start.Sources.{ImageValue, TreeValue}
+use Rattle.worked_examples.specs.TreeModel.Start.Sources.{ImageValue, TreeValue}
 use Rattle.worked_examples.specs.Programs.{program, tree_of, trace_in, completed_keys_in}
 
 abbrev pub tree : TreeValue

@@ -1,7 +1,7 @@
 -- Machines that are saved: the words of a checkpoint after a run.
 use Rattle.std.specs.Prelude.{◌≡◌, ℕ, List, [], ◌∷◌, codes, drop, length, take}
-use Rattle.tree_model.specs.Turns.Machine.{Ran}
-use Rattle.tree_model.specs.Start.Sources.{ImageValue, TreeValue}
+use Rattle.worked_examples.specs.TreeModel.Turns.Machine.{Ran}
+use Rattle.worked_examples.specs.TreeModel.Start.Sources.{ImageValue, TreeValue}
 use Rattle.text_model.specs.declared.RunCounts.{RunCounts}
 use Rattle.text_model.specs.Run.{counts_of}
 use Rattle.state_words.specs.Machine.{checkpoint_words, checkpoint_bytes}

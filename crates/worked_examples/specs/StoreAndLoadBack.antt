@@ -1,6 +1,6 @@
 -- One leaf stores 7, loads it back and exits with it.
 use Rattle.std.specs.Prelude.{◌≡◌, ℕ, List, [], ◌∷◌, ◌++◌, codes}
-use Rattle.tree_model.specs.Start.Sources.{ImageValue, TreeValue}
+use Rattle.worked_examples.specs.TreeModel.Start.Sources.{ImageValue, TreeValue}
 use Rattle.worked_examples.specs.Programs.{program, tree_of, with_stacks, with_wide_items, trace_in, report_in}
 
 abbrev pub tree : TreeValue

@@ -1,7 +1,7 @@
 -- How a stored trace is told: the tree, the image and the schedule that an independent model was given, and what it printed.
 use Rattle.std.specs.Prelude.{◌≡◌, ℕ, ◌*◌, List, [], ◌∷◌, length}
-use Rattle.ddm_types.specs.declared.sizes.TreeSizes.{TreeSizes}
-use Rattle.tree_model.specs.Start.Sources.{SegmentValue, ImageValue, TreeValue}
+use Rattle.worked_examples.specs.DdmTypes.declared.sizes.TreeSizes.{TreeSizes}
+use Rattle.worked_examples.specs.TreeModel.Start.Sources.{SegmentValue, ImageValue, TreeValue}
 use Rattle.worked_examples.specs.Programs.{code_segment, data_segment, trace_and_report_in}
 
 -- a tree of levels with ways and sizes, no stacks, and items of 16 bytes

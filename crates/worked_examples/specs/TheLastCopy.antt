@@ -1,6 +1,6 @@
 -- Copies that find no room are parked; an out of a copy that isn't the last is dropped, and the last copy becomes an inject.
 use Rattle.std.specs.Prelude.{◌≡◌, ℕ, List, [], ◌∷◌, codes}
-use Rattle.tree_model.specs.Start.Sources.{ImageValue, TreeValue}
+use Rattle.worked_examples.specs.TreeModel.Start.Sources.{ImageValue, TreeValue}
 use Rattle.worked_examples.specs.Programs.{program, tree_of, with_lists, trace_in, counts_in, traffic_in, item_in, keys_in}
 
 abbrev pub tree : TreeValue

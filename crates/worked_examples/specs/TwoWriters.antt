@@ -1,6 +1,6 @@
 -- Two harts store to one word: the second to ask is served first.
 use Rattle.std.specs.Prelude.{◌≡◌, ℕ, List, [], ◌∷◌, ◌++◌, codes}
-use Rattle.tree_model.specs.Start.Sources.{ImageValue, TreeValue}
+use Rattle.worked_examples.specs.TreeModel.Start.Sources.{ImageValue, TreeValue}
 use Rattle.worked_examples.specs.Programs.{program, tree_of, trace_in, counts_in, traffic_in, item_in, letters_in, keys_in, ended}
 
 abbrev pub tree : TreeValue

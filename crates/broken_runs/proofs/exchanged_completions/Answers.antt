@@ -2,7 +2,7 @@ use Rattle.std.specs.Prelude.{List, [], ◌∷◌, Bool, false, nat_eq}
 use Rattle.std.proofs.Common.{ap}
 use Rattle.std.proofs.lemmas.Bool.{true≢false}
 use Rattle.tree_rules.specs.Computing.{rules_compute}
-use Rattle.ddm_types.specs.declared.operations.Op.{Op}
+use Rattle.broken_runs.specs.DdmTypes.declared.operations.Op.{Op}
 use Rattle.broken_runs.proofs.exchanged_completions.Goals as goal
 
 stores_first : List Op → Bool

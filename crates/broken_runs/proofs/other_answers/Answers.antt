@@ -2,8 +2,8 @@ use Rattle.std.specs.Prelude.{List, ◌∷◌, Bool, false, nat_eq}
 use Rattle.std.proofs.Common.{refl, ap}
 use Rattle.std.proofs.lemmas.Bool.{true≢false}
 use Rattle.tree_rules.specs.Computing.{rules_compute}
-use Rattle.ddm_types.specs.declared.operations.Effect.{Effect}
-use Rattle.ddm_types.specs.declared.operations.Op.{Op}
+use Rattle.broken_runs.specs.DdmTypes.declared.operations.Effect.{Effect}
+use Rattle.broken_runs.specs.DdmTypes.declared.operations.Op.{Op}
 use Rattle.broken_runs.proofs.other_answers.Goals as goal
 
 -- an operation that stores 7

@@ -2,9 +2,9 @@ use Rattle.std.specs.Prelude.{Bool, true, false, nat_eq, is_some, Err, slice_ind
 use Rattle.std.proofs.Common.{ap}
 use Rattle.std.proofs.lemmas.Bool.{true≢false, false≢true}
 use Rattle.tree_rules.specs.Computing.{rules_compute}
-use Rattle.ddm_types.specs.declared.operations.HaltCause.{HaltCause}
-use Rattle.flat_model.specs.Hart.{HartValue}
-use Rattle.flat_model.specs.Flat.{FlatStepped}
+use Rattle.broken_runs.specs.DdmTypes.declared.operations.HaltCause.{HaltCause}
+use Rattle.broken_runs.specs.FlatModel.Hart.{HartValue}
+use Rattle.broken_runs.specs.FlatModel.Flat.{FlatStepped}
 use Rattle.broken_runs.proofs.other_harts.Goals as goal
 
 pub returns-clause-other_register : goal.returns-clause-other_register

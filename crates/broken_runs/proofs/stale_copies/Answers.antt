@@ -2,7 +2,7 @@ use Rattle.std.specs.Prelude.{List, Bool, false, nat_eq, Option, Some, None, is_
 use Rattle.std.proofs.Common.{arith, ap, ◌∙◌}
 use Rattle.std.proofs.lemmas.Bool.{true≢false, false≢true}
 use Rattle.tree_rules.specs.Computing.{rules_compute}
-use Rattle.tree_model.specs.Turns.Found.{FoundValue}
+use Rattle.broken_runs.specs.TreeModel.Turns.Found.{FoundValue}
 use Rattle.broken_runs.proofs.stale_copies.Goals as goal
 
 -- the copy's first word is 5

@@ -1,8 +1,8 @@
 use Rattle.std.proofs.Common.{◌<◌, ◌≤◌, length, rules, ap, ◌∙◌, arith}
 use Rattle.std.proofs.lemmas.List.{take_all}
-use Rattle.tree_model.specs.State.Shape.{tree_counts}
-use Rattle.tree_model.specs.Turns.Found.{states_of}
-use Rattle.ddm_tree.proofs.LeafList.{leaf-there}
+use Rattle.inspector.specs.TreeModel.State.Shape.{tree_counts}
+use Rattle.inspector.specs.TreeModel.Turns.Found.{states_of}
+use Rattle.inspector.proofs.DdmTree.LeafList.{leaf-there}
 use Rattle.inspector.proofs.LeafStates.{one-more, states-counted}
 use Rattle.inspector.proofs.states.Goals as goal
 

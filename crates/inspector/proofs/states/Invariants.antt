@@ -1,5 +1,5 @@
 use Rattle.std.proofs.Common.{◌≡◌, take}
-use Rattle.tree_model.specs.Turns.Found.{states_of}
+use Rattle.inspector.specs.TreeModel.Turns.Found.{states_of}
 use Rattle.inspector.proofs.states.Given as goal
 
 abbrev pub invariant-loop-leaf : goal.invariant-loop-leaf

@@ -5,26 +5,26 @@ use Rattle.std.specs.Prelude.{nat_eq, nat_lt, nat_le}
 use Rattle.std.specs.List.{AllByRecursion}
 use Rattle.std.proofs.lemmas.Bool.{and_parts, and_from, eqb-true, eq-eqb, leb-true, le-leb, ltb-true, lt-ltb, true≢false, false≢true}
 use Rattle.std.proofs.lemmas.List.{length-append, take_all}
-use Rattle.ddm_types.specs.declared.turns.Turn.{Turn}
-use Rattle.ddm_types.specs.ItemTable.{item_count}
-use Rattle.flat_model.specs.Flat.{FlatMachine}
-use Rattle.tree_model.specs.State.Values.{Node, children, MachineValue, root_of}
-use Rattle.tree_model.specs.State.States.{is_held}
-use Rattle.tree_model.specs.State.Child.{child_hold}
-use Rattle.tree_model.specs.State.Directory.{stamp_of}
-use Rattle.tree_model.specs.State.Place.{spot_in}
-use Rattle.tree_model.specs.State.Shape.{Frame, IsShaped, skeleton}
-use Rattle.tree_model.specs.Turns.Children.{child_at}
-use Rattle.tree_model.proofs.FrameKept.{turn-frame}
-use Rattle.tree_rules.specs.Statements.{Holds, each, there_and}
-use Rattle.tree_rules.specs.Bus.Rules.{IsBusOk, IsMachineOk, items_of_machine}
-use Rattle.tree_rules.specs.Order.Claims.{ClaimAt, claims_of}
-use Rattle.tree_rules.specs.Order.Copies.{CopyAt, copies_of, erases_in}
-use Rattle.tree_rules.specs.Order.Core.{claim_level, parts_at_claim, claim_is_after_end, claim_is_after_copy}
-use Rattle.tree_rules.specs.Order.Moments.{less, less_at, parted, is_under, moment_length, GoesOn}
-use Rattle.tree_rules.specs.Order.Places.{dirs_at}
-use Rattle.tree_rules.specs.Order.Rules.{IsTimed, IsCore, claims_after_copies, commands_past_taken}
-use Rattle.tree_rules.proofs.Statements.{each-facts, facts-each}
+use Rattle.order_laws.specs.DdmTypes.declared.turns.Turn.{Turn}
+use Rattle.order_laws.specs.DdmTypes.ItemTable.{item_count}
+use Rattle.order_laws.specs.FlatModel.Flat.{FlatMachine}
+use Rattle.order_laws.specs.TreeModel.State.Values.{Node, children, MachineValue, root_of}
+use Rattle.order_laws.specs.TreeModel.State.States.{is_held}
+use Rattle.order_laws.specs.TreeModel.State.Child.{child_hold}
+use Rattle.order_laws.specs.TreeModel.State.Directory.{stamp_of}
+use Rattle.order_laws.specs.TreeModel.State.Place.{spot_in}
+use Rattle.order_laws.specs.TreeModel.State.Shape.{Frame, IsShaped, skeleton}
+use Rattle.order_laws.specs.TreeModel.Turns.Children.{child_at}
+use Rattle.order_laws.proofs.TreeModel.FrameKept.{turn-frame}
+use Rattle.order_laws.specs.TreeRules.Statements.{Holds, each, there_and}
+use Rattle.order_laws.specs.TreeRules.Bus.Rules.{IsBusOk, IsMachineOk, items_of_machine}
+use Rattle.order_laws.specs.TreeRules.Order.Claims.{ClaimAt, claims_of}
+use Rattle.order_laws.specs.TreeRules.Order.Copies.{CopyAt, copies_of, erases_in}
+use Rattle.order_laws.specs.TreeRules.Order.Core.{claim_level, parts_at_claim, claim_is_after_end, claim_is_after_copy}
+use Rattle.order_laws.specs.TreeRules.Order.Moments.{less, less_at, parted, is_under, moment_length, GoesOn}
+use Rattle.order_laws.specs.TreeRules.Order.Places.{dirs_at}
+use Rattle.order_laws.specs.TreeRules.Order.Rules.{IsTimed, IsCore, claims_after_copies, commands_past_taken}
+use Rattle.order_laws.proofs.TreeRules.Statements.{each-facts, facts-each}
 use Rattle.bus_laws.proofs.TreeKept.{turn-keeps_rules}
 use Rattle.order_lists.proofs.Filters.{each-both}
 use Rattle.order_lists.proofs.Holders.{erases_go_on}

@@ -4,18 +4,18 @@ use Rattle.std.proofs.Common.{◌≡◌, ℕ, zero, suc, ◌+◌, ◌<◌, ◌�
 use Rattle.std.specs.List.{AllByRecursion}
 use Rattle.std.proofs.lemmas.Bool.{true≢false, false≢true}
 use Rattle.std.proofs.lemmas.List.{length-append}
-use Rattle.tree_model.specs.State.Kinds.{brings_copy}
-use Rattle.tree_model.specs.State.Lists.{first_some}
-use Rattle.tree_model.specs.State.States.{is_held}
-use Rattle.tree_model.specs.State.Values.{DownValue, DirValue, Node, Nodes, leaf_node, dir_node, no_nodes, more_nodes, children, MachineValue, root_of}
-use Rattle.tree_model.specs.State.Leaf.{words_of_item}
-use Rattle.tree_model.specs.State.Directory.{queue_of}
-use Rattle.tree_model.specs.State.Child.{child_hold, child_replies}
-use Rattle.tree_model.specs.State.Place.{Spot, spot_path, spot_in}
-use Rattle.tree_model.specs.Turns.Children.{child_at}
-use Rattle.tree_rules.specs.Bus.Rules.{IsTreeOk, AreTreesOk, items_of_machine, IsMachineOk}
-use Rattle.tree_rules.specs.Order.Copies.{CopyAt, cut, first_erase, downs, copies_here, gathered, inner, handed, erases_in, copies_of}
-use Rattle.tree_rules.specs.Order.Moments.{is_under, moment_at}
+use Rattle.order_laws.specs.TreeModel.State.Kinds.{brings_copy}
+use Rattle.order_laws.specs.TreeModel.State.Lists.{first_some}
+use Rattle.order_laws.specs.TreeModel.State.States.{is_held}
+use Rattle.order_laws.specs.TreeModel.State.Values.{DownValue, DirValue, Node, Nodes, leaf_node, dir_node, no_nodes, more_nodes, children, MachineValue, root_of}
+use Rattle.order_laws.specs.TreeModel.State.Leaf.{words_of_item}
+use Rattle.order_laws.specs.TreeModel.State.Directory.{queue_of}
+use Rattle.order_laws.specs.TreeModel.State.Child.{child_hold, child_replies}
+use Rattle.order_laws.specs.TreeModel.State.Place.{Spot, spot_path, spot_in}
+use Rattle.order_laws.specs.TreeModel.Turns.Children.{child_at}
+use Rattle.order_laws.specs.TreeRules.Bus.Rules.{IsTreeOk, AreTreesOk, items_of_machine, IsMachineOk}
+use Rattle.order_laws.specs.TreeRules.Order.Copies.{CopyAt, cut, first_erase, downs, copies_here, gathered, inner, handed, erases_in, copies_of}
+use Rattle.order_laws.specs.TreeRules.Order.Moments.{is_under, moment_at}
 use Rattle.order_lists.proofs.Filters.{each-weaker, each-both, each-append, each-under}
 use Rattle.order_lists.proofs.Holders.{EndIs, inner_ends}
 use Rattle.order_lists.proofs.NoHold.{HasEnd, none_held}

@@ -3,18 +3,18 @@
 use Rattle.std.proofs.Common.{◌≡◌, ◌≢◌, ℕ, zero, suc, ◌+◌, ◌<◌, ◌≤◌, Bool, true, false, List, [], ◌∷◌, ◌++◌, length, refl, sym, ap, subst, ◌∙◌, arith, append_assoc}
 use Rattle.std.specs.List.{AllByRecursion, list_any}
 use Rattle.std.proofs.lemmas.List.{length-append}
-use Rattle.tree_model.specs.State.Blank.{no_node}
-use Rattle.tree_model.specs.State.States.{is_held, is_exclusive}
-use Rattle.tree_model.specs.State.Values.{DirValue, Node, Nodes, leaf_node, dir_node, no_nodes, more_nodes, children, MachineValue, root_of}
-use Rattle.tree_model.specs.State.Child.{child_hold}
-use Rattle.tree_model.specs.State.Place.{Spot, spot_path, spot_in}
-use Rattle.tree_model.specs.Turns.Children.{child_at}
-use Rattle.tree_rules.specs.Bus.Faces.{parent_face, child_face, faces_of}
-use Rattle.tree_rules.specs.Bus.Item.{holds_exclusive}
-use Rattle.tree_rules.specs.Bus.Rules.{IsBusOk}
-use Rattle.tree_rules.specs.Order.Claims.{ClaimAt, child_is_exclusive, claim, claim_here, claims_in, claims_among, claims_of}
-use Rattle.tree_rules.specs.Order.Core.{claim_level}
-use Rattle.tree_rules.specs.Order.Moments.{is_under}
+use Rattle.order_laws.specs.TreeModel.State.Blank.{no_node}
+use Rattle.order_laws.specs.TreeModel.State.States.{is_held, is_exclusive}
+use Rattle.order_laws.specs.TreeModel.State.Values.{DirValue, Node, Nodes, leaf_node, dir_node, no_nodes, more_nodes, children, MachineValue, root_of}
+use Rattle.order_laws.specs.TreeModel.State.Child.{child_hold}
+use Rattle.order_laws.specs.TreeModel.State.Place.{Spot, spot_path, spot_in}
+use Rattle.order_laws.specs.TreeModel.Turns.Children.{child_at}
+use Rattle.order_laws.specs.TreeRules.Bus.Faces.{parent_face, child_face, faces_of}
+use Rattle.order_laws.specs.TreeRules.Bus.Item.{holds_exclusive}
+use Rattle.order_laws.specs.TreeRules.Bus.Rules.{IsBusOk}
+use Rattle.order_laws.specs.TreeRules.Order.Claims.{ClaimAt, child_is_exclusive, claim, claim_here, claims_in, claims_among, claims_of}
+use Rattle.order_laws.specs.TreeRules.Order.Core.{claim_level}
+use Rattle.order_laws.specs.TreeRules.Order.Moments.{is_under}
 use Rattle.bus_laws.proofs.BitsOf.{any-true, one-at}
 use Rattle.order_lists.proofs.AboveExclusive.{above_exclusive, exclusive_held}
 use Rattle.order_lists.proofs.Filters.{each-weaker, each-append}

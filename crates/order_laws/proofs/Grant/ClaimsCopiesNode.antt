@@ -2,13 +2,13 @@
 -- Letters: p is the path, r the node above, d and ns the directory at the path and its children.
 use Rattle.std.proofs.Common.{◌≡◌, ℕ, zero, suc, ◌+◌, ◌<◌, List, [], ◌∷◌, ◌++◌, length, refl, sym, ap, subst, ◌∙◌, arith, append_assoc}
 use Rattle.std.specs.List.{AllByRecursion}
-use Rattle.tree_model.specs.State.Blank.{no_leaf}
-use Rattle.tree_model.specs.State.Values.{LeafValue, DirValue, Node, Nodes, leaf_node, dir_node, no_nodes, more_nodes, children, MachineValue, root_of}
-use Rattle.tree_model.specs.State.Place.{Spot, spot_path, spot_in}
-use Rattle.tree_model.specs.State.Shape.{skeleton, skeletons, bone_count}
-use Rattle.tree_model.specs.Turns.Children.{child_at}
-use Rattle.tree_rules.specs.Bus.Rules.{IsTreeOk, AreTreesOk}
-use Rattle.tree_rules.specs.Order.Places.{DirAt, dirs_in, placed_dirs, dirs_at}
+use Rattle.order_laws.specs.TreeModel.State.Blank.{no_leaf}
+use Rattle.order_laws.specs.TreeModel.State.Values.{LeafValue, DirValue, Node, Nodes, leaf_node, dir_node, no_nodes, more_nodes, children, MachineValue, root_of}
+use Rattle.order_laws.specs.TreeModel.State.Place.{Spot, spot_path, spot_in}
+use Rattle.order_laws.specs.TreeModel.State.Shape.{skeleton, skeletons, bone_count}
+use Rattle.order_laws.specs.TreeModel.Turns.Children.{child_at}
+use Rattle.order_laws.specs.TreeRules.Bus.Rules.{IsTreeOk, AreTreesOk}
+use Rattle.order_laws.specs.TreeRules.Order.Places.{DirAt, dirs_in, placed_dirs, dirs_at}
 use Rattle.order_lists.proofs.Filters.{each-left, each-right}
 use Rattle.order_laws.specs.Moves.Carries.{node_at}
 use Rattle.order_laws.proofs.Moves.Leaves.{back}

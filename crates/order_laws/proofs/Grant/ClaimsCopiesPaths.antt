@@ -2,7 +2,7 @@
 use Rattle.std.proofs.Common.{◌≡◌, ◌≢◌, ℕ, zero, suc, ◌+◌, ◌<◌, ◌≤◌, Bool, true, false, cond, List, [], ◌∷◌, ◌++◌, length, take, refl, sym, ap, ◌∙◌, arith}
 use Rattle.std.specs.Prelude.{nat_eq}
 use Rattle.std.proofs.lemmas.Bool.{and_parts, and_from, eqb-true, eq-eqb, true≢false}
-use Rattle.tree_rules.specs.Order.Moments.{parted, is_under}
+use Rattle.order_laws.specs.TreeRules.Order.Moments.{parted, is_under}
 use Rattle.order_lists.proofs.Paths.{under-append}
 
 -- it is under another child of the bus with this path

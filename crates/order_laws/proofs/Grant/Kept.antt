@@ -2,23 +2,23 @@
 -- reservations, all core rules.
 use Rattle.std.proofs.Common.{◌≡◌, ℕ, ◌<◌, List, sym, ap, subst, ◌∙◌}
 use Rattle.std.specs.Prelude.{nat_eq}
-use Rattle.ddm_types.specs.declared.operations.Op.{Op}
-use Rattle.ddm_types.specs.declared.turns.Turn.{Turn}
-use Rattle.ddm_types.specs.CodeMap.{CodeWord}
-use Rattle.ddm_types.specs.ItemTable.{ItemTable, item_count}
-use Rattle.flat_model.specs.Flat.{FlatMachine, flat_hart}
-use Rattle.flat_model.specs.Hart.{HartValue}
-use Rattle.flat_model.specs.Legal.{flat_after}
-use Rattle.tree_model.specs.State.Values.{MachineValue}
-use Rattle.tree_model.specs.State.Shape.{Frame, depth_of, IsShaped}
-use Rattle.tree_model.specs.Turns.Witness.{sorted_ops}
-use Rattle.tree_model.proofs.FrameKept.{turn-frame}
-use Rattle.tree_rules.specs.Statements.{Holds, if_there}
-use Rattle.tree_rules.specs.Bus.Rules.{items_of_machine, IsMachineOk}
-use Rattle.tree_rules.specs.Order.Core as core
-use Rattle.tree_rules.specs.Order.Ops.{op_count}
-use Rattle.tree_rules.specs.Order.Places.{LeafAt, leaves_at, dirs_at}
-use Rattle.tree_rules.specs.Order.Rules.{CoreRule, commands_past_taken, reservations_kept, legal, harts_follow, counts_follow, halts_follow, own_order, core_rule, CopyRule, words_right, claims_after_ops, claims_after_copies, clocks_know, copy_rule, IsTimed, IsCore}
+use Rattle.order_laws.specs.DdmTypes.declared.operations.Op.{Op}
+use Rattle.order_laws.specs.DdmTypes.declared.turns.Turn.{Turn}
+use Rattle.order_laws.specs.DdmTypes.CodeMap.{CodeWord}
+use Rattle.order_laws.specs.DdmTypes.ItemTable.{ItemTable, item_count}
+use Rattle.order_laws.specs.FlatModel.Flat.{FlatMachine, flat_hart}
+use Rattle.order_laws.specs.FlatModel.Hart.{HartValue}
+use Rattle.order_laws.specs.FlatModel.Legal.{flat_after}
+use Rattle.order_laws.specs.TreeModel.State.Values.{MachineValue}
+use Rattle.order_laws.specs.TreeModel.State.Shape.{Frame, depth_of, IsShaped}
+use Rattle.order_laws.specs.TreeModel.Turns.Witness.{sorted_ops}
+use Rattle.order_laws.proofs.TreeModel.FrameKept.{turn-frame}
+use Rattle.order_laws.specs.TreeRules.Statements.{Holds, if_there}
+use Rattle.order_laws.specs.TreeRules.Bus.Rules.{items_of_machine, IsMachineOk}
+use Rattle.order_laws.specs.TreeRules.Order.Core as core
+use Rattle.order_laws.specs.TreeRules.Order.Ops.{op_count}
+use Rattle.order_laws.specs.TreeRules.Order.Places.{LeafAt, leaves_at, dirs_at}
+use Rattle.order_laws.specs.TreeRules.Order.Rules.{CoreRule, commands_past_taken, reservations_kept, legal, harts_follow, counts_follow, halts_follow, own_order, core_rule, CopyRule, words_right, claims_after_ops, claims_after_copies, clocks_know, copy_rule, IsTimed, IsCore}
 use Rattle.order_laws.specs.Grant.{after_bus, CommandsPastAfter, ReservationsAfter, ClaimsAfterCopies, BusTurnKeepsCore}
 use Rattle.order_laws.specs.Moves.CopiesMoved.{IsBusTurn}
 use Rattle.order_laws.specs.Moves.LeavesKept.{LeafKept}

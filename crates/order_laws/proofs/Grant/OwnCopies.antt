@@ -3,21 +3,21 @@
 use Rattle.std.proofs.Common.{◌≡◌, ℕ, suc, ◌+◌, ◌<◌, Bool, true, false, true≢false, List, [], ◌∷◌, ◌++◌, map, length, take, drop, Option, Some, None, refl, sym, ap, subst, ◌∙◌, ◌⊎◌, inl, inr, arith, append_assoc}
 use Rattle.std.specs.List.{AllByRecursion}
 use Rattle.std.proofs.lemmas.List.{length-append, append-nil, take_all, take-append-drop}
-use Rattle.ddm_types.specs.declared.turns.Turn.{Turn}
-use Rattle.tree_model.specs.State.Kinds.{brings_copy}
-use Rattle.tree_model.specs.State.States.{entry_hold, is_held}
-use Rattle.tree_model.specs.State.Values.{DownValue, DirValue, Node, Nodes, leaf_node, dir_node, no_nodes, more_nodes, children, MachineValue, root_of}
-use Rattle.tree_model.specs.State.Leaf.{words_of_item, LeafEntry, leaf_entry, leaf_hold}
-use Rattle.tree_model.specs.State.Directory.{queue_of}
-use Rattle.tree_model.specs.State.Child.{child_replies}
-use Rattle.tree_model.specs.State.Place.{Spot, spot_path, spot_in}
-use Rattle.tree_model.specs.State.Shape.{IsShaped}
-use Rattle.tree_model.specs.Turns.Children.{child_at}
-use Rattle.tree_rules.specs.Bus.Rules.{IsMachineOk}
-use Rattle.tree_rules.specs.Order.Copies.{CopyAt, cut, first_erase, downs, copies_here, entry_copies, gathered, inner, handed, copies_of}
-use Rattle.tree_rules.specs.Order.Moments.{is_under, moment_at, spot_moment}
-use Rattle.tree_rules.specs.Order.Places.{LeafAt, leaf_path, leaves_at, leaves_in, placed_leaves}
-use Rattle.tree_rules.specs.Order.Rules.{IsTimed}
+use Rattle.order_laws.specs.DdmTypes.declared.turns.Turn.{Turn}
+use Rattle.order_laws.specs.TreeModel.State.Kinds.{brings_copy}
+use Rattle.order_laws.specs.TreeModel.State.States.{entry_hold, is_held}
+use Rattle.order_laws.specs.TreeModel.State.Values.{DownValue, DirValue, Node, Nodes, leaf_node, dir_node, no_nodes, more_nodes, children, MachineValue, root_of}
+use Rattle.order_laws.specs.TreeModel.State.Leaf.{words_of_item, LeafEntry, leaf_entry, leaf_hold}
+use Rattle.order_laws.specs.TreeModel.State.Directory.{queue_of}
+use Rattle.order_laws.specs.TreeModel.State.Child.{child_replies}
+use Rattle.order_laws.specs.TreeModel.State.Place.{Spot, spot_path, spot_in}
+use Rattle.order_laws.specs.TreeModel.State.Shape.{IsShaped}
+use Rattle.order_laws.specs.TreeModel.Turns.Children.{child_at}
+use Rattle.order_laws.specs.TreeRules.Bus.Rules.{IsMachineOk}
+use Rattle.order_laws.specs.TreeRules.Order.Copies.{CopyAt, cut, first_erase, downs, copies_here, entry_copies, gathered, inner, handed, copies_of}
+use Rattle.order_laws.specs.TreeRules.Order.Moments.{is_under, moment_at, spot_moment}
+use Rattle.order_laws.specs.TreeRules.Order.Places.{LeafAt, leaf_path, leaves_at, leaves_in, placed_leaves}
+use Rattle.order_laws.specs.TreeRules.Order.Rules.{IsTimed}
 use Rattle.order_lists.proofs.Filters.{each-weaker, each-both, each-append}
 use Rattle.order_lists.proofs.Paths.{IsFrom, from_child, from_later, under-itself, under-append, under-trans, under-shorter, under-length, under-same, leaves_under, placed_from}
 use Rattle.order_lists.proofs.Placed.{inner_under}

@@ -4,17 +4,17 @@ use Rattle.std.proofs.Common.{◌≡◌, ℕ, ◌+◌, ◌<◌, Bool, true, fals
 use Rattle.std.specs.Prelude.{nat_eq}
 use Rattle.std.specs.List.{AllByRecursion}
 use Rattle.std.proofs.lemmas.Bool.{true≢false, eq-eqb}
-use Rattle.ddm_types.specs.declared.operations.Op.{Op}
-use Rattle.ddm_types.specs.ItemTable.{ItemTable}
-use Rattle.flat_model.specs.Legal.{changes_item, reservation}
-use Rattle.tree_model.specs.State.Values.{DirValue, Node, Nodes, leaf_node, dir_node, no_nodes, more_nodes, MachineValue}
-use Rattle.tree_model.specs.State.Place.{Spot, spot_in, spot_path}
-use Rattle.tree_rules.specs.Statements.{Holds, is_so, there_and}
-use Rattle.tree_rules.specs.Order.Copies.{CopyAt}
-use Rattle.tree_rules.specs.Order.Core.{knows_change, ended_before}
-use Rattle.tree_rules.specs.Order.Moments.{less, less_at, past, parted, is_under, moment_length, spot_moment, GoesOn}
-use Rattle.tree_rules.specs.Order.Ops.{op_key, op_path}
-use Rattle.tree_rules.specs.Order.Places.{LeafAt, leaf_path, leaf_now, leaves_at, leaves_in, placed_leaves}
+use Rattle.order_laws.specs.DdmTypes.declared.operations.Op.{Op}
+use Rattle.order_laws.specs.DdmTypes.ItemTable.{ItemTable}
+use Rattle.order_laws.specs.FlatModel.Legal.{changes_item, reservation}
+use Rattle.order_laws.specs.TreeModel.State.Values.{DirValue, Node, Nodes, leaf_node, dir_node, no_nodes, more_nodes, MachineValue}
+use Rattle.order_laws.specs.TreeModel.State.Place.{Spot, spot_in, spot_path}
+use Rattle.order_laws.specs.TreeRules.Statements.{Holds, is_so, there_and}
+use Rattle.order_laws.specs.TreeRules.Order.Copies.{CopyAt}
+use Rattle.order_laws.specs.TreeRules.Order.Core.{knows_change, ended_before}
+use Rattle.order_laws.specs.TreeRules.Order.Moments.{less, less_at, past, parted, is_under, moment_length, spot_moment, GoesOn}
+use Rattle.order_laws.specs.TreeRules.Order.Ops.{op_key, op_path}
+use Rattle.order_laws.specs.TreeRules.Order.Places.{LeafAt, leaf_path, leaf_now, leaves_at, leaves_in, placed_leaves}
 use Rattle.order_lists.proofs.Filters.{filter-yes, filter-no, each-weaker, each-both, each-append}
 use Rattle.order_lists.proofs.Moments.{less-head, less-tail, less-parts, least-parts, least-head, least-tail, less-irreflexive, less-asymmetric, less-least, less_at-less, GoesOn-past}
 use Rattle.order_lists.proofs.Paths.{leaves_under, placed_from, under-same}

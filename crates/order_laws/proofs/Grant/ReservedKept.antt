@@ -3,26 +3,26 @@
 use Rattle.std.proofs.Common.{◌≡◌, ℕ, ◌<◌, ◌≤◌, Bool, true, false, List, [], ◌∷◌, ◌++◌, length, filter, option_map, Option, None, Some, IfSome, refl, sym, ap, subst, ◌∙◌, ◌⊎◌, inl, inr, arith}
 use Rattle.std.specs.List.{AllByRecursion}
 use Rattle.std.proofs.lemmas.Bool.{cases_lt, eq-eqb, eqb-true, true≢false}
-use Rattle.ddm_types.specs.declared.operations.Op.{Op}
-use Rattle.ddm_types.specs.declared.turns.Turn.{Turn}
-use Rattle.flat_model.specs.Flat.{FlatMachine, flat_hart, has_reserved}
-use Rattle.flat_model.specs.Legal.{reservation}
-use Rattle.tree_model.specs.State.Values.{MachineValue, LeafValue}
-use Rattle.tree_model.specs.State.Leaf.{LeafEntry, leaf_entry, leaf_hold, entry_state}
-use Rattle.tree_model.specs.State.States.{entry_hold, is_held}
-use Rattle.tree_model.specs.State.Shape.{depth_of, IsShaped}
-use Rattle.tree_model.specs.Turns.Witness.{sorted_ops}
-use Rattle.tree_model.proofs.FrameKept.{turn-shape}
-use Rattle.tree_rules.specs.Statements.{Holds, if_there, each}
-use Rattle.tree_rules.specs.Bus.Rules.{items_of_machine, IsMachineOk}
-use Rattle.tree_rules.specs.Order.Copies.{CopyAt, copies_of}
-use Rattle.tree_rules.specs.Order.Core as core
-use Rattle.tree_rules.specs.Order.Moments.{less, before, moment_at, spot_moment}
-use Rattle.tree_rules.specs.Order.Ops.{op_key, op_path}
-use Rattle.tree_rules.specs.Order.Time.{is_before_now}
-use Rattle.tree_rules.specs.Order.Places.{LeafAt, leaf_path, leaf_now, leaves_at, dirs_at}
-use Rattle.tree_rules.specs.Order.Rules.{commands_past_taken, reservations_kept, clocks_know, IsTimed, IsCore}
-use Rattle.tree_rules.proofs.Statements.{each-facts}
+use Rattle.order_laws.specs.DdmTypes.declared.operations.Op.{Op}
+use Rattle.order_laws.specs.DdmTypes.declared.turns.Turn.{Turn}
+use Rattle.order_laws.specs.FlatModel.Flat.{FlatMachine, flat_hart, has_reserved}
+use Rattle.order_laws.specs.FlatModel.Legal.{reservation}
+use Rattle.order_laws.specs.TreeModel.State.Values.{MachineValue, LeafValue}
+use Rattle.order_laws.specs.TreeModel.State.Leaf.{LeafEntry, leaf_entry, leaf_hold, entry_state}
+use Rattle.order_laws.specs.TreeModel.State.States.{entry_hold, is_held}
+use Rattle.order_laws.specs.TreeModel.State.Shape.{depth_of, IsShaped}
+use Rattle.order_laws.specs.TreeModel.Turns.Witness.{sorted_ops}
+use Rattle.order_laws.proofs.TreeModel.FrameKept.{turn-shape}
+use Rattle.order_laws.specs.TreeRules.Statements.{Holds, if_there, each}
+use Rattle.order_laws.specs.TreeRules.Bus.Rules.{items_of_machine, IsMachineOk}
+use Rattle.order_laws.specs.TreeRules.Order.Copies.{CopyAt, copies_of}
+use Rattle.order_laws.specs.TreeRules.Order.Core as core
+use Rattle.order_laws.specs.TreeRules.Order.Moments.{less, before, moment_at, spot_moment}
+use Rattle.order_laws.specs.TreeRules.Order.Ops.{op_key, op_path}
+use Rattle.order_laws.specs.TreeRules.Order.Time.{is_before_now}
+use Rattle.order_laws.specs.TreeRules.Order.Places.{LeafAt, leaf_path, leaf_now, leaves_at, dirs_at}
+use Rattle.order_laws.specs.TreeRules.Order.Rules.{commands_past_taken, reservations_kept, clocks_know, IsTimed, IsCore}
+use Rattle.order_laws.proofs.TreeRules.Statements.{each-facts}
 use Rattle.order_lists.proofs.Filters.{each-both, each-weaker}
 use Rattle.order_lists.proofs.Ends.{IsTimely}
 use Rattle.order_lists.proofs.Moments.{less-least}

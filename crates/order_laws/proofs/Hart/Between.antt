@@ -1,9 +1,9 @@
 -- No key of the tree's length stands between a leaf's `now` and its next one.
 use Rattle.std.proofs.Common.{◌≡◌, ◌≢◌, ℕ, ◌+◌, ◌*◌, ◌<◌, Bool, true, false, ◌⊎◌, inl, inr, List, [], ◌∷◌, ◌++◌, length, take, refl, sym, ap, ◌∙◌, arith}
 use Rattle.std.proofs.lemmas.List.{length-append, length-take}
-use Rattle.ddm_types.specs.declared.keys.Key.{Key}
-use Rattle.ddm_types.specs.Keys.{key_numbers}
-use Rattle.tree_rules.specs.Order.Moments.{less}
+use Rattle.order_laws.specs.DdmTypes.declared.keys.Key.{Key}
+use Rattle.order_laws.specs.DdmTypes.Keys.{key_numbers}
+use Rattle.order_laws.specs.TreeRules.Order.Moments.{less}
 use Rattle.order_lists.proofs.Moments.{less-parts, less-total, less-transitive}
 use Rattle.order_laws.proofs.Hart.NewOp.{now_rises}
 

@@ -2,11 +2,11 @@
 use Rattle.std.proofs.Common.{◌≡◌, ℕ, ◌≤◌, true, false, IfSome, List, ◌++◌, length, take, Option, Some, None, sym, ap, ◌∙◌, arith}
 use Rattle.std.proofs.lemmas.List.{take-append-le}
 use Rattle.std.proofs.lemmas.Bool.{leb-true}
-use Rattle.tree_rules.specs.Statements.{Holds, there_and}
-use Rattle.tree_rules.specs.Order.Moments.{less, less_at, moment_length, before}
-use Rattle.tree_rules.specs.Order.Copies.{CopyAt}
-use Rattle.tree_rules.specs.Order.Claims.{ClaimAt}
-use Rattle.tree_rules.specs.Order.Core.{claim_level, parts_at_claim, claim_is_after_end, claim_is_after_copy}
+use Rattle.order_laws.specs.TreeRules.Statements.{Holds, there_and}
+use Rattle.order_laws.specs.TreeRules.Order.Moments.{less, less_at, moment_length, before}
+use Rattle.order_laws.specs.TreeRules.Order.Copies.{CopyAt}
+use Rattle.order_laws.specs.TreeRules.Order.Claims.{ClaimAt}
+use Rattle.order_laws.specs.TreeRules.Order.Core.{claim_level, parts_at_claim, claim_is_after_end, claim_is_after_copy}
 use Rattle.order_lists.proofs.Moments.{less-asymmetric, least-less, at_most_at-fewer, before_is}
 use Rattle.order_laws.proofs.Hart.Facts.{EndsLater}
 

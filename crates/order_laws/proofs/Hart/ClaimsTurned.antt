@@ -1,13 +1,13 @@
 -- Claims, directories and leaves after a hart's turn: claims and directories are the same, one leaf is another.
 use Rattle.std.proofs.Common.{◌≡◌, ℕ, ◌+◌, false, ◌⊎◌, inl, inr, List, ◌∷◌, ◌++◌, refl, sym, ap, subst, ◌∙◌}
-use Rattle.ddm_types.specs.declared.operations.Effect.{Effect}
-use Rattle.ddm_types.specs.ItemTable.{ItemTable}
-use Rattle.tree_model.specs.State.States.{is_exclusive}
-use Rattle.tree_model.specs.State.Values.{LeafValue, DirValue, Node, Nodes, leaf_node, dir_node, no_nodes, more_nodes}
-use Rattle.tree_model.specs.State.Place.{Spot, spot_path, spot_in}
-use Rattle.tree_rules.specs.Order.Moments.{is_under}
-use Rattle.tree_rules.specs.Order.Claims.{child_is_exclusive, claim, first_claim, claims_in, claims_among}
-use Rattle.tree_rules.specs.Order.Places.{LeafAt, leaf_path, DirAt, leaves_in, placed_leaves, dirs_in, placed_dirs}
+use Rattle.order_laws.specs.DdmTypes.declared.operations.Effect.{Effect}
+use Rattle.order_laws.specs.DdmTypes.ItemTable.{ItemTable}
+use Rattle.order_laws.specs.TreeModel.State.States.{is_exclusive}
+use Rattle.order_laws.specs.TreeModel.State.Values.{LeafValue, DirValue, Node, Nodes, leaf_node, dir_node, no_nodes, more_nodes}
+use Rattle.order_laws.specs.TreeModel.State.Place.{Spot, spot_path, spot_in}
+use Rattle.order_laws.specs.TreeRules.Order.Moments.{is_under}
+use Rattle.order_laws.specs.TreeRules.Order.Claims.{child_is_exclusive, claim, first_claim, claims_in, claims_among}
+use Rattle.order_laws.specs.TreeRules.Order.Places.{LeafAt, leaf_path, DirAt, leaves_in, placed_leaves, dirs_in, placed_dirs}
 use Rattle.order_laws.proofs.Hart.LeafTurned.{EntryTurned, hold_turned}
 use Rattle.order_laws.proofs.Hart.TreeTurned.{AtLeaf, NodeTurned, AmongTurned}
 use Rattle.order_laws.specs.Pairs.{Pairs}

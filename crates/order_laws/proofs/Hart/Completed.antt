@@ -4,21 +4,21 @@ use Rattle.std.specs.List.{AllByRecursion, list_all}
 use Rattle.std.proofs.lemmas.Bool.{true≢false, and_parts, eqb-true}
 use Rattle.std.proofs.lemmas.List.Sums.{AllPass-from_list_all}
 use Rattle.std.proofs.lemmas.List.Elements.{All-weaker}
-use Rattle.ddm_types.specs.declared.answers.TurnAnswer.{TurnAnswer}
-use Rattle.ddm_types.specs.declared.operations.Op.{Op}
-use Rattle.ddm_types.specs.ItemTable.{ItemRow}
-use Rattle.flat_model.specs.Legal.{HasWholeWords}
-use Rattle.tree_model.specs.State.Values.{LeafValue, MachineValue}
-use Rattle.tree_model.specs.State.Place.{Spot, at_child, key_at_leaf}
-use Rattle.tree_model.specs.State.Shape.{depth_of, is_whole_word, items_of_words, IsShaped}
-use Rattle.tree_model.specs.Turns.HartTurn.{leaf_step}
-use Rattle.tree_rules.specs.Statements.{Holds, each}
-use Rattle.tree_rules.proofs.Statements.{each-facts}
-use Rattle.tree_rules.specs.Bus.Rules.{IsMachineOk}
-use Rattle.tree_rules.specs.Order.Moments.{is_under}
-use Rattle.tree_rules.specs.Order.Places.{LeafAt, leaf_path, leaves_at, dirs_at}
-use Rattle.tree_rules.specs.Order.Time.{is_before_now, epoch_ends}
-use Rattle.tree_rules.specs.Order.Rules.{keys_are_past, epochs_end, ops_of_leaves, keys_have_paths, keys_end, IsTimed}
+use Rattle.order_laws.specs.DdmTypes.declared.answers.TurnAnswer.{TurnAnswer}
+use Rattle.order_laws.specs.DdmTypes.declared.operations.Op.{Op}
+use Rattle.order_laws.specs.DdmTypes.ItemTable.{ItemRow}
+use Rattle.order_laws.specs.FlatModel.Legal.{HasWholeWords}
+use Rattle.order_laws.specs.TreeModel.State.Values.{LeafValue, MachineValue}
+use Rattle.order_laws.specs.TreeModel.State.Place.{Spot, at_child, key_at_leaf}
+use Rattle.order_laws.specs.TreeModel.State.Shape.{depth_of, is_whole_word, items_of_words, IsShaped}
+use Rattle.order_laws.specs.TreeModel.Turns.HartTurn.{leaf_step}
+use Rattle.order_laws.specs.TreeRules.Statements.{Holds, each}
+use Rattle.order_laws.proofs.TreeRules.Statements.{each-facts}
+use Rattle.order_laws.specs.TreeRules.Bus.Rules.{IsMachineOk}
+use Rattle.order_laws.specs.TreeRules.Order.Moments.{is_under}
+use Rattle.order_laws.specs.TreeRules.Order.Places.{LeafAt, leaf_path, leaves_at, dirs_at}
+use Rattle.order_laws.specs.TreeRules.Order.Time.{is_before_now, epoch_ends}
+use Rattle.order_laws.specs.TreeRules.Order.Rules.{keys_are_past, epochs_end, ops_of_leaves, keys_have_paths, keys_end, IsTimed}
 use Rattle.order_lists.proofs.Filters.{each-both, each-swap, each-weaker}
 use Rattle.order_lists.proofs.Paths.{under-itself}
 use Rattle.order_laws.proofs.Hart.Retiring.{Retires, retires}

@@ -3,16 +3,16 @@ use Rattle.std.proofs.Common.{◌≡◌, ℕ, Bool, true, false, ◌⊎◌, inl,
 use Rattle.std.specs.List.{AllByRecursion}
 use Rattle.std.proofs.lemmas.Bool.{true≢false}
 use Rattle.std.proofs.lemmas.List.Elements.{filter-append}
-use Rattle.ddm_types.specs.declared.operations.Op.{Op}
-use Rattle.ddm_types.specs.ItemTable.{ItemTable}
-use Rattle.flat_model.specs.Flat.{FlatMachine, item_words}
-use Rattle.flat_model.specs.Legal.{changes_item, stored_by, words_by, words_after}
-use Rattle.tree_model.specs.Turns.Witness.{sorted_ops}
-use Rattle.tree_rules.specs.Statements.{Holds, each, there_and, is_so}
-use Rattle.tree_rules.specs.Order.Moments.{less_at, moment_length, before, past, parted, is_under, same_numbers}
-use Rattle.tree_rules.specs.Order.Copies.{CopyAt}
-use Rattle.tree_rules.specs.Order.Ops.{op_key, op_path}
-use Rattle.tree_rules.specs.Order.Core.{ended_before, any_op, words_until, has_right_words, knows_change}
+use Rattle.order_laws.specs.DdmTypes.declared.operations.Op.{Op}
+use Rattle.order_laws.specs.DdmTypes.ItemTable.{ItemTable}
+use Rattle.order_laws.specs.FlatModel.Flat.{FlatMachine, item_words}
+use Rattle.order_laws.specs.FlatModel.Legal.{changes_item, stored_by, words_by, words_after}
+use Rattle.order_laws.specs.TreeModel.Turns.Witness.{sorted_ops}
+use Rattle.order_laws.specs.TreeRules.Statements.{Holds, each, there_and, is_so}
+use Rattle.order_laws.specs.TreeRules.Order.Moments.{less_at, moment_length, before, past, parted, is_under, same_numbers}
+use Rattle.order_laws.specs.TreeRules.Order.Copies.{CopyAt}
+use Rattle.order_laws.specs.TreeRules.Order.Ops.{op_key, op_path}
+use Rattle.order_laws.specs.TreeRules.Order.Core.{ended_before, any_op, words_until, has_right_words, knows_change}
 use Rattle.order_lists.proofs.Filters.{filter-yes, filter-all}
 use Rattle.order_lists.proofs.Moments.{past-not_before, same_numbers-true, same_numbers-itself}
 use Rattle.order_lists.proofs.Paths.{under-itself}

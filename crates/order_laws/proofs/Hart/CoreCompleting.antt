@@ -2,23 +2,23 @@
 use Rattle.std.proofs.Common.{◌≡◌, ◌≢◌, ℕ, ◌<◌, Bool, true, false, inl, inr, List, [], ◌∷◌, ◌++◌, is_some, None, refl, sym, ap, subst, ◌∙◌}
 use Rattle.std.specs.List.{AllByRecursion}
 use Rattle.std.proofs.lemmas.Bool.{eqb-true}
-use Rattle.ddm_types.specs.declared.operations.Op.{Op}
-use Rattle.flat_model.specs.Flat.{FlatMachine}
-use Rattle.flat_model.specs.Legal.{on_item}
-use Rattle.tree_model.specs.State.Values.{LeafValue, MachineValue}
-use Rattle.tree_model.specs.State.Place.{Spot}
-use Rattle.tree_model.specs.State.Shape.{depth_of}
-use Rattle.tree_model.specs.Turns.Witness.{sorted_ops}
-use Rattle.tree_rules.specs.Statements.{Statement, Holds, each, there_and}
-use Rattle.tree_rules.proofs.Statements.{each-facts}
-use Rattle.tree_rules.specs.Bus.Rules.{items_of_machine}
-use Rattle.tree_rules.specs.Order.Moments.{less_at, moment_length, is_under}
-use Rattle.tree_rules.specs.Order.Places.{LeafAt, leaf_path, leaf_now, leaves_at, dirs_at}
-use Rattle.tree_rules.specs.Order.Copies.{CopyAt, copies_of}
-use Rattle.tree_rules.specs.Order.Claims.{ClaimAt, claims_of}
-use Rattle.tree_rules.specs.Order.Ops.{op_key, op_path}
-use Rattle.tree_rules.specs.Order.Core as core
-use Rattle.tree_rules.specs.Order.Rules.{CoreRule, commands_past_taken, reservations_kept, legal, harts_follow, counts_follow, halts_follow, own_order, CopyRule, words_right, claims_after_ops, claims_after_copies, clocks_know, IsCore}
+use Rattle.order_laws.specs.DdmTypes.declared.operations.Op.{Op}
+use Rattle.order_laws.specs.FlatModel.Flat.{FlatMachine}
+use Rattle.order_laws.specs.FlatModel.Legal.{on_item}
+use Rattle.order_laws.specs.TreeModel.State.Values.{LeafValue, MachineValue}
+use Rattle.order_laws.specs.TreeModel.State.Place.{Spot}
+use Rattle.order_laws.specs.TreeModel.State.Shape.{depth_of}
+use Rattle.order_laws.specs.TreeModel.Turns.Witness.{sorted_ops}
+use Rattle.order_laws.specs.TreeRules.Statements.{Statement, Holds, each, there_and}
+use Rattle.order_laws.proofs.TreeRules.Statements.{each-facts}
+use Rattle.order_laws.specs.TreeRules.Bus.Rules.{items_of_machine}
+use Rattle.order_laws.specs.TreeRules.Order.Moments.{less_at, moment_length, is_under}
+use Rattle.order_laws.specs.TreeRules.Order.Places.{LeafAt, leaf_path, leaf_now, leaves_at, dirs_at}
+use Rattle.order_laws.specs.TreeRules.Order.Copies.{CopyAt, copies_of}
+use Rattle.order_laws.specs.TreeRules.Order.Claims.{ClaimAt, claims_of}
+use Rattle.order_laws.specs.TreeRules.Order.Ops.{op_key, op_path}
+use Rattle.order_laws.specs.TreeRules.Order.Core as core
+use Rattle.order_laws.specs.TreeRules.Order.Rules.{CoreRule, commands_past_taken, reservations_kept, legal, harts_follow, counts_follow, halts_follow, own_order, CopyRule, words_right, claims_after_ops, claims_after_copies, clocks_know, IsCore}
 use Rattle.order_lists.proofs.Filters.{each-weaker, each-both}
 use Rattle.order_lists.proofs.Sorted.{lesser, greater, push}
 use Rattle.order_lists.proofs.Listed.{each_pair-push}

@@ -1,20 +1,20 @@
 -- The core rules of order over their parts, so that what a turn leaves of each part is put in its place.
 use Rattle.std.proofs.Common.{◌≡◌, ℕ, ◌<◌, List, is_some, refl, sym, ap, subst, ◌∙◌}
-use Rattle.ddm_types.specs.declared.operations.Op.{Op}
-use Rattle.ddm_types.specs.CodeMap.{CodeWord}
-use Rattle.ddm_types.specs.ItemTable.{ItemTable, item_count}
-use Rattle.flat_model.specs.Flat.{FlatMachine}
-use Rattle.flat_model.specs.Legal.{legal_run, flat_after}
-use Rattle.tree_model.specs.State.Values.{MachineValue}
-use Rattle.tree_model.specs.State.Shape.{depth_of}
-use Rattle.tree_model.specs.Turns.Witness.{sorted_ops}
-use Rattle.tree_rules.specs.Statements.{Statement, Holds, is_so, each, each_pair}
-use Rattle.tree_rules.specs.Bus.Rules.{items_of_machine}
-use Rattle.tree_rules.specs.Order.Places.{LeafAt, leaves_at, DirAt, dirs_at}
-use Rattle.tree_rules.specs.Order.Copies.{CopyAt, copies_of}
-use Rattle.tree_rules.specs.Order.Claims.{ClaimAt, claims_of}
-use Rattle.tree_rules.specs.Order.Core as core
-use Rattle.tree_rules.specs.Order.Rules.{CoreRule, commands_past_taken, reservations_kept, legal, harts_follow, counts_follow, halts_follow, own_order, core_rule, CopyRule, words_right, claims_after_ops, claims_after_copies, clocks_know, copy_rule, IsCore}
+use Rattle.order_laws.specs.DdmTypes.declared.operations.Op.{Op}
+use Rattle.order_laws.specs.DdmTypes.CodeMap.{CodeWord}
+use Rattle.order_laws.specs.DdmTypes.ItemTable.{ItemTable, item_count}
+use Rattle.order_laws.specs.FlatModel.Flat.{FlatMachine}
+use Rattle.order_laws.specs.FlatModel.Legal.{legal_run, flat_after}
+use Rattle.order_laws.specs.TreeModel.State.Values.{MachineValue}
+use Rattle.order_laws.specs.TreeModel.State.Shape.{depth_of}
+use Rattle.order_laws.specs.TreeModel.Turns.Witness.{sorted_ops}
+use Rattle.order_laws.specs.TreeRules.Statements.{Statement, Holds, is_so, each, each_pair}
+use Rattle.order_laws.specs.TreeRules.Bus.Rules.{items_of_machine}
+use Rattle.order_laws.specs.TreeRules.Order.Places.{LeafAt, leaves_at, DirAt, dirs_at}
+use Rattle.order_laws.specs.TreeRules.Order.Copies.{CopyAt, copies_of}
+use Rattle.order_laws.specs.TreeRules.Order.Claims.{ClaimAt, claims_of}
+use Rattle.order_laws.specs.TreeRules.Order.Core as core
+use Rattle.order_laws.specs.TreeRules.Order.Rules.{CoreRule, commands_past_taken, reservations_kept, legal, harts_follow, counts_follow, halts_follow, own_order, core_rule, CopyRule, words_right, claims_after_ops, claims_after_copies, clocks_know, copy_rule, IsCore}
 
 module _ (s : FlatMachine) (code : List CodeWord) (items : ItemTable) (depth : ℕ) where
   abbrev pub core_of : CoreRule → List LeafAt → List DirAt → List Op → Statement

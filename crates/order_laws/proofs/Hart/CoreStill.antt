@@ -1,23 +1,23 @@
 -- A hart's turn that doesn't complete keeps the core rules of order.
 use Rattle.std.proofs.Common.{◌≡◌, ℕ, ◌<◌, false, ◌⊎◌, inl, inr, nat_eq, [], ◌∷◌, ◌++◌, Option, Some, None, refl, sym, ap, subst, ◌∙◌}
-use Rattle.ddm_types.specs.declared.operations.Effect.{Effect}
-use Rattle.flat_model.specs.Hart.{HartValue, ask_of}
-use Rattle.flat_model.specs.Flat.{FlatMachine, flat_hart, has_reserved}
-use Rattle.flat_model.specs.Legal.{changes_item, flat_after}
-use Rattle.tree_model.specs.State.Values.{LeafValue, MachineValue}
-use Rattle.tree_model.specs.State.States.{is_held}
-use Rattle.tree_model.specs.State.Place.{Spot}
-use Rattle.tree_model.specs.State.Shape.{depth_of}
-use Rattle.tree_model.specs.Turns.Witness.{sorted_ops}
-use Rattle.tree_rules.specs.Statements.{Holds, both, if_there}
-use Rattle.tree_rules.specs.Bus.Rules.{items_of_machine}
-use Rattle.tree_rules.specs.Order.Moments.{spot_moment}
-use Rattle.tree_rules.specs.Order.Places.{LeafAt, leaf_now, leaves_at, dirs_at}
-use Rattle.tree_rules.specs.Order.Copies.{copies_of}
-use Rattle.tree_rules.specs.Order.Claims.{claims_of}
-use Rattle.tree_rules.specs.Order.Ops.{op_count}
-use Rattle.tree_rules.specs.Order.Core as core
-use Rattle.tree_rules.specs.Order.Rules.{CoreRule, commands_past_taken, reservations_kept, legal, harts_follow, counts_follow, halts_follow, own_order, CopyRule, IsCore}
+use Rattle.order_laws.specs.DdmTypes.declared.operations.Effect.{Effect}
+use Rattle.order_laws.specs.FlatModel.Hart.{HartValue, ask_of}
+use Rattle.order_laws.specs.FlatModel.Flat.{FlatMachine, flat_hart, has_reserved}
+use Rattle.order_laws.specs.FlatModel.Legal.{changes_item, flat_after}
+use Rattle.order_laws.specs.TreeModel.State.Values.{LeafValue, MachineValue}
+use Rattle.order_laws.specs.TreeModel.State.States.{is_held}
+use Rattle.order_laws.specs.TreeModel.State.Place.{Spot}
+use Rattle.order_laws.specs.TreeModel.State.Shape.{depth_of}
+use Rattle.order_laws.specs.TreeModel.Turns.Witness.{sorted_ops}
+use Rattle.order_laws.specs.TreeRules.Statements.{Holds, both, if_there}
+use Rattle.order_laws.specs.TreeRules.Bus.Rules.{items_of_machine}
+use Rattle.order_laws.specs.TreeRules.Order.Moments.{spot_moment}
+use Rattle.order_laws.specs.TreeRules.Order.Places.{LeafAt, leaf_now, leaves_at, dirs_at}
+use Rattle.order_laws.specs.TreeRules.Order.Copies.{copies_of}
+use Rattle.order_laws.specs.TreeRules.Order.Claims.{claims_of}
+use Rattle.order_laws.specs.TreeRules.Order.Ops.{op_count}
+use Rattle.order_laws.specs.TreeRules.Order.Core as core
+use Rattle.order_laws.specs.TreeRules.Order.Rules.{CoreRule, commands_past_taken, reservations_kept, legal, harts_follow, counts_follow, halts_follow, own_order, CopyRule, IsCore}
 use Rattle.order_laws.proofs.Hart.Retiring.{has_retired}
 use Rattle.order_laws.proofs.Hart.LeafTurned.{EntryTurned}
 use Rattle.order_laws.proofs.Hart.Still.{HasHalted, Stays, stays_itself}

@@ -1,12 +1,12 @@
 -- A hart's turn keeps the core rules of order, whatever it answers.
 use Rattle.std.proofs.Common.{◌≡◌, ℕ, ◌<◌, Bool, true, false, refl, sym, ap, subst}
-use Rattle.ddm_types.specs.declared.answers.TurnAnswer.{TurnAnswer}
-use Rattle.flat_model.specs.Flat.{FlatMachine}
-use Rattle.tree_model.specs.State.Values.{MachineValue, root_of}
-use Rattle.tree_model.specs.State.Shape.{IsShaped}
-use Rattle.tree_model.specs.Turns.Tree.{leaf_of_number, has_node}
-use Rattle.tree_rules.specs.Bus.Rules.{items_of_machine, IsMachineOk}
-use Rattle.tree_rules.specs.Order.Rules.{IsTimed, IsCore}
+use Rattle.order_laws.specs.DdmTypes.declared.answers.TurnAnswer.{TurnAnswer}
+use Rattle.order_laws.specs.FlatModel.Flat.{FlatMachine}
+use Rattle.order_laws.specs.TreeModel.State.Values.{MachineValue, root_of}
+use Rattle.order_laws.specs.TreeModel.State.Shape.{IsShaped}
+use Rattle.order_laws.specs.TreeModel.Turns.Tree.{leaf_of_number, has_node}
+use Rattle.order_laws.specs.TreeRules.Bus.Rules.{items_of_machine, IsMachineOk}
+use Rattle.order_laws.specs.TreeRules.Order.Rules.{IsTimed, IsCore}
 use Rattle.order_laws.proofs.Hart.Retiring.{has_retired}
 use Rattle.order_laws.proofs.Hart.HartMachine.{next, answer, HartTurned, hart_turned, nothing_turned}
 use Rattle.order_laws.proofs.Hart.Facts.{ItemFacts}

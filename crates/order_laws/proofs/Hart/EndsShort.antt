@@ -2,19 +2,19 @@
 use Rattle.std.proofs.Common.{◌≡◌, ℕ, ◌+◌, ◌*◌, ◌≤◌, ◌<◌, Bool, true, false, List, [], ◌∷◌, ◌++◌, map, length, Option, Some, None, IfSome, refl, arith}
 use Rattle.std.specs.List.{AllByRecursion}
 use Rattle.std.proofs.lemmas.List.{length-append}
-use Rattle.ddm_types.specs.declared.answers.TxKind.TheVariants.{EraseTx}
-use Rattle.tree_model.specs.State.Kinds.{is_kind, brings_copy}
-use Rattle.tree_model.specs.State.States.{entry_hold, is_held}
-use Rattle.tree_model.specs.State.Values.{DownValue, DirValue, Node, Nodes, leaf_node, dir_node, no_nodes, more_nodes, MachineValue}
-use Rattle.tree_model.specs.State.Leaf.{words_of_item, LeafEntry, leaf_entry}
-use Rattle.tree_model.specs.State.Directory.{queue_of}
-use Rattle.tree_model.specs.State.Child.{child_replies}
-use Rattle.tree_model.specs.State.Lists.{first_some}
-use Rattle.tree_model.specs.State.Place.{Spot, spot_path, spot_in}
-use Rattle.tree_model.specs.State.Shape.{IsShaped}
-use Rattle.tree_rules.specs.Order.Moments.{moment_at, spot_moment}
-use Rattle.tree_rules.specs.Order.Places.{dirs_in, placed_dirs, dirs_at}
-use Rattle.tree_rules.specs.Order.Copies.{CopyAt, cut, first_erase, downs, copies_here, entry_copies, inner, handed, copies_of}
+use Rattle.order_laws.specs.DdmTypes.declared.answers.TxKind.TheVariants.{EraseTx}
+use Rattle.order_laws.specs.TreeModel.State.Kinds.{is_kind, brings_copy}
+use Rattle.order_laws.specs.TreeModel.State.States.{entry_hold, is_held}
+use Rattle.order_laws.specs.TreeModel.State.Values.{DownValue, DirValue, Node, Nodes, leaf_node, dir_node, no_nodes, more_nodes, MachineValue}
+use Rattle.order_laws.specs.TreeModel.State.Leaf.{words_of_item, LeafEntry, leaf_entry}
+use Rattle.order_laws.specs.TreeModel.State.Directory.{queue_of}
+use Rattle.order_laws.specs.TreeModel.State.Child.{child_replies}
+use Rattle.order_laws.specs.TreeModel.State.Lists.{first_some}
+use Rattle.order_laws.specs.TreeModel.State.Place.{Spot, spot_path, spot_in}
+use Rattle.order_laws.specs.TreeModel.State.Shape.{IsShaped}
+use Rattle.order_laws.specs.TreeRules.Order.Moments.{moment_at, spot_moment}
+use Rattle.order_laws.specs.TreeRules.Order.Places.{dirs_in, placed_dirs, dirs_at}
+use Rattle.order_laws.specs.TreeRules.Order.Copies.{CopyAt, cut, first_erase, downs, copies_here, entry_copies, inner, handed, copies_of}
 use Rattle.order_lists.proofs.Filters.{each-weaker, each-append, each-left, each-right}
 use Rattle.order_lists.proofs.Stamps.{moment_at-length}
 use Rattle.order_lists.proofs.Levels.{IsLevelled, all_levelled}

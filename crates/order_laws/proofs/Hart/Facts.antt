@@ -1,18 +1,18 @@
 -- What the rules before a turn say of an item's copies: their words, their ends, and what a leaf that has it Exclusive knows.
 use Rattle.std.proofs.Common.{◌≡◌, ℕ, ◌≤◌, true, false, length, None, IfSome}
 use Rattle.std.specs.List.{AllByRecursion}
-use Rattle.ddm_types.specs.declared.operations.Op.{Op}
-use Rattle.ddm_types.specs.ItemTable.{ItemTable}
-use Rattle.flat_model.specs.Flat.{FlatMachine}
-use Rattle.flat_model.specs.Legal.{on_item}
-use Rattle.tree_model.specs.State.Values.{MachineValue}
-use Rattle.tree_model.specs.State.Shape.{depth_of}
-use Rattle.tree_rules.specs.Statements.{Holds}
-use Rattle.tree_rules.specs.Order.Moments.{less, before, is_under}
-use Rattle.tree_rules.specs.Order.Places.{LeafAt, leaf_path, leaf_now, leaves_at}
-use Rattle.tree_rules.specs.Order.Copies.{CopyAt, copies_of}
-use Rattle.tree_rules.specs.Order.Ops.{op_key}
-use Rattle.tree_rules.specs.Order.Core.{ended_before}
+use Rattle.order_laws.specs.DdmTypes.declared.operations.Op.{Op}
+use Rattle.order_laws.specs.DdmTypes.ItemTable.{ItemTable}
+use Rattle.order_laws.specs.FlatModel.Flat.{FlatMachine}
+use Rattle.order_laws.specs.FlatModel.Legal.{on_item}
+use Rattle.order_laws.specs.TreeModel.State.Values.{MachineValue}
+use Rattle.order_laws.specs.TreeModel.State.Shape.{depth_of}
+use Rattle.order_laws.specs.TreeRules.Statements.{Holds}
+use Rattle.order_laws.specs.TreeRules.Order.Moments.{less, before, is_under}
+use Rattle.order_laws.specs.TreeRules.Order.Places.{LeafAt, leaf_path, leaf_now, leaves_at}
+use Rattle.order_laws.specs.TreeRules.Order.Copies.{CopyAt, copies_of}
+use Rattle.order_laws.specs.TreeRules.Order.Ops.{op_key}
+use Rattle.order_laws.specs.TreeRules.Order.Core.{ended_before}
 use Rattle.order_lists.proofs.CopyWords.{HasWordsOfChanges}
 use Rattle.order_lists.proofs.ExclusiveClaims.{IsExclusiveAt}
 

@@ -1,26 +1,26 @@
 -- What completes at a leaf is a legal step of a flat machine whose hart, words and reservation are the leaf's.
 use Rattle.std.proofs.Common.{◌≡◌, ℕ, Bool, true, false, ◌&&◌, nat_eq, is_some, List, Option, Some, None, Ok, Err, Result, refl, sym, ap, ap₂, ◌∙◌}
 use Rattle.std.proofs.lemmas.Bool.{true≢false, eq-eqb}
-use Rattle.ddm_types.specs.declared.operations.Effect.{Effect}
-use Rattle.ddm_types.specs.declared.operations.HaltCause.{HaltCause}
-use Rattle.ddm_types.specs.declared.operations.Op.{Op}
-use Rattle.ddm_types.specs.declared.sizes.LeafState.{LeafState}
-use Rattle.ddm_types.specs.declared.keys.Key.{Key}
-use Rattle.ddm_types.specs.ItemTable.{ItemTable}
-use Rattle.ddm_types.specs.CodeMap.{CodeWord}
-use Rattle.flat_model.specs.declared.Ask.{Ask}
-use Rattle.flat_model.specs.declared.Ask.TheVariants.{Plain, Put, NeedsShared, NeedsExclusive, Conditional, Halt}
-use Rattle.flat_model.specs.Hart.{HartValue, Finished, ask_of, finish_of}
-use Rattle.flat_model.specs.Flat.{FlatHart, FlatMachine, Change, flat_hart, item_words, has_reserved, leaving, storing_to, conditional, change_by, unless_halted, asked_item, hart_step, flat_step, with_change}
-use Rattle.flat_model.specs.Legal.{is_sc_ok, legal_step}
-use Rattle.flat_model.proofs.Runs.{legal_step_of}
-use Rattle.flat_model.proofs.Steps.{Unreserved, unreserved, same_change, finish_failing}
-use Rattle.flat_model.proofs.Frames.{own_hart}
-use Rattle.flat_model.proofs.Insert.{in_range, flat_step_is}
-use Rattle.flat_model.proofs.Completing.{Completes, change_completes}
-use Rattle.tree_model.specs.State.Values.{LeafValue}
-use Rattle.tree_model.specs.State.Leaf.{LeafEntry, leaf_entry, entry_words}
-use Rattle.tree_model.specs.Turns.HartTurn.{no_need, need_to_read, need_to_write, need_in_state, need_of, words_here, change_here}
+use Rattle.order_laws.specs.DdmTypes.declared.operations.Effect.{Effect}
+use Rattle.order_laws.specs.DdmTypes.declared.operations.HaltCause.{HaltCause}
+use Rattle.order_laws.specs.DdmTypes.declared.operations.Op.{Op}
+use Rattle.order_laws.specs.DdmTypes.declared.sizes.LeafState.{LeafState}
+use Rattle.order_laws.specs.DdmTypes.declared.keys.Key.{Key}
+use Rattle.order_laws.specs.DdmTypes.ItemTable.{ItemTable}
+use Rattle.order_laws.specs.DdmTypes.CodeMap.{CodeWord}
+use Rattle.order_laws.specs.FlatModel.declared.Ask.{Ask}
+use Rattle.order_laws.specs.FlatModel.declared.Ask.TheVariants.{Plain, Put, NeedsShared, NeedsExclusive, Conditional, Halt}
+use Rattle.order_laws.specs.FlatModel.Hart.{HartValue, Finished, ask_of, finish_of}
+use Rattle.order_laws.specs.FlatModel.Flat.{FlatHart, FlatMachine, Change, flat_hart, item_words, has_reserved, leaving, storing_to, conditional, change_by, unless_halted, asked_item, hart_step, flat_step, with_change}
+use Rattle.order_laws.specs.FlatModel.Legal.{is_sc_ok, legal_step}
+use Rattle.order_laws.proofs.FlatModel.Runs.{legal_step_of}
+use Rattle.order_laws.proofs.FlatModel.Steps.{Unreserved, unreserved, same_change, finish_failing}
+use Rattle.order_laws.proofs.FlatModel.Frames.{own_hart}
+use Rattle.order_laws.proofs.FlatModel.Insert.{in_range, flat_step_is}
+use Rattle.order_laws.proofs.FlatModel.Completing.{Completes, change_completes}
+use Rattle.order_laws.specs.TreeModel.State.Values.{LeafValue}
+use Rattle.order_laws.specs.TreeModel.State.Leaf.{LeafEntry, leaf_entry, entry_words}
+use Rattle.order_laws.specs.TreeModel.Turns.HartTurn.{no_need, need_to_read, need_to_write, need_in_state, need_of, words_here, change_here}
 use Rattle.order_laws.proofs.Hart.Retiring.{Retires}
 
 -- the leaf's hart, with its reservation

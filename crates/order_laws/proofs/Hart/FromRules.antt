@@ -1,16 +1,16 @@
 -- The facts of an item's copies, from the rules of a machine.
 use Rattle.std.proofs.Common.{◌≡◌, ℕ, ◌≤◌, ◌<◌, true, List, [], length, Option, Some, None, IfSome}
 use Rattle.std.specs.List.{AllByRecursion}
-use Rattle.flat_model.specs.Flat.{FlatMachine}
-use Rattle.flat_model.specs.Legal.{on_item}
-use Rattle.tree_model.specs.State.Values.{MachineValue}
-use Rattle.tree_model.specs.State.Shape.{depth_of, IsShaped}
-use Rattle.tree_rules.specs.Bus.Rules.{items_of_machine, IsMachineOk}
-use Rattle.tree_rules.specs.Order.Moments.{less, before}
-use Rattle.tree_rules.specs.Order.Places.{LeafAt, leaf_now, leaves_at}
-use Rattle.tree_rules.specs.Order.Ops.{op_key}
-use Rattle.tree_rules.specs.Order.Copies.{CopyAt, copies_of}
-use Rattle.tree_rules.specs.Order.Rules.{commands_past_taken, words_right, claims_after_ops, claims_after_copies, clocks_know, IsTimed, IsCore}
+use Rattle.order_laws.specs.FlatModel.Flat.{FlatMachine}
+use Rattle.order_laws.specs.FlatModel.Legal.{on_item}
+use Rattle.order_laws.specs.TreeModel.State.Values.{MachineValue}
+use Rattle.order_laws.specs.TreeModel.State.Shape.{depth_of, IsShaped}
+use Rattle.order_laws.specs.TreeRules.Bus.Rules.{items_of_machine, IsMachineOk}
+use Rattle.order_laws.specs.TreeRules.Order.Moments.{less, before}
+use Rattle.order_laws.specs.TreeRules.Order.Places.{LeafAt, leaf_now, leaves_at}
+use Rattle.order_laws.specs.TreeRules.Order.Ops.{op_key}
+use Rattle.order_laws.specs.TreeRules.Order.Copies.{CopyAt, copies_of}
+use Rattle.order_laws.specs.TreeRules.Order.Rules.{commands_past_taken, words_right, claims_after_ops, claims_after_copies, clocks_know, IsTimed, IsCore}
 use Rattle.order_lists.proofs.Filters.{each-both, each-weaker, each-swap, each-under}
 use Rattle.order_lists.proofs.Ends.{IsTimely}
 use Rattle.order_lists.proofs.State.{copies_timely}

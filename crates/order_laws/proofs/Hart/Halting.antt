@@ -2,17 +2,17 @@
 -- success of an SC.
 use Rattle.std.proofs.Common.{◌≡◌, ℕ, Bool, true, false, nat_eq, is_none, List, Option, Some, None, Err, refl, sym, ap, ◌∙◌}
 use Rattle.std.proofs.lemmas.Bool.{eq-eqb, eqb-true}
-use Rattle.ddm_types.specs.declared.operations.HaltCause.{HaltCause}
-use Rattle.ddm_types.specs.declared.operations.HaltCause.TheVariants.{Exit, Illegal, Breakpoint, UnknownCall, MisalignedTarget, FetchOutside, MisalignedAccess, LoadOutside, StoreOutside}
-use Rattle.ddm_types.specs.ItemTable.{ItemTable}
-use Rattle.ddm_types.specs.CodeMap.{CodeWord}
-use Rattle.flat_model.specs.declared.Ask.{Ask}
-use Rattle.flat_model.specs.declared.Ask.TheVariants.{Plain, Put, NeedsShared, NeedsExclusive, Conditional, Halt}
-use Rattle.flat_model.specs.Hart.{HartValue, Finished, ask_of, finish_of}
-use Rattle.flat_model.specs.Flat.{FlatHart, FlatMachine, flat_hart, item_words, change_by, unless_halted, hart_step, stepped, flat_step}
-use Rattle.tree_rules.specs.Statements.{Holds}
-use Rattle.tree_rules.specs.Order.Moments.{same_numbers}
-use Rattle.tree_rules.specs.Order.Core.{is_running_as, same_halt, halts_with, halts_next}
+use Rattle.order_laws.specs.DdmTypes.declared.operations.HaltCause.{HaltCause}
+use Rattle.order_laws.specs.DdmTypes.declared.operations.HaltCause.TheVariants.{Exit, Illegal, Breakpoint, UnknownCall, MisalignedTarget, FetchOutside, MisalignedAccess, LoadOutside, StoreOutside}
+use Rattle.order_laws.specs.DdmTypes.ItemTable.{ItemTable}
+use Rattle.order_laws.specs.DdmTypes.CodeMap.{CodeWord}
+use Rattle.order_laws.specs.FlatModel.declared.Ask.{Ask}
+use Rattle.order_laws.specs.FlatModel.declared.Ask.TheVariants.{Plain, Put, NeedsShared, NeedsExclusive, Conditional, Halt}
+use Rattle.order_laws.specs.FlatModel.Hart.{HartValue, Finished, ask_of, finish_of}
+use Rattle.order_laws.specs.FlatModel.Flat.{FlatHart, FlatMachine, flat_hart, item_words, change_by, unless_halted, hart_step, stepped, flat_step}
+use Rattle.order_laws.specs.TreeRules.Statements.{Holds}
+use Rattle.order_laws.specs.TreeRules.Order.Moments.{same_numbers}
+use Rattle.order_laws.specs.TreeRules.Order.Core.{is_running_as, same_halt, halts_with, halts_next}
 use Rattle.order_lists.proofs.Moments.{same_numbers-true, same_numbers-itself}
 
 -- ---- a leaf's hart as the flat one

@@ -2,28 +2,28 @@
 use Rattle.std.proofs.Common.{◌≡◌, ℕ, ◌+◌, true, false, inr, List, [], ◌∷◌, ◌++◌, Option, Some, None, refl, sym, ap, subst, ◌∙◌, append_assoc, append-nil}
 use Rattle.std.specs.List.{AllByRecursion}
 use Rattle.std.proofs.lemmas.Bool.{eqb-true}
-use Rattle.ddm_types.specs.declared.answers.TurnAnswer.{TurnAnswer}
-use Rattle.ddm_types.specs.declared.turns.Turn.{Turn}
-use Rattle.ddm_types.specs.declared.operations.Effect.{Effect}
-use Rattle.ddm_types.specs.declared.operations.Op.{Op}
-use Rattle.ddm_types.specs.ItemTable.{ItemTable}
-use Rattle.tree_model.specs.State.Values.{LeafValue, DirValue, Node, Nodes, leaf_node, dir_node, more_nodes, MachineValue, root_of}
-use Rattle.tree_model.specs.State.Leaf.{words_of_item}
-use Rattle.tree_model.specs.State.Place.{Spot, spot_path, spot_in, Where, at_top, at_child, where_path, key_at_leaf}
-use Rattle.tree_model.specs.State.Shape.{Frame, levels_of, depth_of}
-use Rattle.tree_model.specs.Turns.HartTurn.{leaf_step}
-use Rattle.tree_model.specs.Turns.Tree.{leaf_of_number, has_node, ChangedAt, ChangedAmong, changed_here, changed_below, changed_first, changed_later}
-use Rattle.tree_model.specs.Turns.Machine.{turn_answer, turn_root, with_root, recorded, turn_of}
-use Rattle.tree_model.specs.Laws.{TurnsHere}
-use Rattle.tree_model.proofs.Changed.{changed-holds}
-use Rattle.tree_model.proofs.TurnChanges.{turn-changes_nothing, turn-changes_one_node}
-use Rattle.tree_model.proofs.FrameKept.{turn-frame}
-use Rattle.tree_rules.specs.Bus.Own.{IsLeafOk}
-use Rattle.tree_rules.specs.Bus.Rules.{IsTreeOk, AreTreesOk, items_of_machine, IsMachineOk}
-use Rattle.tree_rules.specs.Order.Moments.{is_under}
-use Rattle.tree_rules.specs.Order.Places.{LeafAt, leaf_path, leaves_in, placed_leaves, leaves_at, dirs_at, placed_dirs}
-use Rattle.tree_rules.specs.Order.Copies.{copies_here, handed, copies_of}
-use Rattle.tree_rules.specs.Order.Claims.{claims_of, claims_among}
+use Rattle.order_laws.specs.DdmTypes.declared.answers.TurnAnswer.{TurnAnswer}
+use Rattle.order_laws.specs.DdmTypes.declared.turns.Turn.{Turn}
+use Rattle.order_laws.specs.DdmTypes.declared.operations.Effect.{Effect}
+use Rattle.order_laws.specs.DdmTypes.declared.operations.Op.{Op}
+use Rattle.order_laws.specs.DdmTypes.ItemTable.{ItemTable}
+use Rattle.order_laws.specs.TreeModel.State.Values.{LeafValue, DirValue, Node, Nodes, leaf_node, dir_node, more_nodes, MachineValue, root_of}
+use Rattle.order_laws.specs.TreeModel.State.Leaf.{words_of_item}
+use Rattle.order_laws.specs.TreeModel.State.Place.{Spot, spot_path, spot_in, Where, at_top, at_child, where_path, key_at_leaf}
+use Rattle.order_laws.specs.TreeModel.State.Shape.{Frame, levels_of, depth_of}
+use Rattle.order_laws.specs.TreeModel.Turns.HartTurn.{leaf_step}
+use Rattle.order_laws.specs.TreeModel.Turns.Tree.{leaf_of_number, has_node, ChangedAt, ChangedAmong, changed_here, changed_below, changed_first, changed_later}
+use Rattle.order_laws.specs.TreeModel.Turns.Machine.{turn_answer, turn_root, with_root, recorded, turn_of}
+use Rattle.order_laws.specs.TreeModel.Laws.{TurnsHere}
+use Rattle.order_laws.proofs.TreeModel.Changed.{changed-holds}
+use Rattle.order_laws.proofs.TreeModel.TurnChanges.{turn-changes_nothing, turn-changes_one_node}
+use Rattle.order_laws.proofs.TreeModel.FrameKept.{turn-frame}
+use Rattle.order_laws.specs.TreeRules.Bus.Own.{IsLeafOk}
+use Rattle.order_laws.specs.TreeRules.Bus.Rules.{IsTreeOk, AreTreesOk, items_of_machine, IsMachineOk}
+use Rattle.order_laws.specs.TreeRules.Order.Moments.{is_under}
+use Rattle.order_laws.specs.TreeRules.Order.Places.{LeafAt, leaf_path, leaves_in, placed_leaves, leaves_at, dirs_at, placed_dirs}
+use Rattle.order_laws.specs.TreeRules.Order.Copies.{copies_here, handed, copies_of}
+use Rattle.order_laws.specs.TreeRules.Order.Claims.{claims_of, claims_among}
 use Rattle.order_lists.proofs.Filters.{each-left, each-right}
 use Rattle.order_laws.proofs.Hart.LeafTurned.{EntryTurned}
 use Rattle.order_laws.proofs.Hart.TreeTurned.{NodeTurned, AmongTurned, RootTurned, root_turned}

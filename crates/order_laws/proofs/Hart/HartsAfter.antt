@@ -5,29 +5,29 @@ use Rattle.std.specs.Prelude.{unwrap_or}
 use Rattle.std.proofs.lemmas.Bool.{true≢false, eqb-true, eqb-false, eq-eqb, ne_eqb}
 use Rattle.std.proofs.lemmas.List.{length-append}
 use Rattle.std.proofs.lemmas.List.Elements.{filter-append}
-use Rattle.ddm_types.specs.declared.operations.Effect.{Effect}
-use Rattle.ddm_types.specs.declared.operations.Effect.TheVariants.{Plain, Put, Load, Store, Lr, ScOk, ScFail, Amo}
-use Rattle.ddm_types.specs.declared.operations.HaltCause.{HaltCause}
-use Rattle.ddm_types.specs.declared.operations.Op.{Op}
-use Rattle.ddm_types.specs.Keys.{key_less}
-use Rattle.ddm_types.specs.ItemTable.{ItemTable, item_at}
-use Rattle.flat_model.specs.Hart.{HartValue}
-use Rattle.flat_model.specs.Flat.{FlatMachine, flat_hart, has_reserved}
-use Rattle.flat_model.specs.Legal.{is_of, on_item, changed_item, reserved_by_own, reservation, flat_after}
-use Rattle.flat_model.proofs.Items.{asks_inside}
-use Rattle.tree_model.specs.State.Values.{LeafValue, MachineValue}
-use Rattle.tree_model.specs.State.States.{is_held, entry_hold}
-use Rattle.tree_model.specs.State.Leaf.{LeafEntry, entry_state, leaf_entry, leaf_hold}
-use Rattle.tree_model.specs.State.Place.{at_child, key_at_leaf}
-use Rattle.tree_model.specs.State.Shape.{depth_of}
-use Rattle.tree_model.specs.Turns.Witness.{sorted_ops}
-use Rattle.tree_rules.specs.Statements.{Holds, if_there}
-use Rattle.tree_rules.specs.Bus.Rules.{items_of_machine}
-use Rattle.tree_rules.specs.Order.Moments.{less, key_path, spot_moment, is_under}
-use Rattle.tree_rules.specs.Order.Places.{LeafAt, leaf_path, leaf_now, leaves_at}
-use Rattle.tree_rules.specs.Order.Copies.{CopyAt, copies_of}
-use Rattle.tree_rules.specs.Order.Ops.{op_key, op_count}
-use Rattle.tree_rules.specs.Order.Core as core
+use Rattle.order_laws.specs.DdmTypes.declared.operations.Effect.{Effect}
+use Rattle.order_laws.specs.DdmTypes.declared.operations.Effect.TheVariants.{Plain, Put, Load, Store, Lr, ScOk, ScFail, Amo}
+use Rattle.order_laws.specs.DdmTypes.declared.operations.HaltCause.{HaltCause}
+use Rattle.order_laws.specs.DdmTypes.declared.operations.Op.{Op}
+use Rattle.order_laws.specs.DdmTypes.Keys.{key_less}
+use Rattle.order_laws.specs.DdmTypes.ItemTable.{ItemTable, item_at}
+use Rattle.order_laws.specs.FlatModel.Hart.{HartValue}
+use Rattle.order_laws.specs.FlatModel.Flat.{FlatMachine, flat_hart, has_reserved}
+use Rattle.order_laws.specs.FlatModel.Legal.{is_of, on_item, changed_item, reserved_by_own, reservation, flat_after}
+use Rattle.order_laws.proofs.FlatModel.Items.{asks_inside}
+use Rattle.order_laws.specs.TreeModel.State.Values.{LeafValue, MachineValue}
+use Rattle.order_laws.specs.TreeModel.State.States.{is_held, entry_hold}
+use Rattle.order_laws.specs.TreeModel.State.Leaf.{LeafEntry, entry_state, leaf_entry, leaf_hold}
+use Rattle.order_laws.specs.TreeModel.State.Place.{at_child, key_at_leaf}
+use Rattle.order_laws.specs.TreeModel.State.Shape.{depth_of}
+use Rattle.order_laws.specs.TreeModel.Turns.Witness.{sorted_ops}
+use Rattle.order_laws.specs.TreeRules.Statements.{Holds, if_there}
+use Rattle.order_laws.specs.TreeRules.Bus.Rules.{items_of_machine}
+use Rattle.order_laws.specs.TreeRules.Order.Moments.{less, key_path, spot_moment, is_under}
+use Rattle.order_laws.specs.TreeRules.Order.Places.{LeafAt, leaf_path, leaf_now, leaves_at}
+use Rattle.order_laws.specs.TreeRules.Order.Copies.{CopyAt, copies_of}
+use Rattle.order_laws.specs.TreeRules.Order.Ops.{op_key, op_count}
+use Rattle.order_laws.specs.TreeRules.Order.Core as core
 use Rattle.order_lists.proofs.Filters.{each-weaker, each-both, filter-yes, filter-no}
 use Rattle.order_lists.proofs.Moments.{less-irreflexive, less-asymmetric}
 use Rattle.order_lists.proofs.Paths.{under-itself, under-same}

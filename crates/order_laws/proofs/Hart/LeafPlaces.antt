@@ -4,17 +4,17 @@ use Rattle.std.proofs.Common.{◌≡◌, ℕ, zero, suc, ◌+◌, ◌≤◌, tru
 use Rattle.std.specs.List.{AllByRecursion}
 use Rattle.std.proofs.lemmas.Bool.{and_parts, eqb-true, leb-true}
 use Rattle.std.proofs.lemmas.List.{length-append, append-nil, map-append}
-use Rattle.ddm_types.specs.declared.keys.Stamp.{Stamp}
-use Rattle.ddm_types.specs.Keys.{stamp_at, key_numbers}
-use Rattle.tree_model.specs.State.Values.{DirValue, Node, Nodes, leaf_node, dir_node, no_nodes, more_nodes, MachineValue}
-use Rattle.tree_model.specs.State.Directory.{stamp_of}
-use Rattle.tree_model.specs.State.Place.{Spot, at_child, spot_path, spot_in, key_at_leaf}
-use Rattle.tree_model.specs.State.Shape.{skeleton, skeletons, levels_fit, levels_fit_among, leaf_numbers_of, leaf_numbers_among, count_from, depth_of, levels_known, leaves_numbered, IsShaped}
-use Rattle.tree_rules.specs.Bus.Own.{no_epoch, IsTopOk}
-use Rattle.tree_rules.specs.Statements.{Holds}
-use Rattle.tree_rules.specs.Order.Places.{LeafAt, leaf_path, leaf_now, DirAt, leaves_in, placed_leaves, leaves_at, dirs_in, placed_dirs, dirs_at}
-use Rattle.tree_rules.specs.Order.Time.{key_ends, stamp_ends, epoch_ends}
-use Rattle.tree_rules.proofs.KeysNow.{key-now}
+use Rattle.order_laws.specs.DdmTypes.declared.keys.Stamp.{Stamp}
+use Rattle.order_laws.specs.DdmTypes.Keys.{stamp_at, key_numbers}
+use Rattle.order_laws.specs.TreeModel.State.Values.{DirValue, Node, Nodes, leaf_node, dir_node, no_nodes, more_nodes, MachineValue}
+use Rattle.order_laws.specs.TreeModel.State.Directory.{stamp_of}
+use Rattle.order_laws.specs.TreeModel.State.Place.{Spot, at_child, spot_path, spot_in, key_at_leaf}
+use Rattle.order_laws.specs.TreeModel.State.Shape.{skeleton, skeletons, levels_fit, levels_fit_among, leaf_numbers_of, leaf_numbers_among, count_from, depth_of, levels_known, leaves_numbered, IsShaped}
+use Rattle.order_laws.specs.TreeRules.Bus.Own.{no_epoch, IsTopOk}
+use Rattle.order_laws.specs.TreeRules.Statements.{Holds}
+use Rattle.order_laws.specs.TreeRules.Order.Places.{LeafAt, leaf_path, leaf_now, DirAt, leaves_in, placed_leaves, leaves_at, dirs_in, placed_dirs, dirs_at}
+use Rattle.order_laws.specs.TreeRules.Order.Time.{key_ends, stamp_ends, epoch_ends}
+use Rattle.order_laws.proofs.TreeRules.KeysNow.{key-now}
 use Rattle.order_lists.proofs.Filters.{each-weaker, each-both, each-append, each-left, each-right}
 
 -- ---- the key that a leaf gives now

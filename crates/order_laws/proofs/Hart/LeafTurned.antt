@@ -3,29 +3,29 @@ use Rattle.std.proofs.Common.{◌≡◌, ℕ, ◌+◌, Bool, true, false, nat_eq
 use Rattle.std.specs.Prelude.{option_and_then, if◌then◌else◌}
 use Rattle.std.proofs.lemmas.Bool.{eqb-true, eqb-false, eq-eqb}
 use Rattle.std.proofs.lemmas.Option.{none-some, same_Some}
-use Rattle.ddm_types.specs.declared.operations.Effect.{Effect}
-use Rattle.ddm_types.specs.declared.operations.HaltCause.{HaltCause}
-use Rattle.ddm_types.specs.declared.operations.Op.{Op}
-use Rattle.ddm_types.specs.declared.sizes.LeafState.{LeafState}
-use Rattle.ddm_types.specs.declared.keys.Key.{Key}
-use Rattle.ddm_types.specs.ItemTable.{ItemTable, item_at}
-use Rattle.ddm_types.specs.CodeMap.{CodeWord}
-use Rattle.flat_model.specs.declared.Ask.{Ask}
-use Rattle.flat_model.specs.declared.Ask.TheVariants.{Plain, Put, NeedsShared, NeedsExclusive, Conditional, Halt}
-use Rattle.flat_model.specs.Hart.{HartValue, Finished, Action, Halts, Computes, Puts, Loads, Stores, Reserves, StoresIfReserved, Changes, action_of, ask_by, ask_of, finish_by, finish_of}
-use Rattle.flat_model.specs.Flat.{Stored, Change, has_reserved, leaving, storing_to, conditional, change_by, asked_item}
-use Rattle.flat_model.specs.Legal.{effect_address, effect_item, on_item, changes_item, stored_by, reserved_by_own, HasWholeWords}
-use Rattle.flat_model.proofs.Items.{FollowsAsk, step_follows}
-use Rattle.flat_model.proofs.Insert.{stored_item, changed_is}
-use Rattle.flat_model.proofs.Steps.{same_change}
-use Rattle.flat_model.proofs.Storing.{step_stores, changes_is}
-use Rattle.flat_model.proofs.Reserving.{step_reserves}
-use Rattle.tree_model.specs.State.Values.{LeafValue}
-use Rattle.tree_model.specs.State.States.{is_waiting, is_held, entry_hold}
-use Rattle.tree_model.specs.State.Leaf.{LeafEntry, entry_state, entry_words, entry_at, leaf_entry, leaf_hold, waiting_item}
-use Rattle.tree_model.specs.Turns.HartTurn.{words_here, change_here, ways_stored, buffer_stored}
-use Rattle.tree_rules.specs.Bus.Own.{state_waits}
-use Rattle.tree_rules.specs.Order.Copies.{entry_copies}
+use Rattle.order_laws.specs.DdmTypes.declared.operations.Effect.{Effect}
+use Rattle.order_laws.specs.DdmTypes.declared.operations.HaltCause.{HaltCause}
+use Rattle.order_laws.specs.DdmTypes.declared.operations.Op.{Op}
+use Rattle.order_laws.specs.DdmTypes.declared.sizes.LeafState.{LeafState}
+use Rattle.order_laws.specs.DdmTypes.declared.keys.Key.{Key}
+use Rattle.order_laws.specs.DdmTypes.ItemTable.{ItemTable, item_at}
+use Rattle.order_laws.specs.DdmTypes.CodeMap.{CodeWord}
+use Rattle.order_laws.specs.FlatModel.declared.Ask.{Ask}
+use Rattle.order_laws.specs.FlatModel.declared.Ask.TheVariants.{Plain, Put, NeedsShared, NeedsExclusive, Conditional, Halt}
+use Rattle.order_laws.specs.FlatModel.Hart.{HartValue, Finished, Action, Halts, Computes, Puts, Loads, Stores, Reserves, StoresIfReserved, Changes, action_of, ask_by, ask_of, finish_by, finish_of}
+use Rattle.order_laws.specs.FlatModel.Flat.{Stored, Change, has_reserved, leaving, storing_to, conditional, change_by, asked_item}
+use Rattle.order_laws.specs.FlatModel.Legal.{effect_address, effect_item, on_item, changes_item, stored_by, reserved_by_own, HasWholeWords}
+use Rattle.order_laws.proofs.FlatModel.Items.{FollowsAsk, step_follows}
+use Rattle.order_laws.proofs.FlatModel.Insert.{stored_item, changed_is}
+use Rattle.order_laws.proofs.FlatModel.Steps.{same_change}
+use Rattle.order_laws.proofs.FlatModel.Storing.{step_stores, changes_is}
+use Rattle.order_laws.proofs.FlatModel.Reserving.{step_reserves}
+use Rattle.order_laws.specs.TreeModel.State.Values.{LeafValue}
+use Rattle.order_laws.specs.TreeModel.State.States.{is_waiting, is_held, entry_hold}
+use Rattle.order_laws.specs.TreeModel.State.Leaf.{LeafEntry, entry_state, entry_words, entry_at, leaf_entry, leaf_hold, waiting_item}
+use Rattle.order_laws.specs.TreeModel.Turns.HartTurn.{words_here, change_here, ways_stored, buffer_stored}
+use Rattle.order_laws.specs.TreeRules.Bus.Own.{state_waits}
+use Rattle.order_laws.specs.TreeRules.Order.Copies.{entry_copies}
 use Rattle.bus_laws.proofs.HartFacts.{waiting-none}
 use Rattle.bus_laws.proofs.HartChanges.{entry_with, entry-becomes, entry-becomes_other}
 use Rattle.order_laws.proofs.Hart.Retiring.{Retires}

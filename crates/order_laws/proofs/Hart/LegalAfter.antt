@@ -1,19 +1,19 @@
 -- The operations in key order after a turn that completes: they are legal, and leave the leaf's hart.
 use Rattle.std.proofs.Common.{◌≡◌, ℕ, true, List, [], ◌∷◌, ◌++◌, Some, sym, ap, ◌∙◌}
 use Rattle.std.specs.List.{AllByRecursion}
-use Rattle.ddm_types.specs.declared.operations.Op.{Op}
-use Rattle.ddm_types.specs.declared.keys.Key.{Key}
-use Rattle.ddm_types.specs.ItemTable.{ItemTable}
-use Rattle.ddm_types.specs.CodeMap.{CodeWord}
-use Rattle.flat_model.specs.Hart.{ask_of}
-use Rattle.flat_model.specs.Flat.{FlatMachine, flat_hart, item_words, has_reserved, asked_item}
-use Rattle.flat_model.specs.Legal.{changed_item, HasWholeWords, legal_step, legal_run, reservation, words_after}
-use Rattle.flat_model.proofs.Insert.{Alike, EndsAlike}
-use Rattle.flat_model.proofs.Storing.{words_is}
-use Rattle.flat_model.proofs.Reserving.{run_reserves}
-use Rattle.tree_model.specs.State.Values.{LeafValue}
-use Rattle.tree_model.specs.State.Leaf.{LeafEntry, leaf_entry}
-use Rattle.tree_model.specs.Turns.Witness.{sorted_ops}
+use Rattle.order_laws.specs.DdmTypes.declared.operations.Op.{Op}
+use Rattle.order_laws.specs.DdmTypes.declared.keys.Key.{Key}
+use Rattle.order_laws.specs.DdmTypes.ItemTable.{ItemTable}
+use Rattle.order_laws.specs.DdmTypes.CodeMap.{CodeWord}
+use Rattle.order_laws.specs.FlatModel.Hart.{ask_of}
+use Rattle.order_laws.specs.FlatModel.Flat.{FlatMachine, flat_hart, item_words, has_reserved, asked_item}
+use Rattle.order_laws.specs.FlatModel.Legal.{changed_item, HasWholeWords, legal_step, legal_run, reservation, words_after}
+use Rattle.order_laws.proofs.FlatModel.Insert.{Alike, EndsAlike}
+use Rattle.order_laws.proofs.FlatModel.Storing.{words_is}
+use Rattle.order_laws.proofs.FlatModel.Reserving.{run_reserves}
+use Rattle.order_laws.specs.TreeModel.State.Values.{LeafValue}
+use Rattle.order_laws.specs.TreeModel.State.Leaf.{LeafEntry, leaf_entry}
+use Rattle.order_laws.specs.TreeModel.Turns.Witness.{sorted_ops}
 use Rattle.order_lists.proofs.Sorted.{IsNew, KeysDiffer, lesser}
 use Rattle.order_lists.proofs.Completing.{IsLatest, StepsFrom, completing}
 use Rattle.order_laws.proofs.Hart.Retiring.{Retires}

@@ -3,16 +3,16 @@
 use Rattle.std.proofs.Common.{◌≡◌, ◌≢◌, ℕ, ◌+◌, ◌≤◌, Bool, true, false, nat_eq, List, [], ◌∷◌, ◌++◌, length, refl, sym, ap, ◌∙◌, arith}
 use Rattle.std.specs.List.{AllByRecursion}
 use Rattle.std.proofs.lemmas.Bool.{true≢false, eqb-true, eqb-false, eq-eqb}
-use Rattle.ddm_types.specs.declared.operations.Op.{Op}
-use Rattle.ddm_types.specs.declared.keys.Stamp.{Stamp}
-use Rattle.ddm_types.specs.declared.keys.Key.{Key}
-use Rattle.ddm_types.specs.Keys.{key_less, key_numbers}
-use Rattle.tree_model.specs.State.Place.{at_child, key_at_leaf}
-use Rattle.tree_rules.specs.Statements.{Holds, each}
-use Rattle.tree_rules.specs.Order.Moments.{less, moment_at, key_path}
-use Rattle.tree_rules.specs.Order.Places.{LeafAt, leaf_path, leaf_now}
-use Rattle.tree_rules.specs.Order.Ops.{op_key, op_path}
-use Rattle.tree_rules.specs.Order.Time.{key_ends, has_leaf, is_leaf_of, has_ending_key, has_leaf_path, is_before_now}
+use Rattle.order_laws.specs.DdmTypes.declared.operations.Op.{Op}
+use Rattle.order_laws.specs.DdmTypes.declared.keys.Stamp.{Stamp}
+use Rattle.order_laws.specs.DdmTypes.declared.keys.Key.{Key}
+use Rattle.order_laws.specs.DdmTypes.Keys.{key_less, key_numbers}
+use Rattle.order_laws.specs.TreeModel.State.Place.{at_child, key_at_leaf}
+use Rattle.order_laws.specs.TreeRules.Statements.{Holds, each}
+use Rattle.order_laws.specs.TreeRules.Order.Moments.{less, moment_at, key_path}
+use Rattle.order_laws.specs.TreeRules.Order.Places.{LeafAt, leaf_path, leaf_now}
+use Rattle.order_laws.specs.TreeRules.Order.Ops.{op_key, op_path}
+use Rattle.order_laws.specs.TreeRules.Order.Time.{key_ends, has_leaf, is_leaf_of, has_ending_key, has_leaf_path, is_before_now}
 use Rattle.order_lists.proofs.Filters.{any-each}
 use Rattle.order_lists.proofs.Moments.{less-head, less-tail, same_numbers-true}
 use Rattle.order_lists.proofs.Keys.{key_less-irreflexive, key_less-numbers}

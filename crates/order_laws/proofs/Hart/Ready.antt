@@ -2,26 +2,26 @@
 use Rattle.std.proofs.Common.{◌≡◌, ℕ, ◌+◌, ◌≤◌, ◌<◌, Bool, true, false, not, true≢false, ◌⊎◌, inl, inr, List, [], ◌∷◌, ◌++◌, map, length, Option, Some, None, IfSome, refl, sym, ap, subst, ◌∙◌}
 use Rattle.std.specs.List.{AllByRecursion}
 use Rattle.std.proofs.lemmas.List.{take-append-le}
-use Rattle.ddm_types.specs.declared.operations.Op.{Op}
-use Rattle.ddm_types.specs.Keys.{key_less}
-use Rattle.ddm_types.specs.ItemTable.{ItemTable}
-use Rattle.flat_model.specs.Flat.{FlatMachine, item_words}
-use Rattle.flat_model.specs.Legal.{changes_item, words_after}
-use Rattle.tree_model.specs.State.Values.{LeafValue, DirValue, Node, Nodes, leaf_node, dir_node, no_nodes, more_nodes, MachineValue}
-use Rattle.tree_model.specs.State.States.{is_held, entry_hold}
-use Rattle.tree_model.specs.State.Leaf.{words_of_item, LeafEntry, leaf_entry}
-use Rattle.tree_model.specs.State.Directory.{queue_of}
-use Rattle.tree_model.specs.State.Child.{child_replies}
-use Rattle.tree_model.specs.State.Place.{Spot, spot_path, spot_in}
-use Rattle.tree_model.specs.State.Shape.{depth_of}
-use Rattle.tree_model.specs.Turns.Witness.{sorted_ops}
-use Rattle.tree_rules.specs.Statements.{Holds, each, there_and, is_so}
-use Rattle.tree_rules.proofs.Statements.{Holds-from_test, test-from_Holds}
-use Rattle.tree_rules.specs.Order.Moments.{less, less_at, moment_length, before, past, parted, is_under, moment_at, spot_moment}
-use Rattle.tree_rules.specs.Order.Places.{LeafAt, leaf_path, leaf_now, leaves_in, placed_leaves, leaves_at}
-use Rattle.tree_rules.specs.Order.Copies.{CopyAt, copy_here, cut, first_erase, downs, copies_here, entry_copies, inner, handed, copies_of}
-use Rattle.tree_rules.specs.Order.Ops.{op_key, op_path}
-use Rattle.tree_rules.specs.Order.Core.{ended_before, knows_change}
+use Rattle.order_laws.specs.DdmTypes.declared.operations.Op.{Op}
+use Rattle.order_laws.specs.DdmTypes.Keys.{key_less}
+use Rattle.order_laws.specs.DdmTypes.ItemTable.{ItemTable}
+use Rattle.order_laws.specs.FlatModel.Flat.{FlatMachine, item_words}
+use Rattle.order_laws.specs.FlatModel.Legal.{changes_item, words_after}
+use Rattle.order_laws.specs.TreeModel.State.Values.{LeafValue, DirValue, Node, Nodes, leaf_node, dir_node, no_nodes, more_nodes, MachineValue}
+use Rattle.order_laws.specs.TreeModel.State.States.{is_held, entry_hold}
+use Rattle.order_laws.specs.TreeModel.State.Leaf.{words_of_item, LeafEntry, leaf_entry}
+use Rattle.order_laws.specs.TreeModel.State.Directory.{queue_of}
+use Rattle.order_laws.specs.TreeModel.State.Child.{child_replies}
+use Rattle.order_laws.specs.TreeModel.State.Place.{Spot, spot_path, spot_in}
+use Rattle.order_laws.specs.TreeModel.State.Shape.{depth_of}
+use Rattle.order_laws.specs.TreeModel.Turns.Witness.{sorted_ops}
+use Rattle.order_laws.specs.TreeRules.Statements.{Holds, each, there_and, is_so}
+use Rattle.order_laws.proofs.TreeRules.Statements.{Holds-from_test, test-from_Holds}
+use Rattle.order_laws.specs.TreeRules.Order.Moments.{less, less_at, moment_length, before, past, parted, is_under, moment_at, spot_moment}
+use Rattle.order_laws.specs.TreeRules.Order.Places.{LeafAt, leaf_path, leaf_now, leaves_in, placed_leaves, leaves_at}
+use Rattle.order_laws.specs.TreeRules.Order.Copies.{CopyAt, copy_here, cut, first_erase, downs, copies_here, entry_copies, inner, handed, copies_of}
+use Rattle.order_laws.specs.TreeRules.Order.Ops.{op_key, op_path}
+use Rattle.order_laws.specs.TreeRules.Order.Core.{ended_before, knows_change}
 use Rattle.order_lists.proofs.Filters.{each-weaker, each-append, each-left, each-right}
 use Rattle.order_lists.proofs.Moments.{less-head, less-tail, less-parts, less-asymmetric, less_at-less, before-past}
 use Rattle.order_lists.proofs.Sorted.{lesser}

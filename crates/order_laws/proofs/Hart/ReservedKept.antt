@@ -4,14 +4,14 @@ use Rattle.std.specs.List.{AllByRecursion}
 use Rattle.std.proofs.lemmas.Bool.{true≢false, eq-eqb}
 use Rattle.std.proofs.lemmas.List.Elements.{filter-append}
 use Rattle.std.proofs.lemmas.Grind.{fold-append}
-use Rattle.ddm_types.specs.declared.operations.Effect.{Effect}
-use Rattle.ddm_types.specs.declared.operations.Effect.TheVariants.{Plain, Put, Load, Store, Lr, ScOk, ScFail, Amo}
-use Rattle.ddm_types.specs.declared.operations.Op.{Op}
-use Rattle.ddm_types.specs.Keys.{key_less}
-use Rattle.ddm_types.specs.CodeMap.{CodeWord}
-use Rattle.ddm_types.specs.ItemTable.{ItemTable}
-use Rattle.flat_model.specs.Legal.{changed_item, reserved_by, reserved_by_own, reservation}
-use Rattle.tree_model.specs.Turns.Witness.{sorted_ops}
+use Rattle.order_laws.specs.DdmTypes.declared.operations.Effect.{Effect}
+use Rattle.order_laws.specs.DdmTypes.declared.operations.Effect.TheVariants.{Plain, Put, Load, Store, Lr, ScOk, ScFail, Amo}
+use Rattle.order_laws.specs.DdmTypes.declared.operations.Op.{Op}
+use Rattle.order_laws.specs.DdmTypes.Keys.{key_less}
+use Rattle.order_laws.specs.DdmTypes.CodeMap.{CodeWord}
+use Rattle.order_laws.specs.DdmTypes.ItemTable.{ItemTable}
+use Rattle.order_laws.specs.FlatModel.Legal.{changed_item, reserved_by, reserved_by_own, reservation}
+use Rattle.order_laws.specs.TreeModel.Turns.Witness.{sorted_ops}
 use Rattle.order_lists.proofs.Filters.{filter-yes, filter-no, filter-none, filter-all, filter-same, each-weaker, each-passing}
 use Rattle.order_lists.proofs.Keys.{key_less-asymmetric}
 use Rattle.order_lists.proofs.Sorted.{IsNew, KeysDiffer, lesser, greater, sorted-each, sorted-rise, push}

@@ -2,19 +2,19 @@
 use Rattle.std.proofs.Common.{◌≡◌, ℕ, Bool, true, false, List, Option, Some, None, Ok, Err, Result, refl, sym, ap, ◌∙◌}
 use Rattle.std.proofs.lemmas.Bool.{true≢false}
 use Rattle.std.specs.Prelude.{◌%◌}
-use Rattle.ddm_types.specs.declared.answers.TurnAnswer.{TurnAnswer}
-use Rattle.ddm_types.specs.declared.operations.Effect.{Effect}
-use Rattle.ddm_types.specs.declared.operations.HaltCause.{HaltCause}
-use Rattle.ddm_types.specs.declared.operations.Op.{Op}
-use Rattle.ddm_types.specs.declared.sizes.LeafState.{LeafState}
-use Rattle.ddm_types.specs.declared.keys.Key.{Key}
-use Rattle.ddm_types.specs.ItemTable.{ItemTable}
-use Rattle.ddm_types.specs.CodeMap.{CodeWord}
-use Rattle.flat_model.specs.Hart.{ask_of}
-use Rattle.flat_model.specs.Flat.{Change}
-use Rattle.tree_model.specs.State.Values.{LeafValue}
-use Rattle.tree_model.specs.State.Leaf.{waiting_item, free_way, buffer_full}
-use Rattle.tree_model.specs.Turns.HartTurn.{Deed, has_halted, waits_for, halts, completes, fetches, upgrades, finds_buffer_full, Need, no_need, a_copy, no_other_copy, time, need_of, change_here, deed_of_change, replaces, deed_to_fetch, deed_by_need, deed_unless_waiting, deed_unless_halted, deed_of, answer_of_deed, leaf_after_deed, leaf_step}
+use Rattle.order_laws.specs.DdmTypes.declared.answers.TurnAnswer.{TurnAnswer}
+use Rattle.order_laws.specs.DdmTypes.declared.operations.Effect.{Effect}
+use Rattle.order_laws.specs.DdmTypes.declared.operations.HaltCause.{HaltCause}
+use Rattle.order_laws.specs.DdmTypes.declared.operations.Op.{Op}
+use Rattle.order_laws.specs.DdmTypes.declared.sizes.LeafState.{LeafState}
+use Rattle.order_laws.specs.DdmTypes.declared.keys.Key.{Key}
+use Rattle.order_laws.specs.DdmTypes.ItemTable.{ItemTable}
+use Rattle.order_laws.specs.DdmTypes.CodeMap.{CodeWord}
+use Rattle.order_laws.specs.FlatModel.Hart.{ask_of}
+use Rattle.order_laws.specs.FlatModel.Flat.{Change}
+use Rattle.order_laws.specs.TreeModel.State.Values.{LeafValue}
+use Rattle.order_laws.specs.TreeModel.State.Leaf.{waiting_item, free_way, buffer_full}
+use Rattle.order_laws.specs.TreeModel.Turns.HartTurn.{Deed, has_halted, waits_for, halts, completes, fetches, upgrades, finds_buffer_full, Need, no_need, a_copy, no_other_copy, time, need_of, change_here, deed_of_change, replaces, deed_to_fetch, deed_by_need, deed_unless_waiting, deed_unless_halted, deed_of, answer_of_deed, leaf_after_deed, leaf_step}
 
 abbrev pub op_of : Key → LeafValue → Effect → Op
 op_of now v effect = record { key = now; hart = v.number; pc = v.hart.pc; effect = effect }

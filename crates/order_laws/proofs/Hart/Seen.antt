@@ -3,32 +3,32 @@ use Rattle.std.proofs.Common.{◌≡◌, ◌≢◌, ℕ, ◌<◌, Bool, true, fa
 use Rattle.std.specs.List.{AllByRecursion}
 use Rattle.std.specs.Prelude.{option_and_then, unwrap_or}
 use Rattle.std.proofs.lemmas.Bool.{true≢false, and_parts, eqb-true, eqb-false, eq-eqb}
-use Rattle.ddm_types.specs.declared.answers.TurnAnswer.{TurnAnswer}
-use Rattle.ddm_types.specs.declared.operations.Effect.{Effect}
-use Rattle.ddm_types.specs.declared.operations.Op.{Op}
-use Rattle.ddm_types.specs.Keys.{key_less}
-use Rattle.ddm_types.specs.ItemTable.{ItemTable, item_count, item_at}
-use Rattle.flat_model.specs.Flat.{FlatMachine, has_reserved}
-use Rattle.flat_model.specs.Legal.{is_change, effect_address, effect_item, on_item, changes_item, changed_item, legal_run, flat_after}
-use Rattle.flat_model.proofs.Items.{item_at_inside}
-use Rattle.flat_model.proofs.Storing.{changes_is}
-use Rattle.tree_model.specs.State.Values.{LeafValue, MachineValue}
-use Rattle.tree_model.specs.State.States.{is_exclusive}
-use Rattle.tree_model.specs.State.Leaf.{leaf_hold}
-use Rattle.tree_model.specs.State.Shape.{depth_of, IsShaped}
-use Rattle.tree_model.specs.Turns.Witness.{sorted_ops}
-use Rattle.tree_rules.specs.Statements.{Holds, each}
-use Rattle.tree_rules.proofs.Statements.{each-facts, facts-each}
-use Rattle.tree_rules.specs.Bus.Rules.{items_of_machine, IsMachineOk}
-use Rattle.tree_rules.specs.Order.Moments.{less, is_under}
-use Rattle.tree_rules.specs.Order.Places.{LeafAt, leaf_path, leaf_now, leaves_at}
-use Rattle.tree_rules.specs.Order.Copies.{CopyAt, copies_of}
-use Rattle.tree_rules.specs.Order.Claims.{claims_of}
-use Rattle.tree_rules.specs.Order.Ops.{op_key, op_path}
-use Rattle.tree_rules.specs.Order.Time.{key_ends}
-use Rattle.tree_rules.specs.Order.Time as time
-use Rattle.tree_rules.specs.Order.Core as core
-use Rattle.tree_rules.specs.Order.Rules.{keys_differ, keys_end, IsTimed, reservations_kept, legal, harts_follow, claims_after_copies, clocks_know, IsCore}
+use Rattle.order_laws.specs.DdmTypes.declared.answers.TurnAnswer.{TurnAnswer}
+use Rattle.order_laws.specs.DdmTypes.declared.operations.Effect.{Effect}
+use Rattle.order_laws.specs.DdmTypes.declared.operations.Op.{Op}
+use Rattle.order_laws.specs.DdmTypes.Keys.{key_less}
+use Rattle.order_laws.specs.DdmTypes.ItemTable.{ItemTable, item_count, item_at}
+use Rattle.order_laws.specs.FlatModel.Flat.{FlatMachine, has_reserved}
+use Rattle.order_laws.specs.FlatModel.Legal.{is_change, effect_address, effect_item, on_item, changes_item, changed_item, legal_run, flat_after}
+use Rattle.order_laws.proofs.FlatModel.Items.{item_at_inside}
+use Rattle.order_laws.proofs.FlatModel.Storing.{changes_is}
+use Rattle.order_laws.specs.TreeModel.State.Values.{LeafValue, MachineValue}
+use Rattle.order_laws.specs.TreeModel.State.States.{is_exclusive}
+use Rattle.order_laws.specs.TreeModel.State.Leaf.{leaf_hold}
+use Rattle.order_laws.specs.TreeModel.State.Shape.{depth_of, IsShaped}
+use Rattle.order_laws.specs.TreeModel.Turns.Witness.{sorted_ops}
+use Rattle.order_laws.specs.TreeRules.Statements.{Holds, each}
+use Rattle.order_laws.proofs.TreeRules.Statements.{each-facts, facts-each}
+use Rattle.order_laws.specs.TreeRules.Bus.Rules.{items_of_machine, IsMachineOk}
+use Rattle.order_laws.specs.TreeRules.Order.Moments.{less, is_under}
+use Rattle.order_laws.specs.TreeRules.Order.Places.{LeafAt, leaf_path, leaf_now, leaves_at}
+use Rattle.order_laws.specs.TreeRules.Order.Copies.{CopyAt, copies_of}
+use Rattle.order_laws.specs.TreeRules.Order.Claims.{claims_of}
+use Rattle.order_laws.specs.TreeRules.Order.Ops.{op_key, op_path}
+use Rattle.order_laws.specs.TreeRules.Order.Time.{key_ends}
+use Rattle.order_laws.specs.TreeRules.Order.Time as time
+use Rattle.order_laws.specs.TreeRules.Order.Core as core
+use Rattle.order_laws.specs.TreeRules.Order.Rules.{keys_differ, keys_end, IsTimed, reservations_kept, legal, harts_follow, claims_after_copies, clocks_know, IsCore}
 use Rattle.order_lists.proofs.Filters.{each-weaker, each-both, each-swap, each-passing}
 use Rattle.order_lists.proofs.Keys.{key_less-asymmetric, key_less-numbers}
 use Rattle.order_lists.proofs.Sorted.{IsNew, KeysDiffer, greater, sorted-each}

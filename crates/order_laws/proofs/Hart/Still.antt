@@ -4,22 +4,22 @@ use Rattle.std.specs.Prelude.{nat_eq}
 use Rattle.std.proofs.lemmas.Bool.{true≢false}
 use Rattle.std.proofs.lemmas.Bool.Decides.{eqb_tells}
 use Rattle.std.proofs.lemmas.List.{append-nil, length-set}
-use Rattle.ddm_types.specs.declared.operations.HaltCause.{HaltCause}
-use Rattle.ddm_types.specs.declared.sizes.LeafState.{LeafState}
-use Rattle.ddm_types.specs.declared.keys.Key.{Key}
-use Rattle.ddm_types.specs.ItemTable.{ItemTable, item_count}
-use Rattle.ddm_types.specs.CodeMap.{CodeWord}
-use Rattle.flat_model.specs.declared.Ask.{Ask}
-use Rattle.flat_model.specs.declared.Ask.TheVariants.{Plain, Put, NeedsShared, NeedsExclusive, Conditional, Halt}
-use Rattle.flat_model.specs.Hart.{Finished, ask_of, finish_of}
-use Rattle.flat_model.specs.Flat.{Change, has_reserved, change_by, asked_item}
-use Rattle.flat_model.proofs.Items.{asks_inside}
-use Rattle.tree_model.specs.State.States.{is_reading}
-use Rattle.tree_model.specs.State.Values.{WayValue, LeafValue}
-use Rattle.tree_model.specs.State.Leaf.{blank, LeafEntry, way_at, entry_at, leaf_entry, leaf_hold, waiting_item, item_in_way, stands_in, free_way, buffer_full}
-use Rattle.tree_model.specs.Turns.HartTurn.{Deed, has_halted, waits_for, halts, completes, fetches, upgrades, finds_buffer_full, Need, no_need, a_copy, no_other_copy, time, need_to_read, need_to_write, need_in_state, need_of, words_here, change_here, deed_of_change, replaces, deed_to_fetch, deed_by_need, deed_unless_waiting, deed_unless_halted, deed_of, answer_of_deed, leaf_after_deed, leaf_step, ways_without, moved_entry, moved_to_buffer}
-use Rattle.tree_model.proofs.Children.{found-passes}
-use Rattle.tree_rules.specs.Bus.Own.{IsLeafOk}
+use Rattle.order_laws.specs.DdmTypes.declared.operations.HaltCause.{HaltCause}
+use Rattle.order_laws.specs.DdmTypes.declared.sizes.LeafState.{LeafState}
+use Rattle.order_laws.specs.DdmTypes.declared.keys.Key.{Key}
+use Rattle.order_laws.specs.DdmTypes.ItemTable.{ItemTable, item_count}
+use Rattle.order_laws.specs.DdmTypes.CodeMap.{CodeWord}
+use Rattle.order_laws.specs.FlatModel.declared.Ask.{Ask}
+use Rattle.order_laws.specs.FlatModel.declared.Ask.TheVariants.{Plain, Put, NeedsShared, NeedsExclusive, Conditional, Halt}
+use Rattle.order_laws.specs.FlatModel.Hart.{Finished, ask_of, finish_of}
+use Rattle.order_laws.specs.FlatModel.Flat.{Change, has_reserved, change_by, asked_item}
+use Rattle.order_laws.proofs.FlatModel.Items.{asks_inside}
+use Rattle.order_laws.specs.TreeModel.State.States.{is_reading}
+use Rattle.order_laws.specs.TreeModel.State.Values.{WayValue, LeafValue}
+use Rattle.order_laws.specs.TreeModel.State.Leaf.{blank, LeafEntry, way_at, entry_at, leaf_entry, leaf_hold, waiting_item, item_in_way, stands_in, free_way, buffer_full}
+use Rattle.order_laws.specs.TreeModel.Turns.HartTurn.{Deed, has_halted, waits_for, halts, completes, fetches, upgrades, finds_buffer_full, Need, no_need, a_copy, no_other_copy, time, need_to_read, need_to_write, need_in_state, need_of, words_here, change_here, deed_of_change, replaces, deed_to_fetch, deed_by_need, deed_unless_waiting, deed_unless_halted, deed_of, answer_of_deed, leaf_after_deed, leaf_step, ways_without, moved_entry, moved_to_buffer}
+use Rattle.order_laws.proofs.TreeModel.Children.{found-passes}
+use Rattle.order_laws.specs.TreeRules.Bus.Own.{IsLeafOk}
 use Rattle.bus_laws.proofs.HartFacts.{HasEntries, entries-from_rules}
 use Rattle.bus_laws.proofs.HartChanges.{entry_with, entry-becomes, entry-becomes_other, entry-moved, entry-enters, entry-enters_other}
 use Rattle.order_laws.proofs.Hart.Retiring.{IsAtHand, has_retired, halt_made}

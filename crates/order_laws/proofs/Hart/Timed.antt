@@ -2,21 +2,21 @@
 use Rattle.std.proofs.Common.{◌≡◌, ℕ, ◌+◌, Bool, true, false, nat_eq, ◌⊎◌, inl, inr, List, [], ◌∷◌, ◌++◌, refl, sym, ap, subst, ◌∙◌}
 use Rattle.std.specs.List.{AllByRecursion, list_any}
 use Rattle.std.proofs.lemmas.Bool.{true≢false, eqb-true, eq-eqb}
-use Rattle.ddm_types.specs.declared.answers.TurnAnswer.{TurnAnswer}
-use Rattle.ddm_types.specs.declared.turns.Turn.{Turn}
-use Rattle.ddm_types.specs.declared.operations.Op.{Op}
-use Rattle.ddm_types.specs.Keys.{key_less}
-use Rattle.tree_model.specs.State.Values.{LeafValue, MachineValue, root_of}
-use Rattle.tree_model.specs.State.Place.{Spot, spot_path, at_child, key_at_leaf}
-use Rattle.tree_model.specs.State.Shape.{depth_of, IsShaped}
-use Rattle.tree_model.specs.Turns.Tree.{leaf_of_number, has_node}
-use Rattle.tree_rules.specs.Statements.{Statement, Holds, each, each_pair}
-use Rattle.tree_rules.specs.Bus.Rules.{IsMachineOk}
-use Rattle.tree_rules.specs.Order.Moments.{less, spot_moment, is_under, same_numbers}
-use Rattle.tree_rules.specs.Order.Places.{LeafAt, leaf_path, leaf_now, leaves_at, DirAt, dirs_at}
-use Rattle.tree_rules.specs.Order.Ops.{op_key, op_path}
-use Rattle.tree_rules.specs.Order.Time as time
-use Rattle.tree_rules.specs.Order.Rules.{TimeRule, keys_differ, ops_of_leaves, keys_end, keys_have_paths, keys_are_past, taken_is_past, stamps_between, stamps_rise, stamps_end, epochs_end, time_rule, IsTimed}
+use Rattle.order_laws.specs.DdmTypes.declared.answers.TurnAnswer.{TurnAnswer}
+use Rattle.order_laws.specs.DdmTypes.declared.turns.Turn.{Turn}
+use Rattle.order_laws.specs.DdmTypes.declared.operations.Op.{Op}
+use Rattle.order_laws.specs.DdmTypes.Keys.{key_less}
+use Rattle.order_laws.specs.TreeModel.State.Values.{LeafValue, MachineValue, root_of}
+use Rattle.order_laws.specs.TreeModel.State.Place.{Spot, spot_path, at_child, key_at_leaf}
+use Rattle.order_laws.specs.TreeModel.State.Shape.{depth_of, IsShaped}
+use Rattle.order_laws.specs.TreeModel.Turns.Tree.{leaf_of_number, has_node}
+use Rattle.order_laws.specs.TreeRules.Statements.{Statement, Holds, each, each_pair}
+use Rattle.order_laws.specs.TreeRules.Bus.Rules.{IsMachineOk}
+use Rattle.order_laws.specs.TreeRules.Order.Moments.{less, spot_moment, is_under, same_numbers}
+use Rattle.order_laws.specs.TreeRules.Order.Places.{LeafAt, leaf_path, leaf_now, leaves_at, DirAt, dirs_at}
+use Rattle.order_laws.specs.TreeRules.Order.Ops.{op_key, op_path}
+use Rattle.order_laws.specs.TreeRules.Order.Time as time
+use Rattle.order_laws.specs.TreeRules.Order.Rules.{TimeRule, keys_differ, ops_of_leaves, keys_end, keys_have_paths, keys_are_past, taken_is_past, stamps_between, stamps_rise, stamps_end, epochs_end, time_rule, IsTimed}
 use Rattle.order_lists.proofs.Listed.{each_pair-push}
 use Rattle.order_lists.proofs.Moments.{less-transitive, same_numbers-itself}
 use Rattle.order_lists.proofs.Keys.{key_less-total}

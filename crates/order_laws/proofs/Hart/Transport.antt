@@ -1,7 +1,7 @@
 -- Statements of each element of a list, where the list has one more, or each element has become another.
 use Rattle.std.proofs.Common.{◌≡◌, Bool, true, false, ◌||◌, List, [], ◌∷◌, ◌++◌, refl, ap₂}
 use Rattle.std.specs.List.{AllByRecursion, list_any}
-use Rattle.tree_rules.specs.Statements.{Statement, Holds, both, each}
+use Rattle.order_laws.specs.TreeRules.Statements.{Statement, Holds, both, each}
 use Rattle.order_laws.specs.Pairs.{Pairs}
 
 module _ {X : Type 0} where

@@ -2,11 +2,11 @@
 use Rattle.std.proofs.Common.{◌≡◌, ◌≢◌, ℕ, ◌+◌, ◌≤◌, ◌<◌, Bool, true, false, ◌⊎◌, inl, inr, List, [], ◌∷◌, ◌++◌, length, refl, sym, ap, ◌∙◌, append-nil, append_assoc, arith}
 use Rattle.std.proofs.lemmas.Bool.{true≢false, false_from_ne_true, cases_lt, eq-eqb}
 use Rattle.std.proofs.lemmas.List.{length-append}
-use Rattle.tree_model.specs.State.Values.{LeafValue, DirValue, Node, Nodes, leaf_node, dir_node, no_nodes, more_nodes}
-use Rattle.tree_model.specs.State.Place.{Spot, Where, at_top, at_child, spot_path, spot_in, where_path}
-use Rattle.tree_model.specs.Turns.Tree.{ChangedAt}
-use Rattle.tree_model.proofs.Changed.{changed-holds}
-use Rattle.tree_rules.specs.Order.Moments.{is_under}
+use Rattle.order_laws.specs.TreeModel.State.Values.{LeafValue, DirValue, Node, Nodes, leaf_node, dir_node, no_nodes, more_nodes}
+use Rattle.order_laws.specs.TreeModel.State.Place.{Spot, Where, at_top, at_child, spot_path, spot_in, where_path}
+use Rattle.order_laws.specs.TreeModel.Turns.Tree.{ChangedAt}
+use Rattle.order_laws.proofs.TreeModel.Changed.{changed-holds}
+use Rattle.order_laws.specs.TreeRules.Order.Moments.{is_under}
 use Rattle.order_lists.proofs.Paths.{under-itself, under-append, under-shorter, under_child, one_child}
 
 -- of a leaf that takes its turn, where it stands

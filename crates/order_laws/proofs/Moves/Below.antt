@@ -3,29 +3,29 @@
 use Rattle.std.proofs.Common.{◌≡◌, ℕ, ◌<◌, Bool, true, false, not, List, length, IfSome, None, refl, sym, ◌∙◌}
 use Rattle.std.specs.List.{AllByRecursion, list_any}
 use Rattle.std.proofs.lemmas.Bool.{true≢false}
-use Rattle.ddm_types.specs.declared.operations.Op.{Op}
-use Rattle.ddm_types.specs.ItemTable.{ItemTable}
-use Rattle.flat_model.specs.Flat.{FlatMachine}
-use Rattle.flat_model.specs.Legal.{changes_item}
-use Rattle.tree_model.specs.State.Values.{DirValue, Node, Nodes, children, MachineValue}
-use Rattle.tree_model.specs.State.States.{is_exclusive}
-use Rattle.tree_model.specs.State.Directory.{dir_hold, queue_of, stamp_of}
-use Rattle.tree_model.specs.State.Place.{Spot, spot_path}
-use Rattle.tree_model.specs.State.Shape.{depth_of, IsShaped}
-use Rattle.tree_rules.specs.Statements.{Holds, test_of, each, each_pair}
-use Rattle.tree_rules.specs.Bus.Faces.{parent_face, faces_of}
-use Rattle.tree_rules.specs.Bus.Item.{holds_exclusive, one_holds, ItemRules}
-use Rattle.tree_rules.specs.Bus.Rules.{items_of_machine}
-use Rattle.tree_rules.specs.Order.Claims.{last_exclusive, first_claim}
-use Rattle.tree_rules.specs.Order.Copies.{CopyAt, first_erase, inner, copies_of}
-use Rattle.tree_rules.specs.Order.Core.{is_past_taken, ended_before}
-use Rattle.tree_rules.specs.Order.Directories.{IsClocked, IsOrdered}
-use Rattle.tree_rules.specs.Order.Moments.{less, moment_at, spot_moment, GoesOn}
-use Rattle.tree_rules.specs.Order.Ops.{op_key, op_path, words_where}
-use Rattle.tree_rules.specs.Order.Places.{LeafAt, leaf_path, leaf_now, leaves_at, DirAt, dirs_at, dirs_in, placed_dirs, placed_leaves}
-use Rattle.tree_rules.specs.Order.Rules.{IsTimed, IsCore, commands_past_taken, words_right, clocks_know, ops_of_leaves, keys_have_paths, keys_are_past, stamps_between, stamps_rise}
-use Rattle.tree_rules.specs.Order.Time.{lies_between, may_stand_behind, is_leaf_of, has_leaf, has_leaf_path, is_before_now}
-use Rattle.tree_rules.proofs.Statements.{each-facts, test-from_Holds, Holds-from_test}
+use Rattle.order_laws.specs.DdmTypes.declared.operations.Op.{Op}
+use Rattle.order_laws.specs.DdmTypes.ItemTable.{ItemTable}
+use Rattle.order_laws.specs.FlatModel.Flat.{FlatMachine}
+use Rattle.order_laws.specs.FlatModel.Legal.{changes_item}
+use Rattle.order_laws.specs.TreeModel.State.Values.{DirValue, Node, Nodes, children, MachineValue}
+use Rattle.order_laws.specs.TreeModel.State.States.{is_exclusive}
+use Rattle.order_laws.specs.TreeModel.State.Directory.{dir_hold, queue_of, stamp_of}
+use Rattle.order_laws.specs.TreeModel.State.Place.{Spot, spot_path}
+use Rattle.order_laws.specs.TreeModel.State.Shape.{depth_of, IsShaped}
+use Rattle.order_laws.specs.TreeRules.Statements.{Holds, test_of, each, each_pair}
+use Rattle.order_laws.specs.TreeRules.Bus.Faces.{parent_face, faces_of}
+use Rattle.order_laws.specs.TreeRules.Bus.Item.{holds_exclusive, one_holds, ItemRules}
+use Rattle.order_laws.specs.TreeRules.Bus.Rules.{items_of_machine}
+use Rattle.order_laws.specs.TreeRules.Order.Claims.{last_exclusive, first_claim}
+use Rattle.order_laws.specs.TreeRules.Order.Copies.{CopyAt, first_erase, inner, copies_of}
+use Rattle.order_laws.specs.TreeRules.Order.Core.{is_past_taken, ended_before}
+use Rattle.order_laws.specs.TreeRules.Order.Directories.{IsClocked, IsOrdered}
+use Rattle.order_laws.specs.TreeRules.Order.Moments.{less, moment_at, spot_moment, GoesOn}
+use Rattle.order_laws.specs.TreeRules.Order.Ops.{op_key, op_path, words_where}
+use Rattle.order_laws.specs.TreeRules.Order.Places.{LeafAt, leaf_path, leaf_now, leaves_at, DirAt, dirs_at, dirs_in, placed_dirs, placed_leaves}
+use Rattle.order_laws.specs.TreeRules.Order.Rules.{IsTimed, IsCore, commands_past_taken, words_right, clocks_know, ops_of_leaves, keys_have_paths, keys_are_past, stamps_between, stamps_rise}
+use Rattle.order_laws.specs.TreeRules.Order.Time.{lies_between, may_stand_behind, is_leaf_of, has_leaf, has_leaf_path, is_before_now}
+use Rattle.order_laws.proofs.TreeRules.Statements.{each-facts, test-from_Holds, Holds-from_test}
 use Rattle.order_lists.proofs.Filters.{each-both, each-weaker, any-each}
 use Rattle.order_lists.proofs.Moments.{same_numbers-true}
 use Rattle.order_lists.proofs.Clocks as clocks

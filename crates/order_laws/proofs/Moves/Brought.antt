@@ -3,20 +3,20 @@
 use Rattle.std.proofs.Common.{◌≡◌, ℕ, ◌<◌, Bool, true, false, List, [], ◌∷◌, ◌++◌, length, Option, refl, sym, ap, subst, ◌∙◌, inl, inr}
 use Rattle.std.specs.Prelude.{nat_eq, if◌then◌else◌}
 use Rattle.std.proofs.lemmas.Bool.{eqb-true}
-use Rattle.ddm_types.specs.declared.answers.TxKind.TheVariants.{EraseTx}
-use Rattle.ddm_types.specs.declared.keys.Stamp.{Stamp}
-use Rattle.tree_model.specs.State.Kinds.{is_kind, brings_copy}
-use Rattle.tree_model.specs.State.Lists.{map_from}
-use Rattle.tree_model.specs.State.States.{is_held}
-use Rattle.tree_model.specs.State.Values.{DownValue, Note, DirValue, Node}
-use Rattle.tree_model.specs.State.Leaf.{words_of_item}
-use Rattle.tree_model.specs.State.Directory.{queue_of, is_reader, stamp_of}
-use Rattle.tree_model.specs.State.Child.{child_hold, child_take_data, child_take_inject}
-use Rattle.tree_model.specs.State.Place.{Spot, Where, at_child, spot_path}
-use Rattle.tree_model.specs.Turns.Children.{child_at, only, reader_takes}
-use Rattle.tree_model.proofs.Children.{map_from-length, child_at-map_from}
-use Rattle.tree_rules.specs.Order.Copies.{CopyAt, cut, copy_here, copies_here, first_erase, downs}
-use Rattle.tree_rules.specs.Order.Moments.{moment_at}
+use Rattle.order_laws.specs.DdmTypes.declared.answers.TxKind.TheVariants.{EraseTx}
+use Rattle.order_laws.specs.DdmTypes.declared.keys.Stamp.{Stamp}
+use Rattle.order_laws.specs.TreeModel.State.Kinds.{is_kind, brings_copy}
+use Rattle.order_laws.specs.TreeModel.State.Lists.{map_from}
+use Rattle.order_laws.specs.TreeModel.State.States.{is_held}
+use Rattle.order_laws.specs.TreeModel.State.Values.{DownValue, Note, DirValue, Node}
+use Rattle.order_laws.specs.TreeModel.State.Leaf.{words_of_item}
+use Rattle.order_laws.specs.TreeModel.State.Directory.{queue_of, is_reader, stamp_of}
+use Rattle.order_laws.specs.TreeModel.State.Child.{child_hold, child_take_data, child_take_inject}
+use Rattle.order_laws.specs.TreeModel.State.Place.{Spot, Where, at_child, spot_path}
+use Rattle.order_laws.specs.TreeModel.Turns.Children.{child_at, only, reader_takes}
+use Rattle.order_laws.proofs.TreeModel.Children.{map_from-length, child_at-map_from}
+use Rattle.order_laws.specs.TreeRules.Order.Copies.{CopyAt, cut, copy_here, copies_here, first_erase, downs}
+use Rattle.order_laws.specs.TreeRules.Order.Moments.{moment_at}
 use Rattle.order_lists.proofs.Moments.{less-irreflexive}
 use Rattle.order_laws.specs.Moves.Moved.{In}
 use Rattle.order_laws.specs.Moves.Carries.{IsLeafFree}

@@ -3,13 +3,13 @@
 use Rattle.std.proofs.Common.{◌≡◌, ℕ, zero, suc, ◌+◌, ◌<◌, List, [], ◌∷◌, ◌++◌, map, length, Option, IfSome, sym, subst, inl, inr, arith}
 use Rattle.std.specs.List.{AllByRecursion}
 use Rattle.std.proofs.lemmas.List.{map-append}
-use Rattle.tree_model.specs.State.Values.{DirValue, Node, nodes}
-use Rattle.tree_model.specs.State.Leaf.{words_of_item}
-use Rattle.tree_model.specs.State.Directory.{stamp_of}
-use Rattle.tree_model.specs.State.Place.{Where, where_path}
-use Rattle.tree_model.specs.Turns.Children.{child_at}
-use Rattle.tree_rules.specs.Order.Copies.{CopyAt, cut, copies_here, handed}
-use Rattle.tree_rules.specs.Order.Moments.{GoesOn}
+use Rattle.order_laws.specs.TreeModel.State.Values.{DirValue, Node, nodes}
+use Rattle.order_laws.specs.TreeModel.State.Leaf.{words_of_item}
+use Rattle.order_laws.specs.TreeModel.State.Directory.{stamp_of}
+use Rattle.order_laws.specs.TreeModel.State.Place.{Where, where_path}
+use Rattle.order_laws.specs.TreeModel.Turns.Children.{child_at}
+use Rattle.order_laws.specs.TreeRules.Order.Copies.{CopyAt, cut, copies_here, handed}
+use Rattle.order_laws.specs.TreeRules.Order.Moments.{GoesOn}
 use Rattle.order_lists.proofs.Filters.{each-append}
 use Rattle.order_laws.specs.Moves.Moved.{In, Moved, From, AllFrom}
 use Rattle.order_laws.specs.Moves.Parent.{bound_at, moment_in, erased_at, downs_at, replies_up, hand_of}

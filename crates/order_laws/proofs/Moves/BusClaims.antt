@@ -3,15 +3,15 @@
 use Rattle.std.proofs.Common.{◌≡◌, ◌≢◌, ℕ, zero, suc, ◌+◌, ◌-◌, ◌<◌, Bool, true, false, List, [], ◌∷◌, ◌++◌, length, take, Some, refl, sym, ap, subst, ◌∙◌, ◌⊎◌, inl, inr, arith}
 use Rattle.std.specs.Prelude.{unwrap_or, if◌then◌else◌}
 use Rattle.std.proofs.lemmas.List.{length-append}
-use Rattle.ddm_types.specs.declared.keys.Stamp.{Stamp}
-use Rattle.tree_model.specs.State.Lists.{first_some}
-use Rattle.tree_model.specs.State.Values.{DirValue, Node, Nodes, leaf_node, dir_node, no_nodes, more_nodes, nodes}
-use Rattle.tree_model.specs.State.Directory.{queue_of, stamp_of}
-use Rattle.tree_model.specs.State.Place.{Spot, spot_in}
-use Rattle.tree_model.specs.Turns.Children.{child_at}
-use Rattle.tree_rules.specs.Order.Claims.{last_exclusive, child_is_exclusive, claim, first_claim, ClaimAt, claim_here, claims_in, claims_among}
-use Rattle.tree_rules.specs.Order.Core.{claim_level}
-use Rattle.tree_rules.specs.Order.Moments.{less_at, moment_at, moment_length}
+use Rattle.order_laws.specs.DdmTypes.declared.keys.Stamp.{Stamp}
+use Rattle.order_laws.specs.TreeModel.State.Lists.{first_some}
+use Rattle.order_laws.specs.TreeModel.State.Values.{DirValue, Node, Nodes, leaf_node, dir_node, no_nodes, more_nodes, nodes}
+use Rattle.order_laws.specs.TreeModel.State.Directory.{queue_of, stamp_of}
+use Rattle.order_laws.specs.TreeModel.State.Place.{Spot, spot_in}
+use Rattle.order_laws.specs.TreeModel.Turns.Children.{child_at}
+use Rattle.order_laws.specs.TreeRules.Order.Claims.{last_exclusive, child_is_exclusive, claim, first_claim, ClaimAt, claim_here, claims_in, claims_among}
+use Rattle.order_laws.specs.TreeRules.Order.Core.{claim_level}
+use Rattle.order_laws.specs.TreeRules.Order.Moments.{less_at, moment_at, moment_length}
 use Rattle.order_lists.proofs.Filters.{each-append}
 use Rattle.order_lists.proofs.Moments.{less-irreflexive}
 use Rattle.order_laws.specs.Moves.Moved.{In}

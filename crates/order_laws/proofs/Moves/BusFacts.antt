@@ -5,23 +5,23 @@ use Rattle.std.specs.Prelude.{not, ◌&&◌, nat_eq}
 use Rattle.std.specs.List.{AllByRecursion}
 use Rattle.std.specs.Cmp.Derive.{both_true}
 use Rattle.std.proofs.lemmas.Bool.{and_parts, not-true, ne_eqb}
-use Rattle.ddm_types.specs.declared.answers.TxKind.TheVariants.{ReadTx, EraseTx}
-use Rattle.tree_model.specs.State.Kinds.{has_kind}
-use Rattle.tree_model.specs.State.Lists.{has_some, rest_of, first_of}
-use Rattle.tree_model.specs.State.States.{is_held, is_shared}
-use Rattle.tree_model.specs.State.Values.{CopyValue, Note, no_note, local, up_read, up_erase, DirValue, Node, nodes, dir_node}
-use Rattle.tree_model.specs.State.Leaf.{words_of_item}
-use Rattle.tree_model.specs.State.Directory.{dir_note, is_local, is_answering, queue_kinds}
-use Rattle.tree_model.specs.State.Child.{child_reply}
-use Rattle.tree_model.specs.State.Place.{Where, at_top, at_child, where_path, spot_in}
-use Rattle.tree_model.specs.Turns.Children.{child_at}
-use Rattle.tree_rules.specs.Bus.Faces.{ParentFace, parent_face, child_face, faces_of}
-use Rattle.tree_rules.specs.Bus.Item.{implies, holds_it, has_reply, Bits, bits_of}
-use Rattle.tree_rules.specs.Bus.Rules.{IsBusOk, IsChildOk, IsTreeOk, AreTreesOk}
-use Rattle.tree_rules.proofs.Implying.{implies-use}
-use Rattle.tree_rules.specs.Order.Copies.{copy_here, copies_here}
-use Rattle.tree_rules.specs.Order.Directories.{IsOrdered}
-use Rattle.tree_rules.specs.Order.Places.{dirs_in, placed_dirs}
+use Rattle.order_laws.specs.DdmTypes.declared.answers.TxKind.TheVariants.{ReadTx, EraseTx}
+use Rattle.order_laws.specs.TreeModel.State.Kinds.{has_kind}
+use Rattle.order_laws.specs.TreeModel.State.Lists.{has_some, rest_of, first_of}
+use Rattle.order_laws.specs.TreeModel.State.States.{is_held, is_shared}
+use Rattle.order_laws.specs.TreeModel.State.Values.{CopyValue, Note, no_note, local, up_read, up_erase, DirValue, Node, nodes, dir_node}
+use Rattle.order_laws.specs.TreeModel.State.Leaf.{words_of_item}
+use Rattle.order_laws.specs.TreeModel.State.Directory.{dir_note, is_local, is_answering, queue_kinds}
+use Rattle.order_laws.specs.TreeModel.State.Child.{child_reply}
+use Rattle.order_laws.specs.TreeModel.State.Place.{Where, at_top, at_child, where_path, spot_in}
+use Rattle.order_laws.specs.TreeModel.Turns.Children.{child_at}
+use Rattle.order_laws.specs.TreeRules.Bus.Faces.{ParentFace, parent_face, child_face, faces_of}
+use Rattle.order_laws.specs.TreeRules.Bus.Item.{implies, holds_it, has_reply, Bits, bits_of}
+use Rattle.order_laws.specs.TreeRules.Bus.Rules.{IsBusOk, IsChildOk, IsTreeOk, AreTreesOk}
+use Rattle.order_laws.proofs.TreeRules.Implying.{implies-use}
+use Rattle.order_laws.specs.TreeRules.Order.Copies.{copy_here, copies_here}
+use Rattle.order_laws.specs.TreeRules.Order.Directories.{IsOrdered}
+use Rattle.order_laws.specs.TreeRules.Order.Places.{dirs_in, placed_dirs}
 use Rattle.bus_laws.specs.KeepsBus.{IsTopBusOk}
 use Rattle.bus_laws.proofs.States.{each_state, state-at}
 use Rattle.bus_laws.proofs.Before.{kid-ok, giver-at, gives-at, shared-is}

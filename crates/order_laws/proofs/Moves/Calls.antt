@@ -2,18 +2,18 @@
 -- Letters: x is the item, y another one, s the stamp of the bus, n the child.
 use Rattle.std.proofs.Common.{◌≡◌, ◌≢◌, ℕ, ◌<◌, Bool, true, false, List, [], ◌∷◌, ◌++◌, map, refl, sym, ap, subst, ◌∙◌, inl, inr}
 use Rattle.std.specs.Prelude.{not, filter, if◌then◌else◌}
-use Rattle.ddm_types.specs.declared.answers.TxKind.TheVariants.{ReadTx, DataTx, EraseTx, ExclusiveTx, InjectTx}
-use Rattle.ddm_types.specs.declared.keys.Stamp.{Stamp}
-use Rattle.tree_model.specs.State.Lists.{rest_of}
-use Rattle.tree_model.specs.State.States.{is_held}
-use Rattle.tree_model.specs.State.Values.{CopyValue, DownValue, LeafValue, DirValue, Node, Nodes, leaf_node, dir_node}
-use Rattle.tree_model.specs.State.Leaf.{blank, is_copy, leaf_hold, words_of_item, leaf_lose, leaf_take_data, leaf_take_exclusive, leaf_take_inject}
-use Rattle.tree_model.specs.State.Directory.{dir_hold, queue_of, dir_lose, dir_take_data, dir_take_exclusive, dir_answer, dir_take_inject, dir_give_up}
-use Rattle.tree_model.specs.State.Child.{child_hold, child_lose, child_take_data, child_take_exclusive, child_answer, child_take_inject, child_give_up, child_request_taken, child_reply_taken}
-use Rattle.tree_model.specs.State.Place.{Spot, spot_path}
-use Rattle.tree_rules.specs.Bus.Own.{IsLeafOk}
-use Rattle.tree_rules.specs.Order.Copies.{CopyAt, cut, copies_here, first_erase, downs, inner, handed}
-use Rattle.tree_rules.specs.Order.Moments.{moment_at}
+use Rattle.order_laws.specs.DdmTypes.declared.answers.TxKind.TheVariants.{ReadTx, DataTx, EraseTx, ExclusiveTx, InjectTx}
+use Rattle.order_laws.specs.DdmTypes.declared.keys.Stamp.{Stamp}
+use Rattle.order_laws.specs.TreeModel.State.Lists.{rest_of}
+use Rattle.order_laws.specs.TreeModel.State.States.{is_held}
+use Rattle.order_laws.specs.TreeModel.State.Values.{CopyValue, DownValue, LeafValue, DirValue, Node, Nodes, leaf_node, dir_node}
+use Rattle.order_laws.specs.TreeModel.State.Leaf.{blank, is_copy, leaf_hold, words_of_item, leaf_lose, leaf_take_data, leaf_take_exclusive, leaf_take_inject}
+use Rattle.order_laws.specs.TreeModel.State.Directory.{dir_hold, queue_of, dir_lose, dir_take_data, dir_take_exclusive, dir_answer, dir_take_inject, dir_give_up}
+use Rattle.order_laws.specs.TreeModel.State.Child.{child_hold, child_lose, child_take_data, child_take_exclusive, child_answer, child_take_inject, child_give_up, child_request_taken, child_reply_taken}
+use Rattle.order_laws.specs.TreeModel.State.Place.{Spot, spot_path}
+use Rattle.order_laws.specs.TreeRules.Bus.Own.{IsLeafOk}
+use Rattle.order_laws.specs.TreeRules.Order.Copies.{CopyAt, cut, copies_here, first_erase, downs, inner, handed}
+use Rattle.order_laws.specs.TreeRules.Order.Moments.{moment_at}
 use Rattle.bus_laws.proofs.HartFacts.{entries-from_rules}
 use Rattle.bus_laws.proofs.ItemLists.{words-without, words-without_other}
 use Rattle.order_laws.specs.Moves.Moved.{In}

@@ -1,13 +1,13 @@
 -- One child of a bus: what it hands up before and after a turn of the bus, as far as the copies of one item are concerned.
 use Rattle.std.proofs.Common.{◌≡◌, ℕ, List, [], ◌∷◌, ◌++◌, map, Option, IfSome, refl, sym, subst, inl, inr}
 use Rattle.std.proofs.lemmas.List.{map-append}
-use Rattle.ddm_types.specs.declared.keys.Stamp.{Stamp}
-use Rattle.tree_model.specs.State.Values.{LeafValue, Node, leaf_node, dir_node}
-use Rattle.tree_model.specs.State.Child.{child_replies}
-use Rattle.tree_model.specs.State.Leaf.{leaf_entry, words_of_item}
-use Rattle.tree_model.specs.State.Place.{Spot, spot_path}
-use Rattle.tree_rules.specs.Order.Copies.{CopyAt, cut, copy_here, copies_here, inner}
-use Rattle.tree_rules.specs.Order.Moments.{moment_at, GoesOn}
+use Rattle.order_laws.specs.DdmTypes.declared.keys.Stamp.{Stamp}
+use Rattle.order_laws.specs.TreeModel.State.Values.{LeafValue, Node, leaf_node, dir_node}
+use Rattle.order_laws.specs.TreeModel.State.Child.{child_replies}
+use Rattle.order_laws.specs.TreeModel.State.Leaf.{leaf_entry, words_of_item}
+use Rattle.order_laws.specs.TreeModel.State.Place.{Spot, spot_path}
+use Rattle.order_laws.specs.TreeRules.Order.Copies.{CopyAt, cut, copy_here, copies_here, inner}
+use Rattle.order_laws.specs.TreeRules.Order.Moments.{moment_at, GoesOn}
 use Rattle.order_lists.proofs.Filters.{each-append}
 use Rattle.order_laws.specs.Moves.Moved.{In, Moved, From, AllFrom}
 use Rattle.order_laws.proofs.Moves.Sources.{Sub, Sub-left, Sub-right, Sub-map, AllFrom-more, AllFrom-append, AllFrom-sub, AllFrom-map, In-left, In-right}

@@ -5,21 +5,21 @@ use Rattle.std.specs.Prelude.{nat_eq, nat_lt, ◌&&◌}
 use Rattle.std.specs.List.{AllByRecursion}
 use Rattle.std.proofs.lemmas.Bool.{and_parts, eqb-true}
 use Rattle.std.proofs.lemmas.List.{length-append, take_all}
-use Rattle.ddm_types.specs.declared.operations.Op.{Op}
-use Rattle.ddm_types.specs.declared.turns.Turn.{Turn}
-use Rattle.flat_model.specs.Flat.{FlatMachine}
-use Rattle.tree_model.specs.State.Values.{MachineValue}
-use Rattle.tree_model.specs.State.Directory.{stamp_of}
-use Rattle.tree_model.specs.State.Shape.{IsShaped, depth_of}
-use Rattle.tree_model.specs.Turns.Machine.{turn_of}
-use Rattle.tree_rules.specs.Statements.{Holds, each}
-use Rattle.tree_rules.specs.Bus.Rules.{IsMachineOk, items_of_machine}
-use Rattle.tree_rules.specs.Order.Claims.{ClaimAt, claims_of}
-use Rattle.tree_rules.specs.Order.Core.{claim_level, parts_at_claim, claim_is_after_op}
-use Rattle.tree_rules.specs.Order.Moments.{less, less_at, parted, is_under, moment_length}
-use Rattle.tree_rules.specs.Order.Ops.{op_key, op_path}
-use Rattle.tree_rules.specs.Order.Rules.{IsTimed, copy_rule, claims_after_ops}
-use Rattle.tree_rules.proofs.Statements.{each-facts, facts-each}
+use Rattle.order_laws.specs.DdmTypes.declared.operations.Op.{Op}
+use Rattle.order_laws.specs.DdmTypes.declared.turns.Turn.{Turn}
+use Rattle.order_laws.specs.FlatModel.Flat.{FlatMachine}
+use Rattle.order_laws.specs.TreeModel.State.Values.{MachineValue}
+use Rattle.order_laws.specs.TreeModel.State.Directory.{stamp_of}
+use Rattle.order_laws.specs.TreeModel.State.Shape.{IsShaped, depth_of}
+use Rattle.order_laws.specs.TreeModel.Turns.Machine.{turn_of}
+use Rattle.order_laws.specs.TreeRules.Statements.{Holds, each}
+use Rattle.order_laws.specs.TreeRules.Bus.Rules.{IsMachineOk, items_of_machine}
+use Rattle.order_laws.specs.TreeRules.Order.Claims.{ClaimAt, claims_of}
+use Rattle.order_laws.specs.TreeRules.Order.Core.{claim_level, parts_at_claim, claim_is_after_op}
+use Rattle.order_laws.specs.TreeRules.Order.Moments.{less, less_at, parted, is_under, moment_length}
+use Rattle.order_laws.specs.TreeRules.Order.Ops.{op_key, op_path}
+use Rattle.order_laws.specs.TreeRules.Order.Rules.{IsTimed, copy_rule, claims_after_ops}
+use Rattle.order_laws.proofs.TreeRules.Statements.{each-facts, facts-each}
 use Rattle.order_laws.proofs.Moves.Below.{AreCommandsPast}
 use Rattle.order_lists.proofs.Filters.{each-weaker}
 use Rattle.order_lists.proofs.Moments.{less-least, least-less}

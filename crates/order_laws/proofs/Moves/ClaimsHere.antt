@@ -1,11 +1,11 @@
 -- Claims at the bus of a turn: of its parent and of all below it.
 -- Letters: n is the number of items, x the item, w where the parent p stands, q after it, ns and ms the children.
 use Rattle.std.proofs.Common.{ℕ, ◌+◌, ◌<◌, List, length, subst}
-use Rattle.tree_model.specs.State.Values.{DirValue, Node, Nodes, dir_node, nodes}
-use Rattle.tree_model.specs.State.Directory.{stamp_of}
-use Rattle.tree_model.specs.State.Place.{Where, at_top, at_child, where_path, spot_path, spot_in, stamp_above}
-use Rattle.tree_model.specs.Turns.Children.{child_at}
-use Rattle.tree_rules.specs.Order.Claims.{claims_in, claims_among}
+use Rattle.order_laws.specs.TreeModel.State.Values.{DirValue, Node, Nodes, dir_node, nodes}
+use Rattle.order_laws.specs.TreeModel.State.Directory.{stamp_of}
+use Rattle.order_laws.specs.TreeModel.State.Place.{Where, at_top, at_child, where_path, spot_path, spot_in, stamp_above}
+use Rattle.order_laws.specs.TreeModel.Turns.Children.{child_at}
+use Rattle.order_laws.specs.TreeRules.Order.Claims.{claims_in, claims_among}
 use Rattle.order_laws.specs.Moves.ClaimsMoved.{ClaimsFrom}
 use Rattle.order_laws.specs.Moves.Parent.{moment_in}
 use Rattle.order_laws.specs.Moves.Carries.{OwnKept, ClaimsAt}

@@ -3,26 +3,26 @@ use Rattle.std.proofs.Common.{◌≡◌, ℕ, suc, ◌+◌, ◌<◌, Bool, true,
 use Rattle.std.specs.Prelude.{nat_eq}
 use Rattle.std.specs.List.{AllByRecursion}
 use Rattle.std.proofs.lemmas.List.{take-take}
-use Rattle.ddm_types.specs.declared.operations.Op.{Op}
-use Rattle.ddm_types.specs.declared.turns.Turn.{Turn}
-use Rattle.flat_model.specs.Flat.{FlatMachine}
-use Rattle.tree_model.specs.State.Values.{MachineValue}
-use Rattle.tree_model.specs.State.Shape.{IsShaped, depth_of}
-use Rattle.tree_model.specs.Turns.Machine.{turn_of}
-use Rattle.tree_rules.specs.Statements.{Holds, is_so, each, there_and}
-use Rattle.tree_rules.specs.Bus.Rules.{IsMachineOk}
-use Rattle.tree_rules.specs.Order.Moments.{less, less_at, past, parted, is_under, moment_length, GoesOn}
-use Rattle.tree_rules.specs.Order.Copies.{CopyAt, copies_of}
-use Rattle.tree_rules.specs.Order.Core.{ended_before, knows_change}
-use Rattle.tree_rules.specs.Order.Ops.{op_key, op_path}
-use Rattle.tree_rules.specs.Order.Places.{LeafAt, leaf_path, leaf_now}
-use Rattle.tree_rules.specs.Order.Rules.{IsTimed, copy_rule, clocks_know}
-use Rattle.tree_rules.proofs.Statements.{each-facts, facts-each}
+use Rattle.order_laws.specs.DdmTypes.declared.operations.Op.{Op}
+use Rattle.order_laws.specs.DdmTypes.declared.turns.Turn.{Turn}
+use Rattle.order_laws.specs.FlatModel.Flat.{FlatMachine}
+use Rattle.order_laws.specs.TreeModel.State.Values.{MachineValue}
+use Rattle.order_laws.specs.TreeModel.State.Shape.{IsShaped, depth_of}
+use Rattle.order_laws.specs.TreeModel.Turns.Machine.{turn_of}
+use Rattle.order_laws.specs.TreeRules.Statements.{Holds, is_so, each, there_and}
+use Rattle.order_laws.specs.TreeRules.Bus.Rules.{IsMachineOk}
+use Rattle.order_laws.specs.TreeRules.Order.Moments.{less, less_at, past, parted, is_under, moment_length, GoesOn}
+use Rattle.order_laws.specs.TreeRules.Order.Copies.{CopyAt, copies_of}
+use Rattle.order_laws.specs.TreeRules.Order.Core.{ended_before, knows_change}
+use Rattle.order_laws.specs.TreeRules.Order.Ops.{op_key, op_path}
+use Rattle.order_laws.specs.TreeRules.Order.Places.{LeafAt, leaf_path, leaf_now}
+use Rattle.order_laws.specs.TreeRules.Order.Rules.{IsTimed, copy_rule, clocks_know}
+use Rattle.order_laws.proofs.TreeRules.Statements.{each-facts, facts-each}
 use Rattle.order_lists.proofs.Moments.{less-least, least-less, less-asymmetric, at_most-at, at_most-transitive, GoesOn-past, GoesOn-at}
 use Rattle.order_lists.proofs.Paths.{under-trans, under-parted, under-append}
 use Rattle.order_laws.proofs.Moves.Below.{AreCommandsPast, ops-by_leaves}
 use Rattle.order_lists.proofs.Stamps.{moment_at-length}
-use Rattle.tree_model.specs.State.Directory.{stamp_of}
+use Rattle.order_laws.specs.TreeModel.State.Directory.{stamp_of}
 use Rattle.order_laws.specs.Moves.Moved.{Kept, Told, Ended, Moved, AllFrom}
 use Rattle.order_laws.specs.Moves.Carries.{BusTurned, old_moment, new_moment, HoldsAfter, MovedBy, IsBelowOld}
 use Rattle.order_laws.specs.Moves.CopiesMoved.{IsBusTurn, TurnMoves}

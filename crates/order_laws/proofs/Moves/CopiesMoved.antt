@@ -4,33 +4,33 @@ use Rattle.std.specs.List.{AllByRecursion}
 use Rattle.std.proofs.Common.{◌≡◌, ℕ, ◌<◌, true, false, List, [], ◌++◌, map, length, None, refl, sym, ap, subst, ◌∙◌, ◌⊎◌, inl, inr, arith}
 use Rattle.std.specs.Prelude.{nat_eq}
 use Rattle.std.proofs.lemmas.Bool.{and_parts, eqb-true}
-use Rattle.ddm_types.specs.declared.answers.TurnAnswer.{TurnAnswer}
-use Rattle.ddm_types.specs.declared.turns.Turn.{Turn}
-use Rattle.tree_model.specs.declared.BusTurn.{BusTurn}
-use Rattle.tree_model.specs.State.States.{is_held}
-use Rattle.tree_model.specs.State.Values.{DirValue, Node, Nodes, leaf_node, dir_node, nodes, children, MachineValue, root_of}
-use Rattle.tree_model.specs.State.Directory.{stamp_of}
-use Rattle.tree_model.specs.State.Child.{child_hold}
-use Rattle.tree_model.specs.State.Place.{Where, at_top, at_child, where_path, spot_path, spot_in, stamp_above}
-use Rattle.tree_model.specs.State.Shape.{IsShaped, levels_known, levels_fit, depth_of, skeleton}
-use Rattle.tree_model.specs.Turns.Bus.{bus_step, bus_judged}
-use Rattle.tree_model.specs.Turns.Children.{child_at}
-use Rattle.tree_model.specs.Turns.Grant.{Grant, Judged, Outcome, nothing_there, refused, granted, outcome_of}
-use Rattle.tree_model.specs.Turns.Machine.{named_by, bus_turn_of, turn_of}
-use Rattle.tree_model.specs.Turns.Tree.{has_node}
-use Rattle.tree_model.specs.Laws.{TurnsHere}
-use Rattle.tree_model.proofs.Children.{children-nodes, nodes-children}
-use Rattle.tree_model.proofs.Rows.{row-of}
-use Rattle.tree_model.proofs.TurnChanges.{turn-changes_nothing, turn-changes_one_node}
-use Rattle.tree_rules.specs.Bus.Rules.{IsTreeOk, AreTreesOk, IsMachineOk, items_of_machine}
-use Rattle.tree_rules.specs.Order.Copies.{CopyAt, cut, copies_of, gathered, erases_in}
-use Rattle.tree_rules.specs.Order.Claims.{child_is_exclusive, claims_of}
-use Rattle.tree_rules.specs.Order.Directories.{IsClocked, IsOrdered}
-use Rattle.tree_rules.specs.Order.Moments.{is_under, GoesOn}
+use Rattle.order_laws.specs.DdmTypes.declared.answers.TurnAnswer.{TurnAnswer}
+use Rattle.order_laws.specs.DdmTypes.declared.turns.Turn.{Turn}
+use Rattle.order_laws.specs.TreeModel.declared.BusTurn.{BusTurn}
+use Rattle.order_laws.specs.TreeModel.State.States.{is_held}
+use Rattle.order_laws.specs.TreeModel.State.Values.{DirValue, Node, Nodes, leaf_node, dir_node, nodes, children, MachineValue, root_of}
+use Rattle.order_laws.specs.TreeModel.State.Directory.{stamp_of}
+use Rattle.order_laws.specs.TreeModel.State.Child.{child_hold}
+use Rattle.order_laws.specs.TreeModel.State.Place.{Where, at_top, at_child, where_path, spot_path, spot_in, stamp_above}
+use Rattle.order_laws.specs.TreeModel.State.Shape.{IsShaped, levels_known, levels_fit, depth_of, skeleton}
+use Rattle.order_laws.specs.TreeModel.Turns.Bus.{bus_step, bus_judged}
+use Rattle.order_laws.specs.TreeModel.Turns.Children.{child_at}
+use Rattle.order_laws.specs.TreeModel.Turns.Grant.{Grant, Judged, Outcome, nothing_there, refused, granted, outcome_of}
+use Rattle.order_laws.specs.TreeModel.Turns.Machine.{named_by, bus_turn_of, turn_of}
+use Rattle.order_laws.specs.TreeModel.Turns.Tree.{has_node}
+use Rattle.order_laws.specs.TreeModel.Laws.{TurnsHere}
+use Rattle.order_laws.proofs.TreeModel.Children.{children-nodes, nodes-children}
+use Rattle.order_laws.proofs.TreeModel.Rows.{row-of}
+use Rattle.order_laws.proofs.TreeModel.TurnChanges.{turn-changes_nothing, turn-changes_one_node}
+use Rattle.order_laws.specs.TreeRules.Bus.Rules.{IsTreeOk, AreTreesOk, IsMachineOk, items_of_machine}
+use Rattle.order_laws.specs.TreeRules.Order.Copies.{CopyAt, cut, copies_of, gathered, erases_in}
+use Rattle.order_laws.specs.TreeRules.Order.Claims.{child_is_exclusive, claims_of}
+use Rattle.order_laws.specs.TreeRules.Order.Directories.{IsClocked, IsOrdered}
+use Rattle.order_laws.specs.TreeRules.Order.Moments.{is_under, GoesOn}
 use Rattle.order_laws.proofs.Moves.Below.{NowGoesOn, placed_go_on, AreCommandsPast, dirs_ordered}
 use Rattle.order_lists.proofs.Filters.{each-weaker}
-use Rattle.tree_rules.specs.Order.Places.{LeafAt, leaf_path, leaf_now, placed_dirs, dirs_at, placed_leaves, leaves_at}
-use Rattle.tree_rules.specs.Order.Rules.{IsTimed}
+use Rattle.order_laws.specs.TreeRules.Order.Places.{LeafAt, leaf_path, leaf_now, placed_dirs, dirs_at, placed_leaves, leaves_at}
+use Rattle.order_laws.specs.TreeRules.Order.Rules.{IsTimed}
 use Rattle.bus_laws.specs.KeepsBus.{IsTopBusOk}
 use Rattle.order_laws.specs.Moves.Moved.{In, Moved, AllFrom}
 use Rattle.order_laws.specs.Moves.ClaimsMoved.{ClaimsFrom}

@@ -1,8 +1,8 @@
 -- Moves of copies: nothing moved, and a cut above.
 use Rattle.std.proofs.Common.{◌≡◌, ℕ, ◌⊎◌, List, [], ◌∷◌, map, take, Option, Some, None, IfSome, refl, ap, inl, inr}
-use Rattle.tree_model.specs.State.Lists.{first_some}
-use Rattle.tree_rules.specs.Order.Copies.{CopyAt, cut}
-use Rattle.tree_rules.specs.Order.Moments.{moment_length, GoesOn}
+use Rattle.order_laws.specs.TreeModel.State.Lists.{first_some}
+use Rattle.order_laws.specs.TreeRules.Order.Copies.{CopyAt, cut}
+use Rattle.order_laws.specs.TreeRules.Order.Moments.{moment_length, GoesOn}
 use Rattle.order_lists.proofs.Moments.{less-irreflexive}
 use Rattle.order_laws.specs.Moves.Moved.{Kept, Told, Ended, Moved}
 

@@ -1,23 +1,23 @@
 -- Where copies come from in a turn that takes the first entry of the parent's down list, as for the entry's item.
 -- Letters: p is the parent, ns its children, w where the parent stands, e the entry, rest what is behind it.
 use Rattle.std.proofs.Common.{◌≡◌, ℕ, ◌<◌, true, false, List, [], ◌∷◌, map, length, Some, None, refl, sym, ap, subst, ◌∙◌}
-use Rattle.ddm_types.specs.declared.answers.TxKind.{TxKind}
-use Rattle.ddm_types.specs.declared.answers.TxKind.TheVariants.{ReadTx, EraseTx, ExclusiveTx, InjectTx}
-use Rattle.ddm_types.specs.declared.sizes.Hold.{Hold}
-use Rattle.ddm_types.specs.declared.keys.Stamp.{Stamp}
-use Rattle.tree_model.specs.State.Kinds.{is_kind, has_kind, brings_copy}
-use Rattle.tree_model.specs.State.Lists.{map_from, first_given, rest_of, has_some}
-use Rattle.tree_model.specs.State.States.{is_exclusive}
-use Rattle.tree_model.specs.State.Values.{DownValue, no_note, up_read, DirValue, Node, nodes}
-use Rattle.tree_model.specs.State.Leaf.{words_of_item}
-use Rattle.tree_model.specs.State.Directory.{dir_note, is_local, queue_of, queue_kinds, entry_kind, parked_words, stamp_of, front_taken, with_note, with_hold, with_answering, with_parked, without_parked, pushed_reply, place_released}
-use Rattle.tree_model.specs.State.Child.{child_take_exclusive, child_answer, child_take_inject}
-use Rattle.tree_model.specs.State.Place.{Where, at_top, at_child, where_path, spot_path}
-use Rattle.tree_model.specs.Turns.Children.{child_at, only, loses, reader_full, reader_takes}
-use Rattle.tree_model.specs.Turns.Down.{without_up_erase}
-use Rattle.tree_rules.specs.Order.Copies.{cut, copy_here, first_erase}
-use Rattle.tree_rules.specs.Order.Directories.{IsClocked}
-use Rattle.tree_rules.specs.Order.Moments.{moment_at}
+use Rattle.order_laws.specs.DdmTypes.declared.answers.TxKind.{TxKind}
+use Rattle.order_laws.specs.DdmTypes.declared.answers.TxKind.TheVariants.{ReadTx, EraseTx, ExclusiveTx, InjectTx}
+use Rattle.order_laws.specs.DdmTypes.declared.sizes.Hold.{Hold}
+use Rattle.order_laws.specs.DdmTypes.declared.keys.Stamp.{Stamp}
+use Rattle.order_laws.specs.TreeModel.State.Kinds.{is_kind, has_kind, brings_copy}
+use Rattle.order_laws.specs.TreeModel.State.Lists.{map_from, first_given, rest_of, has_some}
+use Rattle.order_laws.specs.TreeModel.State.States.{is_exclusive}
+use Rattle.order_laws.specs.TreeModel.State.Values.{DownValue, no_note, up_read, DirValue, Node, nodes}
+use Rattle.order_laws.specs.TreeModel.State.Leaf.{words_of_item}
+use Rattle.order_laws.specs.TreeModel.State.Directory.{dir_note, is_local, queue_of, queue_kinds, entry_kind, parked_words, stamp_of, front_taken, with_note, with_hold, with_answering, with_parked, without_parked, pushed_reply, place_released}
+use Rattle.order_laws.specs.TreeModel.State.Child.{child_take_exclusive, child_answer, child_take_inject}
+use Rattle.order_laws.specs.TreeModel.State.Place.{Where, at_top, at_child, where_path, spot_path}
+use Rattle.order_laws.specs.TreeModel.Turns.Children.{child_at, only, loses, reader_full, reader_takes}
+use Rattle.order_laws.specs.TreeModel.Turns.Down.{without_up_erase}
+use Rattle.order_laws.specs.TreeRules.Order.Copies.{cut, copy_here, first_erase}
+use Rattle.order_laws.specs.TreeRules.Order.Directories.{IsClocked}
+use Rattle.order_laws.specs.TreeRules.Order.Moments.{moment_at}
 use Rattle.bus_laws.proofs.Answering.{child-hold}
 use Rattle.bus_laws.proofs.Before.{kid-ok, none-exclusive, gives-at, entry-known, entry-starts}
 use Rattle.bus_laws.proofs.ItemLists.{words-pushed, words-without}

@@ -4,23 +4,23 @@ use Rattle.std.proofs.Common.{◌≡◌, ℕ, ◌<◌, true, false, List, [], �
 use Rattle.std.specs.Prelude.{not, ◌&&◌}
 use Rattle.std.specs.List.{AllByRecursion, list_all}
 use Rattle.std.proofs.lemmas.Bool.{and_parts}
-use Rattle.ddm_types.specs.declared.answers.TxKind.{TxKind}
-use Rattle.ddm_types.specs.declared.answers.TxKind.TheVariants.{ReadTx, DataTx, EraseTx, ExclusiveTx, InjectTx, OutTx}
-use Rattle.ddm_types.specs.declared.sizes.Hold.{Hold}
-use Rattle.ddm_types.specs.declared.keys.Stamp.{Stamp}
-use Rattle.tree_model.specs.State.Kinds.{is_kind}
-use Rattle.tree_model.specs.State.Lists.{first_given}
-use Rattle.tree_model.specs.State.States.{is_held}
-use Rattle.tree_model.specs.State.Values.{leaf_node, dir_node, DownValue, Note, local, up_read, DirValue, Node}
-use Rattle.tree_model.specs.State.Directory.{dir_note, is_reader, is_local, is_up_read}
-use Rattle.tree_model.specs.State.Blank.{no_node}
-use Rattle.tree_model.specs.State.Child.{child_hold, child_full_for, child_take_data}
-use Rattle.tree_model.specs.Turns.Children.{child_at, reader_full}
-use Rattle.tree_model.proofs.Children.{none-given}
-use Rattle.tree_rules.specs.Bus.Faces.{ParentFace, parent_face, child_face, faces_of}
-use Rattle.tree_rules.specs.Bus.Item.{Bits, bits_of, local_noted, up_read_noted, top_holds}
-use Rattle.tree_rules.specs.Bus.Rules.{IsBusOk, IsChildOk}
-use Rattle.tree_rules.proofs.Implying.{implies-use}
+use Rattle.order_laws.specs.DdmTypes.declared.answers.TxKind.{TxKind}
+use Rattle.order_laws.specs.DdmTypes.declared.answers.TxKind.TheVariants.{ReadTx, DataTx, EraseTx, ExclusiveTx, InjectTx, OutTx}
+use Rattle.order_laws.specs.DdmTypes.declared.sizes.Hold.{Hold}
+use Rattle.order_laws.specs.DdmTypes.declared.keys.Stamp.{Stamp}
+use Rattle.order_laws.specs.TreeModel.State.Kinds.{is_kind}
+use Rattle.order_laws.specs.TreeModel.State.Lists.{first_given}
+use Rattle.order_laws.specs.TreeModel.State.States.{is_held}
+use Rattle.order_laws.specs.TreeModel.State.Values.{leaf_node, dir_node, DownValue, Note, local, up_read, DirValue, Node}
+use Rattle.order_laws.specs.TreeModel.State.Directory.{dir_note, is_reader, is_local, is_up_read}
+use Rattle.order_laws.specs.TreeModel.State.Blank.{no_node}
+use Rattle.order_laws.specs.TreeModel.State.Child.{child_hold, child_full_for, child_take_data}
+use Rattle.order_laws.specs.TreeModel.Turns.Children.{child_at, reader_full}
+use Rattle.order_laws.proofs.TreeModel.Children.{none-given}
+use Rattle.order_laws.specs.TreeRules.Bus.Faces.{ParentFace, parent_face, child_face, faces_of}
+use Rattle.order_laws.specs.TreeRules.Bus.Item.{Bits, bits_of, local_noted, up_read_noted, top_holds}
+use Rattle.order_laws.specs.TreeRules.Bus.Rules.{IsBusOk, IsChildOk}
+use Rattle.order_laws.proofs.TreeRules.Implying.{implies-use}
 use Rattle.bus_laws.specs.KeepsBus.{IsTopBusOk}
 use Rattle.bus_laws.proofs.Answering.{child-hold}
 use Rattle.bus_laws.proofs.Before.{kid-ok, reader-at, reads-absent, entry-known, entry-starts}

@@ -4,16 +4,16 @@
 use Rattle.std.proofs.Common.{◌≡◌, ℕ, ◌<◌, Bool, true, false, List, [], ◌∷◌, ◌++◌, length, Some, refl, sym, ap, subst, inl}
 use Rattle.std.specs.Prelude.{nat_eq, if◌then◌else◌}
 use Rattle.std.proofs.lemmas.Bool.{eqb-true}
-use Rattle.tree_model.specs.State.Lists.{map_from}
-use Rattle.tree_model.specs.State.States.{is_held}
-use Rattle.tree_model.specs.State.Values.{Note, DirValue, Node}
-use Rattle.tree_model.specs.State.Leaf.{words_of_item}
-use Rattle.tree_model.specs.State.Directory.{queue_of, is_reader, stamp_of}
-use Rattle.tree_model.specs.State.Child.{child_hold, child_reply, child_take_data, child_take_inject, child_give_up, child_reply_taken}
-use Rattle.tree_model.specs.State.Place.{Where, where_path}
-use Rattle.tree_model.specs.Turns.Children.{child_at, only, replied_by, passed_on}
-use Rattle.tree_model.proofs.Children.{map_from-length}
-use Rattle.tree_rules.specs.Order.Copies.{CopyAt, copy_here}
+use Rattle.order_laws.specs.TreeModel.State.Lists.{map_from}
+use Rattle.order_laws.specs.TreeModel.State.States.{is_held}
+use Rattle.order_laws.specs.TreeModel.State.Values.{Note, DirValue, Node}
+use Rattle.order_laws.specs.TreeModel.State.Leaf.{words_of_item}
+use Rattle.order_laws.specs.TreeModel.State.Directory.{queue_of, is_reader, stamp_of}
+use Rattle.order_laws.specs.TreeModel.State.Child.{child_hold, child_reply, child_take_data, child_take_inject, child_give_up, child_reply_taken}
+use Rattle.order_laws.specs.TreeModel.State.Place.{Where, where_path}
+use Rattle.order_laws.specs.TreeModel.Turns.Children.{child_at, only, replied_by, passed_on}
+use Rattle.order_laws.proofs.TreeModel.Children.{map_from-length}
+use Rattle.order_laws.specs.TreeRules.Order.Copies.{CopyAt, copy_here}
 use Rattle.order_laws.specs.Moves.Parent.{bound_at, moment_in}
 use Rattle.order_laws.proofs.Moves.Rise.{parent-rises}
 use Rattle.order_laws.proofs.Moves.Child.{FewerWords, IsGiven}

@@ -2,21 +2,21 @@
 -- Letters: x is the item, n the child, v a leaf, d a directory, i the child's number.
 use Rattle.std.proofs.Common.{◌≡◌, ℕ, true, false, List, [], ◌∷◌, ◌++◌, map, take, Option, Some, None, option_map, refl, sym, ap, subst, ◌∙◌, inl}
 use Rattle.std.specs.Prelude.{filter, unwrap_or}
-use Rattle.ddm_types.specs.declared.answers.PendingWhy.{PendingWhy}
-use Rattle.ddm_types.specs.declared.sizes.LeafState.{LeafState}
-use Rattle.ddm_types.specs.declared.keys.Stamp.{Stamp}
-use Rattle.tree_model.specs.State.Lists.{first_of, has_some}
-use Rattle.tree_model.specs.State.States.{may_leave}
-use Rattle.tree_model.specs.State.Values.{BufferValue, DownValue, LeafValue, DirValue, Node, leaf_node, dir_node}
-use Rattle.tree_model.specs.State.Leaf.{buffer_item, buffer_entry, buffered, way_at, entry_at, leaf_entry, words_of_item, copy_item, may_leave_buffer, leaf_leaving}
-use Rattle.tree_model.specs.State.Directory.{queue_of, queue_kinds, entry_kind, pending, dir_leaving}
-use Rattle.tree_model.specs.State.Child.{child_replies, child_reply, child_leaving, child_given, buffer_words, pending_below}
-use Rattle.tree_model.specs.State.Place.{Spot}
-use Rattle.tree_rules.specs.Bus.Own.{IsLeafOk}
-use Rattle.tree_rules.specs.Bus.Rules.{IsChildOk}
-use Rattle.tree_rules.specs.Order.Copies.{CopyAt, cut, copy_here, copies_here, first_erase, downs, inner, handed}
-use Rattle.tree_rules.specs.Order.Directories.{IsClocked}
-use Rattle.tree_rules.specs.Order.Moments.{moment_at, moment_length}
+use Rattle.order_laws.specs.DdmTypes.declared.answers.PendingWhy.{PendingWhy}
+use Rattle.order_laws.specs.DdmTypes.declared.sizes.LeafState.{LeafState}
+use Rattle.order_laws.specs.DdmTypes.declared.keys.Stamp.{Stamp}
+use Rattle.order_laws.specs.TreeModel.State.Lists.{first_of, has_some}
+use Rattle.order_laws.specs.TreeModel.State.States.{may_leave}
+use Rattle.order_laws.specs.TreeModel.State.Values.{BufferValue, DownValue, LeafValue, DirValue, Node, leaf_node, dir_node}
+use Rattle.order_laws.specs.TreeModel.State.Leaf.{buffer_item, buffer_entry, buffered, way_at, entry_at, leaf_entry, words_of_item, copy_item, may_leave_buffer, leaf_leaving}
+use Rattle.order_laws.specs.TreeModel.State.Directory.{queue_of, queue_kinds, entry_kind, pending, dir_leaving}
+use Rattle.order_laws.specs.TreeModel.State.Child.{child_replies, child_reply, child_leaving, child_given, buffer_words, pending_below}
+use Rattle.order_laws.specs.TreeModel.State.Place.{Spot}
+use Rattle.order_laws.specs.TreeRules.Bus.Own.{IsLeafOk}
+use Rattle.order_laws.specs.TreeRules.Bus.Rules.{IsChildOk}
+use Rattle.order_laws.specs.TreeRules.Order.Copies.{CopyAt, cut, copy_here, copies_here, first_erase, downs, inner, handed}
+use Rattle.order_laws.specs.TreeRules.Order.Directories.{IsClocked}
+use Rattle.order_laws.specs.TreeRules.Order.Moments.{moment_at, moment_length}
 use Rattle.bus_laws.proofs.HartFacts.{entries-from_rules}
 use Rattle.bus_laws.proofs.LeafGives.{each-buffered, get-filter}
 use Rattle.bus_laws.proofs.Lists.{chosen-get}

@@ -2,16 +2,16 @@
 -- Letters: p is the parent, ns are its children, q and ms the same after the turn, w is where p stands.
 use Rattle.std.proofs.Common.{◌≡◌, ℕ, ◌<◌, true, List, [], length, refl, sym, ap, subst}
 use Rattle.std.specs.List.{AllByRecursion}
-use Rattle.tree_model.specs.State.Lists.{map_from}
-use Rattle.tree_model.specs.State.States.{is_held}
-use Rattle.tree_model.specs.State.Values.{DirValue, Node, nodes}
-use Rattle.tree_model.specs.State.Leaf.{words_of_item}
-use Rattle.tree_model.specs.State.Directory.{queue_of}
-use Rattle.tree_model.specs.State.Child.{child_hold}
-use Rattle.tree_model.specs.State.Place.{Where, at_top, at_child, where_path, spot_path}
-use Rattle.tree_model.specs.Turns.Children.{child_at}
-use Rattle.tree_model.proofs.Children.{child_at-map_from}
-use Rattle.tree_rules.specs.Order.Copies.{CopyAt, copies_here, first_erase, downs}
+use Rattle.order_laws.specs.TreeModel.State.Lists.{map_from}
+use Rattle.order_laws.specs.TreeModel.State.States.{is_held}
+use Rattle.order_laws.specs.TreeModel.State.Values.{DirValue, Node, nodes}
+use Rattle.order_laws.specs.TreeModel.State.Leaf.{words_of_item}
+use Rattle.order_laws.specs.TreeModel.State.Directory.{queue_of}
+use Rattle.order_laws.specs.TreeModel.State.Child.{child_hold}
+use Rattle.order_laws.specs.TreeModel.State.Place.{Where, at_top, at_child, where_path, spot_path}
+use Rattle.order_laws.specs.TreeModel.Turns.Children.{child_at}
+use Rattle.order_laws.proofs.TreeModel.Children.{child_at-map_from}
+use Rattle.order_laws.specs.TreeRules.Order.Copies.{CopyAt, copies_here, first_erase, downs}
 use Rattle.order_laws.specs.Moves.Moved.{In, Moved, AllFrom}
 use Rattle.order_laws.specs.Moves.Parent.{moment_in, erased_at, downs_at, replies_up, hand_of}
 use Rattle.order_laws.specs.Moves.Carries.{IsLeafFree, IsBoundAt}

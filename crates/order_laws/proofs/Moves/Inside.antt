@@ -1,16 +1,16 @@
 -- The copies inside a directory, by its down list and its parking; and what is put behind its down list.
 use Rattle.std.proofs.Common.{◌≡◌, ◌≢◌, ℕ, ◌+◌, true, false, List, [], ◌∷◌, ◌++◌, map, refl, sym, ap, subst, ◌∙◌, append_assoc}
 use Rattle.std.proofs.lemmas.Bool.{ne_eqb}
-use Rattle.ddm_types.specs.declared.answers.TxKind.TheVariants.{EraseTx}
-use Rattle.ddm_types.specs.declared.keys.Stamp.{Stamp}
-use Rattle.tree_model.specs.State.Kinds.{is_kind, brings_copy}
-use Rattle.tree_model.specs.State.Lists.{names_item}
-use Rattle.tree_model.specs.State.Values.{DownValue, DirValue, Nodes, dir_node, no_nodes, more_nodes}
-use Rattle.tree_model.specs.State.Leaf.{words_of_item}
-use Rattle.tree_model.specs.State.Directory.{queue_of, entry_item, stamp_of}
-use Rattle.tree_model.specs.State.Place.{Spot, spot_path}
-use Rattle.tree_rules.specs.Order.Copies.{CopyAt, cut, copy_here, copies_here, first_erase, downs, inner, handed}
-use Rattle.tree_rules.specs.Order.Moments.{moment_at}
+use Rattle.order_laws.specs.DdmTypes.declared.answers.TxKind.TheVariants.{EraseTx}
+use Rattle.order_laws.specs.DdmTypes.declared.keys.Stamp.{Stamp}
+use Rattle.order_laws.specs.TreeModel.State.Kinds.{is_kind, brings_copy}
+use Rattle.order_laws.specs.TreeModel.State.Lists.{names_item}
+use Rattle.order_laws.specs.TreeModel.State.Values.{DownValue, DirValue, Nodes, dir_node, no_nodes, more_nodes}
+use Rattle.order_laws.specs.TreeModel.State.Leaf.{words_of_item}
+use Rattle.order_laws.specs.TreeModel.State.Directory.{queue_of, entry_item, stamp_of}
+use Rattle.order_laws.specs.TreeModel.State.Place.{Spot, spot_path}
+use Rattle.order_laws.specs.TreeRules.Order.Copies.{CopyAt, cut, copy_here, copies_here, first_erase, downs, inner, handed}
+use Rattle.order_laws.specs.TreeRules.Order.Moments.{moment_at}
 use Rattle.bus_laws.proofs.Lists.{filter-pushed_same, filter-pushed_other}
 use Rattle.bus_laws.proofs.ItemLists.{nat_eq-same}
 use Rattle.order_laws.proofs.Moves.Queues.{first_erase-behind, downs-behind, downs-plain, brought}

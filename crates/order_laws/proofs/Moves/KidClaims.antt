@@ -3,16 +3,16 @@
 use Rattle.std.proofs.Common.{◌≡◌, ◌≢◌, ℕ, zero, suc, Bool, true, false, List, [], ◌∷◌, ◌++◌, Some, refl, sym, ap, subst, ◌∙◌, ◌⊎◌, inl, inr}
 use Rattle.std.specs.Prelude.{slice_index_or, slice_set, if◌then◌else◌}
 use native.Mathlib.Decide.{ℕ_discrete}
-use Rattle.ddm_types.specs.declared.answers.TxKind.TheVariants.{EraseTx}
-use Rattle.ddm_types.specs.declared.sizes.Hold.{Hold}
-use Rattle.ddm_types.specs.declared.keys.Stamp.{Stamp}
-use Rattle.tree_model.specs.State.States.{is_held, is_exclusive}
-use Rattle.tree_model.specs.State.Values.{DownValue, DirItem, absent_item, DirValue, Node, leaf_node, dir_node}
-use Rattle.tree_model.specs.State.Leaf.{blank}
-use Rattle.tree_model.specs.State.Directory.{dir_item, dir_hold, with_item, with_hold, queue_of, stamp_of, dir_lose, dir_take_data, dir_take_exclusive, dir_answer, dir_take_inject, dir_give_up}
-use Rattle.tree_model.specs.State.Child.{child_lose, child_take_data, child_take_exclusive, child_answer, child_take_inject, child_give_up, child_request_taken, child_reply_taken}
-use Rattle.tree_rules.specs.Order.Claims.{gives_exclusive, last_exclusive}
-use Rattle.tree_rules.specs.Order.Moments.{moment_at}
+use Rattle.order_laws.specs.DdmTypes.declared.answers.TxKind.TheVariants.{EraseTx}
+use Rattle.order_laws.specs.DdmTypes.declared.sizes.Hold.{Hold}
+use Rattle.order_laws.specs.DdmTypes.declared.keys.Stamp.{Stamp}
+use Rattle.order_laws.specs.TreeModel.State.States.{is_held, is_exclusive}
+use Rattle.order_laws.specs.TreeModel.State.Values.{DownValue, DirItem, absent_item, DirValue, Node, leaf_node, dir_node}
+use Rattle.order_laws.specs.TreeModel.State.Leaf.{blank}
+use Rattle.order_laws.specs.TreeModel.State.Directory.{dir_item, dir_hold, with_item, with_hold, queue_of, stamp_of, dir_lose, dir_take_data, dir_take_exclusive, dir_answer, dir_take_inject, dir_give_up}
+use Rattle.order_laws.specs.TreeModel.State.Child.{child_lose, child_take_data, child_take_exclusive, child_answer, child_take_inject, child_give_up, child_request_taken, child_reply_taken}
+use Rattle.order_laws.specs.TreeRules.Order.Claims.{gives_exclusive, last_exclusive}
+use Rattle.order_laws.specs.TreeRules.Order.Moments.{moment_at}
 use Rattle.bus_laws.proofs.DirParts.{item-other}
 use Rattle.order_laws.proofs.Moves.Inside.{queue-pushed, queue-pushed_other}
 

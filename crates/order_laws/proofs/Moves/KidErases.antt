@@ -3,20 +3,20 @@
 use Rattle.std.proofs.Common.{◌≡◌, ◌≢◌, ℕ, ◌+◌, Bool, true, false, List, [], ◌∷◌, ◌++◌, Option, Some, None, refl, sym, ap, subst, ◌∙◌, ◌⊎◌, inl, inr}
 use Rattle.std.specs.Prelude.{if◌then◌else◌}
 use native.Mathlib.Decide.{ℕ_discrete}
-use Rattle.ddm_types.specs.declared.answers.TxKind.TheVariants.{EraseTx}
-use Rattle.ddm_types.specs.declared.sizes.Hold.{Hold}
-use Rattle.ddm_types.specs.declared.sizes.LeafState.{LeafState}
-use Rattle.ddm_types.specs.declared.keys.Stamp.{Stamp}
-use Rattle.tree_model.specs.State.Kinds.{is_kind}
-use Rattle.tree_model.specs.State.States.{entry_hold, is_held, is_exclusive}
-use Rattle.tree_model.specs.State.Values.{DownValue, LeafValue, DirValue, Node, Nodes, leaf_node, dir_node, no_nodes, more_nodes}
-use Rattle.tree_model.specs.State.Leaf.{blank, LeafEntry, leaf_entry, leaf_hold, leaf_lose}
-use Rattle.tree_model.specs.State.Directory.{dir_hold, queue_of, stamp_of, dir_lose, dir_take_data, dir_take_exclusive, dir_answer, dir_take_inject}
-use Rattle.tree_model.specs.State.Child.{child_lose, child_take_data, child_take_exclusive, child_answer, child_take_inject, child_give_up, child_request_taken, child_reply_taken}
-use Rattle.tree_model.specs.State.Place.{Spot}
-use Rattle.tree_rules.specs.Order.Claims.{child_is_exclusive}
-use Rattle.tree_rules.specs.Order.Copies.{erases_of, erases_in, erases_among}
-use Rattle.tree_rules.specs.Order.Moments.{moment_at}
+use Rattle.order_laws.specs.DdmTypes.declared.answers.TxKind.TheVariants.{EraseTx}
+use Rattle.order_laws.specs.DdmTypes.declared.sizes.Hold.{Hold}
+use Rattle.order_laws.specs.DdmTypes.declared.sizes.LeafState.{LeafState}
+use Rattle.order_laws.specs.DdmTypes.declared.keys.Stamp.{Stamp}
+use Rattle.order_laws.specs.TreeModel.State.Kinds.{is_kind}
+use Rattle.order_laws.specs.TreeModel.State.States.{entry_hold, is_held, is_exclusive}
+use Rattle.order_laws.specs.TreeModel.State.Values.{DownValue, LeafValue, DirValue, Node, Nodes, leaf_node, dir_node, no_nodes, more_nodes}
+use Rattle.order_laws.specs.TreeModel.State.Leaf.{blank, LeafEntry, leaf_entry, leaf_hold, leaf_lose}
+use Rattle.order_laws.specs.TreeModel.State.Directory.{dir_hold, queue_of, stamp_of, dir_lose, dir_take_data, dir_take_exclusive, dir_answer, dir_take_inject}
+use Rattle.order_laws.specs.TreeModel.State.Child.{child_lose, child_take_data, child_take_exclusive, child_answer, child_take_inject, child_give_up, child_request_taken, child_reply_taken}
+use Rattle.order_laws.specs.TreeModel.State.Place.{Spot}
+use Rattle.order_laws.specs.TreeRules.Order.Claims.{child_is_exclusive}
+use Rattle.order_laws.specs.TreeRules.Order.Copies.{erases_of, erases_in, erases_among}
+use Rattle.order_laws.specs.TreeRules.Order.Moments.{moment_at}
 use Rattle.order_laws.specs.Moves.Moved.{In}
 use Rattle.order_laws.proofs.Moves.Sources.{In-left, In-right, In-either}
 use Rattle.order_laws.proofs.Moves.Inside.{queue-pushed, queue-pushed_other}

@@ -1,19 +1,19 @@
 -- Where copies come from in a turn in which a child's copy leaves, as for its own item.
 -- Letters: p is the parent, ns its children, w where the parent stands, c the child, x the item.
 use Rattle.std.proofs.Common.{◌≡◌, ℕ, ◌<◌, List, length, Some, None, refl, inr}
-use Rattle.tree_model.specs.State.Lists.{map_from}
-use Rattle.tree_model.specs.State.Values.{DirValue, Node, leaf_node, dir_node}
-use Rattle.tree_model.specs.State.Directory.{stamp_of, counted, with_parked}
-use Rattle.tree_model.specs.State.Blank.{no_node}
-use Rattle.tree_model.specs.State.Child.{child_leaving, child_given, child_give_up, pending_below}
-use Rattle.tree_model.specs.State.Place.{Where, where_path, spot_in}
-use Rattle.tree_model.specs.Turns.Children.{child_at, only, passed_on}
-use Rattle.tree_model.specs.Turns.Leave.{leave_taker}
-use Rattle.tree_model.proofs.BusRooms.{leave_taker-room}
-use Rattle.tree_rules.specs.Bus.Rules.{IsChildOk}
+use Rattle.order_laws.specs.TreeModel.State.Lists.{map_from}
+use Rattle.order_laws.specs.TreeModel.State.Values.{DirValue, Node, leaf_node, dir_node}
+use Rattle.order_laws.specs.TreeModel.State.Directory.{stamp_of, counted, with_parked}
+use Rattle.order_laws.specs.TreeModel.State.Blank.{no_node}
+use Rattle.order_laws.specs.TreeModel.State.Child.{child_leaving, child_given, child_give_up, pending_below}
+use Rattle.order_laws.specs.TreeModel.State.Place.{Where, where_path, spot_in}
+use Rattle.order_laws.specs.TreeModel.Turns.Children.{child_at, only, passed_on}
+use Rattle.order_laws.specs.TreeModel.Turns.Leave.{leave_taker}
+use Rattle.order_laws.proofs.TreeModel.BusRooms.{leave_taker-room}
+use Rattle.order_laws.specs.TreeRules.Bus.Rules.{IsChildOk}
 use Rattle.std.specs.List.{AllByRecursion}
-use Rattle.tree_rules.specs.Order.Directories.{IsOrdered}
-use Rattle.tree_rules.specs.Order.Places.{dirs_in}
+use Rattle.order_laws.specs.TreeRules.Order.Directories.{IsOrdered}
+use Rattle.order_laws.specs.TreeRules.Order.Places.{dirs_in}
 use Rattle.bus_laws.proofs.Calls.{child-give_up}
 use Rattle.bus_laws.proofs.ItemLists.{words-pushed}
 use Rattle.bus_laws.proofs.OneChild.{leaves-there}

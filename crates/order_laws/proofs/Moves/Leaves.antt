@@ -1,10 +1,10 @@
 -- The words that a leaf has of an item, after each thing that its bus tells it or takes from it.
 use Rattle.std.proofs.Common.{◌≡◌, ◌≢◌, ℕ, ◌<◌, Bool, true, false, List, [], ◌∷◌, ◌++◌, length, Option, Some, None, option_map, refl, sym, ap, subst, ◌∙◌}
-use Rattle.ddm_types.specs.declared.sizes.LeafState.{LeafState}
-use Rattle.tree_model.specs.State.States.{entry_hold, is_held, state_lost, state_with_data, state_with_exclusive, state_with_inject, state_answered}
-use Rattle.tree_model.specs.State.Values.{LeafValue}
-use Rattle.tree_model.specs.State.Leaf.{LeafEntry, entry_at, entry_state, leaf_entry, leaf_hold, Fate, stays, ends, becomes, enters, ways_after, buffer_after, words_in, words_of_item, free_way, enters_free, fate_by, fate_by_loss, fate_when_lost, fate_with_data, fate_with_exclusive, fate_answering, fate_with_inject, reply_of, leaf_lose, leaf_take_data, leaf_take_exclusive, leaf_answer, leaf_take_inject, leaf_give_up}
-use Rattle.tree_rules.specs.Order.Copies.{copies_here, entry_copies}
+use Rattle.order_laws.specs.DdmTypes.declared.sizes.LeafState.{LeafState}
+use Rattle.order_laws.specs.TreeModel.State.States.{entry_hold, is_held, state_lost, state_with_data, state_with_exclusive, state_with_inject, state_answered}
+use Rattle.order_laws.specs.TreeModel.State.Values.{LeafValue}
+use Rattle.order_laws.specs.TreeModel.State.Leaf.{LeafEntry, entry_at, entry_state, leaf_entry, leaf_hold, Fate, stays, ends, becomes, enters, ways_after, buffer_after, words_in, words_of_item, free_way, enters_free, fate_by, fate_by_loss, fate_when_lost, fate_with_data, fate_with_exclusive, fate_answering, fate_with_inject, reply_of, leaf_lose, leaf_take_data, leaf_take_exclusive, leaf_answer, leaf_take_inject, leaf_give_up}
+use Rattle.order_laws.specs.TreeRules.Order.Copies.{copies_here, entry_copies}
 pub use Rattle.order_laws.specs.Moves.HeldWords.{held_words}
 use Rattle.bus_laws.proofs.HartChanges.{entry_with, entry-becomes, entry-becomes_other, entry-enters, entry-enters_other}
 use Rattle.bus_laws.proofs.LeafEnds.{entry-ends, entry-ends_other}

@@ -4,31 +4,31 @@ use Rattle.std.proofs.Common.{◌≡◌, ◌≢◌, ℕ, suc, ◌+◌, ◌<◌, 
 use Rattle.std.specs.Prelude.{nat_eq, if◌then◌else◌}
 use native.Mathlib.Decide.{ℕ_discrete}
 use Rattle.std.proofs.lemmas.Bool.{eq-eqb}
-use Rattle.ddm_types.specs.declared.keys.Stamp.{Stamp}
-use Rattle.flat_model.specs.Flat.{has_reserved}
-use Rattle.tree_model.specs.declared.BusTurn.{BusTurn}
-use Rattle.tree_model.specs.State.Lists.{map_from, rest_of}
-use Rattle.tree_model.specs.State.States.{entry_hold, is_held}
-use Rattle.tree_model.specs.State.Values.{Note, local, up_read, LeafValue, DirValue, Node, Nodes, leaf_node, dir_node, no_nodes, more_nodes, nodes}
-use Rattle.tree_model.specs.State.Leaf.{entry_state, leaf_entry, leaf_hold, unreserved, leaf_lose, leaf_take_data, leaf_take_exclusive, leaf_answer, leaf_take_inject}
-use Rattle.tree_model.specs.State.Directory.{is_reader, stamp_of, counted, front_taken, dir_lose, dir_take_data, dir_take_exclusive, dir_answer, dir_take_inject}
-use Rattle.tree_model.specs.State.Child.{child_lose, child_take_data, child_take_exclusive, child_answer, child_take_inject, child_give_up, child_request_taken, child_reply_taken, child_given}
-use Rattle.tree_model.specs.State.Place.{spot_in}
-use Rattle.tree_model.proofs.Children.{map_from-length, child_at-map_from}
-use Rattle.tree_rules.specs.Order.Moments.{less, moment_at, spot_moment}
-use Rattle.tree_rules.specs.Order.Places.{LeafAt, leaves_in, placed_leaves}
+use Rattle.order_laws.specs.DdmTypes.declared.keys.Stamp.{Stamp}
+use Rattle.order_laws.specs.FlatModel.Flat.{has_reserved}
+use Rattle.order_laws.specs.TreeModel.declared.BusTurn.{BusTurn}
+use Rattle.order_laws.specs.TreeModel.State.Lists.{map_from, rest_of}
+use Rattle.order_laws.specs.TreeModel.State.States.{entry_hold, is_held}
+use Rattle.order_laws.specs.TreeModel.State.Values.{Note, local, up_read, LeafValue, DirValue, Node, Nodes, leaf_node, dir_node, no_nodes, more_nodes, nodes}
+use Rattle.order_laws.specs.TreeModel.State.Leaf.{entry_state, leaf_entry, leaf_hold, unreserved, leaf_lose, leaf_take_data, leaf_take_exclusive, leaf_answer, leaf_take_inject}
+use Rattle.order_laws.specs.TreeModel.State.Directory.{is_reader, stamp_of, counted, front_taken, dir_lose, dir_take_data, dir_take_exclusive, dir_answer, dir_take_inject}
+use Rattle.order_laws.specs.TreeModel.State.Child.{child_lose, child_take_data, child_take_exclusive, child_answer, child_take_inject, child_give_up, child_request_taken, child_reply_taken, child_given}
+use Rattle.order_laws.specs.TreeModel.State.Place.{spot_in}
+use Rattle.order_laws.proofs.TreeModel.Children.{map_from-length, child_at-map_from}
+use Rattle.order_laws.specs.TreeRules.Order.Moments.{less, moment_at, spot_moment}
+use Rattle.order_laws.specs.TreeRules.Order.Places.{LeafAt, leaves_in, placed_leaves}
 use Rattle.order_lists.proofs.Moments.{less-irreflexive}
 use Rattle.order_laws.specs.Moves.HeldWords.{held_words}
 use Rattle.order_laws.specs.Moves.LeavesKept.{LeafKept, KeepsLeaf, LeavesKept}
 use Rattle.order_laws.proofs.Moves.Leaves.{exclusive-words, answered-words, data-held, inject-held, lost-other, data-other, exclusive-other, answered-other, inject-other, gone-other}
-use Rattle.tree_model.specs.Turns.Grant.{Grant}
-use Rattle.tree_model.specs.Turns.Children.{child_at, only, read_from, erased_by, loses, reader_takes, replied_by, passed_on}
-use Rattle.tree_model.specs.Turns.RequestRead.{joins, read_of_child, read_of_parked, read_of_parent}
-use Rattle.tree_model.specs.Turns.RequestErase.{erase_of_all}
-use Rattle.tree_model.specs.Turns.Reply.{reply_to_readers, reply_to_parent}
-use Rattle.tree_model.specs.Turns.Down.{exclusive_to, erase_of_children, read_by_child, read_by_parked, data_to_readers, inject_to_reader, inject_to_readers, inject_to_child, inject_parked}
-use Rattle.tree_model.specs.Turns.Leave.{out_gone, leave_parked, leave_to}
-use Rattle.tree_model.proofs.Rows.{Row, row_joins, row_read_of_child, row_read_of_parked, row_read_of_parent, row_erase_of_all, row_reply_to_readers, row_reply_to_parent, row_exclusive_to, row_erase_of_children, row_read_by_child, row_read_by_parked, row_data_to_readers, row_inject_to_reader, row_inject_to_readers, row_inject_to_child, row_inject_parked, row_out_gone, row_out_parked, row_leave_to, row_inject_up}
+use Rattle.order_laws.specs.TreeModel.Turns.Grant.{Grant}
+use Rattle.order_laws.specs.TreeModel.Turns.Children.{child_at, only, read_from, erased_by, loses, reader_takes, replied_by, passed_on}
+use Rattle.order_laws.specs.TreeModel.Turns.RequestRead.{joins, read_of_child, read_of_parked, read_of_parent}
+use Rattle.order_laws.specs.TreeModel.Turns.RequestErase.{erase_of_all}
+use Rattle.order_laws.specs.TreeModel.Turns.Reply.{reply_to_readers, reply_to_parent}
+use Rattle.order_laws.specs.TreeModel.Turns.Down.{exclusive_to, erase_of_children, read_by_child, read_by_parked, data_to_readers, inject_to_reader, inject_to_readers, inject_to_child, inject_parked}
+use Rattle.order_laws.specs.TreeModel.Turns.Leave.{out_gone, leave_parked, leave_to}
+use Rattle.order_laws.proofs.TreeModel.Rows.{Row, row_joins, row_read_of_child, row_read_of_parked, row_read_of_parent, row_erase_of_all, row_reply_to_readers, row_reply_to_parent, row_exclusive_to, row_erase_of_children, row_read_by_child, row_read_by_parked, row_data_to_readers, row_inject_to_reader, row_inject_to_readers, row_inject_to_child, row_inject_parked, row_out_gone, row_out_parked, row_leave_to, row_inject_up}
 use Rattle.order_laws.proofs.Pairs.{pairs-append, pairs-itself}
 
 -- ---- a leaf

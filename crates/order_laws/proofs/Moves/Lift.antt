@@ -1,22 +1,22 @@
 -- What holds of the copies that the parent of a bus hands up holds of all copies of the machine.
 use Rattle.std.proofs.Common.{◌≡◌, true, false, sym, ℕ, ◌<◌, suc, ◌+◌, List, [], ◌∷◌, ◌++◌, map, refl, ap, subst, ◌∙◌, ◌⊎◌, inl, inr, arith, append_assoc}
 use Rattle.std.specs.List.{AllByRecursion}
-use Rattle.ddm_types.specs.declared.answers.TurnAnswer.{TurnAnswer}
-use Rattle.ddm_types.specs.declared.turns.Turn.{Turn}
-use Rattle.tree_model.specs.State.Values.{no_nodes, DirValue, Node, Nodes, leaf_node, dir_node, more_nodes, children, MachineValue}
-use Rattle.tree_model.specs.State.Leaf.{words_of_item}
-use Rattle.tree_model.specs.State.Directory.{stamp_of}
-use Rattle.tree_model.specs.State.Child.{child_replies}
-use Rattle.tree_model.specs.State.Place.{Where, at_top, at_child, where_path, spot_in}
-use Rattle.tree_model.specs.Turns.Children.{child_at}
-use Rattle.tree_model.specs.Turns.Tree.{ChangedAt}
-use Rattle.tree_model.specs.Laws.{TurnsHere}
-use Rattle.tree_model.proofs.Changed.{changed-holds}
-use Rattle.tree_rules.specs.Bus.Rules.{IsChildOk, IsTreeOk, AreTreesOk}
-use Rattle.tree_rules.specs.Order.Copies.{CopyAt, cut, copies_here, inner, handed}
-use Rattle.tree_rules.specs.Order.Directories.{IsOrdered}
-use Rattle.tree_rules.specs.Order.Moments.{is_under, moment_at, GoesOn}
-use Rattle.tree_rules.specs.Order.Places.{LeafAt, leaf_path, leaves_in, placed_leaves, dirs_in, placed_dirs}
+use Rattle.order_laws.specs.DdmTypes.declared.answers.TurnAnswer.{TurnAnswer}
+use Rattle.order_laws.specs.DdmTypes.declared.turns.Turn.{Turn}
+use Rattle.order_laws.specs.TreeModel.State.Values.{no_nodes, DirValue, Node, Nodes, leaf_node, dir_node, more_nodes, children, MachineValue}
+use Rattle.order_laws.specs.TreeModel.State.Leaf.{words_of_item}
+use Rattle.order_laws.specs.TreeModel.State.Directory.{stamp_of}
+use Rattle.order_laws.specs.TreeModel.State.Child.{child_replies}
+use Rattle.order_laws.specs.TreeModel.State.Place.{Where, at_top, at_child, where_path, spot_in}
+use Rattle.order_laws.specs.TreeModel.Turns.Children.{child_at}
+use Rattle.order_laws.specs.TreeModel.Turns.Tree.{ChangedAt}
+use Rattle.order_laws.specs.TreeModel.Laws.{TurnsHere}
+use Rattle.order_laws.proofs.TreeModel.Changed.{changed-holds}
+use Rattle.order_laws.specs.TreeRules.Bus.Rules.{IsChildOk, IsTreeOk, AreTreesOk}
+use Rattle.order_laws.specs.TreeRules.Order.Copies.{CopyAt, cut, copies_here, inner, handed}
+use Rattle.order_laws.specs.TreeRules.Order.Directories.{IsOrdered}
+use Rattle.order_laws.specs.TreeRules.Order.Moments.{is_under, moment_at, GoesOn}
+use Rattle.order_laws.specs.TreeRules.Order.Places.{LeafAt, leaf_path, leaves_in, placed_leaves, dirs_in, placed_dirs}
 use Rattle.order_lists.proofs.Filters.{each-append, each-weaker, each-left, each-right}
 use Rattle.order_laws.specs.Moves.Moved.{AllFrom}
 use Rattle.order_laws.specs.Moves.Parent.{bound_at, erased_at, downs_at, replies_up, hand_of}

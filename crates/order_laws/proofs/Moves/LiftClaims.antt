@@ -5,17 +5,17 @@ use Rattle.std.specs.Prelude.{if◌then◌else◌}
 use Rattle.std.specs.List.{AllByRecursion}
 use Rattle.std.proofs.lemmas.Bool.{ne_eqb}
 use Rattle.std.proofs.lemmas.List.{length-append}
-use Rattle.tree_model.specs.State.Values.{DirValue, Node, Nodes, dir_node, more_nodes, nodes, children}
-use Rattle.tree_model.specs.State.Directory.{is_top, stamp_of}
-use Rattle.tree_model.specs.State.Place.{Spot, Where, at_top, at_child, spot_path, spot_in}
-use Rattle.tree_model.specs.Turns.Children.{child_at}
-use Rattle.tree_model.proofs.Children.{nodes-children}
-use Rattle.tree_rules.specs.Bus.Rules.{IsBusOk, IsChildOk}
-use Rattle.tree_rules.specs.Order.Claims.{ClaimAt, child_is_exclusive, claim, claim_here, claims_in, claims_among}
-use Rattle.tree_rules.specs.Order.Core.{claim_level}
-use Rattle.tree_rules.specs.Order.Directories.{IsClocked, IsOrdered}
-use Rattle.tree_rules.specs.Order.Moments.{less_at, moment_at, moment_length}
-use Rattle.tree_rules.specs.Order.Places.{placed_dirs}
+use Rattle.order_laws.specs.TreeModel.State.Values.{DirValue, Node, Nodes, dir_node, more_nodes, nodes, children}
+use Rattle.order_laws.specs.TreeModel.State.Directory.{is_top, stamp_of}
+use Rattle.order_laws.specs.TreeModel.State.Place.{Spot, Where, at_top, at_child, spot_path, spot_in}
+use Rattle.order_laws.specs.TreeModel.Turns.Children.{child_at}
+use Rattle.order_laws.proofs.TreeModel.Children.{nodes-children}
+use Rattle.order_laws.specs.TreeRules.Bus.Rules.{IsBusOk, IsChildOk}
+use Rattle.order_laws.specs.TreeRules.Order.Claims.{ClaimAt, child_is_exclusive, claim, claim_here, claims_in, claims_among}
+use Rattle.order_laws.specs.TreeRules.Order.Core.{claim_level}
+use Rattle.order_laws.specs.TreeRules.Order.Directories.{IsClocked, IsOrdered}
+use Rattle.order_laws.specs.TreeRules.Order.Moments.{less_at, moment_at, moment_length}
+use Rattle.order_laws.specs.TreeRules.Order.Places.{placed_dirs}
 use Rattle.order_lists.proofs.Clocks.{here}
 use Rattle.order_lists.proofs.Moments.{less-irreflexive}
 use Rattle.order_laws.specs.Moves.Moved.{In}

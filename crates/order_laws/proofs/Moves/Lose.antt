@@ -2,17 +2,17 @@
 use Rattle.std.proofs.Common.{◌≡◌, ℕ, ◌+◌, ◌<◌, Bool, true, false, List, [], ◌∷◌, ◌++◌, map, length, take, Option, Some, None, is_some, IfSome, refl, sym, ap, subst, ◌∙◌, ◌⊎◌, inl, inr}
 use Rattle.std.specs.List.{AllByRecursion}
 use Rattle.std.proofs.lemmas.List.{map-append}
-use Rattle.ddm_types.specs.declared.answers.TxKind.TheVariants.{EraseTx}
-use Rattle.ddm_types.specs.declared.keys.Stamp.{Stamp}
-use Rattle.tree_model.specs.State.Lists.{first_some}
-use Rattle.tree_model.specs.State.States.{is_held}
-use Rattle.tree_model.specs.State.Values.{DownValue, DirValue, Node, Nodes, leaf_node, dir_node}
-use Rattle.tree_model.specs.State.Leaf.{blank, leaf_entry, words_of_item, leaf_lose}
-use Rattle.tree_model.specs.State.Directory.{dir_hold, dir_lose, queue_of}
-use Rattle.tree_model.specs.State.Child.{child_lose, child_replies}
-use Rattle.tree_model.specs.State.Place.{Spot, spot_path}
-use Rattle.tree_rules.specs.Order.Moments.{less, is_under, moment_at, moment_length, GoesOn}
-use Rattle.tree_rules.specs.Order.Copies.{CopyAt, cut, copies_here, inner}
+use Rattle.order_laws.specs.DdmTypes.declared.answers.TxKind.TheVariants.{EraseTx}
+use Rattle.order_laws.specs.DdmTypes.declared.keys.Stamp.{Stamp}
+use Rattle.order_laws.specs.TreeModel.State.Lists.{first_some}
+use Rattle.order_laws.specs.TreeModel.State.States.{is_held}
+use Rattle.order_laws.specs.TreeModel.State.Values.{DownValue, DirValue, Node, Nodes, leaf_node, dir_node}
+use Rattle.order_laws.specs.TreeModel.State.Leaf.{blank, leaf_entry, words_of_item, leaf_lose}
+use Rattle.order_laws.specs.TreeModel.State.Directory.{dir_hold, dir_lose, queue_of}
+use Rattle.order_laws.specs.TreeModel.State.Child.{child_lose, child_replies}
+use Rattle.order_laws.specs.TreeModel.State.Place.{Spot, spot_path}
+use Rattle.order_laws.specs.TreeRules.Order.Moments.{less, is_under, moment_at, moment_length, GoesOn}
+use Rattle.order_laws.specs.TreeRules.Order.Copies.{CopyAt, cut, copies_here, inner}
 use Rattle.order_lists.proofs.Moments.{less-irreflexive}
 use Rattle.order_laws.specs.Moves.Moved.{Kept, Told, Ended, Moved, AllFrom}
 use Rattle.order_laws.proofs.Moves.Sources.{AllFrom-append, AllFrom-images}

@@ -2,16 +2,16 @@
 -- Letters: p is the parent, q after it, ns its children, w where the parent stands, x the item.
 use Rattle.std.proofs.Common.{◌≡◌, ℕ, ◌+◌, ◌<◌, false, List, [], map, length, Option, None, IfSome, sym, subst}
 use Rattle.std.specs.Prelude.{nat_eq}
-use Rattle.tree_model.specs.State.Lists.{map_from}
-use Rattle.tree_model.specs.State.Values.{DirValue, Node, nodes}
-use Rattle.tree_model.specs.State.Leaf.{words_of_item}
-use Rattle.tree_model.specs.State.Directory.{stamp_of}
-use Rattle.tree_model.specs.State.Child.{child_lose, child_replies, child_request_taken}
-use Rattle.tree_model.specs.State.Place.{Where, where_path}
-use Rattle.tree_model.specs.Turns.Children.{child_at, erased_by, loses}
-use Rattle.tree_model.proofs.Children.{map_from-length, child_at-map_from}
-use Rattle.tree_rules.specs.Order.Copies.{CopyAt, cut, copies_here, handed}
-use Rattle.tree_rules.specs.Order.Moments.{GoesOn}
+use Rattle.order_laws.specs.TreeModel.State.Lists.{map_from}
+use Rattle.order_laws.specs.TreeModel.State.Values.{DirValue, Node, nodes}
+use Rattle.order_laws.specs.TreeModel.State.Leaf.{words_of_item}
+use Rattle.order_laws.specs.TreeModel.State.Directory.{stamp_of}
+use Rattle.order_laws.specs.TreeModel.State.Child.{child_lose, child_replies, child_request_taken}
+use Rattle.order_laws.specs.TreeModel.State.Place.{Where, where_path}
+use Rattle.order_laws.specs.TreeModel.Turns.Children.{child_at, erased_by, loses}
+use Rattle.order_laws.proofs.TreeModel.Children.{map_from-length, child_at-map_from}
+use Rattle.order_laws.specs.TreeRules.Order.Copies.{CopyAt, cut, copies_here, handed}
+use Rattle.order_laws.specs.TreeRules.Order.Moments.{GoesOn}
 use Rattle.order_laws.specs.Moves.Moved.{AllFrom}
 use Rattle.order_laws.specs.Moves.Parent.{bound_at, moment_in, erased_at, downs_at, hand_of}
 use Rattle.order_laws.proofs.Moves.Sources.{Sub, AllFrom-more}

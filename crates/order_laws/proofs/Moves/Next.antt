@@ -5,22 +5,22 @@ use Rattle.std.specs.Prelude.{if◌then◌else◌}
 use Rattle.std.specs.List.{AllByRecursion}
 use Rattle.std.proofs.lemmas.Bool.{ne_eqb}
 use Rattle.std.proofs.lemmas.List.{length-append, take_at, take_all}
-use Rattle.ddm_types.specs.declared.answers.TxKind.TheVariants.{EraseTx}
-use Rattle.ddm_types.specs.declared.keys.Stamp.{Stamp}
-use Rattle.ddm_types.specs.Keys.{stamp_at, stamp_numbers}
-use Rattle.tree_model.specs.State.Kinds.{is_kind}
-use Rattle.tree_model.specs.State.Values.{DownValue, DirValue, Nodes, dir_node}
-use Rattle.tree_model.specs.State.Directory.{is_top, queue_of, stamp_of}
-use Rattle.tree_model.specs.State.Place.{Spot, Where, at_top, at_child, where_path, spot_path}
-use Rattle.tree_rules.specs.Statements.{Holds, each, each_pair}
-use Rattle.tree_rules.specs.Order.Time.{lies_between, may_stand_behind}
-use Rattle.tree_rules.specs.Order.Copies.{first_erase}
-use Rattle.tree_rules.specs.Order.Directories.{IsClocked}
-use Rattle.tree_rules.specs.Order.Moments.{less, less_at, moment_of, moment_at, moment_length, spot_moment, GoesOn}
+use Rattle.order_laws.specs.DdmTypes.declared.answers.TxKind.TheVariants.{EraseTx}
+use Rattle.order_laws.specs.DdmTypes.declared.keys.Stamp.{Stamp}
+use Rattle.order_laws.specs.DdmTypes.Keys.{stamp_at, stamp_numbers}
+use Rattle.order_laws.specs.TreeModel.State.Kinds.{is_kind}
+use Rattle.order_laws.specs.TreeModel.State.Values.{DownValue, DirValue, Nodes, dir_node}
+use Rattle.order_laws.specs.TreeModel.State.Directory.{is_top, queue_of, stamp_of}
+use Rattle.order_laws.specs.TreeModel.State.Place.{Spot, Where, at_top, at_child, where_path, spot_path}
+use Rattle.order_laws.specs.TreeRules.Statements.{Holds, each, each_pair}
+use Rattle.order_laws.specs.TreeRules.Order.Time.{lies_between, may_stand_behind}
+use Rattle.order_laws.specs.TreeRules.Order.Copies.{first_erase}
+use Rattle.order_laws.specs.TreeRules.Order.Directories.{IsClocked}
+use Rattle.order_laws.specs.TreeRules.Order.Moments.{less, less_at, moment_of, moment_at, moment_length, spot_moment, GoesOn}
 use Rattle.order_lists.proofs.Clocks.{here, goes_on-append, goes_on-same_length}
 use Rattle.order_laws.proofs.Moves.Below.{erase_later, first_erase-each, some_weaker, same_length, queue-late, shallow}
 use Rattle.order_lists.proofs.Filters.{each-filter, each-weaker}
-use Rattle.tree_rules.proofs.Statements.{each-facts}
+use Rattle.order_laws.proofs.TreeRules.Statements.{each-facts}
 use Rattle.order_lists.proofs.Moments.{less-irreflexive, less-asymmetric, less-head, less-tail, least-parts, less_at-all, GoesOn-trans}
 use Rattle.order_lists.proofs.Stamps.{moment_at-length}
 use Rattle.order_laws.specs.Moves.Parent.{bound_at, moment_in, erased_at}

@@ -2,14 +2,14 @@
 use Rattle.std.proofs.Common.{◌≡◌, ℕ, ◌+◌, true, List, [], ◌∷◌, length, take, IfSome, refl, ap, ◌∙◌, arith}
 use Rattle.std.specs.List.{AllByRecursion}
 use Rattle.std.proofs.lemmas.List.{length-append}
-use Rattle.tree_model.specs.State.Values.{DirValue, Node, Nodes, leaf_node, dir_node, children}
-use Rattle.tree_model.specs.State.Directory.{stamp_of, queue_of}
-use Rattle.tree_model.specs.State.Place.{Where, at_top, at_child, where_path, spot_path}
+use Rattle.order_laws.specs.TreeModel.State.Values.{DirValue, Node, Nodes, leaf_node, dir_node, children}
+use Rattle.order_laws.specs.TreeModel.State.Directory.{stamp_of, queue_of}
+use Rattle.order_laws.specs.TreeModel.State.Place.{Where, at_top, at_child, where_path, spot_path}
 use Rattle.bus_laws.specs.KeepsBus.{IsTopBusOk}
-use Rattle.tree_rules.specs.Order.Copies.{first_erase}
-use Rattle.tree_rules.specs.Order.Directories.{IsClocked, IsOrdered}
-use Rattle.tree_rules.specs.Order.Moments.{less, moment_at, moment_length, GoesOn}
-use Rattle.tree_rules.specs.Order.Places.{dirs_in, placed_dirs}
+use Rattle.order_laws.specs.TreeRules.Order.Copies.{first_erase}
+use Rattle.order_laws.specs.TreeRules.Order.Directories.{IsClocked, IsOrdered}
+use Rattle.order_laws.specs.TreeRules.Order.Moments.{less, moment_at, moment_length, GoesOn}
+use Rattle.order_laws.specs.TreeRules.Order.Places.{dirs_in, placed_dirs}
 use Rattle.order_lists.proofs.Clocks.{here}
 use Rattle.order_laws.proofs.Moves.Below.{before_later, some_weaker, queue-late, below_goes_on, shallow}
 use Rattle.order_lists.proofs.Moments.{less-asymmetric}

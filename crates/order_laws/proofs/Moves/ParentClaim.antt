@@ -4,28 +4,28 @@ use Rattle.std.proofs.Common.{◌≡◌, ℕ, ◌+◌, ◌<◌, true, false, Lis
 use Rattle.std.specs.Prelude.{unwrap_or, if◌then◌else◌}
 use Rattle.std.specs.List.{AllByRecursion, list_any}
 use Rattle.std.proofs.lemmas.List.{length-append, take_all, take-take}
-use Rattle.ddm_types.specs.declared.keys.Stamp.{Stamp}
-use Rattle.ddm_types.specs.declared.sizes.Hold.{Hold}
-use Rattle.tree_model.specs.State.Blank.{no_node}
-use Rattle.tree_model.specs.State.Lists.{first_some}
-use Rattle.tree_model.specs.State.States.{is_held, is_exclusive}
-use Rattle.tree_model.specs.State.Values.{DirValue, Node, dir_node, nodes, children}
-use Rattle.tree_model.specs.State.Directory.{is_top, queue_of, stamp_of}
-use Rattle.tree_model.specs.State.Place.{Spot, spot_path, spot_in}
-use Rattle.tree_model.specs.Turns.Children.{child_at}
-use Rattle.tree_rules.specs.Bus.Faces.{parent_face, child_face, faces_of}
-use Rattle.tree_rules.specs.Bus.Item.{holds_exclusive, exclusive_alone, ItemRules, bits_of}
-use Rattle.tree_rules.specs.Bus.Rules.{IsBusOk, IsChildOk}
-use Rattle.tree_rules.proofs.Implying.{implies-use}
-use Rattle.tree_rules.specs.Order.Claims.{last_exclusive, child_is_exclusive, claim, first_claim}
-use Rattle.tree_rules.specs.Order.Directories.{IsClocked, IsOrdered}
-use Rattle.tree_rules.specs.Order.Moments.{less, less_at, moment_at, moment_length, GoesOn}
-use Rattle.tree_rules.specs.Order.Places.{placed_dirs}
+use Rattle.order_laws.specs.DdmTypes.declared.keys.Stamp.{Stamp}
+use Rattle.order_laws.specs.DdmTypes.declared.sizes.Hold.{Hold}
+use Rattle.order_laws.specs.TreeModel.State.Blank.{no_node}
+use Rattle.order_laws.specs.TreeModel.State.Lists.{first_some}
+use Rattle.order_laws.specs.TreeModel.State.States.{is_held, is_exclusive}
+use Rattle.order_laws.specs.TreeModel.State.Values.{DirValue, Node, dir_node, nodes, children}
+use Rattle.order_laws.specs.TreeModel.State.Directory.{is_top, queue_of, stamp_of}
+use Rattle.order_laws.specs.TreeModel.State.Place.{Spot, spot_path, spot_in}
+use Rattle.order_laws.specs.TreeModel.Turns.Children.{child_at}
+use Rattle.order_laws.specs.TreeRules.Bus.Faces.{parent_face, child_face, faces_of}
+use Rattle.order_laws.specs.TreeRules.Bus.Item.{holds_exclusive, exclusive_alone, ItemRules, bits_of}
+use Rattle.order_laws.specs.TreeRules.Bus.Rules.{IsBusOk, IsChildOk}
+use Rattle.order_laws.proofs.TreeRules.Implying.{implies-use}
+use Rattle.order_laws.specs.TreeRules.Order.Claims.{last_exclusive, child_is_exclusive, claim, first_claim}
+use Rattle.order_laws.specs.TreeRules.Order.Directories.{IsClocked, IsOrdered}
+use Rattle.order_laws.specs.TreeRules.Order.Moments.{less, less_at, moment_at, moment_length, GoesOn}
+use Rattle.order_laws.specs.TreeRules.Order.Places.{placed_dirs}
 use Rattle.bus_laws.proofs.Answering.{child-hold}
 use Rattle.bus_laws.proofs.BitsOf.{any-true}
 use Rattle.bus_laws.proofs.OneChild.{others-absent}
 use Rattle.order_laws.proofs.Moves.Below.{dir_above, below_goes_on, shallow, first_claim_goes_on}
-use Rattle.tree_model.proofs.Children.{children-nodes}
+use Rattle.order_laws.proofs.TreeModel.Children.{children-nodes}
 use Rattle.order_lists.proofs.Clocks.{here}
 use Rattle.order_lists.proofs.Moments.{less-irreflexive, at_most-at, at_most-transitive, at_most_at-fewer, GoesOn-at}
 use Rattle.order_lists.proofs.Stamps.{moment_at-length}

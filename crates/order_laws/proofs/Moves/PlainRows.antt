@@ -2,18 +2,18 @@
 -- down, and a copy that is dropped.
 use Rattle.std.proofs.Common.{◌≡◌, ℕ, Bool, true, false, List, [], ◌∷◌, refl, sym, ap, subst, ◌∙◌, inr}
 use Rattle.std.specs.Prelude.{nat_eq, if◌then◌else◌}
-use Rattle.ddm_types.specs.declared.answers.TxKind.TheVariants.{EraseTx}
-use Rattle.ddm_types.specs.declared.keys.Stamp.{Stamp}
-use Rattle.tree_model.specs.State.Kinds.{is_kind, brings_copy}
-use Rattle.tree_model.specs.State.Lists.{map_from}
-use Rattle.tree_model.specs.State.Values.{DownValue, DirValue, Node}
-use Rattle.tree_model.specs.State.Leaf.{words_of_item}
-use Rattle.tree_model.specs.State.Directory.{queue_of}
-use Rattle.tree_model.specs.State.Child.{child_take_exclusive, child_answer, child_give_up, child_request_taken}
-use Rattle.tree_model.specs.State.Place.{Spot, Where, at_top, at_child, spot_path}
-use Rattle.tree_model.specs.Turns.Children.{child_at, only, read_from}
-use Rattle.tree_model.proofs.Children.{map_from-length}
-use Rattle.tree_rules.specs.Order.Copies.{CopyAt, first_erase, downs}
+use Rattle.order_laws.specs.DdmTypes.declared.answers.TxKind.TheVariants.{EraseTx}
+use Rattle.order_laws.specs.DdmTypes.declared.keys.Stamp.{Stamp}
+use Rattle.order_laws.specs.TreeModel.State.Kinds.{is_kind, brings_copy}
+use Rattle.order_laws.specs.TreeModel.State.Lists.{map_from}
+use Rattle.order_laws.specs.TreeModel.State.Values.{DownValue, DirValue, Node}
+use Rattle.order_laws.specs.TreeModel.State.Leaf.{words_of_item}
+use Rattle.order_laws.specs.TreeModel.State.Directory.{queue_of}
+use Rattle.order_laws.specs.TreeModel.State.Child.{child_take_exclusive, child_answer, child_give_up, child_request_taken}
+use Rattle.order_laws.specs.TreeModel.State.Place.{Spot, Where, at_top, at_child, spot_path}
+use Rattle.order_laws.specs.TreeModel.Turns.Children.{child_at, only, read_from}
+use Rattle.order_laws.proofs.TreeModel.Children.{map_from-length}
+use Rattle.order_laws.specs.TreeRules.Order.Copies.{CopyAt, first_erase, downs}
 use Rattle.order_laws.specs.Moves.Moved.{In}
 use Rattle.order_laws.specs.Moves.Parent.{erased_at, downs_at}
 use Rattle.order_laws.proofs.Moves.Sources.{Sub}

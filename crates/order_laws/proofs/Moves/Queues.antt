@@ -1,12 +1,12 @@
 -- What is put behind a queue, and what is taken from its front, as equations on lists of copies.
 use Rattle.std.proofs.Common.{◌≡◌, ℕ, Bool, true, false, List, [], ◌∷◌, ◌++◌, map, Option, Some, None, refl, arith}
 use Rattle.std.proofs.lemmas.List.{map-append}
-use Rattle.ddm_types.specs.declared.answers.TxKind.{TxKind}
-use Rattle.ddm_types.specs.declared.answers.TxKind.TheVariants.{ReadTx, DataTx, EraseTx, ExclusiveTx, InjectTx, OutTx}
-use Rattle.tree_model.specs.State.Values.{DownValue}
-use Rattle.tree_model.specs.State.Kinds.{is_kind, brings_copy}
-use Rattle.tree_rules.specs.Order.Moments.{moment_at}
-use Rattle.tree_rules.specs.Order.Copies.{CopyAt, cut, first_erase, downs}
+use Rattle.order_laws.specs.DdmTypes.declared.answers.TxKind.{TxKind}
+use Rattle.order_laws.specs.DdmTypes.declared.answers.TxKind.TheVariants.{ReadTx, DataTx, EraseTx, ExclusiveTx, InjectTx, OutTx}
+use Rattle.order_laws.specs.TreeModel.State.Values.{DownValue}
+use Rattle.order_laws.specs.TreeModel.State.Kinds.{is_kind, brings_copy}
+use Rattle.order_laws.specs.TreeRules.Order.Moments.{moment_at}
+use Rattle.order_laws.specs.TreeRules.Order.Copies.{CopyAt, cut, first_erase, downs}
 use Rattle.std.specs.List.{AllByRecursion}
 use Rattle.order_laws.proofs.Moves.Cuts.{cuts-twice}
 

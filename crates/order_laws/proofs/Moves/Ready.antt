@@ -5,23 +5,23 @@ use Rattle.std.specs.Prelude.{not, ◌&&◌}
 use Rattle.std.specs.List.{AllByRecursion}
 use Rattle.std.specs.Cmp.Derive.{both_true}
 use Rattle.std.proofs.lemmas.Bool.{or_parts, not-true}
-use Rattle.ddm_types.specs.declared.answers.TxKind.TheVariants.{EraseTx}
-use Rattle.ddm_types.specs.declared.keys.Stamp.{Stamp}
-use Rattle.tree_model.specs.State.Kinds.{is_kind, has_kind}
-use Rattle.tree_model.specs.State.States.{is_held, is_exclusive}
-use Rattle.tree_model.specs.State.Values.{DownValue, Note, no_note, local, up_read, up_erase, Node, leaf_node, dir_node, children}
-use Rattle.tree_model.specs.State.Leaf.{words_of_item, leaf_lose}
-use Rattle.tree_model.specs.State.Directory.{dir_hold, queue_of, queue_kinds, entry_kind, dir_lose}
-use Rattle.tree_model.specs.State.Child.{child_hold, child_lose, child_replies}
-use Rattle.tree_model.specs.State.Place.{Spot}
-use Rattle.tree_rules.specs.Bus.Faces.{ParentFace, parent_face, child_face, faces_of}
-use Rattle.tree_rules.specs.Bus.Item.{implies, Bits}
-use Rattle.tree_rules.specs.Bus.Rules.{IsTreeOk}
-use Rattle.tree_rules.proofs.Implying.{implies-use}
-use Rattle.tree_rules.specs.Order.Copies.{inner}
-use Rattle.tree_rules.specs.Order.Directories.{IsOrdered}
-use Rattle.tree_rules.specs.Order.Moments.{moment_at, GoesOn}
-use Rattle.tree_rules.specs.Order.Places.{dirs_in}
+use Rattle.order_laws.specs.DdmTypes.declared.answers.TxKind.TheVariants.{EraseTx}
+use Rattle.order_laws.specs.DdmTypes.declared.keys.Stamp.{Stamp}
+use Rattle.order_laws.specs.TreeModel.State.Kinds.{is_kind, has_kind}
+use Rattle.order_laws.specs.TreeModel.State.States.{is_held, is_exclusive}
+use Rattle.order_laws.specs.TreeModel.State.Values.{DownValue, Note, no_note, local, up_read, up_erase, Node, leaf_node, dir_node, children}
+use Rattle.order_laws.specs.TreeModel.State.Leaf.{words_of_item, leaf_lose}
+use Rattle.order_laws.specs.TreeModel.State.Directory.{dir_hold, queue_of, queue_kinds, entry_kind, dir_lose}
+use Rattle.order_laws.specs.TreeModel.State.Child.{child_hold, child_lose, child_replies}
+use Rattle.order_laws.specs.TreeModel.State.Place.{Spot}
+use Rattle.order_laws.specs.TreeRules.Bus.Faces.{ParentFace, parent_face, child_face, faces_of}
+use Rattle.order_laws.specs.TreeRules.Bus.Item.{implies, Bits}
+use Rattle.order_laws.specs.TreeRules.Bus.Rules.{IsTreeOk}
+use Rattle.order_laws.proofs.TreeRules.Implying.{implies-use}
+use Rattle.order_laws.specs.TreeRules.Order.Copies.{inner}
+use Rattle.order_laws.specs.TreeRules.Order.Directories.{IsOrdered}
+use Rattle.order_laws.specs.TreeRules.Order.Moments.{moment_at, GoesOn}
+use Rattle.order_laws.specs.TreeRules.Order.Places.{dirs_in}
 use Rattle.bus_laws.proofs.States.{each_state, state-at}
 use Rattle.order_laws.proofs.Moves.Below.{IsTimely, IsLate, IsPrepared, inner-timely, inner-late}
 use Rattle.order_lists.proofs.Filters.{each-both, each-weaker}

@@ -1,22 +1,22 @@
 -- Where copies come from in a turn that grants a request or a reply, as for its own item.
 -- Letters: p is the parent, ns its children, w where the parent stands, c the child that asks or replies, x the item.
 use Rattle.std.proofs.Common.{◌≡◌, ℕ, ◌<◌, Bool, true, false, List, [], ◌∷◌, ◌++◌, length, Some, None, refl, ap, subst, ◌∙◌}
-use Rattle.ddm_types.specs.declared.answers.TxKind.TheVariants.{DataTx, EraseTx, ExclusiveTx}
-use Rattle.ddm_types.specs.declared.sizes.Hold.{Hold}
-use Rattle.ddm_types.specs.declared.keys.Stamp.{Stamp}
-use Rattle.tree_model.specs.State.Lists.{map_from, first_given}
-use Rattle.tree_model.specs.State.States.{is_held, is_exclusive}
-use Rattle.tree_model.specs.State.Values.{DownValue, Note, no_note, local, up_read, DirValue, Node, nodes}
-use Rattle.tree_model.specs.State.Leaf.{blank, words_of_item}
-use Rattle.tree_model.specs.State.Directory.{dir_note, is_reader, is_local, is_answering, queue_of, pending, parked_words, stamp_of, counted, with_note, with_hold, with_answering, pushed_down, pushed_reply, without_parked, joined_by}
-use Rattle.tree_model.specs.State.Child.{child_request, child_reply, child_request_taken, child_reply_taken}
-use Rattle.tree_model.specs.State.Place.{Where, at_top, at_child, where_path, spot_path, stamp_above}
-use Rattle.tree_model.specs.Turns.Children.{child_at, only, reader_full, read_from, erased_by, replied_by}
-use Rattle.tree_model.specs.Turns.RequestErase.{erase_noted}
-use Rattle.tree_model.proofs.Children.{map_from-length}
-use Rattle.tree_rules.specs.Bus.Faces.{parent_face, child_face, faces_of}
-use Rattle.tree_rules.specs.Bus.Item.{bits_of}
-use Rattle.tree_rules.specs.Order.Copies.{cut, copy_here, first_erase, downs}
+use Rattle.order_laws.specs.DdmTypes.declared.answers.TxKind.TheVariants.{DataTx, EraseTx, ExclusiveTx}
+use Rattle.order_laws.specs.DdmTypes.declared.sizes.Hold.{Hold}
+use Rattle.order_laws.specs.DdmTypes.declared.keys.Stamp.{Stamp}
+use Rattle.order_laws.specs.TreeModel.State.Lists.{map_from, first_given}
+use Rattle.order_laws.specs.TreeModel.State.States.{is_held, is_exclusive}
+use Rattle.order_laws.specs.TreeModel.State.Values.{DownValue, Note, no_note, local, up_read, DirValue, Node, nodes}
+use Rattle.order_laws.specs.TreeModel.State.Leaf.{blank, words_of_item}
+use Rattle.order_laws.specs.TreeModel.State.Directory.{dir_note, is_reader, is_local, is_answering, queue_of, pending, parked_words, stamp_of, counted, with_note, with_hold, with_answering, pushed_down, pushed_reply, without_parked, joined_by}
+use Rattle.order_laws.specs.TreeModel.State.Child.{child_request, child_reply, child_request_taken, child_reply_taken}
+use Rattle.order_laws.specs.TreeModel.State.Place.{Where, at_top, at_child, where_path, spot_path, stamp_above}
+use Rattle.order_laws.specs.TreeModel.Turns.Children.{child_at, only, reader_full, read_from, erased_by, replied_by}
+use Rattle.order_laws.specs.TreeModel.Turns.RequestErase.{erase_noted}
+use Rattle.order_laws.proofs.TreeModel.Children.{map_from-length}
+use Rattle.order_laws.specs.TreeRules.Bus.Faces.{parent_face, child_face, faces_of}
+use Rattle.order_laws.specs.TreeRules.Bus.Item.{bits_of}
+use Rattle.order_laws.specs.TreeRules.Order.Copies.{cut, copy_here, first_erase, downs}
 use Rattle.bus_laws.proofs.Answering.{child-hold}
 use Rattle.bus_laws.proofs.Before.{none-exclusive, gives-at}
 use Rattle.bus_laws.proofs.Calls.{IsGranted, child-erase-taken}
@@ -24,8 +24,8 @@ use Rattle.bus_laws.proofs.DirGives.{quiet-from_pending}
 use Rattle.bus_laws.proofs.ItemLists.{words-pushed, words-without}
 use Rattle.bus_laws.proofs.OneChild.{asks-there, replies-there, shared-all}
 use Rattle.bus_laws.proofs.RowFrame.{all-kids_at}
-use Rattle.tree_model.specs.State.Blank.{no_node}
-use Rattle.tree_rules.specs.Bus.Rules.{IsChildOk}
+use Rattle.order_laws.specs.TreeModel.State.Blank.{no_node}
+use Rattle.order_laws.specs.TreeRules.Bus.Rules.{IsChildOk}
 use Rattle.order_laws.specs.Moves.Moved.{In}
 use Rattle.order_laws.specs.Moves.Parent.{bound_at, moment_in, erased_at, downs_at, hand_of}
 use Rattle.order_laws.proofs.Moves.Sources.{Sub}

@@ -2,12 +2,12 @@
 use Rattle.std.proofs.Common.{◌≡◌, ℕ, zero, suc, ◌+◌, ◌*◌, ◌<◌, ◌≤◌, true, false, nat_eq, nat_lt, List, [], ◌∷◌, ◌++◌, length, take, None, refl, sym, ap, subst, ◌∙◌, ◌⊎◌, inl, inr, arith}
 use Rattle.std.proofs.lemmas.Bool.{and_parts, eqb-true, ltb-true, ltb-false}
 use Rattle.std.proofs.lemmas.List.{take-take, length-append}
-use Rattle.ddm_types.specs.declared.keys.Stamp.{Stamp}
-use Rattle.tree_model.specs.State.Values.{Node, leaf_node, dir_node}
-use Rattle.tree_model.specs.State.Leaf.{leaf_entry}
-use Rattle.tree_model.specs.State.Place.{Spot}
-use Rattle.tree_rules.specs.Order.Copies.{CopyAt, copy_here, copies_here, inner}
-use Rattle.tree_rules.specs.Order.Moments.{less, less_at, moment_at, moment_length, is_under}
+use Rattle.order_laws.specs.DdmTypes.declared.keys.Stamp.{Stamp}
+use Rattle.order_laws.specs.TreeModel.State.Values.{Node, leaf_node, dir_node}
+use Rattle.order_laws.specs.TreeModel.State.Leaf.{leaf_entry}
+use Rattle.order_laws.specs.TreeModel.State.Place.{Spot}
+use Rattle.order_laws.specs.TreeRules.Order.Copies.{CopyAt, copy_here, copies_here, inner}
+use Rattle.order_laws.specs.TreeRules.Order.Moments.{less, less_at, moment_at, moment_length, is_under}
 use Rattle.order_lists.proofs.Moments.{at_most-at}
 use Rattle.order_lists.proofs.Paths.{under-itself, under-append, under-length}
 use Rattle.order_laws.specs.Moves.Moved.{Kept, Told, Moved, AllFrom}

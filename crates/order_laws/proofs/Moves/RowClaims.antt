@@ -3,30 +3,30 @@
 use Rattle.std.proofs.Common.{◌≡◌, ℕ, ◌<◌, Bool, true, false, List, [], ◌∷◌, ◌++◌, length, Option, Some, None, refl, sym, ap, subst, ◌∙◌}
 use Rattle.std.specs.Prelude.{nat_eq, if◌then◌else◌}
 use native.Mathlib.Decide.{ℕ_discrete}
-use Rattle.ddm_types.specs.declared.answers.TxKind.TheVariants.{DataTx}
-use Rattle.ddm_types.specs.declared.sizes.Hold.{Hold}
-use Rattle.ddm_types.specs.declared.keys.Stamp.{Stamp}
-use Rattle.tree_model.specs.declared.BusTurn.{BusTurn}
-use Rattle.tree_model.specs.State.Lists.{map_from, first_some}
-use Rattle.tree_model.specs.State.States.{is_exclusive}
-use Rattle.tree_model.specs.State.Values.{DownValue, Note, no_note, up_erase, up_read, local, DirValue, Node}
-use Rattle.tree_model.specs.State.Directory.{is_top, dir_item, dir_hold, dir_note, queue_of, is_reader, pending, stamp_of, counted, front_taken, with_note, with_hold, with_answering, joined_by}
-use Rattle.tree_model.specs.State.Child.{child_take_data, child_take_exclusive, child_answer, child_take_inject, child_give_up, child_request_taken, child_reply_taken, child_given}
-use Rattle.tree_model.proofs.Children.{map_from-length, child_at-map_from}
-use Rattle.tree_rules.specs.Order.Claims.{gives_exclusive, last_exclusive}
-use Rattle.tree_rules.specs.Order.Moments.{moment_at}
+use Rattle.order_laws.specs.DdmTypes.declared.answers.TxKind.TheVariants.{DataTx}
+use Rattle.order_laws.specs.DdmTypes.declared.sizes.Hold.{Hold}
+use Rattle.order_laws.specs.DdmTypes.declared.keys.Stamp.{Stamp}
+use Rattle.order_laws.specs.TreeModel.declared.BusTurn.{BusTurn}
+use Rattle.order_laws.specs.TreeModel.State.Lists.{map_from, first_some}
+use Rattle.order_laws.specs.TreeModel.State.States.{is_exclusive}
+use Rattle.order_laws.specs.TreeModel.State.Values.{DownValue, Note, no_note, up_erase, up_read, local, DirValue, Node}
+use Rattle.order_laws.specs.TreeModel.State.Directory.{is_top, dir_item, dir_hold, dir_note, queue_of, is_reader, pending, stamp_of, counted, front_taken, with_note, with_hold, with_answering, joined_by}
+use Rattle.order_laws.specs.TreeModel.State.Child.{child_take_data, child_take_exclusive, child_answer, child_take_inject, child_give_up, child_request_taken, child_reply_taken, child_given}
+use Rattle.order_laws.proofs.TreeModel.Children.{map_from-length, child_at-map_from}
+use Rattle.order_laws.specs.TreeRules.Order.Claims.{gives_exclusive, last_exclusive}
+use Rattle.order_laws.specs.TreeRules.Order.Moments.{moment_at}
 use Rattle.bus_laws.proofs.DirGives.{quiet-from_pending}
 use Rattle.order_laws.proofs.Moves.Inside.{queue-pushed, queue-pushed_other, queue-front, queue-front_other}
 use Rattle.order_laws.proofs.Moves.Giving.{no-queue}
 use Rattle.order_laws.proofs.Moves.KidClaims.{last-behind, last-pushed, KidClaims, same-claims, request-claims, reply-claims, claims-again, answer-any, data-any, exclusive-any, inject-any, gone-any, lose-any, holds-by}
-use Rattle.tree_model.specs.Turns.Grant.{Grant}
-use Rattle.tree_model.specs.Turns.Children.{child_at, only, read_from, erased_by, loses, reader_takes, replied_by, passed_on}
-use Rattle.tree_model.specs.Turns.RequestRead.{joins, read_of_child, read_of_parked, read_of_parent}
-use Rattle.tree_model.specs.Turns.RequestErase.{erase_of_all, erase_noted}
-use Rattle.tree_model.specs.Turns.Reply.{reply_to_readers, reply_to_parent}
-use Rattle.tree_model.specs.Turns.Down.{without_up_erase, exclusive_to, erase_of_children, read_by_child, read_by_parked, data_to_readers, inject_to_reader, inject_to_readers, inject_to_child, inject_parked}
-use Rattle.tree_model.specs.Turns.Leave.{out_gone, leave_parked, leave_to}
-use Rattle.tree_model.proofs.Rows.{Row, row_joins, row_read_of_child, row_read_of_parked, row_read_of_parent, row_erase_of_all, row_reply_to_readers, row_reply_to_parent, row_exclusive_to, row_erase_of_children, row_read_by_child, row_read_by_parked, row_data_to_readers, row_inject_to_reader, row_inject_to_readers, row_inject_to_child, row_inject_parked, row_out_gone, row_out_parked, row_leave_to, row_inject_up}
+use Rattle.order_laws.specs.TreeModel.Turns.Grant.{Grant}
+use Rattle.order_laws.specs.TreeModel.Turns.Children.{child_at, only, read_from, erased_by, loses, reader_takes, replied_by, passed_on}
+use Rattle.order_laws.specs.TreeModel.Turns.RequestRead.{joins, read_of_child, read_of_parked, read_of_parent}
+use Rattle.order_laws.specs.TreeModel.Turns.RequestErase.{erase_of_all, erase_noted}
+use Rattle.order_laws.specs.TreeModel.Turns.Reply.{reply_to_readers, reply_to_parent}
+use Rattle.order_laws.specs.TreeModel.Turns.Down.{without_up_erase, exclusive_to, erase_of_children, read_by_child, read_by_parked, data_to_readers, inject_to_reader, inject_to_readers, inject_to_child, inject_parked}
+use Rattle.order_laws.specs.TreeModel.Turns.Leave.{out_gone, leave_parked, leave_to}
+use Rattle.order_laws.proofs.TreeModel.Rows.{Row, row_joins, row_read_of_child, row_read_of_parked, row_read_of_parent, row_erase_of_all, row_reply_to_readers, row_reply_to_parent, row_exclusive_to, row_erase_of_children, row_read_by_child, row_read_by_parked, row_data_to_readers, row_inject_to_reader, row_inject_to_readers, row_inject_to_child, row_inject_parked, row_out_gone, row_out_parked, row_leave_to, row_inject_up}
 
 -- what becomes of the exclusives and injects of the item in the parent's down list; `above` is the path of the bus above
 pub data QueueClaim (y : ℕ) (above : List ℕ) (present : Stamp) (p q : DirValue) : Type 0 where

@@ -3,18 +3,18 @@
 use Rattle.std.proofs.Common.{◌≡◌, ℕ, ◌<◌, Bool, true, false, List, length, Some, refl, sym, ap, subst, ◌∙◌, ◌⊎◌, inl, inr}
 use Rattle.std.specs.Prelude.{nat_eq, if◌then◌else◌}
 use native.Mathlib.Decide.{ℕ_discrete}
-use Rattle.ddm_types.specs.declared.answers.TxKind.TheVariants.{EraseTx}
-use Rattle.ddm_types.specs.declared.keys.Stamp.{Stamp}
-use Rattle.tree_model.specs.declared.BusTurn.{BusTurn}
-use Rattle.tree_model.specs.State.Lists.{map_from}
-use Rattle.tree_model.specs.State.States.{is_exclusive}
-use Rattle.tree_model.specs.State.Values.{Note, local, up_read, DirValue, Node}
-use Rattle.tree_model.specs.State.Directory.{dir_hold, is_reader, stamp_of, counted, front_taken}
-use Rattle.tree_model.specs.State.Child.{child_request, child_lose, child_take_data, child_take_exclusive, child_answer, child_take_inject, child_give_up, child_request_taken, child_reply_taken, child_given}
-use Rattle.tree_model.proofs.Children.{child_at-map_from}
-use Rattle.tree_rules.specs.Order.Claims.{child_is_exclusive}
-use Rattle.tree_rules.specs.Order.Copies.{erases_in}
-use Rattle.tree_rules.specs.Order.Moments.{moment_at}
+use Rattle.order_laws.specs.DdmTypes.declared.answers.TxKind.TheVariants.{EraseTx}
+use Rattle.order_laws.specs.DdmTypes.declared.keys.Stamp.{Stamp}
+use Rattle.order_laws.specs.TreeModel.declared.BusTurn.{BusTurn}
+use Rattle.order_laws.specs.TreeModel.State.Lists.{map_from}
+use Rattle.order_laws.specs.TreeModel.State.States.{is_exclusive}
+use Rattle.order_laws.specs.TreeModel.State.Values.{Note, local, up_read, DirValue, Node}
+use Rattle.order_laws.specs.TreeModel.State.Directory.{dir_hold, is_reader, stamp_of, counted, front_taken}
+use Rattle.order_laws.specs.TreeModel.State.Child.{child_request, child_lose, child_take_data, child_take_exclusive, child_answer, child_take_inject, child_give_up, child_request_taken, child_reply_taken, child_given}
+use Rattle.order_laws.proofs.TreeModel.Children.{child_at-map_from}
+use Rattle.order_laws.specs.TreeRules.Order.Claims.{child_is_exclusive}
+use Rattle.order_laws.specs.TreeRules.Order.Copies.{erases_in}
+use Rattle.order_laws.specs.TreeRules.Order.Moments.{moment_at}
 use Rattle.order_laws.specs.Moves.Moved.{In}
 use Rattle.order_laws.proofs.Moves.BusFacts.{BusFacts}
 use Rattle.order_laws.proofs.Moves.KidErases.{ErasesSame, same, again, request-same, reply-same, data-same, exclusive-same, answer-same, inject-same, gone-same, lose-same, spot, same-erases, lost-erases, lost-exclusive, request-exclusive}
@@ -22,18 +22,18 @@ use Rattle.bus_laws.proofs.Answering.{child-hold}
 use Rattle.bus_laws.proofs.Calls.{child-erase-taken}
 use Rattle.bus_laws.proofs.OneChild.{asks-there}
 use Rattle.bus_laws.proofs.RowFrame.{all-kids_at}
-use Rattle.tree_model.specs.State.Blank.{no_node}
-use Rattle.tree_rules.specs.Bus.Rules.{IsChildOk}
-use Rattle.tree_model.specs.State.Place.{Where, stamp_above}
+use Rattle.order_laws.specs.TreeModel.State.Blank.{no_node}
+use Rattle.order_laws.specs.TreeRules.Bus.Rules.{IsChildOk}
+use Rattle.order_laws.specs.TreeModel.State.Place.{Where, stamp_above}
 use Rattle.std.proofs.lemmas.Bool.{eqb-true}
-use Rattle.tree_model.specs.Turns.Grant.{Grant}
-use Rattle.tree_model.specs.Turns.Children.{child_at, only, read_from, erased_by, loses, reader_takes, replied_by, passed_on}
-use Rattle.tree_model.specs.Turns.RequestRead.{joins, read_of_child, read_of_parked, read_of_parent}
-use Rattle.tree_model.specs.Turns.RequestErase.{erase_of_all, erase_noted}
-use Rattle.tree_model.specs.Turns.Reply.{reply_to_readers, reply_to_parent}
-use Rattle.tree_model.specs.Turns.Down.{exclusive_to, erase_of_children, read_by_child, read_by_parked, data_to_readers, inject_to_reader, inject_to_readers, inject_to_child, inject_parked}
-use Rattle.tree_model.specs.Turns.Leave.{out_gone, leave_parked, leave_to}
-use Rattle.tree_model.proofs.Rows.{Row, row_joins, row_read_of_child, row_read_of_parked, row_read_of_parent, row_erase_of_all, row_reply_to_readers, row_reply_to_parent, row_exclusive_to, row_erase_of_children, row_read_by_child, row_read_by_parked, row_data_to_readers, row_inject_to_reader, row_inject_to_readers, row_inject_to_child, row_inject_parked, row_out_gone, row_out_parked, row_leave_to, row_inject_up}
+use Rattle.order_laws.specs.TreeModel.Turns.Grant.{Grant}
+use Rattle.order_laws.specs.TreeModel.Turns.Children.{child_at, only, read_from, erased_by, loses, reader_takes, replied_by, passed_on}
+use Rattle.order_laws.specs.TreeModel.Turns.RequestRead.{joins, read_of_child, read_of_parked, read_of_parent}
+use Rattle.order_laws.specs.TreeModel.Turns.RequestErase.{erase_of_all, erase_noted}
+use Rattle.order_laws.specs.TreeModel.Turns.Reply.{reply_to_readers, reply_to_parent}
+use Rattle.order_laws.specs.TreeModel.Turns.Down.{exclusive_to, erase_of_children, read_by_child, read_by_parked, data_to_readers, inject_to_reader, inject_to_readers, inject_to_child, inject_parked}
+use Rattle.order_laws.specs.TreeModel.Turns.Leave.{out_gone, leave_parked, leave_to}
+use Rattle.order_laws.proofs.TreeModel.Rows.{Row, row_joins, row_read_of_child, row_read_of_parked, row_read_of_parent, row_erase_of_all, row_reply_to_readers, row_reply_to_parent, row_exclusive_to, row_erase_of_children, row_read_by_child, row_read_by_parked, row_data_to_readers, row_inject_to_reader, row_inject_to_readers, row_inject_to_child, row_inject_parked, row_out_gone, row_out_parked, row_leave_to, row_inject_up}
 
 -- all children as before, or no child holds the item Exclusive then
 pub record RowErases (y : ℕ) (q : DirValue) (ns ms : List Node) : Type 0 where

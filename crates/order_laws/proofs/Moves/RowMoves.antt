@@ -2,23 +2,23 @@
 -- Letters: p is the parent, ns its children, w where the parent stands, g what was granted, y any item.
 use Rattle.std.proofs.Common.{◌≡◌, ℕ, List, refl, sym, ap, subst, ◌∙◌, inl, inr}
 use native.Mathlib.Decide.{ℕ_discrete}
-use Rattle.ddm_types.specs.declared.answers.TxKind.TheVariants.{DataTx, InjectTx}
-use Rattle.tree_model.specs.declared.BusTurn.{BusTurn}
-use Rattle.tree_model.specs.State.States.{is_exclusive}
-use Rattle.tree_model.specs.State.Values.{DirValue, Node, nodes}
-use Rattle.tree_model.specs.State.Directory.{dir_hold, counted, stamp_of, front_taken}
-use Rattle.tree_model.specs.State.Place.{Where, stamp_above}
-use Rattle.tree_model.specs.Turns.Grant.{Grant}
-use Rattle.tree_model.specs.Turns.RequestRead.{joins, read_of_child, read_of_parked, read_of_parent}
-use Rattle.tree_model.specs.Turns.RequestErase.{erase_of_all}
-use Rattle.tree_model.specs.Turns.Reply.{reply_to_readers, reply_to_parent}
-use Rattle.tree_model.specs.Turns.Down.{exclusive_to, erase_of_children, read_by_child, read_by_parked, data_to_readers, inject_to_reader, inject_to_readers, inject_to_child, inject_parked}
-use Rattle.tree_model.specs.Turns.Leave.{out_gone, leave_parked, leave_to}
-use Rattle.tree_model.proofs.BusRooms.{inject_taker-room}
-use Rattle.tree_model.proofs.Rows.{Row, row_joins, row_read_of_child, row_read_of_parked, row_read_of_parent, row_erase_of_all, row_reply_to_readers, row_reply_to_parent, row_exclusive_to, row_erase_of_children, row_read_by_child, row_read_by_parked, row_data_to_readers, row_inject_to_reader, row_inject_to_readers, row_inject_to_child, row_inject_parked, row_out_gone, row_out_parked, row_leave_to, row_inject_up}
+use Rattle.order_laws.specs.DdmTypes.declared.answers.TxKind.TheVariants.{DataTx, InjectTx}
+use Rattle.order_laws.specs.TreeModel.declared.BusTurn.{BusTurn}
+use Rattle.order_laws.specs.TreeModel.State.States.{is_exclusive}
+use Rattle.order_laws.specs.TreeModel.State.Values.{DirValue, Node, nodes}
+use Rattle.order_laws.specs.TreeModel.State.Directory.{dir_hold, counted, stamp_of, front_taken}
+use Rattle.order_laws.specs.TreeModel.State.Place.{Where, stamp_above}
+use Rattle.order_laws.specs.TreeModel.Turns.Grant.{Grant}
+use Rattle.order_laws.specs.TreeModel.Turns.RequestRead.{joins, read_of_child, read_of_parked, read_of_parent}
+use Rattle.order_laws.specs.TreeModel.Turns.RequestErase.{erase_of_all}
+use Rattle.order_laws.specs.TreeModel.Turns.Reply.{reply_to_readers, reply_to_parent}
+use Rattle.order_laws.specs.TreeModel.Turns.Down.{exclusive_to, erase_of_children, read_by_child, read_by_parked, data_to_readers, inject_to_reader, inject_to_readers, inject_to_child, inject_parked}
+use Rattle.order_laws.specs.TreeModel.Turns.Leave.{out_gone, leave_parked, leave_to}
+use Rattle.order_laws.proofs.TreeModel.BusRooms.{inject_taker-room}
+use Rattle.order_laws.proofs.TreeModel.Rows.{Row, row_joins, row_read_of_child, row_read_of_parked, row_read_of_parent, row_erase_of_all, row_reply_to_readers, row_reply_to_parent, row_exclusive_to, row_erase_of_children, row_read_by_child, row_read_by_parked, row_data_to_readers, row_inject_to_reader, row_inject_to_readers, row_inject_to_child, row_inject_parked, row_out_gone, row_out_parked, row_leave_to, row_inject_up}
 use Rattle.bus_laws.proofs.Before.{entry-known, reader-at}
 use Rattle.bus_laws.proofs.ItemLists.{nat_eq-same}
-use Rattle.tree_model.specs.State.Directory.{is_reader}
+use Rattle.order_laws.specs.TreeModel.State.Directory.{is_reader}
 use Rattle.order_laws.proofs.Moves.Beside.{row-beside}
 use Rattle.order_laws.proofs.Moves.BusFacts.{BusFacts}
 use Rattle.order_laws.proofs.Moves.DownRows.{exclusive-row, read_by_child-row, read_by_parked-row, readers-row, taker-row, inject_parked-row, erase-row}

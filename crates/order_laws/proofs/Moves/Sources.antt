@@ -2,7 +2,7 @@
 use Rattle.std.proofs.Common.{List, [], ◌∷◌, ◌++◌, map, refl, sym, ap, subst, ◌⊎◌, inl, inr}
 use Rattle.std.specs.List.{AllByRecursion}
 use Rattle.std.proofs.lemmas.List.{map-append}
-use Rattle.tree_rules.specs.Order.Copies.{CopyAt}
+use Rattle.order_laws.specs.TreeRules.Order.Copies.{CopyAt}
 use Rattle.order_lists.proofs.Filters.{each-weaker, each-append}
 use Rattle.order_laws.specs.Moves.Moved.{In, From, AllFrom}
 

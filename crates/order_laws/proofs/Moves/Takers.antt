@@ -3,20 +3,20 @@
 use Rattle.std.proofs.Common.{◌≡◌, ℕ, ◌<◌, Bool, true, false, List, length, Option, Some, None, is_none, is_some, refl, sym, ap, subst, ◌⊎◌, inl, inr}
 use Rattle.std.specs.Prelude.{not, ◌&&◌, ◌||◌, nat_eq}
 use Rattle.std.proofs.lemmas.Bool.{and_parts, eqb-true}
-use Rattle.ddm_types.specs.declared.answers.TxKind.{TxKind}
-use Rattle.ddm_types.specs.declared.answers.TxKind.TheVariants.{ReadTx, DataTx, EraseTx, ExclusiveTx, InjectTx, OutTx}
-use Rattle.ddm_types.specs.declared.sizes.Hold.{Hold}
-use Rattle.ddm_types.specs.declared.sizes.LeafState.{LeafState}
-use Rattle.ddm_types.specs.declared.keys.Stamp.{Stamp}
-use Rattle.tree_model.specs.State.Kinds.{is_kind}
-use Rattle.tree_model.specs.State.States.{entry_hold, is_held, is_reading}
-use Rattle.tree_model.specs.State.Values.{RequestValue, LeafValue, DirValue, Node, Nodes, leaf_node, dir_node, children}
-use Rattle.tree_model.specs.State.Leaf.{slot_has, LeafEntry, leaf_entry, state_at, leaf_hold, leaf_room, free_way, leaf_take_inject}
-use Rattle.tree_model.specs.State.Directory.{dir_item, dir_hold, with_hold, dir_take_inject}
-use Rattle.tree_model.specs.State.Child.{child_hold, child_room, child_take_inject}
-use Rattle.tree_rules.specs.Bus.Faces.{child_face, in_state}
-use Rattle.tree_rules.specs.Bus.Own.{IsLeafOk, slot_fits, slot_suits, request_suits}
-use Rattle.tree_rules.specs.Bus.Rules.{IsChildOk}
+use Rattle.order_laws.specs.DdmTypes.declared.answers.TxKind.{TxKind}
+use Rattle.order_laws.specs.DdmTypes.declared.answers.TxKind.TheVariants.{ReadTx, DataTx, EraseTx, ExclusiveTx, InjectTx, OutTx}
+use Rattle.order_laws.specs.DdmTypes.declared.sizes.Hold.{Hold}
+use Rattle.order_laws.specs.DdmTypes.declared.sizes.LeafState.{LeafState}
+use Rattle.order_laws.specs.DdmTypes.declared.keys.Stamp.{Stamp}
+use Rattle.order_laws.specs.TreeModel.State.Kinds.{is_kind}
+use Rattle.order_laws.specs.TreeModel.State.States.{entry_hold, is_held, is_reading}
+use Rattle.order_laws.specs.TreeModel.State.Values.{RequestValue, LeafValue, DirValue, Node, Nodes, leaf_node, dir_node, children}
+use Rattle.order_laws.specs.TreeModel.State.Leaf.{slot_has, LeafEntry, leaf_entry, state_at, leaf_hold, leaf_room, free_way, leaf_take_inject}
+use Rattle.order_laws.specs.TreeModel.State.Directory.{dir_item, dir_hold, with_hold, dir_take_inject}
+use Rattle.order_laws.specs.TreeModel.State.Child.{child_hold, child_room, child_take_inject}
+use Rattle.order_laws.specs.TreeRules.Bus.Faces.{child_face, in_state}
+use Rattle.order_laws.specs.TreeRules.Bus.Own.{IsLeafOk, slot_fits, slot_suits, request_suits}
+use Rattle.order_laws.specs.TreeRules.Bus.Rules.{IsChildOk}
 use Rattle.bus_laws.proofs.DirParts.{dir-parts, item-same}
 use Rattle.bus_laws.proofs.LeafGives.{leaf_take_inject-told}
 use Rattle.order_laws.proofs.Moves.Calls.{inject-dir, inject-leaf}

@@ -1,19 +1,19 @@
 -- A turn of a bus leaves the operations, the table of items and the depth of the tree.
 use Rattle.std.proofs.Common.{◌≡◌, ℕ, true, None, Some, refl, ap, subst, ◌∙◌}
-use Rattle.ddm_types.specs.declared.answers.TurnAnswer.{TurnAnswer}
-use Rattle.ddm_types.specs.declared.turns.Turn.{Turn}
-use Rattle.tree_model.specs.State.Values.{LeafValue, Node, leaf_node, dir_node, MachineValue, root_of, children}
-use Rattle.tree_model.specs.State.Place.{Where, at_top, stamp_above}
-use Rattle.tree_model.specs.State.Shape.{Frame, depth_of, levels_of}
-use Rattle.tree_model.specs.Turns.Bus.{bus_step, bus_judged}
-use Rattle.tree_model.specs.Turns.Grant.{Judged, nothing_there, refused, granted, bus_answer}
-use Rattle.tree_model.specs.Turns.Machine.{named_by, bus_turn_of, answer_here, node_after, recorded, turn_answer, turn_root, turn_of, with_root}
-use Rattle.tree_model.specs.Turns.Tree.{is_named}
-use Rattle.tree_model.specs.Laws.{TurnsHere}
-use Rattle.tree_model.proofs.Changed.{changed-holds}
-use Rattle.tree_model.proofs.FrameKept.{turn-frame}
-use Rattle.tree_model.proofs.NamedNode.{turned}
-use Rattle.tree_model.proofs.TurnChanges.{turn-unanswered, turn-answered}
+use Rattle.order_laws.specs.DdmTypes.declared.answers.TurnAnswer.{TurnAnswer}
+use Rattle.order_laws.specs.DdmTypes.declared.turns.Turn.{Turn}
+use Rattle.order_laws.specs.TreeModel.State.Values.{LeafValue, Node, leaf_node, dir_node, MachineValue, root_of, children}
+use Rattle.order_laws.specs.TreeModel.State.Place.{Where, at_top, stamp_above}
+use Rattle.order_laws.specs.TreeModel.State.Shape.{Frame, depth_of, levels_of}
+use Rattle.order_laws.specs.TreeModel.Turns.Bus.{bus_step, bus_judged}
+use Rattle.order_laws.specs.TreeModel.Turns.Grant.{Judged, nothing_there, refused, granted, bus_answer}
+use Rattle.order_laws.specs.TreeModel.Turns.Machine.{named_by, bus_turn_of, answer_here, node_after, recorded, turn_answer, turn_root, turn_of, with_root}
+use Rattle.order_laws.specs.TreeModel.Turns.Tree.{is_named}
+use Rattle.order_laws.specs.TreeModel.Laws.{TurnsHere}
+use Rattle.order_laws.proofs.TreeModel.Changed.{changed-holds}
+use Rattle.order_laws.proofs.TreeModel.FrameKept.{turn-frame}
+use Rattle.order_laws.proofs.TreeModel.NamedNode.{turned}
+use Rattle.order_laws.proofs.TreeModel.TurnChanges.{turn-unanswered, turn-answered}
 use Rattle.order_laws.specs.Moves.CopiesMoved.{IsBusTurn}
 
 -- an answer that completes nothing

@@ -3,15 +3,15 @@
 -- Letters: p is the parent, q after it, ns its children, w where the parent stands, x the item.
 use Rattle.std.proofs.Common.{◌≡◌, ℕ, ◌+◌, ◌*◌, ◌<◌, ◌≤◌, false, List, [], ◌∷◌, ◌++◌, length, take, None, refl, sym, ap, subst, ◌∙◌, inl, arith}
 use Rattle.std.proofs.lemmas.List.{map-append, length-append, take-append-le, take-take}
-use Rattle.ddm_types.specs.declared.answers.TxKind.TheVariants.{DataTx}
-use Rattle.ddm_types.specs.declared.keys.Stamp.{Stamp}
-use Rattle.tree_model.specs.State.Values.{DownValue, DirValue, Node, nodes, dir_node}
-use Rattle.tree_model.specs.State.Leaf.{words_of_item}
-use Rattle.tree_model.specs.State.Directory.{queue_of}
-use Rattle.tree_model.specs.State.Place.{Spot, Where, at_top, at_child, where_path, spot_path, stamp_above}
-use Rattle.tree_model.specs.Turns.Children.{child_at}
-use Rattle.tree_rules.specs.Order.Copies.{CopyAt, cut, copy_here, copies_here, first_erase, downs}
-use Rattle.tree_rules.specs.Order.Moments.{less, less_at, moment_at, moment_length, spot_moment}
+use Rattle.order_laws.specs.DdmTypes.declared.answers.TxKind.TheVariants.{DataTx}
+use Rattle.order_laws.specs.DdmTypes.declared.keys.Stamp.{Stamp}
+use Rattle.order_laws.specs.TreeModel.State.Values.{DownValue, DirValue, Node, nodes, dir_node}
+use Rattle.order_laws.specs.TreeModel.State.Leaf.{words_of_item}
+use Rattle.order_laws.specs.TreeModel.State.Directory.{queue_of}
+use Rattle.order_laws.specs.TreeModel.State.Place.{Spot, Where, at_top, at_child, where_path, spot_path, stamp_above}
+use Rattle.order_laws.specs.TreeModel.Turns.Children.{child_at}
+use Rattle.order_laws.specs.TreeRules.Order.Copies.{CopyAt, cut, copy_here, copies_here, first_erase, downs}
+use Rattle.order_laws.specs.TreeRules.Order.Moments.{less, less_at, moment_at, moment_length, spot_moment}
 use Rattle.order_lists.proofs.Filters.{each-append}
 use Rattle.order_lists.proofs.Moments.{at_most-at}
 use Rattle.order_laws.specs.Moves.Moved.{In, Moved, From, AllFrom}

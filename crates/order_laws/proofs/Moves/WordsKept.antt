@@ -3,22 +3,22 @@
 use Rattle.std.proofs.Common.{◌≡◌, ℕ, ◌<◌, ◌≤◌, Bool, true, false, List, [], ◌∷◌, length, take, Option, Some, None, IfSome, refl, sym, subst, ◌∙◌, ◌⊎◌, inl, inr, arith}
 use Rattle.std.specs.List.{AllByRecursion}
 use Rattle.std.proofs.lemmas.Bool.{cases_lt}
-use Rattle.ddm_types.specs.declared.operations.Op.{Op}
-use Rattle.ddm_types.specs.declared.turns.Turn.{Turn}
-use Rattle.flat_model.specs.Legal.{changes_item}
-use Rattle.flat_model.specs.Flat.{FlatMachine}
-use Rattle.tree_model.specs.State.Values.{MachineValue}
-use Rattle.tree_model.specs.State.Directory.{stamp_of}
-use Rattle.tree_model.specs.State.Shape.{IsShaped, depth_of}
-use Rattle.tree_model.specs.Turns.Machine.{turn_of}
-use Rattle.tree_rules.specs.Statements.{Holds, is_so, each, there_and}
-use Rattle.tree_rules.specs.Bus.Rules.{IsMachineOk, items_of_machine}
-use Rattle.tree_rules.specs.Order.Moments.{less_at, before, past, parted, is_under, moment_length, same_numbers, GoesOn}
-use Rattle.tree_rules.specs.Order.Copies.{CopyAt, copies_of}
-use Rattle.tree_rules.specs.Order.Core.{ended_before, knows_change, has_right_words, words_until}
-use Rattle.tree_rules.specs.Order.Ops.{op_key, op_path}
-use Rattle.tree_rules.specs.Order.Rules.{IsTimed, IsCore, copy_rule, words_right, clocks_know, commands_past_taken}
-use Rattle.tree_rules.proofs.Statements.{each-facts, facts-each}
+use Rattle.order_laws.specs.DdmTypes.declared.operations.Op.{Op}
+use Rattle.order_laws.specs.DdmTypes.declared.turns.Turn.{Turn}
+use Rattle.order_laws.specs.FlatModel.Legal.{changes_item}
+use Rattle.order_laws.specs.FlatModel.Flat.{FlatMachine}
+use Rattle.order_laws.specs.TreeModel.State.Values.{MachineValue}
+use Rattle.order_laws.specs.TreeModel.State.Directory.{stamp_of}
+use Rattle.order_laws.specs.TreeModel.State.Shape.{IsShaped, depth_of}
+use Rattle.order_laws.specs.TreeModel.Turns.Machine.{turn_of}
+use Rattle.order_laws.specs.TreeRules.Statements.{Holds, is_so, each, there_and}
+use Rattle.order_laws.specs.TreeRules.Bus.Rules.{IsMachineOk, items_of_machine}
+use Rattle.order_laws.specs.TreeRules.Order.Moments.{less_at, before, past, parted, is_under, moment_length, same_numbers, GoesOn}
+use Rattle.order_laws.specs.TreeRules.Order.Copies.{CopyAt, copies_of}
+use Rattle.order_laws.specs.TreeRules.Order.Core.{ended_before, knows_change, has_right_words, words_until}
+use Rattle.order_laws.specs.TreeRules.Order.Ops.{op_key, op_path}
+use Rattle.order_laws.specs.TreeRules.Order.Rules.{IsTimed, IsCore, copy_rule, words_right, clocks_know, commands_past_taken}
+use Rattle.order_laws.proofs.TreeRules.Statements.{each-facts, facts-each}
 use Rattle.order_laws.proofs.Moves.Below.{AreCommandsPast, SortsByEnd, HasWordsOfChanges, words_of_copies}
 use Rattle.order_lists.proofs.Filters.{each-both}
 use Rattle.order_lists.proofs.Moments.{less-least, least-less, less_at-more, at_most_at-fewer, before_is, past-not_before, same_numbers-itself, less-asymmetric, GoesOn-past, GoesOn-at}

@@ -4,14 +4,14 @@ use Rattle.std.specs.Prelude.{if◌then◌else◌}
 use Rattle.std.specs.List.{AllByRecursion}
 use Rattle.std.proofs.lemmas.Bool.{eq-eqb}
 use Rattle.std.proofs.lemmas.List.{length-append}
-use Rattle.ddm_types.specs.declared.keys.Stamp.{Stamp}
-use Rattle.ddm_types.specs.Keys.{stamp_at}
-use Rattle.tree_model.specs.State.Values.{DirValue, Node, Nodes, leaf_node, dir_node, no_nodes, more_nodes, nodes, children}
-use Rattle.tree_model.specs.State.Directory.{stamp_of}
-use Rattle.tree_model.specs.State.Place.{Spot, spot_path, spot_in}
-use Rattle.tree_rules.specs.Order.Moments.{less, moment_at}
-use Rattle.tree_rules.specs.Order.Time.{stamp_ends}
-use Rattle.tree_rules.specs.Order.Places.{leaves_in, placed_leaves, DirAt, dir_path, dirs_in, placed_dirs}
+use Rattle.order_laws.specs.DdmTypes.declared.keys.Stamp.{Stamp}
+use Rattle.order_laws.specs.DdmTypes.Keys.{stamp_at}
+use Rattle.order_laws.specs.TreeModel.State.Values.{DirValue, Node, Nodes, leaf_node, dir_node, no_nodes, more_nodes, nodes, children}
+use Rattle.order_laws.specs.TreeModel.State.Directory.{stamp_of}
+use Rattle.order_laws.specs.TreeModel.State.Place.{Spot, spot_path, spot_in}
+use Rattle.order_laws.specs.TreeRules.Order.Moments.{less, moment_at}
+use Rattle.order_laws.specs.TreeRules.Order.Time.{stamp_ends}
+use Rattle.order_laws.specs.TreeRules.Order.Places.{leaves_in, placed_leaves, DirAt, dir_path, dirs_in, placed_dirs}
 use Rattle.order_lists.proofs.Filters.{each-append, each-left, each-right}
 use Rattle.order_laws.proofs.Timed.Rise.{rises-at_top, rises-at_child, ends-at}
 use Rattle.order_laws.proofs.Timed.Told.{DirTold, Told, AllTold}

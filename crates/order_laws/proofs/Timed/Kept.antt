@@ -3,12 +3,12 @@ use Rattle.std.proofs.Common.{◌≡◌, ℕ, ◌+◌, Bool, true, false, ◌⊎
 use Rattle.std.specs.List.{AllByRecursion}
 use Rattle.std.proofs.lemmas.Bool.{ne_eqb, true≢false}
 use Rattle.std.proofs.lemmas.List.{length-append}
-use Rattle.ddm_types.specs.declared.keys.Stamp.{Stamp}
-use Rattle.tree_model.specs.State.Values.{DownValue, DirValue}
-use Rattle.tree_model.specs.State.Directory.{is_top}
-use Rattle.tree_model.specs.State.Place.{Spot, spot_path}
-use Rattle.tree_rules.specs.Order.Moments.{less, moment_at}
-use Rattle.tree_rules.specs.Order.Time.{comes_later, stamp_ends}
+use Rattle.order_laws.specs.DdmTypes.declared.keys.Stamp.{Stamp}
+use Rattle.order_laws.specs.TreeModel.State.Values.{DownValue, DirValue}
+use Rattle.order_laws.specs.TreeModel.State.Directory.{is_top}
+use Rattle.order_laws.specs.TreeModel.State.Place.{Spot, spot_path}
+use Rattle.order_laws.specs.TreeRules.Order.Moments.{less, moment_at}
+use Rattle.order_laws.specs.TreeRules.Order.Time.{comes_later, stamp_ends}
 use Rattle.order_lists.proofs.Filters.{each-weaker, each-both, each-append}
 use Rattle.order_lists.proofs.Moments.{less-irreflexive, less-asymmetric, at_most-transitive, least-less}
 use Rattle.order_lists.proofs.Queues.{MayFollow, Rises}

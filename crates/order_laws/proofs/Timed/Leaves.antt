@@ -3,12 +3,12 @@
 use Rattle.std.proofs.Common.{◌≡◌, ℕ, ◌+◌, ◌<◌, ◌≤◌, true, false, ◌⊎◌, inl, inr, List, [], ◌∷◌, ◌++◌, length, take, refl, sym, ap, ◌∙◌, arith}
 use Rattle.std.proofs.lemmas.Bool.{cases_lt}
 use Rattle.std.proofs.lemmas.List.{take_at}
-use Rattle.ddm_types.specs.declared.keys.Stamp.{Stamp}
-use Rattle.tree_model.specs.State.Values.{LeafValue, DirValue, Nodes, no_nodes, more_nodes}
-use Rattle.tree_model.specs.State.Directory.{stamp_of}
-use Rattle.tree_model.specs.State.Place.{Spot, spot_in}
-use Rattle.tree_rules.specs.Order.Moments.{less, moment_at, spot_moment}
-use Rattle.tree_rules.specs.Order.Places.{LeafAt, leaf_path, leaf_now, leaves_in, placed_leaves, dirs_in, placed_dirs}
+use Rattle.order_laws.specs.DdmTypes.declared.keys.Stamp.{Stamp}
+use Rattle.order_laws.specs.TreeModel.State.Values.{LeafValue, DirValue, Nodes, no_nodes, more_nodes}
+use Rattle.order_laws.specs.TreeModel.State.Directory.{stamp_of}
+use Rattle.order_laws.specs.TreeModel.State.Place.{Spot, spot_in}
+use Rattle.order_laws.specs.TreeRules.Order.Moments.{less, moment_at, spot_moment}
+use Rattle.order_laws.specs.TreeRules.Order.Places.{LeafAt, leaf_path, leaf_now, leaves_in, placed_leaves, dirs_in, placed_dirs}
 use Rattle.order_lists.proofs.Moments.{less-irreflexive, less-asymmetric, less_at-less, least-head, least-tail}
 use Rattle.order_lists.proofs.Stamps.{same_length}
 

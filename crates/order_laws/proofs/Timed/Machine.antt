@@ -3,24 +3,24 @@ use Rattle.std.proofs.Common.{◌≡◌, ℕ, ◌+◌, Bool, true, false, ◌||�
 use Rattle.std.specs.List.{AllByRecursion, list_any}
 use Rattle.std.proofs.lemmas.Bool.{eqb-true}
 use Rattle.std.proofs.lemmas.List.{length-append}
-use Rattle.ddm_types.specs.declared.turns.Turn.{Turn}
-use Rattle.ddm_types.specs.declared.operations.Op.{Op}
-use Rattle.tree_model.specs.State.Values.{DownValue, MachineValue, root_of}
-use Rattle.tree_model.specs.State.Shape.{levels_of, depth_of, IsShaped}
-use Rattle.tree_model.specs.State.Place.{at_top}
-use Rattle.tree_model.specs.Turns.Tree.{has_node}
-use Rattle.tree_model.specs.Turns.Machine.{named_by, turn_of}
-use Rattle.tree_model.proofs.TurnChanges.{turn-changes_nothing, turn-changes_one_node}
-use Rattle.tree_model.proofs.FrameKept.{turn-frame}
-use Rattle.tree_rules.specs.Statements.{Holds, each, each_pair}
-use Rattle.tree_rules.specs.Bus.Own.{IsTopOk, top_level, no_epoch}
-use Rattle.tree_rules.specs.Order.Ops.{op_key}
-use Rattle.tree_rules.specs.Order.Places.{LeafAt, leaf_now, leaves_at, DirAt, dir_path, dirs_at}
-use Rattle.tree_rules.specs.Order.Time as time
-use Rattle.tree_rules.specs.Order.Time.{is_leaf_of, stamp_ends}
-use Rattle.tree_rules.specs.Order.Core.{is_past_taken}
-use Rattle.tree_rules.specs.Order.Rules.{TimeRule, keys_differ, ops_of_leaves, keys_end, keys_have_paths, keys_are_past, taken_is_past, stamps_between, stamps_rise, stamps_end, epochs_end, time_rule, IsTimed}
-use Rattle.tree_rules.proofs.Statements.{each-facts, facts-each}
+use Rattle.order_laws.specs.DdmTypes.declared.turns.Turn.{Turn}
+use Rattle.order_laws.specs.DdmTypes.declared.operations.Op.{Op}
+use Rattle.order_laws.specs.TreeModel.State.Values.{DownValue, MachineValue, root_of}
+use Rattle.order_laws.specs.TreeModel.State.Shape.{levels_of, depth_of, IsShaped}
+use Rattle.order_laws.specs.TreeModel.State.Place.{at_top}
+use Rattle.order_laws.specs.TreeModel.Turns.Tree.{has_node}
+use Rattle.order_laws.specs.TreeModel.Turns.Machine.{named_by, turn_of}
+use Rattle.order_laws.proofs.TreeModel.TurnChanges.{turn-changes_nothing, turn-changes_one_node}
+use Rattle.order_laws.proofs.TreeModel.FrameKept.{turn-frame}
+use Rattle.order_laws.specs.TreeRules.Statements.{Holds, each, each_pair}
+use Rattle.order_laws.specs.TreeRules.Bus.Own.{IsTopOk, top_level, no_epoch}
+use Rattle.order_laws.specs.TreeRules.Order.Ops.{op_key}
+use Rattle.order_laws.specs.TreeRules.Order.Places.{LeafAt, leaf_now, leaves_at, DirAt, dir_path, dirs_at}
+use Rattle.order_laws.specs.TreeRules.Order.Time as time
+use Rattle.order_laws.specs.TreeRules.Order.Time.{is_leaf_of, stamp_ends}
+use Rattle.order_laws.specs.TreeRules.Order.Core.{is_past_taken}
+use Rattle.order_laws.specs.TreeRules.Order.Rules.{TimeRule, keys_differ, ops_of_leaves, keys_end, keys_have_paths, keys_are_past, taken_is_past, stamps_between, stamps_rise, stamps_end, epochs_end, time_rule, IsTimed}
+use Rattle.order_laws.proofs.TreeRules.Statements.{each-facts, facts-each}
 use Rattle.order_lists.proofs.Filters.{each-weaker, each-both}
 use Rattle.order_lists.proofs.Moments.{less-least}
 use Rattle.order_lists.proofs.Levels.{IsLevelled, all_levelled}

@@ -2,13 +2,13 @@
 -- numbers for its own level and those above alone.
 use Rattle.std.proofs.Common.{◌≡◌, ℕ, zero, suc, ◌+◌, ◌<◌, true, false, List, [], ◌∷◌, ◌++◌, length, take, refl, sym, ap, subst, ◌∙◌, arith}
 use Rattle.std.proofs.lemmas.List.{length-append}
-use Rattle.ddm_types.specs.declared.keys.Stamp.{Stamp}
-use Rattle.ddm_types.specs.Keys.{stamp_at, stamp_numbers}
-use Rattle.tree_model.specs.State.Values.{DirValue}
-use Rattle.tree_model.specs.State.Directory.{stamp_of}
-use Rattle.tree_model.specs.State.Place.{Spot, spot_path}
-use Rattle.tree_rules.specs.Order.Moments.{less, moment_at}
-use Rattle.tree_rules.specs.Order.Time.{stamp_ends}
+use Rattle.order_laws.specs.DdmTypes.declared.keys.Stamp.{Stamp}
+use Rattle.order_laws.specs.DdmTypes.Keys.{stamp_at, stamp_numbers}
+use Rattle.order_laws.specs.TreeModel.State.Values.{DirValue}
+use Rattle.order_laws.specs.TreeModel.State.Directory.{stamp_of}
+use Rattle.order_laws.specs.TreeModel.State.Place.{Spot, spot_path}
+use Rattle.order_laws.specs.TreeRules.Order.Moments.{less, moment_at}
+use Rattle.order_laws.specs.TreeRules.Order.Time.{stamp_ends}
 use Rattle.order_lists.proofs.Stamps.{moment-less, less-push}
 
 numbers_of : Stamp → List ℕ

@@ -1,15 +1,15 @@
 -- What a turn of a bus does to a child's lists and counts: nothing, or one more entry of its down list with the bus's stamp.
 use Rattle.std.proofs.Common.{◌≡◌, ℕ, ◌+◌, Bool, true, false, ◌⊎◌, inl, inr, List, [], ◌∷◌, ◌++◌, refl}
 use Rattle.std.specs.Prelude.{nat_eq, if◌then◌else◌}
-use Rattle.ddm_types.specs.declared.answers.TxKind.TheVariants.{EraseTx}
-use Rattle.ddm_types.specs.declared.keys.Stamp.{Stamp}
-use Rattle.tree_model.specs.State.Lists.{map_from}
-use Rattle.tree_model.specs.State.States.{is_held}
-use Rattle.tree_model.specs.State.Values.{DownValue, DirValue, LeafValue, Note, Node, leaf_node, dir_node}
-use Rattle.tree_model.specs.State.Leaf.{blank, leaf_lose, leaf_take_data, leaf_take_exclusive, leaf_answer, leaf_take_inject}
-use Rattle.tree_model.specs.State.Directory.{dir_hold, is_reader, dir_lose, dir_take_data, dir_take_exclusive, dir_answer, dir_take_inject}
-use Rattle.tree_model.specs.State.Child.{child_lose, child_take_data, child_take_exclusive, child_answer, child_take_inject, child_request_taken, child_reply_taken, child_give_up}
-use Rattle.tree_model.specs.Turns.Children.{only, read_from, erased_by, reader_takes, replied_by, passed_on}
+use Rattle.order_laws.specs.DdmTypes.declared.answers.TxKind.TheVariants.{EraseTx}
+use Rattle.order_laws.specs.DdmTypes.declared.keys.Stamp.{Stamp}
+use Rattle.order_laws.specs.TreeModel.State.Lists.{map_from}
+use Rattle.order_laws.specs.TreeModel.State.States.{is_held}
+use Rattle.order_laws.specs.TreeModel.State.Values.{DownValue, DirValue, LeafValue, Note, Node, leaf_node, dir_node}
+use Rattle.order_laws.specs.TreeModel.State.Leaf.{blank, leaf_lose, leaf_take_data, leaf_take_exclusive, leaf_answer, leaf_take_inject}
+use Rattle.order_laws.specs.TreeModel.State.Directory.{dir_hold, is_reader, dir_lose, dir_take_data, dir_take_exclusive, dir_answer, dir_take_inject}
+use Rattle.order_laws.specs.TreeModel.State.Child.{child_lose, child_take_data, child_take_exclusive, child_answer, child_take_inject, child_request_taken, child_reply_taken, child_give_up}
+use Rattle.order_laws.specs.TreeModel.Turns.Children.{only, read_from, erased_by, reader_takes, replied_by, passed_on}
 
 -- one more entry at the end, with this stamp
 pub record Pushed (s : Stamp) (old new : List DownValue) : Type 0 where

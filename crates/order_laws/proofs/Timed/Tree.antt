@@ -3,27 +3,27 @@
 use Rattle.std.proofs.Common.{◌≡◌, ℕ, ◌+◌, ◌≤◌, Bool, true, List, [], ◌∷◌, length, refl, sym, subst, arith}
 use Rattle.std.specs.List.{AllByRecursion}
 use Rattle.std.proofs.lemmas.List.{length-append}
-use Rattle.ddm_types.specs.declared.answers.TurnAnswer.{TurnAnswer}
-use Rattle.ddm_types.specs.declared.turns.Turn.{Turn}
-use Rattle.ddm_types.specs.declared.keys.Key.{Key}
-use Rattle.ddm_types.specs.ItemTable.{ItemTable}
-use Rattle.ddm_types.specs.CodeMap.{CodeWord}
-use Rattle.tree_model.specs.declared.BusTurn.{BusTurn}
-use Rattle.tree_model.specs.State.Values.{LeafValue, DirValue, Node, Nodes, leaf_node, dir_node, more_nodes, nodes, children, MachineValue}
-use Rattle.tree_model.specs.State.Directory.{stamp_of}
-use Rattle.tree_model.specs.State.Place.{spot_path, spot_in, Where, at_top, at_child, where_path, stamp_above, key_at_leaf}
-use Rattle.tree_model.specs.Turns.Grant.{Judged, nothing_there, refused, granted, Outcome, outcome_of}
-use Rattle.tree_model.specs.Turns.Bus.{bus_judged, bus_step}
-use Rattle.tree_model.specs.Turns.HartTurn.{Deed, has_halted, waits_for, halts, completes, fetches, upgrades, finds_buffer_full, deed_of, leaf_after_deed, leaf_step}
-use Rattle.tree_model.specs.Turns.Tree.{ChangedAt}
-use Rattle.tree_model.specs.Turns.Machine.{bus_turn_of, victim_of, node_after}
-use Rattle.tree_model.specs.Laws.{TurnsHere}
-use Rattle.tree_model.proofs.Children.{nodes-children}
-use Rattle.tree_model.proofs.Changed.{changed-holds}
-use Rattle.tree_model.proofs.HartKeeps.{leaf_step-keeps}
-use Rattle.tree_model.proofs.Rows.{row-of}
-use Rattle.tree_rules.specs.Order.Time.{stamp_ends}
-use Rattle.tree_rules.specs.Order.Places.{LeafAt, leaves_in, placed_leaves, DirAt, dirs_in, placed_dirs}
+use Rattle.order_laws.specs.DdmTypes.declared.answers.TurnAnswer.{TurnAnswer}
+use Rattle.order_laws.specs.DdmTypes.declared.turns.Turn.{Turn}
+use Rattle.order_laws.specs.DdmTypes.declared.keys.Key.{Key}
+use Rattle.order_laws.specs.DdmTypes.ItemTable.{ItemTable}
+use Rattle.order_laws.specs.DdmTypes.CodeMap.{CodeWord}
+use Rattle.order_laws.specs.TreeModel.declared.BusTurn.{BusTurn}
+use Rattle.order_laws.specs.TreeModel.State.Values.{LeafValue, DirValue, Node, Nodes, leaf_node, dir_node, more_nodes, nodes, children, MachineValue}
+use Rattle.order_laws.specs.TreeModel.State.Directory.{stamp_of}
+use Rattle.order_laws.specs.TreeModel.State.Place.{spot_path, spot_in, Where, at_top, at_child, where_path, stamp_above, key_at_leaf}
+use Rattle.order_laws.specs.TreeModel.Turns.Grant.{Judged, nothing_there, refused, granted, Outcome, outcome_of}
+use Rattle.order_laws.specs.TreeModel.Turns.Bus.{bus_judged, bus_step}
+use Rattle.order_laws.specs.TreeModel.Turns.HartTurn.{Deed, has_halted, waits_for, halts, completes, fetches, upgrades, finds_buffer_full, deed_of, leaf_after_deed, leaf_step}
+use Rattle.order_laws.specs.TreeModel.Turns.Tree.{ChangedAt}
+use Rattle.order_laws.specs.TreeModel.Turns.Machine.{bus_turn_of, victim_of, node_after}
+use Rattle.order_laws.specs.TreeModel.Laws.{TurnsHere}
+use Rattle.order_laws.proofs.TreeModel.Children.{nodes-children}
+use Rattle.order_laws.proofs.TreeModel.Changed.{changed-holds}
+use Rattle.order_laws.proofs.TreeModel.HartKeeps.{leaf_step-keeps}
+use Rattle.order_laws.proofs.TreeModel.Rows.{row-of}
+use Rattle.order_laws.specs.TreeRules.Order.Time.{stamp_ends}
+use Rattle.order_laws.specs.TreeRules.Order.Places.{LeafAt, leaves_in, placed_leaves, DirAt, dirs_in, placed_dirs}
 use Rattle.order_lists.proofs.Filters.{each-append, each-left, each-right}
 use Rattle.order_laws.proofs.Timed.Rows.{BusTurned, row-turned}
 use Rattle.order_laws.specs.Pairs.{Pairs}

@@ -2,20 +2,20 @@
 -- come from that stand in a part of the tree which has that bus.
 -- Proofs alone need it.
 use Rattle.std.specs.Prelude.{◌≡◌, ℕ, ◌+◌, ◌*◌, ◌<◌, ◌≤◌, true, false, List, [], ◌∷◌, ◌++◌, length, take}
-use Rattle.ddm_types.specs.declared.keys.Stamp.{Stamp}
-use Rattle.tree_model.specs.State.States.{is_held}
-use Rattle.tree_model.specs.State.Values.{DirValue, Node, Nodes, leaf_node, dir_node, children}
-use Rattle.tree_model.specs.State.Leaf.{words_of_item, leaf_hold}
-use Rattle.tree_model.specs.State.Directory.{stamp_of}
-use Rattle.tree_model.specs.State.Child.{child_hold}
-use Rattle.tree_model.specs.State.Place.{Where, at_top, at_child, where_path, spot_in}
-use Rattle.tree_model.specs.Turns.Children.{child_at}
-use Rattle.tree_rules.specs.Order.Copies.{CopyAt, copies_here, inner, handed, erases_in}
-use Rattle.tree_rules.specs.Order.Claims.{ClaimAt, child_is_exclusive, claim, claims_in, claims_among}
-use Rattle.tree_rules.specs.Order.Moments.{less_at, moment_at, moment_length, is_under, spot_moment, GoesOn}
+use Rattle.order_laws.specs.DdmTypes.declared.keys.Stamp.{Stamp}
+use Rattle.order_laws.specs.TreeModel.State.States.{is_held}
+use Rattle.order_laws.specs.TreeModel.State.Values.{DirValue, Node, Nodes, leaf_node, dir_node, children}
+use Rattle.order_laws.specs.TreeModel.State.Leaf.{words_of_item, leaf_hold}
+use Rattle.order_laws.specs.TreeModel.State.Directory.{stamp_of}
+use Rattle.order_laws.specs.TreeModel.State.Child.{child_hold}
+use Rattle.order_laws.specs.TreeModel.State.Place.{Where, at_top, at_child, where_path, spot_in}
+use Rattle.order_laws.specs.TreeModel.Turns.Children.{child_at}
+use Rattle.order_laws.specs.TreeRules.Order.Copies.{CopyAt, copies_here, inner, handed, erases_in}
+use Rattle.order_laws.specs.TreeRules.Order.Claims.{ClaimAt, child_is_exclusive, claim, claims_in, claims_among}
+use Rattle.order_laws.specs.TreeRules.Order.Moments.{less_at, moment_at, moment_length, is_under, spot_moment, GoesOn}
 use Rattle.order_laws.specs.Moves.LeavesKept.{LeavesKept, leaves_below}
 use Rattle.order_laws.specs.Moves.Moved.{In, Moved, AllFrom}
-use Rattle.tree_rules.specs.Order.Places.{LeafAt, leaf_path, leaf_now, placed_leaves}
+use Rattle.order_laws.specs.TreeRules.Order.Places.{LeafAt, leaf_path, leaf_now, placed_leaves}
 use Rattle.std.specs.List.{AllByRecursion}
 use Rattle.std.proofs.Common.{◌⊎◌}
 use Rattle.order_laws.specs.Moves.ClaimsMoved.{ClaimsFrom}

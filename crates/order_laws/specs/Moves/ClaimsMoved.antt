@@ -3,9 +3,9 @@
 use Rattle.std.specs.Prelude.{◌≡◌, ℕ, false, List, [], ◌∷◌, ◌++◌, length, take}
 use Rattle.std.proofs.Common.{◌⊎◌}
 use Rattle.std.specs.List.{AllByRecursion}
-use Rattle.tree_rules.specs.Order.Claims.{ClaimAt}
-use Rattle.tree_rules.specs.Order.Core.{claim_level}
-use Rattle.tree_rules.specs.Order.Moments.{less_at, moment_length}
+use Rattle.order_laws.specs.TreeRules.Order.Claims.{ClaimAt}
+use Rattle.order_laws.specs.TreeRules.Order.Core.{claim_level}
+use Rattle.order_laws.specs.TreeRules.Order.Moments.{less_at, moment_length}
 use Rattle.order_laws.specs.Moves.Moved.{In}
 
 -- the claim of the same child, which as far as its bus knows hasn't fallen

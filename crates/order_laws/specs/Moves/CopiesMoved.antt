@@ -3,14 +3,14 @@
 use Rattle.std.specs.Prelude.{◌≡◌, ℕ, ◌<◌, true, length}
 use Rattle.std.specs.List.{AllByRecursion}
 use Rattle.std.proofs.Common.{◌⊎◌}
-use Rattle.ddm_types.specs.declared.turns.Turn.{Turn}
-use Rattle.tree_model.specs.State.Values.{dir_node, MachineValue, root_of}
-use Rattle.tree_model.specs.Turns.Machine.{turn_of}
-use Rattle.tree_rules.specs.Order.Copies.{copies_of}
-use Rattle.tree_rules.specs.Bus.Rules.{items_of_machine}
-use Rattle.tree_rules.specs.Order.Claims.{claims_of}
-use Rattle.tree_rules.specs.Order.Places.{leaves_at}
-use Rattle.tree_rules.specs.Order.Moments.{less_at, moment_length}
+use Rattle.order_laws.specs.DdmTypes.declared.turns.Turn.{Turn}
+use Rattle.order_laws.specs.TreeModel.State.Values.{dir_node, MachineValue, root_of}
+use Rattle.order_laws.specs.TreeModel.Turns.Machine.{turn_of}
+use Rattle.order_laws.specs.TreeRules.Order.Copies.{copies_of}
+use Rattle.order_laws.specs.TreeRules.Bus.Rules.{items_of_machine}
+use Rattle.order_laws.specs.TreeRules.Order.Claims.{claims_of}
+use Rattle.order_laws.specs.TreeRules.Order.Places.{leaves_at}
+use Rattle.order_laws.specs.TreeRules.Order.Moments.{less_at, moment_length}
 use Rattle.order_laws.specs.Moves.Moved.{AllFrom}
 use Rattle.order_laws.specs.Moves.ClaimsMoved.{ClaimsFrom}
 use Rattle.order_laws.specs.Moves.LeavesKept.{LeavesKept}

@@ -1,8 +1,8 @@
 -- The words that a leaf has of an item, by its entry.
 -- Proofs alone need it.
 use Rattle.std.specs.Prelude.{ℕ, List, [], ◌∷◌, Option, None, Some, if◌then◌else◌}
-use Rattle.tree_model.specs.State.States.{is_held, entry_hold}
-use Rattle.tree_model.specs.State.Leaf.{LeafEntry}
+use Rattle.order_laws.specs.TreeModel.State.States.{is_held, entry_hold}
+use Rattle.order_laws.specs.TreeModel.State.Leaf.{LeafEntry}
 
 abbrev pub held_words : Option LeafEntry → List (List ℕ)
 held_words None = []

@@ -1,12 +1,12 @@
 -- A turn of a bus leaves every leaf where it is, with its hart; a reservation stays only where the leaf keeps its words.
 -- To be believed where a rule is relied on; the order of the witness needs no reader here.
 use Rattle.std.specs.Prelude.{◌≡◌, ℕ, true, false, List, [], Some}
-use Rattle.tree_model.specs.State.States.{is_held}
-use Rattle.tree_model.specs.State.Values.{LeafValue, Node, leaf_node, dir_node}
-use Rattle.tree_model.specs.State.Leaf.{leaf_entry, leaf_hold}
-use Rattle.tree_model.specs.State.Place.{Where, at_top, at_child}
-use Rattle.tree_rules.specs.Order.Moments.{less, spot_moment}
-use Rattle.tree_rules.specs.Order.Places.{LeafAt, leaves_in, placed_leaves}
+use Rattle.order_laws.specs.TreeModel.State.States.{is_held}
+use Rattle.order_laws.specs.TreeModel.State.Values.{LeafValue, Node, leaf_node, dir_node}
+use Rattle.order_laws.specs.TreeModel.State.Leaf.{leaf_entry, leaf_hold}
+use Rattle.order_laws.specs.TreeModel.State.Place.{Where, at_top, at_child}
+use Rattle.order_laws.specs.TreeRules.Order.Moments.{less, spot_moment}
+use Rattle.order_laws.specs.TreeRules.Order.Places.{LeafAt, leaves_in, placed_leaves}
 use Rattle.order_laws.specs.Moves.HeldWords.{held_words}
 use Rattle.order_laws.specs.Pairs.{Pairs}
 

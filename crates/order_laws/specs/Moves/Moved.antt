@@ -4,8 +4,8 @@
 use Rattle.std.specs.Prelude.{◌≡◌, ℕ, ◌+◌, ◌<◌, true, false, List, [], ◌∷◌, ◌++◌, length, take, Some, IfSome}
 use Rattle.std.specs.List.{AllByRecursion}
 use Rattle.std.proofs.Common.{◌⊎◌}
-use Rattle.tree_rules.specs.Order.Moments.{less_at, is_under, moment_length, GoesOn}
-use Rattle.tree_rules.specs.Order.Copies.{CopyAt}
+use Rattle.order_laws.specs.TreeRules.Order.Moments.{less_at, is_under, moment_length, GoesOn}
+use Rattle.order_laws.specs.TreeRules.Order.Copies.{CopyAt}
 
 -- on the bus with j buses above it, over the place: the copy stood under the same child, and its clock hasn't fallen
 pub record Kept (j : ℕ) (k k' : CopyAt) : Type 0 where

@@ -1,12 +1,12 @@
 -- What the parent of a bus hands up of an item, wherever it stands; the top hands up all copies there are.
 -- Proofs alone need it.
 use Rattle.std.specs.Prelude.{ℕ, List, [], ◌++◌, map, Option, None}
-use Rattle.tree_model.specs.State.Values.{DirValue, Nodes}
-use Rattle.tree_model.specs.State.Leaf.{words_of_item}
-use Rattle.tree_model.specs.State.Directory.{queue_of, stamp_of}
-use Rattle.tree_model.specs.State.Place.{Where, at_top, at_child, where_path, spot_path}
-use Rattle.tree_rules.specs.Order.Copies.{CopyAt, cut, copies_here, first_erase, downs, gathered}
-use Rattle.tree_rules.specs.Order.Moments.{moment_at}
+use Rattle.order_laws.specs.TreeModel.State.Values.{DirValue, Nodes}
+use Rattle.order_laws.specs.TreeModel.State.Leaf.{words_of_item}
+use Rattle.order_laws.specs.TreeModel.State.Directory.{queue_of, stamp_of}
+use Rattle.order_laws.specs.TreeModel.State.Place.{Where, at_top, at_child, where_path, spot_path}
+use Rattle.order_laws.specs.TreeRules.Order.Copies.{CopyAt, cut, copies_here, first_erase, downs, gathered}
+use Rattle.order_laws.specs.TreeRules.Order.Moments.{moment_at}
 
 -- the moment, on the bus above, of the last stamp that its own bus took over
 abbrev pub bound_at : Where → DirValue → List ℕ

@@ -4,8 +4,8 @@
 -- To be believed: it is what the machine is.
 use Rattle.std.specs.Prelude.{ℕ, ◌+◌, Bool, ◌&&◌, nat_lt, List, [], ◌∷◌, map, drop, Option, Some, None, Result, Ok, Err, if◌then◌else◌}
 use Rattle.std.specs.List.{range_with_len}
-use Rattle.ddm_types.specs.declared.sizes.Span.{Span}
-use Rattle.ddm_types.specs.ItemTable.{item_count}
+use Rattle.tree_model.specs.DdmTypes.declared.sizes.Span.{Span}
+use Rattle.tree_model.specs.DdmTypes.ItemTable.{item_count}
 use Rattle.flat_model.specs.Flat.{FlatMachine, flat_start}
 use Rattle.tree_model.specs.State.Lists.{first_some}
 use Rattle.tree_model.specs.State.Values.{LeafValue, leaf_node, nodes, MachineValue}

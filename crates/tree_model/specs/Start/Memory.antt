@@ -3,8 +3,8 @@
 -- To be believed: it is what the machine is.
 use Rattle.std.specs.Prelude.{ℕ, ◌+◌, ◌-◌, ◌*◌, ◌/◌, Bool, ◌&&◌, nat_lt, nat_le, List, [], ◌∷◌, ◌++◌, map, find, Option, Some, None, slice_index_or, if◌then◌else◌}
 use Rattle.std.specs.List.{flat_map, range_with_len, fold}
-use Rattle.ddm_types.specs.ItemTable.{ItemRow, ItemTable, items_of}
-use Rattle.ddm_types.specs.CodeMap.{CodeWord, words_from}
+use Rattle.tree_model.specs.DdmTypes.ItemTable.{ItemRow, ItemTable, items_of}
+use Rattle.tree_model.specs.DdmTypes.CodeMap.{CodeWord, words_from}
 use Rattle.tree_model.specs.Start.Sources.{SegmentValue, ImageValue, TreeValue, width_of, is_executable, segment_span, stack_spans}
 
 -- the items of segments and stacks

@@ -4,11 +4,11 @@
 -- To be believed: it is what the machine is.
 use Rattle.std.specs.Prelude.{ℕ, ◌+◌, ◌%◌, Bool, ◌||◌, nat_eq, List, [], ◌∷◌, map, length, take, drop, replicate, find, Option, Some, None, is_some, slice_index_or, if◌then◌else◌}
 use Rattle.std.specs.List.{range_with_len}
-use Rattle.ddm_types.specs.declared.sizes.Start.{Start}
-use Rattle.ddm_types.specs.declared.sizes.TreeSizes.{TreeSizes}
-use Rattle.ddm_types.specs.declared.sizes.Hold.{Hold}
-use Rattle.ddm_types.specs.declared.sizes.LeafState.{LeafState}
-use Rattle.ddm_types.specs.Keys.{stamp_zero}
+use Rattle.tree_model.specs.DdmTypes.declared.sizes.Start.{Start}
+use Rattle.tree_model.specs.DdmTypes.declared.sizes.TreeSizes.{TreeSizes}
+use Rattle.tree_model.specs.DdmTypes.declared.sizes.Hold.{Hold}
+use Rattle.tree_model.specs.DdmTypes.declared.sizes.LeafState.{LeafState}
+use Rattle.tree_model.specs.DdmTypes.Keys.{stamp_zero}
 use Rattle.flat_model.specs.Hart.{hart_start}
 use Rattle.tree_model.specs.State.Lists.{map_from}
 use Rattle.tree_model.specs.State.States.{is_exclusive}

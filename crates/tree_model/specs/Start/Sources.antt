@@ -3,9 +3,9 @@
 -- To be believed: it is what the machine is.
 use Rattle.std.specs.Prelude.{ℕ, ◌+◌, ◌*◌, ◌/◌, ◌%◌, Bool, true, List, [], ◌∷◌, map, sum, nat_eq}
 use Rattle.std.specs.List.{flat_map, range_with_len}
-use Rattle.ddm_types.specs.declared.sizes.Span.{Span}
-use Rattle.ddm_types.specs.declared.sizes.Start.{Start}
-use Rattle.ddm_types.specs.declared.sizes.TreeSizes.{TreeSizes}
+use Rattle.tree_model.specs.DdmTypes.declared.sizes.Span.{Span}
+use Rattle.tree_model.specs.DdmTypes.declared.sizes.Start.{Start}
+use Rattle.tree_model.specs.DdmTypes.declared.sizes.TreeSizes.{TreeSizes}
 
 -- a segment of memory of an image: its file bytes, followed by zeros up to its size
 pub record SegmentValue : Type 0 where

@@ -2,12 +2,12 @@
 -- Letters: n is a child, v a leaf, d a directory over the children ns, x an item, s a stamp.
 -- To be believed: it is what the machine is.
 use Rattle.std.specs.Prelude.{ℕ, Bool, true, ◌&&◌, List, Option, None, option_map, unwrap_or, []}
-use Rattle.ddm_types.specs.declared.answers.TxKind.{TxKind}
-use Rattle.ddm_types.specs.declared.answers.TxKind.TheVariants.{ReadTx, DataTx, EraseTx, ExclusiveTx, InjectTx, OutTx}
-use Rattle.ddm_types.specs.declared.answers.PendingWhy.{PendingWhy}
-use Rattle.ddm_types.specs.declared.answers.QueueName.{QueueName}
-use Rattle.ddm_types.specs.declared.sizes.Hold.{Hold}
-use Rattle.ddm_types.specs.declared.keys.Stamp.{Stamp}
+use Rattle.tree_model.specs.DdmTypes.declared.answers.TxKind.{TxKind}
+use Rattle.tree_model.specs.DdmTypes.declared.answers.TxKind.TheVariants.{ReadTx, DataTx, EraseTx, ExclusiveTx, InjectTx, OutTx}
+use Rattle.tree_model.specs.DdmTypes.declared.answers.PendingWhy.{PendingWhy}
+use Rattle.tree_model.specs.DdmTypes.declared.answers.QueueName.{QueueName}
+use Rattle.tree_model.specs.DdmTypes.declared.sizes.Hold.{Hold}
+use Rattle.tree_model.specs.DdmTypes.declared.keys.Stamp.{Stamp}
 use Rattle.tree_model.specs.declared.TreeChild.{TreeChild}
 use Rattle.tree_model.specs.State.Lists.{first_of, rest_of, some_if}
 use Rattle.tree_model.specs.State.States.{is_held}

@@ -3,12 +3,12 @@
 -- To be believed: it is what the machine is.
 use Rattle.std.specs.Prelude.{ℕ, ◌+◌, ◌-◌, ◌^◌, Bool, true, false, not, ◌&&◌, ◌||◌, nat_eq, nat_le, List, [], ◌∷◌, ◌++◌, map, length, filter, position, bit_or, Option, Some, None, slice_index_or, slice_set, if◌then◌else◌}
 use Rattle.std.specs.Int.{bit_at}
-use Rattle.ddm_types.specs.declared.answers.TxKind.{TxKind}
-use Rattle.ddm_types.specs.declared.answers.TxKind.TheVariants.{ReadTx, DataTx, EraseTx, ExclusiveTx, InjectTx}
-use Rattle.ddm_types.specs.declared.answers.PendingWhy.{PendingWhy}
-use Rattle.ddm_types.specs.declared.sizes.Hold.{Hold}
-use Rattle.ddm_types.specs.declared.keys.Stamp.{Stamp}
-use Rattle.ddm_types.specs.Keys.{stamp_at}
+use Rattle.tree_model.specs.DdmTypes.declared.answers.TxKind.{TxKind}
+use Rattle.tree_model.specs.DdmTypes.declared.answers.TxKind.TheVariants.{ReadTx, DataTx, EraseTx, ExclusiveTx, InjectTx}
+use Rattle.tree_model.specs.DdmTypes.declared.answers.PendingWhy.{PendingWhy}
+use Rattle.tree_model.specs.DdmTypes.declared.sizes.Hold.{Hold}
+use Rattle.tree_model.specs.DdmTypes.declared.keys.Stamp.{Stamp}
+use Rattle.tree_model.specs.DdmTypes.Keys.{stamp_at}
 use Rattle.tree_model.specs.State.Lists.{first_of, has_some, without_first, names_item, chosen}
 use Rattle.tree_model.specs.State.Kinds.{has_kind}
 use Rattle.tree_model.specs.State.States.{is_held}

@@ -2,7 +2,7 @@
 -- To be believed: it is what the machine is.
 use Rattle.std.specs.Prelude.{ℕ, Bool, true, false, List, nat_eq}
 use Rattle.std.specs.List.{list_any}
-use Rattle.ddm_types.specs.declared.answers.TxKind.{TxKind}
+use Rattle.tree_model.specs.DdmTypes.declared.answers.TxKind.{TxKind}
 
 abbrev pub kind_number : TxKind → ℕ
 kind_number TxKind.ReadTx = 1

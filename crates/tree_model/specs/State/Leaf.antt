@@ -3,10 +3,10 @@
 -- To be believed: it is what the machine is.
 use Rattle.std.specs.Prelude.{ℕ, ◌%◌, Bool, false, not, ◌&&◌, ◌||◌, nat_eq, nat_le, List, [], ◌∷◌, ◌++◌, map, length, replicate, filter, find, position, Option, Some, None, is_some, is_none, option_map, slice_index_or, slice_set, if◌then◌else◌}
 use Rattle.std.specs.List.{range_with_len}
-use Rattle.ddm_types.specs.declared.answers.TxKind.{TxKind}
-use Rattle.ddm_types.specs.declared.answers.TxKind.TheVariants.{ReadTx}
-use Rattle.ddm_types.specs.declared.sizes.Hold.{Hold}
-use Rattle.ddm_types.specs.declared.sizes.LeafState.{LeafState}
+use Rattle.tree_model.specs.DdmTypes.declared.answers.TxKind.{TxKind}
+use Rattle.tree_model.specs.DdmTypes.declared.answers.TxKind.TheVariants.{ReadTx}
+use Rattle.tree_model.specs.DdmTypes.declared.sizes.Hold.{Hold}
+use Rattle.tree_model.specs.DdmTypes.declared.sizes.LeafState.{LeafState}
 use Rattle.flat_model.specs.Flat.{has_reserved}
 use Rattle.tree_model.specs.declared.LeafSpot.{LeafSpot}
 use Rattle.tree_model.specs.State.Lists.{find_from, first_some, names_item, chosen}

@@ -3,9 +3,9 @@
 -- Letters: c is a spot, w a place with or without a bus above, d a directory.
 -- To be believed: it is what the machine is.
 use Rattle.std.specs.Prelude.{ℕ, List, [], ◌∷◌, ◌++◌}
-use Rattle.ddm_types.specs.declared.keys.Stamp.{Stamp}
-use Rattle.ddm_types.specs.declared.keys.Key.{Key}
-use Rattle.ddm_types.specs.Keys.{stamp_zero, key_on}
+use Rattle.tree_model.specs.DdmTypes.declared.keys.Stamp.{Stamp}
+use Rattle.tree_model.specs.DdmTypes.declared.keys.Key.{Key}
+use Rattle.tree_model.specs.DdmTypes.Keys.{stamp_zero, key_on}
 use Rattle.tree_model.specs.State.Values.{DirValue}
 use Rattle.tree_model.specs.State.Directory.{stamp_of}
 

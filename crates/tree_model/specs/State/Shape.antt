@@ -3,9 +3,9 @@
 -- To be believed with the laws: it is what they speak of.
 use Rattle.std.specs.Prelude.{ℕ, ◌+◌, ◌%◌, Bool, true, not, ◌&&◌, nat_eq, nat_lt, nat_le, List, [], ◌∷◌, length, IsTrue}
 use Rattle.std.specs.List.{list_any, list_all}
-use Rattle.ddm_types.specs.declared.sizes.TreeCounts.{TreeCounts}
-use Rattle.ddm_types.specs.ItemTable.{ItemTable, ItemRow}
-use Rattle.ddm_types.specs.CodeMap.{CodeWord}
+use Rattle.tree_model.specs.DdmTypes.declared.sizes.TreeCounts.{TreeCounts}
+use Rattle.tree_model.specs.DdmTypes.ItemTable.{ItemTable, ItemRow}
+use Rattle.tree_model.specs.DdmTypes.CodeMap.{CodeWord}
 use Rattle.tree_model.specs.State.Values.{LeafSizes, DirSizes, Node, Nodes, leaf_node, dir_node, no_nodes, more_nodes, MachineValue, root_of}
 
 -- ---- the skeleton of a tree

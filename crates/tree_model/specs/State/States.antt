@@ -2,9 +2,9 @@
 -- something. Source: the state tables of the DDM protocol. W is Waiting, R is Reading, B is ReadingWaiting.
 -- To be believed: it is what the machine is.
 use Rattle.std.specs.Prelude.{Bool, true, false, Option, Some, None}
-use Rattle.ddm_types.specs.declared.answers.TxKind.{TxKind}
-use Rattle.ddm_types.specs.declared.sizes.Hold.{Hold}
-use Rattle.ddm_types.specs.declared.sizes.LeafState.{LeafState}
+use Rattle.tree_model.specs.DdmTypes.declared.answers.TxKind.{TxKind}
+use Rattle.tree_model.specs.DdmTypes.declared.sizes.Hold.{Hold}
+use Rattle.tree_model.specs.DdmTypes.declared.sizes.LeafState.{LeafState}
 
 -- what a leaf holds of an item, by its entry
 abbrev pub entry_hold : Option LeafState → Hold

@@ -3,14 +3,14 @@
 -- way in directories).
 -- To be believed: it is what the machine is.
 use Rattle.std.specs.Prelude.{ℕ, Bool, false, List, [], ◌∷◌, Option}
-use Rattle.ddm_types.specs.declared.keys.Stamp.{Stamp}
-use Rattle.ddm_types.specs.declared.answers.TxKind.{TxKind}
-use Rattle.ddm_types.specs.declared.sizes.Hold.{Hold}
-use Rattle.ddm_types.specs.declared.sizes.Hold.TheVariants.{Invalid}
-use Rattle.ddm_types.specs.declared.sizes.LeafState.{LeafState}
-use Rattle.ddm_types.specs.declared.operations.Op.{Op}
-use Rattle.ddm_types.specs.ItemTable.{ItemTable}
-use Rattle.ddm_types.specs.CodeMap.{CodeWord}
+use Rattle.tree_model.specs.DdmTypes.declared.keys.Stamp.{Stamp}
+use Rattle.tree_model.specs.DdmTypes.declared.answers.TxKind.{TxKind}
+use Rattle.tree_model.specs.DdmTypes.declared.sizes.Hold.{Hold}
+use Rattle.tree_model.specs.DdmTypes.declared.sizes.Hold.TheVariants.{Invalid}
+use Rattle.tree_model.specs.DdmTypes.declared.sizes.LeafState.{LeafState}
+use Rattle.tree_model.specs.DdmTypes.declared.operations.Op.{Op}
+use Rattle.tree_model.specs.DdmTypes.ItemTable.{ItemTable}
+use Rattle.tree_model.specs.DdmTypes.CodeMap.{CodeWord}
 use Rattle.flat_model.specs.Hart.{HartValue}
 use Rattle.tree_model.specs.declared.Traffic.{Traffic}
 

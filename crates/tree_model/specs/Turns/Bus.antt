@@ -6,9 +6,9 @@
 -- Letters: p is the parent, ns are its children, c is a child number, x an item, r a request or a reply, t a turn.
 -- To be believed: it is what the machine is.
 use Rattle.std.specs.Prelude.{ℕ, List, Option, Some, None}
-use Rattle.ddm_types.specs.declared.answers.TxKind.{TxKind}
-use Rattle.ddm_types.specs.declared.answers.TxKind.TheVariants.{ReadTx, DataTx, EraseTx, ExclusiveTx, InjectTx, OutTx}
-use Rattle.ddm_types.specs.declared.keys.Stamp.{Stamp}
+use Rattle.tree_model.specs.DdmTypes.declared.answers.TxKind.{TxKind}
+use Rattle.tree_model.specs.DdmTypes.declared.answers.TxKind.TheVariants.{ReadTx, DataTx, EraseTx, ExclusiveTx, InjectTx, OutTx}
+use Rattle.tree_model.specs.DdmTypes.declared.keys.Stamp.{Stamp}
 use Rattle.tree_model.specs.declared.BusTurn.{BusTurn}
 use Rattle.tree_model.specs.State.Values.{RequestValue, CopyValue, DirValue, Node}
 use Rattle.tree_model.specs.State.Directory.{dir_note, pending}

@@ -3,9 +3,9 @@
 -- Letters: n is child i, c, d and k are child numbers, x is an item, s a stamp.
 -- To be believed: it is what the machine is.
 use Rattle.std.specs.Prelude.{ℕ, Bool, not, ◌&&◌, nat_eq, nat_lt, List, Option, None, slice_index_or, if◌then◌else◌}
-use Rattle.ddm_types.specs.declared.answers.TxKind.TheVariants.{DataTx, EraseTx}
-use Rattle.ddm_types.specs.declared.answers.QueueName.{QueueName}
-use Rattle.ddm_types.specs.declared.keys.Stamp.{Stamp}
+use Rattle.tree_model.specs.DdmTypes.declared.answers.TxKind.TheVariants.{DataTx, EraseTx}
+use Rattle.tree_model.specs.DdmTypes.declared.answers.QueueName.{QueueName}
+use Rattle.tree_model.specs.DdmTypes.declared.keys.Stamp.{Stamp}
 use Rattle.tree_model.specs.State.Values.{Note, Node}
 use Rattle.tree_model.specs.State.Directory.{is_reader}
 use Rattle.tree_model.specs.State.Child.{child_holds, child_waits, child_room, child_full_for, child_lose, child_take_data, child_answer, child_take_inject, child_request_taken, child_reply_taken, child_give_up}

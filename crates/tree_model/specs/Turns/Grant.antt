@@ -2,14 +2,14 @@
 -- Letters: p is the parent, ns are its children, g is a grant, j what was judged.
 -- To be believed: it is what the machine is.
 use Rattle.std.specs.Prelude.{ℕ, List, Option, Some, None, nat_eq, if◌then◌else◌}
-use Rattle.ddm_types.specs.declared.answers.TxKind.{TxKind}
-use Rattle.ddm_types.specs.declared.answers.PendingWhy.{PendingWhy}
-use Rattle.ddm_types.specs.declared.answers.QueueName.{QueueName}
-use Rattle.ddm_types.specs.declared.answers.BusyCause.{BusyCause}
-use Rattle.ddm_types.specs.declared.answers.BusyCause.TheVariants.{ItemPending, QueueFull}
-use Rattle.ddm_types.specs.declared.answers.Place.{Place}
-use Rattle.ddm_types.specs.declared.answers.TurnAnswer.{TurnAnswer}
-use Rattle.ddm_types.specs.declared.answers.TurnAnswer.TheVariants.{Granted, Empty, Busy}
+use Rattle.tree_model.specs.DdmTypes.declared.answers.TxKind.{TxKind}
+use Rattle.tree_model.specs.DdmTypes.declared.answers.PendingWhy.{PendingWhy}
+use Rattle.tree_model.specs.DdmTypes.declared.answers.QueueName.{QueueName}
+use Rattle.tree_model.specs.DdmTypes.declared.answers.BusyCause.{BusyCause}
+use Rattle.tree_model.specs.DdmTypes.declared.answers.BusyCause.TheVariants.{ItemPending, QueueFull}
+use Rattle.tree_model.specs.DdmTypes.declared.answers.Place.{Place}
+use Rattle.tree_model.specs.DdmTypes.declared.answers.TurnAnswer.{TurnAnswer}
+use Rattle.tree_model.specs.DdmTypes.declared.answers.TurnAnswer.TheVariants.{Granted, Empty, Busy}
 use Rattle.tree_model.specs.State.Lists.{some_if}
 use Rattle.tree_model.specs.State.Values.{DirValue, Node}
 use Rattle.tree_model.specs.State.Directory.{down_full, requests_full, replies_full}

@@ -3,15 +3,15 @@
 -- Letters: v is a leaf, e an entry, x and y items, c a change.
 -- To be believed: it is what the machine is.
 use Rattle.std.specs.Prelude.{ℕ, ◌+◌, ◌%◌, Bool, true, false, List, [], ◌∷◌, ◌++◌, Option, Some, None, Result, Ok, Err, slice_set, if◌then◌else◌}
-use Rattle.ddm_types.specs.declared.answers.TxKind.TheVariants.{ReadTx, EraseTx}
-use Rattle.ddm_types.specs.declared.answers.BusyCause.TheVariants.{BufferFull}
-use Rattle.ddm_types.specs.declared.answers.TurnAnswer.{TurnAnswer}
-use Rattle.ddm_types.specs.declared.answers.TurnAnswer.TheVariants.{Retired, Issued, Waiting, Halted, Busy}
-use Rattle.ddm_types.specs.declared.operations.HaltCause.{HaltCause}
-use Rattle.ddm_types.specs.declared.sizes.LeafState.{LeafState}
-use Rattle.ddm_types.specs.declared.keys.Key.{Key}
-use Rattle.ddm_types.specs.ItemTable.{ItemTable}
-use Rattle.ddm_types.specs.CodeMap.{CodeWord}
+use Rattle.tree_model.specs.DdmTypes.declared.answers.TxKind.TheVariants.{ReadTx, EraseTx}
+use Rattle.tree_model.specs.DdmTypes.declared.answers.BusyCause.TheVariants.{BufferFull}
+use Rattle.tree_model.specs.DdmTypes.declared.answers.TurnAnswer.{TurnAnswer}
+use Rattle.tree_model.specs.DdmTypes.declared.answers.TurnAnswer.TheVariants.{Retired, Issued, Waiting, Halted, Busy}
+use Rattle.tree_model.specs.DdmTypes.declared.operations.HaltCause.{HaltCause}
+use Rattle.tree_model.specs.DdmTypes.declared.sizes.LeafState.{LeafState}
+use Rattle.tree_model.specs.DdmTypes.declared.keys.Key.{Key}
+use Rattle.tree_model.specs.DdmTypes.ItemTable.{ItemTable}
+use Rattle.tree_model.specs.DdmTypes.CodeMap.{CodeWord}
 use Rattle.flat_model.specs.declared.Ask.{Ask}
 use Rattle.flat_model.specs.Hart.{ask_of, finish_of}
 use Rattle.flat_model.specs.Flat.{Stored, Change, change_by, has_reserved}

@@ -3,12 +3,12 @@
 -- Letters: p is the parent, ns are its children, c and k child numbers, x is the item.
 -- To be believed: it is what the machine is.
 use Rattle.std.specs.Prelude.{ℕ, Bool, true, false, ◌||◌, List, Option, Some, None, is_some, if◌then◌else◌}
-use Rattle.ddm_types.specs.declared.answers.TxKind.{TxKind}
-use Rattle.ddm_types.specs.declared.answers.TxKind.TheVariants.{InjectTx, OutTx}
-use Rattle.ddm_types.specs.declared.answers.PendingWhy.{PendingWhy}
-use Rattle.ddm_types.specs.declared.answers.BusyCause.TheVariants.{ParkingFull, NoRoom}
-use Rattle.ddm_types.specs.declared.answers.Place.{Place}
-use Rattle.ddm_types.specs.declared.sizes.Hold.{Hold}
+use Rattle.tree_model.specs.DdmTypes.declared.answers.TxKind.{TxKind}
+use Rattle.tree_model.specs.DdmTypes.declared.answers.TxKind.TheVariants.{InjectTx, OutTx}
+use Rattle.tree_model.specs.DdmTypes.declared.answers.PendingWhy.{PendingWhy}
+use Rattle.tree_model.specs.DdmTypes.declared.answers.BusyCause.TheVariants.{ParkingFull, NoRoom}
+use Rattle.tree_model.specs.DdmTypes.declared.answers.Place.{Place}
+use Rattle.tree_model.specs.DdmTypes.declared.sizes.Hold.{Hold}
 use Rattle.tree_model.specs.State.Lists.{map_from, find_from, first_some}
 use Rattle.tree_model.specs.State.States.{is_shared}
 use Rattle.tree_model.specs.State.Values.{DirValue, Node}

@@ -2,15 +2,15 @@
 -- Letters: m is a machine, t a turn, n a node and w where it stands, v a leaf, d a directory over the children ns.
 -- To be believed: it is what the machine is.
 use Rattle.std.specs.Prelude.{ℕ, ◌+◌, Bool, false, nat_lt, List, [], ◌∷◌, ◌++◌, length, Option, Some, None, is_some, slice_get, slice_set, slice_index_or}
-use Rattle.ddm_types.specs.declared.answers.TxKind.{TxKind}
-use Rattle.ddm_types.specs.declared.answers.LogEntry.{LogEntry}
-use Rattle.ddm_types.specs.declared.answers.TurnAnswer.{TurnAnswer}
-use Rattle.ddm_types.specs.declared.turns.Turn.{Turn}
-use Rattle.ddm_types.specs.declared.keys.Key.{Key}
-use Rattle.ddm_types.specs.Keys.{key_zero}
-use Rattle.ddm_types.specs.ItemTable.{ItemTable}
-use Rattle.ddm_types.specs.CodeMap.{CodeWord}
-use Rattle.ddm_types.specs.declared.sizes.Hold.{Hold}
+use Rattle.tree_model.specs.DdmTypes.declared.answers.TxKind.{TxKind}
+use Rattle.tree_model.specs.DdmTypes.declared.answers.LogEntry.{LogEntry}
+use Rattle.tree_model.specs.DdmTypes.declared.answers.TurnAnswer.{TurnAnswer}
+use Rattle.tree_model.specs.DdmTypes.declared.turns.Turn.{Turn}
+use Rattle.tree_model.specs.DdmTypes.declared.keys.Key.{Key}
+use Rattle.tree_model.specs.DdmTypes.Keys.{key_zero}
+use Rattle.tree_model.specs.DdmTypes.ItemTable.{ItemTable}
+use Rattle.tree_model.specs.DdmTypes.CodeMap.{CodeWord}
+use Rattle.tree_model.specs.DdmTypes.declared.sizes.Hold.{Hold}
 use Rattle.flat_model.specs.Hart.{HartValue}
 use Rattle.tree_model.specs.declared.BusTurn.{BusTurn}
 use Rattle.tree_model.specs.declared.LeafSpot.{LeafSpot}

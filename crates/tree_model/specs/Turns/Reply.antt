@@ -2,9 +2,9 @@
 -- Letters: p is the parent, ns are its children, c is a child number, x the item.
 -- To be believed: it is what the machine is.
 use Rattle.std.specs.Prelude.{ℕ, Bool, true, false, List}
-use Rattle.ddm_types.specs.declared.answers.TxKind.TheVariants.{DataTx}
-use Rattle.ddm_types.specs.declared.answers.Place.{Place}
-use Rattle.ddm_types.specs.declared.sizes.Hold.{Hold}
+use Rattle.tree_model.specs.DdmTypes.declared.answers.TxKind.TheVariants.{DataTx}
+use Rattle.tree_model.specs.DdmTypes.declared.answers.Place.{Place}
+use Rattle.tree_model.specs.DdmTypes.declared.sizes.Hold.{Hold}
 use Rattle.tree_model.specs.State.Lists.{map_from, first_given}
 use Rattle.tree_model.specs.State.Values.{Note, no_note, local, up_read, up_erase, DirValue, Node}
 use Rattle.tree_model.specs.State.Directory.{is_answering, with_hold, with_note, with_answering, pushed_reply, stamp_of, counted}

@@ -2,11 +2,11 @@
 -- Letters: p is the parent, ns are its children, c is a child number, x the item.
 -- To be believed: it is what the machine is.
 use Rattle.std.specs.Prelude.{ℕ, Bool, true, false, List, Option, Some, None}
-use Rattle.ddm_types.specs.declared.answers.TxKind.TheVariants.{EraseTx, ExclusiveTx}
-use Rattle.ddm_types.specs.declared.answers.PendingWhy.{PendingWhy}
-use Rattle.ddm_types.specs.declared.answers.QueueName.{QueueName}
-use Rattle.ddm_types.specs.declared.answers.Place.{Place}
-use Rattle.ddm_types.specs.declared.keys.Stamp.{Stamp}
+use Rattle.tree_model.specs.DdmTypes.declared.answers.TxKind.TheVariants.{EraseTx, ExclusiveTx}
+use Rattle.tree_model.specs.DdmTypes.declared.answers.PendingWhy.{PendingWhy}
+use Rattle.tree_model.specs.DdmTypes.declared.answers.QueueName.{QueueName}
+use Rattle.tree_model.specs.DdmTypes.declared.answers.Place.{Place}
+use Rattle.tree_model.specs.DdmTypes.declared.keys.Stamp.{Stamp}
 use Rattle.tree_model.specs.State.Lists.{map_from, first_given, first_some}
 use Rattle.tree_model.specs.State.States.{is_exclusive}
 use Rattle.tree_model.specs.State.Values.{up_erase, DirValue, Node}

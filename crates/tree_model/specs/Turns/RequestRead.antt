@@ -2,10 +2,10 @@
 -- Letters: p is the parent, ns are its children, c and k child numbers, x is the item.
 -- To be believed: it is what the machine is.
 use Rattle.std.specs.Prelude.{ℕ, Bool, true, false, List, Option, Some, None}
-use Rattle.ddm_types.specs.declared.answers.TxKind.TheVariants.{ReadTx, DataTx}
-use Rattle.ddm_types.specs.declared.answers.PendingWhy.{PendingWhy}
-use Rattle.ddm_types.specs.declared.answers.Place.{Place}
-use Rattle.ddm_types.specs.declared.keys.Stamp.{Stamp}
+use Rattle.tree_model.specs.DdmTypes.declared.answers.TxKind.TheVariants.{ReadTx, DataTx}
+use Rattle.tree_model.specs.DdmTypes.declared.answers.PendingWhy.{PendingWhy}
+use Rattle.tree_model.specs.DdmTypes.declared.answers.Place.{Place}
+use Rattle.tree_model.specs.DdmTypes.declared.keys.Stamp.{Stamp}
 use Rattle.tree_model.specs.State.Lists.{map_from, find_from}
 use Rattle.tree_model.specs.State.States.{is_held}
 use Rattle.tree_model.specs.State.Values.{Note, no_note, local, up_read, up_erase, DirValue, Node}

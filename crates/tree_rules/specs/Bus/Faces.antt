@@ -1,10 +1,10 @@
 -- Of one item: what a bus sees of a child, and what its parent keeps. The rules of a bus look at nothing else.
 -- To be believed where a rule is relied on; the order of the witness needs no reader here.
 use Rattle.std.specs.Prelude.{ℕ, Bool, false, not, ◌&&◌, List, map, length, Option, Some, None}
-use Rattle.ddm_types.specs.declared.answers.TxKind.{TxKind}
-use Rattle.ddm_types.specs.declared.answers.TxKind.TheVariants.{ReadTx, EraseTx, ExclusiveTx}
-use Rattle.ddm_types.specs.declared.sizes.Hold.{Hold}
-use Rattle.ddm_types.specs.declared.sizes.LeafState.{LeafState}
+use Rattle.tree_rules.specs.DdmTypes.declared.answers.TxKind.{TxKind}
+use Rattle.tree_rules.specs.DdmTypes.declared.answers.TxKind.TheVariants.{ReadTx, EraseTx, ExclusiveTx}
+use Rattle.tree_rules.specs.DdmTypes.declared.sizes.Hold.{Hold}
+use Rattle.tree_rules.specs.DdmTypes.declared.sizes.LeafState.{LeafState}
 use Rattle.tree_model.specs.State.Lists.{has_some}
 use Rattle.tree_model.specs.State.Kinds.{has_kind}
 use Rattle.tree_model.specs.State.States.{is_reading, is_upgrading, is_shared}

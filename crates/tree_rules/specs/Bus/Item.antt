@@ -7,8 +7,8 @@
 use Rattle.std.specs.Prelude.{ℕ, zero, suc, Bool, true, false, not, ◌&&◌, ◌||◌, nat_eq, List, [], ◌∷◌, filter, IsTrue, if◌then◌else◌}
 use Rattle.std.specs.List.{list_any, list_all}
 use Rattle.std.specs.Bool.{beq}
-use Rattle.ddm_types.specs.declared.answers.TxKind.{TxKind}
-use Rattle.ddm_types.specs.declared.answers.TxKind.TheVariants.{ReadTx, DataTx, EraseTx, ExclusiveTx, InjectTx, OutTx}
+use Rattle.tree_rules.specs.DdmTypes.declared.answers.TxKind.{TxKind}
+use Rattle.tree_rules.specs.DdmTypes.declared.answers.TxKind.TheVariants.{ReadTx, DataTx, EraseTx, ExclusiveTx, InjectTx, OutTx}
 use Rattle.tree_model.specs.State.Lists.{all_from, has_some}
 use Rattle.tree_model.specs.State.Kinds.{is_kind, has_kind, brings_copy, goes_up}
 use Rattle.tree_model.specs.State.States.{is_held, is_exclusive, is_shared}

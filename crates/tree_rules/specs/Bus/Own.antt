@@ -2,11 +2,11 @@
 -- To be believed where a rule is relied on; the order of the witness needs no reader here.
 use Rattle.std.specs.Prelude.{ℕ, ◌^◌, Bool, true, false, not, ◌&&◌, nat_eq, nat_lt, List, [], ◌∷◌, map, Option, Some, None, is_none, IsTrue}
 use Rattle.std.specs.List.{list_all, range_with_len}
-use Rattle.ddm_types.specs.declared.answers.TxKind.{TxKind}
-use Rattle.ddm_types.specs.declared.answers.TxKind.TheVariants.{ReadTx, EraseTx}
-use Rattle.ddm_types.specs.declared.sizes.LeafState.{LeafState}
-use Rattle.ddm_types.specs.Keys.{stamp_numbers}
-use Rattle.flat_model.specs.Flat.{has_reserved}
+use Rattle.tree_rules.specs.DdmTypes.declared.answers.TxKind.{TxKind}
+use Rattle.tree_rules.specs.DdmTypes.declared.answers.TxKind.TheVariants.{ReadTx, EraseTx}
+use Rattle.tree_rules.specs.DdmTypes.declared.sizes.LeafState.{LeafState}
+use Rattle.tree_rules.specs.DdmTypes.Keys.{stamp_numbers}
+use Rattle.tree_rules.specs.FlatModel.Flat.{has_reserved}
 use Rattle.tree_model.specs.State.Lists.{all_from, has_some}
 use Rattle.tree_model.specs.State.Kinds.{brings_copy}
 use Rattle.tree_model.specs.State.States.{is_waiting, is_reading, is_upgrading, is_exclusive}

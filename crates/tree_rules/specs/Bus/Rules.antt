@@ -2,8 +2,8 @@
 -- To be believed where a rule is relied on; the order of the witness needs no reader here.
 use Rattle.std.specs.Prelude.{◌≡◌, ℕ, ◌+◌, ◌<◌, Bool, true, ◌&&◌, nat_eq, List, [], ◌∷◌, length, IsTrue, ⊤}
 use Rattle.std.specs.List.{list_all, range_with_len}
-use Rattle.ddm_types.specs.declared.turns.Turn.{Turn}
-use Rattle.ddm_types.specs.ItemTable.{item_count}
+use Rattle.tree_rules.specs.DdmTypes.declared.turns.Turn.{Turn}
+use Rattle.tree_rules.specs.DdmTypes.ItemTable.{item_count}
 use Rattle.tree_model.specs.State.Values.{DirValue, Node, Nodes, leaf_node, dir_node, no_nodes, more_nodes, children, MachineValue, root_of}
 use Rattle.tree_model.specs.Turns.Machine.{turn_of}
 use Rattle.tree_rules.specs.Bus.Faces.{parent_face, faces_of}

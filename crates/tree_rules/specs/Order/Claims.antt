@@ -1,7 +1,7 @@
 -- The claims on an item: since when a leaf or directory has it Exclusive.
 -- To be believed where a rule is relied on; the order of the witness needs no reader here.
 use Rattle.std.specs.Prelude.{ℕ, ◌+◌, Bool, ◌||◌, List, [], ◌∷◌, ◌++◌, Option, Some, None, unwrap_or, if◌then◌else◌}
-use Rattle.ddm_types.specs.declared.answers.TxKind.TheVariants.{ExclusiveTx, InjectTx}
+use Rattle.tree_rules.specs.DdmTypes.declared.answers.TxKind.TheVariants.{ExclusiveTx, InjectTx}
 use Rattle.tree_model.specs.State.Lists.{first_some, some_if}
 use Rattle.tree_model.specs.State.Kinds.{is_kind}
 use Rattle.tree_model.specs.State.States.{is_exclusive}

@@ -2,7 +2,7 @@
 -- a down list; and the erases of it that stand in down lists.
 -- To be believed where a rule is relied on; the order of the witness needs no reader here.
 use Rattle.std.specs.Prelude.{ℕ, ◌+◌, List, [], ◌∷◌, ◌++◌, map, Option, Some, None, if◌then◌else◌}
-use Rattle.ddm_types.specs.declared.answers.TxKind.TheVariants.{EraseTx}
+use Rattle.tree_rules.specs.DdmTypes.declared.answers.TxKind.TheVariants.{EraseTx}
 use Rattle.tree_model.specs.State.Lists.{first_some}
 use Rattle.tree_model.specs.State.Kinds.{is_kind, brings_copy}
 use Rattle.tree_model.specs.State.States.{entry_hold, is_held}

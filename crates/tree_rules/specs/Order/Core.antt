@@ -2,15 +2,15 @@
 -- and the flat machine after the operations (rules 3, 7, 8 and 10 to 13).
 -- To be believed where a rule is relied on; the order of the witness needs no reader here.
 use Rattle.std.specs.Prelude.{ℕ, ◌-◌, Bool, true, false, ◌&&◌, nat_eq, nat_lt, nat_le, List, length, filter, Option, Some, None, is_none, Ok, Err}
-use Rattle.ddm_types.specs.declared.operations.HaltCause.{HaltCause}
-use Rattle.ddm_types.specs.declared.operations.HaltCause.TheVariants.{Exit, Illegal, Breakpoint, UnknownCall, MisalignedTarget, FetchOutside, MisalignedAccess, LoadOutside, StoreOutside}
-use Rattle.ddm_types.specs.declared.operations.Op.{Op}
-use Rattle.ddm_types.specs.Keys.{key_less}
-use Rattle.ddm_types.specs.ItemTable.{ItemTable}
-use Rattle.ddm_types.specs.CodeMap.{CodeWord}
-use Rattle.flat_model.specs.Hart.{HartValue}
-use Rattle.flat_model.specs.Flat.{FlatMachine, FlatStepped, flat_hart, flat_step, has_reserved}
-use Rattle.flat_model.specs.Legal.{on_item, changes_item, is_of, reservation}
+use Rattle.tree_rules.specs.DdmTypes.declared.operations.HaltCause.{HaltCause}
+use Rattle.tree_rules.specs.DdmTypes.declared.operations.HaltCause.TheVariants.{Exit, Illegal, Breakpoint, UnknownCall, MisalignedTarget, FetchOutside, MisalignedAccess, LoadOutside, StoreOutside}
+use Rattle.tree_rules.specs.DdmTypes.declared.operations.Op.{Op}
+use Rattle.tree_rules.specs.DdmTypes.Keys.{key_less}
+use Rattle.tree_rules.specs.DdmTypes.ItemTable.{ItemTable}
+use Rattle.tree_rules.specs.DdmTypes.CodeMap.{CodeWord}
+use Rattle.tree_rules.specs.FlatModel.Hart.{HartValue}
+use Rattle.tree_rules.specs.FlatModel.Flat.{FlatMachine, FlatStepped, flat_hart, flat_step, has_reserved}
+use Rattle.tree_rules.specs.FlatModel.Legal.{on_item, changes_item, is_of, reservation}
 use Rattle.tree_model.specs.State.States.{is_held}
 use Rattle.tree_model.specs.State.Values.{DownValue}
 use Rattle.tree_model.specs.State.Leaf.{leaf_hold}

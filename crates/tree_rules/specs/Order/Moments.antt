@@ -4,8 +4,8 @@
 -- To be believed where a rule is relied on; the order of the witness needs no reader here.
 use Rattle.std.specs.Prelude.{◌≡◌, ℕ, ◌+◌, ◌*◌, ◌≤◌, Bool, true, false, ◌&&◌, nat_eq, List, [], ◌∷◌, length, take}
 use Rattle.std.specs.List.{common_prefix_len}
-use Rattle.ddm_types.specs.declared.keys.Stamp.{Stamp}
-use Rattle.ddm_types.specs.Keys.{stamp_numbers, numbers_less}
+use Rattle.tree_rules.specs.DdmTypes.declared.keys.Stamp.{Stamp}
+use Rattle.tree_rules.specs.DdmTypes.Keys.{stamp_numbers, numbers_less}
 use Rattle.tree_model.specs.State.Place.{Spot}
 
 -- less, compared from the left

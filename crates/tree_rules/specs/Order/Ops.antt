@@ -1,11 +1,11 @@
 -- Lists of completed instructions: their keys, and what they leave of the flat machine from a start.
 -- To be believed: it is what is claimed of every run.
 use Rattle.std.specs.Prelude.{ℕ, Bool, List, length, filter}
-use Rattle.ddm_types.specs.declared.operations.Op.{Op}
-use Rattle.ddm_types.specs.Keys.{key_numbers}
-use Rattle.ddm_types.specs.ItemTable.{ItemTable}
-use Rattle.flat_model.specs.Flat.{FlatMachine, item_words}
-use Rattle.flat_model.specs.Legal.{is_of, words_after, flat_after}
+use Rattle.tree_rules.specs.DdmTypes.declared.operations.Op.{Op}
+use Rattle.tree_rules.specs.DdmTypes.Keys.{key_numbers}
+use Rattle.tree_rules.specs.DdmTypes.ItemTable.{ItemTable}
+use Rattle.tree_rules.specs.FlatModel.Flat.{FlatMachine, item_words}
+use Rattle.tree_rules.specs.FlatModel.Legal.{is_of, words_after, flat_after}
 use Rattle.tree_model.specs.State.Values.{MachineValue}
 use Rattle.tree_model.specs.Turns.Witness.{sorted_ops}
 use Rattle.tree_rules.specs.Order.Moments.{key_path}

@@ -4,9 +4,9 @@
 -- To be believed where a rule is relied on; the order of the witness needs no reader here.
 use Rattle.std.specs.Prelude.{ℕ, ◌<◌, Bool, ◌&&◌, List, [], ◌∷◌, is_some}
 use Rattle.std.specs.List.{list_all, range_with_len}
-use Rattle.ddm_types.specs.declared.turns.Turn.{Turn}
-use Rattle.flat_model.specs.Flat.{FlatMachine}
-use Rattle.flat_model.specs.Legal.{legal_run}
+use Rattle.tree_rules.specs.DdmTypes.declared.turns.Turn.{Turn}
+use Rattle.tree_rules.specs.FlatModel.Flat.{FlatMachine}
+use Rattle.tree_rules.specs.FlatModel.Legal.{legal_run}
 use Rattle.tree_model.specs.State.Values.{MachineValue}
 use Rattle.tree_model.specs.State.Shape.{depth_of}
 use Rattle.tree_model.specs.Turns.Machine.{turn_of}

@@ -2,12 +2,12 @@
 -- To be believed where a rule is relied on; the order of the witness needs no reader here.
 use Rattle.std.specs.Prelude.{ℕ, ◌*◌, Bool, true, false, nat_eq, List, ◌∷◌, [], drop, length}
 use Rattle.std.specs.List.{list_any}
-use Rattle.ddm_types.specs.declared.answers.TxKind.{TxKind}
-use Rattle.ddm_types.specs.declared.answers.TxKind.TheVariants.{ReadTx, DataTx, EraseTx, ExclusiveTx, InjectTx, OutTx}
-use Rattle.ddm_types.specs.declared.keys.Stamp.{Stamp}
-use Rattle.ddm_types.specs.declared.keys.Key.{Key}
-use Rattle.ddm_types.specs.declared.operations.Op.{Op}
-use Rattle.ddm_types.specs.Keys.{stamp_numbers, key_less}
+use Rattle.tree_rules.specs.DdmTypes.declared.answers.TxKind.{TxKind}
+use Rattle.tree_rules.specs.DdmTypes.declared.answers.TxKind.TheVariants.{ReadTx, DataTx, EraseTx, ExclusiveTx, InjectTx, OutTx}
+use Rattle.tree_rules.specs.DdmTypes.declared.keys.Stamp.{Stamp}
+use Rattle.tree_rules.specs.DdmTypes.declared.keys.Key.{Key}
+use Rattle.tree_rules.specs.DdmTypes.declared.operations.Op.{Op}
+use Rattle.tree_rules.specs.DdmTypes.Keys.{stamp_numbers, key_less}
 use Rattle.tree_model.specs.State.Values.{DownValue}
 use Rattle.tree_rules.specs.Bus.Own.{are_zero}
 use Rattle.tree_rules.specs.Statements.{Statement, is_so, is_not, both, either, where_so}

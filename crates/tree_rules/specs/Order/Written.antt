@@ -1,9 +1,9 @@
 -- Rules 4, 5, 6 and 9 of order, which follow from the others: what a leaf or directory that has a copy knows of the rest.
 -- To be believed where a rule is relied on; the order of the witness needs no reader here.
 use Rattle.std.specs.Prelude.{ℕ, Bool, not, ◌&&◌, nat_lt, List, length, unwrap_or, if◌then◌else◌}
-use Rattle.ddm_types.specs.declared.operations.Op.{Op}
-use Rattle.ddm_types.specs.ItemTable.{ItemTable}
-use Rattle.flat_model.specs.Legal.{on_item, changes_item}
+use Rattle.tree_rules.specs.DdmTypes.declared.operations.Op.{Op}
+use Rattle.tree_rules.specs.DdmTypes.ItemTable.{ItemTable}
+use Rattle.tree_rules.specs.FlatModel.Legal.{on_item, changes_item}
 use Rattle.tree_model.specs.State.States.{is_held, is_exclusive}
 use Rattle.tree_model.specs.State.Leaf.{leaf_hold}
 use Rattle.tree_model.specs.State.Directory.{dir_hold, queue_of}

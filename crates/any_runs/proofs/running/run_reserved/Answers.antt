@@ -1,5 +1,5 @@
 use Rattle.std.proofs.Common.{ap, ◌∙◌}
-use Rattle.tree_model.specs.Turns.Machine.{run_of}
+use Rattle.any_runs.specs.TreeModel.Turns.Machine.{run_of}
 use Rattle.any_runs.proofs.RunMore.{made-order}
 use Rattle.any_runs.proofs.running.run_reserved.Goals as goal
 

@@ -1,7 +1,7 @@
 use Rattle.std.proofs.Common.{◌≡◌, ◌+◌, ◌<◌, ◌++◌, ◌∷◌, [], true, length, take, vec_len, sym, ap, subst, ◌∙◌, arith, if◌then◌else◌}
-use Rattle.tree_model.specs.Turns.Machine.{names_part, turn_of}
+use Rattle.any_runs.specs.TreeModel.Turns.Machine.{names_part, turn_of}
 use Rattle.text_model.specs.Run.{counted_answer}
-use Rattle.ddm_tree.specs.Machine.{MachineState, state_after}
+use Rattle.any_runs.specs.DdmTree.Machine.{MachineState, state_after}
 use Rattle.std.proofs.lemmas.List.{take_all, length-append, length-take-le}
 use Rattle.any_runs.specs.Run.{AreBelow, answers_in, counts_in, ran}
 use Rattle.any_runs.proofs.RunMore.{answers-length, below-none, counted-below, counts-more, counts-none, kept-alike, kept-more, kept-none, kept_answers, named-here, ran-more, ran-none, spare-falls, take-next, turns-here}

@@ -1,6 +1,6 @@
 use Rattle.std.proofs.Common.{◌≡◌, ◌+◌, ◌<◌, ◌++◌, ◌∷◌, [], true, take, sym, ap, subst, ◌∙◌, arith}
-use Rattle.tree_model.specs.Turns.Machine.{names_part, turn_of}
-use Rattle.ddm_tree.specs.Machine.{MachineState, state_after}
+use Rattle.any_runs.specs.TreeModel.Turns.Machine.{names_part, turn_of}
+use Rattle.any_runs.specs.DdmTree.Machine.{MachineState, state_after}
 use Rattle.std.proofs.lemmas.List.{take_all}
 use Rattle.any_runs.specs.Run.{ran}
 use Rattle.any_runs.proofs.RunMore.{named-here, ran-more, ran-none, spare-falls, take-next, turns-here}

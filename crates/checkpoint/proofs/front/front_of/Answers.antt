@@ -1,8 +1,8 @@
 use Rattle.std.proofs.Common.{[], ◌∷◌, ◌++◌, ap, ◌∙◌}
-use Rattle.ddm_text.specs.Adds.{◌▸◌, alone}
-use Rattle.any_machine.specs.Any.{machine_state}
-use Rattle.state_words.specs.Machine.{head_words, sizes_of}
-use Rattle.ddm_tree.specs.Written.{tree_words}
+use Rattle.checkpoint.specs.DdmText.Adds.{◌▸◌, alone}
+use Rattle.checkpoint.specs.AnyMachine.Any.{machine_state}
+use Rattle.checkpoint.specs.StateWords.Machine.{head_words, sizes_of}
+use Rattle.checkpoint.specs.DdmTree.Written.{tree_words}
 use Rattle.checkpoint.proofs.front.front_of.Goals as goal
 
 pub returns : goal.returns

@@ -1,5 +1,5 @@
-use Rattle.ddm_text.specs.Adds.{◌▸◌}
-use Rattle.state_words.specs.Machine.{head_words}
+use Rattle.checkpoint.specs.DdmText.Adds.{◌▸◌}
+use Rattle.checkpoint.specs.StateWords.Machine.{head_words}
 use Rattle.checkpoint.proofs.front.push_head.Goals as goal
 
 pub returns : goal.returns

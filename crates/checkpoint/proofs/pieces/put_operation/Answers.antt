@@ -1,7 +1,7 @@
 use Rattle.std.proofs.Common.{ap, ◌∙◌, ◌++◌}
 use Rattle.checkpoint.proofs.WordBytes.{bytes_of, parts-behind}
-use Rattle.state_words.specs.Numbers.{key_words}
-use Rattle.state_words.specs.Parts.{op_words}
+use Rattle.checkpoint.specs.StateWords.Numbers.{key_words}
+use Rattle.checkpoint.specs.StateWords.Parts.{op_words}
 use Rattle.checkpoint.proofs.pieces.put_operation.Goals as goal
 
 pub returns-clause-bytes : goal.returns-clause-bytes

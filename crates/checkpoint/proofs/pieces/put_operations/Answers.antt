@@ -1,7 +1,7 @@
 use Rattle.std.proofs.Common.{◌≡◌, ◌<◌, ◌+◌, ◌-◌, List, drop, get_or, length, take, sym, ap, ◌∙◌, arith}
 use Rattle.std.proofs.lemmas.List.{get_or-drop, length-drop}
-use Rattle.ddm_types.specs.declared.operations.Op.{Op}
-use Rattle.state_words.specs.Parts.{op_words}
+use Rattle.checkpoint.specs.DdmTypes.declared.operations.Op.{Op}
+use Rattle.checkpoint.specs.StateWords.Parts.{op_words}
 use Rattle.std.specs.List.{flat_map}
 use Rattle.checkpoint.proofs.WordBytes.{bytes_of, operation-behind}
 use Rattle.checkpoint.proofs.pieces.put_operations.Goals as goal

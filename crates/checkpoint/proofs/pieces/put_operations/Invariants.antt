@@ -1,7 +1,7 @@
 use Rattle.std.proofs.Common.{◌≡◌, ◌-◌, ◌*◌, drop, length, take}
 use Rattle.std.specs.List.{flat_map}
 use Rattle.std.specs.Int.{w32, to_le_bytes}
-use Rattle.state_words.specs.Parts.{op_words}
+use Rattle.checkpoint.specs.StateWords.Parts.{op_words}
 use Rattle.checkpoint.proofs.pieces.put_operations.Given as goal
 
 -- the bytes of the operations so far

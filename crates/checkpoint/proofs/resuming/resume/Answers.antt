@@ -1,6 +1,6 @@
 use Rattle.std.proofs.Common.{length, ap, arith}
 use Rattle.std.proofs.lemmas.Bool.Decides.{nat_tests}
-use Rattle.any_machine.specs.Any.{machine_state}
+use Rattle.checkpoint.specs.AnyMachine.Any.{machine_state}
 use Rattle.checkpoint.proofs.Bytes.{words-many}
 use Rattle.checkpoint.proofs.Verdicts.{accepted-at-end, by-head, not-memory, refused-behind-end, refused-by-state}
 use Rattle.checkpoint.proofs.resuming.resume.Goals as goal

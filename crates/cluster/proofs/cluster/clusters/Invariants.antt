@@ -1,5 +1,5 @@
 use Rattle.std.proofs.Common.{◌≡◌, map}
-use Rattle.tree_model.specs.State.Values.{dir_node, leaf_node, nodes}
+use Rattle.cluster.specs.TreeModel.State.Values.{dir_node, leaf_node, nodes}
 use Rattle.cluster.proofs.cluster.clusters.Given as goal
 
 abbrev pub invariant-loop-dir : goal.invariant-loop-dir

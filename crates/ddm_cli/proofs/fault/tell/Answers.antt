@@ -1,5 +1,5 @@
 use Rattle.std.proofs.Common.{◌∙◌, subst}
-use Rattle.report.specs.Appends.{Appends, AppendsPart}
+use Rattle.ddm_cli.specs.ReportCrate.Appends.{Appends, AppendsPart}
 use Rattle.ddm_cli.proofs.Telling.{head_offered, rest_offered}
 use Rattle.ddm_cli.proofs.fault.tell.Goals as goal
 

@@ -1,7 +1,7 @@
 use Rattle.std.proofs.Common.{◌≡◌, ◌∙◌, Ok, subst}
 use Rattle.std.proofs.lemmas.Result.{IfOk-weaker}
-use Rattle.elf_load.specs.ElfFile.{image_of}
-use Rattle.made_image.specs.MadeImage.{made_image}
+use Rattle.ddm_cli.specs.ElfLoad.ElfFile.{image_of}
+use Rattle.ddm_cli.specs.MadeImage.MadeImage.{made_image}
 use Rattle.ddm_cli.proofs.Judged.{some_parts}
 use Rattle.ddm_cli.proofs.files.made_machine.Goals as goal
 

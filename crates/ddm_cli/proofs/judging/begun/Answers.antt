@@ -1,5 +1,5 @@
 use Rattle.std.proofs.Common.{ap}
-use Rattle.tree_model.specs.Start.Sources.{TreeValue}
+use Rattle.ddm_cli.specs.TreeModel.Start.Sources.{TreeValue}
 use Rattle.ddm_cli.proofs.Settings.{many_answered, overlap_answered}
 use Rattle.ddm_cli.proofs.judging.begun.Goals as goal
 

@@ -1,5 +1,5 @@
 use Rattle.std.proofs.Common.{◌≡◌, ◌<◌, ◌≤◌, ◌++◌, length}
-use Rattle.text_model.specs.Schedule.{turn_lines}
+use Rattle.ddm_cli.specs.TextModel.Schedule.{turn_lines}
 use Rattle.ddm_cli.proofs.listing.put_lines.Given as goal
 
 abbrev pub invariant-lines : goal.invariant-lines

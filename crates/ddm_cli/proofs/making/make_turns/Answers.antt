@@ -1,5 +1,5 @@
 use Rattle.std.proofs.Common.{◌∙◌}
-use Rattle.any_machine.specs.Any.{machine_state}
+use Rattle.ddm_cli.specs.AnyMachine.Any.{machine_state}
 use Rattle.ddm_cli.proofs.RunsInPieces.{answers_match}
 use Rattle.ddm_cli.proofs.making.make_turns.Goals as goal
 

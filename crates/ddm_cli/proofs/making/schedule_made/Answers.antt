@@ -1,8 +1,8 @@
 use Rattle.std.proofs.Common.{◌≤◌, ◌+◌, ◌++◌, ◌∙◌, false, List, [], sym, refl, ap, subst, arith}
-use Rattle.tree_model.specs.Start.Sources.{TreeValue}
-use Rattle.ddm_types.specs.declared.turns.Turn.{Turn}
-use Rattle.any_machine.specs.Any.{machine_state}
-use Rattle.any_runs.specs.Run.{CanRun, NameParts, counts_in}
+use Rattle.ddm_cli.specs.TreeModel.Start.Sources.{TreeValue}
+use Rattle.ddm_cli.specs.DdmTypes.declared.turns.Turn.{Turn}
+use Rattle.ddm_cli.specs.AnyMachine.Any.{machine_state}
+use Rattle.ddm_cli.specs.AnyRuns.Run.{CanRun, NameParts, counts_in}
 use Rattle.ddm_cli.specs.Made.{CanCount}
 use Rattle.ddm_cli.proofs.RunsInPieces.{more_made, next_piece, nothing_made}
 use Rattle.ddm_cli.proofs.Schedules.{accepted_read, few_read, nothing_read, refused_read, unended_read}

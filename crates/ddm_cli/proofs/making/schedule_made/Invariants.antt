@@ -1,6 +1,6 @@
 use Rattle.std.proofs.Common.{◌≡◌, ◌≤◌, ◌-◌, ℕ, false, List, []}
-use Rattle.ddm_types.specs.declared.turns.Turn.{Turn}
-use Rattle.any_machine.specs.Any.{machine_state}
+use Rattle.ddm_cli.specs.DdmTypes.declared.turns.Turn.{Turn}
+use Rattle.ddm_cli.specs.AnyMachine.Any.{machine_state}
 use Rattle.ddm_cli.specs.Made.{HasMade}
 use Rattle.ddm_cli.specs.Reads.{HasRead}
 use Rattle.ddm_cli.proofs.making.schedule_made.Given as goal

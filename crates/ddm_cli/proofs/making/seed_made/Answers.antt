@@ -1,15 +1,15 @@
 use Rattle.std.proofs.Common.{◌≡◌, ◌≤◌, ◌<◌, ◌++◌, [], length, take, ap, refl, sym, subst, ◌∙◌, arith}
 use Rattle.std.specs.Prelude.{All, Some, vec_len}
 use Rattle.std.proofs.lemmas.List.{nil_from_length}
-use Rattle.tree_model.specs.Start.Sources.{TreeValue}
-use Rattle.text_model.specs.ReadBack.{IsTurnOf}
-use Rattle.text_model.specs.Run.{no_counts}
-use Rattle.text_model.specs.Schedule.{ShapeView}
-use Rattle.text_model.specs.Seeded.{seeded_turns}
-use Rattle.schedule_log.specs.Seeding.{SeededView}
-use Rattle.schedule_log.specs.Shapes.{shape_view}
-use Rattle.any_machine.specs.Any.{machine_state}
-use Rattle.ddm_tree.specs.Machine.{MachineState}
+use Rattle.ddm_cli.specs.TreeModel.Start.Sources.{TreeValue}
+use Rattle.ddm_cli.specs.TextModel.ReadBack.{IsTurnOf}
+use Rattle.ddm_cli.specs.TextModel.Run.{no_counts}
+use Rattle.ddm_cli.specs.TextModel.Schedule.{ShapeView}
+use Rattle.ddm_cli.specs.TextModel.Seeded.{seeded_turns}
+use Rattle.ddm_cli.specs.ScheduleLog.Seeding.{SeededView}
+use Rattle.ddm_cli.specs.ScheduleLog.Shapes.{shape_view}
+use Rattle.ddm_cli.specs.AnyMachine.Any.{machine_state}
+use Rattle.ddm_cli.specs.DdmTree.Machine.{MachineState}
 use Rattle.ddm_cli.specs.Made.{kept_of}
 use Rattle.ddm_cli.specs.Printed.{is_summary, is_trace}
 use Rattle.ddm_cli.proofs.RunsInPieces.{all_made, block_kept, more_made, next_block, nothing_made}

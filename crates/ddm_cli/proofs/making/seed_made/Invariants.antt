@@ -1,8 +1,8 @@
 use Rattle.std.proofs.Common.{◌≡◌, ◌<◌, ◌++◌, List, length}
 use Rattle.std.specs.Prelude.{vec_len}
-use Rattle.ddm_types.specs.declared.turns.Turn.{Turn}
-use Rattle.any_machine.specs.Any.{machine_state}
-use Rattle.text_model.specs.Run.{no_counts}
+use Rattle.ddm_cli.specs.DdmTypes.declared.turns.Turn.{Turn}
+use Rattle.ddm_cli.specs.AnyMachine.Any.{machine_state}
+use Rattle.ddm_cli.specs.TextModel.Run.{no_counts}
 use Rattle.ddm_cli.specs.Made.{HasMade}
 use Rattle.ddm_cli.specs.Printed.{is_summary, is_trace}
 use Rattle.ddm_cli.proofs.making.seed_made.Given as goal

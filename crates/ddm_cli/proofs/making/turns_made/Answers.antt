@@ -1,7 +1,7 @@
 use Rattle.std.proofs.Common.{subst, sym}
 use Rattle.std.proofs.lemmas.Result.{IfErr-weaker}
-use Rattle.text_model.specs.declared.RunCounts.{RunCounts}
-use Rattle.any_machine.specs.Any.{machine_state}
+use Rattle.ddm_cli.specs.TextModel.declared.RunCounts.{RunCounts}
+use Rattle.ddm_cli.specs.AnyMachine.Any.{machine_state}
 use Rattle.ddm_cli.specs.Made.{CanGoOn}
 use Rattle.ddm_cli.specs.Printed.{is_summary, is_trace}
 use Rattle.ddm_cli.proofs.RunsInPieces.{file_made}

@@ -1,7 +1,7 @@
 use Rattle.std.proofs.Common.{◌≡◌, None, ap, rules}
-use Rattle.ddm_types.specs.ItemTable.{item_count}
-use Rattle.any_machine.specs.Any.{machine_state}
-use Rattle.text_model.specs.Run.{no_counts}
+use Rattle.ddm_cli.specs.DdmTypes.ItemTable.{item_count}
+use Rattle.ddm_cli.specs.AnyMachine.Any.{machine_state}
+use Rattle.ddm_cli.specs.TextModel.Run.{no_counts}
 use Rattle.ddm_cli.specs.Lists.{list_refused}
 use Rattle.ddm_cli.specs.Printed.{is_summary}
 use Rattle.ddm_cli.specs.Told.{schedule_told}

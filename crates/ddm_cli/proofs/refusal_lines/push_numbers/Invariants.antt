@@ -1,5 +1,5 @@
 use Rattle.std.proofs.Common.{◌≡◌, ◌≤◌, ◌+◌, ◌*◌, ◌++◌, length, take}
-use Rattle.text_model.specs.Faults.{number_texts}
+use Rattle.ddm_cli.specs.TextModel.Faults.{number_texts}
 use Rattle.ddm_cli.proofs.refusal_lines.push_numbers.Given as goal
 
 abbrev pub invariant-loop-number : goal.invariant-loop-number

@@ -1,4 +1,4 @@
-use Rattle.any_machine.specs.Any.{machine_state}
+use Rattle.ddm_cli.specs.AnyMachine.Any.{machine_state}
 use Rattle.ddm_cli.proofs.Rests.{refusal_caused}
 use Rattle.ddm_cli.proofs.resuming.resumed.Goals as goal
 

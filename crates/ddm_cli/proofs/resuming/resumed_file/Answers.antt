@@ -1,6 +1,6 @@
 use Rattle.std.proofs.Common.{◌≡◌, IfOk, IfSome, List, ℕ, None, Option, Result, Ok, Err, Some, subst}
 use Rattle.ddm_cli.specs.declared.status.Status.{Status}
-use Rattle.any_machine.specs.Any.{machine_state}
+use Rattle.ddm_cli.specs.AnyMachine.Any.{machine_state}
 use Rattle.checkpoint.specs.Resumed.{resumed}
 use Rattle.ddm_cli.proofs.Rests.{unread_caused}
 use Rattle.ddm_cli.proofs.resuming.resumed_file.Goals as goal

@@ -1,10 +1,10 @@
 use Rattle.std.proofs.Common.{◌≡◌, ◌≤◌, Err, ap, subst, arith, rules}
-use Rattle.tree_model.specs.State.Values.{MachineValue}
-use Rattle.ddm_tree.specs.Machine.{MachineState}
+use Rattle.ddm_cli.specs.TreeModel.State.Values.{MachineValue}
+use Rattle.ddm_cli.specs.DdmTree.Machine.{MachineState}
 use Rattle.ddm_cli.specs.Causes.{CheckpointCause}
 use Rattle.std.proofs.lemmas.Result.{IfErr-weaker, IfOk-weaker}
 use Rattle.checkpoint.specs.Resumed.{Resumed}
-use Rattle.any_machine.specs.Any.{machine_state}
+use Rattle.ddm_cli.specs.AnyMachine.Any.{machine_state}
 use Rattle.ddm_cli.specs.Views.{resumption_from}
 use Rattle.ddm_cli.proofs.Rests.{checkpoint_refused, gives_from, goes_on, rest_refused, rest_taken}
 use Rattle.ddm_cli.proofs.resuming.write_resumed.Goals as goal

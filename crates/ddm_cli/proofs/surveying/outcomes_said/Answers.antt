@@ -1,4 +1,4 @@
-use Rattle.any_machine.specs.Any.{machine_state}
+use Rattle.ddm_cli.specs.AnyMachine.Any.{machine_state}
 use Rattle.ddm_cli.specs.Views.{seeds_from}
 use Rattle.ddm_cli.proofs.Surveys.{survey_taken}
 use Rattle.ddm_cli.proofs.surveying.outcomes_said.Goals as goal

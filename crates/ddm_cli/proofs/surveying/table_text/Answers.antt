@@ -1,9 +1,9 @@
 use Rattle.std.proofs.Common.{ap, sym, subst}
-use Rattle.tree_model.specs.Start.Sources.{TreeValue}
-use Rattle.tree_model.specs.State.Shape.{frame_of}
-use Rattle.ddm_tree.specs.Machine.{MachineState}
-use Rattle.any_machine.specs.Any.{machine_state}
-use Rattle.schedule_log.specs.Shapes.{shape_view}
+use Rattle.ddm_cli.specs.TreeModel.Start.Sources.{TreeValue}
+use Rattle.ddm_cli.specs.TreeModel.State.Shape.{frame_of}
+use Rattle.ddm_cli.specs.DdmTree.Machine.{MachineState}
+use Rattle.ddm_cli.specs.AnyMachine.Any.{machine_state}
+use Rattle.ddm_cli.specs.ScheduleLog.Shapes.{shape_view}
 use Rattle.outcomes.specs.Runs.{HasShape}
 use Rattle.ddm_cli.proofs.Surveys.{can_begin, has_shape}
 use Rattle.ddm_cli.proofs.surveying.table_text.Goals as goal

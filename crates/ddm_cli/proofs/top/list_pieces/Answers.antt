@@ -1,8 +1,8 @@
 use Rattle.std.proofs.Common.{ap, ◌∙◌}
-use Rattle.tree_model.specs.Start.Sources.{TreeValue}
-use Rattle.text_model.specs.Schedule.{schedule_text}
-use Rattle.text_model.specs.Seeded.{seeded_turns}
-use Rattle.schedule_log.specs.Shapes.{shape_view}
+use Rattle.ddm_cli.specs.TreeModel.Start.Sources.{TreeValue}
+use Rattle.ddm_cli.specs.TextModel.Schedule.{schedule_text}
+use Rattle.ddm_cli.specs.TextModel.Seeded.{seeded_turns}
+use Rattle.ddm_cli.specs.ScheduleLog.Shapes.{shape_view}
 use Rattle.ddm_cli.specs.Top.{list_at}
 use Rattle.ddm_cli.proofs.Taken.{list_taken}
 use Rattle.ddm_cli.proofs.top.list_pieces.Goals as goal

@@ -1,5 +1,5 @@
 use Rattle.std.proofs.Common.{◌≡◌, length, map, take}
-use Rattle.text_model.specs.Faults.{shown_byte}
+use Rattle.ddm_cli.specs.TextModel.Faults.{shown_byte}
 use Rattle.ddm_cli.proofs.unknown_key.shown.Given as goal
 
 abbrev pub invariant-loop-byte : goal.invariant-loop-byte

@@ -1,6 +1,6 @@
 use Rattle.std.proofs.Common.{◌≤◌, ◌-◌, length, map, take}
-use Rattle.report.specs.Appends.{Appends}
-use Rattle.text_model.specs.Faults.{shown_byte}
+use Rattle.ddm_cli.specs.ReportCrate.Appends.{Appends}
+use Rattle.ddm_cli.specs.TextModel.Faults.{shown_byte}
 use Rattle.ddm_cli.proofs.unknown_key.tell_key.Given as goal
 
 abbrev pub invariant-telling : goal.invariant-telling

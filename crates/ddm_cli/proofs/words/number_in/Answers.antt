@@ -1,5 +1,5 @@
 use Rattle.std.proofs.Common.{sym}
-use Rattle.schedule_log.proofs.Cuts.{small_number}
+use Rattle.ddm_cli.proofs.ScheduleLog.Cuts.{small_number}
 use Rattle.ddm_cli.proofs.words.number_in.Goals as goal
 
 pub returns-in-Ok-clause-most : goal.returns-in-Ok-clause-most

@@ -1,9 +1,9 @@
 -- One turn, of the directory's own bus or further down.
 use Rattle.std.proofs.Common.{map, sym, ap, subst, ◌∙◌, arith}
 use Rattle.std.proofs.lemmas.List.{nil_from_length, length-map}
-use Rattle.ddm_types.specs.ItemTable.{item_count}
-use Rattle.tree_model.specs.Turns.Bus.{bus_step}
-use Rattle.tree_model.specs.Turns.Machine.{named_by, bus_turn_of}
+use Rattle.ddm_tree.specs.DdmTypes.ItemTable.{item_count}
+use Rattle.ddm_tree.specs.TreeModel.Turns.Bus.{bus_step}
+use Rattle.ddm_tree.specs.TreeModel.Turns.Machine.{named_by, bus_turn_of}
 use Rattle.ddm_tree.specs.Ready.{HasChild}
 use Rattle.ddm_tree.proofs.Steps.{step-inside, step-ready, step-down, node-down, answer-down, after-down, own-answer, own-after, own-ready, own-sized, own-named}
 use Rattle.ddm_tree.proofs.below.turn_under.Goals as goal

@@ -1,9 +1,9 @@
 use Rattle.std.proofs.Common.{◌≡◌, ◌∙◌, ap, sym, map}
 use Rattle.std.specs.Prelude.{slice_set}
 use Rattle.std.proofs.lemmas.List.{get_or-map, map-set}
-use Rattle.tree_model.specs.State.Blank.{no_node}
-use Rattle.tree_model.specs.State.Values.{Node}
-use Rattle.tree_model.specs.Turns.Children.{child_at}
+use Rattle.ddm_tree.specs.TreeModel.State.Blank.{no_node}
+use Rattle.ddm_tree.specs.TreeModel.State.Values.{Node}
+use Rattle.ddm_tree.specs.TreeModel.Turns.Children.{child_at}
 use Rattle.ddm_tree.proofs.copying.copy_child.Goals as goal
 
 pub returns : goal.returns

@@ -1,8 +1,8 @@
 use Rattle.std.proofs.Common.{◌≡◌, ◌∙◌, ap, sym, subst, refl, length, map, ◌<◌, arith}
 use Rattle.std.specs.Prelude.{slice_set}
 use Rattle.std.proofs.lemmas.List.{length-map}
-use Rattle.tree_model.specs.State.Blank.{no_node}
-use Rattle.tree_model.specs.Turns.Children.{child_at}
+use Rattle.ddm_tree.specs.TreeModel.State.Blank.{no_node}
+use Rattle.ddm_tree.specs.TreeModel.Turns.Children.{child_at}
 use Rattle.ddm_tree.specs.Copying.{AreAlike}
 use Rattle.ddm_tree.proofs.Copies.{copied-all, copied-here, copied-next}
 use Rattle.ddm_tree.proofs.copying.copy_children.Goals as goal

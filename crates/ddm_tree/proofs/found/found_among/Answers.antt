@@ -1,6 +1,6 @@
 use Rattle.std.proofs.Common.{◌≡◌, true, false, refl, sym, ap, ◌∙◌, rules}
-use Rattle.tree_model.specs.State.Child.{child_holds}
-use Rattle.tree_model.specs.State.States.{is_held}
+use Rattle.ddm_tree.specs.TreeModel.State.Child.{child_holds}
+use Rattle.ddm_tree.specs.TreeModel.State.States.{is_held}
 use Rattle.ddm_tree.specs.Ready.{IsItemIn}
 use Rattle.ddm_tree.proofs.FoundCopy.{item-kept, copy-here, copy-past, copy-end}
 use Rattle.ddm_tree.proofs.Search.{here-all}

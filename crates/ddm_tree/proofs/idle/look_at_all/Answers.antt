@@ -1,6 +1,6 @@
 use Rattle.std.proofs.Common.{◌≡◌, length, map, vec_items, arith, subst}
 use Rattle.std.proofs.lemmas.Option.{slice_get-get_or}
-use Rattle.tree_model.specs.State.Values.{dir_node, nodes}
+use Rattle.ddm_tree.specs.TreeModel.State.Values.{dir_node, nodes}
 use Rattle.ddm_tree.specs.Idle.{AreSeen}
 use Rattle.ddm_tree.specs.Quiet.{IsNoneOf}
 use Rattle.ddm_tree.proofs.Resting.{seen-more}

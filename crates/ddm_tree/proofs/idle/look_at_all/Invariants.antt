@@ -1,5 +1,5 @@
 use Rattle.std.proofs.Common.{map, vec_items}
-use Rattle.tree_model.specs.State.Values.{DirValue, dir_node, nodes}
+use Rattle.ddm_tree.specs.TreeModel.State.Values.{DirValue, dir_node, nodes}
 use Rattle.ddm_tree.specs.Idle.{AreSeen}
 use Rattle.ddm_tree.specs.Quiet.{HartsAgree, IsNoneOf, KeepsBuses}
 use Rattle.ddm_tree.proofs.idle.look_at_all.Given as goal

@@ -1,5 +1,5 @@
 use Rattle.std.proofs.Common.{map, vec_items}
-use Rattle.tree_model.specs.State.Values.{dir_node, nodes}
+use Rattle.ddm_tree.specs.TreeModel.State.Values.{dir_node, nodes}
 use Rattle.ddm_tree.proofs.Resting.{no-two, seen-fewer, seen-then}
 use Rattle.ddm_tree.proofs.idle.look_two.Goals as goal
 

@@ -1,6 +1,6 @@
 use Rattle.std.proofs.Common.{◌≡◌, sym, ap, ◌∙◌}
-use Rattle.tree_model.specs.Turns.Machine.{named_by}
-use Rattle.tree_model.specs.Turns.Tree.{leaf_of_number, bus_of_number}
+use Rattle.ddm_tree.specs.TreeModel.Turns.Machine.{named_by}
+use Rattle.ddm_tree.specs.TreeModel.Turns.Tree.{leaf_of_number, bus_of_number}
 use Rattle.ddm_tree.specs.Named.{name_of}
 use Rattle.ddm_tree.proofs.Resting.{noted-looked, noted-told}
 use Rattle.ddm_tree.proofs.idle.note.Goals as goal

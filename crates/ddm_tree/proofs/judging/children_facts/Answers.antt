@@ -1,5 +1,5 @@
 use Rattle.std.proofs.Common.{◌<◌}
-use Rattle.item_states.specs.Parts.{node_items}
+use Rattle.ddm_tree.specs.ItemStates.Parts.{node_items}
 use Rattle.ddm_tree.proofs.Search.{here-all}
 use Rattle.ddm_tree.proofs.judging.children_facts.Goals as goal
 

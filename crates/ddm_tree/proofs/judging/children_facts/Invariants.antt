@@ -1,7 +1,7 @@
 use Rattle.std.proofs.Common.{◌≡◌, map, take}
-use Rattle.tree_model.specs.State.Directory.{dir_note}
-use Rattle.tree_rules.specs.Bus.Faces.{faces_of}
-use Rattle.bus_judging.specs.Children.{facts_among}
+use Rattle.ddm_tree.specs.TreeModel.State.Directory.{dir_note}
+use Rattle.ddm_tree.specs.TreeRules.Bus.Faces.{faces_of}
+use Rattle.ddm_tree.specs.BusJudging.Children.{facts_among}
 use Rattle.ddm_tree.proofs.judging.children_facts.Given as goal
 
 abbrev pub invariant-loop-i : goal.invariant-loop-i

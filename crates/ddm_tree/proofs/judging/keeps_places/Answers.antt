@@ -1,7 +1,7 @@
 use Rattle.std.proofs.Common.{◌≡◌, drop, ap, refl, arith}
 use Rattle.std.specs.List.{range_with_len}
-use Rattle.tree_rules.specs.Bus.Faces.{parent_face}
-use Rattle.tree_rules.specs.Bus.Rules.{kept_places}
+use Rattle.ddm_tree.specs.TreeRules.Bus.Faces.{parent_face}
+use Rattle.ddm_tree.specs.TreeRules.Bus.Rules.{kept_places}
 use Rattle.ddm_tree.specs.Judging.{keeps_places}
 use Rattle.ddm_tree.proofs.JudgedItems.{none-left, one-place, place-more}
 use Rattle.ddm_tree.proofs.judging.keeps_places.Goals as goal

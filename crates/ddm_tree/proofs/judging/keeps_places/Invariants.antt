@@ -1,6 +1,6 @@
 use Rattle.std.proofs.Common.{◌≡◌, ◌+◌, ◌≤◌, drop}
 use Rattle.std.specs.List.{range_with_len}
-use Rattle.tree_rules.specs.Bus.Rules.{kept_places}
+use Rattle.ddm_tree.specs.TreeRules.Bus.Rules.{kept_places}
 use Rattle.ddm_tree.proofs.judging.keeps_places.Given as goal
 
 abbrev pub invariant-loop-item : goal.invariant-loop-item

@@ -1,6 +1,6 @@
 use Rattle.std.proofs.Common.{◌≡◌, ◌∙◌, ap, map, nat_eq}
-use Rattle.tree_rules.specs.Bus.Faces.{faces_of, parent_face}
-use Rattle.tree_model.specs.State.Directory.{is_top}
+use Rattle.ddm_tree.specs.TreeRules.Bus.Faces.{faces_of, parent_face}
+use Rattle.ddm_tree.specs.TreeModel.State.Directory.{is_top}
 use Rattle.ddm_tree.proofs.JudgedItems.{rules-judged}
 use Rattle.ddm_tree.proofs.judging.keeps_rules.Goals as goal
 

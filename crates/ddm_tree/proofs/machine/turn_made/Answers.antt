@@ -1,8 +1,8 @@
 -- One turn, spared where the hart is known to be idle.
 use Rattle.std.proofs.Common.{◌≡◌, false, map, vec_items, Some, sym, ap, subst, true≢false, ◌∙◌}
-use Rattle.ddm_types.specs.Keys.{stamp_zero}
-use Rattle.tree_model.specs.State.Values.{dir_node, nodes}
-use Rattle.tree_model.specs.Turns.Machine.{named_by}
+use Rattle.ddm_tree.specs.DdmTypes.Keys.{stamp_zero}
+use Rattle.ddm_tree.specs.TreeModel.State.Values.{dir_node, nodes}
+use Rattle.ddm_tree.specs.TreeModel.Turns.Machine.{named_by}
 use Rattle.ddm_tree.specs.Idle.{AreIdle, AreNoted, idle_for}
 use Rattle.ddm_tree.specs.Path.{node_answer, node_at, present_at}
 use Rattle.ddm_tree.specs.Quiet.{IsTouchedBy, touches}

@@ -1,5 +1,5 @@
 use Rattle.std.proofs.Common.{◌≡◌, ◌+◌, length, map, drop, sym, ap, ◌∙◌}
-use Rattle.tree_model.specs.Start.Nodes.{held_below, held_by, or_each}
+use Rattle.ddm_tree.specs.TreeModel.Start.Nodes.{held_below, held_by, or_each}
 use Rattle.ddm_tree.proofs.Marked.{marked-end, marked-next}
 use Rattle.ddm_tree.proofs.Search.{here-all}
 use Rattle.ddm_tree.proofs.marking.mark_children.Goals as goal

@@ -1,5 +1,5 @@
 use Rattle.std.proofs.Common.{◌≡◌, drop, map}
-use Rattle.tree_model.specs.Start.Nodes.{held_below, or_each}
+use Rattle.ddm_tree.specs.TreeModel.Start.Nodes.{held_below, or_each}
 use Rattle.ddm_tree.proofs.marking.mark_children.Given as goal
 
 -- what the children that are left hold comes over what is marked

@@ -1,6 +1,6 @@
 use Rattle.std.proofs.Common.{◌<◌, length, set, true, sym, ap, ◌∙◌, arith}
 use Rattle.std.specs.Prelude.{if◌then◌else◌}
-use Rattle.tree_model.specs.State.States.{is_exclusive}
+use Rattle.ddm_tree.specs.TreeModel.State.States.{is_exclusive}
 use Rattle.ddm_tree.proofs.Marked.{each-none, exclusive-next}
 use Rattle.ddm_tree.proofs.marking.mark_exclusive.Goals as goal
 

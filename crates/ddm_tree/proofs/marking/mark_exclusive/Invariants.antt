@@ -1,5 +1,5 @@
 use Rattle.std.proofs.Common.{◌≡◌, map, take}
-use Rattle.tree_model.specs.Start.Nodes.{item_is_exclusive, or_each}
+use Rattle.ddm_tree.specs.TreeModel.Start.Nodes.{item_is_exclusive, or_each}
 use Rattle.ddm_tree.proofs.marking.mark_exclusive.Given as goal
 
 abbrev pub invariant-loop-item : goal.invariant-loop-item

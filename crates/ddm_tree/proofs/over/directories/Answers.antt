@@ -2,8 +2,8 @@ use Rattle.std.proofs.Common.{◌≡◌, ◌<◌, ◌≤◌, ◌+◌, ◌++◌, 
 use Rattle.std.specs.Prelude.{slice_index_or, sum}
 use Rattle.std.specs.Vec.Iter.{into_iter_items}
 use Rattle.std.proofs.lemmas.List.{map-append}
-use Rattle.tree_model.specs.State.Values.{dir_node, nodes}
-use Rattle.tree_model.specs.Start.Nodes.{cut_in, dir_over, dir_sizes, dirs_over}
+use Rattle.ddm_tree.specs.TreeModel.State.Values.{dir_node, nodes}
+use Rattle.ddm_tree.specs.TreeModel.Start.Nodes.{cut_in, dir_over, dir_sizes, dirs_over}
 use Rattle.ddm_tree.specs.Holders.{IsHolder}
 use Rattle.ddm_tree.proofs.Gathered.{drop-less, map-drop, map-take, next-sum, one-dir, take-some, width-at}
 use Rattle.ddm_tree.proofs.over.directories.Goals as goal

@@ -1,8 +1,8 @@
 use Rattle.std.proofs.Common.{◌≡◌, ◌+◌, ◌++◌, length, drop, map, All}
 use Rattle.std.specs.Prelude.{sum}
 use Rattle.std.specs.Vec.Iter.{into_iter_items, into_iter_len}
-use Rattle.tree_model.specs.State.Values.{dir_node, nodes}
-use Rattle.tree_model.specs.Start.Nodes.{cut_in, dir_sizes, dirs_over}
+use Rattle.ddm_tree.specs.TreeModel.State.Values.{dir_node, nodes}
+use Rattle.ddm_tree.specs.TreeModel.Start.Nodes.{cut_in, dir_sizes, dirs_over}
 use Rattle.ddm_tree.specs.Holders.{IsHolder}
 use Rattle.ddm_tree.proofs.over.directories.Given as goal
 

@@ -1,10 +1,10 @@
 use Rattle.std.proofs.Common.{◌≡◌, ◌<◌, ◌≤◌, ◌∙◌, get_or, length, map, ap, arith}
 use Rattle.std.specs.Prelude.{slice_index_or, if◌then◌else◌, false}
 use Rattle.std.proofs.lemmas.List.{get_or_default, length-map}
-use Rattle.ddm_types.specs.declared.sizes.Hold.TheVariants.{Exclusive}
-use Rattle.tree_model.specs.State.Directory.{with_hold}
-use Rattle.tree_model.specs.State.Values.{dir_node, nodes}
-use Rattle.tree_model.specs.Start.Nodes.{dir_sizes, held_below, new_dir}
+use Rattle.ddm_tree.specs.DdmTypes.declared.sizes.Hold.TheVariants.{Exclusive}
+use Rattle.ddm_tree.specs.TreeModel.State.Directory.{with_hold}
+use Rattle.ddm_tree.specs.TreeModel.State.Values.{dir_node, nodes}
+use Rattle.ddm_tree.specs.TreeModel.Start.Nodes.{dir_sizes, held_below, new_dir}
 use Rattle.ddm_tree.proofs.Gathered.{below-length, dir-more, mixed, mixed-end, mixed-length, mixed-start}
 use Rattle.ddm_tree.proofs.over.directory.Goals as goal
 

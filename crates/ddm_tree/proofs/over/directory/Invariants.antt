@@ -1,5 +1,5 @@
 use Rattle.std.proofs.Common.{◌≡◌, map}
-use Rattle.tree_model.specs.Start.Nodes.{dir_sizes, held_below, new_dir}
+use Rattle.ddm_tree.specs.TreeModel.Start.Nodes.{dir_sizes, held_below, new_dir}
 use Rattle.ddm_tree.proofs.Gathered.{mixed}
 use Rattle.ddm_tree.proofs.over.directory.Given as goal
 

@@ -1,6 +1,6 @@
 use Rattle.std.proofs.Common.{◌≡◌, ◌<◌, false, length, map, replicate, sym, ap, ◌∙◌, arith}
 use Rattle.std.proofs.lemmas.List.{length-map, length-replicate}
-use Rattle.tree_model.specs.Start.Nodes.{held_below, or_each}
+use Rattle.ddm_tree.specs.TreeModel.Start.Nodes.{held_below, or_each}
 use Rattle.ddm_tree.proofs.Gathered.{below-length}
 use Rattle.ddm_tree.proofs.Marked.{each-blank}
 use Rattle.ddm_tree.proofs.TurnMade.{items-back}

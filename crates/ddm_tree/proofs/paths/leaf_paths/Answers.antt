@@ -1,7 +1,7 @@
 use Rattle.std.proofs.Common.{◌≡◌, ℕ, List, length, map, vec_items, ap, ◌∙◌, arith}
 use Rattle.std.specs.Prelude.{slice_get}
-use Rattle.tree_model.specs.State.Values.{dir_node, nodes}
-use Rattle.tree_model.specs.Turns.Tree.{leaf_of_number}
+use Rattle.ddm_tree.specs.TreeModel.State.Values.{dir_node, nodes}
+use Rattle.ddm_tree.specs.TreeModel.Turns.Tree.{leaf_of_number}
 use Rattle.ddm_tree.specs.Ready.{Leads}
 use Rattle.ddm_tree.proofs.Search.{one-listed, one-more}
 use Rattle.ddm_tree.proofs.paths.leaf_paths.Goals as goal

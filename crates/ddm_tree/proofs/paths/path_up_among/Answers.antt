@@ -1,5 +1,5 @@
 use Rattle.std.proofs.Common.{◌≡◌, ◌++◌, ◌∷◌, [], true, Some, None, option_map, reverse, vec_items, sym, ap, ◌∙◌, arith}
-use Rattle.tree_model.specs.State.Shape.{skeleton, widths_fit}
+use Rattle.ddm_tree.specs.TreeModel.State.Shape.{skeleton, widths_fit}
 use Rattle.ddm_tree.specs.Named.{name_of}
 use Rattle.ddm_tree.specs.Path.{path_to}
 use Rattle.ddm_tree.proofs.Search.{here-all, search-found, search-past, reversed-found, reversed-none, reversed-step}

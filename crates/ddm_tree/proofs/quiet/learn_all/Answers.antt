@@ -1,5 +1,5 @@
 use Rattle.std.proofs.Common.{◌≡◌, [], map}
-use Rattle.tree_model.specs.State.Values.{dir_node, nodes}
+use Rattle.ddm_tree.specs.TreeModel.State.Values.{dir_node, nodes}
 use Rattle.ddm_tree.specs.Quiet.{IsTouched}
 use Rattle.ddm_tree.proofs.QuietTable.{learned-fewer, learned-then, touched-all}
 use Rattle.ddm_tree.proofs.quiet.learn_all.Goals as goal

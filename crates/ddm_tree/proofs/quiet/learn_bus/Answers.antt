@@ -1,6 +1,6 @@
 use Rattle.std.proofs.Common.{◌≡◌, Some, map, sym, ap, ◌∙◌}
 use Rattle.std.specs.Prelude.{⊤}
-use Rattle.tree_model.specs.State.Values.{dir_node, nodes}
+use Rattle.ddm_tree.specs.TreeModel.State.Values.{dir_node, nodes}
 use Rattle.ddm_tree.specs.Quiet.{bus_in}
 use Rattle.ddm_tree.proofs.QuietTable.{harts-put, learned-fewer, node-past, node-put}
 use Rattle.ddm_tree.proofs.quiet.learn_bus.Goals as goal

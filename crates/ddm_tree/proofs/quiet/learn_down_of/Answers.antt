@@ -1,6 +1,6 @@
 use Rattle.std.proofs.Common.{◌≡◌, Some, sym, ap, ◌∙◌}
-use Rattle.tree_model.specs.declared.BusTurn.{BusTurn}
-use Rattle.tree_model.specs.State.Values.{dir_node, no_nodes}
+use Rattle.ddm_tree.specs.TreeModel.declared.BusTurn.{BusTurn}
+use Rattle.ddm_tree.specs.TreeModel.State.Values.{dir_node, no_nodes}
 use Rattle.ddm_tree.proofs.QuietTable.{harts-put, node-past, node-put}
 use Rattle.ddm_tree.proofs.quiet.learn_down_of.Goals as goal
 

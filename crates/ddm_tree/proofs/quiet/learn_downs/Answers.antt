@@ -1,9 +1,9 @@
 use Rattle.std.proofs.Common.{◌≡◌, length, map, arith, sym, ap, ◌∙◌}
 use Rattle.std.proofs.lemmas.List.{get_or-map, length-map}
-use Rattle.tree_model.specs.State.Blank.{no_node}
-use Rattle.tree_model.specs.State.Values.{children, dir_node, nodes}
-use Rattle.tree_model.specs.Turns.Children.{child_at}
-use Rattle.tree_model.proofs.Children.{children-nodes}
+use Rattle.ddm_tree.specs.TreeModel.State.Blank.{no_node}
+use Rattle.ddm_tree.specs.TreeModel.State.Values.{children, dir_node, nodes}
+use Rattle.ddm_tree.specs.TreeModel.Turns.Children.{child_at}
+use Rattle.ddm_tree.proofs.TreeModel.Children.{children-nodes}
 use Rattle.ddm_tree.proofs.OneBus.{path-inside}
 use Rattle.ddm_tree.proofs.QuietTable.{DownsOf, downs-next, downs-none, harts-self, harts-then, learned-fewer}
 use Rattle.ddm_tree.proofs.quiet.learn_downs.Goals as goal

@@ -1,5 +1,5 @@
 use Rattle.std.proofs.Common.{map}
-use Rattle.tree_model.specs.State.Values.{DirValue, dir_node, nodes}
+use Rattle.ddm_tree.specs.TreeModel.State.Values.{DirValue, dir_node, nodes}
 use Rattle.ddm_tree.specs.Quiet.{AreLearnedBelow, KeepsHarts}
 use Rattle.ddm_tree.proofs.QuietTable.{DownsOf}
 use Rattle.ddm_tree.proofs.quiet.learn_downs.Given as goal

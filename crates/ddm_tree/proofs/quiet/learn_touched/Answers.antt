@@ -1,5 +1,5 @@
 use Rattle.std.proofs.Common.{◌≡◌, ◌⊎◌, ℕ, [], Some, true, map}
-use Rattle.tree_model.specs.State.Values.{dir_node, nodes}
+use Rattle.ddm_tree.specs.TreeModel.State.Values.{dir_node, nodes}
 use Rattle.ddm_tree.specs.Quiet.{IsTouched, touches_child}
 use Rattle.ddm_tree.proofs.QuietTable.{harts-then, learned-fewer, learned-then, touched-two}
 use Rattle.ddm_tree.proofs.quiet.learn_touched.Goals as goal

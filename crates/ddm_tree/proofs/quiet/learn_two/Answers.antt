@@ -1,5 +1,5 @@
 use Rattle.std.proofs.Common.{◌≡◌, Some, map, sym, ap, ◌∙◌}
-use Rattle.tree_model.specs.State.Values.{dir_node, nodes}
+use Rattle.ddm_tree.specs.TreeModel.State.Values.{dir_node, nodes}
 use Rattle.ddm_tree.specs.Quiet.{OfTwo, bus_in}
 use Rattle.ddm_tree.proofs.QuietTable.{harts-put, node-past, node-put}
 use Rattle.ddm_tree.proofs.quiet.learn_two.Goals as goal

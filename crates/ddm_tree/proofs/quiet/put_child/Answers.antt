@@ -1,6 +1,6 @@
 use Rattle.std.proofs.Common.{◌≡◌, is_none, ap, ◌∙◌}
-use Rattle.tree_model.specs.State.Child.{child_leaving, child_reply, child_request}
-use Rattle.item_states.specs.Parts.{copy_pair, request_pair}
+use Rattle.ddm_tree.specs.TreeModel.State.Child.{child_leaving, child_reply, child_request}
+use Rattle.ddm_tree.specs.ItemStates.Parts.{copy_pair, request_pair}
 use Rattle.ddm_tree.specs.Quiet.{quiet_if}
 use Rattle.ddm_tree.proofs.QuietIndex.{child-put, none-is, none-mapped}
 use Rattle.ddm_tree.proofs.quiet.put_child.Goals as goal

@@ -1,5 +1,5 @@
 use Rattle.std.proofs.Common.{◌≡◌, is_none, ap, ◌∙◌}
-use Rattle.tree_model.specs.State.Lists.{first_of}
+use Rattle.ddm_tree.specs.TreeModel.State.Lists.{first_of}
 use Rattle.ddm_tree.specs.Quiet.{quiet_if}
 use Rattle.ddm_tree.proofs.QuietIndex.{down-put, none-is}
 use Rattle.ddm_tree.proofs.quiet.put_down.Goals as goal

@@ -1,6 +1,6 @@
 use Rattle.std.proofs.Common.{map, subst, sym, ◌∙◌}
 use Rattle.std.proofs.lemmas.Option.{same_Some}
-use Rattle.tree_model.specs.State.Values.{dir_node, nodes}
+use Rattle.ddm_tree.specs.TreeModel.State.Values.{dir_node, nodes}
 use Rattle.ddm_tree.specs.Quiet.{AreLearned, OfChild, OfNamed}
 use Rattle.ddm_tree.proofs.QuietIndex.{are-fewer, are-none}
 use Rattle.ddm_tree.proofs.quiet.put_named.Goals as goal

@@ -1,6 +1,6 @@
 use Rattle.std.proofs.Common.{rules, ◌≡◌, ◌∙◌, Err, arith, drop}
-use Rattle.state_reading.specs.Parts.{read_op}
-use Rattle.state_reading.proofs.Steps.{one_step_more, one_step_refused, times_done}
+use Rattle.ddm_tree.specs.StateReading.Parts.{read_op}
+use Rattle.ddm_tree.proofs.StateReading.Steps.{one_step_more, one_step_refused, times_done}
 use Rattle.ddm_tree.proofs.read_buses.fill_ops.Goals as goal
 
 pub returns-in_err-add_op-clause-refused : goal.returns-in_err-add_op-clause-refused

@@ -1,6 +1,6 @@
 use Rattle.std.proofs.Common.{◌≡◌, ◌≤◌, ◌-◌, [], drop, length}
-use Rattle.state_reading.specs.Parts.{read_op}
-use Rattle.state_reading.specs.Reading.{times}
+use Rattle.ddm_tree.specs.StateReading.Parts.{read_op}
+use Rattle.ddm_tree.specs.StateReading.Reading.{times}
 use Rattle.ddm_tree.proofs.read_buses.fill_ops.Given as goal
 
 -- the operations so far, and those that are left

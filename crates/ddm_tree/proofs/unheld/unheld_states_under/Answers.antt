@@ -1,5 +1,5 @@
 use Rattle.std.proofs.Common.{◌≡◌, ◌++◌, map, take, arith, false}
-use Rattle.tree_model.specs.State.Child.{child_holds}
+use Rattle.ddm_tree.specs.TreeModel.State.Child.{child_holds}
 use Rattle.ddm_tree.specs.Reads.{states_among}
 use Rattle.ddm_tree.specs.Ready.{IsRuled}
 use Rattle.ddm_tree.proofs.LeafStates.{count-next, states-next}

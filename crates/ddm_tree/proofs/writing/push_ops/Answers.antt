@@ -1,7 +1,7 @@
 use Rattle.std.proofs.Common.{◌<◌, length, arith}
-use Rattle.ddm_text.specs.Adds.{◌▸◌}
-use Rattle.state_words.specs.Parts.{op_words}
-use Rattle.state_words.proofs.Nothing.{begins-after, on-err}
+use Rattle.ddm_tree.specs.DdmText.Adds.{◌▸◌}
+use Rattle.ddm_tree.specs.StateWords.Parts.{op_words}
+use Rattle.ddm_tree.proofs.StateWords.Nothing.{begins-after, on-err}
 use Rattle.operation_list.proofs.Taken.{texts_more}
 use Rattle.ddm_tree.proofs.writing.push_ops.Goals as goal
 

@@ -1,7 +1,7 @@
 use Rattle.std.proofs.Common.{take}
 use Rattle.std.specs.List.{flat_map}
-use Rattle.ddm_text.specs.Adds.{Adds}
-use Rattle.state_words.specs.Parts.{op_words}
+use Rattle.ddm_tree.specs.DdmText.Adds.{Adds}
+use Rattle.ddm_tree.specs.StateWords.Parts.{op_words}
 use Rattle.ddm_tree.proofs.writing.push_ops.Given as goal
 
 abbrev pub invariant-loop-place : goal.invariant-loop-place

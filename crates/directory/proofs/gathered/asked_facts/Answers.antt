@@ -1,7 +1,7 @@
 use Rattle.std.proofs.Common.{◌≡◌, ◌∙◌, ◌<◌, ◌≤◌, false, ap, length, sym, arith}
 use Rattle.std.specs.List.{list_any}
 use Rattle.std.proofs.lemmas.List.{take_all}
-use Rattle.tree_model.specs.State.Lists.{names_item}
+use Rattle.directory.specs.TreeModel.State.Lists.{names_item}
 use Rattle.bus_judging.specs.Parent.{request_facts}
 use Rattle.directory.proofs.EntryKinds.{none-passing, pair_item, pair_kind, passing, requests-further, requests-kinds}
 use Rattle.directory.proofs.gathered.asked_facts.Goals as goal

@@ -1,5 +1,5 @@
 use Rattle.std.proofs.Common.{◌≡◌, take}
-use Rattle.tree_model.specs.State.Lists.{names_item}
+use Rattle.directory.specs.TreeModel.State.Lists.{names_item}
 use Rattle.bus_judging.specs.Parent.{request_facts}
 use Rattle.directory.proofs.EntryKinds.{pair_item, pair_kind, passing}
 use Rattle.directory.proofs.gathered.asked_facts.Given as goal

@@ -1,7 +1,7 @@
 use Rattle.std.proofs.Common.{◌≡◌, ◌∙◌, ◌<◌, false, ap, length, sym, arith}
 use Rattle.std.specs.List.{list_any}
-use Rattle.tree_model.specs.State.Directory.{queue_of, entry_item}
-use Rattle.tree_model.specs.State.Lists.{names_item}
+use Rattle.directory.specs.TreeModel.State.Directory.{queue_of, entry_item}
+use Rattle.directory.specs.TreeModel.State.Lists.{names_item}
 use Rattle.bus_judging.specs.Queue.{facts_of}
 use Rattle.directory.proofs.EntryKinds.{kinds-further, no-kinds}
 use Rattle.directory.proofs.gathered.down_facts.Goals as goal

@@ -1,5 +1,5 @@
 use Rattle.std.proofs.Common.{◌≡◌, take}
-use Rattle.tree_model.specs.State.Directory.{queue_kinds}
+use Rattle.directory.specs.TreeModel.State.Directory.{queue_kinds}
 use Rattle.bus_judging.specs.Queue.{facts_of}
 use Rattle.directory.proofs.gathered.down_facts.Given as goal
 

@@ -1,7 +1,7 @@
 use Rattle.std.proofs.Common.{◌≡◌, ℕ, ap, ◌∙◌, List}
 use Rattle.std.specs.List.{flat_map}
 use Rattle.std.proofs.lemmas.Result.{IfOk-weaker}
-use Rattle.ddm_types.specs.CodeMap.{CodeWord, code_of, part_words}
+use Rattle.elf_load.specs.DdmTypes.CodeMap.{CodeWord, code_of, part_words}
 use Rattle.tree_model.specs.Start.Sources.{ImageValue, SegmentValue}
 use Rattle.tree_model.specs.Start.Memory.{start_code}
 use Rattle.elf_load.proofs.CodeParts.{parts_disjoint, parts_words}

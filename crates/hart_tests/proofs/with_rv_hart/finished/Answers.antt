@@ -1,6 +1,6 @@
 use Rattle.std.proofs.Common.{rules, subst}
-use Rattle.rv_hart.specs.Steps.{IsReady}
-use Rattle.rv_hart.proofs.Ready.{ready_unless_halt}
+use Rattle.hart_tests.specs.RvHart.Steps.{IsReady}
+use Rattle.hart_tests.proofs.RvHart.Ready.{ready_unless_halt}
 use Rattle.hart_tests.proofs.with_rv_hart.finished.Goals as goal
 
 pub finish-effect-requires : goal.finish-effect-requires

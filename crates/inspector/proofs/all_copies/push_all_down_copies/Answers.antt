@@ -2,9 +2,9 @@ use Rattle.std.proofs.Common.{ℕ, ◌<◌, ◌≤◌, [], length, rules, sym, a
 use Rattle.std.specs.Prelude.{unwrap_or}
 use Rattle.std.proofs.lemmas.List.{append-nil, append_assoc, take_all}
 use Rattle.std.proofs.lemmas.List.FromFn.{length-range_with_len}
-use Rattle.tree_model.specs.State.Shape.{tree_counts}
+use Rattle.inspector.specs.TreeModel.State.Shape.{tree_counts}
 use Rattle.inspector.specs.Copies.{buses_of, down_copies, down_of}
-use Rattle.state_judging.proofs.BusNumbers.{numbered-bus}
+use Rattle.inspector.proofs.StateJudging.BusNumbers.{numbered-bus}
 use Rattle.inspector.proofs.OneMore.{more-of, number-here}
 use Rattle.inspector.proofs.all_copies.push_all_down_copies.Goals as goal
 

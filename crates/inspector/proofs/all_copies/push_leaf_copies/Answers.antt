@@ -1,8 +1,8 @@
 use Rattle.std.proofs.Common.{◌≡◌, ◌<◌, ◌≤◌, length, rules, sym, ap, ◌∙◌, arith}
 use Rattle.std.proofs.lemmas.List.{append-nil, append_assoc, take_all}
-use Rattle.tree_model.specs.State.Shape.{tree_counts}
-use Rattle.tree_model.specs.Turns.Machine.{machine_leaves}
-use Rattle.ddm_tree.proofs.LeafList.{leaf-there, leaves-counted}
+use Rattle.inspector.specs.TreeModel.State.Shape.{tree_counts}
+use Rattle.inspector.specs.TreeModel.Turns.Machine.{machine_leaves}
+use Rattle.inspector.proofs.DdmTree.LeafList.{leaf-there, leaves-counted}
 use Rattle.inspector.specs.Copies.{leaf_copies, place_list}
 use Rattle.inspector.proofs.CopyLists.{leaf-copy}
 use Rattle.inspector.proofs.OneMore.{item-there, more-of}

@@ -1,6 +1,6 @@
 use Rattle.std.proofs.Common.{◌≡◌, ◌++◌, take}
 use Rattle.std.specs.List.{flat_map}
-use Rattle.tree_model.specs.Turns.Machine.{machine_leaves}
+use Rattle.inspector.specs.TreeModel.Turns.Machine.{machine_leaves}
 use Rattle.inspector.specs.Copies.{leaf_copies}
 use Rattle.inspector.proofs.all_copies.push_leaf_copies.Given as goal
 

@@ -1,10 +1,10 @@
 use Rattle.std.proofs.Common.{◌≡◌, ℕ, ◌<◌, ◌≤◌, length, rules, sym, ap, ◌∙◌, arith}
 use Rattle.std.proofs.lemmas.List.{append-nil, append_assoc, take_all}
 use Rattle.std.proofs.lemmas.List.FromFn.{length-range_with_len}
-use Rattle.tree_model.specs.State.Shape.{tree_counts}
-use Rattle.tree_model.specs.Turns.Machine.{parked_place_of}
+use Rattle.inspector.specs.TreeModel.State.Shape.{tree_counts}
+use Rattle.inspector.specs.TreeModel.Turns.Machine.{parked_place_of}
 use Rattle.inspector.specs.Copies.{buses_of, parked_copies, place_list}
-use Rattle.state_judging.proofs.BusNumbers.{numbered-bus}
+use Rattle.inspector.proofs.StateJudging.BusNumbers.{numbered-bus}
 use Rattle.inspector.proofs.CopyLists.{parked-copy}
 use Rattle.inspector.proofs.OneMore.{more-of, number-here}
 use Rattle.inspector.proofs.all_copies.push_parked_copies.Goals as goal

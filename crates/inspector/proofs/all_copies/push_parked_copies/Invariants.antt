@@ -1,6 +1,6 @@
 use Rattle.std.proofs.Common.{◌≡◌, ◌++◌, take}
 use Rattle.std.specs.List.{flat_map}
-use Rattle.tree_model.specs.Turns.Machine.{parked_place_of}
+use Rattle.inspector.specs.TreeModel.Turns.Machine.{parked_place_of}
 use Rattle.inspector.specs.Copies.{buses_of, parked_copies}
 use Rattle.inspector.proofs.all_copies.push_parked_copies.Given as goal
 

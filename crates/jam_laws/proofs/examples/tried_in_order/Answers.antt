@@ -1,5 +1,5 @@
 use Rattle.std.proofs.Common.{refl}
-use Rattle.tree_rules.specs.Computing.{rules_compute}
+use Rattle.jam_laws.specs.TreeRules.Computing.{rules_compute}
 use Rattle.jam_laws.proofs.examples.tried_in_order.Goals as goal
 
 pub returns : goal.returns

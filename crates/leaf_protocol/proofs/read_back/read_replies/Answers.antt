@@ -1,6 +1,6 @@
 use Rattle.std.proofs.Common.{rules, ◌≡◌, ◌∙◌, Err, arith, drop, map, nat_lt}
-use Rattle.state_reading.specs.Parts.{read_copy}
-use Rattle.state_reading.proofs.Steps.{times_went_on, times_refused, times_done}
+use Rattle.leaf_protocol.specs.StateReading.Parts.{read_copy}
+use Rattle.leaf_protocol.proofs.StateReading.Steps.{times_went_on, times_refused, times_done}
 use Rattle.leaf_protocol.specs.Leaf.{copy_value}
 use Rattle.leaf_protocol.proofs.read_back.read_replies.Goals as goal
 

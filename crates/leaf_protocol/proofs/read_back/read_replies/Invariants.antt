@@ -1,7 +1,7 @@
 use Rattle.std.specs.Prelude.{◌≡◌, ◌-◌, ◌≤◌, [], drop, length, map, nat_lt}
 use Rattle.tx_queue.specs.QueueList.{AllBelow}
-use Rattle.state_reading.specs.Reading.{times}
-use Rattle.state_reading.specs.Parts.{read_copy}
+use Rattle.leaf_protocol.specs.StateReading.Reading.{times}
+use Rattle.leaf_protocol.specs.StateReading.Parts.{read_copy}
 use Rattle.leaf_protocol.specs.Leaf.{copied_item, copy_value}
 use Rattle.leaf_protocol.proofs.read_back.read_replies.Given as goal
 

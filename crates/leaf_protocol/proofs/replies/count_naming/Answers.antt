@@ -1,7 +1,7 @@
 use Rattle.std.proofs.Common.{◌≡◌, ◌≤◌, ◌+◌, length, take, refl, sym, ap, ◌∙◌, arith}
 use Rattle.std.proofs.lemmas.List.{length-take-le, take_all}
 use Rattle.std.proofs.lemmas.List.Sums.{count_by-le-length, count_by_more_yes, count_by_more_no}
-use Rattle.tree_model.specs.State.Lists.{names_item}
+use Rattle.leaf_protocol.specs.TreeModel.State.Lists.{names_item}
 use Rattle.tx_queue.specs.QueueList.{count_naming}
 use Rattle.leaf_protocol.specs.Leaf.{copied_item}
 use Rattle.leaf_protocol.proofs.replies.count_naming.Goals.{then-names_item, else-names_item}

@@ -1,6 +1,6 @@
 use Rattle.std.proofs.Common.{map}
 use Rattle.std.specs.List.{flat_map}
-use Rattle.ddm_text.specs.Adds.{Adds}
+use Rattle.leaf_protocol.specs.DdmText.Adds.{Adds}
 use Rattle.leaf_protocol.proofs.replies.write_each.Given as goal
 
 abbrev pub invariant-loop-entry : goal.invariant-loop-entry

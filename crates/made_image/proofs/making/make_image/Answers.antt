@@ -1,5 +1,5 @@
 use Rattle.std.proofs.Common.{List, length, ap, ◌∙◌, arith}
-use Rattle.tree_model.specs.Start.Sources.{SegmentValue}
+use Rattle.made_image.specs.TreeModel.Start.Sources.{SegmentValue}
 use Rattle.elf_load.specs.Written.{written_image}
 use Rattle.made_image.proofs.Lengths.{made_length, program_length}
 use Rattle.made_image.proofs.making.make_image.Goals as goal

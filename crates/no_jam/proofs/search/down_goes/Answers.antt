@@ -1,8 +1,8 @@
 use Rattle.std.proofs.Common.{refl, arith, length, ◌∙◌}
-use Rattle.tree_model.specs.State.Values.{root_of}
-use Rattle.tree_model.specs.State.Place.{at_top}
-use Rattle.tree_model.specs.Turns.Tree.{bus_of_number, of_dir}
-use Rattle.tree_model.proofs.NamedNode.{read_in-is_some}
+use Rattle.no_jam.specs.TreeModel.State.Values.{root_of}
+use Rattle.no_jam.specs.TreeModel.State.Place.{at_top}
+use Rattle.no_jam.specs.TreeModel.Turns.Tree.{bus_of_number, of_dir}
+use Rattle.no_jam.proofs.TreeModel.NamedNode.{read_in-is_some}
 use Rattle.any_machine.specs.Any.{machine_state}
 use Rattle.no_jam.proofs.search.down_goes.Goals as goal
 

@@ -1,10 +1,10 @@
 use Rattle.std.proofs.Common.{◌≡◌, ◌<◌, None, true, sym, ap, ◌∙◌, arith}
 use Rattle.std.specs.Prelude.{find, is_some, unwrap_or}
-use Rattle.tree_model.specs.State.Shape.{tree_counts}
-use Rattle.tree_model.specs.Turns.Machine.{child_count}
+use Rattle.no_jam.specs.TreeModel.State.Shape.{tree_counts}
+use Rattle.no_jam.specs.TreeModel.Turns.Machine.{child_count}
 use Rattle.any_machine.specs.Any.{machine_state}
 use Rattle.jam_laws.specs.GoesOn.{first_granted, turns_of_bus, would_grant}
-use Rattle.state_judging.proofs.BusNumbers.{numbered-bus}
+use Rattle.no_jam.proofs.StateJudging.BusNumbers.{numbered-bus}
 use Rattle.no_jam.proofs.Searching.{given-start, given-past, given-here, none-there}
 use Rattle.no_jam.proofs.search.first_granted.Goals as goal
 

@@ -1,7 +1,7 @@
 use Rattle.std.proofs.Common.{◌≡◌}
 use Rattle.std.specs.Prelude.{unwrap_or}
-use Rattle.tree_model.specs.State.Shape.{tree_counts}
-use Rattle.tree_model.specs.Turns.Machine.{child_count}
+use Rattle.no_jam.specs.TreeModel.State.Shape.{tree_counts}
+use Rattle.no_jam.specs.TreeModel.Turns.Machine.{child_count}
 use Rattle.any_machine.specs.Any.{machine_state}
 use Rattle.jam_laws.specs.GoesOn.{first_granted, turns_of_bus, would_grant}
 use Rattle.no_jam.proofs.Searching.{given_from}

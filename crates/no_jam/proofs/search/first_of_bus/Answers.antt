@@ -2,7 +2,7 @@ use Rattle.std.proofs.Common.{sym, ap, map, ◌∙◌}
 use Rattle.std.specs.Prelude.{find}
 use Rattle.std.specs.Option.{option_or}
 use Rattle.std.specs.List.{range_with_len}
-use Rattle.tree_model.specs.Turns.Machine.{child_count}
+use Rattle.no_jam.specs.TreeModel.Turns.Machine.{child_count}
 use Rattle.any_machine.specs.Any.{machine_state}
 use Rattle.jam_laws.specs.GoesOn.{would_grant}
 use Rattle.no_jam.specs.Asked.{child_turn}

@@ -1,6 +1,6 @@
 use Rattle.std.proofs.Common.{ap, sym, ◌∙◌, arith}
-use Rattle.ddm_types.specs.ItemTable.{item_count}
-use Rattle.ddm_tree.proofs.LeafList.{leaf-there}
+use Rattle.no_jam.specs.DdmTypes.ItemTable.{item_count}
+use Rattle.no_jam.proofs.DdmTree.LeafList.{leaf-there}
 use Rattle.any_machine.specs.Any.{machine_state}
 use Rattle.no_jam.proofs.LeafWaits.{leaf-rests, leaf-waits, rests-more, rests-none, rules-of}
 use Rattle.no_jam.proofs.waiting.leaf_waits.Goals as goal

@@ -1,5 +1,5 @@
 use Rattle.std.proofs.Common.{Some, ap, sym, ◌∙◌, arith}
-use Rattle.ddm_types.specs.declared.sizes.TreeCounts.{TreeCounts}
+use Rattle.no_jam.specs.DdmTypes.declared.sizes.TreeCounts.{TreeCounts}
 use Rattle.any_machine.specs.Any.{machine_state}
 use Rattle.no_jam.proofs.LeafWaits.{none-more, none-waits, some-waits}
 use Rattle.no_jam.proofs.waiting.some_leaf_waits.Goals as goal

@@ -1,8 +1,8 @@
 use Rattle.std.proofs.Common.{◌≡◌, ◌∙◌, ◌<◌, ◌≤◌, length, ap, sym, refl, arith, rules, true, false}
 use Rattle.std.specs.Prelude.{is_some}
-use Rattle.tree_model.specs.State.Shape.{tree_counts}
-use Rattle.ddm_tree.proofs.LeafList.{leaf-there}
-use Rattle.any_machine.specs.Any.{state_in}
+use Rattle.outcomes.specs.TreeModel.State.Shape.{tree_counts}
+use Rattle.outcomes.proofs.DdmTree.LeafList.{leaf-there}
+use Rattle.outcomes.specs.AnyMachine.Any.{state_in}
 use Rattle.outcomes.proofs.Ends.{all-end, all-failed, all-here, end-shown, end_halted, ends-counted, ends_of, halted-is}
 use Rattle.outcomes.proofs.ending.have_halted.Goals as goal
 

@@ -1,6 +1,6 @@
 use Rattle.std.proofs.Common.{◌≡◌, drop}
 use Rattle.std.specs.List.{list_all}
-use Rattle.any_machine.specs.Any.{state_in}
+use Rattle.outcomes.specs.AnyMachine.Any.{state_in}
 use Rattle.outcomes.proofs.Ends.{end_halted, ends_of}
 use Rattle.outcomes.proofs.ending.have_halted.Given as goal
 

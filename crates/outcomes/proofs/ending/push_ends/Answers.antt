@@ -1,10 +1,10 @@
 use Rattle.std.proofs.Common.{◌<◌, ◌≤◌, length, ap, sym, arith, rules}
 use Rattle.std.proofs.lemmas.List.{append-nil, take_all}
-use Rattle.ddm_text.specs.Adds.{◌▸◌}
-use Rattle.tree_model.specs.State.Shape.{tree_counts}
-use Rattle.ddm_tree.proofs.LeafList.{leaf-there}
-use Rattle.inspector.proofs.OneMore.{more-of}
-use Rattle.any_machine.specs.Any.{state_in}
+use Rattle.outcomes.specs.DdmText.Adds.{◌▸◌}
+use Rattle.outcomes.specs.TreeModel.State.Shape.{tree_counts}
+use Rattle.outcomes.proofs.DdmTree.LeafList.{leaf-there}
+use Rattle.outcomes.proofs.InspectorCrate.OneMore.{more-of}
+use Rattle.outcomes.specs.AnyMachine.Any.{state_in}
 use Rattle.outcome_model.specs.Outcome.{end_text, ends_text, outcome_of}
 use Rattle.outcomes.proofs.Ends.{end-shown, ends-counted, ends_of}
 use Rattle.outcomes.proofs.ending.push_ends.Goals as goal

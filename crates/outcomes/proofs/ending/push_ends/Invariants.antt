@@ -1,6 +1,6 @@
 use Rattle.std.proofs.Common.{take}
-use Rattle.ddm_text.specs.Adds.{Adds}
-use Rattle.any_machine.specs.Any.{state_in}
+use Rattle.outcomes.specs.DdmText.Adds.{Adds}
+use Rattle.outcomes.specs.AnyMachine.Any.{state_in}
 use Rattle.outcome_model.specs.Outcome.{ends_text}
 use Rattle.outcomes.proofs.Ends.{ends_of}
 use Rattle.outcomes.proofs.ending.push_ends.Given as goal

@@ -1,7 +1,7 @@
 use Rattle.std.proofs.Common.{◌≡◌, ◌∙◌, ◌+◌, ◌<◌, ap, sym, subst, arith}
-use Rattle.tree_model.specs.State.Shape.{frame_of}
-use Rattle.text_model.specs.Schedule.{ShapeView}
-use Rattle.any_machine.specs.Any.{machine_state}
+use Rattle.outcomes.specs.TreeModel.State.Shape.{frame_of}
+use Rattle.outcomes.specs.TextModel.Schedule.{ShapeView}
+use Rattle.outcomes.specs.AnyMachine.Any.{machine_state}
 use Rattle.schedule_log.specs.Seeding.{SeededView}
 use Rattle.schedule_log.specs.Shapes.{shape_view}
 use Rattle.outcome_model.specs.Outcome.{seed_outcome}

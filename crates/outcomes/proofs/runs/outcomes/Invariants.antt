@@ -1,5 +1,5 @@
 use Rattle.std.proofs.Common.{◌≡◌}
-use Rattle.any_machine.specs.Any.{machine_state}
+use Rattle.outcomes.specs.AnyMachine.Any.{machine_state}
 use Rattle.schedule_log.specs.Shapes.{shape_view}
 use Rattle.outcomes.specs.Runs.{IsTwin}
 use Rattle.outcomes.proofs.Seeds.{tally}

@@ -1,8 +1,8 @@
 use Rattle.std.proofs.Common.{◌≡◌, ◌∙◌, ap}
-use Rattle.tree_model.specs.Turns.Machine.{run_of}
-use Rattle.text_model.specs.Seeded.{seeded_turns}
+use Rattle.outcomes.specs.TreeModel.Turns.Machine.{run_of}
+use Rattle.outcomes.specs.TextModel.Seeded.{seeded_turns}
 use Rattle.schedule_log.specs.Seeding.{SeededView}
-use Rattle.any_machine.specs.Any.{machine_state}
+use Rattle.outcomes.specs.AnyMachine.Any.{machine_state}
 use Rattle.outcome_model.specs.Outcome.{outcome_of, seed_outcome}
 use Rattle.outcomes.proofs.runs.run_seed.Goals as goal
 

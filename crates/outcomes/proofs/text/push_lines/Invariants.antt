@@ -1,6 +1,6 @@
 use Rattle.std.proofs.Common.{take}
 use Rattle.std.specs.List.{flat_map}
-use Rattle.ddm_text.specs.Adds.{Adds}
+use Rattle.outcomes.specs.DdmText.Adds.{Adds}
 use Rattle.outcome_model.specs.Table.{line_text}
 use Rattle.outcomes.proofs.text.push_lines.Given as goal
 

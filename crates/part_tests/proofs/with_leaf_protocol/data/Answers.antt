@@ -1,4 +1,4 @@
-use Rattle.tree_model.proofs.LeafRooms.{leaf_within-facts, leaf_within-test, leaf_take_data-within}
+use Rattle.part_tests.proofs.TreeModel.LeafRooms.{leaf_within-facts, leaf_within-test, leaf_take_data-within}
 use Rattle.leaf_protocol.proofs.Told.{same-leaf}
 use Rattle.part_tests.proofs.with_leaf_protocol.data.Goals as goal
 

@@ -1,4 +1,4 @@
-use Rattle.tree_model.proofs.HartRooms.{leaf_step-within}
+use Rattle.part_tests.proofs.TreeModel.HartRooms.{leaf_step-within}
 use Rattle.part_tests.proofs.with_leaf_protocol.turn.Goals as goal
 
 pub returns : goal.returns

@@ -1,7 +1,7 @@
 use Rattle.std.proofs.Common.{◌≡◌, ◌≤◌, ℕ, List, refl, sym, subst, ◌∙◌, arith}
 use Rattle.recording_model.specs.declared.RunEnd.{RunEnd}
 use Rattle.recording_model.specs.declared.SeedKind.{SeedKind}
-use Rattle.tree_model.specs.Start.Sources.{TreeValue}
+use Rattle.recording_model.specs.TreeModel.Start.Sources.{TreeValue}
 use Rattle.recording_model.specs.Computing.{recordings_compute}
 use Rattle.recording_model.specs.Examples.{Records, four_leaves, loads_of, recorded_of, shape_of, two_leaves}
 use Rattle.recording_model.specs.Recording.{Recording, drawn_limit, recording_within}

@@ -1,6 +1,6 @@
 use Rattle.std.proofs.Common.{◌≡◌, ◌≤◌, length, filter, take}
-use Rattle.tree_model.specs.State.States.{may_leave}
-use Rattle.tree_model.specs.State.Values.{BufferValue}
+use Rattle.replacement.specs.TreeModel.State.States.{may_leave}
+use Rattle.replacement.specs.TreeModel.State.Values.{BufferValue}
 use Rattle.replacement.proofs.buffer.count_free.Given as goal
 
 abbrev pub invariant-loop-index : goal.invariant-loop-index

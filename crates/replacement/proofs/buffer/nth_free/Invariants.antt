@@ -1,7 +1,7 @@
 use Rattle.std.proofs.Common.{◌≡◌, filter, drop}
 use Rattle.std.specs.List.{slice_get}
-use Rattle.tree_model.specs.State.States.{may_leave}
-use Rattle.tree_model.specs.State.Values.{BufferValue}
+use Rattle.replacement.specs.TreeModel.State.States.{may_leave}
+use Rattle.replacement.specs.TreeModel.State.Values.{BufferValue}
 use Rattle.replacement.proofs.buffer.nth_free.Given as goal
 
 abbrev pub invariant-loop-index : goal.invariant-loop-index

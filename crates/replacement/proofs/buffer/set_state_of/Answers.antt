@@ -1,5 +1,5 @@
 use Rattle.std.proofs.Common.{◌∙◌, ap, sym, set}
-use Rattle.tree_model.specs.State.Leaf.{buffer_item}
+use Rattle.replacement.specs.TreeModel.State.Leaf.{buffer_item}
 use Rattle.replacement.specs.Arrived.{with_state}
 use Rattle.replacement.proofs.First.{first_changed, none_changed}
 use Rattle.replacement.proofs.Once.{state_same}

@@ -1,4 +1,4 @@
-use Rattle.ddm_text.specs.Adds.{◌▸◌}
+use Rattle.report.specs.DdmText.Adds.{◌▸◌}
 use Rattle.text_model.specs.Words.{entry_text}
 use Rattle.report.proofs.answers.push_entry.Goals as goal
 

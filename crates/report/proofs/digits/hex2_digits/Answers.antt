@@ -1,6 +1,6 @@
 use Rattle.std.proofs.Common.{◌*◌, ◌/◌, ◌%◌, false, refl, arith, add-one}
 use Rattle.std.specs.Fmt.{digit_glyph}
-use Rattle.ddm_text.specs.Hex.{hex2}
+use Rattle.report.specs.DdmText.Hex.{hex2}
 use Rattle.report.proofs.Pairs.{pair_at}
 use Rattle.report.proofs.digits.hex2_digits.Goals as goal
 

@@ -1,4 +1,4 @@
-use Rattle.ddm_text.specs.Hex.{hex2, hex8}
+use Rattle.report.specs.DdmText.Hex.{hex2, hex8}
 use Rattle.report.proofs.effects.push_store.Goals as goal
 
 pub returns-clause-text : goal.returns-clause-text

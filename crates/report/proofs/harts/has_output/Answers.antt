@@ -1,6 +1,6 @@
 use Rattle.std.proofs.Common.{◌≡◌, ◌<◌, true, false, List, take, get_or, length, sym, ◌∙◌, arith}
 use Rattle.std.proofs.lemmas.List.{get_or-take, length-take-le}
-use Rattle.ddm_types.specs.declared.operations.Op.{Op}
+use Rattle.report.specs.DdmTypes.declared.operations.Op.{Op}
 use Rattle.report.proofs.Lines.{byte-from}
 use Rattle.report.proofs.harts.has_output.Goals as goal
 

@@ -1,4 +1,4 @@
-use Rattle.ddm_text.specs.Adds.{◌▸◌}
+use Rattle.report.specs.DdmText.Adds.{◌▸◌}
 use Rattle.report.proofs.harts.push_hart_front.Goals as goal
 
 pub returns-clause-text : goal.returns-clause-text

@@ -1,4 +1,4 @@
-use Rattle.ddm_text.specs.Adds.{◌▸◌}
+use Rattle.report.specs.DdmText.Adds.{◌▸◌}
 use Rattle.text_model.specs.Report.{hart_line}
 use Rattle.report.proofs.harts.push_hart_line.Goals as goal
 

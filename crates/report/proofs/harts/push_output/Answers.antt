@@ -1,4 +1,4 @@
-use Rattle.ddm_text.specs.Adds.{◌▸◌}
+use Rattle.report.specs.DdmText.Adds.{◌▸◌}
 use Rattle.report.proofs.Lines.{or_dash-parts}
 use Rattle.report.proofs.harts.push_output.Goals as goal
 

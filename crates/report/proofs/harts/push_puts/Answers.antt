@@ -1,6 +1,6 @@
 use Rattle.std.proofs.Common.{◌<◌, Some, length, sym, ap, ◌∙◌, arith}
-use Rattle.inspector.proofs.OneMore.{got-some, more-of}
-use Rattle.ddm_text.specs.Adds.{◌▸◌}
+use Rattle.report.proofs.InspectorCrate.OneMore.{got-some, more-of}
+use Rattle.report.specs.DdmText.Adds.{◌▸◌}
 use Rattle.text_model.specs.Report.{put_text_by, put_texts}
 use Rattle.report.proofs.harts.push_puts.Goals as goal
 

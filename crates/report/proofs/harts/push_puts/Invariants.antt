@@ -1,5 +1,5 @@
 use Rattle.std.proofs.Common.{take}
-use Rattle.ddm_text.specs.Adds.{Adds}
+use Rattle.report.specs.DdmText.Adds.{Adds}
 use Rattle.text_model.specs.Report.{put_texts}
 use Rattle.report.proofs.harts.push_puts.Given as goal
 

@@ -1,4 +1,4 @@
-use Rattle.ddm_text.specs.Adds.{◌▸◌}
+use Rattle.report.specs.DdmText.Adds.{◌▸◌}
 use Rattle.text_model.specs.Report.{turns_line}
 use Rattle.report.proofs.harts.push_turns_line.Goals as goal
 

@@ -1,5 +1,5 @@
 use Rattle.std.proofs.Common.{append_assoc}
-use Rattle.ddm_text.specs.Adds.{◌▸◌}
+use Rattle.report.specs.DdmText.Adds.{◌▸◌}
 use Rattle.report.specs.LineParts.{item_front}
 use Rattle.report.proofs.items.push_item_front.Goals as goal
 

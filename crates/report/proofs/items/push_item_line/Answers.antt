@@ -1,4 +1,4 @@
-use Rattle.ddm_text.specs.Adds.{◌▸◌}
+use Rattle.report.specs.DdmText.Adds.{◌▸◌}
 use Rattle.report.proofs.Lines.{item_line-parts}
 use Rattle.report.proofs.items.push_item_line.Goals as goal
 

@@ -1,6 +1,6 @@
 use Rattle.std.proofs.Common.{◌≡◌, ◌-◌, ◌≤◌, ◌++◌, length, drop, take, sym, ap, ◌∙◌, arith}
 use Rattle.text_model.specs.Report.{letter_texts}
-use Rattle.tree_model.specs.Turns.Found.{states_of}
+use Rattle.report.specs.TreeModel.Turns.Found.{states_of}
 use Rattle.any_machine.specs.Any.{state_in}
 use Rattle.report.proofs.Letters.{letters-few, letters-from}
 use Rattle.report.proofs.machine_parts.put_few_states.Goals as goal

@@ -1,6 +1,6 @@
 use Rattle.std.proofs.Common.{rules, sym, ap, ◌∙◌}
-use Rattle.ddm_text.specs.Adds.{alone}
-use Rattle.ddm_tree.proofs.LeafList.{leaf-there}
+use Rattle.report.specs.DdmText.Adds.{alone}
+use Rattle.report.proofs.DdmTree.LeafList.{leaf-there}
 use Rattle.any_machine.specs.Any.{state_in}
 use Rattle.report.specs.MachineView.{harts_of}
 use Rattle.report.specs.ReportLeft.{hart_front, no_view}

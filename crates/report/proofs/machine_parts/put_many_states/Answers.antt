@@ -1,9 +1,9 @@
 use Rattle.std.proofs.Common.{◌<◌, length, rules, sym, arith}
-use Rattle.tree_model.specs.State.Shape.{tree_counts}
-use Rattle.tree_model.specs.Turns.Found.{states_of}
+use Rattle.report.specs.TreeModel.State.Shape.{tree_counts}
+use Rattle.report.specs.TreeModel.Turns.Found.{states_of}
 use Rattle.text_model.specs.Report.{letter_text, letter_texts}
-use Rattle.ddm_tree.proofs.LeafList.{leaf-there}
-use Rattle.inspector.proofs.LeafStates.{states-counted}
+use Rattle.report.proofs.DdmTree.LeafList.{leaf-there}
+use Rattle.report.proofs.InspectorCrate.LeafStates.{states-counted}
 use Rattle.any_machine.specs.Any.{state_in}
 use Rattle.report.proofs.MachineLines.{got-is, state-shown}
 use Rattle.report.proofs.ReportParts.{one-more}

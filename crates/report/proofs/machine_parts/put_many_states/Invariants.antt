@@ -1,5 +1,5 @@
 use Rattle.std.proofs.Common.{◌≡◌, ◌≤◌, ◌-◌, ◌++◌, length, drop}
-use Rattle.tree_model.specs.Turns.Found.{states_of}
+use Rattle.report.specs.TreeModel.Turns.Found.{states_of}
 use Rattle.text_model.specs.Report.{letter_texts}
 use Rattle.any_machine.specs.Any.{state_in}
 use Rattle.report.proofs.machine_parts.put_many_states.Given as goal

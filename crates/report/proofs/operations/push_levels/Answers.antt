@@ -1,6 +1,6 @@
 use Rattle.std.proofs.Common.{◌≡◌, sym, arith}
 use Rattle.std.proofs.lemmas.List.{append-nil}
-use Rattle.ddm_text.specs.Adds.{◌▸◌}
+use Rattle.report.specs.DdmText.Adds.{◌▸◌}
 use Rattle.report.proofs.Keys.{no_level, one_level, two_levels, three_levels, four_levels}
 use Rattle.report.proofs.operations.push_levels.Goals as goal
 

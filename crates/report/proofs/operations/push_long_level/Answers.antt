@@ -1,6 +1,6 @@
 use Rattle.std.proofs.Common.{append_assoc, arith}
 use Rattle.std.proofs.lemmas.Fmt.{decimal_digit}
-use Rattle.ddm_text.specs.Adds.{◌▸◌}
+use Rattle.report.specs.DdmText.Adds.{◌▸◌}
 use Rattle.report.proofs.operations.push_long_level.Goals as goal
 
 pub returns-then-child-lt10-clause-text : goal.returns-then-child-lt10-clause-text

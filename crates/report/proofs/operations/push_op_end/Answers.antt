@@ -1,4 +1,4 @@
-use Rattle.ddm_text.specs.Hex.{hex2, hex8}
+use Rattle.report.specs.DdmText.Hex.{hex2, hex8}
 use Rattle.text_model.specs.Words.{effect_text}
 use Rattle.report.proofs.operations.push_op_end.Goals as goal
 

@@ -1,7 +1,7 @@
 use Rattle.std.proofs.Common.{◌≡◌, ℕ, List, ◌++◌, ap, ◌∙◌, append_assoc}
 use Rattle.std.specs.Prelude.{codes}
-use Rattle.ddm_text.specs.Adds.{Adds, ◌▸◌}
-use Rattle.ddm_text.specs.Hex.{hex8}
+use Rattle.report.specs.DdmText.Adds.{Adds, ◌▸◌}
+use Rattle.report.specs.DdmText.Hex.{hex8}
 use Rattle.text_model.specs.Report.{op_line}
 use Rattle.text_model.specs.Words.{effect_text}
 use Rattle.report.proofs.operations.push_op_line.Goals as goal

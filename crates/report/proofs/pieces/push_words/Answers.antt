@@ -1,6 +1,6 @@
 use Rattle.std.proofs.Common.{sym, arith}
 use Rattle.std.proofs.lemmas.List.{append-nil}
-use Rattle.ddm_text.specs.Adds.{◌▸◌}
+use Rattle.report.specs.DdmText.Adds.{◌▸◌}
 use Rattle.text_model.specs.Report.{word_texts}
 use Rattle.report.proofs.Words.{last-word, two-words}
 use Rattle.report.proofs.pieces.push_words.Goals as goal

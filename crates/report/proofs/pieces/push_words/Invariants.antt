@@ -1,5 +1,5 @@
 use Rattle.std.proofs.Common.{◌≤◌, ◌+◌, ◌-◌, ◌*◌, length, take}
-use Rattle.ddm_text.specs.Adds.{Adds}
+use Rattle.report.specs.DdmText.Adds.{Adds}
 use Rattle.text_model.specs.Report.{word_texts}
 use Rattle.report.proofs.pieces.push_words.Given as goal
 

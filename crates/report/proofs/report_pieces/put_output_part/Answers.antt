@@ -1,6 +1,6 @@
 use Rattle.std.proofs.Common.{◌≡◌, ◌++◌, List, drop, sym, subst, arith}
 use Rattle.std.specs.Prelude.{codes}
-use Rattle.ddm_types.specs.declared.operations.Op.{Op}
+use Rattle.report.specs.DdmTypes.declared.operations.Op.{Op}
 use Rattle.text_model.specs.Report.{put_texts}
 use Rattle.report.specs.LineParts.{dash_behind}
 use Rattle.report.specs.ReportLeft.{Gives}

@@ -1,6 +1,6 @@
 use Rattle.std.proofs.Common.{◌≡◌, length, sym, ap, ◌∙◌, arith}
-use Rattle.ddm_types.specs.ItemTable.{item_count}
-use Rattle.tree_model.specs.State.Shape.{depth_of}
+use Rattle.report.specs.DdmTypes.ItemTable.{item_count}
+use Rattle.report.specs.TreeModel.State.Shape.{depth_of}
 use Rattle.text_model.specs.Run.{view_of}
 use Rattle.any_machine.specs.Any.{state_in}
 use Rattle.report.specs.LineParts.{are_silent}

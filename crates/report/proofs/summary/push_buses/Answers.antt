@@ -1,6 +1,6 @@
 use Rattle.std.proofs.Common.{◌<◌, ◌≤◌, length, ap, sym, arith}
 use Rattle.std.proofs.lemmas.List.{append-nil, take_all}
-use Rattle.ddm_text.specs.Adds.{◌▸◌}
+use Rattle.report.specs.DdmText.Adds.{◌▸◌}
 use Rattle.text_model.specs.Report.{bus_lines_from}
 use Rattle.any_machine.specs.Any.{state_in}
 use Rattle.report.proofs.MachineLines.{buses-counted, more-buses}

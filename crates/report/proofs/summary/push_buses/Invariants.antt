@@ -1,5 +1,5 @@
 use Rattle.std.proofs.Common.{take}
-use Rattle.ddm_text.specs.Adds.{Adds}
+use Rattle.report.specs.DdmText.Adds.{Adds}
 use Rattle.text_model.specs.Report.{bus_lines}
 use Rattle.any_machine.specs.Any.{state_in}
 use Rattle.report.proofs.summary.push_buses.Given as goal

@@ -1,10 +1,10 @@
 use Rattle.std.proofs.Common.{◌<◌, ◌≤◌, length, ap, arith, rules}
 use Rattle.std.proofs.lemmas.List.{take_all}
-use Rattle.ddm_text.specs.Adds.{◌▸◌}
-use Rattle.tree_model.specs.State.Shape.{tree_counts}
+use Rattle.report.specs.DdmText.Adds.{◌▸◌}
+use Rattle.report.specs.TreeModel.State.Shape.{tree_counts}
 use Rattle.text_model.specs.Report.{hart_line_of}
-use Rattle.ddm_tree.proofs.LeafList.{leaf-there}
-use Rattle.inspector.proofs.OneMore.{more-of}
+use Rattle.report.proofs.DdmTree.LeafList.{leaf-there}
+use Rattle.report.proofs.InspectorCrate.OneMore.{more-of}
 use Rattle.any_machine.specs.Any.{state_in}
 use Rattle.report.specs.MachineView.{harts_of}
 use Rattle.report.proofs.MachineLines.{hart-shown, harts-counted}

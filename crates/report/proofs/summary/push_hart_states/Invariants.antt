@@ -1,6 +1,6 @@
 use Rattle.std.proofs.Common.{take}
 use Rattle.std.specs.List.{flat_map}
-use Rattle.ddm_text.specs.Adds.{Adds}
+use Rattle.report.specs.DdmText.Adds.{Adds}
 use Rattle.text_model.specs.Report.{hart_line_of}
 use Rattle.any_machine.specs.Any.{state_in}
 use Rattle.report.specs.MachineView.{harts_of}

@@ -1,4 +1,4 @@
-use Rattle.ddm_text.specs.Adds.{◌▸◌, alone}
+use Rattle.report.specs.DdmText.Adds.{◌▸◌, alone}
 use Rattle.text_model.specs.Report.{summary_of}
 use Rattle.text_model.specs.Run.{view_of}
 use Rattle.report.proofs.summary.summary.Goals as goal

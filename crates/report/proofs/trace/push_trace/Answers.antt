@@ -1,6 +1,6 @@
 use Rattle.std.proofs.Common.{◌<◌, ◌+◌, ◌++◌, length, sym, ap, ◌∙◌, arith}
 use Rattle.std.proofs.lemmas.List.{append-nil}
-use Rattle.ddm_text.specs.Adds.{alone}
+use Rattle.report.specs.DdmText.Adds.{alone}
 use Rattle.text_model.specs.Trace.{trace_from, trace_line}
 use Rattle.report.proofs.TraceParts.{trace-next}
 use Rattle.report.proofs.trace.push_trace.Goals as goal

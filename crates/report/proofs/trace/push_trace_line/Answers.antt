@@ -1,4 +1,4 @@
-use Rattle.ddm_text.specs.Adds.{◌▸◌}
+use Rattle.report.specs.DdmText.Adds.{◌▸◌}
 use Rattle.text_model.specs.Trace.{trace_line}
 use Rattle.report.proofs.trace.push_trace_line.Goals as goal
 

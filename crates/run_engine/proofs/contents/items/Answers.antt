@@ -1,6 +1,6 @@
 use Rattle.std.proofs.Common.{List, ◌∙◌, ap}
-use Rattle.ddm_types.specs.declared.sizes.Start.{Start}
-use Rattle.tree_model.specs.Start.Sources.{ImageValue, SegmentValue, start_of_harts}
+use Rattle.run_engine.specs.DdmTypes.declared.sizes.Start.{Start}
+use Rattle.run_engine.specs.TreeModel.Start.Sources.{ImageValue, SegmentValue, start_of_harts}
 use Rattle.start_memory.specs.Memory.{memory_spans}
 use Rattle.run_engine.proofs.Built.{few_from}
 use Rattle.run_engine.proofs.contents.items.Goals as goal

@@ -1,7 +1,7 @@
 use Rattle.std.proofs.Common.{◌≡◌, ◌≤◌, ◌^◌, filter, rules, sym, ap, subst, ◌∙◌}
 use Rattle.std.specs.Prelude.{All}
 use Rattle.std.proofs.lemmas.List.Elements.{All-filter, filter_from_retain}
-use Rattle.ddm_types.specs.ItemTable.{items_of, span_end}
+use Rattle.run_engine.specs.DdmTypes.ItemTable.{items_of, span_end}
 use Rattle.run_engine.specs.Build.{has_bytes}
 use Rattle.run_engine.proofs.Filled.{filled-items}
 use Rattle.run_engine.proofs.contents.keep_filled.Goals as goal

@@ -1,13 +1,13 @@
 use Rattle.std.proofs.Common.{◌≡◌, ◌≤◌, ◌+◌, length, map, sum, Some, sym, ap, subst, ◌∙◌, arith, IfOk, All}
 use Rattle.std.specs.Prelude.{slice_get}
 use Rattle.std.proofs.lemmas.List.{length-map}
-use Rattle.ddm_types.specs.ItemTable.{item_count}
-use Rattle.tree_model.specs.State.Values.{dir_node, nodes}
-use Rattle.tree_model.specs.Start.Nodes.{cut_in, dir_sizes, dirs_over}
-use Rattle.tree_model.specs.Start.Memory.{start_items}
-use Rattle.tree_model.specs.Start.Sources.{width_of}
+use Rattle.run_engine.specs.DdmTypes.ItemTable.{item_count}
+use Rattle.run_engine.specs.TreeModel.State.Values.{dir_node, nodes}
+use Rattle.run_engine.specs.TreeModel.Start.Nodes.{cut_in, dir_sizes, dirs_over}
+use Rattle.run_engine.specs.TreeModel.Start.Memory.{start_items}
+use Rattle.run_engine.specs.TreeModel.Start.Sources.{width_of}
 use Rattle.tree_config.specs.Levels.{IsShape}
-use Rattle.ddm_tree.specs.Holders.{IsHolder}
+use Rattle.run_engine.specs.DdmTree.Holders.{IsHolder}
 use Rattle.run_engine.specs.Started.{nodes_at}
 use Rattle.run_engine.proofs.LevelNodes.{level-at, level-few, level-nodes, nodes-hold, widths-some, widths-whole}
 use Rattle.run_engine.proofs.TreeStart.{width-is}

@@ -1,6 +1,6 @@
 use Rattle.std.proofs.Common.{◌≡◌, ◌++◌, ◌∷◌, [], map, ap, ◌∙◌, arith}
 use Rattle.std.specs.List.{range_with_len}
-use Rattle.tree_model.specs.Start.Nodes.{leaf_sizes, new_leaf}
+use Rattle.run_engine.specs.TreeModel.Start.Nodes.{leaf_sizes, new_leaf}
 use Rattle.run_engine.proofs.Placing.{made-more}
 use Rattle.run_engine.proofs.leaves.new_leaves.Goals as goal
 

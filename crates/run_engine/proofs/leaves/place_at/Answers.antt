@@ -1,7 +1,7 @@
 use Rattle.std.proofs.Common.{◌≡◌, sym, ap, ◌∙◌}
 use Rattle.std.specs.Prelude.{is_ok, is_some, slice_index_or, slice_set}
-use Rattle.tree_model.specs.State.Leaf.{free_way}
-use Rattle.tree_model.specs.Start.Nodes.{has_way, placed}
+use Rattle.run_engine.specs.TreeModel.State.Leaf.{free_way}
+use Rattle.run_engine.specs.TreeModel.Start.Nodes.{has_way, placed}
 use Rattle.run_engine.proofs.Placing.{placed-after, way-at, way-told}
 use Rattle.run_engine.proofs.leaves.place_at.Goals as goal
 

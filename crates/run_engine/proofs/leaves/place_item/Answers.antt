@@ -1,7 +1,7 @@
 use Rattle.std.proofs.Common.{rules, ◌≡◌, ◌<◌, ◌+◌, ◌%◌, length, true, false, Some, refl, sym, ap, ◌∙◌, arith, All}
 use Rattle.std.proofs.lemmas.Nat.{mod_below}
-use Rattle.tree_model.specs.State.Lists.{map_from}
-use Rattle.tree_model.specs.Start.Nodes.{has_way, leaf_for, placed_at}
+use Rattle.run_engine.specs.TreeModel.State.Lists.{map_from}
+use Rattle.run_engine.specs.TreeModel.Start.Nodes.{has_way, leaf_for, placed_at}
 use Rattle.run_engine.specs.Placement.{TakesItem, in_turn}
 use Rattle.run_engine.proofs.Placing.{search-all, search-end, search-found, search-skip, placed-found, placed-nowhere}
 use Rattle.run_engine.proofs.Passing.{one-more}

@@ -2,7 +2,7 @@ use Rattle.std.proofs.Common.{◌≡◌, ℕ, ◌+◌, ◌%◌, length, drop, ru
 use Rattle.std.specs.Prelude.{slice_index_or}
 use Rattle.std.proofs.Math.Nat.{mod-add-mod, zero-mod}
 use Rattle.std.proofs.lemmas.List.{drop_all}
-use Rattle.tree_model.specs.Start.Nodes.{placed_items}
+use Rattle.run_engine.specs.TreeModel.Start.Nodes.{placed_items}
 use Rattle.run_engine.specs.Placement.{HasSets, TakesItem}
 use Rattle.run_engine.proofs.Open.{IsOpen, blank-open, open-more, open-takes, placed-end, placed-next}
 use Rattle.run_engine.proofs.Passing.{AreKnown, IsKnown, MayBegin, begins-behind, begins-own, known-next, none-known, nothing_passed, placed-none, sets-in}

@@ -1,5 +1,5 @@
 use Rattle.std.proofs.Common.{◌≡◌, ◌%◌, length, drop, All}
-use Rattle.tree_model.specs.Start.Nodes.{placed_items}
+use Rattle.run_engine.specs.TreeModel.Start.Nodes.{placed_items}
 use Rattle.run_engine.specs.Placement.{HasSets}
 use Rattle.run_engine.proofs.Open.{IsOpen}
 use Rattle.run_engine.proofs.Passing.{AreKnown}

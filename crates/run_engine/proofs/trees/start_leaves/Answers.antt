@@ -1,8 +1,8 @@
 use Rattle.std.proofs.Common.{rules, ◌≡◌, length, map, sym, ap, subst, ◌∙◌, arith, All}
 use Rattle.std.specs.List.{range_with_len}
-use Rattle.ddm_types.specs.ItemTable.{item_count}
-use Rattle.tree_model.specs.Start.Nodes.{leaf_sizes, new_leaf, placed_items}
-use Rattle.ddm_tree.proofs.TurnMade.{items-back}
+use Rattle.run_engine.specs.DdmTypes.ItemTable.{item_count}
+use Rattle.run_engine.specs.TreeModel.Start.Nodes.{leaf_sizes, new_leaf, placed_items}
+use Rattle.run_engine.proofs.DdmTree.TurnMade.{items-back}
 use Rattle.run_engine.specs.Placement.{CanPlace, HasSets}
 use Rattle.run_engine.proofs.TreeStart.{can-place, items-few, leaves-start, new-sets, sets-range, ways-range, words-start}
 use Rattle.run_engine.proofs.trees.start_leaves.Goals as goal

@@ -1,10 +1,10 @@
 use Rattle.std.proofs.Common.{rules, ◌≡◌, map, ap, subst, arith, IfOk}
-use Rattle.ddm_types.specs.declared.sizes.TreeCounts.{TreeCounts}
-use Rattle.ddm_types.specs.ItemTable.{item_count}
-use Rattle.ddm_tree.specs.Machine.{MachineState}
+use Rattle.run_engine.specs.DdmTypes.declared.sizes.TreeCounts.{TreeCounts}
+use Rattle.run_engine.specs.DdmTypes.ItemTable.{item_count}
+use Rattle.run_engine.specs.DdmTree.Machine.{MachineState}
 use Rattle.tree_config.specs.Levels.{IsShape}
 use Rattle.tree_config.specs.Ranges.{IsInRange}
-use Rattle.start_parts.specs.Counts.{counts_of}
+use Rattle.run_engine.specs.StartParts.Counts.{counts_of}
 use Rattle.run_engine.proofs.TreeStart.{items-size, new-start, parts-start}
 use Rattle.run_engine.proofs.trees.start_machine.Goals as goal
 

@@ -1,5 +1,5 @@
 use Rattle.std.proofs.Common.{arith, ap, ◌∙◌, slice_set}
-use Rattle.flat_model.specs.Flat.{FlatHart, without_reserved}
+use Rattle.rv_flat.specs.FlatModel.Flat.{FlatHart, without_reserved}
 use Rattle.rv_flat.proofs.Lists.{mapped_more}
 use Rattle.rv_flat.proofs.flat_hart.free_all.Goals as goal
 

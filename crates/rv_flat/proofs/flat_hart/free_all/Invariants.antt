@@ -1,5 +1,5 @@
 use Rattle.std.proofs.Common.{◌≡◌, map, ◌++◌, take, drop}
-use Rattle.flat_model.specs.Flat.{without_reserved}
+use Rattle.rv_flat.specs.FlatModel.Flat.{without_reserved}
 use Rattle.rv_flat.proofs.flat_hart.free_all.Given as goal
 
 abbrev pub invariant-loop-hart : goal.invariant-loop-hart

@@ -1,7 +1,7 @@
 use Rattle.std.proofs.Common.{arith}
 use Rattle.std.proofs.lemmas.Grind.{common_steps}
 use Rattle.std.proofs.lemmas.List.FromFn.{map-range_with_len_more}
-use Rattle.flat_model.specs.Flat.{flat_hart_start}
+use Rattle.rv_flat.specs.FlatModel.Flat.{flat_hart_start}
 use Rattle.rv_flat.proofs.flat_hart.harts_at_start.Goals as goal
 
 pub loop-hart-preserved : goal.loop-hart-preserved

@@ -1,6 +1,6 @@
 use Rattle.std.proofs.Common.{◌≡◌, map}
 use Rattle.std.specs.List.{range_with_len}
-use Rattle.flat_model.specs.Flat.{flat_hart_start}
+use Rattle.rv_flat.specs.FlatModel.Flat.{flat_hart_start}
 use Rattle.rv_flat.proofs.flat_hart.harts_at_start.Given as goal
 
 abbrev pub invariant-loop-hart : goal.invariant-loop-hart

@@ -1,5 +1,5 @@
 use Rattle.std.proofs.Common.{ℕ, ◌+◌, ◌*◌, ◌<◌, List, length, vec_len, vec_capacity}
-use Rattle.ddm_types.specs.declared.turns.Turn.{Turn}
+use Rattle.schedule_log.specs.DdmTypes.declared.turns.Turn.{Turn}
 use Rattle.schedule_log.specs.Reader.{ReadUpTo}
 use Rattle.schedule_log.proofs.reading.read_remembered.Given as goal
 

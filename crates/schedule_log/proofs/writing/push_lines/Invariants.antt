@@ -1,5 +1,5 @@
 use Rattle.std.proofs.Common.{take}
-use Rattle.ddm_text.specs.Adds.{Adds}
+use Rattle.schedule_log.specs.DdmText.Adds.{Adds}
 use Rattle.text_model.specs.Schedule.{turn_lines}
 use Rattle.schedule_log.proofs.writing.push_lines.Given as goal
 

@@ -1,6 +1,6 @@
 use Rattle.std.proofs.Common.{OnOk, sym, subst}
 use Rattle.std.proofs.lemmas.Fmt.{decimal_digit}
-use Rattle.ddm_text.specs.Adds.{Adds}
+use Rattle.schedule_log.specs.DdmText.Adds.{Adds}
 use Rattle.schedule_log.proofs.writing.push_number.Goals as goal
 
 pub returns-then-n-lt10 : goal.returns-then-n-lt10

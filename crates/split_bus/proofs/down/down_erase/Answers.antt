@@ -1,5 +1,5 @@
 use Rattle.std.proofs.Common.{refl}
-use Rattle.tree_model.specs.Turns.Down.{erase_of_children}
+use Rattle.split_bus.specs.TreeModel.Turns.Down.{erase_of_children}
 use Rattle.split_bus.proofs.Outcomes.{full_outcome, room_outcome}
 use Rattle.split_bus.proofs.down.down_erase.Goals as goal
 

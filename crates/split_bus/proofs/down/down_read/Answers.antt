@@ -1,6 +1,6 @@
 use Rattle.std.proofs.Common.{◌≡◌, Some, map, sym}
-use Rattle.tree_model.specs.Turns.Children.{holds_item}
-use Rattle.tree_model.specs.State.Lists.{find_from}
+use Rattle.split_bus.specs.TreeModel.Turns.Children.{holds_item}
+use Rattle.split_bus.specs.TreeModel.State.Lists.{find_from}
 use Rattle.split_bus.proofs.down.down_read.Goals as goal
 
 pub returns-in-Some : goal.returns-in-Some

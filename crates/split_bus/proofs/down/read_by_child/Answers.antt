@@ -1,5 +1,5 @@
 use Rattle.std.proofs.Common.{refl}
-use Rattle.tree_model.specs.Turns.Down.{read_by_child}
+use Rattle.split_bus.specs.TreeModel.Turns.Down.{read_by_child}
 use Rattle.split_bus.proofs.Outcomes.{full_outcome, room_outcome}
 use Rattle.split_bus.proofs.down.read_by_child.Goals as goal
 

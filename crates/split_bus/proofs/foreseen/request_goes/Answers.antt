@@ -1,6 +1,6 @@
 use Rattle.std.proofs.Common.{map, arith, ap}
-use Rattle.tree_model.specs.State.Child.{child_request}
-use Rattle.tree_model.specs.Turns.Children.{child_at}
+use Rattle.split_bus.specs.TreeModel.State.Child.{child_request}
+use Rattle.split_bus.specs.TreeModel.Turns.Children.{child_at}
 use Rattle.split_bus.specs.Outcomes.{grants}
 use Rattle.split_bus.proofs.Granting.{asked-turn}
 use Rattle.split_bus.proofs.foreseen.request_goes.Goals as goal

@@ -1,5 +1,5 @@
 use Rattle.std.proofs.Common.{sym, ◌∙◌}
-use Rattle.tree_model.specs.Turns.Bus.{bus_step}
+use Rattle.split_bus.specs.TreeModel.Turns.Bus.{bus_step}
 use Rattle.split_bus.proofs.Granting.{granted-answer}
 use Rattle.split_bus.proofs.foreseen.would_grant.Goals as goal
 

@@ -1,5 +1,5 @@
 use Rattle.std.proofs.Common.{◌≡◌, drop, map}
-use Rattle.tree_model.specs.State.Lists.{first_given}
+use Rattle.split_bus.specs.TreeModel.State.Lists.{first_given}
 use Rattle.split_bus.specs.Children.{full_to_hear}
 use Rattle.split_bus.proofs.hearers.find_full.Given as goal
 

@@ -1,5 +1,5 @@
 use Rattle.std.proofs.Common.{refl}
-use Rattle.tree_model.specs.Turns.Down.{inject_parked}
+use Rattle.split_bus.specs.TreeModel.Turns.Down.{inject_parked}
 use Rattle.split_bus.proofs.inject.inject_parked.Goals as goal
 
 pub returns : goal.returns

@@ -1,5 +1,5 @@
 use Rattle.std.proofs.Common.{map, refl, rules}
-use Rattle.tree_model.specs.Turns.Down.{inject_to_child}
+use Rattle.split_bus.specs.TreeModel.Turns.Down.{inject_to_child}
 use Rattle.split_bus.proofs.Found.{taker-room, room-hears, room-place}
 use Rattle.split_bus.proofs.inject.inject_to_child.Goals as goal
 

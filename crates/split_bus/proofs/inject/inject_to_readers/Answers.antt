@@ -1,5 +1,5 @@
 use Rattle.std.proofs.Common.{refl}
-use Rattle.tree_model.specs.Turns.Down.{inject_to_readers}
+use Rattle.split_bus.specs.TreeModel.Turns.Down.{inject_to_readers}
 use Rattle.split_bus.proofs.Outcomes.{full_outcome, room_outcome}
 use Rattle.split_bus.proofs.inject.inject_to_readers.Goals as goal
 

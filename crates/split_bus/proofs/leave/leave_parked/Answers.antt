@@ -1,5 +1,5 @@
 use Rattle.std.proofs.Common.{refl}
-use Rattle.tree_model.specs.Turns.Leave.{leave_parked}
+use Rattle.split_bus.specs.TreeModel.Turns.Leave.{leave_parked}
 use Rattle.split_bus.proofs.leave.leave_parked.Goals as goal
 
 pub returns : goal.returns

@@ -1,5 +1,5 @@
 use Rattle.std.proofs.Common.{◌≡◌, true, false, map, sym, ◌∙◌}
-use Rattle.tree_model.specs.State.Directory.{is_top}
+use Rattle.split_bus.specs.TreeModel.State.Directory.{is_top}
 use Rattle.split_bus.proofs.Found.{none-before}
 use Rattle.split_bus.proofs.leave.leave_taker.Goals as goal
 

@@ -1,10 +1,10 @@
 use Rattle.std.proofs.Common.{◌≡◌, ℕ, List, map, refl, ap, ◌∙◌, rules}
-use Rattle.ddm_types.specs.declared.keys.Stamp.{Stamp}
-use Rattle.tree_model.specs.State.Lists.{map_from}
-use Rattle.tree_model.specs.State.Directory.{stamp_of, counted}
-use Rattle.tree_model.specs.State.Child.{child_give_up, child_take_inject}
-use Rattle.tree_model.specs.Turns.Children.{only, passed_on}
-use Rattle.tree_model.specs.Turns.Leave.{leave_to}
+use Rattle.split_bus.specs.DdmTypes.declared.keys.Stamp.{Stamp}
+use Rattle.split_bus.specs.TreeModel.State.Lists.{map_from}
+use Rattle.split_bus.specs.TreeModel.State.Directory.{stamp_of, counted}
+use Rattle.split_bus.specs.TreeModel.State.Child.{child_give_up, child_take_inject}
+use Rattle.split_bus.specs.TreeModel.Turns.Children.{only, passed_on}
+use Rattle.split_bus.specs.TreeModel.Turns.Leave.{leave_to}
 use Rattle.split_bus.proofs.Maps.{both-told_back, have-kept, node_items-given_up, only-other}
 use Rattle.split_bus.proofs.Found.{leave_taker-other, room-hears, room-place}
 use Rattle.split_bus.proofs.leave.leave_to.Goals as goal

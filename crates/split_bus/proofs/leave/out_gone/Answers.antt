@@ -1,5 +1,5 @@
 use Rattle.std.proofs.Common.{refl}
-use Rattle.tree_model.specs.Turns.Leave.{out_gone}
+use Rattle.split_bus.specs.TreeModel.Turns.Leave.{out_gone}
 use Rattle.split_bus.proofs.leave.out_gone.Goals as goal
 
 pub returns : goal.returns

@@ -1,5 +1,5 @@
 use Rattle.std.proofs.Common.{refl}
-use Rattle.tree_model.specs.Turns.Reply.{reply_to_parent}
+use Rattle.split_bus.specs.TreeModel.Turns.Reply.{reply_to_parent}
 use Rattle.split_bus.proofs.Outcomes.{full_outcome, room_outcome}
 use Rattle.split_bus.proofs.reply.reply_to_parent.Goals as goal
 

@@ -1,6 +1,6 @@
 use Rattle.std.proofs.Common.{map, refl, rules, sym}
-use Rattle.tree_model.specs.Turns.Reply.{reply_to_readers}
-use Rattle.tree_model.specs.State.Child.{child_reply_taken}
+use Rattle.split_bus.specs.TreeModel.Turns.Reply.{reply_to_readers}
+use Rattle.split_bus.specs.TreeModel.State.Child.{child_reply_taken}
 use Rattle.split_bus.specs.Children.{note_of_readers}
 use Rattle.split_bus.proofs.Maps.{map_from-both, have-kept, node_items-reply_taken, readers-reply_taken}
 use Rattle.split_bus.proofs.Outcomes.{full_outcome, room_outcome}

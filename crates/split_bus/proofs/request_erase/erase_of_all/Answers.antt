@@ -1,7 +1,7 @@
 use Rattle.std.proofs.Common.{◌≡◌, map, refl}
-use Rattle.tree_model.specs.State.States.{is_exclusive}
-use Rattle.tree_model.specs.State.Directory.{dir_hold}
-use Rattle.tree_model.specs.Turns.RequestErase.{erase_noted, erase_of_all}
+use Rattle.split_bus.specs.TreeModel.State.States.{is_exclusive}
+use Rattle.split_bus.specs.TreeModel.State.Directory.{dir_hold}
+use Rattle.split_bus.specs.TreeModel.Turns.RequestErase.{erase_noted, erase_of_all}
 use Rattle.split_bus.proofs.Erase.{erase-sent, erase-bus}
 use Rattle.split_bus.proofs.Outcomes.{full_outcome, room_outcome}
 use Rattle.split_bus.proofs.request_erase.erase_of_all.Goals as goal

@@ -1,5 +1,5 @@
 use Rattle.std.proofs.Common.{refl}
-use Rattle.tree_model.specs.Turns.RequestRead.{joins}
+use Rattle.split_bus.specs.TreeModel.Turns.RequestRead.{joins}
 use Rattle.split_bus.proofs.request_read.joins.Goals as goal
 
 pub returns : goal.returns

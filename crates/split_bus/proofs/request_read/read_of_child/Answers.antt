@@ -1,10 +1,10 @@
 use Rattle.std.proofs.Common.{◌≡◌, map, refl, ap, ◌∙◌}
-use Rattle.ddm_types.specs.declared.keys.Stamp.{Stamp}
-use Rattle.tree_model.specs.State.Lists.{map_from}
-use Rattle.tree_model.specs.State.Directory.{stamp_of, counted}
-use Rattle.tree_model.specs.State.Child.{child_answer, child_request_taken}
-use Rattle.tree_model.specs.Turns.Children.{only, read_from}
-use Rattle.tree_model.specs.Turns.RequestRead.{read_of_child}
+use Rattle.split_bus.specs.DdmTypes.declared.keys.Stamp.{Stamp}
+use Rattle.split_bus.specs.TreeModel.State.Lists.{map_from}
+use Rattle.split_bus.specs.TreeModel.State.Directory.{stamp_of, counted}
+use Rattle.split_bus.specs.TreeModel.State.Child.{child_answer, child_request_taken}
+use Rattle.split_bus.specs.TreeModel.Turns.Children.{only, read_from}
+use Rattle.split_bus.specs.TreeModel.Turns.RequestRead.{read_of_child}
 use Rattle.split_bus.proofs.Maps.{both-told}
 use Rattle.split_bus.proofs.Found.{other_holder-apart}
 use Rattle.split_bus.proofs.Outcomes.{full_outcome, room_outcome}

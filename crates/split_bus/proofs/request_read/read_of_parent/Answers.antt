@@ -1,5 +1,5 @@
 use Rattle.std.proofs.Common.{refl}
-use Rattle.tree_model.specs.Turns.RequestRead.{read_of_parent}
+use Rattle.split_bus.specs.TreeModel.Turns.RequestRead.{read_of_parent}
 use Rattle.split_bus.proofs.Outcomes.{full_outcome, room_outcome}
 use Rattle.split_bus.proofs.request_read.read_of_parent.Goals as goal
 

@@ -1,5 +1,5 @@
 use Rattle.std.proofs.Common.{◌≡◌, drop, map}
-use Rattle.tree_model.specs.State.Lists.{find_from}
+use Rattle.split_bus.specs.TreeModel.State.Lists.{find_from}
 use Rattle.split_bus.specs.Children.{is_sought}
 use Rattle.split_bus.proofs.sought.find.Given as goal
 

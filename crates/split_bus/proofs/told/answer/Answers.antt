@@ -1,4 +1,4 @@
-use Rattle.tree_model.specs.State.Child.{child_answer}
+use Rattle.split_bus.specs.TreeModel.State.Child.{child_answer}
 use Rattle.split_bus.proofs.Alone.{told-child}
 use Rattle.split_bus.proofs.told.answer.Goals as goal
 

@@ -1,4 +1,4 @@
-use Rattle.tree_model.specs.State.Child.{child_give_up}
+use Rattle.split_bus.specs.TreeModel.State.Child.{child_give_up}
 use Rattle.split_bus.proofs.Alone.{told-child}
 use Rattle.split_bus.proofs.told.give_up.Goals as goal
 

@@ -1,5 +1,5 @@
 use Rattle.std.proofs.Common.{◌≡◌, map}
-use Rattle.tree_model.specs.Turns.Children.{loses}
+use Rattle.split_bus.specs.TreeModel.Turns.Children.{loses}
 use Rattle.split_bus.proofs.Loops.{map_first}
 use Rattle.split_bus.proofs.told.lose_all.Given as goal
 

@@ -1,5 +1,5 @@
 use Rattle.std.proofs.Common.{◌<◌, arith}
-use Rattle.tree_model.specs.Turns.Children.{erased_by}
+use Rattle.split_bus.specs.TreeModel.Turns.Children.{erased_by}
 use Rattle.item_states.specs.Parts.{node_items}
 use Rattle.split_bus.specs.Children.{full_to_hear}
 use Rattle.split_bus.specs.declared.hearers.Hearers.TheVariants.{LoseOthers}

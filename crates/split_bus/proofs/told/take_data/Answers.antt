@@ -1,5 +1,5 @@
 use Rattle.std.proofs.Common.{◌<◌, arith, rules}
-use Rattle.tree_model.specs.Turns.Children.{reader_takes}
+use Rattle.split_bus.specs.TreeModel.Turns.Children.{reader_takes}
 use Rattle.item_states.specs.Parts.{node_items}
 use Rattle.split_bus.specs.Children.{full_to_hear, note_of_readers}
 use Rattle.split_bus.specs.declared.hearers.Hearers.TheVariants.{TakeData}

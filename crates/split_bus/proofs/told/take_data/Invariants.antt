@@ -1,5 +1,5 @@
 use Rattle.std.proofs.Common.{◌≡◌, map}
-use Rattle.tree_model.specs.Turns.Children.{reader_takes}
+use Rattle.split_bus.specs.TreeModel.Turns.Children.{reader_takes}
 use Rattle.split_bus.specs.Children.{note_of_readers}
 use Rattle.split_bus.proofs.Loops.{map_first}
 use Rattle.split_bus.proofs.told.take_data.Given as goal

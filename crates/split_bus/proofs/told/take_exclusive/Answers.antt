@@ -1,5 +1,5 @@
 use Rattle.std.proofs.Common.{arith}
-use Rattle.tree_model.specs.State.Child.{child_take_exclusive}
+use Rattle.split_bus.specs.TreeModel.State.Child.{child_take_exclusive}
 use Rattle.split_bus.proofs.Alone.{told-child, told-absent}
 use Rattle.split_bus.proofs.told.take_exclusive.Goals as goal
 

@@ -1,4 +1,4 @@
-use Rattle.tree_model.specs.State.Child.{child_reply_taken}
+use Rattle.split_bus.specs.TreeModel.State.Child.{child_reply_taken}
 use Rattle.split_bus.proofs.Alone.{told-child}
 use Rattle.split_bus.proofs.told.take_reply.Goals as goal
 

@@ -1,4 +1,4 @@
-use Rattle.tree_model.specs.Turns.Bus.{bus_step}
+use Rattle.split_bus.specs.TreeModel.Turns.Bus.{bus_step}
 use Rattle.split_bus.proofs.turns.grant_into.Goals as goal
 
 pub returns-in-Down : goal.returns-in-Down

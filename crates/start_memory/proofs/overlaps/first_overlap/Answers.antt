@@ -1,5 +1,5 @@
 use Rattle.std.proofs.Common.{◌≡◌, Some, None, ap, ◌∙◌}
-use Rattle.tree_model.specs.Start.Machine.{header_met}
+use Rattle.start_memory.specs.TreeModel.Start.Machine.{header_met}
 use Rattle.start_memory.specs.Memory.{stack_of}
 use Rattle.start_memory.proofs.StackOverlaps.{overlap-all, overlap-end, overlap-met, overlap-past}
 use Rattle.start_memory.proofs.overlaps.first_overlap.Goals as goal

@@ -1,5 +1,5 @@
 use Rattle.std.proofs.Common.{◌≡◌}
-use Rattle.tree_model.specs.Start.Machine.{overlap_from}
+use Rattle.start_memory.specs.TreeModel.Start.Machine.{overlap_from}
 use Rattle.start_memory.specs.Memory.{stacks_of}
 use Rattle.start_memory.proofs.StackOverlaps.{overlap_at}
 use Rattle.start_memory.proofs.overlaps.first_overlap.Given as goal

@@ -1,5 +1,5 @@
 use Rattle.std.proofs.Common.{◌≡◌, drop}
-use Rattle.tree_model.specs.Start.Machine.{header_met}
+use Rattle.start_memory.specs.TreeModel.Start.Machine.{header_met}
 use Rattle.start_memory.proofs.overlaps.header_met.Given as goal
 
 abbrev pub invariant-loop-segment : goal.invariant-loop-segment

@@ -1,6 +1,6 @@
 use Rattle.std.proofs.Common.{◌≡◌, ◌++◌, map, take}
 use Rattle.std.specs.List.{range_with_len}
-use Rattle.tree_model.specs.Start.Sources.{segment_span}
+use Rattle.start_memory.specs.TreeModel.Start.Sources.{segment_span}
 use Rattle.start_memory.specs.Memory.{stack_of}
 use Rattle.start_memory.proofs.spans.spans_of.Given as goal
 

@@ -1,5 +1,5 @@
 use Rattle.std.proofs.Common.{◌≡◌, drop}
-use Rattle.tree_model.specs.Start.Memory.{byte_at}
+use Rattle.start_memory.specs.TreeModel.Start.Memory.{byte_at}
 use Rattle.start_memory.proofs.words.byte_at.Given as goal
 
 abbrev pub invariant-loop-segment : goal.invariant-loop-segment

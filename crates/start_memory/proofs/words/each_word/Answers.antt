@@ -1,6 +1,6 @@
 use Rattle.std.proofs.Common.{◌+◌, ◌*◌, length, arith}
 use Rattle.std.proofs.lemmas.List.FromFn.{fill_by_all}
-use Rattle.tree_model.specs.Start.Memory.{memory_word}
+use Rattle.start_memory.specs.TreeModel.Start.Memory.{memory_word}
 use Rattle.start_memory.proofs.words.each_word.Goals as goal
 
 pub returns : goal.returns

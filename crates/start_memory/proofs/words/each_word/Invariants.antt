@@ -1,6 +1,6 @@
 use Rattle.std.proofs.Common.{◌≡◌, ◌+◌, ◌*◌, ◌<◌, ℕ}
 use Rattle.std.specs.Prelude.{slice_index}
-use Rattle.tree_model.specs.Start.Memory.{memory_word}
+use Rattle.start_memory.specs.TreeModel.Start.Memory.{memory_word}
 use Rattle.start_memory.proofs.words.each_word.Given as goal
 
 abbrev pub invariant-loop-number : goal.invariant-loop-number

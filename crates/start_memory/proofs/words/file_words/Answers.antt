@@ -2,7 +2,7 @@ use Rattle.std.proofs.Common.{◌≡◌, [], ◌∷◌, ◌+◌, ◌-◌, ◌*�
 use Rattle.std.specs.Prelude.{slice_index}
 use Rattle.std.proofs.lemmas.List.FromFn.{fill_by_all}
 use Rattle.byteorder.specs.Endian.{little_number}
-use Rattle.tree_model.specs.Start.Memory.{memory_word}
+use Rattle.start_memory.specs.TreeModel.Start.Memory.{memory_word}
 use Rattle.start_memory.proofs.ItemWords.{file_word}
 use Rattle.start_memory.proofs.words.file_words.Goals as goal
 

@@ -3,7 +3,7 @@ use Rattle.std.specs.Prelude.{slice_index}
 use Rattle.std.proofs.lemmas.Bool.Decides.{nat_tests}
 use Rattle.std.proofs.lemmas.List.{get_or-replicate}
 use Rattle.std.proofs.lemmas.List.FromFn.{fill_by_all, get_or-map-range_with_len}
-use Rattle.tree_model.specs.Start.Memory.{memory_word}
+use Rattle.start_memory.specs.TreeModel.Start.Memory.{memory_word}
 use Rattle.start_memory.proofs.WordAt.{word_here, word_none, word_past}
 use Rattle.start_memory.proofs.words.memory_words.Goals as goal
 

@@ -1,5 +1,5 @@
 use Rattle.std.proofs.Common.{◌≡◌, ◌+◌, ◌*◌, ◌<◌, ℕ, drop, length}
-use Rattle.tree_model.specs.Start.Memory.{memory_word}
+use Rattle.start_memory.specs.TreeModel.Start.Memory.{memory_word}
 use Rattle.start_memory.proofs.words.memory_words.Given as goal
 
 abbrev pub invariant-loop-segment : goal.invariant-loop-segment

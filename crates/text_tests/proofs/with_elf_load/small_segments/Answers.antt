@@ -1,6 +1,6 @@
 use Rattle.std.proofs.Common.{◌≡◌, List, [], ◌∷◌, ◌++◌, length, ap, ◌∙◌}
 use Rattle.std.proofs.lemmas.List.{append-nil}
-use Rattle.tree_model.specs.Start.Sources.{SegmentValue}
+use Rattle.text_tests.specs.TreeModel.Start.Sources.{SegmentValue}
 use Rattle.elf_load.specs.Written.{segment_bytes}
 use Rattle.text_tests.proofs.with_elf_load.small_segments.Goals as goal
 

@@ -1,6 +1,6 @@
 use Rattle.std.proofs.Common.{◌≡◌, ℕ, true, false, cond, List, [], ◌∷◌, Some, None, sym, ap, ◌∙◌}
 use Rattle.std.specs.Prelude.{bytes_eq, codes}
-use Rattle.ddm_types.specs.declared.operations.Effect.TheVariants.{Plain}
+use Rattle.witness_check.specs.DdmTypes.declared.operations.Effect.TheVariants.{Plain}
 use Rattle.text_model.specs.Schedule.{pieces_at}
 use Rattle.text_model.proofs.Pieces.{some_piece}
 use Rattle.witness_check.specs.Lines.{effect_of_words}

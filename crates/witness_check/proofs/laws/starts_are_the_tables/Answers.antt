@@ -1,5 +1,5 @@
 use Rattle.std.proofs.Common.{refl}
-use Rattle.tree_model.specs.Start.Memory.{start_items, start_words}
+use Rattle.witness_check.specs.TreeModel.Start.Memory.{start_items, start_words}
 use Rattle.start_memory.specs.Memory.{memory_items, memory_words}
 use Rattle.witness_check.proofs.Starts.{start_refusal-tables}
 use Rattle.witness_check.proofs.laws.starts_are_the_tables.Goals as goal

@@ -1,7 +1,7 @@
 use Rattle.std.proofs.Common.{◌≡◌, ℕ, Bool, true, false, cond, List, [], ◌∷◌, Option, Some, None, refl, sym, ap, ◌∙◌}
 use Rattle.std.specs.Prelude.{bytes_eq, codes, option_map}
-use Rattle.ddm_types.specs.declared.keys.Key.{Key}
-use Rattle.ddm_types.specs.declared.operations.Op.{Op}
+use Rattle.witness_check.specs.DdmTypes.declared.keys.Key.{Key}
+use Rattle.witness_check.specs.DdmTypes.declared.operations.Op.{Op}
 use Rattle.text_model.specs.Schedule.{pieces_at, place_in}
 use Rattle.witness_check.specs.Lines.{effect_of_words, hex8_in, key_in, op_in, op_of_parts, op_of_words, without_key}
 use Rattle.witness_check.proofs.lines.op_of_line.Goals as goal

@@ -1,5 +1,5 @@
 use Rattle.std.proofs.Common.{sym, arith}
-use Rattle.ddm_text.proofs.Spellings.{number_of-within}
+use Rattle.witness_check.proofs.DdmText.Spellings.{number_of-within}
 use Rattle.witness_check.proofs.words.long_number.Goals as goal
 
 pub overflow_cast-result : goal.overflow_cast-result

@@ -1,5 +1,5 @@
 use Rattle.std.proofs.Common.{false, ap, ◌∙◌}
-use Rattle.any_machine.specs.Any.{machine_state}
+use Rattle.checkpoint.specs.AnyMachine.Any.{machine_state}
 use Rattle.checkpoint.specs.PiecesLeft.{bytes_left, front_words}
 use Rattle.checkpoint.proofs.BytesLeft.{nothing-given}
 use Rattle.checkpoint.proofs.pieces.CheckpointPieces.new.Goals as goal

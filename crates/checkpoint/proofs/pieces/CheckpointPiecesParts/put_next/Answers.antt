@@ -1,7 +1,7 @@
 use Rattle.std.proofs.Common.{◌≡◌, ℕ, List, ◌+◌, ◌-◌, ◌++◌, take, drop, sym, ap, ◌∙◌, arith}
 use Rattle.std.specs.List.{flat_map}
 use Rattle.std.specs.Int.{w32, to_le_bytes}
-use Rattle.state_words.specs.Parts.{op_words}
+use Rattle.checkpoint.specs.StateWords.Parts.{op_words}
 use Rattle.checkpoint.specs.PiecesLeft.{bytes_left}
 use Rattle.checkpoint.proofs.BytesLeft.{operations-more, words-more}
 use Rattle.checkpoint.proofs.pieces.CheckpointPiecesParts.put_next.Goals as goal

@@ -1,5 +1,5 @@
 use Rattle.std.proofs.Common.{◌≡◌, All, false, map, sym, subst, ◌∙◌}
-use Rattle.tree_model.specs.State.Child.{child_holds}
+use Rattle.ddm_tree.specs.TreeModel.State.Child.{child_holds}
 use Rattle.ddm_tree.specs.Ready.{IsRuled}
 use Rattle.ddm_tree.proofs.NotHeld.{item-there, ruled-under, unheld-under}
 use Rattle.ddm_tree.proofs.dir.DirSubtree.states_below.Goals as goal

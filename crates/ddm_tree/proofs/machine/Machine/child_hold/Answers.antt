@@ -1,8 +1,8 @@
 use Rattle.std.proofs.Common.{◌≡◌, map, true, Some, sym, ap, subst, ◌∙◌, arith}
-use Rattle.ddm_types.specs.ItemTable.{item_count}
-use Rattle.tree_model.specs.State.Rooms.{all_within}
-use Rattle.tree_model.specs.State.Values.{dir_node, nodes, root_of}
-use Rattle.tree_model.specs.Turns.Tree.{bus_of_number}
+use Rattle.ddm_tree.specs.DdmTypes.ItemTable.{item_count}
+use Rattle.ddm_tree.specs.TreeModel.State.Rooms.{all_within}
+use Rattle.ddm_tree.specs.TreeModel.State.Values.{dir_node, nodes, root_of}
+use Rattle.ddm_tree.specs.TreeModel.Turns.Tree.{bus_of_number}
 use Rattle.ddm_tree.specs.Reads.{node_child_hold}
 use Rattle.ddm_tree.specs.Ready.{IsChild, IsItemOf}
 use Rattle.ddm_tree.specs.Path.{node_at}

@@ -1,6 +1,6 @@
 use Rattle.std.proofs.Common.{◌≡◌, map, true, Some, sym, ap, subst, ◌∙◌}
-use Rattle.tree_model.specs.State.Values.{dir_node, nodes, root_of}
-use Rattle.tree_model.specs.State.Shape.{skeleton, widths_bounded, widths_fit}
+use Rattle.ddm_tree.specs.TreeModel.State.Values.{dir_node, nodes, root_of}
+use Rattle.ddm_tree.specs.TreeModel.State.Shape.{skeleton, widths_bounded, widths_fit}
 use Rattle.ddm_tree.specs.Reads.{node_children}
 use Rattle.ddm_tree.specs.Path.{node_at}
 use Rattle.ddm_tree.proofs.Reading.{children-is}

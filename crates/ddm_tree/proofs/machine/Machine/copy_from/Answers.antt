@@ -1,7 +1,7 @@
 use Rattle.std.proofs.Common.{◌≡◌, ◌∙◌, ◌≤◌, ◌+◌, ◌-◌, min, ap, refl, sym, subst, length, map, vec_items, arith}
 use Rattle.std.proofs.lemmas.List.{length-map}
-use Rattle.tree_model.specs.State.Shape.{frame_of, tree_counts}
-use Rattle.tree_model.specs.State.Values.{nodes, root_of}
+use Rattle.ddm_tree.specs.TreeModel.State.Shape.{frame_of, tree_counts}
+use Rattle.ddm_tree.specs.TreeModel.State.Values.{nodes, root_of}
 use Rattle.ddm_tree.specs.Copying.{AreAlike, copied}
 use Rattle.ddm_tree.specs.Machine.{IsMachine, MachineState, machine_of}
 use Rattle.ddm_tree.proofs.Copies.{alike-child, alike-count, copied-is_machine, copied-machine, copied-state, counts-same, roots-alike}

@@ -1,5 +1,5 @@
 use Rattle.std.proofs.Common.{◌≡◌, [], map, Some, sym, ap, ◌∙◌}
-use Rattle.tree_model.specs.State.Values.{dir_node, nodes, root_of}
+use Rattle.ddm_tree.specs.TreeModel.State.Values.{dir_node, nodes, root_of}
 use Rattle.ddm_tree.specs.Reads.{node_down}
 use Rattle.ddm_tree.specs.Path.{node_at}
 use Rattle.ddm_tree.proofs.Reading.{down-is}

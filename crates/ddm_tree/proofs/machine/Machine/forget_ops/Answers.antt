@@ -1,5 +1,5 @@
 use Rattle.std.proofs.Common.{◌≤◌, List, map, vec_items, ap, subst, sym, ◌∙◌, arith}
-use Rattle.ddm_types.specs.declared.operations.Op.{Op}
+use Rattle.ddm_tree.specs.DdmTypes.declared.operations.Op.{Op}
 use Rattle.ddm_tree.specs.Machine.{IsMachine, MachineState, machine_of, without_ops}
 use Rattle.ddm_tree.proofs.Forgotten.{without-keeps}
 use Rattle.ddm_tree.proofs.machine.Machine.forget_ops.Goals as goal

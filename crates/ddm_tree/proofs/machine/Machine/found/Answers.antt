@@ -1,7 +1,7 @@
 use Rattle.std.proofs.Common.{◌≡◌, ◌<◌, map, is_some, sym, ap, subst, ◌∙◌, rules, All}
-use Rattle.ddm_types.specs.ItemTable.{item_count}
-use Rattle.tree_model.specs.Turns.Found.{found_copy, found_place, found_words}
-use Rattle.bus_laws.proofs.FoundExists.{found_copy-exists}
+use Rattle.ddm_tree.specs.DdmTypes.ItemTable.{item_count}
+use Rattle.ddm_tree.specs.TreeModel.Turns.Found.{found_copy, found_place, found_words}
+use Rattle.ddm_tree.proofs.BusLaws.FoundExists.{found_copy-exists}
 use Rattle.ddm_tree.specs.Ready.{IsItemIn}
 use Rattle.ddm_tree.specs.Rules.{KeepsRules}
 use Rattle.ddm_tree.proofs.FoundCopy.{copy_among, items-under}

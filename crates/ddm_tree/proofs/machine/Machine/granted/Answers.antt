@@ -1,6 +1,6 @@
 use Rattle.std.proofs.Common.{◌≡◌, ◌<◌, length, map, true, sym, ap, subst, ◌∙◌, arith}
-use Rattle.tree_model.specs.Turns.Tree.{bus_of_number}
-use Rattle.tree_model.specs.Turns.Machine.{granted_of, grants_of, no_traffic}
+use Rattle.ddm_tree.specs.TreeModel.Turns.Tree.{bus_of_number}
+use Rattle.ddm_tree.specs.TreeModel.Turns.Machine.{granted_of, grants_of, no_traffic}
 use Rattle.std.specs.Prelude.{slice_index_or}
 use Rattle.ddm_tree.specs.Machine.{is_part, machine_of}
 use Rattle.ddm_tree.proofs.Reading.{any-default, bus-counted}

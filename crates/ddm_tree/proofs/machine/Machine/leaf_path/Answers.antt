@@ -1,6 +1,6 @@
 use Rattle.std.proofs.Common.{◌≡◌, map, true, vec_items, sym, subst, ◌∙◌, arith}
-use Rattle.tree_model.specs.State.Values.{root_of}
-use Rattle.tree_model.specs.Turns.Tree.{leaf_of_number}
+use Rattle.ddm_tree.specs.TreeModel.State.Values.{root_of}
+use Rattle.ddm_tree.specs.TreeModel.Turns.Tree.{leaf_of_number}
 use Rattle.ddm_tree.specs.Machine.{is_part, machine_of}
 use Rattle.ddm_tree.specs.Ready.{Leads}
 use Rattle.ddm_tree.proofs.Reading.{listed-at, listed-inside, part-listed}

@@ -1,6 +1,6 @@
 use Rattle.std.proofs.Common.{◌≡◌, map, Some, ap, sym, subst, ◌∙◌}
-use Rattle.tree_model.specs.State.Values.{dir_node, nodes, root_of}
-use Rattle.tree_model.specs.Turns.Tree.{leaf_of_number}
+use Rattle.ddm_tree.specs.TreeModel.State.Values.{dir_node, nodes, root_of}
+use Rattle.ddm_tree.specs.TreeModel.Turns.Tree.{leaf_of_number}
 use Rattle.ddm_tree.specs.Reads.{node_state}
 use Rattle.ddm_tree.specs.Path.{node_at}
 use Rattle.ddm_tree.specs.Ready.{Leads}

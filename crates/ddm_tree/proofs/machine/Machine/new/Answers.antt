@@ -1,8 +1,8 @@
 -- A new machine over its parts.
 use Rattle.std.proofs.Common.{◌≡◌, ◌≤◌, map, replicate, true, vec_items, refl, sym, ap, subst, ◌∙◌, arith}
-use Rattle.tree_model.specs.State.Shape.{skeleton, tree_counts, widths_bounded, widths_fit}
-use Rattle.tree_model.specs.State.Values.{dir_node, nodes}
-use Rattle.tree_model.specs.Turns.Machine.{no_traffic}
+use Rattle.ddm_tree.specs.TreeModel.State.Shape.{skeleton, tree_counts, widths_bounded, widths_fit}
+use Rattle.ddm_tree.specs.TreeModel.State.Values.{dir_node, nodes}
+use Rattle.ddm_tree.specs.TreeModel.Turns.Machine.{no_traffic}
 use Rattle.ddm_tree.specs.Machine.{IsMachine, machine_of, new_machine}
 use Rattle.ddm_tree.specs.Quiet.{AreNear}
 use Rattle.ddm_tree.proofs.IdleHarts.{nothing-idle}

@@ -1,6 +1,6 @@
 use Rattle.std.proofs.Common.{◌≡◌, map, Some, ap, ◌∙◌}
-use Rattle.tree_model.specs.State.Values.{dir_node, nodes, root_of}
-use Rattle.ddm_types.specs.Keys.{key_on, stamp_zero}
+use Rattle.ddm_tree.specs.TreeModel.State.Values.{dir_node, nodes, root_of}
+use Rattle.ddm_tree.specs.DdmTypes.Keys.{key_on, stamp_zero}
 use Rattle.ddm_tree.specs.Reads.{node_hart}
 use Rattle.ddm_tree.specs.Path.{node_at}
 use Rattle.ddm_tree.specs.Path.{present_at}

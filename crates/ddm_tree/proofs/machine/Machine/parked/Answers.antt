@@ -1,10 +1,10 @@
 use Rattle.std.proofs.Common.{◌≡◌, ◌<◌, [], map, true, Some, None, sym, ap, subst, ◌∙◌, rules}
-use Rattle.ddm_types.specs.ItemTable.{item_count}
-use Rattle.tree_model.specs.State.Rooms.{all_within}
-use Rattle.tree_model.specs.State.Values.{dir_node, nodes, root_of}
-use Rattle.tree_model.specs.Turns.Tree.{bus_of_number}
-use Rattle.tree_model.specs.State.Directory.{parked_place, parked_words}
-use Rattle.item_states.specs.Parts.{node_items}
+use Rattle.ddm_tree.specs.DdmTypes.ItemTable.{item_count}
+use Rattle.ddm_tree.specs.TreeModel.State.Rooms.{all_within}
+use Rattle.ddm_tree.specs.TreeModel.State.Values.{dir_node, nodes, root_of}
+use Rattle.ddm_tree.specs.TreeModel.Turns.Tree.{bus_of_number}
+use Rattle.ddm_tree.specs.TreeModel.State.Directory.{parked_place, parked_words}
+use Rattle.ddm_tree.specs.ItemStates.Parts.{node_items}
 use Rattle.ddm_tree.specs.Reads.{copy_pair, node_parked}
 use Rattle.ddm_tree.specs.Path.{node_at}
 use Rattle.ddm_tree.specs.Ready.{Leads}

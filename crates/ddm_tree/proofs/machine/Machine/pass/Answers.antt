@@ -1,10 +1,10 @@
 -- A turn that is known to change nothing.
 use Rattle.std.proofs.Common.{◌≡◌, ◌+◌, map, true, false, Some, vec_items, sym, ap, subst, ◌∙◌}
-use Rattle.ddm_types.specs.declared.answers.TurnAnswer.{TurnAnswer}
-use Rattle.ddm_types.specs.Keys.{stamp_zero}
-use Rattle.tree_model.specs.State.Values.{dir_node, nodes, root_of}
-use Rattle.tree_model.specs.State.Shape.{widths_bounded}
-use Rattle.tree_model.specs.Turns.Machine.{names_part, turn_of}
+use Rattle.ddm_tree.specs.DdmTypes.declared.answers.TurnAnswer.{TurnAnswer}
+use Rattle.ddm_tree.specs.DdmTypes.Keys.{stamp_zero}
+use Rattle.ddm_tree.specs.TreeModel.State.Values.{dir_node, nodes, root_of}
+use Rattle.ddm_tree.specs.TreeModel.State.Shape.{widths_bounded}
+use Rattle.ddm_tree.specs.TreeModel.Turns.Machine.{names_part, turn_of}
 use Rattle.ddm_tree.specs.Machine.{IsMachine, MachineState, machine_of, state_after}
 use Rattle.ddm_tree.specs.Path.{present_at}
 use Rattle.ddm_tree.specs.Quiet.{is_hart_turn, known_as, passed_as}

@@ -1,13 +1,13 @@
 use Rattle.std.proofs.Common.{◌≡◌, ◌<◌, ◌≤◌, [], ◌++◌, None, length, map, take, drop, replicate, ap, sym, subst, ◌∙◌, arith}
 use Rattle.std.proofs.lemmas.List.{length-take-le}
 use Rattle.std.proofs.Math.Seq.{take-append_seam}
-use Rattle.ddm_types.specs.ItemTable.{item_count}
-use Rattle.tree_model.specs.State.Leaf.{state_at}
-use Rattle.tree_model.specs.State.Shape.{tree_counts}
-use Rattle.tree_model.specs.State.Values.{nodes}
-use Rattle.tree_model.specs.Turns.Found.{states_of}
-use Rattle.tree_model.specs.Turns.Machine.{leaves_among, machine_leaves}
-use Rattle.tree_rules.specs.Bus.Rules.{AreTreesOk}
+use Rattle.ddm_tree.specs.DdmTypes.ItemTable.{item_count}
+use Rattle.ddm_tree.specs.TreeModel.State.Leaf.{state_at}
+use Rattle.ddm_tree.specs.TreeModel.State.Shape.{tree_counts}
+use Rattle.ddm_tree.specs.TreeModel.State.Values.{nodes}
+use Rattle.ddm_tree.specs.TreeModel.Turns.Found.{states_of}
+use Rattle.ddm_tree.specs.TreeModel.Turns.Machine.{leaves_among, machine_leaves}
+use Rattle.ddm_tree.specs.TreeRules.Bus.Rules.{AreTreesOk}
 use Rattle.ddm_tree.specs.Reads.{leaf_count_among}
 use Rattle.ddm_tree.specs.Rules.{KeepsRules}
 use Rattle.ddm_tree.proofs.LeafList.{leaves-counted}

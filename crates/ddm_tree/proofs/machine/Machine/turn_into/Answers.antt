@@ -1,12 +1,12 @@
 -- One turn of the machine.
 use Rattle.std.proofs.Common.{◌≡◌, ◌≤◌, ◌+◌, ℕ, List, Some, length, map, take, drop, ◌++◌, true, vec_items, refl, sym, ap, subst, ◌∙◌, arith}
-use Rattle.ddm_types.specs.Keys.{stamp_zero}
-use Rattle.tree_model.specs.State.Shape.{tree_counts}
-use Rattle.tree_model.specs.State.Values.{dir_node, nodes, root_of}
-use Rattle.ddm_types.specs.ItemTable.{item_count}
-use Rattle.tree_model.specs.Turns.Machine.{named_by, names_part, turn_of}
-use Rattle.tree_model.specs.Turns.Tree.{leaf_of_number}
-use Rattle.tree_rules.specs.Bus.Rules.{IsTreeOk}
+use Rattle.ddm_tree.specs.DdmTypes.Keys.{stamp_zero}
+use Rattle.ddm_tree.specs.TreeModel.State.Shape.{tree_counts}
+use Rattle.ddm_tree.specs.TreeModel.State.Values.{dir_node, nodes, root_of}
+use Rattle.ddm_tree.specs.DdmTypes.ItemTable.{item_count}
+use Rattle.ddm_tree.specs.TreeModel.Turns.Machine.{named_by, names_part, turn_of}
+use Rattle.ddm_tree.specs.TreeModel.Turns.Tree.{leaf_of_number}
+use Rattle.ddm_tree.specs.TreeRules.Bus.Rules.{IsTreeOk}
 use Rattle.ddm_tree.specs.Machine.{IsMachine, MachineState, listed_path, machine_of, state_after}
 use Rattle.ddm_tree.specs.Path.{present_at}
 use Rattle.ddm_tree.specs.Quiet.{HartsAgree}

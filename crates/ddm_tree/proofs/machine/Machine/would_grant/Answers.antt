@@ -1,8 +1,8 @@
 use Rattle.std.proofs.Common.{◌≡◌, map, sym, ap, subst, ◌∙◌, arith}
-use Rattle.ddm_types.specs.ItemTable.{item_count}
-use Rattle.tree_model.specs.State.Values.{dir_node, nodes, root_of}
-use Rattle.tree_model.specs.State.Shape.{widths_bounded}
-use Rattle.tree_model.specs.Turns.Machine.{bus_turn_of}
+use Rattle.ddm_tree.specs.DdmTypes.ItemTable.{item_count}
+use Rattle.ddm_tree.specs.TreeModel.State.Values.{dir_node, nodes, root_of}
+use Rattle.ddm_tree.specs.TreeModel.State.Shape.{widths_bounded}
+use Rattle.ddm_tree.specs.TreeModel.Turns.Machine.{bus_turn_of}
 use Rattle.split_bus.specs.Outcomes.{goes_on_with}
 use Rattle.ddm_tree.specs.Path.{node_at}
 use Rattle.ddm_tree.specs.Reads.{node_grants}

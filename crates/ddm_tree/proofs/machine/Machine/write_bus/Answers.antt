@@ -1,9 +1,9 @@
 use Rattle.std.proofs.Common.{◌≡◌, ◌<◌, length, map, true, sym, ap, subst, ◌∙◌, arith}
 use Rattle.std.specs.Prelude.{slice_index_or}
-use Rattle.ddm_text.specs.Adds.{◌▸◌}
-use Rattle.tree_model.specs.Turns.Tree.{bus_of_number}
-use Rattle.tree_model.specs.Turns.Machine.{no_traffic}
-use Rattle.state_words.specs.Machine.{bus_words}
+use Rattle.ddm_tree.specs.DdmText.Adds.{◌▸◌}
+use Rattle.ddm_tree.specs.TreeModel.Turns.Tree.{bus_of_number}
+use Rattle.ddm_tree.specs.TreeModel.Turns.Machine.{no_traffic}
+use Rattle.ddm_tree.specs.StateWords.Machine.{bus_words}
 use Rattle.ddm_tree.specs.Machine.{is_part, machine_of}
 use Rattle.ddm_tree.proofs.Reading.{any-default, bus-counted}
 use Rattle.ddm_tree.proofs.machine.Machine.write_bus.Goals as goal

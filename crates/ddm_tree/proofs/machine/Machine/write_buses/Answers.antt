@@ -1,12 +1,12 @@
 use Rattle.std.proofs.Common.{◌≡◌, ◌<◌, [], length, ap, arith, rules}
 use Rattle.std.proofs.lemmas.Bool.{eqb-true}
-use Rattle.ddm_text.specs.Adds.{◌▸◌}
-use Rattle.state_words.proofs.Nothing.{begins-after, on-err}
-use Rattle.tree_model.specs.State.Values.{root_of}
-use Rattle.tree_model.specs.State.Shape.{tree_counts, skeleton, buses_of, are_below, traffic_counted}
-use Rattle.tree_model.proofs.Tests.{and-first}
-use Rattle.state_words.specs.Machine.{bus_words}
-use Rattle.state_words.proofs.OneMore.{flat_map-more}
+use Rattle.ddm_tree.specs.DdmText.Adds.{◌▸◌}
+use Rattle.ddm_tree.proofs.StateWords.Nothing.{begins-after, on-err}
+use Rattle.ddm_tree.specs.TreeModel.State.Values.{root_of}
+use Rattle.ddm_tree.specs.TreeModel.State.Shape.{tree_counts, skeleton, buses_of, are_below, traffic_counted}
+use Rattle.ddm_tree.proofs.TreeModel.Tests.{and-first}
+use Rattle.ddm_tree.specs.StateWords.Machine.{bus_words}
+use Rattle.ddm_tree.proofs.StateWords.OneMore.{flat_map-more}
 use Rattle.state_judging.proofs.BusNumbers.{numbered-bus}
 use Rattle.ddm_tree.proofs.machine.Machine.write_buses.Goals as goal
 

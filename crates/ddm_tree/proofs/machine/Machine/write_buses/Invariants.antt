@@ -1,6 +1,6 @@
 use Rattle.std.specs.List.{flat_map, range_with_len}
-use Rattle.ddm_text.specs.Adds.{Adds}
-use Rattle.state_words.specs.Machine.{bus_words}
+use Rattle.ddm_tree.specs.DdmText.Adds.{Adds}
+use Rattle.ddm_tree.specs.StateWords.Machine.{bus_words}
 use Rattle.ddm_tree.proofs.machine.Machine.write_buses.Given as goal
 
 abbrev pub invariant-loop-bus : goal.invariant-loop-bus

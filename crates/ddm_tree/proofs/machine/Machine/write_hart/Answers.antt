@@ -1,6 +1,6 @@
 use Rattle.std.proofs.Common.{◌≡◌, map, ap, ◌∙◌}
-use Rattle.tree_model.specs.State.Values.{dir_node, nodes, root_of}
-use Rattle.state_words.specs.Parts.{hart_words}
+use Rattle.ddm_tree.specs.TreeModel.State.Values.{dir_node, nodes, root_of}
+use Rattle.ddm_tree.specs.StateWords.Parts.{hart_words}
 use Rattle.ddm_tree.proofs.Written.{leaf-written}
 use Rattle.ddm_tree.proofs.machine.Machine.write_hart.Goals as goal
 

@@ -1,10 +1,10 @@
 use Rattle.std.proofs.Common.{◌<◌, ◌≤◌, length, ap, arith, rules}
 use Rattle.std.proofs.lemmas.List.{take_all}
-use Rattle.ddm_text.specs.Adds.{◌▸◌}
-use Rattle.state_words.proofs.Nothing.{begins-after, on-err}
-use Rattle.tree_model.specs.State.Shape.{tree_counts}
-use Rattle.tree_model.specs.Turns.Machine.{machine_leaves}
-use Rattle.state_words.specs.Parts.{hart_words}
+use Rattle.ddm_tree.specs.DdmText.Adds.{◌▸◌}
+use Rattle.ddm_tree.proofs.StateWords.Nothing.{begins-after, on-err}
+use Rattle.ddm_tree.specs.TreeModel.State.Shape.{tree_counts}
+use Rattle.ddm_tree.specs.TreeModel.Turns.Machine.{machine_leaves}
+use Rattle.ddm_tree.specs.StateWords.Parts.{hart_words}
 use Rattle.ddm_tree.proofs.LeafList.{leaf-there, leaves-counted}
 use Rattle.ddm_tree.proofs.Written.{leaves-more}
 use Rattle.ddm_tree.proofs.machine.Machine.write_harts.Goals as goal

@@ -1,8 +1,8 @@
 use Rattle.std.proofs.Common.{take}
 use Rattle.std.specs.List.{flat_map}
-use Rattle.ddm_text.specs.Adds.{Adds}
-use Rattle.tree_model.specs.Turns.Machine.{machine_leaves}
-use Rattle.state_words.specs.Parts.{leaf_words}
+use Rattle.ddm_tree.specs.DdmText.Adds.{Adds}
+use Rattle.ddm_tree.specs.TreeModel.Turns.Machine.{machine_leaves}
+use Rattle.ddm_tree.specs.StateWords.Parts.{leaf_words}
 use Rattle.ddm_tree.proofs.machine.Machine.write_leaves.Given as goal
 
 abbrev pub invariant-loop-leaf : goal.invariant-loop-leaf

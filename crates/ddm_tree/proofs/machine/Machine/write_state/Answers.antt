@@ -1,5 +1,5 @@
-use Rattle.ddm_text.specs.Adds.{◌▸◌}
-use Rattle.state_words.specs.Machine.{state_words}
+use Rattle.ddm_tree.specs.DdmText.Adds.{◌▸◌}
+use Rattle.ddm_tree.specs.StateWords.Machine.{state_words}
 use Rattle.ddm_tree.proofs.machine.Machine.write_state.Goals as goal
 
 pub returns-clause-ok : goal.returns-clause-ok

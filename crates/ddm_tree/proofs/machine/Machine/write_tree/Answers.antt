@@ -1,4 +1,4 @@
-use Rattle.ddm_text.specs.Adds.{◌▸◌}
+use Rattle.ddm_tree.specs.DdmText.Adds.{◌▸◌}
 use Rattle.ddm_tree.proofs.machine.Machine.write_tree.Goals as goal
 
 pub returns-clause-ok : goal.returns-clause-ok

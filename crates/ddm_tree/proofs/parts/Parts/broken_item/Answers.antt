@@ -1,9 +1,9 @@
 use Rattle.std.proofs.Common.{◌≡◌, ◌∙◌, true, None, Some, map, vec_items, ap, sym, subst}
-use Rattle.tree_model.specs.State.Shape.{widths_bounded}
-use Rattle.tree_model.specs.State.Values.{dir_node, nodes, root_of}
-use Rattle.tree_model.specs.Turns.Machine.{ask_bus}
-use Rattle.tree_model.specs.Turns.Tree.{bus_of_number}
-use Rattle.tree_rules.specs.Bus.Rules.{items_of_machine}
+use Rattle.ddm_tree.specs.TreeModel.State.Shape.{widths_bounded}
+use Rattle.ddm_tree.specs.TreeModel.State.Values.{dir_node, nodes, root_of}
+use Rattle.ddm_tree.specs.TreeModel.Turns.Machine.{ask_bus}
+use Rattle.ddm_tree.specs.TreeModel.Turns.Tree.{bus_of_number}
+use Rattle.ddm_tree.specs.TreeRules.Bus.Rules.{items_of_machine}
 use Rattle.state_judging.specs.Judged.{broken_item, or_none}
 use Rattle.ddm_tree.specs.Judging.{node_broken}
 use Rattle.ddm_tree.specs.Machine.{is_part, listed_path, machine_of}

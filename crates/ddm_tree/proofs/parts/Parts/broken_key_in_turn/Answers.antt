@@ -1,6 +1,6 @@
 use Rattle.std.proofs.Common.{◌≡◌, ◌<◌, length, true, false, Some, sym, subst, ap, ◌∙◌, arith}
 use Rattle.std.specs.Prelude.{slice_get}
-use Rattle.tree_model.specs.State.Shape.{IsShaped}
+use Rattle.ddm_tree.specs.TreeModel.State.Shape.{IsShaped}
 use Rattle.state_judging.specs.Judged.{is_key_of_leaf}
 use Rattle.ddm_tree.specs.Keys.{IsTaken}
 use Rattle.ddm_tree.proofs.KeysRising.{IsFit, rising-unfit, rising-next}

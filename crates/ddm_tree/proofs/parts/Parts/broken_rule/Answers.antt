@@ -1,7 +1,7 @@
 use Rattle.std.proofs.Common.{◌≡◌, ◌∙◌, Some, None, length, refl, ap, sym, subst, arith}
-use Rattle.state_reading.specs.declared.StateRefusal.TheVariants.{BrokenRule}
+use Rattle.ddm_tree.specs.StateReading.declared.StateRefusal.TheVariants.{BrokenRule}
 use Rattle.std.specs.List.{range_with_len}
-use Rattle.tree_model.specs.State.Shape.{IsShaped, tree_counts}
+use Rattle.ddm_tree.specs.TreeModel.State.Shape.{IsShaped, tree_counts}
 use Rattle.state_judging.specs.Judged.{broken_among}
 use Rattle.ddm_tree.proofs.PartsJudged.{bus-broken, bus-holds, bus-inside, bus-there, buses-hold, past-buses}
 use Rattle.ddm_tree.proofs.parts.Parts.broken_rule.Goals as goal

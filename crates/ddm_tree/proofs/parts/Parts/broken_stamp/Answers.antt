@@ -1,7 +1,7 @@
 use Rattle.std.proofs.Common.{◌≡◌, ◌-◌, ◌<◌, ◌≤◌, length, sym, subst, ap, ◌∙◌, arith}
 use Rattle.std.specs.List.{find, range_with_len}
-use Rattle.tree_model.specs.State.Shape.{IsShaped, tree_counts}
-use Rattle.tree_rules.specs.Order.Places.{dirs_at}
+use Rattle.ddm_tree.specs.TreeModel.State.Shape.{IsShaped, tree_counts}
+use Rattle.ddm_tree.specs.TreeRules.Order.Places.{dirs_at}
 use Rattle.state_judging.specs.Judged.{stamps_broken}
 use Rattle.state_judging.proofs.BusNumbers.{numbered-bus}
 use Rattle.ddm_tree.proofs.KeysSeen.{found-here, found-later, found-none}

@@ -1,6 +1,6 @@
 use Rattle.std.proofs.Common.{◌≡◌, ◌-◌, length}
 use Rattle.std.specs.List.{find, range_with_len}
-use Rattle.tree_rules.specs.Order.Places.{dirs_at}
+use Rattle.ddm_tree.specs.TreeRules.Order.Places.{dirs_at}
 use Rattle.state_judging.specs.Judged.{stamps_broken}
 use Rattle.ddm_tree.proofs.parts.Parts.broken_stamp.Given as goal
 

@@ -1,6 +1,6 @@
 use Rattle.std.proofs.Common.{◌≡◌, ◌≤◌, ◌∙◌, true, ap, refl, sym, subst, length, map, vec_items, arith}
 use Rattle.std.specs.List.{list_all}
-use Rattle.tree_model.specs.State.Values.{MachineValue, dir_node, nodes, root_of}
+use Rattle.ddm_tree.specs.TreeModel.State.Values.{MachineValue, dir_node, nodes, root_of}
 use Rattle.ddm_tree.specs.Counts.{counts_within}
 use Rattle.ddm_tree.specs.Machine.{IsMachine, machine_of, traffic_within}
 use Rattle.ddm_tree.specs.Rules.{KeepsRules}

@@ -1,6 +1,6 @@
 use Rattle.std.proofs.Common.{◌≡◌, Some, sym, subst, ap, ◌∙◌, arith}
-use Rattle.tree_model.specs.State.Shape.{IsShaped, tree_counts}
-use Rattle.tree_model.specs.Turns.Machine.{now_of}
+use Rattle.ddm_tree.specs.TreeModel.State.Shape.{IsShaped, tree_counts}
+use Rattle.ddm_tree.specs.TreeModel.Turns.Machine.{now_of}
 use Rattle.ddm_tree.specs.Keys.{is_key_before}
 use Rattle.ddm_tree.proofs.KeysJudged.{key-judged, depth-bounds}
 use Rattle.ddm_tree.proofs.TimedParts.{passes-past, leaf-part}

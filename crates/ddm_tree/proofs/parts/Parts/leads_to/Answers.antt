@@ -1,7 +1,7 @@
 use Rattle.std.proofs.Common.{◌≡◌, map, true, sym, subst}
 use Rattle.std.specs.Prelude.{vec_items}
-use Rattle.tree_model.specs.State.Shape.{IsShaped}
-use Rattle.tree_model.specs.State.Values.{root_of}
+use Rattle.ddm_tree.specs.TreeModel.State.Shape.{IsShaped}
+use Rattle.ddm_tree.specs.TreeModel.State.Values.{root_of}
 use Rattle.ddm_tree.specs.Machine.{is_part, machine_of}
 use Rattle.ddm_tree.specs.Named.{name_of}
 use Rattle.ddm_tree.specs.Ready.{Leads}

@@ -1,6 +1,6 @@
 use Rattle.std.proofs.Common.{rules, ◌≡◌, ap, ◌∙◌, arith, Err, map, vec_items}
-use Rattle.tree_model.specs.State.Shape.{frame_of}
-use Rattle.tree_model.specs.Turns.Tree.{bus_of_number}
+use Rattle.ddm_tree.specs.TreeModel.State.Shape.{frame_of}
+use Rattle.ddm_tree.specs.TreeModel.Turns.Tree.{bus_of_number}
 use Rattle.ddm_tree.specs.Machine.{machine_of}
 use Rattle.ddm_tree.specs.Parts.{traffic_refused}
 use Rattle.ddm_tree.specs.declared.section.Section.{Section}

@@ -1,5 +1,5 @@
 use Rattle.std.proofs.Common.{rules, ◌≡◌, ◌<◌, ◌≤◌, ap, ◌∙◌, arith, lit<, Err}
-use Rattle.tree_model.specs.Turns.Tree.{bus_of_number}
+use Rattle.ddm_tree.specs.TreeModel.Turns.Tree.{bus_of_number}
 use Rattle.state_judging.proofs.BusNumbers.{numbered-bus}
 use Rattle.ddm_tree.proofs.BusesRead.{buses-begun, buses-counted, buses-done, buses-more, buses-refused, same-part}
 use Rattle.ddm_tree.proofs.parts.Parts.read_buses.Goals as goal

@@ -1,7 +1,7 @@
 use Rattle.std.proofs.Common.{◌≡◌, ◌<◌, ◌≤◌, ◌∙◌, true, length, sym, ap, subst, lit<, arith, rules, Err}
-use Rattle.tree_model.specs.State.Shape.{tree_counts}
-use Rattle.tree_model.specs.Turns.Machine.{machine_leaves}
-use Rattle.tree_model.specs.Turns.Tree.{leaf_of_number}
+use Rattle.ddm_tree.specs.TreeModel.State.Shape.{tree_counts}
+use Rattle.ddm_tree.specs.TreeModel.Turns.Machine.{machine_leaves}
+use Rattle.ddm_tree.specs.TreeModel.Turns.Tree.{leaf_of_number}
 use Rattle.ddm_tree.specs.Machine.{is_part}
 use Rattle.ddm_tree.specs.Parts.{SectionRead, SectionRefused, leaf_section}
 use Rattle.ddm_tree.specs.ReadBack.{section_name}

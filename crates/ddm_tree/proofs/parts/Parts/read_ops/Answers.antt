@@ -1,5 +1,5 @@
 use Rattle.std.proofs.Common.{ap}
-use Rattle.tree_model.specs.State.Values.{MachineValue}
+use Rattle.ddm_tree.specs.TreeModel.State.Values.{MachineValue}
 use Rattle.ddm_tree.proofs.parts.Parts.read_ops.Goals as goal
 
 pub returns-clause-read : goal.returns-clause-read

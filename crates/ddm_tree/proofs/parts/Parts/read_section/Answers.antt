@@ -1,6 +1,6 @@
 use Rattle.std.proofs.Common.{◌≡◌, ◌∙◌, ap, sym, subst, length, map, vec_items, lit<, rules, Err}
-use Rattle.tree_model.specs.State.Shape.{widths_bounded}
-use Rattle.tree_model.specs.State.Values.{dir_node, nodes}
+use Rattle.ddm_tree.specs.TreeModel.State.Shape.{widths_bounded}
+use Rattle.ddm_tree.specs.TreeModel.State.Values.{dir_node, nodes}
 use Rattle.ddm_tree.specs.Machine.{is_part, machine_of}
 use Rattle.ddm_tree.specs.ReadBack.{section_name}
 use Rattle.ddm_tree.proofs.PartsKept.{listed-leads, parts-listed, section-counts, section-made, section-parts, section-refused}

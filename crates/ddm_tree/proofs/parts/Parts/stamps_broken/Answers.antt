@@ -1,6 +1,6 @@
 use Rattle.std.proofs.Common.{◌≡◌, map, not, sym, ap, ◌∙◌}
-use Rattle.ddm_types.specs.Keys.{stamp_zero}
-use Rattle.tree_model.specs.State.Values.{dir_node, nodes, root_of}
+use Rattle.ddm_tree.specs.DdmTypes.Keys.{stamp_zero}
+use Rattle.ddm_tree.specs.TreeModel.State.Values.{dir_node, nodes, root_of}
 use Rattle.ddm_tree.specs.Path.{node_at, present_at}
 use Rattle.ddm_tree.specs.Stamps.{node_stamps_fit}
 use Rattle.ddm_tree.proofs.StampsJudged.{top-unbroken, bus-broken}

@@ -1,8 +1,8 @@
 use Rattle.std.proofs.Common.{◌≡◌, ◌∙◌, ap, sym, subst, rules, None, find, ◌<◌}
-use Rattle.tree_model.specs.State.Leaf.{is_copy}
-use Rattle.tree_model.specs.State.Directory.{is_parked}
-use Rattle.tree_model.specs.State.Values.{DirValue}
-use Rattle.item_states.specs.Parts.{CanPark}
+use Rattle.directory.specs.TreeModel.State.Leaf.{is_copy}
+use Rattle.directory.specs.TreeModel.State.Directory.{is_parked}
+use Rattle.directory.specs.TreeModel.State.Values.{DirValue}
+use Rattle.directory.specs.ItemStates.Parts.{CanPark}
 use Rattle.directory.proofs.Lists.{parked-none}
 use Rattle.directory.proofs.lower.DirStateParent.park.Goals as goal
 

@@ -1,5 +1,5 @@
 use Rattle.std.proofs.Common.{◌∙◌, ap, sym}
-use Rattle.tree_model.specs.State.Directory.{parked_words}
+use Rattle.directory.specs.TreeModel.State.Directory.{parked_words}
 use Rattle.directory.proofs.Lists.{parked-words}
 use Rattle.directory.proofs.lower.DirStateParent.parked.Goals as goal
 

@@ -1,5 +1,5 @@
 use Rattle.std.proofs.Common.{◌∙◌, ap, sym}
-use Rattle.tree_model.specs.State.Directory.{is_up_read}
+use Rattle.directory.specs.TreeModel.State.Directory.{is_up_read}
 use Rattle.directory.proofs.Packing.{unpacked-up_read}
 use Rattle.directory.proofs.packed.PackedItem.is_up_read.Goals as goal
 

@@ -1,5 +1,5 @@
 use Rattle.std.proofs.Common.{◌∙◌, ap}
-use Rattle.item_states.specs.Parts.{joined_in}
+use Rattle.directory.specs.ItemStates.Parts.{joined_in}
 use Rattle.directory.proofs.Packing.{unpacked-joined}
 use Rattle.directory.proofs.packed.PackedItem.joined.Goals as goal
 

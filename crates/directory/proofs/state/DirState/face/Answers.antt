@@ -1,5 +1,5 @@
 use Rattle.std.proofs.Common.{ap, ◌∙◌}
-use Rattle.tree_rules.specs.Bus.Faces.{face_above, parent_face}
+use Rattle.directory.specs.TreeRules.Bus.Faces.{face_above, parent_face}
 use Rattle.directory.proofs.state.DirState.face.Goals as goal
 
 pub returns : goal.returns

@@ -1,5 +1,5 @@
 use Rattle.std.proofs.Common.{◌∙◌, ap, sym}
-use Rattle.tree_model.specs.State.Directory.{in_down}
+use Rattle.directory.specs.TreeModel.State.Directory.{in_down}
 use Rattle.directory.proofs.Lists.{in_down-any}
 use Rattle.directory.proofs.state.DirState.in_down.Goals as goal
 

@@ -1,7 +1,7 @@
 use Rattle.std.proofs.Common.{◌≡◌, ◌<◌, ◌≤◌, length, refl, ap, ◌∙◌, arith}
 use Rattle.std.proofs.lemmas.List.{take_all}
-use Rattle.tree_model.specs.State.Directory.{queue_of}
-use Rattle.tree_model.specs.Turns.Found.{down_place, queue_words}
+use Rattle.directory.specs.TreeModel.State.Directory.{queue_of}
+use Rattle.directory.specs.TreeModel.Turns.Found.{down_place, queue_words}
 use Rattle.directory.proofs.LastCopy.{last-further}
 use Rattle.directory.proofs.state.DirState.last_copy.Goals as goal
 

@@ -1,6 +1,6 @@
 use Rattle.std.proofs.Common.{◌≡◌, false, nat_eq, arith, refl, rules, Err}
 use Rattle.std.proofs.lemmas.Bool.{ne_eqb}
-use Rattle.state_reading.specs.Parts.{read_dir}
+use Rattle.directory.specs.StateReading.Parts.{read_dir}
 use Rattle.directory.proofs.state.DirState.read_part.Goals as goal
 
 pub returns-in_err-self-inside-clause-read : goal.returns-in_err-self-inside-clause-read

@@ -1,5 +1,5 @@
 use Rattle.std.proofs.Common.{◌≡◌, ◌<◌, get_or, length, ap, ◌∙◌, sym, arith}
-use Rattle.tree_model.specs.State.Leaf.{words_of_item}
+use Rattle.directory.specs.TreeModel.State.Leaf.{words_of_item}
 use Rattle.bus_judging.proofs.Copies.{copies-counted}
 use Rattle.directory.specs.DirParts.{copy_of}
 use Rattle.directory.proofs.state.DirState.reply_count.Goals as goal

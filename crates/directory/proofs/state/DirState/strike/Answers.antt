@@ -1,6 +1,6 @@
 use Rattle.std.proofs.Common.{ap}
-use Rattle.tree_model.specs.State.Values.{DirValue}
-use Rattle.tree_model.specs.State.Directory.{struck}
+use Rattle.directory.specs.TreeModel.State.Values.{DirValue}
+use Rattle.directory.specs.TreeModel.State.Directory.{struck}
 use Rattle.directory.proofs.Lists.{struck-requests}
 use Rattle.directory.proofs.state.DirState.strike.Goals as goal
 

@@ -1,6 +1,6 @@
 use Rattle.std.proofs.Common.{◌∙◌, ap, option_map}
-use Rattle.tree_model.specs.State.Lists.{first_of}
-use Rattle.item_states.specs.Parts.{request_pair}
+use Rattle.directory.specs.TreeModel.State.Lists.{first_of}
+use Rattle.directory.specs.ItemStates.Parts.{request_pair}
 use Rattle.directory.proofs.Lists.{requests-first}
 use Rattle.directory.proofs.state.DirState.up_first_request.Goals as goal
 

@@ -1,6 +1,6 @@
 use Rattle.std.proofs.Common.{◌≡◌, ◌∙◌, ap, sym, length, [], replicate}
 use Rattle.std.proofs.lemmas.List.{length-set}
-use Rattle.tree_model.specs.State.Directory.{parked_words}
+use Rattle.directory.specs.TreeModel.State.Directory.{parked_words}
 use Rattle.directory.proofs.Changes.{shape-parked, there-instead, copies-without}
 use Rattle.directory.proofs.Lists.{parked-words}
 use Rattle.directory.proofs.state.DirState.up_give_up.Goals as goal

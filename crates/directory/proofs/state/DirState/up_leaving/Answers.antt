@@ -1,5 +1,5 @@
 use Rattle.std.proofs.Common.{◌∙◌, ap, sym, subst, length, IfSome, is_some, true, ◌≡◌, ◌<◌}
-use Rattle.tree_model.specs.State.Directory.{dir_leaving, parked_words}
+use Rattle.directory.specs.TreeModel.State.Directory.{dir_leaving, parked_words}
 use Rattle.directory.specs.DirParts.{AreCopiesBelow}
 use Rattle.directory.proofs.Leaving.{leaving-chosen, leaving-below, leaving-there}
 use Rattle.directory.proofs.state.DirState.up_leaving.Goals as goal

@@ -1,6 +1,6 @@
 use Rattle.std.proofs.Common.{◌≡◌, ◌∙◌, sym, true, false, rules}
-use Rattle.tree_model.specs.State.States.{is_held}
-use Rattle.tree_model.specs.State.Directory.{dir_hold, dir_lost}
+use Rattle.directory.specs.TreeModel.State.States.{is_held}
+use Rattle.directory.specs.TreeModel.State.Directory.{dir_hold, dir_lost}
 use Rattle.directory.proofs.Changes.{lose-held, lose-absent}
 use Rattle.directory.proofs.state.DirState.up_lose.Goals as goal
 

@@ -1,6 +1,6 @@
 use Rattle.std.proofs.Common.{◌∙◌, ap, sym}
-use Rattle.ddm_types.specs.declared.answers.TxKind.TheVariants.{ReadTx}
-use Rattle.tree_model.specs.State.Directory.{dir_waits}
+use Rattle.directory.specs.DdmTypes.declared.answers.TxKind.TheVariants.{ReadTx}
+use Rattle.directory.specs.TreeModel.State.Directory.{dir_waits}
 use Rattle.directory.proofs.Lists.{has_kind-requests}
 use Rattle.directory.proofs.state.DirState.up_waits.Goals as goal
 

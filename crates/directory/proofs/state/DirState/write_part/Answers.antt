@@ -1,8 +1,8 @@
 use Rattle.std.proofs.Common.{◌≡◌, false, nat_eq, arith}
 use Rattle.std.proofs.lemmas.Bool.{ne_eqb}
-use Rattle.ddm_text.specs.Adds.{◌▸◌}
-use Rattle.state_words.specs.Parts.{dir_words, item_and_words, request_words}
-use Rattle.state_words.proofs.Mapped.{counted-map}
+use Rattle.directory.specs.DdmText.Adds.{◌▸◌}
+use Rattle.directory.specs.StateWords.Parts.{dir_words, item_and_words, request_words}
+use Rattle.directory.proofs.StateWords.Mapped.{counted-map}
 use Rattle.directory.specs.DirParts.{request_of, copy_of}
 use Rattle.directory.proofs.state.DirState.write_part.Goals as goal
 

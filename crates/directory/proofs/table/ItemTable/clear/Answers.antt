@@ -1,7 +1,7 @@
 use Rattle.std.proofs.Common.{◌≡◌, ◌∙◌, ap, sym, map, length, rules}
 use Rattle.std.proofs.Math.ListN.{replicate}
 use Rattle.std.proofs.lemmas.List.{length-map}
-use Rattle.tree_model.specs.State.Values.{absent_item}
+use Rattle.directory.specs.TreeModel.State.Values.{absent_item}
 use Rattle.directory.specs.Packed.{unpacked_item}
 use Rattle.directory.proofs.ItemWords.{map-replicate}
 use Rattle.directory.proofs.table.ItemTable.clear.Goals as goal

@@ -1,6 +1,6 @@
 use Rattle.std.proofs.Common.{◌≡◌, ◌≤◌, take}
 use Rattle.std.specs.Prelude.{count_by}
-use Rattle.state_words.specs.Parts.{is_recorded}
+use Rattle.directory.specs.StateWords.Parts.{is_recorded}
 use Rattle.directory.proofs.table.ItemTable.count_recorded.Given as goal
 
 abbrev pub invariant-loop-item : goal.invariant-loop-item

@@ -1,8 +1,8 @@
 use Rattle.std.proofs.Common.{◌≡◌, ◌∙◌, ◌-◌, ap, sym, rules, Err, arith, drop, length, replicate, None}
 use Rattle.std.proofs.lemmas.List.{length-replicate}
-use Rattle.state_reading.specs.Reading.{times}
-use Rattle.state_reading.specs.Parts.{at_rest, read_record}
-use Rattle.state_reading.proofs.Steps.{went_on, times_begun, times_went_on, times_refused, times_done}
+use Rattle.directory.specs.StateReading.Reading.{times}
+use Rattle.directory.specs.StateReading.Parts.{at_rest, read_record}
+use Rattle.directory.proofs.StateReading.Steps.{went_on, times_begun, times_went_on, times_refused, times_done}
 use Rattle.directory.proofs.table.ItemTable.read.Goals as goal
 
 pub loop-number-init : goal.loop-number-init

@@ -1,6 +1,6 @@
 use Rattle.std.proofs.Common.{◌≡◌, ◌-◌, ◌≤◌, drop, length, replicate, None}
-use Rattle.state_reading.specs.Reading.{times}
-use Rattle.state_reading.specs.Parts.{at_rest, read_record}
+use Rattle.directory.specs.StateReading.Reading.{times}
+use Rattle.directory.specs.StateReading.Parts.{at_rest, read_record}
 use Rattle.directory.proofs.table.ItemTable.read.Given as goal
 
 -- the records so far, and those that are left

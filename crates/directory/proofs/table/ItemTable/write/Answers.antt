@@ -1,8 +1,8 @@
 use Rattle.std.proofs.Common.{◌<◌, length, ap, arith}
 use Rattle.std.proofs.lemmas.List.{length-map}
-use Rattle.tree_model.specs.State.Values.{absent_item}
-use Rattle.ddm_text.specs.Adds.{◌▸◌}
-use Rattle.state_words.proofs.Nothing.{begins-after, on-err}
+use Rattle.directory.specs.TreeModel.State.Values.{absent_item}
+use Rattle.directory.specs.DdmText.Adds.{◌▸◌}
+use Rattle.directory.proofs.StateWords.Nothing.{begins-after, on-err}
 use Rattle.directory.specs.Packed.{packed_item}
 use Rattle.directory.proofs.Records.{records_more}
 use Rattle.directory.proofs.table.ItemTable.write.Goals as goal

@@ -1,6 +1,6 @@
 use Rattle.std.proofs.Common.{take}
-use Rattle.ddm_text.specs.Adds.{Adds}
-use Rattle.state_words.specs.Parts.{records_from}
+use Rattle.directory.specs.DdmText.Adds.{Adds}
+use Rattle.directory.specs.StateWords.Parts.{records_from}
 use Rattle.directory.proofs.table.ItemTable.write.Given as goal
 
 abbrev pub invariant-loop-item : goal.invariant-loop-item

@@ -1,9 +1,9 @@
 use Rattle.std.proofs.Common.{ap, sym, ◌∙◌}
 use lib.ListN.{length-map}
-use Rattle.tree_model.specs.State.Values.{leaf_node}
+use Rattle.leaf_protocol.specs.TreeModel.State.Values.{leaf_node}
 use Rattle.leaf_protocol.specs.Leaf.{leaf_of, copy_value}
-use Rattle.tree_model.proofs.LeafRooms.{ways_after-length}
-use Rattle.tree_model.specs.State.Leaf.{becomes, words_in, entry_words, entry_at}
+use Rattle.leaf_protocol.proofs.TreeModel.LeafRooms.{ways_after-length}
+use Rattle.leaf_protocol.specs.TreeModel.State.Leaf.{becomes, words_in, entry_words, entry_at}
 use Rattle.leaf_protocol.proofs.Changing.{told-ok}
 use Rattle.leaf_protocol.proofs.Told.{answer-none, answer-stays, answer-becomes, parts-same, parts-replied, copies-append, not-full, words-here}
 use Rattle.leaf_protocol.proofs.agent.LeafAgent.answer.Goals as goal

@@ -1,6 +1,6 @@
 use Rattle.std.proofs.Common.{refl, sym, ◌∙◌, ◌≡◌, true, false}
 use Rattle.std.specs.Prelude.{is_none}
-use Rattle.tree_model.specs.State.Leaf.{state_at, free_way}
+use Rattle.leaf_protocol.specs.TreeModel.State.Leaf.{state_at, free_way}
 use Rattle.leaf_protocol.proofs.Told.{room-waits, room-absent, room-there}
 use Rattle.leaf_protocol.proofs.agent.LeafAgent.room.Goals as goal
 

@@ -1,5 +1,5 @@
 use Rattle.std.proofs.Common.{ap, sym}
-use Rattle.tree_model.specs.State.Values.{leaf_node}
+use Rattle.leaf_protocol.specs.TreeModel.State.Values.{leaf_node}
 use Rattle.leaf_protocol.specs.Leaf.{leaf_of}
 use Rattle.leaf_protocol.proofs.Told.{exclusive-none, exclusive-stays, exclusive-becomes}
 use Rattle.leaf_protocol.proofs.agent.LeafAgent.take_exclusive.Goals as goal

@@ -1,6 +1,6 @@
 use Rattle.std.proofs.Common.{ap, sym}
-use Rattle.tree_model.specs.State.Leaf.{free_way}
-use Rattle.tree_model.specs.State.Values.{leaf_node}
+use Rattle.leaf_protocol.specs.TreeModel.State.Leaf.{free_way}
+use Rattle.leaf_protocol.specs.TreeModel.State.Values.{leaf_node}
 use Rattle.leaf_protocol.specs.Leaf.{leaf_of}
 use Rattle.leaf_protocol.proofs.Told.{inject-none, inject-stays, inject-becomes, struck-value}
 use Rattle.leaf_protocol.proofs.agent.LeafAgent.take_inject.Goals as goal

@@ -2,7 +2,7 @@ use Rattle.std.proofs.Common.{refl, sym, ◌∙◌, arith}
 use Rattle.leaf_protocol.proofs.Standing.{count_more, some_counts, none_counts}
 use Rattle.leaf_protocol.proofs.entries.Entries.count_in.Goals as goal
 use Rattle.leaf_protocol.proofs.entries.Entries.count_in.Goals.{then-is_some, else-is_some}
-use Rattle.state_words.specs.Parts.{standing_in}
+use Rattle.leaf_protocol.specs.StateWords.Parts.{standing_in}
 
 pub loop-way-init : goal.loop-way-init
 unfolding standing_in

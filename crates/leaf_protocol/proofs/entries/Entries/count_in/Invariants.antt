@@ -1,5 +1,5 @@
 use Rattle.std.proofs.Common.{◌≡◌, ◌≤◌, length}
-use Rattle.state_words.specs.Parts.{standing_in}
+use Rattle.leaf_protocol.specs.StateWords.Parts.{standing_in}
 use Rattle.leaf_protocol.proofs.entries.Entries.count_in.Given as goal
 
 abbrev pub invariant-loop-way : goal.invariant-loop-way

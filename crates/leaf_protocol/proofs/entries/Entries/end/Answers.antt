@@ -1,6 +1,6 @@
 use Rattle.std.proofs.Common.{refl}
 use Rattle.leaf_protocol.proofs.Changing.{end-kept, end-ways, fate-is}
-use Rattle.tree_model.specs.State.Leaf.{ends}
+use Rattle.leaf_protocol.specs.TreeModel.State.Leaf.{ends}
 use Rattle.leaf_protocol.proofs.entries.Entries.end.Goals as goal
 
 pub invariant_of-self : goal.invariant_of-self

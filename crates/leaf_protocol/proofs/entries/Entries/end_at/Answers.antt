@@ -1,5 +1,5 @@
 use Rattle.std.proofs.Common.{rules, refl, sym, ◌∙◌}
-use Rattle.tree_model.specs.State.Leaf.{ends}
+use Rattle.leaf_protocol.specs.TreeModel.State.Leaf.{ends}
 use Rattle.leaf_protocol.proofs.Changing.{end-ways, end-way-kept, end-way-buffer, end-buffer-kept, end-buffer-ways, fate-is}
 use Rattle.leaf_protocol.proofs.Reading.{stands-at, stands-nowhere}
 use Rattle.leaf_protocol.proofs.entries.Entries.end_at.Goals as goal

@@ -1,5 +1,5 @@
 use Rattle.std.proofs.Common.{rules, refl}
-use Rattle.tree_model.specs.State.Leaf.{blank, enters}
+use Rattle.leaf_protocol.specs.TreeModel.State.Leaf.{blank, enters}
 use Rattle.leaf_protocol.proofs.Fits.{are-below}
 use Rattle.leaf_protocol.proofs.Ways.{none-free, ways_of-length}
 use Rattle.leaf_protocol.proofs.Changing.{entry_none, enter-kept, enter-ways, fate-is}

@@ -1,4 +1,4 @@
-use Rattle.tree_model.specs.State.Leaf.{leaf_leaving}
+use Rattle.leaf_protocol.specs.TreeModel.State.Leaf.{leaf_leaving}
 use Rattle.leaf_protocol.proofs.Reading.{leaving-there, leaving-inside}
 use Rattle.leaf_protocol.proofs.entries.Entries.leaving.Goals as goal
 

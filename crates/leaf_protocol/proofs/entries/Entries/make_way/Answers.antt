@@ -1,6 +1,6 @@
 use Rattle.std.proofs.Common.{ℕ, refl, sym, ap, ◌∙◌, ◌≡◌, ◌%◌, true, false, length, nat_le}
 use Rattle.std.specs.Prelude.{option_map}
-use Rattle.ddm_types.specs.declared.sizes.LeafState.{LeafState}
+use Rattle.leaf_protocol.specs.DdmTypes.declared.sizes.LeafState.{LeafState}
 use Rattle.leaf_protocol.proofs.Ways.{item_in_way-none, lowest-some, lowest-none}
 use Rattle.leaf_protocol.proofs.Fits.{are-below}
 use Rattle.leaf_protocol.proofs.Changing.{entry-told, told-ok, moved-kept, moved-ways, moved-buffer, moved-free, moved-absent, moved-waiting, cleared-is, cleared-free}

@@ -1,7 +1,7 @@
 use Rattle.std.proofs.Common.{◌≡◌, ◌+◌, None, length, map, drop, refl, sym, ap, ◌∙◌}
 use Rattle.std.specs.Prelude.{is_some}
 use Rattle.std.proofs.lemmas.List.{get_or_default}
-use Rattle.tree_model.specs.Start.Nodes.{or_each}
+use Rattle.leaf_protocol.specs.TreeModel.Start.Nodes.{or_each}
 use Rattle.leaf_protocol.specs.Entries.{ways_of}
 use Rattle.leaf_protocol.proofs.Marking.{marked_by, marked-end, marked-next, tags-mark}
 use Rattle.leaf_protocol.proofs.entries.Entries.mark_held.Goals as goal

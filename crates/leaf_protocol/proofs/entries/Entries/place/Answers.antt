@@ -1,6 +1,6 @@
 use Rattle.std.proofs.Common.{rules}
-use Rattle.ddm_types.specs.declared.sizes.LeafState.TheVariants.{Exclusive}
-use Rattle.tree_model.specs.State.Leaf.{enters_free}
+use Rattle.leaf_protocol.specs.DdmTypes.declared.sizes.LeafState.TheVariants.{Exclusive}
+use Rattle.leaf_protocol.specs.TreeModel.State.Leaf.{enters_free}
 use Rattle.leaf_protocol.specs.Entries.{ways_of, lowest_way}
 use Rattle.leaf_protocol.proofs.Ways.{ways_of-length}
 use Rattle.leaf_protocol.proofs.Changing.{entry_none, placed-kept, placed-sets, placed-way, placed-full, placed-ways, placed-buffer, fate-is}

@@ -1,5 +1,5 @@
 use Rattle.std.specs.Prelude.{[], ◌≤◌, ◌+◌, List, length}
-use Rattle.state_words.specs.Parts.{StandingValue}
+use Rattle.leaf_protocol.specs.StateWords.Parts.{StandingValue}
 use Rattle.leaf_protocol.specs.ReadBack.{AreThere, IsSized}
 use Rattle.leaf_protocol.proofs.ReadBack.{BufferedSoFar}
 use Rattle.leaf_protocol.proofs.entries.Entries.read_buffered.Given as goal

@@ -1,6 +1,6 @@
 use Rattle.std.proofs.Common.{◌∙◌, ◌++◌, ◌∷◌, [], drop, length, ap}
-use Rattle.tree_model.specs.State.Values.{BufferValue}
-use Rattle.state_reading.specs.Reading.{and_then, given}
+use Rattle.leaf_protocol.specs.TreeModel.State.Values.{BufferValue}
+use Rattle.leaf_protocol.specs.StateReading.Reading.{and_then, given}
 use Rattle.leaf_protocol.proofs.Together.{on-true, one-buffered}
 use Rattle.leaf_protocol.proofs.ReadBack.{buffered-read}
 use Rattle.leaf_protocol.proofs.entries.Entries.read_one_buffered.Goals as goal

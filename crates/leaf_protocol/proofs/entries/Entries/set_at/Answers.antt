@@ -1,5 +1,5 @@
 use Rattle.std.proofs.Common.{rules, refl, sym, ◌∙◌}
-use Rattle.tree_model.specs.State.Leaf.{becomes, words_in}
+use Rattle.leaf_protocol.specs.TreeModel.State.Leaf.{becomes, words_in}
 use Rattle.leaf_protocol.proofs.Buffered.{in_state-there}
 use Rattle.leaf_protocol.proofs.Changing.{elsewhere, set-way-kept, set-way-ways, set-way-buffer, set-buffer-kept, set-buffer-ways, set-buffer-buffer, fate-is}
 use Rattle.leaf_protocol.proofs.Reading.{stands-at, stands-nowhere}

@@ -1,5 +1,5 @@
 use Rattle.std.proofs.Common.{rules, sym, ◌∙◌}
-use Rattle.tree_model.specs.State.Leaf.{becomes, words_in}
+use Rattle.leaf_protocol.specs.TreeModel.State.Leaf.{becomes, words_in}
 use Rattle.leaf_protocol.proofs.Changing.{set-way-kept, set-way-ways, set-way-buffer, words-way, fate-is}
 use Rattle.leaf_protocol.proofs.Reading.{stands-at}
 use Rattle.leaf_protocol.proofs.Ways.{put-state}

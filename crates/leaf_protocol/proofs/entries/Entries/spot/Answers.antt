@@ -1,6 +1,6 @@
 use Rattle.std.proofs.Common.{ap, ℕ}
 use Rattle.std.specs.Prelude.{option_map}
-use Rattle.tree_model.specs.declared.LeafSpot.{LeafSpot}
+use Rattle.leaf_protocol.specs.TreeModel.declared.LeafSpot.{LeafSpot}
 use Rattle.leaf_protocol.proofs.Reading.{spot-in-way, spot-in-buffer}
 use Rattle.leaf_protocol.proofs.entries.Entries.spot.Goals as goal
 

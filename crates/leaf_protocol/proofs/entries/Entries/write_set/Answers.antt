@@ -1,10 +1,10 @@
 use Rattle.std.proofs.Common.{sym}
-use Rattle.ddm_text.specs.Adds.{◌▸◌}
+use Rattle.leaf_protocol.specs.DdmText.Adds.{◌▸◌}
 use Rattle.leaf_protocol.proofs.Standing.{words_of_way, free_way}
 use Rattle.leaf_protocol.proofs.entries.Entries.write_set.Goals as goal
 use Rattle.leaf_protocol.proofs.entries.Entries.write_set.Goals.{in-Some+in_ok-spell, in_default}
-use Rattle.state_words.specs.Parts.{standing_in}
-use Rattle.state_words.proofs.Nothing.{adds-nothing}
+use Rattle.leaf_protocol.specs.StateWords.Parts.{standing_in}
+use Rattle.leaf_protocol.proofs.StateWords.Nothing.{adds-nothing}
 
 pub loop-way-init : goal.loop-way-init
 unfolding standing_in

@@ -1,8 +1,8 @@
 use Rattle.std.proofs.Common.{sym, ap, ◌≡◌, arith, ◌∙◌, length}
-use Rattle.ddm_text.specs.Adds.{◌▸◌}
+use Rattle.leaf_protocol.specs.DdmText.Adds.{◌▸◌}
 use Rattle.leaf_protocol.proofs.Standing.{first_sets, words_of_set, all_sets, no_sets}
 use Rattle.leaf_protocol.proofs.entries.Entries.write_standing.Goals as goal
-use Rattle.state_words.proofs.Nothing.{adds-nothing}
+use Rattle.leaf_protocol.proofs.StateWords.Nothing.{adds-nothing}
 
 pub loop-set-init : goal.loop-set-init
 loop-set-init g c = rw (no_sets c.args.self.now.sets c.args.self.now.ways g.row.WAYS) (adds-nothing c.push_words.new.out.items)

@@ -1,6 +1,6 @@
 use Rattle.std.specs.List.{flat_map}
-use Rattle.ddm_text.specs.Adds.{Adds}
-use Rattle.state_words.specs.Parts.{standing_words}
+use Rattle.leaf_protocol.specs.DdmText.Adds.{Adds}
+use Rattle.leaf_protocol.specs.StateWords.Parts.{standing_words}
 use Rattle.leaf_protocol.proofs.Standing.{first_sets}
 use Rattle.leaf_protocol.proofs.entries.Entries.write_standing.Given as goal
 

@@ -1,5 +1,5 @@
 use Rattle.std.proofs.Common.{[], false}
-use Rattle.flat_model.proofs.Steps.{finish_plain}
+use Rattle.leaf_protocol.proofs.FlatModel.Steps.{finish_plain}
 use Rattle.leaf_protocol.proofs.Deeds.{change-plain, completes-done}
 use Rattle.leaf_protocol.proofs.leaf.Leaf.compute.Goals as goal
 

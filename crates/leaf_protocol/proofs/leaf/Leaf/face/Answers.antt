@@ -1,5 +1,5 @@
 use Rattle.std.proofs.Common.{refl}
-use Rattle.tree_model.specs.State.Leaf.{leaf_hold}
+use Rattle.leaf_protocol.specs.TreeModel.State.Leaf.{leaf_hold}
 use Rattle.leaf_protocol.proofs.leaf.Leaf.face.Goals as goal
 
 pub returns : goal.returns

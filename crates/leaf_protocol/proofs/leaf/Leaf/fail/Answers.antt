@@ -1,7 +1,7 @@
 use Rattle.std.proofs.Common.{ap, ◌∙◌, None}
-use Rattle.tree_model.specs.State.Values.{LeafValue}
-use Rattle.tree_model.specs.Turns.HartTurn.{words_here}
-use Rattle.flat_model.proofs.Steps.{finish_failing}
+use Rattle.leaf_protocol.specs.TreeModel.State.Values.{LeafValue}
+use Rattle.leaf_protocol.specs.TreeModel.Turns.HartTurn.{words_here}
+use Rattle.leaf_protocol.proofs.FlatModel.Steps.{finish_failing}
 use Rattle.leaf_protocol.proofs.Deeds.{change-fail, completes-done}
 use Rattle.leaf_protocol.proofs.leaf.Leaf.fail.Goals as goal
 

@@ -1,5 +1,5 @@
 use Rattle.std.proofs.Common.{refl}
-use Rattle.tree_model.specs.State.Leaf.{free_way}
+use Rattle.leaf_protocol.specs.TreeModel.State.Leaf.{free_way}
 use Rattle.leaf_protocol.specs.Leaf.{leaf_of}
 use Rattle.leaf_protocol.proofs.Deeds.{fetch-full, fetch-way}
 use Rattle.leaf_protocol.proofs.leaf.Leaf.fetch.Goals as goal

@@ -1,6 +1,6 @@
 use Rattle.std.proofs.Common.{refl, sym}
-use Rattle.ddm_types.specs.declared.answers.TurnAnswer.TheVariants.{Halted, Waiting}
-use Rattle.tree_model.specs.Turns.HartTurn.{has_halted, waits_for}
+use Rattle.leaf_protocol.specs.DdmTypes.declared.answers.TurnAnswer.TheVariants.{Halted, Waiting}
+use Rattle.leaf_protocol.specs.TreeModel.Turns.HartTurn.{has_halted, waits_for}
 use Rattle.leaf_protocol.proofs.Deeds.{halted-deed, waiting-deed, next-deed, step-answer, step-leaf}
 use Rattle.leaf_protocol.proofs.leaf.Leaf.hart_turn_into.Goals as goal
 

@@ -1,7 +1,7 @@
 use Rattle.std.proofs.Common.{refl, ap, ◌∙◌, ◌<◌, length, Some, arith}
-use Rattle.flat_model.specs.Flat.{asked_item}
-use Rattle.flat_model.proofs.Items.{asks_inside}
-use Rattle.tree_model.specs.State.Values.{LeafValue}
+use Rattle.leaf_protocol.specs.FlatModel.Flat.{asked_item}
+use Rattle.leaf_protocol.proofs.FlatModel.Items.{asks_inside}
+use Rattle.leaf_protocol.specs.TreeModel.State.Values.{LeafValue}
 use Rattle.leaf_protocol.proofs.Deeds.{load-done}
 use Rattle.leaf_protocol.proofs.Told.{parts-reserved}
 use Rattle.leaf_protocol.proofs.leaf.Leaf.load.Goals as goal

@@ -1,6 +1,6 @@
 use Rattle.std.proofs.Common.{rules, refl, ap}
-use Rattle.flat_model.specs.Flat.{asked_item}
-use Rattle.flat_model.proofs.Items.{asks_inside}
+use Rattle.leaf_protocol.specs.FlatModel.Flat.{asked_item}
+use Rattle.leaf_protocol.proofs.FlatModel.Items.{asks_inside}
 use Rattle.leaf_protocol.proofs.Deeds.{absent-words}
 use Rattle.leaf_protocol.proofs.leaf.Leaf.read.Goals as goal
 

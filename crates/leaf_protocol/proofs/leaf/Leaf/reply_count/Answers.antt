@@ -1,5 +1,5 @@
 use Rattle.std.proofs.Common.{length, ap, ◌∙◌}
-use Rattle.tree_model.specs.State.Leaf.{words_of_item}
+use Rattle.leaf_protocol.specs.TreeModel.State.Leaf.{words_of_item}
 use Rattle.bus_judging.proofs.Copies.{copies-counted}
 use Rattle.leaf_protocol.specs.Leaf.{copy_value}
 use Rattle.leaf_protocol.proofs.leaf.Leaf.reply_count.Goals as goal

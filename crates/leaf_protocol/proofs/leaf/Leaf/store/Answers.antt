@@ -1,8 +1,8 @@
 use Rattle.std.proofs.Common.{refl, sym, ap, ◌∙◌, None}
-use Rattle.ddm_types.specs.declared.sizes.LeafState.TheVariants.{Exclusive}
-use Rattle.flat_model.specs.Hart.{finish_of}
-use Rattle.tree_model.specs.State.Values.{LeafValue}
-use Rattle.tree_model.specs.State.Leaf.{becomes, ways_after, buffer_after}
+use Rattle.leaf_protocol.specs.DdmTypes.declared.sizes.LeafState.TheVariants.{Exclusive}
+use Rattle.leaf_protocol.specs.FlatModel.Hart.{finish_of}
+use Rattle.leaf_protocol.specs.TreeModel.State.Values.{LeafValue}
+use Rattle.leaf_protocol.specs.TreeModel.State.Leaf.{becomes, ways_after, buffer_after}
 use Rattle.leaf_protocol.proofs.Deeds.{store-done}
 use Rattle.leaf_protocol.proofs.Told.{words-here}
 use Rattle.leaf_protocol.proofs.leaf.Leaf.store.Goals as goal

@@ -1,7 +1,7 @@
-use Rattle.ddm_types.specs.declared.answers.TxKind.TheVariants.{EraseTx}
-use Rattle.ddm_types.specs.declared.sizes.LeafState.TheVariants.{Waiting}
-use Rattle.tree_model.specs.State.Leaf.{becomes, words_in, entry_words, entry_at}
-use Rattle.tree_model.proofs.LeafRooms.{ways_after-length}
+use Rattle.leaf_protocol.specs.DdmTypes.declared.answers.TxKind.TheVariants.{EraseTx}
+use Rattle.leaf_protocol.specs.DdmTypes.declared.sizes.LeafState.TheVariants.{Waiting}
+use Rattle.leaf_protocol.specs.TreeModel.State.Leaf.{becomes, words_in, entry_words, entry_at}
+use Rattle.leaf_protocol.proofs.TreeModel.LeafRooms.{ways_after-length}
 use Rattle.leaf_protocol.proofs.Told.{parts-same, parts-asked}
 use Rattle.leaf_protocol.proofs.leaf.Leaf.upgrade.Goals as goal
 

@@ -1,8 +1,8 @@
 use Rattle.std.proofs.Common.{arith}
 use Rattle.std.proofs.lemmas.Option.{IfSome_then}
-use Rattle.ddm_text.specs.Adds.{◌▸◌}
-use Rattle.state_words.specs.Parts.{item_and_words, leaf_words}
-use Rattle.state_words.proofs.Mapped.{counted-map}
+use Rattle.leaf_protocol.specs.DdmText.Adds.{◌▸◌}
+use Rattle.leaf_protocol.specs.StateWords.Parts.{item_and_words, leaf_words}
+use Rattle.leaf_protocol.proofs.StateWords.Mapped.{counted-map}
 use Rattle.leaf_protocol.specs.Leaf.{copy_value}
 use Rattle.leaf_protocol.proofs.leaf.Leaf.write_part.Goals as goal
 

@@ -1,7 +1,7 @@
 use Rattle.std.proofs.Common.{◌≡◌, ◌+◌, ◌++◌, cond, length, sym, ap, ◌∙◌, arith}
 use Rattle.std.proofs.lemmas.List.{length-append}
 use Rattle.std.proofs.lemmas.List.Sums.{sum_by-append}
-use Rattle.tree_model.specs.State.Lists.{names_item}
+use Rattle.leaf_protocol.specs.TreeModel.State.Lists.{names_item}
 use Rattle.tx_queue.specs.QueueList.{count_naming}
 use Rattle.leaf_protocol.specs.Leaf.{copied_item}
 use Rattle.leaf_protocol.proofs.replies.Replies.naming.Goals as goal

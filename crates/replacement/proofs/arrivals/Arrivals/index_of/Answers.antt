@@ -1,5 +1,5 @@
 use Rattle.std.proofs.Common.{◌≡◌, sym, ◌<◌, length, true, false, rules, tests, arith}
-use Rattle.tree_model.specs.State.Lists.{names_item}
+use Rattle.replacement.specs.TreeModel.State.Lists.{names_item}
 use Rattle.replacement.proofs.Finds.{found_here, found_later}
 use Rattle.replacement.proofs.arrivals.Arrivals.index_of.Goals as goal
 

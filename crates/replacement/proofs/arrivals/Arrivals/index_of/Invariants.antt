@@ -1,6 +1,6 @@
 use Rattle.std.proofs.Common.{◌≤◌}
 use Rattle.std.specs.List.{position_or_len}
-use Rattle.tree_model.specs.State.Lists.{names_item}
+use Rattle.replacement.specs.TreeModel.State.Lists.{names_item}
 use Rattle.replacement.proofs.arrivals.Arrivals.index_of.Given as goal
 
 abbrev pub invariant-loop-index : goal.invariant-loop-index

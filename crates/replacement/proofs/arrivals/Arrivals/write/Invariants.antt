@@ -1,6 +1,6 @@
 use Rattle.std.proofs.Common.{take}
 use Rattle.std.specs.List.{flat_map}
-use Rattle.ddm_text.specs.Adds.{Adds}
+use Rattle.replacement.specs.DdmText.Adds.{Adds}
 use Rattle.replacement.proofs.arrivals.Arrivals.write.Given as goal
 
 abbrev pub invariant-loop-index : goal.invariant-loop-index

@@ -1,7 +1,7 @@
 use Rattle.std.proofs.Common.{◌≡◌, ◌∙◌, ap, arith, find, None}
 use Rattle.std.proofs.lemmas.Grind.{common_steps}
-use Rattle.tree_model.specs.State.Leaf.{is_buffered}
-use Rattle.tree_model.specs.State.Leaf.{buffer_item}
+use Rattle.replacement.specs.TreeModel.State.Leaf.{is_buffered}
+use Rattle.replacement.specs.TreeModel.State.Leaf.{buffer_item}
 use Rattle.replacement.proofs.Once.{once-append}
 use Rattle.replacement.proofs.buffer.Buffer.put.Goals as goal
 

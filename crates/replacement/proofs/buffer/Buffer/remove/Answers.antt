@@ -1,6 +1,6 @@
 use Rattle.std.proofs.Common.{arith, not}
-use Rattle.tree_model.specs.State.Leaf.{is_buffered}
-use Rattle.tree_model.specs.State.Leaf.{buffer_item}
+use Rattle.replacement.specs.TreeModel.State.Leaf.{is_buffered}
+use Rattle.replacement.specs.TreeModel.State.Leaf.{buffer_item}
 use Rattle.replacement.proofs.Once.{once-filter, fewer}
 use Rattle.replacement.proofs.buffer.Buffer.remove.Goals as goal
 

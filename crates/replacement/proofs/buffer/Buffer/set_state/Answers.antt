@@ -1,4 +1,4 @@
-use Rattle.tree_model.specs.State.Leaf.{buffer_item}
+use Rattle.replacement.specs.TreeModel.State.Leaf.{buffer_item}
 use Rattle.replacement.specs.Arrived.{with_state}
 use Rattle.replacement.proofs.Once.{held_changed, state_item}
 use Rattle.replacement.proofs.buffer.Buffer.set_state.Goals as goal

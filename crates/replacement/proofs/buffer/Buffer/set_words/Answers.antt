@@ -1,4 +1,4 @@
-use Rattle.tree_model.specs.State.Leaf.{buffer_item}
+use Rattle.replacement.specs.TreeModel.State.Leaf.{buffer_item}
 use Rattle.replacement.specs.Arrived.{with_words}
 use Rattle.replacement.proofs.Once.{held_changed, words_item}
 use Rattle.replacement.proofs.buffer.Buffer.set_words.Goals as goal

@@ -1,6 +1,6 @@
 use Rattle.std.proofs.Common.{◌∙◌, ap, sym, refl}
 use Rattle.std.specs.List.{find}
-use Rattle.tree_model.specs.State.Leaf.{is_copy}
+use Rattle.replacement.specs.TreeModel.State.Leaf.{is_copy}
 use Rattle.replacement.proofs.Absent.{has_copy, has_none}
 use Rattle.replacement.proofs.parking.Parking.lacks.Goals as goal
 

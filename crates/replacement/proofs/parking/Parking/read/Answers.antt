@@ -1,6 +1,6 @@
 use Rattle.std.proofs.Common.{◌≡◌, ◌∙◌, ◌+◌, ◌&&◌, ap, rules, not, nat_lt, Err, arith, [], drop, length}
 use Rattle.std.specs.List.{list_any}
-use Rattle.tree_model.specs.State.Leaf.{is_copy}
+use Rattle.replacement.specs.TreeModel.State.Leaf.{is_copy}
 use Rattle.state_reading.specs.Reading.{times}
 use Rattle.state_reading.specs.Parts.{read_copy}
 use Rattle.state_reading.proofs.Steps.{went_on, one_step_more, one_step_refused, times_done}

@@ -1,6 +1,6 @@
 use Rattle.std.proofs.Common.{◌≡◌, ◌-◌, ◌<◌, ◌≤◌, ◌&&◌, not, nat_lt, [], drop, length}
 use Rattle.std.specs.List.{All, list_any}
-use Rattle.tree_model.specs.State.Leaf.{is_copy}
+use Rattle.replacement.specs.TreeModel.State.Leaf.{is_copy}
 use Rattle.state_reading.specs.Reading.{times}
 use Rattle.state_reading.specs.Parts.{read_copy}
 use Rattle.replacement.proofs.parking.Parking.read.Given as goal

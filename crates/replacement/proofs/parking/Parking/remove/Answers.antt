@@ -1,6 +1,6 @@
 use Rattle.std.proofs.Common.{arith, not}
-use Rattle.tree_model.specs.State.Leaf.{is_copy}
-use Rattle.tree_model.specs.State.Leaf.{copy_item}
+use Rattle.replacement.specs.TreeModel.State.Leaf.{is_copy}
+use Rattle.replacement.specs.TreeModel.State.Leaf.{copy_item}
 use Rattle.replacement.proofs.Once.{once-filter, fewer}
 use Rattle.replacement.proofs.parking.Parking.remove.Goals as goal
 

@@ -1,5 +1,5 @@
 use Rattle.std.proofs.Common.{◌<◌, ◌+◌, ◌++◌, drop, length, sym, ap, ◌∙◌, arith}
-use Rattle.ddm_text.specs.Adds.{alone}
+use Rattle.report.specs.DdmText.Adds.{alone}
 use Rattle.text_model.specs.Trace.{trace_from}
 use Rattle.report.proofs.TraceParts.{line-some, trace-more, trace-none}
 use Rattle.report.proofs.trace_pieces.TracePiecesParts.put_next.Goals as goal

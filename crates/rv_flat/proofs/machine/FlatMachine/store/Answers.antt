@@ -1,5 +1,5 @@
 use Rattle.std.proofs.Common.{length, ap, ◌∙◌}
-use Rattle.flat_model.specs.Flat.{flat_hart}
+use Rattle.rv_flat.specs.FlatModel.Flat.{flat_hart}
 use Rattle.rv_flat.specs.FlatState.{FlatState}
 use Rattle.rv_flat.proofs.Outcomes.{item_inside}
 use Rattle.rv_flat.proofs.machine.FlatMachine.store.Goals as goal

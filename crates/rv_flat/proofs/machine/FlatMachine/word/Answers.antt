@@ -1,6 +1,6 @@
 use Rattle.std.proofs.Common.{length, arith, ap, sym, ◌∙◌, ◌<◌, ◌≤◌, ◌+◌}
-use Rattle.ddm_types.specs.ItemTable.{row_at}
-use Rattle.flat_model.proofs.Items.{item_at_inside}
+use Rattle.rv_flat.specs.DdmTypes.ItemTable.{row_at}
+use Rattle.rv_flat.proofs.FlatModel.Items.{item_at_inside}
 use Rattle.rv_hart.proofs.Accesses.{item_at_from, item_at_below}
 use Rattle.rv_flat.specs.FlatState.{FlatState}
 use Rattle.rv_flat.proofs.machine.FlatMachine.word.Goals as goal

@@ -1,8 +1,8 @@
 use Rattle.std.proofs.Common.{◌≡◌, All, ap, subst, ◌∙◌}
 use Rattle.schedule_log.specs.Seeding.{SeededView}
-use Rattle.text_model.specs.ReadBack.{IsTurnOf}
-use Rattle.text_model.specs.Schedule.{ShapeView}
-use Rattle.text_model.specs.Seeded.{seeded_turns}
+use Rattle.seed_draws.specs.TextModel.ReadBack.{IsTurnOf}
+use Rattle.seed_draws.specs.TextModel.Schedule.{ShapeView}
+use Rattle.seed_draws.specs.TextModel.Seeded.{seeded_turns}
 use Rattle.recording_model.specs.LetBy.{skew_of}
 use Rattle.seed_draws.specs.Parts.{DrawsView}
 use Rattle.seed_draws.proofs.Draws.{begun, draws-known, draws-length}

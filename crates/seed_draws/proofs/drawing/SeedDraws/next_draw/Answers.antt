@@ -1,6 +1,6 @@
 use Rattle.std.proofs.Common.{◌∷◌, ◌∙◌, ap, sym, length, arith}
 use Rattle.recording_model.specs.LetBy.{Draw}
-use Rattle.text_model.specs.Schedule.{ShapeView}
+use Rattle.seed_draws.specs.TextModel.Schedule.{ShapeView}
 use Rattle.seed_draws.specs.Parts.{DrawsView, draws_left}
 use Rattle.seed_draws.proofs.Draws.{draws-length}
 use Rattle.seed_draws.proofs.drawing.SeedDraws.next_draw.Goals as goal

@@ -1,6 +1,6 @@
 use Rattle.std.proofs.Common.{◌∙◌, ap}
 use Rattle.std.specs.Prelude.{slice_index_or}
-use Rattle.text_model.specs.Schedule.{ShapeView}
+use Rattle.seed_draws.specs.TextModel.Schedule.{ShapeView}
 use Rattle.recording_model.specs.LetBy.{turns_before}
 use Rattle.seed_draws.proofs.Draws.{before-at}
 use Rattle.seed_draws.proofs.places.Places.before.Goals as goal

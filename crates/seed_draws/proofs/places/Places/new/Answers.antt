@@ -3,7 +3,7 @@ use Rattle.std.specs.List.{range_with_len}
 use Rattle.std.proofs.lemmas.List.{take_more}
 use Rattle.std.proofs.lemmas.List.FromFn.{map-range_with_len_more}
 use Rattle.schedule_log.specs.Shapes.{shape_view}
-use Rattle.text_model.specs.Schedule.{ShapeView}
+use Rattle.seed_draws.specs.TextModel.Schedule.{ShapeView}
 use Rattle.recording_model.specs.LetBy.{turns_before}
 use Rattle.seed_draws.proofs.Draws.{before-more}
 use Rattle.seed_draws.proofs.places.Places.new.Goals as goal

@@ -1,6 +1,6 @@
 use Rattle.std.proofs.Common.{refl}
-use Rattle.tree_model.specs.State.Directory.{request_kinds}
-use Rattle.tree_model.specs.State.Leaf.{words_of_item}
+use Rattle.top_node.specs.TreeModel.State.Directory.{request_kinds}
+use Rattle.top_node.specs.TreeModel.State.Leaf.{words_of_item}
 use Rattle.top_node.proofs.judged.TopStateJudgedParent.facts.Goals as goal
 
 pub returns : goal.returns

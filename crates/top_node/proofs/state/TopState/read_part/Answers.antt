@@ -1,7 +1,7 @@
 use Rattle.std.proofs.Common.{◌≡◌, ◌&&◌, not, nat_lt, length, arith, refl, rules, Err}
 use Rattle.std.specs.List.{list_any}
-use Rattle.tree_model.specs.State.Leaf.{is_copy}
-use Rattle.state_reading.specs.Parts.{read_copy, read_dir, read_request}
+use Rattle.top_node.specs.TreeModel.State.Leaf.{is_copy}
+use Rattle.top_node.specs.StateReading.Parts.{read_copy, read_dir, read_request}
 use Rattle.top_node.proofs.NoEntries.{no_entries, entries_refused}
 use Rattle.top_node.proofs.state.TopState.read_part.Goals as goal
 

@@ -1,6 +1,6 @@
 use Rattle.std.proofs.Common.{◌≡◌, ℕ, true, List, [], ◌∷◌, ◌++◌, refl, ap, ◌∙◌, append_assoc}
-use Rattle.ddm_text.specs.Adds.{◌▸◌}
-use Rattle.state_words.specs.Parts.{counted, dir_words, down_words, records}
+use Rattle.top_node.specs.DdmText.Adds.{◌▸◌}
+use Rattle.top_node.specs.StateWords.Parts.{counted, dir_words, down_words, records}
 use Rattle.top_node.proofs.state.TopState.write_part.Goals as goal
 
 one-by-one : (xs : List ℕ) (a b c d : ℕ) → xs ++ a ∷ [] ++ b ∷ [] ++ c ∷ [] ++ d ∷ [] ≡ xs ++ a ∷ b ∷ c ∷ d ∷ []

@@ -1,6 +1,6 @@
 use Rattle.std.proofs.Common.{◌∙◌, ap, ◌<◌, length, arith}
 use Rattle.std.specs.List.{list_any}
-use Rattle.tree_model.specs.State.Lists.{names_item}
+use Rattle.tx_queue.specs.TreeModel.State.Lists.{names_item}
 use Rattle.tx_queue.proofs.Steps.{some_named}
 use Rattle.tx_queue.proofs.queue.Queue.holds_item.Goals as goal
 

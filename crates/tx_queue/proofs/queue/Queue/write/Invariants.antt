@@ -1,6 +1,6 @@
 use Rattle.std.proofs.Common.{map}
 use Rattle.std.specs.List.{flat_map}
-use Rattle.ddm_text.specs.Adds.{Adds}
+use Rattle.tx_queue.specs.DdmText.Adds.{Adds}
 use Rattle.tx_queue.proofs.queue.Queue.write.Given as goal
 
 abbrev pub invariant-loop-entry : goal.invariant-loop-entry

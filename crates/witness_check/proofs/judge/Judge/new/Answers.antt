@@ -1,8 +1,8 @@
 use Rattle.std.proofs.Common.{ℕ, ◌/◌, List, length, sym, ap, ◌∙◌}
-use Rattle.ddm_types.specs.ItemTable.{ItemTable}
-use Rattle.flat_model.specs.Flat.{flat_start}
-use Rattle.tree_model.specs.Start.Sources.{ImageValue, SegmentValue}
-use Rattle.tree_model.specs.Start.Memory.{start_code}
+use Rattle.witness_check.specs.DdmTypes.ItemTable.{ItemTable}
+use Rattle.witness_check.specs.FlatModel.Flat.{flat_start}
+use Rattle.witness_check.specs.TreeModel.Start.Sources.{ImageValue, SegmentValue}
+use Rattle.witness_check.specs.TreeModel.Start.Memory.{start_code}
 use Rattle.start_memory.specs.Memory.{memory_items, memory_words}
 use Rattle.witness_check.proofs.FlatWords.{all_words, items_size, length-all, words_are}
 use Rattle.witness_check.proofs.Steps.{view_is}

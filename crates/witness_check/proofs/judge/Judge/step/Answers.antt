@@ -1,8 +1,8 @@
 use Rattle.std.proofs.Common.{Result, sym, subst, ap, ◌∙◌, arith}
-use Rattle.ddm_types.specs.declared.operations.Op.{Op}
-use Rattle.ddm_types.specs.declared.operations.Effect.{Effect}
-use Rattle.ddm_types.specs.declared.operations.HaltCause.{HaltCause}
-use Rattle.flat_model.specs.Legal.{is_sc_ok, same_effect}
+use Rattle.witness_check.specs.DdmTypes.declared.operations.Op.{Op}
+use Rattle.witness_check.specs.DdmTypes.declared.operations.Effect.{Effect}
+use Rattle.witness_check.specs.DdmTypes.declared.operations.HaltCause.{HaltCause}
+use Rattle.witness_check.specs.FlatModel.Legal.{is_sc_ok, same_effect}
 use Rattle.rv_flat.specs.FlatState.{FlatState}
 use Rattle.witness_check.proofs.Steps.{is_said, gives_no_hart, gives_other_pc, gives_step}
 use Rattle.witness_check.proofs.judge.Judge.step.Goals as goal

@@ -1,0 +1,4 @@
+-- Of `ddm_tree`, what this crate and those above it name.
+pub use Rattle.any_machine.proofs.DdmTree.LeafList
+pub use Rattle.any_machine.proofs.DdmTree.RulesKept
+pub use Rattle.any_machine.proofs.DdmTree.TurnMade

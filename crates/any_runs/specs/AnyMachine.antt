@@ -1,0 +1,4 @@
+-- Of `any_machine`, what this crate and those above it name.
+pub use Rattle.any_machine.specs.Any
+pub use Rattle.any_machine.specs.Kind
+pub use Rattle.any_machine.specs.declared

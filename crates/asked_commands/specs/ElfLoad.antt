@@ -1,0 +1,3 @@
+-- Of `elf_load`, what this crate and those above it name.
+pub use Rattle.ddm_cli.specs.ElfLoad.ImageRule
+pub use Rattle.ddm_cli.specs.ElfLoad.Written

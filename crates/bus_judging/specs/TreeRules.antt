@@ -1,0 +1,4 @@
+-- Of `tree_rules`, what this crate and those above it name.
+pub use Rattle.tree_rules.specs.Bus
+pub use Rattle.tree_rules.specs.Order
+pub use Rattle.tree_rules.specs.Statements

@@ -1,0 +1,7 @@
+-- Of `tree_rules`, what this crate and those above it name.
+pub use Rattle.tree_rules.specs.Bus
+pub use Rattle.tree_rules.specs.Computing
+pub use Rattle.tree_rules.specs.Examples
+pub use Rattle.tree_rules.specs.Order
+pub use Rattle.tree_rules.specs.Statements
+pub use Rattle.tree_rules.specs.Witness

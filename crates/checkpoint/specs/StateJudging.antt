@@ -1,0 +1,3 @@
+-- Of `state_judging`, what this crate and those above it name.
+pub use Rattle.spelling_laws.specs.StateJudging.Judged
+pub use Rattle.spelling_laws.specs.StateJudging.Read

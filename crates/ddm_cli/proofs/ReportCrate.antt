@@ -1,0 +1,2 @@
+-- Of `report`, what this crate and those above it name.
+pub use Rattle.outcomes.proofs.ReportCrate.Written

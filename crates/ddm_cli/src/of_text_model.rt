@@ -1,0 +1,3 @@
+//! What this crate and those above it name of `text_model`.
+
+pub use outcomes::of_text_model::{RunCounts, ScheduleRefusal};

@@ -1,0 +1,3 @@
+-- Of `headline`, what this crate and those above it name.
+pub use Rattle.headline.proofs.Runs
+pub use Rattle.headline.proofs.StartOrder

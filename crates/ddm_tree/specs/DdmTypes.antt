@@ -1,0 +1,5 @@
+-- Of `ddm_types`, what this crate and those above it name.
+pub use Rattle.operation_list.specs.DdmTypes.CodeMap
+pub use Rattle.operation_list.specs.DdmTypes.ItemTable
+pub use Rattle.operation_list.specs.DdmTypes.Keys
+pub use Rattle.operation_list.specs.DdmTypes.declared

@@ -1,0 +1,6 @@
+-- Of `state_reading`, what this crate and those above it name.
+pub use Rattle.state_judging.specs.StateReading.Gives
+pub use Rattle.state_judging.specs.StateReading.Machine
+pub use Rattle.state_judging.specs.StateReading.Parts
+pub use Rattle.state_judging.specs.StateReading.Reading
+pub use Rattle.state_judging.specs.StateReading.declared

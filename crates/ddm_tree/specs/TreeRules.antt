@@ -1,0 +1,5 @@
+-- Of `tree_rules`, what this crate and those above it name.
+pub use Rattle.headline.specs.TreeRules.Bus
+pub use Rattle.headline.specs.TreeRules.Order
+pub use Rattle.headline.specs.TreeRules.Statements
+pub use Rattle.headline.specs.TreeRules.Witness

@@ -1,0 +1,3 @@
+-- Of `state_words`, what this crate and those above it name.
+pub use Rattle.replacement.proofs.StateWords.Mapped
+pub use Rattle.replacement.proofs.StateWords.Nothing

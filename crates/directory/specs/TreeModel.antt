@@ -1,0 +1,4 @@
+-- Of `tree_model`, what this crate and those above it name.
+pub use Rattle.bus_judging.specs.TreeModel.Start
+pub use Rattle.bus_judging.specs.TreeModel.State
+pub use Rattle.bus_judging.specs.TreeModel.Turns

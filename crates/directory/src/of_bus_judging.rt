@@ -1,0 +1,3 @@
+//! What this crate and those above it name of `bus_judging`.
+
+pub use bus_judging::{ParentFacts, RequestFacts};

@@ -1,0 +1,3 @@
+//! What this crate and those above it name of `item_states`.
+
+pub use replacement::of_item_states::{DownEntry, Parent, ParentList};

@@ -1,0 +1,3 @@
+-- Of `ddm_types`, what this crate and those above it name.
+pub use Rattle.ddm_types.proofs.Entries
+pub use Rattle.ddm_types.proofs.KeyOrder

@@ -1,0 +1,3 @@
+pub mod DdmTypes
+pub mod RvHart
+pub mod Opened

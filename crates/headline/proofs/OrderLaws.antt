@@ -1,0 +1,3 @@
+-- Of `order_laws`, what this crate and those above it name.
+pub use Rattle.order_laws.proofs.EveryTurn
+pub use Rattle.order_laws.proofs.Hart

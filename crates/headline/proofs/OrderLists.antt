@@ -1,0 +1,23 @@
+-- Of `order_lists`, what this crate and those above it name.
+pub use Rattle.order_laws.proofs.OrderLists.AboveExclusive
+pub use Rattle.order_laws.proofs.OrderLists.Clocks
+pub use Rattle.order_laws.proofs.OrderLists.Contracts
+pub use Rattle.order_laws.proofs.OrderLists.Ends
+pub use Rattle.order_laws.proofs.OrderLists.ExclusiveClaims
+pub use Rattle.order_laws.proofs.OrderLists.Filters
+pub use Rattle.order_laws.proofs.OrderLists.Found
+pub use Rattle.order_laws.proofs.OrderLists.Holders
+pub use Rattle.order_laws.proofs.OrderLists.Keys
+pub use Rattle.order_laws.proofs.OrderLists.Late
+pub use Rattle.order_laws.proofs.OrderLists.Levels
+pub use Rattle.order_laws.proofs.OrderLists.Listed
+pub use Rattle.order_laws.proofs.OrderLists.Moments
+pub use Rattle.order_laws.proofs.OrderLists.NoHold
+pub use Rattle.order_laws.proofs.OrderLists.OneLeaf
+pub use Rattle.order_laws.proofs.OrderLists.OwnOrder
+pub use Rattle.order_laws.proofs.OrderLists.Paths
+pub use Rattle.order_laws.proofs.OrderLists.Placed
+pub use Rattle.order_laws.proofs.OrderLists.Queues
+pub use Rattle.order_laws.proofs.OrderLists.Sorted
+pub use Rattle.order_laws.proofs.OrderLists.Stamps
+pub use Rattle.order_laws.proofs.OrderLists.State

@@ -1,0 +1,6 @@
+-- Of `tree_rules`, what this crate and those above it name.
+pub use Rattle.order_laws.proofs.TreeRules.BusTests
+pub use Rattle.order_laws.proofs.TreeRules.Implying
+pub use Rattle.order_laws.proofs.TreeRules.KeysNow
+pub use Rattle.order_laws.proofs.TreeRules.Lists
+pub use Rattle.order_laws.proofs.TreeRules.Statements

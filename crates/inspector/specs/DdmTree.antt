@@ -1,0 +1,4 @@
+-- Of `ddm_tree`, what this crate and those above it name.
+pub use Rattle.start_parts.specs.DdmTree.Machine
+pub use Rattle.start_parts.specs.DdmTree.Path
+pub use Rattle.start_parts.specs.DdmTree.Reads

@@ -1,0 +1,3 @@
+//! What this crate and those above it name of `ddm_tree`.
+
+pub use start_parts::of_ddm_tree::{Found, Machine, Subtree, place_at};

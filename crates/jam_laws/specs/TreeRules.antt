@@ -1,0 +1,3 @@
+-- Of `tree_rules`, what this crate and those above it name.
+pub use Rattle.bus_laws.specs.TreeRules.Bus
+pub use Rattle.bus_laws.specs.TreeRules.Computing

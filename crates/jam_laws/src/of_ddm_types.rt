@@ -1,0 +1,3 @@
+//! What this crate and those above it name of `ddm_types`.
+
+pub use bus_laws::of_ddm_types::{BusNo, ChildNo, ItemId, LeafNo, LeafState, Turn};

@@ -1,0 +1,3 @@
+//! What this crate and those above it name of `reservations`.
+
+pub use reservations::Reservation;

@@ -1,0 +1,23 @@
+-- Of `order_lists`, what this crate and those above it name.
+pub use Rattle.order_lists.proofs.AboveExclusive
+pub use Rattle.order_lists.proofs.Clocks
+pub use Rattle.order_lists.proofs.Contracts
+pub use Rattle.order_lists.proofs.Ends
+pub use Rattle.order_lists.proofs.ExclusiveClaims
+pub use Rattle.order_lists.proofs.Filters
+pub use Rattle.order_lists.proofs.Found
+pub use Rattle.order_lists.proofs.Holders
+pub use Rattle.order_lists.proofs.Keys
+pub use Rattle.order_lists.proofs.Late
+pub use Rattle.order_lists.proofs.Levels
+pub use Rattle.order_lists.proofs.Listed
+pub use Rattle.order_lists.proofs.Moments
+pub use Rattle.order_lists.proofs.NoHold
+pub use Rattle.order_lists.proofs.OneLeaf
+pub use Rattle.order_lists.proofs.OwnOrder
+pub use Rattle.order_lists.proofs.Paths
+pub use Rattle.order_lists.proofs.Placed
+pub use Rattle.order_lists.proofs.Queues
+pub use Rattle.order_lists.proofs.Sorted
+pub use Rattle.order_lists.proofs.Stamps
+pub use Rattle.order_lists.proofs.State

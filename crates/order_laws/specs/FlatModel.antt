@@ -1,0 +1,5 @@
+-- Of `flat_model`, what this crate and those above it name.
+pub use Rattle.bus_laws.specs.FlatModel.Flat
+pub use Rattle.bus_laws.specs.FlatModel.Hart
+pub use Rattle.bus_laws.specs.FlatModel.Legal
+pub use Rattle.bus_laws.specs.FlatModel.declared

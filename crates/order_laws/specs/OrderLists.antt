@@ -1,0 +1,2 @@
+-- Of `order_lists`, what this crate and those above it name.
+pub use Rattle.order_lists.specs.Copies

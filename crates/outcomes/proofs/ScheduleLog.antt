@@ -1,0 +1,3 @@
+-- Of `schedule_log`, what this crate and those above it name.
+pub use Rattle.schedule_log.proofs.Cuts
+pub use Rattle.schedule_log.proofs.Cuttings

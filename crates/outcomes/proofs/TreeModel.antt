@@ -1,0 +1,5 @@
+-- Of `tree_model`, what this crate and those above it name.
+pub use Rattle.outcome_model.proofs.TreeModel.Children
+pub use Rattle.outcome_model.proofs.TreeModel.FrameKept
+pub use Rattle.outcome_model.proofs.TreeModel.NamedNode
+pub use Rattle.outcome_model.proofs.TreeModel.Tests

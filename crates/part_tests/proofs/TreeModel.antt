@@ -1,0 +1,3 @@
+-- Of `tree_model`, what this crate and those above it name.
+pub use Rattle.leaf_protocol.proofs.TreeModel.HartRooms
+pub use Rattle.leaf_protocol.proofs.TreeModel.LeafRooms

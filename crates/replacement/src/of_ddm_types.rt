@@ -1,0 +1,3 @@
+//! What this crate and those above it name of `ddm_types`.
+
+pub use state_reading::of_ddm_types::{ItemId, LeafState, NoMemory, Words};

@@ -1,0 +1,3 @@
+-- Of `ddm_tree`, what this crate and those above it name.
+pub use Rattle.any_machine.proofs.DdmTree.LeafList
+pub use Rattle.any_machine.proofs.DdmTree.RulesKept

@@ -1,0 +1,3 @@
+-- Of `inspector`, what this crate and those above it name.
+pub use Rattle.any_machine.proofs.InspectorCrate.LeafStates
+pub use Rattle.any_machine.proofs.InspectorCrate.OneMore

@@ -1,0 +1,3 @@
+-- Of `ddm_tree`, what this crate and those above it name.
+pub use Rattle.any_machine.specs.DdmTree.Reads
+pub use Rattle.any_machine.specs.DdmTree.Rules

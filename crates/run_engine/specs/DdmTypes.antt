@@ -1,0 +1,4 @@
+-- Of `ddm_types`, what this crate and those above it name.
+pub use Rattle.any_runs.specs.DdmTypes.CodeMap
+pub use Rattle.any_runs.specs.DdmTypes.ItemTable
+pub use Rattle.any_runs.specs.DdmTypes.declared

@@ -1,0 +1,4 @@
+-- Of `start_parts`, what this crate and those above it name.
+pub use Rattle.any_runs.specs.StartParts.Counts
+pub use Rattle.any_runs.specs.StartParts.Held
+pub use Rattle.any_runs.specs.StartParts.Parts

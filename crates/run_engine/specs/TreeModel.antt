@@ -1,0 +1,3 @@
+-- Of `tree_model`, what this crate and those above it name.
+pub use Rattle.tree_config.specs.TreeModel.Start
+pub use Rattle.tree_config.specs.TreeModel.State

@@ -1,0 +1,2 @@
+-- Definitions of libraries below that proofs of this crate open.
+unfoldable pub use Rattle.rv_flat.specs.FlatModel.Flat.{flat_halted, flat_start}

@@ -1,0 +1,5 @@
+//! What this crate and those above it name of `rv_decode`.
+
+pub use flat_model::of_rv_decode::{
+    AmoOp, BranchOp, ImmOp, Instr, LoadOp, Reg, RegOp, StoreOp, decode,
+};

@@ -1,0 +1,5 @@
+-- Of `ddm_text`, what this crate and those above it name.
+pub use Rattle.text_model.specs.DdmText.Adds
+pub use Rattle.text_model.specs.DdmText.Lines
+pub use Rattle.text_model.specs.DdmText.Numbers
+pub use Rattle.text_model.specs.DdmText.declared

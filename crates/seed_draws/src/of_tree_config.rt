@@ -1,0 +1,3 @@
+//! What this crate and those above it name of `tree_config`.
+
+pub use schedule_log::of_tree_config::Shape;

@@ -1,0 +1,3 @@
+-- Of `state_judging`, what this crate and those above it name.
+pub use Rattle.state_judging.specs.Judged
+pub use Rattle.state_judging.specs.Read

@@ -1,0 +1,6 @@
+-- Of `tree_rules`, what this crate and those above it name.
+pub use Rattle.value_laws.specs.TreeRules.Bus
+pub use Rattle.value_laws.specs.TreeRules.Computing
+pub use Rattle.value_laws.specs.TreeRules.Examples
+pub use Rattle.value_laws.specs.TreeRules.Order
+pub use Rattle.value_laws.specs.TreeRules.Statements

@@ -1,0 +1,7 @@
+-- Of `bus_laws`, what this crate and those above it name.
+pub use Rattle.bus_laws.proofs.FoundExists
+pub use Rattle.bus_laws.proofs.HartChanges
+pub use Rattle.bus_laws.proofs.HartFacts
+pub use Rattle.bus_laws.proofs.StartLevels
+pub use Rattle.bus_laws.proofs.StartNodes
+pub use Rattle.bus_laws.proofs.TreeKept

@@ -1,0 +1,6 @@
+-- Of `state_words`, what this crate and those above it name.
+pub use Rattle.state_reading.specs.StateWords.Begins
+pub use Rattle.state_reading.specs.StateWords.Machine
+pub use Rattle.state_reading.specs.StateWords.Numbers
+pub use Rattle.state_reading.specs.StateWords.Parts
+pub use Rattle.state_reading.specs.StateWords.declared

@@ -1,0 +1,6 @@
+-- Of `state_words`, what this crate and those above it name.
+pub use Rattle.state_words.specs.Begins
+pub use Rattle.state_words.specs.Machine
+pub use Rattle.state_words.specs.Numbers
+pub use Rattle.state_words.specs.Parts
+pub use Rattle.state_words.specs.declared

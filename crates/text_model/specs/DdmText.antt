@@ -1,0 +1,6 @@
+-- Of `ddm_text`, what this crate and those above it name.
+pub use Rattle.ddm_text.specs.Adds
+pub use Rattle.ddm_text.specs.Hex
+pub use Rattle.ddm_text.specs.Lines
+pub use Rattle.ddm_text.specs.Numbers
+pub use Rattle.ddm_text.specs.declared

@@ -1,0 +1,5 @@
+-- Of `ddm_types`, what this crate and those above it name.
+pub use Rattle.ddm_text.specs.DdmTypes.CodeMap
+pub use Rattle.ddm_text.specs.DdmTypes.ItemTable
+pub use Rattle.ddm_text.specs.DdmTypes.Keys
+pub use Rattle.ddm_text.specs.DdmTypes.declared

@@ -1,0 +1,4 @@
+-- Of `rv_decode`, what this crate and those above it name.
+pub use Rattle.tree_model.specs.RvDecode.Encode
+pub use Rattle.tree_model.specs.RvDecode.Valid
+pub use Rattle.tree_model.specs.RvDecode.declared

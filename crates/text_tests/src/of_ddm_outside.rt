@@ -1,0 +1,6 @@
+//! What this crate and those above it name of `ddm_outside`.
+
+pub use report::of_ddm_outside::{
+    Failed, FileShelf, MemoryShelf, MemorySink, NamedFile, Shelf, Sink, SoundShelf, SoundSink,
+    StdSink,
+};

@@ -1,0 +1,5 @@
+-- Of `ddm_types`, what this crate and those above it name.
+pub use Rattle.tree_model.specs.DdmTypes.CodeMap
+pub use Rattle.tree_model.specs.DdmTypes.ItemTable
+pub use Rattle.tree_model.specs.DdmTypes.Keys
+pub use Rattle.tree_model.specs.DdmTypes.declared

@@ -1,0 +1,2 @@
+-- Of `directory`, what this crate and those above it name.
+pub use Rattle.directory.proofs.Lists

@@ -1,0 +1,10 @@
+-- Of `flat_model`, what this crate and those above it name.
+pub use Rattle.flat_model.proofs.Actions
+pub use Rattle.flat_model.proofs.Completing
+pub use Rattle.flat_model.proofs.Frames
+pub use Rattle.flat_model.proofs.Insert
+pub use Rattle.flat_model.proofs.Items
+pub use Rattle.flat_model.proofs.Reserving
+pub use Rattle.flat_model.proofs.Runs
+pub use Rattle.flat_model.proofs.Steps
+pub use Rattle.flat_model.proofs.Storing

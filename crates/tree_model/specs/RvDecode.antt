@@ -1,0 +1,5 @@
+-- Of `rv_decode`, what this crate and those above it name.
+pub use Rattle.flat_model.specs.RvDecode.Encode
+pub use Rattle.flat_model.specs.RvDecode.Table
+pub use Rattle.flat_model.specs.RvDecode.Valid
+pub use Rattle.flat_model.specs.RvDecode.declared

@@ -1,0 +1,2 @@
+-- Of `ddm_types`, what this crate and those above it name.
+pub use Rattle.tree_model.proofs.DdmTypes.KeyOrder

@@ -1,0 +1,7 @@
+-- Of `tree_model`, what this crate and those above it name.
+pub use Rattle.bus_laws.proofs.TreeModel.Changed
+pub use Rattle.bus_laws.proofs.TreeModel.FrameKept
+pub use Rattle.bus_laws.proofs.TreeModel.NamedNode
+pub use Rattle.bus_laws.proofs.TreeModel.Rows
+pub use Rattle.bus_laws.proofs.TreeModel.Tests
+pub use Rattle.bus_laws.proofs.TreeModel.TurnChanges

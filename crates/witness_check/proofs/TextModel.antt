@@ -1,0 +1,4 @@
+-- Of `text_model`, what this crate and those above it name.
+pub use Rattle.text_model.proofs.Given
+pub use Rattle.text_model.proofs.Numbered
+pub use Rattle.text_model.proofs.Outputs

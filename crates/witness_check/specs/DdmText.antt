@@ -1,0 +1,4 @@
+-- Of `ddm_text`, what this crate and those above it name.
+pub use Rattle.text_model.specs.DdmText.Hex
+pub use Rattle.text_model.specs.DdmText.Numbers
+pub use Rattle.text_model.specs.DdmText.declared

@@ -1,0 +1,3 @@
+//! What this crate and those above it name of `ddm_types`.
+
+pub use operation_list::of_ddm_types::{Key, NoMemory, Op};
