@@ -23,10 +23,10 @@ fn words<R: Env>(rt: &R, alloc: Global) -> Result<Vec<String>, Status> {
         match rt.arg(place as usize + 1, &mut buffer) {
             Ok(n) => match str::from_utf8(&buffer[..n]) {
                 Ok(word) => push_word(&mut words, alloc, word)?,
-                Err(_) => return Err(Status::Usage(fault_at(&words, place))),
+                Err(_) => return Err(refused(words, alloc, place)?),
             },
             Err(FillError::NotPresent) => return Ok(words),
-            Err(FillError::TooLong) => return Err(Status::Usage(fault_at(&words, place))),
+            Err(FillError::TooLong) => return Err(refused(words, alloc, place)?),
         }
     }
     Ok(words)
@@ -41,12 +41,14 @@ fn push_word(words: &mut Vec<String>, alloc: Global, word: &str) -> Result<(), N
     Ok(())
 }
 
-// The place of the first word at fault, where this one is.
-fn fault_at(words: &[String], place: u32) -> u32 {
-    match first_fault(words) {
+// The status where the word there is none: the first word at fault is that one or stands before it. An empty word stands in its place,
+// since fewer words may ask for help.
+fn refused(mut words: Vec<String>, alloc: Global, place: u32) -> Result<Status, NoMemory> {
+    push_word(&mut words, alloc, "")?;
+    Ok(Status::Usage(match first_fault(&words) {
         Some(fault) if fault < place => fault,
         _ => place,
-    }
+    }))
 }
 
 fn main(rt: HostRuntime) -> ExitCode {

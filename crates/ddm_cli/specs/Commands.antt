@@ -1,7 +1,7 @@
 -- The commands, and the words that say them.
 -- Letters: k is the index of a word, counted from 0.
 -- To be believed with the contracts: they speak of it.
-use Rattle.std.specs.Prelude.{ℕ, ◌+◌, ◌-◌, ◌*◌, ◌≤◌, min, nat_le, nat_lt, List, length, Result, Ok, Err, Option, Some, None, slice_get, option_and_then, if◌then◌else◌, bytes_eq, codes}
+use Rattle.std.specs.Prelude.{ℕ, ◌+◌, ◌-◌, ◌*◌, ◌≤◌, min, nat_le, nat_lt, List, [], ◌∷◌, length, Result, Ok, Err, Option, Some, None, slice_get, option_and_then, if◌then◌else◌, bytes_eq, codes}
 use Rattle.std.specs.Result.{result_ok}
 use Rattle.ddm_cli.specs.DdmText.Numbers.{number_of}
 use Rattle.ddm_cli.specs.declared.command.About.{About}
@@ -206,5 +206,40 @@ named_command words name =
     else (if bytes_eq name (codes "--version") then ends_at words 1 (to_say about.Version)
     else Err 0))))))))))))
 
+-- ---- words that ask for help, and are just these
+
+-- help and -h alone
+unfoldable pub help_alone : List ℕ → Option About
+help_alone word =
+    if bytes_eq word (codes "help") then Some about.Help
+    else (if bytes_eq word (codes "-h") then Some about.Help
+    else None)
+
+-- help help and help faults
+unfoldable pub help_topic : List ℕ → Option About
+help_topic word =
+    if bytes_eq word (codes "help") then Some about.Asking
+    else (if bytes_eq word (codes "faults") then Some about.Faults
+    else None)
+
+-- these, and COMMAND --help and COMMAND -h
+unfoldable pub help_of_two : List ℕ → List ℕ → Option About
+help_of_two first second =
+    if bytes_eq first (codes "help") then help_topic second
+    else (if bytes_eq second (codes "--help") then about_named first
+    else (if bytes_eq second (codes "-h") then about_named first
+    else None))
+
+abbrev pub help_asked : List (List ℕ) → Option About
+help_asked [] = None
+help_asked (word ∷ []) = help_alone word
+help_asked (first ∷ second ∷ []) = help_of_two first second
+help_asked (first ∷ second ∷ third ∷ more) = None
+
+-- the help that is asked for, else what the words say in their order
+abbrev pub help_or : Option About → Result Command ℕ → Result Command ℕ
+help_or (Some a) said = Ok (to_say a)
+help_or None said = said
+
 unfoldable pub command_of : List (List ℕ) → Result Command ℕ
-command_of words = word_at words 0 (named_command words)
+command_of words = help_or (help_asked words) (word_at words 0 (named_command words))

@@ -93,6 +93,10 @@ pub enum About {
     /// Its commands.
     Help,
     Version,
+    /// How help is asked for.
+    Asking,
+    /// The lines of faults, and what to do.
+    Faults,
     // How one of them is used.
     Run,
     Trace,

@@ -1,6 +1,6 @@
 ghost use Rattle.std.specs.Prelude.{◌≡◌, ◌≤◌, ◌<◌, ◌*◌, ◌+◌, map, length, Err, IfOk, IfSome, IsOk, MatchResult, None, Ok, Some, option_and_then, slice_get};
 ghost use Rattle.std.specs.String.{string_bytes};
-ghost use Rattle.ddm_cli.specs.Commands.{IsInRange, about_named, command_of, ends_at, file_check, file_resume, file_run, help_said, made_run, number_in, seed_list, seed_run, seeds_survey, to_say};
+ghost use Rattle.ddm_cli.specs.Commands.{IsInRange, about_named, command_of, ends_at, file_check, file_resume, file_run, help_alone, help_asked, help_of_two, help_said, help_topic, made_run, named_command, number_in, seed_list, seed_run, seeds_survey, to_say, word_at};
 ghost use Rattle.ddm_cli.specs.Views.{command_from};
 
 use crate::command::{
@@ -276,12 +276,57 @@ fn alone(words: &[String], about: About) -> Result<Command<'_>, u32>
     Ok(Command::About(about))
 }
 
-/// The command that the words say, or the index of the first word at fault or of the first that is missing.
-#[tactic(auto, unfolding(crate::specs::Commands::command_of))]
-pub fn command_said(words: &[String]) -> Result<Command<'_>, u32>
+// `help` and `-h` alone.
+#[tactic(auto, unfolding(crate::specs::Commands::help_alone))]
+fn help_alone(word: &str) -> Option<About>
+    ensures { result ≡ help_alone word.now }
+{
+    match word {
+        "help" | "-h" => Some(About::Help),
+        _ => None,
+    }
+}
+
+// `help help` and `help faults`, by the second word.
+#[tactic(auto, unfolding(crate::specs::Commands::help_topic))]
+fn help_topic(word: &str) -> Option<About>
+    ensures { result ≡ help_topic word.now }
+{
+    match word {
+        "help" => Some(About::Asking),
+        "faults" => Some(About::Faults),
+        _ => None,
+    }
+}
+
+// These, and `COMMAND --help` and `COMMAND -h`.
+#[tactic(auto, unfolding(crate::specs::Commands::help_of_two))]
+fn help_of_two(first: &str, second: &str) -> Option<About>
+    ensures { result ≡ help_of_two first.now second.now }
+{
+    match (first, second) {
+        ("help", _) => help_topic(second),
+        (_, "--help" | "-h") => about_named(first),
+        _ => None,
+    }
+}
+
+// The help that the words ask for. With any other word they ask for none.
+fn help_asked(words: &[String]) -> Option<About>
+    ensures { result ≡ help_asked (map string_bytes words.now) }
+{
+    match words {
+        [word] => help_alone(word.as_str()),
+        [first, second] => help_of_two(first.as_str(), second.as_str()),
+        _ => None,
+    }
+}
+
+// The command that the words say in their order.
+fn named_command(words: &[String]) -> Result<Command<'_>, u32>
     ensures is { MatchResult result
-        (λ c. command_of (map string_bytes words.now) ≡ Ok (command_from c))
-        (λ k. command_of (map string_bytes words.now) ≡ Err k) }
+        (λ c. word_at (map string_bytes words.now) 0 (named_command (map string_bytes words.now)) ≡ Ok (command_from c))
+        (λ k. word_at (map string_bytes words.now) 0 (named_command (map string_bytes words.now)) ≡ Err k) }
     ensures range { IfOk result (λ c. IsInRange (command_from c)) }
 {
     match word(words, 0)? {
@@ -299,6 +344,20 @@ pub fn command_said(words: &[String]) -> Result<Command<'_>, u32>
         "--help" => alone(words, About::Help),
         "--version" => alone(words, About::Version),
         _ => Err(0),
+    }
+}
+
+/// The command that the words say, or the index of the first word at fault or of the first that is missing.
+#[tactic(auto, unfolding(crate::specs::Commands::command_of))]
+pub fn command_said(words: &[String]) -> Result<Command<'_>, u32>
+    ensures is { MatchResult result
+        (λ c. command_of (map string_bytes words.now) ≡ Ok (command_from c))
+        (λ k. command_of (map string_bytes words.now) ≡ Err k) }
+    ensures range { IfOk result (λ c. IsInRange (command_from c)) }
+{
+    match help_asked(words) {
+        Some(about) => Ok(Command::About(about)),
+        None => named_command(words),
     }
 }
 

@@ -1,12 +1,12 @@
 //! Words that are no command: the first at fault is named, or where one is missing. And what the program says of itself.
 
-use asked_commands::answers::{ask, output};
+use asked_commands::answers::{ask, has_start, output};
 use asked_commands::files::Files;
 use std::test::Fail;
 
 #[test]
 fn words_at_fault(rt: HostRuntime) -> Result<(), Fail> {
-    let commands: [(&[&str], u32); 37] = [
+    let commands: [(&[&str], u32); 53] = [
         (&[], 0),
         (&["walk"], 0),
         (&["run", "a", "b"], 3),
@@ -40,10 +40,26 @@ fn words_at_fault(rt: HostRuntime) -> Result<(), Fail> {
         (&["outcomes", "i", "t", "0", "1", "1048577"], 5),
         (&["outcomes", "i", "t", "0", "1", "1", "more"], 6),
         (&["RUN", "a", "b", "c"], 0),
-        (&["help"], 1),
         (&["help", "walk"], 1),
         (&["help", "run", "more"], 2),
+        (&["help", "help", "more"], 1),
+        (&["help", "faults", "more"], 1),
+        (&["help", "--help"], 1),
+        (&["help", "-h"], 1),
         (&["--help", "run"], 1),
+        (&["--help", "--help"], 1),
+        (&["--version", "--help"], 1),
+        (&["-h", "run"], 0),
+        (&["-h", "-h"], 0),
+        (&["walk", "--help"], 0),
+        (&["faults", "--help"], 0),
+        (&["faults"], 0),
+        (&["run", "--help", "b"], 3),
+        (&["run", "a", "--help"], 3),
+        (&["seed", "--help", "-h"], 3),
+        (&["schedule", "-h", "t"], 2),
+        (&["make", "--help", "1"], 1),
+        (&["run", "help"], 2),
     ];
     let alloc = rt.alloc();
     let no_files = Files {
@@ -61,6 +77,12 @@ fn words_at_fault(rt: HostRuntime) -> Result<(), Fail> {
     Ok(())
 }
 
+// Whether no line of a text has more than 79 bytes.
+fn is_narrow(text: &[u8]) -> bool {
+    text.split(|byte| *byte == b'\n')
+        .all(|line| line.len() <= 79)
+}
+
 #[test]
 fn of_itself(rt: HostRuntime) -> Result<(), Fail> {
     let alloc = rt.alloc();
@@ -72,6 +94,10 @@ fn of_itself(rt: HostRuntime) -> Result<(), Fail> {
     let version = output(alloc, &["--version"], &no_files)?;
     assert_eq!(rt; version.as_slice(), b"ddm 1\n".as_slice());
     let help = output(alloc, &["--help"], &no_files)?;
+    let same: [&[&str]; 2] = [&["-h"], &["help"]];
+    for words in same {
+        assert!(rt; output(alloc, words, &no_files)? == help);
+    }
     for name in [
         "run", "trace", "seed", "schedule", "make", "check", "unjam", "save", "resume", "outcomes",
     ] {
@@ -79,6 +105,95 @@ fn of_itself(rt: HostRuntime) -> Result<(), Fail> {
         let line = format!(in alloc; "ddm {name} ")?;
         assert!(rt; said.starts_with(line.as_bytes()), "{name}");
         assert!(rt; !said.starts_with(&help), "{name}");
+        assert!(rt; is_narrow(&said), "{name}");
+        assert!(rt;
+            output(alloc, &[name, "--help"], &no_files)? == said,
+            "{name}"
+        );
+        assert!(rt; output(alloc, &[name, "-h"], &no_files)? == said, "{name}");
+    }
+    let asking = output(alloc, &["help", "help"], &no_files)?;
+    assert!(rt; asking.starts_with(b"ddm --help, ddm -h, ddm help "));
+    assert!(rt; is_narrow(&asking));
+    Ok(())
+}
+
+// Each line of a fault, behind the number that a command ends with.
+#[test]
+fn of_faults(rt: HostRuntime) -> Result<(), Fail> {
+    let alloc = rt.alloc();
+    let no_files = Files {
+        tree: Vec::new(alloc),
+        image: Vec::new(alloc),
+        schedule: Vec::new(alloc),
+    };
+    let faults = output(alloc, &["help", "faults"], &no_files)?;
+    assert!(rt; is_narrow(&faults));
+    for start in [
+        " 2 usage: word N ",
+        " 3 image: too long ",
+        " 3 image: not elf ",
+        " 3 image: wrong class ",
+        " 3 image: not executable ",
+        " 3 image: wrong machine ",
+        " 3 image: compressed ",
+        " 3 image: hard float ",
+        " 3 image: embedded ",
+        " 3 image: too many headers N ",
+        " 3 image: header outside N ",
+        " 3 image: dynamic N ",
+        " 3 image: segment outside N ",
+        " 3 image: address wraps N ",
+        " 3 image: segments overlap N M ",
+        " 3 image: no segments ",
+        " 3 image: too much code N ",
+        " 3 image: too many items N ",
+        " 3 image: bad entry N ",
+        " 3 image: stack overlap H N ",
+        " 3 image: no place N ",
+        " 4 tree: too long ",
+        " 4 tree: not toml ",
+        " 4 tree: unknown key KEY ",
+        " 4 tree: missing key KEY ",
+        " 4 tree: wrong type KEY ",
+        " 4 tree: bad shape N ",
+        " 4 tree: uneven ",
+        " 4 tree: too deep ",
+        " 4 tree: too wide ",
+        " 4 tree: too many leaves ",
+        " 4 tree: out of range KEY ",
+        " 5 schedule line N: bad turn ",
+        " 5 schedule line N: too many turns ",
+        " 5 schedule line N: no such hart ",
+        " 5 schedule line N: no such bus ",
+        " 5 schedule line N: no such child ",
+        " 5 schedule line N: no end ",
+        " 5 schedule line N: after end ",
+        " 6 cannot read the image ",
+        " 6 cannot read the tree ",
+        " 6 cannot read the schedule ",
+        " 6 cannot read the witness ",
+        " 6 cannot read the checkpoint ",
+        " 7 cannot write ",
+        " 8 no memory ",
+        "10 witness: too long ",
+        "10 witness line N: bad line ",
+        "10 witness line N: too many lines ",
+        "10 witness line N: not legal ",
+        "11 checkpoint: too long ",
+        "11 checkpoint: not checkpoint ",
+        "11 checkpoint: wrong version N ",
+        "11 checkpoint: cut WORD ",
+        "11 checkpoint: other machine WORD ",
+        "11 checkpoint: bad word WORD ",
+        "11 checkpoint: after end ",
+        "11 checkpoint: broken leaf LEAF ",
+        "11 checkpoint: broken rule BUS ITEM ",
+        "11 checkpoint: broken stamp BUS ",
+        "11 checkpoint: broken key OPERATION ",
+        "12 small lists: KEY ",
+    ] {
+        assert!(rt; has_start(&faults, start), "{start}");
     }
     Ok(())
 }
