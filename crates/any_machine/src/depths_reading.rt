@@ -1,3 +1,5 @@
+//! What is read of a machine, for each number of levels of buses.
+
 ghost use Rattle.std.specs.Prelude.{◌≡◌, ◌<◌, ◌≤◌, Some, length, take, true};
 ghost use Rattle.any_machine.specs.DdmTypes.ItemTable.{item_count};
 ghost use Rattle.any_machine.specs.TreeModel.State.Shape.{IsShaped, tree_counts};

@@ -1,3 +1,5 @@
+//! The type of a machine of any tree: an enum over items, ways and levels.
+
 use crate::of_ddm_tree::{Dir, Machine};
 use crate::of_leaf_protocol::Leaf;
 use cluster::Cluster;

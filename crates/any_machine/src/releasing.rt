@@ -1,3 +1,5 @@
+//! How a machine of any tree is let go.
+
 use crate::machine::{AnyMachine, Depths, Machines};
 use crate::of_ddm_tree::{Dir, Machine, Subtree};
 

@@ -1,3 +1,5 @@
+//! A machine of any tree becomes a copy of another one.
+
 ghost use Rattle.std.specs.Prelude.{◌≡◌};
 ghost use Rattle.any_runs.specs.DdmTree.Copying.{CanCopy, copied};
 ghost use Rattle.any_machine.specs.Any.{depths_state, machine_state, state_in};

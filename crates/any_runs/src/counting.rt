@@ -1,3 +1,5 @@
+//! Counts of what the turns of a run came to.
+
 ghost use Rattle.std.specs.Prelude.{◌≡◌};
 ghost use Rattle.text_model.specs.Run.{counted_answer, no_counts};
 ghost use Rattle.any_runs.specs.Run.{AreBelow};

@@ -1,3 +1,5 @@
+//! A machine of any tree forgets its operations.
+
 ghost use Rattle.std.specs.Prelude.{◌≡◌};
 ghost use Rattle.any_runs.specs.DdmTree.Machine.{without_ops};
 ghost use Rattle.any_machine.specs.Any.{depths_state, machine_state, state_in};

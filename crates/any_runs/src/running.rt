@@ -1,3 +1,5 @@
+//! A run: a list of turns on a machine of any tree, which may take memory.
+
 ghost use Rattle.std.specs.Prelude.{◌≡◌, ◌+◌, ◌<◌, ◌≤◌, ◌++◌, ◌∷◌, [], Some, true, false, IfNone, IfOk, IfSome, OnErr, OnOk, OnSome, length, vec_capacity, vec_len, if◌then◌else◌};
 ghost use Rattle.any_runs.specs.DdmTypes.declared.answers.TurnAnswer.TheVariants.{Empty};
 ghost use Rattle.any_runs.specs.TreeModel.Turns.Machine.{names_part, turn_of};

@@ -1,3 +1,5 @@
+//! A run for whose operations there is room already.
+
 ghost use Rattle.std.specs.Prelude.{◌≡◌, ◌≤◌, is_ok, length, max, if◌then◌else◌};
 ghost use Rattle.any_machine.specs.Any.{depths_state, machine_state, state_in};
 ghost use Rattle.any_machine.specs.Kind.{kind_in, kind_of, levels_in};

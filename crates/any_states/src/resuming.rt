@@ -1,3 +1,5 @@
+//! The words of a state are read into a machine of any tree.
+
 ghost use Rattle.std.specs.Prelude.{◌≡◌, ◌≢◌, ◌<◌, ◌≤◌, ◌^◌, Ok, Err, drop, length, slice_index, IfErr, IfOk};
 ghost use Rattle.any_states.specs.TreeModel.State.Shape.{frame_of};
 ghost use Rattle.any_states.specs.StateReading.declared.StateRefusal.TheVariants.{NoMemory};

@@ -1,3 +1,5 @@
+//! The words of a machine of any tree.
+
 ghost use Rattle.std.specs.Prelude.{◌≡◌, OnErr, OnOk};
 ghost use Rattle.any_states.specs.DdmText.Adds.{Adds};
 ghost use Rattle.any_states.specs.StateWords.Begins.{Begins};

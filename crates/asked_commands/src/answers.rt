@@ -1,3 +1,5 @@
+//! A command over files and sinks in memory, and what came of it.
+
 ghost use Rattle.std.specs.Prelude.{◌≡◌, All, IfOk};
 
 use crate::files::{Files, schedule};

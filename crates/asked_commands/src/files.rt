@@ -1,3 +1,5 @@
+//! Images, trees and schedules for tests.
+
 ghost use Rattle.std.specs.Prelude.{◌≤◌, All, IfOk, length};
 ghost use Rattle.asked_commands.specs.ElfLoad.ImageRule.{FitsMemory};
 ghost use Rattle.asked_commands.specs.Short.{IsShort};

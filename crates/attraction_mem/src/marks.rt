@@ -1,3 +1,5 @@
+//! Which classes of items may be in a set.
+
 ghost use Rattle.std.specs.Prelude.{◌≡◌};
 ghost use Rattle.attraction_mem.specs.Marks.{is_marked, marked};
 

@@ -1,3 +1,5 @@
+//! A leaf's memory in sets and ways.
+
 ghost use Rattle.std.specs.Prelude.{◌≡◌, ◌+◌, ◌*◌, ◌%◌, ◌<◌, ◌≤◌, ◌↔◌, ℕ, [], length, Option, Some, None, Ok, IfOk, IfErr, OnErr, IfSome, IfNone, IsSome, is_some, slice_index_or};
 ghost use Rattle.std.specs.Option.{option_map};
 ghost use Rattle.ddm_types.specs.declared.sizes.LeafState.{LeafState as State};

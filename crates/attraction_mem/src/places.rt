@@ -1,3 +1,5 @@
+//! The ways of a set: which is an item's, and which is free.
+
 ghost use Rattle.std.specs.Prelude.{◌≡◌, ◌+◌, ◌*◌, ◌%◌, ◌<◌, ◌≤◌, length, None, IfSome, IfNone, slice_index_or};
 ghost use Rattle.attraction_mem.specs.Places.{IsSized, HasTag, HasNoTag, AreTaken, is_of};
 

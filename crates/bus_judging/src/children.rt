@@ -1,3 +1,5 @@
+//! What the rules of a bus ask of its children, gathered child by child.
+
 ghost use Rattle.std.specs.Prelude.{◌≡◌, ◌<◌, ◌+◌, ◌^◌, ◌++◌, ◌∷◌, [], List, length, if◌then◌else◌};
 ghost use Rattle.bus_judging.specs.TreeModel.State.States.{is_exclusive, is_held, is_shared};
 ghost use Rattle.bus_judging.specs.TreeModel.State.Values.{Note};

@@ -1,3 +1,5 @@
+//! What the rules of a bus ask of its parent, and whether an item keeps them.
+
 ghost use Rattle.std.specs.Prelude.{◌≡◌, ◌++◌, ◌∷◌, [], List};
 ghost use Rattle.bus_judging.specs.DdmTypes.declared.answers.TxKind.{TxKind};
 ghost use Rattle.bus_judging.specs.TreeModel.State.Kinds.{brings_copy, goes_up, is_kind};

@@ -1,3 +1,5 @@
+//! What the rules of a bus ask of the entries in a down list.
+
 ghost use Rattle.std.specs.Prelude.{◌≡◌, ◌++◌, ◌∷◌, [], List, Some, if◌then◌else◌};
 ghost use Rattle.bus_judging.specs.DdmTypes.declared.answers.TxKind.{TxKind};
 ghost use Rattle.bus_judging.specs.TreeModel.State.Kinds.{is_kind};

@@ -1,3 +1,5 @@
+//! The head of a checkpoint.
+
 ghost use Rattle.std.specs.Prelude.{◌≡◌, length, IfOk, OnOk};
 ghost use Rattle.checkpoint.specs.DdmText.Adds.{Adds};
 ghost use Rattle.checkpoint.specs.StateWords.Machine.{head_words};

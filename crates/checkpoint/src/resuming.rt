@@ -1,3 +1,5 @@
+//! A checkpoint is judged, and gives a machine.
+
 ghost use Rattle.std.specs.Prelude.{◌≡◌, ◌≢◌, ◌+◌, ◌*◌, ◌<◌, ◌≤◌, ◌^◌, ℕ, List, ◌∷◌, None, Some, Ok, Err, false, drop, length, slice_index, IfOk, IfErr, OnOk, nat_lt};
 ghost use Rattle.checkpoint.specs.TreeModel.State.Shape.{frame_of};
 ghost use Rattle.checkpoint.specs.AnyMachine.Any.{machine_state};

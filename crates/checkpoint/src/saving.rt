@@ -1,3 +1,5 @@
+//! A checkpoint as a whole.
+
 ghost use Rattle.std.specs.Prelude.{◌≡◌, length, IfOk};
 ghost use Rattle.checkpoint.specs.AnyMachine.Any.{machine_state};
 ghost use Rattle.checkpoint.specs.Saved.{saved};

@@ -1,3 +1,5 @@
+//! A cluster as a child of its bus.
+
 ghost use Rattle.std.specs.Prelude.{◌≡◌, ◌<◌, None, true, map};
 ghost use Rattle.cluster.specs.DdmTypes.declared.answers.TxKind.TheVariants.{DataTx, InjectTx};
 ghost use Rattle.cluster.specs.TreeModel.State.Values.{dir_node, leaf_node, nodes};

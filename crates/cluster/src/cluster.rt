@@ -1,3 +1,5 @@
+//! The type of a directory over leaves.
+
 ghost use Rattle.std.specs.Prelude.{◌≡◌, map, IfOk};
 ghost use Rattle.cluster.specs.TreeModel.State.Values.{dir_node, leaf_node, nodes};
 

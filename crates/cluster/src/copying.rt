@@ -1,3 +1,5 @@
+//! A cluster becomes a copy of another one.
+
 use crate::cluster::Cluster;
 use ddm_tree::CopyFrom;
 

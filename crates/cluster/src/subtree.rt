@@ -1,3 +1,5 @@
+//! A cluster as a part of the tree.
+
 use crate::cluster::Cluster;
 use crate::of_bus_judging::ChildFace;
 use crate::of_ddm_types::{

@@ -1,3 +1,5 @@
+//! What the program says of itself: help, its faults, its version.
+
 ghost use Rattle.std.specs.Prelude.{◌≡◌};
 ghost use Rattle.ddm_cli.specs.DdmOutside.Causes.{HasCause};
 ghost use Rattle.ddm_cli.specs.About.{about_text, faults_text, further_text, named_text, own_text};

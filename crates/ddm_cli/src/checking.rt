@@ -1,3 +1,5 @@
+//! The command `check`: a witness is judged.
+
 ghost use Rattle.std.specs.Prelude.{◌≡◌, ◌<◌, Ok, IfErr, IfOk, IfSome, OnErr, length};
 ghost use Rattle.ddm_cli.specs.DdmOutside.Causes.{HasCause};
 ghost use Rattle.witness_check.specs.Reader.{begun};

@@ -1,3 +1,5 @@
+//! What a command is.
+
 ghost use Rattle.std.specs.Prelude.{◌≡◌};
 ghost use Rattle.ddm_cli.specs.Printed.{is_summary, is_trace};
 

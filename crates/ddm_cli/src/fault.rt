@@ -1,3 +1,5 @@
+//! The line of a fault is written.
+
 ghost use Rattle.std.specs.Prelude.{◌≡◌};
 ghost use Rattle.ddm_cli.specs.Top.{fault_line, line_head, Offers};
 

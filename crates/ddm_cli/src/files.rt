@@ -1,3 +1,5 @@
+//! Trees, images and machines from files, read in their order.
+
 ghost use Rattle.std.specs.Prelude.{◌≡◌, ◌<◌, ◌≤◌, ℕ, List, Ok, Some, IsSome, length, IfOk, IfErr, IfSome};
 ghost use Rattle.ddm_cli.specs.TreeModel.Start.Sources.{ImageValue};
 ghost use Rattle.ddm_cli.specs.BusLaws.IsTree.{IsTree};

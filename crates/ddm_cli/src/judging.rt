@@ -1,3 +1,5 @@
+//! Trees, images and machines from the bytes of files.
+
 ghost use Rattle.std.specs.Prelude.{◌≡◌, ◌≤◌, ◌+◌, ◌*◌, None, Ok, Some, IfOk, IfErr};
 ghost use Rattle.ddm_cli.specs.TreeModel.Start.Sources.{start_of_harts};
 ghost use Rattle.witness_check.specs.Reader.{begun, setting_of};

@@ -1,3 +1,5 @@
+//! The command `schedule`: the turns of a seed as text.
+
 ghost use Rattle.std.specs.Prelude.{◌≡◌, ◌<◌, ◌≤◌, ◌+◌, ◌++◌, [], length, IfOk};
 ghost use Rattle.ddm_cli.specs.TextModel.Schedule.{schedule_text, turn_line, turn_lines};
 ghost use Rattle.ddm_cli.specs.TextModel.Seeded.{seeded_turns};

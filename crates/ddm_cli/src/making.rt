@@ -1,3 +1,5 @@
+//! Turns of a schedule file or of a seed are made, piece by piece.
+
 ghost use Rattle.std.specs.Prelude.{◌≡◌, ◌<◌, ◌≤◌, ◌+◌, ◌++◌, [], ℕ, List, Some, false, length, vec_len, IfOk, IfErr, OnOk, if◌then◌else◌};
 ghost use Rattle.ddm_cli.specs.TextModel.Run.{no_counts};
 ghost use Rattle.ddm_cli.specs.TextModel.Trace.{trace_from};

@@ -1,3 +1,5 @@
+//! What is printed of a run.
+
 ghost use Rattle.std.specs.Prelude.{◌≡◌, ◌≤◌, ◌++◌, ℕ, List, None, true, false, length, IfOk, IfErr, OnOk, OnErr};
 ghost use Rattle.ddm_cli.specs.DdmTypes.ItemTable.{item_count};
 ghost use Rattle.ddm_cli.specs.TreeModel.State.Shape.{depth_of};

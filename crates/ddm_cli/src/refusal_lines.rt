@@ -1,3 +1,5 @@
+//! The line of each refusal.
+
 ghost use Rattle.std.specs.Prelude.{◌≡◌, ◌+◌, ◌++◌, ◌≤◌, length, codes, decimal};
 ghost use Rattle.ddm_cli.specs.TextModel.Faults.{name_words, number_texts, schedule_fault, schedule_refusal_name};
 ghost use Rattle.ddm_cli.specs.TreeConfig.TreeFile.{key_name};

@@ -1,3 +1,5 @@
+//! The command `resume`: a run goes on from a checkpoint.
+
 ghost use Rattle.std.specs.Prelude.{◌≡◌, ◌<◌, ◌≤◌, ℕ, List, Ok, IfErr, IfOk, IfSome, OnErr, Some, length};
 ghost use Rattle.ddm_cli.specs.TreeModel.State.Shape.{frame_of};
 ghost use Rattle.ddm_cli.specs.AnyMachine.Any.{machine_state};

@@ -1,3 +1,5 @@
+//! How a command ended, and the number of it.
+
 ghost use Rattle.std.specs.Prelude.{◌≡◌};
 ghost use Rattle.ddm_cli.specs.Code.{exit_code};
 ghost use Rattle.ddm_cli.specs.declared.status.Status.TheVariants.{NoMemory};

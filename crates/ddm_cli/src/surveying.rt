@@ -1,3 +1,5 @@
+//! The command `outcomes`: the runs of many seeds.
+
 ghost use Rattle.std.specs.Prelude.{◌≡◌, ◌+◌, ◌≤◌, IfErr, IfOk, OnErr};
 ghost use Rattle.ddm_cli.specs.BusLaws.IsTree.{IsTree};
 ghost use Rattle.ddm_cli.specs.AnyMachine.Any.{machine_state};

@@ -1,3 +1,5 @@
+//! The top call: from the words of a command to its status.
+
 ghost use Rattle.std.specs.Prelude.{◌≡◌, ◌≤◌, length, map, IfOk, IfErr, OnErr};
 ghost use Rattle.ddm_cli.specs.DdmOutside.Causes.{HasCause};
 ghost use Rattle.std.specs.String.{string_bytes};

@@ -1,3 +1,5 @@
+//! The command `unjam`: the turn that goes on where a leaf waits.
+
 ghost use Rattle.std.specs.Prelude.{◌≡◌, true};
 ghost use Rattle.ddm_cli.specs.AnyMachine.Any.{machine_state};
 ghost use Rattle.ddm_cli.specs.DdmOutside.Causes.{HasCause};

@@ -1,3 +1,5 @@
+//! An unknown key of a tree file, written in pieces.
+
 ghost use Rattle.std.specs.Prelude.{◌≡◌, ◌≤◌, ◌++◌, length, map, codes, OnOk, OnErr};
 ghost use Rattle.ddm_cli.specs.DdmOutside.Causes.{HasCause};
 ghost use Rattle.ddm_cli.specs.ReportCrate.Appends.{Appends, AppendsPart};

@@ -1,3 +1,5 @@
+//! The words of a command are read.
+
 ghost use Rattle.std.specs.Prelude.{◌≡◌, ◌≤◌, ◌<◌, ◌*◌, ◌+◌, map, length, Err, IfOk, IfSome, IsOk, MatchResult, None, Ok, Some, option_and_then, slice_get};
 ghost use Rattle.std.specs.String.{string_bytes};
 ghost use Rattle.ddm_cli.specs.Commands.{IsInRange, about_named, command_of, ends_at, file_check, file_resume, file_run, help_alone, help_asked, help_of_two, help_said, help_topic, made_run, named_command, number_in, seed_list, seed_run, seeds_survey, to_say, word_at};

@@ -1,3 +1,5 @@
+//! The numbers of calls that are to fail.
+
 ghost use Rattle.std.specs.Prelude.{◌↔◌, IsTrue, Contains};
 
 // Whether a call of this number is one that fails.

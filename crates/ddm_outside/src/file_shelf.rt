@@ -1,3 +1,5 @@
+//! The files of the system as a shelf.
+
 ghost use Rattle.std.specs.Prelude.{◌≡◌, ◌<◌, ◌≤◌, None, IfOk, OnOk, OnErr, length};
 ghost use Rattle.ddm_outside.specs.Causes.{raised, HasCause};
 ghost use Rattle.ddm_outside.specs.Telling.{ReadsTold};

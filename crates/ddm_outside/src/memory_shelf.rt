@@ -1,3 +1,5 @@
+//! A shelf in memory that fails where it is told to.
+
 ghost use Rattle.std.specs.Prelude.{◌≡◌, ℕ, ◌-◌, ◌<◌, ◌≤◌, ◌↔◌, min, All, List, length, IsErr, IfOk, OnOk, OnErr, IfSome};
 ghost use Rattle.ddm_outside.specs.NamedFiles.{bytes_of, faults_of};
 ghost use Rattle.ddm_outside.specs.Causes.{raised, HasCause};

@@ -1,3 +1,5 @@
+//! A sink in memory that fails where it is told to.
+
 ghost use Rattle.std.specs.Prelude.{◌≡◌, ◌<◌, ◌≤◌, ◌↔◌, Some, [], length, IsErr, IfOk, OnOk, OnErr, vec_len, vec_capacity};
 ghost use Rattle.ddm_outside.specs.Causes.{raised, HasCause};
 ghost use Rattle.ddm_outside.specs.Telling.{WritesTold};

@@ -1,3 +1,5 @@
+//! Files in memory by their names.
+
 ghost use Rattle.std.specs.Prelude.{◌≡◌, ◌-◌, ◌<◌, ◌≤◌, min, length, IfSome};
 ghost use Rattle.ddm_outside.specs.NamedFiles.{place_of};
 ghost use Rattle.ddm_outside.specs.Telling.{ReadsPart};

@@ -1,3 +1,5 @@
+//! What a program reads from and writes to: shelves and sinks.
+
 ghost use Rattle.std.specs.Prelude.{◌≡◌, ℕ, ◌<◌, ◌≤◌, List, Option, length, IfOk};
 ghost use Rattle.ddm_outside.specs.Causes.{HasCause};
 ghost use Rattle.ddm_outside.specs.Telling.{ReadsTold, WritesTold};

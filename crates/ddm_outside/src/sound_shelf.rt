@@ -1,3 +1,5 @@
+//! A shelf in memory that never fails.
+
 ghost use Rattle.std.specs.Prelude.{◌≡◌, ℕ, ◌-◌, ◌<◌, ◌≤◌, min, Some, Ok, List, length, IfOk};
 ghost use Rattle.ddm_outside.specs.NamedFiles.{bytes_or_none};
 ghost use Rattle.ddm_outside.specs.Telling.{ReadsTold};

@@ -1,3 +1,5 @@
+//! A sink that never fails.
+
 ghost use Rattle.std.specs.Prelude.{◌≡◌, ◌+◌, ◌-◌, ◌^◌, ◌<◌, min, Ok, None, length};
 
 use crate::{Failed, Sink};

@@ -1,3 +1,5 @@
+//! Standard output and standard error as sinks.
+
 ghost use Rattle.std.specs.Prelude.{◌≡◌, ◌<◌, ◌≤◌, IfOk, OnOk, OnErr, length, None};
 ghost use Rattle.ddm_outside.specs.Causes.{raised, HasCause};
 ghost use Rattle.ddm_outside.specs.Telling.{WritesTold};

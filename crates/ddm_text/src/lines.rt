@@ -1,3 +1,5 @@
+//! Lines of a text.
+
 ghost use Rattle.std.specs.Prelude.{◌≡◌, ◌≤◌, drop, length, position};
 ghost use Rattle.ddm_text.specs.Lines.{first_line, is_line_feed};
 

@@ -1,3 +1,5 @@
+//! Digits as numbers.
+
 ghost use Rattle.std.specs.Prelude.{◌≡◌, ◌≤◌, ℕ, not, position, decimal, IfOk};
 ghost use Rattle.ddm_text.specs.Numbers.{number_stop, number_of, is_digit, at_most, value_of};
 

@@ -1,3 +1,5 @@
+//! Turns, questions and walks go from a directory to its children.
+
 ghost use Rattle.std.specs.Prelude.{◌≡◌, ℕ, ◌+◌, ◌*◌, ◌<◌, ◌≤◌, ◌++◌, All, true, length, map, slice_set, take};
 ghost use Rattle.ddm_tree.specs.DdmTypes.declared.keys.Stamp.{Stamp};
 ghost use Rattle.ddm_tree.specs.TreeModel.State.Values.{DirValue, dir_node, nodes};

@@ -1,3 +1,5 @@
+//! A machine, and each part of it, becomes a copy of another one.
+
 ghost use Rattle.std.specs.Prelude.{◌≡◌, ℕ, ◌+◌, ◌-◌, ◌<◌, ◌≤◌, ◌^◌, length, map, min, slice_set};
 ghost use Rattle.ddm_tree.specs.TreeModel.State.Values.{dir_node, nodes};
 ghost use Rattle.ddm_tree.specs.TreeModel.Turns.Children.{child_at};

@@ -1,3 +1,5 @@
+//! A directory over its children, as a child of its bus and as a part of the tree.
+
 ghost use Rattle.std.specs.Prelude.{◌≡◌, ◌<◌, None, true, drop, map};
 ghost use Rattle.ddm_tree.specs.DdmTypes.declared.answers.TxKind.TheVariants.{DataTx, InjectTx};
 ghost use Rattle.ddm_tree.specs.TreeModel.State.Values.{dir_node, nodes};

@@ -1,3 +1,5 @@
+//! What a call on a part of the tree expects of the path that it is given.
+
 ghost use Rattle.std.specs.Prelude.{◌≡◌, ◌≤◌, ◌<◌, ◌^◌, Ok, Err, drop, length, nat_eq, IfErr, OnOk};
 ghost use Rattle.ddm_tree.specs.StateReading.Reading.{word_that};
 

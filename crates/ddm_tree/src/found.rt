@@ -1,3 +1,5 @@
+//! An item's current copy.
+
 ghost use Rattle.std.specs.Prelude.{◌≡◌, ◌<◌, All, length, map, option_map};
 ghost use Rattle.ddm_tree.specs.TreeModel.State.States.{is_held};
 ghost use Rattle.ddm_tree.specs.TreeModel.State.Values.{nodes};

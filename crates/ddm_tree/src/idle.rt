@@ -1,3 +1,5 @@
+//! Which harts are known to be idle, and why.
+
 ghost use Rattle.std.specs.Prelude.{◌≡◌, ◌⊎◌, ℕ, [], ◌∷◌, ◌++◌, Some, None, false, IfOk, IfSome, length, map, slice_get, slice_set, vec_items};
 ghost use Rattle.ddm_tree.specs.TreeModel.declared.TreeChild.{TreeChild};
 ghost use Rattle.ddm_tree.specs.TreeModel.State.Values.{DirValue, dir_node, nodes};

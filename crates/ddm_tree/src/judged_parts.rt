@@ -1,3 +1,5 @@
+//! The rules of every bus are judged, of a machine taken apart.
+
 ghost use Rattle.std.specs.Prelude.{◌≡◌, None, length, true};
 ghost use Rattle.std.specs.List.{range_with_len};
 ghost use Rattle.ddm_tree.specs.TreeModel.Turns.Machine.{ask_bus};

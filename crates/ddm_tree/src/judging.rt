@@ -1,3 +1,5 @@
+//! The rules of one bus are judged.
+
 ghost use Rattle.std.specs.Prelude.{◌≡◌, ◌||◌, ◌<◌, ◌≤◌, ◌+◌, ◌^◌, ◌++◌, ◌∷◌, [], List, All, length, map, nat_eq};
 ghost use Rattle.ddm_tree.specs.TreeModel.State.Directory.{dir_note, in_set, is_eraser, is_reader, is_up_erase, note_why};
 ghost use Rattle.ddm_tree.specs.TreeModel.State.Values.{Note, dir_node, nodes};

@@ -1,3 +1,5 @@
+//! The keys of operations, level by level.
+
 ghost use Rattle.std.specs.Prelude.{◌≡◌, ◌<◌, ◌≤◌, ◌&&◌, nat_eq};
 ghost use Rattle.ddm_tree.specs.Keys.{is_key_before, key_cut};
 

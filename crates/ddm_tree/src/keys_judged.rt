@@ -1,3 +1,5 @@
+//! Stamps and keys are judged, of a machine taken apart.
+
 ghost use Rattle.std.specs.Prelude.{◌≡◌, ◌<◌, ◌^◌, [], true, IfOk, IfSome, find, length, option_map};
 ghost use Rattle.std.specs.List.{range_with_len};
 ghost use Rattle.ddm_tree.specs.StateReading.declared.StateRefusal.TheVariants.{BrokenStamp};

@@ -1,3 +1,5 @@
+//! A leaf as a part of the tree.
+
 use crate::found::{Found, place_at};
 use crate::idle::{Idle, rests_by};
 use crate::named::Named;

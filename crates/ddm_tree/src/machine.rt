@@ -1,3 +1,5 @@
+//! The machine of a tree, and its turns.
+
 ghost use Rattle.std.specs.Prelude.{◌≡◌, ℕ, List, ◌+◌, ◌*◌, ◌<◌, ◌≤◌, ◌^◌, [], Some, true, false, is_ok, length, map, max, slice_get, vec_items, IfNone, IfOk, IfSome, OnSome, if◌then◌else◌};
 ghost use Rattle.ddm_tree.specs.DdmTypes.declared.answers.TurnAnswer.TheVariants.{Empty};
 ghost use Rattle.ddm_tree.specs.TreeModel.Turns.Machine.{named_by, names_part, no_traffic, turn_of};

@@ -1,3 +1,5 @@
+//! Which items a part of the tree holds before the run.
+
 ghost use Rattle.std.specs.Prelude.{◌≡◌, ◌<◌, ◌^◌, All, length, map, slice_set, true, if◌then◌else◌};
 ghost use Rattle.ddm_tree.specs.TreeModel.Start.Nodes.{held_below, held_by, item_is_exclusive, or_each};
 ghost use Rattle.ddm_tree.specs.TreeModel.State.States.{is_exclusive};

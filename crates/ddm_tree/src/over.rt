@@ -1,3 +1,5 @@
+//! Directories are put over their children before the run.
+
 ghost use Rattle.std.specs.Prelude.{◌≡◌, ◌+◌, ◌<◌, ◌≤◌, ◌^◌, ◌++◌, All, IfOk, OnOk, drop, length, map, sum, take, if◌then◌else◌};
 ghost use Rattle.std.specs.Vec.Iter.{into_iter_items, into_iter_len};
 ghost use Rattle.ddm_tree.specs.TreeModel.Start.Nodes.{cut_in, dir_over, dir_sizes, dirs_over, held_below};

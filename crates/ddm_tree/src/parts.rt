@@ -1,3 +1,5 @@
+//! A machine taken apart, into which words can be read.
+
 ghost use Rattle.std.specs.Prelude.{◌≡◌, ◌<◌, ◌≤◌, ◌^◌, ℕ, List, Some, true, length, map, vec_items, IfErr, IfOk};
 ghost use Rattle.std.specs.List.{list_all};
 ghost use Rattle.ddm_tree.specs.DdmTypes.ItemTable.{item_count};

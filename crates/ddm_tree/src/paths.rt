@@ -1,3 +1,5 @@
+//! The paths to leaves and buses.
+
 ghost use Rattle.std.specs.Prelude.{◌≡◌, ℕ, ◌<◌, ◌≤◌, All, List, Some, true, IfOk, length, map, option_map, reverse, slice_get, vec_items};
 ghost use Rattle.ddm_tree.specs.TreeModel.State.Values.{dir_node, nodes};
 ghost use Rattle.ddm_tree.specs.TreeModel.State.Shape.{skeleton, skeletons, widths_fit};

@@ -1,3 +1,5 @@
+//! Which turns are known to change nothing.
+
 ghost use Rattle.std.specs.Prelude.{◌≡◌, ◌<◌, ◌^◌, ◌⊎◌, ⊤, [], ◌∷◌, List, ℕ, false, true, IfOk, IfSome, Some, length, map, vec_items};
 ghost use Rattle.ddm_tree.specs.DdmTypes.declared.answers.TurnAnswer.{TurnAnswer as Answer};
 ghost use Rattle.ddm_tree.specs.TreeModel.declared.BusTurn.{BusTurn};

@@ -1,3 +1,5 @@
+//! A section of words is read into a part of the tree.
+
 ghost use Rattle.std.specs.Prelude.{◌≡◌, ◌<◌, ◌≤◌, ◌^◌, true, length, map, IfOk};
 ghost use Rattle.ddm_tree.specs.TreeModel.State.Shape.{skeleton, widths_fit};
 ghost use Rattle.ddm_tree.specs.TreeModel.State.Values.{dir_node, nodes};

@@ -1,3 +1,5 @@
+//! The buses and the operations of a state are read.
+
 ghost use Rattle.std.specs.Prelude.{◌≡◌, ◌+◌, ◌<◌, ◌≤◌, ◌^◌, ◌≢◌, [], true, Ok, Err, drop, length, IfErr, IfOk, OnOk};
 ghost use Rattle.std.specs.List.{range_with_len};
 ghost use Rattle.ddm_tree.specs.DdmTypes.ItemTable.{item_count};

@@ -1,3 +1,5 @@
+//! The section of a leaf or a directory is read.
+
 ghost use Rattle.std.specs.Prelude.{◌≡◌, ◌<◌, ◌≤◌, ◌^◌, Err, drop, length, IfErr, IfOk};
 ghost use Rattle.ddm_tree.specs.TreeModel.Turns.Machine.{machine_leaves};
 ghost use Rattle.ddm_tree.specs.StateReading.Machine.{read_each};

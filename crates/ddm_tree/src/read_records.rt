@@ -1,3 +1,5 @@
+//! Keys, effects and operations are read.
+
 ghost use Rattle.std.specs.Prelude.{◌≡◌, ◌<◌, ◌≤◌, ◌^◌, ◌++◌, ◌∷◌, ◌||◌, [], List, Ok, Err, drop, length, nat_eq, nat_le, nat_lt, IfErr, IfOk, if◌then◌else◌};
 ghost use Rattle.ddm_tree.specs.DdmTypes.declared.operations.Op.{Op as OpValue};
 ghost use Rattle.ddm_tree.specs.StateReading.Gives.{Gives};

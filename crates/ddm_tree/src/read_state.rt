@@ -1,3 +1,5 @@
+//! A whole state is read and judged.
+
 ghost use Rattle.std.specs.Prelude.{◌≡◌, ◌≢◌, ◌<◌, ◌≤◌, ◌^◌, None, Some, Ok, Err, drop, length, slice_index, IfErr, IfOk, OnOk};
 ghost use Rattle.ddm_tree.specs.TreeModel.State.Shape.{frame_of};
 ghost use Rattle.ddm_tree.specs.StateReading.declared.StateRefusal.TheVariants.{NoMemory as WantOfMemory};

@@ -1,3 +1,5 @@
+//! What can be read of a machine.
+
 ghost use Rattle.std.specs.Prelude.{◌≡◌, ◌<◌, ◌≤◌, Some, is_some, true, length, map, option_copied, take, vec_items};
 ghost use Rattle.ddm_tree.specs.DdmTypes.ItemTable.{item_count};
 ghost use Rattle.ddm_tree.specs.TreeModel.State.Shape.{IsShaped, tree_counts};

@@ -1,3 +1,5 @@
+//! What a bus has granted is counted.
+
 ghost use Rattle.std.specs.Prelude.{◌≡◌, ◌<◌, ◌≤◌, true};
 ghost use Rattle.std.specs.List.{list_all};
 ghost use Rattle.ddm_tree.specs.TreeModel.Turns.Machine.{one_more, traffic_with};

@@ -1,3 +1,5 @@
+//! The sections of a state's words.
+
 use crate::of_ddm_types::{BusNo, LeafNo};
 
 /// A section of a checkpoint's words that is of one node.

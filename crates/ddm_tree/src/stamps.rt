@@ -1,3 +1,5 @@
+//! Stamps on the way down the tree.
+
 ghost use Rattle.std.specs.Prelude.{◌≡◌, ◌<◌, length, map};
 ghost use Rattle.ddm_tree.specs.DdmTypes.declared.keys.Stamp.{Stamp};
 ghost use Rattle.ddm_tree.specs.TreeModel.State.Values.{dir_node, nodes};

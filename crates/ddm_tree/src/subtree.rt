@@ -1,3 +1,5 @@
+//! What every part of the tree can do: the trait of leaves and directories.
+
 ghost use Rattle.std.specs.Prelude.{◌≡◌, ℕ, [], ◌∷◌, ◌+◌, ◌*◌, ◌<◌, ◌≤◌, ◌^◌, ◌++◌, true, false, length, take, Some, IfOk, IfSome, OnErr, OnOk, option_map, reverse, vec_items};
 ghost use Rattle.ddm_tree.specs.DdmTypes.ItemTable.{item_count};
 ghost use Rattle.ddm_tree.specs.TreeModel.declared.BusTurn.{BusTurn};

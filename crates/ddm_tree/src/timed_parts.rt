@@ -1,3 +1,5 @@
+//! Stamps and keys of a machine taken apart.
+
 ghost use Rattle.std.specs.Prelude.{◌≡◌, true, Some};
 ghost use Rattle.ddm_tree.specs.TreeModel.Turns.Machine.{now_of};
 ghost use Rattle.ddm_tree.specs.TreeModel.State.Shape.{IsShaped};

@@ -1,3 +1,5 @@
+//! What a turn needs on its way down.
+
 use crate::of_ddm_types::{ChildNo, Code, Items, Turn};
 
 /// A turn, with what it needs on the way down: the code, the items, and the path from the top to the leaf or bus that it names.

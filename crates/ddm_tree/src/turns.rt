@@ -1,3 +1,5 @@
+//! What a turn names, as a path and a turn of one bus.
+
 ghost use Rattle.std.specs.Prelude.{◌≡◌, slice_index};
 ghost use Rattle.ddm_tree.specs.DdmTypes.Keys.{key_on};
 ghost use Rattle.ddm_tree.specs.TreeModel.Turns.Machine.{bus_turn_of, victim_of};

@@ -1,3 +1,5 @@
+//! The states of an item that a directory doesn't hold.
+
 ghost use Rattle.std.specs.Prelude.{◌≡◌, ◌+◌, ◌<◌, ◌≤◌, ◌++◌, All, false, length, map, take};
 ghost use Rattle.ddm_tree.specs.TreeModel.State.Values.{leaf_node};
 ghost use Rattle.ddm_tree.specs.TreeModel.State.Leaf.{state_at};

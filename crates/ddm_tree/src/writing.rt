@@ -1,3 +1,5 @@
+//! The words of a machine.
+
 ghost use Rattle.std.specs.Prelude.{◌≡◌, ◌<◌, ◌^◌, true, length, map, OnErr, OnOk};
 ghost use Rattle.std.specs.List.{flat_map, range_with_len};
 ghost use Rattle.ddm_tree.specs.DdmText.Adds.{Adds};

@@ -1,3 +1,5 @@
+//! What a turn answers.
+
 use crate::numbers::{BusNo, ChildNo, ItemId, LeafNo};
 use crate::operations::{HaltCause, Op};
 

@@ -1,3 +1,5 @@
+//! The code of an image, by address.
+
 ghost use Rattle.std.specs.Prelude.{◌≡◌, ◌%◌, ◌^◌, ◌≤◌, All, AllPairs, IfOk};
 ghost use Rattle.std.specs.List.{flat_map};
 ghost use Rattle.ddm_types.specs.CodeMap.{AreDisjoint, IsCodeOf, code_of, part_end, part_words, word_at};

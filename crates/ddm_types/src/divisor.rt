@@ -1,3 +1,5 @@
+//! Division by a number that stays the same.
+
 ghost use Rattle.std.specs.Prelude.{◌≡◌, ◌≤◌, ◌/◌, ◌%◌};
 
 use std::marker::Model;

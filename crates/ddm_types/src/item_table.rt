@@ -1,3 +1,5 @@
+//! The table of items: which there are, where they are, which may be written.
+
 ghost use Rattle.std.specs.Prelude.{◌≡◌, ◌+◌, ◌*◌, ◌^◌, ◌<◌, ◌≤◌, ◌++◌, Some, All, IfOk, IfSome, OnOk, length, map};
 ghost use Rattle.std.specs.List.{flat_map, list_any};
 ghost use Rattle.ddm_types.specs.ItemTable.{IsItemSize, item_at, item_count, item_numbers, item_row, items_of, row_at, span_end, writes};

@@ -1,3 +1,5 @@
+//! Stamps and keys: moments of buses, and places in the one order.
+
 ghost use Rattle.std.specs.Prelude.{◌≡◌, ◌<◌};
 ghost use Rattle.ddm_types.specs.Keys.{stamp_zero, stamp_at, key_zero, key_at, key_counted, key_less};
 

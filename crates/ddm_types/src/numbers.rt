@@ -1,3 +1,5 @@
+//! Numbers of items, leaves, harts, buses and children, each a type of its own.
+
 use std::alloc::{AllocError, AllocFailed};
 use std::marker::Model;
 

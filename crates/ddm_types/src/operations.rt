@@ -1,3 +1,5 @@
+//! What a completed instruction was and did.
+
 use crate::keys::Key;
 use crate::numbers::HartNo;
 

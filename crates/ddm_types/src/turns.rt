@@ -1,3 +1,5 @@
+//! The turns of a schedule.
+
 use crate::numbers::{BusNo, ChildNo, HartNo};
 
 /// One turn of a schedule: one try of a hart's next instruction, or one grant on a bus. `victim` chooses

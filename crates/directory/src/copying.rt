@@ -1,3 +1,5 @@
+//! A directory becomes a copy of another one.
+
 ghost use Rattle.std.specs.Prelude.{◌≡◌, length};
 
 use crate::DirState;

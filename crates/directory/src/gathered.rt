@@ -1,3 +1,5 @@
+//! What the rules ask of a directory's lists, gathered entry by entry.
+
 ghost use Rattle.std.specs.Prelude.{◌≡◌, ℕ, ◌<◌, ◌++◌, ◌∷◌, [], List, Some, length, map, nat_eq, slice_get, if◌then◌else◌};
 ghost use Rattle.directory.specs.DdmTypes.declared.answers.TxKind.{TxKind};
 ghost use Rattle.directory.specs.TreeModel.State.Values.{DownValue};

@@ -1,3 +1,5 @@
+//! A parent as the rules of its bus see it.
+
 ghost use Rattle.std.specs.Prelude.{◌≡◌, ◌<◌, length};
 ghost use Rattle.directory.specs.TreeModel.State.Leaf.{words_of_item};
 ghost use Rattle.directory.specs.TreeRules.Bus.Faces.{face_above, parent_face};

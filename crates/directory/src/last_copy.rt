@@ -1,3 +1,5 @@
+//! The last copy of an item on its way down.
+
 ghost use Rattle.std.specs.Prelude.{◌≡◌, ◌<◌, ◌&&◌, Some, length, nat_eq, slice_get, if◌then◌else◌};
 ghost use Rattle.directory.specs.TreeModel.State.Kinds.{brings_copy};
 ghost use Rattle.directory.specs.TreeModel.State.Values.{DownValue};

@@ -1,3 +1,5 @@
+//! A directory as the parent of the bus below it.
+
 ghost use Rattle.std.specs.Prelude.{◌≡◌, ◌+◌, ◌<◌, ◌^◌, ◌++◌, ◌∷◌, [], false, nat_eq, nat_le, length, if◌then◌else◌};
 ghost use Rattle.directory.specs.TreeModel.State.Values.{DirValue};
 ghost use Rattle.directory.specs.TreeModel.State.Directory.{down_full, replies_full, is_parked, pushed_reply, with_parked, place_released};

@@ -1,3 +1,5 @@
+//! What a directory keeps of an item, in one word.
+
 ghost use Rattle.std.specs.Prelude.{◌≡◌, ℕ, ◌<◌, ◌^◌, Bool, Option};
 ghost use Rattle.directory.specs.TreeModel.State.Values.{DirItem, absent_item};
 ghost use Rattle.directory.specs.TreeModel.State.Directory.{is_up_read, note_why, joined_by};

@@ -1,3 +1,5 @@
+//! The words of a directory are read back.
+
 ghost use Rattle.std.specs.Prelude.{◌≡◌, ℕ, ◌<◌, ◌≤◌, ◌^◌, ◌+◌, ◌&&◌, ◌||◌, not, nat_eq, nat_le, nat_lt, false, [], None, Some, Ok, Err, drop, length, map, replicate, IfErr, IfOk, OnOk, if◌then◌else◌};
 ghost use Rattle.directory.specs.TreeModel.State.Values.{absent_item};
 ghost use Rattle.directory.specs.ItemStates.Parts.{note_of, NamesChild};

@@ -1,3 +1,5 @@
+//! Whether a directory's stamps are in order.
+
 ghost use Rattle.std.specs.Prelude.{◌≡◌, ◌-◌, ◌<◌, ◌≤◌, None};
 ghost use Rattle.directory.specs.TreeRules.Order.Time.{comes_later};
 ghost use Rattle.directory.specs.Stamps.{may_come, may_come_all, stamp_before, stamps_fit};

@@ -1,3 +1,5 @@
+//! The state of a directory.
+
 ghost use Rattle.std.specs.Prelude.{◌≡◌, ℕ, ◌+◌, ◌<◌, ◌≤◌, ◌^◌, false, true, List, [], length, map, replicate, Option, None, option_copied, option_map, slice_get, IfOk, IfSome, is_some, unwrap_or};
 ghost use Rattle.directory.specs.DdmTypes.declared.sizes.Hold.TheVariants.{Exclusive};
 ghost use Rattle.directory.specs.TreeModel.State.Values.{DirValue, absent_item};

@@ -1,3 +1,5 @@
+//! What a directory keeps of all items.
+
 ghost use Rattle.std.specs.Prelude.{◌≡◌, ℕ, ◌<◌, length, map, replicate, slice_index_or, slice_set, IfOk};
 ghost use Rattle.directory.specs.TreeModel.State.Values.{DirItem, absent_item};
 ghost use Rattle.directory.specs.TreeModel.State.Directory.{is_up_read, note_why, joined_by};

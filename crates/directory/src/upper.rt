@@ -1,3 +1,5 @@
+//! A directory as a child of the bus above it.
+
 ghost use Rattle.std.specs.Prelude.{◌≡◌, ℕ, ◌+◌, ◌<◌, ◌++◌, ◌∷◌, [], Bool, false, true, not, ◌&&◌, ◌||◌, length, replicate, Option, None, IfSome, is_some, option_map, unwrap_or, if◌then◌else◌};
 ghost use Rattle.directory.specs.DdmTypes.declared.answers.TxKind.TheVariants.{ReadTx, DataTx, EraseTx, ExclusiveTx, InjectTx};
 ghost use Rattle.directory.specs.TreeModel.State.Lists.{first_of, rest_of};

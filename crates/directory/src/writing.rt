@@ -1,3 +1,5 @@
+//! The words of a directory.
+
 ghost use Rattle.std.specs.Prelude.{◌≡◌, ◌<◌, ◌^◌, count_by, length, OnErr, OnOk};
 ghost use Rattle.directory.specs.DdmText.Adds.{Adds};
 ghost use Rattle.directory.specs.TreeModel.State.States.{is_held};

@@ -1,3 +1,5 @@
+//! The code of an image once more.
+
 ghost use Rattle.std.specs.Prelude.{◌≡◌, IfOk};
 ghost use Rattle.tree_model.specs.Start.Memory.{start_code};
 

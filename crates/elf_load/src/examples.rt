@@ -1,3 +1,5 @@
+//! Files that are loaded or refused, as theorems.
+
 ghost use Rattle.elf_load.specs.SegmentEdges.{SegmentEdges};
 ghost use Rattle.elf_load.specs.CutImages.{CutImages};
 ghost use Rattle.elf_load.specs.ContradictoryImages.{ContradictoryImages};

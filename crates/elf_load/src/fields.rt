@@ -1,3 +1,5 @@
+//! Half words and words of a file.
+
 ghost use Rattle.std.specs.Prelude.{◌≡◌, ◌+◌, ◌≤◌, length};
 ghost use Rattle.elf_load.specs.ElfFile.{half_at, word_in};
 

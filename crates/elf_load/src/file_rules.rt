@@ -1,3 +1,5 @@
+//! The rules for an ELF header.
+
 ghost use Rattle.std.specs.Prelude.{◌≡◌, ℕ, ◌+◌, ◌<◌, ◌≤◌, IfNone, IsTrue, length, find};
 ghost use Rattle.std.specs.List.{range_with_len};
 ghost use Rattle.elf_load.specs.ElfFile.{file_refusal, flags_refusal, has_bit, is_elf, is_outside, is_right_class, kind_refusal, table_refusal};

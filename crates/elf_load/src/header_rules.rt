@@ -1,3 +1,5 @@
+//! The rules for program headers.
+
 ghost use Rattle.std.specs.Prelude.{◌≡◌, ◌+◌, [], find, filter};
 ghost use Rattle.elf_load.specs.ElfFile.{bytes_outside, has_memory, header_refusal, headers_refusal, is_dynamic, is_load, meets, overlap_with, wraps};
 

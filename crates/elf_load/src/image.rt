@@ -1,3 +1,5 @@
+//! What an image is.
+
 use crate::of_ddm_types::Code;
 use std::marker::Model;
 

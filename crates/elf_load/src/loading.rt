@@ -1,3 +1,5 @@
+//! A file is loaded as an image.
+
 ghost use Rattle.std.specs.Prelude.{◌≡◌, ◌⊎◌, ℕ, IfOk, IfErr, Ok, Err};
 ghost use Rattle.elf_load.specs.declared.refusal.ImageRefusal.TheVariants.{NoMemory};
 ghost use Rattle.elf_load.specs.ElfFile.{image_in, image_of, judged_entry};

@@ -1,3 +1,5 @@
+//! Why a file isn't loaded.
+
 ghost use Rattle.std.specs.Prelude.{◌≡◌};
 ghost use Rattle.elf_load.specs.declared.refusal.ImageRefusal.TheVariants.{NoMemory};
 ghost use Rattle.elf_load.specs.ElfFile.{first_refusal, refused_if};

@@ -1,3 +1,5 @@
+//! The law that a written image is read as it was.
+
 ghost use Rattle.elf_load.specs.LoadsBack.{LoadsBack};
 
 /// An image that was written is read as it was, its headers numbered in order and segments of no memory left out, or refused.

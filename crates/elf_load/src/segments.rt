@@ -1,3 +1,5 @@
+//! The segments of a file.
+
 ghost use Rattle.std.specs.Prelude.{◌≡◌, All, IfOk, length, take, drop};
 ghost use Rattle.elf_load.specs.ElfFile.{segment_of, segments_of};
 ghost use Rattle.elf_load.specs.HeaderRule.{IsLoadable};

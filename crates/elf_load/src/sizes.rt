@@ -1,3 +1,5 @@
+//! The rules for sizes, judged before bytes are copied.
+
 ghost use Rattle.std.specs.Prelude.{◌≡◌, ◌⊎◌, ◌+◌, ◌^◌, ◌<◌, ◌≤◌, All, IfOk, IfErr, length, None, Some, map};
 ghost use Rattle.elf_load.specs.DdmTypes.ItemTable.{IsItemSize};
 ghost use Rattle.elf_load.specs.ElfFile.{code_bytes, code_bytes_of, code_refusal, header_span, items_met, sizes_refusal};

@@ -1,3 +1,5 @@
+//! An image is written as a file.
+
 ghost use Rattle.std.specs.Prelude.{◌≡◌, ◌+◌, ◌*◌, ◌^◌, ◌<◌, ◌≤◌, ◌++◌, All, IfOk, OnOk, length};
 ghost use Rattle.elf_load.specs.ImageRule.{FitsMemory};
 ghost use Rattle.elf_load.specs.Written.{file_header, halves, program_header, program_headers, segment_bytes, words, written_image};

@@ -1,3 +1,5 @@
+//! Tests of the flat machine.
+
 ghost use Rattle.std.specs.Prelude.{◌≡◌, ◌*◌, ◌<◌, IfOk, length};
 ghost use Rattle.rv_flat.specs.FlatState.{HasItems};
 

@@ -1,3 +1,5 @@
+//! Tests of a hart.
+
 ghost use Rattle.std.specs.Prelude.{◌≡◌, IfOk, None};
 
 use crate::of_ddm_types::{

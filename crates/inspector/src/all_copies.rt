@@ -1,3 +1,5 @@
+//! All places where words of an item are.
+
 ghost use Rattle.std.specs.Prelude.{◌≡◌, ◌<◌, ◌≤◌, ◌++◌, [], true, IfOk, OnOk, unwrap_or};
 ghost use Rattle.std.specs.List.{flat_map};
 ghost use Rattle.inspector.specs.DdmTypes.ItemTable.{item_count};

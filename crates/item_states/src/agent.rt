@@ -1,3 +1,5 @@
+//! What a bus sees of a child, and tells it.
+
 ghost use Rattle.std.specs.Prelude.{◌≡◌, ℕ, ◌<◌, true, Option, Some, None, option_map, IfSome};
 ghost use Rattle.item_states.specs.DdmTypes.declared.answers.TxKind.TheVariants.{ReadTx, DataTx, EraseTx, ExclusiveTx, InjectTx};
 ghost use Rattle.tree_model.specs.State.Values.{Node};

@@ -1,3 +1,5 @@
+//! The entries of down lists.
+
 use crate::of_ddm_types::{ItemId, Stamp, TxKind, Words};
 use std::marker::Model;
 

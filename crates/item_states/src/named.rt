@@ -1,3 +1,5 @@
+//! What names an item.
+
 ghost use Rattle.std.specs.Prelude.{◌≡◌, ℕ};
 
 use crate::DownEntry;

@@ -1,3 +1,5 @@
+//! What a bus sees of its parent, and tells it.
+
 ghost use Rattle.std.specs.Prelude.{◌≡◌, ◌+◌, ◌<◌, ◌^◌, false, ◌++◌, ◌∷◌, [], length, nat_eq, nat_lt, IfSome, if◌then◌else◌};
 ghost use Rattle.item_states.specs.DdmTypes.declared.sizes.Hold.TheVariants.{Shared};
 ghost use Rattle.tree_model.specs.State.Values.{DirValue};

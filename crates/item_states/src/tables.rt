@@ -1,3 +1,5 @@
+//! The item states of a leaf, and what becomes of them.
+
 ghost use Rattle.std.specs.Prelude.{◌≡◌};
 ghost use Rattle.tree_model.specs.State.States.{entry_hold, state_answered, state_lost, state_with_data};
 

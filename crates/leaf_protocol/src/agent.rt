@@ -1,3 +1,5 @@
+//! A leaf as a child of its bus.
+
 ghost use Rattle.std.specs.Prelude.{◌≡◌, ◌<◌, None, true};
 ghost use Rattle.leaf_protocol.specs.DdmTypes.declared.answers.TxKind.TheVariants.{DataTx, InjectTx};
 ghost use Rattle.leaf_protocol.specs.TreeModel.State.Values.{leaf_node};

@@ -1,3 +1,5 @@
+//! What a leaf asks for, by the state of an entry.
+
 ghost use Rattle.std.specs.Prelude.{◌≡◌, option_map};
 ghost use Rattle.leaf_protocol.specs.TreeModel.State.States.{asked_when_lost, asked_with_data, state_with_exclusive, state_with_inject};
 ghost use Rattle.leaf_protocol.specs.DdmTypes.declared.answers.TxKind.TheVariants.{ReadTx};

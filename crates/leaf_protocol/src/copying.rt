@@ -1,3 +1,5 @@
+//! A leaf becomes a copy of another one.
+
 ghost use Rattle.std.specs.Prelude.{◌≡◌, length};
 
 use crate::Leaf;

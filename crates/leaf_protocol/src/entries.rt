@@ -1,3 +1,5 @@
+//! The entries of a leaf, in ways and in the buffer.
+
 ghost use Rattle.std.specs.Prelude.{◌≡◌, ◌++◌, ◌∷◌, ◌%◌, ◌<◌, ◌≤◌, ◌^◌, [], true, false, Option, Some, None, IfOk, IfErr, IfSome, IsSome, is_some, length, map, nat_le, option_map, replicate, unwrap_or};
 ghost use Rattle.leaf_protocol.specs.DdmTypes.declared.sizes.LeafState.TheVariants.{Exclusive};
 ghost use Rattle.leaf_protocol.specs.TreeModel.State.States.{is_reading, is_waiting};

@@ -1,3 +1,5 @@
+//! What the rules of a bus ask of a leaf.
+
 ghost use Rattle.std.specs.Prelude.{◌≡◌, ◌<◌, length, option_map};
 ghost use Rattle.leaf_protocol.specs.DdmTypes.declared.answers.TxKind.TheVariants.{EraseTx};
 ghost use Rattle.leaf_protocol.specs.TreeModel.State.States.{is_reading, is_upgrading};

@@ -1,3 +1,5 @@
+//! The type of a leaf.
+
 ghost use Rattle.std.specs.Prelude.{◌≡◌, ◌%◌, ◌+◌, ◌*◌, ◌<◌, ◌≤◌, ◌^◌, Some, None, IfOk, IfErr, is_some, length, map, option_map, slice_get};
 ghost use Rattle.leaf_protocol.specs.TreeModel.State.Leaf.{free_way, leaf_entry, spot_at, state_at, waiting_item};
 ghost use Rattle.leaf_protocol.specs.TreeModel.Start.Nodes.{leaf_sizes, new_leaf, or_each, placed};

@@ -1,3 +1,5 @@
+//! The words of a leaf are read back.
+
 ghost use Rattle.std.specs.Prelude.{◌≡◌, ℕ, ◌<◌, ◌≤◌, ◌^◌, ◌+◌, [], Ok, Err, drop, length, map, nat_eq, nat_lt, option_map, slice_index, if◌then◌else◌, IfErr, IfOk, IfSome, OnOk};
 ghost use Rattle.tx_queue.specs.QueueList.{AllBelow};
 ghost use Rattle.leaf_protocol.specs.StateReading.Gives.{Gives, IsRead};

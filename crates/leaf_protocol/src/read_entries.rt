@@ -1,3 +1,5 @@
+//! The entries of a leaf are read back.
+
 ghost use Rattle.std.specs.Prelude.{◌≡◌, ◌<◌, ◌≤◌, ◌^◌, ◌+◌, ◌∷◌, ◌++◌, ◌&&◌, [], Ok, Err, List, Some, drop, length, nat_lt, slice_set, not, IfErr, IfOk};
 ghost use Rattle.std.specs.Bool.{OnTrue};
 ghost use Rattle.leaf_protocol.specs.StateWords.Parts.{StandingValue};

@@ -1,3 +1,5 @@
+//! A turn of a hart at its leaf.
+
 ghost use Rattle.std.specs.Prelude.{◌≡◌, ◌+◌, ◌*◌, ◌<◌, ◌^◌, ℕ, Some, None, true, false, length, if◌then◌else◌};
 ghost use Rattle.leaf_protocol.specs.DdmTypes.declared.answers.TurnAnswer.TheVariants.{Retired};
 ghost use Rattle.leaf_protocol.specs.DdmTypes.ItemTable.{item_count};

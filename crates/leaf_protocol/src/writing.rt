@@ -1,3 +1,5 @@
+//! The words of a leaf.
+
 ghost use Rattle.std.specs.Prelude.{◌≡◌, ◌<◌, ◌≤◌, drop, length, option_map, OnErr, OnOk};
 ghost use Rattle.std.specs.List.{flat_map};
 ghost use Rattle.leaf_protocol.specs.DdmText.Adds.{Adds};

@@ -1,3 +1,5 @@
+//! The random program of a seed.
+
 ghost use Rattle.std.specs.Prelude.{◌≡◌, ◌≤◌, ◌+◌, ◌*◌, ◌++◌, All, IfOk, OnOk, length};
 ghost use Rattle.made_image.specs.RvDecode.Valid.{IsValid};
 ghost use Rattle.made_image.specs.MadeImage.{made_image, made_program, made_segments, program_bytes};

@@ -1,3 +1,5 @@
+//! The first turn of a bus that would be granted.
+
 ghost use Rattle.std.specs.Prelude.{◌≡◌, ◌<◌, Some, find, map, true, unwrap_or};
 ghost use Rattle.std.specs.List.{range_with_len};
 ghost use Rattle.no_jam.specs.DdmTypes.declared.turns.Turn.{Turn};

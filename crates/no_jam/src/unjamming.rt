@@ -1,3 +1,5 @@
+//! The turn that goes on where a leaf waits.
+
 ghost use Rattle.std.specs.Prelude.{◌≡◌, None, IfSome, true, false};
 ghost use Rattle.any_machine.specs.Any.{machine_state};
 ghost use Rattle.jam_laws.specs.GoesOn.{IsFirstGranted, has_large_lists, some_leaf_waits, unjamming_turn};

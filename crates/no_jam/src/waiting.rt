@@ -1,3 +1,5 @@
+//! Whether a leaf waits.
+
 ghost use Rattle.std.specs.Prelude.{◌≡◌, ◌<◌, Some};
 ghost use Rattle.no_jam.specs.TreeModel.State.Shape.{tree_counts};
 ghost use Rattle.no_jam.specs.TreeRules.Bus.Own.{state_waits};

@@ -1,3 +1,5 @@
+//! Operations in the order in which they completed.
+
 ghost use Rattle.std.specs.Prelude.{◌≡◌, ◌<◌, ◌≤◌, ◌+◌, ◌-◌, ◌^◌, ◌++◌, ◌∷◌, [], length, max, is_ok, slice_index_or, OnErr, OnOk, vec_capacity, if◌then◌else◌};
 ghost use Rattle.ddm_types.specs.declared.operations.Op.{Op};
 ghost use Rattle.ddm_types.specs.Keys.{key_less};

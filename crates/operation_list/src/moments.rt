@@ -1,3 +1,5 @@
+//! What a hart's operations between two grants share, and the rest of each.
+
 ghost use Rattle.std.specs.Prelude.{◌≡◌, ◌<◌, ◌↔◌, IsTrue, length};
 ghost use Rattle.operation_list.specs.Kept.{key_at, moment_of, op_of};
 

@@ -1,3 +1,5 @@
+//! The outcomes of seeds are counted.
+
 ghost use Rattle.std.specs.Prelude.{◌≡◌, ◌<◌, ◌+◌, IfOk, OnErr, OnOk};
 ghost use Rattle.std.specs.List.{position_or_len};
 ghost use Rattle.outcome_model.specs.Table.{counted, is_outcome};

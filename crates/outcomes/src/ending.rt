@@ -1,3 +1,5 @@
+//! What a machine's harts ended with and put out.
+
 ghost use Rattle.std.specs.Prelude.{◌≡◌, ◌<◌, None, OnOk};
 ghost use Rattle.outcomes.specs.DdmText.Adds.{Adds};
 ghost use Rattle.outcomes.specs.AnyMachine.Any.{machine_state, state_in};

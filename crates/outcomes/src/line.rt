@@ -1,3 +1,5 @@
+//! A line of the table of outcomes.
+
 use std::marker::Model;
 
 /// An outcome, how many seeds gave it, and the smallest of these.

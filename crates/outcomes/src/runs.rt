@@ -1,3 +1,5 @@
+//! The runs of many seeds.
+
 ghost use Rattle.std.specs.Prelude.{◌≡◌, ◌+◌, ◌≤◌, ◌^◌, ℕ, [], IfOk, OnErr, OnOk, length};
 ghost use Rattle.outcomes.specs.TreeModel.State.Shape.{frame_of};
 ghost use Rattle.outcomes.specs.TreeModel.Turns.Machine.{run_of};

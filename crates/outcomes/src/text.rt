@@ -1,3 +1,5 @@
+//! The text of the table.
+
 ghost use Rattle.std.specs.Prelude.{◌≡◌, OnOk, flat_map};
 ghost use Rattle.outcomes.specs.DdmText.Adds.{Adds};
 ghost use Rattle.outcome_model.specs.Table.{line_text, table_text};

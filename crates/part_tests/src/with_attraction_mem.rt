@@ -1,3 +1,5 @@
+//! Tests of a leaf's memory.
+
 ghost use Rattle.std.specs.Prelude.{◌≡◌};
 
 use crate::of_attraction_mem::{AttractionMem, SetFull};

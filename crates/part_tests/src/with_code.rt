@@ -1,3 +1,5 @@
+//! Tests of the code map.
+
 use crate::of_ddm_types::{Code, CodePart};
 use std::test::Fail;
 

@@ -1,3 +1,5 @@
+//! Tests of a directory.
+
 ghost use Rattle.std.specs.Prelude.{◌<◌, ◌↔◌, IsTrue, length};
 
 use crate::of_ddm_types::{

@@ -1,3 +1,5 @@
+//! Tests of what names an item.
+
 use crate::of_ddm_types::{ItemId, Stamp, TxKind, Words};
 use crate::of_item_states::{DownEntry, Named};
 

@@ -1,3 +1,5 @@
+//! Tests of the table of items.
+
 ghost use Rattle.std.specs.Prelude.{◌≤◌, ◌^◌, All};
 ghost use Rattle.part_tests.specs.DdmTypes.ItemTable.{IsItemSize, span_end};
 

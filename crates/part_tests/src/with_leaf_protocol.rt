@@ -1,3 +1,5 @@
+//! Tests of a leaf.
+
 ghost use Rattle.std.specs.Prelude.{◌≡◌, ◌<◌, true, IfOk};
 ghost use Rattle.part_tests.specs.TreeModel.State.Rooms.{leaf_within};
 

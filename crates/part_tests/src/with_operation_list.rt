@@ -1,3 +1,5 @@
+//! Tests of lists of operations.
+
 use crate::of_ddm_types::{Effect, HartNo, Key, Op};
 use operation_list::Operations;
 use std::test::Fail;

@@ -1,3 +1,5 @@
+//! Tests of buffer and parking.
+
 use crate::of_ddm_types::{ItemId, LeafState, Words};
 use crate::of_replacement::{Buffer, Full, Parking};
 use std::process::Abort;

@@ -1,3 +1,5 @@
+//! Tests of a reservation.
+
 use crate::of_ddm_types::ItemId;
 use crate::of_reservations::Reservation;
 

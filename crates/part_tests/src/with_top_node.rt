@@ -1,3 +1,5 @@
+//! Tests of the top.
+
 use crate::of_ddm_types::{ChildNo, ItemId, PendingWhy, TxKind, Words};
 use crate::of_item_states::{DownEntry, Parent, ParentList};
 use std::test::Fail;

@@ -1,3 +1,5 @@
+//! Tests of lists of transactions.
+
 use crate::of_ddm_types::{ItemId, Stamp, TxKind, Words};
 use crate::of_item_states::DownEntry;
 use crate::of_tx_queue::Queue;

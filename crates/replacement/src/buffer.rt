@@ -1,3 +1,5 @@
+//! The buffer of a leaf.
+
 ghost use Rattle.std.specs.Prelude.{◌≡◌, ◌<◌, ◌↔◌, ◌^◌, None, true, if◌then◌else◌, ◌++◌, ◌∷◌, [], length, filter, find, map, not, nat_le, position, option_map, slice_get, IfOk, IsErr, IsSome, OnErr, OnOk, is_err};
 ghost use Rattle.replacement.specs.TreeModel.State.Leaf.{is_buffered};
 ghost use Rattle.replacement.specs.TreeModel.State.Shape.{are_distinct};

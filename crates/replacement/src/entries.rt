@@ -1,3 +1,5 @@
+//! The entries of buffer and parking.
+
 ghost use Rattle.std.specs.Prelude.{◌≡◌, replicate};
 ghost use Rattle.replacement.specs.DdmTypes.declared.sizes.LeafState.{LeafState};
 ghost use Rattle.replacement.specs.Arrived.{with_state, with_words};

@@ -1,3 +1,5 @@
+//! The parking of a directory.
+
 ghost use Rattle.std.specs.Prelude.{◌≡◌, ◌+◌, ◌-◌, ◌^◌, ◌<◌, ◌≤◌, ◌↔◌, ◌++◌, ◌∷◌, [], None, true, length, map, filter, find, not, nat_le, position, option_map, slice_get, IfOk, IsErr, OnErr, OnOk, is_err};
 ghost use Rattle.replacement.specs.TreeModel.State.Leaf.{is_copy};
 ghost use Rattle.replacement.specs.TreeModel.State.Shape.{are_distinct};

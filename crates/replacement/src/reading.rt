@@ -1,3 +1,5 @@
+//! The words of a parking are read back.
+
 ghost use Rattle.std.specs.Prelude.{◌≡◌, ◌+◌, ◌<◌, ◌≤◌, ◌^◌, ◌&&◌, false, not, nat_lt, Ok, Err, drop, length, IfErr, IfOk, OnOk};
 ghost use Rattle.std.specs.List.{All, list_any};
 ghost use Rattle.replacement.specs.TreeModel.State.Leaf.{is_copy};

@@ -1,3 +1,5 @@
+//! The words of buffer and parking.
+
 ghost use Rattle.std.specs.Prelude.{◌<◌, ◌^◌, length, OnErr, OnOk};
 ghost use Rattle.replacement.specs.DdmText.Adds.{Adds};
 ghost use Rattle.replacement.specs.StateWords.Begins.{Begins};

@@ -1,3 +1,5 @@
+//! What a turn answered, as text.
+
 ghost use Rattle.std.specs.Prelude.{OnOk};
 ghost use Rattle.report.specs.DdmText.Adds.{Adds};
 ghost use Rattle.text_model.specs.Words.{answer_text, busy_text, entry_text, kind_text, place_text, queue_text, why_text};

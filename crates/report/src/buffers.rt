@@ -1,3 +1,5 @@
+//! What text is put into.
+
 ghost use Rattle.std.specs.Prelude.{ℕ, List, length, OnOk};
 ghost use Rattle.report.specs.DdmText.Adds.{Adds};
 ghost use Rattle.report.specs.Room.{UsesRoom};

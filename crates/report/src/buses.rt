@@ -1,3 +1,5 @@
+//! The line of a bus.
+
 ghost use Rattle.std.specs.Prelude.{OnOk};
 ghost use Rattle.report.specs.DdmText.Adds.{Adds};
 ghost use Rattle.text_model.specs.Report.{bus_line};

@@ -1,3 +1,5 @@
+//! Decimal and hexadecimal digits, put several at a time.
+
 ghost use Rattle.std.specs.Prelude.{◌≡◌, ◌+◌, ◌/◌, ◌%◌, ◌<◌, ◌≤◌, [], ◌∷◌, ◌++◌, OnOk, codes, decimal, false};
 ghost use Rattle.report.specs.DdmText.Adds.{Adds};
 ghost use Rattle.report.specs.DdmText.Hex.{hex2, hex8};

@@ -1,3 +1,5 @@
+//! What an instruction did, as text.
+
 ghost use Rattle.std.specs.Prelude.{◌++◌, OnOk, codes};
 ghost use Rattle.report.specs.DdmText.Adds.{Adds};
 ghost use Rattle.report.specs.DdmText.Hex.{hex8};

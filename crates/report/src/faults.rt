@@ -1,3 +1,5 @@
+//! The lines of faults that no file is refused by.
+
 ghost use Rattle.std.specs.Prelude.{◌≡◌};
 ghost use Rattle.text_model.specs.Faults.{memory_fault, read_fault, unbuilt_fault, usage_fault, write_fault};
 ghost use Rattle.report.specs.Roles.{role_text};

@@ -1,3 +1,5 @@
+//! The lines of a hart.
+
 ghost use Rattle.std.specs.Prelude.{◌≡◌, ◌<◌, ◌≤◌, ◌+◌, ◌*◌, OnOk, length, take};
 ghost use Rattle.report.specs.DdmText.Adds.{Adds};
 ghost use Rattle.text_model.specs.Report.{hart_line, head_lines, or_dash, out_line, put_text, put_text_by, put_texts, regs_line, turns_line};

@@ -1,3 +1,5 @@
+//! The line of an item.
+
 ghost use Rattle.std.specs.Prelude.{◌≡◌, ◌+◌, ◌*◌, ◌∷◌, ◌++◌, [], OnOk, Some, codes, decimal, length};
 ghost use Rattle.report.specs.DdmText.Adds.{Adds};
 ghost use Rattle.text_model.specs.Report.{copy_place_text, item_line, letter_text, letter_texts};

@@ -1,3 +1,5 @@
+//! A line in a buffer of its own.
+
 ghost use Rattle.std.specs.Prelude.{◌≡◌, ◌+◌, ◌-◌, ◌≤◌, ◌↔◌, [], ◌++◌, length, decimal, IsTrue};
 ghost use Rattle.report.specs.Roles.{role_text};
 

@@ -1,3 +1,5 @@
+//! The parts of a report, read from a machine.
+
 ghost use Rattle.std.specs.Prelude.{◌≡◌, ◌<◌, ◌≤◌, ◌++◌, [], true, codes, drop, length, slice_index_or};
 ghost use Rattle.report.specs.DdmTypes.ItemTable.{item_count, row_at};
 ghost use Rattle.report.specs.TreeModel.State.Shape.{IsShaped, tree_counts};

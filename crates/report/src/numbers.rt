@@ -1,3 +1,5 @@
+//! Numbers of harts, buses, leaves, children and items, as text.
+
 ghost use Rattle.std.specs.Prelude.{◌+◌, ◌++◌, OnOk, decimal, length};
 ghost use Rattle.report.specs.DdmText.Adds.{Adds};
 ghost use Rattle.report.specs.Room.{UsesRoom};

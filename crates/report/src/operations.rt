@@ -1,3 +1,5 @@
+//! The line of an operation.
+
 ghost use Rattle.std.specs.Prelude.{◌*◌, ◌≤◌, ◌++◌, OnOk, codes, decimal, take};
 ghost use Rattle.report.specs.DdmText.Adds.{Adds};
 ghost use Rattle.report.specs.DdmText.Hex.{hex8};

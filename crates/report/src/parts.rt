@@ -1,3 +1,5 @@
+//! A text that is made part by part.
+
 ghost use Rattle.std.specs.Prelude.{◌≡◌, ◌≤◌, ℕ, List, [], ◌++◌, length, take, IfOk};
 
 use crate::line::{LINE_BYTES, Line};

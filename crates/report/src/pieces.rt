@@ -1,3 +1,5 @@
+//! Bytes, numbers and words at the end of a text.
+
 ghost use Rattle.std.specs.Prelude.{◌+◌, ◌*◌, ◌++◌, OnOk, codes, decimal, length};
 ghost use Rattle.report.specs.DdmText.Adds.{Adds};
 ghost use Rattle.report.specs.DdmText.Hex.{hex8};

@@ -1,3 +1,5 @@
+//! Which part of a report comes next.
+
 ghost use Rattle.std.specs.Prelude.{◌≡◌};
 
 /// The part of a report that comes next.

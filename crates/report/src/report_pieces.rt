@@ -1,3 +1,5 @@
+//! A report given piece by piece.
+
 ghost use Rattle.std.specs.Prelude.{◌≡◌, ◌<◌, ◌≤◌, ◌↔◌, [], ◌++◌, IfOk, length, take};
 ghost use Rattle.report.specs.TreeModel.State.Shape.{IsShaped, depth_of};
 ghost use Rattle.report.specs.TreeModel.Turns.Witness.{sorted_ops};

@@ -1,3 +1,5 @@
+//! The summary of a machine.
+
 ghost use Rattle.std.specs.Prelude.{◌≡◌, IfOk, OnOk};
 ghost use Rattle.std.specs.List.{flat_map};
 ghost use Rattle.report.specs.DdmText.Adds.{Adds};

@@ -1,3 +1,5 @@
+//! A trace given piece by piece.
+
 ghost use Rattle.std.specs.Prelude.{◌≡◌, ◌≤◌, ◌↔◌, [], ◌++◌, length, take, IfOk};
 ghost use Rattle.text_model.specs.Trace.{trace_text};
 

@@ -1,3 +1,5 @@
+//! A text is written to a sink.
+
 ghost use Rattle.std.specs.Prelude.{◌<◌, ◌≤◌, ◌++◌, length, take, IfOk, OnOk, OnErr};
 ghost use Rattle.ddm_outside.specs.Causes.{HasCause};
 ghost use Rattle.ddm_outside.specs.Telling.{WritesTold};

@@ -1,3 +1,5 @@
+//! The machine of any tree and image is built.
+
 ghost use Rattle.std.specs.Prelude.{◌≡◌, ◌⊎◌, ◌*◌, ◌≤◌, IfErr, IfOk, None, Ok, Some, length};
 ghost use Rattle.run_engine.specs.TreeModel.Start.Machine.{start_machine, start_of, start_refusal};
 ghost use Rattle.run_engine.specs.AnyMachine.Any.{depths_state, machine_state, state_in};

@@ -1,3 +1,5 @@
+//! Items and words of a machine's start, and whether it has one.
+
 ghost use Rattle.std.specs.Prelude.{◌≡◌, ℕ, ◌^◌, ◌⊎◌, ◌≤◌, map, All, None, Some, IfOk, IfErr, OnOk};
 ghost use Rattle.run_engine.specs.DdmTypes.ItemTable.{item_count, items_of, span_end};
 ghost use Rattle.run_engine.specs.TreeModel.Start.Memory.{item_words, start_items};

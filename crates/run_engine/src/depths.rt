@@ -1,3 +1,5 @@
+//! The machine of a tree, for each number of levels of buses.
+
 ghost use Rattle.std.specs.Prelude.{◌≡◌, ◌+◌, ◌*◌, ◌<◌, ◌≤◌, IfOk, length, map, slice_index_or, [], None};
 ghost use Rattle.run_engine.specs.TreeModel.Start.Machine.{start_refusal};
 ghost use Rattle.run_engine.specs.TreeModel.Start.Memory.{start_code, start_items};

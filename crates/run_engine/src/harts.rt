@@ -1,3 +1,5 @@
+//! What the harts begin with.
+
 ghost use Rattle.std.specs.Prelude.{◌≡◌, ◌≤◌, ◌+◌, ◌*◌};
 ghost use Rattle.run_engine.specs.TreeModel.Start.Sources.{start_of_harts};
 

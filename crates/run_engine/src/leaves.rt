@@ -1,3 +1,5 @@
+//! Items are placed in leaves.
+
 ghost use Rattle.std.specs.Prelude.{◌≡◌, ◌+◌, ◌*◌, ◌%◌, ◌<◌, ◌≤◌, ◌^◌, map, length, All, IfOk, if◌then◌else◌};
 ghost use Rattle.std.specs.List.{range_with_len};
 ghost use Rattle.run_engine.specs.TreeModel.Start.Nodes.{has_way, leaf_for, leaf_sizes, new_leaf, placed_at, placed_in, placed_items};

@@ -1,3 +1,5 @@
+//! The words of an item at the start.
+
 ghost use Rattle.std.specs.Prelude.{◌≡◌, ◌≤◌};
 ghost use Rattle.run_engine.specs.TreeModel.Start.Memory.{item_words};
 

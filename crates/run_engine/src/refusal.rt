@@ -1,3 +1,5 @@
+//! Why there is no machine of a tree and an image.
+
 ghost use Rattle.std.specs.Prelude.{◌≡◌};
 ghost use Rattle.run_engine.specs.declared.refusal.BuildRefusal.TheVariants as refusal;
 

@@ -1,3 +1,5 @@
+//! The numbers of a tree.
+
 ghost use Rattle.std.specs.Prelude.{◌≡◌, ◌⊎◌, ◌≤◌, ◌+◌, ◌*◌};
 ghost use Rattle.run_engine.specs.TreeModel.Start.Sources.{leaf_count, place_count};
 

@@ -1,3 +1,5 @@
+//! The leaves and the machine of a tree.
+
 ghost use Rattle.std.specs.Prelude.{◌≡◌, ◌≤◌, ◌<◌, ◌*◌, None, map, IfOk};
 ghost use Rattle.run_engine.specs.TreeModel.Start.Machine.{start_leaves, start_machine, start_refusal};
 ghost use Rattle.run_engine.specs.TreeModel.Start.Memory.{start_code, start_items};

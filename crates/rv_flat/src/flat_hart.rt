@@ -1,3 +1,5 @@
+//! A hart of the flat machine, with its reservation.
+
 ghost use Rattle.std.specs.Prelude.{◌≡◌, ◌+◌, ◌*◌, ◌<◌, ◌≤◌, None, Some, IfOk, map};
 ghost use Rattle.std.specs.List.{range_with_len};
 ghost use Rattle.rv_flat.specs.FlatModel.Hart.{ask_of, finish_of, register};

@@ -1,3 +1,5 @@
+//! The flat machine.
+
 ghost use Rattle.std.specs.Prelude.{◌≡◌, ◌+◌, ◌*◌, ◌/◌, ◌<◌, ◌≤◌, ◌&&◌, false, None, Some, IfOk, [], length, if◌then◌else◌};
 ghost use Rattle.rv_flat.specs.DdmTypes.ItemTable.{IsItemSize, item_count};
 ghost use Rattle.rv_flat.specs.FlatModel.Hart.{finish_of, register};

@@ -1,3 +1,5 @@
+//! The words of the flat machine.
+
 ghost use Rattle.std.specs.Prelude.{◌≡◌, ◌⊎◌, ◌*◌, ◌/◌, ◌<◌, ◌≤◌, false, None, Some, IfOk, length, slice_index, slice_index_or, slice_set, []};
 ghost use Rattle.rv_flat.specs.FlatModel.Hart.{ask_of, finish_of};
 ghost use Rattle.rv_flat.specs.DdmTypes.ItemTable.{IsItemSize};

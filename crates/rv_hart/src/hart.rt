@@ -1,3 +1,5 @@
+//! A hart without memory: what its next instruction needs and does.
+
 ghost use Rattle.std.specs.Prelude.{◌≡◌, ◌+◌, ◌*◌, ◌<◌, ◌≤◌, ℕ, None, Some, slice_index};
 ghost use Rattle.rv_hart.specs.DdmTypes.ItemTable.{ItemTable};
 ghost use Rattle.flat_model.specs.Hart.{action_of, advanced, ask_of, call, changing, finish_by, finish_of, hart_start, instr_action, is_taken, load_bytes, loading, next_pc, offset_by, register, reserving, store_bytes, storing, storing_if, with_register, written};

@@ -1,3 +1,5 @@
+//! How a turn of a bus is drawn.
+
 ghost use Rattle.std.specs.Prelude.{◌≡◌, ◌≤◌, ◌<◌, ◌%◌, ℕ, List, IfOk, IfSome, length, replicate};
 ghost use Rattle.tree_config.specs.Levels.{widths_of};
 ghost use Rattle.text_model.specs.Seeded.{seeded_turn};

@@ -1,3 +1,5 @@
+//! All turns of a bus.
+
 ghost use Rattle.std.specs.Prelude.{◌≡◌, ◌≤◌, ◌<◌, ◌+◌, ◌*◌, ◌%◌, IfOk};
 ghost use Rattle.text_model.specs.Seeded.{bus_turn_from};
 ghost use Rattle.schedule_log.specs.Seeding.{turns_of_bus};

@@ -1,3 +1,5 @@
+//! The parts of a tree by which turns are judged.
+
 ghost use Rattle.std.specs.Prelude.{◌≡◌, ◌≤◌, ◌<◌, [], true, length, slice_get, slice_index_or};
 ghost use Rattle.tree_config.specs.Levels.{leaves_of, widths_of};
 ghost use Rattle.text_model.specs.Schedule.{ShapeView};

@@ -1,3 +1,5 @@
+//! A schedule is read in pieces.
+
 ghost use Rattle.std.specs.Prelude.{◌≡◌, ◌+◌, ◌*◌, ◌<◌, ◌≤◌, ℕ, List, [], ◌++◌, IfOk, IsOk, OnErr, drop, length, nat_eq, position, take, vec_capacity, vec_len};
 ghost use Rattle.schedule_log.specs.DdmTypes.declared.turns.Turn.{Turn as OneTurn};
 ghost use Rattle.schedule_log.specs.Reader.{FeedGives, IsInLine, LinesRead, ReadUpTo, begun, begun_behind, finish_of};

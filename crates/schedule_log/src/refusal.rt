@@ -1,3 +1,5 @@
+//! Why a piece of a schedule isn't read to its end.
+
 use text_model::ScheduleRefusal;
 
 /// Why a piece of a schedule's text isn't read to its end.

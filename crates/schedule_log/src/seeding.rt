@@ -1,3 +1,5 @@
+//! The turns of a seed.
+
 ghost use Rattle.std.specs.Prelude.{◌≡◌, ◌≤◌, ℕ, ◌<◌, ◌+◌, ◌*◌, ◌/◌, ◌%◌, ◌++◌, [], ◌∷◌, drop, length, min, slice_index_or, take, All, IfOk};
 ghost use Rattle.schedule_log.specs.DdmTypes.declared.turns.Turn.{Turn as OneTurn};
 ghost use Rattle.rand_pcg.specs.Pcg.{pcg32};

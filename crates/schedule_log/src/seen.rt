@@ -1,3 +1,5 @@
+//! Lines of a schedule that were seen before.
+
 ghost use Rattle.std.specs.Prelude.{◌≡◌, ◌<◌, [], All, IfOk, IfSome, length};
 ghost use Rattle.text_model.specs.Schedule.{ShapeView};
 ghost use Rattle.schedule_log.specs.Seen.{IsSeen, IsSeenAt};

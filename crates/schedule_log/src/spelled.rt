@@ -1,3 +1,5 @@
+//! A line in its usual spelling, read in one pass.
+
 ghost use Rattle.std.specs.Prelude.{◌≡◌, ◌≤◌, ◌+◌, ◌<◌, [], ◌∷◌, IfSome, length};
 ghost use Rattle.schedule_log.specs.Spelled.{Begins, BeginsWithChild, BeginsWithDigit, BeginsWithLine, BeginsWithNumber};
 

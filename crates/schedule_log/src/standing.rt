@@ -1,3 +1,5 @@
+//! How far a schedule has been read.
+
 ghost use Rattle.std.specs.Prelude.{◌≡◌, ℕ};
 ghost use Rattle.schedule_log.specs.Reader.{answer_of};
 ghost use Rattle.schedule_log.specs.Standings.{standing_of};

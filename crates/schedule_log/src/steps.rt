@@ -1,3 +1,5 @@
+//! One line of a schedule is judged.
+
 ghost use Rattle.std.specs.Prelude.{◌≡◌, ◌<◌, ◌≤◌, ◌+◌, ◌-◌, ℕ, All, IfSome, is_none, length, slice_get};
 ghost use Rattle.text_model.specs.Schedule.{ShapeView, child_fault, end_with, refusal_of_turn, turn_fault};
 ghost use Rattle.schedule_log.specs.Seen.{IsFrontOf, IsSeenAt};

@@ -1,3 +1,5 @@
+//! The words of a line.
+
 ghost use Rattle.std.specs.Prelude.{◌≡◌, ◌<◌, ◌≤◌, ◌+◌, [], ◌∷◌, drop, length, nat_eq, position, take};
 ghost use Rattle.text_model.specs.Schedule.{choice_in, pieces_at, place_in, turn_of_five, turn_of_four, turn_of_three, turn_of_words};
 

@@ -1,3 +1,5 @@
+//! Turns are written as a schedule.
+
 ghost use Rattle.std.specs.Prelude.{◌≡◌, OnOk, IfOk, codes, decimal};
 ghost use Rattle.schedule_log.specs.DdmText.Adds.{Adds};
 ghost use Rattle.text_model.specs.Schedule.{schedule_text, turn_line, turn_lines, turn_text};

@@ -1,3 +1,5 @@
+//! What a granted or a busy turn answers.
+
 ghost use Rattle.std.specs.Prelude.{◌≡◌};
 ghost use Rattle.split_bus.specs.DdmTypes.declared.answers.BusyCause.TheVariants.{ItemPending, QueueFull};
 ghost use Rattle.split_bus.specs.DdmTypes.declared.answers.TurnAnswer.TheVariants.{Busy, Granted};

@@ -1,3 +1,5 @@
+//! Loops over the children of a bus.
+
 ghost use Rattle.std.specs.Prelude.{◌≡◌, ◌<◌, length, map};
 ghost use Rattle.split_bus.specs.DdmTypes.declared.answers.TxKind.TheVariants.{ExclusiveTx, InjectTx, ReadTx};
 ghost use Rattle.split_bus.specs.TreeModel.State.Child.{child_full_for, reader_has_place};

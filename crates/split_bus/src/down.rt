@@ -1,3 +1,5 @@
+//! The turn Down: the first entry of the down list.
+
 ghost use Rattle.std.specs.Prelude.{◌≡◌, ◌+◌, ◌<◌, ◌≤◌, ◌^◌, length, map};
 ghost use Rattle.split_bus.specs.DdmTypes.declared.answers.TxKind.TheVariants.{ExclusiveTx, ReadTx};
 ghost use Rattle.split_bus.specs.TreeModel.State.Lists.{find_from, first_given};

@@ -1,3 +1,5 @@
+//! Whether a turn would be granted.
+
 #![tactic(auto, using(crate::proofs::Granting::grants_unless_full))]
 
 ghost use Rattle.std.specs.Prelude.{◌≡◌, ◌<◌, ◌≤◌, ◌^◌, IfSome, length, map, option_map, true};

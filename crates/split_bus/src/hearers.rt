@@ -1,3 +1,5 @@
+//! Whether all that are to be told something have room for it.
+
 ghost use Rattle.std.specs.Prelude.{◌≡◌, ◌<◌, ◌≤◌, length, map};
 ghost use Rattle.split_bus.specs.TreeModel.State.Lists.{first_given};
 ghost use Rattle.item_states.specs.Parts.{node_items};

@@ -1,3 +1,5 @@
+//! An inject that comes down.
+
 ghost use Rattle.std.specs.Prelude.{◌≡◌, ◌≤◌, Some, false, nat_eq, true, length, map};
 ghost use Rattle.split_bus.specs.DdmTypes.declared.answers.TxKind.TheVariants.{InjectTx};
 ghost use Rattle.split_bus.specs.TreeModel.State.Lists.{first_given};

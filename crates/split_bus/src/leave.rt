@@ -1,3 +1,5 @@
+//! The turn Leave: a copy leaves a child.
+
 ghost use Rattle.std.specs.Prelude.{◌≡◌, ◌<◌, ◌≤◌, Some, false, true, length, map};
 ghost use Rattle.split_bus.specs.TreeModel.State.States.{is_shared};
 ghost use Rattle.split_bus.specs.TreeModel.State.Directory.{dir_hold, is_parked, parking_full};

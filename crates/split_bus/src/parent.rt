@@ -1,3 +1,5 @@
+//! What a turn does to the parent of its bus.
+
 ghost use Rattle.std.specs.Prelude.{◌≡◌, ◌+◌, ◌<◌, ◌^◌, None, Some, length, if◌then◌else◌};
 ghost use Rattle.split_bus.specs.TreeModel.State.Lists.{rest_of};
 ghost use Rattle.split_bus.specs.TreeModel.State.Directory.{front_taken, is_parked, is_top, stamp_of};

@@ -1,3 +1,5 @@
+//! The readers of a note.
+
 ghost use Rattle.std.specs.Prelude.{◌≡◌, ◌<◌, length};
 ghost use Rattle.split_bus.specs.TreeModel.State.Directory.{dir_note, is_reader};
 ghost use Rattle.split_bus.specs.TreeModel.Turns.Grant.{data_taker};

@@ -1,3 +1,5 @@
+//! The turn Reply: a child gives a copy.
+
 ghost use Rattle.std.specs.Prelude.{◌≡◌, ◌<◌, ◌≤◌, false, length, map};
 ghost use Rattle.split_bus.specs.DdmTypes.declared.sizes.Hold.TheVariants.{Shared};
 ghost use Rattle.split_bus.specs.TreeModel.State.Lists.{first_given};

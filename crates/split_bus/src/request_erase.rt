@@ -1,3 +1,5 @@
+//! The turn Request, for an erase.
+
 ghost use Rattle.std.specs.Prelude.{◌≡◌, ◌<◌, ◌≤◌, ◌^◌, false, length, map, if◌then◌else◌};
 ghost use Rattle.split_bus.specs.DdmTypes.declared.answers.TxKind.TheVariants.{EraseTx, ExclusiveTx};
 ghost use Rattle.split_bus.specs.TreeModel.State.Lists.{first_given, first_some};

@@ -1,3 +1,5 @@
+//! The turn Request, for a read.
+
 ghost use Rattle.std.specs.Prelude.{◌≡◌, ◌<◌, ◌≤◌, Some, length, map};
 ghost use Rattle.split_bus.specs.DdmTypes.declared.answers.TxKind.TheVariants.{ReadTx};
 ghost use Rattle.split_bus.specs.TreeModel.State.Lists.{find_from};

@@ -1,3 +1,5 @@
+//! The child that is sought.
+
 ghost use Rattle.std.specs.Prelude.{◌≡◌, ◌<◌, ◌≤◌, IfSome, length, map};
 ghost use Rattle.split_bus.specs.TreeModel.State.Lists.{find_from};
 ghost use Rattle.split_bus.specs.TreeModel.State.States.{is_exclusive, is_held, is_shared};

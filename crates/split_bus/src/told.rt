@@ -1,3 +1,5 @@
+//! What children are told.
+
 ghost use Rattle.std.specs.Prelude.{◌≡◌, ◌^◌, ◌<◌, ◌≤◌, None, true, length, map};
 ghost use Rattle.split_bus.specs.DdmTypes.declared.answers.TxKind.TheVariants.{ExclusiveTx, InjectTx, ReadTx};
 ghost use Rattle.split_bus.specs.TreeModel.State.Lists.{first_given, map_from};

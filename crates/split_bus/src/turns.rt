@@ -1,3 +1,5 @@
+//! A turn of one bus.
+
 ghost use Rattle.std.specs.Prelude.{◌≡◌, ◌+◌, ◌<◌, ◌≤◌, ◌^◌, IfSome, length, map, option_map, true};
 ghost use Rattle.split_bus.specs.DdmTypes.declared.keys.Stamp.{Stamp};
 ghost use Rattle.split_bus.specs.TreeModel.State.Child.{child_leaving, child_reply, child_request};

@@ -1,3 +1,5 @@
+//! The law that this is the memory of the tables' start.
+
 ghost use Rattle.std.specs.Prelude.{◌≡◌};
 ghost use Rattle.start_memory.specs.TreeModel.Start.Sources.{ImageValue, TreeValue, stack_spans, start_of_harts};
 ghost use Rattle.start_memory.specs.TreeModel.Start.Memory.{start_items, start_words};

@@ -1,3 +1,5 @@
+//! Stacks that meet segments.
+
 ghost use Rattle.std.specs.Prelude.{◌≡◌, ◌≤◌, ◌<◌, ◌+◌, ◌*◌, ◌^◌, None, Some, MatchOption};
 ghost use Rattle.start_memory.specs.TreeModel.Start.Machine.{header_met, overlap_from, spans_meet, stack_overlap};
 ghost use Rattle.start_memory.specs.TreeModel.Start.Sources.{segment_span};

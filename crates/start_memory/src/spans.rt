@@ -1,3 +1,5 @@
+//! The memory of segments and stacks.
+
 ghost use Rattle.std.specs.Prelude.{◌≡◌, ◌≤◌, ◌<◌, ◌+◌, ◌*◌, All, IfOk};
 ghost use Rattle.start_memory.specs.DdmTypes.ItemTable.{span_end};
 ghost use Rattle.start_memory.specs.TreeModel.Start.Sources.{segment_span};

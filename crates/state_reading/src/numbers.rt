@@ -1,3 +1,5 @@
+//! States, holds, kinds and halts by their numbers.
+
 ghost use Rattle.std.specs.Prelude.{◌≡◌, ◌≤◌};
 ghost use Rattle.state_reading.specs.TreeModel.State.Kinds.{brings_copy};
 ghost use Rattle.state_reading.specs.Parts.{halt_of, hold_of, kind_of, state_of};

@@ -1,3 +1,5 @@
+//! Single words of a checkpoint are read.
+
 ghost use Rattle.std.specs.Prelude.{◌≡◌, ◌<◌, ◌≤◌, ◌+◌, ◌∷◌, ◌^◌, true, false, [], drop, length, nat_eq, nat_le, nat_lt, ◌||◌, OnOk, IfOk, IfErr, Ok, Err, ◌&&◌};
 ghost use Rattle.state_reading.specs.DdmTypes.Keys.{stamp_zero};
 ghost use Rattle.state_reading.specs.declared.StateRefusal.TheVariants.{BadWord, Cut};

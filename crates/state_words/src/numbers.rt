@@ -1,3 +1,5 @@
+//! The numbers of states, holds, kinds, halts and effects.
+
 ghost use Rattle.std.specs.Prelude.{◌≡◌, ◌+◌, ◌<◌, ◌^◌, IfSome};
 ghost use Rattle.state_words.specs.TreeModel.State.Kinds.{kind_number};
 ghost use Rattle.state_words.specs.Numbers.{effect_words, flag_number, halt_words, hold_number, key_words, reserved_word, slot_number, stamp_words, state_number};

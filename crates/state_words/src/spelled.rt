@@ -1,3 +1,5 @@
+//! What is in a list spells itself in words.
+
 ghost use Rattle.std.specs.Prelude.{◌≡◌, ℕ, ◌<◌, ◌^◌, List, length, OnErr, OnOk};
 ghost use Rattle.ddm_text.specs.Adds.{Adds};
 ghost use Rattle.state_words.specs.TreeModel.State.Values.{RequestValue, CopyValue};

@@ -1,3 +1,5 @@
+//! Tests of shelves and sinks.
+
 ghost use Rattle.std.specs.Prelude.{◌≡◌, ◌<◌, ◌≤◌, All, length, IfOk};
 
 use crate::of_ddm_outside::{

@@ -1,3 +1,5 @@
+//! Tests of numbers, lines and texts.
+
 use crate::of_ddm_text::{
     LineCut, NumberRefusal, Text, cut_line, push_decimal, push_hex2, push_hex8, read_decimal,
 };

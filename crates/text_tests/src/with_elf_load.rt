@@ -1,3 +1,5 @@
+//! Tests of images.
+
 ghost use Rattle.std.specs.Prelude.{◌≡◌, ◌≤◌, All, IfOk, length};
 ghost use Rattle.elf_load.specs.ImageRule.{FitsMemory};
 ghost use Rattle.elf_load.specs.Written.{segment_bytes};

@@ -1,3 +1,5 @@
+//! A test of a made image.
+
 use made_image::make_image;
 use std::test::Fail;
 

@@ -1,3 +1,5 @@
+//! Tests of reports, traces and fault lines.
+
 use crate::of_ddm_outside::MemorySink;
 use crate::of_ddm_types::{
     BusNo, ChildNo, Effect, HaltCause, HartNo, ItemId, Key, LeafNo, LeafState, LogEntry, Op, Place,

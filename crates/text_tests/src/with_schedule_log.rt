@@ -1,3 +1,5 @@
+//! Tests of schedules and seeds.
+
 use crate::of_ddm_types::{BusNo, ChildNo, HartNo, Turn};
 use crate::of_tree_config::{Shape, read_tree};
 use schedule_log::{

@@ -1,3 +1,5 @@
+//! Tests of tree files.
+
 use crate::of_ddm_types::BusNo;
 use crate::of_tree_config::{TreeKey, TreeRefusal, read_tree};
 use std::alloc::Global;

@@ -1,3 +1,5 @@
+//! Tests of the checker of witnesses.
+
 use crate::of_ddm_types::Start;
 use elf_load::load;
 use std::test::Fail;

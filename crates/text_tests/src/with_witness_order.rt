@@ -1,3 +1,5 @@
+//! Tests of operations put in order.
+
 use crate::of_ddm_types::{Effect, HartNo, Key, NoMemory, Op};
 use crate::of_operation_list::Operations;
 use crate::of_witness_order::{Ordered, Witness};

@@ -1,3 +1,5 @@
+//! The top as the rules of its bus see it.
+
 use crate::TopState;
 use crate::of_bus_judging::{ParentFacts, RequestFacts};
 use crate::of_ddm_types::ItemId;

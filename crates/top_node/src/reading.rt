@@ -1,3 +1,5 @@
+//! The words of the top are read back.
+
 ghost use Rattle.std.specs.Prelude.{◌<◌, ◌≤◌, ◌^◌, drop, length, IfOk};
 ghost use Rattle.top_node.specs.StateReading.Gives.{IsRead};
 ghost use Rattle.top_node.specs.StateReading.Parts.{read_dir};

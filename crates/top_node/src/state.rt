@@ -1,3 +1,5 @@
+//! The top.
+
 ghost use Rattle.std.specs.Prelude.{◌≡◌, ◌<◌, ◌^◌, ◌++◌, ◌∷◌, [], false, length, option_copied, slice_get, IfOk, if◌then◌else◌};
 ghost use Rattle.top_node.specs.TreeModel.State.Values.{DirValue};
 ghost use Rattle.top_node.specs.TreeModel.State.Directory.{down_full, in_down, is_parked, parked_place, place_released, pushed_reply, replies_full, with_parked};

@@ -1,3 +1,5 @@
+//! The words of the top.
+
 ghost use Rattle.std.specs.Prelude.{OnErr, OnOk};
 ghost use Rattle.top_node.specs.DdmText.Adds.{Adds};
 ghost use Rattle.top_node.specs.StateWords.Begins.{Begins};

@@ -1,3 +1,5 @@
+//! What a tree file says.
+
 ghost use Rattle.std.specs.Prelude.{◌≡◌};
 ghost use Rattle.tree_config.specs.Ranges.{IsInRange};
 

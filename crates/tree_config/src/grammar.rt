@@ -1,3 +1,5 @@
+//! The law that shapes are read by their grammar.
+
 ghost use Rattle.std.specs.Prelude.{ℕ, ◌≡◌, ◌↔◌, Ok, Err};
 ghost use Rattle.tree_config.specs.ShapeGrammar.{IsLongestBeginning, IsTextOf};
 ghost use Rattle.tree_config.specs.ShapeText.{Tree, shape_of};

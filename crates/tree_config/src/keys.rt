@@ -1,3 +1,5 @@
+//! The keys of a tree file.
+
 ghost use Rattle.std.specs.Prelude.{◌≡◌};
 ghost use Rattle.tree_config.specs.Ranges.{is_allowed, is_between};
 ghost use Rattle.tree_config.specs.TreeFile.{is_known, key_name};

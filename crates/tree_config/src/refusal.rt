@@ -1,3 +1,5 @@
+//! Why a file isn't a tree file.
+
 ghost use Rattle.std.specs.Prelude.{◌≡◌};
 ghost use Rattle.tree_config.specs.declared.refusal.TreeRefusal.TheVariants.{NoMemory};
 

@@ -1,3 +1,5 @@
+//! The shape of a tree.
+
 ghost use Rattle.std.specs.Prelude.{◌≡◌, ◌≤◌, ◌<◌, ◌^◌, ◌↔◌, Some, IfSome, IsNone, IsTrue, length, slice_get, sum};
 ghost use Rattle.tree_config.specs.Levels.{IsShape, is_width, leaves_of, widths_of};
 

@@ -1,3 +1,5 @@
+//! A shape is judged.
+
 ghost use Rattle.std.specs.Prelude.{◌≡◌, ◌<◌, ◌^◌, ◌⊎◌, None, Ok, Err, IfOk, IfErr, length, sum, nat_lt};
 ghost use Rattle.std.specs.List.{list_any};
 ghost use Rattle.tree_config.specs.declared.refusal.TreeRefusal.TheVariants.{NoMemory};

@@ -1,3 +1,5 @@
+//! The text of a shape, in passes with a few counters.
+
 ghost use Rattle.std.specs.Prelude.{◌≡◌, ◌<◌, ◌≤◌, ◌&&◌, IfSome, ◌^◌, ◌++◌, ◌∷◌, [], ◌+◌, ℕ, false, length, not, nat_eq, slice_index, map, IfOk};
 ghost use Rattle.std.specs.List.{list_any, range_with_len};
 ghost use Rattle.tree_config.specs.Lists.{lists_of};

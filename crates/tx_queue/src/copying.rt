@@ -1,3 +1,5 @@
+//! A list becomes a copy of another one.
+
 ghost use Rattle.std.specs.Prelude.{◌≡◌};
 
 use crate::Queue;

@@ -1,3 +1,5 @@
+//! A bounded list of transactions.
+
 ghost use Rattle.std.specs.Prelude.{◌≡◌, ℕ, ◌<◌, ◌↔◌, ◌++◌, ◌∷◌, [], false, drop, length, nat_le, option_copied, slice_get, slice_index, IfErr, IfOk, IfSome, IsErr, IsTrue, OnOk, is_err};
 ghost use Rattle.std.specs.List.{list_any};
 ghost use Rattle.circular_buffer.specs.Buffer.{buffer};

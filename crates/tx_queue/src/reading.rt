@@ -1,3 +1,5 @@
+//! The words of a list are read back.
+
 ghost use Rattle.std.specs.Prelude.{◌≡◌, ◌+◌, ◌<◌, ◌≤◌, ◌^◌, ◌||◌, false, nat_eq, nat_le, nat_lt, Ok, Err, drop, length, map, IfErr, IfOk, OnOk};
 ghost use Rattle.state_reading.specs.Gives.{Gives};
 ghost use Rattle.state_reading.specs.Reading.{word_that};

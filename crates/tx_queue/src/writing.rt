@@ -1,3 +1,5 @@
+//! The words of a list.
+
 ghost use Rattle.std.specs.Prelude.{OnErr, OnOk};
 ghost use Rattle.tx_queue.specs.DdmText.Adds.{Adds};
 ghost use Rattle.tx_queue.specs.StateWords.Begins.{Begins};

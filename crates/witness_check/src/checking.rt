@@ -1,3 +1,5 @@
+//! The text of a witness is judged as a whole.
+
 ghost use Rattle.std.specs.Prelude.{◌≡◌, ◌⊎◌, ◌≤◌, ◌+◌, ◌*◌, ℕ, Ok, Err, IfErr, IfOk};
 ghost use Rattle.witness_check.specs.DdmTypes.ItemTable.{IsItemSize};
 ghost use Rattle.witness_check.specs.Start.{check_of};

@@ -1,3 +1,5 @@
+//! The effect that a line says.
+
 ghost use Rattle.std.specs.Prelude.{◌≡◌, bytes_eq, codes};
 ghost use Rattle.text_model.specs.Schedule.{pieces_at};
 ghost use Rattle.witness_check.specs.Lines.{effect_of_one, effect_of_three, effect_of_two, effect_of_words};

@@ -1,3 +1,5 @@
+//! Lines and witnesses that are accepted or refused, as theorems.
+
 ghost use Rattle.witness_check.specs.Examples.{EightOperations, LinesOfOperations, SixOperations};
 
 /// Lines that are operations, and lines that aren't.

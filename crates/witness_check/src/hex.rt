@@ -1,3 +1,5 @@
+//! Hexadecimal digits are read.
+
 ghost use Rattle.std.specs.Prelude.{◌≡◌, ◌≤◌, [], ◌∷◌, MatchOption, unwrap_or};
 ghost use Rattle.witness_check.specs.Lines.{hex2_in, hex4_in, hex8_in, hex_digit};
 

@@ -1,3 +1,5 @@
+//! An operation is judged by the flat machine.
+
 ghost use Rattle.std.specs.Prelude.{◌≡◌, ◌⊎◌, ◌≤◌, ◌+◌, ◌*◌, None, Some, IfErr, IfOk};
 ghost use Rattle.witness_check.specs.DdmTypes.ItemTable.{IsItemSize};
 ghost use Rattle.witness_check.specs.FlatModel.Legal.{is_sc_ok, legal_step, same_effect};

@@ -1,3 +1,5 @@
+//! The operation that a line says.
+
 ghost use Rattle.std.specs.Prelude.{◌≡◌, ◌∷◌, option_map};
 ghost use Rattle.text_model.specs.Schedule.{pieces_at};
 ghost use Rattle.witness_check.specs.Lines.{op_in, op_of_words, without_key};

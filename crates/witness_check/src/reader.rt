@@ -1,3 +1,5 @@
+//! The text of a witness is read in pieces.
+
 ghost use Rattle.std.specs.Prelude.{◌≡◌, ◌⊎◌, ◌≤◌, ◌+◌, ◌*◌, ℕ, List, ◌++◌, None, Some, IfErr, IfOk, length, take};
 ghost use Rattle.text_model.specs.Lines.{Lacks};
 ghost use Rattle.witness_check.specs.DdmTypes.ItemTable.{IsItemSize};

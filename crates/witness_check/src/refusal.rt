@@ -1,3 +1,5 @@
+//! Why a text isn't accepted as a witness.
+
 ghost use Rattle.std.specs.Prelude.{◌≡◌};
 ghost use Rattle.witness_check.specs.declared.refusal.CheckRefusal.TheVariants as refusal;
 

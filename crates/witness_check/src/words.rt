@@ -1,3 +1,5 @@
+//! The words of a line.
+
 ghost use Rattle.std.specs.Prelude.{◌≡◌, ◌≤◌, ◌<◌, ◌+◌, [], ◌∷◌, ◌||◌, ◌&&◌, true, drop, if◌then◌else◌, is_some, length, MatchOption, nat_eq, nat_le, not, option_map, position, slice_index, take};
 ghost use Rattle.std.specs.List.{position_or_len};
 ghost use Rattle.witness_check.specs.DdmText.Numbers.{is_digit};

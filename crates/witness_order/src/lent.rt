@@ -1,3 +1,5 @@
+//! Operations that are somewhere else.
+
 ghost use Rattle.std.specs.Prelude.{◌≡◌, ◌<◌, length, slice_index_or};
 ghost use Rattle.witness_order.specs.DdmTypes.declared.operations.Op.{Op};
 ghost use Rattle.witness_order.specs.LentOps.{lent_ops};
