@@ -1,3 +1,4 @@
+-- The number that the process ends with, for each status.
 use Rattle.std.specs.Prelude.{ℕ}
 use Rattle.ddm_cli.specs.declared.status.Status.{Status}
 use Rattle.ddm_cli.specs.declared.status.Status.TheVariants.{Done, Usage, ImageLoad, ImageBuild, Tree, Schedule, Witness, Checkpoint, SmallLists, ReadFault, WriteFault, NoMemory}

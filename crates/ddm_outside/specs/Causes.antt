@@ -1,3 +1,4 @@
+-- Counts of failed reads and writes, and what it means that one rose.
 use Rattle.std.specs.Prelude.{ℕ, ◌+◌, ◌-◌, ◌^◌, ◌≤◌, min, Result, OnErr}
 
 -- a count of 64 bits one higher; at its last value it stays

@@ -1,3 +1,4 @@
+-- What a shelf in memory has, and which of its reads fail.
 use Rattle.std.specs.Prelude.{◌≡◌, ◌≢◌, ◌⊎◌, ℕ, List, Option, IsNone, IsSome, Contains}
 use Rattle.ddm_outside.specs.Causes.{raised}
 use Rattle.ddm_outside.specs.NamedFiles.{bytes_of, faults_of}

@@ -1,3 +1,4 @@
+-- What a sink in memory holds, and which of its writes fail.
 use Rattle.std.specs.Prelude.{◌≡◌, ◌≤◌, ◌⊎◌, ◌-◌, ℕ, min, List, length, Contains}
 use Rattle.ddm_outside.specs.Causes.{raised}
 use Rattle.ddm_outside.specs.declared.memory_sink.MemorySink.{MemorySink}

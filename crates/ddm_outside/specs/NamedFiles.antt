@@ -1,3 +1,4 @@
+-- Files in memory by their names.
 use Rattle.std.specs.Prelude.{ℕ, suc, List, [], ◌∷◌, Option, Some, None, if◌then◌else◌, bytes_eq, unwrap_or}
 use Rattle.std.specs.Option.{option_map}
 use Rattle.ddm_outside.specs.declared.named_file.NamedFile.{NamedFile}

@@ -1,3 +1,4 @@
+-- What a shelf has that never fails.
 use Rattle.std.specs.Prelude.{ℕ, List, Option, Some}
 use Rattle.ddm_outside.specs.NamedFiles.{bytes_or_none}
 use Rattle.ddm_outside.specs.declared.named_file.NamedFile.{NamedFile}

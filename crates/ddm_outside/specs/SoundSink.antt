@@ -1,3 +1,4 @@
+-- What a sink counts that never fails.
 use Rattle.std.specs.Prelude.{ℕ}
 use Rattle.ddm_outside.specs.declared.sound_sink.SoundSink.{SoundSink}
 

@@ -1,3 +1,4 @@
+-- What is known of standard output and standard error.
 use Rattle.std.specs.Prelude.{ℕ}
 use Rattle.ddm_outside.specs.declared.std_sink.StdSink.{StdSink}
 

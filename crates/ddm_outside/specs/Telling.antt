@@ -1,3 +1,4 @@
+-- What a read of a file gives whose bytes are told, and what a write leaves in a sink.
 use Rattle.std.specs.Prelude.{◌≡◌, ℕ, ◌+◌, ◌<◌, ◌≤◌, List, [], ◌++◌, length, take, drop, Option, Some, IfSome, Result, IfOk, MatchResult}
 
 -- A read of n bytes from an offset of a file: they are the file's bytes there, and none come exactly where

@@ -1,3 +1,4 @@
+-- A reservation after the item was stored to.
 use Rattle.std.specs.Prelude.{ℕ, Option, None, Some, ◌==◌, if◌then◌else◌}
 
 -- the reservation after it was cleared where it covers the item
