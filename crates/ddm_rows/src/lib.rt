@@ -1,14 +1,18 @@
 //! Worked examples of whole commands, as tests: what is asked, of which files, and what comes of it.
 #![tactic(auto)]
 
+#[cfg(test)]
 mod checkpoints;
 #[cfg(test)]
 mod commands;
 #[cfg(test)]
-pub mod of_ddm_outside;
-pub mod of_ddm_types;
-pub mod of_elf_load;
-pub mod of_witness_check;
+mod of_ddm_outside;
+#[cfg(test)]
+mod of_ddm_types;
+#[cfg(test)]
+mod of_elf_load;
+#[cfg(test)]
+mod of_witness_check;
 #[cfg(test)]
 mod several_leaves;
 #[cfg(test)]

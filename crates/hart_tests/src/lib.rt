@@ -2,8 +2,10 @@
 #![tactic(auto)]
 
 #[cfg(test)]
-pub mod of_ddm_types;
-pub mod of_rv_hart;
+mod of_ddm_types;
+#[cfg(test)]
+mod of_rv_hart;
+#[cfg(test)]
 mod with_rv_decode;
 #[cfg(test)]
 mod with_rv_flat;

@@ -2,14 +2,22 @@
 #![tactic(auto)]
 
 #[cfg(test)]
-pub mod of_attraction_mem;
-pub mod of_ddm_types;
-pub mod of_directory;
-pub mod of_item_states;
-pub mod of_replacement;
-pub mod of_reservations;
-pub mod of_tree_model;
-pub mod of_tx_queue;
+mod of_attraction_mem;
+#[cfg(test)]
+mod of_ddm_types;
+#[cfg(test)]
+mod of_directory;
+#[cfg(test)]
+mod of_item_states;
+#[cfg(test)]
+mod of_replacement;
+#[cfg(test)]
+mod of_reservations;
+#[cfg(test)]
+mod of_tree_model;
+#[cfg(test)]
+mod of_tx_queue;
+#[cfg(test)]
 mod with_attraction_mem;
 #[cfg(test)]
 mod with_code;

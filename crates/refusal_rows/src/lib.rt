@@ -1,9 +1,10 @@
 //! Worked examples of commands that are refused or fail, as tests: words, files, witnesses, reads and writes.
 #![tactic(auto)]
 
+#[cfg(test)]
 mod faults;
 #[cfg(test)]
-pub mod of_ddm_outside;
+mod of_ddm_outside;
 #[cfg(test)]
 mod one_byte_shelf;
 #[cfg(test)]

@@ -2,13 +2,20 @@
 #![tactic(auto)]
 
 #[cfg(test)]
-pub mod of_ddm_outside;
-pub mod of_ddm_text;
-pub mod of_ddm_types;
-pub mod of_operation_list;
-pub mod of_tree_config;
-pub mod of_tree_model;
-pub mod of_witness_order;
+mod of_ddm_outside;
+#[cfg(test)]
+mod of_ddm_text;
+#[cfg(test)]
+mod of_ddm_types;
+#[cfg(test)]
+mod of_operation_list;
+#[cfg(test)]
+mod of_tree_config;
+#[cfg(test)]
+mod of_tree_model;
+#[cfg(test)]
+mod of_witness_order;
+#[cfg(test)]
 mod with_ddm_outside;
 #[cfg(test)]
 mod with_ddm_text;
