@@ -1,6 +1,6 @@
 -- A table has exactly the outcomes that its seeds gave, each once, in order.
 -- Letters: o and p are outcomes, k and l lines, `first` the first seed.
-use Rattle.std.proofs.Common.{◌≡◌, ◌≢◌, ℕ, zero, suc, ◌+◌, ◌<◌, ◌≤◌, Bool, true, false, cond, ◌&&◌, ◌||◌, nat_eq, nat_lt, List, [], ◌∷◌, ◌++◌, length, Some, None, refl, sym, ap, subst, ◌∙◌, arith, append_assoc, eq-eqb, ltb-true, lt-ltb}
+use Rattle.std.proofs.Common.{◌≡◌, ℕ, zero, suc, ◌+◌, ◌<◌, ◌≤◌, Bool, true, false, cond, ◌&&◌, ◌||◌, nat_eq, nat_lt, List, [], ◌∷◌, ◌++◌, length, Some, refl, sym, ap, subst, ◌∙◌, arith, append_assoc, eq-eqb, ltb-true}
 use Rattle.std.specs.Prelude.{slice_get, count_by}
 use Rattle.std.specs.List.{AllByRecursion, list_any}
 use Rattle.std.specs.Cmp.Lexicographic.{pointwise}
@@ -9,12 +9,12 @@ use Rattle.std.proofs.lemmas.List.Sums.{sum_by-cons, sum_by_push}
 use Rattle.std.proofs.lemmas.List.{append-nil, length-append}
 use Rattle.outcome_model.proofs.TreeModel.Tests.{and-first, and-second, and-both}
 use Rattle.outcome_model.specs.Table.{OutcomeLine, counted, in_order, is_outcome, placed, stands_before, table_of, tallied}
-use Rattle.outcome_model.specs.TableLaws.{AreDifferent, AreInOrder, Gave, IsLine, IsTable, TablesAreRight, times_given}
+use Rattle.outcome_model.specs.TableLaws.{AreDifferent, AreInOrder, Gave, IsLine, TablesAreRight, times_given}
 use Rattle.outcome_model.proofs.Tables.{in_order-all, placed-all}
 
 -- ---- texts
 
-same-text : (a b : List ℕ) → pointwise nat_eq a b ≡ true → a ≡ b
+pub same-text : (a b : List ℕ) → pointwise nat_eq a b ≡ true → a ≡ b
 same-text [] [] h = refl
 same-text [] (y ∷ ys) h = cc
 same-text (x ∷ xs) [] h = cc
@@ -23,11 +23,11 @@ same-text (x ∷ xs) (y ∷ ys) h =
     let rest : xs ≡ ys = same-text xs ys (and-second (nat_eq x y) (pointwise nat_eq xs ys) h) in
     rw (head, rest) refl
 
-own-text : (a : List ℕ) → pointwise nat_eq a a ≡ true
+pub own-text : (a : List ℕ) → pointwise nat_eq a a ≡ true
 own-text [] = refl
 own-text (x ∷ xs) = and-both (nat_eq x x) (pointwise nat_eq xs xs) (eq-eqb x x refl) (own-text xs)
 
-other-text : (a b : List ℕ) → pointwise nat_eq a b ≡ false → pointwise nat_eq b a ≡ false
+pub other-text : (a b : List ℕ) → pointwise nat_eq a b ≡ false → pointwise nat_eq b a ≡ false
 other-text a b h = by (pointwise nat_eq b a) refl where
   by : (d : Bool) → pointwise nat_eq b a ≡ d → d ≡ false
   by false e = refl
@@ -35,40 +35,40 @@ other-text a b h = by (pointwise nat_eq b a) refl where
 
 -- ---- bools
 
-or-none : (a b : Bool) → (a || b) ≡ false → (a ≡ false) × (b ≡ false)
+pub or-none : (a b : Bool) → (a || b) ≡ false → (a ≡ false) × (b ≡ false)
 or-none false b h = (refl, h)
 or-none true b h = cc
 
-none-or : (a b : Bool) → a ≡ false → b ≡ false → (a || b) ≡ false
+pub none-or : (a b : Bool) → a ≡ false → b ≡ false → (a || b) ≡ false
 none-or false b h k = k
 none-or true b h k = cc
 
-or-second : (a b : Bool) → b ≡ true → (a || b) ≡ true
+pub or-second : (a b : Bool) → b ≡ true → (a || b) ≡ true
 or-second true b h = refl
 or-second false b h = h
 
-or-rest : (a b : Bool) → a ≡ false → (a || b) ≡ true → b ≡ true
+pub or-rest : (a b : Bool) → a ≡ false → (a || b) ≡ true → b ≡ true
 or-rest false b h k = k
 or-rest true b h k = cc
 
-or-past : (a b c : Bool) → (b || (a || c)) ≡ (a || (b || c))
+pub or-past : (a b c : Bool) → (b || (a || c)) ≡ (a || (b || c))
 or-past true true c = refl
 or-past true false c = refl
 or-past false true c = refl
 or-past false false c = refl
 
-or-twice : (a b : Bool) → (a || b) ≡ (a || (a || b))
+pub or-twice : (a b : Bool) → (a || b) ≡ (a || (a || b))
 or-twice true b = refl
 or-twice false b = refl
 
 -- ---- the order of lines
 
 module _ (k l : OutcomeLine) where
-  record NotBefore : Type 0 where
-    fewer : k.times ≤ l.times
-    later : k.times ≡ l.times → l.seed ≤ k.seed
+  pub record NotBefore : Type 0 where
+    pub fewer : k.times ≤ l.times
+    pub later : k.times ≡ l.times → l.seed ≤ k.seed
 
-  not-before : stands_before k l ≡ false → NotBefore
+  pub not-before : stands_before k l ≡ false → NotBefore
   not-before h =
       let parts = or-none (nat_lt l.times k.times) (nat_eq k.times l.times && nat_lt k.seed l.seed) h in
       record {
@@ -88,7 +88,7 @@ module _ (k l : OutcomeLine) where
       by true e = le-ltb k.seed l.seed (n.later (eqb-true k.times l.times e))
 
   -- what stands before another is not behind it
-  before-back : stands_before k l ≡ true → l.times ≤ k.times × (l.times ≡ k.times → k.seed ≤ l.seed)
+  pub before-back : stands_before k l ≡ true → l.times ≤ k.times × (l.times ≡ k.times → k.seed ≤ l.seed)
   before-back h = by (nat_lt l.times k.times) refl h
     where
       tied : (d : Bool) → nat_eq k.times l.times ≡ d → (d && nat_lt k.seed l.seed) ≡ true → l.times ≤ k.times × (l.times ≡ k.times → k.seed ≤ l.seed)
@@ -123,7 +123,7 @@ module _ (p : OutcomeLine → Bool) where
         | false ↦ refl
       ]
 
-  in_order-any : (ls : List OutcomeLine) → list_any p (in_order ls) ≡ list_any p ls
+  pub in_order-any : (ls : List OutcomeLine) → list_any p (in_order ls) ≡ list_any p ls
   unfolding in_order
   in_order-any [] = refl
   in_order-any (l ∷ ls) = placed-any l (in_order ls) ∙ ap (λ b. p l || b) (in_order-any ls)
@@ -139,7 +139,7 @@ placed-different l (k ∷ ks) none different =
       | false ↦ (none, different)
     ]
 
-in_order-different : (ls : List OutcomeLine) → AreDifferent ls → AreDifferent (in_order ls)
+pub in_order-different : (ls : List OutcomeLine) → AreDifferent ls → AreDifferent (in_order ls)
 unfolding in_order
 in_order-different [] different = tt
 in_order-different (l ∷ ls) different = placed-different l (in_order ls) (in_order-any (is_outcome l.outcome) ls ∙ different.0) (in_order-different ls different.1)
@@ -157,7 +157,7 @@ placed-order l (k ∷ ks) ordered =
       | false ↦ λ e. ((e, behind k l ks e ordered.0), ordered)
     ] refl
 
-in_order-ordered : (ls : List OutcomeLine) → AreInOrder (in_order ls)
+pub in_order-ordered : (ls : List OutcomeLine) → AreInOrder (in_order ls)
 unfolding in_order
 in_order-ordered [] = tt
 in_order-ordered (l ∷ ls) = placed-order l (in_order ls) (in_order-ordered ls)

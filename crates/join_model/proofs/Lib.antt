@@ -1,0 +1,4 @@
+mod Found
+mod Joining
+mod OneTable
+mod Ranges
