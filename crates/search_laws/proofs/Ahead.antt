@@ -1,8 +1,8 @@
 -- Turns that lead to an end or to a jam begin, in another order, with one that is tried.
 -- Letters: s, r and x are states, t and u turns, ts and us lists of them.
-use Rattle.std.proofs.Common.{◌≡◌, ℕ, ◌<◌, true, false, List, [], ◌∷◌, ◌++◌, length, refl, sym, ap, subst, ◌∙◌, inl, inr, arith}
+use Rattle.std.proofs.Common.{◌≡◌, ◌<◌, true, false, List, [], ◌∷◌, ◌++◌, length, refl, sym, subst, ◌∙◌, inl, arith}
 use Rattle.search_laws.specs.Space.{Space, state_after, IsOneOf}
-use Rattle.search_laws.specs.Rules.{KeepsAlike, EndsStay, Tried, changes_nothing, does_what, Enough, quiet_one, all_others, Beside, instead, swapped, QuietFirst}
+use Rattle.search_laws.specs.Rules.{KeepsAlike, EndsStay, Tried, changes_nothing, does_what, quiet_one, all_others, instead, swapped, QuietFirst}
 use Rattle.search_laws.proofs.Lists.{absurd-bool}
 
 module _ {S T O : Type 0} (space : Space S T O) where

@@ -1,14 +1,14 @@
 -- What turns come to is found, or they go on from a state that still waits.
 -- Letters: s is a search, e, k and w are kept states, x is a state at which nothing is to be done any more, ts and us are turns.
-use Rattle.std.proofs.Common.{◌≡◌, ℕ, zero, suc, ◌+◌, ◌<◌, ◌≤◌, Bool, true, false, List, [], ◌∷◌, ◌++◌, length, refl, sym, ap, subst, ◌∙◌, ◌⊎◌, inl, inr, arith}
+use Rattle.std.proofs.Common.{◌≡◌, ℕ, zero, suc, ◌+◌, ◌<◌, ◌≤◌, true, false, List, [], ◌∷◌, length, sym, subst, ◌∙◌, ◌⊎◌, inl, inr, arith}
 use Rattle.std.proofs.lemmas.Bool.{cases_lt}
 use Rattle.search_laws.specs.Space.{Space, state_after, IsOneOf}
 use Rattle.search_laws.specs.Search.{Kept, Found, Searched, kept, first_length}
 use Rattle.search_laws.specs.Rules.{KeepsAlike, EndsStay, QuietFirst}
 use Rattle.search_laws.specs.Claims.{EndsWith, JamsWith, HasNoLonger, LinesAreShortest, LinesAreAll, LinesReachFar}
 use Rattle.search_laws.proofs.Lists.{absurd-bool, in-right, in-either, none-of-nothing}
-use Rattle.search_laws.proofs.Ahead.{ended-stays, after-alike, Rests, at_end, at_jam, Ahead, stuck, goes_on, ahead, fit-after, rests-alike}
-use Rattle.search_laws.proofs.Sound.{size, Ascending, Line, Seen, seen_found, seen_kept, Closed, IsReal, AreLines, Sound}
+use Rattle.search_laws.proofs.Ahead.{ended-stays, after-alike, Rests, at_end, at_jam, stuck, goes_on, ahead, fit-after, rests-alike}
+use Rattle.search_laws.proofs.Sound.{size, Ascending, Line, seen_found, seen_kept, IsReal, AreLines, Sound}
 
 module _ {S T O : Type 0} (space : Space S T O) (Alike : S → S → Type 0) (keeps : KeepsAlike space Alike) (stay : EndsStay space Alike) (IsQuiet : S → T → Type 0) (IsFit : S → Type 0) (first : QuietFirst space Alike IsQuiet IsFit) (m : S) (fit : IsFit m) (most : ℕ) (s : Searched S T O) (sound : Sound space m most s) where
   -- turns that go on to x from a state that waits

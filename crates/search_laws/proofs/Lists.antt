@@ -1,6 +1,6 @@
 -- Members of lists, and what tests of them say.
 -- Letters: x is one of the things xs, p a test.
-use Rattle.std.proofs.Common.{◌≡◌, ℕ, suc, ◌<◌, ◌≤◌, Bool, true, false, List, [], ◌∷◌, ◌++◌, ◌||◌, ◌&&◌, length, refl, sym, ap, subst, ◌∙◌, ◌⊎◌, inl, inr, true≢false, arith}
+use Rattle.std.proofs.Common.{◌≡◌, ◌<◌, ◌≤◌, Bool, true, false, List, [], ◌∷◌, ◌++◌, ◌||◌, ◌&&◌, length, refl, sym, ap, subst, ◌∙◌, ◌⊎◌, inl, inr, true≢false, arith}
 use Rattle.std.specs.Prelude.{if◌then◌else◌, cond}
 use Rattle.std.specs.List.{list_any, list_all, filter}
 use Rattle.search_laws.specs.Space.{IsOneOf}

@@ -1,6 +1,6 @@
 -- A search stays sound while the turns of its first waiting state are looked at, and each state that they lead to is seen.
 -- Letters: s and r are searches, k is the state that is taken up, e the one that a turn t of it leads to, w one that waits.
-use Rattle.std.proofs.Common.{◌≡◌, ℕ, ◌+◌, ◌<◌, ◌≤◌, Bool, true, false, List, [], ◌∷◌, ◌++◌, length, refl, sym, ap, subst, ◌∙◌, ◌⊎◌, inl, inr, arith, append_assoc, length-append}
+use Rattle.std.proofs.Common.{◌≡◌, ℕ, ◌+◌, ◌<◌, ◌≤◌, true, false, List, [], ◌∷◌, ◌++◌, length, refl, sym, ap, subst, ◌∙◌, ◌⊎◌, inl, inr, arith, append_assoc, length-append}
 use Rattle.std.specs.Prelude.{if◌then◌else◌, nat_lt}
 use Rattle.std.specs.List.{list_any}
 use Rattle.std.proofs.lemmas.Bool.{ltb-true}
@@ -8,9 +8,9 @@ use Rattle.search_laws.specs.Space.{Space, state_after, IsOneOf}
 use Rattle.search_laws.specs.Search.{Kept, Found, Searched, kept, is_empty, after_turn, found_at, with_found, with_place, with_state, looked_at, looked_through, with_jam}
 use Rattle.search_laws.specs.Rules.{KeepsAlike}
 use Rattle.search_laws.specs.Claims.{EndsWith, JamsWith}
-use Rattle.search_laws.proofs.Lists.{if-either, absurd-bool, true-or-false, empty-nothing, in-left, in-right, in-either, only-one, any-passes}
+use Rattle.search_laws.proofs.Lists.{if-either, absurd-bool, empty-nothing, in-left, in-right, in-either, only-one, any-passes}
 use Rattle.search_laws.proofs.Ahead.{after-append}
-use Rattle.search_laws.proofs.Sound.{IsPart, size, Ascending, ascending-more, Growth, grown-itself, grown-then, Line, line-still, Seen, seen_found, seen_kept, seen-still, AllSeen, JamSeen, Closed, closed-still, IsReal, AreLines, Sound, OneMore, old-line, new-line}
+use Rattle.search_laws.proofs.Sound.{IsPart, size, Ascending, ascending-more, Growth, grown-itself, grown-then, Seen, seen_found, seen_kept, seen-still, AllSeen, JamSeen, closed-still, IsReal, AreLines, Sound, OneMore, old-line, new-line}
 
 module _ {S T O : Type 0} (space : Space S T O) (Alike : S → S → Type 0) (keeps : KeepsAlike space Alike) (m : S) (most : ℕ) where
   -- the state after a turn was looked at

@@ -1,20 +1,16 @@
 -- States from which no turns lead to an end: those that are left, and no others.
 -- Letters: s is a search, e and k are kept states, us are kept states or turns, ts are turns, x is a state.
-use Rattle.std.proofs.Common.{◌≡◌, ℕ, zero, suc, ◌+◌, ◌<◌, ◌≤◌, Bool, true, false, List, [], ◌∷◌, ◌++◌, ◌&&◌, length, refl, sym, ap, subst, ◌∙◌, ◌⊎◌, inl, inr, true≢false, arith}
+use Rattle.std.proofs.Common.{◌≡◌, ℕ, zero, suc, ◌+◌, ◌<◌, ◌≤◌, Bool, true, false, List, [], ◌∷◌, ◌++◌, ◌&&◌, length, refl, sym, ap, subst, ◌∙◌, ◌⊎◌, inl, inr, arith}
 use Rattle.std.specs.Prelude.{not}
 use Rattle.std.specs.List.{list_any, list_all, filter}
 use Rattle.search_laws.specs.Space.{Space, state_after, IsOneOf}
-use Rattle.search_laws.specs.Search.{Kept, Found, Searched, kept}
+use Rattle.search_laws.specs.Search.{Kept, Searched, kept}
 use Rattle.search_laws.specs.Lost.{leads_into, stays_in, left_after, lost}
-use Rattle.search_laws.specs.Rules.{KeepsAlike, EndsStay, Tried, changes_nothing, does_what, Enough, quiet_one, all_others, QuietFirst}
-use Rattle.search_laws.specs.Claims.{CanEnd, LostAreRight}
-use Rattle.search_laws.proofs.Lists.{absurd-bool, true-or-false, and-first, and-second, in-left, in-either, only-one, none-of-nothing, Passing, any-passes, any-none, all-each, all-fails, filter-part, filter-passing, filter-all, filter-shorter}
-use Rattle.search_laws.proofs.Ahead.{after-append, ended-stays, after-alike, Rests, at_end, at_jam, Ahead, stuck, goes_on, ahead, Fronted, moved, still_quiet, fronted, fit-after}
-use Rattle.search_laws.proofs.Sound.{size, Seen, seen_found, seen_kept, Closed, IsReal, Sound}
-
-not-true : (b : Bool) → not b ≡ true → b ≡ false
-not-true true e = absurd (true≢false (sym e))
-not-true false e = refl
+use Rattle.search_laws.specs.Rules.{KeepsAlike, EndsStay, Tried, changes_nothing, does_what, quiet_one, all_others, QuietFirst}
+use Rattle.search_laws.specs.Claims.{LostAreRight}
+use Rattle.search_laws.proofs.Lists.{absurd-bool, true-or-false, and-second, in-left, in-either, only-one, none-of-nothing, any-passes, any-none, all-each, all-fails, filter-part, filter-passing, filter-all, filter-shorter}
+use Rattle.search_laws.proofs.Ahead.{after-append, ended-stays, after-alike, at_end, stuck, goes_on, ahead, moved, still_quiet, fronted, fit-after}
+use Rattle.search_laws.proofs.Sound.{seen_found, seen_kept, IsReal, Sound}
 
 -- one of two things holds where not both do
 not-both : (a b : Bool) → (not a && b) ≡ false → (a ≡ true) ⊎ (b ≡ false)

@@ -1,8 +1,8 @@
 -- A search is right.
 -- Letters: m is the state that it begins with.
-use Rattle.std.proofs.Common.{◌≡◌, ℕ, ◌<◌, true, false, List, [], ◌⊎◌, inl, inr}
+use Rattle.std.proofs.Common.{◌≡◌, ℕ, ◌<◌, false, [], inl, inr}
 use Rattle.search_laws.specs.Space.{Space}
-use Rattle.search_laws.specs.Search.{Searched, searched}
+use Rattle.search_laws.specs.Search.{searched}
 use Rattle.search_laws.specs.Rules.{KeepsAlike, EndsStay, QuietFirst}
 use Rattle.search_laws.specs.Claims.{IsRight}
 use Rattle.search_laws.proofs.Lists.{absurd-bool}

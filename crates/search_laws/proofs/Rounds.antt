@@ -1,14 +1,14 @@
 -- A search is sound after each state that it takes up, and takes up states until none waits or one has no place.
 -- Letters: s and r are searches, k is the first state that waits, rest are the others, n counts states that are taken up.
-use Rattle.std.proofs.Common.{◌≡◌, ℕ, zero, suc, ◌+◌, ◌<◌, ◌≤◌, Bool, true, false, List, [], ◌∷◌, ◌++◌, length, refl, sym, ap, subst, ◌∙◌, ◌⊎◌, inl, inr, arith, append_assoc, length-append}
+use Rattle.std.proofs.Common.{◌≡◌, ℕ, zero, suc, ◌+◌, ◌<◌, ◌≤◌, true, false, List, [], ◌∷◌, ◌++◌, length, refl, sym, ap, subst, ◌∙◌, ◌⊎◌, inl, inr, arith, append_assoc, length-append}
 use Rattle.std.specs.Prelude.{if◌then◌else◌}
-use Rattle.search_laws.specs.Space.{Space, state_after, IsOneOf}
+use Rattle.search_laws.specs.Space.{Space, IsOneOf}
 use Rattle.search_laws.specs.Search.{Kept, Found, Searched, kept, looked_through, with_jam, moved_on, unless_full, first_taken_up, next_taken_up, taken_up, begun, searched}
 use Rattle.search_laws.specs.Rules.{KeepsAlike}
 use Rattle.search_laws.specs.Claims.{EndsWith, JamsWith}
-use Rattle.search_laws.proofs.Lists.{if-either, absurd-bool, in-left, in-right, in-either, only-one}
-use Rattle.search_laws.proofs.Sound.{IsPart, size, Ascending, Growth, grown-then, line-still, AllSeen, JamSeen, Closed, closed-still, IsReal, AreLines, Sound}
-use Rattle.search_laws.proofs.Looking.{Looked, jam-looked, through-looked, stays-full}
+use Rattle.search_laws.proofs.Lists.{if-either, absurd-bool, in-either, only-one}
+use Rattle.search_laws.proofs.Sound.{size, Ascending, Growth, line-still, Closed, closed-still, IsReal, AreLines, Sound}
+use Rattle.search_laws.proofs.Looking.{jam-looked, through-looked, stays-full}
 
 module _ {S T O : Type 0} (space : Space S T O) (Alike : S → S → Type 0) (keeps : KeepsAlike space Alike) (m : S) (most : ℕ) where
   -- it won't go on

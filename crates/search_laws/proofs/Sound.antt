@@ -1,13 +1,12 @@
 -- What is true of a search at each moment.
 -- Letters: s and r are searches, e, k, v and w kept states, f and g found outcomes, x is a state, m the one that was begun with.
-use Rattle.std.proofs.Common.{◌≡◌, ℕ, ◌+◌, ◌≤◌, Bool, true, false, List, [], ◌∷◌, ◌++◌, length, refl, sym, ap, subst, ◌∙◌, ◌⊎◌, inl, inr, arith}
-use Rattle.std.specs.Prelude.{if◌then◌else◌}
+use Rattle.std.proofs.Common.{◌≡◌, ℕ, ◌+◌, ◌≤◌, true, false, List, [], ◌∷◌, ◌++◌, length, refl, sym, ap, subst, ◌∙◌, inl, inr, arith}
 use Rattle.std.specs.List.{list_any}
 use Rattle.search_laws.specs.Space.{Space, state_after, IsOneOf}
-use Rattle.search_laws.specs.Search.{Kept, Found, Searched, kept, with_found}
+use Rattle.search_laws.specs.Search.{Kept, Found, Searched, kept}
 use Rattle.search_laws.specs.Rules.{KeepsAlike}
 use Rattle.search_laws.specs.Claims.{EndsWith, JamsWith}
-use Rattle.search_laws.proofs.Lists.{absurd-bool, true-or-false, in-left, in-right, in-either, only-one, Passing, any-passes, any-none}
+use Rattle.search_laws.proofs.Lists.{absurd-bool, in-left, in-right, in-either, only-one, any-passes, any-none}
 
 -- each of these is one of those
 abbrev pub IsPart : {X : Type 0} → List X → List X → Type 0

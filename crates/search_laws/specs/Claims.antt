@@ -1,7 +1,7 @@
 -- What is claimed of a search.
 -- Letters: m is the state that it began with, s the search, ts and us are turns, f is a found outcome, e a kept state.
 -- To be believed: it is what is claimed of every search.
-use Rattle.std.specs.Prelude.{◌≡◌, ℕ, ◌≤◌, ◌<◌, Bool, true, false, List, [], ◌++◌, length}
+use Rattle.std.specs.Prelude.{◌≡◌, ◌≤◌, ◌<◌, true, false, List, [], ◌++◌, length}
 use Rattle.search_laws.specs.Space.{Space, state_after, IsOneOf}
 use Rattle.search_laws.specs.Search.{Kept, Found, Searched, first_length}
 use Rattle.search_laws.specs.Lost.{lost}

@@ -1,6 +1,6 @@
 -- The kept states from which no turns lead to an end.
 -- Letters: e is a kept state, us are kept states.
-use Rattle.std.specs.Prelude.{ℕ, zero, suc, Bool, not, ◌&&◌, List, [], ◌∷◌, length}
+use Rattle.std.specs.Prelude.{ℕ, zero, suc, Bool, not, ◌&&◌, List, length}
 use Rattle.std.specs.List.{list_any, list_all, filter}
 use Rattle.search_laws.specs.Space.{Space}
 use Rattle.search_laws.specs.Search.{Kept, Searched}

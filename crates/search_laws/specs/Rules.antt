@@ -2,7 +2,7 @@
 -- tried are enough, and what waits can be done first.
 -- Letters: s, r and q are states, t and u turns, o and p outcomes.
 -- To be believed with the laws: it is what they speak of.
-use Rattle.std.specs.Prelude.{◌≡◌, Bool, true, false, List, [], ◌∷◌, ◌⊎◌}
+use Rattle.std.specs.Prelude.{◌≡◌, true, false, [], ◌∷◌}
 use Rattle.search_laws.specs.Space.{Space, IsOneOf}
 
 module _ {S T O : Type 0} (space : Space S T O) (Alike : S → S → Type 0) where

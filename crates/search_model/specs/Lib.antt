@@ -1,0 +1,10 @@
+pub mod DdmTypes
+pub mod FlatModel
+pub mod TextModel
+pub mod Tried
+pub mod Machines
+pub mod Claims
+pub mod TurnClaims
+pub mod Explored
+pub mod Computing
+pub mod Examples
