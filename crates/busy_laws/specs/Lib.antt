@@ -1,0 +1,3 @@
+pub mod DdmTypes
+pub mod FlatModel
+pub mod Reasons
