@@ -1,0 +1,3 @@
+pub mod FlatModel
+pub mod Between
+pub mod Failing

@@ -1,0 +1,5 @@
+-- Of `flat_model`, what this crate and those above it name.
+pub use Rattle.tree_model.specs.FlatModel.Flat
+pub use Rattle.tree_model.specs.FlatModel.Hart
+pub use Rattle.tree_model.specs.FlatModel.Legal
+pub use Rattle.tree_model.specs.FlatModel.declared

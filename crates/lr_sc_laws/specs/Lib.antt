@@ -1,0 +1,4 @@
+pub mod DdmTypes
+pub mod FlatModel
+pub mod Between
+pub mod Failing
