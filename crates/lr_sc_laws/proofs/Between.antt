@@ -20,7 +20,7 @@ use Rattle.lr_sc_laws.proofs.FlatModel.Items.{item_at_word}
 use Rattle.lr_sc_laws.proofs.FlatModel.Reserving.{reservation_is}
 use Rattle.lr_sc_laws.proofs.FlatModel.Runs.{legal_run_append}
 use Rattle.lr_sc_laws.proofs.FlatModel.Steps.{same_change}
-use Rattle.lr_sc_laws.specs.Between.{is_lr_or_sc, IsNoOwnPair, IsNoOtherStore, HasItsLr, EachScHasItsLr}
+use Rattle.lr_sc_laws.specs.Between.{is_lr_or_sc, IsNoOwnPair, IsNoOtherStore, HasItsLr, LegalScsHaveTheirLr}
 
 reserved-is : (r : Option ℕ) (x : ℕ) → has_reserved r x ≡ true → r ≡ Some x
 reserved-is None x h = absurd (true≢false (sym h))
@@ -159,10 +159,10 @@ module _ (code : List CodeWord) (items : ItemTable) (start : Start) (words : Lis
     by_run None ran l = absurd (true≢false (sym l))
     by_run (Some y) ran l = by_step y ran (legal_step code items y s) refl l
 
-pub each-sc : EachScHasItsLr
-each-sc code items start words whole earlier later s address was word legal is = of_list (comes items s.hart at.0 earlier None at.2) where
+pub each-sc : LegalScsHaveTheirLr
+each-sc code items start words whole ops legal earlier later s address was word are is = of_list (comes items s.hart at.0 earlier None at.2) where
   at : (x : ℕ) × (item_at items address ≡ Some x) × (reservation items s.hart None earlier ≡ Some x)
-  at = at-sc code items start words whole earlier later s address was word legal is
+  at = at-sc code items start words whole earlier later s address was word (subst (Legal code items (flat_start start words)) are legal) is
 
   of_list : Comes items s.hart at.0 None earlier → HasItsLr items earlier s.hart address
   of_list (inl l) = record {

@@ -48,7 +48,10 @@ pub record HasItsLr (items : ItemTable) (earlier : List Op) (h address : ℕ) : 
   pub own : AllByRecursion (IsNoOwnPair h) between
   pub others : AllByRecursion (IsNoOtherStore items h item) between
 
--- so it is of each SC that stores, in each legal list from a start
-abbrev pub EachScHasItsLr : Type 0
-EachScHasItsLr = (code : List CodeWord) (items : ItemTable) (start : Start) (words : List (List ℕ)) → HasWholeWords items → (earlier later : List Op) (s : Op) (address was word : ℕ)
-    → Legal code items (flat_start start words) (earlier ++ s ∷ later) → s.effect ≡ ScOk address was word → HasItsLr items earlier s.hart address
+-- so it is of each SC that stores
+abbrev pub EachScHasItsLr : ItemTable → List Op → Type 0
+EachScHasItsLr items ops = (earlier later : List Op) (s : Op) (address was word : ℕ) → ops ≡ earlier ++ s ∷ later → s.effect ≡ ScOk address was word → HasItsLr items earlier s.hart address
+
+-- in each legal list from a start
+abbrev pub LegalScsHaveTheirLr : Type 0
+LegalScsHaveTheirLr = (code : List CodeWord) (items : ItemTable) (start : Start) (words : List (List ℕ)) → HasWholeWords items → (ops : List Op) → Legal code items (flat_start start words) ops → EachScHasItsLr items ops
