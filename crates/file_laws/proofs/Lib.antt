@@ -1,3 +1,4 @@
+pub mod ScheduleLog
 pub mod Trees
 pub mod Images
 pub mod Schedules

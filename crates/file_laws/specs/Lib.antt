@@ -1,3 +1,5 @@
+pub mod ScheduleLog
+pub mod TreeConfig
 pub mod BusLaws
 pub mod DdmTypes
 pub mod TextModel

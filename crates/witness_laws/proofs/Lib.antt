@@ -2,3 +2,4 @@ pub mod OrderLaws
 pub mod OrderLists
 pub mod TreeModel
 pub mod Printed
+pub mod OfFiles

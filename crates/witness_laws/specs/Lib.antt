@@ -8,3 +8,4 @@ pub mod TreeModel
 pub mod TreeRules
 pub mod Judgements
 pub mod Printed
+pub mod OfFiles

@@ -1,6 +1,7 @@
 //! What holds of every run, as theorems: each clause is one, and there is nothing to run.
 
 ghost use Rattle.witness_laws.specs.Judgements.{NumbersAreOfAcceptedTexts, RefusalsAreSo};
+ghost use Rattle.witness_laws.specs.OfFiles.{WitnessesOfFilesAreChecked};
 ghost use Rattle.witness_laws.specs.Printed.{PrintedWitnessesAreAccepted, PrintedWitnessesAreJudgedLegal, ReportsEndWithTheWitness};
 
 /// The report of a run ends with the lines of its operations, and these are accepted as a witness for the same tree and image: for
@@ -16,4 +17,10 @@ pub fn printed_witness_is_accepted()
 pub fn judgements_are_right()
     ensures numbers { NumbersAreOfAcceptedTexts }
     ensures refusals { RefusalsAreSo }
+{}
+
+/// The witness of a run of accepted files, on the turns of a schedule or of a seed, is accepted for the same files: nothing else is
+/// asked of them.
+pub fn witnesses_of_files_are_checked()
+    ensures { WitnessesOfFilesAreChecked }
 {}
