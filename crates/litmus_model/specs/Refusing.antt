@@ -1,5 +1,5 @@
 -- Steps that may refuse a file, and the refusal of a line.
-use Rattle.std.specs.Prelude.{ℕ, Bool, Result, Ok, Err, if◌then◌else◌}
+use Rattle.std.specs.Prelude.{ℕ, Result, Ok, Err}
 use Rattle.litmus_model.specs.declared.refusal.Fault.{Fault}
 use Rattle.litmus_model.specs.declared.refusal.TestRefusal.{TestRefusal}
 use Rattle.litmus_model.specs.declared.refusal.TestRefusal.TheVariants.{InLine}
@@ -19,6 +19,3 @@ judged >>= step = and_then judged step
 
 abbrev pub refused : {A : Type 0} → ℕ → Fault → Judged A
 refused line fault = Err (InLine line fault)
-
-abbrev pub ok_if : {A : Type 0} → Bool → A → TestRefusal → Judged A
-ok_if b a r = if b then Ok a else Err r
