@@ -1,0 +1,17 @@
+pub mod TestParts
+pub mod Refusing
+pub mod Bytes
+pub mod Comments
+pub mod Tokens
+pub mod Words
+pub mod Mnemonics
+pub mod Operands
+pub mod Steps
+pub mod Program
+pub mod Init
+pub mod Condition
+pub mod Sections
+pub mod Test
+pub mod Image
+pub mod Computing
+pub mod Examples
