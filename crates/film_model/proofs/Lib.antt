@@ -1,1 +1,4 @@
+pub mod Markup
+pub mod ReportMarkup
+pub mod FilmMarkup
 pub mod Replay

@@ -1,6 +1,11 @@
 //! What holds of all films, as theorems: each clause is one, and there is nothing to run.
 
 ghost use Rattle.std.specs.Prelude.{◌≡◌, List, map, true};
+ghost use Rattle.film_model.specs.DdmTypes.declared.turns.Turn.{Turn};
+ghost use Rattle.film_model.specs.TreeModel.State.Values.{MachineValue};
+ghost use Rattle.film_model.specs.TreeModel.Start.Sources.{TreeValue};
+ghost use Rattle.film_model.specs.Film.{film_of};
+ghost use Rattle.film_model.specs.Markup.{HasNoMarkup};
 ghost use Rattle.film_model.specs.Part.{Part, changes};
 ghost use Rattle.film_model.specs.Replay.{has_keys_once, part_key, replayed};
 
@@ -9,4 +14,9 @@ pub fn changes_are_all()
     ensures { (before after : List Part) → has_keys_once before ≡ true
         → map part_key before ≡ map part_key after
         → replayed (changes before after) before ≡ after }
+{}
+
+/// No byte of a film is `&`, `<` or `>`: a page can hold it as it is.
+pub fn films_have_no_markup()
+    ensures { (tree : TreeValue) (turns : List Turn) (m : MachineValue) → HasNoMarkup (film_of tree turns m) }
 {}
