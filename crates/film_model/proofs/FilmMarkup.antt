@@ -1,6 +1,6 @@
 -- Films have no markup.
 -- Letters: p is a part, v a leaf, d a directory, m a machine, x an item.
-use Rattle.std.proofs.Common.{◌≡◌, ℕ, ◌+◌, Bool, true, false, cond, nat_eq, List, [], ◌∷◌, ◌++◌, drop, take, length, map, filter, Option, Some, None, decimal, bytes_eq, refl}
+use Rattle.std.proofs.Common.{ℕ, ◌+◌, Bool, true, false, cond, nat_eq, List, [], ◌∷◌, ◌++◌, drop, take, length, map, filter, Option, Some, None, decimal, bytes_eq, refl}
 use Rattle.std.specs.Prelude.{codes, flat_map}
 use Rattle.std.specs.List.{range_with_len}
 use Rattle.film_model.specs.DdmTypes.ItemTable.{ItemRow, item_count}
@@ -27,7 +27,7 @@ use Rattle.film_model.specs.Leaf.{stopped_text, register_text, entry_words, way_
 use Rattle.film_model.specs.Directory.{hold_text, set_text, note_text, answering_text, dir_item_text, told_stamp, down_words, down_text, count_text, dir_parts}
 use Rattle.film_model.specs.Still.{parts_or_none, bus_parts, place_text, place_part, still}
 use Rattle.film_model.specs.Film.{tree_line, sizes_line, writable_text, item_line, item_lines, head_of, turn_film, turns_film, film_of}
-use Rattle.film_model.proofs.Markup.{Unmarked, text, nothing, ◌▹◌, each, number, two_digits, eight_digits}
+use Rattle.film_model.proofs.Markup.{Unmarked, text, nothing, ◌▹◌, each, number, eight_digits}
 use Rattle.film_model.proofs.ReportMarkup.{space, line_feed, halt, kind, letter, words, trace, report}
 
 -- ---- lists of parts whose lines have none

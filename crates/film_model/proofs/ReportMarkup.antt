@@ -1,5 +1,5 @@
 -- Reports and lines of traces have no markup.
-use Rattle.std.proofs.Common.{◌≡◌, ℕ, ◌+◌, ◌*◌, Bool, true, false, cond, nat_eq, List, [], ◌∷◌, ◌++◌, drop, take, Option, Some, None, decimal, refl}
+use Rattle.std.proofs.Common.{ℕ, ◌+◌, ◌*◌, Bool, true, false, cond, nat_eq, List, [], ◌∷◌, ◌++◌, drop, take, Option, Some, None, decimal, refl}
 use Rattle.std.specs.Prelude.{codes}
 use Rattle.film_model.specs.DdmText.Hex.{hex8}
 use Rattle.film_model.specs.DdmTypes.declared.operations.HaltCause.{HaltCause}
