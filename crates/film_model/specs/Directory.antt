@@ -57,17 +57,24 @@ count_text n = if nat_eq n 0 then [] else number_text n
 
 -- ---- parts
 
-abbrev dir_part : ℕ → ℕ → ℕ → DirItem → Part
+abbrev pub dir_part : ℕ → ℕ → ℕ → DirItem → Part
 dir_part bus count x i = record { key = item_key_of (codes "dir") bus x; value = dir_item_text count i }
 
--- with so many children
-unfoldable pub dir_parts : ℕ → DirValue → List Part
-dir_parts count d =
+-- of the time, and of every item, with so many children
+abbrev pub kept_parts : ℕ → DirValue → List Part
+kept_parts count d =
     record { key = key_of (codes "time") d.bus; value = stamp_text (stamp_numbers d.level (stamp_of d)) }
     ∷ numbered (dir_part d.bus count) 0 d.items
-    ++ record { key = key_of (codes "down") d.bus; value = listed (down_text d.level) d.down }
+
+-- of what waits in its lists
+abbrev pub dir_list_parts : DirValue → List Part
+dir_list_parts d =
+    record { key = key_of (codes "down") d.bus; value = listed (down_text d.level) d.down }
     ∷ record { key = key_of (codes "requests") d.bus; value = listed request_text d.requests }
     ∷ record { key = key_of (codes "replies") d.bus; value = listed copy_text d.replies }
     ∷ record { key = key_of (codes "parked") d.bus; value = listed copy_text d.parked }
     ∷ record { key = key_of (codes "kept") d.bus; value = count_text d.reserved }
     ∷ []
+
+unfoldable pub dir_parts : ℕ → DirValue → List Part
+dir_parts count d = kept_parts count d ++ dir_list_parts d

@@ -56,21 +56,31 @@ reservation_text (Some x) = number_text x
 
 -- ---- parts
 
-abbrev register_part : ℕ → ℕ → ℕ → Part
+abbrev pub register_part : ℕ → ℕ → ℕ → Part
 register_part leaf number word = record { key = item_key_of (codes "reg") leaf number; value = register_text word }
 
-abbrev entry_part : ℕ → ℕ → Option WayValue → Part
+abbrev pub entry_part : ℕ → ℕ → Option WayValue → Part
 entry_part leaf x way = record { key = item_key_of (codes "entry") leaf x; value = way_text way }
 
--- of registers 1 to 31, and of every item
-unfoldable pub leaf_parts : LeafValue → List Part
-leaf_parts v =
+-- of its hart, with registers 1 to 31
+abbrev pub hart_parts : LeafValue → List Part
+hart_parts v =
     record { key = key_of (codes "pc") v.number; value = codes " " ++ hex8 v.hart.pc }
     ∷ record { key = key_of (codes "halt") v.number; value = stopped_text v.hart.halt }
     ∷ numbered (register_part v.number) 1 (drop 1 v.hart.registers)
-    ++ numbered (entry_part v.number) 0 v.ways
-    ++ record { key = key_of (codes "buffer") v.number; value = listed buffer_text v.buffer }
+
+-- of every item
+abbrev pub entry_parts : LeafValue → List Part
+entry_parts v = numbered (entry_part v.number) 0 v.ways
+
+-- of what waits in it, and of its hart's reservation
+abbrev pub leaf_list_parts : LeafValue → List Part
+leaf_list_parts v =
+    record { key = key_of (codes "buffer") v.number; value = listed buffer_text v.buffer }
     ∷ record { key = key_of (codes "slot") v.number; value = slot_text v.slot }
     ∷ record { key = key_of (codes "leafreplies") v.number; value = listed copy_text v.replies }
     ∷ record { key = key_of (codes "reserved") v.number; value = reservation_text v.reservation }
     ∷ []
+
+unfoldable pub leaf_parts : LeafValue → List Part
+leaf_parts v = hart_parts v ++ entry_parts v ++ leaf_list_parts v

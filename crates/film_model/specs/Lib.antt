@@ -7,5 +7,6 @@ pub mod Directory
 pub mod Still
 pub mod Film
 pub mod Replay
+pub mod Markup
 pub mod Examples
 pub mod Computing

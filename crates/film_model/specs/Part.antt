@@ -42,7 +42,7 @@ numbered part x (e ∷ es) = part x e ∷ numbered part (x + 1) es
 
 -- ---- lines of parts
 
-abbrev has_value : Part → Bool
+abbrev pub has_value : Part → Bool
 has_value p = not (bytes_eq p.value [])
 
 -- of those that have a value

@@ -16,7 +16,7 @@ use Rattle.film_model.specs.Directory.{dir_parts}
 
 -- ---- buses
 
-abbrev parts_or_none : Option (List Part) → List Part
+abbrev pub parts_or_none : Option (List Part) → List Part
 parts_or_none None = []
 parts_or_none (Some parts) = parts
 
