@@ -1,7 +1,6 @@
 //! The calls that read, judge and print files and texts, as tests: how they are used, and that those that take memory succeed where there is enough.
 #![tactic(auto)]
 
-#[cfg(test)]
 pub mod of_ddm_outside;
 pub mod of_ddm_text;
 pub mod of_ddm_types;
@@ -9,6 +8,7 @@ pub mod of_operation_list;
 pub mod of_tree_config;
 pub mod of_tree_model;
 pub mod of_witness_order;
+#[cfg(test)]
 mod with_ddm_outside;
 #[cfg(test)]
 mod with_ddm_text;
