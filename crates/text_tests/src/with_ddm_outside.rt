@@ -100,10 +100,13 @@ fn a_file_shelf_reads_a_file_of_the_system(rt: HostRuntime) -> Result<(), Fail> 
     let front = read_from(&mut shelf, name.as_str(), 2, &mut into);
     let past = read_from(&mut shelf, name.as_str(), 18, &mut [0u8; 6]);
     fs::remove_file(&rt, name.as_str())?;
-    let gone = read_from(&mut shelf, name.as_str(), 0, &mut [0u8; 6]);
+    let still_open = read_from(&mut shelf, name.as_str(), 12, &mut [0u8; 6]);
+    let mut other = FileShelf::new(&rt);
+    let gone = read_from(&mut other, name.as_str(), 0, &mut [0u8; 6]);
     assert_eq!(rt; front, Ok(6));
     assert_eq!(rt; into.as_slice(), b"file o".as_slice());
     assert_eq!(rt; past, Ok(0));
+    assert_eq!(rt; still_open, Ok(6));
     assert_eq!(rt; gone, Err(Failed));
     Ok(())
 }
