@@ -40,7 +40,8 @@ impl<F: Read + Seek> OpenedFile<F> {
         ensures bound { IfOk result (λ n. n ≤ length into.new) }
 
         // Where it stands there already, it gives what is left, and stands behind it.
-        ensures next { self.old.place ≡ Some at → ReadConsumes (F.remaining self.old.file) (F.remaining self.new.file) result into.new }
+        ensures next { self.old.place ≡ Some at
+            → ReadConsumes (F.remaining self.old.file) (F.remaining self.new.file) result into.new }
         ensures behind { IfOk result (λ n. at + n < 2 ^ 64 → self.new.place ≡ Some (at + n)) }
     {
         if self.place != Some(at) {
