@@ -4,16 +4,20 @@ ghost use Rattle.std.specs.Prelude.{◌≡◌, ◌<◌, ◌≤◌, None, IfOk, O
 ghost use Rattle.ddm_outside.specs.Causes.{raised, HasCause};
 ghost use Rattle.ddm_outside.specs.Telling.{ReadsTold};
 
+use crate::opened_file::OpenedFile;
+use crate::opened_files::OpenedFiles;
 use crate::{Failed, Shelf};
-use std::fs;
-use std::io::{Read, Seek, SeekFrom};
+use std::io;
 use std::rt::Files;
 
-/// The files of the system, by their paths. It tells nothing of them, and all names share one count of
-/// the reads that failed. The count stays at its last value.
+/// The files of the system, by their paths. A file is opened at the first read of its name and stays
+/// open, so a pipe or another stream is read like a file, from the front on and once: named again, it
+/// can't go back to its front, and that read fails. The shelf tells nothing of the files, and all names
+/// share one count of the reads that failed. The count stays at its last value.
 #[derive(Drop)]
 pub struct FileShelf<'a, R: Files> {
     rt: &'a R,
+    open: OpenedFiles<R::File>,
     faults: u64,
 }
 
@@ -24,16 +28,26 @@ impl<'a, R: Files> FileShelf<'a, R> {
     pub fn new(rt: &'a R) -> Self
         ensures { count_of result ≡ 0 }
     {
-        FileShelf { rt, faults: 0 }
+        FileShelf {
+            rt,
+            open: OpenedFiles::new(),
+            faults: 0,
+        }
     }
 
-    fn read_at(&self, name: &str, at: u64, into: &mut [u8]) -> std::io::Result<usize>
+    // A file that isn't open is opened. One whose first read fails stays open too, and fails again.
+    fn read_at(&mut self, name: &str, at: u64, into: &mut [u8]) -> io::Result<usize>
         requires { 0 < length into.old }
-        ensures { IfOk result (λ n. n ≤ length into.new) }
+        ensures bound { IfOk result (λ n. n ≤ length into.new) }
+        ensures uncounted { count_of self.new ≡ count_of self.old }
     {
-        let mut file = fs::open(self.rt, name)?;
-        file.seek(SeekFrom::Start(at))?;
-        file.read(into)
+        if let Some(read) = self.open.read(name, at, into) {
+            return read;
+        }
+        let mut file = OpenedFile::open(self.rt, name)?;
+        let answer = file.read_at(at, into);
+        self.open.keep(file);
+        answer
     }
 }
 

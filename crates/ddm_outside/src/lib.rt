@@ -9,6 +9,8 @@ mod named_file;
 mod named_files;
 pub mod of_ddm_text;
 pub mod of_ddm_types;
+mod opened_file;
+mod opened_files;
 mod outside;
 mod sound_shelf;
 mod sound_sink;

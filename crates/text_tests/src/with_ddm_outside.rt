@@ -8,8 +8,10 @@ use crate::of_ddm_outside::{
 };
 use crate::of_ddm_text::Text;
 use std::alloc::Global;
-use std::fs;
+use std::io::Write;
+use std::os::fd::AsRawFd;
 use std::test::Fail;
+use std::{fs, io};
 
 fn read_from<F: Shelf>(files: &mut F, name: &str, at: u64, into: &mut [u8]) -> Result<usize, Failed>
     requires { 0 < length into.old }
@@ -100,11 +102,58 @@ fn a_file_shelf_reads_a_file_of_the_system(rt: HostRuntime) -> Result<(), Fail> 
     let front = read_from(&mut shelf, name.as_str(), 2, &mut into);
     let past = read_from(&mut shelf, name.as_str(), 18, &mut [0u8; 6]);
     fs::remove_file(&rt, name.as_str())?;
-    let gone = read_from(&mut shelf, name.as_str(), 0, &mut [0u8; 6]);
+    let still_open = read_from(&mut shelf, name.as_str(), 12, &mut [0u8; 6]);
+    let mut other = FileShelf::new(&rt);
+    let gone = read_from(&mut other, name.as_str(), 0, &mut [0u8; 6]);
     assert_eq!(rt; front, Ok(6));
     assert_eq!(rt; into.as_slice(), b"file o".as_slice());
     assert_eq!(rt; past, Ok(0));
+    assert_eq!(rt; still_open, Ok(6));
     assert_eq!(rt; gone, Err(Failed));
+    Ok(())
+}
+
+#[test]
+fn a_file_shelf_reads_a_file_again_from_its_front(rt: HostRuntime) -> Result<(), Fail> {
+    let alloc = rt.alloc();
+    let name = format!(in alloc; "/tmp/ddm_outside_again_{}", std::process::id(rt.process()))?;
+    fs::write(&rt, name.as_str(), b"a file")?;
+    let mut shelf = FileShelf::new(&rt);
+    let mut into = [0u8; 8];
+    let first = read_from(&mut shelf, name.as_str(), 0, &mut into);
+    let end = read_from(&mut shelf, name.as_str(), 6, &mut into);
+    let again = read_from(&mut shelf, name.as_str(), 2, &mut into);
+    fs::remove_file(&rt, name.as_str())?;
+    assert_eq!(rt; first, Ok(6));
+    assert_eq!(rt; end, Ok(0));
+    assert_eq!(rt; again, Ok(4));
+    assert_eq!(rt; into[..4], b"file"[..]);
+    Ok(())
+}
+
+#[test]
+fn a_file_shelf_reads_a_pipe_once(rt: HostRuntime) -> Result<(), Fail> {
+    let (reader, mut writer) = io::pipe(&rt)?;
+    let name = format!(in rt.alloc(); "/dev/fd/{}", reader.as_raw_fd())?;
+    let mut shelf = FileShelf::new(&rt);
+    let mut into = [0u8; 8];
+    writer.write_all(b"a pipe's b")?;
+    assert_eq!(rt; read_from(&mut shelf, name.as_str(), 0, &mut into), Ok(8));
+    assert_eq!(rt; into.as_slice(), b"a pipe's".as_slice());
+    writer.write_all(b"ytes")?;
+    drop(writer);
+    assert_eq!(rt; read_from(&mut shelf, name.as_str(), 8, &mut into), Ok(6));
+    assert_eq!(rt; into[..6], b" bytes"[..]);
+    assert_eq!(rt; read_from(&mut shelf, name.as_str(), 14, &mut into), Ok(0));
+    assert_eq!(rt;
+        read_from(&mut shelf, name.as_str(), 0, &mut into),
+        Err(Failed)
+    );
+    assert_eq!(rt;
+        read_from(&mut shelf, name.as_str(), 0, &mut into),
+        Err(Failed)
+    );
+    assert_eq!(rt; read_from(&mut shelf, name.as_str(), 14, &mut into), Ok(0));
     Ok(())
 }
 
