@@ -24,6 +24,8 @@ about_text about.Help = lines_of (
     codes "                                   the report of a run that goes on from a checkpoint" ∷
     codes "  ddm outcomes IMAGE TREE FIRST COUNT TURNS" ∷
     codes "                                   what the runs of many seeds come to" ∷
+    codes "  ddm record IMAGE TREE KIND SEED TURNS" ∷
+    codes "                                   the schedule of the turns of a seed that do something" ∷
     codes "  ddm help COMMAND                 more of one of these" ∷
     codes "  ddm --help, ddm --version" ∷
     [])
@@ -74,4 +76,10 @@ about_text about.Outcomes = lines_of (
     codes "Runs the seeded schedules of COUNT seeds from FIRST on, of TURNS turns each, and prints each different outcome:" ∷
     codes "how many seeds gave it, the smallest of these, and of each hart how it ended and what it put out." ∷
     codes "FIRST has 64 bits, COUNT is 1 to 1000000, TURNS is 0 to 1048576." ∷
+    [])
+about_text about.Record = lines_of (
+    codes "ddm record IMAGE TREE KIND SEED TURNS" ∷
+    codes "Makes the turns of a seed, and prints the schedule of those that do something, until there are TURNS of them, every hart" ∷
+    codes "has halted, or 16777216 turns in a row did nothing. KIND is even, or skewed: each turn of the tree has a rate of the seed's." ∷
+    codes "SEED has 64 bits, TURNS is 0 to 1048576." ∷
     [])
