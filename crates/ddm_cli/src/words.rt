@@ -1,6 +1,6 @@
 ghost use Rattle.std.specs.Prelude.{◌≡◌, ◌≤◌, ◌<◌, ◌*◌, ◌+◌, map, length, Err, IfOk, IfSome, IsOk, MatchResult, None, Ok, Some, option_and_then, slice_get};
 ghost use Rattle.std.specs.String.{string_bytes};
-ghost use Rattle.ddm_cli.specs.Commands.{IsInRange, about_named, command_of, ends_at, file_check, file_resume, file_run, help_said, made_run, number_in, seed_list, seed_run, seeds_survey, to_say};
+ghost use Rattle.ddm_cli.specs.Commands.{IsInRange, about_named, command_of, ends_at, file_check, file_resume, file_run, help_said, kind_named, made_run, number_in, seed_list, seed_record, seed_run, seeds_survey, to_say};
 ghost use Rattle.ddm_cli.specs.Views.{command_from};
 
 use crate::command::{
