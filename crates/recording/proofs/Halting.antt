@@ -90,7 +90,7 @@ pub leaves-kept : (t : Turn) (m : MachineValue) → (tree_counts (turn_of t m).m
 leaves-kept t m = ap (λ f. length (leaf_numbers_of f.bones [])) (turn-frame t m)
 
 pub same-flags : (flags : List Bool) (all : Bool) (m k : MachineValue) → flags_of k ≡ flags_of m → AreHalted flags all m → AreHalted flags all k
-same-flags flags all m k same are = record { each = are.each ∙ sym same; all = are.all ∙ all-flags m ∙ ap all_set (sym same) ∙ sym (all-flags k) }
+same-flags flags all m k same are = record { each = are.each ∙ sym same; every = are.every ∙ all-flags m ∙ ap all_set (sym same) ∙ sym (all-flags k) }
 
 module _ (t : Turn) (m : MachineValue) (flags : List Bool) (all : Bool) (are : AreHalted flags all m) where
   by_answer : (a : TurnAnswer) → (turn_of t m).answer ≡ a → does_halt a (had_halted t m) ≡ false → AreHalted flags all (turn_of t m).machine

@@ -56,7 +56,7 @@ flags_of m = map has_halted (machine_leaves m)
 -- these are so of the machine, and whether all have halted
 pub record AreHalted (flags : List Bool) (all : Bool) (m : MachineValue) : Type 0 where
   pub each : flags ≡ flags_of m
-  pub all : all ≡ all_halted m
+  pub every : all ≡ all_halted m
 
 -- the flag of the hart whose turn it is; a bus has none
 abbrev pub flag_of : Turn → List Bool → Bool

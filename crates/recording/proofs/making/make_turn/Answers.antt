@@ -43,7 +43,7 @@ pub returns-then-does_halt-clause-after : goal.returns-then-does_halt-clause-aft
 returns-then-does_halt-clause-after g c = c.turn_into.ensures.after ∙ ap (state_after c.args.turn.now) (c.passes.ensures.same c.if-passes.false)
 
 pub returns-then-does_halt-clause-halted : goal.returns-then-does_halt-clause-halted
-returns-then-does_halt-clause-halted g c = record { each = c.put_flags.ensures.flags; all = c.put_flags.ensures.all }
+returns-then-does_halt-clause-halted g c = record { each = c.put_flags.ensures.flags; every = c.put_flags.ensures.all }
 
 pub returns-clause-does : goal.returns-clause-does
 unfolding does_something
