@@ -39,7 +39,7 @@ pub note-requires : goal.note-requires
 note-requires g c =
     let i = c.recording.invariant in
     let on = is-on c.recording.progress c.recording.draws.left c.recording.machine.machine i.run.drawn c.recording.all i.run.idle i.halted.every (sym c.in_default.ensures) in
-    (on.left, on.idle, on.draws)
+    record { left = on.left; idle = on.idle; draws = on.draws }
 
 pub recording-preserved : goal.recording-preserved
 recording-preserved g c =
@@ -61,8 +61,8 @@ recording-preserved g c =
       room = rw (c.keep_turn.ensures.items, c.note.ensures) (room-kept did c.recording.turns.items d.turn p.left (vec_capacity c.recording.turns) (vec_capacity c.keep_turn.new.turns) on.left i.room c.keep_turn.ensures.capacity);
     }
 
-pub decreases-recording-falls : goal.decreases-recording-falls
-decreases-recording-falls g c =
+pub recording-smaller : goal.recording-smaller
+recording-smaller g c =
     let i = c.recording.invariant in
     let on = is-on c.recording.progress c.recording.draws.left c.recording.machine.machine i.run.drawn c.recording.all i.run.idle i.halted.every (sym c.in_default.ensures) in
     omega (arith, on.draws, ap (λ q. q.draws) c.note.ensures)
