@@ -1,4 +1,4 @@
-use Rattle.std.proofs.Common.{◌≡◌, ◌∙◌, ◌<◌, ◌≤◌, length, length-set, ap, arith, rules}
+use Rattle.std.proofs.Common.{◌∙◌, ◌<◌, ◌≤◌, length-set, ap, arith, rules}
 use Rattle.std.specs.Prelude.{is_some}
 use Rattle.tree_model.specs.State.Shape.{tree_counts}
 use Rattle.any_runs.proofs.DdmTree.LeafList.{leaf-there}

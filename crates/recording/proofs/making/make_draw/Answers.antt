@@ -1,4 +1,4 @@
-use Rattle.std.proofs.Common.{◌≡◌, ◌≤◌, ◌+◌, Bool, sym, subst, if◌then◌else◌}
+use Rattle.std.proofs.Common.{◌≤◌, ◌+◌, Bool, sym, subst, if◌then◌else◌}
 use Rattle.tree_model.specs.Turns.Machine.{turn_of}
 use Rattle.any_runs.specs.DdmTree.Machine.{MachineState}
 use Rattle.recording_model.specs.Doing.{does_something, had_halted}

@@ -1,8 +1,8 @@
-use Rattle.std.proofs.Common.{◌≡◌, ◌∙◌, length, ap, sym, subst, rules}
+use Rattle.std.proofs.Common.{◌∙◌, length, ap, sym, subst, rules}
 use Rattle.tree_model.specs.State.Shape.{tree_counts}
 use Rattle.tree_model.specs.Turns.Machine.{turn_of}
 use Rattle.any_runs.specs.DdmTree.Machine.{MachineState, state_after}
-use Rattle.recording_model.specs.Doing.{does_by, does_something, had_halted}
+use Rattle.recording_model.specs.Doing.{does_by, does_something}
 use Rattle.recording.specs.Runs.{AreHalted, does_halt, flag_of}
 use Rattle.recording.proofs.Halting.{flag-is, flags-counted, halting-does, leaves-kept, rests-halted, still-halted}
 use Rattle.recording.proofs.making.make_turn.Goals as goal

@@ -1,4 +1,4 @@
-use Rattle.std.proofs.Common.{◌≡◌, ◌∙◌, ◌+◌, ◌≤◌, ◌<◌, ◌++◌, ◌∷◌, [], length, vec_capacity, refl, sym, ap, subst, arith, if◌then◌else◌}
+use Rattle.std.proofs.Common.{◌∙◌, length, vec_capacity, refl, sym, ap, arith}
 use Rattle.tree_model.specs.State.Shape.{tree_counts}
 use Rattle.recording_model.specs.LetBy.{Draw}
 use Rattle.recording.proofs.Halting.{draw-leaves, flags-counted}

@@ -1,12 +1,11 @@
-use Rattle.std.proofs.Common.{◌≡◌, ◌∙◌, ◌++◌, length, ap, sym, subst, arith}
-use Rattle.tree_model.specs.State.Shape.{tree_counts}
+use Rattle.std.proofs.Common.{◌∙◌, ◌++◌, length, ap, sym, subst, arith}
 use Rattle.any_runs.specs.AnyMachine.Any.{machine_state}
 use Rattle.seed_draws.specs.Parts.{DrawsView}
 use Rattle.recording_model.specs.TextModel.Schedule.{ShapeView}
 use Rattle.recording_model.specs.LetBy.{seed_draws}
 use Rattle.recording_model.specs.Recording.{drawn_limit, recording_from, recording_of}
 use Rattle.recording.specs.Runs.{CanBegin, RecorderView}
-use Rattle.recording.proofs.Texts.{can-record, same-length}
+use Rattle.recording.proofs.Texts.{can-record}
 use Rattle.recording.proofs.recorder.Recorder.record.Goals as goal
 
 pub record_any-requires-clause-can : goal.record_any-requires-clause-can
