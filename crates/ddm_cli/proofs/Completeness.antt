@@ -18,11 +18,11 @@ use Rattle.ddm_cli.specs.TextModel.declared.ScheduleRefusal.{ScheduleRefusal}
 use Rattle.ddm_cli.specs.Causes.{HasNoSetting, HasSmallList, IsRefused, IsUnloaded, IsUnresumed, IsUnscheduled, IsUnstarted}
 use Rattle.witness_check.specs.Start.{Setting, check_of, judged}
 use Rattle.witness_check.specs.declared.refusal.CheckRefusal.{CheckRefusal}
-use Rattle.ddm_cli.specs.Commands.{Check, Command, Resumption, Run, Seeds, to_run, to_list, to_check, to_resume, to_survey, to_say, first_run}
+use Rattle.ddm_cli.specs.Commands.{Check, Command, Recorded, Resumption, Run, Seeds, to_run, to_list, to_check, to_resume, to_survey, to_record, to_say, first_run, recorded_run}
 use Rattle.ddm_cli.specs.Lists.{list_refused}
 use Rattle.ddm_cli.specs.Parts.{Parts, if_judged, if_large, if_started, items_of, parts_for, parts_in, parts_of, resumed_at, setting_at, setting_in, tree_at, turns_at, turns_of}
 use Rattle.ddm_cli.specs.Told.{ScheduleGiven, written, seeded, image_told, schedule_told}
-use Rattle.ddm_cli.specs.Top.{Both, command_text, list_of, outcomes_at, outcomes_of, rest_with, resumed_text, resumed_with, text_of, text_with, verdict_in, verdict_of, IsJudged, StatusHasCause, Completes, NoRest, NoRun, NotAccepted, NothingFailed, NoVerdict, RefusesImage, WithParts, WithResumed}
+use Rattle.ddm_cli.specs.Top.{Both, command_text, list_of, outcomes_at, record_at, rest_with, resumed_text, resumed_with, text_of, text_with, verdict_in, verdict_of, IsJudged, StatusHasCause, Completes, NoRest, NoRun, NotAccepted, NothingFailed, NoVerdict, RefusesImage, WithParts, WithResumed}
 use Rattle.ddm_cli.proofs.Settings.{start_refused}
 use Rattle.ddm_cli.specs.declared.command.Prints.{Prints}
 use Rattle.ddm_cli.specs.declared.command.Prints.TheVariants.{Report}
@@ -123,17 +123,17 @@ module _ (prints : Prints) where
       no_text (sym (rw nothing refl) ∙ has)
 
 -- the first seed of a survey has a report
-first_text : (o : Seeds) (tree image : List ℕ) (text : List ℕ) → outcomes_of o tree image ≡ Some text → (report : List ℕ) × (text_of Report tree image (seeded o.first o.turns) ≡ Some report)
+first_text : (at : Parts → List ℕ) (seed turns : ℕ) (tree image : List ℕ) (text : List ℕ) → option_map at (parts_of tree image) ≡ Some text → (report : List ℕ) × (text_of Report tree image (seeded seed turns) ≡ Some report)
 unfolding parts_for
-first_text o tree image text = by_parts (parts_of tree image) where
-  by_parts : (x : Option Parts) → option_map (outcomes_at o) x ≡ Some text → (report : List ℕ) × (option_and_then (text_with Report (seeded o.first o.turns)) (option_and_then (if_large Report) x) ≡ Some report)
+first_text at seed turns tree image text = by_parts (parts_of tree image) where
+  by_parts : (x : Option Parts) → option_map at x ≡ Some text → (report : List ℕ) × (option_and_then (text_with Report (seeded seed turns)) (option_and_then (if_large Report) x) ≡ Some report)
   by_parts None has = absurd (cc has)
   by_parts (Some p) has = (_, refl)
 
 -- where the files are told
-first_said : (t i : Option (List ℕ)) (o : Seeds) (tree image report : List ℕ) → t ≡ Some tree → i ≡ Some image → text_of Report tree image (seeded o.first o.turns) ≡ Some report
-    → option_and_then (λ tree. option_and_then (λ image. option_and_then (text_of Report tree image) (Some (seeded o.first o.turns))) i) t ≡ Some report
-first_said t i o tree image report is-tree is-image has = rw (is-tree, is-image) has
+first_said : (t i : Option (List ℕ)) (seed turns : ℕ) (tree image report : List ℕ) → t ≡ Some tree → i ≡ Some image → text_of Report tree image (seeded seed turns) ≡ Some report
+    → option_and_then (λ tree. option_and_then (λ image. option_and_then (text_of Report tree image) (Some (seeded seed turns))) i) t ≡ Some report
+first_said t i seed turns tree image report is-tree is-image has = rw (is-tree, is-image) has
 
 -- what holds of a tree that is told, and of a schedule with it
 tree_here : (t : Option (List ℕ)) (tree : List ℕ) (x : TreeRefusal) → t ≡ Some tree → IfSome t (λ f. tree_of f ≡ Err x) → tree_of tree ≡ Err x
@@ -383,9 +383,18 @@ module _ {F K : Type 0} (told : F → List ℕ → Option (List ℕ)) (faults : 
     survey_refused o text has calm =
         let tree = and_then_some (told files o.tree) _ text has in
         let image = and_then_some (told files o.image) _ text tree.2 in
-        let run = first_text o tree.0 image.0 text image.2 in
-        let said = first_said (told files o.tree) (told files o.image) o tree.0 image.0 run.0 tree.1 image.1 run.1 in
+        let run = first_text (outcomes_at o) o.first o.turns tree.0 image.0 text image.2 in
+        let said = first_said (told files o.tree) (told files o.image) o.first o.turns tree.0 image.0 run.0 tree.1 image.1 run.1 in
         run_refused Report (first_run o) run.0 said (calm.0, calm.1, λ rose. omega (arith, rose))
+
+    -- where there is a recorded run, a run of the same files has a text
+    record_refused : (r : Recorded) (text : List ℕ) → command_text (told files) (to_record r) ≡ Some text → NothingFailed told faults files files' (to_record r) → (s : Status) → NoRun told faults files files' Report s (recorded_run r) → s ≡ NoMemory
+    record_refused r text has calm =
+        let tree = and_then_some (told files r.tree) _ text has in
+        let image = and_then_some (told files r.image) _ text tree.2 in
+        let run = first_text (record_at r) r.seed r.turns tree.0 image.0 text image.2 in
+        let said = first_said (told files r.tree) (told files r.image) r.seed r.turns tree.0 image.0 run.0 tree.1 image.1 run.1 in
+        run_refused Report (recorded_run r) run.0 said (calm.0, calm.1, λ rose. omega (arith, rose))
 
     command_refused : (c : Command) (text : List ℕ) → command_text (told files) c ≡ Some text → NothingFailed told faults files files' c → (s : Status) → NotAccepted told faults files files' s c → s ≡ NoMemory
     command_refused (to_run prints r) text has calm = run_refused prints r text has calm
@@ -393,6 +402,7 @@ module _ {F K : Type 0} (told : F → List ℕ → Option (List ℕ)) (faults : 
     command_refused (to_check c) text has calm = check_refused c text has calm
     command_refused (to_resume r) text has calm = rest_refused r text has calm
     command_refused (to_survey o) text has calm = survey_refused o text has calm
+    command_refused (to_record r) text has calm = record_refused r text has calm
     command_refused (to_say a) text has calm = λ s refused. absurd refused
 
   pub completes : (words : List (List ℕ)) (files files' : F) (out out' : K) (status : Status) → StatusHasCause told faults held failures words files files' out out' status → Completes told faults held failures words files files' out out' status

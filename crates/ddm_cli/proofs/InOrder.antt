@@ -6,22 +6,23 @@ use Rattle.std.specs.Result.{result_ok}
 use Rattle.ddm_cli.specs.DdmTypes.declared.turns.Turn.{Turn}
 use Rattle.ddm_cli.specs.TreeModel.Start.Sources.{TreeValue, ImageValue}
 use Rattle.ddm_cli.specs.TreeModel.Start.Machine.{flat_start_of, start_machine, start_refusal}
-use Rattle.ddm_cli.specs.TextModel.Run.{EachOutputWitnessed, HasWitnessedOutput}
+use Rattle.ddm_cli.specs.TextModel.Run.{HasWitnessedOutput}
 use Rattle.ddm_cli.specs.TreeModel.State.Values.{MachineValue}
 use Rattle.ddm_cli.specs.TreeModel.Turns.Machine.{run_of}
 use Rattle.ddm_cli.proofs.DdmTree.RulesKept.{run-order}
 use Rattle.checkpoint.specs.Resumed.{Resumed}
 use Rattle.ddm_cli.proofs.TextModel.Outputs.{put_texts-same}
-use Rattle.ddm_cli.specs.TreeRules.Witness.{EachTurnWitnessed, IsWitnessed}
+use Rattle.ddm_cli.specs.TreeRules.Witness.{IsWitnessed}
 use Rattle.ddm_cli.specs.BusLaws.IsTree.{IsTree}
 use Rattle.ddm_cli.specs.ElfLoad.ElfFile.{image_of}
 use Rattle.ddm_cli.specs.ElfLoad.declared.refusal.ImageRefusal.{ImageRefusal}
 use Rattle.ddm_cli.specs.TreeConfig.TreeFile.{tree_of}
 use Rattle.ddm_cli.specs.TreeConfig.declared.refusal.TreeRefusal.{TreeRefusal}
-use Rattle.ddm_cli.specs.Commands.{Command, Seeds, to_run, to_list, to_check, to_resume, to_survey, to_say, command_of}
+use Rattle.ddm_cli.specs.RecordingModel.Recording.{recording_of}
+use Rattle.ddm_cli.specs.Commands.{Command, Recorded, Seeds, to_run, to_list, to_check, to_resume, to_survey, to_record, to_say, command_of}
 use Rattle.ddm_cli.specs.Parts.{Parts, if_started, parts_in, parts_of, resumed_at, tree_at, turns_at, turns_of}
 use Rattle.ddm_cli.specs.Told.{ScheduleGiven, image_told, schedule_told}
-use Rattle.ddm_cli.specs.Top.{Both, FilesInOrder, GoesOnInOrder, IsInOrder, OutcomesAreRuns, RestInOrder, RunsInOrder, RunIsWitnessed}
+use Rattle.ddm_cli.specs.Top.{Both, FilesInOrder, GoesOnInOrder, IsInOrder, OutcomesAreRuns, RecordedInOrder, RestInOrder, RunsInOrder, RunIsWitnessed, TurnsInOrder}
 use Rattle.ddm_cli.proofs.AcceptedTrees.{accepted_tree}
 use Rattle.ddm_cli.proofs.OutcomeModel.Legal.{outcomes-legal}
 use Rattle.ddm_cli.specs.ScheduleLog.Shapes.{shape_view}
@@ -58,13 +59,16 @@ both_taken tree image p = by_tree (tree_at tree) refl where
   by_tree None is e = cc
   by_tree (Some t) is e = parts_taken image t p (tree_taken tree t is) e
 
+whole_in_order : (p : Parts) → ArePartsTaken p → (turns : List Turn) → TurnsInOrder p turns
+whole_in_order p taken turns =
+    let runs = each_turn p.tree p.image taken.tree taken.accepted turns in
+    (runs, λ k h. put_texts-same h _ _ ((runs k).machine.own_order h))
+
 turns_in_order : (p : Parts) → ArePartsTaken p → (schedule : ScheduleGiven) → RunsInOrder schedule p
 turns_in_order p taken schedule = by_turns (turns_of p.tree.levels schedule) where
-  by_turns : (o : Option (List Turn)) → IfSome o (λ turns. EachTurnWitnessed (flat_start_of p.tree p.image) turns (start_machine p.tree p.image) × EachOutputWitnessed turns (start_machine p.tree p.image))
+  by_turns : (o : Option (List Turn)) → IfSome o (TurnsInOrder p)
   by_turns None = tt
-  by_turns (Some turns) =
-      let runs = each_turn p.tree p.image taken.tree taken.accepted turns in
-      (runs, λ k h. put_texts-same h _ _ ((runs k).machine.own_order h))
+  by_turns (Some turns) = whole_in_order p taken turns
 
 files_in_order : (tree image : List ℕ) (schedule : ScheduleGiven) → IfSome (parts_of tree image) (RunsInOrder schedule)
 files_in_order tree image schedule = by_parts (parts_of tree image) refl where
@@ -118,6 +122,14 @@ outcomes_in_order (Some t) (Some i) s = by_parts (parts_of t i) refl where
       let taken = both_taken t i p is in
       outcomes-legal p.tree p.image (start_machine p.tree p.image) taken.tree (starts p.tree p.image taken.accepted) (shape_view p.tree.levels) s.turns s.first s.count
 
+recorded_in_order : (tree image : Option (List ℕ)) (r : Recorded) → Both tree image (λ t i. IfSome (parts_of t i) (RecordedInOrder r))
+recorded_in_order None image r = tt
+recorded_in_order (Some t) None r = tt
+recorded_in_order (Some t) (Some i) r = by_parts (parts_of t i) refl where
+  by_parts : (o : Option Parts) → parts_of t i ≡ o → IfSome o (RecordedInOrder r)
+  by_parts None is = tt
+  by_parts (Some p) is = whole_in_order p (both_taken t i p is) (recording_of r.kind (shape_view p.tree.levels) r.seed r.turns (start_machine p.tree p.image)).turns
+
 pub in_order : {F : Type 0} (told : F → List ℕ → Option (List ℕ)) (words : List (List ℕ)) (files : F) → RunIsWitnessed told words files
 in_order {F} told words files = by_command (command_of words) where
   by_command : (r : Result Command ℕ) → IfOk r (IsInOrder told files)
@@ -126,5 +138,6 @@ in_order {F} told words files = by_command (command_of words) where
   by_command (Ok (to_check check)) = tt
   by_command (Ok (to_resume r)) = rest_in_order (told files r.tree) (told files r.image) (told files r.checkpoint) (told files r.schedule)
   by_command (Ok (to_survey s)) = outcomes_in_order (told files s.tree) (told files s.image) s
+  by_command (Ok (to_record r)) = recorded_in_order (told files r.tree) (told files r.image) r
   by_command (Ok (to_say about)) = tt
   by_command (Err k) = tt

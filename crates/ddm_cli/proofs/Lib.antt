@@ -33,4 +33,5 @@ pub mod Images
 pub mod Verdicts
 pub mod RunsInPieces
 pub mod Surveys
+pub mod Records
 pub mod Listed

@@ -145,6 +145,8 @@ own_text about.Help = lines_of (
     codes "                                   the report of a run that goes on from a checkpoint" ∷
     codes "  ddm outcomes IMAGE TREE FIRST COUNT TURNS" ∷
     codes "                                   what the runs of many seeds come to" ∷
+    codes "  ddm record IMAGE TREE KIND SEED TURNS" ∷
+    codes "                                   the schedule of the turns of a seed that do something" ∷
     codes "  ddm help COMMAND                 more of one of these" ∷
     codes "  ddm --help, ddm --version" ∷
     [])
@@ -210,6 +212,13 @@ own_text about.Outcomes = lines_of (
     codes "Runs the seeded schedules of COUNT seeds from FIRST on, of TURNS turns each," ∷
     codes "and prints each different outcome: how many seeds gave it, the smallest of" ∷
     codes "these, and of each hart how it ended and what it put out." ∷
+    [])
+own_text about.Record = lines_of (
+    codes "ddm record IMAGE TREE KIND SEED TURNS" ∷
+    codes "Makes the turns of a seed, and prints the schedule of those that do something," ∷
+    codes "until there are TURNS of them, every hart has halted, or 16777216 turns in a" ∷
+    codes "row did nothing. KIND is even, or skewed: each turn of the tree has a rate of" ∷
+    codes "the seed's." ∷
     [])
 
 -- what is said behind it, of each command

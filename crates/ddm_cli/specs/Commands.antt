@@ -4,6 +4,7 @@
 use Rattle.std.specs.Prelude.{ℕ, ◌+◌, ◌-◌, ◌*◌, ◌≤◌, min, nat_le, nat_lt, List, [], ◌∷◌, length, Result, Ok, Err, Option, Some, None, slice_get, option_and_then, if◌then◌else◌, bytes_eq, codes}
 use Rattle.std.specs.Result.{result_ok}
 use Rattle.ddm_cli.specs.DdmText.Numbers.{number_of}
+use Rattle.ddm_cli.specs.RecordingModel.declared.SeedKind.{SeedKind}
 use Rattle.ddm_cli.specs.declared.command.About.{About}
 use Rattle.ddm_cli.specs.declared.command.About.TheVariants as about
 use Rattle.ddm_cli.specs.declared.command.Prints.{Prints}
@@ -58,6 +59,15 @@ pub record Seeds : Type 0 where
   pub count : ℕ
   pub turns : ℕ
 
+-- whose recorded run is written: the files of an image and of a tree, the kind of the seed and the seed, and how many turns may be
+-- recorded
+pub record Recorded : Type 0 where
+  pub image : List ℕ
+  pub tree : List ℕ
+  pub kind : SeedKind
+  pub seed : ℕ
+  pub turns : ℕ
+
 pub data Command : Type 0 where
   -- to run a machine and print this of it
   to_run : Prints → Run → Command
@@ -69,6 +79,8 @@ pub data Command : Type 0 where
   to_resume : Resumption → Command
   -- to count the outcomes of many seeds
   to_survey : Seeds → Command
+  -- to write a recorded run
+  to_record : Recorded → Command
   -- to say something of the program itself
   to_say : About → Command
 
@@ -84,9 +96,16 @@ resumption_value image tree checkpoint schedule = record { image = image; tree =
 abbrev seeds_value : List ℕ → List ℕ → ℕ → ℕ → ℕ → Seeds
 seeds_value image tree first count turns = record { image = image; tree = tree; first = first; count = count; turns = turns }
 
+abbrev recorded_value : List ℕ → List ℕ → SeedKind → ℕ → ℕ → Recorded
+recorded_value image tree kind seed turns = record { image = image; tree = tree; kind = kind; seed = seed; turns = turns }
+
 -- the run of the first of them
 abbrev pub first_run : Seeds → Run
 first_run s = run_value (image_named s.image) s.tree (turns_seeded s.first s.turns)
+
+-- a run of the same files
+abbrev pub recorded_run : Recorded → Run
+recorded_run r = run_value (image_named r.image) r.tree (turns_seeded r.seed r.turns)
 
 -- a seed has 64 bits
 abbrev pub most_seeds : ℕ → ℕ
@@ -99,6 +118,7 @@ IsInRange (to_list tree seed count) = count ≤ 1048576
 IsInRange (to_check c) = Unit {0}
 IsInRange (to_resume r) = Unit {0}
 IsInRange (to_survey s) = (1 ≤ s.count) × (s.count ≤ 1000000) × (s.first + s.count ≤ 18446744073709551616) × (s.turns ≤ 1048576)
+IsInRange (to_record r) = r.turns ≤ 1048576
 IsInRange (to_say a) = Unit {0}
 
 -- ---- words in their order: the command that they say, or the index of the first word at fault or of the first that is missing
@@ -170,6 +190,16 @@ seeds_survey words =
     word_at words 1 (λ image. word_at words 2 (λ tree. seed_at words 3 (λ first. number_at words 4 1 (most_seeds first) (λ count. count_at words 5 (λ turns.
     ends_at words 6 (to_survey (seeds_value image tree first count turns)))))))
 
+-- the kind of a seed that a word says
+unfoldable pub kind_named : List ℕ → Option SeedKind
+kind_named word = if bytes_eq word (codes "even") then Some SeedKind.Even else (if bytes_eq word (codes "skewed") then Some SeedKind.Skewed else None)
+
+-- record IMAGE TREE KIND SEED TURNS
+unfoldable pub seed_record : List (List ℕ) → Result Command ℕ
+seed_record words =
+    word_at words 1 (λ image. word_at words 2 (λ tree. on_found 3 (option_and_then kind_named (slice_get words 3)) (λ kind. seed_at words 4 (λ seed. count_at words 5 (λ turns.
+    ends_at words 6 (to_record (recorded_value image tree kind seed turns)))))))
+
 -- the command of a name
 unfoldable pub about_named : List ℕ → Option About
 about_named name =
@@ -183,7 +213,8 @@ about_named name =
     else (if bytes_eq name (codes "save") then Some about.Save
     else (if bytes_eq name (codes "resume") then Some about.Resume
     else (if bytes_eq name (codes "outcomes") then Some about.Outcomes
-    else None)))))))))
+    else (if bytes_eq name (codes "record") then Some about.Record
+    else None))))))))))
 
 -- help COMMAND
 unfoldable pub help_said : List (List ℕ) → Result Command ℕ
@@ -201,10 +232,11 @@ named_command words name =
     else (if bytes_eq name (codes "save") then file_run Checkpoint words
     else (if bytes_eq name (codes "resume") then file_resume words
     else (if bytes_eq name (codes "outcomes") then seeds_survey words
+    else (if bytes_eq name (codes "record") then seed_record words
     else (if bytes_eq name (codes "help") then help_said words
     else (if bytes_eq name (codes "--help") then ends_at words 1 (to_say about.Help)
     else (if bytes_eq name (codes "--version") then ends_at words 1 (to_say about.Version)
-    else Err 0))))))))))))
+    else Err 0)))))))))))))
 
 -- ---- words that ask for help, and are just these
 

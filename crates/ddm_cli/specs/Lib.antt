@@ -26,6 +26,7 @@ pub mod Made
 pub mod Parts
 pub mod Printed
 pub mod Reads
+pub mod RecordingModel
 pub mod Refusals
 pub mod Told
 pub mod Top

@@ -30,7 +30,8 @@ use Rattle.ddm_cli.specs.Causes.{Accepts, HasNoSetting, HasSmallList, IsRefused,
 use Rattle.ddm_cli.specs.OutcomeModel.FlatOutcome.{IsLegalOutcome}
 use Rattle.ddm_cli.specs.OutcomeModel.Outcomes.{outcome_table, outcomes_text}
 use Rattle.ddm_cli.specs.OutcomeModel.Table.{OutcomeLine}
-use Rattle.ddm_cli.specs.Commands.{Check, Command, ImageFrom, Resumption, Run, Seeds, TurnsFrom, to_run, to_list, to_check, to_resume, to_survey, to_say, command_of, first_run}
+use Rattle.ddm_cli.specs.RecordingModel.Recording.{record_text, recording_of}
+use Rattle.ddm_cli.specs.Commands.{Check, Command, ImageFrom, Recorded, Resumption, Run, Seeds, TurnsFrom, to_run, to_list, to_check, to_resume, to_survey, to_record, to_say, command_of, first_run, recorded_run}
 use Rattle.ddm_cli.specs.Parts.{Parts, parts_for, parts_of, resumed_at, setting_at, tree_at, turns_at, turns_of}
 use Rattle.ddm_cli.specs.Printed.{Writes, legal_line, printed, resumed_report}
 use Rattle.ddm_cli.specs.Refusals.{build_line, checkpoint_line, image_line, small_lists_line, tree_line, tree_line_head, tree_line_rest, witness_line}
@@ -88,6 +89,13 @@ outcomes_at s p = outcomes_text (shape_view p.tree.levels) s.turns (start_machin
 abbrev pub outcomes_of : Seeds → List ℕ → List ℕ → Option (List ℕ)
 outcomes_of s tree image = option_map (outcomes_at s) (parts_of tree image)
 
+-- the recorded run of a seed on the machine of a tree and an image
+unfoldable pub record_at : Recorded → Parts → List ℕ
+record_at r p = record_text r.kind (shape_view p.tree.levels) r.seed r.turns (start_machine p.tree p.image)
+
+abbrev pub record_of : Recorded → List ℕ → List ℕ → Option (List ℕ)
+record_of r tree image = option_map (record_at r) (parts_of tree image)
+
 -- what a command prints, where its files are told and accepted
 abbrev pub command_text : (List ℕ → Option (List ℕ)) → Command → Option (List ℕ)
 command_text told (to_run prints r) =
@@ -99,6 +107,7 @@ command_text told (to_resume r) =
     option_and_then (λ tree. option_and_then (λ image. option_and_then (λ checkpoint.
     option_and_then (resumed_text tree image checkpoint) (told r.schedule)) (told r.checkpoint)) (told r.image)) (told r.tree)
 command_text told (to_survey s) = option_and_then (λ tree. option_and_then (outcomes_of s tree) (told s.image)) (told s.tree)
+command_text told (to_record r) = option_and_then (λ tree. option_and_then (record_of r tree) (told r.image)) (told r.tree)
 command_text told (to_say a) = Some (about_text a)
 
 -- ---- order
@@ -118,6 +127,10 @@ OutcomesAreRuns s p =
     let m = start_machine p.tree p.image in
     let lines = outcome_table (shape_view p.tree.levels) s.turns m s.first s.count in
     AllByRecursion (λ (l : OutcomeLine). IsLegalOutcome m.code m.items (flat_start_of p.tree p.image) l.outcome) lines
+
+-- after each turn that is recorded
+abbrev pub RecordedInOrder : Recorded → Parts → Type 0
+RecordedInOrder r p = TurnsInOrder p (recording_of r.kind (shape_view p.tree.levels) r.seed r.turns (start_machine p.tree p.image)).turns
 
 -- after each turn that a machine of a checkpoint makes
 pub record GoesOnInOrder (p : Parts) (r : Resumed) (turns : List Turn) : Type 0 where
@@ -217,6 +230,8 @@ module _ {F : Type 0} (told : F → List ℕ → Option (List ℕ)) where
       × HasResumedText (told files r.tree) (told files r.image) (told files r.checkpoint) (told files r.schedule) text
   HasAccepted files text (to_survey s) =
       AcceptsParts Report (told files s.tree) (told files s.image) × Both (told files s.tree) (told files s.image) (λ t i. outcomes_of s t i ≡ Some text)
+  HasAccepted files text (to_record r) =
+      AcceptsParts Report (told files r.tree) (told files r.image) × Both (told files r.tree) (told files r.image) (λ t i. record_of r t i ≡ Some text)
   HasAccepted files text (to_say a) = text ≡ about_text a
 
   -- the words are in the grammar, and this is what their command prints
@@ -235,6 +250,7 @@ module _ {F : Type 0} (told : F → List ℕ → Option (List ℕ)) where
   IsInOrder files (to_check c) = Unit {0}
   IsInOrder files (to_resume r) = RestInOrder (told files r.tree) (told files r.image) (told files r.checkpoint) (told files r.schedule)
   IsInOrder files (to_survey s) = Both (told files s.tree) (told files s.image) (λ t i. IfSome (parts_of t i) (OutcomesAreRuns s))
+  IsInOrder files (to_record r) = Both (told files r.tree) (told files r.image) (λ t i. IfSome (parts_of t i) (RecordedInOrder r))
   IsInOrder files (to_say a) = Unit {0}
 
   abbrev pub RunIsWitnessed : List (List ℕ) → F → Type 0
@@ -316,6 +332,7 @@ module _ {F : Type 0} (told : F → List ℕ → Option (List ℕ)) where
     NotAccepted s (to_check c) = NoVerdict s c
     NotAccepted s (to_resume r) = NoRest s r
     NotAccepted s (to_survey o) = NoRun Report s (first_run o)
+    NotAccepted s (to_record r) = NoRun Report s (recorded_run r)
     NotAccepted s (to_say a) = ⊥
 
     -- why there is no text
@@ -330,6 +347,7 @@ module _ {F : Type 0} (told : F → List ℕ → Option (List ℕ)) where
     NothingFailed (to_check c) = (¬ FileFailed c.tree) × (¬ FileFailed c.image) × (¬ FileFailed c.witness)
     NothingFailed (to_resume r) = (¬ FileFailed r.tree) × (¬ FileFailed r.image) × (¬ FileFailed r.checkpoint) × (¬ FileFailed r.schedule)
     NothingFailed (to_survey s) = (¬ FileFailed s.tree) × (¬ FileFailed s.image)
+    NothingFailed (to_record r) = (¬ FileFailed r.tree) × (¬ FileFailed r.image)
     NothingFailed (to_say a) = Unit {0}
 
 -- ---- the command

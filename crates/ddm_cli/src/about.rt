@@ -10,7 +10,7 @@ use crate::of_ddm_outside::{Failed, Sink};
 use crate::of_report::write_all;
 
 const HELP: &[u8] =
-    b"ddm runs RV32IA programs on a Data Diffusion Machine; every run is one order of one flat memory.\n\n  ddm run IMAGE TREE SCHEDULE      the report of a run: harts, traffic, items and the witness\n  ddm trace IMAGE TREE SCHEDULE    a line for each turn, and then the report\n  ddm seed IMAGE TREE SEED TURNS   the report of the schedule of a seed\n  ddm schedule TREE SEED TURNS     the schedule of a seed\n  ddm make SEED ROUNDS TREE        the summary of a random program under a seeded schedule\n  ddm check IMAGE TREE WITNESS     whether a witness is one legal run of the flat machine\n  ddm unjam IMAGE TREE SCHEDULE    the turn of a bus that goes on where a leaf waits\n  ddm save IMAGE TREE SCHEDULE     the checkpoint of the machine after a run\n  ddm resume IMAGE TREE CHECKPOINT SCHEDULE\n                                   the report of a run that goes on from a checkpoint\n  ddm outcomes IMAGE TREE FIRST COUNT TURNS\n                                   what the runs of many seeds come to\n  ddm help COMMAND                 more of one of these\n  ddm --help, ddm --version\n";
+    b"ddm runs RV32IA programs on a Data Diffusion Machine; every run is one order of one flat memory.\n\n  ddm run IMAGE TREE SCHEDULE      the report of a run: harts, traffic, items and the witness\n  ddm trace IMAGE TREE SCHEDULE    a line for each turn, and then the report\n  ddm seed IMAGE TREE SEED TURNS   the report of the schedule of a seed\n  ddm schedule TREE SEED TURNS     the schedule of a seed\n  ddm make SEED ROUNDS TREE        the summary of a random program under a seeded schedule\n  ddm check IMAGE TREE WITNESS     whether a witness is one legal run of the flat machine\n  ddm unjam IMAGE TREE SCHEDULE    the turn of a bus that goes on where a leaf waits\n  ddm save IMAGE TREE SCHEDULE     the checkpoint of the machine after a run\n  ddm resume IMAGE TREE CHECKPOINT SCHEDULE\n                                   the report of a run that goes on from a checkpoint\n  ddm outcomes IMAGE TREE FIRST COUNT TURNS\n                                   what the runs of many seeds come to\n  ddm record IMAGE TREE KIND SEED TURNS\n                                   the schedule of the turns of a seed that do something\n  ddm help COMMAND                 more of one of these\n  ddm --help, ddm --version\n";
 
 const VERSION: &[u8] = b"ddm 1\n";
 
@@ -158,6 +158,13 @@ and prints each different outcome: how many seeds gave it, the smallest of
 these, and of each hart how it ended and what it put out.
 ";
 
+const RECORD: &[u8] = br"ddm record IMAGE TREE KIND SEED TURNS
+Makes the turns of a seed, and prints the schedule of those that do something,
+until there are TURNS of them, every hart has halted, or 16777216 turns in a
+row did nothing. KIND is even, or skewed: each turn of the tree has a rate of
+the seed's.
+";
+
 const NAMED: &[u8] = br#"
 IMAGE is an ELF file for RV32IA of at most 4 MiB. Every hart begins at its
 entry, its number in a0, the number of harts in a1. An example, made from C:
@@ -220,6 +227,7 @@ fn own_text(about: About) -> &'static [u8]
         About::Save => SAVE,
         About::Resume => RESUME,
         About::Outcomes => OUTCOMES,
+        About::Record => RECORD,
     }
 }
 
@@ -238,7 +246,8 @@ fn further_text(about: About) -> &'static [u8]
         | About::Unjam
         | About::Save
         | About::Resume
-        | About::Outcomes => named_text(),
+        | About::Outcomes
+        | About::Record => named_text(),
     }
 }
 

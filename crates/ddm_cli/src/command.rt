@@ -3,6 +3,8 @@
 ghost use Rattle.std.specs.Prelude.{◌≡◌};
 ghost use Rattle.ddm_cli.specs.Printed.{is_summary, is_trace};
 
+use recording::SeedKind;
+
 /// What is printed of a run.
 #[derive(Clone, Copy, Debug, PartialEq, Eq)]
 pub enum Prints {
@@ -89,6 +91,17 @@ pub struct Seeds<'a> {
     pub turns: u32,
 }
 
+/// Whose recorded run is written: the machine of the files of an image and of a tree, over the turns of a seed that are let by, of which
+/// so many may be recorded.
+#[derive(Clone, Copy)]
+pub struct Recorded<'a> {
+    pub image: &'a str,
+    pub tree: &'a str,
+    pub kind: SeedKind,
+    pub seed: u64,
+    pub turns: u32,
+}
+
 /// What the program says of itself.
 #[derive(Clone, Copy, Debug, PartialEq, Eq)]
 pub enum About {
@@ -110,6 +123,7 @@ pub enum About {
     Save,
     Resume,
     Outcomes,
+    Record,
 }
 
 /// What the words of a command say.
@@ -128,5 +142,7 @@ pub enum Command<'a> {
     Resume(Resumption<'a>),
     /// The different outcomes of many seeds.
     Outcomes(Seeds<'a>),
+    /// The schedule of the turns of a seed that do something.
+    Record(Recorded<'a>),
     About(About),
 }

@@ -23,6 +23,7 @@ pub mod of_tree_config;
 pub mod of_witness_check;
 mod printing;
 mod reading;
+mod recorded;
 mod refusal_lines;
 mod resuming;
 mod status;

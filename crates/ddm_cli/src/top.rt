@@ -19,6 +19,7 @@ use crate::of_ddm_outside::{Failed, Shelf, Sink};
 use crate::of_report::write_pieces;
 use crate::printing::write_ran;
 use crate::reading::read_buffer;
+use crate::recorded::write_recorded;
 use crate::resuming::write_resumed;
 use crate::status::Status;
 use crate::surveying::write_outcomes;
@@ -111,6 +112,7 @@ fn write_command<F: Shelf, K: Sink>(
         Command::Check(check) => write_check(alloc, files, out, check),
         Command::Resume(resumption) => write_resumed(alloc, files, out, resumption),
         Command::Outcomes(seeds) => write_outcomes(alloc, files, out, seeds),
+        Command::Record(recorded) => write_recorded(alloc, files, out, recorded),
         Command::About(about) => Ok(write_about(out, about)),
     }
 }

@@ -2,13 +2,14 @@
 
 ghost use Rattle.std.specs.Prelude.{◌≡◌, ◌≤◌, ◌<◌, ◌*◌, ◌+◌, map, length, Err, IfOk, IfSome, IsOk, MatchResult, None, Ok, Some, option_and_then, slice_get};
 ghost use Rattle.std.specs.String.{string_bytes};
-ghost use Rattle.ddm_cli.specs.Commands.{IsInRange, about_named, command_of, ends_at, file_check, file_resume, file_run, help_alone, help_asked, help_of_two, help_said, help_topic, made_run, named_command, number_in, seed_list, seed_run, seeds_survey, to_say, word_at};
+ghost use Rattle.ddm_cli.specs.Commands.{IsInRange, about_named, command_of, ends_at, file_check, file_resume, file_run, help_alone, help_asked, help_of_two, help_said, help_topic, kind_named, made_run, named_command, number_in, seed_list, seed_record, seed_run, seeds_survey, to_say, word_at};
 ghost use Rattle.ddm_cli.specs.Views.{command_from};
 
 use crate::command::{
-    About, Check, Command, ImageSource, Prints, Resumption, Run, Seeds, TurnSource,
+    About, Check, Command, ImageSource, Prints, Recorded, Resumption, Run, Seeds, TurnSource,
 };
 use crate::of_ddm_text::read_decimal;
+use recording::SeedKind;
 
 const MOST_TURNS: u64 = 1_048_576;
 
@@ -228,6 +229,53 @@ fn seeds_survey(words: &[String]) -> Result<Command<'_>, u32>
     }))
 }
 
+/// The kind of a seed that a word says.
+#[tactic(auto, unfolding(crate::specs::Commands::kind_named))]
+fn kind_named(word: &str) -> Option<SeedKind>
+    ensures { result ≡ kind_named word.now }
+{
+    match word {
+        "even" => Some(SeedKind::Even),
+        "skewed" => Some(SeedKind::Skewed),
+        _ => None,
+    }
+}
+
+/// The kind that the word there says.
+fn kind_at(words: &[String], k: usize) -> Result<SeedKind, u32>
+    requires { k ≤ 5 }
+    ensures { MatchResult result
+        (λ kind. option_and_then kind_named (slice_get (map string_bytes words.now) k) ≡ Some kind)
+        (λ at. (at ≡ k) × (option_and_then kind_named (slice_get (map string_bytes words.now) k) ≡ None)) }
+{
+    kind_named(word(words, k)?).ok_or(k as u32)
+}
+
+/// `record IMAGE TREE KIND SEED TURNS`.
+#[tactic(auto, unfolding(crate::specs::Commands::seed_record))]
+fn seed_record(words: &[String]) -> Result<Command<'_>, u32>
+    ensures is { MatchResult result
+        (λ c. seed_record (map string_bytes words.now) ≡ Ok (command_from c))
+        (λ k. seed_record (map string_bytes words.now) ≡ Err k) }
+    ensures range { IfOk result (λ c. IsInRange (command_from c)) }
+{
+    let image = word(words, 1)?;
+    let tree = word(words, 2)?;
+    let kind = kind_at(words, 3)?;
+    let seed = number(words, 4, 0, u64::MAX)?;
+    let turns = small_number(words, 5, 0, MOST_TURNS)?;
+    if words.len() > 6 {
+        return Err(6);
+    }
+    Ok(Command::Record(Recorded {
+        image,
+        tree,
+        kind,
+        seed,
+        turns,
+    }))
+}
+
 /// The command of a name.
 #[tactic(auto, unfolding(crate::specs::Commands::about_named))]
 fn about_named(name: &str) -> Option<About>
@@ -244,6 +292,7 @@ fn about_named(name: &str) -> Option<About>
         "save" => Some(About::Save),
         "resume" => Some(About::Resume),
         "outcomes" => Some(About::Outcomes),
+        "record" => Some(About::Record),
         _ => None,
     }
 }
@@ -342,6 +391,7 @@ fn named_command(words: &[String]) -> Result<Command<'_>, u32>
         "save" => file_run(words, Prints::Checkpoint),
         "resume" => file_resume(words),
         "outcomes" => seeds_survey(words),
+        "record" => seed_record(words),
         "help" => help_said(words),
         "--help" => alone(words, About::Help),
         "--version" => alone(words, About::Version),

@@ -1,0 +1,4 @@
+pub mod Flags
+pub mod Halting
+pub mod UnderWay
+pub mod Texts

@@ -1,0 +1,2 @@
+pub mod RecordingModel
+pub mod Runs
