@@ -6,7 +6,7 @@ use std::test::Fail;
 
 #[test]
 fn words_at_fault(rt: HostRuntime) -> Result<(), Fail> {
-    let commands: [(&[&str], u32); 53] = [
+    let commands: [(&[&str], u32); 58] = [
         (&[], 0),
         (&["walk"], 0),
         (&["run", "a", "b"], 3),
@@ -39,6 +39,14 @@ fn words_at_fault(rt: HostRuntime) -> Result<(), Fail> {
         (&["outcomes", "i", "t", "18446744073709551616", "1", "1"], 3),
         (&["outcomes", "i", "t", "0", "1", "1048577"], 5),
         (&["outcomes", "i", "t", "0", "1", "1", "more"], 6),
+        (&["record", "i", "t", "odd", "1", "1"], 3),
+        (
+            &["record", "i", "t", "even", "18446744073709551616", "1"],
+            4,
+        ),
+        (&["record", "i", "t", "even", "1", "1048577"], 5),
+        (&["record", "i", "t", "skewed", "1"], 5),
+        (&["record", "i", "t", "skewed", "1", "1", "more"], 6),
         (&["RUN", "a", "b", "c"], 0),
         (&["help", "walk"], 1),
         (&["help", "run", "more"], 2),
@@ -100,6 +108,7 @@ fn of_itself(rt: HostRuntime) -> Result<(), Fail> {
     }
     for name in [
         "run", "trace", "seed", "schedule", "make", "check", "unjam", "save", "resume", "outcomes",
+        "record",
     ] {
         let said = output(alloc, &["help", name], &no_files)?;
         let line = format!(in alloc; "ddm {name} ")?;
