@@ -5,3 +5,5 @@ pub mod Named
 pub mod Listed
 pub mod TriedTurns
 pub mod Fit
+pub mod Calm
+pub mod QuietDeed
