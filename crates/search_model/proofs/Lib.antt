@@ -7,3 +7,4 @@ pub mod TriedTurns
 pub mod Fit
 pub mod Calm
 pub mod QuietDeed
+pub mod Quieted
