@@ -8,3 +8,4 @@ pub mod Fit
 pub mod Calm
 pub mod QuietDeed
 pub mod Quieted
+pub mod Swapped

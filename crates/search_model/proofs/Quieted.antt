@@ -114,10 +114,13 @@ module _ (number : ℕ) (action : Action) (hart : HartValue) (done : ℕ) where
     pub none : NoneWaits v.ways v.buffer
     pub calm : is_calm action v.reservation ≡ true
 
+  abbrev pub leaf_then : LeafValue → LeafValue
+  leaf_then v = record v { hart = hart_then action hart; done = done_then action done; reservation = if ends_then action then None else v.reservation }
+
   abbrev mutual
     -- after its turn
     pub quieted : Node → Node
-    quieted (leaf_node v) = leaf_node (record v { hart = hart_then action hart; done = done_then action done; reservation = if ends_then action then None else v.reservation })
+    quieted (leaf_node v) = leaf_node (leaf_then v)
     quieted (dir_node d ns) = dir_node d (quieted_among ns)
 
     pub quieted_among : Nodes → Nodes
