@@ -9,3 +9,5 @@ pub mod Calm
 pub mod QuietDeed
 pub mod Quieted
 pub mod Swapped
+pub mod StillHart
+pub mod QuietFirst
