@@ -1,6 +1,6 @@
 -- A leaf of which no entry waits: none waits after what a bus does to it.
 -- Letters: v is a leaf, x is an item, e an entry, f what becomes of it.
-use Rattle.std.proofs.Common.{◌≡◌, ℕ, zero, suc, ◌+◌, Bool, true, false, not, ◌&&◌, List, [], ◌∷◌, map, Option, Some, None, option_map, refl, sym, ap, ◌∙◌}
+use Rattle.std.proofs.Common.{◌≡◌, ℕ, zero, suc, ◌+◌, Bool, true, false, not, ◌&&◌, List, [], ◌∷◌, map, Option, Some, None, option_map, refl, ap, ◌∙◌}
 use Rattle.std.specs.Prelude.{filter, find, is_some, slice_set, cond, if◌then◌else◌}
 use Rattle.std.specs.List.{list_all}
 use Rattle.search_model.specs.DdmTypes.declared.sizes.LeafState.{LeafState}

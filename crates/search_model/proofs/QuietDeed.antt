@@ -1,8 +1,7 @@
 -- The turn of a hart at a quiet instruction: what it does depends on nothing that another part of the machine can change.
 -- Letters: v is a leaf, a an action, d a deed.
-use Rattle.std.proofs.Common.{◌≡◌, ℕ, ◌+◌, Bool, true, false, not, ◌&&◌, List, [], Option, Some, None, Ok, is_some, refl, sym, ap, subst, ◌∙◌, ◌%◌, true≢false}
+use Rattle.std.proofs.Common.{◌≡◌, ℕ, ◌+◌, Bool, true, false, not, List, Option, Some, None, Ok, is_some, refl, sym, ap, subst, ◌∙◌, ◌%◌, true≢false}
 use Rattle.std.specs.Prelude.{if◌then◌else◌}
-use Rattle.search_model.specs.DdmTypes.declared.answers.TurnAnswer.{TurnAnswer}
 use Rattle.search_model.specs.DdmTypes.declared.operations.Effect.{Effect}
 use Rattle.search_model.specs.DdmTypes.declared.operations.HaltCause.{HaltCause}
 use Rattle.search_model.specs.DdmTypes.declared.keys.Key.{Key}
@@ -12,9 +11,9 @@ use Rattle.search_model.specs.DdmTypes.ItemTable.{ItemTable}
 use Rattle.search_model.specs.RvDecode.declared.instructions.Reg.{Reg}
 use Rattle.search_model.specs.FlatModel.Flat.{change_by, conditional, has_reserved}
 use Rattle.search_model.specs.FlatModel.Hart.{HartValue, Access, Action, Halts, Computes, Puts, Loads, Stores, Reserves, StoresIfReserved, Changes, action_of, ask_by, ask_of, finish_by, finish_of, written, word_address}
-use Rattle.tree_model.specs.State.Leaf.{LeafEntry, leaf_entry, free_way, buffer_full, waiting_item}
+use Rattle.tree_model.specs.State.Leaf.{leaf_entry, free_way, buffer_full, waiting_item}
 use Rattle.tree_model.specs.State.Values.{LeafValue}
-use Rattle.tree_model.specs.Turns.HartTurn.{Deed, has_halted, waits_for, halts, completes, fetches, upgrades, finds_buffer_full, Need, no_need, a_copy, no_other_copy, time, need_to_read, need_to_write, need_of, words_here, change_here, deed_of_change, replaces, deed_to_fetch, deed_by_need, deed_unless_waiting, deed_unless_halted, deed_of, answer_of_deed, leaf_after_deed}
+use Rattle.tree_model.specs.Turns.HartTurn.{Deed, waits_for, halts, completes, upgrades, finds_buffer_full, Need, no_need, a_copy, no_other_copy, time, need_to_write, need_of, words_here, change_here, deed_of_change, replaces, deed_to_fetch, deed_by_need, deed_unless_waiting, deed_unless_halted, deed_of, answer_of_deed, leaf_after_deed}
 use Rattle.search_model.specs.Tried.{is_quiet_answer}
 use Rattle.tree_model.proofs.Tests.{not-true}
 use Rattle.search_model.proofs.Calm.{NoneWaits, none-waits, waits-none}

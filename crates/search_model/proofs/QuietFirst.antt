@@ -1,6 +1,6 @@
 -- Where a hart has a quiet turn, it may be tried alone: so the search that tries it first is right.
 -- Letters: m and n are machines, t and u are turns, k is the number of a hart, v a leaf.
-use Rattle.std.proofs.Common.{◌≡◌, ℕ, Bool, true, false, List, [], ◌∷◌, ◌++◌, map, length, nat_eq, refl, sym, ap, subst, ◌∙◌, inl, inr, arith, append-nil, true≢false}
+use Rattle.std.proofs.Common.{◌≡◌, ℕ, Bool, true, false, List, [], ◌∷◌, ◌++◌, map, length, nat_eq, refl, sym, ap, subst, ◌∙◌, inl, arith, append-nil, true≢false}
 use Rattle.std.specs.List.{list_all}
 use Rattle.std.proofs.lemmas.Bool.{eqb-true, eq-eqb}
 use Rattle.search_model.specs.DdmTypes.declared.turns.Turn.{Turn}
@@ -16,7 +16,7 @@ use Rattle.time_laws.specs.Forget.{forget_node, forget_nodes, forget_traffic, pu
 use Rattle.time_laws.proofs.Alike.{turn-puts}
 use Rattle.outcome_model.specs.Halted.{all_halted, has_halted}
 use Rattle.search_laws.specs.Space.{IsOneOf}
-use Rattle.search_laws.specs.Rules.{Enough, quiet_one, all_others, Beside, instead, swapped, QuietFirst}
+use Rattle.search_laws.specs.Rules.{Enough, quiet_one, all_others, Beside, instead, swapped}
 use Rattle.search_laws.proofs.Lists.{all-each, filter-part, filter-passing}
 use Rattle.search_laws.proofs.Right.{search-right}
 use Rattle.search_model.specs.Tried.{doing_turns, is_quiet, quiet_turns, first_or, tried_turns}

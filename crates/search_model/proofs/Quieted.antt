@@ -2,7 +2,7 @@
 -- What a bus tells its children goes with it, so it makes no difference which of the two is first.
 -- Letters: n and m are nodes, ns and ms are children, v a leaf, d a directory, x is an item, s and r are stamps, w is where a node
 -- stands, k is the number of the child that has the leaf.
-use Rattle.std.proofs.Common.{◌≡◌, ℕ, suc, ◌+◌, ◌<◌, ◌≤◌, Bool, true, false, not, List, [], ◌∷◌, ◌||◌, map, Option, Some, None, nat_eq, refl, sym, ap, subst, ◌∙◌, ◌⊎◌, inl, inr, arith, if◌then◌else◌}
+use Rattle.std.proofs.Common.{◌≡◌, ℕ, ◌+◌, ◌<◌, ◌≤◌, Bool, true, false, not, List, [], ◌∷◌, ◌||◌, map, Option, None, nat_eq, refl, sym, ap, subst, ◌∙◌, ◌⊎◌, inl, inr, arith, if◌then◌else◌}
 use Rattle.search_model.specs.DdmTypes.declared.keys.Stamp.{Stamp}
 use Rattle.search_model.specs.FlatModel.Flat.{has_reserved}
 use Rattle.search_model.specs.FlatModel.Hart.{HartValue, Action, Halts, Computes, Puts, Loads, Stores, Reserves, StoresIfReserved, Changes}
@@ -241,12 +241,12 @@ module _ (number : ℕ) (action : Action) (hart : HartValue) (done : ℕ) where
   pub quieted-later : (n : Node) (ns : Nodes) → has_node here n ≡ false → quieted_among (more_nodes n ns) ≡ more_nodes n (quieted_among ns)
   quieted-later n ns absent = ap (λ b. if b then more_nodes (quieted n) ns else more_nodes n (quieted_among ns)) absent
 
-  record Placed (i : ℕ) (ns : Nodes) : Type 0 where
+  record PlacedFrom (i : ℕ) (ns : Nodes) : Type 0 where
     child : ℕ
     not_before : i ≤ child
     each : EachRelated (Place child) i (children ns) (children (quieted_among ns))
 
-  placed : (i : ℕ) (ns : Nodes) → ReadyAmong ns → Placed i ns
+  placed : (i : ℕ) (ns : Nodes) → ReadyAmong ns → PlacedFrom i ns
   placed i no_nodes r = absurd r
   placed i (more_nodes n ns) (inl p) = record {
     child = i;

@@ -1,6 +1,6 @@
 -- A hart that is at a quiet instruction, of a machine: what its turn leaves, answers and puts out.
 -- Letters: m is a machine, t and u are turns, n is a node, v a leaf, a an action, k the number of a hart.
-use Rattle.std.proofs.Common.{◌≡◌, ℕ, suc, ◌+◌, Bool, true, false, not, List, [], ◌∷◌, ◌++◌, ◌||◌, map, length, Option, Some, None, option_map, is_some, nat_eq, refl, sym, ap, subst, ◌∙◌, inl, inr, arith, true≢false, if◌then◌else◌}
+use Rattle.std.proofs.Common.{◌≡◌, ℕ, Bool, true, false, List, [], ◌∷◌, Option, Some, None, option_map, is_some, nat_eq, refl, sym, ap, subst, ◌∙◌, true≢false, if◌then◌else◌}
 use Rattle.std.proofs.lemmas.Bool.{eqb-true, eq-eqb}
 use Rattle.search_model.specs.DdmTypes.declared.answers.TurnAnswer.{TurnAnswer}
 use Rattle.search_model.specs.DdmTypes.declared.keys.Key.{Key}
@@ -10,7 +10,7 @@ use Rattle.search_model.specs.DdmTypes.ItemTable.{ItemTable}
 use Rattle.search_model.specs.FlatModel.Hart.{HartValue, Action, Halts, Computes, Puts, Loads, Stores, Reserves, StoresIfReserved, Changes, action_of}
 use Rattle.tree_model.specs.State.Blank.{no_hart}
 use Rattle.tree_model.specs.State.Place.{Where, at_top, key_at_leaf, stamp_above}
-use Rattle.tree_model.specs.State.Values.{LeafValue, DirValue, Node, Nodes, leaf_node, dir_node, nodes, children, MachineValue, root_of}
+use Rattle.tree_model.specs.State.Values.{LeafValue, DirValue, Node, Nodes, leaf_node, dir_node, children, MachineValue, root_of}
 use Rattle.tree_model.specs.Turns.Bus.{bus_step, bus_judged}
 use Rattle.tree_model.specs.Turns.Grant.{Judged, nothing_there, refused, granted, bus_answer}
 use Rattle.tree_model.specs.Turns.HartTurn.{Deed, has_halted, waits_for, halts, completes, fetches, upgrades, finds_buffer_full, deed_of, answer_of_deed, leaf_after_deed, leaf_step}
@@ -26,9 +26,9 @@ use Rattle.time_laws.specs.Forget.{forget_node, put_in}
 use Rattle.recording_model.specs.Doing.{had_halted, is_halted}
 use Rattle.search_laws.specs.Space.{IsOneOf}
 use Rattle.search_model.specs.Tried.{is_quiet_answer, is_quiet}
-use Rattle.search_model.proofs.Named.{Placed, place_here, find, read-there, turn-there, turn-nowhere, IsLeafOf, found-leaf, found-bus}
-use Rattle.search_model.proofs.QuietDeed.{is_calm, calm_deed, hart_then, done_then, ends_then, calm-leaf, calm-answer, deed-calm, QuietLeaf, quiet-leaf}
-use Rattle.search_model.proofs.Quieted.{leaf-named, among-by_kept, CalmLeaf, quieted, quieted_among, Ready, ReadyAmong, bus-swaps}
+use Rattle.search_model.proofs.Named.{Placed, place_here, find, read-there, turn-there, turn-nowhere, found-leaf, found-bus}
+use Rattle.search_model.proofs.QuietDeed.{is_calm, calm_deed, hart_then, done_then, ends_then, calm-leaf, calm-answer, deed-calm, quiet-leaf}
+use Rattle.search_model.proofs.Quieted.{leaf-named, among-by_kept, CalmLeaf, quieted, Ready, ReadyAmong, bus-swaps}
 use Rattle.search_model.proofs.Swapped.{SwapsAt, Swaps, swaps, read-ready, changed-ready, find-ready}
 
 -- ---- any turn

@@ -1,6 +1,6 @@
 -- A quiet turn of a hart goes with a change of another node of the tree.
 -- Letters: n is a node, ns are nodes, v a leaf, d a directory, w is where a node stands, p a node with its place.
-use Rattle.std.proofs.Common.{◌≡◌, ℕ, ◌+◌, Bool, true, false, List, Option, Some, None, option_map, ◌||◌, nat_eq, refl, sym, ap, subst, ◌∙◌, ◌⊎◌, inl, inr, if◌then◌else◌}
+use Rattle.std.proofs.Common.{◌≡◌, ℕ, ◌+◌, Bool, true, false, List, Option, Some, None, option_map, ◌||◌, nat_eq, refl, sym, ap, subst, ◌∙◌, inl, inr, if◌then◌else◌}
 use Rattle.search_model.specs.FlatModel.Hart.{HartValue, Action}
 use Rattle.tree_model.specs.State.Place.{Where, at_child, spot_in, where_path}
 use Rattle.tree_model.specs.State.Values.{LeafValue, DirValue, Node, Nodes, leaf_node, dir_node, no_nodes, more_nodes}
