@@ -1,6 +1,6 @@
 -- The search of a machine with all turns that do something: they are enough, and each leaf keeps its ways.
 -- Letters: m is a machine, t a turn, v a leaf, n a node.
-use Rattle.std.proofs.Common.{◌≡◌, Bool, true, List, [], ◌&&◌, refl, sym, ap, ◌∙◌, inl, inr}
+use Rattle.std.proofs.Common.{◌≡◌, Bool, true, List, [], ◌&&◌, refl, sym, ap, subst, ◌∙◌, inl, inr}
 use Rattle.std.specs.Prelude.{nat_lt}
 use Rattle.std.specs.List.{list_all}
 use Rattle.search_model.specs.DdmTypes.declared.turns.Turn.{Turn}
@@ -11,11 +11,12 @@ use Rattle.tree_model.proofs.FrameKept.{turn-frame}
 use Rattle.time_laws.specs.Forget.{forget, puts_of, Alike}
 use Rattle.recording_model.specs.Doing.{does_something}
 use Rattle.recording_model.proofs.Doing.{turn-rests}
+use Rattle.search_laws.specs.Space.{IsOneOf}
 use Rattle.search_laws.specs.Rules.{Tried, changes_nothing, does_what, all_others, QuietFirst}
 use Rattle.search_laws.proofs.Lists.{true-or-false}
 use Rattle.search_laws.proofs.Right.{search-right}
 use Rattle.search_model.specs.Tried.{doing_turns}
-use Rattle.search_model.specs.Machines.{whole_space, has_way, has_ways}
+use Rattle.search_model.specs.Machines.{space_by, whole_space, has_way, has_ways}
 use Rattle.search_model.specs.Claims.{WholeSearchIsRight}
 use Rattle.search_model.proofs.AlikeTurns.{doing-alike}
 use Rattle.search_model.proofs.AlikeSpace.{keeps-alike, ends-stay}
@@ -48,11 +49,12 @@ turn-ways t m ways = ways-bones (root_of (turn_of t m).machine) [] ∙ ap (λ f.
 -- ---- enough turns
 
 module _ (same : MachineValue → MachineValue → Bool) where
-  doing-tried : (m : MachineValue) → has_ways m ≡ true → (t : Turn) → Tried (whole_space same) Alike m t
-  doing-tried m ways t = elim (true-or-false (does_something t m)) [
+  -- where all that do something are tried
+  pub doing-tried : (turns : MachineValue → List Turn) (m : MachineValue) → has_ways m ≡ true → turns m ≡ doing_turns m → (t : Turn) → Tried (space_by same turns) Alike m t
+  doing-tried turns m ways all t = elim (true-or-false (does_something t m)) [
     | inl does ↦
         let l = doing-listed t m ways does in
-        does_what l.turn (in-doing t m l does) (record { state = ap (λ o. forget o.machine) (sym l.same); puts = ap (λ o. puts_of o.machine) (sym l.same) })
+        does_what l.turn (subst (λ ts. IsOneOf ts l.turn) (sym all) (in-doing t m l does)) (record { state = ap (λ o. forget o.machine) (sym l.same); puts = ap (λ o. puts_of o.machine) (sym l.same) })
     | inr nothing ↦ changes_nothing (record { state = ap forget (turn-rests t m nothing); puts = ap puts_of (turn-rests t m nothing) })
   ]
 
@@ -63,7 +65,7 @@ module _ (same : MachineValue → MachineValue → Bool) where
   doing-enough : QuietFirst (whole_space same) Alike NeverQuiet (λ m. has_ways m ≡ true)
   doing-enough = record {
     stays_fit = turn-ways;
-    enough = λ m ways runs. all_others (doing-tried m ways);
+    enough = λ m ways runs. all_others (doing-tried doing_turns m ways refl);
     beside = λ m t u ways quiet. absurd quiet;
     runs = λ m t quiet. absurd quiet;
     moves = λ m t ways quiet. absurd quiet;

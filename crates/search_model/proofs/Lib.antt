@@ -5,3 +5,9 @@ pub mod Named
 pub mod Listed
 pub mod TriedTurns
 pub mod Fit
+pub mod Calm
+pub mod QuietDeed
+pub mod Quieted
+pub mod Swapped
+pub mod StillHart
+pub mod QuietFirst

@@ -1,6 +1,6 @@
 -- Members of lists that are made of others.
 -- Letters: x and y are members, f makes one or many of another.
-use Rattle.std.proofs.Common.{◌≡◌, ℕ, zero, suc, ◌+◌, ◌<◌, Bool, List, [], ◌∷◌, map, refl, sym, ap, subst, ◌∙◌, inl, inr, arith}
+use Rattle.std.proofs.Common.{◌≡◌, ℕ, zero, suc, ◌+◌, ◌<◌, Bool, true, false, List, [], ◌∷◌, map, refl, sym, ap, subst, ◌∙◌, inl, inr, arith}
 use Rattle.std.specs.Prelude.{filter, flat_map, cond}
 use Rattle.std.specs.List.{range_with_len}
 use Rattle.search_laws.specs.Space.{IsOneOf}
@@ -32,3 +32,29 @@ module _ {X : Type 0} where
   pub filter-same : (p q : X → Bool) (xs : List X) → ((x : X) → p x ≡ q x) → filter p xs ≡ filter q xs
   filter-same p q [] same = refl
   filter-same p q (x ∷ xs) same = ap (λ b. cond b (x ∷ filter p xs) (filter p xs)) (same x) ∙ ap (λ l. cond (q x) (x ∷ l) l) (filter-same p q xs same)
+
+  pub filter-holds : (p : X → Bool) (xs : List X) (x : X) → IsOneOf (filter p xs) x → p x ≡ true
+  filter-holds p [] x i = absurd i
+  filter-holds p (y ∷ ys) x i = elim (p y) as (λ b. p y ≡ b → IsOneOf (cond b (y ∷ filter p ys) (filter p ys)) x → p x ≡ true) [
+    | true ↦ λ holds j. elim j [
+      | inl e ↦ ap p (sym e) ∙ holds
+      | inr k ↦ filter-holds p ys x k
+    ]
+    | false ↦ λ fails j. filter-holds p ys x j
+  ] refl i
+
+module _ {X Y : Type 0} where
+  pub map-each : (f g : X → Y) → ((x : X) → f x ≡ g x) → (xs : List X) → map f xs ≡ map g xs
+  map-each f g same [] = refl
+  map-each f g same (x ∷ xs) = ap (λ y. y ∷ map f xs) (same x) ∙ ap (λ l. g x ∷ l) (map-each f g same xs)
+
+  -- what a member of a map was made of
+  pub record MadeOf (f : X → Y) (xs : List X) (y : Y) : Type 0 where
+    pub source : X
+    pub listed : IsOneOf xs source
+    pub is : f source ≡ y
+
+  pub made-of : (f : X → Y) (xs : List X) (y : Y) → IsOneOf (map f xs) y → MadeOf f xs y
+  made-of f [] y i = absurd i
+  made-of f (x ∷ xs) y (inl e) = record { source = x; listed = inl refl; is = e }
+  made-of f (x ∷ xs) y (inr i) = let rest = made-of f xs y i in record { source = rest.source; listed = inr rest.listed; is = rest.is }

@@ -1,5 +1,6 @@
 pub mod DdmTypes
 pub mod FlatModel
+pub mod RvDecode
 pub mod TextModel
 pub mod Tried
 pub mod Machines

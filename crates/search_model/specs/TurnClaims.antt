@@ -6,9 +6,11 @@ use Rattle.search_model.specs.DdmTypes.declared.turns.Turn.{Turn}
 use Rattle.tree_model.specs.State.Values.{MachineValue}
 use Rattle.tree_model.specs.Turns.Machine.{run_of, turn_of}
 use Rattle.recording_model.specs.Doing.{does_something}
+use Rattle.time_laws.specs.Forget.{Alike}
 use Rattle.search_laws.specs.Space.{state_after, IsOneOf}
-use Rattle.search_model.specs.Tried.{doing_turns}
-use Rattle.search_model.specs.Machines.{space_by, has_ways}
+use Rattle.search_laws.specs.Rules.{QuietFirst}
+use Rattle.search_model.specs.Tried.{doing_turns, quiet_turns}
+use Rattle.search_model.specs.Machines.{space_by, quiet_space, has_ways}
 
 -- a state of a search is the machine after a run
 abbrev pub StatesAreRuns : Type 0
@@ -28,3 +30,8 @@ EachTurnIsTried = (t : Turn) (m : MachineValue) → has_ways m ≡ true → does
 -- so where none is tried, none does anything
 abbrev pub NoOtherTurnIsLeft : Type 0
 NoOtherTurnIsLeft = (t : Turn) (m : MachineValue) → has_ways m ≡ true → doing_turns m ≡ [] → does_something t m ≡ false
+
+-- where a hart has a quiet turn, it may be tried alone
+abbrev pub QuietTurnsGoFirst : Type 0
+QuietTurnsGoFirst = (same : MachineValue → MachineValue → Bool)
+    → QuietFirst (quiet_space same) Alike (λ m t. IsOneOf (quiet_turns m) t) (λ m. has_ways m ≡ true)
