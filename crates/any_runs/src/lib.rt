@@ -20,5 +20,6 @@ mod spared;
 
 pub use copying::copy_from;
 pub use forgetting::forget_ops;
+pub use of_text_model::RunCounts;
 pub use running::run;
 pub use spared::{reserve, run_spared};

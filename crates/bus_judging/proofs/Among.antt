@@ -8,7 +8,7 @@ use Rattle.bus_judging.specs.TreeModel.State.Lists.{all_from}
 use Rattle.bus_judging.specs.TreeModel.State.Values.{Note, no_note, local, up_read, up_erase}
 use Rattle.bus_judging.specs.TreeModel.State.Directory.{is_reader, is_eraser}
 use Rattle.tree_rules.specs.Bus.Faces.{ChildFace}
-use Rattle.tree_rules.specs.Bus.Item.{holds_it, holds_exclusive, one_holds, gives_none, gives_one, one_gives, giver_holds, granted_fits, reader_is_granted, reader_is_noted, eraser_is_noted, eraser_is_granted, may_erase, child_passes}
+use Rattle.tree_rules.specs.Bus.Item.{holds_it, holds_exclusive, one_holds, gives_none, gives_one, one_gives, giver_holds, reader_is_granted, reader_is_noted, eraser_is_noted, eraser_is_granted, may_erase, child_passes}
 use Rattle.bus_judging.specs.Children.{ChildrenFacts, facts_among, with_child}
 use Rattle.bus_judging.proofs.Gathered.{all-more, any-more, and-assoc}
 
@@ -75,15 +75,15 @@ eraser-more (up_erase d) cs c = passes-more may_erase d cs c
 from-start : (t : ℕ → ChildFace → Bool) (cs : List ChildFace) (c : ChildFace) → all_from t 0 (cs ++ c ∷ []) ≡ (all_from t 0 cs && t (length cs) c)
 from-start t cs c = from-more t 0 cs c ∙ ap (λ n. all_from t 0 cs && t n c) (zero-add (length cs))
 
-same-facts : (count : ℕ) (held sole exclusive one_gift no_gift givers granted readers eraser reads erases : Bool) (f : ChildrenFacts)
-    → f.count ≡ count → f.held ≡ held → f.sole ≡ sole → f.exclusive ≡ exclusive → f.one_gift ≡ one_gift → f.no_gift ≡ no_gift → f.givers ≡ givers → f.granted ≡ granted
+same-facts : (count : ℕ) (held sole exclusive one_gift no_gift givers readers eraser reads erases : Bool) (f : ChildrenFacts)
+    → f.count ≡ count → f.held ≡ held → f.sole ≡ sole → f.exclusive ≡ exclusive → f.one_gift ≡ one_gift → f.no_gift ≡ no_gift → f.givers ≡ givers
     → f.readers ≡ readers → f.eraser ≡ eraser → f.reads ≡ reads → f.erases ≡ erases
-    → f ≡ record { count = count; held = held; sole = sole; exclusive = exclusive; one_gift = one_gift; no_gift = no_gift; givers = givers; granted = granted; readers = readers; eraser = eraser; reads = reads; erases = erases }
-same-facts count held sole exclusive one_gift no_gift givers granted readers eraser reads erases f a b c d e g h i j k l m = rw (← a, ← b, ← c, ← d, ← e, ← g, ← h, ← i, ← j, ← k, ← l, ← m) refl
+    → f ≡ record { count = count; held = held; sole = sole; exclusive = exclusive; one_gift = one_gift; no_gift = no_gift; givers = givers; readers = readers; eraser = eraser; reads = reads; erases = erases }
+same-facts count held sole exclusive one_gift no_gift givers readers eraser reads erases f a b c d e g h i j k l = rw (← a, ← b, ← c, ← d, ← e, ← g, ← h, ← i, ← j, ← k, ← l) refl
 
 -- what is gathered of one child more is what is gathered of all
 pub one_child_more : (note : Note) (cs : List ChildFace) (c : ChildFace) → with_child (is_reader note (length cs)) (is_eraser note (length cs)) c (facts_among note cs) ≡ facts_among note (cs ++ c ∷ [])
 one_child_more note cs c =
-    sym (same-facts _ _ _ _ _ _ _ _ _ _ _ _ (facts_among note (cs ++ c ∷ [])) (length-append cs (c ∷ [])) (any-more holds_it cs c) (holds-more cs c) (any-more holds_exclusive cs c)
-    (gives-more cs c) (all-more gives_none cs c) (all-more giver_holds cs c) (all-more granted_fits cs c) (from-start (reader_is_granted note) cs c) (eraser-more note cs c)
+    sym (same-facts _ _ _ _ _ _ _ _ _ _ _ (facts_among note (cs ++ c ∷ [])) (length-append cs (c ∷ [])) (any-more holds_it cs c) (holds-more cs c) (any-more holds_exclusive cs c)
+    (gives-more cs c) (all-more gives_none cs c) (all-more giver_holds cs c) (from-start (reader_is_granted note) cs c) (eraser-more note cs c)
     (from-start (reader_is_noted note) cs c) (from-start (eraser_is_noted note) cs c))

@@ -5,7 +5,7 @@ ghost use Rattle.bus_judging.specs.TreeModel.State.States.{is_exclusive, is_held
 ghost use Rattle.bus_judging.specs.TreeModel.State.Values.{Note};
 ghost use Rattle.bus_judging.specs.TreeModel.State.Directory.{is_eraser, is_reader, is_up_erase};
 ghost use Rattle.tree_rules.specs.Bus.Faces.{ChildFace as Face};
-ghost use Rattle.tree_rules.specs.Bus.Item.{gives_none, gives_one, giver_holds, granted_fits, implies, may_erase};
+ghost use Rattle.tree_rules.specs.Bus.Item.{gives_none, gives_one, giver_holds, implies, may_erase};
 ghost use Rattle.bus_judging.specs.Children.{bits_with, facts_among, with_child};
 
 use crate::of_ddm_types::Hold;
@@ -43,7 +43,6 @@ pub struct ChildrenFacts {
     one_gift: bool,
     no_gift: bool,
     givers: bool,
-    granted: bool,
     readers: bool,
     eraser: bool,
     reads: bool,
@@ -55,12 +54,13 @@ impl Model for ChildrenFacts {
 
     ghost Value = { ChildrenFacts };
 
-    ghost view = { λ f. record { count = f.count; held = f.held; sole = f.sole; exclusive = f.exclusive; one_gift = f.one_gift; no_gift = f.no_gift; givers = f.givers; granted = f.granted; readers = f.readers; eraser = f.eraser; reads = f.reads; erases = f.erases } };
+    ghost view = { λ f. record { count = f.count; held = f.held; sole = f.sole; exclusive = f.exclusive; one_gift = f.one_gift; no_gift = f.no_gift; givers = f.givers; readers = f.readers; eraser = f.eraser; reads = f.reads; erases = f.erases } };
 
-    ghost inverse = { λ f. record { count = f.count; held = f.held; sole = f.sole; exclusive = f.exclusive; one_gift = f.one_gift; no_gift = f.no_gift; givers = f.givers; granted = f.granted; readers = f.readers; eraser = f.eraser; reads = f.reads; erases = f.erases } };
+    ghost inverse = { λ f. record { count = f.count; held = f.held; sole = f.sole; exclusive = f.exclusive; one_gift = f.one_gift; no_gift = f.no_gift; givers = f.givers; readers = f.readers; eraser = f.eraser; reads = f.reads; erases = f.erases } };
 }
 
-/// The bits that the rules of a bus ask of its children and of the parent's parked copy.
+/// The bits that the rules of a bus ask of its children and of the parent's parked copy. That what was granted fits what is held isn't
+/// among them: the rules of the buses below say so.
 #[derive(Clone, Copy)]
 pub(crate) struct Bits {
     pub held: bool,
@@ -69,7 +69,6 @@ pub(crate) struct Bits {
     pub one_gift: bool,
     pub no_gift: bool,
     pub givers: bool,
-    pub granted: bool,
     pub readers: bool,
     pub eraser: bool,
     pub reads: bool,
@@ -77,13 +76,14 @@ pub(crate) struct Bits {
 }
 
 impl Model for Bits {
+    ghost use Rattle.std.specs.Prelude.{true};
     ghost use Rattle.tree_rules.specs.Bus.Item.{Bits};
 
     ghost Value = { Bits };
 
-    ghost view = { λ k. record { held = k.held; sole = k.sole; exclusive = k.exclusive; one_gift = k.one_gift; no_gift = k.no_gift; givers = k.givers; granted = k.granted; readers = k.readers; eraser = k.eraser; reads = k.reads; erases = k.erases } };
+    ghost view = { λ k. record { held = k.held; sole = k.sole; exclusive = k.exclusive; one_gift = k.one_gift; no_gift = k.no_gift; givers = k.givers; granted = true; readers = k.readers; eraser = k.eraser; reads = k.reads; erases = k.erases } };
 
-    ghost inverse = { λ k. record { held = k.held; sole = k.sole; exclusive = k.exclusive; one_gift = k.one_gift; no_gift = k.no_gift; givers = k.givers; granted = k.granted; readers = k.readers; eraser = k.eraser; reads = k.reads; erases = k.erases } };
+    ghost inverse = { λ k. record { held = k.held; sole = k.sole; exclusive = k.exclusive; one_gift = k.one_gift; no_gift = k.no_gift; givers = k.givers; readers = k.readers; eraser = k.eraser; reads = k.reads; erases = k.erases } };
 }
 
 pub(crate) fn is_held(hold: Hold) -> bool
@@ -147,12 +147,6 @@ impl ChildFace {
             && implies(self.replies != 0, is_shared(self.hold))
     }
 
-    fn granted_fits(&self) -> bool
-        ensures { result ≡ granted_fits self.now }
-    {
-        implies(self.reads, !is_held(self.hold)) && implies(self.erases, is_shared(self.hold))
-    }
-
     fn may_erase(&self) -> bool
         ensures { result ≡ may_erase self.now }
     {
@@ -179,7 +173,6 @@ impl ChildrenFacts {
             one_gift: false,
             no_gift: true,
             givers: true,
-            granted: true,
             readers: true,
             eraser: !up_erase,
             reads: true,
@@ -196,7 +189,6 @@ impl ChildrenFacts {
         let none = child.gives_none();
         let one = child.gives_one();
         let giver = child.giver_holds();
-        let granted = child.granted_fits();
         let may_erase = child.may_erase();
         let read = implies(reader, child.reads);
         let noted = implies(child.reads, reader);
@@ -209,7 +201,6 @@ impl ChildrenFacts {
             one_gift: either(none, self.one_gift, one & self.no_gift),
             no_gift: self.no_gift & none,
             givers: self.givers & giver,
-            granted: self.granted & granted,
             readers: self.readers & read,
             eraser: either(eraser, may_erase, self.eraser),
             reads: self.reads & noted,
@@ -228,7 +219,6 @@ impl ChildrenFacts {
             one_gift: self.one_gift,
             no_gift: self.no_gift,
             givers: self.givers,
-            granted: self.granted,
             readers: self.readers,
             eraser: self.eraser,
             reads: self.reads,

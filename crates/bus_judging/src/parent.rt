@@ -1,6 +1,6 @@
 //! What the rules of a bus ask of its parent, and whether an item keeps them.
 
-ghost use Rattle.std.specs.Prelude.{◌≡◌, ◌++◌, ◌∷◌, [], List};
+ghost use Rattle.std.specs.Prelude.{true, ◌≡◌, ◌++◌, ◌∷◌, [], List};
 ghost use Rattle.bus_judging.specs.DdmTypes.declared.answers.TxKind.{TxKind};
 ghost use Rattle.bus_judging.specs.TreeModel.State.Kinds.{brings_copy, goes_up, is_kind};
 ghost use Rattle.tree_rules.specs.Bus.Faces.{ChildFace as Face, ParentFace, face_above};
@@ -234,7 +234,7 @@ impl ParentFacts {
         read & brought & erased & ends & bits.reads
     }
 
-    /// What was granted, and who gives.
+    /// Whose erase was granted, and who gives.
     fn gifts_fit(&self, bits: &Bits) -> bool
         ensures { result ≡ five_by_facts self.now bits.now erases_noted granted_held exclusive_noted giver givers_held }
     {
@@ -242,7 +242,7 @@ impl ParentFacts {
         let exclusive = implies(self.queue.exclusives, noted);
         let owed = notes_local(self.note) | self.is_asked();
         let gift = either(owed, bits.one_gift, bits.no_gift);
-        bits.erases & bits.granted & exclusive & gift & bits.givers
+        bits.erases & exclusive & gift & bits.givers
     }
 
     /// What is asked of it and what it asks for.
@@ -270,9 +270,9 @@ impl ParentFacts {
         holders & (queue & (notes & (gifts & requests)))
     }
 
-    /// Whether the item keeps the rules of the bus over these children.
+    /// Whether the item keeps the rules of the bus over these children, once the buses below keep theirs.
     pub fn keeps_rules(&self, children: &ChildrenFacts) -> bool
-        ensures { (p : ParentFace) (cs : List Face) → self.now ≡ facts_at p → children.now ≡ facts_among p.note cs → result ≡ item_holds p (bits_of p cs) }
+        ensures { (p : ParentFace) (cs : List Face) → self.now ≡ facts_at p → children.now ≡ facts_among p.note cs → result ≡ item_holds p (record (bits_of p cs) { granted = true }) }
     {
         self.all_hold(&children.bits(self.parked))
     }

@@ -11,9 +11,9 @@ use Rattle.std.proofs.lemmas.List.Folds.{list_all-append}
 use Rattle.std.proofs.lemmas.List.FromFn.{length-range_with_len}
 use Rattle.bus_laws.specs.DdmTypes.ItemTable.{IsItemSize, item_count, item_numbers, item_row, items_of}
 use Rattle.bus_laws.specs.DdmTypes.declared.sizes.Span.{Span}
-use Rattle.bus_laws.specs.TreeModel.State.Values.{WayValue, LeafSizes, LeafValue, absent_item, DirSizes, Node, leaf_node, nodes, MachineValue}
+use Rattle.bus_laws.specs.TreeModel.State.Values.{WayValue, LeafSizes, LeafValue, absent_item, DirSizes, Node, leaf_node, nodes, MachineValue, root_of}
 use Rattle.bus_laws.specs.TreeModel.State.Leaf.{way_at}
-use Rattle.bus_laws.specs.TreeModel.State.Shape.{skeletons, first_levels, levels_fit_among, bone_count, widths_fit_among, buses_among, leaf_numbers_among, are_distinct, count_from, are_below, is_whole_word, ShapeRule, levels_known, widths_bounded, buses_differ, traffic_counted, leaves_numbered, items_of_words, shape_test, frame_of, IsShaped}
+use Rattle.bus_laws.specs.TreeModel.State.Shape.{skeleton, skeletons, first_levels, levels_fit_among, bone_count, widths_fit_among, buses_among, leaf_numbers_of, leaf_numbers_among, are_distinct, count_from, are_below, is_whole_word, ShapeRule, levels_known, widths_bounded, buses_differ, traffic_counted, leaves_numbered, items_of_words, shape_test, frame_of, IsShaped}
 use Rattle.bus_laws.specs.TreeModel.Turns.Machine.{no_traffic}
 use Rattle.bus_laws.specs.TreeModel.Start.Sources.{ImageValue, TreeValue, last_level, leaf_count, bus_widths, width_of, place_count, segment_span, stack_spans}
 use Rattle.bus_laws.specs.TreeModel.Start.Memory.{start_items, start_words}
@@ -388,6 +388,10 @@ module _ (t : TreeValue) (i : ImageValue) (tree : IsTree t) where
       buses-total : length (bus_widths t) ≡ suc (bus_total ls)
       buses-total = buses-counted t.levels ∙ ap bus_total h.are ∙ (let e : length l + bus_total ls ≡ suc (bus_total ls) = omega (arith, h.one) in e)
 
+      start-numbers : leaf_numbers_of (skeleton (root_of (start_machine t i))) [] ≡ numbers
+      unfolding start_machine
+      start-numbers = kids-built.numbered
+
       start-shape : IsShaped (start_machine t i)
       unfolding start_machine
       start-shape = record { each = each } where
@@ -427,17 +431,29 @@ room-enough t i none =
     enough true is h = cc
     enough false is h = ltb-false _ _ is
 
-pub start-kept : (t : TreeValue) (i : ImageValue) (m : MachineValue) → IsTree t → start_of t i ≡ Ok m → IsShaped m × IsMachineOk m
+-- what holds of the machine of a tree that has a place for each item holds of one that was built
+of-built : (P : MachineValue → Type 0) (t : TreeValue) (i : ImageValue) (m : MachineValue) → start_of t i ≡ Ok m → (item_count (start_items t i) ≤ place_count t → P (start_machine t i)) → P m
 unfolding start_of
-start-kept t i m tree built =
-    elim (start_refusal t i) as (λ o. start_refusal t i ≡ o → IsShaped m × IsMachineOk m) [
+of-built P t i m built holds =
+    elim (start_refusal t i) as (λ o. start_refusal t i ≡ o → P m) [
       | Some r ↦ λ is.
           let refused : Err r ≡ Ok m = rw is at built in
           cc
       | None ↦ λ none.
           let made : Ok (start_machine t i) ≡ Ok m = rw none at built in
           let same : start_machine t i ≡ m = cc in
-          let room = room-enough t i none in
-          let top = has_top t i tree room t.levels refl tree.some tree.under (wide-levels t.levels tree.widths) in
-          subst (λ k. IsShaped k × IsMachineOk k) same (start-shape t i tree room top.0 top.1 top.2, start-rules t i tree room top.0 top.1 top.2)
+          subst P same (holds (room-enough t i none))
     ] refl
+
+pub start-kept : (t : TreeValue) (i : ImageValue) (m : MachineValue) → IsTree t → start_of t i ≡ Ok m → IsShaped m × IsMachineOk m
+start-kept t i m tree built =
+    of-built (λ k. IsShaped k × IsMachineOk k) t i m built (λ room.
+    let top = has_top t i tree room t.levels refl tree.some tree.under (wide-levels t.levels tree.widths) in
+    (start-shape t i tree room top.0 top.1 top.2, start-rules t i tree room top.0 top.1 top.2))
+
+-- its leaves have the numbers from 0 on, as many as the tree has leaves
+pub start-numbered : (t : TreeValue) (i : ImageValue) (m : MachineValue) → IsTree t → start_of t i ≡ Ok m → leaf_numbers_of (skeleton (root_of m)) [] ≡ range_with_len 0 (leaf_count t)
+start-numbered t i m tree built =
+    of-built (λ k. leaf_numbers_of (skeleton (root_of k)) [] ≡ range_with_len 0 (leaf_count t)) t i m built (λ room.
+    let top = has_top t i tree room t.levels refl tree.some tree.under (wide-levels t.levels tree.widths) in
+    start-numbers t i tree room top.0 top.1 top.2)

@@ -5,7 +5,7 @@ use crate::of_ddm_outside::{MemoryShelf, NamedFile};
 use crate::several_leaves::{FLAG_ASKED, FLAG_READ, WORD_READ, WORD_STORED};
 use asked_commands::answers::{Answer, RUN, Turn, ask_with, named, output, sink};
 use asked_commands::files::{
-    Files, TreeFile, changed, one_leaf, schedule, store_and_load, tree, word_and_flag,
+    Files, TreeFile, changed, image, one_leaf, schedule, store_and_load, tree, word_and_flag,
 };
 use std::alloc::Global;
 use std::test::Fail;
@@ -80,6 +80,34 @@ fn refused_files(rt: HostRuntime) -> Result<(), Fail> {
             "{line}"
         );
     }
+    Ok(())
+}
+
+/// In the file of `the_bus_that_is_named`: what the directory over bus 2 holds of item 0.
+const HOLD_OF_BUS_2: usize = 556;
+
+// The read of leaf 1 has gone up to bus 0, which granted it, and leaf 0 has answered. So the directory over bus 2 holds nothing: no child
+// of its holds the item. A file that says that it holds the item Shared breaks a rule of bus 2, and none of bus 0.
+#[test]
+fn the_bus_that_is_named(rt: HostRuntime) -> Result<(), Fail> {
+    let alloc = rt.alloc();
+    let code = [
+        0x000102b7, // lui x5,0x10
+        0x0002a383, // lw x7,0(x5)
+        0x0002a403, // lw x8,0(x5)
+        0x00000073, // ecall
+    ];
+    let turns = ["h 1 0", "h 1 0", "g 2 q 0", "g 0 q 1", "g 1 d", "g 1 r 0"];
+    let files = Files {
+        tree: tree("((L)(L))", [4, 1, 1, 1]).bytes(alloc)?,
+        image: image(alloc, &code, &[], 0)?,
+        schedule: schedule(alloc, &turns, 1)?,
+    };
+    let file = output(alloc, SAVE, &files)?;
+    assert_eq!(rt; file.len(), 792);
+    let holds = changed(alloc, &file, HOLD_OF_BUS_2, &[1])?;
+    let answer = resumed(alloc, &files, &holds)?;
+    assert!(rt; answer.is_refusal(11, "ddm: checkpoint: broken rule 2 0"));
     Ok(())
 }
 

@@ -16,7 +16,8 @@ use Rattle.ddm_tree.specs.DdmTypes.declared.answers.TxKind.TheVariants.{InjectTx
 use Rattle.ddm_tree.specs.TreeModel.State.Directory.{is_top, is_up_read}
 use Rattle.ddm_tree.specs.TreeModel.State.Kinds.{has_kind}
 use Rattle.ddm_tree.specs.TreeRules.Bus.Item.{bits_of, kept_place, starts_with_inject, top_holds}
-use Rattle.ddm_tree.specs.TreeRules.Bus.Rules.{item_holds_at, kept_places}
+use Rattle.ddm_tree.specs.TreeRules.Bus.Rules.{kept_places}
+use Rattle.state_judging.specs.Judged.{item_kept_at}
 use Rattle.ddm_tree.specs.ItemStates.Parts.{node_items}
 use Rattle.ddm_tree.specs.Judging.{IsJudged, first_broken, keeps_places, keeps_rules, node_broken}
 use Rattle.ddm_tree.specs.Path.{node_at}
@@ -49,9 +50,9 @@ none-left n i past =
 
 -- ---- the rules of one item
 
-pub rules-judged : (p : DirValue) (ns : List Node) (x : ℕ) (rules top first : Bool) → rules ≡ item_holds_at p ns x → top ≡ top_holds (parent_face x p) (bits_of (parent_face x p) (faces_of x ns)) → first ≡ is_top p → (rules && (not first || top)) ≡ keeps_rules p ns x
+pub rules-judged : (p : DirValue) (ns : List Node) (x : ℕ) (rules top first : Bool) → rules ≡ item_kept_at p ns x → top ≡ top_holds (parent_face x p) (bits_of (parent_face x p) (faces_of x ns)) → first ≡ is_top p → (rules && (not first || top)) ≡ keeps_rules p ns x
 unfolding keeps_rules
-rules-judged p ns x rules top first rules_is top_is first_is = ap (λ b. b && (not first || top)) rules_is ∙ ap (λ b. item_holds_at p ns x && (not first || b)) top_is ∙ ap (λ b. item_holds_at p ns x && (not b || top_holds (parent_face x p) (bits_of (parent_face x p) (faces_of x ns)))) first_is
+rules-judged p ns x rules top first rules_is top_is first_is = ap (λ b. b && (not first || top)) rules_is ∙ ap (λ b. item_kept_at p ns x && (not first || b)) top_is ∙ ap (λ b. item_kept_at p ns x && (not b || top_holds (parent_face x p) (bits_of (parent_face x p) (faces_of x ns)))) first_is
 
 -- ---- places kept
 

@@ -17,8 +17,8 @@ use Rattle.ddm_tree.specs.TreeModel.Turns.Tree.{Name, bus_of_number, of_dir}
 use Rattle.ddm_tree.proofs.TreeModel.Tests.{and-first, and-second}
 use Rattle.ddm_tree.specs.TreeRules.Bus.Faces.{parent_face, faces_of}
 use Rattle.ddm_tree.specs.TreeRules.Bus.Item.{bits_of, top_holds}
-use Rattle.ddm_tree.specs.TreeRules.Bus.Rules.{held_at_top, item_holds_at, items_of_machine}
-use Rattle.state_judging.specs.Judged.{broken_among, broken_item, keeps_rules_at, or_none}
+use Rattle.ddm_tree.specs.TreeRules.Bus.Rules.{held_at_top, items_of_machine}
+use Rattle.state_judging.specs.Judged.{broken_among, broken_item, item_kept_at, keeps_rules_at, or_none}
 use Rattle.ddm_tree.specs.DdmTypes.declared.sizes.TreeCounts.{TreeCounts}
 use Rattle.ddm_tree.specs.Machine.{is_part}
 use Rattle.ddm_tree.specs.Judging.{first_broken, keeps_places, keeps_rules, node_broken}
@@ -74,7 +74,7 @@ one-rule rules false own other e = refl
 module _ (m : MachineValue) where
   same-rules : (d : DirValue) (ns : List Node) (x : ℕ) → not (is_top d) ≡ true → keeps_rules d ns x ≡ keeps_rules_at m d ns x
   unfolding keeps_rules
-  same-rules d ns x e = one-rule (item_holds_at d ns x) (is_top d) (top_holds (parent_face x d) (bits_of (parent_face x d) (faces_of x ns))) (held_at_top m x) e
+  same-rules d ns x e = one-rule (item_kept_at d ns x) (is_top d) (top_holds (parent_face x d) (bits_of (parent_face x d) (faces_of x ns))) (held_at_top m x) e
 
   same-broken : (d : DirValue) (ns : List Node) → not (is_top d) ≡ true → first_broken (items_of_machine m) d ns ≡ broken_item m d ns
   unfolding keeps_places

@@ -9,11 +9,12 @@ use Rattle.ddm_tree.specs.TreeModel.State.Rooms.{all_within}
 use Rattle.ddm_tree.specs.TreeModel.State.Shape.{skeleton, widths_fit}
 use Rattle.ddm_tree.specs.TreeRules.Bus.Faces.{parent_face, faces_of}
 use Rattle.ddm_tree.specs.TreeRules.Bus.Item.{bits_of, top_holds}
-use Rattle.ddm_tree.specs.TreeRules.Bus.Rules.{item_holds_at, kept_places}
+use Rattle.ddm_tree.specs.TreeRules.Bus.Rules.{kept_places}
+use Rattle.state_judging.specs.Judged.{item_kept_at}
 
 -- the item keeps the rules of the bus, and over the top's bus, where the level is 0, that of the top
 unfoldable pub keeps_rules : DirValue → List Node → ℕ → Bool
-keeps_rules p ns x = item_holds_at p ns x && (not (is_top p) || top_holds (parent_face x p) (bits_of (parent_face x p) (faces_of x ns)))
+keeps_rules p ns x = item_kept_at p ns x && (not (is_top p) || top_holds (parent_face x p) (bits_of (parent_face x p) (faces_of x ns)))
 
 -- as many places are reserved as are kept for so many items
 unfoldable pub keeps_places : ℕ → DirValue → Bool

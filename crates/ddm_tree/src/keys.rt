@@ -3,7 +3,7 @@
 ghost use Rattle.std.specs.Prelude.{◌≡◌, ◌<◌, ◌≤◌, ◌&&◌, nat_eq};
 ghost use Rattle.ddm_tree.specs.Keys.{is_key_before, key_cut};
 
-use crate::of_ddm_types::Key;
+use crate::of_ddm_types::{ChildNo, Key, Stamp};
 
 /// The key with the numbers of so many levels, and 0 in place of the others.
 fn cut(key: &Key, depth: u32) -> Key
@@ -11,28 +11,17 @@ fn cut(key: &Key, depth: u32) -> Key
     requires few { depth ≤ 4 }
     ensures { result ≡ key_cut depth key.now }
 {
+    let none = ChildNo(0);
+    let one = Stamp::zero().at_level(0, key.s0);
+    let two = one.at_level(1, key.s1);
+    let three = two.at_level(2, key.s2);
     match depth {
-        1 => Key {
-            s1: 0,
-            c1: 0,
-            s2: 0,
-            c2: 0,
-            s3: 0,
-            c3: 0,
-            ..*key
-        },
-        2 => Key {
-            s2: 0,
-            c2: 0,
-            s3: 0,
-            c3: 0,
-            ..*key
-        },
-        3 => Key {
-            s3: 0,
-            c3: 0,
-            ..*key
-        },
+        1 => key
+            .at_level(1, one, none)
+            .at_level(2, one, none)
+            .at_level(3, one, none),
+        2 => key.at_level(2, two, none).at_level(3, two, none),
+        3 => key.at_level(3, three, none),
         _ => *key,
     }
 }

@@ -53,6 +53,8 @@ pub use found::{Found, place_at};
 pub use idle::Idle;
 pub use machine::Machine;
 pub use named::Named;
+pub use of_state_reading::StateRefusal;
+pub use of_tree_model::TreeChild;
 pub use over::directories;
 pub use parts::Parts;
 pub use quiet::{Known, Quiet};

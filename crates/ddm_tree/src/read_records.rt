@@ -6,11 +6,12 @@ ghost use Rattle.ddm_tree.specs.StateReading.Gives.{Gives};
 ghost use Rattle.ddm_tree.specs.StateReading.Parts.{effect_of, effect_size, read_key, read_op, read_traffic};
 ghost use Rattle.ddm_tree.specs.StateReading.Reading.{word_that};
 
-use crate::of_ddm_types::{Effect, HartNo, Key, Op};
+use crate::of_ddm_types::{ChildNo, Effect, HartNo, Key, Op, Stamp};
 use crate::of_state_reading::{
     StateRefusal, any_word, count_word, keep, look, word_below, word_if, word_to,
 };
 use crate::of_tree_model::Traffic;
+use crate::turns::key_on;
 
 /// Reads what a bus has granted.
 #[tactic(auto, unfolding(crate::specs::Opened::read_traffic))]
@@ -52,17 +53,10 @@ fn read_key(words: &[u32], at: &mut u32, depth: u32) -> Result<Key, StateRefusal
     let s3 = word_if(words, at, 3 < depth)?;
     let c3 = word_if(words, at, 3 < depth)?;
     let i = any_word(words, at)?;
-    Ok(Key {
-        s0,
-        c0,
-        s1,
-        c1,
-        s2,
-        c2,
-        s3,
-        c3,
-        i,
-    })
+    let stamp = Stamp::zero().at_level(0, s0).at_level(1, s1);
+    let stamp = stamp.at_level(2, s2).at_level(3, s3);
+    let path = [ChildNo(c0), ChildNo(c1), ChildNo(c2), ChildNo(c3)];
+    Ok(key_on(stamp, &path, i))
 }
 
 /// How many numbers an effect has, by its own number, 0 to 7.

@@ -30,25 +30,21 @@ pub(crate) fn victim(turn: &Turn) -> u8
 }
 
 /// The child number of this level on a path, 0 where the path has none.
-fn child_on(path: &[ChildNo], level: usize) -> u32
+fn child_on(path: &[ChildNo], level: usize) -> ChildNo
     ensures { result ≡ slice_index path.now level }
 {
-    path.get(level).map_or(0, |child| child.0)
+    path.get(level).map_or(ChildNo(0), |child| *child)
 }
 
-/// The key of an instruction that completes now at the leaf of this path.
+/// The key with the numbers of a stamp, the child numbers of a path and this last number: that of an instruction that completes now at
+/// the leaf of this path, of whose hart so many are done.
 pub(crate) fn key_on(present: Stamp, path: &[ChildNo], done: u32) -> Key
     ensures { result ≡ key_on present path.now done }
 {
-    Key {
-        s0: present.s0,
-        c0: child_on(path, 0),
-        s1: present.s1,
-        c1: child_on(path, 1),
-        s2: present.s2,
-        c2: child_on(path, 2),
-        s3: present.s3,
-        c3: child_on(path, 3),
-        i: done,
-    }
+    Key::zero()
+        .at_level(0, present, child_on(path, 0))
+        .at_level(1, present, child_on(path, 1))
+        .at_level(2, present, child_on(path, 2))
+        .at_level(3, present, child_on(path, 3))
+        .counted(done)
 }

@@ -115,7 +115,7 @@ impl<const WORDS: usize, C: Subtree<WORDS>> Machine<WORDS, C> {
     }
 
     /// Puts the words of a leaf's hart at the end.
-    fn write_hart(&self, leaf: LeafNo, out: &mut Vec<u32>) -> Result<(), NoMemory>
+    pub fn write_hart(&self, leaf: LeafNo, out: &mut Vec<u32>) -> Result<(), NoMemory>
         requires { is_part (leaf_of_number leaf) self.now.machine ≡ true }
         ensures ok { OnOk result (Adds out.old.items out.new.items (words_of_leaf hart_words leaf self.now.machine)) }
         ensures err { OnErr result (Begins out.old.items out.new.items) }
@@ -125,7 +125,7 @@ impl<const WORDS: usize, C: Subtree<WORDS>> Machine<WORDS, C> {
     }
 
     /// Puts the words of a leaf at the end, but those of its hart.
-    fn write_leaf(&self, leaf: LeafNo, out: &mut Vec<u32>) -> Result<(), NoMemory>
+    pub fn write_leaf(&self, leaf: LeafNo, out: &mut Vec<u32>) -> Result<(), NoMemory>
         requires { is_part (leaf_of_number leaf) self.now.machine ≡ true }
         ensures ok { OnOk result (Adds out.old.items out.new.items (words_of_leaf leaf_words leaf self.now.machine)) }
         ensures err { OnErr result (Begins out.old.items out.new.items) }
@@ -135,7 +135,7 @@ impl<const WORDS: usize, C: Subtree<WORDS>> Machine<WORDS, C> {
     }
 
     /// Puts the words of the directory over a bus at the end.
-    fn write_part(&self, bus: BusNo, out: &mut Vec<u32>) -> Result<(), NoMemory>
+    pub fn write_part(&self, bus: BusNo, out: &mut Vec<u32>) -> Result<(), NoMemory>
         requires { is_part (bus_of_number bus) self.now.machine ≡ true }
         ensures ok { OnOk result (Adds out.old.items out.new.items (dir_words_of bus self.now.machine)) }
         ensures err { OnErr result (Begins out.old.items out.new.items) }

@@ -36,6 +36,7 @@ pub struct Key {
 
 impl Stamp {
     /// The stamp before any grant.
+    #[inline(always)]
     pub fn zero() -> Self
         ensures { result ≡ stamp_zero }
     {
@@ -48,6 +49,7 @@ impl Stamp {
     }
 
     /// The stamp with `n` as the number of this level, counted from 0 from the top.
+    #[inline(always)]
     pub fn at_level(self, level: u32, n: u32) -> Self
         requires { level < LEVELS }
         ensures { result ≡ stamp_at self level n }
@@ -63,6 +65,7 @@ impl Stamp {
 
 impl Key {
     /// The key whose numbers are all 0.
+    #[inline(always)]
     pub fn zero() -> Self
         ensures { result ≡ key_zero }
     {
@@ -80,6 +83,7 @@ impl Key {
     }
 
     /// The key with the numbers of this stamp, and the child as the child number of this level.
+    #[inline(always)]
     pub fn at_level(self, level: u32, stamp: Stamp, child: ChildNo) -> Self
         requires { level < LEVELS }
         ensures { result ≡ key_at self level stamp child }
@@ -112,6 +116,7 @@ impl Key {
     }
 
     /// The key with `i` as its last number.
+    #[inline(always)]
     pub fn counted(self, i: u32) -> Self
         ensures { result ≡ key_counted self i }
     {

@@ -16,7 +16,7 @@ module _ {X : Type 0} (f : X → TxKind) (p : X → Bool) where
   abbrev pub passing : List X → List TxKind
   passing es = map f (filter p es)
 
-  pushed : (es : List X) (e : X) → passing (es ++ e ∷ []) ≡ (if p e then passing es ++ f e ∷ [] else passing es)
+  pub pushed : (es : List X) (e : X) → passing (es ++ e ∷ []) ≡ (if p e then passing es ++ f e ∷ [] else passing es)
   pushed [] e = by_test (p e)
     where
       by_test : (b : Bool) → map f (cond b (e ∷ []) []) ≡ (if b then f e ∷ [] else [])
@@ -29,7 +29,7 @@ module _ {X : Type 0} (f : X → TxKind) (p : X → Bool) where
       by_test true false h = ap (λ ks. f d ∷ ks) h
       by_test false c h = h
 
-  entry-at : (i : ℕ) (es : List X) → i < length es → (e : X) × (slice_get es i ≡ Some e) × (take (suc i) es ≡ take i es ++ e ∷ [])
+  pub entry-at : (i : ℕ) (es : List X) → i < length es → (e : X) × (slice_get es i ≡ Some e) × (take (suc i) es ≡ take i es ++ e ∷ [])
   entry-at i [] l = absurd (omega (arith, l))
   entry-at zero (e ∷ es) l = (e, refl, refl)
   entry-at (suc i) (d ∷ es) l =

@@ -9,4 +9,5 @@ pub mod Lists
 pub mod Packing
 pub mod Records
 pub mod EntryKinds
+pub mod Walks
 pub mod StampOrder

@@ -7,5 +7,6 @@ pub mod TreeModel
 pub mod TreeRules
 pub mod Packed
 pub mod DirParts
+pub mod Listed
 pub mod Stamps
 pub mod Opened

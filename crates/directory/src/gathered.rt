@@ -14,7 +14,7 @@ use bus_judging::{QueueFacts, RequestFacts};
 use tx_queue::Queue;
 
 /// The entry at this place of a down list is gathered, where it is one of the item.
-fn with_entry<const WORDS: usize>(
+pub(crate) fn with_entry<const WORDS: usize>(
     facts: &mut QueueFacts,
     down: &Queue<DownEntry<WORDS>>,
     item: ItemId,
@@ -45,7 +45,7 @@ pub fn down_facts<const WORDS: usize>(down: &Queue<DownEntry<WORDS>>, item: Item
 }
 
 /// The request at this place is gathered, where it is one of the item.
-fn with_request(
+pub(crate) fn with_request(
     facts: &mut RequestFacts,
     requests: &Queue<(TxKind, ItemId)>,
     item: ItemId,

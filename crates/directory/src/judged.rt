@@ -6,7 +6,7 @@ ghost use Rattle.directory.specs.TreeRules.Bus.Faces.{face_above, parent_face};
 ghost use Rattle.bus_judging.specs.Parent.{facts_at};
 
 use crate::DirState;
-use crate::gathered::{asked_facts, down_facts};
+use crate::listed::{listed_asked_facts, listed_down_facts};
 use crate::of_ddm_types::ItemId;
 use crate::of_item_states::Parent;
 use bus_judging::{ChildFace, ParentFacts};
@@ -30,8 +30,8 @@ impl<const WORDS: usize> JudgedParent<WORDS> for DirState<WORDS> {
             note: self.kept.note(item),
             answering: self.kept.answering(item),
             parked: self.parked(item).is_some(),
-            queue: down_facts(&self.down, item),
-            requests: asked_facts(&self.requests, item),
+            queue: listed_down_facts(&self.down, &self.down_places, item),
+            requests: listed_asked_facts(&self.requests, &self.request_places, item),
         }
     }
 

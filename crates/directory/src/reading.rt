@@ -240,7 +240,9 @@ impl<const WORDS: usize> DirState<WORDS> {
         self.epoch = stamp_words(words, &mut at, self.level)?;
         self.kept.read(words, &mut at, children, false)?;
         self.down.read_entries(words, &mut at, self.level)?;
+        self.down_places.tell(&self.down);
         self.requests.read_requests(words, &mut at)?;
+        self.request_places.tell(&self.requests);
         self.replies.read_copies(words, &mut at)?;
         self.parking.read(words, &mut at, items)?;
         let reserved = word_to(words, &mut at, self.parking.room())?;

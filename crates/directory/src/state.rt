@@ -12,6 +12,7 @@ use crate::ItemTable;
 use crate::last_copy::later_copy;
 use crate::of_ddm_types::{BusNo, Hold, ItemId, NoMemory, Stamp, TreeSizes, TxKind, Words};
 use crate::of_item_states::DownEntry;
+use crate::places::Places;
 use replacement::Parking;
 use std::alloc::Global;
 use std::marker::Model;
@@ -29,6 +30,9 @@ pub struct DirState<const WORDS: usize> {
     pub(crate) parking: Parking<WORDS>,
     pub(crate) count: u32,
     pub(crate) epoch: Stamp,
+    /// Where the entries of the down list and the requests stood when they were read.
+    pub(crate) down_places: Places,
+    pub(crate) request_places: Places,
 }
 
 impl<const WORDS: usize> Model for DirState<WORDS> {
@@ -85,6 +89,8 @@ impl<const WORDS: usize> DirState<WORDS> {
             parking,
             count: 0,
             epoch: Stamp::zero(),
+            down_places: Places::none(alloc),
+            request_places: Places::none(alloc),
         })
     }
 

@@ -20,7 +20,7 @@ ghost use Rattle.inspector.specs.DdmTree.Reads.{state_of};
 pub use crate::of_ddm_tree::Found;
 use crate::of_ddm_tree::{Machine, Subtree};
 use crate::of_ddm_types::{BusNo, ItemId, LeafNo, LeafState, NoMemory, TxKind};
-use crate::of_tree_model::Traffic;
+pub use crate::of_tree_model::{CopyPlace, Traffic};
 pub use all_copies::copies;
 use std::alloc::Global;
 

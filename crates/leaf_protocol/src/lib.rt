@@ -25,3 +25,4 @@ mod turn;
 mod writing;
 
 pub use leaf::Leaf;
+pub use of_tree_model::LeafSpot;

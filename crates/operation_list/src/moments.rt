@@ -3,7 +3,7 @@
 ghost use Rattle.std.specs.Prelude.{◌≡◌, ◌<◌, ◌↔◌, IsTrue, length};
 ghost use Rattle.operation_list.specs.Kept.{key_at, moment_of, op_of};
 
-use ddm_types::{Effect, HartNo, Key, Op};
+use ddm_types::{ChildNo, Effect, HartNo, Key, Op, Stamp};
 
 /// Whose an operation is, and its key without the last number. A hart's operations between two grants share them.
 #[derive(Clone, Copy)]
@@ -68,17 +68,17 @@ impl Moment {
     fn key_at(&self, i: u32) -> Key
         ensures { result ≡ key_at self.now i }
     {
-        Key {
-            s0: self.s0,
-            c0: self.c0,
-            s1: self.s1,
-            c1: self.c1,
-            s2: self.s2,
-            c2: self.c2,
-            s3: self.s3,
-            c3: self.c3,
-            i,
-        }
+        let stamp = Stamp::zero()
+            .at_level(0, self.s0)
+            .at_level(1, self.s1)
+            .at_level(2, self.s2)
+            .at_level(3, self.s3);
+        Key::zero()
+            .at_level(0, stamp, ChildNo(self.c0))
+            .at_level(1, stamp, ChildNo(self.c1))
+            .at_level(2, stamp, ChildNo(self.c2))
+            .at_level(3, stamp, ChildNo(self.c3))
+            .counted(i)
     }
 }
 

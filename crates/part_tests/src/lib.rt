@@ -36,6 +36,8 @@ mod with_replacement;
 #[cfg(test)]
 mod with_reservations;
 #[cfg(test)]
+mod with_split_bus;
+#[cfg(test)]
 mod with_top_node;
 #[cfg(test)]
 mod with_tx_queue;

@@ -93,6 +93,7 @@ fn injects_and_their_places(rt: HostRuntime) -> Result<(), Fail> {
     let stamp = take_first(&mut dir).expect(&rt, "an entry");
     assert_eq!(rt; stamp.s0, 5);
     assert_eq!(rt; stamp.s1, 1);
+    assert_eq!(rt; dir.epoch().s0, 5);
     dir.release_place();
     assert!(rt; !dir.parking_full());
     assert!(rt; there_is(&dir, ItemId(1)));

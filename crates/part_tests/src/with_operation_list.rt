@@ -1,19 +1,15 @@
 //! Tests of lists of operations.
 
-use crate::of_ddm_types::{Effect, HartNo, Key, Op};
+use crate::of_ddm_types::{ChildNo, Effect, HartNo, Key, Op, Stamp};
 use operation_list::Operations;
 use std::test::Fail;
 
 // An operation of a hart that is leaf 0 or 1 below bus 0, behind so many grants and so many of its own operations.
 fn op(hart: u32, grants: u32, own: u32) -> Op {
-    let key = Key {
-        s0: grants,
-        c0: hart,
-        i: own,
-        ..Key::zero()
-    };
+    let stamp = Stamp::zero().at_level(0, grants);
+    let key = Key::zero().at_level(0, stamp, ChildNo(hart));
     Op {
-        key,
+        key: key.counted(own),
         hart: HartNo(hart),
         pc: 0x0001_0000,
         effect: Effect::Plain,
@@ -56,6 +52,10 @@ fn copied_and_forgotten(rt: HostRuntime) -> Result<(), Fail> {
     list.copy_from(&other);
     assert_eq!(rt; list.len(), 2);
     assert_eq!(rt; list.get(1), op(1, 2, 1));
+    let mut ops = list.iter();
+    assert_eq!(rt; ops.next(), Some(op(1, 0, 0)));
+    assert_eq!(rt; ops.next(), Some(op(1, 2, 1)));
+    assert_eq!(rt; ops.next(), None);
     list.push(&op(0, 2, 0));
     assert_eq!(rt; list.get(2), op(0, 2, 0));
     list.clear();

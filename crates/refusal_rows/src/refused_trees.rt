@@ -53,6 +53,56 @@ fn lines_at_fault(rt: HostRuntime) -> Result<(), Fail> {
     Ok(())
 }
 
+// A tree file whose first key is this, joined so many times by full stops, with a value that stands in so many arrays or tables.
+fn nested(alloc: Global, parts: u32, depth: u32, open: &str, close: &str) -> Result<Vec<u8>, Fail> {
+    let mut text = b"a".to_vec(alloc)?;
+    for _ in 1..parts {
+        text.extend_from_slice(b".a")?;
+    }
+    text.extend_from_slice(b" = ")?;
+    for _ in 0..depth {
+        text.extend_from_slice(open.as_bytes())?;
+    }
+    text.push(b'1')?;
+    for _ in 0..depth {
+        text.extend_from_slice(close.as_bytes())?;
+    }
+    text.push(b'\n')?;
+    Ok(text)
+}
+
+// Of arrays and tables in one another, of the parts of a key and of numbers there is a most; up to it the key is an unknown one.
+#[test]
+fn what_is_no_toml(rt: HostRuntime) -> Result<(), Fail> {
+    let alloc = rt.alloc();
+    let trees = [
+        (nested(alloc, 1, 80, "[", "]")?, "unknown key a"),
+        (nested(alloc, 1, 81, "[", "]")?, "not toml"),
+        (nested(alloc, 1, 80, "{a=", "}")?, "unknown key a"),
+        (nested(alloc, 1, 81, "{a=", "}")?, "not toml"),
+        (nested(alloc, 80, 0, "", "")?, "unknown key a"),
+        (nested(alloc, 81, 0, "", "")?, "not toml"),
+        (b"a = 1e308\n".to_vec(alloc)?, "unknown key a"),
+        (b"a = 1e309\n".to_vec(alloc)?, "not toml"),
+        (b"a = 9223372036854775807\n".to_vec(alloc)?, "unknown key a"),
+        (b"a = 9223372036854775808\n".to_vec(alloc)?, "not toml"),
+        (b"a = \"\xff\"\n".to_vec(alloc)?, "not toml"),
+    ];
+    for (tree, name) in trees {
+        let files = Files {
+            tree,
+            image: store_and_load(alloc)?,
+            schedule: b"end\n".to_vec(alloc)?,
+        };
+        let line = format!(in alloc; "ddm: tree: {name}")?;
+        assert!(rt;
+            ask(alloc, RUN, &files)?.is_refusal(4, line.as_str()),
+            "{line}"
+        );
+    }
+    Ok(())
+}
+
 #[test]
 fn files_at_fault(rt: HostRuntime) -> Result<(), Fail> {
     let alloc = rt.alloc();

@@ -1,7 +1,7 @@
 //! The lines of faults that no file is refused by.
 
 ghost use Rattle.std.specs.Prelude.{◌≡◌};
-ghost use Rattle.text_model.specs.Faults.{memory_fault, read_fault, unbuilt_fault, usage_fault, write_fault};
+ghost use Rattle.text_model.specs.Faults.{memory_fault, read_fault, usage_fault, write_fault};
 ghost use Rattle.report.specs.Roles.{role_text};
 
 use crate::line::Line;
@@ -15,18 +15,6 @@ pub fn usage_line(place: u32) -> Line
     let mut line = Line::new();
     line.push(b"ddm: usage: word ");
     line.push_number(u64::from(place));
-    line.push(b"\n");
-    line
-}
-
-/// The line for a file of a form that isn't built yet.
-#[tactic(auto, unfolding(text_model::specs::Faults::unbuilt_fault))]
-pub fn unbuilt_line(role: FileRole) -> Line
-    ensures { result ≡ unbuilt_fault (role_text role) }
-{
-    let mut line = Line::new();
-    line.push(b"ddm: unbuilt: ");
-    line.push_role(role);
     line.push(b"\n");
     line
 }

@@ -2,7 +2,7 @@
 
 ghost use Rattle.std.specs.Prelude.{◌≡◌, ◌<◌, ◌≤◌, ◌+◌, ◌*◌, OnOk, length, take};
 ghost use Rattle.report.specs.DdmText.Adds.{Adds};
-ghost use Rattle.text_model.specs.Report.{hart_line, head_lines, or_dash, out_line, put_text, put_text_by, put_texts, regs_line, turns_line};
+ghost use Rattle.text_model.specs.Report.{hart_line, head_lines, or_dash, put_text, put_text_by, put_texts, regs_line, turns_line};
 ghost use Rattle.report.specs.LineParts.{any_byte, are_silent, dash_behind};
 ghost use Rattle.report.specs.ReportLeft.{hart_front};
 ghost use Rattle.report.specs.Room.{UsesRoom};
@@ -206,22 +206,5 @@ pub fn push_hart_front<W: TextBuffer>(
     push_bytes(out, b"out ")?;
     push_hart(out, number)?;
     push_bytes(out, b" ")?;
-    Ok(())
-}
-
-/// Puts at the end the line of a hart's output, out of operations in order of completion.
-#[tactic(auto, unfolding(text_model::specs::Report::out_line))]
-pub fn push_out_line<W: TextBuffer>(
-    out: &mut W,
-    hart: HartNo,
-    ops: &Operations,
-) -> Result<(), NoMemory>
-    ensures { OnOk result (Adds (W.text out.old) (W.text out.new) (out_line hart ops.now.items)) }
-{
-    push_bytes(out, b"out ")?;
-    push_hart(out, hart)?;
-    push_bytes(out, b" ")?;
-    push_output(out, hart, ops)?;
-    push_bytes(out, b"\n")?;
     Ok(())
 }

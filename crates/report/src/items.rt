@@ -2,7 +2,7 @@
 
 ghost use Rattle.std.specs.Prelude.{◌≡◌, ◌+◌, ◌*◌, ◌∷◌, ◌++◌, [], OnOk, Some, codes, decimal, length};
 ghost use Rattle.report.specs.DdmText.Adds.{Adds};
-ghost use Rattle.text_model.specs.Report.{copy_place_text, item_line, letter_text, letter_texts};
+ghost use Rattle.text_model.specs.Report.{copy_place_text, letter_text};
 ghost use Rattle.report.specs.LineParts.{item_front};
 ghost use Rattle.report.specs.Room.{UsesRoom};
 
@@ -67,20 +67,6 @@ pub fn push_letter<W: TextBuffer>(out: &mut W, state: Option<LeafState>) -> Resu
     }
 }
 
-/// Puts at the end a letter for each leaf's entry of an item.
-#[tactic(auto, unfolding(text_model::specs::Report::letter_texts))]
-pub fn push_letters<W: TextBuffer>(
-    out: &mut W,
-    states: &[Option<LeafState>],
-) -> Result<(), NoMemory>
-    ensures { OnOk result (Adds (W.text out.old) (W.text out.new) (letter_texts states.now)) }
-{
-    for state in states {
-        push_letter(out, *state)?;
-    }
-    Ok(())
-}
-
 // A way of a leaf between two spaces. Numbers of one digit, as mostly, are put at once with the words.
 fn push_leaf_way<W: TextBuffer>(out: &mut W, leaf: LeafNo, way: u32) -> Result<(), NoMemory>
     ensures text { OnOk result (Adds (W.text out.old) (W.text out.new)
@@ -134,29 +120,5 @@ pub fn push_item_front<W: TextBuffer>(
     push_spaced_hex8(out, address)?;
     push_words(out, words)?;
     push_place_between(out, place)?;
-    Ok(())
-}
-
-/// Puts at the end the line of an item with its current words, where they are, and the state of its entry
-/// in each leaf.
-pub fn push_item_line<W: TextBuffer>(
-    out: &mut W,
-    item: ItemId,
-    address: u32,
-    words: &[u32],
-    place: CopyPlace,
-    states: &[Option<LeafState>],
-) -> Result<(), NoMemory>
-    ensures { OnOk result (Adds (W.text out.old) (W.text out.new) (item_line (record {
-      number = item;
-      address = address;
-      words = words.now;
-      place = place;
-      states = states.now;
-    }))) }
-{
-    push_item_front(out, item, address, words, place)?;
-    push_letters(out, states)?;
-    push_bytes(out, b"\n")?;
     Ok(())
 }

@@ -33,24 +33,18 @@ mod trace;
 mod trace_pieces;
 mod writing;
 
-pub use answers::{
-    push_answer, push_busy, push_entry, push_kind, push_place, push_queue_name, push_why,
-};
 pub use buffers::TextBuffer;
 pub use buses::push_bus_line;
-pub use effects::{push_effect, push_halt, push_state};
-pub use faults::{memory_line, read_line, unbuilt_line, usage_line, write_line};
-pub use harts::{
-    push_hart_line, push_head, push_out_line, push_output, push_regs_line, push_turns_line,
-};
-pub use items::{push_copy_place, push_item_line, push_letters};
+pub use effects::push_state;
+pub use faults::{memory_line, read_line, usage_line, write_line};
+pub use harts::{push_hart_line, push_output};
 pub use line::{LINE_BYTES, Line, Line as FaultLine};
-pub use operations::{push_key, push_op_line, push_op_lines};
+pub use operations::push_op_line;
 pub use parts::{LEAST_PIECE, Parts, joined};
-pub use pieces::{push_bytes, push_number, push_words};
+pub use pieces::{push_bytes, push_number};
 pub use report_pieces::{ReportPieces, report_text, sorted_witness};
 pub use roles::FileRole;
 pub use summary::summary_text;
-pub use trace::{push_trace, push_trace_line, push_turn};
+pub use trace::{push_trace, push_turn};
 pub use trace_pieces::{TracePieces, trace_text};
 pub use writing::{MOST_OFFERED, write_all, write_pieces};

@@ -4,7 +4,7 @@ ghost use Rattle.std.specs.Prelude.{◌*◌, ◌≤◌, ◌++◌, OnOk, codes, d
 ghost use Rattle.report.specs.DdmText.Adds.{Adds};
 ghost use Rattle.report.specs.DdmText.Hex.{hex8};
 ghost use Rattle.text_model.specs.Words.{effect_text};
-ghost use Rattle.text_model.specs.Report.{key_text, level_numbers, number_stops, op_line, op_lines};
+ghost use Rattle.text_model.specs.Report.{key_text, level_numbers, number_stops, op_line};
 ghost use Rattle.report.specs.Room.{UsesRoom};
 
 use crate::buffers::TextBuffer;
@@ -125,17 +125,5 @@ pub fn push_op_line<W: TextBuffer>(out: &mut W, depth: u32, op: Op) -> Result<()
     push_op_front(out, op.hart)?;
     push_key(out, depth, op.key)?;
     push_op_end(out, op.pc, op.effect)?;
-    Ok(())
-}
-
-/// Puts at the end a line for each operation, in the order of the list.
-#[tactic(auto, unfolding(text_model::specs::Report::op_lines))]
-pub fn push_op_lines<W: TextBuffer>(out: &mut W, depth: u32, ops: &[Op]) -> Result<(), NoMemory>
-    requires { depth ≤ LEVELS }
-    ensures { OnOk result (Adds (W.text out.old) (W.text out.new) (op_lines depth ops.now)) }
-{
-    for op in ops {
-        push_op_line(out, depth, *op)?;
-    }
     Ok(())
 }

@@ -22,7 +22,7 @@ mod trees;
 
 pub use crate::of_any_machine::{AnyMachine, Depths, Machines, release};
 pub use any::build;
-pub use any_runs::{forget_ops, run};
+pub use any_runs::{RunCounts, forget_ops, run};
 pub use made_image::make_image;
 pub use refusal::BuildRefusal;
 pub use trees::{start_leaves, start_machine};

@@ -1,11 +1,11 @@
 -- The turns of a generator's words, turn by turn.
 use Rattle.std.proofs.Common.{◌≡◌, ℕ, zero, suc, ◌+◌, ◌-◌, ◌*◌, ◌<◌, ◌≤◌, List, [], ◌∷◌, ◌++◌, length, take, drop, refl, sym, ap, ◌∙◌, arith}
 use Rattle.std.specs.Prelude.{slice_index_or, slice_set}
-use Rattle.std.proofs.lemmas.List.{flat_map_more, length-set, take-set-le, take_more_set}
+use Rattle.std.proofs.lemmas.List.{length-set, take-set-le, take_more_set}
 use Rattle.schedule_log.specs.DdmTypes.declared.turns.Turn.{Turn}
 use Rattle.rand_pcg.specs.Lcg.{Lcg}
 use Rattle.rand_pcg.specs.Pcg.{pcg32}
-use Rattle.text_model.specs.Schedule.{ShapeView, turn_line, turn_lines}
+use Rattle.text_model.specs.Schedule.{ShapeView}
 use Rattle.text_model.specs.Seeded.{seeded_turn, turns_of_words, words_of}
 use Rattle.schedule_log.specs.Seeding.{SeededView, turns_left}
 
@@ -96,10 +96,3 @@ front_drawn shape before after left made block all is fewer inside front =
 -- the last one is put there
 pub last_before : (made : ℕ) (block all : List Turn) (t : Turn) (rest : List Turn) → made < length block → take made block ≡ take made all → drop made all ≡ t ∷ rest → take (made + 1) (slice_set block made t) ≡ take (made + 1) all
 last_before made block all t rest inside front here = take_more_set block made t inside ∙ ap (λ us. us ++ t ∷ []) front ∙ left_before made all t rest here
-
--- ---- the text of all
-
--- the line of one turn more behind the lines of those before
-pub lines_before : (made : ℕ) (all : List Turn) (t : Turn) (rest : List Turn) → drop made all ≡ t ∷ rest → turn_lines (take made all) ++ turn_line t ≡ turn_lines (take (made + 1) all)
-unfolding turn_lines
-lines_before made all t rest here = flat_map_more turn_line [] (take made all) t ∙ ap turn_lines (left_before made all t rest here)

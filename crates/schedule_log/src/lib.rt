@@ -24,4 +24,4 @@ pub use reading::ScheduleReader;
 pub use refusal::FeedError;
 pub use seeding::{SeededTurns, seeded};
 pub use text_model::ScheduleRefusal;
-pub use writing::{push_turn, seeded_text, write_schedule};
+pub use writing::{push_turn, write_schedule};

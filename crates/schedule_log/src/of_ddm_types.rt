@@ -1,6 +1,3 @@
 //! What this crate and those above it name of `ddm_types`.
 
-pub use text_model::of_ddm_types::{
-    BusNo, ChildNo, Divisor, Effect, HaltCause, HartNo, ItemId, Key, LeafNo, LeafState, LogEntry,
-    NoMemory, Op, Place, Start, Turn, TurnAnswer, TxKind,
-};
+pub use text_model::of_ddm_types::{BusNo, ChildNo, Divisor, HartNo, NoMemory, Turn};

@@ -3,14 +3,10 @@
 ghost use Rattle.std.specs.Prelude.{◌≡◌, OnOk, IfOk, codes, decimal};
 ghost use Rattle.schedule_log.specs.DdmText.Adds.{Adds};
 ghost use Rattle.text_model.specs.Schedule.{schedule_text, turn_line, turn_lines, turn_text};
-ghost use Rattle.text_model.specs.Seeded.{seeded_turns};
-ghost use Rattle.schedule_log.specs.Shapes.{shape_view};
 
 use crate::of_ddm_text::push_decimal;
 use crate::of_ddm_types::{NoMemory, Turn};
-use crate::seeding::SeededTurns;
 use std::alloc::Global;
-use tree_config::Shape;
 
 fn push_bytes(out: &mut Vec<u8>, text: &[u8]) -> Result<(), NoMemory>
     ensures { OnOk result (Adds out.old.items out.new.items text.now) }
@@ -101,21 +97,6 @@ pub fn write_schedule(alloc: Global, turns: &[Turn]) -> Result<Vec<u8>, NoMemory
 {
     let mut text = Vec::new(alloc);
     push_lines(&mut text, turns)?;
-    push_end(&mut text)?;
-    Ok(text)
-}
-
-/// The text of the schedule of a seed. No turn of it is kept.
-#[tactic(auto, unfolding(text_model::specs::Schedule::schedule_text))]
-pub fn seeded_text(alloc: Global, seed: u64, turns: u32, shape: &Shape) -> Result<Vec<u8>, NoMemory>
-    ensures { IfOk result (λ text. text.items ≡ schedule_text (seeded_turns (shape_view shape.now) seed turns)) }
-{
-    let mut left = SeededTurns::new(alloc, shape)?;
-    left.begin(seed, turns);
-    let mut text = Vec::new(alloc);
-    for _made in 0..turns {
-        push_line(&mut text, left.next_turn())?;
-    }
     push_end(&mut text)?;
     Ok(text)
 }

@@ -21,4 +21,5 @@ mod told;
 mod turns;
 
 pub use foreseen::would_grant;
+pub use of_tree_model::BusTurn;
 pub use turns::{grant, grant_into};

@@ -11,5 +11,5 @@ mod words;
 
 pub use laws::memory_is_the_start;
 pub use overlaps::{Overlap, first_overlap};
-pub use spans::{segment_span, spans_of, stack_span};
+pub use spans::spans_of;
 pub use words::{memory_word, memory_words, words_of_items};

@@ -1,7 +1,7 @@
 -- Judged bus by bus, no item breaks a rule: just where every bus of the machine keeps its rules.
--- Letters: m is a machine, n how many items there are, p and d directories over children ns.
+-- Letters: m is a machine, n how many items there are, p and d directories over children ns, x an item.
 use Rattle.std.specs.Prelude.{find, if◌then◌else◌, ◌≡◌, ◌<◌, ◌≤◌, ℕ, zero, suc, ◌+◌, Bool, true, false, not, ◌||◌, nat_eq, List, length, Option, Some, None, refl}
-use Rattle.std.specs.List.{range_with_len}
+use Rattle.std.specs.List.{range_with_len, list_all}
 use Rattle.std.proofs.Common.{arith, inl, inr, subst}
 use Rattle.std.proofs.lemmas.Bool.{eqb-true, eq-eqb, and_parts}
 use Rattle.std.proofs.lemmas.Bool.Decides.{eqb_tells}
@@ -9,15 +9,18 @@ use Rattle.std.specs.Cmp.Derive.{both_true}
 use Rattle.state_judging.specs.TreeModel.State.Values.{DirValue, Node, Nodes, leaf_node, dir_node, no_nodes, more_nodes, children, MachineValue, root_of}
 use Rattle.state_judging.specs.TreeModel.State.Directory.{is_top}
 use Rattle.state_judging.specs.TreeModel.State.Shape.{IsShaped, levels_known}
+use Rattle.state_judging.specs.TreeModel.State.Leaf.{words_of_item}
 use Rattle.state_judging.specs.TreeModel.Turns.Machine.{ask_bus}
 use Rattle.state_judging.proofs.TreeModel.Tests.{first_some-none_first, first_some-none_second}
 use Rattle.state_judging.specs.TreeRules.Bus.Own.{dir_holds, leaf_holds, IsTopOk}
-use Rattle.state_judging.specs.TreeRules.Bus.Rules.{IsBusOk, IsTreeOk, AreTreesOk, IsMachineOk, items_of_machine, item_holds_at, held_at_top}
-use Rattle.state_judging.specs.TreeRules.Bus.Faces.{parent_face, faces_of}
+use Rattle.state_judging.specs.TreeRules.Bus.Rules.{IsBusOk, IsTreeOk, AreTreesOk, IsMachineOk, items_of_machine, held_at_top}
+use Rattle.state_judging.specs.TreeRules.Bus.Faces.{child_face, parent_face, faces_of}
+use Rattle.state_judging.specs.TreeRules.Bus.Item.{ItemRules, granted_fits, granted_held}
 use Rattle.state_judging.proofs.TreeRules.BusTests.{IsDirOk-from_test, IsLeafOk-from_test, ItemRules-from_test, test-from_ItemRules}
 use Rattle.state_reading.specs.declared.StateRefusal.TheVariants.{BrokenRule}
-use Rattle.state_judging.specs.Judged.{keeps_rules_at, keeps_places, broken_item, broken_at, broken_among, or_none}
+use Rattle.state_judging.specs.Judged.{item_kept_at, keeps_rules_at, keeps_places, broken_item, broken_at, broken_among, or_none}
 use Rattle.state_judging.specs.Read.{parts_hold, parts_hold_among}
+use Rattle.state_judging.proofs.GrantedFits.{holds-kept, kept-holds, leaf-fits, dir-fits}
 use Rattle.state_judging.proofs.EachBus.{AtDirs, AtDirsAmong, asked-everywhere, asked-anywhere}
 use Rattle.state_judging.proofs.Searches.{each-unbroken, unbroken-each, mapped_none, none_mapped, or-other, or-by}
 
@@ -84,16 +87,17 @@ module _ (m : MachineValue) (p : DirValue) (ns : List Node) where
   kept-at : broken_item m p ns ≡ None → (x : ℕ) → x < n → keeps_rules_at m p ns x ≡ true
   kept-at e x below = each-unbroken (keeps_rules_at m p ns) n (unbroken e).rules x below
 
-  item-kept : broken_item m p ns ≡ None → (x : ℕ) → x < n → item_holds_at p ns x ≡ true
-  item-kept e x below = (and_parts (item_holds_at p ns x) (not (is_top p) || held_at_top m x) (kept-at e x below)).0
+  pub item-kept : broken_item m p ns ≡ None → (x : ℕ) → x < n → item_kept_at p ns x ≡ true
+  item-kept e x below = (and_parts (item_kept_at p ns x) (not (is_top p) || held_at_top m x) (kept-at e x below)).0
 
   pub top-kept : is_top p ≡ true → broken_item m p ns ≡ None → (x : ℕ) → x < n → held_at_top m x ≡ true
-  top-kept top e x below = or-other (is_top p) (held_at_top m x) (and_parts (item_holds_at p ns x) (not (is_top p) || held_at_top m x) (kept-at e x below)).1 top
+  top-kept top e x below = or-other (is_top p) (held_at_top m x) (and_parts (item_kept_at p ns x) (not (is_top p) || held_at_top m x) (kept-at e x below)).1 top
 
-  pub bus-kept : dir_holds n (length ns) p ≡ true → broken_item m p ns ≡ None → IsBusOk n p ns
-  bus-kept own e = record {
+  -- where what was granted to the children fits
+  pub bus-kept : dir_holds n (length ns) p ≡ true → broken_item m p ns ≡ None → ((x : ℕ) → x < n → list_all granted_fits (faces_of x ns) ≡ true) → IsBusOk n p ns
+  bus-kept own e fits = record {
     own = IsDirOk-from_test n (length ns) p own;
-    rules = λ x below. ItemRules-from_test (parent_face x p) (faces_of x ns) (item-kept e x below);
+    rules = λ x below. ItemRules-from_test (parent_face x p) (faces_of x ns) (kept-holds (parent_face x p) (faces_of x ns) (fits x below) (item-kept e x below));
     reserved = eqb-true _ _ (unbroken e).places;
   }
 
@@ -102,18 +106,30 @@ module _ (m : MachineValue) (p : DirValue) (ns : List Node) where
   kept-bus ok held =
       let places : keeps_places m p ≡ true = eq-eqb _ _ ok.reserved in
       rw places
-      (unbroken-each (keeps_rules_at m p ns) n (λ x below. both_true (test-from_ItemRules (parent_face x p) (faces_of x ns) (ok.rules x below)) (or-by (is_top p) (held_at_top m x) (λ top. held top x below))))
+      (unbroken-each (keeps_rules_at m p ns) n (λ x below. both_true (still-holds x (ok.rules x below)) (or-by (is_top p) (held_at_top m x) (λ top. held top x below))))
+    where
+      still-holds : (x : ℕ) → ItemRules (parent_face x p) (faces_of x ns) → item_kept_at p ns x ≡ true
+      still-holds x rules = holds-kept (parent_face x p) (faces_of x ns) (rules.each granted_held) (test-from_ItemRules (parent_face x p) (faces_of x ns) rules)
 
 -- ---- every bus
 
 module _ (m : MachineValue) where
+  -- what was granted fits what is held, wherever each bus below keeps its rules
+  child-fits : (x : ℕ) → x < items_of_machine m → (n : Node) → AtDirs (IsUnbroken m) n → granted_fits (child_face x n) ≡ true
+  child-fits x below (leaf_node v) all = leaf-fits x v
+  child-fits x below (dir_node d ns) all = dir-fits (parent_face x d) (faces_of x (children ns)) (length (words_of_item x d.replies)) (item-kept m d (children ns) all.0 x below)
+
+  children-fit : (x : ℕ) → x < items_of_machine m → (ns : Nodes) → AtDirsAmong (IsUnbroken m) ns → list_all granted_fits (faces_of x (children ns)) ≡ true
+  children-fit x below no_nodes all = refl
+  children-fit x below (more_nodes n ns) all = both_true (child-fits x below n all.0) (children-fit x below ns all.1)
+
   mutual
     pub tree-kept : (n : Node) → parts_hold (items_of_machine m) n ≡ true → AtDirs (IsUnbroken m) n → IsTreeOk (items_of_machine m) n
     tree-kept (leaf_node v) parts all = IsLeafOk-from_test (items_of_machine m) v (and_parts (leaf_holds (items_of_machine m) v) _ parts).0
     tree-kept (dir_node d ns) parts all =
         let both = and_parts _ (parts_hold_among (items_of_machine m) ns) parts in
         let own = and_parts (dir_holds (items_of_machine m) (length (children ns)) d) _ both.0 in
-        (bus-kept m d (children ns) own.0 all.0, trees-kept ns both.1 all.1)
+        (bus-kept m d (children ns) own.0 all.0 (λ x below. children-fit x below ns all.1), trees-kept ns both.1 all.1)
 
     pub trees-kept : (ns : Nodes) → parts_hold_among (items_of_machine m) ns ≡ true → AtDirsAmong (IsUnbroken m) ns → AreTreesOk (items_of_machine m) ns
     trees-kept no_nodes parts all = tt

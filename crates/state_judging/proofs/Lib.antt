@@ -5,6 +5,7 @@ pub mod TreeModel
 pub mod TreeRules
 pub mod EachBus
 pub mod Searches
+pub mod GrantedFits
 pub mod BusesJudged
 pub mod StampsJudged
 pub mod KeysJudged

@@ -2,8 +2,10 @@
 -- Letters: m is a machine, d a directory, ns are nodes.
 use Rattle.std.specs.Prelude.{◌≡◌, Bool, true, [], ◌∷◌, ◌++◌, Some, None, is_none}
 use Rattle.state_judging.specs.DdmTypes.Keys.{stamp_zero}
+use Rattle.state_judging.specs.DdmTypes.declared.sizes.Hold.{Hold}
+use Rattle.state_judging.specs.TreeModel.State.Directory.{with_hold}
 use Rattle.state_judging.specs.TreeModel.State.Values.{LeafValue, DirValue, Node, Nodes, leaf_node, dir_node, no_nodes, more_nodes, MachineValue}
-use Rattle.state_judging.specs.TreeRules.Examples.{two_writers_turns, two_writers_start, two_writers_after, stale_load_all, stale_load_start, last_copy_turns, last_copy_start, run_keeps}
+use Rattle.state_judging.specs.TreeRules.Examples.{two_writers_turns, two_writers_start, two_writers_after, stale_load_all, stale_load_start, stale_load_after, last_copy_turns, last_copy_start, run_keeps}
 use Rattle.state_reading.specs.declared.StateRefusal.TheVariants.{BrokenRule, BrokenStamp, BrokenKey}
 use Rattle.state_judging.specs.Judged.{judged}
 
@@ -28,6 +30,10 @@ with_early_stamp d = record d { epoch = record stamp_zero { s0 = 1 } }
 -- a parking place is kept for nothing
 abbrev pub with_place_kept : DirValue → DirValue
 with_place_kept d = record d { reserved = 1 }
+
+-- it says that it holds item 2
+abbrev pub with_hold_of_2 : DirValue → DirValue
+with_hold_of_2 d = with_hold 2 Hold.Shared d
 
 -- it has lost all that stood in its ways
 abbrev pub with_empty_ways : LeafValue → LeafValue
@@ -67,6 +73,8 @@ pub record Judgements : Type 0 where
   -- leaf 0 had both items: the least is named
   pub emptied : judged (with_first same_dir with_empty_ways two_writers_start) ≡ Some (BrokenRule 0 0)
   pub place_kept : judged (with_first with_place_kept same_leaf stale_load_start) ≡ Some (BrokenRule 1 0)
+  -- bus 0 has granted the read of item 2 of its first child, and waits for the other's answer: bus 1 is broken, and not bus 0
+  pub held_before_data : judged (with_first with_hold_of_2 same_leaf (stale_load_after 12)) ≡ Some (BrokenRule 1 2)
   pub taken_early : judged (with_first with_early_stamp same_leaf stale_load_start) ≡ Some (BrokenStamp 1)
   -- the second operation has the key of the first one
   pub same_key : judged (record (two_writers_after 1) { ops = (two_writers_after 1).ops ++ (two_writers_after 1).ops }) ≡ Some (BrokenKey 1)

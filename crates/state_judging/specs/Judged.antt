@@ -1,7 +1,7 @@
 -- A state that was read, judged by the rules of a bus and of time: the first that is broken, and where.
 -- Letters: m is a machine, p the directory over a bus and ns its children, x an item, o an operation.
 -- To be believed: it is how a checkpoint is judged.
-use Rattle.std.specs.Prelude.{ℕ, ◌+◌, Bool, not, ◌&&◌, ◌||◌, nat_eq, List, [], ◌∷◌, length, find, Option, Some, None, option_map, Result, Err, if◌then◌else◌}
+use Rattle.std.specs.Prelude.{ℕ, ◌+◌, Bool, true, not, ◌&&◌, ◌||◌, nat_eq, List, [], ◌∷◌, length, find, Option, Some, None, option_map, Result, Err, if◌then◌else◌}
 use Rattle.std.specs.List.{list_any, range_with_len}
 use Rattle.state_judging.specs.DdmTypes.declared.operations.Op.{Op}
 use Rattle.state_judging.specs.DdmTypes.Keys.{key_less}
@@ -11,7 +11,9 @@ use Rattle.state_judging.specs.TreeModel.State.Directory.{is_top}
 use Rattle.state_judging.specs.TreeModel.State.Shape.{depth_of}
 use Rattle.state_judging.specs.TreeModel.Turns.Machine.{ask_bus}
 use Rattle.state_judging.specs.TreeRules.Statements.{test_of, each, each_pair, both}
-use Rattle.state_judging.specs.TreeRules.Bus.Rules.{items_of_machine, item_holds_at, kept_places, held_at_top}
+use Rattle.state_judging.specs.TreeRules.Bus.Faces.{parent_face, faces_of}
+use Rattle.state_judging.specs.TreeRules.Bus.Item.{bits_of, item_holds}
+use Rattle.state_judging.specs.TreeRules.Bus.Rules.{items_of_machine, kept_places, held_at_top}
 use Rattle.state_judging.specs.TreeRules.Order.Places.{DirAt, leaves_at, dirs_at}
 use Rattle.state_judging.specs.TreeRules.Order.Time.{has_leaf_path, is_before_now, takes_past, lies_between, may_stand_behind}
 use Rattle.state_reading.specs.declared.StateRefusal.{StateRefusal}
@@ -21,10 +23,15 @@ use Rattle.state_reading.specs.Machine.{read_words}
 
 -- ---- the rules of a bus
 
+-- The item keeps the rules of this bus. That who was granted a read holds nothing isn't asked of it: of a child that is a directory
+-- the rules of its own bus say so, and where they are broken that bus is named.
+abbrev pub item_kept_at : DirValue → List Node → ℕ → Bool
+item_kept_at p ns x = item_holds (parent_face x p) (record (bits_of (parent_face x p) (faces_of x ns)) { granted = true })
+
 module _ (m : MachineValue) where
   -- the item keeps the rules of this bus; on the top's bus also those of the top
   abbrev pub keeps_rules_at : DirValue → List Node → ℕ → Bool
-  keeps_rules_at p ns x = item_holds_at p ns x && (not (is_top p) || held_at_top m x)
+  keeps_rules_at p ns x = item_kept_at p ns x && (not (is_top p) || held_at_top m x)
 
   -- as many places are reserved as are kept
   abbrev pub keeps_places : DirValue → Bool

@@ -156,5 +156,6 @@ pub fn stamp_words(words: &[u32], at: &mut u32, level: u32) -> Result<Stamp, Sta
     let s1 = word_if(words, at, 1 < level)?;
     let s2 = word_if(words, at, 2 < level)?;
     let s3 = word_if(words, at, 3 < level)?;
-    Ok(Stamp { s0, s1, s2, s3 })
+    let stamp = Stamp::zero().at_level(0, s0).at_level(1, s1);
+    Ok(stamp.at_level(2, s2).at_level(3, s3))
 }

@@ -9,10 +9,10 @@ pub mod of_tree_model;
 mod spelled;
 
 pub use numbers::{
-    effect_words, flag_number, halt_words, hold_number, key_words, kind_number, reserved_word,
-    slot_number, stamp_words, state_number, traffic_words,
+    effect_words, flag_number, halt_words, hold_number, key_words, reserved_word, slot_number,
+    stamp_words, state_number, traffic_words,
 };
-pub use spelled::{Spelled, push_all, push_words};
+pub use spelled::{Spelled, push_words};
 
 /// What a checkpoint says of its machine: how many leaves, buses and items there are, how many words an item has, and how many ways a
 /// set of a leaf.

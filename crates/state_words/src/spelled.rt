@@ -1,10 +1,10 @@
 //! What is in a list spells itself in words.
 
-ghost use Rattle.std.specs.Prelude.{◌≡◌, ℕ, ◌<◌, ◌^◌, List, length, OnErr, OnOk};
+ghost use Rattle.std.specs.Prelude.{◌≡◌, ℕ, List, OnErr, OnOk};
 ghost use Rattle.ddm_text.specs.Adds.{Adds};
 ghost use Rattle.state_words.specs.TreeModel.State.Values.{RequestValue, CopyValue};
 ghost use Rattle.state_words.specs.Begins.{Begins};
-ghost use Rattle.state_words.specs.Parts.{counted, down_words, item_and_words, op_words, request_words};
+ghost use Rattle.state_words.specs.Parts.{down_words, item_and_words, op_words, request_words};
 
 use crate::numbers::{effect_words, key_words, kind_number, stamp_words};
 use crate::of_ddm_types::{ItemId, NoMemory, Op, TxKind, Words};
@@ -64,17 +64,4 @@ impl Spelled for Op {
         push_words(out, &[self.hart.0, self.pc])?;
         push_words(out, &effect_words(self.effect))
     }
-}
-
-/// Puts the words of each at the end, with how many there are before them.
-pub fn push_all<T: Spelled>(out: &mut Vec<u32>, entries: &[T]) -> Result<(), NoMemory>
-    requires { length entries.now < 2 ^ 32 }
-    ensures ok { OnOk result (Adds out.old.items out.new.items (counted T.words entries.now)) }
-    ensures err { OnErr result (Begins out.old.items out.new.items) }
-{
-    push_words(out, &[entries.len() as u32])?;
-    for entry in entries {
-        entry.spell(out)?;
-    }
-    Ok(())
 }

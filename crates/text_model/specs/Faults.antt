@@ -86,10 +86,6 @@ schedule_fault line refusal = codes "ddm: schedule line " ++ decimal line ++ cod
 unfoldable pub read_fault : List ℕ → List ℕ
 read_fault file = codes "ddm: cannot read the " ++ file ++ codes "\n"
 
--- a file of a form that isn't built yet
-unfoldable pub unbuilt_fault : List ℕ → List ℕ
-unbuilt_fault file = codes "ddm: unbuilt: " ++ file ++ codes "\n"
-
 -- the text can't be written
 abbrev pub write_fault : List ℕ
 write_fault = codes "ddm: cannot write\n"

@@ -8,8 +8,6 @@ mod of_ddm_text;
 #[cfg(test)]
 mod of_ddm_types;
 #[cfg(test)]
-mod of_operation_list;
-#[cfg(test)]
 mod of_tree_config;
 #[cfg(test)]
 mod of_tree_model;

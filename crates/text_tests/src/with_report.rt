@@ -2,13 +2,13 @@
 
 use crate::of_ddm_outside::MemorySink;
 use crate::of_ddm_types::{
-    BusNo, ChildNo, Effect, HaltCause, HartNo, ItemId, Key, LeafNo, LeafState, LogEntry, Op, Place,
-    Turn, TurnAnswer, TxKind,
+    BusNo, ChildNo, Effect, HaltCause, HartNo, ItemId, Key, LogEntry, Op, Place, Turn, TurnAnswer,
+    TxKind,
 };
-use crate::of_tree_model::{CopyPlace, Traffic};
+use crate::of_tree_model::Traffic;
 use report::{
-    TracePieces, memory_line, push_bus_line, push_hart_line, push_item_line, push_op_line,
-    push_trace, trace_text, usage_line, write_all,
+    TracePieces, memory_line, push_bus_line, push_hart_line, push_op_line, push_trace, trace_text,
+    usage_line, write_all,
 };
 use std::test::Fail;
 
@@ -41,7 +41,7 @@ fn lines_of_a_report(rt: HostRuntime) -> Result<(), Fail> {
 }
 
 #[test]
-fn lines_of_a_bus_and_an_item(rt: HostRuntime) -> Result<(), Fail> {
+fn line_of_a_bus(rt: HostRuntime) -> Result<(), Fail> {
     let traffic = Traffic {
         reads: 1,
         copies: 2,
@@ -55,18 +55,6 @@ fn lines_of_a_bus_and_an_item(rt: HostRuntime) -> Result<(), Fail> {
     assert_eq!(rt;
         out.as_slice(),
         b"bus 12 read 1 data 2 erase 3 exclusive 4 out 5 inject 6\n".as_slice()
-    );
-
-    let place = CopyPlace::LeafBuffer {
-        leaf: LeafNo(1),
-        place: 0,
-    };
-    let states = [None, Some(LeafState::ReadingWaiting)];
-    let mut out = Vec::new(rt.alloc());
-    push_item_line(&mut out, ItemId(3), 0x30000, &[255, 0], place, &states)?;
-    assert_eq!(rt;
-        out.as_slice(),
-        b"item 3 00030000 000000ff 00000000 leaf 1 buffer 0 -B\n".as_slice()
     );
     Ok(())
 }

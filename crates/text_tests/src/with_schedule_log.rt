@@ -3,7 +3,7 @@
 use crate::of_ddm_types::{BusNo, ChildNo, HartNo, Turn};
 use crate::of_tree_config::{Shape, read_tree};
 use schedule_log::{
-    FeedError, ScheduleReader, ScheduleRefusal, SeededTurns, seeded, seeded_text, write_schedule,
+    FeedError, ScheduleReader, ScheduleRefusal, SeededTurns, seeded, write_schedule,
 };
 use std::alloc::Global;
 use std::process::Abort;
@@ -28,8 +28,6 @@ fn seeds(rt: HostRuntime) -> Result<(), Fail> {
     let shape = two_leaves(&rt, rt.alloc());
     let turns = seeded(rt.alloc(), 42, 3, &shape)?;
     let text = write_schedule(rt.alloc(), &turns)?;
-    assert_eq!(rt; text.as_slice(), SEEDED.as_bytes());
-    let text = seeded_text(rt.alloc(), 42, 3, &shape)?;
     assert_eq!(rt; text.as_slice(), SEEDED.as_bytes());
     Ok(())
 }

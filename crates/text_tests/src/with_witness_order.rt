@@ -1,23 +1,21 @@
 //! Tests of operations put in order.
 
-use crate::of_ddm_types::{Effect, HartNo, Key, NoMemory, Op};
-use crate::of_operation_list::Operations;
+use crate::of_ddm_types::{ChildNo, Effect, HartNo, Key, NoMemory, Op, Stamp};
 use crate::of_witness_order::{Ordered, Witness};
+use operation_list::Operations;
 use std::alloc::Global;
 use std::test::Fail;
 
 // An operation of a hart in a tree of two levels of buses.
 fn op(hart: u32, numbers: [u32; 5]) -> Op {
-    let key = Key {
-        s0: numbers[0],
-        c0: numbers[1],
-        s1: numbers[2],
-        c1: numbers[3],
-        i: numbers[4],
-        ..Key::zero()
-    };
+    let stamp = Stamp::zero()
+        .at_level(0, numbers[0])
+        .at_level(1, numbers[2]);
+    let key = Key::zero()
+        .at_level(0, stamp, ChildNo(numbers[1]))
+        .at_level(1, stamp, ChildNo(numbers[3]));
     Op {
-        key,
+        key: key.counted(numbers[4]),
         hart: HartNo(hart),
         pc: 0x0001_0000,
         effect: Effect::Plain,

@@ -10,4 +10,5 @@ mod reading;
 mod requests;
 mod writing;
 
+pub use of_item_states::Named;
 pub use queue::Queue;

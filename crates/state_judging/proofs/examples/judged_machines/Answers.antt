@@ -10,6 +10,7 @@ returns c = record {
   last_copy = refl;
   emptied = refl;
   place_kept = refl;
+  held_before_data = refl;
   taken_early = refl;
   same_key = refl;
   nothing_kept = refl;

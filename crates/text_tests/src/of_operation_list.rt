@@ -1,3 +1,0 @@
-//! What this crate and those above it name of `operation_list`.
-
-pub use report::of_operation_list::Operations;
