@@ -1,0 +1,5 @@
+use Rattle.machine_tests.proofs.Parts.{bus_part}
+use Rattle.machine_tests.proofs.one_bus.has_bus.Goals as goal
+
+pub returns : goal.returns
+returns c = bus_part c.args.machine.now.machine c.counts.result c.counts.ensures.shape c.counts.ensures.counts c.args.bus

@@ -1,0 +1,2 @@
+pub mod AnyMachine
+pub mod TreeModel

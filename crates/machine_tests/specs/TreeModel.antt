@@ -1,0 +1,2 @@
+-- Of `tree_model`, what this crate and those above it name.
+pub use Rattle.ddm_tree.specs.TreeModel.Turns

@@ -1,0 +1,6 @@
+//! What this crate and those above it name of `ddm_types`.
+
+pub use operation_list::of_ddm_types::{
+    BusNo, ChildNo, Effect, HartNo, Hold, ItemId, Key, LeafNo, LeafState, LogEntry, NoMemory, Op,
+    Place, Stamp, Turn, TurnAnswer, TxKind,
+};
