@@ -13,8 +13,8 @@ use Rattle.outcome_model.proofs.Legal.{witnessed-legal}
 use Rattle.outcome_model.proofs.Tables.{table-each}
 use Rattle.outcome_model.proofs.TreeModel.FrameKept.{run-frame}
 use Rattle.recording_model.specs.DdmTypes.declared.turns.Turn.{Turn}
-use Rattle.recording_model.specs.TreeModel.State.Shape.{Frame, frame_of, leaf_numbers_of, skeleton}
-use Rattle.recording_model.specs.TreeModel.State.Values.{MachineValue, root_of}
+use Rattle.recording_model.specs.TreeModel.State.Shape.{Frame, frame_of, leaf_numbers_of}
+use Rattle.recording_model.specs.TreeModel.State.Values.{MachineValue}
 use Rattle.recording_model.specs.TreeModel.Turns.Machine.{run_of}
 use Rattle.recording_model.specs.TreeModel.Start.Sources.{ImageValue, TreeValue, leaf_count, start_of_harts}
 use Rattle.recording_model.specs.TreeModel.Start.Machine.{flat_start_of, start_of}
