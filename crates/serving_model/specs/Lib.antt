@@ -1,0 +1,10 @@
+pub mod DdmTypes
+pub mod FlatModel
+pub mod TextModel
+pub mod TreeModel
+pub mod Rest
+pub mod Walk
+pub mod Serving
+pub mod Texts
+pub mod Computing
+pub mod Examples
