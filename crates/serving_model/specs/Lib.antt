@@ -2,8 +2,12 @@ pub mod DdmTypes
 pub mod FlatModel
 pub mod TextModel
 pub mod TreeModel
+pub mod TreeRules
 pub mod Rest
 pub mod Walk
+pub mod Parts
+pub mod OneLeaf
+pub mod Laws
 pub mod Serving
 pub mod Texts
 pub mod Computing

@@ -1,0 +1,55 @@
+-- What holds of walks, a part of the tree at a time.
+-- Letters: n is how many items there are, x the item, m a part of the tree and w where it is, s a stamp.
+-- To be believed: it is what is claimed of them.
+use Rattle.std.specs.Prelude.{◌≡◌, ◌<◌, ℕ, true, List, [], ◌∷◌, None, Some}
+use Rattle.serving_model.specs.DdmTypes.declared.answers.TxKind.TheVariants.{ReadTx, EraseTx}
+use Rattle.serving_model.specs.DdmTypes.declared.keys.Stamp.{Stamp}
+use Rattle.serving_model.specs.DdmTypes.declared.sizes.LeafState.{LeafState}
+use Rattle.serving_model.specs.DdmTypes.declared.turns.Turn.{Turn}
+use Rattle.serving_model.specs.TreeModel.State.Values.{Node, MachineValue, root_of}
+use Rattle.serving_model.specs.TreeModel.State.Child.{child_holds, child_replies, child_answer, child_reply_taken, child_lose}
+use Rattle.serving_model.specs.TreeModel.State.Place.{Where, at_top}
+use Rattle.serving_model.specs.TreeModel.State.Shape.{IsShaped}
+use Rattle.serving_model.specs.TreeModel.State.States.{is_reading}
+use Rattle.serving_model.specs.TreeRules.Bus.Rules.{IsMachineOk, items_of_machine}
+use Rattle.serving_model.specs.Parts.{Runs, BringsTo, Settled, Calm}
+use Rattle.serving_model.specs.OneLeaf.{LeafIs, RootSpine, got, asks_then, IsServed}
+use Rattle.serving_model.specs.Walk.{give_turns, lose_turns, read_turns, erase_turns}
+
+-- these turns of a part are granted, it then has one reply, with the item's words, and when that is taken it is at rest
+pub record Gives (n : ℕ) (words : ℕ → List ℕ) (w : Where) (x : ℕ) (m : Node) (ts : List Turn) : Type 0 where
+  pub after : Node
+  pub run : Runs w m ts after
+  pub reply : child_replies after ≡ record { item = x; words = words x } ∷ []
+  pub settled : Settled n words (child_reply_taken after)
+
+-- A part at rest that keeps the rules, and holds the item, gives it when it is told to answer.
+abbrev pub PartsGive : Type 0
+PartsGive = (n : ℕ) (words : ℕ → List ℕ) (x : ℕ) → x < n → (m : Node) (w : Where) (s : Stamp) → Calm n words m → child_holds x m ≡ true → Gives n words w x (child_answer x s m) (give_turns x m)
+
+-- these turns of a part are granted, and it is at rest
+pub record Loses (n : ℕ) (words : ℕ → List ℕ) (w : Where) (m : Node) (ts : List Turn) : Type 0 where
+  pub after : Node
+  pub run : Runs w m ts after
+  pub settled : Settled n words after
+
+-- A part at rest that keeps the rules is at rest again after it was told to lose an item.
+abbrev pub PartsLose : Type 0
+PartsLose = (n : ℕ) (words : ℕ → List ℕ) (x : ℕ) → x < n → (m : Node) (w : Where) (s : Stamp) → Calm n words m → Loses n words w (child_lose x s m) (lose_turns x m)
+
+-- What is a run within the whole tree of a machine is one of the machine.
+abbrev pub RunsAreTheMachines : Type 0
+RunsAreTheMachines = (m : MachineValue) (ts : List Turn) (n : Node) → IsShaped m → Runs at_top (root_of m) ts n → BringsTo m ts n
+
+-- Where all is at rest but for a leaf that asks to read an item, the walk serves it: its turns are granted, and the leaf has the item, Shared,
+-- or waiting to write it, with the words that all copies have.
+abbrev pub ReadsAreServed : Type 0
+ReadsAreServed = (m : MachineValue) (words : ℕ → List ℕ) (h x : ℕ) (state : LeafState) → x < items_of_machine m → is_reading state ≡ true → IsShaped m → IsMachineOk m
+    → RootSpine (items_of_machine m) words h (LeafIs (items_of_machine m) words x state (Some (record { kind = ReadTx; item = x }))) m.top m.kids
+    → IsServed m (read_turns h x (root_of m)) words h (LeafIs (items_of_machine m) words x (got state) (asks_then x state))
+
+-- Where all is at rest but for a leaf that asks to erase all other copies of an item, the walk serves it, and the leaf has the item Exclusive.
+abbrev pub ErasesAreServed : Type 0
+ErasesAreServed = (m : MachineValue) (words : ℕ → List ℕ) (h x : ℕ) → x < items_of_machine m → IsShaped m → IsMachineOk m
+    → RootSpine (items_of_machine m) words h (LeafIs (items_of_machine m) words x LeafState.Waiting (Some (record { kind = EraseTx; item = x }))) m.top m.kids
+    → IsServed m (erase_turns h x (root_of m)) words h (LeafIs (items_of_machine m) words x LeafState.Exclusive None)

@@ -1,0 +1,29 @@
+//! What holds of walks, as theorems: there is nothing to run.
+
+ghost use Rattle.serving_model.specs.Laws.{PartsGive, PartsLose, RunsAreTheMachines, ReadsAreServed, ErasesAreServed};
+
+/// A part of the tree that holds an item, and is at rest, gives it when it is told to answer: its turns are granted, and it is at rest
+/// again when its reply is taken.
+pub fn parts_give()
+    ensures { PartsGive }
+{}
+
+/// A part of the tree at rest that is told to lose an item comes to rest again: its turns are granted.
+pub fn parts_lose()
+    ensures { PartsLose }
+{}
+
+/// The turns of a part of the tree are turns of the machine, where no two buses have one number.
+pub fn parts_run_alone()
+    ensures { RunsAreTheMachines }
+{}
+
+/// The walk of a read that a leaf asks for serves it, where all else is at rest.
+pub fn reads_are_served()
+    ensures { ReadsAreServed }
+{}
+
+/// The walk of an erase that a leaf asks for serves it, where all else is at rest.
+pub fn erases_are_served()
+    ensures { ErasesAreServed }
+{}

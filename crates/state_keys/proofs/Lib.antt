@@ -1,0 +1,4 @@
+pub mod Told
+pub mod Forgotten
+pub mod Puts
+pub mod Exact
