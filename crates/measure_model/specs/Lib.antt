@@ -1,0 +1,7 @@
+pub mod Counts
+pub mod Lengths
+pub mod Measures
+pub mod Text
+pub mod Laws
+pub mod Computing
+pub mod Examples
