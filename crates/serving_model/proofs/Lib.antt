@@ -16,3 +16,7 @@ pub mod Read
 pub mod Exclusive
 pub mod EraseBus
 pub mod Erase
+pub mod FreeWay
+pub mod Hart
+pub mod Issued
+pub mod Instruction

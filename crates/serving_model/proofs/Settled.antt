@@ -49,7 +49,7 @@ rests-leaf v r = rw (r.ways, r.buffer, r.slot, r.replies) refl
 -- ---- children
 
 module _ (n : ℕ) (words : ℕ → List ℕ) where
-  calm-children : (ns : Nodes) → trees_rest ns ≡ true → trees_have_room n (skeletons ns) ≡ true → AllHave words ns → AreTreesOk n ns → (k : ℕ) → k < length (children ns) → Calm n words (child_at k (children ns))
+  pub calm-children : (ns : Nodes) → trees_rest ns ≡ true → trees_have_room n (skeletons ns) ≡ true → AllHave words ns → AreTreesOk n ns → (k : ℕ) → k < length (children ns) → Calm n words (child_at k (children ns))
   calm-children no_nodes rest room have ok k l = absurd (omega (arith, l))
   calm-children (more_nodes m ns) rest room have ok zero l = record {
     settled = record { rests = (and_parts (tree_rests m) _ rest).0; room = (and_parts (tree_has_room n (skeleton m)) _ room).0; copies = have.0 };
@@ -71,7 +71,7 @@ module _ (n : ℕ) (words : ℕ → List ℕ) where
       let room = and_parts (dir_has_room d.sizes) _ calm.settled.room in
       record { rests = rests.0; room = room.0; bus = calm.rules.0; kids = calm-children ns rests.1 room.1 calm.settled.copies calm.rules.1 }
 
-  kids-settled : (ns : List Node) → ((k : ℕ) → k < length ns → Settled n words (child_at k ns)) → (trees_rest (nodes ns) ≡ true) × (trees_have_room n (skeletons (nodes ns)) ≡ true) × AllHave words (nodes ns)
+  pub kids-settled : (ns : List Node) → ((k : ℕ) → k < length ns → Settled n words (child_at k ns)) → (trees_rest (nodes ns) ≡ true) × (trees_have_room n (skeletons (nodes ns)) ≡ true) × AllHave words (nodes ns)
   kids-settled [] each = (refl, refl, tt)
   kids-settled (m ∷ ns) each =
       let first = each 0 (omega arith) in

@@ -2,17 +2,22 @@
 -- Letters: n is how many items there are, x the item, m a part of the tree and w where it is, s a stamp.
 -- To be believed: it is what is claimed of them.
 use Rattle.std.specs.Prelude.{◌≡◌, ◌<◌, ℕ, true, List, [], ◌∷◌, None, Some}
+use Rattle.serving_model.specs.DdmTypes.declared.answers.TurnAnswer.{TurnAnswer}
+use Rattle.serving_model.specs.DdmTypes.declared.answers.TxKind.{TxKind}
 use Rattle.serving_model.specs.DdmTypes.declared.answers.TxKind.TheVariants.{ReadTx, EraseTx}
 use Rattle.serving_model.specs.DdmTypes.declared.keys.Stamp.{Stamp}
 use Rattle.serving_model.specs.DdmTypes.declared.sizes.LeafState.{LeafState}
 use Rattle.serving_model.specs.DdmTypes.declared.turns.Turn.{Turn}
-use Rattle.serving_model.specs.TreeModel.State.Values.{Node, MachineValue, root_of}
+use Rattle.serving_model.specs.TreeModel.State.Values.{Node, dir_node, MachineValue, root_of}
 use Rattle.serving_model.specs.TreeModel.State.Child.{child_holds, child_replies, child_answer, child_reply_taken, child_lose}
 use Rattle.serving_model.specs.TreeModel.State.Place.{Where, at_top}
 use Rattle.serving_model.specs.TreeModel.State.Shape.{IsShaped}
-use Rattle.serving_model.specs.TreeModel.State.States.{is_reading}
+use Rattle.serving_model.specs.TreeModel.State.States.{is_reading, may_leave}
 use Rattle.serving_model.specs.TreeRules.Bus.Rules.{IsMachineOk, items_of_machine}
-use Rattle.serving_model.specs.Parts.{Runs, BringsTo, Settled, Calm}
+use Rattle.serving_model.specs.TreeModel.Turns.Machine.{turn_of}
+use Rattle.serving_model.specs.Rest.{tree_rests, is_at_rest, has_room}
+use Rattle.serving_model.specs.Serving.{walks_of}
+use Rattle.serving_model.specs.Parts.{Runs, AllHave, BringsTo, Settled, Calm}
 use Rattle.serving_model.specs.OneLeaf.{LeafIs, RootSpine, got, asks_then, IsServed}
 use Rattle.serving_model.specs.Walk.{give_turns, lose_turns, read_turns, erase_turns}
 
@@ -53,3 +58,18 @@ abbrev pub ErasesAreServed : Type 0
 ErasesAreServed = (m : MachineValue) (words : ℕ → List ℕ) (h x : ℕ) → x < items_of_machine m → IsShaped m → IsMachineOk m
     → RootSpine (items_of_machine m) words h (LeafIs (items_of_machine m) words x LeafState.Waiting (Some (record { kind = EraseTx; item = x }))) m.top m.kids
     → IsServed m (erase_turns h x (root_of m)) words h (LeafIs (items_of_machine m) words x LeafState.Exclusive None)
+
+-- these turns of a machine are all granted and complete no operation; then the leaf has the item, Shared or Exclusive, all is at rest, and
+-- all copies have these words
+pub record Comes (m : MachineValue) (ts : List Turn) (words : ℕ → List ℕ) (h x : ℕ) : Type 0 where
+  pub state : LeafState
+  pub usable : may_leave state ≡ true
+  pub served : IsServed m ts words h (LeafIs (items_of_machine m) words x state None)
+  pub rests : tree_rests (dir_node served.top served.kids) ≡ true
+  pub copies : AllHave words served.kids
+
+-- Where a hart's turn in a machine at rest, with room, issues a request for an item, the walks bring it, and the machine is at rest again
+-- with the same words.
+abbrev pub WalksBringTheItem : Type 0
+WalksBringTheItem = (m : MachineValue) (words : ℕ → List ℕ) (h victim : ℕ) (kind : TxKind) (x : ℕ) → IsShaped m → IsMachineOk m → is_at_rest m ≡ true → has_room m ≡ true → AllHave words m.kids
+    → (turn_of (Turn.Hart h victim) m).answer ≡ TurnAnswer.Issued kind x → Comes (turn_of (Turn.Hart h victim) m).machine (walks_of h (turn_of (Turn.Hart h victim) m).machine) words h x

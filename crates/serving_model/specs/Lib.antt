@@ -7,8 +7,8 @@ pub mod Rest
 pub mod Walk
 pub mod Parts
 pub mod OneLeaf
-pub mod Laws
 pub mod Serving
+pub mod Laws
 pub mod Texts
 pub mod Computing
 pub mod Examples

@@ -1,6 +1,6 @@
 //! What holds of walks, as theorems: there is nothing to run.
 
-ghost use Rattle.serving_model.specs.Laws.{PartsGive, PartsLose, RunsAreTheMachines, ReadsAreServed, ErasesAreServed};
+ghost use Rattle.serving_model.specs.Laws.{PartsGive, PartsLose, RunsAreTheMachines, ReadsAreServed, ErasesAreServed, WalksBringTheItem};
 
 /// A part of the tree that holds an item, and is at rest, gives it when it is told to answer: its turns are granted, and it is at rest
 /// again when its reply is taken.
@@ -26,4 +26,10 @@ pub fn reads_are_served()
 /// The walk of an erase that a leaf asks for serves it, where all else is at rest.
 pub fn erases_are_served()
     ensures { ErasesAreServed }
+{}
+
+/// Where a hart's turn in a machine at rest, with room, issues a request for an item, the walks bring the item to its leaf, and the
+/// machine is at rest again.
+pub fn walks_bring_the_item()
+    ensures { WalksBringTheItem }
 {}
