@@ -1,7 +1,7 @@
--- The bus where a read turns: the lowest over the leaf with a child that holds the item. The read comes up to it, another child answers,
--- and the data goes across and down to the leaf.
--- Letters: n is how many items there are, x the item, h the leaf, d a directory over the children ns, w a place, c the child that is over
--- the leaf, k the child that answers.
+-- The bus where a read turns: the lowest over the leaf with a child that holds the item. The read comes up to it,
+-- another child answers, and the data goes across and down to the leaf.
+-- Letters: n is how many items there are, x the item, h the leaf, d a directory over the children ns, w a place, c the
+-- child that is over the leaf, k the child that answers.
 use Rattle.std.proofs.Common.{◌≡◌, ◌≢◌, ℕ, zero, suc, ◌+◌, ◌<◌, true, false, List, [], ◌∷◌, ◌++◌, length, Option, Some, None, refl, sym, ap, subst, ◌∙◌, arith, get_or-set_same, get_or-set_other}
 use Rattle.std.specs.Prelude.{not, ◌&&◌, nat_eq, slice_set}
 use native.Mathlib.Decide.{ℕ_discrete}

@@ -1,6 +1,6 @@
 -- A bus that grants an erase: every other child is told to lose the item, and loses it before anything else is done.
--- Letters: n is how many items there are, x the item, h the leaf, d a directory over the children ns, w a place, c the child that is over
--- the leaf, e whether the directory holds the item Exclusive.
+-- Letters: n is how many items there are, x the item, h the leaf, d a directory over the children ns, w a place, c the
+-- child that is over the leaf, e whether the directory holds the item Exclusive.
 use Rattle.std.proofs.Common.{◌≡◌, ◌≢◌, ℕ, zero, suc, ◌+◌, ◌<◌, Bool, true, false, List, [], ◌∷◌, ◌++◌, length, Some, None, refl, sym, ap, subst, ◌∙◌, arith, get_or-set_same, get_or-set_other}
 use Rattle.std.specs.Prelude.{nat_eq, slice_set}
 use native.Mathlib.Decide.{ℕ_discrete}

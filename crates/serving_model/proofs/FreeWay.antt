@@ -1,4 +1,5 @@
--- In a leaf with room each item that has no entry has a free way: the items of its set are no more than the ways, and it is one of them.
+-- In a leaf with room each item that has no entry has a free way: the items of its set are no more than the ways, and
+-- it is one of them.
 -- Letters: n is how many items there are, x the item, v a leaf, y another item of its set.
 use Rattle.std.proofs.Common.{◌≡◌, ◌≢◌, ℕ, zero, suc, ◌+◌, ◌*◌, ◌/◌, ◌%◌, ◌<◌, ◌≤◌, Bool, true, false, List, [], ◌∷◌, length, Option, Some, None, refl, sym, ap, subst, ◌∙◌, arith}
 use Rattle.std.specs.Prelude.{◌||◌, if◌then◌else◌, nat_eq, nat_lt, is_none, is_some, find, eqb}

@@ -1,4 +1,5 @@
--- Turns of buses change no hart: where a turn is granted, each leaf keeps its number, its sizes, its hart and how many instructions completed.
+-- Turns of buses change no hart: where a turn is granted, each leaf keeps its number, its sizes, its hart and how many
+-- instructions completed.
 -- Letters: t is a turn, m a machine, n and k a node before and after, ns and ms are nodes, rest are leaves behind.
 use Rattle.std.proofs.Common.{◌≡◌, ℕ, true, false, List, [], ◌∷◌, map, Option, Some, None, refl, sym, ap, subst, ◌∙◌}
 use Rattle.std.specs.List.{list_all}

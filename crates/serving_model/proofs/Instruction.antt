@@ -1,4 +1,5 @@
--- One instruction of a hart in a machine at rest with room, which needs an item: its request, the walks that serve it, and rest again.
+-- One instruction of a hart in a machine at rest with room, which needs an item: its request, the walks that serve it,
+-- and rest again.
 -- Letters: n is how many items there are, x the item, h the hart and its leaf, m a machine, ts and us are turns.
 use Rattle.std.proofs.Common.{◌≡◌, ◌≢◌, ℕ, ◌+◌, ◌<◌, true, List, [], ◌∷◌, ◌++◌, length, Option, Some, None, refl, sym, ap, subst, ◌∙◌, arith, append-nil}
 use Rattle.std.specs.Prelude.{nat_lt, option_and_then, slice_set}

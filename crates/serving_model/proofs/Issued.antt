@@ -1,6 +1,6 @@
 -- A hart's turn in a machine at rest that issues a request: then all is at rest but for its leaf, which asks.
--- Letters: n is how many items there are, x the item, h the hart and its leaf, m a part or a machine, d a directory over the children ns,
--- w a place, c the child that is over the leaf.
+-- Letters: n is how many items there are, x the item, h the hart and its leaf, m a part or a machine, d a directory
+-- over the children ns, w a place, c the child that is over the leaf.
 use Rattle.std.proofs.Common.{◌≡◌, ◌≢◌, ℕ, zero, suc, ◌+◌, ◌<◌, Bool, true, false, List, [], ◌∷◌, length, Option, Some, None, refl, sym, ap, subst, ◌∙◌, arith, get_or-set_same, get_or-set_other}
 use Rattle.std.specs.Prelude.{◌-◌, ◌||◌, nat_eq, slice_set, if◌then◌else◌}
 use Rattle.std.proofs.lemmas.List.{length-set}

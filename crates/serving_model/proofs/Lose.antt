@@ -1,5 +1,7 @@
--- A part at rest that is told to lose an item is soon at rest again: the erase comes down to every leaf that has a copy, a bus at a time.
--- Letters: n is how many items there are, x the item, m a part, d a directory over the children ns, v a leaf, w a place, s a stamp.
+-- A part at rest that is told to lose an item is soon at rest again: the erase comes down to every leaf that has a
+-- copy, a bus at a time.
+-- Letters: n is how many items there are, x the item, m a part, d a directory over the children ns, v a leaf, w a
+-- place, s a stamp.
 use Rattle.std.proofs.Common.{◌≡◌, ℕ, zero, suc, ◌+◌, ◌<◌, Bool, true, false, List, [], ◌∷◌, ◌++◌, length, Option, Some, None, refl, sym, ap, subst, ◌∙◌, arith, get_or-set_other}
 use Rattle.std.specs.Prelude.{not, ◌&&◌, nat_le, slice_set, filter, if◌then◌else◌}
 use Rattle.std.specs.List.{flat_map}

@@ -1,6 +1,6 @@
 -- A read that a leaf asks for is served: on the lowest bus over the leaf with a child that holds the item it turns.
--- Letters: n is how many items there are, x the item, h the leaf, m a part, d a directory over the children ns, w a place, c the child
--- that is over the leaf.
+-- Letters: n is how many items there are, x the item, h the leaf, m a part, d a directory over the children ns, w a
+-- place, c the child that is over the leaf.
 use Rattle.std.proofs.Common.{◌≡◌, ◌≢◌, ℕ, zero, suc, ◌<◌, Bool, true, false, List, [], ◌∷◌, length, Option, Some, refl, sym, subst, ◌∙◌, arith, get_or-set_same, get_or-set_other}
 use Rattle.std.specs.Prelude.{nat_lt, slice_set, slice_index_or, if◌then◌else◌}
 use Rattle.std.specs.List.{list_all}

@@ -1,5 +1,6 @@
 -- Parts at rest: what is known of a leaf, of a directory and of its children, and who holds an item there.
--- Letters: n is how many items there are, x the item, m a part, d a directory over the children ns, v a leaf, k a child number.
+-- Letters: n is how many items there are, x the item, m a part, d a directory over the children ns, v a leaf, k a child
+-- number.
 use Rattle.std.proofs.Common.{◌≡◌, ℕ, zero, suc, ◌<◌, Bool, true, false, List, [], ◌∷◌, length, None, refl, sym, ap, ◌∙◌, arith}
 use Rattle.std.specs.Prelude.{not, ◌&&◌, is_none}
 use Rattle.std.specs.Bool.{beq}
@@ -85,7 +86,8 @@ module _ (n : ℕ) (words : ℕ → List ℕ) where
 
 -- ---- who holds an item
 
--- at rest the parent holds it where a child does, and a child that holds it Exclusive is the only one, under a parent that does
+-- at rest the parent holds it where a child does, and a child that holds it Exclusive is the only one, under a parent
+-- that does
 abbrev at_rest : ParentFace → Bits → Bool
 at_rest p k = implies (is_no_note p.note && (not p.answering && (not (has_some p.queue) && not p.parked))) (beq (is_held p.hold) k.held && implies k.exclusive (k.sole && is_exclusive p.hold))
 

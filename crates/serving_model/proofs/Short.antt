@@ -1,5 +1,7 @@
--- Walks are short: of each bus a walk has two turns at most, so an instruction takes four turns of each bus and two of its hart at most.
--- Letters: h is the leaf, x the item, n a part of the tree, ns are children of a bus, c and k child numbers, m a machine.
+-- Walks are short: of each bus a walk has two turns at most, so an instruction takes four turns of each bus and two of
+-- its hart at most.
+-- Letters: h is the leaf, x the item, n a part of the tree, ns are children of a bus, c and k child numbers, m a
+-- machine.
 use Rattle.std.proofs.Common.{◌≡◌, ◌≢◌, ℕ, zero, suc, ◌+◌, ◌*◌, ◌≤◌, Bool, true, false, List, [], ◌∷◌, ◌++◌, length, Option, Some, None, refl, sym, ap, subst, ◌∙◌, arith}
 use Rattle.std.specs.Prelude.{not, ◌&&◌, nat_eq, if◌then◌else◌}
 use Rattle.std.specs.List.{flat_map}

@@ -1,6 +1,7 @@
--- A part of the tree that is at rest but for one leaf, which asks for an item or has just got it; and the children of its buses.
--- Letters: n is how many items there are, x the item, h the leaf, m a part, d a directory over the children ns, v a leaf, c the child
--- that is over the leaf.
+-- A part of the tree that is at rest but for one leaf, which asks for an item or has just got it; and the children of
+-- its buses.
+-- Letters: n is how many items there are, x the item, h the leaf, m a part, d a directory over the children ns, v a
+-- leaf, c the child that is over the leaf.
 use Rattle.std.proofs.Common.{◌≡◌, ◌≢◌, ℕ, zero, suc, ◌+◌, ◌<◌, Bool, true, false, List, [], ◌∷◌, length, map, refl, sym, ap, subst, ◌∙◌, arith, get_or-set_same, get_or-set_other}
 use Rattle.std.specs.Prelude.{◌||◌, nat_eq, slice_set}
 use Rattle.std.specs.List.{list_any}

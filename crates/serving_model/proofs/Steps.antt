@@ -1,5 +1,6 @@
 -- A run within a part of the tree is one of the machine: each of its turns names a bus that is in this part alone.
--- Letters: w is where a part is, n, m and o are parts, b the number of a bus, d a directory over the children ns, g a grant.
+-- Letters: w is where a part is, n, m and o are parts, b the number of a bus, d a directory over the children ns, g a
+-- grant.
 use Rattle.std.proofs.Common.{◌≡◌, ℕ, zero, suc, ◌+◌, ◌<◌, true, false, List, [], ◌∷◌, ◌++◌, length, Some, refl, sym, ap, subst, ◌∙◌, arith, get_or-set_same, append_assoc}
 use Rattle.std.specs.Prelude.{is_some, nat_eq, slice_set, map}
 use Rattle.std.specs.Cmp.Derive.{both_true}

@@ -1,4 +1,5 @@
--- Worked examples: operations of small programs, and the schedules that serve them, on trees whose lists have one place.
+-- Worked examples: operations of small programs, and the schedules that serve them, on trees whose lists have one
+-- place.
 use Rattle.std.specs.Prelude.{◌≡◌, ℕ, ◌+◌, ◌/◌, ◌%◌, ◌*◌, Bool, true, List, [], ◌∷◌, ◌++◌, codes, length, map, replicate, Result, Ok, Err}
 use Rattle.std.specs.List.{flat_map}
 use Rattle.serving_model.specs.DdmTypes.Keys.{key_zero}
@@ -145,8 +146,8 @@ three_plain = start_machine (tree_with ((2 ∷ []) ∷ []) 2) (program (replicat
 abbrev pub plain_ops : List Op
 plain_ops = does 0 0 Plain ∷ does 1 0 Plain ∷ does 0 1 Plain ∷ []
 
--- Keys needn't ascend in the order of a served run. Each hart completes an instruction that nobody else sees, and then hart 0 another:
--- no bus grants anything, so its second key is less than that of hart 1.
+-- Keys needn't ascend in the order of a served run. Each hart completes an instruction that nobody else sees, and then
+-- hart 0 another: no bus grants anything, so its second key is less than that of hart 1.
 pub record KeysDiffer : Type 0 where
   pub completed : map (λ (o : Op). o.hart) (machine_after (serve_of plain_ops three_plain) three_plain).ops ≡ 0 ∷ 1 ∷ 0 ∷ []
   pub by_key : harts_by_key (machine_after (serve_of plain_ops three_plain) three_plain) ≡ 0 ∷ 0 ∷ 1 ∷ []

@@ -48,21 +48,22 @@ PartsLose = (n : ℕ) (words : ℕ → List ℕ) (x : ℕ) → x < n → (m : No
 abbrev pub RunsAreTheMachines : Type 0
 RunsAreTheMachines = (m : MachineValue) (ts : List Turn) (n : Node) → IsShaped m → Runs at_top (root_of m) ts n → BringsTo m ts n
 
--- Where all is at rest but for a leaf that asks to read an item, the walk serves it: its turns are granted, and the leaf has the item, Shared,
--- or waiting to write it, with the words that all copies have.
+-- Where all is at rest but for a leaf that asks to read an item, the walk serves it: its turns are granted, and the
+-- leaf has the item, Shared, or waiting to write it, with the words that all copies have.
 abbrev pub ReadsAreServed : Type 0
 ReadsAreServed = (m : MachineValue) (words : ℕ → List ℕ) (h x : ℕ) (state : LeafState) → x < items_of_machine m → is_reading state ≡ true → IsShaped m → IsMachineOk m
     → RootSpine (items_of_machine m) words h (LeafIs (items_of_machine m) words x state (Some (record { kind = ReadTx; item = x }))) m.top m.kids
     → IsServed m (read_turns h x (root_of m)) words h (LeafIs (items_of_machine m) words x (got state) (asks_then x state))
 
--- Where all is at rest but for a leaf that asks to erase all other copies of an item, the walk serves it, and the leaf has the item Exclusive.
+-- Where all is at rest but for a leaf that asks to erase all other copies of an item, the walk serves it, and the leaf
+-- has the item Exclusive.
 abbrev pub ErasesAreServed : Type 0
 ErasesAreServed = (m : MachineValue) (words : ℕ → List ℕ) (h x : ℕ) → x < items_of_machine m → IsShaped m → IsMachineOk m
     → RootSpine (items_of_machine m) words h (LeafIs (items_of_machine m) words x LeafState.Waiting (Some (record { kind = EraseTx; item = x }))) m.top m.kids
     → IsServed m (erase_turns h x (root_of m)) words h (LeafIs (items_of_machine m) words x LeafState.Exclusive None)
 
--- these turns of a machine are all granted and complete no operation; then the leaf has the item, Shared or Exclusive, all is at rest, and
--- all copies have these words
+-- these turns of a machine are all granted and complete no operation; then the leaf has the item, Shared or Exclusive,
+-- all is at rest, and all copies have these words
 pub record Comes (m : MachineValue) (ts : List Turn) (words : ℕ → List ℕ) (h x : ℕ) : Type 0 where
   pub state : LeafState
   pub usable : may_leave state ≡ true
@@ -70,8 +71,8 @@ pub record Comes (m : MachineValue) (ts : List Turn) (words : ℕ → List ℕ) 
   pub rests : tree_rests (dir_node served.top served.kids) ≡ true
   pub copies : AllHave words served.kids
 
--- Where a hart's turn in a machine at rest, with room, issues a request for an item, the walks bring it, and the machine is at rest again
--- with the same words.
+-- Where a hart's turn in a machine at rest, with room, issues a request for an item, the walks bring it, and the
+-- machine is at rest again with the same words.
 abbrev pub WalksBringTheItem : Type 0
 WalksBringTheItem = (m : MachineValue) (words : ℕ → List ℕ) (h victim : ℕ) (kind : TxKind) (x : ℕ) → IsShaped m → IsMachineOk m → is_at_rest m ≡ true → has_room m ≡ true → AllHave words m.kids
     → (turn_of (Turn.Hart h victim) m).answer ≡ TurnAnswer.Issued kind x → Comes (turn_of (Turn.Hart h victim) m).machine (walks_of h (turn_of (Turn.Hart h victim) m).machine) words h x

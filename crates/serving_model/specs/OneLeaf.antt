@@ -1,5 +1,6 @@
 -- A tree that is at rest but for one leaf, which asks for an item or has just got it.
--- Letters: n is how many items there are, x the item, h the leaf, d a directory over the children ns, v a leaf, c the child over the leaf.
+-- Letters: n is how many items there are, x the item, h the leaf, d a directory over the children ns, v a leaf, c the
+-- child over the leaf.
 -- To be believed with the laws: it is what they speak of.
 use Rattle.std.specs.Prelude.{◌≡◌, ◌≢◌, ◌<◌, ℕ, true, nat_eq, nat_lt, List, [], length, Option, Some, None}
 use Rattle.serving_model.specs.DdmTypes.declared.answers.TxKind.TheVariants.{EraseTx}
@@ -15,6 +16,8 @@ use Rattle.serving_model.specs.Walk.{child_over}
 
 -- ---- a leaf with one item under way
 
+-- the leaf has an entry of the item in this state and asks for this, all else of it is at rest, and its entries have
+-- these words
 pub record LeafIs (n : ℕ) (words : ℕ → List ℕ) (x : ℕ) (state : LeafState) (asks : Option RequestValue) (v : LeafValue) : Type 0 where
   pub entry : WayValue
   pub here : way_at x v.ways ≡ Some entry

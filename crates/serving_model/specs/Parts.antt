@@ -1,5 +1,7 @@
--- Runs of turns of buses within a part of the tree, each of them granted; and a part at rest, whose copies have given words.
--- Letters: w is where the part is, n a part, d a directory over the children ns, v a leaf, c what child i becomes, g a grant.
+-- Runs of turns of buses within a part of the tree, each of them granted; and a part at rest, whose copies have given
+-- words.
+-- Letters: w is where the part is, n a part, d a directory over the children ns, v a leaf, c what child i becomes, g a
+-- grant.
 -- To be believed with the laws: it is what they speak of.
 use Rattle.std.specs.Prelude.{◌≡◌, ◌<◌, ℕ, Bool, true, false, List, [], ◌∷◌, ◌++◌, length, Option, Some, slice_set, ⊤}
 use Rattle.std.specs.List.{list_all}

@@ -1,4 +1,5 @@
--- A list of operations served: the schedule on which a machine completes them in their order, one instruction at a time.
+-- A list of operations served: the schedule on which a machine completes them in their order, one instruction at a
+-- time.
 -- Letters: m is a machine, h a hart and its leaf, r a request.
 -- To be believed: it is what is printed.
 use Rattle.std.specs.Prelude.{ℕ, ◌+◌, Bool, false, ◌&&◌, nat_eq, nat_lt, List, [], ◌∷◌, ◌++◌, length, Option, None, Some, option_and_then, Result, Ok, Err, if◌then◌else◌}

@@ -1,9 +1,10 @@
 -- The walk: the turns of buses that serve what one leaf asks for, in a machine at rest otherwise.
 --
--- A read goes up from the leaf to the first bus below which another child holds the item. There that child's side is asked,
--- down to a leaf that has it; the copy comes up to that bus, across, and down to the leaf. An erase goes up to the first bus
--- whose parent holds the item Exclusive. On each bus on the way all other copies are erased at once, level by level, before it
--- goes on; then exclusive comes down to the leaf. So a list has one entry at a time, and at the end nothing is under way.
+-- A read goes up from the leaf to the first bus below which another child holds the item. There that child's side is
+-- asked, down to a leaf that has it; the copy comes up to that bus, across, and down to the leaf. An erase goes up to
+-- the first bus whose parent holds the item Exclusive. On each bus on the way all other copies are erased at once,
+-- level by level, before it goes on; then exclusive comes down to the leaf. So a list has one entry at a time, and at
+-- the end nothing is under way.
 --
 -- Letters: h is the leaf, x the item, n a part of the tree, ns are children of a bus, c and k child numbers.
 -- To be believed: it is what is printed.
