@@ -1,15 +1,14 @@
 -- A machine without its time keeps the frame and the rules of the machine, and its values have their form: so its words are read again.
 -- Letters: m is a machine, d a directory, e an entry of its down list, n a node, ns are nodes in a row, c is a spot.
-use Rattle.std.specs.Prelude.{◌≡◌, ℕ, zero, suc, ◌+◌, ◌≤◌, Bool, true, ◌&&◌, nat_le, List, [], ◌∷◌, ◌++◌, length, map, drop, refl}
+use Rattle.std.specs.Prelude.{◌≡◌, ℕ, zero, suc, ◌+◌, true, ◌&&◌, List, [], ◌∷◌, ◌++◌, length, map, drop, refl}
 use Rattle.std.specs.List.{AllByRecursion, list_all}
-use Rattle.std.proofs.Common.{ap, sym, ◌∙◌, subst, zero-le}
-use Rattle.std.proofs.lemmas.Bool.{and_from}
+use Rattle.std.proofs.Common.{ap, ◌∙◌, zero-le}
 use Rattle.std.proofs.lemmas.List.{length-map}
 use Rattle.std.specs.Cmp.Derive.{both_true}
 use Rattle.state_keys.specs.TreeModel.declared.Traffic.{Traffic}
 use Rattle.state_keys.specs.TreeModel.State.Values.{DownValue, LeafValue, DirValue, Node, Nodes, leaf_node, dir_node, no_nodes, more_nodes, children, MachineValue, root_of}
 use Rattle.state_keys.specs.TreeModel.State.Place.{Spot, spot_path, spot_in}
-use Rattle.state_keys.specs.TreeModel.State.Shape.{skeleton, skeletons, more_bones, dir_bone, frame_of, Frame}
+use Rattle.state_keys.specs.TreeModel.State.Shape.{skeleton, skeletons, dir_bone, frame_of}
 use Rattle.state_keys.specs.TreeModel.Turns.Machine.{no_traffic}
 use Rattle.state_keys.specs.TreeRules.Statements.{Statement, Holds, each}
 use Rattle.state_keys.specs.TreeRules.Bus.Own.{are_zero, down_fits, dir_holds, has_no_stamp, IsTopOk, TopRule, top_test, top_bus, top_level, top_items, no_requests, no_replies, none_parked, no_places, no_epoch, no_stamps}

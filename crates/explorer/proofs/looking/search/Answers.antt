@@ -1,9 +1,9 @@
 use Rattle.std.proofs.Common.{◌≡◌, suc, ◌+◌, sym, ap, subst, ◌∙◌, arith}
 use Rattle.tree_model.specs.State.Values.{MachineValue}
-use Rattle.search_laws.specs.Search.{begun, next_taken_up, searched, taken_up}
+use Rattle.search_laws.specs.Search.{begun, next_taken_up, taken_up}
 use Rattle.search_model.specs.Machines.{quiet_space}
 use Rattle.state_keys.specs.Same.{same_state}
-use Rattle.explorer.specs.Searching.{IsKept, KeysTell, searched_by}
+use Rattle.explorer.specs.Searching.{IsKept, searched_by}
 use Rattle.explorer.proofs.TurnsLooked.{taken-more, all-taken}
 use Rattle.explorer.proofs.Right.{search-right}
 use Rattle.explorer.proofs.looking.search.Goals as goal

@@ -2,7 +2,7 @@ use Rattle.std.proofs.Common.{◌≡◌}
 use Rattle.search_laws.specs.Search.{begun, taken_up}
 use Rattle.search_model.specs.Machines.{quiet_space}
 use Rattle.state_keys.specs.Same.{same_state}
-use Rattle.explorer.specs.Searching.{IsKept, KeysTell, searched_by}
+use Rattle.explorer.specs.Searching.{IsKept, searched_by}
 use Rattle.explorer.proofs.looking.search.Given as goal
 
 -- so many states were taken up

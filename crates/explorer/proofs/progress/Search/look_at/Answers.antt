@@ -1,4 +1,4 @@
-use Rattle.std.proofs.Common.{◌≡◌, ◌+◌, ◌<◌, ◌≤◌, true, false, ◌++◌, ◌∷◌, [], length, take, Some, slice_get, sym, ap, subst, ◌∙◌, arith}
+use Rattle.std.proofs.Common.{◌≡◌, true, false, ◌++◌, ◌∷◌, [], sym, ap, subst, ◌∙◌}
 use Rattle.std.specs.Prelude.{ℕ, List, OnOk, Result, Ok, Err}
 use Rattle.ddm_types.specs.declared.turns.Turn.{Turn}
 use Rattle.tree_model.specs.State.Values.{MachineValue}
@@ -10,7 +10,7 @@ use Rattle.search_model.specs.Explored.{MachineFound}
 use Rattle.search_model.specs.Machines.{quiet_space}
 use Rattle.state_keys.specs.Same.{same_state}
 use Rattle.explorer.specs.Searching.{SearchState, noted, state_by, kept_by, searched_by}
-use Rattle.explorer.proofs.TurnsLooked.{gone-state, full-looked, end-looked, state-looked}
+use Rattle.explorer.proofs.TurnsLooked.{gone-state, end-looked, state-looked}
 use Rattle.explorer.proofs.progress.Search.look_at.Goals as goal
 
 -- where it is well, one fact gives another

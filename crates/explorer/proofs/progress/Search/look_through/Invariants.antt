@@ -2,7 +2,7 @@ use Rattle.std.proofs.Common.{◌≡◌, take}
 use Rattle.search_laws.specs.Search.{looked_through}
 use Rattle.search_model.specs.Machines.{quiet_space}
 use Rattle.state_keys.specs.Same.{same_state}
-use Rattle.explorer.specs.Searching.{TakesUp, KeysTell, kept_by, searched_by, state_by}
+use Rattle.explorer.specs.Searching.{TakesUp, kept_by, searched_by}
 use Rattle.explorer.proofs.progress.Search.look_through.Given as goal
 
 -- the turns so far were looked through

@@ -1,5 +1,4 @@
-use Rattle.std.proofs.Common.{◌≡◌, ◌+◌, ◌<◌, ◌≤◌, true, false, ◌++◌, ◌∷◌, [], length, take, Some, slice_get, sym, ap, subst, ◌∙◌, arith}
-use Rattle.std.specs.Prelude.{nat_le}
+use Rattle.std.proofs.Common.{◌≡◌, length, sym, ap, subst, ◌∙◌, arith}
 use Rattle.std.proofs.lemmas.Bool.{or_parts, leb-false}
 use Rattle.tree_model.specs.State.Values.{MachineValue}
 use Rattle.search_laws.specs.Search.{looked_through, with_jam}
