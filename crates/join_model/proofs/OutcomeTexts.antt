@@ -1,7 +1,7 @@
 -- The outcomes of machines are in one line each, and the texts of ranges of seeds of one machine come to the text of the whole range.
 -- Letters: m is a machine, o an outcome, e a hart's end, d a digit.
-use Rattle.std.proofs.Common.{◌≡◌, ℕ, zero, suc, ◌+◌, ◌-◌, ◌≤◌, ◌/◌, ◌%◌, Bool, true, false, not, cond, ◌&&◌, List, [], ◌∷◌, ◌++◌, length, map, Option, Some, None, Ok, refl, sym, ap, subst, ◌∙◌, append-nil, arith}
-use Rattle.std.specs.Prelude.{codes, decimal, flat_map, nat_eq, nat_lt, sum, sum_by}
+use Rattle.std.proofs.Common.{◌≡◌, ℕ, zero, suc, ◌+◌, ◌-◌, ◌≤◌, ◌/◌, ◌%◌, true, false, not, cond, ◌&&◌, List, [], ◌∷◌, ◌++◌, length, map, Option, Some, None, Ok, refl, sym, ap, subst, ◌∙◌, arith}
+use Rattle.std.specs.Prelude.{codes, decimal, flat_map, nat_eq, nat_lt, sum}
 use Rattle.std.specs.List.{AllByRecursion, list_all, range_with_len}
 use Rattle.std.specs.Fmt.{digit_glyph, digits, digits_onto}
 use Rattle.std.proofs.lemmas.Bool.{eqb-true}
@@ -28,7 +28,6 @@ use Rattle.join_model.specs.JoinLaws.{all_outcomes}
 use Rattle.join_model.specs.OutcomeTexts.{JoinedOutcomes, OutcomesAreTexts, range_texts}
 use Rattle.join_model.specs.Table.{Table, most_bytes, most_number, text_of}
 use Rattle.join_model.specs.TextLaws.{AreShort, BeginsWithSpace, IsOutcomeText, range_table, range_tables}
-use Rattle.join_model.specs.declared.table.TableKind.{TableKind}
 use Rattle.join_model.specs.declared.table.TableKind.TheVariants.{Outcomes}
 use Rattle.join_model.proofs.RangeTexts.{joined-ranges}
 

@@ -1,7 +1,7 @@
 -- The texts of the outcomes of a machine's seeds, put together, in the words of their reader.
 -- Letters: m is a machine.
 -- To be believed: it is what is claimed of them.
-use Rattle.std.specs.Prelude.{◌≡◌, ℕ, ◌+◌, ◌≤◌, List, [], ◌∷◌, length, sum, Result, Ok}
+use Rattle.std.specs.Prelude.{◌≡◌, ℕ, ◌+◌, ◌≤◌, List, [], ◌∷◌, length, sum, Ok}
 use Rattle.std.specs.List.{AllByRecursion}
 use Rattle.text_model.specs.Schedule.{ShapeView}
 use Rattle.outcome_model.specs.Outcome.{outcome_of}

@@ -1,15 +1,17 @@
 -- What is claimed of the measures of every recorded run.
 -- Letters: m is a machine, r a recorded run, k a number of turns.
 -- To be believed: it is what is claimed of them.
-use Rattle.std.specs.Prelude.{◌≡◌, ◌≤◌, ℕ, ◌+◌, List, map, take}
+use Rattle.std.specs.Prelude.{◌≡◌, ◌≤◌, ℕ, ◌+◌, false, List, map, take}
 use Rattle.recording_model.specs.DdmTypes.declared.turns.Turn.{Turn}
 use Rattle.recording_model.specs.TreeModel.State.Values.{MachineValue}
-use Rattle.recording_model.specs.TreeModel.Turns.Machine.{run_of}
+use Rattle.recording_model.specs.TreeModel.Turns.Machine.{run_of, turn_of}
+use Rattle.recording_model.specs.TreeModel.Turns.Tree.{bus_of_number, leaf_of_number}
 use Rattle.recording_model.specs.TextModel.Run.{counts_of}
 use Rattle.recording_model.specs.LetBy.{Draw}
 use Rattle.recording_model.specs.Recording.{Recording, made_turns, recording_from}
 use Rattle.measure_model.specs.Counts.{Made, made_of, totals_of}
 use Rattle.measure_model.specs.Lengths.{lengths_in, lengths_over, most_in, most_over}
+use Rattle.measure_model.specs.Near.{is_near}
 
 -- ---- counts
 
@@ -52,3 +54,13 @@ pub record AreReached (ts : List Turn) (m : MachineValue) : Type 0 where
 
 abbrev pub ReachesMost : Type 0
 ReachesMost = (ts : List Turn) (m : MachineValue) → AreReached ts m
+
+-- ---- which lists a turn changes
+
+-- elsewhere all lists are as long as before
+pub record StaysElsewhere (t : Turn) (m : MachineValue) : Type 0 where
+  pub over : (b : ℕ) → is_near (bus_of_number b) t m ≡ false → lengths_over b (turn_of t m).machine ≡ lengths_over b m
+  pub inside : (leaf : ℕ) → is_near (leaf_of_number leaf) t m ≡ false → lengths_in leaf (turn_of t m).machine ≡ lengths_in leaf m
+
+abbrev pub ChangesNear : Type 0
+ChangesNear = (t : Turn) (m : MachineValue) → StaysElsewhere t m

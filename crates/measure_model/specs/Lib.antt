@@ -1,5 +1,6 @@
 pub mod Counts
 pub mod Lengths
+pub mod Near
 pub mod Measures
 pub mod Text
 pub mod Laws

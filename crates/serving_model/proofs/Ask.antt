@@ -1,7 +1,7 @@
 -- A read goes up from its leaf to the top of a part that doesn't hold the item: each bus on the way grants it, and its parent asks.
 -- Letters: n is how many items there are, x the item, h the leaf, m a part, d a directory over the children ns, w a place, c the child
 -- that is over the leaf.
-use Rattle.std.proofs.Common.{◌≡◌, ◌≢◌, ℕ, zero, suc, ◌+◌, ◌<◌, true, false, List, [], ◌∷◌, ◌++◌, length, Some, None, refl, sym, ap, subst, ◌∙◌, arith, get_or-set_same}
+use Rattle.std.proofs.Common.{◌≡◌, ◌≢◌, ℕ, zero, suc, ◌<◌, true, false, List, [], ◌∷◌, ◌++◌, length, Some, None, refl, sym, ap, subst, ◌∙◌, arith, get_or-set_same}
 use Rattle.std.specs.Prelude.{nat_eq, slice_set}
 use Rattle.serving_model.specs.DdmTypes.declared.answers.TxKind.TheVariants.{ReadTx}
 use Rattle.serving_model.specs.DdmTypes.declared.sizes.Hold.{Hold}

@@ -1,7 +1,7 @@
 -- Exclusive comes down to the leaf that erases: each bus over the leaf gives it to the child that is over the leaf.
 -- Letters: n is how many items there are, x the item, h the leaf, m a part, d a directory over the children ns, w a place, s a stamp, c
 -- the child that is over the leaf.
-use Rattle.std.proofs.Common.{◌≡◌, ◌≢◌, ℕ, ◌+◌, ◌<◌, true, false, List, [], ◌∷◌, ◌++◌, length, Some, None, refl, sym, ap, subst, ◌∙◌, get_or-set_same, get_or-set_other}
+use Rattle.std.proofs.Common.{◌≡◌, ◌≢◌, ℕ, ◌<◌, true, false, List, [], ◌∷◌, ◌++◌, length, Some, None, refl, sym, ap, subst, ◌∙◌, get_or-set_same, get_or-set_other}
 use Rattle.std.specs.Prelude.{nat_eq, slice_set}
 use Rattle.std.proofs.lemmas.List.{length-set, append-nil}
 use Rattle.serving_model.specs.DdmTypes.declared.answers.TxKind.TheVariants.{ExclusiveTx}

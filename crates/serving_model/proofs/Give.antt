@@ -1,7 +1,7 @@
 -- A part at rest that holds an item gives it when it is told to answer: the read comes down to the lowest leaf that has the item, and
 -- its reply goes up, a bus at a time.
 -- Letters: n is how many items there are, x the item, m a part, d a directory over the children ns, v a leaf, w a place, s a stamp.
-use Rattle.std.proofs.Common.{◌≡◌, ◌≢◌, ℕ, zero, suc, ◌+◌, ◌<◌, true, false, List, [], ◌∷◌, ◌++◌, length, Option, Some, None, refl, sym, ap, subst, ◌∙◌, arith, get_or-set_same, get_or-set_other}
+use Rattle.std.proofs.Common.{◌≡◌, ◌≢◌, ℕ, zero, suc, ◌<◌, true, false, List, [], ◌∷◌, ◌++◌, length, Option, Some, None, refl, sym, ap, subst, ◌∙◌, arith, get_or-set_same, get_or-set_other}
 use Rattle.std.specs.Prelude.{◌*◌, nat_le, slice_index_or, slice_set}
 use native.Mathlib.Decide.{ℕ_discrete}
 use Rattle.std.proofs.lemmas.Bool.{and_parts, true≢false}

@@ -20,3 +20,5 @@ pub mod FreeWay
 pub mod Hart
 pub mod Issued
 pub mod Instruction
+pub mod Short
+pub mod Harts

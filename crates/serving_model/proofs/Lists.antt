@@ -1,5 +1,5 @@
 -- Lists and children: what is empty, what stands where, and what each child passes.
-use Rattle.std.proofs.Common.{◌≡◌, ◌≢◌, ℕ, zero, suc, ◌<◌, Bool, true, false, List, [], ◌∷◌, length, Option, Some, None, refl, sym, subst, arith, get_or-set_same, get_or-set_other}
+use Rattle.std.proofs.Common.{◌≡◌, ◌≢◌, ℕ, zero, suc, ◌<◌, Bool, true, List, [], ◌∷◌, length, Option, Some, None, refl, sym, subst, arith, get_or-set_same, get_or-set_other}
 use Rattle.std.specs.Prelude.{not, is_none, slice_index_or, slice_set}
 use Rattle.std.specs.List.{list_all}
 use native.Mathlib.Decide.{ℕ_discrete}

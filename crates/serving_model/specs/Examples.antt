@@ -12,7 +12,7 @@ use Rattle.serving_model.specs.TreeModel.Start.Machine.{start_machine}
 use Rattle.serving_model.specs.TreeModel.Turns.Machine.{run_of}
 use Rattle.serving_model.specs.TreeModel.Turns.Witness.{sorted_ops}
 use Rattle.serving_model.specs.Rest.{is_at_rest}
-use Rattle.serving_model.specs.Serving.{ServingRefusal, no_room, too_many_turns, serve_of, serve_from}
+use Rattle.serving_model.specs.Serving.{ServingRefusal, too_many_turns, serve_of, serve_from}
 use Rattle.serving_model.specs.Texts.{served_text}
 
 -- ---- machines and operations

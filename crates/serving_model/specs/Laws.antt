@@ -1,23 +1,25 @@
 -- What holds of walks, a part of the tree at a time.
 -- Letters: n is how many items there are, x the item, m a part of the tree and w where it is, s a stamp.
 -- To be believed: it is what is claimed of them.
-use Rattle.std.specs.Prelude.{◌≡◌, ◌<◌, ℕ, true, List, [], ◌∷◌, None, Some}
+use Rattle.std.specs.Prelude.{◌≡◌, ◌<◌, ◌≤◌, ◌+◌, ◌*◌, ℕ, true, List, [], ◌∷◌, length, map, None, Some}
+use Rattle.std.specs.List.{list_all}
 use Rattle.serving_model.specs.DdmTypes.declared.answers.TurnAnswer.{TurnAnswer}
 use Rattle.serving_model.specs.DdmTypes.declared.answers.TxKind.{TxKind}
 use Rattle.serving_model.specs.DdmTypes.declared.answers.TxKind.TheVariants.{ReadTx, EraseTx}
 use Rattle.serving_model.specs.DdmTypes.declared.keys.Stamp.{Stamp}
 use Rattle.serving_model.specs.DdmTypes.declared.sizes.LeafState.{LeafState}
 use Rattle.serving_model.specs.DdmTypes.declared.turns.Turn.{Turn}
-use Rattle.serving_model.specs.TreeModel.State.Values.{Node, dir_node, MachineValue, root_of}
+use Rattle.serving_model.specs.TreeModel.State.Values.{LeafValue, Node, leaf_node, dir_node, MachineValue, root_of}
 use Rattle.serving_model.specs.TreeModel.State.Child.{child_holds, child_replies, child_answer, child_reply_taken, child_lose}
 use Rattle.serving_model.specs.TreeModel.State.Place.{Where, at_top}
-use Rattle.serving_model.specs.TreeModel.State.Shape.{IsShaped}
+use Rattle.serving_model.specs.TreeModel.State.Shape.{IsShaped, tree_counts}
 use Rattle.serving_model.specs.TreeModel.State.States.{is_reading, may_leave}
 use Rattle.serving_model.specs.TreeRules.Bus.Rules.{IsMachineOk, items_of_machine}
-use Rattle.serving_model.specs.TreeModel.Turns.Machine.{turn_of}
+use Rattle.serving_model.specs.TreeModel.Turns.Machine.{turn_of, run_of, machine_leaves}
+use Rattle.bus_laws.specs.TreeModel.Laws.{Kept, kept_of}
 use Rattle.serving_model.specs.Rest.{tree_rests, is_at_rest, has_room}
-use Rattle.serving_model.specs.Serving.{walks_of}
-use Rattle.serving_model.specs.Parts.{Runs, AllHave, BringsTo, Settled, Calm}
+use Rattle.serving_model.specs.Serving.{walks_of, turns_to_complete}
+use Rattle.serving_model.specs.Parts.{Runs, is_granted, AllHave, BringsTo, Settled, Calm}
 use Rattle.serving_model.specs.OneLeaf.{LeafIs, RootSpine, got, asks_then, IsServed}
 use Rattle.serving_model.specs.Walk.{give_turns, lose_turns, read_turns, erase_turns}
 
@@ -73,3 +75,15 @@ pub record Comes (m : MachineValue) (ts : List Turn) (words : ℕ → List ℕ) 
 abbrev pub WalksBringTheItem : Type 0
 WalksBringTheItem = (m : MachineValue) (words : ℕ → List ℕ) (h victim : ℕ) (kind : TxKind) (x : ℕ) → IsShaped m → IsMachineOk m → is_at_rest m ≡ true → has_room m ≡ true → AllHave words m.kids
     → (turn_of (Turn.Hart h victim) m).answer ≡ TurnAnswer.Issued kind x → Comes (turn_of (Turn.Hart h victim) m).machine (walks_of h (turn_of (Turn.Hart h victim) m).machine) words h x
+
+-- Whatever the machine, an instruction takes at most four turns for each bus, and two of its hart.
+abbrev pub WalksAreShort : Type 0
+WalksAreShort = (h : ℕ) (m : MachineValue) → length (turns_to_complete h m) ≤ 4 * (tree_counts m).buses + 2
+
+-- what a leaf is and what its hart is
+abbrev pub leaf_kept_of : LeafValue → Kept
+leaf_kept_of v = kept_of (leaf_node v)
+
+-- Turns that are all granted change no hart, and complete nothing.
+abbrev pub GrantsKeepHarts : Type 0
+GrantsKeepHarts = (ts : List Turn) (m : MachineValue) → list_all is_granted (run_of ts m).answers ≡ true → map leaf_kept_of (machine_leaves (run_of ts m).machine) ≡ map leaf_kept_of (machine_leaves m)

@@ -7,7 +7,7 @@
 --
 -- Letters: h is the leaf, x the item, n a part of the tree, ns are children of a bus, c and k child numbers.
 -- To be believed: it is what is printed.
-use Rattle.std.specs.Prelude.{ℕ, ◌+◌, Bool, List, [], ◌∷◌, ◌++◌, Option, None, Some, slice_index_or, slice_set, if◌then◌else◌}
+use Rattle.std.specs.Prelude.{ℕ, Bool, List, [], ◌∷◌, ◌++◌, Option, None, Some, slice_index_or, slice_set, if◌then◌else◌}
 use Rattle.std.specs.List.{flat_map}
 use Rattle.serving_model.specs.DdmTypes.declared.turns.Turn.{Turn}
 use Rattle.serving_model.specs.TreeModel.State.Lists.{find_from}

@@ -1,6 +1,6 @@
 //! What holds of walks, as theorems: there is nothing to run.
 
-ghost use Rattle.serving_model.specs.Laws.{PartsGive, PartsLose, RunsAreTheMachines, ReadsAreServed, ErasesAreServed, WalksBringTheItem};
+ghost use Rattle.serving_model.specs.Laws.{PartsGive, PartsLose, RunsAreTheMachines, ReadsAreServed, ErasesAreServed, WalksBringTheItem, WalksAreShort, GrantsKeepHarts};
 
 /// A part of the tree that holds an item, and is at rest, gives it when it is told to answer: its turns are granted, and it is at rest
 /// again when its reply is taken.
@@ -32,4 +32,14 @@ pub fn erases_are_served()
 /// machine is at rest again.
 pub fn walks_bring_the_item()
     ensures { WalksBringTheItem }
+{}
+
+/// An instruction takes at most four turns of each bus, and two of its hart.
+pub fn walks_are_short()
+    ensures { WalksAreShort }
+{}
+
+/// Turns that are all granted change no hart.
+pub fn grants_keep_harts()
+    ensures { GrantsKeepHarts }
 {}

@@ -1,0 +1,5 @@
+mod Cuts
+mod Sorting
+mod ReadLines
+mod Places
+mod Sums
