@@ -6,12 +6,14 @@ pub mod DdmText
 pub mod DdmTree
 pub mod DdmTypes
 pub mod ElfLoad
+pub mod FileLaws
 pub mod JamLaws
 pub mod MadeImage
 pub mod OutcomeModel
 pub mod ReportCrate
 pub mod ScheduleLog
 pub mod StartParts
+pub mod StateWords
 pub mod TextModel
 pub mod TreeConfig
 pub mod TreeModel
@@ -28,6 +30,7 @@ pub mod Printed
 pub mod Reads
 pub mod RecordingModel
 pub mod Refusals
+pub mod Together
 pub mod Told
 pub mod Top
 pub mod Views

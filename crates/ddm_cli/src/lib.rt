@@ -7,6 +7,7 @@ mod command;
 mod fault;
 mod files;
 mod judging;
+pub mod laws;
 mod limits;
 mod listing;
 mod making;
