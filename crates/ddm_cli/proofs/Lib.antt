@@ -9,6 +9,7 @@ pub mod OutcomeModel
 pub mod ReportCrate
 pub mod ScheduleLog
 pub mod StartParts
+pub mod SurveyModel
 pub mod TextModel
 pub mod TreeConfig
 pub mod TreeModel
@@ -35,6 +36,7 @@ pub mod Verdicts
 pub mod RunsInPieces
 pub mod Surveys
 pub mod Records
+pub mod RunSurveys
 pub mod Listed
 pub mod AcceptedParts
 pub mod SeededRuns

@@ -10,10 +10,12 @@ pub mod FileLaws
 pub mod JamLaws
 pub mod MadeImage
 pub mod OutcomeModel
+pub mod RecordingCrate
 pub mod ReportCrate
 pub mod ScheduleLog
 pub mod StartParts
 pub mod StateWords
+pub mod SurveyModel
 pub mod TextModel
 pub mod TreeConfig
 pub mod TreeModel
