@@ -27,6 +27,7 @@ mod recorded;
 mod refusal_lines;
 mod resuming;
 mod status;
+mod survey;
 mod surveying;
 mod top;
 mod unjamming;
