@@ -5,6 +5,7 @@ ghost use Rattle.std.specs.Prelude.{◌≡◌, drop, slice_index, take};
 use std::marker::Model;
 
 /// The words of a part of a machine that weren't read yet. A contract sees them as a list.
+#[derive(Drop)]
 pub struct StateWords<'a> {
     left: &'a [u32],
 }
