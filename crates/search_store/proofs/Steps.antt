@@ -1,12 +1,12 @@
 -- The schedules that steps give: an earlier state keeps its own, and a state's is its parent's and a turn.
 -- Letters: ss are schedules by number, s is a step, i the number of one, n how many states are known before it.
-use Rattle.std.specs.Prelude.{◌≡◌, ℕ, zero, suc, ◌+◌, ◌<◌, ◌≤◌, List, [], ◌∷◌, ◌++◌, length, slice_index_or, refl}
+use Rattle.std.specs.Prelude.{◌≡◌, ℕ, zero, suc, ◌+◌, ◌<◌, List, [], ◌∷◌, ◌++◌, length, slice_index_or, refl}
 use Rattle.std.proofs.Common.{ap, sym, ◌∙◌, subst, arith, length-append}
-use Rattle.std.proofs.lemmas.List.{get_or_append_left, get_or-append_right}
+use Rattle.std.proofs.lemmas.List.{get_or_append_left}
 use Rattle.std.proofs.Math.Seq.{get_or-append_seam}
 use Rattle.ddm_types.specs.declared.turns.Turn.{Turn}
 use Rattle.search_store.specs.declared.schedules.Step.{Step}
-use Rattle.search_store.specs.Schedule.{gone_on, schedules_from, schedules_of, AreEarlier}
+use Rattle.search_store.specs.Schedule.{gone_on, schedules_from, AreEarlier}
 
 abbrev with_step : List (List Turn) → Step → List (List Turn)
 with_step ss s = ss ++ gone_on ss s.parent s.turn ∷ []

@@ -1,6 +1,6 @@
 -- A look-up in a list of vectors is one in the list of their words.
 -- Letters: v is a vector, vs are vectors, words are those that are looked up.
-use Rattle.std.specs.Prelude.{◌≡◌, ℕ, Bool, true, false, List, [], ◌∷◌, map, ◌||◌, refl}
+use Rattle.std.specs.Prelude.{◌≡◌, ℕ, Bool, List, [], ◌∷◌, map, ◌||◌, refl}
 use Rattle.std.specs.List.{list_any}
 use Rattle.std.proofs.Common.{ap}
 use Rattle.std.specs.Global.{Vec}

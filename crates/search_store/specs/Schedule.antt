@@ -1,7 +1,7 @@
 -- The schedules of the states that a search knows, each but the first by that of an earlier state and one turn more.
 -- Letters: ss are schedules by number, s is a step.
 -- To be believed with the contracts: they speak of it.
-use Rattle.std.specs.Prelude.{◌≡◌, ℕ, ◌+◌, ◌<◌, List, [], ◌∷◌, ◌++◌, slice_index_or, ⊤}
+use Rattle.std.specs.Prelude.{ℕ, ◌+◌, ◌<◌, List, [], ◌∷◌, ◌++◌, slice_index_or, ⊤}
 use Rattle.ddm_types.specs.declared.turns.Turn.{Turn}
 use Rattle.search_store.specs.declared.schedules.Step.{Step}
 
