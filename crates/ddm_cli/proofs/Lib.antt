@@ -11,7 +11,8 @@ pub mod StartParts
 pub mod TextModel
 pub mod TreeConfig
 pub mod TreeModel
-pub mod Judged
+pub mod Joins
+mod Judged
 pub mod Telling
 pub mod Numbers
 pub mod Causes

@@ -102,6 +102,7 @@ faults_text = lines_of (
     codes " 6 cannot read the schedule          see that the file is there and may be read" ∷
     codes " 6 cannot read the witness           see that the file is there and may be read" ∷
     codes " 6 cannot read the checkpoint        see that the file is there and may be read" ∷
+    codes " 6 cannot read table N               see that the file is there and may be read" ∷
     codes " 7 cannot write                      see that the disk has room and the reader" ∷
     codes "                                     goes on" ∷
     codes " 8 no memory                         let the process have more" ∷
@@ -126,6 +127,13 @@ faults_text = lines_of (
     codes "12 small lists: KEY                  give this list in the tree eight places an" ∷
     codes "                                     item, an item for each line `item` of ddm" ∷
     codes "                                     run" ∷
+    codes "15 table N: too long                 67108864 bytes are the most" ∷
+    codes "15 table N line L: bad line          give tables as ddm outcomes or ddm survey" ∷
+    codes "                                     puts them out" ∷
+    codes "15 table N line L: no end            the file ends early: make the table again" ∷
+    codes "15 table N line L: after end         take out what stands behind the line end" ∷
+    codes "15 table N: other kind               join tables of outcomes and of survey apart" ∷
+    codes "15 table N: too many runs            18446744073709551615 are the most" ∷
     [])
 
 -- what is said of this alone
@@ -147,6 +155,7 @@ own_text about.Help = lines_of (
     codes "                                   what the runs of many seeds come to" ∷
     codes "  ddm record IMAGE TREE KIND SEED TURNS" ∷
     codes "                                   the schedule of the turns of a seed that do something" ∷
+    codes "  ddm join TABLE TABLE ..          the table of all runs of several tables" ∷
     codes "  ddm help COMMAND                 more of one of these" ∷
     codes "  ddm --help, ddm --version" ∷
     [])
@@ -219,6 +228,12 @@ own_text about.Record = lines_of (
     codes "until there are TURNS of them, every hart has halted, or 16777216 turns in a" ∷
     codes "row did nothing. KIND is even, or skewed: each turn of the tree has a rate of" ∷
     codes "the seed's." ∷
+    [])
+own_text about.Join = lines_of (
+    codes "ddm join TABLE TABLE .." ∷
+    codes "Prints the table of all runs of 2 to 256 tables, each of 64 MiB at most: what ddm" ∷
+    codes "outcomes printed, or what ddm survey did. Where no seed is in two of them it is" ∷
+    codes "the table of all these seeds." ∷
     [])
 
 -- what is said behind it, of each command

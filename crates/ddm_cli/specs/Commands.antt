@@ -1,7 +1,7 @@
 -- The commands, and the words that say them.
 -- Letters: k is the index of a word, counted from 0.
 -- To be believed with the contracts: they speak of it.
-use Rattle.std.specs.Prelude.{ℕ, ◌+◌, ◌-◌, ◌*◌, ◌≤◌, min, nat_le, nat_lt, List, [], ◌∷◌, length, Result, Ok, Err, Option, Some, None, slice_get, option_and_then, if◌then◌else◌, bytes_eq, codes}
+use Rattle.std.specs.Prelude.{ℕ, ◌+◌, ◌-◌, ◌*◌, ◌≤◌, min, nat_le, nat_lt, List, [], ◌∷◌, drop, length, Result, Ok, Err, Option, Some, None, slice_get, option_and_then, if◌then◌else◌, bytes_eq, codes}
 use Rattle.std.specs.Result.{result_ok}
 use Rattle.ddm_cli.specs.DdmText.Numbers.{number_of}
 use Rattle.ddm_cli.specs.RecordingModel.declared.SeedKind.{SeedKind}
@@ -81,6 +81,8 @@ pub data Command : Type 0 where
   to_survey : Seeds → Command
   -- to write a recorded run
   to_record : Recorded → Command
+  -- to put the tables of these files together
+  to_join : List (List ℕ) → Command
   -- to say something of the program itself
   to_say : About → Command
 
@@ -119,6 +121,7 @@ IsInRange (to_check c) = Unit {0}
 IsInRange (to_resume r) = Unit {0}
 IsInRange (to_survey s) = (1 ≤ s.count) × (s.count ≤ 1000000) × (s.first + s.count ≤ 18446744073709551616) × (s.turns ≤ 1048576)
 IsInRange (to_record r) = r.turns ≤ 1048576
+IsInRange (to_join names) = (2 ≤ length names) × (length names ≤ 256)
 IsInRange (to_say a) = Unit {0}
 
 -- ---- words in their order: the command that they say, or the index of the first word at fault or of the first that is missing
@@ -200,6 +203,13 @@ seed_record words =
     word_at words 1 (λ image. word_at words 2 (λ tree. on_found 3 (option_and_then kind_named (slice_get words 3)) (λ kind. seed_at words 4 (λ seed. count_at words 5 (λ turns.
     ends_at words 6 (to_record (recorded_value image tree kind seed turns)))))))
 
+-- join TABLE TABLE ..
+unfoldable pub tables_named : List (List ℕ) → Result Command ℕ
+tables_named words =
+    if nat_lt (length words) 3 then Err (length words)
+    else (if nat_lt 257 (length words) then Err 257
+    else Ok (to_join (drop 1 words)))
+
 -- the command of a name
 unfoldable pub about_named : List ℕ → Option About
 about_named name =
@@ -214,7 +224,8 @@ about_named name =
     else (if bytes_eq name (codes "resume") then Some about.Resume
     else (if bytes_eq name (codes "outcomes") then Some about.Outcomes
     else (if bytes_eq name (codes "record") then Some about.Record
-    else None))))))))))
+    else (if bytes_eq name (codes "join") then Some about.Join
+    else None)))))))))))
 
 -- help COMMAND
 unfoldable pub help_said : List (List ℕ) → Result Command ℕ
@@ -233,10 +244,11 @@ named_command words name =
     else (if bytes_eq name (codes "resume") then file_resume words
     else (if bytes_eq name (codes "outcomes") then seeds_survey words
     else (if bytes_eq name (codes "record") then seed_record words
+    else (if bytes_eq name (codes "join") then tables_named words
     else (if bytes_eq name (codes "help") then help_said words
     else (if bytes_eq name (codes "--help") then ends_at words 1 (to_say about.Help)
     else (if bytes_eq name (codes "--version") then ends_at words 1 (to_say about.Version)
-    else Err 0)))))))))))))
+    else Err 0))))))))))))))
 
 -- ---- words that ask for help, and are just these
 

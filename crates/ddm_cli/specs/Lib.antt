@@ -28,6 +28,8 @@ pub mod Printed
 pub mod Reads
 pub mod RecordingModel
 pub mod Refusals
+pub mod TableLines
+pub mod Tables
 pub mod Told
 pub mod Top
 pub mod Views

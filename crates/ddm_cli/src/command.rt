@@ -124,6 +124,7 @@ pub enum About {
     Resume,
     Outcomes,
     Record,
+    Join,
 }
 
 /// What the words of a command say.
@@ -144,5 +145,7 @@ pub enum Command<'a> {
     Outcomes(Seeds<'a>),
     /// The schedule of the turns of a seed that do something.
     Record(Recorded<'a>),
+    /// The table of all runs of the tables in these files.
+    Join(&'a [String]),
     About(About),
 }

@@ -1,2 +1,10 @@
+pub mod DdmText
+pub mod OutcomeModel
+pub mod TextModel
 pub mod Joined
 pub mod JoinLaws
+pub mod Table
+pub mod Files
+pub mod TextLaws
+pub mod Computing
+pub mod Examples

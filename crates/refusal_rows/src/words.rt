@@ -47,6 +47,8 @@ fn words_at_fault(rt: HostRuntime) -> Result<(), Fail> {
         (&["record", "i", "t", "even", "1", "1048577"], 5),
         (&["record", "i", "t", "skewed", "1"], 5),
         (&["record", "i", "t", "skewed", "1", "1", "more"], 6),
+        (&["join"], 1),
+        (&["join", "a"], 2),
         (&["RUN", "a", "b", "c"], 0),
         (&["help", "walk"], 1),
         (&["help", "run", "more"], 2),
@@ -108,7 +110,7 @@ fn of_itself(rt: HostRuntime) -> Result<(), Fail> {
     }
     for name in [
         "run", "trace", "seed", "schedule", "make", "check", "unjam", "save", "resume", "outcomes",
-        "record",
+        "record", "join",
     ] {
         let said = output(alloc, &["help", name], &no_files)?;
         let line = format!(in alloc; "ddm {name} ")?;

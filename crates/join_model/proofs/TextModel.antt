@@ -1,0 +1,2 @@
+-- Of `text_model`, what this crate and those above it name.
+pub use Rattle.text_model.proofs.Pieces

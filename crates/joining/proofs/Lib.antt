@@ -1,0 +1,4 @@
+mod Cuts
+mod Sorting
+mod ReadLines
+mod Places
