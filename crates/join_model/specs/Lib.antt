@@ -6,5 +6,6 @@ pub mod JoinLaws
 pub mod Table
 pub mod Files
 pub mod TextLaws
+pub mod OutcomeTexts
 pub mod Computing
 pub mod Examples

@@ -1,6 +1,7 @@
 //! What holds of every table that is put together, as theorems: each clause is one, and there is nothing to run.
 
 ghost use Rattle.join_model.specs.JoinLaws.{JoinedTablesAreRight, OneTable, RangesThatFollow};
+ghost use Rattle.join_model.specs.OutcomeTexts.{JoinedOutcomes, OutcomesAreTexts};
 ghost use Rattle.join_model.specs.TextLaws.{JoinedRanges, JoinedTexts, PrintedTables, ReadTablesAreCounted};
 
 /// Tables put together are the table of all their runs.
@@ -36,4 +37,14 @@ pub fn joined_texts_are_right()
 /// The texts of ranges of seeds that follow one another are together the text of the whole range, byte for byte.
 pub fn joined_ranges_are_one()
     ensures { JoinedRanges }
+{}
+
+/// Every outcome of a machine is in one line, behind its seed.
+pub fn outcomes_are_texts()
+    ensures { OutcomesAreTexts }
+{}
+
+/// What calls for ranges of a machine's seeds print that follow one another is together, byte for byte, what one call prints.
+pub fn joined_outcomes_are_one()
+    ensures { JoinedOutcomes }
 {}

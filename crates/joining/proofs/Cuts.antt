@@ -1,11 +1,11 @@
 -- A text cut at the first place of a byte.
-use Rattle.std.proofs.Common.{◌≡◌, ℕ, zero, suc, ◌+◌, ◌<◌, ◌≤◌, not, ◌&&◌, nat_eq, true, false, List, [], ◌∷◌, ◌++◌, length, take, drop, get_or, Option, Some, None, refl, sym, ap, ◌∙◌, arith}
+use Rattle.std.proofs.Common.{◌≡◌, ℕ, zero, suc, ◌+◌, ◌-◌, ◌<◌, ◌≤◌, not, ◌&&◌, nat_eq, true, false, List, [], ◌∷◌, ◌++◌, length, take, drop, get_or, Some, None, refl, ap, ◌∙◌, arith}
 use Rattle.std.specs.Prelude.{position}
 use Rattle.std.specs.List.{list_all, position_or_len}
 use Rattle.std.proofs.lemmas.Grind.{common_steps}
 use Rattle.std.proofs.lemmas.List.Sums.{fails_before_first}
 use Rattle.std.proofs.lemmas.Bool.{eqb-true}
-use Rattle.std.proofs.lemmas.List.{get_or-take, length-take}
+use Rattle.std.proofs.lemmas.List.{get_or-take, length-drop, length-take, take_all}
 use Rattle.std.proofs.lemmas.List.Quantifiers.{position-Some}
 use Rattle.join_model.specs.TextModel.Lines.{Lacks}
 use Rattle.joining.specs.TextModel.Schedule.{pieces_at}
@@ -45,3 +45,7 @@ pub last-piece : (separator : ℕ) (text : List ℕ) → position (λ byte. nat_
 last-piece separator text none =
     let past : length text ≤ position_or_len (λ byte. nat_eq byte separator) text = grind (arith, common_steps) in
     pieces_at-whole separator text (lacks-from separator text (λ k h. fails_before_first (λ byte. nat_eq byte separator) text k 0 (omega arith)))
+
+-- the bytes from a place on, as a slice has them
+pub tail-is : (text : List ℕ) (k : ℕ) → take (length text - k) (drop k text) ≡ drop k text
+tail-is text k = take_all (length text - k) (drop k text) (omega (arith, length-drop k text))

@@ -2,3 +2,4 @@ mod Cuts
 mod Sorting
 mod ReadLines
 mod Places
+mod Sums

@@ -1,7 +1,8 @@
 -- A line more at the place of its outcome.
 -- Letters: o is an outcome, k and l are lines.
-use Rattle.std.proofs.Common.{◌≡◌, ◌∙◌, ap, sym, subst, refl, ℕ, zero, suc, ◌+◌, ◌<◌, ◌≤◌, Bool, true, false, not, cond, ◌||◌, List, [], ◌∷◌, ◌++◌, length, map, get_or, set, take, arith}
-use Rattle.std.specs.Prelude.{nat_eq, sum_by}
+use Rattle.std.proofs.Common.{◌≡◌, ◌∙◌, ap, sym, subst, refl, ℕ, zero, suc, ◌+◌, ◌<◌, ◌≤◌, Bool, true, false, not, cond, ◌||◌, List, [], ◌∷◌, ◌++◌, length, map, get_or, set, take, Some, None, arith}
+use Rattle.std.specs.Prelude.{nat_eq, nat_lt, position, sum_by}
+use Rattle.std.proofs.lemmas.Bool.{ltb-false, ltb-true}
 use Rattle.std.specs.List.{list_any, position_or_len}
 use Rattle.std.specs.Cmp.Lexicographic.{pointwise}
 use Rattle.std.proofs.lemmas.List.Sums.{sum_by-cons}
@@ -39,6 +40,21 @@ module _ {X : Type 0} (text : X → List ℕ) where
       let test : pointwise nat_eq o (text k) ≡ is_outcome o l = ap (pointwise nat_eq o) head ∙ turned o l.outcome in
       ap (λ b. cond (not b) (1 + position_or_len (λ j. pointwise nat_eq o (text j)) ks) 0) test
       ∙ ap (λ n. cond (not (is_outcome o l)) (1 + n) 0) (same-place o ks ls (cc is))
+
+-- what `position` says of the place
+pub place-found : {X : Type 0} (p : X → Bool) (xs : List X) (i : ℕ) → Some i ≡ position p xs → (position_or_len p xs ≡ i) × (i < length xs)
+place-found p xs i is =
+    elim (nat_lt (position_or_len p xs) (length xs)) as (λ b. nat_lt (position_or_len p xs) (length xs) ≡ b → Some i ≡ cond b (Some (position_or_len p xs)) None → (position_or_len p xs ≡ i) × (i < length xs)) [
+      | true ↦ λ inside e. (let same : i ≡ position_or_len p xs = cc e in (sym same, (let below = ltb-true (position_or_len p xs) (length xs) inside in omega (arith, same, below))))
+      | false ↦ λ past e. absurd (cc e)
+    ] refl is
+
+pub place-none : {X : Type 0} (p : X → Bool) (xs : List X) → None ≡ position p xs → length xs ≤ position_or_len p xs
+place-none p xs is =
+    elim (nat_lt (position_or_len p xs) (length xs)) as (λ b. nat_lt (position_or_len p xs) (length xs) ≡ b → None ≡ cond b (Some (position_or_len p xs)) None → length xs ≤ position_or_len p xs) [
+      | true ↦ λ inside e. absurd (cc e)
+      | false ↦ λ past e. ltb-false (position_or_len p xs) (length xs) past
+    ] refl is
 
 -- where no element passes, none is found
 pub none-any : {X : Type 0} (p : X → Bool) (xs : List X) → length xs ≤ position_or_len p xs → list_any p xs ≡ false
@@ -81,7 +97,7 @@ times-within (l ∷ ls) (suc i) d inside = (let total = sum_by-cons times l ls i
 
 pub line-times : (l : OutcomeLine) (ls : List OutcomeLine) → sum_by times (with_line l ls) ≡ sum_by times ls + l.times
 unfolding with_line
-line-times l [] = sum_by-cons times l []
+line-times l [] = (let one = sum_by-cons times l [] in omega (arith, one))
 line-times l (k ∷ ks) =
     elim (is_outcome l.outcome k) as (λ b. sum_by times (cond b (with_more l k ∷ ks) (k ∷ with_line l ks)) ≡ sum_by times (k ∷ ks) + l.times) [
       | true ↦ (let old = sum_by-cons times k ks in let new = sum_by-cons times (with_more l k) ks in omega (arith, old, new))
@@ -130,3 +146,7 @@ few-more t ls i d inside =
     let more : sum_by times (with_table (take (i + 1) t) ls) ≡ sum_by times (with_line (get_or t i d) (with_table (take i t) ls)) = ap (sum_by times) (table-more t ls i d inside) in
     let part = times-take t (i + 1) in
     omega (arith, first, next, whole, more, part)
+
+pub no-lines : (t ls : List OutcomeLine) → with_table (take 0 t) ls ≡ ls
+unfolding with_table
+no-lines t ls = refl

@@ -1,12 +1,17 @@
 -- The lines of a table as the code reads them, one by one.
 -- Letters: n is the number of a line, l is a line of a table.
-use Rattle.std.proofs.Common.{◌≡◌, ℕ, zero, suc, ◌+◌, ◌-◌, ◌<◌, ◌≤◌, ◌⊎◌, inl, inr, Bool, true, false, cond, ◌&&◌, List, [], ◌∷◌, ◌++◌, length, take, drop, Option, Some, None, Result, Ok, Err, refl, sym, ap, ◌∙◌, append_assoc, arith}
-use Rattle.std.specs.Prelude.{bytes_eq, codes, nat_eq}
+use Rattle.std.proofs.Common.{◌≡◌, ℕ, zero, suc, ◌+◌, ◌-◌, ◌<◌, ◌≤◌, inl, inr, Bool, true, false, cond, ◌&&◌, List, [], ◌∷◌, ◌++◌, length, take, drop, Some, None, Result, Ok, Err, refl, sym, ap, ◌∙◌, append_assoc, arith}
+use Rattle.std.specs.Prelude.{bytes_eq, codes, nat_eq, sum_by, IfOk, MatchResult}
 use Rattle.std.proofs.lemmas.Bool.{cases_lt}
-use Rattle.std.proofs.lemmas.List.{drop_all, take_all}
+use Rattle.std.proofs.lemmas.List.{drop-drop, drop_all, length-append, take_all}
 use Rattle.joining.specs.OutcomeModel.Table.{OutcomeLine}
 use Rattle.joining.specs.TextModel.Schedule.{pieces_at, with_byte_before}
 use Rattle.join_model.proofs.TextModel.Pieces.{some_piece}
+use Rattle.joining.specs.Said.{IsTableError, table_said, times}
+use Rattle.joining.specs.declared.reading.ReadTable.{ReadTable}
+use Rattle.joining.specs.declared.reading.TableError.{TableError}
+use Rattle.joining.specs.declared.reading.TableError.TheVariants.{Refused, Memory}
+use Rattle.join_model.proofs.Counted.{table-counted}
 use Rattle.join_model.proofs.ReadBack.{outcome_in-pieces}
 use Rattle.join_model.specs.Table.{Heading, after_end, heading_of_words, line_of_words, line_with, lines_from, most_number, number_in, on_line, outcome_in, table_behind, table_of_pieces, table_with, with_line_before}
 use Rattle.join_model.specs.declared.table.TableRefusal.{TableRefusal}
@@ -130,3 +135,56 @@ line-words left mark n rest end within last more here = elim (cases_lt end (leng
       ∙ ap (λ s. cond (bytes_eq mark (codes "outcome")) (line_with (number_in left n) (number_in most_number s) (outcome_in [])) None) (sym (take_all end rest past))
       ∙ ap (λ o. cond (bytes_eq mark (codes "outcome")) (line_with (number_in left n) (number_in most_number (take end rest)) o) None) (no-words ∙ sym (drop_all end rest past))
 ]
+
+-- ---- what is read of a text from a place on
+
+module _ (count left at : ℕ) (text : List ℕ) (done : List OutcomeLine) where
+  -- what the lines from there on come to, behind those that are read
+  abbrev pub so-far : Result (List OutcomeLine) TableRefusal
+  so-far = before done (lines_from (2 + length done) (count - length done) left (pieces_at 10 (drop at text)))
+
+  pub cut-at : pieces_at 10 (drop at text) ≡ drop at text ∷ [] → so-far ≡ Err (NoEnd (2 + length done))
+  cut-at pieces = ap (λ ps. before done (lines_from (2 + length done) (count - length done) left ps)) pieces ∙ ap (before done) (lines-cut (2 + length done) (count - length done) left (drop at text))
+
+  module _ (end : ℕ) (more : length done < count) (pieces : pieces_at 10 (drop at text) ≡ take end (drop at text) ∷ pieces_at 10 (drop (end + 1) (drop at text))) where
+    abbrev piece : List ℕ
+    piece = take end (drop at text)
+
+    abbrev behind : List ℕ
+    behind = drop (end + 1) (drop at text)
+
+    next-count : count - length done ≡ suc (count - (length done + 1))
+    next-count = omega (arith, more)
+
+    opened : so-far ≡ before done (lines_from (2 + length done) (suc (count - (length done + 1))) left (piece ∷ pieces_at 10 behind))
+    opened =
+        ap (λ ps. before done (lines_from (2 + length done) (count - length done) left ps)) pieces
+        ∙ ap (λ k. before done (lines_from (2 + length done) k left (piece ∷ pieces_at 10 behind))) next-count
+
+    pub bad-at : line_of_words left (pieces_at 32 piece) ≡ None → so-far ≡ Err (BadLine (2 + length done))
+    bad-at none = opened ∙ ap (before done) (lines-bad (2 + length done) (count - (length done + 1)) left piece behind none)
+
+    pub line-at : (l : OutcomeLine) (new : List OutcomeLine) → line_of_words left (pieces_at 32 piece) ≡ Some l → new ≡ done ++ l ∷ []
+        → so-far ≡ before new (lines_from (2 + length new) (count - length new) (left - l.times) (pieces_at 10 (drop (at + (end + 1)) text)))
+    line-at l new some is =
+        let size : length new ≡ length done + 1 = ap length is ∙ length-append done (l ∷ []) in
+        let number : 2 + length done + 1 ≡ 2 + length new = omega (arith, size) in
+        let rest : count - (length done + 1) ≡ count - length new = ap (λ k. count - k) (sym size) in
+        opened
+        ∙ ap (before done) (lines-step (2 + length done) (count - (length done + 1)) left piece behind l some)
+        ∙ before-push done l (lines_from (2 + length done + 1) (count - (length done + 1)) (left - l.times) (pieces_at 10 behind))
+        ∙ ap (λ ls. before ls (lines_from (2 + length done + 1) (count - (length done + 1)) (left - l.times) (pieces_at 10 behind))) (sym is)
+        ∙ ap (λ k. before new (lines_from k (count - (length done + 1)) (left - l.times) (pieces_at 10 behind))) number
+        ∙ ap (λ k. before new (lines_from (2 + length new) k (left - l.times) (pieces_at 10 behind))) rest
+        ∙ ap (λ t. before new (lines_from (2 + length new) (count - length new) (left - l.times) (pieces_at 10 t))) (drop-drop (end + 1) at text)
+
+-- ---- refusals
+
+-- what refuses one refuses the other
+pub error-of : {A B : Type 0} (a : Result A TableRefusal) (b : Result B TableRefusal) (e : TableError) → ((r : TableRefusal) → a ≡ Err r → b ≡ Err r) → IsTableError a e → IsTableError b e
+error-of a b (Refused r) both is = both r is
+error-of a b Memory both is = tt
+
+pub counted-of : (pieces : List (List ℕ)) (r : Result ReadTable TableError) (P : TableError → Type 0) → MatchResult r (λ t. table_of_pieces pieces ≡ Ok (table_said t)) P → IfOk r (λ t. sum_by times t.lines.items ≡ t.runs)
+counted-of pieces (Ok t) P is = table-counted pieces (table_said t) is
+counted-of pieces (Err e) P is = tt

@@ -1,7 +1,6 @@
 -- Lines sorted so that those keep their order which are to stand before none of each other: there is one such list.
 -- Letters: k, l, x and y are lines.
-use Rattle.std.proofs.Common.{◌≡◌, ℕ, zero, suc, ◌+◌, ◌<◌, ◌≤◌, Bool, true, false, not, cond, ◌&&◌, ◌||◌, filter, List, [], ◌∷◌, length, get_or, refl, sym, ap, subst, ◌∙◌, arith, true≢false}
-use Rattle.std.specs.Prelude.{nat_eq, nat_lt}
+use Rattle.std.proofs.Common.{◌≡◌, ℕ, suc, ◌+◌, ◌<◌, Bool, true, false, not, cond, ◌&&◌, filter, List, [], ◌∷◌, length, get_or, refl, sym, ap, subst, ◌∙◌, arith, true≢false}
 use Rattle.std.specs.List.{AllByRecursion}
 use Rattle.std.specs.List.Sorted.{IsSortedBy, IsStableBy, ties}
 use Rattle.std.specs.Cmp.{IsStrictWeakOrder}
@@ -33,7 +32,7 @@ no-later x [] far = tt
 no-later x (y ∷ ys) far = (far 0 (omega arith), no-later x ys (λ k h. far (suc k) (omega (arith, h))))
 
 sorted-rest : (x : OutcomeLine) (xs : List OutcomeLine) → IsSortedBy stands_before (x ∷ xs) → IsSortedBy stands_before xs
-sorted-rest x xs up = λ k d low high. up (suc k) d (omega arith) (omega (arith, high))
+sorted-rest x xs up = λ k d low high. (let next : suc k + 1 ≡ suc (k + 1) = omega arith in subst (λ n. stands_before (get_or (x ∷ xs) n d) (get_or xs k d) ≡ false) next (up (suc k) d (omega arith) (omega (arith, high))))
 
 pub sorted-ordered : (xs : List OutcomeLine) → IsSortedBy stands_before xs → AreInOrder xs
 sorted-ordered [] up = tt

@@ -1,6 +1,6 @@
 -- Tables as the code has them, and as they are said.
 -- To be believed with the contracts: they speak of it.
-use Rattle.std.specs.Prelude.{◌≡◌, ℕ, List, map, Result, Err, sum_by}
+use Rattle.std.specs.Prelude.{◌≡◌, ℕ, map, Result, Err, sum_by}
 use Rattle.joining.specs.OutcomeModel.Table.{OutcomeLine}
 use Rattle.join_model.specs.Table as said
 use Rattle.join_model.specs.Files.{Sum}

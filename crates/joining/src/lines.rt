@@ -48,6 +48,13 @@ impl LineSet {
         }
     }
 
+    /// Its lines, which aren't in order yet.
+    pub fn into_lines(self) -> Vec<OutcomeLine>
+        ensures { result.items ≡ self.lines.items }
+    {
+        self.lines
+    }
+
     // One line more. After `NoMemory` nothing is known of the set.
     fn add(&mut self, alloc: Global, line: &OutcomeLine) -> Result<(), NoMemory>
         requires alike { AreAlike self.old }

@@ -1,8 +1,7 @@
 //! A table is read.
 
-ghost use Rattle.std.specs.Prelude.{◌≡◌, ◌≤◌, ◌++◌, ◌∷◌, zero, [], Ok, Err, length, sum_by, IfOk, OnOk, MatchResult};
-ghost use Rattle.joining.specs.OutcomeModel.Table.{OutcomeLine};
-ghost use Rattle.joining.specs.Said.{IsTableError, row_said, table_said};
+ghost use Rattle.std.specs.Prelude.{◌≡◌, ◌≤◌, ◌&&◌, ◌++◌, ◌∷◌, bytes_eq, codes, nat_eq, zero, [], Ok, Err, length, sum_by, IfOk, OnOk, MatchResult};
+ghost use Rattle.joining.specs.Said.{IsTableError, row_said, table_said, times};
 ghost use Rattle.joining.specs.declared.reading.TableError.TheVariants.{Memory};
 ghost use Rattle.joining.specs.TextModel.Schedule.{pieces_at};
 ghost use Rattle.join_model.specs.Table.{lines_from, table_in, table_of_pieces};
@@ -60,6 +59,13 @@ fn push_row(alloc: Global, lines: &mut Vec<OutcomeLine>, row: Row<'_>) -> Result
     Ok(())
 }
 
+// Whether this line is the line `end`, where so many runs are left.
+fn is_end(line: &[u8], left: u64) -> bool
+    ensures { result ≡ (nat_eq left 0 && bytes_eq line.now (codes "end")) }
+{
+    left == 0 && line == END
+}
+
 // Whether the rest of a file is the line `end` alone, which is to be this line, where so many runs are left.
 fn end_of(rest: &[u8], left: u64, line: u32) -> Result<(), TableRefusal>
     requires { line ≤ 67108866 }
@@ -69,13 +75,13 @@ fn end_of(rest: &[u8], left: u64, line: u32) -> Result<(), TableRefusal>
     if end == rest.len() {
         return Err(TableRefusal::NoEnd(line));
     }
-    if left != 0 || &rest[..end] != END {
-        return Err(TableRefusal::BadLine(line));
+    if is_end(&rest[..end], left) {
+        if end + 1 < rest.len() {
+            return Err(TableRefusal::AfterEnd(line + 1));
+        }
+        return Ok(());
     }
-    if end + 1 < rest.len() {
-        return Err(TableRefusal::AfterEnd(line + 1));
-    }
-    Ok(())
+    Err(TableRefusal::BadLine(line))
 }
 
 // The lines behind the first one.
@@ -94,8 +100,9 @@ fn lines_of(alloc: Global, text: &[u8], heading: Heading) -> Result<Vec<OutcomeL
         if end == rest.len() {
             return Err(TableError::Refused(TableRefusal::NoEnd(lines.len() as u32 + 2)));
         }
-        let Some(row) = row_of(&rest[..end], left) else {
-            return Err(TableError::Refused(TableRefusal::BadLine(lines.len() as u32 + 2)));
+        let row = match row_of(&rest[..end], left) {
+            Some(row) => row,
+            None => return Err(TableError::Refused(TableRefusal::BadLine(lines.len() as u32 + 2))),
         };
         left -= row.times;
         push_row(alloc, &mut lines, row)?;
@@ -118,22 +125,25 @@ fn table_of(alloc: Global, text: &[u8]) -> Result<ReadTable, TableError>
     if end == text.len() {
         return Err(TableError::Refused(TableRefusal::NoEnd(1)));
     }
-    let Some(heading) = heading_of(&text[..end]) else {
-        return Err(TableError::Refused(TableRefusal::BadLine(1)));
+    let heading = match heading_of(&text[..end]) {
+        Some(heading) => heading,
+        None => return Err(TableError::Refused(TableRefusal::BadLine(1))),
     };
-    let lines = lines_of(alloc, &text[end + 1..], heading)?;
-    Ok(ReadTable {
-        kind: heading.kind,
-        runs: heading.runs,
-        lines,
-    })
+    match lines_of(alloc, &text[end + 1..], heading) {
+        Ok(lines) => Ok(ReadTable {
+            kind: heading.kind,
+            runs: heading.runs,
+            lines,
+        }),
+        Err(error) => Err(error),
+    }
 }
 
 /// The table of a file's bytes, in one pass.
 #[tactic(auto, unfolding(join_model::specs::Table::table_in))]
 pub fn read_table(alloc: Global, text: &[u8]) -> Result<ReadTable, TableError>
     ensures table { MatchResult result (λ t. table_in text.now ≡ Ok (table_said t)) (λ e. IsTableError (table_in text.now) e) }
-    ensures counted { IfOk result (λ t. sum_by (λ (l : OutcomeLine). l.times) t.lines.items ≡ t.runs) }
+    ensures counted { IfOk result (λ t. sum_by times t.lines.items ≡ t.runs) }
 {
     if text.len() > MOST_BYTES {
         return Err(TableError::Refused(TableRefusal::TooLong));

@@ -1,8 +1,8 @@
 //! Tables are put together.
 
-ghost use Rattle.std.specs.Prelude.{◌≡◌, ◌<◌, Ok, IfOk, OnOk, MatchResult, sum_by};
+ghost use Rattle.std.specs.Prelude.{◌≡◌, ◌<◌, ◌+◌, ◌&&◌, nat_lt, not, Ok, IfOk, OnOk, MatchResult, sum_by};
 ghost use Rattle.joining.specs.Said.{IsCounted, IsTableError, sum_said, table_said, times};
-ghost use Rattle.join_model.specs.Files.{added, no_tables, sum_text};
+ghost use Rattle.join_model.specs.Files.{added, no_tables, same_kind, sum_text};
 
 use crate::line::OutcomeLine;
 use crate::lines::LineSet;
@@ -20,6 +20,29 @@ pub struct TableSum {
     kind: TableKind,
     runs: u64,
     set: LineSet,
+}
+
+fn same_kind(one: TableKind, other: TableKind) -> bool
+    ensures { result ≡ same_kind one other }
+{
+    match (one, other) {
+        (TableKind::Outcomes, TableKind::Outcomes) | (TableKind::Survey, TableKind::Survey) => true,
+        _ => false,
+    }
+}
+
+// Whether the next table is of another kind than so many of this kind.
+fn is_other(tables: u32, kind: TableKind, next: TableKind) -> bool
+    ensures { result ≡ (nat_lt 0 tables && not (same_kind kind next)) }
+{
+    tables > 0 && !same_kind(kind, next)
+}
+
+// Whether with so many more there are more runs than can be counted.
+fn are_too_many(runs: u64, more: u64) -> bool
+    ensures { result ≡ nat_lt 18446744073709551615 (runs + more) }
+{
+    more > u64::MAX - runs
 }
 
 impl TableSum {
@@ -44,16 +67,16 @@ impl TableSum {
         ensures sum { MatchResult result (λ u. added (sum_said self.old) (table_said table.now) ≡ Ok (sum_said self.new)) (λ e. IsTableError (added (sum_said self.old) (table_said table.now)) e) }
         ensures counted { OnOk result (IsCounted self.new) }
     {
-        if self.tables > 0 && self.kind != table.kind {
+        if is_other(self.tables, self.kind, table.kind) {
             return Err(TableError::Refused(TableRefusal::OtherKind));
         }
-        let Some(runs) = self.runs.checked_add(table.runs) else {
+        if are_too_many(self.runs, table.runs) {
             return Err(TableError::Refused(TableRefusal::TooManyRuns));
-        };
+        }
         self.set.add_all(alloc, &table.lines)?;
         self.tables += 1;
         self.kind = table.kind;
-        self.runs = runs;
+        self.runs += table.runs;
         Ok(())
     }
 
@@ -62,10 +85,12 @@ impl TableSum {
     pub fn into_text(self, alloc: Global) -> Result<Vec<u8>, NoMemory>
         ensures { IfOk result (λ text. text.items ≡ sum_text (sum_said self)) }
     {
-        let mut lines = self.set.lines;
+        let kind = self.kind;
+        let runs = self.runs;
+        let mut lines = self.set.into_lines();
         put_in_order(&mut lines)?;
         let mut text = Vec::new(alloc);
-        push_table(&mut text, self.kind, self.runs, &lines)?;
+        push_table(&mut text, kind, runs, &lines)?;
         Ok(text)
     }
 }

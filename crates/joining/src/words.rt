@@ -1,6 +1,6 @@
 //! The words of a table's lines.
 
-ghost use Rattle.std.specs.Prelude.{◌≡◌, ◌≤◌, ◌<◌, ◌+◌, ◌∷◌, [], take, drop, length, nat_eq, position, option_map, IfSome};
+ghost use Rattle.std.specs.Prelude.{◌≡◌, ◌≤◌, ◌<◌, ◌+◌, ◌∷◌, [], take, drop, length, nat_eq, position, option_map, bytes_eq, codes, IfSome};
 ghost use Rattle.joining.specs.Said.{heading_said, row_said};
 ghost use Rattle.joining.specs.TextModel.Schedule.{pieces_at};
 ghost use Rattle.join_model.specs.Table.{heading_of_words, heading_with, kind_named, line_of_words, line_with, number_in};
@@ -43,6 +43,12 @@ fn number(word: &[u8], most: u64) -> Option<u64>
         Ok(n) => Some(n),
         Err(_) => None,
     }
+}
+
+fn is_outcome(word: &[u8]) -> bool
+    ensures { result ≡ bytes_eq word.now (codes "outcome") }
+{
+    word == OUTCOME
 }
 
 fn kind_named(word: &[u8]) -> Option<TableKind>
@@ -163,7 +169,7 @@ fn row_behind_two<'a>(mark: &[u8], times: &[u8], rest: &'a [u8], left: u64) -> O
     ensures within { IfSome result (λ row. row.times ≤ left) }
 {
     let end = piece_end(rest, b' ');
-    if mark == OUTCOME {
+    if is_outcome(mark) {
         row_with(times, &rest[..end], &rest[end..], left)
     } else {
         None

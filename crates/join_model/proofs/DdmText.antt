@@ -1,0 +1,2 @@
+-- Of `ddm_text`, what this crate and those above it name.
+pub use Rattle.text_model.proofs.DdmText.Spellings
