@@ -22,8 +22,10 @@ static void take(unsigned hart) {
 
 static void give_back(unsigned hart) { wants[hart] = 0; }
 
-/* A hart begins with its number. */
+/* A hart begins with its number. Those that aren't the two end at once. */
 void _start(unsigned hart) {
+  if (hart > 1)
+    leave(hart);
   for (int i = 0; i < 5; i++) {
     take(hart);
     counter = counter + 1;

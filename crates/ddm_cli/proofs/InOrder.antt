@@ -19,12 +19,13 @@ use Rattle.ddm_cli.specs.ElfLoad.declared.refusal.ImageRefusal.{ImageRefusal}
 use Rattle.ddm_cli.specs.TreeConfig.TreeFile.{tree_of}
 use Rattle.ddm_cli.specs.TreeConfig.declared.refusal.TreeRefusal.{TreeRefusal}
 use Rattle.ddm_cli.specs.RecordingModel.Recording.{recording_of}
-use Rattle.ddm_cli.specs.Commands.{Command, Recorded, Seeds, to_run, to_list, to_check, to_resume, to_survey, to_record, to_join, to_say, command_of}
+use Rattle.ddm_cli.specs.Commands.{Command, Recorded, Seeds, Survey, to_run, to_list, to_check, to_resume, to_survey, to_record, to_survey_runs, to_join, to_say, command_of}
 use Rattle.ddm_cli.specs.Parts.{Parts, if_started, parts_in, parts_of, resumed_at, tree_at, turns_at, turns_of}
 use Rattle.ddm_cli.specs.Told.{ScheduleGiven, image_told, schedule_told}
-use Rattle.ddm_cli.specs.Top.{Both, FilesInOrder, GoesOnInOrder, IsInOrder, OutcomesAreRuns, RecordedInOrder, RestInOrder, RunsInOrder, RunIsWitnessed, TurnsInOrder}
+use Rattle.ddm_cli.specs.Top.{Both, EndsAreRuns, FilesInOrder, GoesOnInOrder, IsInOrder, OutcomesAreRuns, RecordedInOrder, RestInOrder, RunsInOrder, RunIsWitnessed, TurnsInOrder}
 use Rattle.ddm_cli.proofs.AcceptedTrees.{accepted_tree}
 use Rattle.ddm_cli.proofs.OutcomeModel.Legal.{outcomes-legal}
+use Rattle.ddm_cli.proofs.SurveyModel.Ends.{surveyed-legal}
 use Rattle.ddm_cli.specs.ScheduleLog.Shapes.{shape_view}
 use Rattle.ddm_cli.proofs.EachTurn.{each_turn, starts}
 use Rattle.ddm_cli.proofs.RunsInPieces.{machine_append}
@@ -122,6 +123,16 @@ outcomes_in_order (Some t) (Some i) s = by_parts (parts_of t i) refl where
       let taken = both_taken t i p is in
       outcomes-legal p.tree p.image (start_machine p.tree p.image) taken.tree (starts p.tree p.image taken.accepted) (shape_view p.tree.levels) s.turns s.first s.count
 
+ends_in_order : (tree image : Option (List ℕ)) (s : Survey) → Both tree image (λ t i. IfSome (parts_of t i) (EndsAreRuns s))
+ends_in_order None image s = tt
+ends_in_order (Some t) None s = tt
+ends_in_order (Some t) (Some i) s = by_parts (parts_of t i) refl where
+  by_parts : (o : Option Parts) → parts_of t i ≡ o → IfSome o (EndsAreRuns s)
+  by_parts None is = tt
+  by_parts (Some p) is =
+      let taken = both_taken t i p is in
+      surveyed-legal p.tree p.image (start_machine p.tree p.image) taken.tree (starts p.tree p.image taken.accepted) s.kind (shape_view p.tree.levels) s.turns s.first s.count
+
 recorded_in_order : (tree image : Option (List ℕ)) (r : Recorded) → Both tree image (λ t i. IfSome (parts_of t i) (RecordedInOrder r))
 recorded_in_order None image r = tt
 recorded_in_order (Some t) None r = tt
@@ -139,6 +150,7 @@ in_order {F} told words files = by_command (command_of words) where
   by_command (Ok (to_resume r)) = rest_in_order (told files r.tree) (told files r.image) (told files r.checkpoint) (told files r.schedule)
   by_command (Ok (to_survey s)) = outcomes_in_order (told files s.tree) (told files s.image) s
   by_command (Ok (to_record r)) = recorded_in_order (told files r.tree) (told files r.image) r
+  by_command (Ok (to_survey_runs s)) = ends_in_order (told files s.tree) (told files s.image) s
   by_command (Ok (to_join names)) = tt
   by_command (Ok (to_say about)) = tt
   by_command (Err k) = tt

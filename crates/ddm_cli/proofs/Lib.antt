@@ -8,6 +8,7 @@ pub mod OutcomeModel
 pub mod ReportCrate
 pub mod ScheduleLog
 pub mod StartParts
+pub mod SurveyModel
 pub mod TextModel
 pub mod TreeConfig
 pub mod TreeModel
@@ -35,4 +36,5 @@ pub mod Verdicts
 pub mod RunsInPieces
 pub mod Surveys
 pub mod Records
+pub mod RunSurveys
 pub mod Listed

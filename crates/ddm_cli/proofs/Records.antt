@@ -7,7 +7,7 @@ use Rattle.ddm_cli.specs.ElfLoad.ElfFile.{image_of}
 use Rattle.ddm_cli.specs.DdmTree.Machine.{MachineState}
 use Rattle.ddm_cli.specs.ScheduleLog.Shapes.{shape_view}
 use Rattle.ddm_cli.specs.RecordingModel.Recording.{record_text}
-use Rattle.recording.specs.Runs.{IsStart as CanBegin}
+use Rattle.ddm_cli.specs.RecordingCrate.Runs.{IsStart as CanBegin}
 use Rattle.ddm_cli.specs.Causes.{AcceptedAs}
 use Rattle.ddm_cli.specs.Commands.{Recorded}
 use Rattle.ddm_cli.specs.Parts.{HasStart, IsStart, tree_at}

@@ -155,6 +155,8 @@ own_text about.Help = lines_of (
     codes "                                   what the runs of many seeds come to" ∷
     codes "  ddm record IMAGE TREE KIND SEED TURNS" ∷
     codes "                                   the schedule of the turns of a seed that do something" ∷
+    codes "  ddm survey IMAGE TREE KIND FIRST COUNT TURNS" ∷
+    codes "                                   what the recorded runs of many seeds come to" ∷
     codes "  ddm join TABLE TABLE ..          the table of all runs of several tables" ∷
     codes "  ddm help COMMAND                 more of one of these" ∷
     codes "  ddm --help, ddm --version" ∷
@@ -228,6 +230,13 @@ own_text about.Record = lines_of (
     codes "until there are TURNS of them, every hart has halted, or 16777216 turns in a" ∷
     codes "row did nothing. KIND is even, or skewed: each turn of the tree has a rate of" ∷
     codes "the seed's." ∷
+    [])
+own_text about.Survey = lines_of (
+    codes "ddm survey IMAGE TREE KIND FIRST COUNT TURNS" ∷
+    codes "Makes the runs of COUNT seeds from FIRST on, each as record does, and prints" ∷
+    codes "each different end: how many seeds gave it, the smallest of these, why the run" ∷
+    codes "ended (halted, turns, stuck or drawn), and of each hart how it ended and what" ∷
+    codes "it put out." ∷
     [])
 own_text about.Join = lines_of (
     codes "ddm join TABLE TABLE .." ∷

@@ -68,6 +68,16 @@ pub record Recorded : Type 0 where
   pub seed : ℕ
   pub turns : ℕ
 
+-- whose recorded runs are surveyed: the files of an image and of a tree, the kind of the seeds, the first of them, how many there are,
+-- and how many turns of each may be recorded
+pub record Survey : Type 0 where
+  pub image : List ℕ
+  pub tree : List ℕ
+  pub kind : SeedKind
+  pub first : ℕ
+  pub count : ℕ
+  pub turns : ℕ
+
 pub data Command : Type 0 where
   -- to run a machine and print this of it
   to_run : Prints → Run → Command
@@ -81,6 +91,8 @@ pub data Command : Type 0 where
   to_survey : Seeds → Command
   -- to write a recorded run
   to_record : Recorded → Command
+  -- to count the ends of the recorded runs of many seeds
+  to_survey_runs : Survey → Command
   -- to put the tables of these files together
   to_join : List (List ℕ) → Command
   -- to say something of the program itself
@@ -101,6 +113,9 @@ seeds_value image tree first count turns = record { image = image; tree = tree; 
 abbrev recorded_value : List ℕ → List ℕ → SeedKind → ℕ → ℕ → Recorded
 recorded_value image tree kind seed turns = record { image = image; tree = tree; kind = kind; seed = seed; turns = turns }
 
+abbrev survey_value : List ℕ → List ℕ → SeedKind → ℕ → ℕ → ℕ → Survey
+survey_value image tree kind first count turns = record { image = image; tree = tree; kind = kind; first = first; count = count; turns = turns }
+
 -- the run of the first of them
 abbrev pub first_run : Seeds → Run
 first_run s = run_value (image_named s.image) s.tree (turns_seeded s.first s.turns)
@@ -108,6 +123,9 @@ first_run s = run_value (image_named s.image) s.tree (turns_seeded s.first s.tur
 -- a run of the same files
 abbrev pub recorded_run : Recorded → Run
 recorded_run r = run_value (image_named r.image) r.tree (turns_seeded r.seed r.turns)
+
+abbrev pub surveyed_run : Survey → Run
+surveyed_run s = run_value (image_named s.image) s.tree (turns_seeded s.first s.turns)
 
 -- a seed has 64 bits
 abbrev pub most_seeds : ℕ → ℕ
@@ -121,6 +139,7 @@ IsInRange (to_check c) = Unit {0}
 IsInRange (to_resume r) = Unit {0}
 IsInRange (to_survey s) = (1 ≤ s.count) × (s.count ≤ 1000000) × (s.first + s.count ≤ 18446744073709551616) × (s.turns ≤ 1048576)
 IsInRange (to_record r) = r.turns ≤ 1048576
+IsInRange (to_survey_runs s) = (1 ≤ s.count) × (s.count ≤ 1000000) × (s.first + s.count ≤ 18446744073709551616) × (s.turns ≤ 1048576)
 IsInRange (to_join names) = (2 ≤ length names) × (length names ≤ 256)
 IsInRange (to_say a) = Unit {0}
 
@@ -197,11 +216,21 @@ seeds_survey words =
 unfoldable pub kind_named : List ℕ → Option SeedKind
 kind_named word = if bytes_eq word (codes "even") then Some SeedKind.Even else (if bytes_eq word (codes "skewed") then Some SeedKind.Skewed else None)
 
+-- on with the kind there
+abbrev pub kind_at : List (List ℕ) → ℕ → (SeedKind → Result Command ℕ) → Result Command ℕ
+kind_at words k next = on_found k (option_and_then kind_named (slice_get words k)) next
+
 -- record IMAGE TREE KIND SEED TURNS
 unfoldable pub seed_record : List (List ℕ) → Result Command ℕ
 seed_record words =
-    word_at words 1 (λ image. word_at words 2 (λ tree. on_found 3 (option_and_then kind_named (slice_get words 3)) (λ kind. seed_at words 4 (λ seed. count_at words 5 (λ turns.
+    word_at words 1 (λ image. word_at words 2 (λ tree. kind_at words 3 (λ kind. seed_at words 4 (λ seed. count_at words 5 (λ turns.
     ends_at words 6 (to_record (recorded_value image tree kind seed turns)))))))
+
+-- survey IMAGE TREE KIND FIRST COUNT TURNS
+unfoldable pub runs_survey : List (List ℕ) → Result Command ℕ
+runs_survey words =
+    word_at words 1 (λ image. word_at words 2 (λ tree. kind_at words 3 (λ kind. seed_at words 4 (λ first. number_at words 5 1 (most_seeds first) (λ count. count_at words 6 (λ turns.
+    ends_at words 7 (to_survey_runs (survey_value image tree kind first count turns))))))))
 
 -- join TABLE TABLE ..
 unfoldable pub tables_named : List (List ℕ) → Result Command ℕ
@@ -224,8 +253,9 @@ about_named name =
     else (if bytes_eq name (codes "resume") then Some about.Resume
     else (if bytes_eq name (codes "outcomes") then Some about.Outcomes
     else (if bytes_eq name (codes "record") then Some about.Record
+    else (if bytes_eq name (codes "survey") then Some about.Survey
     else (if bytes_eq name (codes "join") then Some about.Join
-    else None)))))))))))
+    else None))))))))))))
 
 -- help COMMAND
 unfoldable pub help_said : List (List ℕ) → Result Command ℕ
@@ -244,11 +274,12 @@ named_command words name =
     else (if bytes_eq name (codes "resume") then file_resume words
     else (if bytes_eq name (codes "outcomes") then seeds_survey words
     else (if bytes_eq name (codes "record") then seed_record words
+    else (if bytes_eq name (codes "survey") then runs_survey words
     else (if bytes_eq name (codes "join") then tables_named words
     else (if bytes_eq name (codes "help") then help_said words
     else (if bytes_eq name (codes "--help") then ends_at words 1 (to_say about.Help)
     else (if bytes_eq name (codes "--version") then ends_at words 1 (to_say about.Version)
-    else Err 0))))))))))))))
+    else Err 0)))))))))))))))
 
 -- ---- words that ask for help, and are just these
 

@@ -9,9 +9,11 @@ pub mod ElfLoad
 pub mod JamLaws
 pub mod MadeImage
 pub mod OutcomeModel
+pub mod RecordingCrate
 pub mod ReportCrate
 pub mod ScheduleLog
 pub mod StartParts
+pub mod SurveyModel
 pub mod TextModel
 pub mod TreeConfig
 pub mod TreeModel

@@ -1,3 +1,3 @@
 -- Of `recording_model`, what this crate names.
-pub use Rattle.recording.specs.RecordingModel.Recording
-pub use Rattle.recording.specs.RecordingModel.declared
+pub use Rattle.outcomes.specs.RecordingModel.Recording
+pub use Rattle.outcomes.specs.RecordingModel.declared

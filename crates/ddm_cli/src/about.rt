@@ -10,7 +10,7 @@ use crate::of_ddm_outside::{Failed, Sink};
 use crate::of_report::write_all;
 
 const HELP: &[u8] =
-    b"ddm runs RV32IA programs on a Data Diffusion Machine; every run is one order of one flat memory.\n\n  ddm run IMAGE TREE SCHEDULE      the report of a run: harts, traffic, items and the witness\n  ddm trace IMAGE TREE SCHEDULE    a line for each turn, and then the report\n  ddm seed IMAGE TREE SEED TURNS   the report of the schedule of a seed\n  ddm schedule TREE SEED TURNS     the schedule of a seed\n  ddm make SEED ROUNDS TREE        the summary of a random program under a seeded schedule\n  ddm check IMAGE TREE WITNESS     whether a witness is one legal run of the flat machine\n  ddm unjam IMAGE TREE SCHEDULE    the turn of a bus that goes on where a leaf waits\n  ddm save IMAGE TREE SCHEDULE     the checkpoint of the machine after a run\n  ddm resume IMAGE TREE CHECKPOINT SCHEDULE\n                                   the report of a run that goes on from a checkpoint\n  ddm outcomes IMAGE TREE FIRST COUNT TURNS\n                                   what the runs of many seeds come to\n  ddm record IMAGE TREE KIND SEED TURNS\n                                   the schedule of the turns of a seed that do something\n  ddm join TABLE TABLE ..          the table of all runs of several tables\n  ddm help COMMAND                 more of one of these\n  ddm --help, ddm --version\n";
+    b"ddm runs RV32IA programs on a Data Diffusion Machine; every run is one order of one flat memory.\n\n  ddm run IMAGE TREE SCHEDULE      the report of a run: harts, traffic, items and the witness\n  ddm trace IMAGE TREE SCHEDULE    a line for each turn, and then the report\n  ddm seed IMAGE TREE SEED TURNS   the report of the schedule of a seed\n  ddm schedule TREE SEED TURNS     the schedule of a seed\n  ddm make SEED ROUNDS TREE        the summary of a random program under a seeded schedule\n  ddm check IMAGE TREE WITNESS     whether a witness is one legal run of the flat machine\n  ddm unjam IMAGE TREE SCHEDULE    the turn of a bus that goes on where a leaf waits\n  ddm save IMAGE TREE SCHEDULE     the checkpoint of the machine after a run\n  ddm resume IMAGE TREE CHECKPOINT SCHEDULE\n                                   the report of a run that goes on from a checkpoint\n  ddm outcomes IMAGE TREE FIRST COUNT TURNS\n                                   what the runs of many seeds come to\n  ddm record IMAGE TREE KIND SEED TURNS\n                                   the schedule of the turns of a seed that do something\n  ddm survey IMAGE TREE KIND FIRST COUNT TURNS\n                                   what the recorded runs of many seeds come to\n  ddm join TABLE TABLE ..          the table of all runs of several tables\n  ddm help COMMAND                 more of one of these\n  ddm --help, ddm --version\n";
 
 const VERSION: &[u8] = b"ddm 1\n";
 
@@ -173,6 +173,13 @@ row did nothing. KIND is even, or skewed: each turn of the tree has a rate of
 the seed's.
 ";
 
+const SURVEY: &[u8] = br"ddm survey IMAGE TREE KIND FIRST COUNT TURNS
+Makes the runs of COUNT seeds from FIRST on, each as record does, and prints
+each different end: how many seeds gave it, the smallest of these, why the run
+ended (halted, turns, stuck or drawn), and of each hart how it ended and what
+it put out.
+";
+
 const JOIN: &[u8] = br"ddm join TABLE TABLE ..
 Prints the table of all runs of 2 to 256 tables, each of 64 MiB at most: what ddm
 outcomes printed, or what ddm survey did. Where no seed is in two of them it is
@@ -242,6 +249,7 @@ fn own_text(about: About) -> &'static [u8]
         About::Resume => RESUME,
         About::Outcomes => OUTCOMES,
         About::Record => RECORD,
+        About::Survey => SURVEY,
         About::Join => JOIN,
     }
 }
@@ -263,6 +271,7 @@ fn further_text(about: About) -> &'static [u8]
         | About::Resume
         | About::Outcomes
         | About::Record
+        | About::Survey
         | About::Join => named_text(),
     }
 }

@@ -3,7 +3,7 @@
 ghost use Rattle.std.specs.Prelude.{◌≡◌};
 ghost use Rattle.ddm_cli.specs.Printed.{is_summary, is_trace};
 
-use recording::SeedKind;
+use outcomes::of_recording::SeedKind;
 
 /// What is printed of a run.
 #[derive(Clone, Copy, Debug, PartialEq, Eq)]
@@ -102,6 +102,18 @@ pub struct Recorded<'a> {
     pub turns: u32,
 }
 
+/// Whose recorded runs are surveyed: the machine of the files of an image and of a tree, over the turns that are let by of each of so many
+/// seeds from the first on, of which so many may be recorded.
+#[derive(Clone, Copy)]
+pub struct Survey<'a> {
+    pub image: &'a str,
+    pub tree: &'a str,
+    pub kind: SeedKind,
+    pub first: u64,
+    pub count: u32,
+    pub turns: u32,
+}
+
 /// What the program says of itself.
 #[derive(Clone, Copy, Debug, PartialEq, Eq)]
 pub enum About {
@@ -124,6 +136,7 @@ pub enum About {
     Resume,
     Outcomes,
     Record,
+    Survey,
     Join,
 }
 
@@ -145,6 +158,8 @@ pub enum Command<'a> {
     Outcomes(Seeds<'a>),
     /// The schedule of the turns of a seed that do something.
     Record(Recorded<'a>),
+    /// The different ends of the recorded runs of many seeds.
+    Survey(Survey<'a>),
     /// The table of all runs of the tables in these files.
     Join(&'a [String]),
     About(About),

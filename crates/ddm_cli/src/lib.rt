@@ -28,6 +28,7 @@ mod recorded;
 mod refusal_lines;
 mod resuming;
 mod status;
+mod survey;
 mod surveying;
 mod table_lines;
 mod top;

@@ -14,7 +14,7 @@ use crate::of_ddm_outside::{Failed, Shelf, Sink};
 use crate::of_report::write_all;
 use crate::reading::read_buffer;
 use crate::status::Status;
-use recording::record_text;
+use outcomes::of_recording::record_text;
 use std::alloc::Global;
 
 // The text of the recorded run of a tree file and an image file, or the status without it.

@@ -23,6 +23,7 @@ use crate::reading::read_buffer;
 use crate::recorded::write_recorded;
 use crate::resuming::write_resumed;
 use crate::status::Status;
+use crate::survey::write_survey;
 use crate::surveying::write_outcomes;
 use crate::words::command_said;
 use std::alloc::Global;
@@ -114,6 +115,7 @@ fn write_command<F: Shelf, K: Sink>(
         Command::Resume(resumption) => write_resumed(alloc, files, out, resumption),
         Command::Outcomes(seeds) => write_outcomes(alloc, files, out, seeds),
         Command::Record(recorded) => write_recorded(alloc, files, out, recorded),
+        Command::Survey(survey) => write_survey(alloc, files, out, survey),
         Command::Join(names) => write_joined(alloc, files, out, names),
         Command::About(about) => Ok(write_about(out, about)),
     }

@@ -2,14 +2,15 @@
 
 ghost use Rattle.std.specs.Prelude.{◌≡◌, ◌≤◌, ◌<◌, ◌*◌, ◌+◌, map, length, Err, IfOk, IfSome, IsOk, MatchResult, None, Ok, Some, option_and_then, slice_get};
 ghost use Rattle.std.specs.String.{string_bytes};
-ghost use Rattle.ddm_cli.specs.Commands.{IsInRange, about_named, command_of, ends_at, file_check, file_resume, file_run, help_alone, help_asked, help_of_two, help_said, help_topic, kind_named, made_run, named_command, number_in, seed_list, seed_record, seed_run, seeds_survey, tables_named, to_say, word_at};
+ghost use Rattle.ddm_cli.specs.Commands.{IsInRange, about_named, command_of, ends_at, file_check, file_resume, file_run, help_alone, help_asked, help_of_two, help_said, help_topic, kind_named, made_run, named_command, number_in, runs_survey, seed_list, seed_record, seed_run, seeds_survey, tables_named, to_say, word_at};
 ghost use Rattle.ddm_cli.specs.Views.{command_from};
 
 use crate::command::{
-    About, Check, Command, ImageSource, Prints, Recorded, Resumption, Run, Seeds, TurnSource,
+    About, Check, Command, ImageSource, Prints, Recorded, Resumption, Run, Seeds, Survey,
+    TurnSource,
 };
 use crate::of_ddm_text::read_decimal;
-use recording::SeedKind;
+use outcomes::of_recording::SeedKind;
 
 const MOST_TURNS: u64 = 1_048_576;
 
@@ -34,7 +35,7 @@ fn number_in(word: &str, least: u64, most: u64) -> Option<u64>
 
 /// The word at an index, or this index where there is none.
 fn word(words: &[String], k: usize) -> Result<&str, u32>
-    requires { k ≤ 5 }
+    requires { k ≤ 6 }
     ensures { MatchResult result
         (λ word. slice_get (map string_bytes words.now) k ≡ Some word.now)
         (λ at. (at ≡ k) × (slice_get (map string_bytes words.now) k ≡ None)) }
@@ -47,7 +48,7 @@ fn word(words: &[String], k: usize) -> Result<&str, u32>
 
 /// The number that the word there spells.
 fn number(words: &[String], k: usize, least: u64, most: u64) -> Result<u64, u32>
-    requires { k ≤ 5 }
+    requires { k ≤ 6 }
     ensures is { MatchResult result
         (λ n. option_and_then (number_in least most) (slice_get (map string_bytes words.now) k) ≡ Some n)
         (λ at. (at ≡ k) × (option_and_then (number_in least most) (slice_get (map string_bytes words.now) k) ≡ None)) }
@@ -59,7 +60,7 @@ fn number(words: &[String], k: usize, least: u64, most: u64) -> Result<u64, u32>
 
 /// A number of at most 32 bits.
 fn small_number(words: &[String], k: usize, least: u64, most: u64) -> Result<u32, u32>
-    requires index { k ≤ 5 }
+    requires index { k ≤ 6 }
     requires small { most ≤ 1048576 }
     ensures is { MatchResult result
         (λ n. option_and_then (number_in least most) (slice_get (map string_bytes words.now) k) ≡ Some n)
@@ -245,7 +246,7 @@ fn kind_named(word: &str) -> Option<SeedKind>
 
 /// The kind that the word there says.
 fn kind_at(words: &[String], k: usize) -> Result<SeedKind, u32>
-    requires { k ≤ 5 }
+    requires { k ≤ 6 }
     ensures { MatchResult result
         (λ kind. option_and_then kind_named (slice_get (map string_bytes words.now) k) ≡ Some kind)
         (λ at. (at ≡ k) × (option_and_then kind_named (slice_get (map string_bytes words.now) k) ≡ None)) }
@@ -274,6 +275,34 @@ fn seed_record(words: &[String]) -> Result<Command<'_>, u32>
         tree,
         kind,
         seed,
+        turns,
+    }))
+}
+
+/// `survey IMAGE TREE KIND FIRST COUNT TURNS`.
+#[tactic(auto, unfolding(crate::specs::Commands::runs_survey))]
+fn runs_survey(words: &[String]) -> Result<Command<'_>, u32>
+    ensures is { MatchResult result
+        (λ c. runs_survey (map string_bytes words.now) ≡ Ok (command_from c))
+        (λ k. runs_survey (map string_bytes words.now) ≡ Err k) }
+    ensures range { IfOk result (λ c. IsInRange (command_from c)) }
+{
+    let image = word(words, 1)?;
+    let tree = word(words, 2)?;
+    let kind = kind_at(words, 3)?;
+    let first = number(words, 4, 0, u64::MAX)?;
+    let most = (MOST_SEEDS - 1).min(u64::MAX - first) + 1;
+    let count = small_number(words, 5, 1, most)?;
+    let turns = small_number(words, 6, 0, MOST_TURNS)?;
+    if words.len() > 7 {
+        return Err(7);
+    }
+    Ok(Command::Survey(Survey {
+        image,
+        tree,
+        kind,
+        first,
+        count,
         turns,
     }))
 }
@@ -313,6 +342,7 @@ fn about_named(name: &str) -> Option<About>
         "resume" => Some(About::Resume),
         "outcomes" => Some(About::Outcomes),
         "record" => Some(About::Record),
+        "survey" => Some(About::Survey),
         "join" => Some(About::Join),
         _ => None,
     }
@@ -413,6 +443,7 @@ fn named_command(words: &[String]) -> Result<Command<'_>, u32>
         "resume" => file_resume(words),
         "outcomes" => seeds_survey(words),
         "record" => seed_record(words),
+        "survey" => runs_survey(words),
         "join" => tables_named(words),
         "help" => help_said(words),
         "--help" => alone(words, About::Help),

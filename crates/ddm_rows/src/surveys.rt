@@ -35,6 +35,20 @@ fn eight_seeds(rt: HostRuntime) -> Result<(), Fail> {
     Ok(())
 }
 
+// Three turns that do something are one too few. Which hart has two of them comes from an independent simulator.
+#[test]
+fn recorded_runs(rt: HostRuntime) -> Result<(), Fail> {
+    let alloc = rt.alloc();
+    let files = two_exits(alloc)?;
+    let words = ["survey", "image", "tree", "skewed", "0", "8", "3"];
+    let lines = "survey 2 runs 8\n\
+        outcome 4 0 turns hart 0 exit 0 out - hart 1 running out -\n\
+        outcome 4 2 turns hart 0 running out - hart 1 exit 1 out -\n\
+        end\n";
+    assert_eq!(rt; output(alloc, &words, &files)?.as_slice(), lines.as_bytes());
+    Ok(())
+}
+
 // Both harts store 7 to one word and read it back.
 #[test]
 fn one_outcome(rt: HostRuntime) -> Result<(), Fail> {

@@ -7,7 +7,6 @@ use Rattle.std.proofs.lemmas.List.{append-nil, length-append, take-append-drop}
 use Rattle.std.proofs.lemmas.List.Elements.{All-drop, All-take, All-weaker}
 use Rattle.outcomes.specs.DdmTypes.declared.answers.TurnAnswer.{TurnAnswer}
 use Rattle.outcomes.specs.DdmTypes.declared.turns.Turn.{Turn}
-use Rattle.outcomes.specs.TreeModel.State.Values.{MachineValue}
 use Rattle.outcomes.specs.TreeModel.Turns.Machine.{names_part, run_of}
 use Rattle.outcomes.specs.TreeRules.Witness.{ops_of_answers}
 use Rattle.outcomes.proofs.HeadlineCrate.Runs.{run-ops}

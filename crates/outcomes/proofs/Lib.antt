@@ -7,8 +7,10 @@ pub mod OutcomeModel
 pub mod ReportCrate
 pub mod ScheduleLog
 pub mod StartParts
+pub mod SurveyModel
 pub mod TreeModel
 pub mod Lines
 pub mod Ends
 pub mod Blocks
 pub mod Seeds
+pub mod Surveys

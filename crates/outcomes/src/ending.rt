@@ -66,13 +66,20 @@ fn push_ends<const WORDS: usize>(
     Ok(())
 }
 
-/// Puts the outcome of the machine in place of what is there.
-pub fn put_outcome(out: &mut Vec<u8>, machine: &AnyMachine) -> Result<(), NoMemory>
-    ensures { OnOk result (out.new.items ≡ outcome_of (machine_state machine.now).machine) }
+/// Puts the outcome of the machine at the end.
+pub fn push_outcome(out: &mut Vec<u8>, machine: &AnyMachine) -> Result<(), NoMemory>
+    ensures { OnOk result (Adds out.old.items out.new.items (outcome_of (machine_state machine.now).machine)) }
 {
-    out.clear();
     match machine {
         AnyMachine::Narrow(machine) => push_ends(out, machine),
         AnyMachine::Wide(machine) => push_ends(out, machine),
     }
+}
+
+/// Puts it in place of what is there.
+pub fn put_outcome(out: &mut Vec<u8>, machine: &AnyMachine) -> Result<(), NoMemory>
+    ensures { OnOk result (out.new.items ≡ outcome_of (machine_state machine.now).machine) }
+{
+    out.clear();
+    push_outcome(out, machine)
 }

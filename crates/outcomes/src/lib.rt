@@ -1,5 +1,5 @@
-//! All outcomes of a machine: its runs over the schedules of many seeds, each from the same start, and the table of what they came
-//! to.
+//! All outcomes of a machine: its runs over the schedules of many seeds, or its recorded runs, each from the same start, and the table
+//! of what they came to.
 #![tactic(auto)]
 
 mod counting;
@@ -10,14 +10,17 @@ pub mod of_ddm_outside;
 pub mod of_ddm_text;
 pub mod of_ddm_types;
 pub mod of_operation_list;
+pub mod of_recording;
 pub mod of_report;
 pub mod of_schedule_log;
 pub mod of_text_model;
 pub mod of_tree_config;
 mod ordering;
 mod runs;
+mod surveying;
 mod text;
 
 pub use line::OutcomeLine;
 pub use runs::outcomes;
-pub use text::push_table;
+pub use surveying::survey;
+pub use text::{push_survey, push_table};

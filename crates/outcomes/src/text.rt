@@ -3,6 +3,7 @@
 ghost use Rattle.std.specs.Prelude.{◌≡◌, OnOk, flat_map};
 ghost use Rattle.outcomes.specs.DdmText.Adds.{Adds};
 ghost use Rattle.outcome_model.specs.Table.{line_text, table_text};
+ghost use Rattle.survey_model.specs.Survey.{table_text as survey_table_text};
 
 use crate::line::OutcomeLine;
 use crate::of_ddm_text::push_decimal;
@@ -38,6 +39,21 @@ pub fn push_table(out: &mut Vec<u8>, seeds: u32, lines: &[OutcomeLine]) -> Resul
     ensures { OnOk result (Adds out.old.items out.new.items (table_text seeds lines.now)) }
 {
     push_bytes(out, b"outcomes ")?;
+    push_decimal(out, lines.len() as u64)?;
+    push_bytes(out, b" runs ")?;
+    push_decimal(out, u64::from(seeds))?;
+    push_bytes(out, b"\n")?;
+    push_lines(out, lines)?;
+    push_bytes(out, b"end\n")?;
+    Ok(())
+}
+
+/// Puts at the end the text of a survey of so many seeds.
+#[tactic(auto, unfolding(survey_model::specs::Survey::table_text))]
+pub fn push_survey(out: &mut Vec<u8>, seeds: u32, lines: &[OutcomeLine]) -> Result<(), NoMemory>
+    ensures { OnOk result (Adds out.old.items out.new.items (survey_table_text seeds lines.now)) }
+{
+    push_bytes(out, b"survey ")?;
     push_decimal(out, lines.len() as u64)?;
     push_bytes(out, b" runs ")?;
     push_decimal(out, u64::from(seeds))?;

@@ -6,7 +6,7 @@ use std::test::Fail;
 
 #[test]
 fn words_at_fault(rt: HostRuntime) -> Result<(), Fail> {
-    let commands: [(&[&str], u32); 58] = [
+    let commands: [(&[&str], u32); 66] = [
         (&[], 0),
         (&["walk"], 0),
         (&["run", "a", "b"], 3),
@@ -47,6 +47,20 @@ fn words_at_fault(rt: HostRuntime) -> Result<(), Fail> {
         (&["record", "i", "t", "even", "1", "1048577"], 5),
         (&["record", "i", "t", "skewed", "1"], 5),
         (&["record", "i", "t", "skewed", "1", "1", "more"], 6),
+        (&["survey", "i", "t", "odd", "1", "1", "1"], 3),
+        (
+            &["survey", "i", "t", "even", "18446744073709551616", "1", "1"],
+            4,
+        ),
+        (&["survey", "i", "t", "even", "0", "0", "1"], 5),
+        (&["survey", "i", "t", "even", "0", "1000001", "1"], 5),
+        (
+            &["survey", "i", "t", "even", "18446744073709551615", "2", "1"],
+            5,
+        ),
+        (&["survey", "i", "t", "even", "0", "1", "1048577"], 6),
+        (&["survey", "i", "t", "skewed", "0", "1"], 6),
+        (&["survey", "i", "t", "skewed", "0", "1", "1", "more"], 7),
         (&["join"], 1),
         (&["join", "a"], 2),
         (&["RUN", "a", "b", "c"], 0),
@@ -110,7 +124,7 @@ fn of_itself(rt: HostRuntime) -> Result<(), Fail> {
     }
     for name in [
         "run", "trace", "seed", "schedule", "make", "check", "unjam", "save", "resume", "outcomes",
-        "record", "join",
+        "record", "survey", "join",
     ] {
         let said = output(alloc, &["help", name], &no_files)?;
         let line = format!(in alloc; "ddm {name} ")?;

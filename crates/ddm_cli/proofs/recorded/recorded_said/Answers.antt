@@ -2,7 +2,7 @@ use Rattle.std.proofs.Common.{◌∙◌, ap, subst, sym}
 use Rattle.ddm_cli.specs.TreeModel.Start.Sources.{TreeValue}
 use Rattle.ddm_cli.specs.AnyMachine.Any.{machine_state}
 use Rattle.ddm_cli.specs.ScheduleLog.Shapes.{shape_view}
-use Rattle.recording.specs.Runs.{IsStart as CanBegin}
+use Rattle.ddm_cli.specs.RecordingCrate.Runs.{IsStart as CanBegin}
 use Rattle.ddm_cli.specs.RecordingModel.Recording.{record_text}
 use Rattle.ddm_cli.specs.Views.{recorded_from}
 use Rattle.ddm_cli.proofs.Records.{can_record, record_taken}

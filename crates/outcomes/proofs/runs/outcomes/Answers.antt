@@ -31,7 +31,7 @@ count_seed-requires-clause-shape c = subst (λ (v : ShapeView). HasShape v (mach
 pub count_seed-requires-clause-few : goal.count_seed-requires-clause-few
 count_seed-requires-clause-few c =
     let few : c.loop-number.number < 4294967296 = omega (arith, c.loop-number-test.true, c.ranges.count.fits) in
-    subst AreFew (sym c.loop-number.invariant.lines) (tally-few (shape_view c.args.shape.now) c.args.turns (machine_state c.args.start.now).machine c.args.first c.loop-number.number few)
+    subst AreFew (sym c.loop-number.invariant.lines) (tally-few (seed_outcome (shape_view c.args.shape.now) c.args.turns (machine_state c.args.start.now).machine) c.args.first c.loop-number.number few)
 
 pub loop-number-preserved : goal.loop-number-preserved
 loop-number-preserved c =
@@ -46,7 +46,7 @@ loop-number-preserved c =
           ∙ ap (λ n. counted (c.args.first + n) (seed_outcome c.loop-number.seeds.shape turns m (c.args.first + n)) lines) c.from.ensures
           ∙ ap (λ (v : ShapeView). counted seed (seed_outcome v turns m seed) lines) c.loop-number.invariant.shape
           ∙ ap (counted seed (seed_outcome shape turns m seed)) c.loop-number.invariant.lines
-          ∙ sym (tally-next shape turns m c.args.first c.loop-number.number);
+          ∙ sym (tally-next (seed_outcome shape turns m) c.args.first c.loop-number.number);
       shape = c.in_ok-count_seed.ensures.shape ∙ c.loop-number.invariant.shape;
     }
 
@@ -54,5 +54,5 @@ pub returns-clause-table : goal.returns-clause-table
 unfolding outcome_table table_of
 returns-clause-table c =
     let last : c.loop-number.number ≡ c.args.count = omega (arith, c.loop-number-test.false, c.loop-number.auto.number-end) in
-    let lines = c.loop-number.invariant.lines ∙ ap (tally (shape_view c.args.shape.now) c.args.turns (machine_state c.args.start.now).machine c.args.first) last in
+    let lines = c.loop-number.invariant.lines ∙ ap (tally (seed_outcome (shape_view c.args.shape.now) c.args.turns (machine_state c.args.start.now).machine) c.args.first) last in
     rw lines at c.in_order.ensures

@@ -1,4 +1,4 @@
-use Rattle.std.proofs.Common.{◌≡◌, ◌∙◌, ap}
+use Rattle.std.proofs.Common.{◌∙◌, ap}
 use Rattle.outcomes.specs.TreeModel.Turns.Machine.{run_of}
 use Rattle.outcomes.specs.TextModel.Seeded.{seeded_turns}
 use Rattle.schedule_log.specs.Seeding.{SeededView}

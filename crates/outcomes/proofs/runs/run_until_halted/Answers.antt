@@ -1,8 +1,6 @@
-use Rattle.std.proofs.Common.{◌≡◌, ◌∙◌, ap, sym, refl, [], length, take, arith}
+use Rattle.std.proofs.Common.{◌≡◌, ◌∙◌, ap, sym, refl, length, take, arith}
 use Rattle.std.proofs.lemmas.List.{nil_from_length}
 use Rattle.schedule_log.specs.Seeding.{SeededView}
-use Rattle.outcomes.specs.AnyMachine.Any.{machine_state}
-use Rattle.outcome_model.specs.Halted.{all_halted}
 use Rattle.outcomes.proofs.Blocks.{all-made, block-few, block-named, block-spared, blocks-keep, halted-early, more-blocks, next-parts, no-blocks}
 use Rattle.outcomes.proofs.runs.run_until_halted.Goals as goal
 

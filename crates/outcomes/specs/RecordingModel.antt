@@ -1,0 +1,3 @@
+-- Of `recording_model`, what crates above this one name.
+pub use Rattle.recording_model.specs.Recording
+pub use Rattle.recording_model.specs.declared

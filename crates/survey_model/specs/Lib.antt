@@ -1,0 +1,4 @@
+pub mod Survey
+pub mod Laws
+pub mod Computing
+pub mod Examples
