@@ -136,9 +136,9 @@ faults_text = lines_of (
     codes "15 table N: too many runs            18446744073709551615 are the most" ∷
     [])
 
--- what is said of this alone
-abbrev pub own_text : About → List ℕ
-own_text about.Help = lines_of (
+-- the commands
+abbrev pub help_text : List ℕ
+help_text = lines_of (
     codes "ddm runs RV32IA programs on a Data Diffusion Machine; every run is one order of one flat memory." ∷
     codes "" ∷
     codes "  ddm run IMAGE TREE SCHEDULE      the report of a run: harts, traffic, items and the witness" ∷
@@ -161,6 +161,10 @@ own_text about.Help = lines_of (
     codes "  ddm help COMMAND                 more of one of these" ∷
     codes "  ddm --help, ddm --version" ∷
     [])
+
+-- what is said of this alone
+abbrev pub own_text : About → List ℕ
+own_text about.Help = help_text
 own_text about.Version = lines_of (
     codes "ddm 1" ∷
     [])

@@ -2,7 +2,7 @@
 
 ghost use Rattle.std.specs.Prelude.{◌≡◌};
 ghost use Rattle.ddm_cli.specs.DdmOutside.Causes.{HasCause};
-ghost use Rattle.ddm_cli.specs.About.{about_text, faults_text, further_text, named_text, own_text};
+ghost use Rattle.ddm_cli.specs.About.{about_text, faults_text, further_text, help_text, named_text, own_text};
 ghost use Rattle.ddm_cli.specs.Printed.{Writes};
 
 use crate::command::About;
@@ -222,6 +222,12 @@ fn faults_text() -> &'static [u8]
     FAULTS
 }
 
+fn help_text() -> &'static [u8]
+    ensures { result.now ≡ help_text }
+{
+    HELP
+}
+
 // What the words of a command name, an example of each, and how large their numbers may be.
 fn named_text() -> &'static [u8]
     ensures { result.now ≡ named_text }
@@ -234,7 +240,7 @@ fn own_text(about: About) -> &'static [u8]
     ensures { result.now ≡ own_text about }
 {
     match about {
-        About::Help => HELP,
+        About::Help => help_text(),
         About::Version => VERSION,
         About::Asking => ASKING,
         About::Faults => faults_text(),

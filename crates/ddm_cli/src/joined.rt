@@ -4,7 +4,7 @@ ghost use Rattle.std.specs.Prelude.{◌≡◌, ◌≤◌, ◌<◌, ◌+◌, ℕ,
 ghost use Rattle.std.specs.String.{string_bytes};
 ghost use Rattle.ddm_cli.specs.DdmOutside.Causes.{HasCause, Rose};
 ghost use Rattle.ddm_cli.specs.Commands.{IsInRange, to_join};
-ghost use Rattle.ddm_cli.specs.Tables.{TableCause};
+ghost use Rattle.ddm_cli.specs.Tables.{TableCause, table_status};
 ghost use Rattle.ddm_cli.specs.Told.{files_told};
 ghost use Rattle.ddm_cli.specs.Top.{HasAccepted, NoJoin, WritesAccepted};
 ghost use Rattle.joining.specs.JoinModel.Files.{sum_of, with_file};
@@ -41,6 +41,16 @@ fn front_again<F: Shelf>(
     Ok(())
 }
 
+// How a command ends whose table of this number isn't read.
+fn table_status(number: u32, error: TableError) -> Status
+    ensures { result ≡ table_status number error }
+{
+    match error {
+        TableError::Refused(refusal) => Status::Table(number, refusal),
+        TableError::Memory => Status::NoMemory,
+    }
+}
+
 // The table of a file, which is to be this one.
 fn table_file<F: Shelf>(
     alloc: Global,
@@ -68,8 +78,7 @@ fn table_file<F: Shelf>(
     }
     match read_table(alloc, &text) {
         Ok(table) => Ok(table),
-        Err(TableError::Refused(refusal)) => Err(Status::Table(number, refusal)),
-        Err(TableError::Memory) => Err(Status::NoMemory),
+        Err(error) => Err(table_status(number, error)),
     }
 }
 
@@ -88,18 +97,20 @@ fn tables_sum<F: Shelf>(
     let mut sum = TableSum::new(alloc);
     'joining: for place in 0..names.len() {
         let number = place as u32 + 1;
-        let table = table_file(
+        let table = match table_file(
             alloc,
             files,
             &names[place],
             &names[place + 1..],
             number,
             buffer,
-        )?;
+        ) {
+            Ok(table) => table,
+            Err(status) => return Err(status),
+        };
         match sum.add(alloc, &table) {
             Ok(()) => {}
-            Err(TableError::Refused(refusal)) => return Err(Status::Table(number, refusal)),
-            Err(TableError::Memory) => return Err(Status::NoMemory),
+            Err(error) => return Err(table_status(number, error)),
         }
     }
     Ok(sum)

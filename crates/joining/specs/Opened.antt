@@ -1,3 +1,2 @@
--- Definitions of libraries below that proofs of this crate open.
-unfoldable pub use Rattle.joining.specs.OutcomeModel.Table.{in_order, line_text, placed}
-unfoldable pub use Rattle.joining.specs.TextModel.Schedule.{pieces_at}
+-- A definition of a library below that a function of this crate opens.
+unfoldable pub use Rattle.joining.specs.OutcomeModel.Table.{line_text}

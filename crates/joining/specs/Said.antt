@@ -25,6 +25,11 @@ table_said t = record { kind = t.kind; runs = t.runs; lines = t.lines.items }
 abbrev pub sum_said : TableSum → Sum
 sum_said s = record { tables = s.tables; kind = s.kind; runs = s.runs; lines = s.set.lines.items }
 
+-- what is kept after a refusal: all, but nothing is known after want of memory
+abbrev pub IsKept : TableError → TableSum → TableSum → Type 0
+IsKept (Refused r) old new = new ≡ old
+IsKept Memory old new = Unit {0}
+
 -- memory ran out, or this is the refusal
 abbrev pub IsTableError : {A : Type 0} → Result A TableRefusal → TableError → Type 0
 IsTableError answer (Refused r) = answer ≡ Err r

@@ -1,7 +1,7 @@
 //! Tables are put together.
 
-ghost use Rattle.std.specs.Prelude.{◌≡◌, ◌<◌, ◌+◌, ◌&&◌, nat_lt, not, Ok, IfOk, OnOk, MatchResult, sum_by};
-ghost use Rattle.joining.specs.Said.{IsCounted, IsTableError, sum_said, table_said, times};
+ghost use Rattle.std.specs.Prelude.{◌≡◌, ◌<◌, ◌+◌, ◌&&◌, nat_lt, not, Ok, IfErr, IfOk, OnOk, MatchResult, sum_by};
+ghost use Rattle.joining.specs.Said.{IsCounted, IsKept, IsTableError, sum_said, table_said, times};
 ghost use Rattle.join_model.specs.Files.{added, no_tables, same_kind, sum_text};
 
 use crate::line::OutcomeLine;
@@ -66,6 +66,7 @@ impl TableSum {
         requires table { sum_by times table.now.lines.items ≡ table.now.runs }
         ensures sum { MatchResult result (λ u. added (sum_said self.old) (table_said table.now) ≡ Ok (sum_said self.new)) (λ e. IsTableError (added (sum_said self.old) (table_said table.now)) e) }
         ensures counted { OnOk result (IsCounted self.new) }
+        ensures kept { IfErr result (λ e. IsKept e self.old self.new) }
     {
         if is_other(self.tables, self.kind, table.kind) {
             return Err(TableError::Refused(TableRefusal::OtherKind));
