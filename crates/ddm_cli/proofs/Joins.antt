@@ -1,5 +1,5 @@
 -- Tables that are put together: what is told of the first of them, and why none are refused that have a text.
-use Rattle.std.proofs.Common.{◌≡◌, ℕ, zero, suc, ◌+◌, ◌-◌, ◌<◌, ◌≤◌, Bool, true, false, not, cond, ◌&&◌, get_or, map, List, [], ◌∷◌, ◌++◌, length, take, drop, Option, Some, None, Result, Ok, Err, refl, sym, ap, subst, ◌∙◌, arith}
+use Rattle.std.proofs.Common.{◌≡◌, ℕ, zero, suc, ◌+◌, ◌-◌, ◌<◌, ◌≤◌, true, false, not, cond, ◌&&◌, get_or, map, List, [], ◌∷◌, ◌++◌, length, take, drop, Option, Some, None, Result, Ok, Err, refl, sym, ap, subst, ◌∙◌, arith}
 use Rattle.std.specs.Prelude.{nat_lt, fold, IfSome, IsOk, IsSomeAnd, option_and_then, slice_get}
 use Rattle.std.specs.List.{AllByRecursion}
 use Rattle.std.specs.Option.{option_map}
@@ -188,7 +188,7 @@ module _ {F : Type 0} (told : F → List ℕ → Option (List ℕ)) (faults : F 
   add-refused t Memory read refused = tt
 
   earlier-ok : IfSome (files_told (told files) (take place names)) (λ tables. IsOk (sum_of tables))
-  earlier-ok = IfSome_then (files_told (told files) (take place names)) first (λ tables is. subst IsOk (sym is) tt)
+  earlier-ok = IfSome_then (files_told (told files) (take place names)) first (λ tables is. subst IsOk (sym is) refl)
 
   no-read : Rose (faults files name) (faults files' name) → CantReadTable told faults files files' (place + 1) names
   no-read rose =
