@@ -4,7 +4,7 @@ ghost use Rattle.std.specs.Prelude.{◌≡◌, ◌<◌, ◌≤◌, Some, length,
 ghost use Rattle.any_machine.specs.DdmTypes.ItemTable.{item_count};
 ghost use Rattle.any_machine.specs.TreeModel.State.Shape.{IsShaped, tree_counts};
 ghost use Rattle.any_machine.specs.TreeModel.Turns.Found.{found_copy, states_of};
-ghost use Rattle.any_machine.specs.TreeModel.Turns.Machine.{child_count, names_part, turn_of};
+ghost use Rattle.any_machine.specs.TreeModel.Turns.Machine.{child_count, leaf_lengths_at, lengths_at, names_part, turn_of};
 ghost use Rattle.any_machine.specs.TreeModel.Turns.Tree.{bus_of_number, leaf_of_number};
 ghost use Rattle.any_machine.specs.SplitBus.Outcomes.{is_granted};
 ghost use Rattle.any_machine.specs.DdmTree.Machine.{is_part};
@@ -17,7 +17,7 @@ use crate::of_ddm_tree::{Dir, Found, Machine, Subtree};
 use crate::of_ddm_types::{BusNo, HartNo, ItemId, Items, LeafNo, LeafState, TreeCounts, Turn};
 use crate::of_operation_list::Operations;
 use crate::of_rv_hart::Hart;
-use crate::of_tree_model::Traffic;
+use crate::of_tree_model::{DirLengths, LeafLengths, Traffic};
 use inspector::{find, state};
 
 // Each call below has one for machines whose directories under bus 0 are over these children: a check of three types within one
@@ -108,6 +108,26 @@ fn children_over<const WORDS: usize, C: Subtree<WORDS>>(
     ensures { Some result ≡ child_count bus machine.now.machine }
 {
     machine.children(bus)
+}
+
+fn list_lengths_over<const WORDS: usize, C: Subtree<WORDS>>(
+    machine: &Machine<WORDS, Dir<WORDS, C>>,
+    bus: BusNo,
+) -> DirLengths
+    requires { is_part (bus_of_number bus) machine.now.machine ≡ true }
+    ensures { Some result ≡ lengths_at bus machine.now.machine }
+{
+    machine.list_lengths(bus)
+}
+
+fn leaf_lengths_over<const WORDS: usize, C: Subtree<WORDS>>(
+    machine: &Machine<WORDS, Dir<WORDS, C>>,
+    leaf: LeafNo,
+) -> LeafLengths
+    requires { is_part (leaf_of_number leaf) machine.now.machine ≡ true }
+    ensures { Some result ≡ leaf_lengths_at leaf machine.now.machine }
+{
+    machine.leaf_lengths(leaf)
 }
 
 fn would_grant_over<const WORDS: usize, C: Subtree<WORDS>>(
@@ -233,6 +253,32 @@ impl<const WAYS: usize, const WORDS: usize> Depths<WAYS, WORDS> {
             Depths::TwoLevels(machine) => machine.children(bus),
             Depths::ThreeLevels(machine) => children_over(machine, bus),
             Depths::FourLevels(machine) => children_over(machine, bus),
+        }
+    }
+
+    /// How long the lists of the directory over a bus are; over bus 0 it is the top.
+    pub fn list_lengths(&self, bus: BusNo) -> DirLengths
+        requires { is_part (bus_of_number bus) (depths_state self.now).machine ≡ true }
+        ensures { Some result ≡ lengths_at bus (depths_state self.now).machine }
+    {
+        match self {
+            Depths::OneLevel(machine) => machine.list_lengths(bus),
+            Depths::TwoLevels(machine) => machine.list_lengths(bus),
+            Depths::ThreeLevels(machine) => list_lengths_over(machine, bus),
+            Depths::FourLevels(machine) => list_lengths_over(machine, bus),
+        }
+    }
+
+    /// How long the lists of a leaf are.
+    pub fn leaf_lengths(&self, leaf: LeafNo) -> LeafLengths
+        requires { is_part (leaf_of_number leaf) (depths_state self.now).machine ≡ true }
+        ensures { Some result ≡ leaf_lengths_at leaf (depths_state self.now).machine }
+    {
+        match self {
+            Depths::OneLevel(machine) => machine.leaf_lengths(leaf),
+            Depths::TwoLevels(machine) => machine.leaf_lengths(leaf),
+            Depths::ThreeLevels(machine) => leaf_lengths_over(machine, leaf),
+            Depths::FourLevels(machine) => leaf_lengths_over(machine, leaf),
         }
     }
 

@@ -4,7 +4,7 @@ ghost use Rattle.std.specs.Prelude.{◌≡◌, ◌<◌, ◌≤◌, Some, length,
 ghost use Rattle.any_machine.specs.DdmTypes.ItemTable.{item_count};
 ghost use Rattle.any_machine.specs.TreeModel.State.Shape.{IsShaped, tree_counts};
 ghost use Rattle.any_machine.specs.TreeModel.Turns.Found.{found_copy, states_of};
-ghost use Rattle.any_machine.specs.TreeModel.Turns.Machine.{child_count, names_part, turn_of};
+ghost use Rattle.any_machine.specs.TreeModel.Turns.Machine.{child_count, leaf_lengths_at, lengths_at, names_part, turn_of};
 ghost use Rattle.any_machine.specs.TreeModel.Turns.Tree.{bus_of_number, leaf_of_number};
 ghost use Rattle.any_machine.specs.SplitBus.Outcomes.{is_granted};
 ghost use Rattle.any_machine.specs.DdmTree.Machine.{is_part};
@@ -17,7 +17,7 @@ use crate::of_ddm_tree::Found;
 use crate::of_ddm_types::{BusNo, HartNo, ItemId, Items, LeafNo, LeafState, TreeCounts, Turn};
 use crate::of_operation_list::Operations;
 use crate::of_rv_hart::Hart;
-use crate::of_tree_model::Traffic;
+use crate::of_tree_model::{DirLengths, LeafLengths, Traffic};
 
 impl<const WORDS: usize> Machines<WORDS> {
     /// How many leaves, buses and levels of buses the tree has.
@@ -125,6 +125,30 @@ impl<const WORDS: usize> Machines<WORDS> {
         }
     }
 
+    /// How long the lists of the directory over a bus are; over bus 0 it is the top.
+    pub fn list_lengths(&self, bus: BusNo) -> DirLengths
+        requires { is_part (bus_of_number bus) (state_in self.now).machine ≡ true }
+        ensures { Some result ≡ lengths_at bus (state_in self.now).machine }
+    {
+        match self {
+            Machines::OneWay(machine) => machine.list_lengths(bus),
+            Machines::TwoWays(machine) => machine.list_lengths(bus),
+            Machines::FourWays(machine) => machine.list_lengths(bus),
+        }
+    }
+
+    /// How long the lists of a leaf are.
+    pub fn leaf_lengths(&self, leaf: LeafNo) -> LeafLengths
+        requires { is_part (leaf_of_number leaf) (state_in self.now).machine ≡ true }
+        ensures { Some result ≡ leaf_lengths_at leaf (state_in self.now).machine }
+    {
+        match self {
+            Machines::OneWay(machine) => machine.leaf_lengths(leaf),
+            Machines::TwoWays(machine) => machine.leaf_lengths(leaf),
+            Machines::FourWays(machine) => machine.leaf_lengths(leaf),
+        }
+    }
+
     /// Whether a Down, Request or Reply turn would be granted. It takes no memory.
     pub fn would_grant(&self, turn: Turn) -> bool
         requires kind { is_down_request_or_reply turn ≡ true }
@@ -191,6 +215,28 @@ impl AnyMachine {
         match self {
             AnyMachine::Narrow(machine) => machine.children(bus),
             AnyMachine::Wide(machine) => machine.children(bus),
+        }
+    }
+
+    /// How long the lists of the directory over a bus are; over bus 0 it is the top.
+    pub fn list_lengths(&self, bus: BusNo) -> DirLengths
+        requires { is_part (bus_of_number bus) (machine_state self.now).machine ≡ true }
+        ensures { Some result ≡ lengths_at bus (machine_state self.now).machine }
+    {
+        match self {
+            AnyMachine::Narrow(machine) => machine.list_lengths(bus),
+            AnyMachine::Wide(machine) => machine.list_lengths(bus),
+        }
+    }
+
+    /// How long the lists of a leaf are.
+    pub fn leaf_lengths(&self, leaf: LeafNo) -> LeafLengths
+        requires { is_part (leaf_of_number leaf) (machine_state self.now).machine ≡ true }
+        ensures { Some result ≡ leaf_lengths_at leaf (machine_state self.now).machine }
+    {
+        match self {
+            AnyMachine::Narrow(machine) => machine.leaf_lengths(leaf),
+            AnyMachine::Wide(machine) => machine.leaf_lengths(leaf),
         }
     }
 

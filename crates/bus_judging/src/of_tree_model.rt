@@ -1,3 +1,3 @@
 //! What this crate and those above it name of `tree_model`.
 
-pub use tree_rules::of_tree_model::LeafSpot;
+pub use tree_rules::of_tree_model::{DirLengths, LeafLengths, LeafSpot};

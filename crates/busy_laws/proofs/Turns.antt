@@ -33,7 +33,7 @@ answer-cause bus nothing_there = refl
 answer-cause bus (refused cause) = refl
 answer-cause bus (granted g) = refl
 
-bus-step : (above : Stamp) (t : BusTurn) (p : DirValue) (ns : List Node) → busy_cause (bus_step above t p ns).answer ≡ bus_reason p ns t
+pub bus-step : (above : Stamp) (t : BusTurn) (p : DirValue) (ns : List Node) → busy_cause (bus_step above t p ns).answer ≡ bus_reason p ns t
 unfolding bus_step
 bus-step above t p ns = answer-cause p.bus (bus_judged above p ns t) ∙ bus-caused p ns above t
 
@@ -71,7 +71,7 @@ module _ (code : List CodeWord) (items : ItemTable) (now : Key) (victim : ℕ) (
   by-halt (Some cause) = refl
   by-halt None = by-waiting (waiting_item v.ways v.buffer)
 
-  leaf-step : busy_cause (leaf_step code items now victim v).answer ≡ hart_reason code items v
+  pub leaf-step : busy_cause (leaf_step code items now victim v).answer ≡ hart_reason code items v
   unfolding leaf_step deed_of
   leaf-step = by-halt v.hart.halt
 
@@ -79,7 +79,7 @@ module _ (code : List CodeWord) (items : ItemTable) (now : Key) (victim : ℕ) (
 
 module _ {A B : Type 0} (name : Name) (read : Where → Node → A) (f : A → B) (other : Where → Node → B) (same : (w : Where) (n : Node) → f (read w n) ≡ other w n) where
   mutual
-    read-same : (w : Where) (n : Node) → option_map f (read_in name read w n) ≡ read_in name other w n
+    pub read-same : (w : Where) (n : Node) → option_map f (read_in name read w n) ≡ read_in name other w n
     read-same w (leaf_node v) = by_name (is_named name (leaf_node v)) where
       by_name : (b : Bool) → option_map f (if b then Some (read w (leaf_node v)) else None) ≡ (if b then Some (other w (leaf_node v)) else None)
       by_name true = ap (λ b. Some b) (same w (leaf_node v))

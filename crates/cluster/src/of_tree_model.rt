@@ -1,3 +1,3 @@
 //! What this crate and those above it name of `tree_model`.
 
-pub use ddm_tree::of_tree_model::{BusTurn, LeafSpot, Traffic, TreeChild};
+pub use ddm_tree::of_tree_model::{BusTurn, DirLengths, LeafLengths, LeafSpot, Traffic, TreeChild};

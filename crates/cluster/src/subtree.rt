@@ -8,7 +8,7 @@ use crate::of_ddm_types::{
 use crate::of_item_states::DownEntry;
 use crate::of_rv_hart::Hart;
 use crate::of_state_reading::StateRefusal;
-use crate::of_tree_model::{BusTurn, LeafSpot, TreeChild};
+use crate::of_tree_model::{BusTurn, DirLengths, LeafLengths, LeafSpot, TreeChild};
 use ddm_tree::{Found, Idle, Named, Quiet, Section, Subtree, TurnCall};
 use std::alloc::Global;
 
@@ -105,6 +105,14 @@ impl<const WAYS: usize, const WORDS: usize> Subtree<WORDS> for Cluster<WAYS, WOR
 
     fn down_len_below(&self, bus: BusNo, path: &[ChildNo]) -> u32 {
         self.dir.down_len_below(bus, path)
+    }
+
+    fn lengths_below(&self, bus: BusNo, path: &[ChildNo]) -> DirLengths {
+        self.dir.lengths_below(bus, path)
+    }
+
+    fn leaf_lengths_below(&self, leaf: LeafNo, path: &[ChildNo]) -> LeafLengths {
+        self.dir.leaf_lengths_below(leaf, path)
     }
 
     fn stamps_fit_below(&self, bus: BusNo, path: &[ChildNo], present: &Stamp) -> bool {

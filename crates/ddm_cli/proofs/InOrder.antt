@@ -1,18 +1,16 @@
 -- The run of accepted files is in order.
-use Rattle.std.proofs.Common.{◌≡◌, ℕ, List, ◌++◌, length, take, Option, Some, None, Result, Ok, Err, refl, sym, ap, subst, ◌∙◌, cond}
-use Rattle.std.proofs.Math.Seq.{take-length}
+use Rattle.std.proofs.Common.{◌≡◌, ℕ, List, [], take, Option, Some, None, Result, Ok, Err, refl, cond}
 use Rattle.std.specs.Prelude.{IfOk, IfSome, is_none, option_and_then}
 use Rattle.std.specs.Result.{result_ok}
 use Rattle.ddm_cli.specs.DdmTypes.declared.turns.Turn.{Turn}
 use Rattle.ddm_cli.specs.TreeModel.Start.Sources.{TreeValue, ImageValue}
 use Rattle.ddm_cli.specs.TreeModel.Start.Machine.{flat_start_of, start_machine, start_refusal}
-use Rattle.ddm_cli.specs.TextModel.Run.{HasWitnessedOutput}
 use Rattle.ddm_cli.specs.TreeModel.State.Values.{MachineValue}
 use Rattle.ddm_cli.specs.TreeModel.Turns.Machine.{run_of}
 use Rattle.ddm_cli.proofs.DdmTree.RulesKept.{run-order}
+use Rattle.run_laws.specs.InOrder.{RunInOrder}
+use Rattle.run_laws.proofs.InOrder.{judged, runs-in_order}
 use Rattle.checkpoint.specs.Resumed.{Resumed}
-use Rattle.ddm_cli.proofs.TextModel.Outputs.{put_texts-same}
-use Rattle.ddm_cli.specs.TreeRules.Witness.{IsWitnessed}
 use Rattle.ddm_cli.specs.BusLaws.IsTree.{IsTree}
 use Rattle.ddm_cli.specs.ElfLoad.ElfFile.{image_of}
 use Rattle.ddm_cli.specs.ElfLoad.declared.refusal.ImageRefusal.{ImageRefusal}
@@ -27,8 +25,7 @@ use Rattle.ddm_cli.proofs.AcceptedTrees.{accepted_tree}
 use Rattle.ddm_cli.proofs.OutcomeModel.Legal.{outcomes-legal}
 use Rattle.ddm_cli.proofs.SurveyModel.Ends.{surveyed-legal}
 use Rattle.ddm_cli.specs.ScheduleLog.Shapes.{shape_view}
-use Rattle.ddm_cli.proofs.EachTurn.{each_turn, starts}
-use Rattle.ddm_cli.proofs.RunsInPieces.{machine_append}
+use Rattle.ddm_cli.proofs.EachTurn.{starts}
 
 -- parts that were taken
 record ArePartsTaken (p : Parts) : Type 0 where
@@ -60,10 +57,16 @@ both_taken tree image p = by_tree (tree_at tree) refl where
   by_tree None is e = cc
   by_tree (Some t) is e = parts_taken image t p (tree_taken tree t is) e
 
+-- where a run from the start comes to the machine, the turns behind it are in order
+goes_on : (p : Parts) → ArePartsTaken p → (m : MachineValue) (turns first : List Turn) → m ≡ (run_of first (start_machine p.tree p.image)).machine → RunInOrder (flat_start_of p.tree p.image) m turns
+goes_on p taken m turns first is = rw is (runs-in_order p.tree p.image taken.tree taken.accepted first turns)
+
+none_made : (m : MachineValue) → m ≡ (run_of [] m).machine
+unfolding run_of
+none_made m = refl
+
 whole_in_order : (p : Parts) → ArePartsTaken p → (turns : List Turn) → TurnsInOrder p turns
-whole_in_order p taken turns =
-    let runs = each_turn p.tree p.image taken.tree taken.accepted turns in
-    (runs, λ k h. put_texts-same h _ _ ((runs k).machine.own_order h))
+whole_in_order p taken turns = goes_on p taken (start_machine p.tree p.image) turns [] (none_made (start_machine p.tree p.image))
 
 turns_in_order : (p : Parts) → ArePartsTaken p → (schedule : ScheduleGiven) → RunsInOrder schedule p
 turns_in_order p taken schedule = by_turns (turns_of p.tree.levels schedule) where
@@ -85,16 +88,6 @@ told_in_order (Some t) (Some i) (Some s) = files_in_order t i s
 
 -- ---- a run that goes on
 
--- where a run from the start comes to the machine, the turns behind it are those of a longer run
-of_run : (p : Parts) → ArePartsTaken p → (m : MachineValue) (turns first : List Turn) → m ≡ (run_of first (start_machine p.tree p.image)).machine → (k : ℕ)
-    → IsWitnessed (flat_start_of p.tree p.image) (run_of (take k turns) m).machine × HasWitnessedOutput (run_of (take k turns) m).machine
-of_run p taken m turns first is k =
-    let all = first ++ take k turns in
-    let start = start_machine p.tree p.image in
-    let same : (run_of (take (length all) all) start).machine ≡ (run_of (take k turns) m).machine = ap (λ ts. (run_of ts start).machine) (take-length all) ∙ machine_append first (take k turns) start ∙ ap (λ n. (run_of (take k turns) n).machine) (sym is) in
-    let here = subst (IsWitnessed (flat_start_of p.tree p.image)) same (each_turn p.tree p.image taken.tree taken.accepted all (length all)).machine in
-    (here, λ h. put_texts-same h _ _ (here.own_order h))
-
 rest_in_order : (tree image checkpoint schedule : Option (List ℕ)) → RestInOrder tree image checkpoint schedule
 rest_in_order tree image checkpoint None = tt
 rest_in_order None image checkpoint (Some s) = tt
@@ -103,7 +96,11 @@ rest_in_order (Some t) (Some i) None (Some s) = tt
 rest_in_order (Some t) (Some i) (Some c) (Some s) = by_parts (parts_of t i) refl where
   by_turns : (p : Parts) → ArePartsTaken p → (r : Resumed) (o : Option (List Turn)) → IfSome o (GoesOnInOrder p r)
   by_turns p taken r None = tt
-  by_turns p taken r (Some turns) = record { of_run = of_run p taken r.machine turns; stays = λ shaped rules k. run-order (take k turns) r.machine shaped rules }
+  by_turns p taken r (Some turns) = record {
+    of_run = goes_on p taken r.machine turns;
+    stays = λ shaped rules k. run-order (take k turns) r.machine shaped rules;
+    judged = judged turns r.machine;
+  }
 
   by_resumed : (p : Parts) → ArePartsTaken p → (o : Option Resumed) → IfSome o (λ r. IfSome (turns_at p.tree.levels r.counts.turns s) (GoesOnInOrder p r))
   by_resumed p taken None = tt

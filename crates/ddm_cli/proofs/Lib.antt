@@ -2,6 +2,7 @@ pub mod AnyRuns
 pub mod BusLaws
 pub mod DdmTree
 pub mod ElfLoad
+pub mod FileLaws
 pub mod HeadlineCrate
 pub mod JamLaws
 pub mod OutcomeModel
@@ -38,3 +39,8 @@ pub mod Surveys
 pub mod Records
 pub mod RunSurveys
 pub mod Listed
+pub mod AcceptedParts
+pub mod SeededRuns
+pub mod CheckedRuns
+pub mod ResumedRuns
+pub mod CheckpointSizes

@@ -9,16 +9,18 @@ use Rattle.ddm_cli.specs.ReportCrate.declared.roles.FileRole.TheVariants.{ImageF
 use Rattle.ddm_cli.specs.TreeModel.Start.Sources.{TreeValue}
 use Rattle.witness_check.specs.Judging.{Standing, answer_of, going, lines_of, refused, standing_of, text_limit}
 use Rattle.witness_check.specs.Reader.{ReaderView, begun, fed, feed_answer, reader_after}
-use Rattle.witness_check.specs.Start.{Setting, machine_of, program_of}
+use Rattle.witness_check.specs.Start.{Setting, check_of, machine_of, program_of}
+use Rattle.witness_check.specs.Witness.{IsAccepted}
 use Rattle.witness_check.specs.declared.refusal.CheckRefusal.{CheckRefusal}
 use Rattle.witness_check.specs.declared.refusal.CheckRefusal.TheVariants as refusal
+use Rattle.witness_check.proofs.Accepting.{accepted_is}
 use Rattle.witness_check.proofs.Pieces.{answer_is, nothing_yet, piece_more, refused_stays}
 use Rattle.ddm_cli.specs.Causes.{AcceptedAs, ComesTo, WitnessCause}
 use Rattle.ddm_cli.specs.Commands.{Check}
 use Rattle.ddm_cli.specs.Parts.{BeginsFor, setting_at, setting_in, tree_at}
 use Rattle.ddm_cli.specs.Printed.{legal_line}
 use Rattle.ddm_cli.specs.Reads.{HasFed, IsBehind}
-use Rattle.ddm_cli.specs.Top.{AcceptsSetting, IsJudged, NoVerdict}
+use Rattle.ddm_cli.specs.Top.{AcceptsSetting, HasLegalLines, IsJudged, NoVerdict}
 use Rattle.ddm_cli.specs.declared.status.Status.{Status}
 use Rattle.ddm_cli.specs.declared.status.Status.TheVariants.{Done, Usage, ImageLoad, ImageBuild, Tree, Schedule, Witness, Checkpoint, SmallLists, Table, ReadFault, UnreadTable, WriteFault, NoMemory}
 
@@ -129,9 +131,19 @@ is_judged answer (Some f) (Some g) None t reader taken begins comes = tt
 is_judged answer (Some f) (Some g) (Some w) t reader taken begins comes = rw (setting_taken f g t begins.setting taken begins.is) (comes begins.setting begins.begins begins.starts)
 
 -- a witness that is accepted
+has_lines : (lines : ℕ) (tree image witness : Option (List ℕ)) → IsJudged (Ok lines) tree image witness → HasLegalLines lines tree image witness
+has_lines lines None image witness is = tt
+has_lines lines (Some f) None witness is = tt
+has_lines lines (Some f) (Some g) None is = tt
+has_lines lines (Some f) (Some g) (Some w) is = by (setting_at f g) is where
+  by : (o : Option Setting) → IfSome o (λ s. check_of s w ≡ Ok lines) → IfSome o (λ s. IsAccepted s w lines)
+  by None is = tt
+  by (Some s) is = accepted_is s w lines is
+
 pub verdict_taken : (tree image witness : Option (List ℕ)) (t : TreeValue) (reader : ReaderView) (lines : ℕ) → AcceptedAs tree_at tree t → BeginsFor t image reader → IfSome witness (ComesTo reader (Ok lines))
-    → AcceptsSetting tree image × ((n : ℕ) × (legal_line lines ≡ legal_line n) × IsJudged (Ok n) tree image witness)
-verdict_taken tree image witness t reader lines taken begins comes = (takes_setting tree image t reader taken begins, (lines, refl, is_judged (Ok lines) tree image witness t reader taken begins comes))
+    → AcceptsSetting tree image × ((n : ℕ) × (legal_line lines ≡ legal_line n) × HasLegalLines n tree image witness)
+verdict_taken tree image witness t reader lines taken begins comes =
+    (takes_setting tree image t reader taken begins, (lines, refl, has_lines lines tree image witness (is_judged (Ok lines) tree image witness t reader taken begins comes)))
 
 -- why a witness isn't accepted, as a cause of the command: the count rose since the image was read, or before
 module _ {F : Type 0} (told : F → List ℕ → Option (List ℕ)) (faults : F → List ℕ → ℕ) (files files' : F) (c : Check) (t : TreeValue) (reader : ReaderView) (before : ℕ) (tree : AcceptedAs tree_at (told files c.tree) t)

@@ -6,6 +6,7 @@ pub mod DdmText
 pub mod DdmTree
 pub mod DdmTypes
 pub mod ElfLoad
+pub mod FileLaws
 pub mod JamLaws
 pub mod MadeImage
 pub mod OutcomeModel
@@ -13,6 +14,7 @@ pub mod RecordingCrate
 pub mod ReportCrate
 pub mod ScheduleLog
 pub mod StartParts
+pub mod StateWords
 pub mod SurveyModel
 pub mod TextModel
 pub mod TreeConfig
@@ -32,6 +34,7 @@ pub mod RecordingModel
 pub mod Refusals
 pub mod TableLines
 pub mod Tables
+pub mod Together
 pub mod Told
 pub mod Top
 pub mod Views

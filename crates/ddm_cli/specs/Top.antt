@@ -7,9 +7,7 @@ use Rattle.ddm_cli.specs.TreeModel.Start.Sources.{TreeValue}
 use Rattle.ddm_cli.specs.TreeModel.State.Shape.{IsShaped}
 use Rattle.ddm_cli.specs.TreeModel.Turns.Machine.{run_of}
 use Rattle.ddm_cli.specs.TreeModel.Start.Machine.{flat_start_of, start_machine}
-use Rattle.ddm_cli.specs.TreeRules.Witness.{EachTurnWitnessed, IsWitnessed}
 use Rattle.ddm_cli.specs.TextModel.Faults.{usage_fault, schedule_fault, read_fault, write_fault, memory_fault}
-use Rattle.ddm_cli.specs.TextModel.Run.{EachOutputWitnessed, HasWitnessedOutput}
 use Rattle.ddm_cli.specs.TextModel.Schedule.{schedule_text}
 use Rattle.ddm_cli.specs.TextModel.Seeded.{seeded_turns}
 use Rattle.ddm_cli.specs.TextModel.declared.ScheduleRefusal.{ScheduleRefusal}
@@ -21,9 +19,11 @@ use Rattle.ddm_cli.specs.DdmOutside.Causes.{Rose}
 use Rattle.ddm_cli.specs.ScheduleLog.Shapes.{shape_view}
 use Rattle.ddm_cli.specs.TreeConfig.TreeFile.{tree_of}
 use Rattle.ddm_cli.specs.DdmTree.Rules.{KeepsRules, StaysInOrder}
+use Rattle.run_laws.specs.InOrder.{AreJudged, RunInOrder}
 use Rattle.checkpoint.specs.Resumed.{Resumed}
 use Rattle.checkpoint.specs.declared.ResumeRefusal.{ResumeRefusal}
 use Rattle.witness_check.specs.Start.{Setting, check_of}
+use Rattle.witness_check.specs.Witness.{IsAccepted}
 use Rattle.witness_check.specs.declared.refusal.CheckRefusal.{CheckRefusal}
 use Rattle.ddm_cli.specs.About.{about_text}
 use Rattle.ddm_cli.specs.Causes.{Accepts, HasNoSetting, HasSmallList, IsRefused, IsUnloaded, IsUnresumed, IsUnscheduled, IsUnstarted, TreeCause}
@@ -125,10 +125,9 @@ command_text told (to_say a) = Some (about_text a)
 
 -- ---- order
 
--- after each of the turns the operations, in the order of their keys, are one legal run of the flat machine from its start, each
--- hart and the found copy of every item are that run's, and so is what each hart has put out
+-- these turns are in order from the start
 abbrev pub TurnsInOrder : Parts → List Turn → Type 0
-TurnsInOrder p turns = EachTurnWitnessed (flat_start_of p.tree p.image) turns (start_machine p.tree p.image) × EachOutputWitnessed turns (start_machine p.tree p.image)
+TurnsInOrder p turns = RunInOrder (flat_start_of p.tree p.image) (start_machine p.tree p.image) turns
 
 -- after each turn of the schedule
 abbrev pub RunsInOrder : ScheduleGiven → Parts → Type 0
@@ -154,11 +153,11 @@ RecordedInOrder r p = TurnsInOrder p (recording_of r.kind (shape_view p.tree.lev
 
 -- after each turn that a machine of a checkpoint makes
 pub record GoesOnInOrder (p : Parts) (r : Resumed) (turns : List Turn) : Type 0 where
-  -- where a run from the start comes to that machine, the operations of both together are in order
-  pub of_run : (first : List Turn) → r.machine ≡ (run_of first (start_machine p.tree p.image)).machine → (k : ℕ)
-      → IsWitnessed (flat_start_of p.tree p.image) (run_of (take k turns) r.machine).machine × HasWitnessedOutput (run_of (take k turns) r.machine).machine
+  -- where a run from the start comes to that machine, they are in order, with the operations of both together
+  pub of_run : (first : List Turn) → r.machine ≡ (run_of first (start_machine p.tree p.image)).machine → RunInOrder (flat_start_of p.tree p.image) r.machine turns
   -- and whatever it is, if it keeps the rules that every machine keeps: from whatever start its operations are in order, they stay so
   pub stays : IsShaped r.machine → KeepsRules r.machine → (k : ℕ) → StaysInOrder r.machine (run_of (take k turns) r.machine).machine
+  pub judged : AreJudged turns r.machine
 
 -- ---- the files
 
@@ -194,6 +193,10 @@ HasText prints tree image schedule text = Both tree image (λ t i. IfSome schedu
 -- the tree is accepted, and with it the image, whose flat machine has a start
 abbrev pub AcceptsSetting : Option (List ℕ) → Option (List ℕ) → Type 0
 AcceptsSetting tree image = Accepts tree_at tree × Both tree image (λ t i. IsSome (setting_at t i))
+
+-- where all three are told, the witness is so many lines of operations that are legal from the start
+abbrev pub HasLegalLines : ℕ → Option (List ℕ) → Option (List ℕ) → Option (List ℕ) → Type 0
+HasLegalLines lines tree image witness = Both tree image (λ t i. IfSome witness (λ w. IfSome (setting_at t i) (λ s. IsAccepted s w lines)))
 
 -- where all three are told, the witness comes to this
 abbrev pub IsJudged : Result ℕ CheckRefusal → Option (List ℕ) → Option (List ℕ) → Option (List ℕ) → Type 0
@@ -244,7 +247,7 @@ module _ {F : Type 0} (told : F → List ℕ → Option (List ℕ)) where
   HasAccepted files text (to_list tree seed count) = Accepts tree_at (told files tree) × IfSome (told files tree) (λ t. list_of seed count t ≡ Some text)
   HasAccepted files text (to_check c) =
       AcceptsSetting (told files c.tree) (told files c.image)
-      × ((lines : ℕ) × (text ≡ legal_line lines) × IsJudged (Ok lines) (told files c.tree) (told files c.image) (told files c.witness))
+      × ((lines : ℕ) × (text ≡ legal_line lines) × HasLegalLines lines (told files c.tree) (told files c.image) (told files c.witness))
   HasAccepted files text (to_resume r) =
       AcceptsRest (told files r.tree) (told files r.image) (told files r.checkpoint) (told files r.schedule)
       × HasResumedText (told files r.tree) (told files r.image) (told files r.checkpoint) (told files r.schedule) text

@@ -8,6 +8,7 @@ mod fault;
 mod files;
 mod joined;
 mod judging;
+pub mod laws;
 mod limits;
 mod listing;
 mod making;

@@ -1,7 +1,9 @@
 pub mod BusLaws
+pub mod BusyLaws
 pub mod DdmTypes
 pub mod DirectoryCrate
 pub mod HeadlineCrate
+pub mod LrScLaws
 pub mod OrderLaws
 pub mod OrderLists
 pub mod StateJudging

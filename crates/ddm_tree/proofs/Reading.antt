@@ -9,10 +9,11 @@ use Rattle.ddm_tree.specs.RvHart.HartState.{HartState}
 use Rattle.ddm_tree.specs.TreeModel.declared.TreeChild.{TreeChild}
 use Rattle.ddm_tree.specs.TreeModel.State.Values.{Node, leaf_node, dir_node, children, MachineValue, root_of}
 use Rattle.ddm_tree.specs.TreeModel.State.Child.{child_hold, child_label}
+use Rattle.ddm_tree.specs.TreeModel.State.Lengths.{dir_lengths, leaf_lengths, no_dir_lengths, no_leaf_lengths}
 use Rattle.ddm_tree.specs.TreeModel.State.Place.{Where, at_top, key_at_leaf, where_path, stamp_above}
 use Rattle.ddm_tree.specs.TreeModel.State.Rooms.{dir_within, all_within, all_within_among}
 use Rattle.ddm_tree.specs.TreeModel.Turns.Children.{child_at}
-use Rattle.ddm_tree.specs.TreeModel.Turns.Machine.{child_count, child_hold_of, child_of, down_entry_of, is_child_of, now_of}
+use Rattle.ddm_tree.specs.TreeModel.Turns.Machine.{child_count, child_hold_of, child_of, down_entry_of, is_child_of, leaf_lengths_at, lengths_at, now_of}
 use Rattle.ddm_tree.specs.TreeModel.Turns.Tree.{Name, leaf_of_number, bus_of_number, is_named, read_in, of_leaf, of_dir}
 use Rattle.ddm_tree.proofs.TreeModel.DirRooms.{dir_within-facts}
 use Rattle.ddm_tree.proofs.TreeModel.Tests.{and-first, and-second}
@@ -20,7 +21,7 @@ use Rattle.ddm_tree.specs.ItemStates.Parts.{node_items}
 use Rattle.ddm_tree.specs.Machine.{IsMachine, is_part, listed_path}
 use Rattle.ddm_tree.specs.Path.{node_at, present_at}
 use Rattle.ddm_tree.specs.Ready.{IsChild, IsItemOf, Leads}
-use Rattle.ddm_tree.specs.Reads.{node_hart, node_entry, node_children, node_child, node_child_hold, node_down, node_down_len, node_parked, copy_pair, node_state, counted_hart_of, down_len_of, entry_at, parked_at, state_of}
+use Rattle.ddm_tree.specs.Reads.{node_hart, node_entry, node_children, node_child, node_child_hold, node_down, node_down_len, node_leaf_lengths, node_lengths, node_parked, copy_pair, node_state, counted_hart_of, down_len_of, entry_at, parked_at, state_of}
 use Rattle.ddm_tree.proofs.Along.{along, where_end, where_end-path, where_end-present, some_if-same}
 use Rattle.ddm_tree.proofs.Descend.{leads-child, within-child}
 use Rattle.ddm_tree.proofs.Names.{bus-there, path-there}
@@ -98,6 +99,13 @@ module _ (m : MachineValue) (leaf : ℕ) (path : List ℕ) (leads : Leads (leaf_
       state-node w (leaf_node v) = refl
       state-node w (dir_node d ns) = refl
 
+  pub leaf_lengths-is : Some (node_leaf_lengths (node_at path (root_of m))) ≡ leaf_lengths_at leaf m
+  leaf_lengths-is = ap Some (lengths-node (where_end at_top path (root_of m)) (node_at path (root_of m))) ∙ read-is m (leaf_of_number leaf) path leads (of_leaf (λ w v. leaf_lengths v) no_leaf_lengths)
+    where
+      lengths-node : (w : Where) (n : Node) → node_leaf_lengths n ≡ of_leaf (λ w v. leaf_lengths v) no_leaf_lengths w n
+      lengths-node w (leaf_node v) = refl
+      lengths-node w (dir_node d ns) = refl
+
 module _ (m : MachineValue) (bus : ℕ) (path : List ℕ) (leads : Leads (bus_of_number bus) path (root_of m)) where
   pub children-is : Some (node_children (node_at path (root_of m))) ≡ child_count bus m
   children-is = ap Some (children-node (where_end at_top path (root_of m)) (node_at path (root_of m))) ∙ read-is m (bus_of_number bus) path leads (of_dir (λ w d ns. length ns) 0)
@@ -142,6 +150,13 @@ module _ (m : MachineValue) (bus : ℕ) (path : List ℕ) (leads : Leads (bus_of
       len-node : (w : Where) (n : Node) → node_down_len n ≡ of_dir (λ w d ns. length d.down) 0 w n
       len-node w (leaf_node v) = refl
       len-node w (dir_node d ns) = refl
+
+  pub lengths-is : Some (node_lengths (node_at path (root_of m))) ≡ lengths_at bus m
+  lengths-is = ap Some (lengths-node (where_end at_top path (root_of m)) (node_at path (root_of m))) ∙ read-is m (bus_of_number bus) path leads (of_dir (λ w d ns. dir_lengths d) no_dir_lengths)
+    where
+      lengths-node : (w : Where) (n : Node) → node_lengths n ≡ of_dir (λ w d ns. dir_lengths d) no_dir_lengths w n
+      lengths-node w (leaf_node v) = refl
+      lengths-node w (dir_node d ns) = refl
 
   pub parked-is : (x : ℕ) → Some (node_parked x (node_at path (root_of m))) ≡ parked_at bus x m
   parked-is x = ap Some (parked-node (where_end at_top path (root_of m)) (node_at path (root_of m))) ∙ read-is m (bus_of_number bus) path leads (of_dir (λ w d ns. node_parked x (dir_node d m.kids)) None)

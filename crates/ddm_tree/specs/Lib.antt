@@ -1,10 +1,12 @@
 pub mod BusJudging
 pub mod BusLaws
+pub mod BusyLaws
 pub mod DdmText
 pub mod DdmTypes
 pub mod DirectoryCrate
 pub mod FlatModel
 pub mod ItemStates
+pub mod LrScLaws
 pub mod OrderLaws
 pub mod RvHart
 pub mod SplitBus

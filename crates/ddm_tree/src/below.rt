@@ -15,7 +15,7 @@ ghost use Rattle.ddm_tree.specs.Path.{node_at, present_at, put_at, node_answer, 
 ghost use Rattle.ddm_tree.specs.Judging.{IsJudged};
 ghost use Rattle.ddm_tree.specs.Named.{name_of};
 ghost use Rattle.ddm_tree.specs.Ready.{IsAskable, IsReady, Leads, LeadsBelow, HasChild, IsChild, IsItemOf, IsRuled};
-ghost use Rattle.ddm_tree.specs.Reads.{leaf_count_among, node_hart, node_entry, node_children, node_child, node_child_hold, node_down, node_down_len, node_grants, node_parked, node_state, states_among};
+ghost use Rattle.ddm_tree.specs.Reads.{leaf_count_among, node_hart, node_entry, node_children, node_child, node_child_hold, node_down, node_down_len, node_grants, node_leaf_lengths, node_lengths, node_parked, node_state, states_among};
 
 use crate::named::Named;
 use crate::of_ddm_types::{
@@ -23,7 +23,7 @@ use crate::of_ddm_types::{
 };
 use crate::of_item_states::{DownEntry, Parent};
 use crate::of_rv_hart::Hart;
-use crate::of_tree_model::{BusTurn, LeafSpot, TreeChild};
+use crate::of_tree_model::{BusTurn, DirLengths, LeafLengths, LeafSpot, TreeChild};
 use crate::subtree::Subtree;
 use crate::turn_call::TurnCall;
 use crate::turns::on_bus;
@@ -289,6 +289,35 @@ pub(crate) fn down_len_under<const WORDS: usize, P: Parent<WORDS>, C: Subtree<WO
 {
     let (part, rest) = next(parent, children, Named::Bus(bus), path);
     part.down_len_below(bus, rest)
+}
+
+/// How long the lists of the directory over a bus below this one are.
+pub(crate) fn lengths_under<const WORDS: usize, P: Parent<WORDS>, C: Subtree<WORDS>>(
+    parent: &P,
+    children: &[C],
+    bus: BusNo,
+    path: &[ChildNo],
+) -> DirLengths
+    requires leads { Leads (bus_of_number bus) path.now (dir_node (P.state parent.now) (nodes (map C.value children.now))) }
+    requires on { 0 < length path.now }
+    ensures { result ≡ node_lengths (node_at path.now (dir_node (P.state parent.now) (nodes (map C.value children.now)))) }
+{
+    let (part, rest) = next(parent, children, Named::Bus(bus), path);
+    part.lengths_below(bus, rest)
+}
+
+/// How long the lists of a leaf below a directory are.
+pub(crate) fn leaf_lengths_under<const WORDS: usize, P: Parent<WORDS>, C: Subtree<WORDS>>(
+    parent: &P,
+    children: &[C],
+    leaf: LeafNo,
+    path: &[ChildNo],
+) -> LeafLengths
+    requires { Leads (leaf_of_number leaf) path.now (dir_node (P.state parent.now) (nodes (map C.value children.now))) }
+    ensures { result ≡ node_leaf_lengths (node_at path.now (dir_node (P.state parent.now) (nodes (map C.value children.now)))) }
+{
+    let (part, rest) = next(parent, children, Named::Leaf(leaf), path);
+    part.leaf_lengths_below(leaf, rest)
 }
 
 /// The copy of an item that is parked at a bus below a directory, with its place.

@@ -8,7 +8,8 @@ ghost use Rattle.ddm_tree.specs.ItemStates.Parts.{node_items};
 
 use crate::below::{
     child_under, children_under, down_len_under, down_under, entry_under, grants_under, hart_under,
-    hold_under, parked_under, stamp_under, state_under, states_under, turn_under,
+    hold_under, leaf_lengths_under, lengths_under, parked_under, stamp_under, state_under,
+    states_under, turn_under,
 };
 use crate::copying::{CopyFrom, copy_children};
 use crate::found::{Found, found_among, own_copy};
@@ -25,7 +26,7 @@ use crate::of_directory::DirState;
 use crate::of_item_states::{Agent, DownEntry, Parent};
 use crate::of_rv_hart::Hart;
 use crate::of_state_reading::StateRefusal;
-use crate::of_tree_model::{BusTurn, LeafSpot, TreeChild};
+use crate::of_tree_model::{BusTurn, DirLengths, LeafLengths, LeafSpot, TreeChild};
 use crate::paths::path_up_under;
 use crate::quiet::{Quiet, learn_down_of, learn_under};
 use crate::read_back::read_under;
@@ -248,6 +249,18 @@ impl<const WORDS: usize, C: Subtree<WORDS>> Subtree<WORDS> for Dir<WORDS, C> {
         } else {
             down_len_under(&self.state, &self.children, bus, path)
         }
+    }
+
+    fn lengths_below(&self, bus: BusNo, path: &[ChildNo]) -> DirLengths {
+        if path.is_empty() {
+            self.state.lengths()
+        } else {
+            lengths_under(&self.state, &self.children, bus, path)
+        }
+    }
+
+    fn leaf_lengths_below(&self, leaf: LeafNo, path: &[ChildNo]) -> LeafLengths {
+        leaf_lengths_under(&self.state, &self.children, leaf, path)
     }
 
     fn stamps_fit_below(&self, bus: BusNo, path: &[ChildNo], present: &Stamp) -> bool {

@@ -10,7 +10,7 @@ use crate::of_ddm_types::{
 use crate::of_item_states::DownEntry;
 use crate::of_rv_hart::Hart;
 use crate::of_state_reading::StateRefusal;
-use crate::of_tree_model::{BusTurn, LeafSpot, TreeChild};
+use crate::of_tree_model::{BusTurn, DirLengths, LeafLengths, LeafSpot, TreeChild};
 use crate::quiet::Quiet;
 use crate::section::Section;
 use crate::subtree::Subtree;
@@ -124,6 +124,20 @@ impl<const WAYS: usize, const WORDS: usize> Subtree<WORDS> for Leaf<WAYS, WORDS>
 
     fn down_len_below(&self, _bus: BusNo, _path: &[ChildNo]) -> u32 {
         0
+    }
+
+    fn lengths_below(&self, _bus: BusNo, _path: &[ChildNo]) -> DirLengths {
+        DirLengths {
+            down: 0,
+            requests: 0,
+            replies: 0,
+            parking: 0,
+        }
+    }
+
+    #[inline(always)]
+    fn leaf_lengths_below(&self, _leaf: LeafNo, _path: &[ChildNo]) -> LeafLengths {
+        self.lengths()
     }
 
     fn stamps_fit_below(&self, _bus: BusNo, _path: &[ChildNo], _present: &Stamp) -> bool {

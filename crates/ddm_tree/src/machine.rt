@@ -6,6 +6,8 @@ ghost use Rattle.ddm_tree.specs.TreeModel.Turns.Machine.{named_by, names_part, n
 ghost use Rattle.ddm_tree.specs.DdmTypes.Keys.{stamp_zero};
 ghost use Rattle.ddm_tree.specs.DdmTypes.ItemTable.{item_count};
 ghost use Rattle.ddm_tree.specs.TreeModel.State.Values.{dir_node, nodes};
+ghost use Rattle.ddm_tree.specs.BusyLaws.Reasons.{busy_cause, busy_reason};
+ghost use Rattle.ddm_tree.specs.LrScLaws.Failing.{fails_unreserved, sc_failed};
 ghost use Rattle.ddm_tree.specs.Named.{name_of};
 ghost use Rattle.ddm_tree.specs.Path.{node_at, present_at, put_at, node_answer, node_turned};
 ghost use Rattle.ddm_tree.specs.Ready.{IsReady, Leads};
@@ -156,7 +158,8 @@ impl<const WORDS: usize, C: Subtree<WORDS>> Machine<WORDS, C> {
         Some(busy)
     }
 
-    /// One turn of a hart or a bus. It takes no memory.
+    /// One turn of a hart or a bus: busy exactly for the first of its reasons. An SC fails exactly where its item isn't its leaf's
+    /// reservation. It takes no memory.
     pub fn turn(&mut self, turn: Turn) -> TurnAnswer
         requires named { names_part turn self.old.machine ≡ true }
         requires spare { 0 < self.old.spare }
@@ -164,6 +167,8 @@ impl<const WORDS: usize, C: Subtree<WORDS>> Machine<WORDS, C> {
         ensures answer { result ≡ (turn_of turn self.old.machine).answer }
         ensures after { self.new ≡ state_after turn self.old }
         ensures order { StaysInOrder self.old.machine self.new.machine }
+        ensures busy { busy_cause result ≡ busy_reason turn self.old.machine }
+        ensures failing { sc_failed result ≡ fails_unreserved turn self.old.machine }
     {
         let mut answer = TurnAnswer::Empty;
         self.turn_into(&turn, &mut answer);
@@ -178,6 +183,8 @@ impl<const WORDS: usize, C: Subtree<WORDS>> Machine<WORDS, C> {
         ensures answer { answer.new ≡ (turn_of turn.now self.old.machine).answer }
         ensures after { self.new ≡ state_after turn.now self.old }
         ensures order { StaysInOrder self.old.machine self.new.machine }
+        ensures busy { busy_cause answer.new ≡ busy_reason turn.now self.old.machine }
+        ensures failing { sc_failed answer.new ≡ fails_unreserved turn.now self.old.machine }
     {
         turn_made(
             &mut self.top,

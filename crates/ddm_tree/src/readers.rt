@@ -5,7 +5,7 @@ ghost use Rattle.ddm_tree.specs.DdmTypes.ItemTable.{item_count};
 ghost use Rattle.ddm_tree.specs.TreeModel.State.Shape.{IsShaped, tree_counts};
 ghost use Rattle.ddm_tree.specs.TreeModel.State.Values.{root_of};
 ghost use Rattle.ddm_tree.specs.TreeModel.Turns.Found.{found_copy, states_of};
-ghost use Rattle.ddm_tree.specs.TreeModel.Turns.Machine.{child_count, child_hold_of, child_of, down_entry_of, granted_of, grants_of, is_child_of, named_by, names_part, now_of, turn_of};
+ghost use Rattle.ddm_tree.specs.TreeModel.Turns.Machine.{child_count, child_hold_of, child_of, down_entry_of, granted_of, grants_of, is_child_of, leaf_lengths_at, lengths_at, named_by, names_part, now_of, turn_of};
 ghost use Rattle.split_bus.specs.Outcomes.{is_granted};
 ghost use Rattle.ddm_tree.specs.TreeModel.Turns.Tree.{leaf_of_number, bus_of_number};
 ghost use Rattle.ddm_tree.specs.Machine.{is_part};
@@ -15,7 +15,8 @@ ghost use Rattle.ddm_tree.specs.Reads.{counted_hart_of, down_len_of, entry_at, i
 
 use crate::below::{
     child_under, children_under, down_len_under, down_under, entry_under, grants_under, hart_under,
-    hold_under, parked_under, stamp_under, state_under, states_under,
+    hold_under, leaf_lengths_under, lengths_under, parked_under, stamp_under, state_under,
+    states_under,
 };
 use crate::found::{Found, found_among};
 use crate::machine::Machine;
@@ -25,7 +26,7 @@ use crate::of_ddm_types::{
 };
 use crate::of_item_states::{DownEntry, Parent};
 use crate::of_rv_hart::Hart;
-use crate::of_tree_model::{LeafSpot, Traffic, TreeChild};
+use crate::of_tree_model::{DirLengths, LeafLengths, LeafSpot, Traffic, TreeChild};
 use crate::subtree::Subtree;
 use crate::turns::{key_on, on_bus};
 use operation_list::Operations;
@@ -161,6 +162,28 @@ impl<const WORDS: usize, C: Subtree<WORDS>> Machine<WORDS, C> {
         } else {
             down_len_under(&self.top, &self.children, bus, path)
         }
+    }
+
+    /// How long the lists of the directory over a bus are; over bus 0 it is the top.
+    pub fn list_lengths(&self, bus: BusNo) -> DirLengths
+        requires { is_part (bus_of_number bus) self.now.machine ≡ true }
+        ensures { Some result ≡ lengths_at bus self.now.machine }
+    {
+        let path = self.bus_path(bus);
+        if path.is_empty() {
+            self.top.lengths()
+        } else {
+            lengths_under(&self.top, &self.children, bus, path)
+        }
+    }
+
+    /// How long the lists of a leaf are.
+    pub fn leaf_lengths(&self, leaf: LeafNo) -> LeafLengths
+        requires { is_part (leaf_of_number leaf) self.now.machine ≡ true }
+        ensures { Some result ≡ leaf_lengths_at leaf self.now.machine }
+    {
+        let path = self.leaf_path(leaf);
+        leaf_lengths_under(&self.top, &self.children, leaf, path)
     }
 
     /// The copy of an item that is parked at a bus: its place, counted from 0, and its words.

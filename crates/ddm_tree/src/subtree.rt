@@ -23,7 +23,7 @@ ghost use Rattle.ddm_tree.specs.Judging.{IsJudged, node_broken};
 ghost use Rattle.ddm_tree.specs.Named.{name_of};
 ghost use Rattle.ddm_tree.specs.Quiet.{AreLearnedBelow, IsTouched, KeepsHarts};
 ghost use Rattle.ddm_tree.specs.Ready.{IsAskable, IsReady, Leads, LeadsBelow, HasChild, IsChild, IsItemIn, IsItemOf, IsRuled};
-ghost use Rattle.ddm_tree.specs.Reads.{leaf_count, node_hart, node_entry, node_children, node_child, node_child_hold, node_down, node_down_len, node_grants, node_parked, node_state, node_states};
+ghost use Rattle.ddm_tree.specs.Reads.{leaf_count, node_hart, node_entry, node_children, node_child, node_child_hold, node_down, node_down_len, node_grants, node_leaf_lengths, node_lengths, node_parked, node_state, node_states};
 ghost use Rattle.ddm_tree.specs.Stamps.{node_stamps_fit};
 ghost use Rattle.ddm_tree.specs.ReadBack.{PartRead, section_name};
 ghost use Rattle.ddm_tree.specs.Written.{node_dir_words, node_words};
@@ -38,7 +38,7 @@ use crate::of_ddm_types::{
 use crate::of_item_states::{Agent, DownEntry};
 use crate::of_rv_hart::Hart;
 use crate::of_state_reading::StateRefusal;
-use crate::of_tree_model::{BusTurn, LeafSpot, TreeChild};
+use crate::of_tree_model::{BusTurn, DirLengths, LeafLengths, LeafSpot, TreeChild};
 use crate::quiet::Quiet;
 use crate::section::Section;
 use crate::turn_call::TurnCall;
@@ -174,6 +174,16 @@ pub trait Subtree<const WORDS: usize>: Agent<WORDS> {
     fn down_len_below(&self, bus: BusNo, path: &[ChildNo]) -> u32
         requires { LeadsBelow (bus_of_number bus) path.now (Self.value self.now) }
         ensures { result ≡ node_down_len (node_at path.now (Self.value self.now)) };
+
+    /// How long the lists of the directory over this bus are.
+    fn lengths_below(&self, bus: BusNo, path: &[ChildNo]) -> DirLengths
+        requires { LeadsBelow (bus_of_number bus) path.now (Self.value self.now) }
+        ensures { result ≡ node_lengths (node_at path.now (Self.value self.now)) };
+
+    /// How long the lists of this leaf are.
+    fn leaf_lengths_below(&self, leaf: LeafNo, path: &[ChildNo]) -> LeafLengths
+        requires { Leads (leaf_of_number leaf) path.now (Self.value self.now) }
+        ensures { result ≡ node_leaf_lengths (node_at path.now (Self.value self.now)) };
 
     /// Whether the stamps are in order that the directory over this bus keeps, where the bus above this part has this present stamp.
     fn stamps_fit_below(&self, bus: BusNo, path: &[ChildNo], present: &Stamp) -> bool

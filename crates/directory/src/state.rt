@@ -4,6 +4,7 @@ ghost use Rattle.std.specs.Prelude.{◌≡◌, ℕ, ◌+◌, ◌<◌, ◌≤◌,
 ghost use Rattle.directory.specs.DdmTypes.declared.sizes.Hold.TheVariants.{Exclusive};
 ghost use Rattle.directory.specs.TreeModel.State.Values.{DirValue, absent_item};
 ghost use Rattle.directory.specs.TreeModel.State.Directory.{parked_place, queue_of, with_hold};
+ghost use Rattle.directory.specs.TreeModel.State.Lengths.{dir_lengths};
 ghost use Rattle.directory.specs.TreeModel.Turns.Found.{down_place, queue_words};
 ghost use Rattle.directory.specs.TreeModel.Start.Nodes.{dir_sizes, new_dir};
 ghost use Rattle.directory.specs.Packed.{packed_item};
@@ -12,6 +13,7 @@ use crate::ItemTable;
 use crate::last_copy::later_copy;
 use crate::of_ddm_types::{BusNo, Hold, ItemId, NoMemory, Stamp, TreeSizes, TxKind, Words};
 use crate::of_item_states::DownEntry;
+use crate::of_tree_model::DirLengths;
 use crate::places::Places;
 use replacement::Parking;
 use std::alloc::Global;
@@ -133,6 +135,18 @@ impl<const WORDS: usize> DirState<WORDS> {
         ensures { result ≡ length self.now.down }
     {
         self.down.len()
+    }
+
+    /// How long its lists are.
+    pub fn lengths(&self) -> DirLengths
+        ensures { result ≡ dir_lengths self.now }
+    {
+        DirLengths {
+            down: self.down.len(),
+            requests: self.requests.len(),
+            replies: self.replies.len(),
+            parking: self.parking.used(),
+        }
     }
 
     /// The last data or inject of an item in the down list: its place and its words.

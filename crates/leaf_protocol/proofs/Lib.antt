@@ -1,4 +1,6 @@
+pub mod BusyLaws
 pub mod FlatModel
+pub mod LrScLaws
 pub mod StateReading
 pub mod StateWords
 pub mod TreeModel

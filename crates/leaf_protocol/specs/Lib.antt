@@ -1,8 +1,10 @@
 pub mod BusJudging
+pub mod BusyLaws
 pub mod DdmText
 pub mod DdmTypes
 pub mod FlatModel
 pub mod ItemStates
+pub mod LrScLaws
 pub mod RvHart
 pub mod StateReading
 pub mod StateWords

@@ -127,6 +127,13 @@ impl<const WAYS: usize, const WORDS: usize> Entries<WAYS, WORDS> {
         self.items
     }
 
+    /// How many entries there are in the buffer.
+    pub fn buffer_len(&self) -> u32
+        ensures { result ≡ length self.now.buffer }
+    {
+        self.buffer.len()
+    }
+
     /// How many entries there may be in the buffer.
     pub fn room(&self) -> u32
         ensures { result ≡ self.now.room }

@@ -2,6 +2,7 @@
 
 ghost use Rattle.std.specs.Prelude.{◌≡◌, ◌%◌, ◌+◌, ◌*◌, ◌<◌, ◌≤◌, ◌^◌, Some, None, IfOk, IfErr, is_some, length, map, option_map, slice_get};
 ghost use Rattle.leaf_protocol.specs.TreeModel.State.Leaf.{free_way, leaf_entry, spot_at, state_at, waiting_item};
+ghost use Rattle.leaf_protocol.specs.TreeModel.State.Lengths.{leaf_lengths};
 ghost use Rattle.leaf_protocol.specs.TreeModel.Start.Nodes.{leaf_sizes, new_leaf, or_each, placed};
 ghost use Rattle.leaf_protocol.specs.Leaf.{state_and_words};
 
@@ -9,7 +10,7 @@ use crate::entries::Entries;
 use crate::of_ddm_types::{
     HartNo, ItemId, LeafNo, LeafState, NoMemory, Start, TreeSizes, TxKind, Words,
 };
-use crate::of_tree_model::LeafSpot;
+use crate::of_tree_model::{LeafLengths, LeafSpot};
 use crate::replies::Replies;
 use attraction_mem::SetFull;
 use reservations::Reservation;
@@ -113,6 +114,16 @@ impl<const WAYS: usize, const WORDS: usize> Leaf<WAYS, WORDS> {
         ensures { result ≡ option_map (λ c. (c.item, c.words)) (slice_get self.now.replies place) }
     {
         self.replies.get(place).copied()
+    }
+
+    /// How long its lists are.
+    pub fn lengths(&self) -> LeafLengths
+        ensures { result ≡ leaf_lengths self.now }
+    {
+        LeafLengths {
+            replies: self.replies.len(),
+            buffer: self.entries.buffer_len(),
+        }
     }
 
     /// Marks the items that stand in its ways, before the run. Those in its buffer aren't marked.

@@ -133,6 +133,13 @@ impl<const WORDS: usize> Replies<WORDS> {
         self.ring.clear();
     }
 
+    /// How many replies there are.
+    pub fn len(&self) -> u32
+        ensures { result ≡ length self.now.list }
+    {
+        self.ring.len() as u32
+    }
+
     /// How many replies there may be.
     pub fn capacity(&self) -> u32
         ensures { result ≡ self.now.capacity }

@@ -12,6 +12,8 @@ ghost use Rattle.rv_hart.specs.Steps.{IsReady};
 ghost use Rattle.leaf_protocol.specs.TreeModel.State.States.{is_reading};
 ghost use Rattle.leaf_protocol.specs.TreeModel.State.Leaf.{free_way, leaf_entry, state_at, waiting_item};
 ghost use Rattle.leaf_protocol.specs.TreeModel.Turns.HartTurn.{change_here, deed_by_need, deed_of_change, deed_to_fetch, halts, leaf_step, need_of, need_to_read, need_to_write, upgrades, words_here};
+ghost use Rattle.leaf_protocol.specs.BusyLaws.Reasons.{busy_cause, hart_reason};
+ghost use Rattle.leaf_protocol.specs.LrScLaws.Failing.{leaf_fails, sc_failed};
 ghost use Rattle.leaf_protocol.specs.Entries.{standing_place};
 ghost use Rattle.leaf_protocol.specs.Leaf.{CanTry, IsDone, IsStep, write_ask};
 
@@ -52,13 +54,16 @@ impl<const WAYS: usize, const WORDS: usize> Leaf<WAYS, WORDS> {
         self.try_next(code, items, now, victim, answer);
     }
 
-    /// One try of the hart's next instruction, as `hart_turn_into` makes it.
+    /// One try of the hart's next instruction, as `hart_turn_into` makes it: busy exactly for its reason. An SC fails exactly where its
+    /// item isn't reserved.
     pub fn hart_turn(&mut self, code: &Code, items: &Items, now: Key, victim: u8) -> TurnAnswer
         requires items { item_count items.now ≡ length self.old.ways }
         requires words { items.now.size ≡ 4 * WORDS }
         requires count { self.old.done + 1 < 2 ^ 32 }
         ensures answer { result ≡ (leaf_step code.now items.now now victim self.old).answer }
         ensures after { self.new ≡ (leaf_step code.now items.now now victim self.old).leaf }
+        ensures busy { busy_cause result ≡ hart_reason code.now items.now self.old }
+        ensures failing { sc_failed result ≡ leaf_fails code.now items.now self.old }
     {
         let mut answer = TurnAnswer::Empty;
         self.hart_turn_into(code, items, now, victim, &mut answer);

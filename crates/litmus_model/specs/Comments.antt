@@ -1,16 +1,9 @@
 -- A text without its comments, which nest: each of their bytes is a blank, but line feeds stay.
 use Rattle.std.specs.Prelude.{ℕ, ◌+◌, ◌-◌, Bool, false, not, ◌&&◌, ◌||◌, nat_eq, nat_lt, List, [], ◌∷◌, Ok, if◌then◌else◌}
+use Rattle.litmus_model.specs.declared.parts.Commented.{Commented}
 use Rattle.litmus_model.specs.declared.refusal.Fault.TheVariants.{OpenComment}
 use Rattle.litmus_model.specs.Refusing.{Judged, ◌>>=◌, refused}
 use Rattle.litmus_model.specs.Bytes.{is_line_feed}
-
--- How far a text has come: its line, how many comments are open, the line of the outermost one, and whether the next byte is
--- the second one of `(*` or `*)`.
-pub record Commented : Type 0 where
-  pub line : ℕ
-  pub depth : ℕ
-  pub begun : ℕ
-  pub half : Bool
 
 abbrev pub first_is : ℕ → List ℕ → Bool
 first_is b [] = false

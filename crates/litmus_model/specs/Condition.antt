@@ -2,9 +2,17 @@
 use Rattle.std.specs.Prelude.{ℕ, ◌+◌, ◌-◌, Bool, true, false, not, ◌&&◌, ◌||◌, nat_eq, bytes_eq, codes, List, [], ◌∷◌, ◌++◌, take, drop, Option, Some, None, is_some, Ok, if◌then◌else◌}
 use Rattle.std.specs.List.{position_or_len}
 use Rattle.std.specs.Option.{option_or, option_map_or}
-use Rattle.litmus_model.specs.TestParts.{Part, Word, Mark, Token, Piece, Value, Target, Chunk, open_chunk, close_chunk, not_chunk, and_chunk, or_chunk, true_chunk, false_chunk, equals_chunk}
+use Rattle.litmus_model.specs.declared.parts.Part.{Part}
+use Rattle.litmus_model.specs.declared.parts.Part.TheVariants.{Word, Mark}
+use Rattle.litmus_model.specs.declared.parts.Token.{Token}
+use Rattle.litmus_model.specs.declared.parts.Value.{Value}
+use Rattle.litmus_model.specs.declared.parts.Target.{Target}
+use Rattle.litmus_model.specs.declared.parts.Chunk.{Chunk}
+use Rattle.litmus_model.specs.declared.parts.Chunk.TheVariants as chunk
+use Rattle.litmus_model.specs.Tokens.{Piece}
 use Rattle.litmus_model.specs.declared.test.Quantifier.{Quantifier}
 use Rattle.litmus_model.specs.declared.test.Quantifier.TheVariants.{Exists, NotExists, Forall}
+use Rattle.litmus_model.specs.declared.parts.Standing.{Standing}
 use Rattle.litmus_model.specs.declared.refusal.Fault.TheVariants.{BadLocations, Filter, BadCondition}
 use Rattle.litmus_model.specs.Refusing.{Judged, ◌>>=◌, refused}
 use Rattle.litmus_model.specs.Tokens.{is_mark, is_part_mark, parts_of, pieces_at}
@@ -89,11 +97,11 @@ with_atom t (atom line parts ∷ cs) = atom t.line (t.part ∷ parts) ∷ cs
 
 -- an operator of one token
 unfoldable pub operator_of : Part → Option Chunk
-operator_of (Word w) = if bytes_eq w (codes "not") then Some not_chunk else None
+operator_of (Word w) = if bytes_eq w (codes "not") then Some chunk.Not else None
 operator_of (Mark b) =
-    if nat_eq b 40 then Some open_chunk
-    else (if nat_eq b 41 then Some close_chunk
-    else (if nat_eq b 126 then Some not_chunk
+    if nat_eq b 40 then Some chunk.Open
+    else (if nat_eq b 41 then Some chunk.Close
+    else (if nat_eq b 126 then Some chunk.Not
     else None))
 
 abbrev pub with_operator : Token → Option Chunk → List RawChunk → List RawChunk
@@ -104,8 +112,8 @@ with_operator t (Some c) cs = operator t.line c ∷ cs
 unfoldable pub operator_of_two : Part → List Token → Option Chunk
 operator_of_two p [] = None
 operator_of_two p (t ∷ ts) =
-    if is_part_mark 47 p && is_mark 92 t then Some and_chunk
-    else (if is_part_mark 92 p && is_mark 47 t then Some or_chunk
+    if is_part_mark 47 p && is_mark 92 t then Some chunk.And
+    else (if is_part_mark 92 p && is_mark 47 t then Some chunk.Or
     else None)
 
 -- where `half`, the first token is the second one of an operator
@@ -124,7 +132,7 @@ chunks_of tokens = chunks_from false tokens
 unfoldable pub comparison : ℕ → Option Target → Option Value → Judged Chunk
 comparison line None value = refused line BadCondition
 comparison line (Some target) None = refused line BadCondition
-comparison line (Some target) (Some value) = Ok (equals_chunk target value)
+comparison line (Some target) (Some value) = Ok (chunk.Is target value)
 
 -- a target, and behind the first `=` a value
 unfoldable pub compared : ℕ → ℕ → List Part → List Part → Judged Chunk
@@ -138,31 +146,26 @@ compared_at threads line n parts = compared threads line (take n parts) (drop n 
 unfoldable pub atom_of : ℕ → ℕ → List Part → Judged Chunk
 atom_of threads line [] = refused line BadCondition
 atom_of threads line (p ∷ []) =
-    if is_part_word (codes "true") p then Ok true_chunk
-    else (if is_part_word (codes "false") p then Ok false_chunk
+    if is_part_word (codes "true") p then Ok chunk.True
+    else (if is_part_word (codes "false") p then Ok chunk.False
     else refused line BadCondition)
 atom_of threads line (p ∷ q ∷ ps) = compared_at threads line (equals_place (p ∷ q ∷ ps)) (p ∷ q ∷ ps)
 
 -- ---- which chunks are a proposition
-
--- How far a proposition has come: how many brackets are open, and whether something must follow: an atom, `not` or `(`.
-pub record Standing : Type 0 where
-  pub brackets : ℕ
-  pub wants : Bool
 
 abbrev pub standing : ℕ → Bool → Standing
 standing brackets wants = record { brackets = brackets; wants = wants }
 
 -- how far it has come with an operator more, where it goes on so
 unfoldable pub after_operator : Chunk → Standing → Option Standing
-after_operator open_chunk s = if s.wants then Some (standing (s.brackets + 1) true) else None
-after_operator not_chunk s = if s.wants then Some s else None
-after_operator and_chunk s = if s.wants then None else Some (standing s.brackets true)
-after_operator or_chunk s = if s.wants then None else Some (standing s.brackets true)
-after_operator close_chunk s = if s.wants || nat_eq s.brackets 0 then None else Some (standing (s.brackets - 1) false)
-after_operator true_chunk s = None
-after_operator false_chunk s = None
-after_operator (equals_chunk target value) s = None
+after_operator chunk.Open s = if s.wants then Some (standing (s.brackets + 1) true) else None
+after_operator chunk.Not s = if s.wants then Some s else None
+after_operator chunk.And s = if s.wants then None else Some (standing s.brackets true)
+after_operator chunk.Or s = if s.wants then None else Some (standing s.brackets true)
+after_operator chunk.Close s = if s.wants || nat_eq s.brackets 0 then None else Some (standing (s.brackets - 1) false)
+after_operator chunk.True s = None
+after_operator chunk.False s = None
+after_operator (chunk.Is target value) s = None
 
 -- Chunks that are a proposition, one by one: any := all | any or all; all := one | all and one; one := atom | not one | ( any ).
 unfoldable pub proposition_from : ℕ → ℕ → Standing → List RawChunk → Judged (List Chunk)

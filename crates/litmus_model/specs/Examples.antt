@@ -7,7 +7,15 @@ use Rattle.rv_decode.specs.declared.instructions.BranchOp.TheVariants.{Blt}
 use Rattle.rv_decode.specs.declared.instructions.AmoOp.TheVariants.{Swap}
 use Rattle.rv_decode.specs.declared.instructions.Instr.TheVariants as instr
 use Rattle.elf_load.specs.Written.{words, file_header}
-use Rattle.litmus_model.specs.TestParts.{Value, Number, Address, Target, Register, Location, Given, Step, Label, Plain, Branch, Jump, PlacedStep, open_chunk, close_chunk, not_chunk, and_chunk, or_chunk, true_chunk, equals_chunk}
+use Rattle.litmus_model.specs.declared.parts.Value.{Value}
+use Rattle.litmus_model.specs.declared.parts.Value.TheVariants.{Number, Address}
+use Rattle.litmus_model.specs.declared.parts.Target.{Target}
+use Rattle.litmus_model.specs.declared.parts.Target.TheVariants.{Register, Location}
+use Rattle.litmus_model.specs.declared.parts.Given.{Given}
+use Rattle.litmus_model.specs.declared.parts.Step.{Step}
+use Rattle.litmus_model.specs.declared.parts.Step.TheVariants.{Label, Plain, Branch, Jump}
+use Rattle.litmus_model.specs.declared.parts.PlacedStep.{PlacedStep}
+use Rattle.litmus_model.specs.declared.parts.Chunk.TheVariants as chunk
 use Rattle.litmus_model.specs.declared.test.Quantifier.TheVariants.{Exists, NotExists, Forall}
 use Rattle.litmus_model.specs.declared.test.Runs.TheVariants.{OfSeeds}
 use Rattle.litmus_model.specs.declared.refusal.Fault.{Fault}
@@ -45,9 +53,9 @@ message_passing = record {
   init = given (Register 0 6) (Address (codes "x")) ∷
       given (Register 1 6) (Address (codes "x")) ∷ [];
   quantifier = Exists;
-  chunks = open_chunk ∷
-      equals_chunk (Register 1 5) (Number 1) ∷
-      close_chunk ∷ [];
+  chunks = chunk.Open ∷
+      chunk.Is (Register 1 5) (Number 1) ∷
+      chunk.Close ∷ [];
   observed = Register 1 5 ∷ [];
   locations = codes "x" ∷ [];
 }
@@ -71,7 +79,7 @@ waiting = record {
       given (Location (codes "y")) (Number 0) ∷
       given (Register 0 8) (Address (codes "x")) ∷ [];
   quantifier = Forall;
-  chunks = equals_chunk (Location (codes "x")) (Number 4294967295) ∷ [];
+  chunks = chunk.Is (Location (codes "x")) (Number 4294967295) ∷ [];
   observed = Location (codes "x") ∷ [];
   locations = codes "x" ∷
       codes "y" ∷ [];
@@ -88,14 +96,14 @@ conditions = record {
       placed_step 1 4 (Plain (instr.Amo Swap 10 11 0 false false)) ∷ [];
   init = [];
   quantifier = NotExists;
-  chunks = open_chunk ∷
-      not_chunk ∷
-      true_chunk ∷
-      or_chunk ∷
-      equals_chunk (Location (codes "y")) (Address (codes "z")) ∷
-      and_chunk ∷
-      equals_chunk (Register 1 1) (Number 16) ∷
-      close_chunk ∷ [];
+  chunks = chunk.Open ∷
+      chunk.Not ∷
+      chunk.True ∷
+      chunk.Or ∷
+      chunk.Is (Location (codes "y")) (Address (codes "z")) ∷
+      chunk.And ∷
+      chunk.Is (Register 1 1) (Number 16) ∷
+      chunk.Close ∷ [];
   observed = Register 0 10 ∷
       Register 1 1 ∷
       Location (codes "y") ∷ [];

@@ -1,6 +1,6 @@
 -- The image of a test for a tree: its threads as code for the leaves, and an item of memory for each location.
 -- Letters: k is a thread.
-use Rattle.std.specs.Prelude.{ℕ, ◌+◌, ◌-◌, ◌*◌, Bool, false, nat_eq, nat_lt, nat_le, bytes_eq, ℤ, pos, negsuc, List, [], ◌∷◌, ◌++◌, length, map, replicate, position, find, Option, Some, None, Result, Ok, Err, if◌then◌else◌}
+use Rattle.std.specs.Prelude.{ℕ, ◌+◌, ◌-◌, ◌*◌, Bool, false, nat_eq, nat_lt, nat_le, bytes_eq, ℤ, pos, negsuc, List, [], ◌∷◌, ◌++◌, length, map, replicate, find, Option, Some, None, Result, Ok, Err, if◌then◌else◌}
 use Rattle.std.specs.List.{flat_map, list_any, position_or_len, range_with_len, slice_index_or}
 use Rattle.std.specs.Option.{option_map_or}
 use Rattle.byteorder.specs.Endian.{little_bytes}
@@ -13,13 +13,20 @@ use Rattle.rv_decode.specs.declared.instructions.Instr.TheVariants as instr
 use Rattle.rv_decode.specs.Encode.{encode_of}
 use Rattle.elf_load.specs.TreeModel.Start.Sources.{SegmentValue}
 use Rattle.elf_load.specs.Written.{written_image}
-use Rattle.litmus_model.specs.TestParts.{Value, Number, Address, Target, Register, Location, Given, Step, Label, Plain, Branch, Jump, PlacedStep}
+use Rattle.litmus_model.specs.declared.parts.Value.{Value}
+use Rattle.litmus_model.specs.declared.parts.Value.TheVariants.{Number, Address}
+use Rattle.litmus_model.specs.declared.parts.Target.{Target}
+use Rattle.litmus_model.specs.declared.parts.Target.TheVariants.{Register, Location}
+use Rattle.litmus_model.specs.declared.parts.Given.{Given}
+use Rattle.litmus_model.specs.declared.parts.Step.{Step}
+use Rattle.litmus_model.specs.declared.parts.Step.TheVariants.{Label, Plain, Branch, Jump}
+use Rattle.litmus_model.specs.declared.parts.PlacedStep.{PlacedStep}
 use Rattle.litmus_model.specs.declared.test.Runs.{Runs}
 use Rattle.litmus_model.specs.declared.test.Runs.TheVariants.{OfSeeds, All}
 use Rattle.litmus_model.specs.declared.refusal.ImageRefusal.{ImageRefusal}
 use Rattle.litmus_model.specs.declared.refusal.ImageRefusal.TheVariants.{TooManyThreads, OtherPlaces, NoLeaf}
 use Rattle.litmus_model.specs.Steps.{load_number}
-use Rattle.litmus_model.specs.Init.{same_target}
+use Rattle.litmus_model.specs.Init.{same_target, is_given}
 use Rattle.litmus_model.specs.Program.{steps_of}
 use Rattle.litmus_model.specs.Test.{Test}
 
@@ -70,9 +77,6 @@ memory_of test item_bytes = flat_map (item_of test item_bytes) test.locations
 
 -- ---- what comes before a thread's own instructions
 
-abbrev pub is_given : Test → ℕ → ℕ → Bool
-is_given test k r = list_any (λ (g : Given). same_target g.target (Register k r)) test.init
-
 -- a load of the location with whose address a register begins, so that the leaf has a copy
 unfoldable pub warming_load : ℕ → Test → Value → List Instr
 warming_load item_bytes test (Number n) = []
@@ -97,7 +101,7 @@ is_dirty r = list_any (nat_eq r) (2 ∷ 10 ∷ 11 ∷ [])
 unfoldable pub setting_one : Test → ℕ → ℕ → ℕ → List Instr
 setting_one test item_bytes k r =
     if is_dirty r then load_number r (word_of test item_bytes (first_value test (Register k r)))
-    else (if is_given test k r then load_number r (word_of test item_bytes (first_value test (Register k r)))
+    else (if is_given test.init (Register k r) then load_number r (word_of test item_bytes (first_value test (Register k r)))
     else [])
 
 unfoldable pub setting : Test → ℕ → ℕ → List Instr
@@ -169,7 +173,8 @@ begins_from at (b ∷ bs) = at ∷ begins_from (at + length b) bs
 -- a jump to the thread that is placed on a leaf, or an end
 unfoldable pub leaf_word : List ℕ → List ℕ → ℕ → Instr
 leaf_word places begins leaf =
-    option_map_or (λ k. instr.Jal 0 (distance (4 + leaf) (slice_index_or begins k 0))) (position (nat_eq leaf) places) instr.Ebreak
+    let k = position_or_len (nat_eq leaf) places in
+    if nat_lt k (length places) then instr.Jal 0 (distance (4 + leaf) (slice_index_or begins k 0)) else instr.Ebreak
 
 unfoldable pub code_of : ℕ → List ℕ → List (List Instr) → List Instr
 code_of leaves places blocks =

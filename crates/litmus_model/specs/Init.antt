@@ -1,7 +1,15 @@
 -- The initial state: what registers and locations begin with.
 use Rattle.std.specs.Prelude.{ℕ, Bool, true, false, ◌&&◌, ◌||◌, nat_eq, bytes_eq, codes, List, [], ◌∷◌, ◌++◌, take, drop, Option, Some, None, Ok, if◌then◌else◌}
 use Rattle.std.specs.List.{list_any, position_or_len}
-use Rattle.litmus_model.specs.TestParts.{Part, Word, Mark, Token, Piece, Value, Number, Target, Register, Location, Given}
+use Rattle.litmus_model.specs.declared.parts.Part.{Part}
+use Rattle.litmus_model.specs.declared.parts.Part.TheVariants.{Word, Mark}
+use Rattle.litmus_model.specs.declared.parts.Token.{Token}
+use Rattle.litmus_model.specs.declared.parts.Value.{Value}
+use Rattle.litmus_model.specs.declared.parts.Value.TheVariants.{Number}
+use Rattle.litmus_model.specs.declared.parts.Target.{Target}
+use Rattle.litmus_model.specs.declared.parts.Target.TheVariants.{Register, Location}
+use Rattle.litmus_model.specs.declared.parts.Given.{Given}
+use Rattle.litmus_model.specs.Tokens.{Piece}
 use Rattle.litmus_model.specs.declared.refusal.Fault.TheVariants.{UnsupportedType, BadInit, Twice}
 use Rattle.litmus_model.specs.Refusing.{Judged, ◌>>=◌, refused}
 use Rattle.litmus_model.specs.Tokens.{is_part_mark, parts_of, pieces_at}

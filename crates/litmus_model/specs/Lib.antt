@@ -1,4 +1,4 @@
-pub mod TestParts
+pub mod Padded
 pub mod Refusing
 pub mod Bytes
 pub mod Comments
@@ -12,6 +12,11 @@ pub mod Init
 pub mod Condition
 pub mod Sections
 pub mod Test
+pub mod Kept
 pub mod Image
+pub mod Sound
+pub mod Satisfies
+pub mod StatesText
 pub mod Computing
 pub mod Examples
+pub mod StatesExamples

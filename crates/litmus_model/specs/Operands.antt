@@ -1,7 +1,9 @@
 -- The operands of an instruction: registers, numbers of a range, labels, places in memory, sets of a fence.
 use Rattle.std.specs.Prelude.{ℕ, ◌+◌, ◌&&◌, nat_eq, List, [], ◌∷◌, ℤ, pos, negsuc, int_le, Option, Some, None, Ok, if◌then◌else◌}
 use Rattle.std.specs.Option.{option_map}
-use Rattle.litmus_model.specs.TestParts.{Part, Word, Mark}
+use Rattle.litmus_model.specs.declared.parts.Part.{Part}
+use Rattle.litmus_model.specs.declared.parts.Part.TheVariants.{Word, Mark}
+use Rattle.litmus_model.specs.declared.parts.Place.{Place}
 use Rattle.litmus_model.specs.declared.refusal.Fault.TheVariants.{BadNumber}
 use Rattle.litmus_model.specs.Refusing.{Judged, ◌>>=◌, refused}
 use Rattle.litmus_model.specs.Words.{begins_with_digit, register_of, signed_number}
@@ -31,10 +33,6 @@ abbrev pub short_operand : ℕ → List Part → Judged (Option ℤ)
 short_operand line parts = number_operand line (negsuc 2047) (pos 2047) parts
 
 -- ---- a place in memory: a register, and an offset in bytes
-
-pub record Place : Type 0 where
-  pub register : ℕ
-  pub offset : ℤ
 
 unfoldable pub place : Option ℕ → Option ℤ → Option Place
 place None offset = None

@@ -2,7 +2,13 @@
 use Rattle.std.specs.Prelude.{ℕ, ◌+◌, Bool, true, false, not, ◌&&◌, nat_eq, bytes_eq, decimal, List, [], ◌∷◌, ◌++◌, length, map, filter, drop, Option, Some, None, Ok, if◌then◌else◌}
 use Rattle.std.specs.List.{list_any, filter_map, range_with_len}
 use Rattle.std.specs.Option.{option_map_or}
-use Rattle.litmus_model.specs.TestParts.{Part, Word, Mark, Token, Piece, Step, Label, Plain, Branch, Jump, PlacedStep}
+use Rattle.litmus_model.specs.declared.parts.Part.{Part}
+use Rattle.litmus_model.specs.declared.parts.Part.TheVariants.{Word, Mark}
+use Rattle.litmus_model.specs.declared.parts.Token.{Token}
+use Rattle.litmus_model.specs.declared.parts.Step.{Step}
+use Rattle.litmus_model.specs.declared.parts.Step.TheVariants.{Label, Plain, Branch, Jump}
+use Rattle.litmus_model.specs.declared.parts.PlacedStep.{PlacedStep}
+use Rattle.litmus_model.specs.Tokens.{Piece}
 use Rattle.litmus_model.specs.declared.refusal.Fault.TheVariants.{OpenRow, NoThreads, TooManyRows, BadRow, BadOperands, SameLabel, NoLabel}
 use Rattle.litmus_model.specs.Refusing.{Judged, ◌>>=◌, refused}
 use Rattle.litmus_model.specs.Tokens.{parts_of, pieces_at}

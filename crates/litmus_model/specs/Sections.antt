@@ -1,7 +1,9 @@
 -- The sections of a test's text: the header, the initial state, the program and the final section.
 use Rattle.std.specs.Prelude.{ℕ, ◌+◌, Bool, ◌&&◌, ◌||◌, nat_eq, nat_le, bytes_eq, codes, List, [], ◌∷◌, ◌++◌, length, take, drop, filter, Ok, if◌then◌else◌}
 use Rattle.std.specs.List.{list_all, list_any, position_or_len}
-use Rattle.litmus_model.specs.TestParts.{Part, Word, Mark, Token}
+use Rattle.litmus_model.specs.declared.parts.Part.{Part}
+use Rattle.litmus_model.specs.declared.parts.Part.TheVariants.{Word, Mark}
+use Rattle.litmus_model.specs.declared.parts.Token.{Token}
 use Rattle.litmus_model.specs.declared.refusal.Fault.TheVariants.{OtherArchitecture, BadName, NoInit, OpenInit, NoCondition}
 use Rattle.litmus_model.specs.Refusing.{Judged, ◌>>=◌, refused}
 use Rattle.litmus_model.specs.Bytes.{is_between, is_blank, is_line_feed}

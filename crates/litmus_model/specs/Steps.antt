@@ -8,13 +8,16 @@ use Rattle.rv_decode.specs.declared.instructions.RegOp.TheVariants.{Sub, Sltu}
 use Rattle.rv_decode.specs.declared.instructions.BranchOp.{BranchOp}
 use Rattle.rv_decode.specs.declared.instructions.Instr.{Instr}
 use Rattle.rv_decode.specs.declared.instructions.Instr.TheVariants as instr
-use Rattle.litmus_model.specs.TestParts.{Part, Step, Plain, Branch, Jump}
+use Rattle.litmus_model.specs.declared.parts.Part.{Part}
+use Rattle.litmus_model.specs.declared.parts.Step.{Step}
+use Rattle.litmus_model.specs.declared.parts.Step.TheVariants.{Plain, Branch, Jump}
 use Rattle.litmus_model.specs.declared.test.Move.{Move}
 use Rattle.litmus_model.specs.declared.test.Move.TheVariants.{Mv, Not, Neg, Seqz, Snez}
 use Rattle.litmus_model.specs.declared.test.Form.{Form}
 use Rattle.litmus_model.specs.declared.test.Form.TheVariants as form
 use Rattle.litmus_model.specs.Refusing.{Judged, ◌>>=◌}
-use Rattle.litmus_model.specs.Operands.{Place, register_operand, label_operand, number_operand, short_operand, memory_operand, set_operand}
+use Rattle.litmus_model.specs.declared.parts.Place.{Place}
+use Rattle.litmus_model.specs.Operands.{register_operand, label_operand, number_operand, short_operand, memory_operand, set_operand}
 
 abbrev pub plain : Instr → List Step
 plain i = Plain i ∷ []

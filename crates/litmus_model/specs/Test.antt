@@ -3,7 +3,14 @@ use Rattle.std.specs.Prelude.{ℕ, Bool, true, false, ◌&&◌, ◌||◌, nat_eq
 use Rattle.std.specs.List.{list_any, flat_map}
 use Rattle.std.specs.Ordering.{nat_cmp, is_lt}
 use Rattle.std.specs.Cmp.Lexicographic.{slice_cmp}
-use Rattle.litmus_model.specs.TestParts.{Value, Number, Address, Target, Register, Location, Given, PlacedStep, Chunk, open_chunk, close_chunk, not_chunk, and_chunk, or_chunk, true_chunk, false_chunk, equals_chunk}
+use Rattle.litmus_model.specs.declared.parts.Value.{Value}
+use Rattle.litmus_model.specs.declared.parts.Value.TheVariants.{Number, Address}
+use Rattle.litmus_model.specs.declared.parts.Target.{Target}
+use Rattle.litmus_model.specs.declared.parts.Target.TheVariants.{Register, Location}
+use Rattle.litmus_model.specs.declared.parts.Given.{Given}
+use Rattle.litmus_model.specs.declared.parts.PlacedStep.{PlacedStep}
+use Rattle.litmus_model.specs.declared.parts.Chunk.{Chunk}
+use Rattle.litmus_model.specs.declared.parts.Chunk.TheVariants as chunk
 use Rattle.litmus_model.specs.declared.test.Quantifier.{Quantifier}
 use Rattle.litmus_model.specs.declared.refusal.TestRefusal.TheVariants.{TooLong, TooManyObserved, TooManyLocations}
 use Rattle.litmus_model.specs.Refusing.{Judged, ◌>>=◌}
@@ -41,14 +48,14 @@ with_target (y ∷ ys) x =
     if is_before x y then x ∷ y ∷ ys else (if same_target x y then y ∷ ys else y ∷ with_target ys x)
 
 abbrev pub chunk_targets : Chunk → List Target
-chunk_targets (equals_chunk target value) = target ∷ []
-chunk_targets open_chunk = []
-chunk_targets close_chunk = []
-chunk_targets not_chunk = []
-chunk_targets and_chunk = []
-chunk_targets or_chunk = []
-chunk_targets true_chunk = []
-chunk_targets false_chunk = []
+chunk_targets (chunk.Is target value) = target ∷ []
+chunk_targets chunk.Open = []
+chunk_targets chunk.Close = []
+chunk_targets chunk.Not = []
+chunk_targets chunk.And = []
+chunk_targets chunk.Or = []
+chunk_targets chunk.True = []
+chunk_targets chunk.False = []
 
 unfoldable pub observed_targets : Final → List Target
 observed_targets f = fold with_target [] (f.named ++ flat_map chunk_targets f.chunks)
@@ -67,14 +74,14 @@ abbrev pub pair_names : Target → Value → List (List ℕ)
 pair_names target value = target_names target ++ value_names value
 
 abbrev pub chunk_names : Chunk → List (List ℕ)
-chunk_names (equals_chunk target value) = pair_names target value
-chunk_names open_chunk = []
-chunk_names close_chunk = []
-chunk_names not_chunk = []
-chunk_names and_chunk = []
-chunk_names or_chunk = []
-chunk_names true_chunk = []
-chunk_names false_chunk = []
+chunk_names (chunk.Is target value) = pair_names target value
+chunk_names chunk.Open = []
+chunk_names chunk.Close = []
+chunk_names chunk.Not = []
+chunk_names chunk.And = []
+chunk_names chunk.Or = []
+chunk_names chunk.True = []
+chunk_names chunk.False = []
 
 -- all names that the text has, in its order
 unfoldable pub names_in : List Given → Final → List (List ℕ)

@@ -1,6 +1,8 @@
 -- Tokens: words and marks, each with its line; and the pieces between marks.
 use Rattle.std.specs.Prelude.{ℕ, Bool, false, ◌||◌, nat_eq, nat_lt, List, [], ◌∷◌, ◌++◌, length, map, Ok, if◌then◌else◌}
-use Rattle.litmus_model.specs.TestParts.{Part, Word, Mark, Token, Piece}
+use Rattle.litmus_model.specs.declared.parts.Part.{Part}
+use Rattle.litmus_model.specs.declared.parts.Part.TheVariants.{Word, Mark}
+use Rattle.litmus_model.specs.declared.parts.Token.{Token}
 use Rattle.litmus_model.specs.declared.refusal.Fault.TheVariants.{BadByte, LongWord}
 use Rattle.litmus_model.specs.Refusing.{Judged, ◌>>=◌, refused}
 use Rattle.litmus_model.specs.Bytes.{is_blank, is_line_feed, is_mark_byte, is_word_byte}
@@ -47,6 +49,11 @@ abbrev pub tokens_of : ℕ → List ℕ → Judged (List Token)
 tokens_of line text = judged_tokens (tokens_from line [] text)
 
 -- ---- pieces
+
+-- tokens up to a mark, and the line of that mark
+pub record Piece : Type 0 where
+  pub tokens : List Token
+  pub line : ℕ
 
 abbrev pub is_part_mark : ℕ → Part → Bool
 is_part_mark mark (Word w) = false

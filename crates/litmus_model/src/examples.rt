@@ -2,6 +2,7 @@
 
 ghost use Rattle.litmus_model.specs.declared.refusal.Fault.TheVariants.{OpenComment, OtherArchitecture, SixtyFourBits, NoLabel, Twice, BadCondition};
 ghost use Rattle.litmus_model.specs.Examples.{Says, IsRefused, ExampleImage, message_passing_text, message_passing, waiting_text, waiting, conditions_text, conditions, open_comment, other_architecture, wide_load, no_label, given_twice, open_bracket};
+ghost use Rattle.litmus_model.specs.StatesExamples.{ExampleStates};
 
 /// What the texts of small tests say.
 pub fn small_tests()
@@ -27,4 +28,9 @@ pub fn refused_texts()
 /// The image of a small test, byte for byte.
 pub fn example_image()
     ensures { ExampleImage }
+{}
+
+/// What is printed of the states to which runs of small tests came, byte for byte.
+pub fn example_states()
+    ensures { ExampleStates }
 {}

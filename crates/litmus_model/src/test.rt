@@ -1,5 +1,7 @@
-//! What a litmus test says, apart from its names.
+//! What a litmus test says.
 
+use crate::name::Name;
+use crate::parts::{Chunk, Given, PlacedStep, Target};
 use rv_decode::{AmoOp, BranchOp, ImmOp, LoadOp, RegOp, StoreOp};
 
 /// Acquire and release.
@@ -63,4 +65,20 @@ pub enum Runs {
     OfSeeds,
     /// Those of all schedules.
     All,
+}
+
+/// A litmus test.
+#[derive(Drop)]
+pub struct Test {
+    pub name: Vec<u8>,
+    pub threads: u32,
+    /// Of all threads, row by row.
+    pub program: Vec<PlacedStep>,
+    pub init: Vec<Given>,
+    pub quantifier: Quantifier,
+    pub chunks: Vec<Chunk>,
+    /// Registers by thread and number, then locations by name.
+    pub observed: Vec<Target>,
+    /// The names of the locations, in the order of the items that they get.
+    pub locations: Vec<Name>,
 }

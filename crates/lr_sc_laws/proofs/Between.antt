@@ -1,7 +1,7 @@
 -- A reservation of a hart was made by its last LR, and nothing behind that LR has ended it.
 -- Letters: o is an operation, h a hart, r a reservation, x an item.
 use Rattle.std.proofs.Common.{◌≡◌, ℕ, Bool, true, false, ◌&&◌, nat_eq, ◌⊎◌, inl, inr, List, [], ◌∷◌, ◌++◌, Option, Some, None, Result, Ok, refl, sym, ap, subst, ◌∙◌}
-use Rattle.std.specs.Prelude.{⊤, IsSome, is_some, option_and_then, if◌then◌else◌}
+use Rattle.std.specs.Prelude.{⊤, is_some, option_and_then, if◌then◌else◌}
 use Rattle.std.specs.List.{AllByRecursion}
 use Rattle.std.proofs.lemmas.Bool.{eqb-true, eqb-false, ne_eqb, true≢false}
 use Rattle.lr_sc_laws.specs.DdmTypes.declared.operations.Effect.{Effect}
@@ -15,7 +15,7 @@ use Rattle.lr_sc_laws.specs.FlatModel.Hart.{HartValue, Action, Halts, Computes, 
 use Rattle.lr_sc_laws.specs.FlatModel.Flat.{FlatHart, FlatMachine, Change, flat_start, flat_hart, item_words, has_reserved, conditional, change_by, unless_halted, hart_step}
 use Rattle.lr_sc_laws.specs.FlatModel.Legal.{is_of, is_change, effect_item, on_item, changes_item, changed_item, reserved_by_own, reserved_by_other, reserved_by, reservation, is_sc_ok, HasWholeWords, legal_step, legal_run, Legal}
 use Rattle.lr_sc_laws.proofs.FlatModel.Actions.{IsActionOf, action_is}
-use Rattle.lr_sc_laws.proofs.FlatModel.Insert.{StepChange, record_change}
+use Rattle.lr_sc_laws.proofs.FlatModel.Insert.{record_change}
 use Rattle.lr_sc_laws.proofs.FlatModel.Items.{item_at_word}
 use Rattle.lr_sc_laws.proofs.FlatModel.Reserving.{reservation_is}
 use Rattle.lr_sc_laws.proofs.FlatModel.Runs.{legal_run_append}

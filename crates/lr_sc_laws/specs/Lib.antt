@@ -1,3 +1,4 @@
+pub mod BusyLaws
 pub mod DdmTypes
 pub mod FlatModel
 pub mod Between

@@ -57,7 +57,7 @@ fn tree_of(alloc: Global, shape: &str, stack_bytes: u32) -> Result<TreeConfig, F
 }
 
 /// These words, the lowest byte of each first.
-fn bytes_of(alloc: Global, words: &[u32]) -> Result<Vec<u8>, NoMemory> {
+pub fn bytes_of(alloc: Global, words: &[u32]) -> Result<Vec<u8>, NoMemory> {
     let mut bytes = Vec::new(alloc);
     for word in words {
         bytes.extend_from_slice(&word.to_le_bytes())?;
@@ -139,7 +139,8 @@ pub fn answers(alloc: Global, machine: &mut OneBus, turns: &[Turn]) -> Result<Ve
 {
     let mut answers = Vec::new(alloc);
     for turn in turns {
-        answers.push(turned(machine, *turn)?)?;
+        let answer = turned(machine, *turn)?;
+        answers.extend_from_slice(&[answer])?;
     }
     Ok(answers)
 }

@@ -1,6 +1,6 @@
 //! Tests of checkpoints.
 
-use crate::one_bus::{OneBus, STORE_AND_LOAD, as_any, one_bus};
+use crate::one_bus::{OneBus, STORE_AND_LOAD, as_any, bytes_of, one_bus};
 use checkpoint::save;
 use run_engine::{AnyMachine, RunCounts, release};
 use std::alloc::Global;
@@ -42,13 +42,7 @@ fn whole_file(rt: HostRuntime) -> Result<(), Fail> {
     assert_eq!(rt; file.len(), 396);
     assert!(rt; file.starts_with(&[0x44, 0x44, 0x4d, 0x43, 1, 0, 0, 0]));
     assert_eq!(rt; words.len(), 88);
-    let mut place = 44;
-    for word in words.iter() {
-        assert!(rt;
-            file[place..].starts_with(&word.to_le_bytes()),
-            "at {place}"
-        );
-        place += 4;
-    }
+    let expected = bytes_of(rt.alloc(), &words)?;
+    assert_eq!(rt; file.get(44..), Some(expected.as_slice()));
     Ok(())
 }

@@ -79,6 +79,11 @@ fn child(machine: &OneBus, child: u32, item: u32) -> Option<(TreeChild, Hold)> {
     }
 }
 
+/// A leaf as a child, and what it holds.
+fn leaf(number: u32, hold: Hold) -> Option<(TreeChild, Hold)> {
+    Some((TreeChild::LeafChild(LeafNo(number)), hold))
+}
+
 /// How many transactions of a kind a bus has granted.
 fn grants(machine: &OneBus, bus: u32, kind: TxKind) -> Option<u32> {
     let bus = BusNo(bus);
@@ -94,12 +99,10 @@ fn read_after_turns(rt: HostRuntime) -> Result<(), Fail> {
     let machine = after_a_read(rt.alloc())?;
     assert_eq!(rt; now(&machine, 0), Some(key(2, 0, 2)));
     assert_eq!(rt; now(&machine, 1), Some(key(2, 1, 0)));
-    let leaf = TreeChild::LeafChild(LeafNo(0));
-    assert_eq!(rt; child(&machine, 0, 0), Some((leaf, Hold::Exclusive)));
-    assert_eq!(rt; child(&machine, 0, 1), Some((leaf, Hold::Shared)));
-    let leaf = TreeChild::LeafChild(LeafNo(1));
-    assert_eq!(rt; child(&machine, 1, 0), Some((leaf, Hold::Invalid)));
-    assert_eq!(rt; child(&machine, 1, 1), Some((leaf, Hold::Shared)));
+    assert_eq!(rt; child(&machine, 0, 0), leaf(0, Hold::Exclusive));
+    assert_eq!(rt; child(&machine, 0, 1), leaf(0, Hold::Shared));
+    assert_eq!(rt; child(&machine, 1, 0), leaf(1, Hold::Invalid));
+    assert_eq!(rt; child(&machine, 1, 1), leaf(1, Hold::Shared));
     assert_eq!(rt; child(&machine, 2, 1), None);
     assert_eq!(rt; grants(&machine, 0, TxKind::ReadTx), Some(1));
     assert_eq!(rt; grants(&machine, 0, TxKind::DataTx), Some(1));

@@ -1,3 +1,5 @@
 //! What this crate and those above it name of `tree_model`.
 
-pub use bus_laws::of_tree_model::{BusTurn, CopyPlace, LeafSpot, Traffic, TreeChild};
+pub use bus_laws::of_tree_model::{
+    BusTurn, CopyPlace, DirLengths, LeafLengths, LeafSpot, Traffic, TreeChild,
+};

@@ -1,3 +1,3 @@
 -- Of `any_runs`, what this crate and those above it name.
-pub use Rattle.any_runs.proofs.Forgotten
-pub use Rattle.any_runs.proofs.RunMore
+pub use Rattle.recording.proofs.AnyRuns.Forgotten
+pub use Rattle.recording.proofs.AnyRuns.RunMore

@@ -1,5 +1,5 @@
 -- Of `start_parts`, what this crate and those above it name.
-pub use Rattle.any_runs.proofs.StartParts.Levels
-pub use Rattle.any_runs.proofs.StartParts.Names
-pub use Rattle.any_runs.proofs.StartParts.NewLeaves
-pub use Rattle.any_runs.proofs.StartParts.StartNew
+pub use Rattle.recording.proofs.StartParts.Levels
+pub use Rattle.recording.proofs.StartParts.Names
+pub use Rattle.recording.proofs.StartParts.NewLeaves
+pub use Rattle.recording.proofs.StartParts.StartNew

@@ -17,7 +17,7 @@ use crate::of_any_machine::AnyMachine;
 use crate::of_ddm_types::{NoMemory, Turn};
 use crate::of_tree_config::Shape;
 use crate::ordering::in_order;
-use any_runs::{copy_from, reserve};
+use recording::of_any_runs::{copy_from, reserve};
 use recording::{Recorder, RunEnd, SeedKind};
 use report::push_bytes;
 use std::alloc::Global;

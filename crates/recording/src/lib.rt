@@ -3,6 +3,10 @@
 
 mod harts;
 mod making;
+pub mod of_any_machine;
+pub mod of_any_runs;
+pub mod of_operation_list;
+pub mod of_text_model;
 mod progress;
 mod recorder;
 mod recording;

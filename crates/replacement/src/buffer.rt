@@ -122,6 +122,13 @@ impl<const WORDS: usize> Buffer<WORDS> {
         self.entries.copy_from(&other.entries);
     }
 
+    /// How many entries there are.
+    pub fn len(&self) -> u32
+        ensures { result ≡ length self.now.list }
+    {
+        self.entries.len() as u32
+    }
+
     /// How many entries there may be.
     pub fn capacity(&self) -> u32
         ensures { result ≡ self.now.capacity }

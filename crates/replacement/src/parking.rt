@@ -118,6 +118,13 @@ impl<const WORDS: usize> Parking<WORDS> {
         self.entries.capacity() as u32
     }
 
+    /// How many places have a copy or are reserved.
+    pub fn used(&self) -> u32
+        ensures { result ≡ length self.now.list + self.now.reserved }
+    {
+        self.entries.len() as u32 + self.reserved
+    }
+
     /// How many places are reserved.
     pub fn reserved(&self) -> u32
         ensures { result ≡ self.now.reserved }

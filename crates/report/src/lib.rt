@@ -41,7 +41,7 @@ pub use harts::{push_hart_line, push_output};
 pub use line::{LINE_BYTES, Line, Line as FaultLine};
 pub use operations::push_op_line;
 pub use parts::{LEAST_PIECE, Parts, joined};
-pub use pieces::{push_bytes, push_number};
+pub use pieces::{push_bytes, push_named, push_named_word, push_number};
 pub use report_pieces::{ReportPieces, report_text, sorted_witness};
 pub use roles::FileRole;
 pub use summary::summary_text;

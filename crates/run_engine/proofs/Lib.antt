@@ -1,5 +1,6 @@
 pub mod BusLaws
 pub mod DdmTree
+pub mod HeadlineCrate
 pub mod StartParts
 pub mod TreeConfig
 pub mod TreeModel
@@ -10,5 +11,6 @@ pub mod Filled
 pub mod Placing
 pub mod Open
 pub mod Passing
+pub mod StartOrder
 pub mod TreeStart
 pub mod LevelNodes

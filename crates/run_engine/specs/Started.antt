@@ -8,12 +8,18 @@ use Rattle.run_engine.specs.TreeModel.State.Values.{Node, leaf_node}
 use Rattle.run_engine.specs.TreeModel.Start.Sources.{TreeValue, ImageValue, width_of}
 use Rattle.run_engine.specs.TreeModel.Start.Memory.{start_code, start_items}
 use Rattle.run_engine.specs.TreeModel.Start.Nodes.{dir_sizes, under_levels}
-use Rattle.run_engine.specs.TreeModel.Start.Machine.{start_leaves, start_machine, start_refusal}
+use Rattle.run_engine.specs.TreeModel.Start.Machine.{flat_start_of, start_leaves, start_machine, start_refusal}
 use Rattle.run_engine.specs.DdmTree.Machine.{MachineState}
 use Rattle.run_engine.specs.AnyMachine.Kind.{Kind}
+use Rattle.tree_rules.specs.Bus.Rules.{IsMachineOk}
+use Rattle.tree_rules.specs.Order.Rules.{IsInOrder}
 
 abbrev pub started : TreeValue → ImageValue → MachineState
 started t i = record { machine = start_machine t i; spare = 0; turns = 0 }
+
+-- it keeps the rules of every bus, and those of order from the flat machine of the same tree and image
+unfoldable pub StartsInOrder : TreeValue → ImageValue → MachineState → Type 0
+StartsInOrder t i s = IsMachineOk s.machine × IsInOrder (flat_start_of t i) s.machine
 
 -- of which kind the machines of a tree are
 abbrev pub kind_of_tree : TreeValue → Kind

@@ -4,8 +4,9 @@ ghost use Rattle.std.specs.Prelude.{◌≡◌, ◌⊎◌, ◌*◌, ◌≤◌, If
 ghost use Rattle.run_engine.specs.TreeModel.Start.Machine.{start_machine, start_of, start_refusal};
 ghost use Rattle.run_engine.specs.AnyMachine.Any.{depths_state, machine_state, state_in};
 ghost use Rattle.run_engine.specs.AnyMachine.Kind.{kind_in, kind_of, levels_in};
+ghost use Rattle.run_engine.specs.BusLaws.IsTree.{IsTree};
 ghost use Rattle.run_engine.specs.Build.{build_refusal};
-ghost use Rattle.run_engine.specs.Started.{CanMake, CanStart, kind_of_tree, started};
+ghost use Rattle.run_engine.specs.Started.{CanMake, CanStart, StartsInOrder, kind_of_tree, started};
 ghost use Rattle.run_engine.specs.declared.refusal.BuildRefusal.TheVariants as refusal;
 
 use crate::contents::items;
@@ -14,7 +15,7 @@ use crate::of_any_machine::{AnyMachine, Depths, Machines};
 use crate::of_ddm_types::{Code, Items, NoMemory};
 use crate::of_elf_load::{Image, copied_code};
 use crate::refusal::BuildRefusal;
-use crate::tree::item_bytes;
+use crate::tree::{item_bytes, levels};
 use std::alloc::Global;
 use tree_config::TreeConfig;
 
@@ -29,8 +30,9 @@ fn any_depth<const WAYS: usize, const WORDS: usize>(
     requires { CanStart WAYS WORDS tree.now image.now code items }
     ensures built { IfOk result (λ m. depths_state m ≡ started tree.now image.now) }
     ensures levels { IfOk result (λ m. levels_in m ≡ length tree.now.levels) }
+    ensures tree { IfOk result (λ _. IsTree tree.now) }
 {
-    match tree.nodes.depth() {
+    match levels(tree) {
         1 => Ok(Depths::OneLevel(one_level(alloc, tree, image, code, items)?)),
         2 => Ok(Depths::TwoLevels(two_levels(alloc, tree, image, code, items)?)),
         3 => Ok(Depths::ThreeLevels(three_levels(alloc, tree, image, code, items)?)),
@@ -49,6 +51,7 @@ fn any_ways<const WORDS: usize>(
     requires { CanMake WORDS tree.now image.now code items }
     ensures built { IfOk result (λ m. state_in m ≡ started tree.now image.now) }
     ensures kind { IfOk result (λ m. kind_in m ≡ kind_of_tree tree.now) }
+    ensures tree { IfOk result (λ _. IsTree tree.now) }
 {
     match tree.ways {
         1 => Ok(Machines::OneWay(any_depth(alloc, tree, image, code, items)?)),
@@ -58,6 +61,7 @@ fn any_ways<const WORDS: usize>(
 }
 
 /// The machine with items of so many words.
+#[tactic(auto, using(crate::proofs::StartOrder::starts_in_order))]
 fn made<const WORDS: usize>(
     alloc: Global,
     tree: &TreeConfig,
@@ -68,6 +72,7 @@ fn made<const WORDS: usize>(
     ensures built { IfOk result (λ m. state_in m ≡ started tree.now image.now) }
     ensures kind { IfOk result (λ m. kind_in m ≡ kind_of_tree tree.now) }
     ensures accepted { IfOk result (λ m. start_refusal tree.now image.now ≡ None) }
+    ensures order { IfOk result (λ m. StartsInOrder tree.now image.now (state_in m)) }
     ensures refused { IfErr result (λ r. (r ≡ refusal.NoMemory) ⊎ (build_refusal tree.now image.now ≡ Some r)) }
 {
     let items = items(alloc, tree, image)?;
@@ -76,11 +81,12 @@ fn made<const WORDS: usize>(
 }
 
 /// The machine of a tree and an image before its first turn: each item at its own leaf, or the next one in cyclic order with a
-/// free way in its set, items taken in order of number. It has no room for operations.
+/// free way in its set, items taken in order of number. It has no room for operations. It keeps the rules of every bus and of order.
 pub fn build(alloc: Global, tree: &TreeConfig, image: &Image) -> Result<AnyMachine, BuildRefusal>
     ensures built { IfOk result (λ m. machine_state m ≡ started tree.now image.now) }
     ensures kind { IfOk result (λ m. kind_of m ≡ kind_of_tree tree.now) }
     ensures accepted { IfOk result (λ m. start_refusal tree.now image.now ≡ None) }
+    ensures order { IfOk result (λ m. StartsInOrder tree.now image.now (machine_state m)) }
     ensures refused { IfErr result (λ r. (r ≡ refusal.NoMemory) ⊎ (build_refusal tree.now image.now ≡ Some r)) }
 {
     if item_bytes(tree) == 16 {

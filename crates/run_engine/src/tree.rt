@@ -1,6 +1,7 @@
 //! The numbers of a tree.
 
-ghost use Rattle.std.specs.Prelude.{◌≡◌, ◌⊎◌, ◌≤◌, ◌+◌, ◌*◌};
+ghost use Rattle.std.specs.Prelude.{◌≡◌, ◌⊎◌, ◌≤◌, ◌+◌, ◌*◌, length};
+ghost use Rattle.run_engine.specs.BusLaws.IsTree.{IsTree};
 ghost use Rattle.run_engine.specs.TreeModel.Start.Sources.{leaf_count, place_count};
 
 use tree_config::TreeConfig;
@@ -12,6 +13,14 @@ pub fn harts(tree: &TreeConfig) -> u32
     ensures stacks { tree.now.stack_base + leaf_count tree.now * tree.now.stack_bytes ≤ 4294967280 }
 {
     tree.nodes.harts()
+}
+
+/// How many levels of buses the tree has, which is one that a machine can have.
+pub fn levels(tree: &TreeConfig) -> u32
+    ensures number { result ≡ length tree.now.levels }
+    ensures tree { IsTree tree.now }
+{
+    tree.nodes.depth()
 }
 
 /// How many bytes an item has.

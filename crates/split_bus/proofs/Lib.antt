@@ -7,3 +7,4 @@ pub mod Erase
 pub mod Ready
 pub mod Outcomes
 pub mod Granting
+pub mod Ruled

@@ -3,3 +3,4 @@ pub mod ItemStates
 pub mod TreeModel
 pub mod Children
 pub mod Outcomes
+pub mod StaysRuled

@@ -7,7 +7,9 @@ ghost use Rattle.split_bus.specs.TreeModel.Turns.Grant.{outcome_of};
 ghost use Rattle.split_bus.specs.TreeModel.Turns.Children.{child_at};
 ghost use Rattle.split_bus.specs.TreeModel.Turns.Bus.{bus_step, leave_turn, reply_turn, request_turn};
 ghost use Rattle.item_states.specs.Parts.{copy_pair, has_given, request_pair};
+ghost use Rattle.busy_laws.specs.Reasons.{bus_reason, busy_cause};
 ghost use Rattle.split_bus.specs.Outcomes.{AreSized, IsOutcome, IsReady, NamesOneOf};
+ghost use Rattle.split_bus.specs.StaysRuled.{StaysRuled};
 
 use crate::down::down;
 use crate::leave::leave;
@@ -166,7 +168,7 @@ pub fn grant_into<const WORDS: usize, P: Parent<WORDS>, C: Agent<WORDS>>(
     }
 }
 
-/// One turn of one bus. `above` is the present stamp of the bus above.
+/// One turn of one bus, busy exactly for the first of its reasons. `above` is the present stamp of the bus above.
 pub fn grant<const WORDS: usize, P: Parent<WORDS>, C: Agent<WORDS>>(
     parent: &mut P,
     children: &mut [C],
@@ -179,7 +181,9 @@ pub fn grant<const WORDS: usize, P: Parent<WORDS>, C: Agent<WORDS>>(
     requires few { length children.old ≤ 16 }
     requires child { NamesOneOf (length children.old) turn }
     requires sized { AreSized (P.state parent.old) (map C.value children.old) }
-    ensures { IsOutcome (bus_step above turn (P.state parent.old) (map C.value children.old)) result (P.state parent.new) (map C.value children.new) }
+    ensures outcome { IsOutcome (bus_step above turn (P.state parent.old) (map C.value children.old)) result (P.state parent.new) (map C.value children.new) }
+    ensures rules { StaysRuled above (P.state parent.old) (map C.value children.old) result (P.state parent.new) (map C.value children.new) }
+    ensures busy { busy_cause result ≡ bus_reason (P.state parent.old) (map C.value children.old) turn }
 {
     let mut answer = TurnAnswer::Empty;
     grant_into(parent, children, above, turn, &mut answer);

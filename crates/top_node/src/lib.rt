@@ -8,6 +8,7 @@ pub mod of_directory;
 pub mod of_item_states;
 pub mod of_state_reading;
 pub mod of_state_words;
+pub mod of_tree_model;
 pub mod of_tx_queue;
 mod reading;
 mod state;

@@ -3,6 +3,7 @@
 ghost use Rattle.std.specs.Prelude.{◌≡◌, ◌<◌, ◌^◌, ◌++◌, ◌∷◌, [], false, length, option_copied, slice_get, IfOk, if◌then◌else◌};
 ghost use Rattle.top_node.specs.TreeModel.State.Values.{DirValue};
 ghost use Rattle.top_node.specs.TreeModel.State.Directory.{down_full, in_down, is_parked, parked_place, place_released, pushed_reply, replies_full, with_parked};
+ghost use Rattle.top_node.specs.TreeModel.State.Lengths.{dir_lengths};
 ghost use Rattle.top_node.specs.TreeModel.Start.Nodes.{new_top, top_sizes};
 ghost use Rattle.top_node.specs.ItemStates.Parts.{CanPark};
 
@@ -10,6 +11,7 @@ use crate::of_ddm_types::{
     BusNo, ChildNo, Hold, ItemId, NoMemory, PendingWhy, QueueName, Stamp, TxKind, Words,
 };
 use crate::of_item_states::{DownEntry, Parent, ParentList};
+use crate::of_tree_model::DirLengths;
 use crate::of_tx_queue::Queue;
 use directory::{ItemTable, pending_by};
 use std::alloc::Global;
@@ -72,6 +74,18 @@ impl<const WORDS: usize> TopState<WORDS> {
         ensures { result ≡ length self.now.down }
     {
         self.down.len()
+    }
+
+    /// How long its lists are: but for its down list it has none.
+    pub fn lengths(&self) -> DirLengths
+        ensures { result ≡ dir_lengths self.now }
+    {
+        DirLengths {
+            down: self.down.len(),
+            requests: 0,
+            replies: 0,
+            parking: 0,
+        }
     }
 
     /// How many places its down list has, which are all that it has.

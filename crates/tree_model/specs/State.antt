@@ -2,6 +2,7 @@ pub mod Lists
 pub mod Kinds
 pub mod States
 pub mod Values
+pub mod Lengths
 pub mod Codes
 pub mod Leaf
 pub mod Directory

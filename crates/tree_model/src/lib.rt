@@ -49,3 +49,20 @@ pub struct Traffic {
     pub outs: u32,
     pub injects: u32,
 }
+
+/// How long the lists of the directory over a bus are. A place of its parking that is kept for an inject counts as much as a parked
+/// copy.
+#[derive(Clone, Copy, Debug, PartialEq, Eq)]
+pub struct DirLengths {
+    pub down: u32,
+    pub requests: u32,
+    pub replies: u32,
+    pub parking: u32,
+}
+
+/// How long the lists of a leaf are.
+#[derive(Clone, Copy, Debug, PartialEq, Eq)]
+pub struct LeafLengths {
+    pub replies: u32,
+    pub buffer: u32,
+}

@@ -1,3 +1,3 @@
 //! What this crate and those above it name of `tree_model`.
 
-pub use tree_model::{BusTurn, CopyPlace, LeafSpot, Traffic, TreeChild};
+pub use tree_model::{BusTurn, CopyPlace, DirLengths, LeafLengths, LeafSpot, Traffic, TreeChild};

@@ -1,3 +1,4 @@
+pub mod FileLaws
 pub mod OrderLaws
 pub mod OrderLists
 pub mod TreeModel

@@ -15,7 +15,7 @@ use Rattle.witness_laws.specs.OfFiles.{AreOfFiles, AreSeeded, AreWritten, IsChec
 use Rattle.file_laws.proofs.Trees.{accepted_tree}
 use Rattle.file_laws.proofs.Images.{image-bytes}
 
-few-turns : (t : TreeValue) (turns : List Turn) → AreWritten t turns ⊎ AreSeeded t turns → length turns ≤ turn_limit
+pub few-turns : (t : TreeValue) (turns : List Turn) → AreWritten t turns ⊎ AreSeeded t turns → length turns ≤ turn_limit
 few-turns t turns (inl written) = let given = turns-schedule_of (shape_view t.levels) 0 written.0 turns (omega arith) written.1 in omega (arith, given.room)
 few-turns t turns (inr seeded) = subst (λ ts. length ts ≤ turn_limit) (sym seeded.3) (omega (arith, seeded_count (shape_view t.levels) seeded.0 seeded.1, seeded.2))
 

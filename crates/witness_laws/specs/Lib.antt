@@ -1,6 +1,7 @@
 pub mod BusLaws
 pub mod DdmText
 pub mod DdmTypes
+pub mod FileLaws
 pub mod FlatModel
 pub mod StartMemory
 pub mod TextModel

@@ -13,6 +13,8 @@ use Rattle.tree_model.specs.DdmTypes.CodeMap.{CodeWord}
 use Rattle.tree_model.specs.DdmTypes.declared.sizes.Hold.{Hold}
 use Rattle.flat_model.specs.Hart.{HartValue}
 use Rattle.tree_model.specs.declared.BusTurn.{BusTurn}
+use Rattle.tree_model.specs.declared.DirLengths.{DirLengths}
+use Rattle.tree_model.specs.declared.LeafLengths.{LeafLengths}
 use Rattle.tree_model.specs.declared.LeafSpot.{LeafSpot}
 use Rattle.tree_model.specs.declared.TreeChild.{TreeChild}
 use Rattle.tree_model.specs.declared.Traffic.{Traffic}
@@ -21,6 +23,7 @@ use Rattle.tree_model.specs.State.Blank.{no_hart}
 use Rattle.tree_model.specs.State.Leaf.{LeafEntry, leaf_entry, spot_at}
 use Rattle.tree_model.specs.State.Directory.{parked_words, parked_place}
 use Rattle.tree_model.specs.State.Child.{child_label, child_hold}
+use Rattle.tree_model.specs.State.Lengths.{dir_lengths, leaf_lengths, no_dir_lengths, no_leaf_lengths}
 use Rattle.tree_model.specs.State.Place.{Where, at_top, stamp_above, key_at_leaf}
 use Rattle.tree_model.specs.Turns.Grant.{Outcome}
 use Rattle.tree_model.specs.Turns.Children.{child_at}
@@ -195,6 +198,13 @@ parked_words_of bus x m = ask_bus bus (λ w d ns. parked_words x d) None m
 
 abbrev pub parked_place_of : ℕ → ℕ → MachineValue → Option (Option ℕ)
 parked_place_of bus x m = ask_bus bus (λ w d ns. parked_place x d) None m
+
+-- how long the lists over a bus are, and those of a leaf
+abbrev pub lengths_at : ℕ → MachineValue → Option DirLengths
+lengths_at bus m = ask_bus bus (λ w d ns. dir_lengths d) no_dir_lengths m
+
+abbrev pub leaf_lengths_at : ℕ → MachineValue → Option LeafLengths
+leaf_lengths_at leaf m = ask_leaf leaf (λ w v. leaf_lengths v) no_leaf_lengths m
 
 -- how many transactions of a kind a bus has granted
 abbrev pub grants_of : ℕ → TxKind → MachineValue → ℕ

@@ -1,5 +1,8 @@
-use Rattle.lr_sc_laws.proofs.Failing.{sc-fails}
+use Rattle.lr_sc_laws.proofs.Failing.{leaf-fails, turn-fails}
 use Rattle.lr_sc_laws.proofs.laws.unreserved_sc_fails.Goals as goal
 
-pub returns : goal.returns
-returns c = sc-fails
+pub returns-clause-leaf : goal.returns-clause-leaf
+returns-clause-leaf c = leaf-fails
+
+pub returns-clause-turn : goal.returns-clause-turn
+returns-clause-turn c = turn-fails

@@ -7,11 +7,15 @@ use Rattle.ddm_tree.specs.DdmTypes.ItemTable.{item_count}
 use Rattle.ddm_tree.specs.TreeModel.Turns.Machine.{named_by, names_part, turn_of}
 use Rattle.ddm_tree.specs.TreeModel.Turns.Tree.{leaf_of_number}
 use Rattle.ddm_tree.specs.TreeRules.Bus.Rules.{IsTreeOk}
+use Rattle.ddm_tree.specs.BusyLaws.Reasons.{busy_cause}
+use Rattle.ddm_tree.specs.LrScLaws.Failing.{sc_failed}
 use Rattle.ddm_tree.specs.Machine.{IsMachine, MachineState, listed_path, machine_of, state_after}
 use Rattle.ddm_tree.specs.Path.{present_at}
 use Rattle.ddm_tree.specs.Quiet.{HartsAgree}
 use Rattle.ddm_tree.proofs.Along.{root_turned}
+use Rattle.ddm_tree.proofs.BusyLaws.Turns.{busy-turn}
 use Rattle.ddm_tree.proofs.IdleHarts.{idle-after}
+use Rattle.ddm_tree.proofs.LrScLaws.Failing.{turn-fails}
 use Rattle.ddm_tree.proofs.MachineKept.{turn-keeps}
 use Rattle.ddm_tree.proofs.QuietTurns.{learned-turn, only-after, quiet-after}
 use Rattle.ddm_tree.proofs.RulesKept.{made-order, rules-buses, turn-rules}
@@ -123,3 +127,9 @@ returns-clause-order g c =
     let m = machine_of c.self.inside.code c.self.inside.items c.self.inside.top (map g.C.Agent.value c.self.inside.children.items) c.self.inside.ops.items c.self.inside.traffic.items in
     let inv = c.self.invariant.0 in
     made-order c.args.turn.now m _ _ (ap (λ s. s.machine) c.self.view_is) (machine-after g c) inv.shaped inv.rules
+
+pub returns-clause-busy : goal.returns-clause-busy
+returns-clause-busy g c = ap busy_cause (returns-clause-answer g c) ∙ busy-turn c.args.turn.now _
+
+pub returns-clause-failing : goal.returns-clause-failing
+returns-clause-failing g c = ap sc_failed (returns-clause-answer g c) ∙ turn-fails c.args.turn.now _

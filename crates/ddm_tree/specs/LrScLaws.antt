@@ -1,0 +1,2 @@
+-- Of `lr_sc_laws`, what this crate and those above it name.
+pub use Rattle.leaf_protocol.specs.LrScLaws.Failing

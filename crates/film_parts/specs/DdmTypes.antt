@@ -1,0 +1,3 @@
+-- Of `ddm_types`, what this crate and those above it name.
+pub use Rattle.state_words.specs.DdmTypes.Keys
+pub use Rattle.state_words.specs.DdmTypes.declared

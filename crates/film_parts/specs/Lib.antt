@@ -1,0 +1,9 @@
+pub mod DdmText
+pub mod DdmTypes
+pub mod StateWords
+pub mod TreeModel
+pub mod ValueLaws
+pub mod Forms
+pub mod Puts
+pub mod Records
+pub mod Spans

@@ -1,0 +1,3 @@
+-- Of `tree_model`, what this crate and those above it name.
+pub use Rattle.text_model.specs.TreeModel.State
+pub use Rattle.text_model.specs.TreeModel.declared

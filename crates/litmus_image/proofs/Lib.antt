@@ -1,0 +1,6 @@
+pub mod Ranges
+pub mod Pushed
+pub mod Own
+pub mod Blocks
+pub mod Valid
+pub mod Bytes

@@ -1,0 +1,7 @@
+use Rattle.std.proofs.Common.{◌≡◌, ◌++◌}
+use Rattle.litmus_model.specs.Kept.{test_from}
+use Rattle.litmus_image.proofs.Pushed.{warmed}
+use Rattle.litmus_image.proofs.instructions.push_warming.Given as goal
+
+abbrev pub invariant-loop-number : goal.invariant-loop-number
+invariant-loop-number l = l.code.items ≡ l.fn.code.items ++ warmed (test_from l.test) l.item_bytes l.thread l.number

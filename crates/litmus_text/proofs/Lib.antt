@@ -1,0 +1,4 @@
+pub mod Judging
+pub mod Texts
+pub mod Headers
+pub mod Cuts

@@ -1,0 +1,5 @@
+pub mod Digits
+pub mod Tables
+pub mod ThreadWords
+pub mod TakenLetters
+pub mod Places

@@ -1,0 +1,3 @@
+-- Of `any_runs`, what crates above this one name.
+pub use Rattle.any_runs.proofs.Forgotten
+pub use Rattle.any_runs.proofs.RunMore

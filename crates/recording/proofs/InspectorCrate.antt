@@ -1,0 +1,2 @@
+-- Of `inspector`, what crates above this one name.
+pub use Rattle.any_runs.proofs.InspectorCrate.OneMore

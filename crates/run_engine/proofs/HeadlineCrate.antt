@@ -1,0 +1,2 @@
+-- Of `headline`, what this crate names.
+pub use Rattle.any_runs.proofs.HeadlineCrate.Runs

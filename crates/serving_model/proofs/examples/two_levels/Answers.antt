@@ -1,0 +1,7 @@
+use Rattle.std.proofs.Common.{refl}
+use Rattle.serving_model.specs.Computing.{serving_computes}
+use Rattle.serving_model.proofs.examples.two_levels.Goals as goal
+
+pub returns : goal.returns
+unfolding serving_computes
+returns c = record { text = refl; rests = refl }

@@ -1,0 +1,5 @@
+-- Of `ddm_types`, what this crate and those above it name.
+pub use Rattle.bus_laws.specs.DdmTypes.CodeMap
+pub use Rattle.bus_laws.specs.DdmTypes.ItemTable
+pub use Rattle.bus_laws.specs.DdmTypes.Keys
+pub use Rattle.bus_laws.specs.DdmTypes.declared

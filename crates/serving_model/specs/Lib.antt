@@ -1,0 +1,14 @@
+pub mod DdmTypes
+pub mod FlatModel
+pub mod TextModel
+pub mod TreeModel
+pub mod TreeRules
+pub mod Rest
+pub mod Walk
+pub mod Parts
+pub mod OneLeaf
+pub mod Serving
+pub mod Laws
+pub mod Texts
+pub mod Computing
+pub mod Examples

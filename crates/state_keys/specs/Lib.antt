@@ -1,0 +1,7 @@
+pub mod DdmTypes
+pub mod StateJudging
+pub mod StateWords
+pub mod TreeModel
+pub mod TreeRules
+pub mod Key
+pub mod Same

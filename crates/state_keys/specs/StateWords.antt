@@ -1,0 +1,2 @@
+-- Of `state_words`, what this crate and those above it name.
+pub use Rattle.spelling_laws.specs.StateWords.Machine
