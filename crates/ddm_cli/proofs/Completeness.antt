@@ -18,16 +18,17 @@ use Rattle.ddm_cli.specs.TextModel.declared.ScheduleRefusal.{ScheduleRefusal}
 use Rattle.ddm_cli.specs.Causes.{HasNoSetting, HasSmallList, IsRefused, IsUnloaded, IsUnresumed, IsUnscheduled, IsUnstarted}
 use Rattle.witness_check.specs.Start.{Setting, check_of, judged}
 use Rattle.witness_check.specs.declared.refusal.CheckRefusal.{CheckRefusal}
-use Rattle.ddm_cli.specs.Commands.{Check, Command, Recorded, Resumption, Run, Seeds, Survey, to_run, to_list, to_check, to_resume, to_survey, to_record, to_survey_runs, to_say, first_run, recorded_run, surveyed_run}
+use Rattle.ddm_cli.specs.Commands.{Check, Command, Recorded, Resumption, Run, Seeds, Survey, to_run, to_list, to_check, to_resume, to_survey, to_record, to_survey_runs, to_join, to_say, first_run, recorded_run, surveyed_run}
 use Rattle.ddm_cli.specs.Lists.{list_refused}
 use Rattle.ddm_cli.specs.Parts.{Parts, if_judged, if_large, if_started, items_of, parts_for, parts_in, parts_of, resumed_at, setting_at, setting_in, tree_at, turns_at, turns_of}
 use Rattle.ddm_cli.specs.Told.{ScheduleGiven, written, seeded, image_told, schedule_told}
 use Rattle.ddm_cli.specs.Top.{Both, command_text, list_of, outcomes_at, record_at, rest_with, resumed_text, resumed_with, survey_at, text_of, text_with, verdict_in, verdict_of, IsJudged, StatusHasCause, Completes, NoRest, NoRun, NotAccepted, NothingFailed, NoVerdict, RefusesImage, WithParts, WithResumed}
+use Rattle.ddm_cli.proofs.Joins.{join_refused}
 use Rattle.ddm_cli.proofs.Settings.{start_refused}
 use Rattle.ddm_cli.specs.declared.command.Prints.{Prints}
 use Rattle.ddm_cli.specs.declared.command.Prints.TheVariants.{Report}
 use Rattle.ddm_cli.specs.declared.status.Status.{Status}
-use Rattle.ddm_cli.specs.declared.status.Status.TheVariants.{Done, Usage, ImageLoad, ImageBuild, Tree, Schedule, Witness, Checkpoint, SmallLists, ReadFault, WriteFault, NoMemory}
+use Rattle.ddm_cli.specs.declared.status.Status.TheVariants.{Done, Usage, ImageLoad, ImageBuild, Tree, Schedule, Witness, Checkpoint, SmallLists, Table, ReadFault, UnreadTable, WriteFault, NoMemory}
 
 -- ---- a file that gives no part gives no text
 
@@ -275,6 +276,8 @@ module _ {F K : Type 0} (told : F → List ℕ → Option (List ℕ)) (faults : 
       by_status (ImageBuild x) refused = absurd (no_image prints (told files r.tree) (image_told (told files) r.image) tree.0 image.0 schedule.0 text (λ u. IsUnstarted u x) (λ u. unstarted prints x u image.0) tree.1 image.1 schedule.2 refused)
       by_status (Checkpoint x) refused = absurd refused
       by_status (SmallLists x) refused = absurd (no_image prints (told files r.tree) (image_told (told files) r.image) tree.0 image.0 schedule.0 text (HasSmallList prints x) (λ u. too_small prints x u image.0) tree.1 image.1 schedule.2 refused)
+      by_status (Table n r) refused = absurd refused
+      by_status (UnreadTable n) refused = absurd refused
       by_status (Schedule line x) refused =
           let here = both_here (told files r.tree) (schedule_told (told files) r.turns) tree.0 schedule.0 (λ u. IsRefused u.levels line x) tree.1 schedule.1 refused.1 in
           absurd (unscheduled prints tree.0 image.0 schedule.0 text line x here schedule.2)
@@ -305,6 +308,8 @@ module _ {F K : Type 0} (told : F → List ℕ → Option (List ℕ)) (faults : 
       by_status (Witness x) refused = absurd refused
       by_status (Checkpoint x) refused = absurd refused
       by_status (SmallLists x) refused = absurd refused
+      by_status (Table n r) refused = absurd refused
+      by_status (UnreadTable n) refused = absurd refused
       by_status (ReadFault TreeFile) refused = absurd (calm refused)
       by_status (ReadFault ImageFile) refused = absurd refused
       by_status (ReadFault ScheduleFile) refused = absurd refused
@@ -330,6 +335,8 @@ module _ {F K : Type 0} (told : F → List ℕ → Option (List ℕ)) (faults : 
       by_status (Schedule line x) refused = absurd refused
       by_status (Checkpoint x) refused = absurd refused
       by_status (SmallLists x) refused = absurd refused
+      by_status (Table n r) refused = absurd refused
+      by_status (UnreadTable n) refused = absurd refused
       by_status (Tree x) refused =
           let is = tree_here (told files c.tree) tree.0 x tree.1 refused in
           let nothing = no_setting tree.0 image.0 (refused_tree tree.0 x is) in
@@ -364,6 +371,8 @@ module _ {F K : Type 0} (told : F → List ℕ → Option (List ℕ)) (faults : 
       by_status (Usage k) refused = absurd refused
       by_status (Witness x) refused = absurd refused
       by_status (SmallLists x) refused = absurd refused
+      by_status (Table n r) refused = absurd refused
+      by_status (UnreadTable n) refused = absurd refused
       by_status (Tree x) refused =
           let is = tree_here (told files n.tree) tree.0 x tree.1 refused in
           absurd (no_tree tree.0 image.0 checkpoint.0 schedule.0 text (refused_tree tree.0 x is) schedule.2)
@@ -413,6 +422,7 @@ module _ {F K : Type 0} (told : F → List ℕ → Option (List ℕ)) (faults : 
     command_refused (to_survey o) text has calm = survey_refused o text has calm
     command_refused (to_record r) text has calm = record_refused r text has calm
     command_refused (to_survey_runs o) text has calm = ends_refused o text has calm
+    command_refused (to_join names) text has calm = join_refused told faults files files' names text has calm
     command_refused (to_say a) text has calm = λ s refused. absurd refused
 
   pub completes : (words : List (List ℕ)) (files files' : F) (out out' : K) (status : Status) → StatusHasCause told faults held failures words files files' out out' status → Completes told faults held failures words files files' out out' status
@@ -427,4 +437,6 @@ module _ {F K : Type 0} (told : F → List ℕ → Option (List ℕ)) (faults : 
   completes words files files' out out' (Witness r) came c text said has calm quiet = inr (command_refused files files' c text has calm (Witness r) (rw said at came.0))
   completes words files files' out out' (Checkpoint r) came c text said has calm quiet = inr (command_refused files files' c text has calm (Checkpoint r) (rw said at came.0))
   completes words files files' out out' (SmallLists key) came c text said has calm quiet = inr (command_refused files files' c text has calm (SmallLists key) (rw said at came.0))
+  completes words files files' out out' (Table n r) came c text said has calm quiet = inr (command_refused files files' c text has calm (Table n r) (rw said at came.0))
+  completes words files files' out out' (UnreadTable n) came c text said has calm quiet = inr (command_refused files files' c text has calm (UnreadTable n) (rw said at came.0))
   completes words files files' out out' (ReadFault role) came c text said has calm quiet = inr (command_refused files files' c text has calm (ReadFault role) (rw said at came.0))

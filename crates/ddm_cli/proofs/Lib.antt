@@ -13,7 +13,8 @@ pub mod SurveyModel
 pub mod TextModel
 pub mod TreeConfig
 pub mod TreeModel
-pub mod Judged
+pub mod Joins
+mod Judged
 pub mod Telling
 pub mod Numbers
 pub mod Causes

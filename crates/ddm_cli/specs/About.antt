@@ -102,6 +102,7 @@ faults_text = lines_of (
     codes " 6 cannot read the schedule          see that the file is there and may be read" ∷
     codes " 6 cannot read the witness           see that the file is there and may be read" ∷
     codes " 6 cannot read the checkpoint        see that the file is there and may be read" ∷
+    codes " 6 cannot read table N               see that the file is there and may be read" ∷
     codes " 7 cannot write                      see that the disk has room and the reader" ∷
     codes "                                     goes on" ∷
     codes " 8 no memory                         let the process have more" ∷
@@ -126,11 +127,18 @@ faults_text = lines_of (
     codes "12 small lists: KEY                  give this list in the tree eight places an" ∷
     codes "                                     item, an item for each line `item` of ddm" ∷
     codes "                                     run" ∷
+    codes "15 table N: too long                 67108864 bytes are the most" ∷
+    codes "15 table N line L: bad line          give tables as ddm outcomes or ddm survey" ∷
+    codes "                                     puts them out" ∷
+    codes "15 table N line L: no end            the file ends early: make the table again" ∷
+    codes "15 table N line L: after end         take out what stands behind the line end" ∷
+    codes "15 table N: other kind               join tables of outcomes and of survey apart" ∷
+    codes "15 table N: too many runs            18446744073709551615 are the most" ∷
     [])
 
--- what is said of this alone
-abbrev pub own_text : About → List ℕ
-own_text about.Help = lines_of (
+-- the commands
+abbrev pub help_text : List ℕ
+help_text = lines_of (
     codes "ddm runs RV32IA programs on a Data Diffusion Machine; every run is one order of one flat memory." ∷
     codes "" ∷
     codes "  ddm run IMAGE TREE SCHEDULE      the report of a run: harts, traffic, items and the witness" ∷
@@ -149,9 +157,14 @@ own_text about.Help = lines_of (
     codes "                                   the schedule of the turns of a seed that do something" ∷
     codes "  ddm survey IMAGE TREE KIND FIRST COUNT TURNS" ∷
     codes "                                   what the recorded runs of many seeds come to" ∷
+    codes "  ddm join TABLE TABLE ..          the table of all runs of several tables" ∷
     codes "  ddm help COMMAND                 more of one of these" ∷
     codes "  ddm --help, ddm --version" ∷
     [])
+
+-- what is said of this alone
+abbrev pub own_text : About → List ℕ
+own_text about.Help = help_text
 own_text about.Version = lines_of (
     codes "ddm 1" ∷
     [])
@@ -228,6 +241,12 @@ own_text about.Survey = lines_of (
     codes "each different end: how many seeds gave it, the smallest of these, why the run" ∷
     codes "ended (halted, turns, stuck or drawn), and of each hart how it ended and what" ∷
     codes "it put out." ∷
+    [])
+own_text about.Join = lines_of (
+    codes "ddm join TABLE TABLE .." ∷
+    codes "Prints the table of all runs of 2 to 256 tables, each of 64 MiB at most: what ddm" ∷
+    codes "outcomes printed, or what ddm survey did. Where no seed is in two of them it is" ∷
+    codes "the table of all these seeds." ∷
     [])
 
 -- what is said behind it, of each command

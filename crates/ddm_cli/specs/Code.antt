@@ -1,7 +1,7 @@
 -- The number that the process ends with, for each status.
 use Rattle.std.specs.Prelude.{ℕ}
 use Rattle.ddm_cli.specs.declared.status.Status.{Status}
-use Rattle.ddm_cli.specs.declared.status.Status.TheVariants.{Done, Usage, ImageLoad, ImageBuild, Tree, Schedule, Witness, Checkpoint, SmallLists, ReadFault, WriteFault, NoMemory}
+use Rattle.ddm_cli.specs.declared.status.Status.TheVariants.{Done, Usage, ImageLoad, ImageBuild, Tree, Schedule, Witness, Checkpoint, SmallLists, Table, ReadFault, UnreadTable, WriteFault, NoMemory}
 
 -- the number of each status
 abbrev pub exit_code : Status → ℕ
@@ -12,8 +12,10 @@ exit_code (ImageBuild r) = 3
 exit_code (Tree r) = 4
 exit_code (Schedule line r) = 5
 exit_code (ReadFault role) = 6
+exit_code (UnreadTable n) = 6
 exit_code WriteFault = 7
 exit_code NoMemory = 8
 exit_code (Witness r) = 10
 exit_code (Checkpoint r) = 11
 exit_code (SmallLists key) = 12
+exit_code (Table n r) = 15

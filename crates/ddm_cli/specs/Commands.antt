@@ -1,7 +1,7 @@
 -- The commands, and the words that say them.
 -- Letters: k is the index of a word, counted from 0.
 -- To be believed with the contracts: they speak of it.
-use Rattle.std.specs.Prelude.{ℕ, ◌+◌, ◌-◌, ◌*◌, ◌≤◌, min, nat_le, nat_lt, List, [], ◌∷◌, length, Result, Ok, Err, Option, Some, None, slice_get, option_and_then, if◌then◌else◌, bytes_eq, codes}
+use Rattle.std.specs.Prelude.{ℕ, ◌+◌, ◌-◌, ◌*◌, ◌≤◌, min, nat_le, nat_lt, List, [], ◌∷◌, drop, length, Result, Ok, Err, Option, Some, None, slice_get, option_and_then, if◌then◌else◌, bytes_eq, codes}
 use Rattle.std.specs.Result.{result_ok}
 use Rattle.ddm_cli.specs.DdmText.Numbers.{number_of}
 use Rattle.ddm_cli.specs.RecordingModel.declared.SeedKind.{SeedKind}
@@ -93,6 +93,8 @@ pub data Command : Type 0 where
   to_record : Recorded → Command
   -- to count the ends of the recorded runs of many seeds
   to_survey_runs : Survey → Command
+  -- to put the tables of these files together
+  to_join : List (List ℕ) → Command
   -- to say something of the program itself
   to_say : About → Command
 
@@ -138,6 +140,7 @@ IsInRange (to_resume r) = Unit {0}
 IsInRange (to_survey s) = (1 ≤ s.count) × (s.count ≤ 1000000) × (s.first + s.count ≤ 18446744073709551616) × (s.turns ≤ 1048576)
 IsInRange (to_record r) = r.turns ≤ 1048576
 IsInRange (to_survey_runs s) = (1 ≤ s.count) × (s.count ≤ 1000000) × (s.first + s.count ≤ 18446744073709551616) × (s.turns ≤ 1048576)
+IsInRange (to_join names) = (2 ≤ length names) × (length names ≤ 256)
 IsInRange (to_say a) = Unit {0}
 
 -- ---- words in their order: the command that they say, or the index of the first word at fault or of the first that is missing
@@ -229,6 +232,13 @@ runs_survey words =
     word_at words 1 (λ image. word_at words 2 (λ tree. kind_at words 3 (λ kind. seed_at words 4 (λ first. number_at words 5 1 (most_seeds first) (λ count. count_at words 6 (λ turns.
     ends_at words 7 (to_survey_runs (survey_value image tree kind first count turns))))))))
 
+-- join TABLE TABLE ..
+unfoldable pub tables_named : List (List ℕ) → Result Command ℕ
+tables_named words =
+    if nat_lt (length words) 3 then Err (length words)
+    else (if nat_lt 257 (length words) then Err 257
+    else Ok (to_join (drop 1 words)))
+
 -- the command of a name
 unfoldable pub about_named : List ℕ → Option About
 about_named name =
@@ -244,7 +254,8 @@ about_named name =
     else (if bytes_eq name (codes "outcomes") then Some about.Outcomes
     else (if bytes_eq name (codes "record") then Some about.Record
     else (if bytes_eq name (codes "survey") then Some about.Survey
-    else None)))))))))))
+    else (if bytes_eq name (codes "join") then Some about.Join
+    else None))))))))))))
 
 -- help COMMAND
 unfoldable pub help_said : List (List ℕ) → Result Command ℕ
@@ -264,10 +275,11 @@ named_command words name =
     else (if bytes_eq name (codes "outcomes") then seeds_survey words
     else (if bytes_eq name (codes "record") then seed_record words
     else (if bytes_eq name (codes "survey") then runs_survey words
+    else (if bytes_eq name (codes "join") then tables_named words
     else (if bytes_eq name (codes "help") then help_said words
     else (if bytes_eq name (codes "--help") then ends_at words 1 (to_say about.Help)
     else (if bytes_eq name (codes "--version") then ends_at words 1 (to_say about.Version)
-    else Err 0))))))))))))))
+    else Err 0)))))))))))))))
 
 -- ---- words that ask for help, and are just these
 

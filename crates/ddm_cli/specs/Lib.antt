@@ -32,6 +32,8 @@ pub mod Printed
 pub mod Reads
 pub mod RecordingModel
 pub mod Refusals
+pub mod TableLines
+pub mod Tables
 pub mod Together
 pub mod Told
 pub mod Top

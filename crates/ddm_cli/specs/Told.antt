@@ -1,6 +1,6 @@
 -- What the sources of a command are told to hold, and the counts of their failed reads. What is made in place of a file is always
 -- told, and never fails.
-use Rattle.std.specs.Prelude.{ℕ, List, Option, Some}
+use Rattle.std.specs.Prelude.{ℕ, List, [], ◌∷◌, Option, Some, option_and_then}
 use Rattle.std.specs.Option.{option_map}
 use Rattle.ddm_cli.specs.MadeImage.MadeImage.{made_image}
 use Rattle.ddm_cli.specs.Commands.{ImageFrom, TurnsFrom, image_named, image_made, schedule_named, turns_seeded}
@@ -19,6 +19,11 @@ module _ (told : List ℕ → Option (List ℕ)) where
   abbrev pub schedule_told : TurnsFrom → Option ScheduleGiven
   schedule_told (schedule_named name) = option_map written (told name)
   schedule_told (turns_seeded seed count) = Some (seeded seed count)
+
+  -- the bytes of all of these files
+  abbrev pub files_told : List (List ℕ) → Option (List (List ℕ))
+  files_told [] = Some []
+  files_told (name ∷ names) = option_and_then (λ file. option_map (λ files. file ∷ files) (files_told names)) (told name)
 
 module _ (faults : List ℕ → ℕ) where
   abbrev pub image_faults : ImageFrom → ℕ

@@ -1,5 +1,5 @@
 -- What a command answers, and why.
-use Rattle.std.specs.Prelude.{◌≡◌, ◌⊎◌, ℕ, List, [], length, take, Option, Some, IsSome, IfSome, option_and_then, option_map, IfOk, Result, Ok, Err, IsOkAnd}
+use Rattle.std.specs.Prelude.{◌≡◌, ◌⊎◌, ℕ, ◌-◌, List, [], length, slice_get, take, Option, Some, IsSome, IfSome, IsSomeAnd, IsOk, option_and_then, option_map, IfOk, Result, Ok, Err, IsOkAnd}
 use Rattle.std.specs.List.{AllByRecursion}
 use Rattle.std.specs.Result.{result_ok}
 use Rattle.ddm_cli.specs.DdmTypes.declared.turns.Turn.{Turn}
@@ -31,17 +31,19 @@ use Rattle.ddm_cli.specs.OutcomeModel.FlatOutcome.{IsLegalOutcome}
 use Rattle.ddm_cli.specs.OutcomeModel.Outcomes.{outcome_table, outcomes_text}
 use Rattle.ddm_cli.specs.OutcomeModel.Table.{OutcomeLine}
 use Rattle.ddm_cli.specs.RecordingModel.Recording.{record_text, recording_of}
+use Rattle.ddm_cli.specs.Commands.{Check, Command, ImageFrom, Recorded, Resumption, Run, Seeds, Survey, TurnsFrom, to_run, to_list, to_check, to_resume, to_survey, to_record, to_survey_runs, to_join, to_say, command_of, first_run, recorded_run, surveyed_run}
 use Rattle.ddm_cli.specs.SurveyModel.Laws.{IsLegalEnd}
 use Rattle.ddm_cli.specs.SurveyModel.Survey.{survey_table, survey_text}
-use Rattle.ddm_cli.specs.Commands.{Check, Command, ImageFrom, Recorded, Resumption, Run, Seeds, Survey, TurnsFrom, to_run, to_list, to_check, to_resume, to_survey, to_record, to_survey_runs, to_say, command_of, first_run, recorded_run, surveyed_run}
 use Rattle.ddm_cli.specs.Parts.{Parts, parts_for, parts_of, resumed_at, setting_at, tree_at, turns_at, turns_of}
 use Rattle.ddm_cli.specs.Printed.{Writes, legal_line, printed, resumed_report}
 use Rattle.ddm_cli.specs.Refusals.{build_line, checkpoint_line, image_line, small_lists_line, tree_line, tree_line_head, tree_line_rest, witness_line}
-use Rattle.ddm_cli.specs.Told.{ScheduleGiven, image_faults, image_told, schedule_faults, schedule_told}
+use Rattle.joining.specs.JoinModel.Files.{joined_text, sum_of}
+use Rattle.ddm_cli.specs.TableLines.{table_line, unread_table_line}
+use Rattle.ddm_cli.specs.Told.{ScheduleGiven, files_told, image_faults, image_told, schedule_faults, schedule_told}
 use Rattle.ddm_cli.specs.declared.command.Prints.{Prints}
 use Rattle.ddm_cli.specs.declared.command.Prints.TheVariants.{Report}
 use Rattle.ddm_cli.specs.declared.status.Status.{Status}
-use Rattle.ddm_cli.specs.declared.status.Status.TheVariants.{Done, Usage, ImageLoad, ImageBuild, Tree, Schedule, Witness, Checkpoint, SmallLists, ReadFault, WriteFault, NoMemory}
+use Rattle.ddm_cli.specs.declared.status.Status.TheVariants.{Done, Usage, ImageLoad, ImageBuild, Tree, Schedule, Witness, Checkpoint, SmallLists, Table, ReadFault, UnreadTable, WriteFault, NoMemory}
 
 -- ---- the text
 
@@ -118,6 +120,7 @@ command_text told (to_resume r) =
 command_text told (to_survey s) = option_and_then (λ tree. option_and_then (outcomes_of s tree) (told s.image)) (told s.tree)
 command_text told (to_record r) = option_and_then (λ tree. option_and_then (record_of r tree) (told r.image)) (told r.tree)
 command_text told (to_survey_runs s) = option_and_then (λ tree. option_and_then (survey_of s tree) (told s.image)) (told s.tree)
+command_text told (to_join names) = option_and_then (λ files. result_ok (joined_text files)) (files_told told names)
 command_text told (to_say a) = Some (about_text a)
 
 -- ---- order
@@ -254,6 +257,7 @@ module _ {F : Type 0} (told : F → List ℕ → Option (List ℕ)) where
       AcceptsParts Report (told files r.tree) (told files r.image) × Both (told files r.tree) (told files r.image) (λ t i. record_of r t i ≡ Some text)
   HasAccepted files text (to_survey_runs s) =
       AcceptsParts Report (told files s.tree) (told files s.image) × Both (told files s.tree) (told files s.image) (λ t i. survey_of s t i ≡ Some text)
+  HasAccepted files text (to_join names) = IfSome (files_told (told files) names) (λ tables. joined_text tables ≡ Ok text)
   HasAccepted files text (to_say a) = text ≡ about_text a
 
   -- the words are in the grammar, and this is what their command prints
@@ -274,6 +278,7 @@ module _ {F : Type 0} (told : F → List ℕ → Option (List ℕ)) where
   IsInOrder files (to_survey s) = Both (told files s.tree) (told files s.image) (λ t i. IfSome (parts_of t i) (OutcomesAreRuns s))
   IsInOrder files (to_record r) = Both (told files r.tree) (told files r.image) (λ t i. IfSome (parts_of t i) (RecordedInOrder r))
   IsInOrder files (to_survey_runs s) = Both (told files s.tree) (told files s.image) (λ t i. IfSome (parts_of t i) (EndsAreRuns s))
+  IsInOrder files (to_join names) = Unit {0}
   IsInOrder files (to_say a) = Unit {0}
 
   abbrev pub RunIsWitnessed : List (List ℕ) → F → Type 0
@@ -347,6 +352,17 @@ module _ {F : Type 0} (told : F → List ℕ → Option (List ℕ)) where
     NoRest NoMemory n = Unit {0}
     NoRest _ n = ⊥
 
+    -- the tables before this one are accepted, and the count of its failed reads rose
+    abbrev pub CantReadTable : ℕ → List (List ℕ) → Type 0
+    CantReadTable n names = IsSomeAnd (slice_get names (n - 1)) FileFailed × IfSome (files_told (told files) (take (n - 1) names)) (λ tables. IsOk (sum_of tables))
+
+    -- why tables aren't put together; the other statuses are no such answers
+    abbrev pub NoJoin : Status → List (List ℕ) → Type 0
+    NoJoin (Table n r) names = IfSome (files_told (told files) (take n names)) (λ tables. sum_of tables ≡ Err (n, r))
+    NoJoin (UnreadTable n) names = CantReadTable n names
+    NoJoin NoMemory names = Unit {0}
+    NoJoin _ names = ⊥
+
     -- why a command prints nothing: where it only lists turns, what is said of a tree file; where it runs many seeds, what is said
     -- of the run of the first
     abbrev pub NotAccepted : Status → Command → Type 0
@@ -357,6 +373,7 @@ module _ {F : Type 0} (told : F → List ℕ → Option (List ℕ)) where
     NotAccepted s (to_survey o) = NoRun Report s (first_run o)
     NotAccepted s (to_record r) = NoRun Report s (recorded_run r)
     NotAccepted s (to_survey_runs n) = NoRun Report s (surveyed_run n)
+    NotAccepted s (to_join names) = NoJoin s names
     NotAccepted s (to_say a) = ⊥
 
     -- why there is no text
@@ -373,6 +390,7 @@ module _ {F : Type 0} (told : F → List ℕ → Option (List ℕ)) where
     NothingFailed (to_survey s) = (¬ FileFailed s.tree) × (¬ FileFailed s.image)
     NothingFailed (to_record r) = (¬ FileFailed r.tree) × (¬ FileFailed r.image)
     NothingFailed (to_survey_runs s) = (¬ FileFailed s.tree) × (¬ FileFailed s.image)
+    NothingFailed (to_join names) = AllByRecursion (λ name. ¬ FileFailed name) names
     NothingFailed (to_say a) = Unit {0}
 
 -- ---- the command
@@ -397,6 +415,8 @@ module _ {F K : Type 0} (told : F → List ℕ → Option (List ℕ)) (faults : 
   StatusHasCause words files files' out out' (Witness r) = Refused told faults files files' words (Witness r) × (held out' ≡ held out)
   StatusHasCause words files files' out out' (Checkpoint r) = Refused told faults files files' words (Checkpoint r) × (held out' ≡ held out)
   StatusHasCause words files files' out out' (SmallLists key) = Refused told faults files files' words (SmallLists key) × (held out' ≡ held out)
+  StatusHasCause words files files' out out' (Table n r) = Refused told faults files files' words (Table n r) × (held out' ≡ held out)
+  StatusHasCause words files files' out out' (UnreadTable n) = Refused told faults files files' words (UnreadTable n) × (held out' ≡ held out)
   StatusHasCause words files files' out out' (ReadFault role) = Refused told faults files files' words (ReadFault role) × (held out' ≡ held out)
   StatusHasCause words files files' out out' NoMemory = Refused told faults files files' words NoMemory × (held out' ≡ held out)
 
@@ -426,6 +446,8 @@ fault_line (Schedule line r) = schedule_fault line r
 fault_line (Witness r) = witness_line r
 fault_line (Checkpoint r) = checkpoint_line r
 fault_line (SmallLists key) = small_lists_line key
+fault_line (Table n r) = table_line n r
+fault_line (UnreadTable n) = unread_table_line n
 fault_line (ReadFault role) = read_fault (role_text role)
 fault_line WriteFault = write_fault
 fault_line NoMemory = memory_fault

@@ -1,8 +1,10 @@
 -- A command as the code has it, and as it is said.
+use Rattle.std.specs.Prelude.{map}
+use Rattle.std.specs.String.{string_bytes}
 use Rattle.ddm_cli.specs.Commands as said
 use Rattle.ddm_cli.specs.declared.command.Check.{Check}
 use Rattle.ddm_cli.specs.declared.command.Command.{Command}
-use Rattle.ddm_cli.specs.declared.command.Command.TheVariants.{Run as ToRun, List as ToList, Check as ToCheck, Resume as ToResume, Outcomes as ToSurvey, Record as ToRecord, Survey as ToSurveyRuns, About as ToSay}
+use Rattle.ddm_cli.specs.declared.command.Command.TheVariants.{Run as ToRun, List as ToList, Check as ToCheck, Resume as ToResume, Outcomes as ToSurvey, Record as ToRecord, Survey as ToSurveyRuns, Join as ToJoin, About as ToSay}
 use Rattle.ddm_cli.specs.declared.command.ImageSource.{ImageSource}
 use Rattle.ddm_cli.specs.declared.command.ImageSource.TheVariants.{File as ImageFile, Made}
 use Rattle.ddm_cli.specs.declared.command.Recorded.{Recorded}
@@ -47,4 +49,5 @@ command_from (ToResume resumption) = said.to_resume (resumption_from resumption)
 command_from (ToSurvey seeds) = said.to_survey (seeds_from seeds)
 command_from (ToRecord recorded) = said.to_record (recorded_from recorded)
 command_from (ToSurveyRuns survey) = said.to_survey_runs (survey_from survey)
+command_from (ToJoin names) = said.to_join (map string_bytes names.now)
 command_from (ToSay about) = said.to_say about

@@ -2,7 +2,7 @@
 
 ghost use Rattle.std.specs.Prelude.{◌≡◌};
 ghost use Rattle.ddm_cli.specs.DdmOutside.Causes.{HasCause};
-ghost use Rattle.ddm_cli.specs.About.{about_text, faults_text, further_text, named_text, own_text};
+ghost use Rattle.ddm_cli.specs.About.{about_text, faults_text, further_text, help_text, named_text, own_text};
 ghost use Rattle.ddm_cli.specs.Printed.{Writes};
 
 use crate::command::About;
@@ -10,7 +10,7 @@ use crate::of_ddm_outside::{Failed, Sink};
 use crate::of_report::write_all;
 
 const HELP: &[u8] =
-    b"ddm runs RV32IA programs on a Data Diffusion Machine; every run is one order of one flat memory.\n\n  ddm run IMAGE TREE SCHEDULE      the report of a run: harts, traffic, items and the witness\n  ddm trace IMAGE TREE SCHEDULE    a line for each turn, and then the report\n  ddm seed IMAGE TREE SEED TURNS   the report of the schedule of a seed\n  ddm schedule TREE SEED TURNS     the schedule of a seed\n  ddm make SEED ROUNDS TREE        the summary of a random program under a seeded schedule\n  ddm check IMAGE TREE WITNESS     whether a witness is one legal run of the flat machine\n  ddm unjam IMAGE TREE SCHEDULE    the turn of a bus that goes on where a leaf waits\n  ddm save IMAGE TREE SCHEDULE     the checkpoint of the machine after a run\n  ddm resume IMAGE TREE CHECKPOINT SCHEDULE\n                                   the report of a run that goes on from a checkpoint\n  ddm outcomes IMAGE TREE FIRST COUNT TURNS\n                                   what the runs of many seeds come to\n  ddm record IMAGE TREE KIND SEED TURNS\n                                   the schedule of the turns of a seed that do something\n  ddm survey IMAGE TREE KIND FIRST COUNT TURNS\n                                   what the recorded runs of many seeds come to\n  ddm help COMMAND                 more of one of these\n  ddm --help, ddm --version\n";
+    b"ddm runs RV32IA programs on a Data Diffusion Machine; every run is one order of one flat memory.\n\n  ddm run IMAGE TREE SCHEDULE      the report of a run: harts, traffic, items and the witness\n  ddm trace IMAGE TREE SCHEDULE    a line for each turn, and then the report\n  ddm seed IMAGE TREE SEED TURNS   the report of the schedule of a seed\n  ddm schedule TREE SEED TURNS     the schedule of a seed\n  ddm make SEED ROUNDS TREE        the summary of a random program under a seeded schedule\n  ddm check IMAGE TREE WITNESS     whether a witness is one legal run of the flat machine\n  ddm unjam IMAGE TREE SCHEDULE    the turn of a bus that goes on where a leaf waits\n  ddm save IMAGE TREE SCHEDULE     the checkpoint of the machine after a run\n  ddm resume IMAGE TREE CHECKPOINT SCHEDULE\n                                   the report of a run that goes on from a checkpoint\n  ddm outcomes IMAGE TREE FIRST COUNT TURNS\n                                   what the runs of many seeds come to\n  ddm record IMAGE TREE KIND SEED TURNS\n                                   the schedule of the turns of a seed that do something\n  ddm survey IMAGE TREE KIND FIRST COUNT TURNS\n                                   what the recorded runs of many seeds come to\n  ddm join TABLE TABLE ..          the table of all runs of several tables\n  ddm help COMMAND                 more of one of these\n  ddm --help, ddm --version\n";
 
 const VERSION: &[u8] = b"ddm 1\n";
 
@@ -81,6 +81,7 @@ stands what to do.
  6 cannot read the schedule          see that the file is there and may be read
  6 cannot read the witness           see that the file is there and may be read
  6 cannot read the checkpoint        see that the file is there and may be read
+ 6 cannot read table N               see that the file is there and may be read
  7 cannot write                      see that the disk has room and the reader
                                      goes on
  8 no memory                         let the process have more
@@ -105,6 +106,13 @@ stands what to do.
 12 small lists: KEY                  give this list in the tree eight places an
                                      item, an item for each line `item` of ddm
                                      run
+15 table N: too long                 67108864 bytes are the most
+15 table N line L: bad line          give tables as ddm outcomes or ddm survey
+                                     puts them out
+15 table N line L: no end            the file ends early: make the table again
+15 table N line L: after end         take out what stands behind the line end
+15 table N: other kind               join tables of outcomes and of survey apart
+15 table N: too many runs            18446744073709551615 are the most
 ";
 
 const RUN: &[u8] = br"ddm run IMAGE TREE SCHEDULE
@@ -172,6 +180,12 @@ ended (halted, turns, stuck or drawn), and of each hart how it ended and what
 it put out.
 ";
 
+const JOIN: &[u8] = br"ddm join TABLE TABLE ..
+Prints the table of all runs of 2 to 256 tables, each of 64 MiB at most: what ddm
+outcomes printed, or what ddm survey did. Where no seed is in two of them it is
+the table of all these seeds.
+";
+
 const NAMED: &[u8] = br#"
 IMAGE is an ELF file for RV32IA of at most 4 MiB. Every hart begins at its
 entry, its number in a0, the number of harts in a1. An example, made from C:
@@ -208,6 +222,12 @@ fn faults_text() -> &'static [u8]
     FAULTS
 }
 
+fn help_text() -> &'static [u8]
+    ensures { result.now ≡ help_text }
+{
+    HELP
+}
+
 // What the words of a command name, an example of each, and how large their numbers may be.
 fn named_text() -> &'static [u8]
     ensures { result.now ≡ named_text }
@@ -220,7 +240,7 @@ fn own_text(about: About) -> &'static [u8]
     ensures { result.now ≡ own_text about }
 {
     match about {
-        About::Help => HELP,
+        About::Help => help_text(),
         About::Version => VERSION,
         About::Asking => ASKING,
         About::Faults => faults_text(),
@@ -236,6 +256,7 @@ fn own_text(about: About) -> &'static [u8]
         About::Outcomes => OUTCOMES,
         About::Record => RECORD,
         About::Survey => SURVEY,
+        About::Join => JOIN,
     }
 }
 
@@ -256,7 +277,8 @@ fn further_text(about: About) -> &'static [u8]
         | About::Resume
         | About::Outcomes
         | About::Record
-        | About::Survey => named_text(),
+        | About::Survey
+        | About::Join => named_text(),
     }
 }
 

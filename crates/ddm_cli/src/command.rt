@@ -137,6 +137,7 @@ pub enum About {
     Outcomes,
     Record,
     Survey,
+    Join,
 }
 
 /// What the words of a command say.
@@ -159,5 +160,7 @@ pub enum Command<'a> {
     Record(Recorded<'a>),
     /// The different ends of the recorded runs of many seeds.
     Survey(Survey<'a>),
+    /// The table of all runs of the tables in these files.
+    Join(&'a [String]),
     About(About),
 }

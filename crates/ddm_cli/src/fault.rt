@@ -10,6 +10,7 @@ use crate::refusal_lines::{
     witness_line,
 };
 use crate::status::Status;
+use crate::table_lines::{table_line, unread_table_line};
 use crate::unknown_key::tell_rest;
 
 // The line of a status; for an unknown key what stands before it.
@@ -27,7 +28,9 @@ fn line_head(status: &Status) -> FaultLine
         Status::Witness(refusal) => witness_line(refusal),
         Status::Checkpoint(refusal) => checkpoint_line(refusal),
         Status::SmallLists(key) => small_lists_line(*key),
+        Status::Table(number, refusal) => table_line(*number, *refusal),
         Status::ReadFault(role) => read_line(*role),
+        Status::UnreadTable(number) => unread_table_line(*number),
         Status::WriteFault => write_line(),
         Status::NoMemory => memory_line(),
     }

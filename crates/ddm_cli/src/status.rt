@@ -10,6 +10,7 @@ use crate::of_report::FileRole;
 use crate::of_text_model::ScheduleRefusal;
 use crate::of_tree_config::{TreeKey, TreeRefusal};
 use checkpoint::ResumeRefusal;
+use joining::of_join_model::TableRefusal;
 use run_engine::BuildRefusal;
 use witness_check::CheckRefusal;
 
@@ -33,7 +34,11 @@ pub enum Status {
     Checkpoint(ResumeRefusal),
     /// The key of the first list that is too small for the turn that goes on to be named.
     SmallLists(TreeKey),
+    /// The number of the table, counted from 1, and why it isn't accepted.
+    Table(u32, TableRefusal),
     ReadFault(FileRole),
+    /// The number of the table that can't be read.
+    UnreadTable(u32),
     WriteFault,
     NoMemory,
 }
@@ -48,12 +53,13 @@ pub fn code(status: &Status) -> u8
         Status::ImageLoad(_) | Status::ImageBuild(_) => 3,
         Status::Tree(_) => 4,
         Status::Schedule(_, _) => 5,
-        Status::ReadFault(_) => 6,
+        Status::ReadFault(_) | Status::UnreadTable(_) => 6,
         Status::WriteFault => 7,
         Status::NoMemory => 8,
         Status::Witness(_) => 10,
         Status::Checkpoint(_) => 11,
         Status::SmallLists(_) => 12,
+        Status::Table(_, _) => 15,
     }
 }
 

@@ -13,6 +13,7 @@ use crate::checking::write_check;
 use crate::command::{Command, Prints, Run};
 use crate::fault::tell;
 use crate::files::{image_machine, tree_file};
+use crate::joined::write_joined;
 use crate::listing::SchedulePieces;
 use crate::of_any_machine::release;
 use crate::of_ddm_outside::{Failed, Shelf, Sink};
@@ -115,6 +116,7 @@ fn write_command<F: Shelf, K: Sink>(
         Command::Outcomes(seeds) => write_outcomes(alloc, files, out, seeds),
         Command::Record(recorded) => write_recorded(alloc, files, out, recorded),
         Command::Survey(survey) => write_survey(alloc, files, out, survey),
+        Command::Join(names) => write_joined(alloc, files, out, names),
         Command::About(about) => Ok(write_about(out, about)),
     }
 }

@@ -2,7 +2,7 @@
 
 ghost use Rattle.std.specs.Prelude.{◌≡◌, ◌≤◌, ◌<◌, ◌*◌, ◌+◌, map, length, Err, IfOk, IfSome, IsOk, MatchResult, None, Ok, Some, option_and_then, slice_get};
 ghost use Rattle.std.specs.String.{string_bytes};
-ghost use Rattle.ddm_cli.specs.Commands.{IsInRange, about_named, command_of, ends_at, file_check, file_resume, file_run, help_alone, help_asked, help_of_two, help_said, help_topic, kind_named, made_run, named_command, number_in, runs_survey, seed_list, seed_record, seed_run, seeds_survey, to_say, word_at};
+ghost use Rattle.ddm_cli.specs.Commands.{IsInRange, about_named, command_of, ends_at, file_check, file_resume, file_run, help_alone, help_asked, help_of_two, help_said, help_topic, kind_named, made_run, named_command, number_in, runs_survey, seed_list, seed_record, seed_run, seeds_survey, tables_named, to_say, word_at};
 ghost use Rattle.ddm_cli.specs.Views.{command_from};
 
 use crate::command::{
@@ -17,6 +17,8 @@ const MOST_TURNS: u64 = 1_048_576;
 const MOST_ROUNDS: u64 = 50_000;
 
 const MOST_SEEDS: u64 = 1_000_000;
+
+const MOST_TABLES: usize = 256;
 
 /// The number that a word spells, if it is at least and at most so much.
 #[tactic(auto, unfolding(crate::specs::Commands::number_in))]
@@ -305,6 +307,24 @@ fn runs_survey(words: &[String]) -> Result<Command<'_>, u32>
     }))
 }
 
+/// `join TABLE TABLE ..`.
+#[tactic(auto, unfolding(crate::specs::Commands::tables_named))]
+fn tables_named(words: &[String]) -> Result<Command<'_>, u32>
+    requires { 1 ≤ length words.now }
+    ensures is { MatchResult result
+        (λ c. tables_named (map string_bytes words.now) ≡ Ok (command_from c))
+        (λ k. tables_named (map string_bytes words.now) ≡ Err k) }
+    ensures range { IfOk result (λ c. IsInRange (command_from c)) }
+{
+    if words.len() < 3 {
+        return Err(words.len() as u32);
+    }
+    if words.len() > MOST_TABLES + 1 {
+        return Err(MOST_TABLES as u32 + 1);
+    }
+    Ok(Command::Join(&words[1..]))
+}
+
 /// The command of a name.
 #[tactic(auto, unfolding(crate::specs::Commands::about_named))]
 fn about_named(name: &str) -> Option<About>
@@ -323,6 +343,7 @@ fn about_named(name: &str) -> Option<About>
         "outcomes" => Some(About::Outcomes),
         "record" => Some(About::Record),
         "survey" => Some(About::Survey),
+        "join" => Some(About::Join),
         _ => None,
     }
 }
@@ -423,6 +444,7 @@ fn named_command(words: &[String]) -> Result<Command<'_>, u32>
         "outcomes" => seeds_survey(words),
         "record" => seed_record(words),
         "survey" => runs_survey(words),
+        "join" => tables_named(words),
         "help" => help_said(words),
         "--help" => alone(words, About::Help),
         "--version" => alone(words, About::Version),

@@ -61,6 +61,8 @@ fn words_at_fault(rt: HostRuntime) -> Result<(), Fail> {
         (&["survey", "i", "t", "even", "0", "1", "1048577"], 6),
         (&["survey", "i", "t", "skewed", "0", "1"], 6),
         (&["survey", "i", "t", "skewed", "0", "1", "1", "more"], 7),
+        (&["join"], 1),
+        (&["join", "a"], 2),
         (&["RUN", "a", "b", "c"], 0),
         (&["help", "walk"], 1),
         (&["help", "run", "more"], 2),
@@ -122,7 +124,7 @@ fn of_itself(rt: HostRuntime) -> Result<(), Fail> {
     }
     for name in [
         "run", "trace", "seed", "schedule", "make", "check", "unjam", "save", "resume", "outcomes",
-        "record", "survey",
+        "record", "survey", "join",
     ] {
         let said = output(alloc, &["help", name], &no_files)?;
         let line = format!(in alloc; "ddm {name} ")?;
