@@ -1,5 +1,5 @@
 -- Which leaves and buses are there, by the machine's counts, and what turns may name.
-use Rattle.std.proofs.Common.{◌≡◌, ℕ, Bool, true, ◌<◌, length, nat_lt, ap, ◌∙◌, arith}
+use Rattle.std.proofs.Common.{◌≡◌, ℕ, true, length, nat_lt, ap, ◌∙◌, arith}
 use Rattle.std.proofs.lemmas.Bool.{ltb-true}
 use Rattle.ddm_tree.specs.DdmTypes.Keys.{key_zero}
 use Rattle.ddm_tree.specs.DdmTypes.declared.sizes.TreeCounts.{TreeCounts}

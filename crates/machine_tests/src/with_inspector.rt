@@ -45,46 +45,68 @@ fn state_at(machine: &OneBus, item: u32, leaf: u32) -> Option<LeafState> {
     }
 }
 
-// The word was read by hart 0 from leaf 1.
-#[test]
-fn an_item_in_two_leaves(rt: HostRuntime) -> Result<(), Fail> {
-    let machine = after_a_read(rt.alloc())?;
-    let first = CopyPlace::LeafWay {
+/// Where the item is that hart 0 read from leaf 1.
+const READ_COPIES: [CopyPlace; 2] = [
+    CopyPlace::LeafWay {
         leaf: LeafNo(0),
         way: 1,
-    };
-    let second = CopyPlace::LeafWay {
+    },
+    CopyPlace::LeafWay {
         leaf: LeafNo(1),
         way: 0,
-    };
-    assert_eq!(rt;
-        places(rt.alloc(), &machine, 1)?.as_slice(),
-        [first, second].as_slice()
-    );
-    assert_eq!(rt; found(&machine, 1), Some((first, 5)));
-    let shared = Some(LeafState::Shared);
-    let at_leaves = states(rt.alloc(), &machine, ItemId(1))?;
-    assert_eq!(rt; at_leaves.as_slice(), [shared, shared].as_slice());
-    let at_leaves = states(rt.alloc(), &machine, ItemId(0))?;
-    assert_eq!(rt;
-        at_leaves.as_slice(),
-        [Some(LeafState::Exclusive), None].as_slice()
-    );
-    assert_eq!(rt; state_at(&machine, 1, 1), shared);
+    },
+];
+
+/// The states of an item that leaf 0 alone has.
+const OWN_STATES: [Option<LeafState>; 2] = [Some(LeafState::Exclusive), None];
+
+/// The places of the read item's copies.
+fn read_places(alloc: Global) -> Result<Vec<CopyPlace>, Fail> {
+    let machine = after_a_read(alloc)?;
+    places(alloc, &machine, 1)
+}
+
+#[test]
+fn copies_in_two_leaves(rt: HostRuntime) -> Result<(), Fail> {
+    let places = read_places(rt.alloc())?;
+    assert_eq!(rt; places.as_slice(), READ_COPIES.as_slice());
     Ok(())
 }
 
 #[test]
+fn first_copy(rt: HostRuntime) -> Result<(), Fail> {
+    let machine = after_a_read(rt.alloc())?;
+    assert_eq!(rt; found(&machine, 1), Some((READ_COPIES[0], 5)));
+    assert_eq!(rt; state_at(&machine, 1, 1), Some(LeafState::Shared));
+    Ok(())
+}
+
+/// The states at the leaves of the code's item.
+fn code_states(alloc: Global) -> Result<Vec<Option<LeafState>>, Fail> {
+    let machine = after_a_read(alloc)?;
+    Ok(states(alloc, &machine, ItemId(0))?)
+}
+
+#[test]
+fn states_at_leaves(rt: HostRuntime) -> Result<(), Fail> {
+    let states = code_states(rt.alloc())?;
+    assert_eq!(rt; states.as_slice(), OWN_STATES.as_slice());
+    Ok(())
+}
+
+/// What the bus has granted once an item was read.
+const READ_TRAFFIC: Traffic = Traffic {
+    reads: 1,
+    copies: 1,
+    erases: 0,
+    exclusives: 0,
+    outs: 0,
+    injects: 0,
+};
+
+#[test]
 fn granted_on_a_bus(rt: HostRuntime) -> Result<(), Fail> {
     let machine = after_a_read(rt.alloc())?;
-    let counts = Traffic {
-        reads: 1,
-        copies: 1,
-        erases: 0,
-        exclusives: 0,
-        outs: 0,
-        injects: 0,
-    };
-    assert_eq!(rt; granted(&machine, 0), Some(counts));
+    assert_eq!(rt; granted(&machine, 0), Some(READ_TRAFFIC));
     Ok(())
 }
