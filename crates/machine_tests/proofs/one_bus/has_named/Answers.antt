@@ -1,7 +1,7 @@
 use Rattle.std.proofs.Common.{◌≡◌, true, subst, sym}
 use Rattle.ddm_tree.specs.Machine.{is_part}
 use Rattle.machine_tests.specs.TreeModel.Turns.Machine.{names_part}
-use Rattle.machine_tests.specs.TreeModel.Turns.Tree.{bus_of_number, leaf_of_number}
+use Rattle.machine_tests.specs.TreeModel.Turns.Tree.{leaf_of_number}
 use Rattle.machine_tests.proofs.Parts.{bus_named, hart_named}
 use Rattle.machine_tests.proofs.one_bus.has_named.Goals as goal
 

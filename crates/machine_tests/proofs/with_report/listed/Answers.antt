@@ -1,4 +1,4 @@
-use Rattle.std.proofs.Common.{◌≡◌, ◌++◌, ◌∷◌, [], ◌∙◌, sym, arith}
+use Rattle.std.proofs.Common.{◌++◌, ◌∷◌, [], ◌∙◌, sym, arith}
 use Rattle.std.proofs.lemmas.List.{take_more}
 use Rattle.machine_tests.proofs.with_report.listed.Goals as goal
 
