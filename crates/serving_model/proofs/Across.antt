@@ -11,6 +11,7 @@ use Rattle.serving_model.specs.DdmTypes.declared.answers.TxKind.TheVariants.{Rea
 use Rattle.serving_model.specs.DdmTypes.declared.sizes.LeafState.{LeafState}
 use Rattle.serving_model.specs.DdmTypes.declared.keys.Stamp.{Stamp}
 use Rattle.serving_model.specs.DdmTypes.declared.turns.Turn.{Turn}
+use Rattle.bus_laws.specs.FlatModel.Flat.{FlatHart}
 use Rattle.serving_model.specs.TreeModel.declared.BusTurn.{BusTurn}
 use Rattle.serving_model.specs.TreeModel.State.Lists.{map_from, find_from, first_given, first_of}
 use Rattle.serving_model.specs.TreeModel.State.States.{is_held, is_reading}
@@ -67,7 +68,7 @@ find-set c x m i (suc j) (k ∷ ns) place =
     let next : (i + 1) + j ≡ c = omega (arith, place) in
     rw (find-set c x m (i + 1) j ns next) refl
 
-module _ (n : ℕ) (words : ℕ → List ℕ) (h x : ℕ) (within : x < n) (state : LeafState) (reads : is_reading state ≡ true) where
+module _ (n : ℕ) (words : ℕ → List ℕ) (g : FlatHart) (h x : ℕ) (within : x < n) (state : LeafState) (reads : is_reading state ≡ true) where
   -- these turns are granted on a bus and below it, the leaf has got the item, and all else is at rest
   pub record Served (w : Where) (d : DirValue) (ns : Nodes) (ts : List Turn) : Type 0 where
     pub parent : DirValue
@@ -78,14 +79,14 @@ module _ (n : ℕ) (words : ℕ → List ℕ) (h x : ℕ) (within : x < n) (stat
     pub is : child_over h (nodes kids) ≡ Some child
     pub there : child < length kids
     pub others : (j : ℕ) → j < length kids → j ≢ child → Settled n words (child_at j kids)
-    pub spine : Spine n words h (LeafIs n words x (got state) (asks_then x state)) (child_at child kids)
+    pub spine : Spine n words h (LeafIs n words g x (got state) (asks_then x state)) (child_at child kids)
 
-  module _ (w : Where) (d : DirValue) (ns : Nodes) (c : ℕ) (is : child_over h ns ≡ Some c) (there : c < length (children ns)) (r : DirRests x d) (bus : IsBusOk n d (children ns)) (calm : (j : ℕ) → j < length (children ns) → j ≢ c → Calm n words (child_at j (children ns))) (spine : Spine n words h (LeafIs n words x state (Some (read n words h x within state))) (child_at c (children ns))) (ok : IsTreeOk n (child_at c (children ns))) (lacks : is_held (child_hold x (child_at c (children ns))) ≡ false) (held : is_held (dir_hold x d) ≡ true) where
+  module _ (w : Where) (d : DirValue) (ns : Nodes) (c : ℕ) (is : child_over h ns ≡ Some c) (there : c < length (children ns)) (r : DirRests x d) (bus : IsBusOk n d (children ns)) (calm : (j : ℕ) → j < length (children ns) → j ≢ c → Calm n words (child_at j (children ns))) (spine : Spine n words h (LeafIs n words g x state (Some (read n words g h x within state))) (child_at c (children ns))) (ok : IsTreeOk n (child_at c (children ns))) (lacks : is_held (child_hold x (child_at c (children ns))) ≡ false) (held : is_held (dir_hold x d) ≡ true) where
     abbrev ks : List Node
     ks = children ns
 
-    asked : Asks n words h x within state (at_child (spot_in (where_path w) d c)) (child_at c ks) (ask_turns h (child_at c ks))
-    asked = ask n words h x within state (child_at c ks) spine ok lacks (at_child (spot_in (where_path w) d c))
+    asked : Asks n words g h x within state (at_child (spot_in (where_path w) d c)) (child_at c ks) (ask_turns h (child_at c ks))
+    asked = ask n words g h x within state (child_at c ks) spine ok lacks (at_child (spot_in (where_path w) d c))
 
     -- child k answers
     module _ (k : ℕ) (found : find_from (other_holds c x) 0 ks ≡ Some k) where
@@ -200,8 +201,8 @@ module _ (n : ℕ) (words : ℕ → List ℕ) (h x : ℕ) (within : x < n) (stat
           let e2 : nat_eq j k ≡ false = ne_eqb j k ne2 in
           at4 j l ∙ (rw (only-local c j, e1, e2) refl ∙ (at3-other j ne2 ∙ at2-other j l ne1 ne2))
 
-      takes-it : Takes n words h x within state reads (at_child (spot_in (where_path w) p2 c)) (child_take_data x (words x) s2 (child_request_taken asked.after)) (take_turns h (child_at c ks))
-      takes-it = subst (λ ts. Takes n words h x within state reads (at_child (spot_in (where_path w) p2 c)) (child_take_data x (words x) s2 (child_request_taken asked.after)) ts) same-turns (take n words h x within state reads (child_request_taken asked.after) asked.waits (at_child (spot_in (where_path w) p2 c)) s2) where
+      takes-it : Takes n words g h x within state reads (at_child (spot_in (where_path w) p2 c)) (child_take_data x (words x) s2 (child_request_taken asked.after)) (take_turns h (child_at c ks))
+      takes-it = subst (λ ts. Takes n words g h x within state reads (at_child (spot_in (where_path w) p2 c)) (child_take_data x (words x) s2 (child_request_taken asked.after)) ts) same-turns (take n words g h x within state reads (child_request_taken asked.after) asked.waits (at_child (spot_in (where_path w) p2 c)) s2) where
         same-turns : take_turns h (child_request_taken asked.after) ≡ take_turns h (child_at c ks)
         same-turns = taken-turns h asked.after ∙ turns-same h asked.after (child_at c ks) (runs-skeleton asked.run)
 
@@ -219,7 +220,7 @@ module _ (n : ℕ) (words : ℕ → List ℕ) (h x : ℕ) (within : x < n) (stat
         at j (yes same) =
             let zero_more : 0 + j ≡ j = omega arith in
             let here : nat_eq j c ≡ true = eq-eqb j c same in
-            let room : child_full_for DataTx x (child_at j l3) ≡ None = subst (λ i. child_full_for DataTx x (child_at i l3) ≡ None) (sym same) (subst (λ m. child_full_for DataTx x m ≡ None) (sym at3-c) (free-for_data n words h x within state reads (child_request_taken asked.after) asked.waits)) in
+            let room : child_full_for DataTx x (child_at j l3) ≡ None = subst (λ i. child_full_for DataTx x (child_at i l3) ≡ None) (sym same) (subst (λ m. child_full_for DataTx x m ≡ None) (sym at3-c) (free-for_data n words g h x within state reads (child_request_taken asked.after) asked.waits)) in
             rw (zero_more, only-local c j, here) room
         at j (no other) =
             let zero_more : 0 + j ≡ j = omega arith in
@@ -254,7 +255,7 @@ module _ (n : ℕ) (words : ℕ → List ℕ) (h x : ℕ) (within : x < n) (stat
       run1 : Runs w (dir_node d (nodes l1)) (Turn.Request d.bus c ∷ (give_turns x (child_at k ks) ++ Turn.Reply d.bus k ∷ take_turns h (child_at c ks))) (dir_node p2 (nodes l5))
       unfolding read_of_child
       run1 =
-          let has : child_request (child_at c l1) ≡ Some (read n words h x within state) = ap child_request at1-c ∙ asked.request in
+          let has : child_request (child_at c l1) ≡ Some (read n words g h x within state) = ap child_request at1-c ∙ asked.request in
           let found1 : find_from (other_holds c x) 0 l1 ≡ Some k = find-set c x asked.after 0 c ks (omega arith) ∙ found in
           let room : child_full_for ReadTx x (child_at k l1) ≡ None = subst (λ m. child_full_for ReadTx x m ≡ None) (sym (at1-other k apart)) (free-to_answer n words x within (child_at k ks) (calm k in-k apart)) in
           turned l1 (read_of_child c x d l1 k) refl (request-across (stamp_above w) x c k d l1 has r.items.note (not-pending x d r.items.note r.items.answers r.lists.down) held found1 room) run2
@@ -272,7 +273,7 @@ module _ (n : ℕ) (words : ℕ → List ℕ) (h x : ℕ) (within : x < n) (stat
         is = same-over h 0 (nodes l5) ns (dir-bones p2 d (nodes l5) ns (runs-skeleton run0)) ∙ is;
         there = subst (λ n. c < n) (sym many5) there;
         others = λ j l ne. at j (subst (λ n. j < n) many5 l) ne (ℕ_discrete j k);
-        spine = subst (Spine n words h (LeafIs n words x (got state) (asks_then x state))) (sym (get_or-set_same l4 c takes-it.after no_node (subst (λ n. c < n) (sym many4) there))) takes-it.spine;
+        spine = subst (Spine n words h (LeafIs n words g x (got state) (asks_then x state))) (sym (get_or-set_same l4 c takes-it.after no_node (subst (λ n. c < n) (sym many4) there))) takes-it.spine;
       } where
         at : (j : ℕ) → j < length ks → j ≢ c → Dec (j ≡ k) → Settled n words (child_at j l5)
         at j l ne (yes same) =

@@ -9,6 +9,7 @@ use Rattle.serving_model.specs.DdmTypes.declared.sizes.Hold.{Hold}
 use Rattle.serving_model.specs.DdmTypes.declared.sizes.LeafState.{LeafState}
 use Rattle.serving_model.specs.DdmTypes.declared.keys.Stamp.{Stamp}
 use Rattle.serving_model.specs.DdmTypes.declared.turns.Turn.{Turn}
+use Rattle.bus_laws.specs.FlatModel.Flat.{FlatHart}
 use Rattle.serving_model.specs.TreeModel.declared.BusTurn.{BusTurn}
 use Rattle.serving_model.specs.TreeModel.State.Lists.{map_from, first_of, rest_of}
 use Rattle.serving_model.specs.TreeModel.State.States.{is_held}
@@ -42,13 +43,13 @@ asks-at h k no_nodes l = absurd (omega (arith, l))
 asks-at h zero (more_nodes m ns) l = refl
 asks-at h (suc k) (more_nodes m ns) l = asks-at h k ns (omega (arith, l))
 
-module _ (n : ℕ) (words : ℕ → List ℕ) (h x : ℕ) (within : x < n) (state : LeafState) where
+module _ (n : ℕ) (words : ℕ → List ℕ) (g : FlatHart) (h x : ℕ) (within : x < n) (state : LeafState) where
   abbrev pub read : RequestValue
   read = record { kind = ReadTx; item = x }
 
   -- the read of the leaf was granted on each bus of the part, and nothing of it has come back; all else is at rest
   pub data Waits : Node → Type 0 where
-    waits_leaf : {v : LeafValue} → nat_eq v.number h ≡ true → LeafIs n words x state None v → Waits (leaf_node v)
+    waits_leaf : {v : LeafValue} → nat_eq v.number h ≡ true → LeafIs n words g x state None v → Waits (leaf_node v)
     waits_over : {d : DirValue} {ns : Nodes} → (c : ℕ) → child_over h ns ≡ Some c → c < length (children ns) → ItemsAre x Hold.Invalid (up_read c 0) false d.items → ListsAre [] [] [] d → dir_has_room d.sizes ≡ true
         → ((j : ℕ) → j < length (children ns) → j ≢ c → Settled n words (child_at j (children ns))) → Waits (child_at c (children ns)) → Waits (dir_node d ns)
 
@@ -114,12 +115,12 @@ module _ (n : ℕ) (words : ℕ → List ℕ) (h x : ℕ) (within : x < n) (stat
       waits = waits-last;
     }))
 
-  pub ask : (m : Node) → Spine n words h (LeafIs n words x state (Some read)) m → IsTreeOk n m → is_held (child_hold x m) ≡ false → (w : Where) → Asks w m (ask_turns h m)
+  pub ask : (m : Node) → Spine n words h (LeafIs n words g x state (Some read)) m → IsTreeOk n m → is_held (child_hold x m) ≡ false → (w : Where) → Asks w m (ask_turns h m)
   ask (leaf_node v) (at_leaf number is) ok none w = record {
     after = leaf_node v;
     run = stays;
     request = is.slot;
-    waits = waits_leaf number (record { entry = is.entry; here = is.here; in_state = is.in_state; others = is.others; buffer = is.buffer; slot = refl; replies = is.replies; copies = is.copies; room = is.room });
+    waits = waits_leaf number (record { entry = is.entry; here = is.here; in_state = is.in_state; others = is.others; buffer = is.buffer; slot = refl; replies = is.replies; copies = is.copies; room = is.room; hart = is.hart; reserved = is.reserved });
   }
   ask (dir_node d ns) (over c is there rests room others deeper) ok none w =
       let r = dir-rests x d (dir-knows n x within d (children ns) ok.0) rests in

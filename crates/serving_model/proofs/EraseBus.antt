@@ -9,6 +9,7 @@ use Rattle.std.proofs.lemmas.List.{length-set}
 use Rattle.serving_model.specs.DdmTypes.declared.answers.TxKind.TheVariants.{EraseTx}
 use Rattle.serving_model.specs.DdmTypes.declared.keys.Stamp.{Stamp}
 use Rattle.serving_model.specs.DdmTypes.declared.turns.Turn.{Turn}
+use Rattle.bus_laws.specs.FlatModel.Flat.{FlatHart}
 use Rattle.serving_model.specs.TreeModel.declared.BusTurn.{BusTurn}
 use Rattle.serving_model.specs.TreeModel.State.Lists.{map_from, first_given}
 use Rattle.serving_model.specs.TreeModel.State.States.{is_exclusive}
@@ -46,7 +47,7 @@ turns-set [] c = refl
 turns-set (ts ∷ each) zero = refl
 turns-set (ts ∷ each) (suc c) = turns-set each c
 
-module _ (n : ℕ) (words : ℕ → List ℕ) (h x : ℕ) (within : x < n) where
+module _ (n : ℕ) (words : ℕ → List ℕ) (g : FlatHart) (h x : ℕ) (within : x < n) where
   abbrev pub erase : RequestValue
   erase = record { kind = EraseTx; item = x }
 
@@ -55,7 +56,7 @@ module _ (n : ℕ) (words : ℕ → List ℕ) (h x : ℕ) (within : x < n) where
     pub after : Node
     pub run : Runs w m ts after
     pub request : child_request after ≡ Some erase
-    pub erases : Erases n words h x within (child_request_taken after)
+    pub erases : Erases n words g h x within (child_request_taken after)
 
   module _ (w : Where) (d : DirValue) (ns : Nodes) (c : ℕ) (is : child_over h ns ≡ Some c) (there : c < length (children ns)) (r : DirRests x d) (calm : (j : ℕ) → j < length (children ns) → j ≢ c → Calm n words (child_at j (children ns)))
       (one : Clears (at_child (spot_in (where_path w) d c)) (child_at c (children ns)) (clear_turns h x (child_at c (children ns)))) (e : Bool) (holds : is_exclusive (dir_hold x d) ≡ e)

@@ -17,8 +17,10 @@ pub mod Exclusive
 pub mod EraseBus
 pub mod Erase
 pub mod FreeWay
+pub mod Wants
 pub mod Hart
 pub mod Issued
 pub mod Instruction
+pub mod Completing
 pub mod Short
 pub mod Harts

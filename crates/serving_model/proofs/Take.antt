@@ -11,6 +11,7 @@ use Rattle.serving_model.specs.DdmTypes.declared.sizes.Hold.{Hold}
 use Rattle.serving_model.specs.DdmTypes.declared.sizes.LeafState.{LeafState}
 use Rattle.serving_model.specs.DdmTypes.declared.keys.Stamp.{Stamp}
 use Rattle.serving_model.specs.DdmTypes.declared.turns.Turn.{Turn}
+use Rattle.bus_laws.specs.FlatModel.Flat.{FlatHart}
 use Rattle.serving_model.specs.TreeModel.declared.BusTurn.{BusTurn}
 use Rattle.serving_model.specs.TreeModel.State.Lists.{map_from, first_given}
 use Rattle.serving_model.specs.TreeModel.State.States.{is_reading}
@@ -77,15 +78,15 @@ takes-at h k no_nodes l = absurd (omega (arith, l))
 takes-at h zero (more_nodes m ns) l = refl
 takes-at h (suc k) (more_nodes m ns) l = takes-at h k ns (omega (arith, l))
 
-module _ (n : ℕ) (words : ℕ → List ℕ) (h x : ℕ) (within : x < n) (state : LeafState) (reads : is_reading state ≡ true) where
+module _ (n : ℕ) (words : ℕ → List ℕ) (g : FlatHart) (h x : ℕ) (within : x < n) (state : LeafState) (reads : is_reading state ≡ true) where
   -- these turns of a part are granted, the leaf has got the item, and all else is at rest
   pub record Takes (w : Where) (m : Node) (ts : List Turn) : Type 0 where
     pub after : Node
     pub run : Runs w m ts after
-    pub spine : Spine n words h (LeafIs n words x (got state) (asks_then x state)) after
+    pub spine : Spine n words h (LeafIs n words g x (got state) (asks_then x state)) after
 
   -- a child that waits has room for data
-  pub free : (m : Node) → Waits n words h x within state m → child_full_for DataTx x m ≡ None
+  pub free : (m : Node) → Waits n words g h x within state m → child_full_for DataTx x m ≡ None
   free (leaf_node v) waits = refl
   free (dir_node d ns) (waits_over c is there items lists room others deeper) =
       let full = not-full d.sizes.down_room d.down (dir-room d.sizes room).down lists.down in
@@ -168,24 +169,24 @@ module _ (n : ℕ) (words : ℕ → List ℕ) (h x : ℕ) (within : x < n) (stat
     listed : (j : ℕ) → j < length second → j ≢ c → Settled n words (child_at j second)
     listed j l ne = subst (Settled n words) (sym (get_or-set_other first c j one.after no_node ne ∙ get_or-set_other (children ns) c j _ no_node ne)) (others j (subst (λ k. j < k) many l) ne)
 
-    here : Spine n words h (LeafIs n words x (got state) (asks_then x state)) (child_at c second)
-    here = subst (Spine n words h (LeafIs n words x (got state) (asks_then x state))) (sym (get_or-set_same first c one.after no_node in-first)) one.spine
+    here : Spine n words h (LeafIs n words g x (got state) (asks_then x state)) (child_at c second)
+    here = subst (Spine n words h (LeafIs n words g x (got state) (asks_then x state))) (sym (get_or-set_same first c one.after no_node in-first)) one.spine
 
-    spine : Spine n words h (LeafIs n words x (got state) (asks_then x state)) (dir_node last (nodes second))
+    spine : Spine n words h (LeafIs n words g x (got state) (asks_then x state)) (dir_node last (nodes second))
     spine =
         let same = children-nodes second in
-        over c over-second (subst (λ l. c < length l) (sym same) (subst (λ k. c < k) (sym many) there)) (rests-dir x Hold.Shared last last-items last-lists) room (subst (λ l. (j : ℕ) → j < length l → j ≢ c → Settled n words (child_at j l)) (sym same) listed) (subst (λ l. Spine n words h (LeafIs n words x (got state) (asks_then x state)) (child_at c l)) (sym same) here)
+        over c over-second (subst (λ l. c < length l) (sym same) (subst (λ k. c < k) (sym many) there)) (rests-dir x Hold.Shared last last-items last-lists) room (subst (λ l. (j : ℕ) → j < length l → j ≢ c → Settled n words (child_at j l)) (sym same) listed) (subst (λ l. Spine n words h (LeafIs n words g x (got state) (asks_then x state)) (child_at c l)) (sym same) here)
 
     takes-so : Takes w (dir_node (dir_take_data x (words x) s d) ns) (Turn.Down d.bus ∷ turns_by (λ c. turns_of_child c (takes h ns)) (child_over h ns))
     takes-so = subst (λ e. Takes w (dir_node e ns) (Turn.Down d.bus ∷ turns_by (λ c. turns_of_child c (takes h ns)) (child_over h ns))) (sym told-is)
         (subst (λ o. Takes w (dir_node told ns) (Turn.Down d.bus ∷ turns_by (λ c. turns_of_child c (takes h ns)) o)) (sym is)
         (subst (λ ts. Takes w (dir_node told ns) (Turn.Down d.bus ∷ ts)) (sym (takes-at h c ns there)) (record { after = dir_node last (nodes second); run = run; spine = spine })))
 
-  pub take : (m : Node) → Waits n words h x within state m → (w : Where) (s : Stamp) → Takes w (child_take_data x (words x) s m) (take_turns h m)
+  pub take : (m : Node) → Waits n words g h x within state m → (w : Where) (s : Stamp) → Takes w (child_take_data x (words x) s m) (take_turns h m)
   take (leaf_node v) (waits_leaf number is) w s =
       let there : x < length v.ways = way-within x v.ways is.entry is.here in
       let e : WayValue = record is.entry { state = got state; words = words x } in
-      let so : LeafIs n words x (got state) (asks_then x state) (taken x is.entry state (words x) v) = record {
+      let so : LeafIs n words g x (got state) (asks_then x state) (taken x is.entry state (words x) v) = record {
         entry = e;
         here = get_or-set_same v.ways x (Some e) None there;
         in_state = refl;
@@ -195,6 +196,8 @@ module _ (n : ℕ) (words : ℕ → List ℕ) (h x : ℕ) (within : x < n) (stat
         replies = is.replies;
         copies = have-set words v.ways x e is.copies there (λ r. refl);
         room = is.room;
+        hart = is.hart;
+        reserved = is.reserved;
       } in
       subst (λ u. Takes w (leaf_node u) []) (sym (taken-is x is.entry v state (words x) is.here is.buffer is.slot is.in_state reads)) (record { after = leaf_node (taken x is.entry state (words x) v); run = stays; spine = at_leaf number so })
   take (dir_node d ns) (waits_over c is there items lists room others deeper) w s = takes-so d ns c is there items lists room others (free (child_at c (children ns)) deeper) (λ w s. take (child_at c (children ns)) deeper w s) w s

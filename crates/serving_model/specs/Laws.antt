@@ -1,14 +1,16 @@
 -- What holds of walks, a part of the tree at a time.
 -- Letters: n is how many items there are, x the item, m a part of the tree and w where it is, s a stamp.
 -- To be believed: it is what is claimed of them.
-use Rattle.std.specs.Prelude.{◌≡◌, ◌<◌, ◌≤◌, ◌+◌, ◌*◌, ℕ, true, List, [], ◌∷◌, length, map, None, Some}
+use Rattle.std.specs.Prelude.{◌≡◌, ◌<◌, ◌≤◌, ◌+◌, ◌*◌, ℕ, true, List, [], ◌∷◌, length, map, None, Some, Ok}
 use Rattle.std.specs.List.{list_all}
 use Rattle.serving_model.specs.DdmTypes.declared.answers.TurnAnswer.{TurnAnswer}
 use Rattle.serving_model.specs.DdmTypes.declared.answers.TxKind.{TxKind}
 use Rattle.serving_model.specs.DdmTypes.declared.answers.TxKind.TheVariants.{ReadTx, EraseTx}
+use Rattle.serving_model.specs.DdmTypes.declared.keys.Key.{Key}
 use Rattle.serving_model.specs.DdmTypes.declared.keys.Stamp.{Stamp}
 use Rattle.serving_model.specs.DdmTypes.declared.sizes.LeafState.{LeafState}
 use Rattle.serving_model.specs.DdmTypes.declared.turns.Turn.{Turn}
+use Rattle.bus_laws.specs.FlatModel.Flat.{Change, FlatHart, hart_step}
 use Rattle.serving_model.specs.TreeModel.State.Values.{LeafValue, Node, leaf_node, dir_node, MachineValue, root_of}
 use Rattle.serving_model.specs.TreeModel.State.Child.{child_holds, child_replies, child_answer, child_reply_taken, child_lose}
 use Rattle.serving_model.specs.TreeModel.State.Place.{Where, at_top}
@@ -20,7 +22,7 @@ use Rattle.bus_laws.specs.TreeModel.Laws.{Kept, kept_of}
 use Rattle.serving_model.specs.Rest.{tree_rests, is_at_rest, has_room}
 use Rattle.serving_model.specs.Serving.{walks_of, turns_to_complete}
 use Rattle.serving_model.specs.Parts.{Runs, is_granted, AllHave, BringsTo, Settled, Calm}
-use Rattle.serving_model.specs.OneLeaf.{LeafIs, RootSpine, got, asks_then, IsServed}
+use Rattle.serving_model.specs.OneLeaf.{hart_at, LeafIs, RootSpine, got, asks_then, IsServed}
 use Rattle.serving_model.specs.Walk.{give_turns, lose_turns, read_turns, erase_turns}
 
 -- these turns of a part are granted, it then has one reply, with the item's words, and when that is taken it is at rest
@@ -51,23 +53,24 @@ RunsAreTheMachines = (m : MachineValue) (ts : List Turn) (n : Node) → IsShaped
 -- Where all is at rest but for a leaf that asks to read an item, the walk serves it: its turns are granted, and the
 -- leaf has the item, Shared, or waiting to write it, with the words that all copies have.
 abbrev pub ReadsAreServed : Type 0
-ReadsAreServed = (m : MachineValue) (words : ℕ → List ℕ) (h x : ℕ) (state : LeafState) → x < items_of_machine m → is_reading state ≡ true → IsShaped m → IsMachineOk m
-    → RootSpine (items_of_machine m) words h (LeafIs (items_of_machine m) words x state (Some (record { kind = ReadTx; item = x }))) m.top m.kids
-    → IsServed m (read_turns h x (root_of m)) words h (LeafIs (items_of_machine m) words x (got state) (asks_then x state))
+ReadsAreServed = (m : MachineValue) (words : ℕ → List ℕ) (g : FlatHart) (h x : ℕ) (state : LeafState) → x < items_of_machine m → is_reading state ≡ true → IsShaped m → IsMachineOk m
+    → RootSpine (items_of_machine m) words h (LeafIs (items_of_machine m) words g x state (Some (record { kind = ReadTx; item = x }))) m.top m.kids
+    → IsServed m (read_turns h x (root_of m)) words h (LeafIs (items_of_machine m) words g x (got state) (asks_then x state))
 
 -- Where all is at rest but for a leaf that asks to erase all other copies of an item, the walk serves it, and the leaf
 -- has the item Exclusive.
 abbrev pub ErasesAreServed : Type 0
-ErasesAreServed = (m : MachineValue) (words : ℕ → List ℕ) (h x : ℕ) → x < items_of_machine m → IsShaped m → IsMachineOk m
-    → RootSpine (items_of_machine m) words h (LeafIs (items_of_machine m) words x LeafState.Waiting (Some (record { kind = EraseTx; item = x }))) m.top m.kids
-    → IsServed m (erase_turns h x (root_of m)) words h (LeafIs (items_of_machine m) words x LeafState.Exclusive None)
+ErasesAreServed = (m : MachineValue) (words : ℕ → List ℕ) (g : FlatHart) (h x : ℕ) → x < items_of_machine m → IsShaped m → IsMachineOk m
+    → RootSpine (items_of_machine m) words h (LeafIs (items_of_machine m) words g x LeafState.Waiting (Some (record { kind = EraseTx; item = x }))) m.top m.kids
+    → IsServed m (erase_turns h x (root_of m)) words h (LeafIs (items_of_machine m) words g x LeafState.Exclusive None)
 
 -- these turns of a machine are all granted and complete no operation; then the leaf has the item, Shared or Exclusive,
 -- all is at rest, and all copies have these words
 pub record Comes (m : MachineValue) (ts : List Turn) (words : ℕ → List ℕ) (h x : ℕ) : Type 0 where
+  pub g : FlatHart
   pub state : LeafState
   pub usable : may_leave state ≡ true
-  pub served : IsServed m ts words h (LeafIs (items_of_machine m) words x state None)
+  pub served : IsServed m ts words h (LeafIs (items_of_machine m) words g x state None)
   pub rests : tree_rests (dir_node served.top served.kids) ≡ true
   pub copies : AllHave words served.kids
 
@@ -76,6 +79,20 @@ pub record Comes (m : MachineValue) (ts : List Turn) (words : ℕ → List ℕ) 
 abbrev pub WalksBringTheItem : Type 0
 WalksBringTheItem = (m : MachineValue) (words : ℕ → List ℕ) (h victim : ℕ) (kind : TxKind) (x : ℕ) → IsShaped m → IsMachineOk m → is_at_rest m ≡ true → has_room m ≡ true → AllHave words m.kids
     → (turn_of (Turn.Hart h victim) m).answer ≡ TurnAnswer.Issued kind x → Comes (turn_of (Turn.Hart h victim) m).machine (walks_of h (turn_of (Turn.Hart h victim) m).machine) words h x
+
+-- the turn completes an instruction of this hart: it is the hart's step on a flat memory of these words
+pub record Completes (m : MachineValue) (t : Turn) (g : FlatHart) (words : ℕ → List ℕ) (h : ℕ) : Type 0 where
+  pub change : Change
+  pub step : hart_step m.code m.items g words true ≡ Ok change
+  pub key : Key
+  pub answer : (turn_of t m).answer ≡ TurnAnswer.Retired (record { key = key; hart = h; pc = g.hart.pc; effect = change.effect })
+
+-- And then the hart's next turn completes the instruction, as a flat memory of the same words has it. An SC for which
+-- the item was asked stores.
+abbrev pub RequestsComplete : Type 0
+RequestsComplete = (m : MachineValue) (words : ℕ → List ℕ) (h victim : ℕ) (kind : TxKind) (x : ℕ) → IsShaped m → IsMachineOk m → is_at_rest m ≡ true → has_room m ≡ true → AllHave words m.kids
+    → (turn_of (Turn.Hart h victim) m).answer ≡ TurnAnswer.Issued kind x → (g : FlatHart) → hart_at h m ≡ Some g → (later : ℕ)
+    → Completes (run_of (walks_of h (turn_of (Turn.Hart h victim) m).machine) (turn_of (Turn.Hart h victim) m).machine).machine (Turn.Hart h later) g words h
 
 -- Whatever the machine, an instruction takes at most four turns for each bus, and two of its hart.
 abbrev pub WalksAreShort : Type 0

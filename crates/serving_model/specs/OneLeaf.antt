@@ -6,19 +6,31 @@ use Rattle.std.specs.Prelude.{◌≡◌, ◌≢◌, ◌<◌, ℕ, true, nat_eq, 
 use Rattle.serving_model.specs.DdmTypes.declared.answers.TxKind.TheVariants.{EraseTx}
 use Rattle.serving_model.specs.DdmTypes.declared.sizes.LeafState.{LeafState}
 use Rattle.serving_model.specs.DdmTypes.declared.turns.Turn.{Turn}
+use Rattle.bus_laws.specs.FlatModel.Flat.{FlatHart, no_flat_hart}
 use Rattle.serving_model.specs.TreeModel.State.Values.{RequestValue, WayValue, LeafValue, DirValue, Node, Nodes, leaf_node, dir_node, children, MachineValue}
 use Rattle.serving_model.specs.TreeModel.State.Leaf.{way_at}
 use Rattle.serving_model.specs.TreeModel.Turns.Children.{child_at}
+use Rattle.serving_model.specs.TreeModel.Turns.Machine.{ask_leaf}
 use Rattle.serving_model.specs.TreeRules.Bus.Rules.{items_of_machine}
 use Rattle.serving_model.specs.Rest.{way_rests, leaf_has_room, dir_rests, dir_has_room}
 use Rattle.serving_model.specs.Parts.{WaysHave, Settled, BringsTo}
 use Rattle.serving_model.specs.Walk.{child_over}
 
+-- ---- harts
+
+-- a leaf's hart and its reservation
+abbrev pub leaf_hart : LeafValue → FlatHart
+leaf_hart v = record { hart = v.hart; reserved = v.reservation }
+
+-- those of the leaf of this number
+abbrev pub hart_at : ℕ → MachineValue → Option FlatHart
+hart_at h m = ask_leaf h (λ w v. leaf_hart v) no_flat_hart m
+
 -- ---- a leaf with one item under way
 
 -- the leaf has an entry of the item in this state and asks for this, all else of it is at rest, and its entries have
 -- these words
-pub record LeafIs (n : ℕ) (words : ℕ → List ℕ) (x : ℕ) (state : LeafState) (asks : Option RequestValue) (v : LeafValue) : Type 0 where
+pub record LeafIs (n : ℕ) (words : ℕ → List ℕ) (g : FlatHart) (x : ℕ) (state : LeafState) (asks : Option RequestValue) (v : LeafValue) : Type 0 where
   pub entry : WayValue
   pub here : way_at x v.ways ≡ Some entry
   pub in_state : entry.state ≡ state
@@ -28,6 +40,9 @@ pub record LeafIs (n : ℕ) (words : ℕ → List ℕ) (x : ℕ) (state : LeafSt
   pub replies : v.replies ≡ []
   pub copies : WaysHave words v.ways
   pub room : leaf_has_room n v.sizes ≡ true
+  -- its hart is this one, with this reservation
+  pub hart : v.hart ≡ g.hart
+  pub reserved : v.reservation ≡ g.reserved
 
 -- ---- the nodes over the leaf
 

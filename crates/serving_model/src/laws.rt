@@ -1,6 +1,6 @@
 //! What holds of walks, as theorems: there is nothing to run.
 
-ghost use Rattle.serving_model.specs.Laws.{PartsGive, PartsLose, RunsAreTheMachines, ReadsAreServed, ErasesAreServed, WalksBringTheItem, WalksAreShort, GrantsKeepHarts};
+ghost use Rattle.serving_model.specs.Laws.{PartsGive, PartsLose, RunsAreTheMachines, ReadsAreServed, ErasesAreServed, WalksBringTheItem, RequestsComplete, WalksAreShort, GrantsKeepHarts};
 
 /// A part of the tree that holds an item, and is at rest, gives it when it is told to answer: its turns are granted, and it is at rest
 /// again when its reply is taken.
@@ -32,6 +32,11 @@ pub fn erases_are_served()
 /// machine is at rest again.
 pub fn walks_bring_the_item()
     ensures { WalksBringTheItem }
+{}
+
+/// A hart whose item the walks have brought completes its instruction at its next turn, as its step on a flat memory is.
+pub fn requests_complete()
+    ensures { RequestsComplete }
 {}
 
 /// An instruction takes at most four turns of each bus, and two of its hart.
