@@ -26,8 +26,8 @@ use Rattle.serving_model.specs.TreeModel.Turns.HartTurn.{completes, no_need, nee
 use Rattle.serving_model.specs.TreeModel.Turns.Machine.{Turned, answer_here, turn_of, run_of}
 use Rattle.serving_model.specs.TreeRules.Bus.Rules.{IsMachineOk, items_of_machine}
 use Rattle.serving_model.specs.Rest.{way_rests, is_at_rest, has_room}
-use Rattle.serving_model.specs.Parts.{AllHave}
-use Rattle.serving_model.specs.OneLeaf.{leaf_hart, hart_at, LeafIs}
+use Rattle.serving_model.specs.Parts.{FlatView, AllHave}
+use Rattle.serving_model.specs.OneLeaf.{leaf_hart, hart_at, MayEndFor, LeafIs}
 use Rattle.serving_model.specs.Serving.{walks_of}
 use Rattle.serving_model.specs.Laws.{Completes}
 use Rattle.serving_model.proofs.TreeModel.FrameKept.{turn-frame, run-frame}
@@ -68,15 +68,15 @@ module _ (x : ℕ) (reserved : Option ℕ) (ask : Ask) (finish : List ℕ → Bo
   made s (to_write is) = record { change = storing_to x (finish (words x) false) reserved; step = rw is refl; at_leaf = rw (is, same) refl }
   made s (to_write_reserved is has) = record { change = conditional true x (finish (words x)); step = rw (is, has) refl; at_leaf = rw (is, has, same) refl }
 
-module _ (code : List CodeWord) (items : ItemTable) (n : ℕ) (words : ℕ → List ℕ) (g : FlatHart) (x : ℕ) (state : LeafState) (usable : may_leave state ≡ true) (wants : Wants code items g x state) (v : LeafValue) (is : LeafIs n words g x state None v) where
+module _ (code : List CodeWord) (items : ItemTable) (n : ℕ) (flat : FlatView) (g : FlatHart) (x : ℕ) (state : LeafState) (usable : may_leave state ≡ true) (wants : Wants code items g x state) (v : LeafValue) (is : LeafIs n flat g x state None v) where
   r : LeafRests v
-  r = leaf-rests v (settled-leaf n words g x state usable v is).rests
+  r = leaf-rests v (settled-leaf n flat g x state usable v is).rests
 
   entry-is : leaf_entry x v ≡ Some (way_entry is.entry)
   unfolding entry_at
   entry-is = rw is.here refl
 
-  pub here-same : words_here v x ≡ words x
+  pub here-same : words_here v x ≡ flat.words x
   here-same = rw entry-is (is.copies.each x is.entry is.here (ap is_reading is.in_state ∙ read-done state usable)) where
     read-done : (s : LeafState) → may_leave s ≡ true → is_reading s ≡ false
     read-done LeafState.Shared e = refl
@@ -93,8 +93,8 @@ module _ (code : List CodeWord) (items : ItemTable) (n : ℕ) (words : ℕ → L
   leaf-wants : WantsTo x v.reservation (ask_of code items v.hart) state
   leaf-wants = subst (λ k. WantsTo x v.reservation (ask_of code items k) state) (sym is.hart) (subst (λ k. WantsTo x k (ask_of code items g.hart) state) (sym is.reserved) wants.asks)
 
-  pub change : Made x v.reservation (ask_of code items v.hart) (finish_of code items v.hart) words (words_here v) here-same
-  change = made x v.reservation (ask_of code items v.hart) (finish_of code items v.hart) words (words_here v) here-same state leaf-wants
+  pub change : Made x v.reservation (ask_of code items v.hart) (finish_of code items v.hart) flat.words (words_here v) here-same
+  change = made x v.reservation (ask_of code items v.hart) (finish_of code items v.hart) flat.words (words_here v) here-same state leaf-wants
 
   running : v.hart.halt ≡ None
   running = ap (λ h. h.halt) is.hart ∙ wants.running
@@ -102,23 +102,26 @@ module _ (code : List CodeWord) (items : ItemTable) (n : ℕ) (words : ℕ → L
   pub own-is : leaf_hart v ≡ g
   own-is = ap (λ (h : HartValue). record { hart = h; reserved = v.reservation }) is.hart ∙ ap (λ (o : Option ℕ). record { hart = g.hart; reserved = o }) is.reserved
 
-  pub step-is : hart_step code items g words true ≡ Ok change.change
+  pub step-is : hart_step code items g flat.words true ≡ Ok change.change
   unfolding hart_step
-  step-is = subst (λ k. hart_step code items k words true ≡ Ok change.change) own-is own-step where
-    own-step : hart_step code items (leaf_hart v) words true ≡ Ok change.change
-    own-step = ap (λ o. unless_halted o (change_by (ask_of code items v.hart) v.reservation (finish_of code items v.hart) words true)) running ∙ change.step
+  step-is = subst (λ k. hart_step code items k flat.words true ≡ Ok change.change) own-is own-step where
+    own-step : hart_step code items (leaf_hart v) flat.words true ≡ Ok change.change
+    own-step = ap (λ o. unless_halted o (change_by (ask_of code items v.hart) v.reservation (finish_of code items v.hart) flat.words true)) running ∙ change.step
 
   pub deed-is : (victim : ℕ) → deed_of code items victim v ≡ completes change.change
   unfolding deed_of change_here
   deed-is victim = ap (deed_unless_halted code items victim v) running ∙ (ap (deed_unless_waiting code items victim v) (nothing-waits v r) ∙ (ap (deed_by_need code items victim v) (at-hand state is.in_state (ask_of code items v.hart) leaf-wants) ∙ ap deed_of_change change.at_leaf))
 
-  pub completing : (victim : ℕ) (now : Key) → (leaf_step code items now victim v).answer ≡ TurnAnswer.Retired (record { key = now; hart = v.number; pc = v.hart.pc; effect = change.change.effect })
+  abbrev pub retired : Key → ℕ → ℕ → TurnAnswer
+  retired now h pc = TurnAnswer.Retired (record { key = now; hart = h; pc = pc; effect = change.change.effect })
+
+  pub completing : (h victim : ℕ) (now : Key) → v.number ≡ h → (leaf_step code items now victim v).answer ≡ retired now h g.hart.pc
   unfolding leaf_step
-  completing victim now = ap (answer_of_deed now v) (deed-is victim)
+  completing h victim now number = ap (answer_of_deed now v) (deed-is victim) ∙ (ap (λ k. retired now k v.hart.pc) number ∙ ap (λ (b : HartValue). retired now h b.pc) is.hart)
 
 -- ---- of a machine
 
-module _ (m : MachineValue) (words : ℕ → List ℕ) (h victim : ℕ) (kind : TxKind) (x : ℕ) (shaped : IsShaped m) (ok : IsMachineOk m) (rests : is_at_rest m ≡ true) (room : has_room m ≡ true) (have : AllHave words m.kids) (issued : (turn_of (Turn.Hart h victim) m).answer ≡ TurnAnswer.Issued kind x) (g : FlatHart) (own : hart_at h m ≡ Some g) (later : ℕ) where
+module _ (m : MachineValue) (flat : FlatView) (h victim : ℕ) (kind : TxKind) (x : ℕ) (shaped : IsShaped m) (ok : IsMachineOk m) (rests : is_at_rest m ≡ true) (room : has_room m ≡ true) (have : AllHave flat m.kids) (may : MayEndFor flat h x m) (issued : (turn_of (Turn.Hart h victim) m).answer ≡ TurnAnswer.Issued kind x) (g : FlatHart) (own : hart_at h m ≡ Some g) (later : ℕ) where
   abbrev m1 : MachineValue
   m1 = (turn_of (Turn.Hart h victim) m).machine
 
@@ -128,24 +131,22 @@ module _ (m : MachineValue) (words : ℕ → List ℕ) (h victim : ℕ) (kind : 
   same-frame : (R : Frame → Type 0) → R (frame_of m) → R (frame_of m3)
   same-frame R r = subst R (sym (run-frame (walks_of h m1) m1 ∙ turn-frame (Turn.Hart h victim) m)) r
 
-  pub completed : Completes m3 (Turn.Hart h later) g words h
+  pub completed : Completes m3 (Turn.Hart h later) g flat.words h
   completed =
-      let c = came m words h victim kind x shaped ok rests room have issued in
+      let c = came m flat h victim kind x shaped ok rests room have may issued in
       let n = items_of_machine m1 in
-      let Q : LeafValue → Type 0 = λ v. LeafIs n words c.g x c.state None v in
-      let root = root-same n words h Q m3.top c.served.top m3.kids c.served.kids c.served.brings.root c.served.rests in
-      let one = root-reads (answer_here m3.code m3.items (Turn.Hart h later)) n words h Q m3.top m3.kids root in
+      let Q : LeafValue → Type 0 = λ v. LeafIs n flat c.g x c.state None v in
+      let root = root-same n flat h Q m3.top c.served.top m3.kids c.served.kids c.served.brings.root c.served.rests in
+      let one = root-reads (answer_here m3.code m3.items (Turn.Hart h later)) n flat h Q m3.top m3.kids root in
       let wants = same-frame (λ f. Wants f.code f.items c.g x c.state) c.wants in
-      let made = change m3.code m3.items n words c.g x c.state c.usable wants one.leaf one.is in
+      let made = change m3.code m3.items n flat c.g x c.state c.usable wants one.leaf one.is in
       let now = key_at_leaf one.place one.leaf.done in
-      let says = completing m3.code m3.items n words c.g x c.state c.usable wants one.leaf one.is later now in
-      let number : one.leaf.number ≡ h = eq-fact one.leaf.number h one.number in
-      let op : ℕ → ℕ → TurnAnswer = λ k p. TurnAnswer.Retired (record { key = now; hart = k; pc = p; effect = made.change.effect }) in
-      let answered : (turn_of (Turn.Hart h later) m3).answer ≡ op h c.g.hart.pc = ap (λ (o : Turned). o.answer) (turn-answered (Turn.Hart h later) m3 _ one.says) ∙ (says ∙ (ap (λ k. op k one.leaf.hart.pc) number ∙ ap (λ b. op h b.pc) one.is.hart)) in
+      let says = completing m3.code m3.items n flat c.g x c.state c.usable wants one.leaf one.is h later now (eq-fact one.leaf.number h one.number) in
+      let answered = ap (λ (o : Turned). o.answer) (turn-answered (Turn.Hart h later) m3 _ one.says) ∙ says in
       let same : c.g ≡ g = one-of (sym c.own ∙ own) in
-      subst (λ k. Completes m3 (Turn.Hart h later) k words h) same (record {
+      subst (λ k. Completes m3 (Turn.Hart h later) k flat.words h) same (record {
         change = made.change;
-        step = step-is m3.code m3.items n words c.g x c.state c.usable wants one.leaf one.is;
+        step = step-is m3.code m3.items n flat c.g x c.state c.usable wants one.leaf one.is;
         key = now;
         answer = answered;
       }) where

@@ -24,7 +24,7 @@ use Rattle.serving_model.specs.TreeModel.State.Leaf.{blank, way_at, way_entry, e
 use Rattle.serving_model.specs.TreeModel.Turns.HartTurn.{Deed, fetches, upgrades, Need, no_need, a_copy, no_other_copy, time, need_to_read, need_in_state, need_to_write, need_of, change_here, deed_of_change, deed_to_fetch, deed_by_need, deed_unless_waiting, deed_unless_halted, deed_of, answer_of_deed, leaf_after_deed, leaf_step}
 use Rattle.serving_model.specs.TreeRules.Bus.Own.{IsLeafOk}
 use Rattle.serving_model.specs.Rest.{way_rests}
-use Rattle.serving_model.specs.Parts.{Settled}
+use Rattle.serving_model.specs.Parts.{FlatView, Settled}
 use Rattle.serving_model.specs.OneLeaf.{leaf_hart, LeafIs}
 use Rattle.bus_laws.proofs.HartFacts.{entries-from_rules, way-within}
 use Rattle.serving_model.proofs.Lists.{pass-at}
@@ -33,11 +33,11 @@ use Rattle.serving_model.proofs.Give.{have-set}
 use Rattle.serving_model.proofs.FreeWay.{some-free}
 use Rattle.serving_model.proofs.Wants.{to_read, to_write, to_write_reserved, Wants, finally}
 
-module _ (code : List CodeWord) (items : ItemTable) (n : ℕ) (words : ℕ → List ℕ) (g : FlatHart) where
+module _ (code : List CodeWord) (items : ItemTable) (n : ℕ) (flat : FlatView) (g : FlatHart) where
   -- the leaf asks for the item: to read it, or to erase all other copies
   pub data Issue (u : LeafValue) (kind : TxKind) (x : ℕ) : Type 0 where
-    reads_it : (state : LeafState) → is_reading state ≡ true → kind ≡ ReadTx → x < n → Wants code items g x (finally state) → LeafIs n words g x state (Some (record { kind = ReadTx; item = x })) u → Issue u kind x
-    erases_it : kind ≡ EraseTx → x < n → Wants code items g x LeafState.Exclusive → LeafIs n words g x LeafState.Waiting (Some (record { kind = EraseTx; item = x })) u → Issue u kind x
+    reads_it : (state : LeafState) → is_reading state ≡ true → kind ≡ ReadTx → x < n → Wants code items g x (finally state) → LeafIs n flat g x state (Some (record { kind = ReadTx; item = x })) u → Issue u kind x
+    erases_it : kind ≡ EraseTx → x < n → Wants code items g x LeafState.Exclusive → LeafIs n flat g x LeafState.Waiting (Some (record { kind = EraseTx; item = x })) u → Issue u kind x
 
 -- a way that is found free has no item in it
 free-empty : (sizes : LeafSizes) (x way : ℕ) (ways : List (Option WayValue)) → free_way sizes x ways ≡ Some way → item_in_way sizes.sets x way ways ≡ None
@@ -56,7 +56,7 @@ free-empty sizes x way ways found = none-there (item_in_way sizes.sets x way way
         subst (λ i. is_none (item_in_way sizes.sets x i ways) ≡ true) same is
     at false is e rest = rest e
 
-module _ (code : List CodeWord) (items : ItemTable) (words : ℕ → List ℕ) (v : LeafValue) (ok : IsLeafOk (item_count items) v) (settled : Settled (item_count items) words (leaf_node v)) where
+module _ (code : List CodeWord) (items : ItemTable) (flat : FlatView) (v : LeafValue) (ok : IsLeafOk (item_count items) v) (settled : Settled (item_count items) flat (leaf_node v)) where
   abbrev n : ℕ
   n = item_count items
 
@@ -122,7 +122,7 @@ module _ (code : List CodeWord) (items : ItemTable) (words : ℕ → List ℕ) (
 
   module _ (now : Key) (victim : ℕ) (kind : TxKind) (x : ℕ) where
     abbrev Issues : Deed → Type 0
-    Issues deed = answer_of_deed now v deed ≡ TurnAnswer.Issued kind x → Issue code items n words own (leaf_after_deed v deed) kind x
+    Issues deed = answer_of_deed now v deed ≡ TurnAnswer.Issued kind x → Issue code items n flat own (leaf_after_deed v deed) kind x
 
     of-change : (c : Result Change HaltCause) → Issues (deed_of_change c)
     of-change (Ok c) e = cc
@@ -136,7 +136,7 @@ module _ (code : List CodeWord) (items : ItemTable) (words : ℕ → List ℕ) (
         let free : item_in_way v.sizes.sets y way v.ways ≡ None = free-empty v.sizes y way v.ways found in
         let there : y < length v.ways = subst (λ k. y < k) (sym (entries-from_rules n v ok).count) known in
         let new : WayValue = record { way = way; state = state; words = blank v.sizes.width } in
-        let made : LeafIs n words own y state (Some (record { kind = ReadTx; item = y })) (leaf_after_deed v (fetches y state way)) = rw free (record {
+        let made : LeafIs n flat own y state (Some (record { kind = ReadTx; item = y })) (leaf_after_deed v (fetches y state way)) = rw free (record {
           entry = new;
           here = get_or-set_same v.ways y (Some new) None there;
           in_state = refl;
@@ -144,12 +144,12 @@ module _ (code : List CodeWord) (items : ItemTable) (words : ℕ → List ℕ) (
           buffer = ap (λ l. l ++ []) r.buffer;
           slot = refl;
           replies = r.replies;
-          copies = have-set words v.ways y new settled.copies there (λ not. absurd (true≢false (sym reads ∙ not)));
+          copies = have-set flat v.ways y new settled.copies there (λ not. absurd (true≢false (sym reads ∙ not)));
           room = settled.room;
           hart = refl;
           reserved = refl;
         }) in
-        subst (λ z. Issue code items n words own (leaf_after_deed v (fetches y state way)) kind z) same (reads_it state reads (sym kinds) known wants made)
+        subst (λ z. Issue code items n flat own (leaf_after_deed v (fetches y state way)) kind z) same (reads_it state reads (sym kinds) known wants made)
 
     of-upgrade : (y : ℕ) (ws : List ℕ) → y < n → Wants code items own y LeafState.Exclusive → (e : WayValue) → way_at y v.ways ≡ Some e → e.state ≡ LeafState.Shared → ws ≡ e.words → Issues (upgrades y ws)
     of-upgrade y ws known wants e here shared right h =
@@ -157,8 +157,8 @@ module _ (code : List CodeWord) (items : ItemTable) (words : ℕ → List ℕ) (
         let same : y ≡ x = cc in
         let there : y < length v.ways = way-within y v.ways e here in
         let new : WayValue = record e { state = LeafState.Waiting; words = ws } in
-        let good : ws ≡ words y = right ∙ settled.copies.each y e here (ap is_reading shared) in
-        let made : LeafIs n words own y LeafState.Waiting (Some (record { kind = EraseTx; item = y })) (leaf_after_deed v (upgrades y ws)) = rw (here, r.buffer) (record {
+        let good : ws ≡ flat.words y = right ∙ settled.copies.each y e here (ap is_reading shared) in
+        let made : LeafIs n flat own y LeafState.Waiting (Some (record { kind = EraseTx; item = y })) (leaf_after_deed v (upgrades y ws)) = rw (here, r.buffer) (record {
           entry = new;
           here = get_or-set_same v.ways y (Some new) None there;
           in_state = refl;
@@ -166,12 +166,12 @@ module _ (code : List CodeWord) (items : ItemTable) (words : ℕ → List ℕ) (
           buffer = refl;
           slot = refl;
           replies = r.replies;
-          copies = have-set words v.ways y new settled.copies there (λ not. good);
+          copies = have-set flat v.ways y new settled.copies there (λ not. good);
           room = settled.room;
           hart = refl;
           reserved = refl;
         }) in
-        subst (λ z. Issue code items n words own (leaf_after_deed v (upgrades y ws)) kind z) same (erases_it (sym kinds) known wants made)
+        subst (λ z. Issue code items n flat own (leaf_after_deed v (upgrades y ws)) kind z) same (erases_it (sym kinds) known wants made)
 
     of-need : (need : Need) → NeedIs need → Issues (deed_by_need code items victim v need)
     of-need no_need is e = of-change (change_here code items v) e
@@ -187,6 +187,6 @@ module _ (code : List CodeWord) (items : ItemTable) (words : ℕ → List ℕ) (
     of-halted (Some cause) is e = cc
     of-halted None is e = of-waiting is (waiting_item v.ways v.buffer) e
 
-    pub leaf-issues : (leaf_step code items now victim v).answer ≡ TurnAnswer.Issued kind x → Issue code items n words own (leaf_step code items now victim v).leaf kind x
+    pub leaf-issues : (leaf_step code items now victim v).answer ≡ TurnAnswer.Issued kind x → Issue code items n flat own (leaf_step code items now victim v).leaf kind x
     unfolding leaf_step deed_of
     leaf-issues e = of-halted v.hart.halt refl e

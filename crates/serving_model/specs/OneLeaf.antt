@@ -2,10 +2,12 @@
 -- Letters: n is how many items there are, x the item, h the leaf, d a directory over the children ns, v a leaf, c the
 -- child over the leaf.
 -- To be believed with the laws: it is what they speak of.
-use Rattle.std.specs.Prelude.{◌≡◌, ◌≢◌, ◌<◌, ℕ, true, nat_eq, nat_lt, List, [], length, Option, Some, None}
+use Rattle.std.specs.Prelude.{◌≡◌, ◌≢◌, ◌<◌, ℕ, Bool, true, false, nat_eq, nat_lt, List, [], length, Option, Some, None}
 use Rattle.serving_model.specs.DdmTypes.declared.answers.TxKind.TheVariants.{EraseTx}
 use Rattle.serving_model.specs.DdmTypes.declared.sizes.LeafState.{LeafState}
 use Rattle.serving_model.specs.DdmTypes.declared.turns.Turn.{Turn}
+use Rattle.bus_laws.specs.FlatModel.declared.Ask.{Ask}
+use Rattle.bus_laws.specs.FlatModel.Hart.{ask_of}
 use Rattle.bus_laws.specs.FlatModel.Flat.{FlatHart, no_flat_hart}
 use Rattle.serving_model.specs.TreeModel.State.Values.{RequestValue, WayValue, LeafValue, DirValue, Node, Nodes, leaf_node, dir_node, children, MachineValue}
 use Rattle.serving_model.specs.TreeModel.State.Leaf.{way_at}
@@ -13,7 +15,7 @@ use Rattle.serving_model.specs.TreeModel.Turns.Children.{child_at}
 use Rattle.serving_model.specs.TreeModel.Turns.Machine.{ask_leaf}
 use Rattle.serving_model.specs.TreeRules.Bus.Rules.{items_of_machine}
 use Rattle.serving_model.specs.Rest.{way_rests, leaf_has_room, dir_rests, dir_has_room}
-use Rattle.serving_model.specs.Parts.{WaysHave, Settled, BringsTo}
+use Rattle.serving_model.specs.Parts.{FlatView, MayEnd, LeafHas, Settled, BringsTo}
 use Rattle.serving_model.specs.Walk.{child_over}
 
 -- ---- harts
@@ -22,15 +24,24 @@ use Rattle.serving_model.specs.Walk.{child_over}
 abbrev pub leaf_hart : LeafValue → FlatHart
 leaf_hart v = record { hart = v.hart; reserved = v.reservation }
 
+-- a load or an LR
+abbrev pub only_reads : Ask → Bool
+only_reads (Ask.NeedsShared x lr) = true
+only_reads _ = false
+
 -- those of the leaf of this number
 abbrev pub hart_at : ℕ → MachineValue → Option FlatHart
 hart_at h m = ask_leaf h (λ w v. leaf_hart v) no_flat_hart m
 
+-- where its next instruction stores to the item, reservations on it may end
+abbrev pub MayEndFor : FlatView → ℕ → ℕ → MachineValue → Type 0
+MayEndFor flat h x m = (g : FlatHart) → hart_at h m ≡ Some g → only_reads (ask_of m.code m.items g.hart) ≡ false → MayEnd flat x
+
 -- ---- a leaf with one item under way
 
--- the leaf has an entry of the item in this state and asks for this, all else of it is at rest, and its entries have
--- these words
-pub record LeafIs (n : ℕ) (words : ℕ → List ℕ) (g : FlatHart) (x : ℕ) (state : LeafState) (asks : Option RequestValue) (v : LeafValue) : Type 0 where
+-- the leaf has an entry of the item in this state and asks for this, all else of it is at rest, and it has the flat
+-- memory
+pub record LeafIs (n : ℕ) (flat : FlatView) (g : FlatHart) (x : ℕ) (state : LeafState) (asks : Option RequestValue) (v : LeafValue) : Type 0 where
   pub entry : WayValue
   pub here : way_at x v.ways ≡ Some entry
   pub in_state : entry.state ≡ state
@@ -38,7 +49,7 @@ pub record LeafIs (n : ℕ) (words : ℕ → List ℕ) (g : FlatHart) (x : ℕ) 
   pub buffer : v.buffer ≡ []
   pub slot : v.slot ≡ asks
   pub replies : v.replies ≡ []
-  pub copies : WaysHave words v.ways
+  pub copies : LeafHas flat v.number v.reservation v.ways
   pub room : leaf_has_room n v.sizes ≡ true
   -- its hart is this one, with this reservation
   pub hart : v.hart ≡ g.hart
@@ -47,19 +58,19 @@ pub record LeafIs (n : ℕ) (words : ℕ → List ℕ) (g : FlatHart) (x : ℕ) 
 -- ---- the nodes over the leaf
 
 -- the leaf is so, and all else is at rest
-pub data Spine (n : ℕ) (words : ℕ → List ℕ) (h : ℕ) (Q : LeafValue → Type 0) : Node → Type 0 where
-  at_leaf : {v : LeafValue} → nat_eq v.number h ≡ true → Q v → Spine n words h Q (leaf_node v)
-  over : {d : DirValue} {ns : Nodes} → (c : ℕ) → child_over h ns ≡ Some c → c < length (children ns) → dir_rests d ≡ true → dir_has_room d.sizes ≡ true → ((j : ℕ) → j < length (children ns) → j ≢ c → Settled n words (child_at j (children ns))) → Spine n words h Q (child_at c (children ns)) → Spine n words h Q (dir_node d ns)
+pub data Spine (n : ℕ) (flat : FlatView) (h : ℕ) (Q : LeafValue → Type 0) : Node → Type 0 where
+  at_leaf : {v : LeafValue} → nat_eq v.number h ≡ true → Q v → Spine n flat h Q (leaf_node v)
+  over : {d : DirValue} {ns : Nodes} → (c : ℕ) → child_over h ns ≡ Some c → c < length (children ns) → dir_rests d ≡ true → dir_has_room d.sizes ≡ true → ((j : ℕ) → j < length (children ns) → j ≢ c → Settled n flat (child_at j (children ns))) → Spine n flat h Q (child_at c (children ns)) → Spine n flat h Q (dir_node d ns)
 
 -- the same of a whole tree; its top sends nothing up
-pub record RootSpine (n : ℕ) (words : ℕ → List ℕ) (h : ℕ) (Q : LeafValue → Type 0) (d : DirValue) (ns : Nodes) : Type 0 where
+pub record RootSpine (n : ℕ) (flat : FlatView) (h : ℕ) (Q : LeafValue → Type 0) (d : DirValue) (ns : Nodes) : Type 0 where
   pub child : ℕ
   pub is : child_over h ns ≡ Some child
   pub there : child < length (children ns)
   pub rests : dir_rests d ≡ true
   pub down : nat_lt 0 d.sizes.down_room ≡ true
-  pub others : (j : ℕ) → j < length (children ns) → j ≢ child → Settled n words (child_at j (children ns))
-  pub spine : Spine n words h Q (child_at child (children ns))
+  pub others : (j : ℕ) → j < length (children ns) → j ≢ child → Settled n flat (child_at j (children ns))
+  pub spine : Spine n flat h Q (child_at child (children ns))
 
 -- ---- what an entry becomes when its data has come, and what its leaf asks for then
 
@@ -80,8 +91,8 @@ asks_then x LeafState.ReadingWaiting = Some (record { kind = EraseTx; item = x }
 -- ---- served
 
 -- these turns of a machine are all granted and complete no operation; then the leaf is so, and all else is at rest
-pub record IsServed (m : MachineValue) (ts : List Turn) (words : ℕ → List ℕ) (h : ℕ) (Q : LeafValue → Type 0) : Type 0 where
+pub record IsServed (m : MachineValue) (ts : List Turn) (flat : FlatView) (h : ℕ) (Q : LeafValue → Type 0) : Type 0 where
   pub top : DirValue
   pub kids : Nodes
   pub brings : BringsTo m ts (dir_node top kids)
-  pub rests : RootSpine (items_of_machine m) words h Q top kids
+  pub rests : RootSpine (items_of_machine m) flat h Q top kids
