@@ -121,7 +121,7 @@ module _ (code : List CodeWord) (items : ItemTable) (n : ℕ) (flat : FlatView) 
 
 -- ---- of a machine
 
-module _ (m : MachineValue) (flat : FlatView) (h victim : ℕ) (kind : TxKind) (x : ℕ) (shaped : IsShaped m) (ok : IsMachineOk m) (rests : is_at_rest m ≡ true) (room : has_room m ≡ true) (have : AllHave flat m.kids) (may : MayEndFor flat h x m) (issued : (turn_of (Turn.Hart h victim) m).answer ≡ TurnAnswer.Issued kind x) (g : FlatHart) (own : hart_at h m ≡ Some g) (later : ℕ) where
+module _ (m : MachineValue) (flat : FlatView) (h victim : ℕ) (kind : TxKind) (x : ℕ) (shaped : IsShaped m) (ok : IsMachineOk m) (rests : is_at_rest m ≡ true) (room : has_room m ≡ true) (have : AllHave flat m.kids) (may : MayEndFor flat h m) (issued : (turn_of (Turn.Hart h victim) m).answer ≡ TurnAnswer.Issued kind x) (g : FlatHart) (own : hart_at h m ≡ Some g) (later : ℕ) where
   abbrev m1 : MachineValue
   m1 = (turn_of (Turn.Hart h victim) m).machine
 

@@ -159,7 +159,7 @@ root-same n flat h Q d e ns ms same root =
     let both = same-top d e ns ms same in
     subst (λ k. RootSpine n flat h Q k ns) (sym both.0) (subst (λ ks. RootSpine n flat h Q e ks) (sym both.1) root)
 
-module _ (m : MachineValue) (flat : FlatView) (h victim : ℕ) (kind : TxKind) (x : ℕ) (shaped : IsShaped m) (ok : IsMachineOk m) (rests : is_at_rest m ≡ true) (room : has_room m ≡ true) (have : AllHave flat m.kids) (may : MayEndFor flat h x m) (issued : (turn_of (Turn.Hart h victim) m).answer ≡ TurnAnswer.Issued kind x) where
+module _ (m : MachineValue) (flat : FlatView) (h victim : ℕ) (kind : TxKind) (x : ℕ) (shaped : IsShaped m) (ok : IsMachineOk m) (rests : is_at_rest m ≡ true) (room : has_room m ≡ true) (have : AllHave flat m.kids) (may : MayEndFor flat h m) (issued : (turn_of (Turn.Hart h victim) m).answer ≡ TurnAnswer.Issued kind x) where
   abbrev t : Turn
   t = Turn.Hart h victim
 
@@ -231,7 +231,7 @@ module _ (m : MachineValue) (flat : FlatView) (h victim : ℕ) (kind : TxKind) (
 
   module _ (g : FlatHart) (own : hart_at h m ≡ Some g) where
     ends : Wants m.code m.items g x LeafState.Exclusive → MayEnd flat x
-    ends wants = may g own (wants-store m.code m.items g x wants)
+    ends wants = may g own x (wants-store m.code m.items g x wants)
 
     come : (ts : List Turn) (state : LeafState) → may_leave state ≡ true → Wants m.code m.items g x state → walks_of h m1 ≡ ts → IsServed m1 ts flat h (LeafIs n1 flat g x state None) → Came (walks_of h m1)
     come ts state leaves wants are s = subst Came (sym are) (record { g = g; own = own; state = state; usable = leaves; wants = wants; served = s })

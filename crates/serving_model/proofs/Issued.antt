@@ -52,7 +52,7 @@ module _ (h : ℕ) where
   abbrev name : Name
   name = leaf_of_number h
 
-  none-among : (i : ℕ) (ns : Nodes) → find_from (is_over h) i (children ns) ≡ None → has_among name ns ≡ false
+  pub none-among : (i : ℕ) (ns : Nodes) → find_from (is_over h) i (children ns) ≡ None → has_among name ns ≡ false
   none-among i no_nodes none = refl
   none-among i (more_nodes m ns) none = at (has_node name m) refl none (λ rest. none-among (i + 1) ns rest) where
     at : (b : Bool) → has_node name m ≡ b → (if b then Some i else find_from (is_over h) (i + 1) (children ns)) ≡ None → (find_from (is_over h) (i + 1) (children ns) ≡ None → has_among name ns ≡ false) → has_among name (more_nodes m ns) ≡ false

@@ -22,5 +22,8 @@ pub mod Hart
 pub mod Issued
 pub mod Instruction
 pub mod Completing
+pub mod AtRest
+pub mod Found
+pub mod Served
 pub mod Short
 pub mod Harts

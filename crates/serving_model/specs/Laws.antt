@@ -8,6 +8,7 @@ use Rattle.serving_model.specs.DdmTypes.declared.answers.TxKind.{TxKind}
 use Rattle.serving_model.specs.DdmTypes.declared.answers.TxKind.TheVariants.{ReadTx, EraseTx}
 use Rattle.serving_model.specs.DdmTypes.declared.keys.Key.{Key}
 use Rattle.serving_model.specs.DdmTypes.declared.keys.Stamp.{Stamp}
+use Rattle.serving_model.specs.DdmTypes.declared.operations.Op.{Op}
 use Rattle.serving_model.specs.DdmTypes.declared.sizes.LeafState.{LeafState}
 use Rattle.serving_model.specs.DdmTypes.declared.turns.Turn.{Turn}
 use Rattle.bus_laws.specs.FlatModel.Flat.{Change, FlatHart, hart_step}
@@ -20,7 +21,7 @@ use Rattle.serving_model.specs.TreeRules.Bus.Rules.{IsMachineOk, items_of_machin
 use Rattle.serving_model.specs.TreeModel.Turns.Machine.{turn_of, run_of, machine_leaves}
 use Rattle.bus_laws.specs.TreeModel.Laws.{Kept, kept_of}
 use Rattle.serving_model.specs.Rest.{tree_rests, is_at_rest, has_room}
-use Rattle.serving_model.specs.Serving.{walks_of, turns_to_complete}
+use Rattle.serving_model.specs.Serving.{walks_of, turns_to_complete, completes_op}
 use Rattle.serving_model.specs.Parts.{Runs, is_granted, FlatView, MayEnd, AllHave, BringsTo, Settled, Calm}
 use Rattle.serving_model.specs.OneLeaf.{hart_at, MayEndFor, LeafIs, RootSpine, got, asks_then, IsServed}
 use Rattle.serving_model.specs.Walk.{give_turns, lose_turns, read_turns, erase_turns}
@@ -79,7 +80,7 @@ pub record Comes (m : MachineValue) (ts : List Turn) (flat : FlatView) (h x : �
 -- machine is at rest again with the same words. Reservations may end on the item alone, where the instruction stores to
 -- it.
 abbrev pub WalksBringTheItem : Type 0
-WalksBringTheItem = (m : MachineValue) (flat : FlatView) (h victim : ℕ) (kind : TxKind) (x : ℕ) → IsShaped m → IsMachineOk m → is_at_rest m ≡ true → has_room m ≡ true → AllHave flat m.kids → MayEndFor flat h x m
+WalksBringTheItem = (m : MachineValue) (flat : FlatView) (h victim : ℕ) (kind : TxKind) (x : ℕ) → IsShaped m → IsMachineOk m → is_at_rest m ≡ true → has_room m ≡ true → AllHave flat m.kids → MayEndFor flat h m
     → (turn_of (Turn.Hart h victim) m).answer ≡ TurnAnswer.Issued kind x → Comes (turn_of (Turn.Hart h victim) m).machine (walks_of h (turn_of (Turn.Hart h victim) m).machine) flat h x
 
 -- the turn completes an instruction of this hart: it is the hart's step on a flat memory of these words
@@ -92,9 +93,16 @@ pub record Completes (m : MachineValue) (t : Turn) (g : FlatHart) (words : ℕ �
 -- And then the hart's next turn completes the instruction, as a flat memory of the same words has it. An SC for which
 -- the item was asked stores.
 abbrev pub RequestsComplete : Type 0
-RequestsComplete = (m : MachineValue) (flat : FlatView) (h victim : ℕ) (kind : TxKind) (x : ℕ) → IsShaped m → IsMachineOk m → is_at_rest m ≡ true → has_room m ≡ true → AllHave flat m.kids → MayEndFor flat h x m
+RequestsComplete = (m : MachineValue) (flat : FlatView) (h victim : ℕ) (kind : TxKind) (x : ℕ) → IsShaped m → IsMachineOk m → is_at_rest m ≡ true → has_room m ≡ true → AllHave flat m.kids → MayEndFor flat h m
     → (turn_of (Turn.Hart h victim) m).answer ≡ TurnAnswer.Issued kind x → (g : FlatHart) → hart_at h m ≡ Some g → (later : ℕ)
     → Completes (run_of (walks_of h (turn_of (Turn.Hart h victim) m).machine) (turn_of (Turn.Hart h victim) m).machine).machine (Turn.Hart h later) g flat.words h
+
+-- In a machine at rest, with room, the turns complete the hart's next instruction: the operation of its step on a flat
+-- memory of the same words, where an SC that has its reservation stores.
+abbrev pub InstructionsAreServed : Type 0
+InstructionsAreServed = (m : MachineValue) (flat : FlatView) (h : ℕ) (g : FlatHart) (change : Change) → IsShaped m → IsMachineOk m → is_at_rest m ≡ true → has_room m ≡ true → AllHave flat m.kids → MayEndFor flat h m
+    → hart_at h m ≡ Some g → hart_step m.code m.items g flat.words true ≡ Ok change → (op : Op) → op.hart ≡ h → op.pc ≡ g.hart.pc → op.effect ≡ change.effect
+    → completes_op op (run_of (turns_to_complete h m) m).answers ≡ true
 
 -- Whatever the machine, an instruction takes at most four turns for each bus, and two of its hart.
 abbrev pub WalksAreShort : Type 0

@@ -2,7 +2,7 @@
 -- Letters: n is how many items there are, x the item, h the leaf, d a directory over the children ns, v a leaf, c the
 -- child over the leaf.
 -- To be believed with the laws: it is what they speak of.
-use Rattle.std.specs.Prelude.{◌≡◌, ◌≢◌, ◌<◌, ℕ, Bool, true, false, nat_eq, nat_lt, List, [], length, Option, Some, None}
+use Rattle.std.specs.Prelude.{◌≡◌, ◌≢◌, ◌<◌, ℕ, true, nat_eq, nat_lt, List, [], length, Option, Some, None}
 use Rattle.serving_model.specs.DdmTypes.declared.answers.TxKind.TheVariants.{EraseTx}
 use Rattle.serving_model.specs.DdmTypes.declared.sizes.LeafState.{LeafState}
 use Rattle.serving_model.specs.DdmTypes.declared.turns.Turn.{Turn}
@@ -24,18 +24,19 @@ use Rattle.serving_model.specs.Walk.{child_over}
 abbrev pub leaf_hart : LeafValue → FlatHart
 leaf_hart v = record { hart = v.hart; reserved = v.reservation }
 
--- a load or an LR
-abbrev pub only_reads : Ask → Bool
-only_reads (Ask.NeedsShared x lr) = true
-only_reads _ = false
+-- the item that an instruction may store to
+abbrev pub written_item : Ask → Option ℕ
+written_item (Ask.NeedsExclusive x) = Some x
+written_item (Ask.Conditional x) = Some x
+written_item _ = None
 
 -- those of the leaf of this number
 abbrev pub hart_at : ℕ → MachineValue → Option FlatHart
 hart_at h m = ask_leaf h (λ w v. leaf_hart v) no_flat_hart m
 
--- where its next instruction stores to the item, reservations on it may end
-abbrev pub MayEndFor : FlatView → ℕ → ℕ → MachineValue → Type 0
-MayEndFor flat h x m = (g : FlatHart) → hart_at h m ≡ Some g → only_reads (ask_of m.code m.items g.hart) ≡ false → MayEnd flat x
+-- where its next instruction may store to an item, reservations on it may end
+abbrev pub MayEndFor : FlatView → ℕ → MachineValue → Type 0
+MayEndFor flat h m = (g : FlatHart) → hart_at h m ≡ Some g → (x : ℕ) → written_item (ask_of m.code m.items g.hart) ≡ Some x → MayEnd flat x
 
 -- ---- a leaf with one item under way
 

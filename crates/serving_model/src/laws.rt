@@ -1,6 +1,6 @@
 //! What holds of walks, as theorems: there is nothing to run.
 
-ghost use Rattle.serving_model.specs.Laws.{PartsGive, PartsLose, RunsAreTheMachines, ReadsAreServed, ErasesAreServed, WalksBringTheItem, RequestsComplete, WalksAreShort, GrantsKeepHarts};
+ghost use Rattle.serving_model.specs.Laws.{PartsGive, PartsLose, RunsAreTheMachines, ReadsAreServed, ErasesAreServed, WalksBringTheItem, RequestsComplete, InstructionsAreServed, WalksAreShort, GrantsKeepHarts};
 
 /// A part of the tree that holds an item, and is at rest, gives it when it is told to answer: its turns are granted, and it is at rest
 /// again when its reply is taken.
@@ -37,6 +37,12 @@ pub fn walks_bring_the_item()
 /// A hart whose item the walks have brought completes its instruction at its next turn, as its step on a flat memory is.
 pub fn requests_complete()
     ensures { RequestsComplete }
+{}
+
+/// In a machine at rest, with room, a hart's next instruction is served: the turns complete the operation of its step on a flat
+/// memory.
+pub fn instructions_are_served()
+    ensures { InstructionsAreServed }
 {}
 
 /// An instruction takes at most four turns of each bus, and two of its hart.
