@@ -2,7 +2,7 @@
 -- issues a request.
 -- Letters: n is how many items there are, x an item, v a leaf, c the change of the step.
 use Rattle.std.proofs.Common.{◌≡◌, ℕ, ◌*◌, ◌<◌, ◌≤◌, Bool, true, false, List, Option, Some, None, Result, Ok, Err, refl, sym, ap, subst, ◌∙◌, arith}
-use Rattle.std.specs.Prelude.{nat_le}
+use Rattle.std.specs.Prelude.{nat_eq, is_some, nat_le, if◌then◌else◌}
 use Rattle.std.proofs.lemmas.Bool.{and_parts, true≢false}
 use Rattle.std.proofs.lemmas.Bool.Decides.{nat_tests}
 use Rattle.serving_model.specs.DdmTypes.CodeMap.{CodeWord}
@@ -15,7 +15,7 @@ use Rattle.serving_model.specs.DdmTypes.declared.operations.HaltCause.{HaltCause
 use Rattle.serving_model.specs.DdmTypes.declared.sizes.LeafState.{LeafState}
 use Rattle.bus_laws.specs.FlatModel.declared.Ask.{Ask}
 use Rattle.bus_laws.specs.FlatModel.Hart.{Finished, ask_of, finish_of}
-use Rattle.bus_laws.specs.FlatModel.Flat.{Stored, Change, conditional, change_by, unless_halted, asked_item, has_reserved, hart_step}
+use Rattle.bus_laws.specs.FlatModel.Flat.{Stored, Change, conditional, change_by, unless_halted, asked_item, has_reserved, reserved_by_ask, hart_step}
 use Rattle.bus_laws.proofs.FlatModel.Items.{asks_inside}
 use Rattle.bus_laws.proofs.FlatModel.Steps.{step_reads, step_leaves, finish_failing}
 use Rattle.serving_model.specs.TreeModel.State.States.{is_reading, may_leave}
@@ -53,7 +53,7 @@ module _ (code : List CodeWord) (items : ItemTable) (flat : FlatView) (v : LeafV
     pub exclusive : entry.state ≡ LeafState.Exclusive
 
   pub data Does : Type 0 where
-    retires : deed_of code items victim v ≡ completes c → ((s : Stored) → c.stored ≡ Some s → Has s.item) → Does
+    retires : deed_of code items victim v ≡ completes c → ((s : Stored) → c.stored ≡ Some s → Has s.item) → ((y : ℕ) → has_reserved c.after.reserved y ≡ true → is_some (way_at y v.ways) ≡ true) → Does
     issues : (kind : TxKind) (x : ℕ) → ((now : Key) → answer_of_deed now v (deed_of code items victim v) ≡ TurnAnswer.Issued kind x) → Does
 
   -- ---- not halted, and nothing waits
@@ -98,14 +98,28 @@ module _ (code : List CodeWord) (items : ItemTable) (flat : FlatView) (v : LeafV
     read-done LeafState.Reading h = cc
     read-done LeafState.ReadingWaiting h = cc
 
+  -- ---- the reservation afterwards
+
+  abbrev IsHere : Option ℕ → Type 0
+  IsHere reserved = (y : ℕ) → has_reserved reserved y ≡ true → is_some (way_at y v.ways) ≡ true
+
+  after-here : IsHere (reserved_by_ask ask v.reservation) → IsHere c.after.reserved
+  after-here here = subst IsHere (sym (step_leaves code items (leaf_hart v) flat.words true c step).0) here
+
+  by-ask : (a : Ask) → ask ≡ a → IsHere (reserved_by_ask a v.reservation) → IsHere c.after.reserved
+  by-ask a is here = after-here (subst (λ b. IsHere (reserved_by_ask b v.reservation)) (sym is) here)
+
+  none-here : IsHere None
+  none-here y has = cc
+
   -- ---- what is done
 
-  retire : need_of ask v ≡ no_need → ((x : ℕ) → asked_item ask ≡ Some x → words_here v x ≡ flat.words x) → ((s : Stored) → c.stored ≡ Some s → Has s.item) → Does
+  retire : need_of ask v ≡ no_need → ((x : ℕ) → asked_item ask ≡ Some x → words_here v x ≡ flat.words x) → ((s : Stored) → c.stored ≡ Some s → Has s.item) → IsHere c.after.reserved → Does
   unfolding hart_step change_here
-  retire need same stored =
+  retire need same stored kept =
       let whole : hart_step code items (leaf_hart v) (words_here v) true ≡ Ok c = step_reads code items (leaf_hart v) (words_here v) flat.words true same ∙ step in
       let here : change_here code items v ≡ Ok c = ap (λ o. unless_halted o (change_by ask v.reservation (finish_of code items v.hart) (words_here v) true)) (sym running) ∙ whole in
-      retires (deed-is no_need need ∙ ap deed_of_change here) stored
+      retires (deed-is no_need need ∙ ap deed_of_change here) stored kept
 
   fetch : (x : ℕ) (state : LeafState) → x < n → way_at x v.ways ≡ None → need_of ask v ≡ a_copy x state → Does
   fetch x state known none need = at (free_way v.sizes x v.ways) refl where
@@ -121,10 +135,10 @@ module _ (code : List CodeWord) (items : ItemTable) (flat : FlatView) (v : LeafV
     one : {a b : ℕ} → Some a ≡ Some b → a ≡ b
     one h = cc
 
-  to-write : (x : ℕ) → asked_item ask ≡ Some x → need_of ask v ≡ need_to_write x (leaf_entry x v) → Does
-  to-write x is need = at (way_at x v.ways) refl where
+  to-write : (x : ℕ) → asked_item ask ≡ Some x → need_of ask v ≡ need_to_write x (leaf_entry x v) → IsHere c.after.reserved → Does
+  to-write x is need kept = at (way_at x v.ways) refl where
     by : (e : WayValue) (s : LeafState) → way_at x v.ways ≡ Some e → e.state ≡ s → need_of ask v ≡ need_in_state x e.words s → Does
-    by e LeafState.Exclusive there in_state need = retire need (λ y other. one-item x y e there is other) (λ s stored. subst Has (one (sym is ∙ (step_leaves code items (leaf_hart v) flat.words true c step).1 s stored)) (record { entry = e; there = there; exclusive = in_state })) where
+    by e LeafState.Exclusive there in_state need = retire need (λ y other. one-item x y e there is other) (λ s stored. subst Has (one (sym is ∙ (step_leaves code items (leaf_hart v) flat.words true c step).1 s stored)) (record { entry = e; there = there; exclusive = in_state })) kept where
       one : {a b : ℕ} → Some a ≡ Some b → a ≡ b
       one h = cc
     by e LeafState.Shared there in_state need = issues EraseTx x (λ now. ap (answer_of_deed now v) (deed-is _ need))
@@ -154,7 +168,13 @@ module _ (code : List CodeWord) (items : ItemTable) (flat : FlatView) (v : LeafV
 
     at : (o : Option WayValue) → way_at x v.ways ≡ o → Does
     at None none = fetch x LeafState.Reading (known x (ap asked_item is)) none (need ∙ ap (need_to_read x) (entry-none x none))
-    at (Some e) there = retire (need ∙ ap (need_to_read x) (entry-some x e there)) (λ y other. one-item x y e there (ap asked_item is) other) (λ s stored. none-stored s (ap stored-of change ∙ stored))
+    at (Some e) there = retire (need ∙ ap (need_to_read x) (entry-some x e there)) (λ y other. one-item x y e there (ap asked_item is) other) (λ s stored. none-stored s (ap stored-of change ∙ stored)) (by-ask (Ask.NeedsShared x lr) is (reserves lr e there)) where
+      same-item : (a b : ℕ) → nat_eq a b ≡ true → a ≡ b
+      same-item a b e = grind (arith, nat_tests)
+
+      reserves : (lr : Bool) (e : WayValue) → way_at x v.ways ≡ Some e → IsHere (if lr then Some x else v.reservation)
+      reserves true e there y has = subst (λ z. is_some (way_at z v.ways) ≡ true) (same-item x y has) (ap is_some there)
+      reserves false e there y has = settled.copies.here y has
 
   failing : (x : ℕ) → ask ≡ Ask.Conditional x → has_reserved v.reservation x ≡ false → Does
   unfolding change_here
@@ -166,7 +186,7 @@ module _ (code : List CodeWord) (items : ItemTable) (flat : FlatView) (v : LeafV
       let same = finish_failing code items v.hart x is (words_here v x) (flat.words x) in
       let change : conditional false x (finish (words_here v x)) ≡ conditional false x (finish (flat.words x)) = like (finish (words_here v x) false) (finish (flat.words x) false) same.0 same.1 in
       let is-c : conditional false x (finish (flat.words x)) ≡ c = one (sym flat-so ∙ flat-change) in
-      retires (deed-is no_need need ∙ ap deed_of_change (here-so ∙ ap (λ (d : Change). Ok d) (change ∙ is-c))) (λ s stored. none-stored s (ap (λ (d : Change). d.stored) is-c ∙ stored))
+      retires (deed-is no_need need ∙ ap deed_of_change (here-so ∙ ap (λ (d : Change). Ok d) (change ∙ is-c))) (λ s stored. none-stored s (ap (λ (d : Change). d.stored) is-c ∙ stored)) (by-ask (Ask.Conditional x) is none-here)
     where
       like : (f g : Finished) → f.effect ≡ g.effect → f.hart ≡ g.hart → conditional false x (λ b. f) ≡ conditional false x (λ b. g)
       like f g effect hart = rw (effect, hart) refl
@@ -174,21 +194,21 @@ module _ (code : List CodeWord) (items : ItemTable) (flat : FlatView) (v : LeafV
       one : {a b : Change} → (let r : Result Change HaltCause = Ok a in r ≡ Ok b) → a ≡ b
       one h = cc
 
-  plain : need_of ask v ≡ no_need → asked_item ask ≡ None → Does
-  plain need none = retire need (λ x is. absurd (apart (sym none ∙ is))) (λ s stored. absurd (apart (sym none ∙ (step_leaves code items (leaf_hart v) flat.words true c step).1 s stored))) where
+  plain : need_of ask v ≡ no_need → asked_item ask ≡ None → IsHere c.after.reserved → Does
+  plain need none kept = retire need (λ x is. absurd (apart (sym none ∙ is))) (λ s stored. absurd (apart (sym none ∙ (step_leaves code items (leaf_hart v) flat.words true c step).1 s stored))) kept where
     apart : {x : ℕ} → None ≡ Some x → ⊥
     apart h = cc
 
   pub does : Does
   does = by ask refl where
     by : (a : Ask) → ask ≡ a → Does
-    by Ask.Plain is = plain (ap (λ a. need_of a v) is) (ap asked_item is)
-    by (Ask.Put byte) is = plain (ap (λ a. need_of a v) is) (ap asked_item is)
+    by Ask.Plain is = plain (ap (λ a. need_of a v) is) (ap asked_item is) (by-ask Ask.Plain is settled.copies.here)
+    by (Ask.Put byte) is = plain (ap (λ a. need_of a v) is) (ap asked_item is) (by-ask (Ask.Put byte) is settled.copies.here)
     by (Ask.NeedsShared x lr) is = to-read x lr is
-    by (Ask.NeedsExclusive x) is = to-write x (ap asked_item is) (ap (λ a. need_of a v) is)
+    by (Ask.NeedsExclusive x) is = to-write x (ap asked_item is) (ap (λ a. need_of a v) is) (by-ask (Ask.NeedsExclusive x) is settled.copies.here)
     by (Ask.Conditional x) is = at (has_reserved v.reservation x) refl where
       at : (b : Bool) → has_reserved v.reservation x ≡ b → Does
-      at true has = to-write x (ap asked_item is) (rw (is, has) refl)
+      at true has = to-write x (ap asked_item is) (rw (is, has) refl) (by-ask (Ask.Conditional x) is none-here)
       at false none = failing x is none
     by (Ask.Halt cause) is = absurd (halted (sym (ap (λ a. change_by a v.reservation (finish_of code items v.hart) flat.words true) is) ∙ flat-change)) where
       halted : (let r : Result Change HaltCause = Err cause in r ≡ Ok c) → ⊥

@@ -15,6 +15,7 @@ use Rattle.serving_model.specs.DdmTypes.declared.turns.Turn.{Turn}
 use Rattle.serving_model.specs.TreeModel.declared.BusTurn.{BusTurn}
 use Rattle.serving_model.specs.TreeModel.State.Lists.{map_from, find_from, first_of, rest_of}
 use Rattle.serving_model.specs.TreeModel.State.States.{may_leave, is_reading}
+use Rattle.bus_laws.specs.FlatModel.Hart.{HartValue}
 use Rattle.serving_model.specs.TreeModel.State.Values.{CopyValue, WayValue, LeafValue, no_note, absent_item, DirValue, Node, Nodes, leaf_node, dir_node, no_nodes, more_nodes, nodes, children}
 use Rattle.serving_model.specs.TreeModel.State.Leaf.{blank, way_at, entry_at, leaf_hold, leaf_answer}
 use Rattle.serving_model.specs.TreeModel.State.Directory.{dir_hold, dir_note, is_answering, replies_full, stamp_of, counted, front_taken, pushed_reply, with_hold, with_answering, dir_answer}
@@ -53,8 +54,8 @@ reply-up above x k words p ns has note answers room = rw (has, note, answers, ro
 
 -- ---- words
 
-pub have-set : (flat : FlatView) {number : ℕ} {reserved : Option ℕ} (ways : List (Option WayValue)) (x : ℕ) (e : WayValue) → LeafHas flat number reserved ways → x < length ways → (is_reading e.state ≡ false → e.words ≡ flat.words x) → LeafHas flat number reserved (slice_set ways x (Some e))
-have-set flat ways x e have there right = record { each = λ y f is reads. at y f is reads (ℕ_discrete y x); allowed = have.allowed; here = λ y has. stays-here y (have.here y has) (ℕ_discrete y x) } where
+pub have-set : (flat : FlatView) {number : ℕ} {hart : HartValue} {reserved : Option ℕ} (ways : List (Option WayValue)) (x : ℕ) (e : WayValue) → LeafHas flat number hart reserved ways → x < length ways → (is_reading e.state ≡ false → e.words ≡ flat.words x) → LeafHas flat number hart reserved (slice_set ways x (Some e))
+have-set flat ways x e have there right = record { each = λ y f is reads. at y f is reads (ℕ_discrete y x); same_hart = have.same_hart; allowed = have.allowed; here = λ y has. stays-here y (have.here y has) (ℕ_discrete y x) } where
   stays-here : (y : ℕ) → is_some (way_at y ways) ≡ true → Dec (y ≡ x) → is_some (way_at y (slice_set ways x (Some e))) ≡ true
   stays-here y was (yes same) = subst (λ z. is_some (way_at z (slice_set ways x (Some e))) ≡ true) (sym same) (ap is_some (get_or-set_same ways x (Some e) None there))
   stays-here y was (no other) = ap is_some (get_or-set_other ways x y (Some e) None other) ∙ was

@@ -43,7 +43,7 @@ use Rattle.serving_model.proofs.Issued.{lower-fail, spine-has, IssuedIn, reads_i
 
 -- ---- runs behind one another
 
-run-on : (ts us : List Turn) (m : MachineValue) → (run_of (ts ++ us) m).machine ≡ (run_of us (run_of ts m).machine).machine
+pub run-on : (ts us : List Turn) (m : MachineValue) → (run_of (ts ++ us) m).machine ≡ (run_of us (run_of ts m).machine).machine
 unfolding run_of
 run-on [] us m = refl
 run-on (t ∷ ts) us m = run-on ts us (turn_of t m).machine
@@ -144,7 +144,7 @@ issued-answer t m a is some = at (turn_answer t m) refl where
   at (Some b) answered = ap Some (sym (ap (λ (o : Turned). o.answer) (turn-answered t m b answered)) ∙ is)
 
 -- trees that are one have one top, and the same under it
-same-top : (d e : DirValue) (ns ms : Nodes) → dir_node d ns ≡ dir_node e ms → (d ≡ e) × (ns ≡ ms)
+pub same-top : (d e : DirValue) (ns ms : Nodes) → dir_node d ns ≡ dir_node e ms → (d ≡ e) × (ns ≡ ms)
 same-top d e ns ms same = (ap top-of same, ap kids-of same) where
   top-of : Node → DirValue
   top-of (leaf_node v) = d

@@ -59,7 +59,7 @@ module _ (h : ℕ) where
     at true is e rest = cc
     at false is e rest = rw is (rest e)
 
-  has-child : (c : ℕ) (ns : Nodes) → c < length (children ns) → has_node name (child_at c (children ns)) ≡ true → has_among name ns ≡ true
+  pub has-child : (c : ℕ) (ns : Nodes) → c < length (children ns) → has_node name (child_at c (children ns)) ≡ true → has_among name ns ≡ true
   has-child c no_nodes l has = absurd (omega (arith, l))
   has-child zero (more_nodes m ns) l has = rw has refl
   has-child (suc c) (more_nodes m ns) l has = or-second (has_node name m) _ (has-child c ns (omega (arith, l)) has) where

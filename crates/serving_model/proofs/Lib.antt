@@ -24,6 +24,11 @@ pub mod Instruction
 pub mod Completing
 pub mod AtRest
 pub mod Found
+pub mod Numbers
+pub mod Alone
+pub mod Stepped
+pub mod Turned
+pub mod Shown
 pub mod Served
 pub mod Short
 pub mod Harts

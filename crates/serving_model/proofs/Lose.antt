@@ -13,6 +13,7 @@ use Rattle.serving_model.specs.DdmTypes.declared.sizes.Hold.{Hold}
 use Rattle.serving_model.specs.DdmTypes.declared.sizes.LeafState.{LeafState}
 use Rattle.serving_model.specs.DdmTypes.declared.keys.Stamp.{Stamp}
 use Rattle.serving_model.specs.DdmTypes.declared.turns.Turn.{Turn}
+use Rattle.bus_laws.specs.FlatModel.Hart.{HartValue}
 use Rattle.bus_laws.specs.FlatModel.Flat.{has_reserved}
 use Rattle.serving_model.specs.TreeModel.declared.BusTurn.{BusTurn}
 use Rattle.serving_model.specs.TreeModel.State.Lists.{map_from, first_given, some_if}
@@ -58,8 +59,8 @@ unreserved-was x y (Some z) has = at (nat_eq z x) refl has where
     apart : (z y x : ℕ) → nat_eq z y ≡ true → y ≡ x → nat_eq z x ≡ false → ⊥
     apart z y x has same is = grind (arith, nat_tests)
 
-pub have-unset : (flat : FlatView) {number : ℕ} {reserved : Option ℕ} (ways : List (Option WayValue)) (x : ℕ) → MayEnd flat x → LeafHas flat number reserved ways → LeafHas flat number (unreserved x reserved) (slice_set ways x None)
-have-unset flat {number} {reserved} ways x ends have = record { each = λ y f is reads. at y f is reads (ℕ_discrete y x); allowed = ends number reserved have.allowed; here = λ y has. let was = unreserved-was x y reserved has in ap is_some (get_or-set_other ways x y None None was.1) ∙ have.here y was.0 } where
+pub have-unset : (flat : FlatView) {number : ℕ} {hart : HartValue} {reserved : Option ℕ} (ways : List (Option WayValue)) (x : ℕ) → MayEnd flat x → LeafHas flat number hart reserved ways → LeafHas flat number hart (unreserved x reserved) (slice_set ways x None)
+have-unset flat {number} {hart} {reserved} ways x ends have = record { each = λ y f is reads. at y f is reads (ℕ_discrete y x); same_hart = have.same_hart; allowed = ends number reserved have.allowed; here = λ y has. let was = unreserved-was x y reserved has in ap is_some (get_or-set_other ways x y None None was.1) ∙ have.here y was.0 } where
   none-set : (ways : List (Option WayValue)) (x : ℕ) → way_at x (slice_set ways x None) ≡ None
   none-set [] x = refl
   none-set (o ∷ ways) zero = refl
@@ -107,7 +108,7 @@ module _ (n : ℕ) (flat : FlatView) (x : ℕ) (within : x < n) (ends : MayEnd f
     r : LeafRests v
     r = leaf-rests v calm.settled.rests
 
-    loses-so : (u : LeafValue) → LeafRests u → u.sizes ≡ v.sizes → LeafHas flat u.number u.reservation u.ways → leaf_lose x v ≡ u → Loses n flat w (leaf_node (leaf_lose x v)) []
+    loses-so : (u : LeafValue) → LeafRests u → u.sizes ≡ v.sizes → LeafHas flat u.number u.hart u.reservation u.ways → leaf_lose x v ≡ u → Loses n flat w (leaf_node (leaf_lose x v)) []
     loses-so u rests sizes have is = subst (λ u. Loses n flat w (leaf_node u) []) (sym is) (record {
       after = leaf_node u;
       run = stays;
@@ -115,7 +116,7 @@ module _ (n : ℕ) (flat : FlatView) (x : ℕ) (within : x < n) (ends : MayEnd f
     })
 
     at : (o : Option WayValue) → way_at x v.ways ≡ o → Loses n flat w (leaf_node (leaf_lose x v)) []
-    at None none = loses-so (record v { buffer = []; reservation = unreserved x v.reservation }) (record { ways = r.ways; buffer = refl; slot = r.slot; replies = r.replies }) refl (record { each = calm.settled.copies.each; allowed = ends v.number v.reservation calm.settled.copies.allowed; here = λ y has. calm.settled.copies.here y (unreserved-was x y v.reservation has).0 }) (lost-none x v none r.buffer)
+    at None none = loses-so (record v { buffer = []; reservation = unreserved x v.reservation }) (record { ways = r.ways; buffer = refl; slot = r.slot; replies = r.replies }) refl (record { each = calm.settled.copies.each; same_hart = calm.settled.copies.same_hart; allowed = ends v.number v.reservation calm.settled.copies.allowed; here = λ y has. calm.settled.copies.here y (unreserved-was x y v.reservation has).0 }) (lost-none x v none r.buffer)
     at (Some e) here =
         let leaves : way_rests (Some e) ≡ true = subst (λ o. way_rests o ≡ true) here (pass-at way_rests None refl v.ways r.ways x) in
         loses-so (lost x v) (record { ways = pass-set way_rests v.ways x None r.ways refl; buffer = refl; slot = r.slot; replies = r.replies }) refl (have-unset flat v.ways x ends calm.settled.copies) (lost-some x e v e.state here r.buffer refl leaves)

@@ -95,10 +95,10 @@ module _ (m : MachineValue) (flat : FlatView) (h : ℕ) (g : FlatHart) (c : Chan
     eq-fact : (a b : ℕ) → nat_eq a b ≡ true → a ≡ b
     eq-fact a b e = grind (arith, nat_tests)
 
-  answers : Answers
+  pub answers : Answers
   answers = by (does m.code m.items flat f.leaf f.calm.rules f.calm.settled c leaf-step 0) where
     by : Does m.code m.items flat f.leaf f.calm.rules f.calm.settled c leaf-step 0 → Answers
-    by (retires deed stored) = at_once now (said ∙ (ap (answer_of_deed now f.leaf) deed ∙ (ap (λ k. TurnAnswer.Retired (operation now k (leaf_hart f.leaf) c)) number ∙ ap (λ k. TurnAnswer.Retired (operation now h k c)) f.is)))
+    by (retires deed stored kept) = at_once now (said ∙ (ap (answer_of_deed now f.leaf) deed ∙ (ap (λ k. TurnAnswer.Retired (operation now k (leaf_hart f.leaf) c)) number ∙ ap (λ k. TurnAnswer.Retired (operation now h k c)) f.is)))
     by (issues kind x e) = asks kind x (said ∙ e now)
 
   -- the turn after the walks
@@ -109,10 +109,10 @@ module _ (m : MachineValue) (flat : FlatView) (h : ℕ) (g : FlatHart) (c : Chan
     walks-granted : list_all is_granted (run_of (walks_of h m1) m1).answers ≡ true
     walks-granted = (came m flat h 0 kind x shaped ok rests room have may is).served.brings.granted
 
-    done : Completes m3 t g flat.words h
+    pub done : Completes m3 t g flat.words h
     done = completed m flat h 0 kind x shaped ok rests room have may is g own 0
 
-    step3 : hart_step m3.code m3.items g flat.words true ≡ Ok c
+    pub step3 : hart_step m3.code m3.items g flat.words true ≡ Ok c
     step3 = subst (λ (k : Frame). hart_step k.code k.items g flat.words true ≡ Ok c) (sym (run-frame (walks_of h m1) m1 ∙ turn-frame t m)) step
 
     done-same : done.change ≡ c

@@ -11,7 +11,7 @@ use Rattle.serving_model.specs.DdmTypes.declared.keys.Stamp.{Stamp}
 use Rattle.serving_model.specs.DdmTypes.declared.operations.Op.{Op}
 use Rattle.serving_model.specs.DdmTypes.declared.sizes.LeafState.{LeafState}
 use Rattle.serving_model.specs.DdmTypes.declared.turns.Turn.{Turn}
-use Rattle.bus_laws.specs.FlatModel.Flat.{Change, FlatHart, hart_step}
+use Rattle.bus_laws.specs.FlatModel.Flat.{Change, FlatHart, FlatMachine, flat_hart, item_words, with_change, hart_step}
 use Rattle.serving_model.specs.TreeModel.State.Values.{LeafValue, Node, leaf_node, dir_node, MachineValue, root_of}
 use Rattle.serving_model.specs.TreeModel.State.Child.{child_holds, child_replies, child_answer, child_reply_taken, child_lose}
 use Rattle.serving_model.specs.TreeModel.State.Place.{Where, at_top}
@@ -24,6 +24,7 @@ use Rattle.serving_model.specs.Rest.{tree_rests, is_at_rest, has_room}
 use Rattle.serving_model.specs.Serving.{walks_of, turns_to_complete, completes_op}
 use Rattle.serving_model.specs.Parts.{Runs, is_granted, FlatView, MayEnd, AllHave, BringsTo, Settled, Calm}
 use Rattle.serving_model.specs.OneLeaf.{hart_at, MayEndFor, LeafIs, RootSpine, got, asks_then, IsServed}
+use Rattle.serving_model.specs.Shows.{Shows}
 use Rattle.serving_model.specs.Walk.{give_turns, lose_turns, read_turns, erase_turns}
 
 -- these turns of a part are granted, it then has one reply, with the item's words, and when that is taken it is at rest
@@ -103,6 +104,11 @@ abbrev pub InstructionsAreServed : Type 0
 InstructionsAreServed = (m : MachineValue) (flat : FlatView) (h : ℕ) (g : FlatHart) (change : Change) → IsShaped m → IsMachineOk m → is_at_rest m ≡ true → has_room m ≡ true → AllHave flat m.kids → MayEndFor flat h m
     → hart_at h m ≡ Some g → hart_step m.code m.items g flat.words true ≡ Ok change → (op : Op) → op.hart ≡ h → op.pc ≡ g.hart.pc → op.effect ≡ change.effect
     → completes_op op (run_of (turns_to_complete h m) m).answers ≡ true
+
+-- And then the machine is at rest again, and shows the flat machine after the step.
+abbrev pub StepsAreShown : Type 0
+StepsAreShown = (m : MachineValue) (f : FlatMachine) (h : ℕ) (g : FlatHart) (change : Change) → Shows m f → hart_at h m ≡ Some g → hart_step m.code m.items (flat_hart f h) (item_words f) true ≡ Ok change
+    → Shows (run_of (turns_to_complete h m) m).machine (with_change f h change)
 
 -- Whatever the machine, an instruction takes at most four turns for each bus, and two of its hart.
 abbrev pub WalksAreShort : Type 0

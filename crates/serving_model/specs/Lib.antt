@@ -8,6 +8,7 @@ pub mod Walk
 pub mod Parts
 pub mod OneLeaf
 pub mod Serving
+pub mod Shows
 pub mod Laws
 pub mod Texts
 pub mod Computing

@@ -50,7 +50,7 @@ pub record LeafIs (n : ℕ) (flat : FlatView) (g : FlatHart) (x : ℕ) (state : 
   pub buffer : v.buffer ≡ []
   pub slot : v.slot ≡ asks
   pub replies : v.replies ≡ []
-  pub copies : LeafHas flat v.number v.reservation v.ways
+  pub copies : LeafHas flat v.number v.hart v.reservation v.ways
   pub room : leaf_has_room n v.sizes ≡ true
   -- its hart is this one, with this reservation
   pub hart : v.hart ≡ g.hart

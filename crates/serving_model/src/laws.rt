@@ -1,6 +1,6 @@
 //! What holds of walks, as theorems: there is nothing to run.
 
-ghost use Rattle.serving_model.specs.Laws.{PartsGive, PartsLose, RunsAreTheMachines, ReadsAreServed, ErasesAreServed, WalksBringTheItem, RequestsComplete, InstructionsAreServed, WalksAreShort, GrantsKeepHarts};
+ghost use Rattle.serving_model.specs.Laws.{PartsGive, PartsLose, RunsAreTheMachines, ReadsAreServed, ErasesAreServed, WalksBringTheItem, RequestsComplete, InstructionsAreServed, StepsAreShown, WalksAreShort, GrantsKeepHarts};
 
 /// A part of the tree that holds an item, and is at rest, gives it when it is told to answer: its turns are granted, and it is at rest
 /// again when its reply is taken.
@@ -43,6 +43,12 @@ pub fn requests_complete()
 /// memory.
 pub fn instructions_are_served()
     ensures { InstructionsAreServed }
+{}
+
+/// And then the machine is at rest again: its copies have the words, and its leaves the harts and the reservations, of the flat machine
+/// after the step.
+pub fn steps_are_shown()
+    ensures { StepsAreShown }
 {}
 
 /// An instruction takes at most four turns of each bus, and two of its hart.
