@@ -2,10 +2,9 @@
 -- of the item that it stores to.
 -- Letters: n is how many items there are, x the item, h the hart and its leaf, m a part, d a directory over the children
 -- ns, v a leaf, c the child over the leaf.
-use Rattle.std.proofs.Common.{◌≡◌, ◌≢◌, ℕ, ◌+◌, ◌<◌, Bool, true, false, List, length, Option, Some, None, refl, sym, ap, subst, ◌∙◌, arith, get_or-set_same, get_or-set_other}
-use Rattle.std.specs.Prelude.{nat_eq, ◌&&◌, slice_set, if◌then◌else◌}
+use Rattle.std.proofs.Common.{◌≡◌, ◌≢◌, ℕ, ◌+◌, ◌<◌, Bool, true, false, List, length, Option, Some, None, refl, sym, ap, subst, ◌∙◌, arith}
+use Rattle.std.specs.Prelude.{nat_eq, slice_set}
 use Rattle.std.specs.Bool.{beq}
-use native.Mathlib.Decide.{ℕ_discrete}
 use Rattle.std.proofs.lemmas.Bool.{and_parts, true≢false}
 use Rattle.serving_model.specs.DdmTypes.CodeMap.{CodeWord}
 use Rattle.serving_model.specs.DdmTypes.ItemTable.{ItemTable}
@@ -13,7 +12,7 @@ use Rattle.serving_model.specs.DdmTypes.declared.sizes.Hold.{Hold}
 use Rattle.serving_model.specs.DdmTypes.declared.sizes.LeafState.{LeafState}
 use Rattle.serving_model.specs.DdmTypes.declared.turns.Turn.{Turn}
 use Rattle.serving_model.specs.TreeModel.State.States.{is_held, is_exclusive, may_leave}
-use Rattle.serving_model.specs.TreeModel.State.Values.{WayValue, LeafValue, no_note, DirValue, Node, Nodes, leaf_node, dir_node, nodes, children}
+use Rattle.serving_model.specs.TreeModel.State.Values.{WayValue, LeafValue, DirValue, Node, Nodes, leaf_node, dir_node, nodes, children}
 use Rattle.serving_model.specs.TreeModel.State.Leaf.{way_at, entry_at, leaf_hold}
 use Rattle.serving_model.specs.TreeModel.State.Directory.{dir_hold}
 use Rattle.serving_model.specs.TreeModel.State.Child.{child_hold, child_holds}
@@ -24,12 +23,11 @@ use Rattle.serving_model.specs.TreeModel.Turns.Tree.{Name, leaf_of_number, has_n
 use Rattle.serving_model.specs.TreeModel.Turns.HartTurn.{leaf_step}
 use Rattle.serving_model.specs.TreeModel.Turns.Machine.{node_after}
 use Rattle.serving_model.specs.TreeRules.Bus.Faces.{parent_face, child_face, faces_of}
-use Rattle.serving_model.specs.TreeRules.Bus.Item.{holds_it, holds_exclusive, one_holds, Bits, bits_of}
+use Rattle.serving_model.specs.TreeRules.Bus.Item.{holds_exclusive, one_holds, Bits, bits_of}
 use Rattle.serving_model.specs.TreeRules.Bus.Rules.{IsBusOk}
 use Rattle.serving_model.specs.Rest.{way_rests, dir_rests}
 use Rattle.serving_model.specs.Parts.{FlatView, LeafHas, Settled, Calm}
 use Rattle.serving_model.specs.OneLeaf.{Spine, at_leaf, over}
-use Rattle.serving_model.specs.Walk.{is_over}
 use Rattle.bus_laws.proofs.Answering.{child-hold}
 use Rattle.bus_laws.proofs.BitsOf.{any-true, one-at}
 use Rattle.serving_model.proofs.TreeRules.Implying.{implies-use}
@@ -40,7 +38,7 @@ use Rattle.serving_model.proofs.Settled.{LeafRests, leaf-rests, calm-dir, settle
 use Rattle.serving_model.proofs.Give.{dir-knows}
 use Rattle.serving_model.proofs.Steps.{change-child}
 use Rattle.serving_model.proofs.Spine.{children-lack}
-use Rattle.serving_model.proofs.Issued.{lower-fail, has-child, spine-has}
+use Rattle.serving_model.proofs.Issued.{has-child, spine-has}
 use Rattle.serving_model.proofs.Numbers.{ChildCounted, child-counted, others-lack}
 
 -- ---- a bus

@@ -1,11 +1,10 @@
 -- A machine at rest that shows a flat machine, after the turns that complete a hart's next instruction: it shows the
 -- flat machine after the hart's step.
 -- Letters: f is the flat machine before, h the hart, g the hart's state, c the change of its step, m the machine.
-use Rattle.std.proofs.Common.{◌≡◌, ℕ, ◌<◌, Bool, true, false, List, [], ◌∷◌, ◌++◌, length, Option, Some, None, Result, Ok, Err, refl, sym, ap, subst, ◌∙◌, arith, ◌⊎◌, inl, inr}
-use Rattle.std.specs.Prelude.{nat_eq, nat_lt, ◌&&◌, ◌||◌, if◌then◌else◌}
-use Rattle.std.proofs.lemmas.Bool.{and_parts, or_right, true≢false, eqb-true}
+use Rattle.std.proofs.Common.{◌≡◌, ℕ, ◌<◌, Bool, true, false, List, [], ◌∷◌, length, Option, Some, None, Result, Ok, Err, refl, sym, ap, subst, ◌∙◌, arith, ◌⊎◌, inl, inr}
+use Rattle.std.specs.Prelude.{nat_eq, nat_lt, ◌&&◌, ◌||◌}
+use Rattle.std.proofs.lemmas.Bool.{or_right, true≢false}
 use Rattle.std.proofs.lemmas.Bool.Decides.{nat_tests}
-use Rattle.serving_model.specs.DdmTypes.CodeMap.{CodeWord}
 use Rattle.serving_model.specs.DdmTypes.ItemTable.{ItemTable, item_count}
 use Rattle.serving_model.specs.DdmTypes.declared.answers.TurnAnswer.{TurnAnswer}
 use Rattle.serving_model.specs.DdmTypes.declared.answers.TxKind.{TxKind}
@@ -14,20 +13,20 @@ use Rattle.serving_model.specs.DdmTypes.declared.operations.Op.{Op}
 use Rattle.serving_model.specs.DdmTypes.declared.sizes.LeafState.{LeafState}
 use Rattle.serving_model.specs.DdmTypes.declared.turns.Turn.{Turn}
 use Rattle.bus_laws.specs.FlatModel.declared.Ask.{Ask}
-use Rattle.bus_laws.specs.FlatModel.Hart.{HartValue, Finished, ask_of, finish_of}
+use Rattle.bus_laws.specs.FlatModel.Hart.{HartValue, ask_of, finish_of}
 use Rattle.bus_laws.specs.FlatModel.Flat.{Stored, Change, conditional, change_by, unless_halted, has_reserved, FlatHart, no_flat_hart, FlatMachine, flat_hart, item_words, with_change, hart_step}
 use Rattle.bus_laws.proofs.FlatModel.Insert.{in_range}
 use Rattle.bus_laws.proofs.TreeKept.{turn-keeps_rules, run-keeps_rules}
-use Rattle.serving_model.specs.TreeModel.State.Values.{LeafValue, Node, Nodes, leaf_node, dir_node, no_nodes, more_nodes, MachineValue, root_of}
+use Rattle.serving_model.specs.TreeModel.State.Values.{LeafValue, Node, Nodes, leaf_node, dir_node, no_nodes, more_nodes, MachineValue}
 use Rattle.serving_model.specs.TreeModel.State.Leaf.{unreserved}
-use Rattle.serving_model.specs.TreeModel.State.Place.{Where, at_top}
-use Rattle.serving_model.specs.TreeModel.State.Shape.{Skeleton, leaf_bone, dir_bone, Frame, frame_of, IsShaped}
+use Rattle.serving_model.specs.TreeModel.State.Place.{at_top}
+use Rattle.serving_model.specs.TreeModel.State.Shape.{Skeleton, leaf_bone, dir_bone, Frame, frame_of}
 use Rattle.serving_model.specs.TreeModel.Turns.Tree.{of_leaf}
 use Rattle.serving_model.specs.TreeModel.Turns.Machine.{turn_of, run_of}
-use Rattle.serving_model.specs.TreeRules.Bus.Rules.{IsMachineOk, items_of_machine}
+use Rattle.serving_model.specs.TreeRules.Bus.Rules.{items_of_machine}
 use Rattle.serving_model.specs.Rest.{tree_rests, trees_have_room, is_at_rest, has_room}
-use Rattle.serving_model.specs.Parts.{FlatView, MayEnd, LeafHas, Have, AllHave}
-use Rattle.serving_model.specs.OneLeaf.{leaf_hart, hart_at, written_item, MayEndFor, LeafIs, RootSpine}
+use Rattle.serving_model.specs.Parts.{FlatView, MayEnd, Have, AllHave}
+use Rattle.serving_model.specs.OneLeaf.{leaf_hart, hart_at, written_item, MayEndFor, LeafIs}
 use Rattle.serving_model.specs.Serving.{walks_of, turns_behind, turns_to_complete}
 use Rattle.serving_model.specs.Shows.{same_reservation, view, Shows}
 use Rattle.serving_model.specs.Laws.{Comes}

@@ -1,14 +1,11 @@
 -- What a leaf shows after a hart's step on the flat machine: the hart's own leaf, when its turn completed the step, and
 -- all others.
 -- Letters: f is the flat machine before, h the hart, c the change of its step, v a leaf, k its number.
-use Rattle.std.proofs.Common.{◌≡◌, ◌≢◌, ℕ, ◌<◌, Bool, true, false, List, [], length, Option, Some, None, is_some, refl, sym, ap, subst, ◌∙◌, arith, ◌⊎◌, inl, inr, get_or-set_same, get_or-set_other}
-use Rattle.std.specs.Prelude.{nat_eq, ◌||◌, slice_set, map, option_map, if◌then◌else◌}
+use Rattle.std.proofs.Common.{◌≡◌, ◌≢◌, ℕ, ◌<◌, Bool, true, false, List, [], length, Option, Some, None, is_some, refl, sym, ap, subst, ◌∙◌, ◌⊎◌, inl, inr, get_or-set_same, get_or-set_other}
+use Rattle.std.specs.Prelude.{slice_set, map, option_map, if◌then◌else◌}
 use Rattle.std.specs.List.{list_all}
 use native.Mathlib.Decide.{ℕ_discrete}
 use Rattle.std.proofs.lemmas.Bool.{true≢false, eq-eqb, eqb-true}
-use Rattle.serving_model.specs.DdmTypes.CodeMap.{CodeWord}
-use Rattle.serving_model.specs.DdmTypes.ItemTable.{ItemTable}
-use Rattle.serving_model.specs.DdmTypes.declared.keys.Key.{Key}
 use Rattle.serving_model.specs.DdmTypes.declared.sizes.LeafState.{LeafState}
 use Rattle.bus_laws.specs.FlatModel.Hart.{HartValue}
 use Rattle.bus_laws.specs.FlatModel.Flat.{Stored, Change, FlatHart, FlatMachine, flat_hart, item_words, has_reserved, with_change}
@@ -18,7 +15,7 @@ use Rattle.bus_laws.proofs.HartFacts.{way-within}
 use Rattle.serving_model.specs.TreeModel.State.States.{is_reading}
 use Rattle.serving_model.specs.TreeModel.State.Values.{WayValue, BufferValue, LeafValue, leaf_node}
 use Rattle.serving_model.specs.TreeModel.State.Leaf.{way_at, way_with, buffer_with, unreserved}
-use Rattle.serving_model.specs.TreeModel.Turns.HartTurn.{completes, deed_of, leaf_after_deed, ways_stored, buffer_stored, leaf_step}
+use Rattle.serving_model.specs.TreeModel.Turns.HartTurn.{completes, leaf_after_deed, ways_stored, buffer_stored}
 use Rattle.serving_model.specs.Rest.{way_rests}
 use Rattle.serving_model.specs.Parts.{FlatView, LeafHas, Settled}
 use Rattle.serving_model.specs.Shows.{same_reservation, view}

@@ -4,14 +4,12 @@
 use Rattle.std.proofs.Common.{◌≡◌, ◌≢◌, ℕ, ◌<◌, Bool, true, false, List, [], length, Option, Some, None, Ok, is_some, refl, sym, ap, subst, ◌∙◌, arith, ◌⊎◌}
 use Rattle.std.specs.Prelude.{nat_eq, nat_lt, option_map, slice_set}
 use Rattle.std.specs.Cmp.Derive.{both_true}
-use Rattle.std.proofs.lemmas.Bool.{and_parts, true≢false, eq-eqb}
+use Rattle.std.proofs.lemmas.Bool.{true≢false, eq-eqb}
 use Rattle.std.proofs.lemmas.Bool.Decides.{nat_tests}
 use Rattle.serving_model.specs.DdmTypes.ItemTable.{item_count}
 use Rattle.serving_model.specs.DdmTypes.declared.answers.TurnAnswer.{TurnAnswer}
 use Rattle.serving_model.specs.DdmTypes.declared.answers.TxKind.{TxKind}
-use Rattle.serving_model.specs.DdmTypes.declared.keys.Key.{Key}
 use Rattle.serving_model.specs.DdmTypes.declared.operations.Op.{Op}
-use Rattle.serving_model.specs.DdmTypes.declared.sizes.LeafState.{LeafState}
 use Rattle.serving_model.specs.DdmTypes.declared.turns.Turn.{Turn}
 use Rattle.bus_laws.specs.FlatModel.Flat.{Stored, Change, FlatHart, FlatMachine, flat_hart, item_words, has_reserved, with_change, hart_step}
 use Rattle.bus_laws.proofs.FlatModel.Frames.{same_counts}
@@ -19,17 +17,17 @@ use Rattle.bus_laws.proofs.FlatModel.Items.{asks_inside}
 use Rattle.bus_laws.proofs.FlatModel.Steps.{step_leaves}
 use Rattle.bus_laws.proofs.TreeKept.{turn-keeps_rules}
 use Rattle.serving_model.specs.TreeModel.State.States.{is_exclusive}
-use Rattle.serving_model.specs.TreeModel.State.Values.{WayValue, LeafValue, DirValue, Node, leaf_node, dir_node, nodes, children, MachineValue, root_of}
+use Rattle.serving_model.specs.TreeModel.State.Values.{LeafValue, DirValue, Node, leaf_node, dir_node, nodes, children, MachineValue, root_of}
 use Rattle.serving_model.specs.TreeModel.State.Leaf.{way_at, entry_at, leaf_hold}
 use Rattle.serving_model.specs.TreeModel.State.Child.{child_hold}
 use Rattle.serving_model.specs.TreeModel.State.Place.{Where, at_top, at_child, key_at_leaf, spot_in}
-use Rattle.serving_model.specs.TreeModel.State.Shape.{Frame, frame_of, IsShaped, leaves_numbered, skeletons}
+use Rattle.serving_model.specs.TreeModel.State.Shape.{Frame, IsShaped, leaves_numbered, skeletons}
 use Rattle.serving_model.specs.TreeModel.Turns.Children.{child_at}
 use Rattle.serving_model.specs.TreeModel.Turns.Tree.{leaf_of_number, has_node}
 use Rattle.serving_model.specs.TreeModel.Turns.HartTurn.{completes, deed_of, answer_of_deed, leaf_after_deed, leaf_step}
 use Rattle.serving_model.specs.TreeModel.Turns.Machine.{Turned as TurnedMachine, answer_here, turn_of}
 use Rattle.serving_model.specs.TreeRules.Bus.Rules.{IsMachineOk, items_of_machine}
-use Rattle.serving_model.specs.Rest.{dir_rests, tree_rests, trees_rest, trees_have_room, is_at_rest, has_room}
+use Rattle.serving_model.specs.Rest.{tree_rests, trees_rest, trees_have_room, is_at_rest, has_room}
 use Rattle.serving_model.specs.Parts.{FlatView, LeafHas, AllHave, Settled, Calm}
 use Rattle.serving_model.specs.OneLeaf.{leaf_hart, hart_at}
 use Rattle.serving_model.specs.Shows.{view, Shows}
