@@ -137,7 +137,7 @@ module _ (n : ℕ) (flat : FlatView) (g : FlatHart) (h x : ℕ) (state : LeafSta
 
 -- ---- the hart's turn
 
-issued-answer : (t : Turn) (m : MachineValue) (a : TurnAnswer) → (turn_of t m).answer ≡ a → a ≢ TurnAnswer.Empty → turn_answer t m ≡ Some a
+pub issued-answer : (t : Turn) (m : MachineValue) (a : TurnAnswer) → (turn_of t m).answer ≡ a → a ≢ TurnAnswer.Empty → turn_answer t m ≡ Some a
 issued-answer t m a is some = at (turn_answer t m) refl where
   at : (o : Option TurnAnswer) → turn_answer t m ≡ o → o ≡ Some a
   at None none = absurd (some (sym is ∙ ap (λ (o : Turned). o.answer) (turn-unanswered t m none)))

@@ -29,6 +29,7 @@ pub mod Alone
 pub mod Stepped
 pub mod Turned
 pub mod Shown
+pub mod Listed
 pub mod Served
 pub mod Short
 pub mod Harts

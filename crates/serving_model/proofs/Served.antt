@@ -56,7 +56,7 @@ granted-first op (t ∷ ts) us m granted =
 abbrev pub operation : Key → ℕ → FlatHart → Change → Op
 operation key h g c = record { key = key; hart = h; pc = g.hart.pc; effect = c.effect }
 
-same-op : (op : Op) (key : Key) (h : ℕ) (g : FlatHart) (c : Change) → op.hart ≡ h → op.pc ≡ g.hart.pc → op.effect ≡ c.effect → same_operation op (operation key h g c) ≡ true
+pub same-op : (op : Op) (key : Key) (h : ℕ) (g : FlatHart) (c : Change) → op.hart ≡ h → op.pc ≡ g.hart.pc → op.effect ≡ c.effect → same_operation op (operation key h g c) ≡ true
 same-op op key h g c hart pc effect = both_true (eq-eqb op.hart h hart) (both_true (eq-eqb op.pc g.hart.pc pc) (subst (λ e. same_effect op.effect e ≡ true) effect (same_effect_refl op.effect)))
 
 module _ (m : MachineValue) (flat : FlatView) (h : ℕ) (g : FlatHart) (c : Change) (shaped : IsShaped m) (ok : IsMachineOk m) (rests : is_at_rest m ≡ true) (room : has_room m ≡ true) (have : AllHave flat m.kids) (may : MayEndFor flat h m) (own : hart_at h m ≡ Some g) (step : hart_step m.code m.items g flat.words true ≡ Ok c) where
@@ -115,7 +115,7 @@ module _ (m : MachineValue) (flat : FlatView) (h : ℕ) (g : FlatHart) (c : Chan
     pub step3 : hart_step m3.code m3.items g flat.words true ≡ Ok c
     step3 = subst (λ (k : Frame). hart_step k.code k.items g flat.words true ≡ Ok c) (sym (run-frame (walks_of h m1) m1 ∙ turn-frame t m)) step
 
-    done-same : done.change ≡ c
+    pub done-same : done.change ≡ c
     done-same = one-of (sym done.step ∙ step3) where
       one-of : {a b : Change} → (let r : Result Change HaltCause = Ok a in r ≡ Ok b) → a ≡ b
       one-of e = cc

@@ -8,6 +8,7 @@ use Rattle.std.proofs.lemmas.Bool.Decides.{nat_tests}
 use Rattle.serving_model.specs.DdmTypes.ItemTable.{ItemTable, item_count}
 use Rattle.serving_model.specs.DdmTypes.declared.answers.TurnAnswer.{TurnAnswer}
 use Rattle.serving_model.specs.DdmTypes.declared.answers.TxKind.{TxKind}
+use Rattle.serving_model.specs.DdmTypes.declared.keys.Key.{Key}
 use Rattle.serving_model.specs.DdmTypes.declared.operations.HaltCause.{HaltCause}
 use Rattle.serving_model.specs.DdmTypes.declared.operations.Op.{Op}
 use Rattle.serving_model.specs.DdmTypes.declared.sizes.LeafState.{LeafState}
@@ -27,7 +28,7 @@ use Rattle.serving_model.specs.TreeRules.Bus.Rules.{items_of_machine}
 use Rattle.serving_model.specs.Rest.{tree_rests, trees_have_room, is_at_rest, has_room}
 use Rattle.serving_model.specs.Parts.{FlatView, MayEnd, Have, AllHave}
 use Rattle.serving_model.specs.OneLeaf.{leaf_hart, hart_at, written_item, MayEndFor, LeafIs}
-use Rattle.serving_model.specs.Serving.{walks_of, turns_behind, turns_to_complete}
+use Rattle.serving_model.specs.Serving.{walks_of, turns_behind, turns_to_complete, completes_op}
 use Rattle.serving_model.specs.Shows.{same_reservation, view, Shows}
 use Rattle.serving_model.specs.Laws.{Comes}
 use Rattle.serving_model.proofs.TreeModel.FrameKept.{turn-frame, run-frame, turn-shape, run-shape}
@@ -35,7 +36,7 @@ use Rattle.serving_model.proofs.Wants.{WantsTo, to_read, to_write, to_write_rese
 use Rattle.serving_model.proofs.Instruction.{run-on, same-top, root-same, Reads, root-reads, Came, came, walked}
 use Rattle.serving_model.proofs.Completing.{own-is}
 use Rattle.serving_model.proofs.Found.{RootFound, root-found}
-use Rattle.serving_model.proofs.Served.{operation, Answers, at_once, asks, answers, done, step3}
+use Rattle.serving_model.proofs.Served.{operation, Answers, at_once, asks, answers, done, done-same, step3, served}
 use Rattle.serving_model.proofs.Stepped.{same-is, same-self, Ended}
 use Rattle.serving_model.proofs.Turned.{turn-shows}
 
@@ -109,7 +110,7 @@ module _ (m : MachineValue) (f : FlatMachine) (h : ℕ) (g : FlatHart) (c : Chan
     one = root-reads (of_leaf (λ w v. leaf_hart v) no_flat_hart) (items_of_machine m) (view f) h (λ v. v ≡ found.leaf) m.top m.kids found.root
 
   -- the leaf's hart is that of the flat machine
-  same-hart : g ≡ flat_hart f h
+  pub same-hart : g ≡ flat_hart f h
   same-hart =
       let has = found.calm.settled.copies in
       sym found.is ∙ (ap (λ (a : HartValue). record { hart = a; reserved = found.leaf.reservation }) has.same_hart ∙ (ap (λ (a : Option ℕ). record { hart = (flat_hart f found.leaf.number).hart; reserved = a }) (sym (same-is _ _ has.allowed)) ∙ ap (flat_hart f) number))
@@ -218,10 +219,29 @@ module _ (m : MachineValue) (f : FlatMachine) (h : ℕ) (g : FlatHart) (c : Chan
     counts3 : length f.words ≡ items_of_machine m3
     counts3 = s.words ∙ sym (ap (λ (a : Frame). item_count a.items) frames)
 
+    pub walks-keep : m3.ops ≡ m1.ops
+    walks-keep = all.served.brings.operations
+
+    pub last-answer : (key : Key) × ((turn_of t m3).answer ≡ TurnAnswer.Retired (operation key h g c))
+    last-answer =
+        let d = done m flat h g c s.shaped s.rules s.rests s.room have may own step kind x is in
+        (d.key, d.answer ∙ ap (λ (e : Change). TurnAnswer.Retired (operation d.key h g e)) (done-same m flat h g c s.shaped s.rules s.rests s.room have may own step kind x is))
+
     after-walks : Shows (turn_of t m3).machine (with_change f h c)
     after-walks =
         let d = done m flat h g c s.shaped s.rules s.rests s.room have may own step kind x is in
         turn-shows f h c (may_before f written) allows m3 g 0 (run-shape ts m1 (turn-shape t m s.shaped)) (run-keeps_rules ts m1 (turn-keeps_rules t m s.rules)) rests3 room3 have3 own3 (step3 m flat h g c s.shaped s.rules s.rests s.room have may own step kind x is) within counts3 (operation d.key h g d.change) d.answer
+
+  -- what its turns answer
+
+  pub first-answer : ((key : Key) × ((turn_of t m).answer ≡ TurnAnswer.Retired (operation key h g c))) ⊎ ((kind : TxKind) × (x : ℕ) × ((turn_of t m).answer ≡ TurnAnswer.Issued kind x))
+  first-answer = by (answers m flat h g c s.shaped s.rules s.rests s.room have may own step) where
+    by : Answers m flat h g c s.shaped s.rules s.rests s.room have may own step → ((key : Key) × ((turn_of t m).answer ≡ TurnAnswer.Retired (operation key h g c))) ⊎ ((kind : TxKind) × (x : ℕ) × ((turn_of t m).answer ≡ TurnAnswer.Issued kind x))
+    by (at_once key is) = inl (key, is)
+    by (asks kind x is) = inr (kind, x, is)
+
+  pub op-served : (op : Op) → op.hart ≡ h → op.pc ≡ g.hart.pc → op.effect ≡ c.effect → completes_op op (run_of (turns_to_complete h m) m).answers ≡ true
+  op-served op hart pc effect = served m flat h g c s.shaped s.rules s.rests s.room have may own step op hart pc effect
 
   by-answer : Answers m flat h g c s.shaped s.rules s.rests s.room have may own step → Shows (run_of (turns_behind h (turn_of t m).answer m1) m1).machine (with_change f h c)
   unfolding run_of

@@ -10,6 +10,7 @@ pub mod OneLeaf
 pub mod Serving
 pub mod Shows
 pub mod Laws
+pub mod ServedLists
 pub mod Texts
 pub mod Computing
 pub mod Examples

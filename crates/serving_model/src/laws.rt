@@ -1,5 +1,6 @@
 //! What holds of walks, as theorems: there is nothing to run.
 
+ghost use Rattle.serving_model.specs.ServedLists.{ListsAreServed};
 ghost use Rattle.serving_model.specs.Laws.{PartsGive, PartsLose, RunsAreTheMachines, ReadsAreServed, ErasesAreServed, WalksBringTheItem, RequestsComplete, InstructionsAreServed, StepsAreShown, WalksAreShort, GrantsKeepHarts};
 
 /// A part of the tree that holds an item, and is at rest, gives it when it is told to answer: its turns are granted, and it is at rest
@@ -49,6 +50,12 @@ pub fn instructions_are_served()
 /// after the step.
 pub fn steps_are_shown()
     ensures { StepsAreShown }
+{}
+
+/// So every list of operations that a flat memory completes, in which an SC that has its reservation stores, is served where the machine
+/// shows that flat memory: the run completes these operations in this order and no other.
+pub fn lists_are_served()
+    ensures { ListsAreServed }
 {}
 
 /// An instruction takes at most four turns of each bus, and two of its hart.
