@@ -11,6 +11,7 @@ use Rattle.serving_model.specs.DdmTypes.declared.answers.TxKind.TheVariants.{Rea
 use Rattle.serving_model.specs.DdmTypes.declared.sizes.LeafState.{LeafState}
 use Rattle.serving_model.specs.DdmTypes.declared.keys.Stamp.{Stamp}
 use Rattle.serving_model.specs.DdmTypes.declared.turns.Turn.{Turn}
+use Rattle.bus_laws.specs.FlatModel.Flat.{FlatHart}
 use Rattle.serving_model.specs.TreeModel.declared.BusTurn.{BusTurn}
 use Rattle.serving_model.specs.TreeModel.State.Lists.{map_from, find_from, first_given, first_of}
 use Rattle.serving_model.specs.TreeModel.State.States.{is_held, is_reading}
@@ -26,7 +27,7 @@ use Rattle.serving_model.specs.TreeModel.Turns.Reply.{reply_to_readers}
 use Rattle.serving_model.specs.TreeModel.Turns.Bus.{bus_judged}
 use Rattle.serving_model.specs.TreeRules.Bus.Rules.{IsBusOk, IsTreeOk}
 use Rattle.serving_model.specs.Rest.{dir_rests}
-use Rattle.serving_model.specs.Parts.{Runs, stays, turned, below, Settled, Calm}
+use Rattle.serving_model.specs.Parts.{FlatView, Runs, stays, turned, below, Settled, Calm}
 use Rattle.serving_model.specs.OneLeaf.{LeafIs, Spine, got, asks_then}
 use Rattle.serving_model.specs.Walk.{child_over, turns_by, turns_of_child, take_turns, takes, ask_turns, asks, give_turns, gives, read_across}
 use Rattle.serving_model.specs.Laws.{Gives}
@@ -67,7 +68,7 @@ find-set c x m i (suc j) (k ∷ ns) place =
     let next : (i + 1) + j ≡ c = omega (arith, place) in
     rw (find-set c x m (i + 1) j ns next) refl
 
-module _ (n : ℕ) (words : ℕ → List ℕ) (h x : ℕ) (within : x < n) (state : LeafState) (reads : is_reading state ≡ true) where
+module _ (n : ℕ) (flat : FlatView) (g : FlatHart) (h x : ℕ) (within : x < n) (state : LeafState) (reads : is_reading state ≡ true) where
   -- these turns are granted on a bus and below it, the leaf has got the item, and all else is at rest
   pub record Served (w : Where) (d : DirValue) (ns : Nodes) (ts : List Turn) : Type 0 where
     pub parent : DirValue
@@ -77,15 +78,15 @@ module _ (n : ℕ) (words : ℕ → List ℕ) (h x : ℕ) (within : x < n) (stat
     pub child : ℕ
     pub is : child_over h (nodes kids) ≡ Some child
     pub there : child < length kids
-    pub others : (j : ℕ) → j < length kids → j ≢ child → Settled n words (child_at j kids)
-    pub spine : Spine n words h (LeafIs n words x (got state) (asks_then x state)) (child_at child kids)
+    pub others : (j : ℕ) → j < length kids → j ≢ child → Settled n flat (child_at j kids)
+    pub spine : Spine n flat h (LeafIs n flat g x (got state) (asks_then x state)) (child_at child kids)
 
-  module _ (w : Where) (d : DirValue) (ns : Nodes) (c : ℕ) (is : child_over h ns ≡ Some c) (there : c < length (children ns)) (r : DirRests x d) (bus : IsBusOk n d (children ns)) (calm : (j : ℕ) → j < length (children ns) → j ≢ c → Calm n words (child_at j (children ns))) (spine : Spine n words h (LeafIs n words x state (Some (read n words h x within state))) (child_at c (children ns))) (ok : IsTreeOk n (child_at c (children ns))) (lacks : is_held (child_hold x (child_at c (children ns))) ≡ false) (held : is_held (dir_hold x d) ≡ true) where
+  module _ (w : Where) (d : DirValue) (ns : Nodes) (c : ℕ) (is : child_over h ns ≡ Some c) (there : c < length (children ns)) (r : DirRests x d) (bus : IsBusOk n d (children ns)) (calm : (j : ℕ) → j < length (children ns) → j ≢ c → Calm n flat (child_at j (children ns))) (spine : Spine n flat h (LeafIs n flat g x state (Some (read n flat g h x within state))) (child_at c (children ns))) (ok : IsTreeOk n (child_at c (children ns))) (lacks : is_held (child_hold x (child_at c (children ns))) ≡ false) (held : is_held (dir_hold x d) ≡ true) where
     abbrev ks : List Node
     ks = children ns
 
-    asked : Asks n words h x within state (at_child (spot_in (where_path w) d c)) (child_at c ks) (ask_turns h (child_at c ks))
-    asked = ask n words h x within state (child_at c ks) spine ok lacks (at_child (spot_in (where_path w) d c))
+    asked : Asks n flat g h x within state (at_child (spot_in (where_path w) d c)) (child_at c ks) (ask_turns h (child_at c ks))
+    asked = ask n flat g h x within state (child_at c ks) spine ok lacks (at_child (spot_in (where_path w) d c))
 
     -- child k answers
     module _ (k : ℕ) (found : find_from (other_holds c x) 0 ks ≡ Some k) where
@@ -147,8 +148,8 @@ module _ (n : ℕ) (words : ℕ → List ℕ) (h x : ℕ) (within : x < n) (stat
           let e2 : nat_eq j k ≡ false = ne_eqb j k ne2 in
           at2 j l ∙ (rw (e1, e2) refl ∙ at1-other j ne1)
 
-      gives-it : Gives n words (at_child (spot_in (where_path w) p1 k)) x (child_answer x s1 (child_at k ks)) (give_turns x (child_at k ks))
-      gives-it = give n words x within (child_at k ks) (at_child (spot_in (where_path w) p1 k)) s1 (calm k in-k apart) holds
+      gives-it : Gives n flat (at_child (spot_in (where_path w) p1 k)) x (child_answer x s1 (child_at k ks)) (give_turns x (child_at k ks))
+      gives-it = give n flat x within (child_at k ks) (at_child (spot_in (where_path w) p1 k)) s1 (calm k in-k apart) holds
 
       -- when child k has the reply
       abbrev l3 : List Node
@@ -174,19 +175,19 @@ module _ (n : ℕ) (words : ℕ → List ℕ) (h x : ℕ) (within : x < n) (stat
       s2 = stamp_of (counted p1)
 
       abbrev l4 : List Node
-      l4 = map_from (replied_by k (local c 0) x (words x) s2) 0 l3
+      l4 = map_from (replied_by k (local c 0) x (flat.words x) s2) 0 l3
 
       many4 : length l4 ≡ length ks
-      many4 = map_from-length (replied_by k (local c 0) x (words x) s2) 0 l3 ∙ many3
+      many4 = map_from-length (replied_by k (local c 0) x (flat.words x) s2) 0 l3 ∙ many3
 
-      at4 : (j : ℕ) → j < length ks → child_at j l4 ≡ replied_by k (local c 0) x (words x) s2 j (child_at j l3)
-      at4 j l = child_at-map_from (replied_by k (local c 0) x (words x) s2) j l3 (subst (λ n. j < n) (sym many3) l)
+      at4 : (j : ℕ) → j < length ks → child_at j l4 ≡ replied_by k (local c 0) x (flat.words x) s2 j (child_at j l3)
+      at4 j l = child_at-map_from (replied_by k (local c 0) x (flat.words x) s2) j l3 (subst (λ n. j < n) (sym many3) l)
 
-      at4-c : child_at c l4 ≡ child_take_data x (words x) s2 (child_request_taken asked.after)
+      at4-c : child_at c l4 ≡ child_take_data x (flat.words x) s2 (child_request_taken asked.after)
       at4-c =
           let other : nat_eq c k ≡ false = ne_eqb c k (λ same. apart (sym same)) in
           let here : nat_eq c c ≡ true = eq-eqb c c refl in
-          at4 c there ∙ (rw (only-local c c, here, other) refl ∙ ap (child_take_data x (words x) s2) at3-c)
+          at4 c there ∙ (rw (only-local c c, here, other) refl ∙ ap (child_take_data x (flat.words x) s2) at3-c)
 
       at4-k : child_at k l4 ≡ child_reply_taken gives-it.after
       at4-k =
@@ -200,8 +201,8 @@ module _ (n : ℕ) (words : ℕ → List ℕ) (h x : ℕ) (within : x < n) (stat
           let e2 : nat_eq j k ≡ false = ne_eqb j k ne2 in
           at4 j l ∙ (rw (only-local c j, e1, e2) refl ∙ (at3-other j ne2 ∙ at2-other j l ne1 ne2))
 
-      takes-it : Takes n words h x within state reads (at_child (spot_in (where_path w) p2 c)) (child_take_data x (words x) s2 (child_request_taken asked.after)) (take_turns h (child_at c ks))
-      takes-it = subst (λ ts. Takes n words h x within state reads (at_child (spot_in (where_path w) p2 c)) (child_take_data x (words x) s2 (child_request_taken asked.after)) ts) same-turns (take n words h x within state reads (child_request_taken asked.after) asked.waits (at_child (spot_in (where_path w) p2 c)) s2) where
+      takes-it : Takes n flat g h x within state reads (at_child (spot_in (where_path w) p2 c)) (child_take_data x (flat.words x) s2 (child_request_taken asked.after)) (take_turns h (child_at c ks))
+      takes-it = subst (λ ts. Takes n flat g h x within state reads (at_child (spot_in (where_path w) p2 c)) (child_take_data x (flat.words x) s2 (child_request_taken asked.after)) ts) same-turns (take n flat g h x within state reads (child_request_taken asked.after) asked.waits (at_child (spot_in (where_path w) p2 c)) s2) where
         same-turns : take_turns h (child_request_taken asked.after) ≡ take_turns h (child_at c ks)
         same-turns = taken-turns h asked.after ∙ turns-same h asked.after (child_at c ks) (runs-skeleton asked.run)
 
@@ -219,7 +220,7 @@ module _ (n : ℕ) (words : ℕ → List ℕ) (h x : ℕ) (within : x < n) (stat
         at j (yes same) =
             let zero_more : 0 + j ≡ j = omega arith in
             let here : nat_eq j c ≡ true = eq-eqb j c same in
-            let room : child_full_for DataTx x (child_at j l3) ≡ None = subst (λ i. child_full_for DataTx x (child_at i l3) ≡ None) (sym same) (subst (λ m. child_full_for DataTx x m ≡ None) (sym at3-c) (free-for_data n words h x within state reads (child_request_taken asked.after) asked.waits)) in
+            let room : child_full_for DataTx x (child_at j l3) ≡ None = subst (λ i. child_full_for DataTx x (child_at i l3) ≡ None) (sym same) (subst (λ m. child_full_for DataTx x m ≡ None) (sym at3-c) (free-for_data n flat g h x within state reads (child_request_taken asked.after) asked.waits)) in
             rw (zero_more, only-local c j, here) room
         at j (no other) =
             let zero_more : 0 + j ≡ j = omega arith in
@@ -243,8 +244,8 @@ module _ (n : ℕ) (words : ℕ → List ℕ) (h x : ℕ) (within : x < n) (stat
       run3 : Runs w (dir_node p1 (nodes l3)) (Turn.Reply d.bus k ∷ take_turns h (child_at c ks)) (dir_node p2 (nodes l5))
       unfolding reply_to_readers
       run3 =
-          let has : child_reply (child_at k l3) ≡ Some (record { item = x; words = words x }) = ap child_reply at3-k ∙ ap first_of gives-it.reply in
-          turned l3 (reply_to_readers k x (words x) p1 l3 c 0) refl (reply-across (stamp_above w) x c k (words x) p1 l3 has p1-items.note none-full) run5
+          let has : child_reply (child_at k l3) ≡ Some (record { item = x; words = flat.words x }) = ap child_reply at3-k ∙ ap first_of gives-it.reply in
+          turned l3 (reply_to_readers k x (flat.words x) p1 l3 c 0) refl (reply-across (stamp_above w) x c k (flat.words x) p1 l3 has p1-items.note none-full) run5
 
       run2 : Runs w (dir_node p1 (nodes l2)) (give_turns x (child_at k ks) ++ Turn.Reply d.bus k ∷ take_turns h (child_at c ks)) (dir_node p2 (nodes l5))
       run2 =
@@ -254,9 +255,9 @@ module _ (n : ℕ) (words : ℕ → List ℕ) (h x : ℕ) (within : x < n) (stat
       run1 : Runs w (dir_node d (nodes l1)) (Turn.Request d.bus c ∷ (give_turns x (child_at k ks) ++ Turn.Reply d.bus k ∷ take_turns h (child_at c ks))) (dir_node p2 (nodes l5))
       unfolding read_of_child
       run1 =
-          let has : child_request (child_at c l1) ≡ Some (read n words h x within state) = ap child_request at1-c ∙ asked.request in
+          let has : child_request (child_at c l1) ≡ Some (read n flat g h x within state) = ap child_request at1-c ∙ asked.request in
           let found1 : find_from (other_holds c x) 0 l1 ≡ Some k = find-set c x asked.after 0 c ks (omega arith) ∙ found in
-          let room : child_full_for ReadTx x (child_at k l1) ≡ None = subst (λ m. child_full_for ReadTx x m ≡ None) (sym (at1-other k apart)) (free-to_answer n words x within (child_at k ks) (calm k in-k apart)) in
+          let room : child_full_for ReadTx x (child_at k l1) ≡ None = subst (λ m. child_full_for ReadTx x m ≡ None) (sym (at1-other k apart)) (free-to_answer n flat x within (child_at k ks) (calm k in-k apart)) in
           turned l1 (read_of_child c x d l1 k) refl (request-across (stamp_above w) x c k d l1 has r.items.note (not-pending x d r.items.note r.items.answers r.lists.down) held found1 room) run2
 
       run0 : Runs w (dir_node d ns) (ask_turns h (child_at c ks) ++ Turn.Request d.bus c ∷ (give_turns x (child_at k ks) ++ Turn.Reply d.bus k ∷ take_turns h (child_at c ks))) (dir_node p2 (nodes l5))
@@ -272,13 +273,13 @@ module _ (n : ℕ) (words : ℕ → List ℕ) (h x : ℕ) (within : x < n) (stat
         is = same-over h 0 (nodes l5) ns (dir-bones p2 d (nodes l5) ns (runs-skeleton run0)) ∙ is;
         there = subst (λ n. c < n) (sym many5) there;
         others = λ j l ne. at j (subst (λ n. j < n) many5 l) ne (ℕ_discrete j k);
-        spine = subst (Spine n words h (LeafIs n words x (got state) (asks_then x state))) (sym (get_or-set_same l4 c takes-it.after no_node (subst (λ n. c < n) (sym many4) there))) takes-it.spine;
+        spine = subst (Spine n flat h (LeafIs n flat g x (got state) (asks_then x state))) (sym (get_or-set_same l4 c takes-it.after no_node (subst (λ n. c < n) (sym many4) there))) takes-it.spine;
       } where
-        at : (j : ℕ) → j < length ks → j ≢ c → Dec (j ≡ k) → Settled n words (child_at j l5)
+        at : (j : ℕ) → j < length ks → j ≢ c → Dec (j ≡ k) → Settled n flat (child_at j l5)
         at j l ne (yes same) =
             let is-k : child_at k l5 ≡ child_reply_taken gives-it.after = get_or-set_other l4 c k takes-it.after no_node apart ∙ at4-k in
-            subst (λ i. Settled n words (child_at i l5)) (sym same) (subst (Settled n words) (sym is-k) gives-it.settled)
-        at j l ne (no other) = subst (Settled n words) (sym (get_or-set_other l4 c j takes-it.after no_node ne ∙ at4-other j l ne other)) (calm j l ne).settled
+            subst (λ i. Settled n flat (child_at i l5)) (sym same) (subst (Settled n flat) (sym is-k) gives-it.settled)
+        at j l ne (no other) = subst (Settled n flat) (sym (get_or-set_other l4 c j takes-it.after no_node ne ∙ at4-other j l ne other)) (calm j l ne).settled
 
     none-other : find_from (other_holds c x) 0 ks ≡ None → is_held (dir_hold x d) ≡ false
     none-other none = no-holder n x within d ks bus r.items.note r.items.answers r.lists (nobody 0 ks (λ j l. lack j l)) where

@@ -9,6 +9,7 @@ use Rattle.serving_model.specs.DdmTypes.declared.sizes.Hold.{Hold}
 use Rattle.serving_model.specs.DdmTypes.declared.sizes.LeafState.{LeafState}
 use Rattle.serving_model.specs.DdmTypes.declared.keys.Stamp.{Stamp}
 use Rattle.serving_model.specs.DdmTypes.declared.turns.Turn.{Turn}
+use Rattle.bus_laws.specs.FlatModel.Flat.{FlatHart}
 use Rattle.serving_model.specs.TreeModel.declared.BusTurn.{BusTurn}
 use Rattle.serving_model.specs.TreeModel.State.Lists.{map_from, first_of, rest_of}
 use Rattle.serving_model.specs.TreeModel.State.States.{is_held}
@@ -23,7 +24,7 @@ use Rattle.serving_model.specs.TreeModel.Turns.RequestRead.{read_of_parent}
 use Rattle.serving_model.specs.TreeModel.Turns.Bus.{bus_judged}
 use Rattle.serving_model.specs.TreeRules.Bus.Rules.{IsTreeOk}
 use Rattle.serving_model.specs.Rest.{dir_has_room}
-use Rattle.serving_model.specs.Parts.{Runs, stays, turned, below, Settled}
+use Rattle.serving_model.specs.Parts.{FlatView, Runs, stays, turned, below, Settled}
 use Rattle.serving_model.specs.OneLeaf.{LeafIs, Spine, at_leaf, over}
 use Rattle.serving_model.specs.Walk.{child_over, turns_by, turns_of_child, ask_turns, asks}
 use Rattle.serving_model.proofs.TreeModel.Children.{nodes-children, children-nodes}
@@ -42,15 +43,15 @@ asks-at h k no_nodes l = absurd (omega (arith, l))
 asks-at h zero (more_nodes m ns) l = refl
 asks-at h (suc k) (more_nodes m ns) l = asks-at h k ns (omega (arith, l))
 
-module _ (n : ℕ) (words : ℕ → List ℕ) (h x : ℕ) (within : x < n) (state : LeafState) where
+module _ (n : ℕ) (flat : FlatView) (g : FlatHart) (h x : ℕ) (within : x < n) (state : LeafState) where
   abbrev pub read : RequestValue
   read = record { kind = ReadTx; item = x }
 
   -- the read of the leaf was granted on each bus of the part, and nothing of it has come back; all else is at rest
   pub data Waits : Node → Type 0 where
-    waits_leaf : {v : LeafValue} → nat_eq v.number h ≡ true → LeafIs n words x state None v → Waits (leaf_node v)
+    waits_leaf : {v : LeafValue} → nat_eq v.number h ≡ true → LeafIs n flat g x state None v → Waits (leaf_node v)
     waits_over : {d : DirValue} {ns : Nodes} → (c : ℕ) → child_over h ns ≡ Some c → c < length (children ns) → ItemsAre x Hold.Invalid (up_read c 0) false d.items → ListsAre [] [] [] d → dir_has_room d.sizes ≡ true
-        → ((j : ℕ) → j < length (children ns) → j ≢ c → Settled n words (child_at j (children ns))) → Waits (child_at c (children ns)) → Waits (dir_node d ns)
+        → ((j : ℕ) → j < length (children ns) → j ≢ c → Settled n flat (child_at j (children ns))) → Waits (child_at c (children ns)) → Waits (dir_node d ns)
 
   -- these turns of a part are granted, it asks to read, and when its request is taken it waits
   pub record Asks (w : Where) (m : Node) (ts : List Turn) : Type 0 where
@@ -59,7 +60,7 @@ module _ (n : ℕ) (words : ℕ → List ℕ) (h x : ℕ) (within : x < n) (stat
     pub request : child_request after ≡ Some read
     pub waits : Waits (child_request_taken after)
 
-  module _ (d : DirValue) (ns : Nodes) (c : ℕ) (is : child_over h ns ≡ Some c) (there : c < length (children ns)) (r : DirRests x d) (none : is_held (dir_hold x d) ≡ false) (room : dir_has_room d.sizes ≡ true) (others : (j : ℕ) → j < length (children ns) → j ≢ c → Settled n words (child_at j (children ns)))
+  module _ (d : DirValue) (ns : Nodes) (c : ℕ) (is : child_over h ns ≡ Some c) (there : c < length (children ns)) (r : DirRests x d) (none : is_held (dir_hold x d) ≡ false) (room : dir_has_room d.sizes ≡ true) (others : (j : ℕ) → j < length (children ns) → j ≢ c → Settled n flat (child_at j (children ns)))
       (w : Where) (one : Asks (at_child (spot_in (where_path w) d c)) (child_at c (children ns)) (ask_turns h (child_at c (children ns)))) where
     -- the directory that asks, and when its request is taken
     abbrev p : DirValue
@@ -92,8 +93,8 @@ module _ (n : ℕ) (words : ℕ → List ℕ) (h x : ℕ) (within : x < n) (stat
     over-last : child_over h (nodes last) ≡ Some c
     over-last = same-over h 0 (nodes last) ns (dir-bones p d (nodes last) ns (runs-skeleton run)) ∙ is
 
-    listed : (j : ℕ) → j < length last → j ≢ c → Settled n words (child_at j last)
-    listed j l ne = subst (Settled n words) (sym (set_only-other (children ns) c one.after child_request_taken j ne)) (others j (subst (λ n. j < n) (set_only-many (children ns) c one.after child_request_taken) l) ne)
+    listed : (j : ℕ) → j < length last → j ≢ c → Settled n flat (child_at j last)
+    listed j l ne = subst (Settled n flat) (sym (set_only-other (children ns) c one.after child_request_taken j ne)) (others j (subst (λ n. j < n) (set_only-many (children ns) c one.after child_request_taken) l) ne)
 
     there-last : c < length last
     there-last = subst (λ n. c < n) (sym (set_only-many (children ns) c one.after child_request_taken)) there
@@ -104,7 +105,7 @@ module _ (n : ℕ) (words : ℕ → List ℕ) (h x : ℕ) (within : x < n) (stat
     waits-last : Waits (dir_node q (nodes last))
     waits-last =
         let same = children-nodes last in
-        waits_over c over-last (subst (λ l. c < length l) (sym same) there-last) p-items q-lists room (subst (λ l. (j : ℕ) → j < length l → j ≢ c → Settled n words (child_at j l)) (sym same) listed) (subst (λ l. Waits (child_at c l)) (sym same) here-last)
+        waits_over c over-last (subst (λ l. c < length l) (sym same) there-last) p-items q-lists room (subst (λ l. (j : ℕ) → j < length l → j ≢ c → Settled n flat (child_at j l)) (sym same) listed) (subst (λ l. Waits (child_at c l)) (sym same) here-last)
 
     asks-so : Asks w (dir_node d ns) (turns_by (λ c. turns_of_child c (asks h ns) ++ Turn.Request d.bus c ∷ []) (child_over h ns))
     asks-so = subst (λ o. Asks w (dir_node d ns) (turns_by (λ c. turns_of_child c (asks h ns) ++ Turn.Request d.bus c ∷ []) o)) (sym is) (subst (λ ts. Asks w (dir_node d ns) (ts ++ Turn.Request d.bus c ∷ [])) (sym (asks-at h c ns there)) (record {
@@ -114,12 +115,12 @@ module _ (n : ℕ) (words : ℕ → List ℕ) (h x : ℕ) (within : x < n) (stat
       waits = waits-last;
     }))
 
-  pub ask : (m : Node) → Spine n words h (LeafIs n words x state (Some read)) m → IsTreeOk n m → is_held (child_hold x m) ≡ false → (w : Where) → Asks w m (ask_turns h m)
+  pub ask : (m : Node) → Spine n flat h (LeafIs n flat g x state (Some read)) m → IsTreeOk n m → is_held (child_hold x m) ≡ false → (w : Where) → Asks w m (ask_turns h m)
   ask (leaf_node v) (at_leaf number is) ok none w = record {
     after = leaf_node v;
     run = stays;
     request = is.slot;
-    waits = waits_leaf number (record { entry = is.entry; here = is.here; in_state = is.in_state; others = is.others; buffer = is.buffer; slot = refl; replies = is.replies; copies = is.copies; room = is.room });
+    waits = waits_leaf number (record { entry = is.entry; here = is.here; in_state = is.in_state; others = is.others; buffer = is.buffer; slot = refl; replies = is.replies; copies = is.copies; room = is.room; hart = is.hart; reserved = is.reserved });
   }
   ask (dir_node d ns) (over c is there rests room others deeper) ok none w =
       let r = dir-rests x d (dir-knows n x within d (children ns) ok.0) rests in

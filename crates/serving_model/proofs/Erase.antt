@@ -10,6 +10,7 @@ use Rattle.std.proofs.lemmas.List.{length-set, append-nil}
 use Rattle.serving_model.specs.DdmTypes.declared.answers.TxKind.TheVariants.{EraseTx, ExclusiveTx}
 use Rattle.serving_model.specs.DdmTypes.declared.sizes.LeafState.{LeafState}
 use Rattle.serving_model.specs.DdmTypes.declared.turns.Turn.{Turn}
+use Rattle.bus_laws.specs.FlatModel.Flat.{FlatHart}
 use Rattle.serving_model.specs.TreeModel.State.Lists.{first_of, rest_of}
 use Rattle.serving_model.specs.TreeModel.State.States.{is_exclusive}
 use Rattle.serving_model.specs.TreeModel.State.Values.{DownValue, LeafValue, DirSizes, no_note, up_erase, DirValue, Node, Nodes, leaf_node, dir_node, no_nodes, more_nodes, nodes, children, MachineValue, root_of}
@@ -27,7 +28,7 @@ use Rattle.serving_model.specs.TreeRules.Bus.Item.{implies, holds_exclusive, bit
 use Rattle.serving_model.specs.TreeRules.Bus.Own.{top_items}
 use Rattle.serving_model.specs.TreeRules.Bus.Rules.{IsBusOk, IsTreeOk, AreTreesOk, IsMachineOk, items_of_machine}
 use Rattle.serving_model.specs.Rest.{dir_rests, dir_has_room}
-use Rattle.serving_model.specs.Parts.{Runs, stays, turned, below, Settled, Calm}
+use Rattle.serving_model.specs.Parts.{FlatView, MayEnd, Runs, stays, turned, below, Settled, Calm}
 use Rattle.serving_model.specs.OneLeaf.{LeafIs, Spine, at_leaf, over, RootSpine, IsServed}
 use Rattle.serving_model.specs.Walk.{child_over, turns_by, turns_of_child, turns_of_others, take_turns, takes, loses, clear_turns, clears, erase_turns, erases}
 use Rattle.bus_laws.proofs.Answering.{child-hold}
@@ -61,17 +62,17 @@ erases-at h x k no_nodes l = absurd (omega (arith, l))
 erases-at h x zero (more_nodes m ns) l = refl
 erases-at h x (suc k) (more_nodes m ns) l = erases-at h x k ns (omega (arith, l))
 
-module _ (n : ℕ) (words : ℕ → List ℕ) (h x : ℕ) (within : x < n) where
+module _ (n : ℕ) (flat : FlatView) (g : FlatHart) (h x : ℕ) (within : x < n) (ends : MayEnd flat x) where
   abbrev Before : Node → Type 0
-  Before m = Spine n words h (LeafIs n words x LeafState.Waiting (Some (erase n words h x within))) m
+  Before m = Spine n flat h (LeafIs n flat g x LeafState.Waiting (Some (erase n flat g h x within ends))) m
 
   abbrev After : Node → Type 0
-  After m = Spine n words h (LeafIs n words x LeafState.Exclusive None) m
+  After m = Spine n flat h (LeafIs n flat g x LeafState.Exclusive None) m
 
   -- ---- up
 
-  module _ (w : Where) (d : DirValue) (ns : Nodes) (c : ℕ) (is : child_over h ns ≡ Some c) (there : c < length (children ns)) (r : DirRests x d) (room : dir_has_room d.sizes ≡ true) (calm : (j : ℕ) → j < length (children ns) → j ≢ c → Calm n words (child_at j (children ns))) (none : is_exclusive (dir_hold x d) ≡ false)
-      (one : Clears n words h x within (at_child (spot_in (where_path w) d c)) (child_at c (children ns)) (clear_turns h x (child_at c (children ns)))) where
+  module _ (w : Where) (d : DirValue) (ns : Nodes) (c : ℕ) (is : child_over h ns ≡ Some c) (there : c < length (children ns)) (r : DirRests x d) (room : dir_has_room d.sizes ≡ true) (calm : (j : ℕ) → j < length (children ns) → j ≢ c → Calm n flat (child_at j (children ns))) (none : is_exclusive (dir_hold x d) ≡ false)
+      (one : Clears n flat g h x within ends (at_child (spot_in (where_path w) d c)) (child_at c (children ns)) (clear_turns h x (child_at c (children ns)))) where
     free : erase_list_full (stamp_above w) c x d (slice_set (children ns) c one.after) false ≡ None
     free =
         let full = not-full d.sizes.request_room d.requests (dir-room d.sizes room).requests r.lists.requests in
@@ -81,32 +82,32 @@ module _ (n : ℕ) (words : ℕ → List ℕ) (h x : ℕ) (within : x < n) where
     p = erase_noted (stamp_above w) c x d (slice_set (children ns) c one.after) false
 
     abbrev kids : List Node
-    kids = (swept n words h x within w d ns c is there r calm one false none free).after
+    kids = (swept n flat g h x within ends w d ns c is there r calm one false none free).after
 
     p-items : ItemsAre x (dir_hold x d) (up_erase c) false p.items
     p-items = items-set x (record (dir_item x d) { note = up_erase c }) _ _ _ (dir_hold x d) (up_erase c) false d.items r.items refl refl r.items.answers
 
     q-lists : ListsAre [] [] [] (record p { requests = rest_of p.requests })
-    q-lists = record { down = r.lists.down; requests = ap rest_of (ap (λ l. l ++ erase n words h x within ∷ []) r.lists.requests); replies = r.lists.replies; parked = r.lists.parked; places = r.lists.places }
+    q-lists = record { down = r.lists.down; requests = ap rest_of (ap (λ l. l ++ erase n flat g h x within ends ∷ []) r.lists.requests); replies = r.lists.replies; parked = r.lists.parked; places = r.lists.places }
 
-    clears-so : Clears n words h x within w (dir_node d ns) (turns_by (λ c. turns_of_child c (clears h x ns) ++ Turn.Request d.bus c ∷ turns_of_others c (loses x ns)) (child_over h ns))
-    clears-so = subst (λ o. Clears n words h x within w (dir_node d ns) (turns_by (λ c. turns_of_child c (clears h x ns) ++ Turn.Request d.bus c ∷ turns_of_others c (loses x ns)) o)) (sym is) (record {
+    clears-so : Clears n flat g h x within ends w (dir_node d ns) (turns_by (λ c. turns_of_child c (clears h x ns) ++ Turn.Request d.bus c ∷ turns_of_others c (loses x ns)) (child_over h ns))
+    clears-so = subst (λ o. Clears n flat g h x within ends w (dir_node d ns) (turns_by (λ c. turns_of_child c (clears h x ns) ++ Turn.Request d.bus c ∷ turns_of_others c (loses x ns)) o)) (sym is) (record {
       after = dir_node p (nodes kids);
-      run = run n words h x within w d ns c is there r calm one false none free;
-      request = ap (λ l. first_of (l ++ erase n words h x within ∷ [])) r.lists.requests;
+      run = run n flat g h x within ends w d ns c is there r calm one false none free;
+      request = ap (λ l. first_of (l ++ erase n flat g h x within ends ∷ [])) r.lists.requests;
       erases =
           let same = children-nodes kids in
-          let many = many3 n words h x within w d ns c is there r calm one false none free in
-          erases_over c (dir_hold x d) (over3 n words h x within w d ns c is there r calm one false none free) (subst (λ l. c < length l) (sym same) (subst (λ k. c < k) (sym many) there)) p-items q-lists room (subst (λ l. (j : ℕ) → j < length l → j ≢ c → Settled n words (child_at j l)) (sym same) (others3 n words h x within w d ns c is there r calm one false none free))
-          (subst (λ l. Erases n words h x within (child_at c l)) (sym same) (subst (Erases n words h x within) (sym (here3 n words h x within w d ns c is there r calm one false none free)) one.erases));
+          let many = many3 n flat g h x within ends w d ns c is there r calm one false none free in
+          erases_over c (dir_hold x d) (over3 n flat g h x within ends w d ns c is there r calm one false none free) (subst (λ l. c < length l) (sym same) (subst (λ k. c < k) (sym many) there)) p-items q-lists room (subst (λ l. (j : ℕ) → j < length l → j ≢ c → Settled n flat (child_at j l)) (sym same) (others3 n flat g h x within ends w d ns c is there r calm one false none free))
+          (subst (λ l. Erases n flat g h x within (child_at c l)) (sym same) (subst (Erases n flat g h x within) (sym (here3 n flat g h x within ends w d ns c is there r calm one false none free)) one.erases));
     })
 
-  pub clear : (m : Node) → Before m → IsTreeOk n m → is_exclusive (child_hold x m) ≡ false → (w : Where) → Clears n words h x within w m (clear_turns h x m)
+  pub clear : (m : Node) → Before m → IsTreeOk n m → is_exclusive (child_hold x m) ≡ false → (w : Where) → Clears n flat g h x within ends w m (clear_turns h x m)
   clear (leaf_node v) (at_leaf number is) ok none w = record {
     after = leaf_node v;
     run = stays;
     request = is.slot;
-    erases = erases_leaf number (record { entry = is.entry; here = is.here; in_state = is.in_state; others = is.others; buffer = is.buffer; slot = refl; replies = is.replies; copies = is.copies; room = is.room });
+    erases = erases_leaf number (record { entry = is.entry; here = is.here; in_state = is.in_state; others = is.others; buffer = is.buffer; slot = refl; replies = is.replies; copies = is.copies; room = is.room; hart = is.hart; reserved = is.reserved });
   }
   clear (dir_node d ns) (over c is there rests room others deeper) ok none w =
       let r = dir-rests x d (dir-knows n x within d (children ns) ok.0) rests in
@@ -124,11 +125,11 @@ module _ (n : ℕ) (words : ℕ → List ℕ) (h x : ℕ) (within : x < n) where
     pub child : ℕ
     pub is : child_over h (nodes kids) ≡ Some child
     pub there : child < length kids
-    pub others : (j : ℕ) → j < length kids → j ≢ child → Settled n words (child_at j kids)
+    pub others : (j : ℕ) → j < length kids → j ≢ child → Settled n flat (child_at j kids)
     pub spine : After (child_at child kids)
 
-  module _ (w : Where) (d : DirValue) (ns : Nodes) (c : ℕ) (is : child_over h ns ≡ Some c) (there : c < length (children ns)) (r : DirRests x d) (place : nat_lt 0 d.sizes.down_room ≡ true) (calm : (j : ℕ) → j < length (children ns) → j ≢ c → Calm n words (child_at j (children ns))) (holds : is_exclusive (dir_hold x d) ≡ true)
-      (one : Clears n words h x within (at_child (spot_in (where_path w) d c)) (child_at c (children ns)) (clear_turns h x (child_at c (children ns)))) where
+  module _ (w : Where) (d : DirValue) (ns : Nodes) (c : ℕ) (is : child_over h ns ≡ Some c) (there : c < length (children ns)) (r : DirRests x d) (place : nat_lt 0 d.sizes.down_room ≡ true) (calm : (j : ℕ) → j < length (children ns) → j ≢ c → Calm n flat (child_at j (children ns))) (holds : is_exclusive (dir_hold x d) ≡ true)
+      (one : Clears n flat g h x within ends (at_child (spot_in (where_path w) d c)) (child_at c (children ns)) (clear_turns h x (child_at c (children ns)))) where
     free-down : erase_list_full (stamp_above w) c x d (slice_set (children ns) c one.after) true ≡ None
     free-down =
         let full = not-full d.sizes.down_room d.down place r.lists.down in
@@ -145,13 +146,13 @@ module _ (n : ℕ) (words : ℕ → List ℕ) (h x : ℕ) (within : x < n) where
     e3 = with_note x no_note e2
 
     abbrev k1 : List Node
-    k1 = (swept n words h x within w d ns c is there r calm one true holds free-down).after
+    k1 = (swept n flat g h x within ends w d ns c is there r calm one true holds free-down).after
 
     many-k1 : length k1 ≡ length (children ns)
-    many-k1 = many3 n words h x within w d ns c is there r calm one true holds free-down
+    many-k1 = many3 n flat g h x within ends w d ns c is there r calm one true holds free-down
 
     here-k1 : child_at c k1 ≡ child_request_taken one.after
-    here-k1 = here3 n words h x within w d ns c is there r calm one true holds free-down
+    here-k1 = here3 n flat g h x within ends w d ns c is there r calm one true holds free-down
 
     e2-items : ItemsAre x (dir_hold x d) (up_erase c) false e2.items
     e2-items = items-set x (record (dir_item x d) { note = up_erase c }) _ _ _ (dir_hold x d) (up_erase c) false d.items r.items refl refl r.items.answers
@@ -162,9 +163,9 @@ module _ (n : ℕ) (words : ℕ → List ℕ) (h x : ℕ) (within : x < n) where
     e3-lists : ListsAre [] [] [] e3
     e3-lists = record { down = refl; requests = r.lists.requests; replies = r.lists.replies; parked = r.lists.parked; places = r.lists.places }
 
-    owns : Owns n words h x within (at_child (spot_in (where_path w) e3 c)) (child_take_exclusive x (stamp_of e2) (child_at c k1)) (take_turns h (child_at c (children ns)))
-    owns = subst (λ ts. Owns n words h x within (at_child (spot_in (where_path w) e3 c)) (child_take_exclusive x (stamp_of e2) (child_at c k1)) ts) same-turns
-        (subst (λ m. Owns n words h x within (at_child (spot_in (where_path w) e3 c)) (child_take_exclusive x (stamp_of e2) m) (take_turns h (child_request_taken one.after))) (sym here-k1) (own n words h x within (child_request_taken one.after) one.erases (at_child (spot_in (where_path w) e3 c)) (stamp_of e2)))
+    owns : Owns n flat g h x within (at_child (spot_in (where_path w) e3 c)) (child_take_exclusive x (stamp_of e2) (child_at c k1)) (take_turns h (child_at c (children ns)))
+    owns = subst (λ ts. Owns n flat g h x within (at_child (spot_in (where_path w) e3 c)) (child_take_exclusive x (stamp_of e2) (child_at c k1)) ts) same-turns
+        (subst (λ m. Owns n flat g h x within (at_child (spot_in (where_path w) e3 c)) (child_take_exclusive x (stamp_of e2) m) (take_turns h (child_request_taken one.after))) (sym here-k1) (own n flat g h x within (child_request_taken one.after) one.erases (at_child (spot_in (where_path w) e3 c)) (stamp_of e2)))
       where
         same-turns : take_turns h (child_request_taken one.after) ≡ take_turns h (child_at c (children ns))
         same-turns = taken-turns h one.after ∙ turns-same h one.after (child_at c (children ns)) (runs-skeleton one.run)
@@ -190,7 +191,7 @@ module _ (n : ℕ) (words : ℕ → List ℕ) (h x : ℕ) (within : x < n) where
     down-run =
         let entry : DownValue = record { kind = ExclusiveTx; item = x; words = blank d.sizes.width; stamp = stamp_above w } in
         let front : e1.down ≡ entry ∷ [] = ap (λ l. l ++ entry ∷ []) r.lists.down in
-        let room : child_full_for ExclusiveTx x (child_at c k1) ≡ None = subst (λ m. child_full_for ExclusiveTx x m ≡ None) (sym here-k1) (free-for_exclusive n words h x within (child_request_taken one.after) one.erases) in
+        let room : child_full_for ExclusiveTx x (child_at c k1) ≡ None = subst (λ m. child_full_for ExclusiveTx x m ≡ None) (sym here-k1) (free-for_exclusive n flat g h x within (child_request_taken one.after) one.erases) in
         let down = down-exclusive (stamp_above w) x c (blank d.sizes.width) (stamp_above w) e1 k1 front e2-items.note room in
         let inner : Runs (at_child (spot_in (where_path w) e3 c)) (child_at c k2) (take_turns h (child_at c (children ns))) owns.after = subst (λ m. Runs (at_child (spot_in (where_path w) e3 c)) m (take_turns h (child_at c (children ns))) owns.after) (sym (get_or-set_same k1 c _ no_node there-k1)) owns.run in
         let deeper : Runs w (dir_node e3 (nodes k2)) (take_turns h (child_at c (children ns)) ++ []) (dir_node e3 (nodes k3)) = below k2 c (take_turns h (child_at c (children ns))) owns.after there-k2 inner stays in
@@ -199,7 +200,7 @@ module _ (n : ℕ) (words : ℕ → List ℕ) (h x : ℕ) (within : x < n) where
 
     owned : Owned w d ns ((turns_of_child c (clears h x ns) ++ Turn.Request d.bus c ∷ turns_of_others c (loses x ns)) ++ Turn.Down d.bus ∷ turns_of_child c (takes h ns))
     owned =
-        let whole = runs-on (run n words h x within w d ns c is there r calm one true holds free-down) down-run in
+        let whole = runs-on (run n flat g h x within ends w d ns c is there r calm one true holds free-down) down-run in
         record {
           parent = e3;
           kids = k3;
@@ -208,7 +209,7 @@ module _ (n : ℕ) (words : ℕ → List ℕ) (h x : ℕ) (within : x < n) where
           child = c;
           is = same-over h 0 (nodes k3) ns (dir-bones e3 d (nodes k3) ns (runs-skeleton whole)) ∙ is;
           there = subst (λ k. c < k) (sym many-k3) there;
-          others = λ j l ne. subst (Settled n words) (sym (get_or-set_other k2 c j owns.after no_node ne ∙ get_or-set_other k1 c j _ no_node ne)) (others3 n words h x within w d ns c is there r calm one true holds free-down j (subst (λ k. j < k) (many-k3 ∙ sym many-k1) l) ne);
+          others = λ j l ne. subst (Settled n flat) (sym (get_or-set_other k2 c j owns.after no_node ne ∙ get_or-set_other k1 c j _ no_node ne)) (others3 n flat g h x within ends w d ns c is there r calm one true holds free-down j (subst (λ k. j < k) (many-k3 ∙ sym many-k1) l) ne);
           spine = subst After (sym (get_or-set_same k2 c owns.after no_node there-k2)) owns.spine;
         }
 
@@ -218,7 +219,7 @@ module _ (n : ℕ) (words : ℕ → List ℕ) (h x : ℕ) (within : x < n) where
     pub run : Runs w m ts after
     pub spine : After after
 
-  module _ (w : Where) (d : DirValue) (ns : Nodes) (c : ℕ) (is : child_over h ns ≡ Some c) (there : c < length (children ns)) (rests : dir_rests d ≡ true) (others : (j : ℕ) → j < length (children ns) → j ≢ c → Settled n words (child_at j (children ns))) (bus : IsBusOk n d (children ns)) (trees : AreTreesOk n ns) where
+  module _ (w : Where) (d : DirValue) (ns : Nodes) (c : ℕ) (is : child_over h ns ≡ Some c) (there : c < length (children ns)) (rests : dir_rests d ≡ true) (others : (j : ℕ) → j < length (children ns) → j ≢ c → Settled n flat (child_at j (children ns))) (bus : IsBusOk n d (children ns)) (trees : AreTreesOk n ns) where
     -- the erase turns below child c
     module _ (one : Erased (at_child (spot_in (where_path w) d c)) (child_at c (children ns)) (erase_turns h x (child_at c (children ns)))) where
       abbrev last : List Node
@@ -240,12 +241,12 @@ module _ (n : ℕ) (words : ℕ → List ℕ) (h x : ℕ) (within : x < n) where
         child = c;
         is = same-over h 0 (nodes last) ns (dir-bones d d (nodes last) ns (runs-skeleton went)) ∙ is;
         there = subst (λ k. c < k) (sym many) there;
-        others = λ j l ne. subst (Settled n words) (sym (get_or-set_other (children ns) c j one.after no_node ne)) (others j (subst (λ k. j < k) many l) ne);
+        others = λ j l ne. subst (Settled n flat) (sym (get_or-set_other (children ns) c j one.after no_node ne)) (others j (subst (λ k. j < k) many l) ne);
         spine = subst After (sym (get_or-set_same (children ns) c one.after no_node there)) one.spine;
       }
 
     -- on this bus or below child c
-    bus-erase : nat_lt 0 d.sizes.down_room ≡ true → is_exclusive (dir_hold x d) ≡ true → (is_exclusive (child_hold x (child_at c (children ns))) ≡ true → Erased (at_child (spot_in (where_path w) d c)) (child_at c (children ns)) (erase_turns h x (child_at c (children ns)))) → (is_exclusive (child_hold x (child_at c (children ns))) ≡ false → Clears n words h x within (at_child (spot_in (where_path w) d c)) (child_at c (children ns)) (clear_turns h x (child_at c (children ns)))) → Owned w d ns (erase_turns h x (dir_node d ns))
+    bus-erase : nat_lt 0 d.sizes.down_room ≡ true → is_exclusive (dir_hold x d) ≡ true → (is_exclusive (child_hold x (child_at c (children ns))) ≡ true → Erased (at_child (spot_in (where_path w) d c)) (child_at c (children ns)) (erase_turns h x (child_at c (children ns)))) → (is_exclusive (child_hold x (child_at c (children ns))) ≡ false → Clears n flat g h x within ends (at_child (spot_in (where_path w) d c)) (child_at c (children ns)) (clear_turns h x (child_at c (children ns)))) → Owned w d ns (erase_turns h x (dir_node d ns))
     bus-erase place holds deeper up =
         subst (λ o. Owned w d ns (turns_by (λ c. if is_exclusive (child_hold x (child_at c (children ns))) then turns_of_child c (erases h x ns) else turns_by (λ c. turns_of_child c (clears h x ns) ++ Turn.Request d.bus c ∷ turns_of_others c (loses x ns)) o ++ Turn.Down d.bus ∷ turns_of_child c (takes h ns)) o)) (sym is) (at (is_exclusive (child_hold x (child_at c (children ns)))) refl)
       where
@@ -253,7 +254,7 @@ module _ (n : ℕ) (words : ℕ → List ℕ) (h x : ℕ) (within : x < n) where
         at true is-exclusive = through (deeper is-exclusive)
         at false shared = owned w d ns c is there (dir-rests x d (dir-knows n x within d (children ns) bus) rests) place (λ j l ne. record { settled = others j l ne; rules = tree-at n ns trees j l }) holds (up shared)
 
-  waiting-shared : (v : LeafValue) → LeafIs n words x LeafState.Waiting (Some (erase n words h x within)) v → is_exclusive (child_hold x (leaf_node v)) ≡ false
+  waiting-shared : (v : LeafValue) → LeafIs n flat g x LeafState.Waiting (Some (erase n flat g h x within ends)) v → is_exclusive (child_hold x (leaf_node v)) ≡ false
   unfolding leaf_hold entry_at
   waiting-shared v is = rw (is.here, is.in_state) refl
 
@@ -263,7 +264,7 @@ module _ (n : ℕ) (words : ℕ → List ℕ) (h x : ℕ) (within : x < n) where
     run = s.run;
     spine =
         let same = children-nodes s.kids in
-        over s.child s.is (subst (λ l. s.child < length l) (sym same) s.there) s.rests (subst (λ (z : DirSizes). dir_has_room z ≡ true) (sym (dir-sizes s.parent d (nodes s.kids) ns (runs-skeleton s.run))) room) (subst (λ l. (j : ℕ) → j < length l → j ≢ s.child → Settled n words (child_at j l)) (sym same) s.others) (subst (λ l. After (child_at s.child l)) (sym same) s.spine);
+        over s.child s.is (subst (λ l. s.child < length l) (sym same) s.there) s.rests (subst (λ (z : DirSizes). dir_has_room z ≡ true) (sym (dir-sizes s.parent d (nodes s.kids) ns (runs-skeleton s.run))) room) (subst (λ l. (j : ℕ) → j < length l → j ≢ s.child → Settled n flat (child_at j l)) (sym same) s.others) (subst (λ l. After (child_at s.child l)) (sym same) s.spine);
   }
 
   pub erase-part : (m : Node) → Before m → IsTreeOk n m → is_exclusive (child_hold x m) ≡ true → (w : Where) → Erased w m (erase_turns h x m)
@@ -279,14 +280,14 @@ module _ (n : ℕ) (words : ℕ → List ℕ) (h x : ℕ) (within : x < n) where
 top-owns : (m : MachineValue) → IsMachineOk m → (x : ℕ) → x < items_of_machine m → is_exclusive (dir_hold x m.top) ≡ true
 top-owns m ok x within = (and_parts (is_exclusive (dir_hold x m.top)) _ (pass-in m.top.items (ok.top.each top_items) x (dir-knows (items_of_machine m) x within m.top (children m.kids) ok.tree.0))).0
 
-pub erase-served : (m : MachineValue) (words : ℕ → List ℕ) (h x : ℕ) → x < items_of_machine m → IsShaped m → IsMachineOk m → RootSpine (items_of_machine m) words h (LeafIs (items_of_machine m) words x LeafState.Waiting (Some (record { kind = EraseTx; item = x }))) m.top m.kids
-    → IsServed m (erase_turns h x (root_of m)) words h (LeafIs (items_of_machine m) words x LeafState.Exclusive None)
-erase-served m words h x within shaped ok root =
+pub erase-served : (m : MachineValue) (flat : FlatView) (g : FlatHart) (h x : ℕ) → x < items_of_machine m → MayEnd flat x → IsShaped m → IsMachineOk m → RootSpine (items_of_machine m) flat h (LeafIs (items_of_machine m) flat g x LeafState.Waiting (Some (record { kind = EraseTx; item = x }))) m.top m.kids
+    → IsServed m (erase_turns h x (root_of m)) flat h (LeafIs (items_of_machine m) flat g x LeafState.Exclusive None)
+erase-served m flat g h x within ends shaped ok root =
     let n = items_of_machine m in
     let inside = tree-at n m.kids ok.tree.1 root.child root.there in
-    let s = bus-erase n words h x within at_top m.top m.kids root.child root.is root.there root.rests root.others ok.tree.0 ok.tree.1 root.down (top-owns m ok x within)
-    (λ exclusive. erase-part n words h x within (child_at root.child (children m.kids)) root.spine inside exclusive (at_child (spot_in [] m.top root.child)))
-    (λ shared. clear n words h x within (child_at root.child (children m.kids)) root.spine inside shared (at_child (spot_in [] m.top root.child))) in
+    let s = bus-erase n flat g h x within ends at_top m.top m.kids root.child root.is root.there root.rests root.others ok.tree.0 ok.tree.1 root.down (top-owns m ok x within)
+    (λ exclusive. erase-part n flat g h x within ends (child_at root.child (children m.kids)) root.spine inside exclusive (at_child (spot_in [] m.top root.child)))
+    (λ shared. clear n flat g h x within ends (child_at root.child (children m.kids)) root.spine inside shared (at_child (spot_in [] m.top root.child))) in
     let same = children-nodes s.kids in
     record {
       top = s.parent;
@@ -298,7 +299,7 @@ erase-served m words h x within shaped ok root =
         there = subst (λ l. s.child < length l) (sym same) s.there;
         rests = s.rests;
         down = subst (λ (z : DirSizes). nat_lt 0 z.down_room ≡ true) (sym (dir-sizes s.parent m.top (nodes s.kids) m.kids (runs-skeleton s.run))) root.down;
-        others = subst (λ l. (j : ℕ) → j < length l → j ≢ s.child → Settled n words (child_at j l)) (sym same) s.others;
-        spine = subst (λ l. Spine n words h (LeafIs n words x LeafState.Exclusive None) (child_at s.child l)) (sym same) s.spine;
+        others = subst (λ l. (j : ℕ) → j < length l → j ≢ s.child → Settled n flat (child_at j l)) (sym same) s.others;
+        spine = subst (λ l. Spine n flat h (LeafIs n flat g x LeafState.Exclusive None) (child_at s.child l)) (sym same) s.spine;
       };
     }

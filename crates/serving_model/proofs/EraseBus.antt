@@ -9,6 +9,7 @@ use Rattle.std.proofs.lemmas.List.{length-set}
 use Rattle.serving_model.specs.DdmTypes.declared.answers.TxKind.TheVariants.{EraseTx}
 use Rattle.serving_model.specs.DdmTypes.declared.keys.Stamp.{Stamp}
 use Rattle.serving_model.specs.DdmTypes.declared.turns.Turn.{Turn}
+use Rattle.bus_laws.specs.FlatModel.Flat.{FlatHart}
 use Rattle.serving_model.specs.TreeModel.declared.BusTurn.{BusTurn}
 use Rattle.serving_model.specs.TreeModel.State.Lists.{map_from, first_given}
 use Rattle.serving_model.specs.TreeModel.State.States.{is_exclusive}
@@ -21,7 +22,7 @@ use Rattle.serving_model.specs.TreeModel.Turns.Grant.{granted, unless_full}
 use Rattle.serving_model.specs.TreeModel.Turns.Children.{child_at, other_full, erased_by}
 use Rattle.serving_model.specs.TreeModel.Turns.RequestErase.{erase_noted, erase_list_full, erase_of_all}
 use Rattle.serving_model.specs.TreeModel.Turns.Bus.{bus_judged}
-use Rattle.serving_model.specs.Parts.{Runs, stays, turned, below, Settled, Calm}
+use Rattle.serving_model.specs.Parts.{FlatView, MayEnd, Runs, stays, turned, below, Settled, Calm}
 use Rattle.serving_model.specs.Walk.{child_over, turns_of_child, turns_of_others, lose_turns, loses, clear_turns, clears}
 use Rattle.serving_model.proofs.TreeModel.Children.{map_from-length, child_at-map_from, nodes-children}
 use Rattle.serving_model.proofs.Dirs.{DirRests, not-pending}
@@ -46,7 +47,7 @@ turns-set [] c = refl
 turns-set (ts ∷ each) zero = refl
 turns-set (ts ∷ each) (suc c) = turns-set each c
 
-module _ (n : ℕ) (words : ℕ → List ℕ) (h x : ℕ) (within : x < n) where
+module _ (n : ℕ) (flat : FlatView) (g : FlatHart) (h x : ℕ) (within : x < n) (ends : MayEnd flat x) where
   abbrev pub erase : RequestValue
   erase = record { kind = EraseTx; item = x }
 
@@ -55,9 +56,9 @@ module _ (n : ℕ) (words : ℕ → List ℕ) (h x : ℕ) (within : x < n) where
     pub after : Node
     pub run : Runs w m ts after
     pub request : child_request after ≡ Some erase
-    pub erases : Erases n words h x within (child_request_taken after)
+    pub erases : Erases n flat g h x within (child_request_taken after)
 
-  module _ (w : Where) (d : DirValue) (ns : Nodes) (c : ℕ) (is : child_over h ns ≡ Some c) (there : c < length (children ns)) (r : DirRests x d) (calm : (j : ℕ) → j < length (children ns) → j ≢ c → Calm n words (child_at j (children ns)))
+  module _ (w : Where) (d : DirValue) (ns : Nodes) (c : ℕ) (is : child_over h ns ≡ Some c) (there : c < length (children ns)) (r : DirRests x d) (calm : (j : ℕ) → j < length (children ns) → j ≢ c → Calm n flat (child_at j (children ns)))
       (one : Clears (at_child (spot_in (where_path w) d c)) (child_at c (children ns)) (clear_turns h x (child_at c (children ns)))) (e : Bool) (holds : is_exclusive (dir_hold x d) ≡ e)
       (room : erase_list_full (stamp_above w) c x d (slice_set (children ns) c one.after) e ≡ None) where
     abbrev ks : List Node
@@ -105,7 +106,7 @@ module _ (n : ℕ) (words : ℕ → List ℕ) (h x : ℕ) (within : x < n) where
     -- ---- the others lose it
 
     pub record Lost (j : ℕ) (m : Node) : Type 0 where
-      pub other : j ≢ c → Settled n words m
+      pub other : j ≢ c → Settled n flat m
       pub here : j ≡ c → m ≡ child_request_taken one.after
 
     abbrev each : List (List Turn)
@@ -123,7 +124,7 @@ module _ (n : ℕ) (words : ℕ → List ℕ) (h x : ℕ) (within : x < n) where
           subst (Turns w p1 Lost j l2) (sym none) stay
       at (no ne) =
           let turns : turns_of_child j each ≡ lose_turns x (child_at j ks) = get_or-set_other (loses x ns) c j [] [] ne ∙ loses-at x j ns l in
-          let gone = lose n words x within (child_at j ks) (at_child (spot_in (where_path w) p1 j)) s1 (calm j l ne) in
+          let gone = lose n flat x within ends (child_at j ks) (at_child (spot_in (where_path w) p1 j)) s1 (calm j l ne) in
           let so : Turns w p1 Lost j l2 (lose_turns x (child_at j ks)) = record {
             after = gone.after;
             run = subst (λ m. Runs (at_child (spot_in (where_path w) p1 j)) m (lose_turns x (child_at j ks)) gone.after) (sym (at2-other j l ne)) gone.run;
@@ -144,7 +145,7 @@ module _ (n : ℕ) (words : ℕ → List ℕ) (h x : ℕ) (within : x < n) where
       at j l (no ne) =
           let zero_more : 0 + j ≡ j = omega arith in
           let differs : nat_eq j c ≡ false = ne_eqb j c ne in
-          rw (zero_more, differs, at1-other j ne) (free-to_lose n words x within (child_at j ks) (calm j l ne))
+          rw (zero_more, differs, at1-other j ne) (free-to_lose n flat x within ends (child_at j ks) (calm j l ne))
 
     pub run : Runs w (dir_node d ns) (turns_of_child c (clears h x ns) ++ Turn.Request d.bus c ∷ turns_of_others c (loses x ns)) (dir_node p1 (nodes swept.after))
     unfolding erase_of_all
@@ -159,7 +160,7 @@ module _ (n : ℕ) (words : ℕ → List ℕ) (h x : ℕ) (within : x < n) where
     pub many3 : length swept.after ≡ length ks
     many3 = swept.many ∙ many2
 
-    pub others3 : (j : ℕ) → j < length swept.after → j ≢ c → Settled n words (child_at j swept.after)
+    pub others3 : (j : ℕ) → j < length swept.after → j ≢ c → Settled n flat (child_at j swept.after)
     others3 j l ne = (swept.done j (omega arith) (subst (λ n. j < n) swept.many l)).other ne
 
     pub here3 : child_at c swept.after ≡ child_request_taken one.after

@@ -9,6 +9,7 @@ use Rattle.serving_model.specs.DdmTypes.declared.sizes.Hold.{Hold}
 use Rattle.serving_model.specs.DdmTypes.declared.sizes.LeafState.{LeafState}
 use Rattle.serving_model.specs.DdmTypes.declared.keys.Stamp.{Stamp}
 use Rattle.serving_model.specs.DdmTypes.declared.turns.Turn.{Turn}
+use Rattle.bus_laws.specs.FlatModel.Flat.{FlatHart}
 use Rattle.serving_model.specs.TreeModel.declared.BusTurn.{BusTurn}
 use Rattle.serving_model.specs.TreeModel.State.States.{is_reading}
 use Rattle.serving_model.specs.TreeModel.State.Values.{WayValue, DownValue, LeafValue, no_note, up_erase, DirValue, Node, Nodes, leaf_node, dir_node, nodes, children}
@@ -22,7 +23,7 @@ use Rattle.serving_model.specs.TreeModel.Turns.Children.{child_at}
 use Rattle.serving_model.specs.TreeModel.Turns.Down.{exclusive_to}
 use Rattle.serving_model.specs.TreeModel.Turns.Bus.{bus_judged}
 use Rattle.serving_model.specs.Rest.{way_rests, dir_has_room}
-use Rattle.serving_model.specs.Parts.{Runs, stays, turned, below, Settled}
+use Rattle.serving_model.specs.Parts.{FlatView, Runs, stays, turned, below, Settled}
 use Rattle.serving_model.specs.OneLeaf.{LeafIs, Spine, at_leaf, over}
 use Rattle.serving_model.specs.Walk.{child_over, turns_by, turns_of_child, take_turns, takes}
 use Rattle.bus_laws.proofs.HartFacts.{way-within}
@@ -47,18 +48,18 @@ exclusive-is : (x : ℕ) (e : WayValue) (v : LeafValue) → way_at x v.ways ≡ 
 unfolding leaf_take_exclusive entry_at
 exclusive-is x e v here buffer is = rw (here, buffer, is, here) refl
 
-module _ (n : ℕ) (words : ℕ → List ℕ) (h x : ℕ) (within : x < n) where
+module _ (n : ℕ) (flat : FlatView) (g : FlatHart) (h x : ℕ) (within : x < n) where
   -- the erase of the leaf was granted on each bus of the part, and exclusive hasn't come yet; all else is at rest
   pub data Erases : Node → Type 0 where
-    erases_leaf : {v : LeafValue} → nat_eq v.number h ≡ true → LeafIs n words x LeafState.Waiting None v → Erases (leaf_node v)
+    erases_leaf : {v : LeafValue} → nat_eq v.number h ≡ true → LeafIs n flat g x LeafState.Waiting None v → Erases (leaf_node v)
     erases_over : {d : DirValue} {ns : Nodes} → (c : ℕ) (hold : Hold) → child_over h ns ≡ Some c → c < length (children ns) → ItemsAre x hold (up_erase c) false d.items → ListsAre [] [] [] d → dir_has_room d.sizes ≡ true
-        → ((j : ℕ) → j < length (children ns) → j ≢ c → Settled n words (child_at j (children ns))) → Erases (child_at c (children ns)) → Erases (dir_node d ns)
+        → ((j : ℕ) → j < length (children ns) → j ≢ c → Settled n flat (child_at j (children ns))) → Erases (child_at c (children ns)) → Erases (dir_node d ns)
 
   -- these turns of a part are granted, the leaf has the item Exclusive, and all is at rest
   pub record Owns (w : Where) (m : Node) (ts : List Turn) : Type 0 where
     pub after : Node
     pub run : Runs w m ts after
-    pub spine : Spine n words h (LeafIs n words x LeafState.Exclusive None) after
+    pub spine : Spine n flat h (LeafIs n flat g x LeafState.Exclusive None) after
 
   pub free-for_exclusive : (m : Node) → Erases m → child_full_for ExclusiveTx x m ≡ None
   free-for_exclusive (leaf_node v) erases = refl
@@ -67,7 +68,7 @@ module _ (n : ℕ) (words : ℕ → List ℕ) (h x : ℕ) (within : x < n) where
       rw full refl
 
   module _ (d : DirValue) (ns : Nodes) (c : ℕ) (hold : Hold) (is : child_over h ns ≡ Some c) (there : c < length (children ns)) (items : ItemsAre x hold (up_erase c) false d.items) (lists : ListsAre [] [] [] d) (room : dir_has_room d.sizes ≡ true)
-      (others : (j : ℕ) → j < length (children ns) → j ≢ c → Settled n words (child_at j (children ns))) (has-room : child_full_for ExclusiveTx x (child_at c (children ns)) ≡ None)
+      (others : (j : ℕ) → j < length (children ns) → j ≢ c → Settled n flat (child_at j (children ns))) (has-room : child_full_for ExclusiveTx x (child_at c (children ns)) ≡ None)
       (deeper : (w : Where) (s : Stamp) → Owns w (child_take_exclusive x s (child_at c (children ns))) (take_turns h (child_at c (children ns)))) (w : Where) (s : Stamp) where
     abbrev entry : DownValue
     entry = record { kind = ExclusiveTx; item = x; words = blank d.sizes.width; stamp = s }
@@ -123,19 +124,19 @@ module _ (n : ℕ) (words : ℕ → List ℕ) (h x : ℕ) (within : x < n) where
         subst (λ l. Runs w (dir_node told l) (Turn.Down d.bus ∷ take_turns h (child_at c (children ns))) (dir_node last (nodes second))) (nodes-children ns)
         (turned (children ns) (exclusive_to x q (children ns) c) refl down (subst (λ l. Runs w (dir_node last (nodes l)) (take_turns h (child_at c (children ns))) (dir_node last (nodes second))) (sym (only-set c (child_take_exclusive x (stamp_of q)) (children ns))) ended))
 
-    spine : Spine n words h (LeafIs n words x LeafState.Exclusive None) (dir_node last (nodes second))
+    spine : Spine n flat h (LeafIs n flat g x LeafState.Exclusive None) (dir_node last (nodes second))
     spine =
         let same = children-nodes second in
-        over c over-second (subst (λ l. c < length l) (sym same) (subst (λ k. c < k) (sym many) there)) (rests-dir x Hold.Exclusive last last-items last-lists) room (subst (λ l. (j : ℕ) → j < length l → j ≢ c → Settled n words (child_at j l)) (sym same) listed) (subst (λ l. Spine n words h (LeafIs n words x LeafState.Exclusive None) (child_at c l)) (sym same) here)
+        over c over-second (subst (λ l. c < length l) (sym same) (subst (λ k. c < k) (sym many) there)) (rests-dir x Hold.Exclusive last last-items last-lists) room (subst (λ l. (j : ℕ) → j < length l → j ≢ c → Settled n flat (child_at j l)) (sym same) listed) (subst (λ l. Spine n flat h (LeafIs n flat g x LeafState.Exclusive None) (child_at c l)) (sym same) here)
       where
         over-second : child_over h (nodes second) ≡ Some c
         over-second = same-over h 0 (nodes second) ns (dir-bones last told (nodes second) ns (runs-skeleton run)) ∙ is
 
-        listed : (j : ℕ) → j < length second → j ≢ c → Settled n words (child_at j second)
-        listed j l ne = subst (Settled n words) (sym (get_or-set_other first c j one.after no_node ne ∙ get_or-set_other (children ns) c j _ no_node ne)) (others j (subst (λ k. j < k) many l) ne)
+        listed : (j : ℕ) → j < length second → j ≢ c → Settled n flat (child_at j second)
+        listed j l ne = subst (Settled n flat) (sym (get_or-set_other first c j one.after no_node ne ∙ get_or-set_other (children ns) c j _ no_node ne)) (others j (subst (λ k. j < k) many l) ne)
 
-        here : Spine n words h (LeafIs n words x LeafState.Exclusive None) (child_at c second)
-        here = subst (Spine n words h (LeafIs n words x LeafState.Exclusive None)) (sym (get_or-set_same first c one.after no_node in-first)) one.spine
+        here : Spine n flat h (LeafIs n flat g x LeafState.Exclusive None) (child_at c second)
+        here = subst (Spine n flat h (LeafIs n flat g x LeafState.Exclusive None)) (sym (get_or-set_same first c one.after no_node in-first)) one.spine
 
     owns-so : Owns w (dir_node (dir_take_exclusive x s d) ns) (Turn.Down d.bus ∷ turns_by (λ c. turns_of_child c (takes h ns)) (child_over h ns))
     owns-so = subst (λ e. Owns w (dir_node e ns) (Turn.Down d.bus ∷ turns_by (λ c. turns_of_child c (takes h ns)) (child_over h ns))) (sym told-is)
@@ -146,8 +147,8 @@ module _ (n : ℕ) (words : ℕ → List ℕ) (h x : ℕ) (within : x < n) where
   own (leaf_node v) (erases_leaf number is) w s =
       let there : x < length v.ways = way-within x v.ways is.entry is.here in
       let e : WayValue = record is.entry { state = LeafState.Exclusive } in
-      let right : e.words ≡ words x = is.copies.each x is.entry is.here (ap is_reading is.in_state) in
-      let so : LeafIs n words x LeafState.Exclusive None (exclusive x is.entry v) = record {
+      let right : e.words ≡ flat.words x = is.copies.each x is.entry is.here (ap is_reading is.in_state) in
+      let so : LeafIs n flat g x LeafState.Exclusive None (exclusive x is.entry v) = record {
         entry = e;
         here = get_or-set_same v.ways x (Some e) None there;
         in_state = refl;
@@ -155,8 +156,10 @@ module _ (n : ℕ) (words : ℕ → List ℕ) (h x : ℕ) (within : x < n) where
         buffer = refl;
         slot = is.slot;
         replies = is.replies;
-        copies = have-set words v.ways x e is.copies there (λ r. right);
+        copies = have-set flat v.ways x e is.copies there (λ r. right);
         room = is.room;
+        hart = is.hart;
+        reserved = is.reserved;
       } in
       subst (λ u. Owns w (leaf_node u) []) (sym (exclusive-is x is.entry v is.here is.buffer is.in_state)) (record { after = leaf_node (exclusive x is.entry v); run = stays; spine = at_leaf number so })
   own (dir_node d ns) (erases_over c hold is there items lists room others deeper) w s = owns-so d ns c hold is there items lists room others (free-for_exclusive (child_at c (children ns)) deeper) (λ w s. own (child_at c (children ns)) deeper w s) w s

@@ -2,7 +2,7 @@
 -- the item, and its reply goes up, a bus at a time.
 -- Letters: n is how many items there are, x the item, m a part, d a directory over the children ns, v a leaf, w a
 -- place, s a stamp.
-use Rattle.std.proofs.Common.{◌≡◌, ◌≢◌, ℕ, zero, suc, ◌<◌, true, false, List, [], ◌∷◌, ◌++◌, length, Option, Some, None, refl, sym, ap, subst, ◌∙◌, arith, get_or-set_same, get_or-set_other}
+use Rattle.std.proofs.Common.{is_some, ◌≡◌, ◌≢◌, ℕ, zero, suc, ◌<◌, true, false, List, [], ◌∷◌, ◌++◌, length, Option, Some, None, refl, sym, ap, subst, ◌∙◌, arith, get_or-set_same, get_or-set_other}
 use Rattle.std.specs.Prelude.{◌*◌, nat_le, slice_index_or, slice_set}
 use native.Mathlib.Decide.{ℕ_discrete}
 use Rattle.std.proofs.lemmas.Bool.{and_parts, true≢false}
@@ -15,6 +15,7 @@ use Rattle.serving_model.specs.DdmTypes.declared.turns.Turn.{Turn}
 use Rattle.serving_model.specs.TreeModel.declared.BusTurn.{BusTurn}
 use Rattle.serving_model.specs.TreeModel.State.Lists.{map_from, find_from, first_of, rest_of}
 use Rattle.serving_model.specs.TreeModel.State.States.{may_leave, is_reading}
+use Rattle.bus_laws.specs.FlatModel.Hart.{HartValue}
 use Rattle.serving_model.specs.TreeModel.State.Values.{CopyValue, WayValue, LeafValue, no_note, absent_item, DirValue, Node, Nodes, leaf_node, dir_node, no_nodes, more_nodes, nodes, children}
 use Rattle.serving_model.specs.TreeModel.State.Leaf.{blank, way_at, entry_at, leaf_hold, leaf_answer}
 use Rattle.serving_model.specs.TreeModel.State.Directory.{dir_hold, dir_note, is_answering, replies_full, stamp_of, counted, front_taken, pushed_reply, with_hold, with_answering, dir_answer}
@@ -28,7 +29,7 @@ use Rattle.serving_model.specs.TreeModel.Turns.Down.{read_by_child}
 use Rattle.serving_model.specs.TreeModel.Turns.Bus.{bus_judged}
 use Rattle.serving_model.specs.TreeRules.Bus.Rules.{IsBusOk}
 use Rattle.serving_model.specs.Rest.{way_rests, dir_has_room}
-use Rattle.serving_model.specs.Parts.{Runs, stays, turned, below, WaysHave, Settled, Calm}
+use Rattle.serving_model.specs.Parts.{Runs, stays, turned, below, FlatView, LeafHas, Settled, Calm}
 use Rattle.serving_model.specs.Walk.{turns_by, turns_of_child, give_turns, gives}
 use Rattle.serving_model.specs.Laws.{Gives}
 use Rattle.serving_model.proofs.TreeModel.Children.{only-set, found-passes, found-within, nodes-children}
@@ -53,14 +54,18 @@ reply-up above x k words p ns has note answers room = rw (has, note, answers, ro
 
 -- ---- words
 
-pub have-set : (words : ℕ → List ℕ) (ways : List (Option WayValue)) (x : ℕ) (e : WayValue) → WaysHave words ways → x < length ways → (is_reading e.state ≡ false → e.words ≡ words x) → WaysHave words (slice_set ways x (Some e))
-have-set words ways x e have there right = record { each = λ y f is reads. at y f is reads (ℕ_discrete y x) } where
-  at : (y : ℕ) (f : WayValue) → way_at y (slice_set ways x (Some e)) ≡ Some f → is_reading f.state ≡ false → Dec (y ≡ x) → f.words ≡ words y
+pub have-set : (flat : FlatView) {number : ℕ} {hart : HartValue} {reserved : Option ℕ} (ways : List (Option WayValue)) (x : ℕ) (e : WayValue) → LeafHas flat number hart reserved ways → x < length ways → (is_reading e.state ≡ false → e.words ≡ flat.words x) → LeafHas flat number hart reserved (slice_set ways x (Some e))
+have-set flat ways x e have there right = record { each = λ y f is reads. at y f is reads (ℕ_discrete y x); same_hart = have.same_hart; allowed = have.allowed; here = λ y has. stays-here y (have.here y has) (ℕ_discrete y x) } where
+  stays-here : (y : ℕ) → is_some (way_at y ways) ≡ true → Dec (y ≡ x) → is_some (way_at y (slice_set ways x (Some e))) ≡ true
+  stays-here y was (yes same) = subst (λ z. is_some (way_at z (slice_set ways x (Some e))) ≡ true) (sym same) (ap is_some (get_or-set_same ways x (Some e) None there))
+  stays-here y was (no other) = ap is_some (get_or-set_other ways x y (Some e) None other) ∙ was
+
+  at : (y : ℕ) (f : WayValue) → way_at y (slice_set ways x (Some e)) ≡ Some f → is_reading f.state ≡ false → Dec (y ≡ x) → f.words ≡ flat.words y
   at y f is reads (yes same) =
       let here : way_at x (slice_set ways x (Some e)) ≡ Some f = subst (λ z. way_at z (slice_set ways x (Some e)) ≡ Some f) same is in
       let set : way_at x (slice_set ways x (Some e)) ≡ Some e = get_or-set_same ways x (Some e) None there in
       let entry : e ≡ f = cc in
-      subst (λ z. f.words ≡ words z) (sym same) (subst (λ (g : WayValue). is_reading g.state ≡ false → g.words ≡ words x) entry right reads)
+      subst (λ z. f.words ≡ flat.words z) (sym same) (subst (λ (g : WayValue). is_reading g.state ≡ false → g.words ≡ flat.words x) entry right reads)
   at y f is reads (no other) = have.each y f (sym (get_or-set_other ways x y (Some e) None other) ∙ is) reads
 
 -- the turns of child k among those of all children
@@ -98,47 +103,47 @@ not-reading LeafState.Waiting m = cc
 not-reading LeafState.Reading m = cc
 not-reading LeafState.ReadingWaiting m = cc
 
-module _ (n : ℕ) (words : ℕ → List ℕ) (x : ℕ) (within : x < n) where
+module _ (n : ℕ) (flat : FlatView) (x : ℕ) (within : x < n) where
   abbrev Given : Node → Type 0
-  Given m = (w : Where) (s : Stamp) → Calm n words m → child_holds x m ≡ true → Gives n words w x (child_answer x s m) (give_turns x m)
+  Given m = (w : Where) (s : Stamp) → Calm n flat m → child_holds x m ≡ true → Gives n flat w x (child_answer x s m) (give_turns x m)
 
   give-leaf : (v : LeafValue) → Given (leaf_node v)
   give-leaf v w s calm held = at (way_at x v.ways) refl where
     r : LeafRests v
     r = leaf-rests v calm.settled.rests
 
-    at : (o : Option WayValue) → way_at x v.ways ≡ o → Gives n words w x (leaf_node (leaf_answer x v)) []
+    at : (o : Option WayValue) → way_at x v.ways ≡ o → Gives n flat w x (leaf_node (leaf_answer x v)) []
     at None none = absurd (true≢false (sym held ∙ hold-none x v none r.buffer))
     at (Some e) here =
         let leaves : way_rests (Some e) ≡ true = subst (λ o. way_rests o ≡ true) here (pass-at way_rests None refl v.ways r.ways x) in
         let there : x < length v.ways = way-within x v.ways e here in
-        let right : e.words ≡ words x = calm.settled.copies.each x e here (not-reading e.state leaves) in
-        let given : Gives n words w x (leaf_node (answered x e v)) [] = record {
+        let right : e.words ≡ flat.words x = calm.settled.copies.each x e here (not-reading e.state leaves) in
+        let given : Gives n flat w x (leaf_node (answered x e v)) [] = record {
           after = leaf_node (answered x e v);
           run = stays;
           reply = ap (λ ws. (let c : CopyValue = record { item = x; words = ws } in c) ∷ []) right;
           settled = record {
             rests = rests-leaf (record (answered x e v) { replies = [] }) (record { ways = pass-set way_rests v.ways x (Some (record e { state = LeafState.Shared })) r.ways refl; buffer = refl; slot = r.slot; replies = refl });
             room = calm.settled.room;
-            copies = have-set words v.ways x (record e { state = LeafState.Shared }) calm.settled.copies there (λ reads. right);
+            copies = have-set flat v.ways x (record e { state = LeafState.Shared }) calm.settled.copies there (λ reads. right);
           };
         } in
-        subst (λ u. Gives n words w x (leaf_node u) []) (sym (answered-is x e v e.state here r.buffer r.replies refl leaves)) given
+        subst (λ u. Gives n flat w x (leaf_node u) []) (sym (answered-is x e v e.state here r.buffer r.replies refl leaves)) given
 
   -- ---- a directory
 
-  pub free : (m : Node) → Calm n words m → child_full_for ReadTx x m ≡ None
+  pub free : (m : Node) → Calm n flat m → child_full_for ReadTx x m ≡ None
   free (leaf_node v) calm =
       let r = leaf-rests v calm.settled.rests in
       let full = not-full v.sizes.reply_room v.replies (and_parts (nat_le n (v.sizes.sets * v.sizes.way_count)) _ calm.settled.room).1 r.replies in
       rw full refl
   free (dir_node d ns) calm =
-      let c = calm-dir n words d ns calm in
+      let c = calm-dir n flat d ns calm in
       let known : x < length d.items = dir-knows n x within d (children ns) c.bus in
       let full = not-full d.sizes.down_room d.down (dir-room d.sizes c.room).down (dir-rests x d known c.rests).lists.down in
       rw full refl
 
-  module _ (d : DirValue) (ns : Nodes) (deeper : (k : ℕ) → k < length (children ns) → Given (child_at k (children ns))) (w : Where) (s : Stamp) (c : DirCalm n words d ns) where
+  module _ (d : DirValue) (ns : Nodes) (deeper : (k : ℕ) → k < length (children ns) → Given (child_at k (children ns))) (w : Where) (s : Stamp) (c : DirCalm n flat d ns) where
     known : x < length d.items
     known = dir-knows n x within d (children ns) c.bus
 
@@ -153,7 +158,7 @@ module _ (n : ℕ) (words : ℕ → List ℕ) (x : ℕ) (within : x < n) where
     q = front_taken s [] told
 
     abbrev last : DirValue
-    last = pushed_reply x (words x) (with_answering x false (with_hold x Hold.Shared (counted q)))
+    last = pushed_reply x (flat.words x) (with_answering x false (with_hold x Hold.Shared (counted q)))
 
     q-items : ItemsAre x (dir_hold x d) no_note true q.items
     unfolding dir_answer
@@ -177,7 +182,7 @@ module _ (n : ℕ) (words : ℕ → List ℕ) (x : ℕ) (within : x < n) where
       there : k < length (children ns)
       there = found-within (holds_item x) k (children ns) no_node found
 
-      abbrev inner : Gives n words (at_child (spot_in (where_path w) q k)) x (child_answer x (stamp_of q) (child_at k (children ns))) (give_turns x (child_at k (children ns)))
+      abbrev inner : Gives n flat (at_child (spot_in (where_path w) q k)) x (child_answer x (stamp_of q) (child_at k (children ns))) (give_turns x (child_at k (children ns)))
       inner = deeper k there (at_child (spot_in (where_path w) q k)) (stamp_of q) (c.kids k there) (found-passes (holds_item x) k (children ns) no_node found)
 
       -- the children, when child k was told, and when it has the reply
@@ -196,13 +201,13 @@ module _ (n : ℕ) (words : ℕ → List ℕ) (x : ℕ) (within : x < n) where
       at-second : child_at k second ≡ inner.after
       at-second = get_or-set_same first k inner.after no_node in-first
 
-      has-reply : child_reply (child_at k second) ≡ Some (record { item = x; words = words x })
+      has-reply : child_reply (child_at k second) ≡ Some (record { item = x; words = flat.words x })
       has-reply = ap child_reply at-second ∙ ap first_of inner.reply
 
-      others : (j : ℕ) → j < length second → j ≢ k → Settled n words (child_at j second)
+      others : (j : ℕ) → j < length second → j ≢ k → Settled n flat (child_at j second)
       others j l ne =
           let in-kids : j < length (children ns) = subst (λ n. j < n) (length-set first k inner.after ∙ length-set (children ns) k _) l in
-          subst (Settled n words) (sym (get_or-set_other first k j inner.after no_node ne ∙ get_or-set_other (children ns) k j _ no_node ne)) (c.kids j in-kids).settled
+          subst (Settled n flat) (sym (get_or-set_other first k j inner.after no_node ne ∙ get_or-set_other (children ns) k j _ no_node ne)) (c.kids j in-kids).settled
 
       run : Runs w (dir_node told (nodes (children ns))) (Turn.Down d.bus ∷ (give_turns x (child_at k (children ns)) ++ Turn.Reply d.bus k ∷ [])) (dir_node last (nodes (map_from (only k child_reply_taken) 0 second)))
       unfolding dir_answer read_by_child reply_to_parent
@@ -211,30 +216,30 @@ module _ (n : ℕ) (words : ℕ → List ℕ) (x : ℕ) (within : x < n) where
           let front : told.down ≡ record { kind = ReadTx; item = x; words = blank d.sizes.width; stamp = s } ∷ [] = ap (λ l. l ++ record { kind = ReadTx; item = x; words = blank d.sizes.width; stamp = s } ∷ []) r.lists.down in
           let down = down-read (stamp_above w) x k (blank d.sizes.width) s told (children ns) front note found (free (child_at k (children ns)) (c.kids k there)) in
           let full : replies_full q ≡ false = not-full d.sizes.reply_room q.replies (dir-room d.sizes c.room).replies q-lists.replies in
-          let up = reply-up (stamp_above w) x k (words x) q second has-reply q-items.note q-items.answers full in
+          let up = reply-up (stamp_above w) x k (flat.words x) q second has-reply q-items.note q-items.answers full in
           turned (children ns) (read_by_child x q (children ns) k) refl down
           (subst (λ l. Runs w (dir_node q (nodes l)) (give_turns x (child_at k (children ns)) ++ Turn.Reply d.bus k ∷ []) (dir_node last (nodes (map_from (only k child_reply_taken) 0 second)))) (sym (only-set k (child_answer x (stamp_of q)) (children ns)))
           (below first k (give_turns x (child_at k (children ns))) inner.after in-first (subst (λ m. Runs (at_child (spot_in (where_path w) q k)) m (give_turns x (child_at k (children ns))) inner.after) (sym at-first) inner.run)
-          (turned second (reply_to_parent k x (words x) q second) refl up stays)))
+          (turned second (reply_to_parent k x (flat.words x) q second) refl up stays)))
 
-      gives-so : Gives n words w x (dir_node told ns) (Turn.Down d.bus ∷ (turns_of_child k (gives x ns) ++ Turn.Reply d.bus k ∷ []))
+      gives-so : Gives n flat w x (dir_node told ns) (Turn.Down d.bus ∷ (turns_of_child k (gives x ns) ++ Turn.Reply d.bus k ∷ []))
       gives-so = record {
         after = dir_node last (nodes (map_from (only k child_reply_taken) 0 second));
         run = rw (gives-at x k ns there) (subst (λ l. Runs w (dir_node told l) (Turn.Down d.bus ∷ (give_turns x (child_at k (children ns)) ++ Turn.Reply d.bus k ∷ [])) (dir_node last (nodes (map_from (only k child_reply_taken) 0 second)))) (nodes-children ns) run);
-        reply = ap (λ l. l ++ (let c : CopyValue = record { item = x; words = words x } in c) ∷ []) q-lists.replies;
+        reply = ap (λ l. l ++ (let c : CopyValue = record { item = x; words = flat.words x } in c) ∷ []) q-lists.replies;
         settled =
             let taken = record last { replies = rest_of last.replies } in
-            let lists : ListsAre [] [] [] taken = record { down = refl; requests = q-lists.requests; replies = ap rest_of (ap (λ l. l ++ (let c : CopyValue = record { item = x; words = words x } in c) ∷ []) q-lists.replies); parked = q-lists.parked; places = q-lists.places } in
-            settled-dir n words taken (map_from (only k child_reply_taken) 0 second) (rests-dir x Hold.Shared taken last-items lists) last-room
-            (only-each (Settled n words) k second child_reply_taken others (subst (λ m. Settled n words (child_reply_taken m)) (sym at-second) inner.settled));
+            let lists : ListsAre [] [] [] taken = record { down = refl; requests = q-lists.requests; replies = ap rest_of (ap (λ l. l ++ (let c : CopyValue = record { item = x; words = flat.words x } in c) ∷ []) q-lists.replies); parked = q-lists.parked; places = q-lists.places } in
+            settled-dir n flat taken (map_from (only k child_reply_taken) 0 second) (rests-dir x Hold.Shared taken last-items lists) last-room
+            (only-each (Settled n flat) k second child_reply_taken others (subst (λ m. Settled n flat (child_reply_taken m)) (sym at-second) inner.settled));
       }
 
   give-dir : (d : DirValue) (ns : Nodes) → ((k : ℕ) → k < length (children ns) → Given (child_at k (children ns))) → Given (dir_node d ns)
   give-dir d ns deeper w s calm held = at (find_from (holds_item x) 0 (children ns)) refl where
-    c : DirCalm n words d ns
-    c = calm-dir n words d ns calm
+    c : DirCalm n flat d ns
+    c = calm-dir n flat d ns calm
 
-    at : (o : Option ℕ) → find_from (holds_item x) 0 (children ns) ≡ o → Gives n words w x (dir_node (dir_answer x s d) ns) (Turn.Down d.bus ∷ turns_by (λ k. turns_of_child k (gives x ns) ++ Turn.Reply d.bus k ∷ []) o)
+    at : (o : Option ℕ) → find_from (holds_item x) 0 (children ns) ≡ o → Gives n flat w x (dir_node (dir_answer x s d) ns) (Turn.Down d.bus ∷ turns_by (λ k. turns_of_child k (gives x ns) ++ Turn.Reply d.bus k ∷ []) o)
     at None none =
         let q = dir-rests x d (known d ns deeper w s c) c.rests in
         absurd (true≢false (sym held ∙ no-holder n x within d (children ns) c.bus q.items.note q.items.answers q.lists none))

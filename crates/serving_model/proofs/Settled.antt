@@ -24,7 +24,7 @@ use Rattle.bus_laws.proofs.BitsOf.{any-false}
 use Rattle.bus_laws.proofs.Answering.{child-hold}
 use Rattle.bus_laws.proofs.DirParts.{is_no_note}
 use Rattle.serving_model.specs.Rest.{way_rests, leaf_rests, tree_rests, trees_rest, dir_rests, dir_has_room, tree_has_room, trees_have_room}
-use Rattle.serving_model.specs.Parts.{AllHave, Settled, Calm}
+use Rattle.serving_model.specs.Parts.{FlatView, AllHave, Settled, Calm}
 use Rattle.serving_model.proofs.TreeModel.Children.{none-passes}
 use Rattle.serving_model.proofs.Lists.{empty, nothing}
 use Rattle.serving_model.proofs.Dirs.{ListsAre}
@@ -49,8 +49,8 @@ rests-leaf v r = rw (r.ways, r.buffer, r.slot, r.replies) refl
 
 -- ---- children
 
-module _ (n : ℕ) (words : ℕ → List ℕ) where
-  pub calm-children : (ns : Nodes) → trees_rest ns ≡ true → trees_have_room n (skeletons ns) ≡ true → AllHave words ns → AreTreesOk n ns → (k : ℕ) → k < length (children ns) → Calm n words (child_at k (children ns))
+module _ (n : ℕ) (flat : FlatView) where
+  pub calm-children : (ns : Nodes) → trees_rest ns ≡ true → trees_have_room n (skeletons ns) ≡ true → AllHave flat ns → AreTreesOk n ns → (k : ℕ) → k < length (children ns) → Calm n flat (child_at k (children ns))
   calm-children no_nodes rest room have ok k l = absurd (omega (arith, l))
   calm-children (more_nodes m ns) rest room have ok zero l = record {
     settled = record { rests = (and_parts (tree_rests m) _ rest).0; room = (and_parts (tree_has_room n (skeleton m)) _ room).0; copies = have.0 };
@@ -64,22 +64,22 @@ module _ (n : ℕ) (words : ℕ → List ℕ) where
     pub rests : dir_rests d ≡ true
     pub room : dir_has_room d.sizes ≡ true
     pub bus : IsBusOk n d (children ns)
-    pub kids : (k : ℕ) → k < length (children ns) → Calm n words (child_at k (children ns))
+    pub kids : (k : ℕ) → k < length (children ns) → Calm n flat (child_at k (children ns))
 
-  pub calm-dir : (d : DirValue) (ns : Nodes) → Calm n words (dir_node d ns) → DirCalm d ns
+  pub calm-dir : (d : DirValue) (ns : Nodes) → Calm n flat (dir_node d ns) → DirCalm d ns
   calm-dir d ns calm =
       let rests = and_parts (dir_rests d) _ calm.settled.rests in
       let room = and_parts (dir_has_room d.sizes) _ calm.settled.room in
       record { rests = rests.0; room = room.0; bus = calm.rules.0; kids = calm-children ns rests.1 room.1 calm.settled.copies calm.rules.1 }
 
-  pub kids-settled : (ns : List Node) → ((k : ℕ) → k < length ns → Settled n words (child_at k ns)) → (trees_rest (nodes ns) ≡ true) × (trees_have_room n (skeletons (nodes ns)) ≡ true) × AllHave words (nodes ns)
+  pub kids-settled : (ns : List Node) → ((k : ℕ) → k < length ns → Settled n flat (child_at k ns)) → (trees_rest (nodes ns) ≡ true) × (trees_have_room n (skeletons (nodes ns)) ≡ true) × AllHave flat (nodes ns)
   kids-settled [] each = (refl, refl, tt)
   kids-settled (m ∷ ns) each =
       let first = each 0 (omega arith) in
       let rest = kids-settled ns (λ k l. each (suc k) (omega (arith, l))) in
       (both_true first.rests rest.0, both_true first.room rest.1, (first.copies, rest.2))
 
-  pub settled-dir : (d : DirValue) (ns : List Node) → dir_rests d ≡ true → dir_has_room d.sizes ≡ true → ((k : ℕ) → k < length ns → Settled n words (child_at k ns)) → Settled n words (dir_node d (nodes ns))
+  pub settled-dir : (d : DirValue) (ns : List Node) → dir_rests d ≡ true → dir_has_room d.sizes ≡ true → ((k : ℕ) → k < length ns → Settled n flat (child_at k ns)) → Settled n flat (dir_node d (nodes ns))
   settled-dir d ns rests room each =
       let all = kids-settled ns each in
       record { rests = both_true rests all.0; room = both_true room all.1; copies = all.2 }

@@ -30,16 +30,16 @@ use Rattle.serving_model.proofs.Settled.{resting, not-parked}
 -- ---- numbers of leaves are those of the skeleton
 
 abbrev mutual
-  bone_over : ℕ → Skeleton → Bool
+  pub bone_over : ℕ → Skeleton → Bool
   bone_over h (leaf_bone number sizes) = nat_eq number h
   bone_over h (dir_bone bus level sizes bones) = bones_over h bones
 
-  bones_over : ℕ → Skeletons → Bool
+  pub bones_over : ℕ → Skeletons → Bool
   bones_over h no_bones = false
   bones_over h (more_bones b bs) = bone_over h b || bones_over h bs
 
 mutual
-  over-is : (h : ℕ) (m : Node) → has_node (leaf_of_number h) m ≡ bone_over h (skeleton m)
+  pub over-is : (h : ℕ) (m : Node) → has_node (leaf_of_number h) m ≡ bone_over h (skeleton m)
   over-is h (leaf_node v) = refl
   over-is h (dir_node d ns) = among-is h ns
 

@@ -11,6 +11,7 @@ use Rattle.serving_model.specs.DdmTypes.declared.sizes.Hold.{Hold}
 use Rattle.serving_model.specs.DdmTypes.declared.sizes.LeafState.{LeafState}
 use Rattle.serving_model.specs.DdmTypes.declared.keys.Stamp.{Stamp}
 use Rattle.serving_model.specs.DdmTypes.declared.turns.Turn.{Turn}
+use Rattle.bus_laws.specs.FlatModel.Flat.{FlatHart}
 use Rattle.serving_model.specs.TreeModel.declared.BusTurn.{BusTurn}
 use Rattle.serving_model.specs.TreeModel.State.Lists.{map_from, first_given}
 use Rattle.serving_model.specs.TreeModel.State.States.{is_reading}
@@ -25,7 +26,7 @@ use Rattle.serving_model.specs.TreeModel.Turns.Children.{child_at, reader_full, 
 use Rattle.serving_model.specs.TreeModel.Turns.Down.{data_to_readers}
 use Rattle.serving_model.specs.TreeModel.Turns.Bus.{bus_judged}
 use Rattle.serving_model.specs.Rest.{way_rests, dir_has_room}
-use Rattle.serving_model.specs.Parts.{Runs, stays, turned, below, Settled}
+use Rattle.serving_model.specs.Parts.{FlatView, Runs, stays, turned, below, Settled}
 use Rattle.serving_model.specs.OneLeaf.{LeafIs, Spine, at_leaf, over, got, asks_then}
 use Rattle.serving_model.specs.Walk.{child_over, turns_by, turns_of_child, take_turns, takes}
 use Rattle.bus_laws.proofs.HartFacts.{way-within}
@@ -77,29 +78,29 @@ takes-at h k no_nodes l = absurd (omega (arith, l))
 takes-at h zero (more_nodes m ns) l = refl
 takes-at h (suc k) (more_nodes m ns) l = takes-at h k ns (omega (arith, l))
 
-module _ (n : ℕ) (words : ℕ → List ℕ) (h x : ℕ) (within : x < n) (state : LeafState) (reads : is_reading state ≡ true) where
+module _ (n : ℕ) (flat : FlatView) (g : FlatHart) (h x : ℕ) (within : x < n) (state : LeafState) (reads : is_reading state ≡ true) where
   -- these turns of a part are granted, the leaf has got the item, and all else is at rest
   pub record Takes (w : Where) (m : Node) (ts : List Turn) : Type 0 where
     pub after : Node
     pub run : Runs w m ts after
-    pub spine : Spine n words h (LeafIs n words x (got state) (asks_then x state)) after
+    pub spine : Spine n flat h (LeafIs n flat g x (got state) (asks_then x state)) after
 
   -- a child that waits has room for data
-  pub free : (m : Node) → Waits n words h x within state m → child_full_for DataTx x m ≡ None
+  pub free : (m : Node) → Waits n flat g h x within state m → child_full_for DataTx x m ≡ None
   free (leaf_node v) waits = refl
   free (dir_node d ns) (waits_over c is there items lists room others deeper) =
       let full = not-full d.sizes.down_room d.down (dir-room d.sizes room).down lists.down in
       rw full refl
 
   module _ (d : DirValue) (ns : Nodes) (c : ℕ) (is : child_over h ns ≡ Some c) (there : c < length (children ns)) (items : ItemsAre x Hold.Invalid (up_read c 0) false d.items) (lists : ListsAre [] [] [] d) (room : dir_has_room d.sizes ≡ true)
-      (others : (j : ℕ) → j < length (children ns) → j ≢ c → Settled n words (child_at j (children ns))) (has-room : child_full_for DataTx x (child_at c (children ns)) ≡ None)
-      (deeper : (w : Where) (s : Stamp) → Takes w (child_take_data x (words x) s (child_at c (children ns))) (take_turns h (child_at c (children ns)))) (w : Where) (s : Stamp) where
+      (others : (j : ℕ) → j < length (children ns) → j ≢ c → Settled n flat (child_at j (children ns))) (has-room : child_full_for DataTx x (child_at c (children ns)) ≡ None)
+      (deeper : (w : Where) (s : Stamp) → Takes w (child_take_data x (flat.words x) s (child_at c (children ns))) (take_turns h (child_at c (children ns)))) (w : Where) (s : Stamp) where
     abbrev entry : DownValue
-    entry = record { kind = DataTx; item = x; words = words x; stamp = s }
+    entry = record { kind = DataTx; item = x; words = flat.words x; stamp = s }
 
     -- the directory that was told data, then without what came down, and after the grant
     abbrev told : DirValue
-    told = pushed_down DataTx x (words x) s (with_hold x Hold.Shared d)
+    told = pushed_down DataTx x (flat.words x) s (with_hold x Hold.Shared d)
 
     abbrev q : DirValue
     q = front_taken s [] told
@@ -107,7 +108,7 @@ module _ (n : ℕ) (words : ℕ → List ℕ) (h x : ℕ) (within : x < n) (stat
     abbrev last : DirValue
     last = with_note x no_note q
 
-    told-is : dir_take_data x (words x) s d ≡ told
+    told-is : dir_take_data x (flat.words x) s d ≡ told
     unfolding dir_take_data
     told-is = refl
 
@@ -122,9 +123,9 @@ module _ (n : ℕ) (words : ℕ → List ℕ) (h x : ℕ) (within : x < n) (stat
 
     -- the children when child c was told
     abbrev first : List Node
-    first = slice_set (children ns) c (child_take_data x (words x) (stamp_of q) (child_at c (children ns)))
+    first = slice_set (children ns) c (child_take_data x (flat.words x) (stamp_of q) (child_at c (children ns)))
 
-    one : Takes (at_child (spot_in (where_path w) last c)) (child_take_data x (words x) (stamp_of q) (child_at c (children ns))) (take_turns h (child_at c (children ns)))
+    one : Takes (at_child (spot_in (where_path w) last c)) (child_take_data x (flat.words x) (stamp_of q) (child_at c (children ns))) (take_turns h (child_at c (children ns)))
     one = deeper (at_child (spot_in (where_path w) last c)) (stamp_of q)
 
     abbrev second : List Node
@@ -153,39 +154,39 @@ module _ (n : ℕ) (words : ℕ → List ℕ) (h x : ℕ) (within : x < n) (stat
     unfolding data_to_readers
     run =
         let front : told.down ≡ entry ∷ [] = ap (λ l. l ++ entry ∷ []) lists.down in
-        let down = down-data (stamp_above w) x c (words x) s told (children ns) front q-items.note none-full in
-        let at-first : child_at c first ≡ child_take_data x (words x) (stamp_of q) (child_at c (children ns)) = get_or-set_same (children ns) c _ no_node there in
+        let down = down-data (stamp_above w) x c (flat.words x) s told (children ns) front q-items.note none-full in
+        let at-first : child_at c first ≡ child_take_data x (flat.words x) (stamp_of q) (child_at c (children ns)) = get_or-set_same (children ns) c _ no_node there in
         let inner : Runs (at_child (spot_in (where_path w) last c)) (child_at c first) (take_turns h (child_at c (children ns))) one.after = subst (λ m. Runs (at_child (spot_in (where_path w) last c)) m (take_turns h (child_at c (children ns))) one.after) (sym at-first) one.run in
         let deeper-run : Runs w (dir_node last (nodes first)) (take_turns h (child_at c (children ns)) ++ []) (dir_node last (nodes second)) = below first c (take_turns h (child_at c (children ns))) one.after in-first inner stays in
         let ended : Runs w (dir_node last (nodes first)) (take_turns h (child_at c (children ns))) (dir_node last (nodes second)) = subst (λ ts. Runs w (dir_node last (nodes first)) ts (dir_node last (nodes second))) (append-nil (take_turns h (child_at c (children ns)))) deeper-run in
-        let kids : map_from (reader_takes (up_read c 0) x (words x) (stamp_of q)) 0 (children ns) ≡ first = one-takes c x (words x) (stamp_of q) (children ns) ∙ only-set c (child_take_data x (words x) (stamp_of q)) (children ns) in
+        let kids : map_from (reader_takes (up_read c 0) x (flat.words x) (stamp_of q)) 0 (children ns) ≡ first = one-takes c x (flat.words x) (stamp_of q) (children ns) ∙ only-set c (child_take_data x (flat.words x) (stamp_of q)) (children ns) in
         subst (λ l. Runs w (dir_node told l) (Turn.Down d.bus ∷ take_turns h (child_at c (children ns))) (dir_node last (nodes second))) (nodes-children ns)
-        (turned (children ns) (data_to_readers x q (children ns) (words x) c 0) refl down (subst (λ l. Runs w (dir_node last (nodes l)) (take_turns h (child_at c (children ns))) (dir_node last (nodes second))) (sym kids) ended))
+        (turned (children ns) (data_to_readers x q (children ns) (flat.words x) c 0) refl down (subst (λ l. Runs w (dir_node last (nodes l)) (take_turns h (child_at c (children ns))) (dir_node last (nodes second))) (sym kids) ended))
 
     over-second : child_over h (nodes second) ≡ Some c
     over-second = same-over h 0 (nodes second) ns (dir-bones last told (nodes second) ns (runs-skeleton run)) ∙ is
 
-    listed : (j : ℕ) → j < length second → j ≢ c → Settled n words (child_at j second)
-    listed j l ne = subst (Settled n words) (sym (get_or-set_other first c j one.after no_node ne ∙ get_or-set_other (children ns) c j _ no_node ne)) (others j (subst (λ k. j < k) many l) ne)
+    listed : (j : ℕ) → j < length second → j ≢ c → Settled n flat (child_at j second)
+    listed j l ne = subst (Settled n flat) (sym (get_or-set_other first c j one.after no_node ne ∙ get_or-set_other (children ns) c j _ no_node ne)) (others j (subst (λ k. j < k) many l) ne)
 
-    here : Spine n words h (LeafIs n words x (got state) (asks_then x state)) (child_at c second)
-    here = subst (Spine n words h (LeafIs n words x (got state) (asks_then x state))) (sym (get_or-set_same first c one.after no_node in-first)) one.spine
+    here : Spine n flat h (LeafIs n flat g x (got state) (asks_then x state)) (child_at c second)
+    here = subst (Spine n flat h (LeafIs n flat g x (got state) (asks_then x state))) (sym (get_or-set_same first c one.after no_node in-first)) one.spine
 
-    spine : Spine n words h (LeafIs n words x (got state) (asks_then x state)) (dir_node last (nodes second))
+    spine : Spine n flat h (LeafIs n flat g x (got state) (asks_then x state)) (dir_node last (nodes second))
     spine =
         let same = children-nodes second in
-        over c over-second (subst (λ l. c < length l) (sym same) (subst (λ k. c < k) (sym many) there)) (rests-dir x Hold.Shared last last-items last-lists) room (subst (λ l. (j : ℕ) → j < length l → j ≢ c → Settled n words (child_at j l)) (sym same) listed) (subst (λ l. Spine n words h (LeafIs n words x (got state) (asks_then x state)) (child_at c l)) (sym same) here)
+        over c over-second (subst (λ l. c < length l) (sym same) (subst (λ k. c < k) (sym many) there)) (rests-dir x Hold.Shared last last-items last-lists) room (subst (λ l. (j : ℕ) → j < length l → j ≢ c → Settled n flat (child_at j l)) (sym same) listed) (subst (λ l. Spine n flat h (LeafIs n flat g x (got state) (asks_then x state)) (child_at c l)) (sym same) here)
 
-    takes-so : Takes w (dir_node (dir_take_data x (words x) s d) ns) (Turn.Down d.bus ∷ turns_by (λ c. turns_of_child c (takes h ns)) (child_over h ns))
+    takes-so : Takes w (dir_node (dir_take_data x (flat.words x) s d) ns) (Turn.Down d.bus ∷ turns_by (λ c. turns_of_child c (takes h ns)) (child_over h ns))
     takes-so = subst (λ e. Takes w (dir_node e ns) (Turn.Down d.bus ∷ turns_by (λ c. turns_of_child c (takes h ns)) (child_over h ns))) (sym told-is)
         (subst (λ o. Takes w (dir_node told ns) (Turn.Down d.bus ∷ turns_by (λ c. turns_of_child c (takes h ns)) o)) (sym is)
         (subst (λ ts. Takes w (dir_node told ns) (Turn.Down d.bus ∷ ts)) (sym (takes-at h c ns there)) (record { after = dir_node last (nodes second); run = run; spine = spine })))
 
-  pub take : (m : Node) → Waits n words h x within state m → (w : Where) (s : Stamp) → Takes w (child_take_data x (words x) s m) (take_turns h m)
+  pub take : (m : Node) → Waits n flat g h x within state m → (w : Where) (s : Stamp) → Takes w (child_take_data x (flat.words x) s m) (take_turns h m)
   take (leaf_node v) (waits_leaf number is) w s =
       let there : x < length v.ways = way-within x v.ways is.entry is.here in
-      let e : WayValue = record is.entry { state = got state; words = words x } in
-      let so : LeafIs n words x (got state) (asks_then x state) (taken x is.entry state (words x) v) = record {
+      let e : WayValue = record is.entry { state = got state; words = flat.words x } in
+      let so : LeafIs n flat g x (got state) (asks_then x state) (taken x is.entry state (flat.words x) v) = record {
         entry = e;
         here = get_or-set_same v.ways x (Some e) None there;
         in_state = refl;
@@ -193,8 +194,10 @@ module _ (n : ℕ) (words : ℕ → List ℕ) (h x : ℕ) (within : x < n) (stat
         buffer = refl;
         slot = refl;
         replies = is.replies;
-        copies = have-set words v.ways x e is.copies there (λ r. refl);
+        copies = have-set flat v.ways x e is.copies there (λ r. refl);
         room = is.room;
+        hart = is.hart;
+        reserved = is.reserved;
       } in
-      subst (λ u. Takes w (leaf_node u) []) (sym (taken-is x is.entry v state (words x) is.here is.buffer is.slot is.in_state reads)) (record { after = leaf_node (taken x is.entry state (words x) v); run = stays; spine = at_leaf number so })
+      subst (λ u. Takes w (leaf_node u) []) (sym (taken-is x is.entry v state (flat.words x) is.here is.buffer is.slot is.in_state reads)) (record { after = leaf_node (taken x is.entry state (flat.words x) v); run = stays; spine = at_leaf number so })
   take (dir_node d ns) (waits_over c is there items lists room others deeper) w s = takes-so d ns c is there items lists room others (free (child_at c (children ns)) deeper) (λ w s. take (child_at c (children ns)) deeper w s) w s

@@ -8,7 +8,9 @@ pub mod Walk
 pub mod Parts
 pub mod OneLeaf
 pub mod Serving
+pub mod Shows
 pub mod Laws
+pub mod ServedLists
 pub mod Texts
 pub mod Computing
 pub mod Examples

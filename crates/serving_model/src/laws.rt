@@ -1,6 +1,7 @@
 //! What holds of walks, as theorems: there is nothing to run.
 
-ghost use Rattle.serving_model.specs.Laws.{PartsGive, PartsLose, RunsAreTheMachines, ReadsAreServed, ErasesAreServed, WalksBringTheItem, WalksAreShort, GrantsKeepHarts};
+ghost use Rattle.serving_model.specs.ServedLists.{ListsAreServed};
+ghost use Rattle.serving_model.specs.Laws.{PartsGive, PartsLose, RunsAreTheMachines, ReadsAreServed, ErasesAreServed, WalksBringTheItem, RequestsComplete, InstructionsAreServed, StepsAreShown, WalksAreShort, GrantsKeepHarts};
 
 /// A part of the tree that holds an item, and is at rest, gives it when it is told to answer: its turns are granted, and it is at rest
 /// again when its reply is taken.
@@ -32,6 +33,29 @@ pub fn erases_are_served()
 /// machine is at rest again.
 pub fn walks_bring_the_item()
     ensures { WalksBringTheItem }
+{}
+
+/// A hart whose item the walks have brought completes its instruction at its next turn, as its step on a flat memory is.
+pub fn requests_complete()
+    ensures { RequestsComplete }
+{}
+
+/// In a machine at rest, with room, a hart's next instruction is served: the turns complete the operation of its step on a flat
+/// memory.
+pub fn instructions_are_served()
+    ensures { InstructionsAreServed }
+{}
+
+/// And then the machine is at rest again: its copies have the words, and its leaves the harts and the reservations, of the flat machine
+/// after the step.
+pub fn steps_are_shown()
+    ensures { StepsAreShown }
+{}
+
+/// So every list of operations that a flat memory completes, in which an SC that has its reservation stores, is served where the machine
+/// shows that flat memory: the run completes these operations in this order and no other.
+pub fn lists_are_served()
+    ensures { ListsAreServed }
 {}
 
 /// An instruction takes at most four turns of each bus, and two of its hart.

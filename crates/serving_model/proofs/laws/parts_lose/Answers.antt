@@ -2,4 +2,4 @@ use Rattle.serving_model.proofs.Lose.{lose}
 use Rattle.serving_model.proofs.laws.parts_lose.Goals as goal
 
 pub returns : goal.returns
-returns c = λ n words x within m w s calm. lose n words x within m w s calm
+returns c = λ n flat x within m w s ends calm. lose n flat x within ends m w s calm

@@ -1,0 +1,5 @@
+use Rattle.serving_model.proofs.Shown.{shown}
+use Rattle.serving_model.proofs.laws.steps_are_shown.Goals as goal
+
+pub returns : goal.returns
+returns c = shown

@@ -1,0 +1,50 @@
+-- What is claimed of served lists: each list of operations that a flat memory can complete, in which an SC that has its
+-- reservation stores, is one that the machine completes.
+-- Letters: f is a flat machine, m a machine that shows it.
+-- To be believed: it is what is claimed of them.
+use Rattle.std.specs.Prelude.{◌≡◌, ◌<◌, ℕ, Bool, true, false, ◌&&◌, nat_eq, List, [], ◌∷◌, ◌++◌, length, Option, Some, None, is_some, option_and_then, Ok, Err, if◌then◌else◌}
+use Rattle.serving_model.specs.DdmTypes.CodeMap.{CodeWord}
+use Rattle.serving_model.specs.DdmTypes.ItemTable.{ItemTable}
+use Rattle.serving_model.specs.DdmTypes.declared.operations.Op.{Op}
+use Rattle.serving_model.specs.DdmTypes.declared.turns.Turn.{Turn}
+use Rattle.bus_laws.specs.FlatModel.Flat.{FlatMachine, flat_hart, flat_step}
+use Rattle.serving_model.specs.FlatModel.Legal.{if_effect}
+use Rattle.serving_model.specs.TreeModel.State.Values.{MachineValue}
+use Rattle.serving_model.specs.TreeModel.Turns.Machine.{run_of}
+use Rattle.serving_model.specs.OneLeaf.{hart_at}
+use Rattle.serving_model.specs.Serving.{same_operation, too_many_turns, serve_from}
+use Rattle.serving_model.specs.Shows.{Shows}
+
+-- the flat machine after a record, if the record is the step of its hart; an SC that has its reservation stores
+abbrev pub storing_step : List CodeWord → ItemTable → FlatMachine → Op → Option FlatMachine
+storing_step code items f op =
+    if nat_eq (flat_hart f op.hart).hart.pc op.pc then if_effect op.effect (flat_step code items f op.hart true) else None
+
+-- and after a list of records, if each in turn is the step of its hart
+abbrev pub storing_run : List CodeWord → ItemTable → FlatMachine → List Op → Option FlatMachine
+storing_run code items f [] = Some f
+storing_run code items f (op ∷ ops) = option_and_then (λ next. storing_run code items next ops) (storing_step code items f op)
+
+-- the same operations in the same order; keys aren't looked at
+abbrev pub same_operations : List Op → List Op → Bool
+same_operations [] [] = true
+same_operations (a ∷ ops) (b ∷ done) = same_operation a b && same_operations ops done
+same_operations _ _ = false
+
+-- the run completes these operations in their order and no other, and then the machine shows this flat machine
+pub record Completed (m : MachineValue) (ops : List Op) (f : FlatMachine) (turns : List Turn) : Type 0 where
+  pub done : List Op
+  pub operations : (run_of turns m).machine.ops ≡ m.ops ++ done
+  pub same : same_operations ops done ≡ true
+  pub shows : Shows (run_of turns m).machine f
+
+-- so many turns were made, and this is the next line
+pub data IsServedList (line made : ℕ) (m : MachineValue) (ops : List Op) (f : FlatMachine) : Type 0 where
+  served : (turns : List Turn) → serve_from line made ops m ≡ Ok turns → Completed m ops f turns → IsServedList line made m ops f
+  too_many : (at : ℕ) → serve_from line made ops m ≡ Err (too_many_turns at) → IsServedList line made m ops f
+
+-- Where a machine shows a flat machine, and has its harts, each such list of the flat machine is served, unless its
+-- turns are too many.
+abbrev pub ListsAreServed : Type 0
+ListsAreServed = (m : MachineValue) (f last : FlatMachine) (ops : List Op) (line made : ℕ) → Shows m f → ((h : ℕ) → h < length f.harts → is_some (hart_at h m) ≡ true)
+    → storing_run m.code m.items f ops ≡ Some last → IsServedList line made m ops last
