@@ -1,0 +1,2 @@
+pub mod RowSearch
+pub mod Stems

@@ -1,0 +1,6 @@
+//! The steps of an instruction of a litmus test: what its mnemonic says, and what is made of its operands.
+#![tactic(auto)]
+
+mod forms;
+
+pub use forms::form_of;
