@@ -1,2 +1,3 @@
 pub mod RowSearch
 pub mod Stems
+pub mod Uppers

@@ -2,5 +2,7 @@
 #![tactic(auto)]
 
 mod forms;
+mod made;
 
 pub use forms::form_of;
+pub use made::Made;

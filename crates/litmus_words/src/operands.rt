@@ -1,6 +1,6 @@
 //! The operands of an instruction.
 
-ghost use Rattle.std.specs.Prelude.{◌≡◌, ◌<◌, ◌≤◌, IfOk, IfSome, pos};
+ghost use Rattle.std.specs.Prelude.{◌≡◌, ◌<◌, ◌≤◌, ◌≤ℤ◌, IfOk, IfSome, pos};
 ghost use Rattle.std.specs.Int.{w32, cast_unsigned};
 ghost use Rattle.rv_decode.specs.Valid.{FitsBits, IsRegister, IsShiftAmount};
 ghost use Rattle.litmus_model.specs.Operands.{label_operand, memory_operand, number_operand, place, place_at, register_in, register_operand, set_operand, short_operand, within};
@@ -45,7 +45,8 @@ pub fn label_operand(parts: &[Part]) -> Option<Name>
 }
 
 fn within(line: u32, least: i64, most: i64, number: Option<i64>) -> Result<Option<i64>, TestRefusal>
-    ensures { result ≡ within line least most number }
+    ensures number { result ≡ within line least most number }
+    ensures range { IfOk result (λ n. IfSome n (λ z. (least ≤ℤ z) × (z ≤ℤ most))) }
 {
     match number {
         Some(number) if least <= number && number <= most => Ok(Some(number)),
@@ -62,7 +63,8 @@ pub fn number_operand(
     most: i64,
     parts: &[Part],
 ) -> Result<Option<i64>, TestRefusal>
-    ensures { result ≡ number_operand line least most parts.now }
+    ensures number { result ≡ number_operand line least most parts.now }
+    ensures range { IfOk result (λ n. IfSome n (λ z. (least ≤ℤ z) × (z ≤ℤ most))) }
 {
     let number = signed_number(line, parts)?;
     within(line, least, most, number)

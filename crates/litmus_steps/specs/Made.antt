@@ -1,0 +1,15 @@
+-- The steps of an instruction: one or two.
+use Rattle.std.specs.Prelude.{List, [], ◌∷◌, Option, Some, None}
+use Rattle.litmus_model.specs.declared.parts.Step.{Step}
+use Rattle.litmus_model.specs.Sound.{IsSoundStep}
+
+abbrev pub with_second : Step → Option Step → List Step
+with_second first None = first ∷ []
+with_second first (Some second) = first ∷ second ∷ []
+
+-- one or two steps that a word can be
+abbrev pub IsMade : List Step → Type 0
+IsMade [] = ⊥
+IsMade (s ∷ []) = IsSoundStep s
+IsMade (s ∷ t ∷ []) = IsSoundStep s × IsSoundStep t
+IsMade (s ∷ t ∷ u ∷ ss) = ⊥
