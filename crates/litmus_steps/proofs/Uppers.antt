@@ -1,8 +1,10 @@
 -- The two parts of a word that `lui` and `addi` put into a register.
-use Rattle.std.proofs.Common.{◌≡◌, ℕ, zero, suc, ◌+◌, ◌-◌, ◌*◌, ◌%◌, ◌^◌, ◌<◌, ◌≤◌, map, refl, arith}
+use Rattle.std.proofs.Common.{◌≡◌, ℕ, zero, suc, ◌+◌, ◌-◌, ◌*◌, ◌%◌, ◌^◌, ◌<◌, ◌≤◌, List, [], ◌∷◌, map, refl, arith}
 use Rattle.std.specs.Prelude.{Bool, true, false, nat_lt, pos, neg_ℤ, if◌then◌else◌}
+use Rattle.std.specs.List.{slice_index_or}
 use Rattle.std.proofs.lemmas.Bool.Decides.{nat_tests}
 use Rattle.rv_decode.specs.Valid.{FitsBits, IsRegister, IsUpper}
+use Rattle.rv_decode.specs.declared.instructions.Instr.{Instr}
 use Rattle.litmus_model.specs.declared.parts.Step.TheVariants.{Plain}
 use Rattle.litmus_model.specs.Steps.{high_part, load_number, low_part}
 use Rattle.litmus_steps.specs.Made.{IsMade}
@@ -32,3 +34,8 @@ low_fits v = low_case (v % 4096) (nat_lt (v % 4096) 2048) refl
 pub load_made : (rd v : ℕ) → IsRegister rd → IsMade (map Plain (load_number rd v))
 unfolding load_number
 load_made rd v small = ((small, high_upper v), (small, small, low_fits v))
+
+pub load_steps : (rd v : ℕ) (is : List Instr) (d e : Instr) → is ≡ load_number rd v
+    → Plain (slice_index_or is 0 d) ∷ Plain (slice_index_or is 1 e) ∷ [] ≡ map Plain (load_number rd v)
+unfolding load_number
+load_steps rd v is d e same = rw same refl

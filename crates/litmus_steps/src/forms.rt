@@ -1,10 +1,11 @@
 //! What a mnemonic says: the form of its instruction.
 
-ghost use Rattle.std.specs.Prelude.{◌≡◌, ◌≤◌, ℕ, List, length, bytes_eq, not, nat_eq};
+ghost use Rattle.std.specs.Prelude.{◌≡◌, ◌≤◌, ℕ, List, IfOk, IfSome, length, bytes_eq, not, nat_eq, true};
 ghost use Rattle.std.specs.List.{list_any, prefix_len};
 ghost use Rattle.std.specs.Option.{option_map};
 ghost use Rattle.std.specs.Borrow.{Bor};
 ghost use Rattle.litmus_model.specs.Mnemonics.{atomic_form, atomic_rows, behind_stem, fence_rows, form_in_tables, form_of, is_wide, is_wide_atomic, jump_rows, meaning_in, order_rows, plain_rows, stem};
+ghost use Rattle.litmus_steps.specs.Made.{is_form};
 ghost use Rattle.litmus_steps.specs.Rows.{form_with, named_rows};
 
 use litmus_model::{Fault, Form, Move, Orders, TestRefusal};
@@ -406,23 +407,23 @@ fn meaning_in<A: Copy>(rows: &[Row<A>], word: &[u8]) -> Option<A>
     None
 }
 
-#[tactic(auto, unfolding(litmus_model::specs::Mnemonics::plain_rows))]
 fn plain_form(word: &[u8]) -> Option<Form>
-    ensures { result ≡ meaning_in plain_rows word.now }
+    ensures form { result ≡ meaning_in plain_rows word.now }
+    ensures valid { IfSome result (λ form. is_form form ≡ true) }
 {
     meaning_in(&PLAIN_ROWS, word)
 }
 
-#[tactic(auto, unfolding(litmus_model::specs::Mnemonics::jump_rows))]
 fn jump_form(word: &[u8]) -> Option<Form>
-    ensures { result ≡ meaning_in jump_rows word.now }
+    ensures form { result ≡ meaning_in jump_rows word.now }
+    ensures valid { IfSome result (λ form. is_form form ≡ true) }
 {
     meaning_in(&JUMP_ROWS, word)
 }
 
-#[tactic(auto, unfolding(litmus_model::specs::Mnemonics::fence_rows))]
 fn fence_form(word: &[u8]) -> Option<Form>
-    ensures { result ≡ meaning_in fence_rows word.now }
+    ensures form { result ≡ meaning_in fence_rows word.now }
+    ensures valid { IfSome result (λ form. is_form form ≡ true) }
 {
     meaning_in(&FENCE_ROWS, word)
 }
@@ -441,7 +442,8 @@ fn atomic_of(word: &[u8]) -> Option<Atomic>
 }
 
 fn with_orders(atomic: Atomic, orders: Orders) -> Form
-    ensures { result ≡ form_with atomic orders }
+    ensures form { result ≡ form_with atomic orders }
+    ensures valid { is_form result ≡ true }
 {
     match atomic {
         Atomic::LoadReserved => Form::LoadReserved(orders),
@@ -482,7 +484,8 @@ fn behind_stem(word: &[u8]) -> &[u8]
 /// An atomic instruction of words.
 #[tactic(auto, unfolding(litmus_model::specs::Mnemonics::atomic_form))]
 fn atomic_form(word: &[u8]) -> Option<Form>
-    ensures { result ≡ atomic_form word.now }
+    ensures form { result ≡ atomic_form word.now }
+    ensures valid { IfSome result (λ form. is_form form ≡ true) }
 {
     let behind = behind_stem(word);
     if !is(&behind[..2.min(behind.len())], ".w") {
@@ -530,7 +533,8 @@ fn is_wide(word: &[u8]) -> bool
 
 #[tactic(auto, unfolding(litmus_model::specs::Mnemonics::form_in_tables))]
 fn form_in_tables(word: &[u8]) -> Option<Form>
-    ensures { result ≡ form_in_tables word.now }
+    ensures form { result ≡ form_in_tables word.now }
+    ensures valid { IfSome result (λ form. is_form form ≡ true) }
 {
     match plain_form(word) {
         Some(form) => Some(form),
@@ -547,7 +551,8 @@ fn form_in_tables(word: &[u8]) -> Option<Form>
 /// The form of the instruction with this mnemonic.
 #[tactic(auto, unfolding(litmus_model::specs::Mnemonics::form_of))]
 pub fn form_of(line: u32, word: &[u8]) -> Result<Form, TestRefusal>
-    ensures { result ≡ form_of line word.now }
+    ensures form { result ≡ form_of line word.now }
+    ensures valid { IfOk result (λ form. is_form form ≡ true) }
 {
     match form_in_tables(word) {
         Some(form) => Ok(form),

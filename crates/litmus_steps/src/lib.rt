@@ -3,6 +3,9 @@
 
 mod forms;
 mod made;
+mod memory;
+mod steps;
 
 pub use forms::form_of;
 pub use made::Made;
+pub use steps::{Operand, form_steps};

@@ -1,11 +1,11 @@
 //! What the operands of an instruction make.
 
-ghost use Rattle.std.specs.Prelude.{◌≡◌, ◌<◌, ◌≤◌, ◌*◌, ◌∷◌, [], IfSome, pos, map};
+ghost use Rattle.std.specs.Prelude.{◌≡◌, ◌<◌, ◌≤◌, ◌≤ℤ◌, ◌*◌, ◌∷◌, [], IfSome, pos, negsuc, map};
 ghost use Rattle.std.specs.Int.{w32, cast_unsigned};
 ghost use Rattle.rv_decode.specs.Valid.{FitsOperation, IsRegister};
 ghost use Rattle.rv_decode.specs.declared.instructions.Instr.TheVariants as instr;
 ghost use Rattle.litmus_model.specs.declared.parts.Step.TheVariants.{Plain, Jump};
-ghost use Rattle.litmus_model.specs.Steps.{all_three, both, branched, fenced, moved, natural, plain, short_number};
+ghost use Rattle.litmus_model.specs.Steps.{all_three, both, branched, fenced, load_number, moved, natural, plain, short_number};
 ghost use Rattle.std.specs.Option.{option_map};
 ghost use Rattle.rv_decode.specs.declared.instructions.ImmOp.TheVariants.{Addi};
 ghost use Rattle.litmus_steps.specs.Made.{IsMade};
@@ -142,25 +142,50 @@ pub(crate) fn upper(rd: Option<Reg>, bits: Option<i32>) -> Option<Made>
     }
 }
 
-/// `li`: `addi` alone where it suffices.
-#[tactic(auto, unfolding(litmus_model::specs::Steps::short_number), using(crate::proofs::Uppers::load_made))]
-fn short_number(rd: Reg, number: i64) -> Made
-    requires rd { IsRegister rd }
-    ensures steps { result ≡ map Plain (short_number rd number) }
+/// The word of a number; one below 0 is taken modulo 2^32.
+fn word_of(number: i64) -> u32
+    requires low { negsuc 2147483647 ≤ℤ number }
+    requires high { number ≤ℤ pos 4294967295 }
+    ensures { result ≡ natural number }
+{
+    if number < 0 {
+        4294967295 - (-(number + 1)) as u32
+    } else {
+        number as u32
+    }
+}
+
+fn loaded(rd: Reg, value: u32) -> Made
+    requires { IsRegister rd }
+    ensures steps { result ≡ map Plain (load_number rd value) }
     ensures made { IsMade result }
 {
-    if -2048 <= number && number <= 2047 {
-        return immediate(ImmOp::Addi, rd, ZERO, number as i32);
-    }
-    let [high, low] = load_number(rd, number as u32);
+    let [high, low] = load_number(rd, value);
     Made {
         first: Step::Plain(high),
         second: Some(Step::Plain(low)),
     }
 }
 
+/// `li`: `addi` alone where it suffices.
+#[tactic(auto, unfolding(litmus_model::specs::Steps::short_number))]
+fn short_number(rd: Reg, number: i64) -> Made
+    requires rd { IsRegister rd }
+    requires low { negsuc 2147483647 ≤ℤ number }
+    requires high { number ≤ℤ pos 4294967295 }
+    ensures steps { result ≡ map Plain (short_number rd number) }
+    ensures made { IsMade result }
+{
+    if -2048 <= number && number <= 2047 {
+        immediate(ImmOp::Addi, rd, ZERO, number as i32)
+    } else {
+        loaded(rd, word_of(number))
+    }
+}
+
 pub(crate) fn number(rd: Option<Reg>, number: Option<i64>) -> Option<Made>
     requires rd { IfSome rd IsRegister }
+    requires number { IfSome number (λ z. (negsuc 2147483647 ≤ℤ z) × (z ≤ℤ pos 4294967295)) }
     ensures steps { result ≡ both (λ rd z. map Plain (short_number rd z)) rd number }
     ensures made { IfSome result IsMade }
 {
