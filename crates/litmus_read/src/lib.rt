@@ -1,0 +1,6 @@
+//! What reads a litmus test: the initial state.
+#![tactic(auto)]
+
+mod init;
+
+pub use init::read_init;
