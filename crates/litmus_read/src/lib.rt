@@ -1,6 +1,8 @@
-//! What reads a litmus test: the initial state.
+//! What reads a litmus test: the initial state, and the cells of the program.
 #![tactic(auto)]
 
+mod cells;
 mod init;
 
+pub use cells::Cell;
 pub use init::read_init;
