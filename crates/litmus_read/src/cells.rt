@@ -1,12 +1,12 @@
 //! A cell of the program: labels, and then an instruction or nothing.
 
-ghost use Rattle.std.specs.Prelude.{◌≡◌, ◌∷◌, [], ◌++◌, List, IfOk, OnOk, map};
+ghost use Rattle.std.specs.Prelude.{◌≡◌, ◌≤◌, ◌∷◌, [], ◌++◌, List, IfOk, IfSome, None, OnOk, length, map};
 ghost use Rattle.litmus_model.specs.declared.parts.Step.{Step as StepValue};
 ghost use Rattle.litmus_model.specs.Tokens.{Piece as PieceValue, parts_of};
-ghost use Rattle.litmus_model.specs.Program.{cell_steps, instruction_steps, label_name, operands_of, placed};
-ghost use Rattle.litmus_text.specs.Reads.{Adds, Reads};
+ghost use Rattle.litmus_model.specs.Program.{instruction_steps, label_name, operands_of, placed, steps_behind_labels};
+ghost use Rattle.litmus_text.specs.Reads.{Adds, Reads, behind};
 ghost use Rattle.litmus_steps.specs.Made.{IsMade};
-ghost use Rattle.litmus_read.specs.Cells.{first_label, placed_steps};
+ghost use Rattle.litmus_read.specs.Cells.{cell_placed, first_label, placed_steps};
 
 use elf_load::of_ddm_types::NoMemory;
 use litmus_model::{Fault, Name, Part, PlacedStep, Step, Token};
@@ -104,11 +104,67 @@ fn label_name(first: &Part, second: &Part) -> Option<Name>
 /// The label with which tokens begin.
 #[tactic(auto, using(crate::proofs::CellSteps::short_labelled, crate::proofs::CellSteps::long_labelled))]
 fn first_label(tokens: &[Token]) -> Option<Name>
-    ensures { result ≡ first_label tokens.now }
+    ensures label { result ≡ first_label tokens.now }
+    ensures long { IfSome result (λ name. 2 ≤ length tokens.now) }
 {
     if tokens.len() < 2 {
         None
     } else {
         label_name(&tokens[0].part, &tokens[1].part)
     }
+}
+
+/// Adds the labels of a cell, and says what follows them.
+#[tactic(auto, using(crate::proofs::CellSteps::label_next))]
+fn push_labels<'a>(
+    steps: &mut Vec<PlacedStep>,
+    cell: Cell,
+    tokens: &'a [Token],
+) -> Result<&'a [Token], NoMemory>
+    ensures labels { IfOk result (λ left. first_label left.now ≡ None) }
+    ensures steps { IfOk result (λ left. behind steps.old.items (cell_placed cell.thread cell.line tokens.now) ≡ behind steps.new.items (cell_placed cell.thread cell.line left.now)) }
+{
+    let mut left = tokens;
+    'labels: while let Some(label) = first_label(left) {
+        push_step(steps, cell, Step::Label(label))?;
+        left = &left[2..];
+    }
+    Ok(left)
+}
+
+/// Adds the instruction that begins with this part.
+#[tactic(auto, using(crate::proofs::CellSteps::made_added, crate::proofs::CellSteps::mark_refused))]
+fn push_instruction(
+    alloc: Global,
+    steps: &mut Vec<PlacedStep>,
+    cell: Cell,
+    first: &Part,
+    operands: &[Token],
+) -> Result<(), Unread>
+    ensures { Adds (placed_steps cell.thread cell.line (steps_behind_labels cell.line first.now operands.now)) steps.old.items steps.new.items result }
+{
+    match first {
+        Part::Word(mnemonic) => {
+            let made = instruction_steps(alloc, cell.line, mnemonic, operands)?;
+            push_made(steps, cell, &made)?;
+            Ok(())
+        }
+        Part::Mark(_) => Err(Unread::Refused(in_line(cell.line, Fault::BadOperands))),
+    }
+}
+
+/// Adds the steps of a cell.
+pub fn read_cell(
+    alloc: Global,
+    steps: &mut Vec<PlacedStep>,
+    cell: Cell,
+    tokens: &[Token],
+) -> Result<(), Unread>
+    ensures { Adds (cell_placed cell.thread cell.line tokens.now) steps.old.items steps.new.items result }
+{
+    let left = push_labels(steps, cell, tokens)?;
+    if left.is_empty() {
+        return Ok(());
+    }
+    push_instruction(alloc, steps, cell, &left[0].part, &left[1..])
 }

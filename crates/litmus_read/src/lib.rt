@@ -4,5 +4,5 @@
 mod cells;
 mod init;
 
-pub use cells::Cell;
+pub use cells::{Cell, read_cell};
 pub use init::read_init;
