@@ -82,7 +82,7 @@ pub mark_refused : (thread line b : ℕ) (operands : List Token) → placed_step
 unfolding placed_steps steps_behind_labels and_then
 mark_refused thread line b operands = refl
 
-behind_err : {A : Type 0} (old : List A) (r : TestRefusal) (j : Judged (List A)) → behind old j ≡ Err r → j ≡ Err r
+pub behind_err : {A : Type 0} (old : List A) (r : TestRefusal) (j : Judged (List A)) → behind old j ≡ Err r → j ≡ Err r
 unfolding behind and_then
 behind_err old r (Ok xs) is = absurd (cc)
 behind_err old r (Err s) is = is

@@ -16,9 +16,9 @@ use std::alloc::Global;
 
 /// The thread of a cell, and its line.
 #[derive(Clone, Copy)]
-pub struct Cell {
-    pub thread: u32,
-    pub line: u32,
+pub(crate) struct Cell {
+    pub(crate) thread: u32,
+    pub(crate) line: u32,
 }
 
 fn push_operand(alloc: Global, operands: &mut Vec<Operand>, piece: &Piece) -> Result<(), NoMemory>
@@ -154,7 +154,7 @@ fn push_instruction(
 }
 
 /// Adds the steps of a cell.
-pub fn read_cell(
+pub(crate) fn read_cell(
     alloc: Global,
     steps: &mut Vec<PlacedStep>,
     cell: Cell,
