@@ -14,7 +14,7 @@ use std::alloc::Global;
 
 const LONGEST_WORD: usize = 127;
 
-fn push_token(tokens: &mut Vec<Token>, token: &Token) -> Result<(), NoMemory>
+pub(crate) fn push_token(tokens: &mut Vec<Token>, token: &Token) -> Result<(), NoMemory>
     ensures { OnOk result (tokens.new.items ≡ tokens.old.items ++ token.now ∷ []) }
 {
     tokens.extend_from_slice(&[*token])?;

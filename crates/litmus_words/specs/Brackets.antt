@@ -1,5 +1,6 @@
 -- A place in memory, by the parts of its brackets.
 use Rattle.std.specs.Prelude.{ℕ, ◌&&◌, nat_eq, List, pos, Option, Some, None, Ok, if◌then◌else◌}
+use Rattle.rv_decode.specs.Valid.{FitsBits, IsRegister}
 use Rattle.litmus_model.specs.declared.parts.Part.{Part}
 use Rattle.litmus_model.specs.declared.parts.Part.TheVariants.{Word, Mark}
 use Rattle.litmus_model.specs.declared.parts.Place.{Place}
@@ -17,3 +18,7 @@ unfoldable pub bracketed : ℕ → List Part → Part → Part → Part → Judg
 bracketed line offset (Word l) register right = Ok None
 bracketed line offset (Mark left) register (Word r) = Ok None
 bracketed line offset (Mark left) register (Mark right) = place_at line offset left register right
+
+-- a place that an instruction can name
+abbrev pub IsPlace : Place → Type 0
+IsPlace p = IsRegister p.register × FitsBits 12 p.offset

@@ -1,6 +1,6 @@
 //! The set of a fence: some of the letters `iorw` in this order.
 
-ghost use Rattle.std.specs.Prelude.{◌≡◌, ◌+◌, ◌≤◌, ◌∷◌, List, length};
+ghost use Rattle.std.specs.Prelude.{◌≡◌, ◌+◌, ◌≤◌, ◌∷◌, IfSome, List, length};
 ghost use Rattle.litmus_model.specs.Operands.{Letter, fence_letters, letter_bits};
 ghost use Rattle.litmus_words.specs.Letters.{bits_left};
 
@@ -34,7 +34,8 @@ fn after_letter(byte: u8, bit: u32, so_far: Taken, word: &[u8]) -> Taken
 /// The bits of the letters that a word is.
 #[tactic(auto, using(crate::proofs::TakenLetters::begun, crate::proofs::TakenLetters::all_taken, crate::proofs::TakenLetters::some_taken))]
 pub(crate) fn letter_bits(word: &[u8]) -> Option<u32>
-    ensures { result ≡ letter_bits fence_letters word.now }
+    ensures bits { result ≡ letter_bits fence_letters word.now }
+    ensures small { IfSome result (λ bits. bits ≤ 15) }
 {
     let none = Taken { bits: 0, at: 0 };
     let i = after_letter(b'i', 8, none, word);

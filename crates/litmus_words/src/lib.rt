@@ -8,6 +8,7 @@ mod registers;
 mod targets;
 
 pub use operands::{
-    label_operand, memory_operand, number_operand, register_operand, set_operand, short_operand,
+    label_operand, memory_operand, number_operand, register_operand, set_operand, shift_operand,
+    short_operand, upper_operand,
 };
 pub use targets::{target_of, value_of};

@@ -1,9 +1,10 @@
 //! The operands of an instruction.
 
-ghost use Rattle.std.specs.Prelude.{◌≡◌, IfSome};
-ghost use Rattle.rv_decode.specs.Valid.{IsRegister};
+ghost use Rattle.std.specs.Prelude.{◌≡◌, ◌<◌, ◌≤◌, ◌≤ℤ◌, IfOk, IfSome, pos};
+ghost use Rattle.std.specs.Int.{w32, cast_unsigned};
+ghost use Rattle.rv_decode.specs.Valid.{FitsBits, IsRegister, IsShiftAmount};
 ghost use Rattle.litmus_model.specs.Operands.{label_operand, memory_operand, number_operand, place, place_at, register_in, register_operand, set_operand, short_operand, within};
-ghost use Rattle.litmus_words.specs.Brackets.{bracketed, plain_place};
+ghost use Rattle.litmus_words.specs.Brackets.{IsPlace, bracketed, plain_place};
 
 use crate::letters::letter_bits;
 use crate::numbers::signed_number;
@@ -44,7 +45,8 @@ pub fn label_operand(parts: &[Part]) -> Option<Name>
 }
 
 fn within(line: u32, least: i64, most: i64, number: Option<i64>) -> Result<Option<i64>, TestRefusal>
-    ensures { result ≡ within line least most number }
+    ensures number { result ≡ within line least most number }
+    ensures range { IfOk result (λ n. IfSome n (λ z. (least ≤ℤ z) × (z ≤ℤ most))) }
 {
     match number {
         Some(number) if least <= number && number <= most => Ok(Some(number)),
@@ -61,7 +63,8 @@ pub fn number_operand(
     most: i64,
     parts: &[Part],
 ) -> Result<Option<i64>, TestRefusal>
-    ensures { result ≡ number_operand line least most parts.now }
+    ensures number { result ≡ number_operand line least most parts.now }
+    ensures range { IfOk result (λ n. IfSome n (λ z. (least ≤ℤ z) × (z ≤ℤ most))) }
 {
     let number = signed_number(line, parts)?;
     within(line, least, most, number)
@@ -70,7 +73,8 @@ pub fn number_operand(
 /// A number of 12 bits in two's complement.
 #[tactic(auto, unfolding(litmus_model::specs::Operands::number_operand, litmus_model::specs::Refusing::and_then))]
 pub fn short_operand(line: u32, parts: &[Part]) -> Result<Option<i32>, TestRefusal>
-    ensures { result ≡ short_operand line parts.now }
+    ensures number { result ≡ short_operand line parts.now }
+    ensures valid { IfOk result (λ n. IfSome n (FitsBits 12)) }
 {
     match signed_number(line, parts)? {
         Some(number) if -2048 <= number && number <= 2047 => Ok(Some(number as i32)),
@@ -79,9 +83,38 @@ pub fn short_operand(line: u32, parts: &[Part]) -> Result<Option<i32>, TestRefus
     }
 }
 
+/// The amount of a shift.
+#[tactic(auto, unfolding(litmus_model::specs::Operands::number_operand, litmus_model::specs::Refusing::and_then))]
+pub fn shift_operand(line: u32, parts: &[Part]) -> Result<Option<i32>, TestRefusal>
+    ensures number { result ≡ number_operand line (pos 0) (pos 31) parts.now }
+    ensures valid { IfOk result (λ n. IfSome n IsShiftAmount) }
+{
+    match signed_number(line, parts)? {
+        Some(number) if 0 <= number && number <= 31 => Ok(Some(number as i32)),
+        Some(_) => Err(in_line(line, Fault::BadNumber)),
+        None => Ok(None),
+    }
+}
+
+/// The upper 20 bits of a word.
+#[tactic(auto, unfolding(litmus_model::specs::Operands::number_operand, litmus_model::specs::Refusing::and_then))]
+pub fn upper_operand(line: u32, parts: &[Part]) -> Result<Option<i32>, TestRefusal>
+    ensures number { result ≡ number_operand line (pos 0) (pos 1048575) parts.now }
+    ensures small { IfOk result (λ n. IfSome n (λ z. cast_unsigned w32 z < 1048576)) }
+{
+    match signed_number(line, parts)? {
+        Some(number) if 0 <= number && number <= 1048575 => Ok(Some(number as i32)),
+        Some(_) => Err(in_line(line, Fault::BadNumber)),
+        None => Ok(None),
+    }
+}
+
 #[tactic(auto, unfolding(litmus_model::specs::Operands::place))]
 fn place(register: Option<Reg>, offset: Option<i32>) -> Option<Place>
-    ensures { result ≡ place register offset }
+    requires register { IfSome register IsRegister }
+    requires offset { IfSome offset (FitsBits 12) }
+    ensures place { result ≡ place register offset }
+    ensures valid { IfSome result IsPlace }
 {
     match (register, offset) {
         (Some(register), Some(offset)) => Some(Place { register, offset }),
@@ -92,7 +125,8 @@ fn place(register: Option<Reg>, offset: Option<i32>) -> Option<Place>
 /// The register of `(x6)` with no offset.
 #[tactic(auto, unfolding(crate::specs::Brackets::plain_place))]
 fn plain_place(left: &Part, register: &Part, right: &Part) -> Option<Place>
-    ensures { result ≡ plain_place left.now register.now right.now }
+    ensures place { result ≡ plain_place left.now register.now right.now }
+    ensures valid { IfSome result IsPlace }
 {
     match (left, right) {
         (Part::Mark(b'('), Part::Mark(b')')) => place(register_in(register), Some(0)),
@@ -109,7 +143,8 @@ fn place_at(
     register: &Part,
     right: u8,
 ) -> Result<Option<Place>, TestRefusal>
-    ensures { result ≡ place_at line offset.now left register.now right }
+    ensures place { result ≡ place_at line offset.now left register.now right }
+    ensures valid { IfOk result (λ p. IfSome p IsPlace) }
 {
     if left != b'(' || right != b')' {
         return Ok(None);
@@ -127,7 +162,8 @@ fn bracketed(
     register: &Part,
     right: &Part,
 ) -> Result<Option<Place>, TestRefusal>
-    ensures { result ≡ bracketed line offset.now left.now register.now right.now }
+    ensures place { result ≡ bracketed line offset.now left.now register.now right.now }
+    ensures valid { IfOk result (λ p. IfSome p IsPlace) }
 {
     match (left, right) {
         (Part::Mark(left), Part::Mark(right)) => place_at(line, offset, *left, register, *right),
@@ -138,7 +174,8 @@ fn bracketed(
 /// `(x6)`, `4(x6)` or `-4(x6)`.
 #[tactic(auto, using(crate::proofs::Places::other_length))]
 pub fn memory_operand(line: u32, parts: &[Part]) -> Result<Option<Place>, TestRefusal>
-    ensures { result ≡ memory_operand line parts.now }
+    ensures place { result ≡ memory_operand line parts.now }
+    ensures valid { IfOk result (λ p. IfSome p IsPlace) }
 {
     match parts {
         [left, register, right] => Ok(plain_place(left, register, right)),
@@ -150,7 +187,8 @@ pub fn memory_operand(line: u32, parts: &[Part]) -> Result<Option<Place>, TestRe
 
 #[tactic(auto, unfolding(litmus_model::specs::Operands::set_operand))]
 pub fn set_operand(parts: &[Part]) -> Option<u32>
-    ensures { result ≡ set_operand parts.now }
+    ensures bits { result ≡ set_operand parts.now }
+    ensures small { IfSome result (λ bits. bits ≤ 15) }
 {
     match parts {
         [Part::Word(word)] => letter_bits(word.bytes()),

@@ -1,0 +1,3 @@
+pub mod Givens
+pub mod CellSteps
+pub mod RowSteps
