@@ -1,0 +1,2 @@
+pub mod FilmedAfter
+pub mod OneTurn

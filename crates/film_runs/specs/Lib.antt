@@ -1,0 +1,7 @@
+pub mod AnyMachine
+pub mod AnyRuns
+pub mod DdmText
+pub mod DdmTree
+pub mod DdmTypes
+pub mod Film
+pub mod TreeModel

@@ -1,0 +1,9 @@
+//! The film of turns while they are made on a machine of any tree.
+#![tactic(auto)]
+
+pub mod of_any_machine;
+pub mod of_ddm_types;
+mod turns;
+
+pub use any_runs::RunCounts;
+pub use turns::{Reel, film_turn};
