@@ -1,2 +1,3 @@
 pub mod FilmedAfter
+pub mod MoreTurns
 pub mod OneTurn

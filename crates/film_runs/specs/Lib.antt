@@ -1,5 +1,6 @@
 pub mod AnyMachine
 pub mod AnyRuns
+pub mod Counts
 pub mod DdmText
 pub mod DdmTree
 pub mod DdmTypes

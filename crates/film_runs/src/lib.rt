@@ -6,4 +6,4 @@ pub mod of_ddm_types;
 mod turns;
 
 pub use any_runs::RunCounts;
-pub use turns::{Reel, film_turn};
+pub use turns::{Reel, film_turn, film_turns};

@@ -1,12 +1,14 @@
 //! Turns that are made and filmed.
 
 ghost use Rattle.std.specs.Prelude.{◌≡◌, ◌<◌, ◌++◌, [], ◌∷◌, IfOk, OnOk, true};
+ghost use Rattle.text_model.specs.Run.{no_counts};
 ghost use Rattle.film_runs.specs.AnyMachine.Any.{machine_state};
-ghost use Rattle.film_runs.specs.AnyRuns.Run.{counts_in, ran, with_room};
+ghost use Rattle.film_runs.specs.AnyRuns.Run.{AreBelow, CanRun, NameParts, counts_in, ran, with_room};
+ghost use Rattle.film_runs.specs.Counts.{sum};
 ghost use Rattle.film_runs.specs.Film.Filmed.{IsFilmed};
 ghost use Rattle.film_runs.specs.TreeModel.State.Shape.{IsShaped};
-ghost use Rattle.film_runs.specs.TreeModel.Turns.Machine.{names_part, turn_of};
-ghost use Rattle.film_model.specs.Film.{turn_film};
+ghost use Rattle.film_runs.specs.TreeModel.Turns.Machine.{names_part, run_of, turn_of};
+ghost use Rattle.film_model.specs.Film.{turn_film, turns_film};
 ghost use Rattle.film_model.specs.Still.{still as still_of};
 
 use crate::of_any_machine::AnyMachine;
@@ -75,5 +77,56 @@ pub fn film_turn(
     take_still(&mut reel.after, &mut reel.room, machine, levels)?;
     push_changed(text, &reel.before, &reel.after)?;
     swap(&mut reel.before, &mut reel.after);
+    Ok(counts)
+}
+
+/// Before the first turn.
+fn no_counts() -> RunCounts
+    ensures { result ≡ no_counts }
+{
+    RunCounts {
+        turns: 0,
+        retired: 0,
+        granted: 0,
+        busy: 0,
+    }
+}
+
+/// What one turn more came to.
+fn add_counts(counts: &mut RunCounts, more: RunCounts)
+    requires below { AreBelow 4294967295 counts.old }
+    requires one { AreBelow 2 more }
+    ensures { counts.new ≡ sum counts.old more }
+{
+    counts.turns += more.turns;
+    counts.retired += more.retired;
+    counts.granted += more.granted;
+    counts.busy += more.busy;
+}
+
+/// Makes turns in order, puts their film at the end of a text, and gives what they came to.
+pub fn film_turns(
+    text: &mut Vec<u8>,
+    reel: &mut Reel,
+    machine: &mut AnyMachine,
+    levels: &[u32],
+    turns: &[Turn],
+) -> Result<RunCounts, NoMemory>
+    requires shape { IsShaped (machine_state machine.old).machine }
+    requires filmed { IsFilmed levels.now (machine_state machine.old).machine }
+    requires named { NameParts turns.now (machine_state machine.old).machine }
+    requires few { CanRun turns.now (machine_state machine.old) }
+    requires before { reel.old.before ≡ still_of (machine_state machine.old).machine }
+    ensures text { OnOk result (text.new.items ≡ text.old.items ++ turns_film 0 turns.now (machine_state machine.old).machine) }
+    ensures machine { OnOk result ((machine_state machine.new).machine ≡ (run_of turns.now (machine_state machine.old).machine).machine) }
+    ensures counts { IfOk result (λ counts. counts ≡ counts_in turns.now (machine_state machine.old)) }
+{
+    let mut counts = no_counts();
+    let mut number: u32 = 0;
+    for turn in turns {
+        let more = film_turn(text, reel, machine, levels, number, *turn)?;
+        add_counts(&mut counts, more);
+        number += 1;
+    }
     Ok(counts)
 }
