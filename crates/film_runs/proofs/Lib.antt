@@ -1,3 +1,4 @@
 pub mod FilmedAfter
+pub mod HeadLines
 pub mod MoreTurns
 pub mod OneTurn
