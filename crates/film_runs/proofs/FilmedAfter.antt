@@ -35,6 +35,7 @@ module _ (bus : ℕ) where
 
   mutual
     unfolding has_bone has_bones
+
     has_same : (n : Node) → has_node (bus_of_number bus) n ≡ has_bone (skeleton n)
     has_same (leaf_node v) = refl
     has_same (dir_node d ns) = ap (λ b. nat_eq d.bus bus || b) (among_same ns)
@@ -45,6 +46,7 @@ module _ (bus : ℕ) where
 
   mutual
     unfolding level_in level_among
+
     level_same : (w : Where) (n : Node) → read_in (bus_of_number bus) (of_dir (λ w d ns. d.level) 0) w n ≡ level_in (skeleton n)
     level_same w (leaf_node v) = refl
     level_same w (dir_node d ns) = ap (cond (nat_eq d.bus bus) (Some d.level)) (levels_same (where_path w) d 0 ns)

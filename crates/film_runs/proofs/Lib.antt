@@ -2,3 +2,4 @@ pub mod FilmedAfter
 pub mod HeadLines
 pub mod MoreTurns
 pub mod OneTurn
+pub mod WholeFilm

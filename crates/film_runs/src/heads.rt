@@ -111,11 +111,7 @@ fn push_items(out: &mut Vec<u8>, items: &Items) -> Result<(), NoMemory>
 
 /// Puts at the end the first lines of the film of a machine of a tree.
 #[tactic(auto, unfolding(film_model::specs::Film::head_of))]
-pub fn push_head(
-    out: &mut Vec<u8>,
-    tree: &TreeConfig,
-    machine: &AnyMachine,
-) -> Result<(), NoMemory>
+pub fn push_head(out: &mut Vec<u8>, tree: &TreeConfig, machine: &AnyMachine) -> Result<(), NoMemory>
     ensures { OnOk result (Adds out.old.items out.new.items (head_of tree.now (machine_state machine.now).machine)) }
 {
     push_bytes(out, b"film 1\n")?;

@@ -13,7 +13,7 @@ items-preserved c =
     let rows = c.args.items.now.rows in
     let k = c.items.item in
     with_line c.args.out.now.items c.items.out.items c.push_item.new.out.items (item_line k (row_at c.args.items.now k)) (item_lines k (drop k rows)) (item_lines (k + 1) (drop (k + 1) rows)) (item_lines 0 rows)
-      c.items.invariant (lines_next rows k (omega (arith, c.len-item-end.ensures, c.items-test.true))) c.in_ok-push_item.ensures
+    c.items.invariant (lines_next rows k (omega (arith, c.len-item-end.ensures, c.items-test.true))) c.in_ok-push_item.ensures
 
 pub returns : goal.returns
 returns c =

@@ -17,15 +17,15 @@ push_trace-requires c =
 pub take_still-requires : goal.take_still-requires
 take_still-requires c =
     subst (λ (m : MachineValue). IsFilmed c.args.levels.now m) (sym (machine_after (machine_state c.run.new.machine) (machine_state c.args.machine.now) c.args.turn c.in_ok-counts.ensures.after))
-      (filmed_after c.args.levels.now c.args.turn (machine_state c.args.machine.now).machine c.requires.shape c.requires.filmed)
+    (filmed_after c.args.levels.now c.args.turn (machine_state c.args.machine.now).machine c.requires.shape c.requires.filmed)
 
 pub returns-clause-text : goal.returns-clause-text
 returns-clause-text c =
     let m = (machine_state c.args.machine.now).machine in
     let answers = answer_after c.clear.new.self.items c.run.new.answers.items c.deref.result.now c.args.turn m c.deref.ensures.value c.in_ok-counts.ensures.answers c.clear.ensures.items in
     text_after c.args.text.now.items c.push_trace.new.text.items c.push_changed.new.out.items c.args.number c.args.turn m (machine_state c.run.new.machine).machine c.args.reel.now.before c.take_still.new.still c.deref.result.now
-      c.in_ok-push_trace.ensures c.in_ok-push_changed.ensures answers c.requires.before c.in_ok-take_still.ensures
-      (machine_after (machine_state c.run.new.machine) (machine_state c.args.machine.now) c.args.turn c.in_ok-counts.ensures.after)
+    c.in_ok-push_trace.ensures c.in_ok-push_changed.ensures answers c.requires.before c.in_ok-take_still.ensures
+    (machine_after (machine_state c.run.new.machine) (machine_state c.args.machine.now) c.args.turn c.in_ok-counts.ensures.after)
 
 pub returns-clause-before : goal.returns-clause-before
 returns-clause-before c =

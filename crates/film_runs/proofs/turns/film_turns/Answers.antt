@@ -15,8 +15,7 @@ use Rattle.film_runs.proofs.turns.film_turns.Goals as goal
 
 pub loop-turn-init : goal.loop-turn-init
 loop-turn-init c =
-    let s = machine_state c.args.machine.now in
-    (
+    let s = machine_state c.args.machine.now in (
       text_none c.args.text.now.items s.machine,
       machine_none s.machine,
       omega arith,
@@ -34,7 +33,7 @@ film_turn-requires-clause-shape c =
 pub film_turn-requires-clause-named : goal.film_turn-requires-clause-named
 film_turn-requires-clause-named c =
     subst (λ (m : MachineValue). names_part c.turn-item.result m ≡ true) (sym c.loop-turn.invariant.1)
-      (named-here c.args.turns.now c.loop-turn.turn-index c.turn-item.result (machine_state c.args.machine.now) c.requires.named c.loop-turn-test.true c.turn-item.is)
+    (named-here c.args.turns.now c.loop-turn.turn-index c.turn-item.result (machine_state c.args.machine.now) c.requires.named c.loop-turn-test.true c.turn-item.is)
 
 pub add_counts-requires-clause-one : goal.add_counts-requires-clause-one
 add_counts-requires-clause-one c = one_below c.in_ok-more.more c.turn-item.result (machine_state c.loop-turn.machine) c.in_ok-more.ensures.counts
@@ -49,8 +48,7 @@ loop-turn-preserved c =
     let i = c.loop-turn.invariant in
     let next : take (k + 1) ts ≡ take k ts ++ t ∷ [] = take-next ts k t c.loop-turn-test.true c.turn-item.is in
     let made : (machine_state c.film_turn.new.machine).machine ≡ (turn_of t here.machine).machine = machine_after (machine_state c.film_turn.new.machine) here t c.in_ok-more.ensures.machine in
-    let turns = ap (λ (r : MachineState). r.turns) c.in_ok-more.ensures.machine in
-    (
+    let turns = ap (λ (r : MachineState). r.turns) c.in_ok-more.ensures.machine in (
       text_more c.args.text.now.items c.loop-turn.text.items c.film_turn.new.text.items ts k c.loop-turn.number t s.machine here.machine c.loop-turn-test.true next i.0 i.1 i.7 c.in_ok-more.ensures.text,
       machine_more ts k t s.machine here.machine (machine_state c.film_turn.new.machine).machine next i.1 made,
       omega (arith, turns, i.2),
