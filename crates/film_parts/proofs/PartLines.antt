@@ -1,6 +1,6 @@
 -- The lines of the parts from one on: that of the first of them, if it has one, and those of the rest.
 -- Letters: p and q are parts.
-use Rattle.std.proofs.Common.{◌≡◌, ℕ, zero, suc, ◌+◌, ◌<◌, Bool, true, false, cond, List, [], ◌∷◌, ◌++◌, drop, length, filter, bytes_eq, get_or, refl, sym, ap, subst, ◌∙◌, append_assoc, append-nil, ◌≤◌, arith}
+use Rattle.std.proofs.Common.{◌≡◌, ℕ, zero, suc, ◌+◌, ◌<◌, Bool, true, false, cond, List, [], ◌∷◌, ◌++◌, drop, length, filter, bytes_eq, get_or, refl, sym, ap, subst, ◌∙◌, append_assoc, append-nil, ◌≤◌, min, arith}
 use Rattle.std.proofs.lemmas.List.{drop_all}
 use Rattle.std.specs.Prelude.{flat_map}
 use Rattle.film_model.specs.Part.{Part, part_line, has_value, valued, changes, changed}
@@ -9,9 +9,6 @@ use Rattle.film_parts.specs.Spans.{no_part}
 
 abbrev pub nth : List Part → ℕ → Part
 nth ps i = get_or ps i no_part
-
-one_less : (i j : ℕ) → suc i ≡ suc j → i ≡ j
-one_less i j same = omega arith
 
 -- ---- those that have a value
 
@@ -38,15 +35,16 @@ passed_line : (b : Bool) (p : Part) (ps : List Part) → flat_map part_line (con
 passed_line true p ps = refl
 passed_line false p ps = refl
 
-changed_after : (ps qs : List Part) (i : ℕ) → length ps ≡ length qs → i < length qs → changed (drop i ps) (drop i qs) ≡ cond (bytes_eq (nth ps i).value (nth qs i).value) [] (part_line (nth qs i)) ++ changed (drop (suc i) ps) (drop (suc i) qs)
+changed_after : (ps qs : List Part) (i : ℕ) → i < length ps → i < length qs → changed (drop i ps) (drop i qs) ≡ cond (bytes_eq (nth ps i).value (nth qs i).value) [] (part_line (nth qs i)) ++ changed (drop (suc i) ps) (drop (suc i) qs)
 unfolding changed
-changed_after ps [] i same inside = absurd (omega arith)
-changed_after [] (q ∷ qs) i same inside = absurd (omega arith)
-changed_after (p ∷ ps) (q ∷ qs) zero same inside = passed_line (bytes_eq p.value q.value) q (changes ps qs)
-changed_after (p ∷ ps) (q ∷ qs) (suc i) same inside = changed_after ps qs i (one_less (length ps) (length qs) same) (omega arith)
+changed_after ps [] i before inside = absurd (omega arith)
+changed_after [] (q ∷ qs) i before inside = absurd (omega arith)
+changed_after (p ∷ ps) (q ∷ qs) zero before inside = passed_line (bytes_eq p.value q.value) q (changes ps qs)
+changed_after (p ∷ ps) (q ∷ qs) (suc i) before inside = changed_after ps qs i (omega arith) (omega arith)
 
-pub changed_next : (ps qs : List Part) (i : ℕ) → length ps ≡ length qs → i < length qs → changed (drop i ps) (drop i qs) ≡ cond (bytes_eq (nth ps i).value (nth qs i).value) [] (part_line (nth qs i)) ++ changed (drop (i + 1) ps) (drop (i + 1) qs)
-changed_next ps qs i same inside = subst (λ n. changed (drop i ps) (drop i qs) ≡ cond (bytes_eq (nth ps i).value (nth qs i).value) [] (part_line (nth qs i)) ++ changed (drop n ps) (drop n qs)) {x = suc i} {y = i + 1} (omega arith) (changed_after ps qs i same inside)
+pub changed_next : (ps qs : List Part) (i : ℕ) → i < length ps → i < length qs → changed (drop i ps) (drop i qs) ≡ cond (bytes_eq (nth ps i).value (nth qs i).value) [] (part_line (nth qs i)) ++ changed (drop (i + 1) ps) (drop (i + 1) qs)
+changed_next ps qs i before inside =
+    subst (λ n. changed (drop i ps) (drop i qs) ≡ cond (bytes_eq (nth ps i).value (nth qs i).value) [] (part_line (nth qs i)) ++ changed (drop n ps) (drop n qs)) {x = suc i} {y = i + 1} (omega arith) (changed_after ps qs i before inside)
 
 -- ---- a text that grew by the next line, if there is one
 
@@ -61,6 +59,10 @@ pub valued_end : (ps : List Part) (i : ℕ) → length ps ≤ i → valued (drop
 unfolding valued
 valued_end ps i past = ap (λ (qs : List Part). flat_map part_line (filter has_value qs)) (drop_all i ps past)
 
-pub changed_end : (ps qs : List Part) (i : ℕ) → length qs ≤ i → changed (drop i ps) (drop i qs) ≡ []
+pub changed_end : (ps qs : List Part) (i : ℕ) → min (length ps) (length qs) ≤ i → changed (drop i ps) (drop i qs) ≡ []
 unfolding changed
-changed_end ps qs i past = ap (λ (rs : List Part). flat_map part_line (changes (drop i ps) rs)) (drop_all i qs past) ∙ ap (flat_map part_line) (nothing_changed (drop i ps))
+changed_end [] [] i past = ap (λ (rs : List Part). flat_map part_line (changes rs (drop i []))) (drop_all i [] (omega arith))
+changed_end [] (q ∷ qs) i past = ap (λ (rs : List Part). flat_map part_line (changes rs (drop i (q ∷ qs)))) (drop_all i [] (omega arith))
+changed_end (p ∷ ps) [] i past = ap (λ (rs : List Part). flat_map part_line (changes (drop i (p ∷ ps)) rs)) (drop_all i [] (omega arith)) ∙ ap (flat_map part_line) (nothing_changed (drop i (p ∷ ps)))
+changed_end (p ∷ ps) (q ∷ qs) zero past = absurd (omega arith)
+changed_end (p ∷ ps) (q ∷ qs) (suc i) past = changed_end ps qs i (omega arith)

@@ -1,4 +1,4 @@
-ghost use Rattle.std.specs.Prelude.{◌≡◌, ◌<◌, [], OnOk, bytes_eq, length, slice_index_or, if◌then◌else◌};
+ghost use Rattle.std.specs.Prelude.{◌<◌, [], OnOk, bytes_eq, length, slice_index_or, if◌then◌else◌};
 ghost use Rattle.film_parts.specs.DdmText.Adds.{Adds};
 ghost use Rattle.film_model.specs.Part.{changed, has_value, part_line, valued};
 ghost use Rattle.film_parts.specs.Spans.{no_part};
@@ -56,12 +56,13 @@ pub fn push_valued(out: &mut Vec<u8>, still: &Still) -> Result<(), NoMemory>
     Ok(())
 }
 
-/// Puts at the end the lines of the parts whose values differ from those of an earlier still with the same keys.
+/// Puts at the end the lines of the parts whose values differ from those of an earlier still with the same keys. The part at a place is
+/// compared with the earlier one there.
 pub fn push_changed(out: &mut Vec<u8>, before: &Still, after: &Still) -> Result<(), NoMemory>
-    requires { length before.now ≡ length after.now }
     ensures { OnOk result (Adds out.old.items out.new.items (changed before.now after.now)) }
 {
-    for place in 0..after.len() {
+    let count = before.len().min(after.len());
+    for place in 0..count {
         push_if_changed(out, before, after, place)?;
     }
     Ok(())

@@ -1,0 +1,2 @@
+-- Of `ddm_tree`, what this crate and those above it name.
+pub use Rattle.any_machine.proofs.DdmTree.LeafList

@@ -1,0 +1,4 @@
+pub mod DdmTree
+pub mod StateJudging
+pub mod EachLeaf
+pub mod EachBus

@@ -1,0 +1,10 @@
+pub mod AnyMachine
+pub mod DdmTree
+pub mod DdmTypes
+pub mod FilmParts
+pub mod RvHart
+pub mod StateWords
+pub mod TreeModel
+pub mod TreeRules
+pub mod Filmed
+pub mod Found

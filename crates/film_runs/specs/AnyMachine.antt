@@ -1,0 +1,2 @@
+-- Of `any_machine`, what this crate and those above it name.
+pub use Rattle.film.specs.AnyMachine.Any

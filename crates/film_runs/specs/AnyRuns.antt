@@ -1,0 +1,2 @@
+-- Of `any_runs`, what this crate and those above it name.
+pub use Rattle.any_runs.specs.Run

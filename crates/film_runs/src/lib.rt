@@ -1,0 +1,13 @@
+//! The film of turns while they are made on a machine of any tree.
+#![tactic(auto)]
+
+mod films;
+mod heads;
+pub mod of_any_machine;
+pub mod of_ddm_types;
+mod turns;
+
+pub use any_runs::RunCounts;
+pub use films::film_text;
+pub use heads::push_head;
+pub use turns::{Reel, film_turn, film_turns};

@@ -1,0 +1,132 @@
+//! Turns that are made and filmed.
+
+ghost use Rattle.std.specs.Prelude.{◌≡◌, ◌<◌, ◌++◌, [], ◌∷◌, IfOk, OnOk, true};
+ghost use Rattle.text_model.specs.Run.{no_counts};
+ghost use Rattle.film_runs.specs.AnyMachine.Any.{machine_state};
+ghost use Rattle.film_runs.specs.AnyRuns.Run.{AreBelow, CanRun, NameParts, counts_in, ran, with_room};
+ghost use Rattle.film_runs.specs.Counts.{sum};
+ghost use Rattle.film_runs.specs.Film.Filmed.{IsFilmed};
+ghost use Rattle.film_runs.specs.TreeModel.State.Shape.{IsShaped};
+ghost use Rattle.film_runs.specs.TreeModel.Turns.Machine.{names_part, run_of, turn_of};
+ghost use Rattle.film_model.specs.Film.{turn_film, turns_film};
+ghost use Rattle.film_model.specs.Still.{still as still_of};
+
+use crate::of_any_machine::AnyMachine;
+use crate::of_ddm_types::{NoMemory, Turn, TurnAnswer};
+use any_runs::{RunCounts, run};
+use film::{Still, StillRoom, push_changed, take_still};
+use report::push_trace;
+use std::alloc::Global;
+use std::mem::swap;
+
+/// The still before the next turn, and what the film of a turn is made with.
+#[derive(Drop)]
+pub struct Reel {
+    pub before: Still,
+    after: Still,
+    room: StillRoom,
+    answers: Vec<TurnAnswer>,
+}
+
+impl Reel {
+    /// No still yet.
+    pub fn new(alloc: Global) -> Reel
+        ensures { result.before ≡ [] }
+    {
+        Reel {
+            before: Still::new(alloc),
+            after: Still::new(alloc),
+            room: StillRoom::new(alloc),
+            answers: Vec::new(alloc),
+        }
+    }
+
+    /// Takes the still of a machine before its first turn.
+    pub fn begin(&mut self, machine: &AnyMachine, levels: &[u32]) -> Result<(), NoMemory>
+        requires { IsFilmed levels.now (machine_state machine.now).machine }
+        ensures { OnOk result (self.new.before ≡ still_of (machine_state machine.now).machine) }
+    {
+        take_still(&mut self.before, &mut self.room, machine, levels)
+    }
+}
+
+/// Makes a turn, puts its film at the end of a text, and gives what it came to. The turn has this number, counted from 0.
+pub fn film_turn(
+    text: &mut Vec<u8>,
+    reel: &mut Reel,
+    machine: &mut AnyMachine,
+    levels: &[u32],
+    number: u32,
+    turn: Turn,
+) -> Result<RunCounts, NoMemory>
+    requires shape { IsShaped (machine_state machine.old).machine }
+    requires filmed { IsFilmed levels.now (machine_state machine.old).machine }
+    requires named { names_part turn (machine_state machine.old).machine ≡ true }
+    requires few { (machine_state machine.old).turns < 4294967295 }
+    requires before { reel.old.before ≡ still_of (machine_state machine.old).machine }
+    ensures text { OnOk result (text.new.items ≡ text.old.items ++ turn_film number turn (machine_state machine.old).machine) }
+    ensures machine { OnOk result (machine_state machine.new ≡ ran (turn ∷ []) (with_room 1 (machine_state machine.old))) }
+    ensures before { OnOk result (reel.new.before ≡ still_of (turn_of turn (machine_state machine.old).machine).machine) }
+    ensures filmed { OnOk result (IsFilmed levels.now (turn_of turn (machine_state machine.old).machine).machine) }
+    ensures counts { IfOk result (λ counts. counts ≡ counts_in (turn ∷ []) (machine_state machine.old)) }
+{
+    reel.answers.clear();
+    let turns = [turn];
+    let counts = run(machine, &turns, &mut reel.answers, true)?;
+    push_trace(text, number, &turns, &reel.answers)?;
+    take_still(&mut reel.after, &mut reel.room, machine, levels)?;
+    push_changed(text, &reel.before, &reel.after)?;
+    swap(&mut reel.before, &mut reel.after);
+    Ok(counts)
+}
+
+/// Before the first turn.
+fn no_counts() -> RunCounts
+    ensures { result ≡ no_counts }
+{
+    RunCounts {
+        turns: 0,
+        retired: 0,
+        granted: 0,
+        busy: 0,
+    }
+}
+
+/// What one turn more came to.
+fn add_counts(counts: &mut RunCounts, more: RunCounts)
+    requires below { AreBelow 4294967295 counts.old }
+    requires one { AreBelow 2 more }
+    ensures { counts.new ≡ sum counts.old more }
+{
+    counts.turns += more.turns;
+    counts.retired += more.retired;
+    counts.granted += more.granted;
+    counts.busy += more.busy;
+}
+
+/// Makes turns in order, puts their film at the end of a text, and gives what they came to.
+pub fn film_turns(
+    text: &mut Vec<u8>,
+    reel: &mut Reel,
+    machine: &mut AnyMachine,
+    levels: &[u32],
+    turns: &[Turn],
+) -> Result<RunCounts, NoMemory>
+    requires shape { IsShaped (machine_state machine.old).machine }
+    requires filmed { IsFilmed levels.now (machine_state machine.old).machine }
+    requires named { NameParts turns.now (machine_state machine.old).machine }
+    requires few { CanRun turns.now (machine_state machine.old) }
+    requires before { reel.old.before ≡ still_of (machine_state machine.old).machine }
+    ensures text { OnOk result (text.new.items ≡ text.old.items ++ turns_film 0 turns.now (machine_state machine.old).machine) }
+    ensures machine { OnOk result ((machine_state machine.new).machine ≡ (run_of turns.now (machine_state machine.old).machine).machine) }
+    ensures counts { IfOk result (λ counts. counts ≡ counts_in turns.now (machine_state machine.old)) }
+{
+    let mut counts = no_counts();
+    let mut number: u32 = 0;
+    for turn in turns {
+        let more = film_turn(text, reel, machine, levels, number, *turn)?;
+        add_counts(&mut counts, more);
+        number += 1;
+    }
+    Ok(counts)
+}
