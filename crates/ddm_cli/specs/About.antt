@@ -132,7 +132,7 @@ faults_text = lines_of (
     codes "                                     puts them out" ∷
     codes "15 table N line L: no end            the file ends early: make the table again" ∷
     codes "15 table N line L: after end         take out what stands behind the line end" ∷
-    codes "15 table N: other kind               join tables of outcomes and of survey apart" ∷
+    codes "15 table N: other kind               join tables of outcomes and survey apart" ∷
     codes "15 table N: too many runs            18446744073709551615 are the most" ∷
     [])
 
@@ -244,9 +244,9 @@ own_text about.Survey = lines_of (
     [])
 own_text about.Join = lines_of (
     codes "ddm join TABLE TABLE .." ∷
-    codes "Prints the table of all runs of 2 to 256 tables, each of 64 MiB at most: what ddm" ∷
-    codes "outcomes printed, or what ddm survey did. Where no seed is in two of them it is" ∷
-    codes "the table of all these seeds." ∷
+    codes "Prints the table of all runs of 2 to 256 tables, each of 64 MiB at most: what" ∷
+    codes "ddm outcomes printed, or what ddm survey did. Where no seed is in two of them" ∷
+    codes "it is the table of all these seeds." ∷
     [])
 
 -- what is said behind it, of each command

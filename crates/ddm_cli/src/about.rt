@@ -111,7 +111,7 @@ stands what to do.
                                      puts them out
 15 table N line L: no end            the file ends early: make the table again
 15 table N line L: after end         take out what stands behind the line end
-15 table N: other kind               join tables of outcomes and of survey apart
+15 table N: other kind               join tables of outcomes and survey apart
 15 table N: too many runs            18446744073709551615 are the most
 ";
 
@@ -181,9 +181,9 @@ it put out.
 ";
 
 const JOIN: &[u8] = br"ddm join TABLE TABLE ..
-Prints the table of all runs of 2 to 256 tables, each of 64 MiB at most: what ddm
-outcomes printed, or what ddm survey did. Where no seed is in two of them it is
-the table of all these seeds.
+Prints the table of all runs of 2 to 256 tables, each of 64 MiB at most: what
+ddm outcomes printed, or what ddm survey did. Where no seed is in two of them
+it is the table of all these seeds.
 ";
 
 const NAMED: &[u8] = br#"
