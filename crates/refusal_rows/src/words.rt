@@ -6,7 +6,7 @@ use std::test::Fail;
 
 #[test]
 fn words_at_fault(rt: HostRuntime) -> Result<(), Fail> {
-    let commands: [(&[&str], u32); 66] = [
+    let commands: [(&[&str], u32); 68] = [
         (&[], 0),
         (&["walk"], 0),
         (&["run", "a", "b"], 3),
