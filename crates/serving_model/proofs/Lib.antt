@@ -30,6 +30,8 @@ pub mod Stepped
 pub mod Turned
 pub mod Shown
 pub mod Listed
+pub mod StartShows
+pub mod EveryOrder
 pub mod Served
 pub mod Short
 pub mod Harts

@@ -112,7 +112,7 @@ stepped code items f op next e = by-pc (nat_eq (flat_hart f op.hart).hart.pc op.
 abbrev Harts : MachineValue → FlatMachine → Type 0
 Harts m f = (h : ℕ) → h < length f.harts → is_some (hart_at h m) ≡ true
 
-hart-bones : (h : ℕ) (m : MachineValue) → is_some (hart_at h m) ≡ bone_over h (frame_of m).bones
+pub hart-bones : (h : ℕ) (m : MachineValue) → is_some (hart_at h m) ≡ bone_over h (frame_of m).bones
 hart-bones h m = read_in-is_some (leaf_of_number h) (of_leaf (λ w v. leaf_hart v) no_flat_hart) at_top (root_of m) ∙ over-is h (root_of m)
 
 same-harts : (h : ℕ) (ts : List Turn) (m : MachineValue) → is_some (hart_at h (run_of ts m).machine) ≡ is_some (hart_at h m)

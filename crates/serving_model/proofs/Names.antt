@@ -9,7 +9,7 @@ use Rattle.serving_model.specs.TreeModel.State.Shape.{skeleton, skeletons, are_d
 use Rattle.serving_model.specs.TreeModel.Turns.Children.{child_at}
 use Rattle.serving_model.specs.TreeModel.Turns.Tree.{Name, bus_of_number, has_node, has_among}
 
-same-test : (a b : ℕ) → nat_eq a b ≡ nat_eq b a
+pub same-test : (a b : ℕ) → nat_eq a b ≡ nat_eq b a
 same-test a b = by (nat_eq a b) refl where
   by : (t : Bool) → nat_eq a b ≡ t → t ≡ nat_eq b a
   by true e = sym (eq-eqb b a (sym (eqb-true a b e)))

@@ -10,9 +10,13 @@ use Rattle.serving_model.specs.DdmTypes.declared.turns.Turn.{Turn}
 use Rattle.bus_laws.specs.FlatModel.Flat.{FlatMachine, flat_hart, flat_step}
 use Rattle.serving_model.specs.FlatModel.Legal.{if_effect}
 use Rattle.serving_model.specs.TreeModel.State.Values.{MachineValue}
+use Rattle.bus_laws.specs.IsTree.{IsTree}
+use Rattle.serving_model.specs.TreeModel.Start.Sources.{ImageValue, TreeValue}
+use Rattle.serving_model.specs.TreeModel.Start.Machine.{start_of, flat_start_of}
 use Rattle.serving_model.specs.TreeModel.Turns.Machine.{run_of}
+use Rattle.serving_model.specs.Rest.{has_room}
 use Rattle.serving_model.specs.OneLeaf.{hart_at}
-use Rattle.serving_model.specs.Serving.{same_operation, too_many_turns, serve_from}
+use Rattle.serving_model.specs.Serving.{same_operation, too_many_turns, serve_from, serve_of}
 use Rattle.serving_model.specs.Shows.{Shows}
 
 -- the flat machine after a record, if the record is the step of its hart; an SC that has its reservation stores
@@ -48,3 +52,25 @@ pub data IsServedList (line made : ℕ) (m : MachineValue) (ops : List Op) (f : 
 abbrev pub ListsAreServed : Type 0
 ListsAreServed = (m : MachineValue) (f last : FlatMachine) (ops : List Op) (line made : ℕ) → Shows m f → ((h : ℕ) → h < length f.harts → is_some (hart_at h m) ≡ true)
     → storing_run m.code m.items f ops ≡ Some last → IsServedList line made m ops last
+
+-- ---- from the start
+
+-- the machine shows this flat machine, and has its harts
+pub record StartShows (m : MachineValue) (f : FlatMachine) : Type 0 where
+  pub shows : Shows m f
+  pub harts : (h : ℕ) → h < length f.harts → is_some (hart_at h m) ≡ true
+
+-- The machine of every accepted tree with room shows its flat machine before its first turn.
+abbrev pub StartsAreShown : Type 0
+StartsAreShown = (t : TreeValue) (i : ImageValue) (m : MachineValue) → IsTree t → start_of t i ≡ Ok m → has_room m ≡ true → StartShows m (flat_start_of t i)
+
+-- the machine shows every order of one flat memory: the list is served, unless its turns are too many
+pub data IsServed (ops : List Op) (m : MachineValue) (f : FlatMachine) : Type 0 where
+  shown : (turns : List Turn) → serve_of ops m ≡ Ok turns → Completed m ops f turns → IsServed ops m f
+  too_long : (at : ℕ) → serve_of ops m ≡ Err (too_many_turns at) → IsServed ops m f
+
+-- The machine of every accepted tree with room completes every list of operations that one flat memory completes, in its
+-- order and no other, where an SC that has its reservation stores.
+abbrev pub EveryOrderIsShown : Type 0
+EveryOrderIsShown = (t : TreeValue) (i : ImageValue) (m : MachineValue) → IsTree t → start_of t i ≡ Ok m → has_room m ≡ true
+    → (ops : List Op) (last : FlatMachine) → storing_run m.code m.items (flat_start_of t i) ops ≡ Some last → IsServed ops m last

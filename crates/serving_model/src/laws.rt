@@ -1,6 +1,6 @@
 //! What holds of walks, as theorems: there is nothing to run.
 
-ghost use Rattle.serving_model.specs.ServedLists.{ListsAreServed};
+ghost use Rattle.serving_model.specs.ServedLists.{ListsAreServed, StartsAreShown, EveryOrderIsShown};
 ghost use Rattle.serving_model.specs.Laws.{PartsGive, PartsLose, RunsAreTheMachines, ReadsAreServed, ErasesAreServed, WalksBringTheItem, RequestsComplete, InstructionsAreServed, StepsAreShown, WalksAreShort, GrantsKeepHarts};
 
 /// A part of the tree that holds an item, and is at rest, gives it when it is told to answer: its turns are granted, and it is at rest
@@ -56,6 +56,18 @@ pub fn steps_are_shown()
 /// shows that flat memory: the run completes these operations in this order and no other.
 pub fn lists_are_served()
     ensures { ListsAreServed }
+{}
+
+/// The machine of every accepted tree with room shows its flat machine before its first turn.
+pub fn starts_are_shown()
+    ensures { StartsAreShown }
+{}
+
+/// The machine of every accepted tree with room shows every order of one flat memory: each list of operations that the memory
+/// completes, in which an SC that has its reservation stores, is what the machine completes on the schedule that is served, in this
+/// order and no other; unless the schedule has too many turns.
+pub fn every_order_is_shown()
+    ensures { EveryOrderIsShown }
 {}
 
 /// An instruction takes at most four turns of each bus, and two of its hart.
