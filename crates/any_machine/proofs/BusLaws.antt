@@ -1,2 +1,2 @@
 -- Of `bus_laws`, what this crate and those above it name.
-pub use Rattle.cluster.proofs.BusLaws.HartChanges
+pub use Rattle.inspector.proofs.BusLaws.HartChanges

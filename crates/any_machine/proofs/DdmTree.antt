@@ -1,4 +1,4 @@
 -- Of `ddm_tree`, what this crate and those above it name.
-pub use Rattle.cluster.proofs.DdmTree.LeafList
-pub use Rattle.cluster.proofs.DdmTree.RulesKept
-pub use Rattle.cluster.proofs.DdmTree.TurnMade
+pub use Rattle.inspector.proofs.DdmTree.LeafList
+pub use Rattle.inspector.proofs.DdmTree.RulesKept
+pub use Rattle.inspector.proofs.DdmTree.TurnMade

@@ -1,2 +1,2 @@
 -- Of `headline`, what this crate and those above it name.
-pub use Rattle.cluster.proofs.HeadlineCrate.Runs
+pub use Rattle.inspector.proofs.HeadlineCrate.Runs

@@ -1,2 +1,2 @@
 -- Of `ddm_types`, what this crate and those above it name.
-pub use Rattle.cluster.specs.DdmTypes.ItemTable
+pub use Rattle.inspector.specs.DdmTypes.ItemTable

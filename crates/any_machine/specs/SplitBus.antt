@@ -1,2 +1,2 @@
 -- Of `split_bus`, what this crate and those above it name.
-pub use Rattle.cluster.specs.SplitBus.Outcomes
+pub use Rattle.inspector.specs.SplitBus.Outcomes

@@ -1,2 +1,2 @@
 -- Of `state_judging`, what this crate and those above it name.
-pub use Rattle.cluster.specs.StateJudging.Judged
+pub use Rattle.inspector.specs.StateJudging.Judged

@@ -1,2 +1,2 @@
 -- Of `state_reading`, what this crate and those above it name.
-pub use Rattle.cluster.specs.StateReading.declared
+pub use Rattle.inspector.specs.StateReading.declared

@@ -1,3 +1,3 @@
 -- Of `tree_model`, what this crate and those above it name.
-pub use Rattle.cluster.specs.TreeModel.State
-pub use Rattle.cluster.specs.TreeModel.Turns
+pub use Rattle.inspector.specs.TreeModel.State
+pub use Rattle.inspector.specs.TreeModel.Turns

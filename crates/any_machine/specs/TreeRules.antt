@@ -1,2 +1,2 @@
 -- Of `tree_rules`, what this crate and those above it name.
-pub use Rattle.cluster.specs.TreeRules.Order
+pub use Rattle.inspector.specs.TreeRules.Order

@@ -1,8 +1,8 @@
 //! The type of a machine of any tree: an enum over items, ways and levels.
 
+use crate::of_cluster::Cluster;
 use crate::of_ddm_tree::{Dir, Machine};
 use crate::of_leaf_protocol::Leaf;
-use cluster::Cluster;
 
 /// A machine whose leaves have so many ways, with so many levels of buses above them.
 #[derive(Drop)]

@@ -1,3 +1,3 @@
 //! What this crate and those above it name of `cluster`.
 
-pub use cluster::{Cluster, clusters};
+pub use inspector::of_cluster::{Cluster, clusters};

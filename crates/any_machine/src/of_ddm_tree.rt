@@ -1,3 +1,3 @@
 //! What this crate and those above it name of `ddm_tree`.
 
-pub use cluster::of_ddm_tree::{CopyFrom, Dir, Found, Machine, Subtree, directories};
+pub use inspector::of_ddm_tree::{CopyFrom, Dir, Found, Machine, Subtree, directories};

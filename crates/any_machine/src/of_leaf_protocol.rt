@@ -1,3 +1,3 @@
 //! What this crate and those above it name of `leaf_protocol`.
 
-pub use cluster::of_leaf_protocol::Leaf;
+pub use inspector::of_leaf_protocol::Leaf;

@@ -1,3 +1,3 @@
 //! What this crate and those above it name of `rv_hart`.
 
-pub use cluster::of_rv_hart::Hart;
+pub use inspector::of_rv_hart::Hart;

@@ -1,3 +1,3 @@
 //! What this crate and those above it name of `top_node`.
 
-pub use cluster::of_top_node::TopState;
+pub use inspector::of_top_node::TopState;

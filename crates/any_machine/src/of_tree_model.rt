@@ -1,3 +1,3 @@
 //! What this crate and those above it name of `tree_model`.
 
-pub use cluster::of_tree_model::{DirLengths, LeafLengths, Traffic};
+pub use inspector::of_tree_model::{DirLengths, LeafLengths, Traffic};

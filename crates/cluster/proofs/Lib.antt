@@ -3,3 +3,4 @@ pub mod DdmTree
 pub mod HeadlineCrate
 pub mod OrderLists
 pub mod StateJudging
+pub mod TreeModel

@@ -2,6 +2,7 @@ pub mod BusLaws
 pub mod DdmTree
 pub mod DdmTypes
 pub mod ItemStates
+pub mod OrderLaws
 pub mod RvHart
 pub mod SplitBus
 pub mod StateJudging

@@ -8,6 +8,7 @@ mod copying;
 pub mod of_bus_judging;
 pub mod of_ddm_tree;
 pub mod of_ddm_types;
+pub mod of_directory;
 pub mod of_item_states;
 pub mod of_leaf_protocol;
 pub mod of_operation_list;

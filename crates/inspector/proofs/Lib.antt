@@ -1,4 +1,7 @@
+pub mod BusLaws
 pub mod DdmTree
+pub mod HeadlineCrate
+pub mod OrderLists
 pub mod StartParts
 pub mod StateJudging
 pub mod CopyLists

@@ -1,6 +1,13 @@
+pub mod BusLaws
 pub mod DdmTree
 pub mod DdmTypes
+pub mod RvHart
+pub mod SplitBus
 pub mod StartParts
+pub mod StateJudging
+pub mod StateReading
+pub mod StateWords
 pub mod TreeModel
+pub mod TreeRules
 pub mod Copies
 pub mod Entries

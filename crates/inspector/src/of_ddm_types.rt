@@ -1,3 +1,5 @@
 //! What this crate and those above it name of `ddm_types`.
 
-pub use start_parts::of_ddm_types::{BusNo, ItemId, LeafNo, LeafState, NoMemory, TxKind, Words};
+pub use start_parts::of_ddm_types::{
+    BusNo, HartNo, ItemId, Items, LeafNo, LeafState, NoMemory, TreeCounts, Turn, TxKind, Words,
+};

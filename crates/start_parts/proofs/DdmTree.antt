@@ -1,6 +1,8 @@
 -- Of `ddm_tree`, what this crate and those above it name.
-pub use Rattle.ddm_tree.proofs.Along
-pub use Rattle.ddm_tree.proofs.LeafList
-pub use Rattle.ddm_tree.proofs.Names
-pub use Rattle.ddm_tree.proofs.Places
-pub use Rattle.ddm_tree.proofs.Reading
+pub use Rattle.cluster.proofs.DdmTree.Along
+pub use Rattle.cluster.proofs.DdmTree.LeafList
+pub use Rattle.cluster.proofs.DdmTree.Names
+pub use Rattle.cluster.proofs.DdmTree.Places
+pub use Rattle.cluster.proofs.DdmTree.Reading
+pub use Rattle.cluster.proofs.DdmTree.RulesKept
+pub use Rattle.cluster.proofs.DdmTree.TurnMade

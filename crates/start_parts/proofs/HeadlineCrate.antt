@@ -1,2 +1,3 @@
 -- Of `headline`, what this crate and those above it name.
-pub use Rattle.ddm_tree.proofs.HeadlineCrate.StartOrder
+pub use Rattle.cluster.proofs.HeadlineCrate.Runs
+pub use Rattle.cluster.proofs.HeadlineCrate.StartOrder

@@ -4,7 +4,7 @@ use Rattle.start_parts.specs.TreeModel.Turns.Machine.{no_traffic}
 use Rattle.start_parts.specs.TreeModel.Start.Sources.{TreeValue, ImageValue, bus_widths}
 use Rattle.start_parts.specs.TreeModel.Start.Memory.{start_code, start_items}
 use Rattle.start_parts.specs.TreeModel.Start.Machine.{start_machine}
-use Rattle.ddm_tree.specs.Machine.{machine_of, new_machine}
+use Rattle.cluster.specs.DdmTree.Machine.{machine_of, new_machine}
 use Rattle.start_parts.specs.Counts.{counts_of}
 pub use Rattle.start_parts.specs.Parts.{start_top, start_kids}
 

@@ -10,8 +10,8 @@ use Rattle.start_parts.specs.TreeModel.Turns.Machine.{is_child_of, names_part, t
 use Rattle.start_parts.specs.TreeModel.Turns.Tree.{leaf_of_number, bus_of_number, read_in, read_among, of_leaf, of_dir}
 use Rattle.start_parts.proofs.TreeModel.NamedNode.{read_in-is_some}
 use Rattle.start_parts.proofs.TreeModel.FrameKept.{turn-frame, run-frame}
-use Rattle.ddm_tree.specs.Path.{path_to}
-use Rattle.ddm_tree.proofs.Along.{path_to-there}
+use Rattle.cluster.specs.DdmTree.Path.{path_to}
+use Rattle.cluster.proofs.DdmTree.Along.{path_to-there}
 
 module _ (bus : ℕ) where
   abbrev mutual

@@ -7,8 +7,8 @@ use Rattle.start_parts.specs.TreeModel.State.Values.{LeafSizes, LeafValue, DirSi
 use Rattle.start_parts.specs.TreeModel.State.Shape.{skeleton, skeletons}
 use Rattle.start_parts.specs.TreeModel.State.Rooms.{all_within, all_within_among}
 use Rattle.start_parts.specs.TreeModel.Start.Nodes.{dir_over}
-use Rattle.ddm_tree.specs.Counts.{counts_within, counts_among}
-use Rattle.ddm_tree.specs.Ready.{words_are, words_are_among}
+use Rattle.cluster.specs.DdmTree.Counts.{counts_within, counts_among}
+use Rattle.cluster.specs.DdmTree.Ready.{words_are, words_are_among}
 use Rattle.start_parts.specs.Held.{IsHeld, AreHeld}
 use Rattle.start_parts.proofs.NewLeaves.{IsNewLeaf, AreNewLeaves, leaf-held}
 use Rattle.start_parts.proofs.HeldBelow.{over-count, dir-held}

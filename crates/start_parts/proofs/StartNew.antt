@@ -18,10 +18,10 @@ use Rattle.start_parts.specs.BusLaws.IsTree.{IsTree}
 use Rattle.start_parts.proofs.BusLaws.StartLevels.{leaf_total}
 use Rattle.start_parts.specs.OrderLaws.EveryTurn.{IsOrderly}
 use Rattle.start_parts.proofs.HeadlineCrate.StartOrder.{start-orderly}
-use Rattle.ddm_tree.specs.Counts.{counts_within}
-use Rattle.ddm_tree.specs.Machine.{IsNew}
-use Rattle.ddm_tree.proofs.RulesKept.{rules-of}
-use Rattle.ddm_tree.specs.Ready.{words_are}
+use Rattle.cluster.specs.DdmTree.Counts.{counts_within}
+use Rattle.cluster.specs.DdmTree.Machine.{IsNew}
+use Rattle.cluster.proofs.DdmTree.RulesKept.{rules-of}
+use Rattle.cluster.specs.DdmTree.Ready.{words_are}
 use Rattle.start_parts.specs.Counts.{counts_of}
 use Rattle.start_parts.specs.Held.{AreHeld}
 use Rattle.start_parts.proofs.Made.{start_kids}

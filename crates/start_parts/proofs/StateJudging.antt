@@ -1,2 +1,2 @@
 -- Of `state_judging`, what this crate and those above it name.
-pub use Rattle.ddm_tree.proofs.StateJudging.BusNumbers
+pub use Rattle.cluster.proofs.StateJudging.BusNumbers

@@ -1,3 +1,3 @@
 -- Of `tree_model`, what this crate and those above it name.
-pub use Rattle.ddm_tree.proofs.TreeModel.FrameKept
-pub use Rattle.ddm_tree.proofs.TreeModel.NamedNode
+pub use Rattle.cluster.proofs.TreeModel.FrameKept
+pub use Rattle.cluster.proofs.TreeModel.NamedNode

@@ -1,2 +1,2 @@
 -- Of `bus_laws`, what this crate and those above it name.
-pub use Rattle.ddm_tree.specs.BusLaws.IsTree
+pub use Rattle.cluster.specs.BusLaws.IsTree

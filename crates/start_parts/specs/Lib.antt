@@ -2,7 +2,13 @@ pub mod BusLaws
 pub mod DdmTree
 pub mod DdmTypes
 pub mod OrderLaws
+pub mod RvHart
+pub mod SplitBus
+pub mod StateJudging
+pub mod StateReading
+pub mod StateWords
 pub mod TreeModel
+pub mod TreeRules
 pub mod Counts
 pub mod Held
 pub mod Parts

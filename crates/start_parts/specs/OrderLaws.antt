@@ -1,2 +1,2 @@
 -- Of `order_laws`, what this crate and those above it name.
-pub use Rattle.ddm_tree.specs.OrderLaws.EveryTurn
+pub use Rattle.cluster.specs.OrderLaws.EveryTurn

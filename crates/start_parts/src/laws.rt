@@ -11,7 +11,7 @@ ghost use Rattle.start_parts.specs.TreeModel.Start.Memory.{start_code, start_ite
 ghost use Rattle.start_parts.specs.TreeModel.Start.Nodes.{dir_sizes, top_sizes, new_top, under_levels, cut_in, dirs_over, held_below, held_if};
 ghost use Rattle.start_parts.specs.TreeModel.Start.Machine.{start_leaves, start_machine, start_refusal};
 ghost use Rattle.start_parts.specs.BusLaws.IsTree.{IsTree, is_width};
-ghost use Rattle.ddm_tree.specs.Machine.{new_machine, IsNew};
+ghost use Rattle.cluster.specs.DdmTree.Machine.{new_machine, IsNew};
 ghost use Rattle.start_parts.specs.Counts.{counts_of};
 ghost use Rattle.start_parts.specs.Held.{some_exclusive, AreHeld};
 

@@ -1,3 +1,3 @@
 //! What this crate and those above it name of `ddm_tree`.
 
-pub use ddm_tree::{Found, Machine, Subtree, place_at};
+pub use cluster::of_ddm_tree::{CopyFrom, Dir, Found, Machine, Subtree, directories, place_at};

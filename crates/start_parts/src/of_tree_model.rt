@@ -1,3 +1,3 @@
 //! What this crate and those above it name of `tree_model`.
 
-pub use ddm_tree::of_tree_model::{CopyPlace, LeafSpot, Traffic};
+pub use cluster::of_tree_model::{CopyPlace, DirLengths, LeafLengths, LeafSpot, Traffic};

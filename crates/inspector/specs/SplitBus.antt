@@ -1,0 +1,2 @@
+-- Of `split_bus`, what this crate and those above it name.
+pub use Rattle.start_parts.specs.SplitBus.Outcomes

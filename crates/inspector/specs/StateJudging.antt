@@ -1,0 +1,2 @@
+-- Of `state_judging`, what this crate and those above it name.
+pub use Rattle.start_parts.specs.StateJudging.Judged

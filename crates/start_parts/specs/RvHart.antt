@@ -1,0 +1,2 @@
+-- Of `rv_hart`, what this crate and those above it name.
+pub use Rattle.cluster.specs.RvHart.HartState

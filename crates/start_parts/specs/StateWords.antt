@@ -1,0 +1,3 @@
+-- Of `state_words`, what this crate and those above it name.
+pub use Rattle.cluster.specs.StateWords.Begins
+pub use Rattle.cluster.specs.StateWords.Machine
