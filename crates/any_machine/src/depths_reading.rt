@@ -4,17 +4,19 @@ ghost use Rattle.std.specs.Prelude.{◌≡◌, ◌<◌, ◌≤◌, Some, length,
 ghost use Rattle.any_machine.specs.DdmTypes.ItemTable.{item_count};
 ghost use Rattle.any_machine.specs.TreeModel.State.Shape.{IsShaped, tree_counts};
 ghost use Rattle.any_machine.specs.TreeModel.Turns.Found.{found_copy, states_of};
-ghost use Rattle.any_machine.specs.TreeModel.Turns.Machine.{child_count, leaf_lengths_at, lengths_at, names_part, turn_of};
+ghost use Rattle.any_machine.specs.TreeModel.Turns.Machine.{child_count, is_child_of, leaf_lengths_at, lengths_at, names_part, turn_of};
 ghost use Rattle.any_machine.specs.TreeModel.Turns.Tree.{bus_of_number, leaf_of_number};
 ghost use Rattle.any_machine.specs.SplitBus.Outcomes.{is_granted};
 ghost use Rattle.any_machine.specs.DdmTree.Machine.{is_part};
-ghost use Rattle.any_machine.specs.DdmTree.Reads.{counted_hart_of, is_down_request_or_reply, state_of};
+ghost use Rattle.any_machine.specs.DdmTree.Reads.{counted_hart_of, is_down_request_or_reply, leaving_count_of, state_of};
 ghost use Rattle.any_machine.specs.DdmTree.Rules.{KeepsRules};
 ghost use Rattle.any_machine.specs.Any.{depths_state};
 
 use crate::machine::Depths;
 use crate::of_ddm_tree::{Dir, Found, Machine, Subtree};
-use crate::of_ddm_types::{BusNo, HartNo, ItemId, Items, LeafNo, LeafState, TreeCounts, Turn};
+use crate::of_ddm_types::{
+    BusNo, ChildNo, HartNo, ItemId, Items, LeafNo, LeafState, TreeCounts, Turn,
+};
 use crate::of_operation_list::Operations;
 use crate::of_rv_hart::Hart;
 use crate::of_tree_model::{DirLengths, LeafLengths, Traffic};
@@ -108,6 +110,17 @@ fn children_over<const WORDS: usize, C: Subtree<WORDS>>(
     ensures { Some result ≡ child_count bus machine.now.machine }
 {
     machine.children(bus)
+}
+
+fn leaving_count_over<const WORDS: usize, C: Subtree<WORDS>>(
+    machine: &Machine<WORDS, Dir<WORDS, C>>,
+    bus: BusNo,
+    child: ChildNo,
+) -> u32
+    requires { is_child_of child (child_count bus machine.now.machine) ≡ true }
+    ensures { Some result ≡ leaving_count_of bus child machine.now.machine }
+{
+    machine.leaving_count(bus, child)
 }
 
 fn list_lengths_over<const WORDS: usize, C: Subtree<WORDS>>(
@@ -253,6 +266,19 @@ impl<const WAYS: usize, const WORDS: usize> Depths<WAYS, WORDS> {
             Depths::TwoLevels(machine) => machine.children(bus),
             Depths::ThreeLevels(machine) => children_over(machine, bus),
             Depths::FourLevels(machine) => children_over(machine, bus),
+        }
+    }
+
+    /// How many copies of a child of a bus may leave.
+    pub fn leaving_count(&self, bus: BusNo, child: ChildNo) -> u32
+        requires { is_child_of child (child_count bus (depths_state self.now).machine) ≡ true }
+        ensures { Some result ≡ leaving_count_of bus child (depths_state self.now).machine }
+    {
+        match self {
+            Depths::OneLevel(machine) => machine.leaving_count(bus, child),
+            Depths::TwoLevels(machine) => machine.leaving_count(bus, child),
+            Depths::ThreeLevels(machine) => leaving_count_over(machine, bus, child),
+            Depths::FourLevels(machine) => leaving_count_over(machine, bus, child),
         }
     }
 

@@ -1,5 +1,5 @@
 //! What this crate and those above it name of `ddm_types`.
 
 pub use inspector::of_ddm_types::{
-    BusNo, HartNo, ItemId, Items, LeafNo, LeafState, TreeCounts, Turn,
+    BusNo, ChildNo, HartNo, ItemId, Items, LeafNo, LeafState, TreeCounts, Turn,
 };

@@ -4,17 +4,19 @@ ghost use Rattle.std.specs.Prelude.{◌≡◌, ◌<◌, ◌≤◌, Some, length,
 ghost use Rattle.any_machine.specs.DdmTypes.ItemTable.{item_count};
 ghost use Rattle.any_machine.specs.TreeModel.State.Shape.{IsShaped, tree_counts};
 ghost use Rattle.any_machine.specs.TreeModel.Turns.Found.{found_copy, states_of};
-ghost use Rattle.any_machine.specs.TreeModel.Turns.Machine.{child_count, leaf_lengths_at, lengths_at, names_part, turn_of};
+ghost use Rattle.any_machine.specs.TreeModel.Turns.Machine.{child_count, is_child_of, leaf_lengths_at, lengths_at, names_part, turn_of};
 ghost use Rattle.any_machine.specs.TreeModel.Turns.Tree.{bus_of_number, leaf_of_number};
 ghost use Rattle.any_machine.specs.SplitBus.Outcomes.{is_granted};
 ghost use Rattle.any_machine.specs.DdmTree.Machine.{is_part};
-ghost use Rattle.any_machine.specs.DdmTree.Reads.{counted_hart_of, is_down_request_or_reply, state_of};
+ghost use Rattle.any_machine.specs.DdmTree.Reads.{counted_hart_of, is_down_request_or_reply, leaving_count_of, state_of};
 ghost use Rattle.any_machine.specs.DdmTree.Rules.{KeepsRules};
 ghost use Rattle.any_machine.specs.Any.{machine_state, state_in};
 
 use crate::machine::{AnyMachine, Machines};
 use crate::of_ddm_tree::Found;
-use crate::of_ddm_types::{BusNo, HartNo, ItemId, Items, LeafNo, LeafState, TreeCounts, Turn};
+use crate::of_ddm_types::{
+    BusNo, ChildNo, HartNo, ItemId, Items, LeafNo, LeafState, TreeCounts, Turn,
+};
 use crate::of_operation_list::Operations;
 use crate::of_rv_hart::Hart;
 use crate::of_tree_model::{DirLengths, LeafLengths, Traffic};
@@ -125,6 +127,18 @@ impl<const WORDS: usize> Machines<WORDS> {
         }
     }
 
+    /// How many copies of a child of a bus may leave.
+    pub fn leaving_count(&self, bus: BusNo, child: ChildNo) -> u32
+        requires { is_child_of child (child_count bus (state_in self.now).machine) ≡ true }
+        ensures { Some result ≡ leaving_count_of bus child (state_in self.now).machine }
+    {
+        match self {
+            Machines::OneWay(machine) => machine.leaving_count(bus, child),
+            Machines::TwoWays(machine) => machine.leaving_count(bus, child),
+            Machines::FourWays(machine) => machine.leaving_count(bus, child),
+        }
+    }
+
     /// How long the lists of the directory over a bus are; over bus 0 it is the top.
     pub fn list_lengths(&self, bus: BusNo) -> DirLengths
         requires { is_part (bus_of_number bus) (state_in self.now).machine ≡ true }
@@ -215,6 +229,17 @@ impl AnyMachine {
         match self {
             AnyMachine::Narrow(machine) => machine.children(bus),
             AnyMachine::Wide(machine) => machine.children(bus),
+        }
+    }
+
+    /// How many copies of a child of a bus may leave.
+    pub fn leaving_count(&self, bus: BusNo, child: ChildNo) -> u32
+        requires { is_child_of child (child_count bus (machine_state self.now).machine) ≡ true }
+        ensures { Some result ≡ leaving_count_of bus child (machine_state self.now).machine }
+    {
+        match self {
+            AnyMachine::Narrow(machine) => machine.leaving_count(bus, child),
+            AnyMachine::Wide(machine) => machine.leaving_count(bus, child),
         }
     }
 

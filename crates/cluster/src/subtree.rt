@@ -99,6 +99,14 @@ impl<const WAYS: usize, const WORDS: usize> Subtree<WORDS> for Cluster<WAYS, WOR
         self.dir.hold_below(bus, path, child, item)
     }
 
+    fn leaving_count(&self) -> u32 {
+        self.dir.leaving_count()
+    }
+
+    fn leaving_count_below(&self, bus: BusNo, path: &[ChildNo], child: ChildNo) -> u32 {
+        self.dir.leaving_count_below(bus, path, child)
+    }
+
     fn down_below(&self, bus: BusNo, path: &[ChildNo], place: u32) -> Option<DownEntry<WORDS>> {
         self.dir.down_below(bus, path, place)
     }

@@ -21,7 +21,7 @@ use Rattle.ddm_tree.specs.ItemStates.Parts.{node_items}
 use Rattle.ddm_tree.specs.Machine.{IsMachine, is_part, listed_path}
 use Rattle.ddm_tree.specs.Path.{node_at, present_at}
 use Rattle.ddm_tree.specs.Ready.{IsChild, IsItemOf, Leads}
-use Rattle.ddm_tree.specs.Reads.{node_hart, node_entry, node_children, node_child, node_child_hold, node_down, node_down_len, node_leaf_lengths, node_lengths, node_parked, copy_pair, node_state, counted_hart_of, down_len_of, entry_at, parked_at, state_of}
+use Rattle.ddm_tree.specs.Reads.{node_hart, node_entry, node_children, node_child, node_child_hold, node_down, node_down_len, node_leaf_lengths, node_leaving_count, node_lengths, node_parked, copy_pair, node_state, counted_hart_of, down_len_of, entry_at, leaving_count, leaving_count_of, parked_at, state_of}
 use Rattle.ddm_tree.proofs.Along.{along, where_end, where_end-path, where_end-present, some_if-same}
 use Rattle.ddm_tree.proofs.Descend.{leads-child, within-child}
 use Rattle.ddm_tree.proofs.Names.{bus-there, path-there}
@@ -136,6 +136,13 @@ module _ (m : MachineValue) (bus : ℕ) (path : List ℕ) (leads : Leads (bus_of
       hold-node : (w : Where) (n : Node) → node_child_hold child x n ≡ of_dir (λ w d ns. child_hold x (child_at child ns)) Hold.Invalid w n
       hold-node w (leaf_node v) = refl
       hold-node w (dir_node d ns) = refl
+
+  pub leaving_count-is : (child : ℕ) → Some (node_leaving_count child (node_at path (root_of m))) ≡ leaving_count_of bus child m
+  leaving_count-is child = ap Some (count-node (where_end at_top path (root_of m)) (node_at path (root_of m))) ∙ read-is m (bus_of_number bus) path leads (of_dir (λ w d ns. leaving_count (child_at child ns)) 0)
+    where
+      count-node : (w : Where) (n : Node) → node_leaving_count child n ≡ of_dir (λ w d ns. leaving_count (child_at child ns)) 0 w n
+      count-node w (leaf_node v) = refl
+      count-node w (dir_node d ns) = refl
 
   pub down-is : (place : ℕ) → Some (node_down place (node_at path (root_of m))) ≡ down_entry_of bus place m
   down-is place = ap Some (down-node (where_end at_top path (root_of m)) (node_at path (root_of m))) ∙ read-is m (bus_of_number bus) path leads (of_dir (λ w d ns. slice_get d.down place) None)

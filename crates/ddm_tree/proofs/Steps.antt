@@ -23,7 +23,7 @@ use Rattle.ddm_tree.specs.ItemStates.Parts.{node_items}
 use Rattle.split_bus.specs.Outcomes.{AreSized, NamesOneOf}
 use Rattle.ddm_tree.specs.Path.{node_at, present_at, put_at, node_answer, node_turned}
 use Rattle.ddm_tree.specs.Ready.{IsReady, Leads, LeadsBelow, HasChild, IsChild, IsItemOf}
-use Rattle.ddm_tree.specs.Reads.{node_children, node_child, node_child_hold}
+use Rattle.ddm_tree.specs.Reads.{leaving_count, node_children, node_child, node_child_hold, node_leaving_count}
 use Rattle.ddm_tree.specs.TreeModel.State.Place.{Where}
 use Rattle.ddm_tree.proofs.Along.{leads-among, some_if-same}
 use Rattle.ddm_tree.proofs.Descend.{LeadsOn, leads-child, bones-counted, IsReadyBus, ready-bus, ready-items, buses-child}
@@ -150,6 +150,9 @@ module _ {A : Type 0} (f : A → Node) (d : DirValue) (xs : List A) (path : List
 
       pub own-hold : (item : ℕ) → node_child_hold c item (node_at path (dir_node d (nodes (map f xs)))) ≡ child_hold item (f x)
       own-hold item = rw own (ap (child_hold item) own-at)
+
+      pub own-leaving : node_leaving_count c (node_at path (dir_node d (nodes (map f xs)))) ≡ leaving_count (f x)
+      own-leaving = rw own (ap leaving_count own-at)
 
       pub own-items : (item : ℕ) → IsItemOf c item (node_at path (dir_node d (nodes (map f xs)))) → item < node_items (f x)
       own-items item known =

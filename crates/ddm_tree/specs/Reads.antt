@@ -1,7 +1,7 @@
 -- What is read of a leaf, or of a directory and its children, where a node is known to be one.
 -- Letters: n is a node, v a leaf, d a directory over the nodes ns, x an item, c a child.
 -- To be believed with the contracts: it is what the calls that read give.
-use Rattle.std.specs.Prelude.{ℕ, Bool, true, false, not, ◌&&◌, List, [], length, map, Option, Some, None, is_none, option_map, slice_get}
+use Rattle.std.specs.Prelude.{ℕ, Bool, true, false, not, ◌&&◌, List, [], filter, length, map, Option, Some, None, is_none, option_map, slice_get}
 use Rattle.ddm_tree.specs.DdmTypes.declared.keys.Stamp.{Stamp}
 use Rattle.ddm_tree.specs.DdmTypes.declared.sizes.Hold.{Hold}
 use Rattle.ddm_tree.specs.DdmTypes.declared.sizes.LeafState.{LeafState}
@@ -18,7 +18,7 @@ use Rattle.ddm_tree.specs.TreeModel.State.Lists.{first_some}
 use Rattle.ddm_tree.specs.TreeModel.State.States.{is_held}
 use Rattle.ddm_tree.specs.TreeModel.State.Values.{DownValue, DirValue, Node, leaf_node, dir_node, nodes, children, MachineValue}
 use Rattle.ddm_tree.specs.TreeModel.State.Blank.{no_hart}
-use Rattle.ddm_tree.specs.TreeModel.State.Leaf.{LeafEntry, leaf_entry, spot_at, state_at}
+use Rattle.ddm_tree.specs.TreeModel.State.Leaf.{LeafEntry, leaf_entry, may_leave_buffer, spot_at, state_at}
 use Rattle.ddm_tree.specs.TreeModel.State.Directory.{dir_hold, parked_words, parked_place, pending, queue_of}
 use Rattle.ddm_tree.specs.TreeModel.State.Child.{child_label, child_hold}
 use Rattle.ddm_tree.specs.TreeModel.Turns.Bus.{bus_step}
@@ -77,6 +77,20 @@ node_child c (dir_node d ns) = child_label (child_at c (children ns))
 abbrev pub node_child_hold : ℕ → ℕ → Node → Hold
 node_child_hold c x (leaf_node v) = Hold.Invalid
 node_child_hold c x (dir_node d ns) = child_hold x (child_at c (children ns))
+
+-- how many copies of a part of the tree may leave
+abbrev pub leaving_count : Node → ℕ
+leaving_count (leaf_node v) = length (filter may_leave_buffer v.buffer)
+leaving_count (dir_node d ns) = length d.parked
+
+-- and of a child of a bus
+abbrev pub leaving_count_of : ℕ → ℕ → MachineValue → Option ℕ
+leaving_count_of bus child m = ask_bus bus (λ w d ns. leaving_count (child_at child ns)) 0 m
+
+-- and of a child of this node
+abbrev pub node_leaving_count : ℕ → Node → ℕ
+node_leaving_count c (leaf_node v) = 0
+node_leaving_count c (dir_node d ns) = leaving_count (child_at c (children ns))
 
 -- an entry of the down list
 abbrev pub node_down : ℕ → Node → Option DownValue

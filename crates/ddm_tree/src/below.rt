@@ -15,7 +15,7 @@ ghost use Rattle.ddm_tree.specs.Path.{node_at, present_at, put_at, node_answer, 
 ghost use Rattle.ddm_tree.specs.Judging.{IsJudged};
 ghost use Rattle.ddm_tree.specs.Named.{name_of};
 ghost use Rattle.ddm_tree.specs.Ready.{IsAskable, IsReady, Leads, LeadsBelow, HasChild, IsChild, IsItemOf, IsRuled};
-ghost use Rattle.ddm_tree.specs.Reads.{leaf_count_among, node_hart, node_entry, node_children, node_child, node_child_hold, node_down, node_down_len, node_grants, node_leaf_lengths, node_lengths, node_parked, node_state, states_among};
+ghost use Rattle.ddm_tree.specs.Reads.{leaf_count_among, node_hart, node_entry, node_children, node_child, node_child_hold, node_down, node_down_len, node_grants, node_leaf_lengths, node_leaving_count, node_lengths, node_parked, node_state, states_among};
 
 use crate::named::Named;
 use crate::of_ddm_types::{
@@ -257,6 +257,26 @@ pub(crate) fn hold_under<const WORDS: usize, P: Parent<WORDS>, C: Subtree<WORDS>
     } else {
         let (part, rest) = next(parent, children, Named::Bus(bus), path);
         part.hold_below(bus, rest, child, item)
+    }
+}
+
+/// How many copies of a child of a bus may leave, of a directory or below it.
+pub(crate) fn leaving_count_under<const WORDS: usize, P: Parent<WORDS>, C: Subtree<WORDS>>(
+    parent: &P,
+    children: &[C],
+    bus: BusNo,
+    path: &[ChildNo],
+    child: ChildNo,
+) -> u32
+    requires leads { Leads (bus_of_number bus) path.now (dir_node (P.state parent.now) (nodes (map C.value children.now))) }
+    requires child { IsChild child (node_at path.now (dir_node (P.state parent.now) (nodes (map C.value children.now)))) }
+    ensures { result ≡ node_leaving_count child (node_at path.now (dir_node (P.state parent.now) (nodes (map C.value children.now)))) }
+{
+    if path.is_empty() {
+        children[child.0 as usize].leaving_count()
+    } else {
+        let (part, rest) = next(parent, children, Named::Bus(bus), path);
+        part.leaving_count_below(bus, rest, child)
     }
 }
 

@@ -8,8 +8,8 @@ ghost use Rattle.ddm_tree.specs.ItemStates.Parts.{node_items};
 
 use crate::below::{
     child_under, children_under, down_len_under, down_under, entry_under, grants_under, hart_under,
-    hold_under, leaf_lengths_under, lengths_under, parked_under, stamp_under, state_under,
-    states_under, turn_under,
+    hold_under, leaf_lengths_under, leaving_count_under, lengths_under, parked_under, stamp_under,
+    state_under, states_under, turn_under,
 };
 use crate::copying::{CopyFrom, copy_children};
 use crate::found::{Found, found_among, own_copy};
@@ -233,6 +233,14 @@ impl<const WORDS: usize, C: Subtree<WORDS>> Subtree<WORDS> for Dir<WORDS, C> {
 
     fn hold_below(&self, bus: BusNo, path: &[ChildNo], child: ChildNo, item: ItemId) -> Hold {
         hold_under(&self.state, &self.children, bus, path, child, item)
+    }
+
+    fn leaving_count(&self) -> u32 {
+        self.state.parked_len()
+    }
+
+    fn leaving_count_below(&self, bus: BusNo, path: &[ChildNo], child: ChildNo) -> u32 {
+        leaving_count_under(&self.state, &self.children, bus, path, child)
     }
 
     fn down_below(&self, bus: BusNo, path: &[ChildNo], place: u32) -> Option<DownEntry<WORDS>> {

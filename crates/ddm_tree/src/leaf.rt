@@ -118,6 +118,15 @@ impl<const WAYS: usize, const WORDS: usize> Subtree<WORDS> for Leaf<WAYS, WORDS>
         Hold::Invalid
     }
 
+    #[inline(always)]
+    fn leaving_count(&self) -> u32 {
+        self.leaving_count()
+    }
+
+    fn leaving_count_below(&self, _bus: BusNo, _path: &[ChildNo], _child: ChildNo) -> u32 {
+        0
+    }
+
     fn down_below(&self, _bus: BusNo, _path: &[ChildNo], _place: u32) -> Option<DownEntry<WORDS>> {
         None
     }

@@ -11,12 +11,12 @@ ghost use Rattle.ddm_tree.specs.TreeModel.Turns.Tree.{leaf_of_number, bus_of_num
 ghost use Rattle.ddm_tree.specs.Machine.{is_part};
 ghost use Rattle.ddm_tree.specs.Rules.{KeepsRules};
 ghost use Rattle.ddm_tree.specs.Ready.{Leads};
-ghost use Rattle.ddm_tree.specs.Reads.{counted_hart_of, down_len_of, entry_at, is_down_request_or_reply, parked_at, state_of};
+ghost use Rattle.ddm_tree.specs.Reads.{counted_hart_of, down_len_of, entry_at, is_down_request_or_reply, leaving_count_of, parked_at, state_of};
 
 use crate::below::{
     child_under, children_under, down_len_under, down_under, entry_under, grants_under, hart_under,
-    hold_under, leaf_lengths_under, lengths_under, parked_under, stamp_under, state_under,
-    states_under,
+    hold_under, leaf_lengths_under, leaving_count_under, lengths_under, parked_under, stamp_under,
+    state_under, states_under,
 };
 use crate::found::{Found, found_among};
 use crate::machine::Machine;
@@ -99,6 +99,15 @@ impl<const WORDS: usize, C: Subtree<WORDS>> Machine<WORDS, C> {
     {
         let path = self.bus_path(bus);
         hold_under(&self.top, &self.children, bus, path, child, item)
+    }
+
+    /// How many copies of a child of a bus may leave.
+    pub fn leaving_count(&self, bus: BusNo, child: ChildNo) -> u32
+        requires { is_child_of child (child_count bus self.now.machine) ≡ true }
+        ensures { Some result ≡ leaving_count_of bus child self.now.machine }
+    {
+        let path = self.bus_path(bus);
+        leaving_count_under(&self.top, &self.children, bus, path, child)
     }
 
     /// The entry that a leaf has of an item, with its words, and where it stands.

@@ -23,7 +23,7 @@ ghost use Rattle.ddm_tree.specs.Judging.{IsJudged, node_broken};
 ghost use Rattle.ddm_tree.specs.Named.{name_of};
 ghost use Rattle.ddm_tree.specs.Quiet.{AreLearnedBelow, IsTouched, KeepsHarts};
 ghost use Rattle.ddm_tree.specs.Ready.{IsAskable, IsReady, Leads, LeadsBelow, HasChild, IsChild, IsItemIn, IsItemOf, IsRuled};
-ghost use Rattle.ddm_tree.specs.Reads.{leaf_count, node_hart, node_entry, node_children, node_child, node_child_hold, node_down, node_down_len, node_grants, node_leaf_lengths, node_lengths, node_parked, node_state, node_states};
+ghost use Rattle.ddm_tree.specs.Reads.{leaf_count, leaving_count, node_hart, node_entry, node_children, node_child, node_child_hold, node_down, node_down_len, node_grants, node_leaf_lengths, node_leaving_count, node_lengths, node_parked, node_state, node_states};
 ghost use Rattle.ddm_tree.specs.Stamps.{node_stamps_fit};
 ghost use Rattle.ddm_tree.specs.ReadBack.{PartRead, section_name};
 ghost use Rattle.ddm_tree.specs.Written.{node_dir_words, node_words};
@@ -164,6 +164,16 @@ pub trait Subtree<const WORDS: usize>: Agent<WORDS> {
         requires child { IsChild child (node_at path.now (Self.value self.now)) }
         requires in_range { IsItemOf child item (node_at path.now (Self.value self.now)) }
         ensures { result ≡ node_child_hold child item (node_at path.now (Self.value self.now)) };
+
+    /// How many of its copies may leave.
+    fn leaving_count(&self) -> u32
+        ensures { result ≡ leaving_count (Self.value self.now) };
+
+    /// How many copies of a child of this bus may leave.
+    fn leaving_count_below(&self, bus: BusNo, path: &[ChildNo], child: ChildNo) -> u32
+        requires leads { LeadsBelow (bus_of_number bus) path.now (Self.value self.now) }
+        requires child { IsChild child (node_at path.now (Self.value self.now)) }
+        ensures { result ≡ node_leaving_count child (node_at path.now (Self.value self.now)) };
 
     /// An entry of the down list over this bus.
     fn down_below(&self, bus: BusNo, path: &[ChildNo], place: u32) -> Option<DownEntry<WORDS>>

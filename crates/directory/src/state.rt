@@ -149,6 +149,13 @@ impl<const WORDS: usize> DirState<WORDS> {
         }
     }
 
+    /// How many copies are parked.
+    pub fn parked_len(&self) -> u32
+        ensures { result ≡ length self.now.parked }
+    {
+        self.parking.len()
+    }
+
     /// The last data or inject of an item in the down list: its place and its words.
     pub fn last_copy(&self, item: ItemId) -> Option<(u32, Words<WORDS>)>
         ensures place { option_map (λ c. c.0) result ≡ down_place item 0 self.now.down }

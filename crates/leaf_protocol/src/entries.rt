@@ -1,9 +1,9 @@
 //! The entries of a leaf, in ways and in the buffer.
 
-ghost use Rattle.std.specs.Prelude.{◌≡◌, ◌++◌, ◌∷◌, ◌%◌, ◌<◌, ◌≤◌, ◌^◌, [], true, false, Option, Some, None, IfOk, IfErr, IfSome, IsSome, is_some, length, map, nat_le, option_map, replicate, unwrap_or};
+ghost use Rattle.std.specs.Prelude.{◌≡◌, ◌++◌, ◌∷◌, ◌%◌, ◌<◌, ◌≤◌, ◌^◌, [], true, false, Option, Some, None, IfOk, IfErr, IfSome, IsSome, is_some, filter, length, map, nat_le, option_map, replicate, unwrap_or};
 ghost use Rattle.leaf_protocol.specs.DdmTypes.declared.sizes.LeafState.TheVariants.{Exclusive};
 ghost use Rattle.leaf_protocol.specs.TreeModel.State.States.{is_reading, is_waiting};
-ghost use Rattle.leaf_protocol.specs.TreeModel.State.Leaf.{LeafEntry, blank, becomes, ends, enters, enters_free, entry_at, entry_state, entry_words, item_in_way, leaf_leaving, spot_at, waiting_item, words_in, buffered};
+ghost use Rattle.leaf_protocol.specs.TreeModel.State.Leaf.{LeafEntry, blank, becomes, ends, enters, enters_free, entry_at, entry_state, entry_words, item_in_way, leaf_leaving, may_leave_buffer, spot_at, waiting_item, words_in, buffered};
 ghost use Rattle.leaf_protocol.specs.TreeModel.State.Child.{buffer_words};
 ghost use Rattle.leaf_protocol.specs.TreeModel.Start.Nodes.{or_each};
 ghost use Rattle.leaf_protocol.specs.Entries.{cleared, cleared_if, lowest_way, may_be, standing_place, waits_now, waiting_after, way_to_take, with_fate, with_mark};
@@ -132,6 +132,13 @@ impl<const WAYS: usize, const WORDS: usize> Entries<WAYS, WORDS> {
         ensures { result ≡ length self.now.buffer }
     {
         self.buffer.len()
+    }
+
+    /// How many entries of the buffer may leave.
+    pub fn leaving_count(&self) -> u32
+        ensures { result ≡ length (filter may_leave_buffer self.now.buffer) }
+    {
+        self.buffer.leaving()
     }
 
     /// How many entries there may be in the buffer.

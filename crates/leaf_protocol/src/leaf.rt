@@ -1,7 +1,7 @@
 //! The type of a leaf.
 
-ghost use Rattle.std.specs.Prelude.{◌≡◌, ◌%◌, ◌+◌, ◌*◌, ◌<◌, ◌≤◌, ◌^◌, Some, None, IfOk, IfErr, is_some, length, map, option_map, slice_get};
-ghost use Rattle.leaf_protocol.specs.TreeModel.State.Leaf.{free_way, leaf_entry, spot_at, state_at, waiting_item};
+ghost use Rattle.std.specs.Prelude.{◌≡◌, ◌%◌, ◌+◌, ◌*◌, ◌<◌, ◌≤◌, ◌^◌, Some, None, IfOk, IfErr, filter, is_some, length, map, option_map, slice_get};
+ghost use Rattle.leaf_protocol.specs.TreeModel.State.Leaf.{free_way, leaf_entry, may_leave_buffer, spot_at, state_at, waiting_item};
 ghost use Rattle.leaf_protocol.specs.TreeModel.State.Lengths.{leaf_lengths};
 ghost use Rattle.leaf_protocol.specs.TreeModel.Start.Nodes.{leaf_sizes, new_leaf, or_each, placed};
 ghost use Rattle.leaf_protocol.specs.Leaf.{state_and_words};
@@ -124,6 +124,13 @@ impl<const WAYS: usize, const WORDS: usize> Leaf<WAYS, WORDS> {
             replies: self.replies.len(),
             buffer: self.entries.buffer_len(),
         }
+    }
+
+    /// How many of its copies may leave.
+    pub fn leaving_count(&self) -> u32
+        ensures { result ≡ length (filter may_leave_buffer self.now.buffer) }
+    {
+        self.entries.leaving_count()
     }
 
     /// Marks the items that stand in its ways, before the run. Those in its buffer aren't marked.

@@ -129,6 +129,14 @@ impl<const WORDS: usize> Buffer<WORDS> {
         self.entries.len() as u32
     }
 
+    /// How many entries may leave.
+    #[tactic(auto, using(crate::proofs::Once::fewer))]
+    pub fn leaving(&self) -> u32
+        ensures { result ≡ length (filter (λ e. may_leave e.state) self.now.list) }
+    {
+        count_free(&self.entries) as u32
+    }
+
     /// How many entries there may be.
     pub fn capacity(&self) -> u32
         ensures { result ≡ self.now.capacity }

@@ -118,6 +118,13 @@ impl<const WORDS: usize> Parking<WORDS> {
         self.entries.capacity() as u32
     }
 
+    /// How many copies there are.
+    pub fn len(&self) -> u32
+        ensures { result ≡ length self.now.list }
+    {
+        self.entries.len() as u32
+    }
+
     /// How many places have a copy or are reserved.
     pub fn used(&self) -> u32
         ensures { result ≡ length self.now.list + self.now.reserved }

@@ -1,5 +1,6 @@
 //! What this crate and those above it name of `ddm_types`.
 
 pub use cluster::of_ddm_types::{
-    BusNo, HartNo, ItemId, Items, LeafNo, LeafState, NoMemory, TreeCounts, Turn, TxKind, Words,
+    BusNo, ChildNo, HartNo, ItemId, Items, LeafNo, LeafState, NoMemory, TreeCounts, Turn, TxKind,
+    Words,
 };
