@@ -1,3 +1,8 @@
+pub mod AnyRuns
+pub mod DdmTree
+pub mod InspectorCrate
+pub mod ReportCrate
+pub mod StartParts
 pub mod Named
 pub mod Listed
 pub mod Harts
