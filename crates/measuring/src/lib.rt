@@ -1,5 +1,5 @@
-//! The run of a seed that is measured, on a machine of any tree: what its turns answer is counted as it goes, in memory that doesn't grow
-//! with their number.
+//! The run of a seed that is measured, on a machine of any tree: what its turns answer is counted as it goes, in memory
+//! that doesn't grow with their number.
 #![tactic(auto)]
 
 mod counting;

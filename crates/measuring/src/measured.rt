@@ -19,8 +19,8 @@ use std::alloc::Global;
 /// So many turns of a seed are drawn at most.
 const DRAWN_LIMIT: u32 = 4_294_967_294;
 
-/// The text of the measured run of a seed on a machine at its start, of which `most` turns may be recorded. The memory doesn't grow with
-/// the run.
+/// The text of the measured run of a seed on a machine at its start, of which `most` turns may be recorded. The memory
+/// doesn't grow with the run.
 pub fn measure_text(
     alloc: Global,
     shape: &Shape,

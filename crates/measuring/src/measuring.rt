@@ -92,8 +92,8 @@ fn measure_turns<const WORDS: usize, C: Subtree<WORDS>>(
     }
 }
 
-// The same of a machine whose directories under bus 0 are over these children: a check of three types within one another is beyond
-// its limits.
+// The same of a machine whose directories under bus 0 are over these children: a check of three types within one
+// another is beyond its limits.
 fn measure_over<const WORDS: usize, C: Subtree<WORDS>>(
     machine: &mut Machine<WORDS, Dir<WORDS, C>>,
     draws: &mut SeedDraws,

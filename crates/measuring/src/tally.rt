@@ -46,7 +46,8 @@ const NO_ITEM_COUNTS: ItemCounts = ItemCounts {
     injects: 0,
 };
 
-/// What is counted of a run so far, and the greatest lengths so far: of each hart or leaf, each bus and each item by its number.
+/// What is counted of a run so far, and the greatest lengths so far: of each hart or leaf, each bus and each item by
+/// its number.
 #[derive(Drop)]
 pub(crate) struct Tally {
     pub(crate) totals: RunTotals,
