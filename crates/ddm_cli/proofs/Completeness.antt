@@ -18,11 +18,11 @@ use Rattle.ddm_cli.specs.TextModel.declared.ScheduleRefusal.{ScheduleRefusal}
 use Rattle.ddm_cli.specs.Causes.{HasNoSetting, HasSmallList, IsRefused, IsUnloaded, IsUnresumed, IsUnscheduled, IsUnstarted}
 use Rattle.witness_check.specs.Start.{Setting, check_of, judged}
 use Rattle.witness_check.specs.declared.refusal.CheckRefusal.{CheckRefusal}
-use Rattle.ddm_cli.specs.Commands.{Check, Command, Recorded, Resumption, Run, Seeds, Survey, to_run, to_list, to_check, to_resume, to_survey, to_record, to_survey_runs, to_join, to_say, first_run, recorded_run, surveyed_run}
+use Rattle.ddm_cli.specs.Commands.{Check, Command, Recorded, Resumption, Run, Seeds, Survey, to_run, to_list, to_check, to_resume, to_survey, to_record, to_measure, to_survey_runs, to_join, to_say, first_run, recorded_run, surveyed_run}
 use Rattle.ddm_cli.specs.Lists.{list_refused}
 use Rattle.ddm_cli.specs.Parts.{Parts, if_judged, if_large, if_started, items_of, parts_for, parts_in, parts_of, resumed_at, setting_at, setting_in, tree_at, turns_at, turns_of}
 use Rattle.ddm_cli.specs.Told.{ScheduleGiven, written, seeded, image_told, schedule_told}
-use Rattle.ddm_cli.specs.Top.{Both, command_text, list_of, outcomes_at, record_at, rest_with, resumed_text, resumed_with, survey_at, text_of, text_with, verdict_in, verdict_of, IsJudged, StatusHasCause, Completes, NoRest, NoRun, NotAccepted, NothingFailed, NoVerdict, RefusesImage, WithParts, WithResumed}
+use Rattle.ddm_cli.specs.Top.{Both, command_text, list_of, measure_at, outcomes_at, record_at, rest_with, resumed_text, resumed_with, survey_at, text_of, text_with, verdict_in, verdict_of, IsJudged, StatusHasCause, Completes, NoRest, NoRun, NotAccepted, NothingFailed, NoVerdict, RefusesImage, WithParts, WithResumed}
 use Rattle.ddm_cli.proofs.Joins.{join_refused}
 use Rattle.ddm_cli.proofs.Settings.{start_refused}
 use Rattle.ddm_cli.specs.declared.command.Prints.{Prints}
@@ -405,7 +405,16 @@ module _ {F K : Type 0} (told : F → List ℕ → Option (List ℕ)) (faults : 
         let said = first_said (told files r.tree) (told files r.image) r.seed r.turns tree.0 image.0 run.0 tree.1 image.1 run.1 in
         run_refused Report (recorded_run r) run.0 said (calm.0, calm.1, λ rose. omega (arith, rose))
 
-    -- and so where there are recorded runs of many seeds
+    -- and so where one is measured
+    measure_refused : (r : Recorded) (text : List ℕ) → command_text (told files) (to_measure r) ≡ Some text → NothingFailed told faults files files' (to_measure r) → (s : Status) → NoRun told faults files files' Report s (recorded_run r) → s ≡ NoMemory
+    measure_refused r text has calm =
+        let tree = and_then_some (told files r.tree) _ text has in
+        let image = and_then_some (told files r.image) _ text tree.2 in
+        let run = first_text (measure_at r) r.seed r.turns tree.0 image.0 text image.2 in
+        let said = first_said (told files r.tree) (told files r.image) r.seed r.turns tree.0 image.0 run.0 tree.1 image.1 run.1 in
+        run_refused Report (recorded_run r) run.0 said (calm.0, calm.1, λ rose. omega (arith, rose))
+
+    -- and where there are recorded runs of many seeds
     ends_refused : (o : Survey) (text : List ℕ) → command_text (told files) (to_survey_runs o) ≡ Some text → NothingFailed told faults files files' (to_survey_runs o) → (s : Status) → NoRun told faults files files' Report s (surveyed_run o) → s ≡ NoMemory
     ends_refused o text has calm =
         let tree = and_then_some (told files o.tree) _ text has in
@@ -421,6 +430,7 @@ module _ {F K : Type 0} (told : F → List ℕ → Option (List ℕ)) (faults : 
     command_refused (to_resume r) text has calm = rest_refused r text has calm
     command_refused (to_survey o) text has calm = survey_refused o text has calm
     command_refused (to_record r) text has calm = record_refused r text has calm
+    command_refused (to_measure r) text has calm = measure_refused r text has calm
     command_refused (to_survey_runs o) text has calm = ends_refused o text has calm
     command_refused (to_join names) text has calm = join_refused told faults files files' names text has calm
     command_refused (to_say a) text has calm = λ s refused. absurd refused

@@ -37,6 +37,7 @@ pub mod Verdicts
 pub mod RunsInPieces
 pub mod Surveys
 pub mod Records
+pub mod Measures
 pub mod RunSurveys
 pub mod Listed
 pub mod AcceptedParts

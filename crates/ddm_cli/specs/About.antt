@@ -33,11 +33,12 @@ named_text = lines_of (
     codes "  ddm save IMAGE TREE SCHEDULE > CHECKPOINT" ∷
     codes "" ∷
     codes "SEED and FIRST have 64 bits. TURNS is 0 to 1048576, and no schedule has more;" ∷
-    codes "ROUNDS is 1 to 50000, COUNT 1 to 1000000, VICTIM and CHOICE 0 to 255. A tree" ∷
-    codes "has 4 levels of buses at most, 16 nodes under a bus and 64 leaves. ways is 1, 2" ∷
-    codes "or 4; sets, down, requests and replies are 1 to 4096, buffer 1 to 16, parking" ∷
-    codes "1 to 64. stack_base is a multiple of 16, 4294967280 at most, and so is" ∷
-    codes "stack_bytes, 1048576 at most. item_bytes is 64, or 16, as where it is missing." ∷
+    codes "of measure it is 0 to 1000000000. ROUNDS is 1 to 50000, COUNT 1 to 1000000," ∷
+    codes "VICTIM and CHOICE 0 to 255. A tree has 4 levels of buses at most, 16 nodes" ∷
+    codes "under a bus and 64 leaves. ways is 1, 2 or 4; sets, down, requests and replies" ∷
+    codes "are 1 to 4096, buffer 1 to 16, parking 1 to 64. stack_base is a multiple of 16," ∷
+    codes "4294967280 at most, and so is stack_bytes, 1048576 at most. item_bytes is 64," ∷
+    codes "or 16, as where it is missing." ∷
     [])
 
 -- each line of a fault, and what to do
@@ -155,6 +156,8 @@ help_text = lines_of (
     codes "                                   what the runs of many seeds come to" ∷
     codes "  ddm record IMAGE TREE KIND SEED TURNS" ∷
     codes "                                   the schedule of the turns of a seed that do something" ∷
+    codes "  ddm measure IMAGE TREE KIND SEED TURNS" ∷
+    codes "                                   what such a run is measured by" ∷
     codes "  ddm survey IMAGE TREE KIND FIRST COUNT TURNS" ∷
     codes "                                   what the recorded runs of many seeds come to" ∷
     codes "  ddm join TABLE TABLE ..          the table of all runs of several tables" ∷
@@ -234,6 +237,13 @@ own_text about.Record = lines_of (
     codes "until there are TURNS of them, every hart has halted, or 16777216 turns in a" ∷
     codes "row did nothing. KIND is even, or skewed: each turn of the tree has a rate of" ∷
     codes "the seed's." ∷
+    [])
+own_text about.Measure = lines_of (
+    codes "ddm measure IMAGE TREE KIND SEED TURNS" ∷
+    codes "Makes the turns of a seed as record does, and prints what the run came to: how" ∷
+    codes "it ended, and how many turns did what; of each hart its loads and stores, its" ∷
+    codes "misses and upgrades; of each bus its traffic; how long each list was at most;" ∷
+    codes "and of each item how often it was missed and moved." ∷
     [])
 own_text about.Survey = lines_of (
     codes "ddm survey IMAGE TREE KIND FIRST COUNT TURNS" ∷

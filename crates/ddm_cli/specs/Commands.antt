@@ -59,7 +59,7 @@ pub record Seeds : Type 0 where
   pub count : ℕ
   pub turns : ℕ
 
--- whose recorded run is written: the files of an image and of a tree, the kind of the seed and the seed, and how many turns may be
+-- whose recorded run is written or measured: the files of an image and of a tree, the kind of the seed and the seed, and how many turns may be
 -- recorded
 pub record Recorded : Type 0 where
   pub image : List ℕ
@@ -91,6 +91,8 @@ pub data Command : Type 0 where
   to_survey : Seeds → Command
   -- to write a recorded run
   to_record : Recorded → Command
+  -- to measure one
+  to_measure : Recorded → Command
   -- to count the ends of the recorded runs of many seeds
   to_survey_runs : Survey → Command
   -- to put the tables of these files together
@@ -139,6 +141,7 @@ IsInRange (to_check c) = Unit {0}
 IsInRange (to_resume r) = Unit {0}
 IsInRange (to_survey s) = (1 ≤ s.count) × (s.count ≤ 1000000) × (s.first + s.count ≤ 18446744073709551616) × (s.turns ≤ 1048576)
 IsInRange (to_record r) = r.turns ≤ 1048576
+IsInRange (to_measure r) = r.turns ≤ 1000000000
 IsInRange (to_survey_runs s) = (1 ≤ s.count) × (s.count ≤ 1000000) × (s.first + s.count ≤ 18446744073709551616) × (s.turns ≤ 1048576)
 IsInRange (to_join names) = (2 ≤ length names) × (length names ≤ 256)
 IsInRange (to_say a) = Unit {0}
@@ -226,6 +229,12 @@ seed_record words =
     word_at words 1 (λ image. word_at words 2 (λ tree. kind_at words 3 (λ kind. seed_at words 4 (λ seed. count_at words 5 (λ turns.
     ends_at words 6 (to_record (recorded_value image tree kind seed turns)))))))
 
+-- measure IMAGE TREE KIND SEED TURNS
+unfoldable pub seed_measure : List (List ℕ) → Result Command ℕ
+seed_measure words =
+    word_at words 1 (λ image. word_at words 2 (λ tree. kind_at words 3 (λ kind. seed_at words 4 (λ seed. number_at words 5 0 1000000000 (λ turns.
+    ends_at words 6 (to_measure (recorded_value image tree kind seed turns)))))))
+
 -- survey IMAGE TREE KIND FIRST COUNT TURNS
 unfoldable pub runs_survey : List (List ℕ) → Result Command ℕ
 runs_survey words =
@@ -253,9 +262,10 @@ about_named name =
     else (if bytes_eq name (codes "resume") then Some about.Resume
     else (if bytes_eq name (codes "outcomes") then Some about.Outcomes
     else (if bytes_eq name (codes "record") then Some about.Record
+    else (if bytes_eq name (codes "measure") then Some about.Measure
     else (if bytes_eq name (codes "survey") then Some about.Survey
     else (if bytes_eq name (codes "join") then Some about.Join
-    else None))))))))))))
+    else None)))))))))))))
 
 -- help COMMAND
 unfoldable pub help_said : List (List ℕ) → Result Command ℕ
@@ -274,12 +284,13 @@ named_command words name =
     else (if bytes_eq name (codes "resume") then file_resume words
     else (if bytes_eq name (codes "outcomes") then seeds_survey words
     else (if bytes_eq name (codes "record") then seed_record words
+    else (if bytes_eq name (codes "measure") then seed_measure words
     else (if bytes_eq name (codes "survey") then runs_survey words
     else (if bytes_eq name (codes "join") then tables_named words
     else (if bytes_eq name (codes "help") then help_said words
     else (if bytes_eq name (codes "--help") then ends_at words 1 (to_say about.Help)
     else (if bytes_eq name (codes "--version") then ends_at words 1 (to_say about.Version)
-    else Err 0)))))))))))))))
+    else Err 0))))))))))))))))
 
 -- ---- words that ask for help, and are just these
 

@@ -9,6 +9,7 @@ pub mod ElfLoad
 pub mod FileLaws
 pub mod JamLaws
 pub mod MadeImage
+pub mod MeasureModel
 pub mod OutcomeModel
 pub mod RecordingCrate
 pub mod ReportCrate

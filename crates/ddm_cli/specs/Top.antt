@@ -31,7 +31,8 @@ use Rattle.ddm_cli.specs.OutcomeModel.FlatOutcome.{IsLegalOutcome}
 use Rattle.ddm_cli.specs.OutcomeModel.Outcomes.{outcome_table, outcomes_text}
 use Rattle.ddm_cli.specs.OutcomeModel.Table.{OutcomeLine}
 use Rattle.ddm_cli.specs.RecordingModel.Recording.{record_text, recording_of}
-use Rattle.ddm_cli.specs.Commands.{Check, Command, ImageFrom, Recorded, Resumption, Run, Seeds, Survey, TurnsFrom, to_run, to_list, to_check, to_resume, to_survey, to_record, to_survey_runs, to_join, to_say, command_of, first_run, recorded_run, surveyed_run}
+use Rattle.ddm_cli.specs.MeasureModel.Text.{measure_text}
+use Rattle.ddm_cli.specs.Commands.{Check, Command, ImageFrom, Recorded, Resumption, Run, Seeds, Survey, TurnsFrom, to_run, to_list, to_check, to_resume, to_survey, to_record, to_measure, to_survey_runs, to_join, to_say, command_of, first_run, recorded_run, surveyed_run}
 use Rattle.ddm_cli.specs.SurveyModel.Laws.{IsLegalEnd}
 use Rattle.ddm_cli.specs.SurveyModel.Survey.{survey_table, survey_text}
 use Rattle.ddm_cli.specs.Parts.{Parts, parts_for, parts_of, resumed_at, setting_at, tree_at, turns_at, turns_of}
@@ -100,6 +101,13 @@ record_at r p = record_text r.kind (shape_view p.tree.levels) r.seed r.turns (st
 abbrev pub record_of : Recorded → List ℕ → List ℕ → Option (List ℕ)
 record_of r tree image = option_map (record_at r) (parts_of tree image)
 
+-- what it is measured by
+unfoldable pub measure_at : Recorded → Parts → List ℕ
+measure_at r p = measure_text r.kind (shape_view p.tree.levels) r.seed r.turns (start_machine p.tree p.image)
+
+abbrev pub measure_of : Recorded → List ℕ → List ℕ → Option (List ℕ)
+measure_of r tree image = option_map (measure_at r) (parts_of tree image)
+
 -- the ends of the recorded runs of seeds of that machine
 unfoldable pub survey_at : Survey → Parts → List ℕ
 survey_at s p = survey_text s.kind (shape_view p.tree.levels) s.turns (start_machine p.tree p.image) s.first s.count
@@ -119,6 +127,7 @@ command_text told (to_resume r) =
     option_and_then (resumed_text tree image checkpoint) (told r.schedule)) (told r.checkpoint)) (told r.image)) (told r.tree)
 command_text told (to_survey s) = option_and_then (λ tree. option_and_then (outcomes_of s tree) (told s.image)) (told s.tree)
 command_text told (to_record r) = option_and_then (λ tree. option_and_then (record_of r tree) (told r.image)) (told r.tree)
+command_text told (to_measure r) = option_and_then (λ tree. option_and_then (measure_of r tree) (told r.image)) (told r.tree)
 command_text told (to_survey_runs s) = option_and_then (λ tree. option_and_then (survey_of s tree) (told s.image)) (told s.tree)
 command_text told (to_join names) = option_and_then (λ files. result_ok (joined_text files)) (files_told told names)
 command_text told (to_say a) = Some (about_text a)
@@ -255,6 +264,8 @@ module _ {F : Type 0} (told : F → List ℕ → Option (List ℕ)) where
       AcceptsParts Report (told files s.tree) (told files s.image) × Both (told files s.tree) (told files s.image) (λ t i. outcomes_of s t i ≡ Some text)
   HasAccepted files text (to_record r) =
       AcceptsParts Report (told files r.tree) (told files r.image) × Both (told files r.tree) (told files r.image) (λ t i. record_of r t i ≡ Some text)
+  HasAccepted files text (to_measure r) =
+      AcceptsParts Report (told files r.tree) (told files r.image) × Both (told files r.tree) (told files r.image) (λ t i. measure_of r t i ≡ Some text)
   HasAccepted files text (to_survey_runs s) =
       AcceptsParts Report (told files s.tree) (told files s.image) × Both (told files s.tree) (told files s.image) (λ t i. survey_of s t i ≡ Some text)
   HasAccepted files text (to_join names) = IfSome (files_told (told files) names) (λ tables. joined_text tables ≡ Ok text)
@@ -277,6 +288,7 @@ module _ {F : Type 0} (told : F → List ℕ → Option (List ℕ)) where
   IsInOrder files (to_resume r) = RestInOrder (told files r.tree) (told files r.image) (told files r.checkpoint) (told files r.schedule)
   IsInOrder files (to_survey s) = Both (told files s.tree) (told files s.image) (λ t i. IfSome (parts_of t i) (OutcomesAreRuns s))
   IsInOrder files (to_record r) = Both (told files r.tree) (told files r.image) (λ t i. IfSome (parts_of t i) (RecordedInOrder r))
+  IsInOrder files (to_measure r) = Both (told files r.tree) (told files r.image) (λ t i. IfSome (parts_of t i) (RecordedInOrder r))
   IsInOrder files (to_survey_runs s) = Both (told files s.tree) (told files s.image) (λ t i. IfSome (parts_of t i) (EndsAreRuns s))
   IsInOrder files (to_join names) = Unit {0}
   IsInOrder files (to_say a) = Unit {0}
@@ -372,6 +384,7 @@ module _ {F : Type 0} (told : F → List ℕ → Option (List ℕ)) where
     NotAccepted s (to_resume r) = NoRest s r
     NotAccepted s (to_survey o) = NoRun Report s (first_run o)
     NotAccepted s (to_record r) = NoRun Report s (recorded_run r)
+    NotAccepted s (to_measure r) = NoRun Report s (recorded_run r)
     NotAccepted s (to_survey_runs n) = NoRun Report s (surveyed_run n)
     NotAccepted s (to_join names) = NoJoin s names
     NotAccepted s (to_say a) = ⊥
@@ -389,6 +402,7 @@ module _ {F : Type 0} (told : F → List ℕ → Option (List ℕ)) where
     NothingFailed (to_resume r) = (¬ FileFailed r.tree) × (¬ FileFailed r.image) × (¬ FileFailed r.checkpoint) × (¬ FileFailed r.schedule)
     NothingFailed (to_survey s) = (¬ FileFailed s.tree) × (¬ FileFailed s.image)
     NothingFailed (to_record r) = (¬ FileFailed r.tree) × (¬ FileFailed r.image)
+    NothingFailed (to_measure r) = (¬ FileFailed r.tree) × (¬ FileFailed r.image)
     NothingFailed (to_survey_runs s) = (¬ FileFailed s.tree) × (¬ FileFailed s.image)
     NothingFailed (to_join names) = AllByRecursion (λ name. ¬ FileFailed name) names
     NothingFailed (to_say a) = Unit {0}

@@ -4,7 +4,7 @@ use Rattle.std.specs.String.{string_bytes}
 use Rattle.ddm_cli.specs.Commands as said
 use Rattle.ddm_cli.specs.declared.command.Check.{Check}
 use Rattle.ddm_cli.specs.declared.command.Command.{Command}
-use Rattle.ddm_cli.specs.declared.command.Command.TheVariants.{Run as ToRun, List as ToList, Check as ToCheck, Resume as ToResume, Outcomes as ToSurvey, Record as ToRecord, Survey as ToSurveyRuns, Join as ToJoin, About as ToSay}
+use Rattle.ddm_cli.specs.declared.command.Command.TheVariants.{Run as ToRun, List as ToList, Check as ToCheck, Resume as ToResume, Outcomes as ToSurvey, Record as ToRecord, Measure as ToMeasure, Survey as ToSurveyRuns, Join as ToJoin, About as ToSay}
 use Rattle.ddm_cli.specs.declared.command.ImageSource.{ImageSource}
 use Rattle.ddm_cli.specs.declared.command.ImageSource.TheVariants.{File as ImageFile, Made}
 use Rattle.ddm_cli.specs.declared.command.Recorded.{Recorded}
@@ -48,6 +48,7 @@ command_from (ToCheck check) = said.to_check (check_from check)
 command_from (ToResume resumption) = said.to_resume (resumption_from resumption)
 command_from (ToSurvey seeds) = said.to_survey (seeds_from seeds)
 command_from (ToRecord recorded) = said.to_record (recorded_from recorded)
+command_from (ToMeasure recorded) = said.to_measure (recorded_from recorded)
 command_from (ToSurveyRuns survey) = said.to_survey_runs (survey_from survey)
 command_from (ToJoin names) = said.to_join (map string_bytes names.now)
 command_from (ToSay about) = said.to_say about

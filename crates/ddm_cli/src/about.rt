@@ -10,7 +10,7 @@ use crate::of_ddm_outside::{Failed, Sink};
 use crate::of_report::write_all;
 
 const HELP: &[u8] =
-    b"ddm runs RV32IA programs on a Data Diffusion Machine; every run is one order of one flat memory.\n\n  ddm run IMAGE TREE SCHEDULE      the report of a run: harts, traffic, items and the witness\n  ddm trace IMAGE TREE SCHEDULE    a line for each turn, and then the report\n  ddm seed IMAGE TREE SEED TURNS   the report of the schedule of a seed\n  ddm schedule TREE SEED TURNS     the schedule of a seed\n  ddm make SEED ROUNDS TREE        the summary of a random program under a seeded schedule\n  ddm check IMAGE TREE WITNESS     whether a witness is one legal run of the flat machine\n  ddm unjam IMAGE TREE SCHEDULE    the turn of a bus that goes on where a leaf waits\n  ddm save IMAGE TREE SCHEDULE     the checkpoint of the machine after a run\n  ddm resume IMAGE TREE CHECKPOINT SCHEDULE\n                                   the report of a run that goes on from a checkpoint\n  ddm outcomes IMAGE TREE FIRST COUNT TURNS\n                                   what the runs of many seeds come to\n  ddm record IMAGE TREE KIND SEED TURNS\n                                   the schedule of the turns of a seed that do something\n  ddm survey IMAGE TREE KIND FIRST COUNT TURNS\n                                   what the recorded runs of many seeds come to\n  ddm join TABLE TABLE ..          the table of all runs of several tables\n  ddm help COMMAND                 more of one of these\n  ddm --help, ddm --version\n";
+    b"ddm runs RV32IA programs on a Data Diffusion Machine; every run is one order of one flat memory.\n\n  ddm run IMAGE TREE SCHEDULE      the report of a run: harts, traffic, items and the witness\n  ddm trace IMAGE TREE SCHEDULE    a line for each turn, and then the report\n  ddm seed IMAGE TREE SEED TURNS   the report of the schedule of a seed\n  ddm schedule TREE SEED TURNS     the schedule of a seed\n  ddm make SEED ROUNDS TREE        the summary of a random program under a seeded schedule\n  ddm check IMAGE TREE WITNESS     whether a witness is one legal run of the flat machine\n  ddm unjam IMAGE TREE SCHEDULE    the turn of a bus that goes on where a leaf waits\n  ddm save IMAGE TREE SCHEDULE     the checkpoint of the machine after a run\n  ddm resume IMAGE TREE CHECKPOINT SCHEDULE\n                                   the report of a run that goes on from a checkpoint\n  ddm outcomes IMAGE TREE FIRST COUNT TURNS\n                                   what the runs of many seeds come to\n  ddm record IMAGE TREE KIND SEED TURNS\n                                   the schedule of the turns of a seed that do something\n  ddm measure IMAGE TREE KIND SEED TURNS\n                                   what such a run is measured by\n  ddm survey IMAGE TREE KIND FIRST COUNT TURNS\n                                   what the recorded runs of many seeds come to\n  ddm join TABLE TABLE ..          the table of all runs of several tables\n  ddm help COMMAND                 more of one of these\n  ddm --help, ddm --version\n";
 
 const VERSION: &[u8] = b"ddm 1\n";
 
@@ -173,6 +173,13 @@ row did nothing. KIND is even, or skewed: each turn of the tree has a rate of
 the seed's.
 ";
 
+const MEASURE: &[u8] = br"ddm measure IMAGE TREE KIND SEED TURNS
+Makes the turns of a seed as record does, and prints what the run came to: how
+it ended, and how many turns did what; of each hart its loads and stores, its
+misses and upgrades; of each bus its traffic; how long each list was at most;
+and of each item how often it was missed and moved.
+";
+
 const SURVEY: &[u8] = br"ddm survey IMAGE TREE KIND FIRST COUNT TURNS
 Makes the runs of COUNT seeds from FIRST on, each as record does, and prints
 each different end: how many seeds gave it, the smallest of these, why the run
@@ -208,11 +215,12 @@ ddm save puts out. An example of each:
   ddm save IMAGE TREE SCHEDULE > CHECKPOINT
 
 SEED and FIRST have 64 bits. TURNS is 0 to 1048576, and no schedule has more;
-ROUNDS is 1 to 50000, COUNT 1 to 1000000, VICTIM and CHOICE 0 to 255. A tree
-has 4 levels of buses at most, 16 nodes under a bus and 64 leaves. ways is 1, 2
-or 4; sets, down, requests and replies are 1 to 4096, buffer 1 to 16, parking
-1 to 64. stack_base is a multiple of 16, 4294967280 at most, and so is
-stack_bytes, 1048576 at most. item_bytes is 64, or 16, as where it is missing.
+of measure it is 0 to 1000000000. ROUNDS is 1 to 50000, COUNT 1 to 1000000,
+VICTIM and CHOICE 0 to 255. A tree has 4 levels of buses at most, 16 nodes
+under a bus and 64 leaves. ways is 1, 2 or 4; sets, down, requests and replies
+are 1 to 4096, buffer 1 to 16, parking 1 to 64. stack_base is a multiple of 16,
+4294967280 at most, and so is stack_bytes, 1048576 at most. item_bytes is 64,
+or 16, as where it is missing.
 "#;
 
 // Each line of a fault, and what to do.
@@ -255,6 +263,7 @@ fn own_text(about: About) -> &'static [u8]
         About::Resume => RESUME,
         About::Outcomes => OUTCOMES,
         About::Record => RECORD,
+        About::Measure => MEASURE,
         About::Survey => SURVEY,
         About::Join => JOIN,
     }
@@ -277,6 +286,7 @@ fn further_text(about: About) -> &'static [u8]
         | About::Resume
         | About::Outcomes
         | About::Record
+        | About::Measure
         | About::Survey
         | About::Join => named_text(),
     }

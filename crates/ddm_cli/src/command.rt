@@ -91,7 +91,7 @@ pub struct Seeds<'a> {
     pub turns: u32,
 }
 
-/// Whose recorded run is written: the machine of the files of an image and of a tree, over the turns of a seed that are let by, of which
+/// Whose recorded run is written or measured: the machine of the files of an image and of a tree, over the turns of a seed that are let by, of which
 /// so many may be recorded.
 #[derive(Clone, Copy)]
 pub struct Recorded<'a> {
@@ -136,6 +136,7 @@ pub enum About {
     Resume,
     Outcomes,
     Record,
+    Measure,
     Survey,
     Join,
 }
@@ -158,6 +159,8 @@ pub enum Command<'a> {
     Outcomes(Seeds<'a>),
     /// The schedule of the turns of a seed that do something.
     Record(Recorded<'a>),
+    /// What the recorded run of a seed is measured by.
+    Measure(Recorded<'a>),
     /// The different ends of the recorded runs of many seeds.
     Survey(Survey<'a>),
     /// The table of all runs of the tables in these files.

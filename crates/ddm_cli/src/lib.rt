@@ -12,6 +12,7 @@ pub mod laws;
 mod limits;
 mod listing;
 mod making;
+mod measured;
 pub mod of_any_machine;
 pub mod of_ddm_outside;
 pub mod of_ddm_text;

@@ -15,6 +15,7 @@ use crate::fault::tell;
 use crate::files::{image_machine, tree_file};
 use crate::joined::write_joined;
 use crate::listing::SchedulePieces;
+use crate::measured::write_measured;
 use crate::of_any_machine::release;
 use crate::of_ddm_outside::{Failed, Shelf, Sink};
 use crate::of_report::write_pieces;
@@ -115,6 +116,7 @@ fn write_command<F: Shelf, K: Sink>(
         Command::Resume(resumption) => write_resumed(alloc, files, out, resumption),
         Command::Outcomes(seeds) => write_outcomes(alloc, files, out, seeds),
         Command::Record(recorded) => write_recorded(alloc, files, out, recorded),
+        Command::Measure(recorded) => write_measured(alloc, files, out, recorded),
         Command::Survey(survey) => write_survey(alloc, files, out, survey),
         Command::Join(names) => write_joined(alloc, files, out, names),
         Command::About(about) => Ok(write_about(out, about)),

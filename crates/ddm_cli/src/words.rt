@@ -2,7 +2,7 @@
 
 ghost use Rattle.std.specs.Prelude.{◌≡◌, ◌≤◌, ◌<◌, ◌*◌, ◌+◌, map, length, Err, IfOk, IfSome, IsOk, MatchResult, None, Ok, Some, option_and_then, slice_get};
 ghost use Rattle.std.specs.String.{string_bytes};
-ghost use Rattle.ddm_cli.specs.Commands.{IsInRange, about_named, command_of, ends_at, file_check, file_resume, file_run, help_alone, help_asked, help_of_two, help_said, help_topic, kind_named, made_run, named_command, number_in, runs_survey, seed_list, seed_record, seed_run, seeds_survey, tables_named, to_say, word_at};
+ghost use Rattle.ddm_cli.specs.Commands.{IsInRange, about_named, command_of, ends_at, file_check, file_resume, file_run, help_alone, help_asked, help_of_two, help_said, help_topic, kind_named, made_run, named_command, number_in, runs_survey, seed_list, seed_measure, seed_record, seed_run, seeds_survey, tables_named, to_say, word_at};
 ghost use Rattle.ddm_cli.specs.Views.{command_from};
 
 use crate::command::{
@@ -13,6 +13,8 @@ use crate::of_ddm_text::read_decimal;
 use outcomes::of_recording::SeedKind;
 
 const MOST_TURNS: u64 = 1_048_576;
+
+const MOST_MEASURED: u64 = 1_000_000_000;
 
 const MOST_ROUNDS: u64 = 50_000;
 
@@ -61,7 +63,7 @@ fn number(words: &[String], k: usize, least: u64, most: u64) -> Result<u64, u32>
 /// A number of at most 32 bits.
 fn small_number(words: &[String], k: usize, least: u64, most: u64) -> Result<u32, u32>
     requires index { k ≤ 6 }
-    requires small { most ≤ 1048576 }
+    requires small { most ≤ 4294967295 }
     ensures is { MatchResult result
         (λ n. option_and_then (number_in least most) (slice_get (map string_bytes words.now) k) ≡ Some n)
         (λ at. (at ≡ k) × (option_and_then (number_in least most) (slice_get (map string_bytes words.now) k) ≡ None)) }
@@ -279,6 +281,31 @@ fn seed_record(words: &[String]) -> Result<Command<'_>, u32>
     }))
 }
 
+/// `measure IMAGE TREE KIND SEED TURNS`.
+#[tactic(auto, unfolding(crate::specs::Commands::seed_measure))]
+fn seed_measure(words: &[String]) -> Result<Command<'_>, u32>
+    ensures is { MatchResult result
+        (λ c. seed_measure (map string_bytes words.now) ≡ Ok (command_from c))
+        (λ k. seed_measure (map string_bytes words.now) ≡ Err k) }
+    ensures range { IfOk result (λ c. IsInRange (command_from c)) }
+{
+    let image = word(words, 1)?;
+    let tree = word(words, 2)?;
+    let kind = kind_at(words, 3)?;
+    let seed = number(words, 4, 0, u64::MAX)?;
+    let turns = small_number(words, 5, 0, MOST_MEASURED)?;
+    if words.len() > 6 {
+        return Err(6);
+    }
+    Ok(Command::Measure(Recorded {
+        image,
+        tree,
+        kind,
+        seed,
+        turns,
+    }))
+}
+
 /// `survey IMAGE TREE KIND FIRST COUNT TURNS`.
 #[tactic(auto, unfolding(crate::specs::Commands::runs_survey))]
 fn runs_survey(words: &[String]) -> Result<Command<'_>, u32>
@@ -342,6 +369,7 @@ fn about_named(name: &str) -> Option<About>
         "resume" => Some(About::Resume),
         "outcomes" => Some(About::Outcomes),
         "record" => Some(About::Record),
+        "measure" => Some(About::Measure),
         "survey" => Some(About::Survey),
         "join" => Some(About::Join),
         _ => None,
@@ -443,6 +471,7 @@ fn named_command(words: &[String]) -> Result<Command<'_>, u32>
         "resume" => file_resume(words),
         "outcomes" => seeds_survey(words),
         "record" => seed_record(words),
+        "measure" => seed_measure(words),
         "survey" => runs_survey(words),
         "join" => tables_named(words),
         "help" => help_said(words),

@@ -6,6 +6,8 @@ mod checkpoints;
 #[cfg(test)]
 mod commands;
 #[cfg(test)]
+mod measures;
+#[cfg(test)]
 mod of_ddm_outside;
 #[cfg(test)]
 mod of_ddm_types;

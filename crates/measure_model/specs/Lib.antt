@@ -1,3 +1,4 @@
+pub mod SurveyModel
 pub mod Counts
 pub mod Lengths
 pub mod Near

@@ -1,3 +1,3 @@
 -- Of `any_runs`, what this crate and those above it name.
-pub use Rattle.recording.proofs.AnyRuns.Forgotten
-pub use Rattle.recording.proofs.AnyRuns.RunMore
+pub use Rattle.measuring.proofs.AnyRuns.Forgotten
+pub use Rattle.measuring.proofs.AnyRuns.RunMore

@@ -14,10 +14,10 @@ use Rattle.outcomes.specs.TextModel.Run.{counts_of}
 use Rattle.outcomes.specs.DdmTree.Machine.{MachineState}
 use Rattle.outcomes.specs.AnyMachine.Any.{machine_state}
 use Rattle.outcomes.specs.AnyMachine.Kind.{kind_of}
-use Rattle.recording.specs.AnyRuns.Run.{CanRun, NameParts, answers_in, ran}
+use Rattle.measuring.specs.AnyRuns.Run.{CanRun, NameParts, answers_in, ran}
 use Rattle.outcomes.specs.AnyMachine.declared.machine.AnyMachine.{AnyMachine}
 use Rattle.outcomes.proofs.StartParts.Names.{run-names}
-use Rattle.recording.proofs.AnyRuns.RunMore.{answers-length}
+use Rattle.measuring.proofs.AnyRuns.RunMore.{answers-length}
 use Rattle.outcomes.specs.TreeModel.State.Shape.{frame_of}
 use Rattle.outcomes.proofs.TreeModel.FrameKept.{run-frame}
 use Rattle.outcomes.specs.Runs.{KeepsRoom}

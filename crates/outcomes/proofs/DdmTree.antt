@@ -1,3 +1,3 @@
 -- Of `ddm_tree`, what this crate and those above it name.
-pub use Rattle.recording.proofs.DdmTree.LeafList
-pub use Rattle.recording.proofs.DdmTree.RulesKept
+pub use Rattle.measuring.proofs.DdmTree.LeafList
+pub use Rattle.measuring.proofs.DdmTree.RulesKept

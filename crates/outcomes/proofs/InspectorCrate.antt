@@ -1,2 +1,2 @@
 -- Of `inspector`, what this crate and those above it name.
-pub use Rattle.recording.proofs.InspectorCrate.OneMore
+pub use Rattle.measuring.proofs.InspectorCrate.OneMore

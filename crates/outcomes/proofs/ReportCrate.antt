@@ -1,2 +1,2 @@
 -- Of `report`, what this crate and those above it name.
-pub use Rattle.report.proofs.Written
+pub use Rattle.measuring.proofs.ReportCrate.Written

@@ -1,4 +1,4 @@
 -- Of `any_machine`, what this crate and those above it name.
-pub use Rattle.recording.specs.AnyMachine.Any
-pub use Rattle.recording.specs.AnyMachine.Kind
-pub use Rattle.recording.specs.AnyMachine.declared
+pub use Rattle.measuring.specs.AnyMachine.Any
+pub use Rattle.measuring.specs.AnyMachine.Kind
+pub use Rattle.measuring.specs.AnyMachine.declared

@@ -1,2 +1,2 @@
 -- Of `any_runs`, what this crate and those above it name.
-pub use Rattle.recording.specs.AnyRuns.Run
+pub use Rattle.measuring.specs.AnyRuns.Run

@@ -1,4 +1,4 @@
 -- Of `ddm_tree`, what this crate and those above it name.
-pub use Rattle.recording.specs.DdmTree.Machine
-pub use Rattle.recording.specs.DdmTree.Reads
-pub use Rattle.recording.specs.DdmTree.Rules
+pub use Rattle.measuring.specs.DdmTree.Machine
+pub use Rattle.measuring.specs.DdmTree.Reads
+pub use Rattle.measuring.specs.DdmTree.Rules

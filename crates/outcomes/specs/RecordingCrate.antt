@@ -1,2 +1,2 @@
 -- Of `recording`, what crates above this one name.
-pub use Rattle.recording.specs.Runs
+pub use Rattle.measuring.specs.RecordingCrate.Runs

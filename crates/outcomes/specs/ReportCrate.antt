@@ -1,4 +1,4 @@
 -- Of `report`, what this crate and those above it name.
-pub use Rattle.report.specs.Appends
-pub use Rattle.report.specs.Roles
-pub use Rattle.report.specs.declared
+pub use Rattle.measuring.specs.ReportCrate.Appends
+pub use Rattle.measuring.specs.ReportCrate.Roles
+pub use Rattle.measuring.specs.ReportCrate.declared

@@ -10,7 +10,7 @@ use Rattle.outcomes.specs.TextModel.Schedule.{ShapeView}
 use Rattle.outcomes.specs.DdmTree.Machine.{MachineState}
 use Rattle.outcomes.specs.AnyMachine.Any.{machine_state}
 use Rattle.outcomes.specs.AnyMachine.Kind.{kind_of}
-use Rattle.recording.specs.AnyRuns.Run.{NameParts}
+use Rattle.measuring.specs.AnyRuns.Run.{NameParts}
 use Rattle.outcome_model.specs.Table.{OutcomeLine}
 use Rattle.outcomes.specs.AnyMachine.declared.machine.AnyMachine.{AnyMachine}
 

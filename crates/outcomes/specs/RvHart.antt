@@ -1,2 +1,2 @@
 -- Of `rv_hart`, what this crate and those above it name.
-pub use Rattle.recording.specs.RvHart.HartState
+pub use Rattle.measuring.specs.RvHart.HartState

@@ -1,2 +1,2 @@
 -- Of `start_parts`, what this crate and those above it name.
-pub use Rattle.recording.specs.StartParts.Parts
+pub use Rattle.measuring.specs.StartParts.Parts

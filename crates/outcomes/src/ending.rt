@@ -9,7 +9,7 @@ ghost use Rattle.outcome_model.specs.Outcome.{end_text, outcome_of};
 use crate::of_any_machine::{AnyMachine, Machines};
 use crate::of_ddm_types::{HaltCause, HartNo, NoMemory};
 use crate::of_operation_list::Operations;
-use report::{push_bytes, push_number, push_output, push_state};
+use measuring::of_report::{push_bytes, push_number, push_output, push_state};
 
 fn have_halted<const WORDS: usize>(machine: &Machines<WORDS>) -> bool
     ensures { result ≡ all_halted (state_in machine.now).machine }

@@ -9,6 +9,7 @@ pub mod of_any_machine;
 pub mod of_ddm_outside;
 pub mod of_ddm_text;
 pub mod of_ddm_types;
+pub mod of_measuring;
 pub mod of_operation_list;
 pub mod of_recording;
 pub mod of_report;

@@ -1,3 +1,3 @@
 //! What this crate and those above it name of `operation_list`.
 
-pub use recording::of_operation_list::Operations;
+pub use measuring::of_operation_list::Operations;

@@ -1,3 +1,3 @@
 //! What this crate and those above it name of `recording`.
 
-pub use recording::{SeedKind, record_text};
+pub use measuring::of_recording::{SeedKind, record_text};

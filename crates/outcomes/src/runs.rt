@@ -5,7 +5,7 @@ ghost use Rattle.outcomes.specs.TreeModel.State.Shape.{frame_of};
 ghost use Rattle.outcomes.specs.TreeModel.Turns.Machine.{run_of};
 ghost use Rattle.outcomes.specs.AnyMachine.Any.{machine_state};
 ghost use Rattle.outcomes.specs.AnyMachine.Kind.{kind_of};
-ghost use Rattle.recording.specs.AnyRuns.Run.{CanRun, NameParts};
+ghost use Rattle.measuring.specs.AnyRuns.Run.{CanRun, NameParts};
 ghost use Rattle.schedule_log.specs.Shapes.{shape_view};
 ghost use Rattle.outcome_model.specs.Outcome.{outcome_of, seed_outcome};
 ghost use Rattle.outcome_model.specs.Outcomes.{outcome_table};
@@ -19,7 +19,7 @@ use crate::of_any_machine::AnyMachine;
 use crate::of_ddm_types::{BusNo, NoMemory, Turn};
 use crate::of_tree_config::Shape;
 use crate::ordering::in_order;
-use recording::of_any_runs::{copy_from, reserve, run_spared};
+use measuring::of_any_runs::{copy_from, reserve, run_spared};
 use schedule_log::SeededTurns;
 use std::alloc::Global;
 

@@ -7,7 +7,7 @@ ghost use Rattle.outcome_model.specs.Outcome.{outcome_of};
 ghost use Rattle.outcome_model.specs.Table.{counted};
 ghost use Rattle.recording_model.specs.Recording.{recording_of};
 ghost use Rattle.survey_model.specs.Survey.{end_word, seed_end, survey_table, worded};
-ghost use Rattle.recording.specs.Runs.{CanBegin, IsStart};
+ghost use Rattle.measuring.specs.RecordingCrate.Runs.{CanBegin, IsStart};
 ghost use Rattle.outcomes.specs.Runs.{AreFew, IsTwin};
 
 use crate::counting::count_outcome;
@@ -17,9 +17,9 @@ use crate::of_any_machine::AnyMachine;
 use crate::of_ddm_types::{NoMemory, Turn};
 use crate::of_tree_config::Shape;
 use crate::ordering::in_order;
-use recording::of_any_runs::{copy_from, reserve};
-use recording::{Recorder, RunEnd, SeedKind};
-use report::push_bytes;
+use measuring::of_any_runs::{copy_from, reserve};
+use measuring::of_recording::{Recorder, RunEnd, SeedKind};
+use measuring::of_report::push_bytes;
 use std::alloc::Global;
 
 /// What recorded runs take of memory besides their machine: that of their draws, their turns, and the text of what one came to.

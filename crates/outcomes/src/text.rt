@@ -8,7 +8,7 @@ ghost use Rattle.survey_model.specs.Survey.{table_text as survey_table_text};
 use crate::line::OutcomeLine;
 use crate::of_ddm_text::push_decimal;
 use crate::of_ddm_types::NoMemory;
-use report::push_bytes;
+use measuring::of_report::push_bytes;
 
 // The line of an outcome.
 #[tactic(auto, unfolding(outcome_model::specs::Table::line_text))]

@@ -1,7 +1,7 @@
 -- What is kept of the harts that have halted, after a turn; and which turns may be passed.
 -- Letters: t is a turn, m a machine, a an answer, v a leaf, k its number, h its hart.
-use Rattle.std.proofs.Common.{◌≡◌, ◌∙◌, ◌≤◌, ◌<◌, ℕ, zero, suc, ◌+◌, Bool, true, false, not, ◌&&◌, ◌||◌, Option, None, List, [], ◌∷◌, ◌++◌, map, length, take, Some, refl, sym, ap, subst, if◌then◌else◌, arith}
-use Rattle.std.specs.Prelude.{IfSome, is_some, slice_get, slice_index_or, slice_set}
+use Rattle.std.proofs.Common.{◌≡◌, ◌∙◌, ◌≤◌, ◌<◌, ℕ, zero, suc, ◌+◌, Bool, true, false, ◌&&◌, List, [], ◌∷◌, ◌++◌, map, length, take, Some, refl, sym, ap, subst, if◌then◌else◌, arith}
+use Rattle.std.specs.Prelude.{is_some, slice_get, slice_index_or, slice_set}
 use Rattle.std.proofs.lemmas.List.{length-map, take_all, take_more, take_more_set}
 use Rattle.ddm_types.specs.declared.answers.TurnAnswer.{TurnAnswer}
 use Rattle.ddm_types.specs.declared.turns.Turn.{Turn}
@@ -11,16 +11,16 @@ use Rattle.tree_model.specs.State.Values.{LeafValue, MachineValue}
 use Rattle.tree_model.specs.Turns.Machine.{machine_leaves, turn_of}
 use Rattle.tree_model.proofs.FrameKept.{turn-frame}
 use Rattle.any_runs.specs.DdmTree.Machine.{spare_after}
-use Rattle.any_runs.specs.DdmTree.Quiet.{is_hart_turn, passed_as}
 use Rattle.any_runs.specs.DdmTree.Reads.{counted_hart_of}
 use Rattle.any_runs.specs.RvHart.HartState.{HartState}
 use Rattle.any_runs.proofs.DdmTree.LeafList.{leaf-listed, leaves-counted}
 use Rattle.outcome_model.specs.Halted.{all_halted, has_halted}
 use Rattle.recording_model.specs.Doing.{does_by, does_something, had_halted, is_halted}
 use Rattle.recording_model.specs.LetBy.{Draw}
-use Rattle.recording_model.specs.Recording.{after_draw}
+use Rattle.recording_model.specs.Recording.{after_draw, draw_does}
 use Rattle.recording_model.proofs.Doing.{turn-rests}
-use Rattle.recording.specs.Runs.{AreHalted, does_halt, flag_of, flags_of}
+use Rattle.recording.specs.declared.making.Came.{Came}
+use Rattle.recording.specs.Runs.{AreHalted, came_by, came_to, does_halt, flag_of, flags_of, is_done}
 use Rattle.recording.proofs.Flags.{all-flags, all_set, turn-flags}
 
 -- ---- one hart of the list
@@ -112,40 +112,44 @@ module _ (t : Turn) (m : MachineValue) (flags : List Bool) (all : Bool) (are : A
   pub still-halted : does_halt (turn_of t m).answer (had_halted t m) ≡ false → AreHalted flags all (turn_of t m).machine
   still-halted = by_answer (turn_of t m).answer refl
 
--- ---- a turn that is passed, or that takes room
-
-pub passed-rests : (a : TurnAnswer) (halted hart busy : Bool) → (halted || not hart) ≡ true → passed_as a ≡ Some busy → (hart ≡ false → a ≡ TurnAnswer.Empty) → does_by a halted ≡ false
-passed-rests (TurnAnswer.Retired op) halted hart busy may is empty = cc
-passed-rests (TurnAnswer.Issued kind x) halted hart busy may is empty = cc
-passed-rests (TurnAnswer.Waiting x) halted hart busy may is empty = refl
-passed-rests (TurnAnswer.Halted cause) true hart busy may is empty = refl
-passed-rests (TurnAnswer.Halted cause) false true busy may is empty = cc
-passed-rests (TurnAnswer.Halted cause) false false busy may is empty = let wrong = empty refl in cc
-passed-rests (TurnAnswer.Granted entry) halted hart busy may is empty = cc
-passed-rests TurnAnswer.Empty halted hart busy may is empty = refl
-passed-rests (TurnAnswer.Busy cause) halted hart busy may is empty = refl
-
-pub passed : (t : Turn) (m : MachineValue) (halted : Bool) (o : Option Bool) → (halted || not (is_hart_turn t)) ≡ true → is_some o ≡ true → IfSome o (λ busy. passed_as (turn_of t m).answer ≡ Some busy)
-    → IfSome o (λ busy. is_hart_turn t ≡ false → (turn_of t m).answer ≡ TurnAnswer.Empty) → does_by (turn_of t m).answer halted ≡ false
-passed t m halted None may some counted empty = cc
-passed t m halted (Some busy) may some counted empty = passed-rests (turn_of t m).answer halted (is_hart_turn t) busy may counted empty
+-- ---- what a turn comes to, and the room that it takes
 
 -- a turn that halts its hart does something
-pub halting-does : (a : TurnAnswer) (halted : Bool) → does_halt a halted ≡ true → does_by a halted ≡ true
+pub halting-does : (a : TurnAnswer) (halted : Bool) → does_halt a halted ≡ true → came_by a halted ≡ Came.ToDoing
 halting-does (TurnAnswer.Retired op) halted is = refl
 halting-does (TurnAnswer.Issued kind x) halted is = refl
-halting-does (TurnAnswer.Waiting x) halted is = is
-halting-does (TurnAnswer.Halted cause) halted is = is
+halting-does (TurnAnswer.Waiting x) halted is = cc
+halting-does (TurnAnswer.Halted cause) true is = cc
+halting-does (TurnAnswer.Halted cause) false is = refl
 halting-does (TurnAnswer.Granted entry) halted is = refl
-halting-does TurnAnswer.Empty halted is = is
-halting-does (TurnAnswer.Busy cause) halted is = is
+halting-does TurnAnswer.Empty halted is = cc
+halting-does (TurnAnswer.Busy cause) halted is = cc
+
+-- what comes to doing does something, and nothing else does
+pub done-does : (a : TurnAnswer) (halted : Bool) → is_done (came_by a halted) ≡ does_by a halted
+done-does (TurnAnswer.Retired op) halted = refl
+done-does (TurnAnswer.Issued kind x) halted = refl
+done-does (TurnAnswer.Waiting x) halted = refl
+done-does (TurnAnswer.Halted cause) true = refl
+done-does (TurnAnswer.Halted cause) false = refl
+done-does (TurnAnswer.Granted entry) halted = refl
+done-does TurnAnswer.Empty halted = refl
+done-does (TurnAnswer.Busy cause) halted = refl
+
+pub draw-done : (d : Draw) (m : MachineValue) → is_done (came_to d m) ≡ draw_does d m
+unfolding does_something
+draw-done d m = by_let d.let_by where
+  by_let : (by : Bool) → is_done (if by then came_by (turn_of d.turn m).answer (had_halted d.turn m) else Came.ToNothing) ≡ (by && does_by (turn_of d.turn m).answer (had_halted d.turn m))
+  by_let true = done-does (turn_of d.turn m).answer (had_halted d.turn m)
+  by_let false = refl
 
 -- a turn that does nothing takes no room, and any other that of one operation at most
-pub spare-falls : (a : TurnAnswer) (halted : Bool) (n : ℕ) → n ≤ spare_after a n + (if does_by a halted then 1 else 0)
+pub spare-falls : (a : TurnAnswer) (halted : Bool) (n : ℕ) → n ≤ spare_after a n + (if is_done (came_by a halted) then 1 else 0)
 spare-falls (TurnAnswer.Retired op) halted n = omega arith
 spare-falls (TurnAnswer.Issued kind x) halted n = omega arith
 spare-falls (TurnAnswer.Waiting x) halted n = omega arith
-spare-falls (TurnAnswer.Halted cause) halted n = omega arith
+spare-falls (TurnAnswer.Halted cause) true n = omega arith
+spare-falls (TurnAnswer.Halted cause) false n = omega arith
 spare-falls (TurnAnswer.Granted entry) halted n = omega arith
 spare-falls TurnAnswer.Empty halted n = omega arith
 spare-falls (TurnAnswer.Busy cause) halted n = omega arith

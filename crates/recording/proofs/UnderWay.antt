@@ -32,7 +32,7 @@ unfolding recording_from
 none-left left idle m is = ap (λ o. unless_ended o m (ended RunEnd.Drawn m)) is
 
 -- and one that goes on
-goes-on : (left idle : ℕ) (d : Draw) (ds : List Draw) (m : MachineValue) → end_before left idle m ≡ None
+pub goes-on : (left idle : ℕ) (d : Draw) (ds : List Draw) (m : MachineValue) → end_before left idle m ≡ None
     → recording_from left idle (d ∷ ds) m ≡ (let did = draw_does d m in with_draw d did (recording_from (if did then left - 1 else left) (if did then 0 else idle + 1) ds (after_draw d m)))
 unfolding recording_from
 goes-on left idle d ds m is =

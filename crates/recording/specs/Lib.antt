@@ -4,4 +4,7 @@ pub mod DdmTree
 pub mod RvHart
 pub mod StartParts
 pub mod RecordingModel
+pub mod ScheduleLog
+pub mod SeedDraws
+pub mod OutcomeModel
 pub mod Runs

@@ -6,15 +6,17 @@ use Rattle.ddm_types.specs.declared.answers.TurnAnswer.{TurnAnswer}
 use Rattle.ddm_types.specs.declared.turns.Turn.{Turn}
 use Rattle.tree_model.specs.State.Shape.{tree_counts}
 use Rattle.tree_model.specs.State.Values.{MachineValue}
-use Rattle.tree_model.specs.Turns.Machine.{machine_leaves, names_part}
+use Rattle.tree_model.specs.Turns.Machine.{machine_leaves, names_part, turn_of}
 use Rattle.any_runs.specs.DdmTree.Machine.{MachineState}
 use Rattle.any_runs.specs.Run.{NameParts}
 use Rattle.outcome_model.specs.Halted.{all_halted, has_halted}
 use Rattle.recording_model.specs.TextModel.ReadBack.{IsTurnOf}
 use Rattle.recording_model.specs.TextModel.Schedule.{ShapeView}
+use Rattle.recording_model.specs.Doing.{had_halted}
 use Rattle.recording_model.specs.LetBy.{Draw}
 use Rattle.recording_model.specs.Recording.{Recording, drawn_limit, idle_limit, recording_from}
 use Rattle.recording_model.specs.declared.RunEnd.{RunEnd}
+use Rattle.recording.specs.declared.making.Came.{Came}
 use Rattle.recording.specs.declared.progress.Progress.{Progress}
 
 -- the run of these drawn turns, of which so many may be recorded
@@ -75,6 +77,27 @@ does_halt (TurnAnswer.Halted cause) halted = not halted
 does_halt (TurnAnswer.Granted entry) halted = false
 does_halt TurnAnswer.Empty halted = false
 does_halt (TurnAnswer.Busy cause) halted = false
+
+-- ---- what a drawn turn comes to
+
+-- one that was made and answers so, where its hart had halted before or not
+abbrev pub came_by : TurnAnswer → Bool → Came
+came_by (TurnAnswer.Retired op) halted = Came.ToDoing
+came_by (TurnAnswer.Issued kind x) halted = Came.ToDoing
+came_by (TurnAnswer.Waiting x) halted = Came.ToNothing
+came_by (TurnAnswer.Halted cause) true = Came.ToNothing
+came_by (TurnAnswer.Halted cause) false = Came.ToDoing
+came_by (TurnAnswer.Granted entry) halted = Came.ToDoing
+came_by TurnAnswer.Empty halted = Came.ToNothing
+came_by (TurnAnswer.Busy cause) halted = Came.ToBusy
+
+abbrev pub came_to : Draw → MachineValue → Came
+came_to d m = if d.let_by then came_by (turn_of d.turn m).answer (had_halted d.turn m) else Came.ToNothing
+
+abbrev pub is_done : Came → Bool
+is_done Came.ToNothing = false
+is_done Came.ToBusy = false
+is_done Came.ToDoing = true
 
 -- ---- how far a run is
 

@@ -9,7 +9,7 @@ use any_runs::of_ddm_tree::{Machine, Subtree};
 use ddm_types::{HartNo, Turn};
 
 /// Puts in place of each flag whether the hart of its number has halted, and says whether all have.
-pub(crate) fn put_flags<const WORDS: usize, C: Subtree<WORDS>>(
+pub fn put_flags<const WORDS: usize, C: Subtree<WORDS>>(
     machine: &Machine<WORDS, C>,
     flags: &mut [bool],
 ) -> bool

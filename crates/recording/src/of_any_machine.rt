@@ -1,3 +1,3 @@
 //! What crates above this one name of `any_machine`.
 
-pub use any_runs::of_any_machine::{AnyMachine, Machines};
+pub use any_runs::of_any_machine::{AnyMachine, Depths, Machines};

@@ -11,16 +11,16 @@ const IDLE_LIMIT: u32 = 16_777_216;
 
 /// How many turns may still be recorded, how many drawn ones in a row did nothing, and how many may still be drawn.
 #[derive(Clone, Copy)]
-pub(crate) struct Progress {
-    pub(crate) left: u32,
-    pub(crate) idle: u32,
-    pub(crate) draws: u32,
+pub struct Progress {
+    pub left: u32,
+    pub idle: u32,
+    pub draws: u32,
 }
 
 impl Progress {
     /// Why the run ends before the next turn is drawn, if it does.
     #[inline(always)]
-    pub(crate) fn end(&self, all_halted: bool) -> Option<RunEnd>
+    pub fn end(&self, all_halted: bool) -> Option<RunEnd>
         ensures { result ≡ end_now all_halted self.now }
     {
         if all_halted {
@@ -38,7 +38,7 @@ impl Progress {
 
     /// One more turn was drawn, which did something or didn't.
     #[inline(always)]
-    pub(crate) fn note(&mut self, did: bool)
+    pub fn note(&mut self, did: bool)
         requires left { 0 < self.old.left }
         requires idle { self.old.idle < 16777216 }
         requires draws { 0 < self.old.draws }

@@ -7,7 +7,7 @@ ghost use Rattle.any_runs.specs.AnyMachine.Kind.{kind_in, kind_of, levels_in};
 ghost use Rattle.recording.specs.Runs.{CanRecord, recorded};
 
 use crate::harts::put_flags;
-use crate::making::make_draw;
+use crate::making::{is_done, make_draw};
 use crate::progress::{Progress, keep_turn};
 use any_runs::of_any_machine::{AnyMachine, Depths, Machines};
 use any_runs::of_ddm_tree::{Dir, Machine, Subtree};
@@ -46,7 +46,8 @@ fn record_turns<const WORDS: usize, C: Subtree<WORDS>>(
             return end;
         }
         let (turn, let_by) = draws.next_draw();
-        let did = make_draw(machine, &turn, let_by, flags, &mut all, &mut answer);
+        let came = make_draw(machine, &turn, let_by, flags, &mut all, &mut answer);
+        let did = is_done(came);
         keep_turn(turns, turn, did);
         progress.note(did);
     }

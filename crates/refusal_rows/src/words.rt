@@ -6,7 +6,7 @@ use std::test::Fail;
 
 #[test]
 fn words_at_fault(rt: HostRuntime) -> Result<(), Fail> {
-    let commands: [(&[&str], u32); 68] = [
+    let commands: [(&[&str], u32); 73] = [
         (&[], 0),
         (&["walk"], 0),
         (&["run", "a", "b"], 3),
@@ -47,6 +47,14 @@ fn words_at_fault(rt: HostRuntime) -> Result<(), Fail> {
         (&["record", "i", "t", "even", "1", "1048577"], 5),
         (&["record", "i", "t", "skewed", "1"], 5),
         (&["record", "i", "t", "skewed", "1", "1", "more"], 6),
+        (&["measure", "i", "t", "odd", "1", "1"], 3),
+        (
+            &["measure", "i", "t", "even", "18446744073709551616", "1"],
+            4,
+        ),
+        (&["measure", "i", "t", "even", "1", "1000000001"], 5),
+        (&["measure", "i", "t", "skewed", "1"], 5),
+        (&["measure", "i", "t", "skewed", "1", "1", "more"], 6),
         (&["survey", "i", "t", "odd", "1", "1", "1"], 3),
         (
             &["survey", "i", "t", "even", "18446744073709551616", "1", "1"],
@@ -124,7 +132,7 @@ fn of_itself(rt: HostRuntime) -> Result<(), Fail> {
     }
     for name in [
         "run", "trace", "seed", "schedule", "make", "check", "unjam", "save", "resume", "outcomes",
-        "record", "survey", "join",
+        "record", "measure", "survey", "join",
     ] {
         let said = output(alloc, &["help", name], &no_files)?;
         let line = format!(in alloc; "ddm {name} ")?;

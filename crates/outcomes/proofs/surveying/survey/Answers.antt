@@ -4,7 +4,7 @@ use Rattle.outcomes.specs.AnyMachine.Any.{machine_state}
 use Rattle.schedule_log.specs.Shapes.{shape_view}
 use Rattle.outcome_model.specs.Table.{counted, table_of, tallied}
 use Rattle.survey_model.specs.Survey.{seed_end, survey_table}
-use Rattle.recording.specs.Runs.{CanBegin, RecorderView}
+use Rattle.measuring.specs.RecordingCrate.Runs.{CanBegin, RecorderView}
 use Rattle.outcomes.specs.Runs.{AreFew}
 use Rattle.outcomes.proofs.Seeds.{tally, tally-few, tally-next}
 use Rattle.outcomes.proofs.surveying.survey.Goals as goal

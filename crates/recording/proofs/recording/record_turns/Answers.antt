@@ -1,7 +1,8 @@
-use Rattle.std.proofs.Common.{◌∙◌, length, vec_capacity, refl, sym, ap, arith}
+use Rattle.std.proofs.Common.{◌∙◌, ◌≤◌, ◌+◌, Bool, length, vec_capacity, refl, sym, ap, subst, if◌then◌else◌, arith}
 use Rattle.tree_model.specs.State.Shape.{tree_counts}
 use Rattle.recording_model.specs.LetBy.{Draw}
-use Rattle.recording.proofs.Halting.{draw-leaves, flags-counted}
+use Rattle.recording.specs.Runs.{is_done}
+use Rattle.recording.proofs.Halting.{draw-done, draw-leaves, flags-counted}
 use Rattle.recording.proofs.UnderWay.{begins, goes, is-done, is-on, names-here, room-kept}
 use Rattle.recording.proofs.recording.record_turns.Goals as goal
 
@@ -20,8 +21,8 @@ next_draw-turn-requires g c =
     let on = is-on c.recording.progress c.recording.draws.left c.recording.machine.machine i.run.drawn c.recording.all i.run.idle i.halted.every (sym c.in_default.ensures) in
     omega (arith, on.draws, i.run.drawn)
 
-pub make_draw-did-requires : goal.make_draw-did-requires
-make_draw-did-requires g c =
+pub make_draw-came-requires : goal.make_draw-came-requires
+make_draw-came-requires g c =
     let i = c.recording.invariant in
     let ds = c.recording.draws.left in
     let on = is-on c.recording.progress ds c.recording.machine.machine i.run.drawn c.recording.all i.run.idle i.halted.every (sym c.in_default.ensures) in
@@ -47,16 +48,18 @@ recording-preserved g c =
     let ds = c.recording.draws.left in
     let p = c.recording.progress in
     let m = c.recording.machine.machine in
-    let did = c.make_draw-did.result in
+    let did = c.is_done-did.result in
     let later = c.next_draw-turn.new.self.left in
     let on = is-on p ds m i.run.drawn c.recording.all i.run.idle i.halted.every (sym c.in_default.ensures) in
     let d : Draw = record { turn = c.next_draw-turn.result.0; let_by = c.next_draw-turn.result.1 } in
-    let next = c.make_draw-did.new.machine in
-    let run = goes c.args.most c.args.draws.now.left c.args.machine.now c.args.turns.now.items c.recording.machine c.recording.turns.items p d ds later did next i.run on c.next_draw-turn.ensures.draw c.make_draw-did.ensures.does c.make_draw-did.ensures.after c.make_draw-did.ensures.spare c.make_draw-did.ensures.turns in
+    let next = c.make_draw-came.new.machine in
+    let does = c.is_done-did.ensures ∙ ap is_done c.make_draw-came.ensures.came ∙ draw-done d m in
+    let spare = subst (λ (b : Bool). c.recording.machine.spare ≤ next.spare + (if b then 1 else 0)) (sym c.is_done-did.ensures) c.make_draw-came.ensures.spare in
+    let run = goes c.args.most c.args.draws.now.left c.args.machine.now c.args.turns.now.items c.recording.machine c.recording.turns.items p d ds later did next i.run on c.next_draw-turn.ensures.draw does c.make_draw-came.ensures.after spare c.make_draw-came.ensures.turns in
     record {
       run = rw (c.keep_turn.ensures.items, c.note.ensures) run;
-      halted = c.make_draw-did.ensures.halted;
-      leaves = ap (λ k. (tree_counts k).leaves) c.make_draw-did.ensures.after ∙ draw-leaves d m ∙ i.leaves;
+      halted = c.make_draw-came.ensures.halted;
+      leaves = ap (λ k. (tree_counts k).leaves) c.make_draw-came.ensures.after ∙ draw-leaves d m ∙ i.leaves;
       shape = c.next_draw-turn.ensures.shape ∙ i.shape;
       room = rw (c.keep_turn.ensures.items, c.note.ensures) (room-kept did c.recording.turns.items d.turn p.left (vec_capacity c.recording.turns) (vec_capacity c.keep_turn.new.turns) on.left i.room c.keep_turn.ensures.capacity);
     }

@@ -1,0 +1,17 @@
+pub mod AnyRuns
+pub mod DdmTree
+pub mod InspectorCrate
+pub mod ReportCrate
+pub mod StartParts
+pub mod Named
+pub mod Listed
+pub mod Harts
+pub mod Bones
+pub mod Looked
+pub mod Sets
+pub mod More
+pub mod Grown
+pub mod SeenMaps
+pub mod Steps
+pub mod UnderWay
+pub mod Starts

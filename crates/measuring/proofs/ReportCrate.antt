@@ -1,0 +1,2 @@
+-- Of `report`, what crates above this one name.
+pub use Rattle.report.proofs.Written

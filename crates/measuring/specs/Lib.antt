@@ -1,0 +1,16 @@
+pub mod AnyMachine
+pub mod AnyRuns
+pub mod DdmOutside
+pub mod DdmTree
+pub mod MeasureModel
+pub mod RecordingCrate
+pub mod ReportCrate
+pub mod RvHart
+pub mod StartParts
+pub mod Tally
+pub mod Lines
+pub mod Kept
+pub mod Sized
+pub mod Seen
+pub mod Tallied
+pub mod Step

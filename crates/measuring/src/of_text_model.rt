@@ -1,0 +1,3 @@
+//! What crates above this one name of `text_model`.
+
+pub use recording::of_text_model::{RunCounts, ScheduleRefusal};

@@ -1,0 +1,2 @@
+-- Of `schedule_log`, what crates above this one name.
+pub use Rattle.schedule_log.specs.Shapes
