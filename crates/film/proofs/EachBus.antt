@@ -20,11 +20,11 @@ use Rattle.film.specs.DdmTypes.declared.sizes.Hold.{Hold}
 use Rattle.film.specs.DdmTree.Written.{dir_words_of}
 use Rattle.film.specs.StateWords.Machine.{words_or_none}
 use Rattle.film.specs.FilmParts.Parts.{dir_words}
-use Rattle.film_model.specs.Directory.{dir_parts}
+use Rattle.film.specs.FilmModel.Directory.{dir_parts}
 use Rattle.film.specs.TreeModel.Turns.Machine.{machine_leaves}
-use Rattle.film_model.specs.Leaf.{leaf_parts}
-use Rattle.film_model.specs.Part.{Part}
-use Rattle.film_model.specs.Still.{bus_parts, parts_or_none, place_part, still}
+use Rattle.film.specs.FilmModel.Leaf.{leaf_parts}
+use Rattle.film.specs.FilmModel.Part.{Part}
+use Rattle.film.specs.FilmModel.Still.{bus_parts, parts_or_none, place_part, still}
 use Rattle.film.specs.TreeRules.Bus.Own.{IsTopOk, dir_lists, top_item, top_items, top_level}
 use Rattle.film.specs.TreeRules.Bus.Rules.{AreTreesOk, IsMachineOk, IsTreeOk}
 

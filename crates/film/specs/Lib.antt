@@ -1,9 +1,13 @@
 pub mod AnyMachine
+pub mod AnyRuns
+pub mod DdmText
 pub mod DdmTree
 pub mod DdmTypes
+pub mod FilmModel
 pub mod FilmParts
 pub mod RvHart
 pub mod StateWords
+pub mod TextModel
 pub mod TreeModel
 pub mod TreeRules
 pub mod Filmed

@@ -6,3 +6,5 @@ pub mod Numbered
 pub mod DirItems
 pub mod LeafWords
 pub mod DirWords
+pub mod TreeModel
+pub mod ValueLaws

@@ -1,3 +1,3 @@
 -- Of `ddm_text`, what this crate and those above it name.
-pub use Rattle.ddm_text.specs.Adds
-pub use Rattle.ddm_text.specs.Hex
+pub use Rattle.text_model.specs.DdmText.Adds
+pub use Rattle.text_model.specs.DdmText.Hex

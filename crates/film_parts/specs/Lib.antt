@@ -1,7 +1,10 @@
 pub mod DdmText
 pub mod DdmTypes
+pub mod FilmModel
 pub mod StateWords
+pub mod TextModel
 pub mod TreeModel
+pub mod TreeRules
 pub mod ValueLaws
 pub mod Forms
 pub mod Puts

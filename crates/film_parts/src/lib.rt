@@ -9,6 +9,7 @@ mod leaves;
 mod lines;
 mod lists;
 mod numbers;
+pub mod of_ddm_text;
 pub mod of_ddm_types;
 pub mod of_tree_model;
 mod part_text;

@@ -10,9 +10,9 @@ ghost use Rattle.film_model.specs.Still.{place_text};
 ghost use Rattle.text_model.specs.Report.{letter_text, word_texts};
 ghost use Rattle.text_model.specs.Words.{halt_text, kind_text};
 
+use crate::of_ddm_text::{push_decimal, push_hex8};
 use crate::of_ddm_types::{HaltCause, LeafState, NoMemory, TxKind};
 use crate::of_tree_model::CopyPlace;
-use ddm_text::{push_decimal, push_hex8};
 
 /// Puts these bytes at the end.
 pub(crate) fn push_bytes(out: &mut Vec<u8>, bytes: &[u8]) -> Result<(), NoMemory>

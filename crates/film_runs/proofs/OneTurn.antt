@@ -8,10 +8,10 @@ use Rattle.film_runs.specs.DdmTypes.declared.answers.TurnAnswer.{TurnAnswer}
 use Rattle.film_runs.specs.DdmTypes.declared.turns.Turn.{Turn}
 use Rattle.film_runs.specs.TreeModel.State.Values.{MachineValue}
 use Rattle.film_runs.specs.TreeModel.Turns.Machine.{run_of, turn_of}
-use Rattle.text_model.specs.Trace.{trace_line, trace_from}
-use Rattle.film_model.specs.Film.{turn_film}
-use Rattle.film_model.specs.Part.{Part, changed}
-use Rattle.film_model.specs.Still.{still}
+use Rattle.film_runs.specs.TextModel.Trace.{trace_line, trace_from}
+use Rattle.film_runs.specs.FilmModel.Film.{turn_film}
+use Rattle.film_runs.specs.FilmModel.Part.{Part, changed}
+use Rattle.film_runs.specs.FilmModel.Still.{still}
 
 one_answer : (t : Turn) (m : MachineValue) → (run_of (t ∷ []) m).answers ≡ (turn_of t m).answer ∷ []
 unfolding run_of

@@ -1,8 +1,10 @@
 pub mod AnyMachine
 pub mod AnyRuns
-pub mod Counts
 pub mod DdmText
 pub mod DdmTree
 pub mod DdmTypes
 pub mod Film
+pub mod FilmModel
+pub mod TextModel
 pub mod TreeModel
+pub mod Counts

@@ -7,7 +7,7 @@ pub mod of_any_machine;
 pub mod of_ddm_types;
 mod turns;
 
-pub use any_runs::RunCounts;
+pub use film::of_any_runs::RunCounts;
 pub use films::film_text;
 pub use heads::push_head;
 pub use turns::{Reel, film_turn, film_turns};

@@ -1,19 +1,19 @@
 //! Turns that are made and filmed.
 
 ghost use Rattle.std.specs.Prelude.{◌≡◌, ◌<◌, ◌++◌, [], ◌∷◌, IfOk, OnOk, true};
-ghost use Rattle.text_model.specs.Run.{no_counts};
+ghost use Rattle.film_runs.specs.TextModel.Run.{no_counts};
 ghost use Rattle.film_runs.specs.AnyMachine.Any.{machine_state};
 ghost use Rattle.film_runs.specs.AnyRuns.Run.{AreBelow, CanRun, NameParts, counts_in, ran, with_room};
 ghost use Rattle.film_runs.specs.Counts.{sum};
 ghost use Rattle.film_runs.specs.Film.Filmed.{IsFilmed};
 ghost use Rattle.film_runs.specs.TreeModel.State.Shape.{IsShaped};
 ghost use Rattle.film_runs.specs.TreeModel.Turns.Machine.{names_part, run_of, turn_of};
-ghost use Rattle.film_model.specs.Film.{turn_film, turns_film};
-ghost use Rattle.film_model.specs.Still.{still as still_of};
+ghost use Rattle.film_runs.specs.FilmModel.Film.{turn_film, turns_film};
+ghost use Rattle.film_runs.specs.FilmModel.Still.{still as still_of};
 
 use crate::of_any_machine::AnyMachine;
 use crate::of_ddm_types::{NoMemory, Turn, TurnAnswer};
-use any_runs::{RunCounts, run};
+use film::of_any_runs::{RunCounts, run};
 use film::{Still, StillRoom, push_changed, take_still};
 use report::push_trace;
 use std::alloc::Global;

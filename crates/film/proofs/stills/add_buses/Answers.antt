@@ -2,7 +2,7 @@ use Rattle.std.proofs.Common.{◌≡◌, ◌<◌, flat_map, length, slice_index,
 use Rattle.std.specs.List.{range_with_len}
 use Rattle.std.proofs.lemmas.List.FromFn.{length-range_with_len}
 use Rattle.film.specs.TreeModel.State.Shape.{tree_counts}
-use Rattle.film_model.specs.Still.{bus_parts}
+use Rattle.film.specs.FilmModel.Still.{bus_parts}
 use Rattle.film.proofs.StateJudging.BusNumbers.{numbered-bus}
 use Rattle.film.proofs.EachBus.{bus_given, buses_counted, dir_form_of, range_next, read_over}
 use Rattle.film.proofs.EachLeaf.{machine_ok, some_same, told_last, told_next, width_is}

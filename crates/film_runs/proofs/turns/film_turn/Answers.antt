@@ -3,7 +3,7 @@ use Rattle.film_runs.specs.AnyMachine.Any.{machine_state}
 use Rattle.film_runs.specs.DdmTypes.declared.answers.TurnAnswer.{TurnAnswer}
 use Rattle.film_runs.specs.Film.Filmed.{IsFilmed}
 use Rattle.film_runs.specs.TreeModel.State.Values.{MachineValue}
-use Rattle.film_model.specs.Still.{still as still_of}
+use Rattle.film_runs.specs.FilmModel.Still.{still as still_of}
 use Rattle.film_runs.proofs.FilmedAfter.{filmed_after}
 use Rattle.film_runs.proofs.OneTurn.{answer_after, machine_after, text_after}
 use Rattle.film_runs.proofs.turns.film_turn.Goals as goal

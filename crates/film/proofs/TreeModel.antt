@@ -1,0 +1,2 @@
+-- Of `tree_model`, what crates above this one name.
+pub use Rattle.film_parts.proofs.TreeModel.FrameKept

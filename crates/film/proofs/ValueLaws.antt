@@ -1,0 +1,2 @@
+-- Of `value_laws`, what crates above this one name.
+pub use Rattle.film_parts.proofs.ValueLaws.TurnForm
