@@ -18,6 +18,7 @@ use crate::listing::SchedulePieces;
 use crate::of_any_machine::release;
 use crate::of_ddm_outside::{Failed, Shelf, Sink};
 use crate::of_report::write_pieces;
+use crate::paging::write_paged;
 use crate::printing::write_ran;
 use crate::reading::read_buffer;
 use crate::recorded::write_recorded;
@@ -117,6 +118,7 @@ fn write_command<F: Shelf, K: Sink>(
         Command::Record(recorded) => write_recorded(alloc, files, out, recorded),
         Command::Survey(survey) => write_survey(alloc, files, out, survey),
         Command::Join(names) => write_joined(alloc, files, out, names),
+        Command::Page(paged) => write_paged(alloc, files, out, paged),
         Command::About(about) => Ok(write_about(out, about)),
     }
 }

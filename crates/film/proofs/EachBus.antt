@@ -1,10 +1,11 @@
 -- The directory over the bus of a number, and what holds of it.
 -- Letters: m is a machine, d a directory over the nodes ns, n how many items there are.
 use Rattle.std.proofs.Common.{true≢false, ◌≡◌, ◌≤◌, ◌<◌, ℕ, suc, ◌+◌, Bool, true, false, cond, List, [], ◌∷◌, ◌++◌, flat_map, map, Option, Some, None, drop, drop-cons, length, nat_eq, zero-add, refl, sym, ap, subst, ◌∙◌, arith}
-use Rattle.std.specs.Prelude.{option_map, ◌||◌, nat_le, nat_lt, not}
+use Rattle.std.specs.Prelude.{is_some, option_map, ◌||◌, nat_le, nat_lt, not}
 use Rattle.std.specs.List.{AllByRecursion, list_all, range_with_len}
 use Rattle.std.proofs.lemmas.Bool.{and_parts, eqb-true, leb-true, ne_eqb}
 use Rattle.std.proofs.lemmas.List.FromFn.{get_or-range_with_len, length-range_with_len}
+use Rattle.film.proofs.TreeModel.NamedNode.{read_in-is_some}
 use Rattle.film.specs.DdmTypes.ItemTable.{item_count}
 use Rattle.film.specs.FilmParts.Records.{IsPlain}
 use Rattle.film.specs.FilmParts.Values.{DirHasForm, HasForm, PartsHaveForm, PartsHaveFormAmong}
@@ -222,6 +223,10 @@ bus_given most bus m shaped ok form there = go (nat_eq m.top.bus bus) refl there
       }
 
 -- ---- by number
+
+-- a bus of which it is known how many buses are above it is there
+pub known_bus : (bus level : ℕ) (m : MachineValue) → ask_bus bus (λ w d ns. d.level) 0 m ≡ Some level → has_node (bus_of_number bus) (root_of m) ≡ true
+known_bus bus level m is = sym (read_in-is_some (bus_of_number bus) (of_dir (λ w d ns. d.level) 0) at_top (root_of m)) ∙ ap is_some is
 
 -- traffic is counted for each bus
 pub buses_counted : (m : MachineValue) → IsShaped m → length m.traffic ≡ (tree_counts m).buses

@@ -1,7 +1,7 @@
 pub mod AnyRuns
 pub mod DdmTree
 pub mod FilmParts
-pub mod StateJudging
+pub mod StartParts
 pub mod TreeModel
 pub mod ValueLaws
 pub mod EachLeaf

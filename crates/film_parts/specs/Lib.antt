@@ -1,3 +1,4 @@
+pub mod BusLaws
 pub mod DdmText
 pub mod DdmTypes
 pub mod FilmModel

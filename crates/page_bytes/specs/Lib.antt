@@ -1,1 +1,2 @@
+pub mod DdmText
 pub mod Page
