@@ -1,12 +1,11 @@
 -- An image of a file of bytes is made of bytes.
 -- Letters: i is an image, h a program header.
-use Rattle.std.proofs.Common.{◌≡◌, ℕ, zero, suc, ◌<◌, List, [], ◌∷◌, map, take, drop, Option, Some, None, Result, Ok, Err, refl, subst, arith}
+use Rattle.std.proofs.Common.{◌≡◌, ℕ, zero, suc, ◌<◌, List, [], ◌∷◌, map, take, drop, Option, Some, None, Ok, subst, arith}
 use Rattle.std.specs.Prelude.{slice_index}
 use Rattle.std.specs.List.{AllByRecursion}
-use Rattle.byteorder.specs.Endian.{little_number}
 use Rattle.byteorder.specs.Numbers.{little_from-lt}
-use Rattle.file_laws.specs.TreeModel.Start.Sources.{ImageValue, SegmentValue}
-use Rattle.elf_load.specs.ElfFile.{word_in, entry_of, headers_of, file_refusal, headers_refusal, loaded_headers, segment_of, segments_of, image_in, sizes_refusal, entry_refusal, by_entry, judged_entry, unless_too_large, by_headers, by_file, image_of}
+use Rattle.file_laws.specs.TreeModel.Start.Sources.{SegmentValue}
+use Rattle.elf_load.specs.ElfFile.{word_in, headers_of, file_refusal, headers_refusal, loaded_headers, segment_of, segments_of, image_in, sizes_refusal, entry_refusal, by_entry, judged_entry, unless_too_large, by_headers, by_file, image_of}
 use Rattle.elf_load.specs.declared.headers.ProgramHeader.{ProgramHeader}
 use Rattle.elf_load.specs.declared.refusal.ImageRefusal.{ImageRefusal}
 use Rattle.value_laws.specs.Images.{IsOfBytes}

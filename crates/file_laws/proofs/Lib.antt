@@ -1,4 +1,7 @@
 pub mod ScheduleLog
+pub mod TreeModel
 pub mod Trees
 pub mod Images
 pub mod Schedules
+pub mod WordCounts
+pub mod CheckpointSizes

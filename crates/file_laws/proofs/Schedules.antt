@@ -1,6 +1,6 @@
 -- The text of a seed's turns is read back, where the tree is that of an accepted file: its numbers are small.
 -- Letters: t is a tree, l a level.
-use Rattle.std.proofs.Common.{◌≡◌, ℕ, ◌+◌, ◌<◌, ◌≤◌, true, List, [], ◌∷◌, ◌++◌, length, Ok, refl, sym, ap, subst, ◌∙◌, arith}
+use Rattle.std.proofs.Common.{◌≡◌, ℕ, ◌+◌, ◌<◌, ◌≤◌, true, List, [], ◌∷◌, ◌++◌, length, refl, sym, ap, subst, ◌∙◌, arith}
 use Rattle.std.specs.Prelude.{◌*◌, All, sum, nat_le}
 use Rattle.std.specs.List.{flat_map, list_all}
 use Rattle.std.proofs.lemmas.Bool.{and_parts, leb-true}
@@ -9,35 +9,34 @@ use Rattle.std.proofs.lemmas.List.Concat.{flat_map-cons}
 use Rattle.std.proofs.lemmas.List.Elements.{All-nil, All-cons}
 use Rattle.std.proofs.lemmas.List.Folds.{list_all-append}
 use Rattle.std.proofs.lemmas.List.Sums.{sum_by-cons}
-use Rattle.file_laws.specs.TreeModel.Start.Sources.{TreeValue, last_level}
-use Rattle.file_laws.specs.TextModel.ReadBack.{IsSmallShape, IsReadBack}
+use Rattle.file_laws.specs.TreeModel.Start.Sources.{last_level}
+use Rattle.file_laws.specs.TextModel.ReadBack.{IsSmallShape}
 use Rattle.file_laws.specs.TextModel.Seeded.{seeded_turns}
 use Rattle.schedule_log.specs.Shapes.{shape_view}
 use Rattle.schedule_log.proofs.SeedTurns.{seeded_count, seeded_known}
 use Rattle.tree_config.specs.Levels.{AreUnder, IsShape, is_width, leaves_of, widths_of}
-use Rattle.file_laws.specs.Trees.{IsFileTree}
 use Rattle.file_laws.specs.Schedules.{SeededSchedulesAreReadBack}
 use Rattle.file_laws.proofs.Trees.{accepted_tree}
 use Rattle.text_model.proofs.ReadBack.{schedule_of-schedule_text}
 
 -- ---- how many leaves and buses
 
-abbrev flat : List (List ℕ) → List ℕ
+abbrev pub flat : List (List ℕ) → List ℕ
 flat ls = flat_map (λ l. l) ls
 
-abbrev AreWide : List ℕ → Type 0
+abbrev pub AreWide : List ℕ → Type 0
 AreWide ns = list_all is_width ns ≡ true
 
-first-wide : (l : List ℕ) (ls : List (List ℕ)) → AreWide (flat (l ∷ ls)) → AreWide l × AreWide (flat ls)
+pub first-wide : (l : List ℕ) (ls : List (List ℕ)) → AreWide (flat (l ∷ ls)) → AreWide l × AreWide (flat ls)
 first-wide l ls h =
     let split : AreWide (l ++ flat ls) = subst AreWide (flat_map-cons (λ (l : List ℕ). l) l ls) h in
     and_parts (list_all is_width l) (list_all is_width (flat ls)) (sym (list_all-append is_width l (flat ls)) ∙ split)
 
-width-bounds : (k : ℕ) → is_width k ≡ true → (1 ≤ k) × (k ≤ 16)
+pub width-bounds : (k : ℕ) → is_width k ≡ true → (1 ≤ k) × (k ≤ 16)
 width-bounds k h = let parts = and_parts (nat_le 1 k) (nat_le k 16) h in (leb-true 1 k parts.0, leb-true k 16 parts.1)
 
 -- a level has no fewer children than buses
-widens : (l : List ℕ) → AreWide l → length l ≤ sum l
+pub widens : (l : List ℕ) → AreWide l → length l ≤ sum l
 widens [] h = omega arith
 widens (k ∷ l) h =
     let parts = and_parts (is_width k) (list_all is_width l) h in
@@ -47,15 +46,15 @@ widens (k ∷ l) h =
     omega arith
 
 -- how many leaves, where the first level has this many buses
-abbrev leaves_under : ℕ → List (List ℕ) → ℕ
+abbrev pub leaves_under : ℕ → List (List ℕ) → ℕ
 leaves_under n [] = n
 leaves_under n (l ∷ ls) = leaves_under (sum l) ls
 
-leaves-last : (l : List ℕ) (ls : List (List ℕ)) → sum (last_level (l ∷ ls)) ≡ leaves_under (sum l) ls
+pub leaves-last : (l : List ℕ) (ls : List (List ℕ)) → sum (last_level (l ∷ ls)) ≡ leaves_under (sum l) ls
 leaves-last l [] = refl
 leaves-last l (m ∷ ls) = leaves-last m ls
 
-most-under : (n : ℕ) (ls : List (List ℕ)) → AreUnder n ls → AreWide (flat ls) → n ≤ leaves_under n ls
+pub most-under : (n : ℕ) (ls : List (List ℕ)) → AreUnder n ls → AreWide (flat ls) → n ≤ leaves_under n ls
 most-under n [] under wide = omega arith
 most-under n (l ∷ ls) under wide =
     let parts = first-wide l ls wide in

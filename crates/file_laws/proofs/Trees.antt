@@ -9,7 +9,7 @@ use Rattle.toml.specs.Parse.{parse_document}
 use Rattle.toml.specs.Data.{Data, Members, as_integer, as_str, get_member}
 use Rattle.file_laws.specs.TreeModel.Start.Sources.{TreeValue}
 use Rattle.file_laws.specs.DdmTypes.declared.sizes.TreeSizes.{TreeSizes}
-use Rattle.file_laws.specs.BusLaws.IsTree.{AreUnder, IsTree}
+use Rattle.file_laws.specs.BusLaws.IsTree.{AreUnder}
 use Rattle.tree_config.specs.Levels.{IsShape, depth_of, is_uneven, leaves_of, levels_of}
 use Rattle.tree_config.specs.Ranges.{AreSizes, IsInRange, highest_end, is_allowed, stacks_end}
 use Rattle.tree_config.specs.Levels as levels
@@ -21,7 +21,6 @@ use Rattle.tree_config.specs.declared.refusal.TreeRefusal.{TreeRefusal}
 use Rattle.tree_config.specs.declared.refusal.TreeRefusal.TheVariants as refusal
 use Rattle.tree_config.proofs.Even.{IsShape-levels_of, depth_of-group}
 use Rattle.tree_config.proofs.GrammarScans.{err_ok, shape_of-text}
-use Rattle.spelling_laws.specs.Small.{HasSmallSizes}
 use Rattle.file_laws.specs.Trees.{IsFileTree}
 
 -- ---- a tree with a shape and its numbers in their ranges

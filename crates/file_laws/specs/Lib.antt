@@ -1,9 +1,12 @@
 pub mod ScheduleLog
+pub mod StateWords
 pub mod TreeConfig
 pub mod BusLaws
 pub mod DdmTypes
 pub mod TextModel
 pub mod TreeModel
+pub mod TreeRules
 pub mod Trees
 pub mod Images
 pub mod Schedules
+pub mod CheckpointSizes

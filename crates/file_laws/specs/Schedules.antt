@@ -1,8 +1,7 @@
 -- The schedule of a seed, as a text: it is read back as the seed's turns.
 -- Letters: t is a tree.
 -- To be believed: it is what is claimed of every seed.
-use Rattle.std.specs.Prelude.{◌≡◌, ℕ, ◌≤◌, List, length, Ok}
-use Rattle.file_laws.specs.DdmTypes.declared.turns.Turn.{Turn}
+use Rattle.std.specs.Prelude.{◌≡◌, ℕ, ◌≤◌, List, Ok}
 use Rattle.file_laws.specs.TreeModel.Start.Sources.{TreeValue}
 use Rattle.file_laws.specs.TextModel.Schedule.{schedule_of, schedule_text, turn_limit}
 use Rattle.file_laws.specs.TextModel.Seeded.{seeded_turns}

@@ -8,8 +8,9 @@ use Rattle.headline.specs.TreeModel.Start.Machine.{flat_start_of, start_machine,
 use Rattle.headline.specs.TreeModel.State.Values.{MachineValue}
 use Rattle.headline.specs.TreeModel.Turns.Machine.{run_of, turn_of}
 use Rattle.headline.specs.TreeModel.Turns.Witness.{sorted_ops}
+use Rattle.headline.specs.FlatModel.Flat.{flat_start}
 use Rattle.headline.specs.OrderLaws.EveryTurn.{IsOrderly}
-use Rattle.headline.proofs.OrderLaws.EveryTurn.{run-orderly}
+use Rattle.headline.proofs.OrderLaws.EveryTurn.{run-orderly, turn-orderly}
 use Rattle.headline.proofs.OrderLaws.Hart.Completed.{whole_words}
 use Rattle.headline.proofs.Runs.{run-witnessed}
 use Rattle.headline.proofs.StartOrder.{start-orderly}
@@ -17,7 +18,7 @@ use Rattle.text_model.proofs.Outputs.{put_texts-same}
 use Rattle.busy_laws.proofs.Turns.{busy-run}
 use Rattle.lr_sc_laws.proofs.Between.{each-sc}
 use Rattle.lr_sc_laws.proofs.Failing.{turn-fails}
-use Rattle.run_laws.specs.InOrder.{EachFailsUnreserved, RunInOrder, AllRunsInOrder, AllTurnsJudged}
+use Rattle.run_laws.specs.InOrder.{EachFailsUnreserved, RunInOrder, AllRunsInOrder, AllTurnsJudged, TurnsKeepPairs}
 
 failing : (ts : List Turn) (m : MachineValue) → EachFailsUnreserved ts m
 failing [] m = tt
@@ -44,3 +45,11 @@ starts t i accepted = rw accepted refl
 pub runs-in_order : AllRunsInOrder
 runs-in_order t i tree accepted first turns =
     in-order t i (run_of first (start_machine t i)).machine turns (run-orderly (flat_start_of t i) (start_machine t i) first (start-orderly t i (start_machine t i) tree (starts t i accepted)))
+
+pub turns-keep_pairs : TurnsKeepPairs
+unfolding run_of
+turns-keep_pairs start words t m shaped buses timed core =
+    let s = flat_start start words in
+    let orderly : IsOrderly s m = record { shaped = shaped; buses = buses; timed = timed; core = core } in
+    let after = (turn_of t m).machine in
+    each-sc after.code after.items start words (whole_words after (turn-orderly s m t orderly).shaped) (sorted_ops after.ops) (run-witnessed s (t ∷ []) m orderly).machine.legal

@@ -30,6 +30,7 @@ pub mod Stepped
 pub mod Turned
 pub mod Shown
 pub mod Listed
+pub mod StoringRuns
 pub mod StartShows
 pub mod EveryOrder
 pub mod Served

@@ -81,14 +81,14 @@ module _ (m : MachineValue) (f : FlatMachine) (h : ℕ) (g : FlatHart) (c : Chan
 
 -- ---- a step of the flat machine
 
-record Stepped (code : List CodeWord) (items : ItemTable) (f : FlatMachine) (op : Op) (next : FlatMachine) : Type 0 where
-  change : Change
-  step : hart_step code items (flat_hart f op.hart) (item_words f) true ≡ Ok change
-  pc : (flat_hart f op.hart).hart.pc ≡ op.pc
-  effect : change.effect ≡ op.effect
-  after : with_change f op.hart change ≡ next
+pub record Stepped (code : List CodeWord) (items : ItemTable) (f : FlatMachine) (op : Op) (next : FlatMachine) : Type 0 where
+  pub change : Change
+  pub step : hart_step code items (flat_hart f op.hart) (item_words f) true ≡ Ok change
+  pub pc : (flat_hart f op.hart).hart.pc ≡ op.pc
+  pub effect : change.effect ≡ op.effect
+  pub after : with_change f op.hart change ≡ next
 
-stepped : (code : List CodeWord) (items : ItemTable) (f : FlatMachine) (op : Op) (next : FlatMachine) → storing_step code items f op ≡ Some next → Stepped code items f op next
+pub stepped : (code : List CodeWord) (items : ItemTable) (f : FlatMachine) (op : Op) (next : FlatMachine) → storing_step code items f op ≡ Some next → Stepped code items f op next
 stepped code items f op next e = by-pc (nat_eq (flat_hart f op.hart).hart.pc op.pc) refl e where
   one : (a b : FlatMachine) → Some a ≡ Some b → a ≡ b
   one a b e = cc
@@ -109,16 +109,16 @@ stepped code items f op next e = by-pc (nat_eq (flat_hart f op.hart).hart.pc op.
 
 -- ---- harts
 
-abbrev Harts : MachineValue → FlatMachine → Type 0
+abbrev pub Harts : MachineValue → FlatMachine → Type 0
 Harts m f = (h : ℕ) → h < length f.harts → is_some (hart_at h m) ≡ true
 
 pub hart-bones : (h : ℕ) (m : MachineValue) → is_some (hart_at h m) ≡ bone_over h (frame_of m).bones
 hart-bones h m = read_in-is_some (leaf_of_number h) (of_leaf (λ w v. leaf_hart v) no_flat_hart) at_top (root_of m) ∙ over-is h (root_of m)
 
-same-harts : (h : ℕ) (ts : List Turn) (m : MachineValue) → is_some (hart_at h (run_of ts m).machine) ≡ is_some (hart_at h m)
+pub same-harts : (h : ℕ) (ts : List Turn) (m : MachineValue) → is_some (hart_at h (run_of ts m).machine) ≡ is_some (hart_at h m)
 same-harts h ts m = hart-bones h (run_of ts m).machine ∙ (ap (λ (a : Frame). bone_over h a.bones) (run-frame ts m) ∙ sym (hart-bones h m))
 
-some-hart : (o : Option FlatHart) → is_some o ≡ true → (g : FlatHart) × (o ≡ Some g)
+pub some-hart : (o : Option FlatHart) → is_some o ≡ true → (g : FlatHart) × (o ≡ Some g)
 some-hart None e = absurd (true≢false (sym e))
 some-hart (Some g) e = (g, refl)
 

@@ -198,7 +198,7 @@ module _ (m : MachineValue) (f : FlatMachine) (h : ℕ) (g : FlatHart) (c : Chan
     parts : (m3.top ≡ comes.served.top) × (m3.kids ≡ comes.served.kids)
     parts = same-top m3.top comes.served.top m3.kids comes.served.kids comes.served.brings.root
 
-    rests3 : is_at_rest m3 ≡ true
+    pub rests3 : is_at_rest m3 ≡ true
     rests3 = ap tree_rests comes.served.brings.root ∙ comes.rests
 
     have3 : AllHave flat m3.kids

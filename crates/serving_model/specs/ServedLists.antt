@@ -2,13 +2,16 @@
 -- reservation stores, is one that the machine completes.
 -- Letters: f is a flat machine, m a machine that shows it.
 -- To be believed: it is what is claimed of them.
-use Rattle.std.specs.Prelude.{◌≡◌, ◌<◌, ℕ, Bool, true, false, ◌&&◌, nat_eq, List, [], ◌∷◌, ◌++◌, length, Option, Some, None, is_some, option_and_then, Ok, Err, if◌then◌else◌}
+use Rattle.std.specs.Prelude.{◌≡◌, ◌<◌, ℕ, Bool, true, false, not, ◌&&◌, nat_eq, List, [], ◌∷◌, ◌++◌, length, Option, Some, None, is_some, option_and_then, Ok, Err, if◌then◌else◌}
 use Rattle.serving_model.specs.DdmTypes.CodeMap.{CodeWord}
 use Rattle.serving_model.specs.DdmTypes.ItemTable.{ItemTable}
+use Rattle.serving_model.specs.DdmTypes.declared.operations.Effect.{Effect}
 use Rattle.serving_model.specs.DdmTypes.declared.operations.Op.{Op}
 use Rattle.serving_model.specs.DdmTypes.declared.turns.Turn.{Turn}
-use Rattle.bus_laws.specs.FlatModel.Flat.{FlatMachine, flat_hart, flat_step}
-use Rattle.serving_model.specs.FlatModel.Legal.{if_effect}
+use Rattle.bus_laws.specs.FlatModel.declared.Ask.{Ask}
+use Rattle.bus_laws.specs.FlatModel.Hart.{ask_of}
+use Rattle.bus_laws.specs.FlatModel.Flat.{FlatMachine, flat_hart, flat_step, has_reserved}
+use Rattle.serving_model.specs.FlatModel.Legal.{if_effect, is_sc_ok, legal_step, legal_run}
 use Rattle.serving_model.specs.TreeModel.State.Values.{MachineValue}
 use Rattle.bus_laws.specs.IsTree.{IsTree}
 use Rattle.serving_model.specs.TreeModel.Start.Sources.{ImageValue, TreeValue}
@@ -28,6 +31,40 @@ storing_step code items f op =
 abbrev pub storing_run : List CodeWord → ItemTable → FlatMachine → List Op → Option FlatMachine
 storing_run code items f [] = Some f
 storing_run code items f (op ∷ ops) = option_and_then (λ next. storing_run code items next ops) (storing_step code items f op)
+
+-- ---- which lists these are
+
+-- an SC whose hart has its item reserved, with an effect that doesn't store
+abbrev pub fails_by : Ask → Option ℕ → Effect → Bool
+fails_by Ask.Plain reserved effect = false
+fails_by (Ask.Put byte) reserved effect = false
+fails_by (Ask.NeedsShared x lr) reserved effect = false
+fails_by (Ask.NeedsExclusive x) reserved effect = false
+fails_by (Ask.Conditional x) reserved effect = has_reserved reserved x && not (is_sc_ok effect)
+fails_by (Ask.Halt cause) reserved effect = false
+
+abbrev pub fails_reserved : List CodeWord → ItemTable → FlatMachine → Op → Bool
+fails_reserved code items f op = fails_by (ask_of code items (flat_hart f op.hart).hart) (flat_hart f op.hart).reserved op.effect
+
+abbrev pub where_next : (FlatMachine → Bool) → Option FlatMachine → Bool
+where_next test None = true
+where_next test (Some next) = test next
+
+-- no record of a legal list is of such an SC
+abbrev pub reserved_ones_store : List CodeWord → ItemTable → FlatMachine → List Op → Bool
+reserved_ones_store code items f [] = true
+reserved_ones_store code items f (op ∷ ops) = not (fails_reserved code items f op) && where_next (λ next. reserved_ones_store code items next ops) (legal_step code items f op)
+
+pub record IsStoring (code : List CodeWord) (items : ItemTable) (f : FlatMachine) (ops : List Op) (last : FlatMachine) : Type 0 where
+  pub legal : storing_run code items f ops ≡ Some last → legal_run code items f ops ≡ Some last
+  pub reserved : storing_run code items f ops ≡ Some last → reserved_ones_store code items f ops ≡ true
+  pub stores : legal_run code items f ops ≡ Some last → reserved_ones_store code items f ops ≡ true → storing_run code items f ops ≡ Some last
+
+-- They are the legal lists in which each SC stores whose hart has its item reserved, and no others.
+abbrev pub StoringRunsAreLegal : Type 0
+StoringRunsAreLegal = (code : List CodeWord) (items : ItemTable) (f : FlatMachine) (ops : List Op) (last : FlatMachine) → IsStoring code items f ops last
+
+-- ---- lists that are served
 
 -- the same operations in the same order; keys aren't looked at
 abbrev pub same_operations : List Op → List Op → Bool

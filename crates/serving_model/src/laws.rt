@@ -1,6 +1,6 @@
 //! What holds of walks, as theorems: there is nothing to run.
 
-ghost use Rattle.serving_model.specs.ServedLists.{ListsAreServed, StartsAreShown, EveryOrderIsShown};
+ghost use Rattle.serving_model.specs.ServedLists.{StoringRunsAreLegal, ListsAreServed, StartsAreShown, EveryOrderIsShown};
 ghost use Rattle.serving_model.specs.Laws.{PartsGive, PartsLose, RunsAreTheMachines, ReadsAreServed, ErasesAreServed, WalksBringTheItem, RequestsComplete, InstructionsAreServed, StepsAreShown, WalksAreShort, GrantsKeepHarts};
 
 /// A part of the tree that holds an item, and is at rest, gives it when it is told to answer: its turns are granted, and it is at rest
@@ -50,6 +50,11 @@ pub fn instructions_are_served()
 /// after the step.
 pub fn steps_are_shown()
     ensures { StepsAreShown }
+{}
+
+/// The lists in which an SC that has its reservation stores are the legal ones in which none fails whose hart has its item reserved.
+pub fn storing_runs_are_legal()
+    ensures { StoringRunsAreLegal }
 {}
 
 /// So every list of operations that a flat memory completes, in which an SC that has its reservation stores, is served where the machine

@@ -1,0 +1,3 @@
+pub mod NoEnds
+pub mod Rising
+pub mod Served
