@@ -4,6 +4,7 @@ pub mod MoreTurns
 pub mod OneTurn
 pub mod WholeFilm
 pub mod LevelNumbers
+pub mod Resting
 pub mod StartFilmed
 pub mod StartLevels
 pub mod WholePage

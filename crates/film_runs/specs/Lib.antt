@@ -13,3 +13,4 @@ pub mod ValueLaws
 pub mod Counts
 pub mod Levels
 pub mod Paged
+pub mod Resting
