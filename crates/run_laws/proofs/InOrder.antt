@@ -18,7 +18,8 @@ use Rattle.text_model.proofs.Outputs.{put_texts-same}
 use Rattle.busy_laws.proofs.Turns.{busy-run}
 use Rattle.lr_sc_laws.proofs.Between.{each-sc}
 use Rattle.lr_sc_laws.proofs.Failing.{turn-fails}
-use Rattle.run_laws.specs.InOrder.{EachFailsUnreserved, RunInOrder, AllRunsInOrder, AllTurnsJudged, TurnsKeepPairs}
+use Rattle.run_laws.specs.AfterATurn.{TurnsKeepPairs}
+use Rattle.run_laws.specs.InOrder.{EachFailsUnreserved, RunInOrder, AllRunsInOrder, AllTurnsJudged}
 
 failing : (ts : List Turn) (m : MachineValue) → EachFailsUnreserved ts m
 failing [] m = tt

@@ -1,18 +1,14 @@
 -- What holds of the turns of a run, from the machine that it starts from or goes on from.
--- Letters: s is the flat machine at the start, m the machine, t a turn; of every run t is a tree and i an image.
+-- Letters: s is the flat machine at the start, m the machine, t a turn; in the last two t is a tree and i an image.
 -- To be believed: it is what is claimed of every run.
 use Rattle.std.specs.Prelude.{◌≡◌, ℕ, List, [], ◌∷◌, None, take, ⊤}
-use Rattle.headline.specs.DdmTypes.declared.sizes.Start.{Start}
 use Rattle.headline.specs.DdmTypes.declared.turns.Turn.{Turn}
-use Rattle.headline.specs.FlatModel.Flat.{FlatMachine, flat_start}
+use Rattle.headline.specs.FlatModel.Flat.{FlatMachine}
 use Rattle.headline.specs.TreeModel.Start.Sources.{TreeValue, ImageValue}
 use Rattle.headline.specs.TreeModel.Start.Machine.{flat_start_of, start_machine, start_refusal}
 use Rattle.headline.specs.TreeModel.State.Values.{MachineValue}
-use Rattle.headline.specs.TreeModel.State.Shape.{IsShaped}
 use Rattle.headline.specs.TreeModel.Turns.Machine.{run_of, turn_of}
 use Rattle.headline.specs.TreeModel.Turns.Witness.{sorted_ops}
-use Rattle.headline.specs.TreeRules.Bus.Rules.{IsMachineOk}
-use Rattle.headline.specs.TreeRules.Order.Rules.{IsCore, IsTimed}
 use Rattle.headline.specs.TreeRules.Witness.{EachTurnWitnessed}
 use Rattle.headline.specs.BusLaws.IsTree.{IsTree}
 use Rattle.text_model.specs.Run.{EachOutputWitnessed}
@@ -51,11 +47,3 @@ AllRunsInOrder = (t : TreeValue) (i : ImageValue) → IsTree t → start_refusal
 
 abbrev pub AllTurnsJudged : Type 0
 AllTurnsJudged = (turns : List Turn) (m : MachineValue) → AreJudged turns m
-
--- ---- of one turn
-
--- after a turn of a machine that keeps its rules, and whose operations are in order from a flat machine at its start: before each SC
--- that stores there is its LR, and between them no store of another hart to its item
-abbrev pub TurnsKeepPairs : Type 0
-TurnsKeepPairs = (start : Start) (words : List (List ℕ)) (t : Turn) (m : MachineValue) → IsShaped m → IsMachineOk m → IsTimed m → IsCore (flat_start start words) m
-    → let after = (turn_of t m).machine in EachScHasItsLr after.items (sorted_ops after.ops)

@@ -1,0 +1,6 @@
+mod Lists
+mod Requests
+mod Replies
+mod Entries
+mod Leaves
+mod Grid

@@ -1,0 +1,3 @@
+-- Of `ddm_types`, what this crate names.
+pub use Rattle.tree_model.specs.DdmTypes.Keys
+pub use Rattle.tree_model.specs.DdmTypes.declared

@@ -1,0 +1,10 @@
+pub mod DdmTypes
+pub mod Situation
+pub mod Row
+pub mod Requests
+pub mod Replies
+pub mod Entries
+pub mod Leaves
+pub mod Table
+pub mod Grid
+pub mod Examples

@@ -1,0 +1,51 @@
+//! The machine does what the table says, as theorems: each clause is one, and there is nothing to run.
+
+ghost use Rattle.std.specs.Prelude.{◌≡◌, ℕ, List, Some};
+ghost use Rattle.protocol_table.specs.DdmTypes.declared.keys.Stamp.{Stamp};
+ghost use Rattle.protocol_table.specs.DdmTypes.declared.sizes.LeafState.{LeafState};
+ghost use Rattle.tree_model.specs.declared.BusTurn.{BusTurn};
+ghost use Rattle.tree_model.specs.State.States.{entry_hold, state_lost, asked_when_lost, state_with_data};
+ghost use Rattle.tree_model.specs.State.States.{asked_with_data, state_with_exclusive, state_with_inject};
+ghost use Rattle.tree_model.specs.State.States.{state_answered, is_waiting, may_leave};
+ghost use Rattle.tree_model.specs.State.Values.{DirValue, Node};
+ghost use Rattle.tree_model.specs.Turns.Grant.{outcome_of};
+ghost use Rattle.tree_model.specs.Turns.Bus.{bus_step};
+ghost use Rattle.protocol_table.specs.Table.{table_says};
+ghost use Rattle.protocol_table.specs.Grid.{row_of};
+ghost use Rattle.protocol_table.specs.Examples.{OneRead, OneWrite, JoinedRead, PendingErase};
+
+/// A turn of a bus is what the first row of the table that applies says, in every state and for every turn: what it
+/// answers, what it leaves of the parent, and what of the children.
+pub fn turns_are_the_table()
+    ensures requests { (above : Stamp) (p : DirValue) (ns : List Node) (c : ℕ)
+        → bus_step above (BusTurn.Request c) p ns ≡ outcome_of p ns (table_says above p ns (BusTurn.Request c)) }
+    ensures replies { (above : Stamp) (p : DirValue) (ns : List Node) (c : ℕ)
+        → bus_step above (BusTurn.Reply c) p ns ≡ outcome_of p ns (table_says above p ns (BusTurn.Reply c)) }
+    ensures entries { (above : Stamp) (p : DirValue) (ns : List Node)
+        → bus_step above BusTurn.Down p ns ≡ outcome_of p ns (table_says above p ns BusTurn.Down) }
+    ensures leaves { (above : Stamp) (p : DirValue) (ns : List Node) (c choice : ℕ)
+        → bus_step above (BusTurn.Leave c choice) p ns
+        ≡ outcome_of p ns (table_says above p ns (BusTurn.Leave c choice)) }
+{}
+
+/// What becomes of a leaf's entry is what the row of its state says.
+pub fn states_are_the_grid()
+    ensures holds { (t : LeafState) → entry_hold (Some t) ≡ (row_of t).holds }
+    ensures lost { (t : LeafState) → state_lost t ≡ (row_of t).lost.state }
+    ensures asks_when_lost { (t : LeafState) → asked_when_lost t ≡ (row_of t).lost.asks }
+    ensures data { (t : LeafState) → state_with_data t ≡ (row_of t).data_comes.state }
+    ensures asks_with_data { (t : LeafState) → asked_with_data t ≡ (row_of t).data_comes.asks }
+    ensures exclusive { (t : LeafState) → state_with_exclusive t ≡ (row_of t).exclusive_comes.state }
+    ensures inject { (t : LeafState) → state_with_inject t ≡ (row_of t).inject_comes.state }
+    ensures answers { (t : LeafState) → state_answered t ≡ (row_of t).answers.state }
+    ensures waits { (t : LeafState) → is_waiting t ≡ (row_of t).waits }
+    ensures leaves { (t : LeafState) → may_leave t ≡ (row_of t).may_leave }
+{}
+
+/// Turns of a bus of two leaves, as the table answers them.
+pub fn worked_turns()
+    ensures one_read { OneRead }
+    ensures one_write { OneWrite }
+    ensures joined_read { JoinedRead }
+    ensures pending_erase { PendingErase }
+{}
