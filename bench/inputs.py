@@ -4,6 +4,7 @@ import struct
 import subprocess
 
 TURNS = 1_000_000
+PAGED = 100_000
 ROUNDS = 50_000
 # The shape of each tree, the sets of a leaf and the bytes of a stack.
 TREES = {
@@ -80,12 +81,12 @@ def buses_of(shape):
     return widths
 
 
-def fair_schedule(shape):
+def fair_schedule(shape, turns=TURNS):
     """Round after round three turns of each hart, then every request, from the lowest bus up, then what comes down and
     every reply, from the top bus down; in each third round copies may leave."""
     widths = buses_of(shape)
     lines, number = [], 0
-    while len(lines) < TURNS:
+    while len(lines) < turns:
         lines += [f"h {hart} {number % 4}" for hart in range(shape.count("L")) for _ in range(3)]
         lines += [f"g {bus} q {child}" for bus in reversed(range(len(widths))) for child in range(widths[bus])]
         for bus, width in enumerate(widths):
@@ -93,7 +94,7 @@ def fair_schedule(shape):
         if number % 3 == 0:
             lines += [f"g {bus} l {child} {number % 5}" for bus, width in enumerate(widths) for child in range(width)]
         number += 1
-    return ("\n".join(lines[:TURNS]) + "\nend\n").encode()
+    return ("\n".join(lines[:turns]) + "\nend\n").encode()
 
 
 def write_inputs(folder, program):
@@ -111,6 +112,7 @@ def write_inputs(folder, program):
     for name in RECORDED:
         (folder / f"fair_{name}").write_bytes(fair_schedule(TREES[name][0]))
         (folder / f"seeded_{name}").write_bytes(printed("schedule", name, "42", str(TURNS)))
+    (folder / "paged").write_bytes(fair_schedule(TREES["LL"][0], PAGED))
     report = printed("run", "loop", "L", "retire").splitlines(keepends=True)
     (folder / "witness").write_bytes(b"".join(line for line in report if line.startswith(b"op ")))
     (folder / "saved").write_bytes(printed("save", "loop", "L", "retire"))

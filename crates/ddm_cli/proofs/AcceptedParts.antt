@@ -1,6 +1,6 @@
 -- What the files of a command give where they are accepted.
 -- Letters: t is a tree, i an image, p what both give.
-use Rattle.std.proofs.Common.{◌≡◌, inl, inr, ℕ, ◌≤◌, List, length, Option, Some, None, Result, Ok, Err, refl, subst, cond}
+use Rattle.std.proofs.Common.{◌≡◌, inl, inr, ℕ, ◌≤◌, List, length, Option, Some, None, Result, Ok, Err, refl, subst, cond, arith}
 use Rattle.std.specs.Prelude.{is_none, option_and_then}
 use Rattle.std.specs.Result.{result_ok}
 use Rattle.ddm_cli.specs.DdmTypes.declared.turns.Turn.{Turn}
@@ -14,9 +14,10 @@ use Rattle.ddm_cli.specs.ElfLoad.ElfFile.{image_of}
 use Rattle.ddm_cli.specs.ElfLoad.declared.refusal.ImageRefusal.{ImageRefusal}
 use Rattle.ddm_cli.specs.TreeConfig.TreeFile.{tree_of}
 use Rattle.ddm_cli.specs.TreeConfig.declared.refusal.TreeRefusal.{TreeRefusal}
-use Rattle.ddm_cli.specs.Parts.{Parts, if_started, parts_in, parts_of, tree_at, turns_at, turns_of}
+use Rattle.ddm_cli.specs.Parts.{Parts, before_page, if_started, parts_in, parts_of, tree_at, turns_at, turns_of}
 use Rattle.ddm_cli.specs.Together.{IsAskable}
-use Rattle.ddm_cli.specs.Told.{ScheduleGiven, written, seeded}
+use Rattle.ddm_cli.specs.Told.{ScheduleGiven, written, paged, seeded}
+use Rattle.ddm_cli.proofs.TextModel.Given.{turns-schedule_of}
 use Rattle.witness_laws.proofs.OfFiles.{few-turns}
 
 pub tree-told : (file : List ℕ) (t : TreeValue) → tree_at file ≡ Some t → tree_of file ≡ Ok t
@@ -61,6 +62,13 @@ few-given t (written file) turns askable e = by_result (schedule_of (shape_view 
   by_result (Ok ts) is e =
       let same : ts ≡ turns = cc in
       subst (λ us. length us ≤ turn_limit) same (few-turns t ts (inl (file, is)))
+  by_result (Err r) is e = cc
+few-given t (paged file) turns askable e = by_result (schedule_of (shape_view t.levels) before_page file) refl e where
+  by_result : (r : Result (List Turn) (ℕ × ScheduleRefusal)) → schedule_of (shape_view t.levels) before_page file ≡ r → result_ok r ≡ Some turns → length turns ≤ turn_limit
+  by_result (Ok ts) is e =
+      let same : ts ≡ turns = cc in
+      let given = turns-schedule_of (shape_view t.levels) before_page file ts (omega arith) is in
+      subst (λ us. length us ≤ turn_limit) same (omega (arith, given.room))
   by_result (Err r) is e = cc
 few-given t (seeded seed count) turns askable e =
     let same : seeded_turns (shape_view t.levels) seed count ≡ turns = cc in

@@ -18,12 +18,13 @@ use Rattle.ddm_cli.specs.TextModel.declared.ScheduleRefusal.{ScheduleRefusal}
 use Rattle.ddm_cli.specs.Causes.{HasNoSetting, HasSmallList, IsRefused, IsUnloaded, IsUnresumed, IsUnscheduled, IsUnstarted}
 use Rattle.witness_check.specs.Start.{Setting, check_of, judged}
 use Rattle.witness_check.specs.declared.refusal.CheckRefusal.{CheckRefusal}
-use Rattle.ddm_cli.specs.Commands.{Check, Command, Recorded, Resumption, Run, Seeds, Survey, to_run, to_list, to_check, to_resume, to_survey, to_record, to_measure, to_survey_runs, to_join, to_say, first_run, recorded_run, surveyed_run}
+use Rattle.ddm_cli.specs.Commands.{Check, Command, Paged, Recorded, Resumption, Run, Seeds, Survey, to_run, to_list, to_check, to_resume, to_survey, to_record, to_measure, to_survey_runs, to_join, to_page, to_say, first_run, paged_run, recorded_run, surveyed_run}
 use Rattle.ddm_cli.specs.Lists.{list_refused}
 use Rattle.ddm_cli.specs.Parts.{Parts, if_judged, if_large, if_started, items_of, parts_for, parts_in, parts_of, resumed_at, setting_at, setting_in, tree_at, turns_at, turns_of}
-use Rattle.ddm_cli.specs.Told.{ScheduleGiven, written, seeded, image_told, schedule_told}
+use Rattle.ddm_cli.specs.Told.{ScheduleGiven, written, paged, seeded, image_told, schedule_told}
 use Rattle.ddm_cli.specs.Top.{Both, command_text, list_of, measure_at, outcomes_at, record_at, rest_with, resumed_text, resumed_with, survey_at, text_of, text_with, verdict_in, verdict_of, IsJudged, StatusHasCause, Completes, NoRest, NoRun, NotAccepted, NothingFailed, NoVerdict, RefusesImage, WithParts, WithResumed}
 use Rattle.ddm_cli.proofs.Joins.{join_refused}
+use Rattle.ddm_cli.proofs.Pages.{paged_report, paged_report_said}
 use Rattle.ddm_cli.proofs.Settings.{start_refused}
 use Rattle.ddm_cli.specs.declared.command.Prints.{Prints}
 use Rattle.ddm_cli.specs.declared.command.Prints.TheVariants.{Report}
@@ -75,6 +76,7 @@ module _ (prints : Prints) where
 no_turns : (levels : List (List ℕ)) (schedule : ScheduleGiven) (line : ℕ) (r : ScheduleRefusal) → IsRefused levels line r schedule → turns_of levels schedule ≡ None
 unfolding turns_at
 no_turns levels (written file) line r is = rw is refl
+no_turns levels (paged file) line r is = rw is refl
 no_turns levels (seeded seed count) line r is = absurd is
 
 parts_tree : (t : TreeValue) (image : List ℕ) (p : Parts) → parts_in t image ≡ Some p → p.tree ≡ t
@@ -423,6 +425,16 @@ module _ {F K : Type 0} (told : F → List ℕ → Option (List ℕ)) (faults : 
         let said = first_said (told files o.tree) (told files o.image) o.first o.turns tree.0 image.0 run.0 tree.1 image.1 run.1 in
         run_refused Report (surveyed_run o) run.0 said (calm.0, calm.1, λ rose. omega (arith, rose))
 
+    -- where there is a page, a run of the same files has a text
+    page_refused : (p : Paged) (text : List ℕ) → command_text (told files) (to_page p) ≡ Some text → NothingFailed told faults files files' (to_page p) → (s : Status) → NoRun told faults files files' Report s (paged_run p) → s ≡ NoMemory
+    page_refused p text has calm =
+        let tree = and_then_some (told files p.tree) _ text has in
+        let image = and_then_some (told files p.image) _ text tree.2 in
+        let schedule = and_then_some (schedule_told (told files) (paged_run p).turns) _ text image.2 in
+        let run = paged_report tree.0 image.0 schedule.0 text schedule.2 in
+        let said = paged_report_said (told files p.tree) (told files p.image) (schedule_told (told files) (paged_run p).turns) tree.0 image.0 schedule.0 run.0 tree.1 image.1 schedule.1 run.1 in
+        run_refused Report (paged_run p) run.0 said calm
+
     command_refused : (c : Command) (text : List ℕ) → command_text (told files) c ≡ Some text → NothingFailed told faults files files' c → (s : Status) → NotAccepted told faults files files' s c → s ≡ NoMemory
     command_refused (to_run prints r) text has calm = run_refused prints r text has calm
     command_refused (to_list tree seed count) text has calm = listing_refused tree seed count text has calm
@@ -433,6 +445,7 @@ module _ {F K : Type 0} (told : F → List ℕ → Option (List ℕ)) (faults : 
     command_refused (to_measure r) text has calm = measure_refused r text has calm
     command_refused (to_survey_runs o) text has calm = ends_refused o text has calm
     command_refused (to_join names) text has calm = join_refused told faults files files' names text has calm
+    command_refused (to_page p) text has calm = page_refused p text has calm
     command_refused (to_say a) text has calm = λ s refused. absurd refused
 
   pub completes : (words : List (List ℕ)) (files files' : F) (out out' : K) (status : Status) → StatusHasCause told faults held failures words files files' out out' status → Completes told faults held failures words files files' out out' status

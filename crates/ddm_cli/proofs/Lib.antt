@@ -27,6 +27,7 @@ pub mod EachTurn
 pub mod LargeLists
 pub mod Taken
 pub mod InOrder
+pub mod Pages
 pub mod Completeness
 pub mod Rests
 pub mod FileInPieces

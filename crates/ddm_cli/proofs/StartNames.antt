@@ -129,7 +129,7 @@ module _ (t : TreeValue) (i : ImageValue) (tree : IsTree t) where
       )
 
   -- and each is there
-  start_buses : (b : ℕ) → b < length (bus_widths t) → has_node (bus_of_number b) (root_of (start_machine t i)) ≡ true
+  pub start_buses : (b : ℕ) → b < length (bus_widths t) → has_node (bus_of_number b) (root_of (start_machine t i)) ≡ true
   unfolding start_machine
   start_buses zero low = refl
   start_buses (suc b) low =

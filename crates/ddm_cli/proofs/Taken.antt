@@ -23,7 +23,7 @@ use Rattle.ddm_cli.specs.ElfLoad.ElfFile.{image_of}
 use Rattle.ddm_cli.specs.TreeConfig.declared.refusal.TreeKey.{TreeKey}
 use Rattle.ddm_cli.specs.ReportCrate.declared.roles.FileRole.TheVariants.{ImageFile, TreeFile, ScheduleFile, WitnessFile, CheckpointFile}
 use Rattle.ddm_cli.specs.Causes.{AcceptedAs, Accepts, HasSmallList, IsRefused, IsUnscheduled, RanCause, ScheduleCause}
-use Rattle.ddm_cli.specs.Commands.{Run, TurnsFrom, schedule_named, turns_seeded}
+use Rattle.ddm_cli.specs.Commands.{Run, TurnsFrom, schedule_named, paged_named, turns_seeded}
 use Rattle.ddm_cli.specs.Lists.{list_refused}
 use Rattle.ddm_cli.specs.Parts.{IsStart, Parts, tree_at, turns_at, turns_of}
 use Rattle.ddm_cli.specs.Printed.{printed}
@@ -134,6 +134,7 @@ file_caused levels told before now WriteFault cause = absurd cause
 -- counts that don't fall, from one call to the next
 pub later_faults : (turns : TurnsFrom) (f g h : List ℕ → ℕ) → ((name : List ℕ) → f name ≤ g name) → ((name : List ℕ) → g name ≤ h name) → schedule_faults f turns ≤ schedule_faults h turns
 later_faults (schedule_named name) f g h first second = omega (arith, first name, second name)
+later_faults (paged_named name) f g h first second = omega (arith, first name, second name)
 later_faults (turns_seeded seed count) f g h first second = omega arith
 
 -- ---- why nothing is printed of turns, as a cause of the command

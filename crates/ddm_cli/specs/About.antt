@@ -92,7 +92,7 @@ faults_text = lines_of (
     codes " 4 tree: out of range KEY            take a number that ddm help run allows" ∷
     codes " 5 schedule line N: bad turn         spell line N as ddm help run says" ∷
     codes " 5 schedule line N: too many turns   1048576 are the most, with those before a" ∷
-    codes "                                     checkpoint" ∷
+    codes "                                     checkpoint; for page, 100000" ∷
     codes " 5 schedule line N: no such hart     line N is for a larger tree" ∷
     codes " 5 schedule line N: no such bus      line N is for a larger tree" ∷
     codes " 5 schedule line N: no such child    line N is for a larger tree" ∷
@@ -161,6 +161,7 @@ help_text = lines_of (
     codes "  ddm survey IMAGE TREE KIND FIRST COUNT TURNS" ∷
     codes "                                   what the recorded runs of many seeds come to" ∷
     codes "  ddm join TABLE TABLE ..          the table of all runs of several tables" ∷
+    codes "  ddm page IMAGE TREE SCHEDULE     a page that shows the run turn by turn, for a browser" ∷
     codes "  ddm help COMMAND                 more of one of these" ∷
     codes "  ddm --help, ddm --version" ∷
     [])
@@ -257,6 +258,11 @@ own_text about.Join = lines_of (
     codes "Prints the table of all runs of 2 to 256 tables, each of 64 MiB at most: what" ∷
     codes "ddm outcomes printed, or what ddm survey did. Where no seed is in two of them" ∷
     codes "it is the table of all these seeds." ∷
+    [])
+own_text about.Page = lines_of (
+    codes "ddm page IMAGE TREE SCHEDULE" ∷
+    codes "Makes the turns as run does, and prints an HTML page that shows each of them in" ∷
+    codes "a browser. There are at most 100000 turns." ∷
     [])
 
 -- what is said behind it, of each command

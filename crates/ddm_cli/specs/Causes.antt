@@ -21,8 +21,8 @@ use Rattle.witness_check.specs.Start as check
 use Rattle.witness_check.specs.Start.{Setting, check_of}
 use Rattle.witness_check.specs.declared.refusal.CheckRefusal.{CheckRefusal}
 use Rattle.ddm_cli.specs.Lists.{list_refused}
-use Rattle.ddm_cli.specs.Parts.{items_of, parts_in}
-use Rattle.ddm_cli.specs.Told.{ScheduleGiven, written, seeded}
+use Rattle.ddm_cli.specs.Parts.{before_page, items_of, parts_in}
+use Rattle.ddm_cli.specs.Told.{ScheduleGiven, written, paged, seeded}
 use Rattle.ddm_cli.specs.declared.command.Prints.{Prints}
 use Rattle.ddm_cli.specs.declared.status.Status.{Status}
 use Rattle.ddm_cli.specs.declared.status.Status.TheVariants.{ImageLoad, ImageBuild, Tree, Schedule, Witness, Checkpoint, SmallLists, ReadFault, NoMemory}
@@ -78,6 +78,7 @@ IsUnscheduled levels made line r file = schedule_of (shape_view levels) made fil
 -- a seeded schedule never is
 abbrev pub IsRefused : List (List ℕ) → ℕ → ScheduleRefusal → ScheduleGiven → Type 0
 IsRefused levels line r (written file) = IsUnscheduled levels 0 line r file
+IsRefused levels line r (paged file) = IsUnscheduled levels before_page line r file
 IsRefused levels line r (seeded seed count) = ⊥
 
 -- what is said of a schedule, with the way it is refused

@@ -17,9 +17,10 @@ pub data ImageFrom : Type 0 where
   image_named : List ℕ → ImageFrom
   image_made : ℕ → ℕ → ImageFrom
 
--- where turns come from: a schedule file of this name, or a seed that gives so many
+-- where turns come from: a schedule file of this name; one that a page is made of, which has fewer turns; or a seed that gives so many
 pub data TurnsFrom : Type 0 where
   schedule_named : List ℕ → TurnsFrom
+  paged_named : List ℕ → TurnsFrom
   turns_seeded : ℕ → ℕ → TurnsFrom
 
 -- what is made has 1 to 50,000 rounds
@@ -30,6 +31,7 @@ IsMakeable (image_made seed rounds) = (1 ≤ rounds) × (rounds ≤ 50000)
 -- and there are few enough turns
 abbrev pub AreFew : TurnsFrom → Type 0
 AreFew (schedule_named name) = Unit {0}
+AreFew (paged_named name) = Unit {0}
 AreFew (turns_seeded seed count) = count ≤ 1048576
 
 -- what a machine is made of and which turns it makes
@@ -78,6 +80,12 @@ pub record Survey : Type 0 where
   pub count : ℕ
   pub turns : ℕ
 
+-- what a page is made of: the files of an image, of a tree and of a schedule
+pub record Paged : Type 0 where
+  pub image : List ℕ
+  pub tree : List ℕ
+  pub schedule : List ℕ
+
 pub data Command : Type 0 where
   -- to run a machine and print this of it
   to_run : Prints → Run → Command
@@ -97,6 +105,8 @@ pub data Command : Type 0 where
   to_survey_runs : Survey → Command
   -- to put the tables of these files together
   to_join : List (List ℕ) → Command
+  -- to print the page of a run
+  to_page : Paged → Command
   -- to say something of the program itself
   to_say : About → Command
 
@@ -118,6 +128,9 @@ recorded_value image tree kind seed turns = record { image = image; tree = tree;
 abbrev survey_value : List ℕ → List ℕ → SeedKind → ℕ → ℕ → ℕ → Survey
 survey_value image tree kind first count turns = record { image = image; tree = tree; kind = kind; first = first; count = count; turns = turns }
 
+abbrev paged_value : List ℕ → List ℕ → List ℕ → Paged
+paged_value image tree schedule = record { image = image; tree = tree; schedule = schedule }
+
 -- the run of the first of them
 abbrev pub first_run : Seeds → Run
 first_run s = run_value (image_named s.image) s.tree (turns_seeded s.first s.turns)
@@ -128,6 +141,9 @@ recorded_run r = run_value (image_named r.image) r.tree (turns_seeded r.seed r.t
 
 abbrev pub surveyed_run : Survey → Run
 surveyed_run s = run_value (image_named s.image) s.tree (turns_seeded s.first s.turns)
+
+abbrev pub paged_run : Paged → Run
+paged_run p = run_value (image_named p.image) p.tree (paged_named p.schedule)
 
 -- a seed has 64 bits
 abbrev pub most_seeds : ℕ → ℕ
@@ -144,6 +160,7 @@ IsInRange (to_record r) = r.turns ≤ 1048576
 IsInRange (to_measure r) = r.turns ≤ 1000000000
 IsInRange (to_survey_runs s) = (1 ≤ s.count) × (s.count ≤ 1000000) × (s.first + s.count ≤ 18446744073709551616) × (s.turns ≤ 1048576)
 IsInRange (to_join names) = (2 ≤ length names) × (length names ≤ 256)
+IsInRange (to_page p) = Unit {0}
 IsInRange (to_say a) = Unit {0}
 
 -- ---- words in their order: the command that they say, or the index of the first word at fault or of the first that is missing
@@ -248,6 +265,11 @@ tables_named words =
     else (if nat_lt 257 (length words) then Err 257
     else Ok (to_join (drop 1 words)))
 
+-- page IMAGE TREE SCHEDULE
+unfoldable pub file_page : List (List ℕ) → Result Command ℕ
+file_page words =
+    word_at words 1 (λ image. word_at words 2 (λ tree. word_at words 3 (λ schedule. ends_at words 4 (to_page (paged_value image tree schedule)))))
+
 -- the command of a name
 unfoldable pub about_named : List ℕ → Option About
 about_named name =
@@ -265,7 +287,8 @@ about_named name =
     else (if bytes_eq name (codes "measure") then Some about.Measure
     else (if bytes_eq name (codes "survey") then Some about.Survey
     else (if bytes_eq name (codes "join") then Some about.Join
-    else None)))))))))))))
+    else (if bytes_eq name (codes "page") then Some about.Page
+    else None))))))))))))))
 
 -- help COMMAND
 unfoldable pub help_said : List (List ℕ) → Result Command ℕ
@@ -287,10 +310,11 @@ named_command words name =
     else (if bytes_eq name (codes "measure") then seed_measure words
     else (if bytes_eq name (codes "survey") then runs_survey words
     else (if bytes_eq name (codes "join") then tables_named words
+    else (if bytes_eq name (codes "page") then file_page words
     else (if bytes_eq name (codes "help") then help_said words
     else (if bytes_eq name (codes "--help") then ends_at words 1 (to_say about.Help)
     else (if bytes_eq name (codes "--version") then ends_at words 1 (to_say about.Version)
-    else Err 0))))))))))))))))
+    else Err 0)))))))))))))))))
 
 -- ---- words that ask for help, and are just these
 

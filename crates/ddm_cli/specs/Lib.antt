@@ -28,6 +28,8 @@ pub mod Commands
 pub mod Listing
 pub mod Lists
 pub mod Made
+pub mod Pages
+pub mod Paging
 pub mod Parts
 pub mod Printed
 pub mod Reads

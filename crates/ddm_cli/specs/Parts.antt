@@ -19,7 +19,7 @@ use Rattle.witness_check.specs.Reader.{ReaderView, begun, setting_of}
 use Rattle.witness_check.specs.Start as check
 use Rattle.witness_check.specs.Start.{Setting}
 use Rattle.ddm_cli.specs.Lists.{list_refused}
-use Rattle.ddm_cli.specs.Told.{ScheduleGiven, written, seeded}
+use Rattle.ddm_cli.specs.Told.{ScheduleGiven, written, paged, seeded}
 use Rattle.ddm_cli.specs.declared.command.Prints.{Prints}
 
 -- what a machine is made from
@@ -70,9 +70,14 @@ resumed_at p checkpoint = result_ok (resumed (start_machine p.tree p.image) chec
 unfoldable pub turns_at : List (List ℕ) → ℕ → List ℕ → Option (List Turn)
 turns_at levels made file = result_ok (schedule_of (shape_view levels) made file)
 
+-- A page has 100,000 turns at most: its schedule is read as if so many turns had been made before that no more are left.
+abbrev pub before_page : ℕ
+before_page = 948576
+
 -- the turns of a schedule, a seeded one too
 abbrev pub turns_of : List (List ℕ) → ScheduleGiven → Option (List Turn)
 turns_of levels (written file) = turns_at levels 0 file
+turns_of levels (paged file) = turns_at levels before_page file
 turns_of levels (seeded seed count) = Some (seeded_turns (shape_view levels) seed count)
 
 -- ---- what a witness is judged for

@@ -3,11 +3,12 @@
 use Rattle.std.specs.Prelude.{ℕ, List, [], ◌∷◌, Option, Some, option_and_then}
 use Rattle.std.specs.Option.{option_map}
 use Rattle.ddm_cli.specs.MadeImage.MadeImage.{made_image}
-use Rattle.ddm_cli.specs.Commands.{ImageFrom, TurnsFrom, image_named, image_made, schedule_named, turns_seeded}
+use Rattle.ddm_cli.specs.Commands.{ImageFrom, TurnsFrom, image_named, image_made, schedule_named, paged_named, turns_seeded}
 
--- the bytes of a schedule file, or a seed and a number of turns
+-- the bytes of a schedule file; those of one that a page is made of; or a seed and a number of turns
 pub data ScheduleGiven : Type 0 where
   written : List ℕ → ScheduleGiven
+  paged : List ℕ → ScheduleGiven
   seeded : ℕ → ℕ → ScheduleGiven
 
 module _ (told : List ℕ → Option (List ℕ)) where
@@ -18,6 +19,7 @@ module _ (told : List ℕ → Option (List ℕ)) where
 
   abbrev pub schedule_told : TurnsFrom → Option ScheduleGiven
   schedule_told (schedule_named name) = option_map written (told name)
+  schedule_told (paged_named name) = option_map paged (told name)
   schedule_told (turns_seeded seed count) = Some (seeded seed count)
 
   -- the bytes of all of these files
@@ -32,4 +34,5 @@ module _ (faults : List ℕ → ℕ) where
 
   abbrev pub schedule_faults : TurnsFrom → ℕ
   schedule_faults (schedule_named name) = faults name
+  schedule_faults (paged_named name) = faults name
   schedule_faults (turns_seeded seed count) = 0

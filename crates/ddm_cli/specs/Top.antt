@@ -32,9 +32,10 @@ use Rattle.ddm_cli.specs.OutcomeModel.Outcomes.{outcome_table, outcomes_text}
 use Rattle.ddm_cli.specs.OutcomeModel.Table.{OutcomeLine}
 use Rattle.ddm_cli.specs.RecordingModel.Recording.{record_text, recording_of}
 use Rattle.ddm_cli.specs.MeasureModel.Text.{measure_text}
-use Rattle.ddm_cli.specs.Commands.{Check, Command, ImageFrom, Recorded, Resumption, Run, Seeds, Survey, TurnsFrom, to_run, to_list, to_check, to_resume, to_survey, to_record, to_measure, to_survey_runs, to_join, to_say, command_of, first_run, recorded_run, surveyed_run}
+use Rattle.ddm_cli.specs.Commands.{Check, Command, ImageFrom, Paged, Recorded, Resumption, Run, Seeds, Survey, TurnsFrom, to_run, to_list, to_check, to_resume, to_survey, to_record, to_measure, to_survey_runs, to_join, to_page, to_say, command_of, first_run, paged_run, recorded_run, surveyed_run}
 use Rattle.ddm_cli.specs.SurveyModel.Laws.{IsLegalEnd}
 use Rattle.ddm_cli.specs.SurveyModel.Survey.{survey_table, survey_text}
+use Rattle.ddm_cli.specs.Pages.{paged_text}
 use Rattle.ddm_cli.specs.Parts.{Parts, parts_for, parts_of, resumed_at, setting_at, tree_at, turns_at, turns_of}
 use Rattle.ddm_cli.specs.Printed.{Writes, legal_line, printed, resumed_report}
 use Rattle.ddm_cli.specs.Refusals.{build_line, checkpoint_line, image_line, small_lists_line, tree_line, tree_line_head, tree_line_rest, witness_line}
@@ -130,6 +131,8 @@ command_text told (to_record r) = option_and_then (λ tree. option_and_then (rec
 command_text told (to_measure r) = option_and_then (λ tree. option_and_then (measure_of r tree) (told r.image)) (told r.tree)
 command_text told (to_survey_runs s) = option_and_then (λ tree. option_and_then (survey_of s tree) (told s.image)) (told s.tree)
 command_text told (to_join names) = option_and_then (λ files. result_ok (joined_text files)) (files_told told names)
+command_text told (to_page p) =
+    option_and_then (λ tree. option_and_then (λ image. option_and_then (paged_text tree image) (schedule_told told (paged_run p).turns)) (told p.image)) (told p.tree)
 command_text told (to_say a) = Some (about_text a)
 
 -- ---- order
@@ -198,6 +201,10 @@ FilesInOrder tree image schedule = Both tree image (λ t i. IfSome schedule (λ 
 -- where all three are told, this is their text
 abbrev pub HasText : Prints → Option (List ℕ) → Option (List ℕ) → Option ScheduleGiven → List ℕ → Type 0
 HasText prints tree image schedule text = Both tree image (λ t i. IfSome schedule (λ s. text_of prints t i s ≡ Some text))
+
+-- where all three are told, this is their page
+abbrev pub HasPage : Option (List ℕ) → Option (List ℕ) → Option ScheduleGiven → List ℕ → Type 0
+HasPage tree image schedule text = Both tree image (λ t i. IfSome schedule (λ s. paged_text t i s ≡ Some text))
 
 -- the tree is accepted, and with it the image, whose flat machine has a start
 abbrev pub AcceptsSetting : Option (List ℕ) → Option (List ℕ) → Type 0
@@ -269,6 +276,9 @@ module _ {F : Type 0} (told : F → List ℕ → Option (List ℕ)) where
   HasAccepted files text (to_survey_runs s) =
       AcceptsParts Report (told files s.tree) (told files s.image) × Both (told files s.tree) (told files s.image) (λ t i. survey_of s t i ≡ Some text)
   HasAccepted files text (to_join names) = IfSome (files_told (told files) names) (λ tables. joined_text tables ≡ Ok text)
+  HasAccepted files text (to_page p) =
+      AcceptsRun Report (told files p.tree) (told files p.image) (schedule_told (told files) (paged_run p).turns)
+      × HasPage (told files p.tree) (told files p.image) (schedule_told (told files) (paged_run p).turns) text
   HasAccepted files text (to_say a) = text ≡ about_text a
 
   -- the words are in the grammar, and this is what their command prints
@@ -291,6 +301,7 @@ module _ {F : Type 0} (told : F → List ℕ → Option (List ℕ)) where
   IsInOrder files (to_measure r) = Both (told files r.tree) (told files r.image) (λ t i. IfSome (parts_of t i) (RecordedInOrder r))
   IsInOrder files (to_survey_runs s) = Both (told files s.tree) (told files s.image) (λ t i. IfSome (parts_of t i) (EndsAreRuns s))
   IsInOrder files (to_join names) = Unit {0}
+  IsInOrder files (to_page p) = FilesInOrder (told files p.tree) (told files p.image) (schedule_told (told files) (paged_run p).turns)
   IsInOrder files (to_say a) = Unit {0}
 
   abbrev pub RunIsWitnessed : List (List ℕ) → F → Type 0
@@ -387,6 +398,7 @@ module _ {F : Type 0} (told : F → List ℕ → Option (List ℕ)) where
     NotAccepted s (to_measure r) = NoRun Report s (recorded_run r)
     NotAccepted s (to_survey_runs n) = NoRun Report s (surveyed_run n)
     NotAccepted s (to_join names) = NoJoin s names
+    NotAccepted s (to_page p) = NoRun Report s (paged_run p)
     NotAccepted s (to_say a) = ⊥
 
     -- why there is no text
@@ -405,6 +417,7 @@ module _ {F : Type 0} (told : F → List ℕ → Option (List ℕ)) where
     NothingFailed (to_measure r) = (¬ FileFailed r.tree) × (¬ FileFailed r.image)
     NothingFailed (to_survey_runs s) = (¬ FileFailed s.tree) × (¬ FileFailed s.image)
     NothingFailed (to_join names) = AllByRecursion (λ name. ¬ FileFailed name) names
+    NothingFailed (to_page p) = (¬ FileFailed p.tree) × (¬ FileFailed p.image) × (¬ FileFailed p.schedule)
     NothingFailed (to_say a) = Unit {0}
 
 -- ---- the command

@@ -4,9 +4,10 @@ use Rattle.std.specs.String.{string_bytes}
 use Rattle.ddm_cli.specs.Commands as said
 use Rattle.ddm_cli.specs.declared.command.Check.{Check}
 use Rattle.ddm_cli.specs.declared.command.Command.{Command}
-use Rattle.ddm_cli.specs.declared.command.Command.TheVariants.{Run as ToRun, List as ToList, Check as ToCheck, Resume as ToResume, Outcomes as ToSurvey, Record as ToRecord, Measure as ToMeasure, Survey as ToSurveyRuns, Join as ToJoin, About as ToSay}
+use Rattle.ddm_cli.specs.declared.command.Command.TheVariants.{Run as ToRun, List as ToList, Check as ToCheck, Resume as ToResume, Outcomes as ToSurvey, Record as ToRecord, Measure as ToMeasure, Survey as ToSurveyRuns, Join as ToJoin, Page as ToPage, About as ToSay}
 use Rattle.ddm_cli.specs.declared.command.ImageSource.{ImageSource}
 use Rattle.ddm_cli.specs.declared.command.ImageSource.TheVariants.{File as ImageFile, Made}
+use Rattle.ddm_cli.specs.declared.command.Paged.{Paged}
 use Rattle.ddm_cli.specs.declared.command.Recorded.{Recorded}
 use Rattle.ddm_cli.specs.declared.command.Run.{Run}
 use Rattle.ddm_cli.specs.declared.command.Resumption.{Resumption}
@@ -41,6 +42,9 @@ recorded_from r = record { image = r.image.now; tree = r.tree.now; kind = r.kind
 abbrev pub survey_from : Survey → said.Survey
 survey_from s = record { image = s.image.now; tree = s.tree.now; kind = s.kind; first = s.first; count = s.count; turns = s.turns }
 
+abbrev pub paged_from : Paged → said.Paged
+paged_from p = record { image = p.image.now; tree = p.tree.now; schedule = p.schedule.now }
+
 abbrev pub command_from : Command → said.Command
 command_from (ToRun prints run) = said.to_run prints (run_from run)
 command_from (ToList tree seed count) = said.to_list tree.now seed count
@@ -51,4 +55,5 @@ command_from (ToRecord recorded) = said.to_record (recorded_from recorded)
 command_from (ToMeasure recorded) = said.to_measure (recorded_from recorded)
 command_from (ToSurveyRuns survey) = said.to_survey_runs (survey_from survey)
 command_from (ToJoin names) = said.to_join (map string_bytes names.now)
+command_from (ToPage paged) = said.to_page (paged_from paged)
 command_from (ToSay about) = said.to_say about

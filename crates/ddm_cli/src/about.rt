@@ -10,7 +10,7 @@ use crate::of_ddm_outside::{Failed, Sink};
 use crate::of_report::write_all;
 
 const HELP: &[u8] =
-    b"ddm runs RV32IA programs on a Data Diffusion Machine; every run is one order of one flat memory.\n\n  ddm run IMAGE TREE SCHEDULE      the report of a run: harts, traffic, items and the witness\n  ddm trace IMAGE TREE SCHEDULE    a line for each turn, and then the report\n  ddm seed IMAGE TREE SEED TURNS   the report of the schedule of a seed\n  ddm schedule TREE SEED TURNS     the schedule of a seed\n  ddm make SEED ROUNDS TREE        the summary of a random program under a seeded schedule\n  ddm check IMAGE TREE WITNESS     whether a witness is one legal run of the flat machine\n  ddm unjam IMAGE TREE SCHEDULE    the turn of a bus that goes on where a leaf waits\n  ddm save IMAGE TREE SCHEDULE     the checkpoint of the machine after a run\n  ddm resume IMAGE TREE CHECKPOINT SCHEDULE\n                                   the report of a run that goes on from a checkpoint\n  ddm outcomes IMAGE TREE FIRST COUNT TURNS\n                                   what the runs of many seeds come to\n  ddm record IMAGE TREE KIND SEED TURNS\n                                   the schedule of the turns of a seed that do something\n  ddm measure IMAGE TREE KIND SEED TURNS\n                                   what such a run is measured by\n  ddm survey IMAGE TREE KIND FIRST COUNT TURNS\n                                   what the recorded runs of many seeds come to\n  ddm join TABLE TABLE ..          the table of all runs of several tables\n  ddm help COMMAND                 more of one of these\n  ddm --help, ddm --version\n";
+    b"ddm runs RV32IA programs on a Data Diffusion Machine; every run is one order of one flat memory.\n\n  ddm run IMAGE TREE SCHEDULE      the report of a run: harts, traffic, items and the witness\n  ddm trace IMAGE TREE SCHEDULE    a line for each turn, and then the report\n  ddm seed IMAGE TREE SEED TURNS   the report of the schedule of a seed\n  ddm schedule TREE SEED TURNS     the schedule of a seed\n  ddm make SEED ROUNDS TREE        the summary of a random program under a seeded schedule\n  ddm check IMAGE TREE WITNESS     whether a witness is one legal run of the flat machine\n  ddm unjam IMAGE TREE SCHEDULE    the turn of a bus that goes on where a leaf waits\n  ddm save IMAGE TREE SCHEDULE     the checkpoint of the machine after a run\n  ddm resume IMAGE TREE CHECKPOINT SCHEDULE\n                                   the report of a run that goes on from a checkpoint\n  ddm outcomes IMAGE TREE FIRST COUNT TURNS\n                                   what the runs of many seeds come to\n  ddm record IMAGE TREE KIND SEED TURNS\n                                   the schedule of the turns of a seed that do something\n  ddm measure IMAGE TREE KIND SEED TURNS\n                                   what such a run is measured by\n  ddm survey IMAGE TREE KIND FIRST COUNT TURNS\n                                   what the recorded runs of many seeds come to\n  ddm join TABLE TABLE ..          the table of all runs of several tables\n  ddm page IMAGE TREE SCHEDULE     a page that shows the run turn by turn, for a browser\n  ddm help COMMAND                 more of one of these\n  ddm --help, ddm --version\n";
 
 const VERSION: &[u8] = b"ddm 1\n";
 
@@ -70,7 +70,7 @@ stands what to do.
  4 tree: out of range KEY            take a number that ddm help run allows
  5 schedule line N: bad turn         spell line N as ddm help run says
  5 schedule line N: too many turns   1048576 are the most, with those before a
-                                     checkpoint
+                                     checkpoint; for page, 100000
  5 schedule line N: no such hart     line N is for a larger tree
  5 schedule line N: no such bus      line N is for a larger tree
  5 schedule line N: no such child    line N is for a larger tree
@@ -193,6 +193,11 @@ ddm outcomes printed, or what ddm survey did. Where no seed is in two of them
 it is the table of all these seeds.
 ";
 
+const PAGE: &[u8] = br"ddm page IMAGE TREE SCHEDULE
+Makes the turns as run does, and prints an HTML page that shows each of them in
+a browser. There are at most 100000 turns.
+";
+
 const NAMED: &[u8] = br#"
 IMAGE is an ELF file for RV32IA of at most 4 MiB. Every hart begins at its
 entry, its number in a0, the number of harts in a1. An example, made from C:
@@ -266,6 +271,7 @@ fn own_text(about: About) -> &'static [u8]
         About::Measure => MEASURE,
         About::Survey => SURVEY,
         About::Join => JOIN,
+        About::Page => PAGE,
     }
 }
 
@@ -288,7 +294,8 @@ fn further_text(about: About) -> &'static [u8]
         | About::Record
         | About::Measure
         | About::Survey
-        | About::Join => named_text(),
+        | About::Join
+        | About::Page => named_text(),
     }
 }
 

@@ -114,6 +114,14 @@ pub struct Survey<'a> {
     pub turns: u32,
 }
 
+/// What a page is made of: the files of an image, of a tree and of a schedule.
+#[derive(Clone, Copy)]
+pub struct Paged<'a> {
+    pub image: &'a str,
+    pub tree: &'a str,
+    pub schedule: &'a str,
+}
+
 /// What the program says of itself.
 #[derive(Clone, Copy, Debug, PartialEq, Eq)]
 pub enum About {
@@ -139,6 +147,7 @@ pub enum About {
     Measure,
     Survey,
     Join,
+    Page,
 }
 
 /// What the words of a command say.
@@ -165,5 +174,7 @@ pub enum Command<'a> {
     Survey(Survey<'a>),
     /// The table of all runs of the tables in these files.
     Join(&'a [String]),
+    /// The page of a run.
+    Page(Paged<'a>),
     About(About),
 }

@@ -49,8 +49,8 @@ pub fn tree_file<F: Shelf>(
     }
 }
 
-// The image of a file.
-fn image_in<F: Shelf>(
+/// The image of a file.
+pub fn image_in<F: Shelf>(
     alloc: Global,
     files: &mut F,
     name: &str,

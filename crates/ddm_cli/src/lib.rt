@@ -24,6 +24,7 @@ pub mod of_schedule_log;
 pub mod of_text_model;
 pub mod of_tree_config;
 pub mod of_witness_check;
+mod paging;
 mod printing;
 mod reading;
 mod recorded;

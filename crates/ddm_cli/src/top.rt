@@ -19,6 +19,7 @@ use crate::measured::write_measured;
 use crate::of_any_machine::release;
 use crate::of_ddm_outside::{Failed, Shelf, Sink};
 use crate::of_report::write_pieces;
+use crate::paging::write_paged;
 use crate::printing::write_ran;
 use crate::reading::read_buffer;
 use crate::recorded::write_recorded;
@@ -119,6 +120,7 @@ fn write_command<F: Shelf, K: Sink>(
         Command::Measure(recorded) => write_measured(alloc, files, out, recorded),
         Command::Survey(survey) => write_survey(alloc, files, out, survey),
         Command::Join(names) => write_joined(alloc, files, out, names),
+        Command::Page(paged) => write_paged(alloc, files, out, paged),
         Command::About(about) => Ok(write_about(out, about)),
     }
 }

@@ -2,11 +2,11 @@
 
 ghost use Rattle.std.specs.Prelude.{◌≡◌, ◌≤◌, ◌<◌, ◌*◌, ◌+◌, map, length, Err, IfOk, IfSome, IsOk, MatchResult, None, Ok, Some, option_and_then, slice_get};
 ghost use Rattle.std.specs.String.{string_bytes};
-ghost use Rattle.ddm_cli.specs.Commands.{IsInRange, about_named, command_of, ends_at, file_check, file_resume, file_run, help_alone, help_asked, help_of_two, help_said, help_topic, kind_named, made_run, named_command, number_in, runs_survey, seed_list, seed_measure, seed_record, seed_run, seeds_survey, tables_named, to_say, word_at};
+ghost use Rattle.ddm_cli.specs.Commands.{IsInRange, about_named, command_of, ends_at, file_check, file_page, file_resume, file_run, help_alone, help_asked, help_of_two, help_said, help_topic, kind_named, made_run, named_command, number_in, runs_survey, seed_list, seed_measure, seed_record, seed_run, seeds_survey, tables_named, to_say, word_at};
 ghost use Rattle.ddm_cli.specs.Views.{command_from};
 
 use crate::command::{
-    About, Check, Command, ImageSource, Prints, Recorded, Resumption, Run, Seeds, Survey,
+    About, Check, Command, ImageSource, Paged, Prints, Recorded, Resumption, Run, Seeds, Survey,
     TurnSource,
 };
 use crate::of_ddm_text::read_decimal;
@@ -352,6 +352,27 @@ fn tables_named(words: &[String]) -> Result<Command<'_>, u32>
     Ok(Command::Join(&words[1..]))
 }
 
+/// `page IMAGE TREE SCHEDULE`.
+#[tactic(auto, unfolding(crate::specs::Commands::file_page))]
+fn file_page(words: &[String]) -> Result<Command<'_>, u32>
+    ensures is { MatchResult result
+        (λ c. file_page (map string_bytes words.now) ≡ Ok (command_from c))
+        (λ k. file_page (map string_bytes words.now) ≡ Err k) }
+    ensures range { IfOk result (λ c. IsInRange (command_from c)) }
+{
+    let image = word(words, 1)?;
+    let tree = word(words, 2)?;
+    let schedule = word(words, 3)?;
+    if words.len() > 4 {
+        return Err(4);
+    }
+    Ok(Command::Page(Paged {
+        image,
+        tree,
+        schedule,
+    }))
+}
+
 /// The command of a name.
 #[tactic(auto, unfolding(crate::specs::Commands::about_named))]
 fn about_named(name: &str) -> Option<About>
@@ -372,6 +393,7 @@ fn about_named(name: &str) -> Option<About>
         "measure" => Some(About::Measure),
         "survey" => Some(About::Survey),
         "join" => Some(About::Join),
+        "page" => Some(About::Page),
         _ => None,
     }
 }
@@ -474,6 +496,7 @@ fn named_command(words: &[String]) -> Result<Command<'_>, u32>
         "measure" => seed_measure(words),
         "survey" => runs_survey(words),
         "join" => tables_named(words),
+        "page" => file_page(words),
         "help" => help_said(words),
         "--help" => alone(words, About::Help),
         "--version" => alone(words, About::Version),

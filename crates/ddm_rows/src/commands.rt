@@ -231,3 +231,18 @@ fn a_made_image(rt: HostRuntime) -> Result<(), Fail> {
     assert_eq!(rt; again.as_slice(), summary.as_slice());
     Ok(())
 }
+
+// The films themselves are tried over files (tests/check-films).
+#[test]
+fn a_page_is_whole(rt: HostRuntime) -> Result<(), Fail> {
+    let alloc = rt.alloc();
+    let files = Files {
+        tree: one_leaf().bytes(alloc)?,
+        image: store_and_load(alloc)?,
+        schedule: schedule(alloc, &["h 0 0"], 8)?,
+    };
+    let page = output(alloc, &["page", "image", "tree", "schedule"], &files)?;
+    assert!(rt; page.starts_with(b"<!DOCTYPE html>\n"));
+    assert!(rt; page.ends_with(b"</html>\n"));
+    Ok(())
+}

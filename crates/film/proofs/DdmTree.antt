@@ -1,2 +1,2 @@
 -- Of `ddm_tree`, what this crate and those above it name.
-pub use Rattle.any_machine.proofs.DdmTree.LeafList
+pub use Rattle.any_runs.proofs.DdmTree.LeafList

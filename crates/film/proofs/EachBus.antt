@@ -1,10 +1,11 @@
 -- The directory over the bus of a number, and what holds of it.
 -- Letters: m is a machine, d a directory over the nodes ns, n how many items there are.
 use Rattle.std.proofs.Common.{true≢false, ◌≡◌, ◌≤◌, ◌<◌, ℕ, suc, ◌+◌, Bool, true, false, cond, List, [], ◌∷◌, ◌++◌, flat_map, map, Option, Some, None, drop, drop-cons, length, nat_eq, zero-add, refl, sym, ap, subst, ◌∙◌, arith}
-use Rattle.std.specs.Prelude.{option_map, ◌||◌, nat_le, nat_lt, not}
+use Rattle.std.specs.Prelude.{is_some, option_map, ◌||◌, nat_le, nat_lt, not}
 use Rattle.std.specs.List.{AllByRecursion, list_all, range_with_len}
 use Rattle.std.proofs.lemmas.Bool.{and_parts, eqb-true, leb-true, ne_eqb}
 use Rattle.std.proofs.lemmas.List.FromFn.{get_or-range_with_len, length-range_with_len}
+use Rattle.film.proofs.TreeModel.NamedNode.{read_in-is_some}
 use Rattle.film.specs.DdmTypes.ItemTable.{item_count}
 use Rattle.film.specs.FilmParts.Records.{IsPlain}
 use Rattle.film.specs.FilmParts.Values.{DirHasForm, HasForm, PartsHaveForm, PartsHaveFormAmong}
@@ -20,11 +21,11 @@ use Rattle.film.specs.DdmTypes.declared.sizes.Hold.{Hold}
 use Rattle.film.specs.DdmTree.Written.{dir_words_of}
 use Rattle.film.specs.StateWords.Machine.{words_or_none}
 use Rattle.film.specs.FilmParts.Parts.{dir_words}
-use Rattle.film_model.specs.Directory.{dir_parts}
+use Rattle.film.specs.FilmModel.Directory.{dir_parts}
 use Rattle.film.specs.TreeModel.Turns.Machine.{machine_leaves}
-use Rattle.film_model.specs.Leaf.{leaf_parts}
-use Rattle.film_model.specs.Part.{Part}
-use Rattle.film_model.specs.Still.{bus_parts, parts_or_none, place_part, still}
+use Rattle.film.specs.FilmModel.Leaf.{leaf_parts}
+use Rattle.film.specs.FilmModel.Part.{Part}
+use Rattle.film.specs.FilmModel.Still.{bus_parts, parts_or_none, place_part, still}
 use Rattle.film.specs.TreeRules.Bus.Own.{IsTopOk, dir_lists, top_item, top_items, top_level}
 use Rattle.film.specs.TreeRules.Bus.Rules.{AreTreesOk, IsMachineOk, IsTreeOk}
 
@@ -222,6 +223,10 @@ bus_given most bus m shaped ok form there = go (nat_eq m.top.bus bus) refl there
       }
 
 -- ---- by number
+
+-- a bus of which it is known how many buses are above it is there
+pub known_bus : (bus level : ℕ) (m : MachineValue) → ask_bus bus (λ w d ns. d.level) 0 m ≡ Some level → has_node (bus_of_number bus) (root_of m) ≡ true
+known_bus bus level m is = sym (read_in-is_some (bus_of_number bus) (of_dir (λ w d ns. d.level) 0) at_top (root_of m)) ∙ ap is_some is
 
 -- traffic is counted for each bus
 pub buses_counted : (m : MachineValue) → IsShaped m → length m.traffic ≡ (tree_counts m).buses

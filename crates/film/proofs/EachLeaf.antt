@@ -24,9 +24,9 @@ use Rattle.film.specs.TreeModel.Turns.Found.{FoundValue, found_copy, found_of, f
 use Rattle.film.specs.TreeRules.Bus.Own.{leaf_lists}
 use Rattle.film.specs.TreeRules.Bus.Rules.{AreTreesOk, IsMachineOk, IsTreeOk}
 use Rattle.film.specs.DdmTree.Rules.{KeepsRules}
-use Rattle.film_model.specs.Leaf.{entry_parts, hart_parts, leaf_list_parts, leaf_parts}
-use Rattle.film_model.specs.Part.{Part, key_of}
-use Rattle.film_model.specs.Still.{place_part, place_text}
+use Rattle.film.specs.FilmModel.Leaf.{entry_parts, hart_parts, leaf_list_parts, leaf_parts}
+use Rattle.film.specs.FilmModel.Part.{Part, key_of}
+use Rattle.film.specs.FilmModel.Still.{place_part, place_text}
 use Rattle.film_parts.proofs.ListSteps.{split}
 use Rattle.film.proofs.DdmTree.LeafList.{leaf-listed, leaves-counted}
 

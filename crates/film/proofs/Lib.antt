@@ -1,4 +1,8 @@
+pub mod AnyRuns
 pub mod DdmTree
-pub mod StateJudging
+pub mod FilmParts
+pub mod StartParts
+pub mod TreeModel
+pub mod ValueLaws
 pub mod EachLeaf
 pub mod EachBus

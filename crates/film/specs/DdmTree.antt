@@ -1,5 +1,5 @@
 -- Of `ddm_tree`, what this crate and those above it name.
-pub use Rattle.any_machine.specs.DdmTree.Machine
-pub use Rattle.any_machine.specs.DdmTree.Reads
-pub use Rattle.any_machine.specs.DdmTree.Rules
-pub use Rattle.any_machine.specs.DdmTree.Written
+pub use Rattle.any_runs.specs.DdmTree.Machine
+pub use Rattle.any_runs.specs.DdmTree.Reads
+pub use Rattle.any_runs.specs.DdmTree.Rules
+pub use Rattle.any_runs.specs.DdmTree.Written

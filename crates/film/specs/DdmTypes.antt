@@ -1,3 +1,3 @@
 -- Of `ddm_types`, what this crate and those above it name.
-pub use Rattle.any_machine.specs.DdmTypes.ItemTable
+pub use Rattle.any_runs.specs.DdmTypes.ItemTable
 pub use Rattle.film_parts.specs.DdmTypes.declared

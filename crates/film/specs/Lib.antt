@@ -1,10 +1,17 @@
 pub mod AnyMachine
+pub mod AnyRuns
+pub mod BusLaws
+pub mod DdmText
 pub mod DdmTree
 pub mod DdmTypes
+pub mod FilmModel
 pub mod FilmParts
 pub mod RvHart
+pub mod StartParts
 pub mod StateWords
+pub mod TextModel
 pub mod TreeModel
 pub mod TreeRules
+pub mod ValueLaws
 pub mod Filmed
 pub mod Found

@@ -1,2 +1,2 @@
 -- Of `tree_rules`, what this crate and those above it name.
-pub use Rattle.tree_rules.specs.Bus
+pub use Rattle.film_parts.specs.TreeRules.Bus

@@ -11,7 +11,7 @@ ghost use Rattle.film.specs.TreeModel.State.Directory.{is_top};
 ghost use Rattle.film.specs.TreeModel.State.Values.{DirValue, Node};
 ghost use Rattle.film.specs.TreeModel.Turns.Machine.{child_count};
 ghost use Rattle.film.specs.TreeModel.Turns.Tree.{bus_of_number};
-ghost use Rattle.film_model.specs.Still.{bus_parts};
+ghost use Rattle.film.specs.FilmModel.Still.{bus_parts};
 
 use crate::of_ddm_tree::{Machine, Subtree};
 use crate::of_ddm_types::{BusNo, NoMemory};

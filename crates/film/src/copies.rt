@@ -2,7 +2,7 @@
 
 ghost use Rattle.std.specs.Prelude.{◌≡◌, ◌<◌, ◌≤◌, ◌++◌, [], ◌∷◌, OnOk};
 ghost use Rattle.film.specs.DdmTypes.ItemTable.{item_count};
-ghost use Rattle.film_model.specs.Still.{place_part};
+ghost use Rattle.film.specs.FilmModel.Still.{place_part};
 
 use crate::of_ddm_tree::{Machine, Subtree};
 use crate::of_ddm_types::{ItemId, NoMemory};

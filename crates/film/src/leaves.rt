@@ -10,7 +10,7 @@ ghost use Rattle.film.specs.TreeModel.Turns.Machine.{machine_leaves};
 ghost use Rattle.film.specs.TreeModel.Turns.Tree.{leaf_of_number};
 ghost use Rattle.film.specs.FilmParts.Values.{LeafHasForm};
 ghost use Rattle.film.specs.Found.{way_given};
-ghost use Rattle.film_model.specs.Leaf.{entry_part, entry_parts, hart_parts, leaf_list_parts, leaf_parts};
+ghost use Rattle.film.specs.FilmModel.Leaf.{entry_part, entry_parts, hart_parts, leaf_list_parts, leaf_parts};
 
 use crate::of_ddm_tree::{Machine, Subtree};
 use crate::of_ddm_types::{HartNo, ItemId, LeafNo, LeafState, NoMemory, Words};

@@ -5,6 +5,8 @@ mod buses;
 mod copies;
 mod leaves;
 pub mod of_any_machine;
+pub mod of_any_runs;
+pub mod of_ddm_text;
 pub mod of_ddm_tree;
 pub mod of_ddm_types;
 pub mod of_tree_model;

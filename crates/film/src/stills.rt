@@ -6,8 +6,8 @@ ghost use Rattle.film.specs.AnyMachine.Any.{depths_state, machine_state, state_i
 ghost use Rattle.film.specs.DdmTypes.ItemTable.{item_count};
 ghost use Rattle.film.specs.Filmed.{IsFilmed};
 ghost use Rattle.film.specs.TreeModel.Turns.Machine.{machine_leaves};
-ghost use Rattle.film_model.specs.Leaf.{leaf_parts};
-ghost use Rattle.film_model.specs.Still.{bus_parts, place_part, still as still_of};
+ghost use Rattle.film.specs.FilmModel.Leaf.{leaf_parts};
+ghost use Rattle.film.specs.FilmModel.Still.{bus_parts, place_part, still as still_of};
 
 use crate::buses::add_bus;
 use crate::copies::add_copy;

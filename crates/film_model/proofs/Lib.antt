@@ -4,3 +4,4 @@ pub mod FilmMarkup
 pub mod RegistersKept
 pub mod StillKeys
 pub mod Replay
+pub mod KeysApart

@@ -9,8 +9,8 @@ use Rattle.film_runs.specs.TreeModel.State.Values.{DirValue, Node, Nodes, leaf_n
 use Rattle.film_runs.specs.TreeModel.Turns.Machine.{turn_of}
 use Rattle.film_runs.specs.TreeModel.Turns.Tree.{bus_of_number, has_among, has_node, of_dir, read_among, read_in}
 use Rattle.film_runs.specs.DdmTypes.declared.turns.Turn.{Turn}
-use Rattle.value_laws.proofs.TurnForm.{turn-form}
-use Rattle.tree_model.proofs.FrameKept.{turn-frame}
+use Rattle.film.proofs.ValueLaws.TurnForm.{turn-form}
+use Rattle.film.proofs.TreeModel.FrameKept.{turn-frame}
 
 -- ---- the level of a bus, by the tree's shape
 

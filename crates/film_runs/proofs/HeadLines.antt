@@ -3,8 +3,8 @@ use Rattle.std.proofs.Common.{◌≡◌, ℕ, zero, suc, ◌+◌, ◌<◌, ◌�
 use Rattle.std.specs.Prelude.{slice_get}
 use Rattle.std.proofs.lemmas.List.{drop_all, drop_more}
 use Rattle.film_runs.specs.DdmTypes.ItemTable.{ItemRow, no_row}
-use Rattle.film_model.specs.Film.{item_line, item_lines}
-use Rattle.film_model.specs.Part.{number_text}
+use Rattle.film_runs.specs.FilmModel.Film.{item_line, item_lines}
+use Rattle.film_runs.specs.FilmModel.Part.{number_text}
 
 -- ---- levels
 

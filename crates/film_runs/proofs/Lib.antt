@@ -3,3 +3,8 @@ pub mod HeadLines
 pub mod MoreTurns
 pub mod OneTurn
 pub mod WholeFilm
+pub mod LevelNumbers
+pub mod Resting
+pub mod StartFilmed
+pub mod StartLevels
+pub mod WholePage

@@ -2,16 +2,16 @@
 -- Letters: m is a machine, t and u are turns, s is a machine as the code has it.
 use Rattle.std.proofs.Common.{◌≡◌, ℕ, ◌+◌, ◌<◌, List, [], ◌∷◌, ◌++◌, length, take, refl, sym, ap, subst, ◌∙◌, append_assoc, append-nil, arith}
 use Rattle.std.proofs.lemmas.List.{length-take-le}
-use Rattle.any_runs.proofs.RunMore.{below-none, counted-below, counted-plus, counts-more, machine-more}
+use Rattle.film.proofs.AnyRuns.RunMore.{below-none, counted-below, counted-plus, counts-more, machine-more}
 use Rattle.film_runs.specs.AnyRuns.Run.{AreBelow, counts_in}
 use Rattle.film_runs.specs.Counts.{sum}
 use Rattle.film_runs.specs.DdmTree.Machine.{MachineState}
 use Rattle.film_runs.specs.DdmTypes.declared.turns.Turn.{Turn}
 use Rattle.film_runs.specs.TreeModel.State.Values.{MachineValue}
 use Rattle.film_runs.specs.TreeModel.Turns.Machine.{run_of, turn_of}
-use Rattle.text_model.specs.declared.RunCounts.{RunCounts}
-use Rattle.text_model.specs.Run.{counted_answer, counts_of, no_counts}
-use Rattle.film_model.specs.Film.{turn_film, turns_film}
+use Rattle.film_runs.specs.TextModel.declared.RunCounts.{RunCounts}
+use Rattle.film_runs.specs.TextModel.Run.{counted_answer, counts_of, no_counts}
+use Rattle.film_runs.specs.FilmModel.Film.{turn_film, turns_film}
 
 -- ---- the text
 

@@ -8,10 +8,10 @@ use Rattle.film_runs.specs.DdmTypes.declared.answers.TurnAnswer.{TurnAnswer}
 use Rattle.film_runs.specs.DdmTypes.declared.turns.Turn.{Turn}
 use Rattle.film_runs.specs.TreeModel.State.Values.{MachineValue}
 use Rattle.film_runs.specs.TreeModel.Turns.Machine.{run_of, turn_of}
-use Rattle.text_model.specs.Trace.{trace_line, trace_from}
-use Rattle.film_model.specs.Film.{turn_film}
-use Rattle.film_model.specs.Part.{Part, changed}
-use Rattle.film_model.specs.Still.{still}
+use Rattle.film_runs.specs.TextModel.Trace.{trace_line, trace_from}
+use Rattle.film_runs.specs.FilmModel.Film.{turn_film}
+use Rattle.film_runs.specs.FilmModel.Part.{Part, changed}
+use Rattle.film_runs.specs.FilmModel.Still.{still}
 
 one_answer : (t : Turn) (m : MachineValue) → (run_of (t ∷ []) m).answers ≡ (turn_of t m).answer ∷ []
 unfolding run_of
@@ -31,16 +31,16 @@ answer_after was now given t m is added none = is ∙ added ∙ ap (λ (xs : Lis
 pub machine_after : (s old : MachineState) (t : Turn) → s ≡ ran (t ∷ []) (with_room 1 old) → s.machine ≡ (turn_of t old.machine).machine
 machine_after s old t is = ap (λ (r : MachineState). r.machine) is ∙ one_machine t old.machine
 
-pub text_after : (was mid now : List ℕ) (number : ℕ) (t : Turn) (m next : MachineValue) (before after : List Part) (given : List TurnAnswer) →
-    mid ≡ was ++ trace_from number (t ∷ []) given → Adds mid now (changed before after) → given ≡ (turn_of t m).answer ∷ [] → before ≡ still m → after ≡ still next → next ≡ (turn_of t m).machine →
+pub text_after : (was mid now : List ℕ) (number : ℕ) (t : Turn) (m next : MachineValue) (before : List Part) (given : List TurnAnswer) →
+    mid ≡ was ++ trace_from number (t ∷ []) given → Adds mid now (changed before (still next)) → given ≡ (turn_of t m).answer ∷ [] → before ≡ still m → next ≡ (turn_of t m).machine →
     now ≡ was ++ turn_film number t m
 unfolding turn_film
-text_after was mid now number t m next before after given told added answers from to is =
+text_after was mid now number t m next before given told added answers from is =
     let line = trace_line number t (turn_of t m).answer in
     added.is
-    ∙ ap (λ (x : List ℕ). x ++ changed before after) told
-    ∙ append_assoc was (trace_from number (t ∷ []) given) (changed before after)
-    ∙ ap (λ (xs : List TurnAnswer). was ++ (trace_from number (t ∷ []) xs ++ changed before after)) answers
-    ∙ ap (λ (x : List ℕ). was ++ (x ++ changed before after)) (one_line number t (turn_of t m).answer)
-    ∙ ap (λ (ps : List Part). was ++ (line ++ changed ps after)) from
-    ∙ ap (λ (ps : List Part). was ++ (line ++ changed (still m) ps)) (to ∙ ap still is)
+    ∙ ap (λ (x : List ℕ). x ++ changed before (still next)) told
+    ∙ append_assoc was (trace_from number (t ∷ []) given) (changed before (still next))
+    ∙ ap (λ (xs : List TurnAnswer). was ++ (trace_from number (t ∷ []) xs ++ changed before (still next))) answers
+    ∙ ap (λ (x : List ℕ). was ++ (x ++ changed before (still next))) (one_line number t (turn_of t m).answer)
+    ∙ ap (λ (ps : List Part). was ++ (line ++ changed ps (still next))) from
+    ∙ ap (λ (n : MachineValue). was ++ (line ++ changed (still m) (still n))) is

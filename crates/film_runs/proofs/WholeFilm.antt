@@ -7,13 +7,13 @@ use Rattle.film_runs.specs.TreeModel.Start.Sources.{TreeValue}
 use Rattle.film_runs.specs.TreeModel.State.Shape.{Frame, depth_of, levels_of}
 use Rattle.film_runs.specs.TreeModel.State.Values.{MachineValue}
 use Rattle.film_runs.specs.TreeModel.Turns.Machine.{run_of}
-use Rattle.text_model.specs.declared.RunCounts.{RunCounts}
-use Rattle.text_model.specs.Report.{report_of}
-use Rattle.text_model.specs.Run.{counts_of, report_text_of, view_of}
-use Rattle.film_model.specs.Film.{film_of, head_of, turns_film}
-use Rattle.film_model.specs.Part.{Part, valued}
-use Rattle.film_model.specs.Still.{still}
-use Rattle.tree_model.proofs.FrameKept.{run-frame}
+use Rattle.film_runs.specs.TextModel.declared.RunCounts.{RunCounts}
+use Rattle.film_runs.specs.TextModel.Report.{report_of}
+use Rattle.film_runs.specs.TextModel.Run.{counts_of, report_text_of, view_of}
+use Rattle.film_runs.specs.FilmModel.Film.{film_of, head_of, turns_film}
+use Rattle.film_runs.specs.FilmModel.Part.{Part, valued}
+use Rattle.film_runs.specs.FilmModel.Still.{still}
+use Rattle.film.proofs.TreeModel.FrameKept.{run-frame}
 
 depth_after : (turns : List Turn) (m next : MachineValue) → next ≡ (run_of turns m).machine → depth_of next ≡ depth_of m
 depth_after turns m next is = ap depth_of is ∙ ap (λ (f : Frame). levels_of f.bones) (run-frame turns m)

@@ -1,2 +1,2 @@
--- Of `ddm_text`, what this crate names.
-pub use Rattle.any_runs.specs.DdmText.Adds
+-- Of `ddm_text`, what this crate and those above it name.
+pub use Rattle.film.specs.DdmText.Adds

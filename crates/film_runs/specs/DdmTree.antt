@@ -1,2 +1,2 @@
--- Of the crates of trees, what this crate names.
-pub use Rattle.any_runs.specs.DdmTree.Machine
+-- Of `ddm_tree`, what this crate and those above it name.
+pub use Rattle.film.specs.DdmTree.Machine

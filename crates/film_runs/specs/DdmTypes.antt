@@ -1,3 +1,3 @@
 -- Of `ddm_types`, what this crate and those above it name.
-pub use Rattle.any_runs.specs.DdmTypes.declared
-pub use Rattle.any_runs.specs.DdmTypes.ItemTable
+pub use Rattle.film.specs.DdmTypes.ItemTable
+pub use Rattle.film.specs.DdmTypes.declared

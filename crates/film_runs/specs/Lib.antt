@@ -1,8 +1,16 @@
 pub mod AnyMachine
 pub mod AnyRuns
-pub mod Counts
+pub mod BusLaws
 pub mod DdmText
 pub mod DdmTree
 pub mod DdmTypes
 pub mod Film
+pub mod FilmModel
+pub mod StartParts
+pub mod TextModel
 pub mod TreeModel
+pub mod ValueLaws
+pub mod Counts
+pub mod Levels
+pub mod Paged
+pub mod Resting

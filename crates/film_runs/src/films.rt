@@ -6,7 +6,7 @@ ghost use Rattle.film_runs.specs.AnyRuns.Run.{CanRun, NameParts};
 ghost use Rattle.film_runs.specs.Film.Filmed.{IsFilmed};
 ghost use Rattle.film_runs.specs.TreeModel.State.Shape.{IsShaped, depth_of};
 ghost use Rattle.film_runs.specs.TreeModel.Turns.Machine.{run_of};
-ghost use Rattle.film_model.specs.Film.{film_of};
+ghost use Rattle.film_runs.specs.FilmModel.Film.{film_of};
 
 use crate::heads::push_head;
 use crate::of_any_machine::AnyMachine;

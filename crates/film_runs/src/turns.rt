@@ -1,19 +1,22 @@
 //! Turns that are made and filmed.
 
 ghost use Rattle.std.specs.Prelude.{◌≡◌, ◌<◌, ◌++◌, [], ◌∷◌, IfOk, OnOk, true};
-ghost use Rattle.text_model.specs.Run.{no_counts};
+ghost use Rattle.film_runs.specs.TextModel.Run.{no_counts};
 ghost use Rattle.film_runs.specs.AnyMachine.Any.{machine_state};
 ghost use Rattle.film_runs.specs.AnyRuns.Run.{AreBelow, CanRun, NameParts, counts_in, ran, with_room};
 ghost use Rattle.film_runs.specs.Counts.{sum};
+ghost use Rattle.film_runs.specs.DdmText.Adds.{Adds};
 ghost use Rattle.film_runs.specs.Film.Filmed.{IsFilmed};
+ghost use Rattle.film_runs.specs.Resting.{one_rests, rests};
 ghost use Rattle.film_runs.specs.TreeModel.State.Shape.{IsShaped};
 ghost use Rattle.film_runs.specs.TreeModel.Turns.Machine.{names_part, run_of, turn_of};
-ghost use Rattle.film_model.specs.Film.{turn_film, turns_film};
-ghost use Rattle.film_model.specs.Still.{still as still_of};
+ghost use Rattle.film_runs.specs.FilmModel.Film.{turn_film, turns_film};
+ghost use Rattle.film_runs.specs.FilmModel.Part.{changed};
+ghost use Rattle.film_runs.specs.FilmModel.Still.{still as still_of};
 
 use crate::of_any_machine::AnyMachine;
 use crate::of_ddm_types::{NoMemory, Turn, TurnAnswer};
-use any_runs::{RunCounts, run};
+use film::of_any_runs::{RunCounts, run};
 use film::{Still, StillRoom, push_changed, take_still};
 use report::push_trace;
 use std::alloc::Global;
@@ -50,6 +53,51 @@ impl Reel {
     }
 }
 
+// Whether an answer says that its turn changed nothing.
+fn rests(answer: &TurnAnswer) -> bool
+    ensures { result ≡ rests answer.now }
+{
+    match answer {
+        TurnAnswer::Waiting(_) | TurnAnswer::Empty | TurnAnswer::Busy(_) => true,
+        TurnAnswer::Retired(_)
+        | TurnAnswer::Issued(..)
+        | TurnAnswer::Halted(_)
+        | TurnAnswer::Granted(_) => false,
+    }
+}
+
+// Whether there is one answer, and it is such.
+fn one_rests(answers: &[TurnAnswer]) -> bool
+    ensures { result ≡ one_rests answers.now }
+{
+    match answers {
+        [answer] => rests(answer),
+        _ => false,
+    }
+}
+
+// Puts at the end of a text the parts that are different now. Where it is known that nothing changed, no still is taken.
+fn film_change(
+    text: &mut Vec<u8>,
+    reel: &mut Reel,
+    machine: &AnyMachine,
+    levels: &[u32],
+    rested: bool,
+) -> Result<(), NoMemory>
+    requires filmed { IsFilmed levels.now (machine_state machine.now).machine }
+    requires rested { rested ≡ true → reel.old.before ≡ still_of (machine_state machine.now).machine }
+    ensures text { OnOk result (Adds text.old.items text.new.items (changed reel.old.before (still_of (machine_state machine.now).machine))) }
+    ensures before { OnOk result (reel.new.before ≡ still_of (machine_state machine.now).machine) }
+{
+    if rested {
+        return Ok(());
+    }
+    take_still(&mut reel.after, &mut reel.room, machine, levels)?;
+    push_changed(text, &reel.before, &reel.after)?;
+    swap(&mut reel.before, &mut reel.after);
+    Ok(())
+}
+
 /// Makes a turn, puts its film at the end of a text, and gives what it came to. The turn has this number, counted from 0.
 pub fn film_turn(
     text: &mut Vec<u8>,
@@ -74,9 +122,8 @@ pub fn film_turn(
     let turns = [turn];
     let counts = run(machine, &turns, &mut reel.answers, true)?;
     push_trace(text, number, &turns, &reel.answers)?;
-    take_still(&mut reel.after, &mut reel.room, machine, levels)?;
-    push_changed(text, &reel.before, &reel.after)?;
-    swap(&mut reel.before, &mut reel.after);
+    let rested = one_rests(&reel.answers);
+    film_change(text, reel, machine, levels, rested)?;
     Ok(counts)
 }
 

@@ -6,7 +6,7 @@ use std::test::Fail;
 
 #[test]
 fn words_at_fault(rt: HostRuntime) -> Result<(), Fail> {
-    let commands: [(&[&str], u32); 73] = [
+    let commands: [(&[&str], u32); 75] = [
         (&[], 0),
         (&["walk"], 0),
         (&["run", "a", "b"], 3),
@@ -31,6 +31,8 @@ fn words_at_fault(rt: HostRuntime) -> Result<(), Fail> {
         (&["unjam", "a", "b", "c", "d"], 4),
         (&["save", "a", "b"], 3),
         (&["save", "a", "b", "c", "d"], 4),
+        (&["page", "a", "b"], 3),
+        (&["page", "a", "b", "c", "d"], 4),
         (&["resume", "a", "b", "c"], 4),
         (&["resume", "a", "b", "c", "d", "e"], 5),
         (&["outcomes", "i", "t", "0", "1"], 5),
@@ -132,7 +134,7 @@ fn of_itself(rt: HostRuntime) -> Result<(), Fail> {
     }
     for name in [
         "run", "trace", "seed", "schedule", "make", "check", "unjam", "save", "resume", "outcomes",
-        "record", "measure", "survey", "join",
+        "record", "measure", "survey", "join", "page",
     ] {
         let said = output(alloc, &["help", name], &no_files)?;
         let line = format!(in alloc; "ddm {name} ")?;

@@ -1,7 +1,7 @@
 use Rattle.std.proofs.Common.{◌≡◌, ◌++◌, length, sym, ap, ◌∙◌}
 use Rattle.film_parts.specs.DdmText.Adds.{alone}
 use Rattle.film.specs.DdmTypes.ItemTable.{item_count}
-use Rattle.film_model.specs.Directory.{dir_parts}
+use Rattle.film.specs.FilmModel.Directory.{dir_parts}
 use Rattle.film.proofs.EachBus.{parts_of_bus, read_over, words_of_bus}
 use Rattle.film.proofs.EachLeaf.{some_same}
 use Rattle.film.proofs.buses.add_bus.Goals as goal

@@ -1,8 +1,8 @@
 use Rattle.std.proofs.Common.{sym, ◌++◌, ◌∙◌, ap, ◌≡◌, drop, get_or, None, refl, arith}
 use Rattle.std.proofs.lemmas.List.{drop_all}
 use Rattle.film.specs.DdmTypes.ItemTable.{item_count}
-use Rattle.film_model.specs.Leaf.{entry_part}
-use Rattle.film_model.specs.Part.{numbered}
+use Rattle.film.specs.FilmModel.Leaf.{entry_part}
+use Rattle.film.specs.FilmModel.Part.{numbered}
 use Rattle.film_parts.proofs.Numbered.{drop_next, numbered_last, numbered_step}
 use Rattle.film.proofs.DdmTree.LeafList.{leaf-number}
 use Rattle.film.proofs.leaves.add_entries.Goals as goal

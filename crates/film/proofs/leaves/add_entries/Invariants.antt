@@ -3,8 +3,8 @@ use Rattle.std.specs.Prelude.{slice_get}
 use Rattle.film.specs.DdmTypes.ItemTable.{item_count}
 use Rattle.film.specs.TreeModel.State.Values.{LeafValue}
 use Rattle.film.specs.TreeModel.Turns.Machine.{machine_leaves}
-use Rattle.film_model.specs.Leaf.{entry_part}
-use Rattle.film_model.specs.Part.{numbered}
+use Rattle.film.specs.FilmModel.Leaf.{entry_part}
+use Rattle.film.specs.FilmModel.Part.{numbered}
 use Rattle.film.proofs.leaves.add_entries.Given as goal
 
 abbrev pub invariant-items : goal.invariant-items

@@ -1,5 +1,5 @@
 use Rattle.std.proofs.Common.{◌++◌, ◌∷◌, [], ap, ◌∙◌}
-use Rattle.film_model.specs.Leaf.{entry_part}
+use Rattle.film.specs.FilmModel.Leaf.{entry_part}
 use Rattle.film.proofs.EachLeaf.{entry_read}
 use Rattle.film.proofs.leaves.add_leaf_entry.Goals as goal
 

@@ -2,9 +2,8 @@ use Rattle.std.proofs.Common.{◌≡◌, ◌<◌, flat_map, length, slice_index,
 use Rattle.std.specs.List.{range_with_len}
 use Rattle.std.proofs.lemmas.List.FromFn.{length-range_with_len}
 use Rattle.film.specs.TreeModel.State.Shape.{tree_counts}
-use Rattle.film_model.specs.Still.{bus_parts}
-use Rattle.film.proofs.StateJudging.BusNumbers.{numbered-bus}
-use Rattle.film.proofs.EachBus.{bus_given, buses_counted, dir_form_of, range_next, read_over}
+use Rattle.film.specs.FilmModel.Still.{bus_parts}
+use Rattle.film.proofs.EachBus.{bus_given, buses_counted, dir_form_of, known_bus, range_next, read_over}
 use Rattle.film.proofs.EachLeaf.{machine_ok, some_same, told_last, told_next, width_is}
 use Rattle.film.proofs.stills.add_buses.Goals as goal
 
@@ -15,7 +14,7 @@ add_bus-requires g c =
     let buses = ap (λ n. n.buses) c.counts-bus-end.ensures.counts in
     let bus = c.buses.bus in
     let below : bus < (tree_counts m).buses = omega (arith, buses, c.buses-test.true) in
-    let there = numbered-bus m bus shaped below in
+    let there = known_bus bus _ m (c.requires.known bus (omega (arith, below, c.requires.counted))) in
     let given = bus_given c.requires.most bus m shaped (machine_ok m c.counts-bus-end.ensures.rules) c.requires.form there in
     let level : given.d.level ≡ slice_index c.args.levels.now bus =
     some_same (sym (read_over (λ d ns. d.level) 0 bus m given.d given.ns given.over) ∙ c.requires.known bus (omega (arith, below, c.requires.counted)))
@@ -34,7 +33,7 @@ buses-preserved g c =
     let buses = ap (λ n. n.buses) c.counts-bus-end.ensures.counts in
     let bus = c.buses.bus in
     let below : bus < (tree_counts m).buses = omega (arith, buses, c.buses-test.true) in
-    let given = bus_given c.requires.most bus m shaped (machine_ok m c.counts-bus-end.ensures.rules) c.requires.form (numbered-bus m bus shaped below) in
+    let given = bus_given c.requires.most bus m shaped (machine_ok m c.counts-bus-end.ensures.rules) c.requires.form (known_bus bus _ m (c.requires.known bus (omega (arith, below, c.requires.counted)))) in
     let level : given.d.level ≡ slice_index c.args.levels.now bus =
     some_same (sym (read_over (λ d ns. d.level) 0 bus m given.d given.ns given.over) ∙ c.requires.known bus (omega (arith, below, c.requires.counted)))
     in

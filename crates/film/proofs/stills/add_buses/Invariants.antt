@@ -1,6 +1,6 @@
 use Rattle.std.proofs.Common.{◌≡◌, ◌++◌, drop, flat_map, length}
 use Rattle.std.specs.List.{range_with_len}
-use Rattle.film_model.specs.Still.{bus_parts}
+use Rattle.film.specs.FilmModel.Still.{bus_parts}
 use Rattle.film.proofs.stills.add_buses.Given as goal
 
 abbrev pub invariant-buses : goal.invariant-buses

@@ -2,7 +2,7 @@ use Rattle.std.proofs.Common.{◌≡◌, map, ap, ◌∙◌, arith}
 use Rattle.std.specs.List.{range_with_len}
 use Rattle.std.proofs.lemmas.List.FromFn.{length-range_with_len}
 use Rattle.film.specs.DdmTypes.ItemTable.{item_count}
-use Rattle.film_model.specs.Still.{place_part}
+use Rattle.film.specs.FilmModel.Still.{place_part}
 use Rattle.film.proofs.EachBus.{range_next}
 use Rattle.film.proofs.EachLeaf.{mapped_last, mapped_next}
 use Rattle.film.proofs.stills.add_copies.Goals as goal

@@ -1,7 +1,7 @@
 use Rattle.std.proofs.Common.{◌≡◌, ◌++◌, drop, map}
 use Rattle.std.specs.List.{range_with_len}
 use Rattle.film.specs.DdmTypes.ItemTable.{item_count}
-use Rattle.film_model.specs.Still.{place_part}
+use Rattle.film.specs.FilmModel.Still.{place_part}
 use Rattle.film.proofs.stills.add_copies.Given as goal
 
 abbrev pub invariant-items : goal.invariant-items

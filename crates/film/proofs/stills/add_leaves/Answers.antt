@@ -1,7 +1,7 @@
 use Rattle.std.proofs.Common.{rules, ◌<◌, flat_map, refl, ap, arith}
 use Rattle.film.specs.TreeModel.State.Shape.{tree_counts}
 use Rattle.film.specs.TreeModel.Turns.Machine.{machine_leaves}
-use Rattle.film_model.specs.Leaf.{leaf_parts}
+use Rattle.film.specs.FilmModel.Leaf.{leaf_parts}
 use Rattle.film.proofs.DdmTree.LeafList.{leaf-there, leaves-counted}
 use Rattle.film.proofs.EachLeaf.{leaf_form_of, leaf_next, machine_ok, told_last, told_next, width_is}
 use Rattle.film.proofs.stills.add_leaves.Goals as goal

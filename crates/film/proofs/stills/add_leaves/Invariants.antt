@@ -1,6 +1,6 @@
 use Rattle.std.proofs.Common.{◌≡◌, ◌++◌, drop, flat_map}
 use Rattle.film.specs.TreeModel.Turns.Machine.{machine_leaves}
-use Rattle.film_model.specs.Leaf.{leaf_parts}
+use Rattle.film.specs.FilmModel.Leaf.{leaf_parts}
 use Rattle.film.proofs.stills.add_leaves.Given as goal
 
 abbrev pub invariant-leaves : goal.invariant-leaves

@@ -1,6 +1,6 @@
 use Rattle.std.proofs.Common.{◌+◌, drop, refl, arith}
-use Rattle.film_model.specs.Film.{item_line, item_lines}
-use Rattle.film_parts.proofs.PartLines.{at_end, with_line}
+use Rattle.film_runs.specs.FilmModel.Film.{item_line, item_lines}
+use Rattle.film.proofs.FilmParts.PartLines.{at_end, with_line}
 use Rattle.film_runs.specs.DdmTypes.ItemTable.{row_at}
 use Rattle.film_runs.proofs.HeadLines.{lines_end, lines_next}
 use Rattle.film_runs.proofs.heads.push_items.Goals as goal

@@ -1,5 +1,5 @@
 use Rattle.std.proofs.Common.{◌≡◌, ◌++◌, drop}
-use Rattle.film_model.specs.Film.{item_lines}
+use Rattle.film_runs.specs.FilmModel.Film.{item_lines}
 use Rattle.film_runs.proofs.heads.push_items.Given as goal
 
 abbrev pub invariant-items : goal.invariant-items

@@ -1,5 +1,5 @@
 use Rattle.std.proofs.Common.{◌≡◌, ◌++◌, flat_map, take}
-use Rattle.film_model.specs.Part.{number_text}
+use Rattle.film_runs.specs.FilmModel.Part.{number_text}
 use Rattle.film_runs.proofs.heads.push_numbers.Given as goal
 
 abbrev pub invariant-numbers : goal.invariant-numbers

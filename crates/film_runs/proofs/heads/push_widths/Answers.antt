@@ -1,7 +1,7 @@
 use Rattle.std.proofs.Common.{◌≡◌, ◌+◌, Some, drop, flat_map, subst}
 use Rattle.std.specs.Prelude.{slice_get}
-use Rattle.film_model.specs.Part.{number_text}
-use Rattle.film_parts.proofs.PartLines.{with_line}
+use Rattle.film_runs.specs.FilmModel.Part.{number_text}
+use Rattle.film.proofs.FilmParts.PartLines.{with_line}
 use Rattle.film_runs.specs.TreeModel.Start.Sources.{TreeValue}
 use Rattle.film_runs.proofs.HeadLines.{all_widths, widths_next}
 use Rattle.film_runs.proofs.heads.push_widths.Goals as goal

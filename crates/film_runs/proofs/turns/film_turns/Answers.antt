@@ -1,6 +1,6 @@
 use Rattle.std.proofs.Common.{◌≡◌, ◌+◌, ◌++◌, ◌∷◌, [], true, take, refl, sym, ap, subst, ◌∙◌, arith}
-use Rattle.any_runs.proofs.RunMore.{below-none, counts-none, named-here, take-next}
-use Rattle.film_model.specs.Still.{still}
+use Rattle.film.proofs.AnyRuns.RunMore.{below-none, counts-none, named-here, take-next}
+use Rattle.film_runs.specs.FilmModel.Still.{still}
 use Rattle.film_runs.specs.AnyMachine.Any.{machine_state}
 use Rattle.film_runs.specs.AnyRuns.Run.{AreBelow}
 use Rattle.film_runs.specs.DdmTree.Machine.{MachineState}
@@ -8,7 +8,7 @@ use Rattle.film_runs.specs.Film.Filmed.{IsFilmed}
 use Rattle.film_runs.specs.TreeModel.State.Shape.{IsShaped}
 use Rattle.film_runs.specs.TreeModel.State.Values.{MachineValue}
 use Rattle.film_runs.specs.TreeModel.Turns.Machine.{names_part, turn_of}
-use Rattle.tree_model.proofs.FrameKept.{run-shape}
+use Rattle.film.proofs.TreeModel.FrameKept.{run-shape}
 use Rattle.film_runs.proofs.MoreTurns.{below_after, counts_after, machine_more, machine_none, one_below, text_more, text_none}
 use Rattle.film_runs.proofs.OneTurn.{machine_after}
 use Rattle.film_runs.proofs.turns.film_turns.Goals as goal

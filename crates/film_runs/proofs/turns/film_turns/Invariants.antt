@@ -3,8 +3,8 @@ use Rattle.film_runs.specs.AnyMachine.Any.{machine_state}
 use Rattle.film_runs.specs.AnyRuns.Run.{AreBelow, counts_in}
 use Rattle.film_runs.specs.Film.Filmed.{IsFilmed}
 use Rattle.film_runs.specs.TreeModel.Turns.Machine.{run_of}
-use Rattle.film_model.specs.Film.{turns_film}
-use Rattle.film_model.specs.Still.{still}
+use Rattle.film_runs.specs.FilmModel.Film.{turns_film}
+use Rattle.film_runs.specs.FilmModel.Still.{still}
 use Rattle.film_runs.proofs.turns.film_turns.Given as goal
 
 abbrev pub invariant-loop-turn : goal.invariant-loop-turn

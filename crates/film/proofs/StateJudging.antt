@@ -1,2 +1,0 @@
--- Of `state_judging`, what this crate and those above it name.
-pub use Rattle.any_machine.proofs.StateJudging.BusNumbers

@@ -1,0 +1,3 @@
+pub mod BusLaws
+pub mod DdmTypes
+pub mod TreeModel

@@ -1,0 +1,4 @@
+-- Of `film_model`, what this crate and those above it name.
+pub use Rattle.film.specs.FilmModel.Film
+pub use Rattle.film.specs.FilmModel.Part
+pub use Rattle.film.specs.FilmModel.Still

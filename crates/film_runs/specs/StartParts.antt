@@ -1,0 +1,2 @@
+-- Of `start_parts`, what this crate and those above it name.
+pub use Rattle.film.specs.StartParts.Counts
