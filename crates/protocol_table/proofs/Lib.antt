@@ -4,3 +4,4 @@ mod Replies
 mod Entries
 mod Leaves
 mod Grid
+mod Turns
