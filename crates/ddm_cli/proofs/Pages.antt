@@ -1,20 +1,20 @@
 -- The page of files that were taken, and why there is none.
 -- Letters: t is a tree, i an image, s a machine.
-use Rattle.std.proofs.Common.{◌≡◌, ℕ, ◌+◌, ◌<◌, ◌≤◌, List, length, take, true, Option, Some, None, Result, Ok, Err, refl, sym, ap, subst, ◌∙◌, arith}
-use Rattle.std.specs.Prelude.{All, IfOk, IfSome, IsSome, option_and_then}
+use Rattle.std.proofs.Common.{◌≡◌, ℕ, ◌+◌, ◌≤◌, List, length, take, true, Option, Some, None, Result, Ok, Err, refl, sym, ap, subst, ◌∙◌, arith}
+use Rattle.std.specs.Prelude.{IfOk, IfSome, IsSome, option_and_then}
 use Rattle.std.specs.Option.{option_map}
 use Rattle.ddm_cli.specs.DdmTypes.declared.turns.Turn.{Turn}
 use Rattle.ddm_cli.specs.TreeModel.Start.Machine.{start_machine, start_refusal}
-use Rattle.ddm_cli.specs.TreeModel.Start.Sources.{ImageValue, TreeValue, bus_widths}
+use Rattle.ddm_cli.specs.TreeModel.Start.Sources.{ImageValue, TreeValue}
 use Rattle.ddm_cli.specs.TreeModel.State.Values.{MachineValue, root_of}
-use Rattle.ddm_cli.specs.TreeModel.Turns.Machine.{names_part}
+
 use Rattle.ddm_cli.specs.TreeModel.Turns.Tree.{bus_of_number, has_node}
 use Rattle.ddm_cli.specs.BusLaws.IsTree.{IsTree}
 use Rattle.ddm_cli.specs.ElfLoad.ElfFile.{image_of}
 use Rattle.ddm_cli.specs.DdmTree.Machine.{MachineState}
 use Rattle.ddm_cli.specs.AnyRuns.Run.{CanRun, NameParts}
 use Rattle.ddm_cli.specs.DdmOutside.Telling.{ReadsPart}
-use Rattle.ddm_cli.specs.TextModel.ReadBack.{GivesTurnsOf, IsTurnOf}
+use Rattle.ddm_cli.specs.TextModel.ReadBack.{GivesTurnsOf}
 use Rattle.ddm_cli.specs.TextModel.declared.ScheduleRefusal.{ScheduleRefusal}
 use Rattle.ddm_cli.specs.ScheduleLog.Reader.{Fed, ReaderView}
 use Rattle.ddm_cli.specs.ScheduleLog.Shapes.{shape_view}

@@ -1,6 +1,6 @@
 -- The machine of a tree and an image of bytes before its first turn is one whose films tell all.
 -- Letters: t is a tree, i an image, k a node.
-use Rattle.std.proofs.Common.{◌≡◌, ℕ, ◌+◌, ◌*◌, ◌≤◌, Bool, true, false, cond, ◌&&◌, List, [], ◌∷◌, ◌++◌, length, sum, Option, Some, None, Ok, refl, sym, ap, ◌∙◌, length-append, arith}
+use Rattle.std.proofs.Common.{◌≡◌, ℕ, ◌+◌, ◌*◌, ◌≤◌, Bool, true, false, cond, List, [], ◌∷◌, length, sum, Option, Some, None, Ok, refl, sym, ap, ◌∙◌, length-append, arith}
 use Rattle.std.specs.Prelude.{nat_eq, nat_lt}
 use Rattle.std.specs.List.{flat_map, list_all}
 use Rattle.std.specs.Cmp.Derive.{both_true}
@@ -20,8 +20,8 @@ use Rattle.film_laws.specs.DdmTypes.ItemTable.{item_count}
 use Rattle.film_laws.specs.DdmTypes.declared.sizes.TreeCounts.{TreeCounts}
 use Rattle.film_laws.specs.TreeModel.Start.Machine.{start_machine, start_of, start_refusal}
 use Rattle.film_laws.specs.TreeModel.Start.Memory.{start_items}
-use Rattle.film_laws.specs.TreeModel.Start.Sources.{ImageValue, TreeValue, bus_widths}
-use Rattle.film_laws.specs.TreeModel.State.Shape.{are_below, buses_of, leaves_numbered, skeleton, traffic_counted, tree_counts}
+use Rattle.film_laws.specs.TreeModel.Start.Sources.{ImageValue, TreeValue}
+use Rattle.film_laws.specs.TreeModel.State.Shape.{are_below, buses_of, leaves_numbered, skeleton, traffic_counted}
 use Rattle.film_laws.specs.TreeModel.State.Values.{Node, Nodes, leaf_node, dir_node, no_nodes, more_nodes, root_of}
 use Rattle.film_laws.proofs.BusLaws.StartLevels.{sum-more, width-parts}
 
@@ -74,12 +74,15 @@ module _ (width most : ℕ) where
 
 -- ---- the machine
 
+none_there : {A : Type 0} (b : Bool) (x : A) (other : Option A) → cond b (Some x) other ≡ None → b ≡ false
+none_there true x other none = absurd (cc none)
+none_there false x other none = refl
+
 few_items : (t : TreeValue) (i : ImageValue) → start_refusal t i ≡ None → item_count (start_items t i) ≤ 65536
 unfolding start_refusal
-few_items t i accepted = by (nat_lt 65536 (item_count (start_items t i))) refl accepted where
-  by : (b : Bool) → nat_lt 65536 (item_count (start_items t i)) ≡ b → cond b (Some _) _ ≡ None → item_count (start_items t i) ≤ 65536
-  by true many none = absurd (cc none)
-  by false few none = grind (arith, nat_tests, few)
+few_items t i accepted =
+    let few : nat_lt 65536 (item_count (start_items t i)) ≡ false = none_there (nat_lt 65536 (item_count (start_items t i))) _ _ accepted in
+    grind (arith, nat_tests, few)
 
 module _ (t : TreeValue) (i : ImageValue) (tree : IsTree t) (bytes : IsOfBytes i) (accepted : start_refusal t i ≡ None) where
   begins : start_of t i ≡ Ok (start_machine t i)

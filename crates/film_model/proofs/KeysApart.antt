@@ -1,7 +1,7 @@
 -- No two parts of a still have the same key, where no two leaves have one number: a key begins with its word and the number of its
 -- leaf, bus or item.
 -- Letters: p and q are parts, v a leaf, d a directory, k a node, m a machine, n a number.
-use Rattle.std.proofs.Common.{◌≡◌, ℕ, zero, suc, ◌+◌, ◌^◌, ◌<◌, ◌≤◌, Bool, true, false, not, cond, ◌&&◌, ◌||◌, nat_eq, nat_le, List, [], ◌∷◌, ◌++◌, decimal, drop, length, map, take, bytes_eq, Option, Some, None, refl, sym, ap, ap₂, subst, ◌∙◌, append_assoc, append-nil, arith}
+use Rattle.std.proofs.Common.{◌≡◌, ℕ, zero, suc, ◌+◌, ◌<◌, ◌≤◌, Bool, true, false, not, cond, ◌&&◌, ◌||◌, nat_eq, nat_le, List, [], ◌∷◌, ◌++◌, decimal, drop, length, map, take, bytes_eq, Option, Some, refl, sym, ap, ap₂, subst, ◌∙◌, append_assoc, append-nil, arith}
 use Rattle.std.specs.Prelude.{codes, flat_map, ⊤}
 use Rattle.std.specs.List.{AllByRecursion, list_all, range_with_len}
 use Rattle.std.proofs.lemmas.Bool.{eqb-true}
@@ -16,7 +16,7 @@ use Rattle.film_model.specs.TreeModel.State.Place.{Where, at_top, where_path, at
 use Rattle.film_model.specs.TreeModel.State.Rooms.{all_within, all_within_among, dir_within}
 use Rattle.film_model.specs.TreeModel.State.Shape.{count_from, leaf_numbers_of, leaf_numbers_among, skeleton, skeletons}
 use Rattle.film_model.specs.TreeModel.State.Values.{LeafValue, DirValue, Node, Nodes, leaf_node, dir_node, no_nodes, more_nodes, children, MachineValue, root_of}
-use Rattle.film_model.specs.TreeModel.Turns.Machine.{ask_bus, leaves_of, leaves_among, machine_leaves}
+use Rattle.film_model.specs.TreeModel.Turns.Machine.{leaves_of, leaves_among, machine_leaves}
 use Rattle.film_model.specs.TreeModel.Turns.Tree.{bus_of_number, has_node, of_dir, read_in, read_among}
 use Rattle.film_model.specs.Part.{Part, key_of, item_key_of, numbered}
 use Rattle.film_model.specs.Leaf.{register_part, entry_part, hart_parts, entry_parts, leaf_list_parts, leaf_parts}

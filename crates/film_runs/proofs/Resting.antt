@@ -1,8 +1,8 @@
 -- Where a turn changed nothing, its film has no part.
 -- Letters: p is a part, m a machine, t a turn.
-use Rattle.std.proofs.Common.{◌≡◌, ℕ, Bool, true, false, cond, List, [], ◌∷◌, ◌++◌, flat_map, bytes_eq, refl, sym, ap, ◌∙◌, append-nil}
+use Rattle.std.proofs.Common.{◌≡◌, ℕ, Bool, true, false, cond, List, [], ◌∷◌, ◌++◌, flat_map, refl, sym, ap, ◌∙◌, append-nil}
 use Rattle.std.proofs.lemmas.Slice.Eq.{bytes_eq-Decides}
-use Rattle.recording_model.specs.Doing.{does_something, had_halted}
+use Rattle.recording_model.specs.Doing.{does_something}
 use Rattle.recording_model.proofs.Doing.{turn-rests}
 use Rattle.film_runs.specs.DdmText.Adds.{Adds}
 use Rattle.film_runs.specs.DdmTypes.declared.answers.TurnAnswer.{TurnAnswer}

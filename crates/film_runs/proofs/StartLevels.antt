@@ -1,10 +1,10 @@
 -- Each directory before the first turn knows how many buses are above its own: those of its level.
 -- Letters: d is a directory, n a node, ns are nodes, l is the numbers of children of the buses of a level, w is where a node is.
-use Rattle.std.proofs.Common.{◌≡◌, ℕ, zero, suc, ◌+◌, ◌<◌, ◌≤◌, Bool, true, false, List, [], ◌∷◌, ◌++◌, length, take, drop, map, Some, refl, sym, ap, subst, ◌∙◌, add-one, add-zero, arith, cond}
+use Rattle.std.proofs.Common.{◌≡◌, ℕ, zero, suc, ◌+◌, true, false, List, [], ◌∷◌, ◌++◌, length, take, drop, map, Some, refl, sym, ap, subst, ◌∙◌, add-one, add-zero, arith, cond}
 use Rattle.std.specs.Prelude.{nat_eq, slice_get, slice_index, ⊤}
 use Rattle.std.specs.List.{AllByRecursion}
 use Rattle.std.proofs.lemmas.Bool.{eqb-true}
-use Rattle.film_runs.specs.TreeModel.State.Values.{LeafValue, DirSizes, DirValue, Node, Nodes, leaf_node, dir_node, no_nodes, more_nodes, nodes, children, root_of}
+use Rattle.film_runs.specs.TreeModel.State.Values.{LeafValue, DirSizes, DirValue, Node, Nodes, leaf_node, dir_node, no_nodes, more_nodes, nodes, root_of}
 use Rattle.film_runs.specs.TreeModel.State.Place.{Where, at_top, at_child, where_path, spot_in}
 use Rattle.film_runs.specs.TreeModel.Start.Sources.{TreeValue, ImageValue, width_of}
 use Rattle.film_runs.specs.TreeModel.Start.Nodes.{cut_in, dir_sizes, dirs_over, under_levels}

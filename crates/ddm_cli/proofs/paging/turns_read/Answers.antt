@@ -1,4 +1,4 @@
-use Rattle.std.proofs.Common.{◌≤◌, ◌+◌, ◌∙◌, List, [], sym, refl, ap, arith}
+use Rattle.std.proofs.Common.{◌+◌, ◌∙◌, sym, refl, ap, arith}
 use Rattle.ddm_cli.specs.TreeModel.Start.Sources.{TreeValue}
 use Rattle.ddm_cli.specs.Parts.{before_page}
 use Rattle.ddm_cli.proofs.Pages.{next_read}

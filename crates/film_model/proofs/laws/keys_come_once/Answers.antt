@@ -1,4 +1,4 @@
-use Rattle.std.proofs.Common.{◌≡◌, ◌≤◌, [], nat_eq, length, arith}
+use Rattle.std.proofs.Common.{◌≡◌, [], nat_eq, length, arith}
 use Rattle.std.proofs.lemmas.Bool.{eqb-true}
 use Rattle.tree_model.proofs.Tests.{and-first}
 use Rattle.film_model.specs.TreeModel.State.Shape.{are_below, buses_of, leaves_numbered, skeleton, traffic_counted}

@@ -1,4 +1,4 @@
-use Rattle.std.proofs.Common.{◌≡◌, ◌+◌, ◌∙◌, Some, drop, length, map, refl, subst, sym, ap, arith, ℕ}
+use Rattle.std.proofs.Common.{◌≡◌, ◌+◌, Some, drop, length, map, refl, subst, ap, arith, ℕ}
 use Rattle.std.specs.Prelude.{slice_get}
 use Rattle.film.proofs.FilmParts.PartLines.{at_end, with_line}
 use Rattle.film_runs.specs.TreeModel.Start.Sources.{TreeValue}
