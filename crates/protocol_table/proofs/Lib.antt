@@ -5,3 +5,4 @@ mod Entries
 mod Leaves
 mod Grid
 mod Turns
+mod Told

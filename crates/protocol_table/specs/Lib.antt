@@ -9,3 +9,4 @@ pub mod Table
 pub mod Grid
 pub mod Examples
 pub mod Laws
+pub mod Told

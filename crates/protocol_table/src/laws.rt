@@ -11,6 +11,7 @@ ghost use Rattle.tree_model.specs.State.Values.{DirValue, Node};
 ghost use Rattle.protocol_table.specs.Table.{table_says};
 ghost use Rattle.protocol_table.specs.Laws.{ComesTo, FirstRowDecides, NoRowIsEmpty, NothingIsEmpty};
 ghost use Rattle.protocol_table.specs.Grid.{row_of};
+ghost use Rattle.protocol_table.specs.Told.{DirectoriesGoByRows};
 ghost use Rattle.protocol_table.specs.Examples.{OneRead, OneWrite, JoinedRead, PendingErase};
 
 /// A turn of a bus is what the first row of the table that applies says, in every state and for every turn: what it
@@ -40,6 +41,11 @@ pub fn states_are_the_grid()
     ensures answers { (t : LeafState) → state_answered t ≡ (row_of t).answers.state }
     ensures waits { (t : LeafState) → is_waiting t ≡ (row_of t).waits }
     ensures leaves { (t : LeafState) → may_leave t ≡ (row_of t).may_leave }
+{}
+
+/// What becomes of a directory that is told something is what its row says.
+pub fn directories_go_by_rows()
+    ensures { DirectoriesGoByRows }
 {}
 
 /// Turns of a bus of two leaves, as the table answers them.
