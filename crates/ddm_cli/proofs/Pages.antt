@@ -7,7 +7,6 @@ use Rattle.ddm_cli.specs.DdmTypes.declared.turns.Turn.{Turn}
 use Rattle.ddm_cli.specs.TreeModel.Start.Machine.{start_machine, start_refusal}
 use Rattle.ddm_cli.specs.TreeModel.Start.Sources.{ImageValue, TreeValue}
 use Rattle.ddm_cli.specs.TreeModel.State.Values.{MachineValue, root_of}
-
 use Rattle.ddm_cli.specs.TreeModel.Turns.Tree.{bus_of_number, has_node}
 use Rattle.ddm_cli.specs.BusLaws.IsTree.{IsTree}
 use Rattle.ddm_cli.specs.ElfLoad.ElfFile.{image_of}

@@ -2,10 +2,8 @@ use Rattle.std.proofs.Common.{◌++◌, ◌∙◌, List, ℕ, sym, ap, subst}
 use Rattle.film_runs.specs.AnyMachine.Any.{machine_state}
 use Rattle.film_runs.specs.DdmText.Adds.{alone}
 use Rattle.film_runs.specs.Film.Filmed.{IsFilmed}
-
 use Rattle.film_runs.specs.Levels.{bus_levels}
 use Rattle.film_runs.specs.TreeModel.State.Shape.{IsShaped, depth_of}
-
 use Rattle.film_runs.proofs.StartFilmed.{first_depth, first_filmed, first_shaped}
 use Rattle.film_runs.proofs.WholePage.{whole_page}
 use Rattle.film_runs.proofs.pages.page_text.Goals as goal

@@ -2,7 +2,6 @@ use Rattle.std.proofs.Common.{List, length, sym, subst, ap, ◌∙◌}
 use Rattle.film_runs.specs.AnyMachine.Any.{machine_state}
 use Rattle.film_runs.specs.DdmTypes.declared.answers.TurnAnswer.{TurnAnswer}
 use Rattle.film_runs.specs.Film.Filmed.{IsFilmed}
-
 use Rattle.film_runs.specs.TreeModel.State.Values.{MachineValue}
 use Rattle.film_runs.specs.FilmModel.Still.{still as still_of}
 use Rattle.film_runs.proofs.FilmedAfter.{filmed_after}
