@@ -1,6 +1,6 @@
 -- Of a tree's machine before its first turn a film can be made.
 -- Letters: t is a tree, i an image.
-use Rattle.std.proofs.Common.{◌≡◌, ℕ, ◌+◌, ◌*◌, ◌/◌, ◌<◌, List, [], ◌∷◌, length, map, Option, Some, None, Ok, inl, inr, refl, sym, ap, ◌∙◌, true, length-append, arith}
+use Rattle.std.proofs.Common.{◌≡◌, ℕ, ◌+◌, ◌*◌, ◌/◌, ◌<◌, ◌≤◌, List, [], ◌∷◌, length, map, Option, Some, None, Ok, inl, inr, refl, sym, ap, ◌∙◌, true, length-append, arith}
 use Rattle.std.specs.Prelude.{is_some, slice_index}
 use Rattle.std.specs.List.{flat_map}
 use Rattle.std.proofs.lemmas.List.{length-map}
@@ -9,7 +9,7 @@ use Rattle.film.proofs.StartParts.StartNew.{start-new}
 use Rattle.film.proofs.TreeModel.NamedNode.{read_in-is_some}
 use Rattle.film.proofs.ValueLaws.StartForm.{start-form}
 use Rattle.film_runs.specs.BusLaws.IsTree.{AreUnder, IsTree}
-use Rattle.film_runs.specs.DdmTypes.ItemTable.{IsItemSize}
+use Rattle.film_runs.specs.DdmTypes.ItemTable.{IsItemSize, items_of}
 use Rattle.film_runs.specs.DdmTypes.declared.sizes.TreeCounts.{TreeCounts}
 use Rattle.film_runs.specs.Film.Filmed.{IsFilmed}
 use Rattle.film_runs.specs.Levels.{bus_levels, levels_from}
@@ -64,7 +64,7 @@ module _ (t : TreeValue) (i : ImageValue) (tree : IsTree t) (accepted : start_re
   begins = rw accepted refl
 
   width : (start_machine t i).items.size ≡ 4 * (start_machine t i).top.sizes.width
-  unfolding start_machine start_items
+  unfolding start_machine start_items items_of
   width = whole_words t.item_bytes tree.item_bytes
 
   known : AreThere t (start_machine t i) → (bus : ℕ) → bus < length (bus_levels t) → ask_bus bus (λ w d ns. d.level) 0 (start_machine t i) ≡ Some (slice_index (bus_levels t) bus)

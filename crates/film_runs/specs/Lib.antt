@@ -12,5 +12,6 @@ pub mod TreeModel
 pub mod ValueLaws
 pub mod Counts
 pub mod Levels
+pub mod Opened
 pub mod Paged
 pub mod Resting

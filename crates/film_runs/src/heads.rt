@@ -14,7 +14,7 @@ use report::push_bytes;
 use tree_config::TreeConfig;
 
 /// Puts a space and a number at the end.
-#[tactic(auto, unfolding(crate::specs::FilmModel::Part::number_text))]
+#[tactic(auto, unfolding(crate::specs::Opened::number_text))]
 fn push_number(out: &mut Vec<u8>, n: u32) -> Result<(), NoMemory>
     ensures { OnOk result (Adds out.old.items out.new.items (number_text n)) }
 {
@@ -43,7 +43,7 @@ fn push_widths(out: &mut Vec<u8>, tree: &TreeConfig) -> Result<(), NoMemory>
 }
 
 /// Puts at the end the line of a tree: how many levels of buses it has, and of each bus how many children.
-#[tactic(auto, unfolding(crate::specs::FilmModel::Film::tree_line))]
+#[tactic(auto, unfolding(crate::specs::Opened::tree_line))]
 fn push_tree(out: &mut Vec<u8>, tree: &TreeConfig) -> Result<(), NoMemory>
     ensures { OnOk result (Adds out.old.items out.new.items (tree_line tree.now)) }
 {
@@ -54,7 +54,7 @@ fn push_tree(out: &mut Vec<u8>, tree: &TreeConfig) -> Result<(), NoMemory>
 }
 
 /// Puts at the end the line of the other numbers of a tree file, in the order of its keys.
-#[tactic(auto, unfolding(crate::specs::FilmModel::Film::sizes_line))]
+#[tactic(auto, unfolding(crate::specs::Opened::sizes_line))]
 fn push_sizes(out: &mut Vec<u8>, tree: &TreeConfig) -> Result<(), NoMemory>
     ensures { OnOk result (Adds out.old.items out.new.items (sizes_line tree.now)) }
 {
@@ -74,7 +74,7 @@ fn push_sizes(out: &mut Vec<u8>, tree: &TreeConfig) -> Result<(), NoMemory>
 }
 
 /// Puts a mark at the end for an item that may be written.
-#[tactic(auto, unfolding(crate::specs::FilmModel::Film::writable_text))]
+#[tactic(auto, unfolding(crate::specs::Opened::writable_text))]
 fn push_writable(out: &mut Vec<u8>, writable: bool) -> Result<(), NoMemory>
     ensures { OnOk result (Adds out.old.items out.new.items (writable_text writable)) }
 {
@@ -86,7 +86,7 @@ fn push_writable(out: &mut Vec<u8>, writable: bool) -> Result<(), NoMemory>
 }
 
 /// Puts the line of an item at the end: its number, its address, and whether it may be written.
-#[tactic(auto, unfolding(crate::specs::FilmModel::Film::item_line))]
+#[tactic(auto, unfolding(crate::specs::Opened::item_line))]
 fn push_item(out: &mut Vec<u8>, items: &Items, item: ItemId) -> Result<(), NoMemory>
     requires { item < item_count items.now }
     ensures { OnOk result (Adds out.old.items out.new.items (item_line item (row_at items.now item))) }
@@ -110,7 +110,7 @@ fn push_items(out: &mut Vec<u8>, items: &Items) -> Result<(), NoMemory>
 }
 
 /// Puts at the end the first lines of the film of a machine of a tree.
-#[tactic(auto, unfolding(crate::specs::FilmModel::Film::head_of))]
+#[tactic(auto, unfolding(crate::specs::Opened::head_of))]
 pub fn push_head(out: &mut Vec<u8>, tree: &TreeConfig, machine: &AnyMachine) -> Result<(), NoMemory>
     ensures { OnOk result (Adds out.old.items out.new.items (head_of tree.now (machine_state machine.now).machine)) }
 {
