@@ -6,7 +6,7 @@ use Rattle.std.proofs.lemmas.List.{length-take}
 use Rattle.ddm_outside.specs.Causes.{Rose}
 use Rattle.ddm_outside.specs.SoundShelf.{told_of}
 use Rattle.ddm_outside.specs.declared.sound_shelf.SoundShelf.{SoundShelf}
-use Rattle.ddm_cli.specs.Commands.{Check, Command, ImageFrom, Resumption, Run, TurnsFrom, image_named, image_made, schedule_named, turns_seeded, to_run, to_list, to_check, to_resume, to_survey, to_record, to_survey_runs, to_join, to_say, command_of, first_run, recorded_run, surveyed_run}
+use Rattle.ddm_cli.specs.Commands.{Check, Command, ImageFrom, Resumption, Run, TurnsFrom, image_named, image_made, schedule_named, turns_seeded, to_run, to_list, to_check, to_resume, to_survey, to_record, to_measure, to_survey_runs, to_join, to_page, to_say, command_of, first_run, paged_run, recorded_run, surveyed_run}
 use Rattle.ddm_cli.specs.Causes.{TreeCause}
 use Rattle.ddm_cli.specs.Told.{ScheduleGiven, image_faults, image_told, schedule_faults, schedule_told}
 use Rattle.ddm_cli.specs.Top.{Accepted, CantRead, CantReadFor, CantReadRest, Completes, HasAccepted, HasText, NotAccepted, NothingFailed, StatusHasCause, command_text, text_of}
@@ -73,8 +73,10 @@ module _ {F : Type 0} (told : F → List ℕ → Option (List ℕ)) (files files
   command-read role (to_resume r) failed = rest-read role r failed
   command-read role (to_survey s) failed = run-read Report role (first_run s) failed
   command-read role (to_record r) failed = run-read Report role (recorded_run r) failed
+  command-read role (to_measure r) failed = run-read Report role (recorded_run r) failed
   command-read role (to_survey_runs n) failed = run-read Report role (surveyed_run n) failed
   command-read role (to_join names) failed = failed
+  command-read role (to_page p) failed = run-read Report role (paged_run p) failed
   command-read role (to_say about) failed = failed
 
   table-read : (name : Option (List ℕ)) → IsSomeAnd name (λ n. Rose 0 0) → ⊥
@@ -88,8 +90,10 @@ module _ {F : Type 0} (told : F → List ℕ → Option (List ℕ)) (files files
   command-unread n (to_resume r) failed = failed
   command-unread n (to_survey s) failed = failed
   command-unread n (to_record r) failed = failed
+  command-unread n (to_measure r) failed = failed
   command-unread n (to_survey_runs s) failed = failed
   command-unread n (to_join names) failed = table-read (slice_get names (n - 1)) failed.0
+  command-unread n (to_page p) failed = failed
   command-unread n (to_say about) failed = failed
 
   words-read : (role : FileRole) (c : Result Command ℕ) → IsOkAnd c (NotAccepted told none files files' (ReadFault role)) → ⊥
