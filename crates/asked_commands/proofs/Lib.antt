@@ -1,2 +1,3 @@
 pub mod ElfLoad
 pub mod Short
+pub mod FromClauses

@@ -16,7 +16,7 @@ pub const TRACE: &[&str] = &["trace", "image", "tree", "schedule"];
 pub const UNJAM: &[&str] = &["unjam", "image", "tree", "schedule"];
 
 /// The most bytes that a sink holds, and that it takes at a time.
-const ROOM: usize = 1 << 20;
+pub const ROOM: usize = 1 << 20;
 
 const TAKE: usize = 10;
 
@@ -55,7 +55,8 @@ pub fn named(alloc: Global, name: &str, bytes: &[u8]) -> Result<NamedFile, Fail>
     })
 }
 
-fn named_files(alloc: Global, files: &Files) -> Result<Vec<NamedFile>, Fail>
+/// These files, by the names `tree`, `image` and `schedule`.
+pub fn named_files(alloc: Global, files: &Files) -> Result<Vec<NamedFile>, Fail>
     ensures { IfOk result (λ files. All (λ file. file.faults ≡ 0) files.items) }
 {
     let mut named_files = Vec::new(alloc);
@@ -75,6 +76,15 @@ pub fn sink(alloc: Global, fail: &[u64]) -> Result<MemorySink, Fail> {
     Ok(MemorySink::new(alloc, ROOM, TAKE, fail.to_vec(alloc)?)?)
 }
 
+/// The words of a command.
+pub fn words_of(alloc: Global, words: &[&str]) -> Result<Vec<String>, Fail> {
+    let mut all = Vec::new(alloc);
+    for word in words {
+        all.push(String::from_str(alloc, word)?)?;
+    }
+    Ok(all)
+}
+
 /// What comes of the command of these words on this shelf and these sinks.
 pub fn ask_with<F: Shelf>(
     alloc: Global,
@@ -83,11 +93,8 @@ pub fn ask_with<F: Shelf>(
     mut out: MemorySink,
     mut faults_out: MemorySink,
 ) -> Result<Answer, Fail> {
-    let mut all = Vec::new(alloc);
-    for word in words {
-        all.push(String::from_str(alloc, word)?)?;
-    }
-    let status = ddm_main(alloc, &all, files, &mut out, &mut faults_out);
+    let words = words_of(alloc, words)?;
+    let status = ddm_main(alloc, &words, files, &mut out, &mut faults_out);
     Ok(Answer {
         status,
         out,

@@ -1,14 +1,14 @@
 -- A run that goes on from what was saved of its first turns has the report of all turns: the machine is the same, and the counts of
 -- both parts are added.
 -- Letters: p is what a tree and an image give, a an answer, m a machine.
-use Rattle.std.proofs.Common.{◌≡◌, ℕ, ◌+◌, List, [], ◌∷◌, ◌++◌, length, Option, Some, Ok, refl, sym, ap, subst, ◌∙◌, arith}
+use Rattle.std.proofs.Common.{◌≡◌, ℕ, ◌+◌, ◌≤◌, List, [], ◌∷◌, ◌++◌, length, Some, refl, sym, ap, subst, ◌∙◌, arith}
 use Rattle.std.specs.Prelude.{option_and_then, option_map}
 use Rattle.std.specs.Result.{result_ok}
 use Rattle.ddm_cli.specs.DdmTypes.declared.answers.TurnAnswer.{TurnAnswer}
 use Rattle.ddm_cli.specs.DdmTypes.declared.turns.Turn.{Turn}
 use Rattle.ddm_cli.specs.TreeModel.State.Shape.{Frame, depth_of, levels_of}
 use Rattle.ddm_cli.specs.TreeModel.State.Values.{MachineValue}
-use Rattle.ddm_cli.specs.TreeModel.Start.Machine.{start_machine, start_of}
+use Rattle.ddm_cli.specs.TreeModel.Start.Machine.{start_machine}
 use Rattle.ddm_cli.specs.TreeModel.Turns.Machine.{run_of, turn_of}
 use Rattle.ddm_cli.specs.TextModel.Report.{report_of}
 use Rattle.ddm_cli.specs.TextModel.Run.{counted_answer, counts_of, view_of, report_text_of}
@@ -16,7 +16,7 @@ use Rattle.ddm_cli.specs.TextModel.declared.RunCounts.{RunCounts}
 use Rattle.ddm_cli.specs.Made.{counts_plus}
 use Rattle.ddm_cli.specs.Parts.{Parts, parts_of, resumed_at, turns_at, turns_of}
 use Rattle.ddm_cli.specs.Printed.{resumed_report, saved_after}
-use Rattle.ddm_cli.specs.Together.{IsWholeRun, SavedRunsAreWhole}
+use Rattle.ddm_cli.specs.Together.{SavedRunsAreWhole}
 use Rattle.ddm_cli.specs.Told.{ScheduleGiven}
 use Rattle.ddm_cli.specs.Top.{rest_with, resumed_text, resumed_with, text_at, text_of, text_with}
 use Rattle.ddm_cli.specs.declared.command.Prints.TheVariants.{Report, Checkpoint}
@@ -26,6 +26,7 @@ use Rattle.ddm_cli.proofs.TreeModel.FrameKept.{run-frame}
 use Rattle.checkpoint.specs.Resumed.{Resumed}
 use Rattle.checkpoint.specs.Saved.{saved}
 use Rattle.checkpoint.proofs.Runs.{run-read}
+use Rattle.ddm_cli.proofs.FileLaws.CheckpointSizes.{checkpoints-bounded}
 use Rattle.ddm_cli.proofs.FileLaws.Images.{image-bytes}
 use Rattle.ddm_cli.proofs.FileLaws.Trees.{accepted_tree}
 use Rattle.ddm_cli.proofs.AcceptedParts.{few-given, parts-told}
@@ -98,12 +99,17 @@ all-turns tree image p all turns given of = ap (option_and_then (text_with Repor
 
 pub saved-whole : SavedRunsAreWhole
 unfolding text_at resumed_at saved_after
-saved-whole tree image p schedule first rest more bytes askable given of goes short =
+saved-whole tree image p schedule first rest more bytes askable given of goes =
     let parts = parts-told tree image p given in
     let file = accepted_tree tree p.tree parts.tree_is in
     let m = start_machine p.tree p.image in
     let few = few-given p.tree schedule first askable of in
-    let read = run-read p.tree p.image m first file.tree (image-bytes p.tree.item_bytes image p.image bytes parts.image_is) (starts p.tree p.image parts.starts) file.small few short in
+    let of_bytes = image-bytes p.tree.item_bytes image p.image bytes parts.image_is in
+    let built = starts p.tree p.image parts.starts in
+    let c = counts_of (run_of first m).answers in
+    let bound = checkpoints-bounded tree p.tree p.image m first c.turns c.retired c.granted c.busy parts.tree_is of_bytes built in
+    let short : length (saved (run_of first m).machine c) ≤ 536870912 = omega (arith, bound, few) in
+    let read = run-read p.tree p.image m first file.tree of_bytes built file.small few short in
     let here : turns_at p.tree.levels (counts_of (run_of first m).answers).turns rest ≡ Some more = subst (λ n. turns_at p.tree.levels n rest ≡ Some more) (sym (turns-counted first m)) goes in
     let text : resumed_text tree image (text_at Checkpoint p first) rest ≡ Some (text_at Report p (first ++ more)) =
     ap (option_and_then (resumed_with (saved (run_of first m).machine (counts_of (run_of first m).answers)) rest)) given

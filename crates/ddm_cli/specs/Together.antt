@@ -55,12 +55,11 @@ pub record IsWholeRun (tree image : List ℕ) (p : Parts) (file : List ℕ) (fir
   pub text : resumed_text tree image file rest ≡ Some (text_at Report p (first ++ more))
   pub of_all : (all : ScheduleGiven) → turns_of p.tree.levels all ≡ Some (first ++ more) → text_of Report tree image all ≡ resumed_text tree image file rest
 
--- so it is of the checkpoint of each schedule, where the file isn't longer than a checkpoint may be, and each schedule of the rest that
--- is accepted behind its turns
+-- so it is of the checkpoint of each schedule, and each schedule of the rest that is accepted behind its turns
 abbrev pub SavedRunsAreWhole : Type 0
 SavedRunsAreWhole = (tree image : List ℕ) (p : Parts) (schedule : ScheduleGiven) (first : List Turn) (rest : List ℕ) (more : List Turn) → AreBytes image → IsAskable schedule → parts_of tree image ≡ Some p
     → turns_of p.tree.levels schedule ≡ Some first → turns_at p.tree.levels (length first) rest ≡ Some more
-    → let file = text_at Checkpoint p first in length file ≤ 536870912 → IsWholeRun tree image p file first rest more
+    → IsWholeRun tree image p (text_at Checkpoint p first) first rest more
 
 -- a checkpoint is as long as that of the same machine without its operations, and 60 bytes for each of them
 abbrev pub CheckpointsGrowByOperations : Type 0

@@ -17,8 +17,7 @@ pub fn saved_runs()
     ensures { SavedRunsAreWhole }
 {}
 
-/// A checkpoint has 60 bytes for each operation. A run makes at most 1,048,576 turns, so its operations alone never make the
-/// checkpoint longer than 60 MiB.
+/// A checkpoint has 60 bytes for each operation. How long the rest of it is at most, `checkpoint_sizes` of `file_laws` says.
 pub fn checkpoint_sizes()
     ensures { CheckpointsGrowByOperations }
 {}

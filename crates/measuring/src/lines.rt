@@ -42,7 +42,7 @@ pub(crate) fn push_totals(out: &mut Vec<u8>, totals: &RunTotals) -> Result<(), N
     Ok(())
 }
 
-/// How a hart stands, and what its turns came to.
+/// The state of a hart, and what its turns came to.
 pub(crate) fn push_hart(
     out: &mut Vec<u8>,
     number: u32,

@@ -4,3 +4,5 @@ mod Replies
 mod Entries
 mod Leaves
 mod Grid
+mod Turns
+mod Told

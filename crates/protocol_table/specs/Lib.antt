@@ -8,3 +8,5 @@ pub mod Leaves
 pub mod Table
 pub mod Grid
 pub mod Examples
+pub mod Laws
+pub mod Told

@@ -60,17 +60,23 @@ abbrev pub unless_missing : Option BusyCause → Grant → Judged
 unless_missing None g = granted g
 unless_missing (Some cause) g = refused cause
 
--- a refusal, where there is a cause
-abbrev pub refused_or : Option BusyCause → Judged → Judged
-refused_or None j = j
-refused_or (Some cause) j = refused cause
+abbrev pub refused_for : Option BusyCause → Judged
+refused_for None = nothing_there
+refused_for (Some cause) = refused cause
 
--- the first row that applies; where none does, nothing is there
+-- the row has something to say of the situation
+abbrev pub speaks : Row → Situation → Bool
+speaks (grants r) s = r.asked s.asked && r.applies s
+speaks (refuses r) s = r.asked s.asked && is_some (r.cause s)
+
+abbrev pub row_says : Row → Situation → Judged
+row_says (grants r) s = unless_missing (r.needs s) (grant_of r s)
+row_says (refuses r) s = refused_for (r.cause s)
+
+-- the first row that speaks; where none does, nothing is there
 abbrev pub says : List Row → Situation → Judged
 says [] s = nothing_there
-says (grants r ∷ rows) s =
-    if r.asked s.asked && r.applies s then unless_missing (r.needs s) (grant_of r s) else says rows s
-says (refuses r ∷ rows) s = if r.asked s.asked then refused_or (r.cause s) (says rows s) else says rows s
+says (row ∷ rows) s = if speaks row s then row_says row s else says rows s
 
 -- ---- the words of the rows: when they apply
 

@@ -1,6 +1,6 @@
 //! The machine does what the table says, as theorems: each clause is one, and there is nothing to run.
 
-ghost use Rattle.std.specs.Prelude.{◌≡◌, ℕ, List, Some};
+ghost use Rattle.std.specs.Prelude.{◌≡◌, List, Some};
 ghost use Rattle.protocol_table.specs.DdmTypes.declared.keys.Stamp.{Stamp};
 ghost use Rattle.protocol_table.specs.DdmTypes.declared.sizes.LeafState.{LeafState};
 ghost use Rattle.tree_model.specs.declared.BusTurn.{BusTurn};
@@ -8,24 +8,25 @@ ghost use Rattle.tree_model.specs.State.States.{entry_hold, state_lost, asked_wh
 ghost use Rattle.tree_model.specs.State.States.{asked_with_data, state_with_exclusive, state_with_inject};
 ghost use Rattle.tree_model.specs.State.States.{state_answered, is_waiting, may_leave};
 ghost use Rattle.tree_model.specs.State.Values.{DirValue, Node};
-ghost use Rattle.tree_model.specs.Turns.Grant.{outcome_of};
-ghost use Rattle.tree_model.specs.Turns.Bus.{bus_step};
 ghost use Rattle.protocol_table.specs.Table.{table_says};
+ghost use Rattle.protocol_table.specs.Laws.{ComesTo, FirstRowDecides, NoRowIsEmpty, NothingIsEmpty};
 ghost use Rattle.protocol_table.specs.Grid.{row_of};
+ghost use Rattle.protocol_table.specs.Told.{DirectoriesGoByRows};
 ghost use Rattle.protocol_table.specs.Examples.{OneRead, OneWrite, JoinedRead, PendingErase};
 
 /// A turn of a bus is what the first row of the table that applies says, in every state and for every turn: what it
 /// answers, what it leaves of the parent, and what of the children.
 pub fn turns_are_the_table()
-    ensures requests { (above : Stamp) (p : DirValue) (ns : List Node) (c : ℕ)
-        → bus_step above (BusTurn.Request c) p ns ≡ outcome_of p ns (table_says above p ns (BusTurn.Request c)) }
-    ensures replies { (above : Stamp) (p : DirValue) (ns : List Node) (c : ℕ)
-        → bus_step above (BusTurn.Reply c) p ns ≡ outcome_of p ns (table_says above p ns (BusTurn.Reply c)) }
-    ensures entries { (above : Stamp) (p : DirValue) (ns : List Node)
-        → bus_step above BusTurn.Down p ns ≡ outcome_of p ns (table_says above p ns BusTurn.Down) }
-    ensures leaves { (above : Stamp) (p : DirValue) (ns : List Node) (c choice : ℕ)
-        → bus_step above (BusTurn.Leave c choice) p ns
-        ≡ outcome_of p ns (table_says above p ns (BusTurn.Leave c choice)) }
+    ensures { (above : Stamp) (p : DirValue) (ns : List Node) (t : BusTurn)
+        → ComesTo above p ns t (table_says above p ns t) }
+{}
+
+/// Row by row: where a row speaks and none before it does, the turn comes to what that row says. Where none does, or
+/// nothing is asked, the turn is empty and changes nothing.
+pub fn first_row_decides()
+    ensures row { FirstRowDecides }
+    ensures none { NoRowIsEmpty }
+    ensures nothing { NothingIsEmpty }
 {}
 
 /// What becomes of a leaf's entry is what the row of its state says.
@@ -40,6 +41,11 @@ pub fn states_are_the_grid()
     ensures answers { (t : LeafState) → state_answered t ≡ (row_of t).answers.state }
     ensures waits { (t : LeafState) → is_waiting t ≡ (row_of t).waits }
     ensures leaves { (t : LeafState) → may_leave t ≡ (row_of t).may_leave }
+{}
+
+/// What becomes of a directory that is told something is what its row says.
+pub fn directories_go_by_rows()
+    ensures { DirectoriesGoByRows }
 {}
 
 /// Turns of a bus of two leaves, as the table answers them.

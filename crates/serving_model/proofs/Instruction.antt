@@ -2,7 +2,7 @@
 -- and rest again.
 -- Letters: n is how many items there are, x the item, h the hart and its leaf, m a machine, ts and us are turns.
 use Rattle.std.proofs.Common.{◌≡◌, ◌≢◌, ℕ, ◌+◌, ◌<◌, true, List, [], ◌∷◌, ◌++◌, length, Option, Some, None, refl, sym, ap, subst, ◌∙◌, arith, append-nil}
-use Rattle.std.specs.Prelude.{nat_eq, nat_lt, option_and_then, slice_set}
+use Rattle.std.specs.Prelude.{nat_eq, nat_lt, option_and_then, option_map, slice_set}
 use Rattle.std.specs.List.{list_all}
 use Rattle.std.specs.Cmp.Derive.{both_true}
 use native.Mathlib.Decide.{ℕ_discrete}
@@ -16,7 +16,8 @@ use Rattle.serving_model.specs.DdmTypes.declared.turns.Turn.{Turn}
 use Rattle.bus_laws.specs.FlatModel.Flat.{FlatHart}
 use Rattle.serving_model.specs.TreeModel.State.States.{may_leave}
 use Rattle.serving_model.specs.TreeModel.State.Values.{RequestValue, LeafValue, DirValue, Node, Nodes, leaf_node, dir_node, nodes, children, MachineValue, root_of}
-use Rattle.serving_model.specs.TreeModel.State.Leaf.{way_at}
+use Rattle.serving_model.specs.TreeModel.State.Lists.{first_some}
+use Rattle.serving_model.specs.TreeModel.State.Leaf.{way_at, way_entry, buffer_entry, buffered, entry_at, entry_state, state_at}
 use Rattle.serving_model.specs.TreeModel.State.Place.{Where, at_top, at_child, where_path, spot_in}
 use Rattle.serving_model.specs.TreeModel.State.Shape.{Frame, IsShaped, skeletons}
 use Rattle.serving_model.specs.TreeModel.Turns.Children.{child_at}
@@ -27,7 +28,8 @@ use Rattle.serving_model.specs.Rest.{way_rests, tree_rests, trees_rest, dir_rest
 use Rattle.serving_model.specs.Parts.{FlatView, MayEnd, is_granted, BringsTo, AllHave, Settled, Calm}
 use Rattle.serving_model.specs.OneLeaf.{hart_at, MayEndFor, LeafIs, Spine, at_leaf, over, RootSpine, IsServed}
 use Rattle.serving_model.specs.Walk.{is_over, child_over, read_turns, erase_turns}
-use Rattle.serving_model.specs.Serving.{asked_of, walk_for, walk_of, walks_of}
+use Rattle.serving_model.specs.Serving.{asked_of, walk_by_kind, walk_for, walk_of, walks_of}
+use Rattle.serving_model.specs.Told.{entry_state_at, walk_by_state, AreTold}
 use Rattle.serving_model.specs.Laws.{Comes}
 use Rattle.serving_model.proofs.Wants.{Wants, wants-store}
 use Rattle.bus_laws.proofs.TreeKept.{turn-keeps_rules, run-keeps_rules}
@@ -283,3 +285,72 @@ module _ (m : MachineValue) (flat : FlatView) (h victim : ℕ) (kind : TxKind) (
       let s = came.served in
       let all = root-settled n1 flat came.g h x came.state came.usable s.top s.kids s.rests in
       record { g = came.g; state = came.state; usable = came.usable; served = s; rests = all.0; copies = all.1 }
+
+  -- ---- what can be seen of the walks
+
+  entry-is : (g : FlatHart) (state : LeafState) (asks : Option RequestValue) (v : LeafValue) → LeafIs n1 flat g x state asks v → state_at x v ≡ Some state
+  unfolding entry_at
+  entry-is g state asks v is = ap (λ o. option_map entry_state (first_some (option_map way_entry o) (option_map buffer_entry (buffered x v.buffer)))) is.here ∙ ap Some is.in_state
+
+  -- the state of the entry after the first walk
+  state-told : (g : FlatHart) (ts : List Turn) (state : LeafState) (asks : Option RequestValue) → IsServed m1 ts flat h (LeafIs n1 flat g x state asks) → entry_state_at h x (run_of ts m1).machine ≡ Some (Some state)
+  state-told g ts state asks s =
+      let k = (run_of ts m1).machine in
+      let one = root-reads (of_leaf (λ w v. state_at x v) None) n1 flat h (LeafIs n1 flat g x state asks) k.top k.kids (root2 g ts state asks s) in
+      one.says ∙ ap Some (entry-is g state asks one.leaf one.is)
+
+  -- of a first walk that is this one, and another one
+  told-by : (ts us : List Turn) → x < n1 → walk_of h m1 ≡ ts → ts ≡ walk_by_kind kind h x (root_of m1) → list_all is_granted (run_of ts m1).answers ≡ true
+      → walk_of h (run_of ts m1).machine ≡ us → us ≡ walk_by_state (entry_state_at h x (run_of ts m1).machine) h x (root_of (run_of ts m1).machine) → list_all is_granted (run_of us (run_of ts m1).machine).answers ≡ true → AreTold m1 kind h x
+  told-by ts us known first by-kind granted later by-state later-granted = record {
+    inside = known;
+    first = first ∙ by-kind;
+    first_granted = subst (λ l. list_all is_granted (run_of l m1).answers ≡ true) (sym first) granted;
+    later = subst (λ l. walk_of h (run_of l m1).machine ≡ walk_by_state (entry_state_at h x (run_of l m1).machine) h x (root_of (run_of l m1).machine)) (sym first) (later ∙ by-state);
+    later_granted = subst (λ l. list_all is_granted (run_of (walk_of h (run_of l m1).machine) (run_of l m1).machine).answers ≡ true) (sym first) (subst (λ l. list_all is_granted (run_of l (run_of ts m1).machine).answers ≡ true) (sym later) later-granted);
+  }
+
+  -- nothing more is asked for
+  one-told : (g : FlatHart) (ts : List Turn) (state : LeafState) → may_leave state ≡ true → x < n1 → walk_of h m1 ≡ ts → ts ≡ walk_by_kind kind h x (root_of m1) → IsServed m1 ts flat h (LeafIs n1 flat g x state None) → AreTold m1 kind h x
+  unfolding run_of
+  one-told g ts state leaves known first by-kind s =
+      told-by ts [] known first by-kind s.brings.granted (walk-is h (run_of ts m1).machine None (asked2 g ts state None s)) (sym (ap (λ o. walk_by_state o h x (root_of (run_of ts m1).machine)) (state-told g ts state None s) ∙ no-more state leaves (root_of (run_of ts m1).machine))) refl where
+        no-more : (state : LeafState) → may_leave state ≡ true → (m : Node) → walk_by_state (Some (Some state)) h x m ≡ []
+        no-more LeafState.Shared leaves m = refl
+        no-more LeafState.Exclusive leaves m = refl
+        no-more LeafState.Waiting leaves m = cc
+        no-more LeafState.Reading leaves m = cc
+        no-more LeafState.ReadingWaiting leaves m = cc
+
+  -- the erase that follows a read
+  two-told : (g : FlatHart) (ts : List Turn) → x < n1 → MayEnd flat x → walk_of h m1 ≡ ts → ts ≡ walk_by_kind kind h x (root_of m1) → IsServed m1 ts flat h (LeafIs n1 flat g x LeafState.Waiting (Some (record { kind = EraseTx; item = x }))) → AreTold m1 kind h x
+  two-told g ts known may-end first by-kind s =
+      let asks : Option RequestValue = Some (record { kind = EraseTx; item = x }) in
+      let k2 = (run_of ts m1).machine in
+      let items2 = same-items2 g ts LeafState.Waiting asks s in
+      let root : RootSpine (items_of_machine k2) flat h (LeafIs (items_of_machine k2) flat g x LeafState.Waiting asks) k2.top k2.kids = subst (λ k. RootSpine k flat h (LeafIs k flat g x LeafState.Waiting asks) k2.top k2.kids) (sym items2) (root2 g ts LeafState.Waiting asks s) in
+      let s2 = erase-served k2 flat g h x (subst (λ k. x < k) (sym items2) known) may-end (run-shape ts m1 shaped1) (run-keeps_rules ts m1 ok1) root in
+      told-by ts (erase_turns h x (root_of k2)) known first by-kind s.brings.granted (walk-is h k2 asks (asked2 g ts LeafState.Waiting asks s)) (sym (ap (λ o. walk_by_state o h x (root_of k2)) (state-told g ts LeafState.Waiting asks s))) s2.brings.granted
+
+  tells : IssuedIn h m.code m.items flat victim kind x (λ g. hart_at h m ≡ Some g) (λ Q. RootSpine n flat h Q m1.top m1.kids) → AreTold m1 kind h x
+  tells (reads_in g LeafState.Reading reads is known own wants root) =
+      let asks : Option RequestValue = Some (record { kind = ReadTx; item = x }) in
+      let known1 = subst (λ k. x < k) (sym same-items) known in
+      let root1 = subst (λ k. RootSpine k flat h (LeafIs k flat g x LeafState.Reading asks) m1.top m1.kids) (sym same-items) root in
+      one-told g (read_turns h x (root_of m1)) LeafState.Shared refl known1 (walk-is h m1 asks (asked-is n flat g h x LeafState.Reading asks m1 root)) (ap (λ k. walk_by_kind k h x (root_of m1)) (sym is)) (read-served m1 flat g h x LeafState.Reading known1 refl shaped1 ok1 root1)
+  tells (reads_in g LeafState.ReadingWaiting reads is known own wants root) =
+      let asks : Option RequestValue = Some (record { kind = ReadTx; item = x }) in
+      let known1 = subst (λ k. x < k) (sym same-items) known in
+      let root1 = subst (λ k. RootSpine k flat h (LeafIs k flat g x LeafState.ReadingWaiting asks) m1.top m1.kids) (sym same-items) root in
+      two-told g (read_turns h x (root_of m1)) known1 (ends g own wants) (walk-is h m1 asks (asked-is n flat g h x LeafState.ReadingWaiting asks m1 root)) (ap (λ k. walk_by_kind k h x (root_of m1)) (sym is)) (read-served m1 flat g h x LeafState.ReadingWaiting known1 refl shaped1 ok1 root1)
+  tells (reads_in g LeafState.Shared reads is known own wants root) = cc
+  tells (reads_in g LeafState.Exclusive reads is known own wants root) = cc
+  tells (reads_in g LeafState.Waiting reads is known own wants root) = cc
+  tells (erases_in g is known own wants root) =
+      let asks : Option RequestValue = Some (record { kind = EraseTx; item = x }) in
+      let known1 = subst (λ k. x < k) (sym same-items) known in
+      let root1 = subst (λ k. RootSpine k flat h (LeafIs k flat g x LeafState.Waiting asks) m1.top m1.kids) (sym same-items) root in
+      one-told g (erase_turns h x (root_of m1)) LeafState.Exclusive refl known1 (walk-is h m1 asks (asked-is n flat g h x LeafState.Waiting asks m1 root)) (ap (λ k. walk_by_kind k h x (root_of m1)) (sym is)) (erase-served m1 flat g h x known1 (ends g own wants) shaped1 ok1 root1)
+
+  pub told : AreTold m1 kind h x
+  told = tells asks-alone

@@ -11,6 +11,7 @@ pub mod Serving
 pub mod Shows
 pub mod Laws
 pub mod ServedLists
+pub mod Told
 pub mod Texts
 pub mod Computing
 pub mod Examples

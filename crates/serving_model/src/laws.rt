@@ -1,6 +1,7 @@
 //! What holds of walks, as theorems: there is nothing to run.
 
 ghost use Rattle.serving_model.specs.ServedLists.{StoringRunsAreLegal, ListsAreServed, StartsAreShown, EveryOrderIsShown};
+ghost use Rattle.serving_model.specs.Told.{WalksAreTold};
 ghost use Rattle.serving_model.specs.Laws.{PartsGive, PartsLose, RunsAreTheMachines, ReadsAreServed, ErasesAreServed, WalksBringTheItem, RequestsComplete, InstructionsAreServed, StepsAreShown, WalksAreShort, GrantsKeepHarts};
 
 /// A part of the tree that holds an item, and is at rest, gives it when it is told to answer: its turns are granted, and it is at rest
@@ -33,6 +34,12 @@ pub fn erases_are_served()
 /// machine is at rest again.
 pub fn walks_bring_the_item()
     ensures { WalksBringTheItem }
+{}
+
+/// These walks can be told by what the turn answered and by the state of the leaf's entry after the first of them; all their turns are
+/// granted.
+pub fn walks_are_told()
+    ensures { WalksAreTold }
 {}
 
 /// A hart whose item the walks have brought completes its instruction at its next turn, as its step on a flat memory is.

@@ -1,0 +1,2 @@
+-- Of `report`, what this crate names.
+pub use Rattle.ddm_cli.specs.ReportCrate.declared

@@ -1,0 +1,5 @@
+pub mod Places
+pub mod Loops
+pub mod Leaves
+pub mod Forms
+pub mod Timeless

@@ -1,0 +1,7 @@
+use Rattle.std.proofs.Common.{◌≡◌, ◌++◌, flat_map, take}
+use Rattle.tree_model.specs.Turns.Machine.{machine_leaves}
+use Rattle.machine_states.specs.Words.{timeless_hart}
+use Rattle.machine_states.proofs.parts.push_harts.Given as goal
+
+abbrev pub invariant-loop-leaf : goal.invariant-loop-leaf
+invariant-loop-leaf g l = l.out.items ≡ l.initial.out.items ++ flat_map timeless_hart (take l.leaf (machine_leaves l.machine.machine))

@@ -1,0 +1,3 @@
+pub mod AtBus
+pub mod Children
+pub mod Walks
