@@ -8,18 +8,18 @@ use Rattle.film_runs.proofs.StartFilmed.{first_depth, first_filmed, first_shaped
 use Rattle.film_runs.proofs.WholePage.{whole_page}
 use Rattle.film_runs.proofs.pages.page_text.Goals as goal
 
-pub film_text-film-requires-clause-depth : goal.film_text-film-requires-clause-depth
-film_text-film-requires-clause-depth c =
+pub film_text-requires-clause-depth : goal.film_text-requires-clause-depth
+film_text-requires-clause-depth c =
     let f = c.requires.first in
     ap depth_of f.is ∙ first_depth c.args.tree.now f.image f.tree f.accepted
 
-pub film_text-film-requires-clause-shape : goal.film_text-film-requires-clause-shape
-film_text-film-requires-clause-shape c =
+pub film_text-requires-clause-shape : goal.film_text-requires-clause-shape
+film_text-requires-clause-shape c =
     let f = c.requires.first in
     subst IsShaped (sym f.is) (first_shaped c.args.tree.now f.image f.tree f.accepted)
 
-pub film_text-film-requires-clause-filmed : goal.film_text-film-requires-clause-filmed
-film_text-film-requires-clause-filmed c =
+pub film_text-requires-clause-filmed : goal.film_text-requires-clause-filmed
+film_text-requires-clause-filmed c =
     let f = c.requires.first in
     let t = c.args.tree.now in
     let levels = c.deref.ensures.value ∙ alone c.in_ok-push_levels.ensures c.new-levels.ensures.items in
