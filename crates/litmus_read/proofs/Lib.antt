@@ -1,3 +1,11 @@
 pub mod Givens
 pub mod CellSteps
 pub mod RowSteps
+pub mod KeptSteps
+pub mod LabelSearch
+pub mod ThreadNames
+pub mod AtomParts
+pub mod NamedTargets
+pub mod Quantifiers
+pub mod Readings
+pub mod Programs

@@ -1,12 +1,13 @@
 //! A cell of the program: labels, and then an instruction or nothing.
 
-ghost use Rattle.std.specs.Prelude.{◌≡◌, ◌≤◌, ◌∷◌, [], ◌++◌, List, IfOk, IfSome, None, OnOk, length, map};
+ghost use Rattle.std.specs.Prelude.{◌≡◌, ◌≤◌, ◌+◌, ◌∷◌, [], ◌++◌, ℕ, List, IfOk, IfSome, None, OnOk, length, map};
 ghost use Rattle.litmus_model.specs.declared.parts.Step.{Step as StepValue};
 ghost use Rattle.litmus_model.specs.Tokens.{Piece as PieceValue, parts_of};
 ghost use Rattle.litmus_model.specs.Program.{instruction_steps, label_name, operands_of, placed, steps_behind_labels};
 ghost use Rattle.litmus_text.specs.Reads.{Adds, Reads, behind};
 ghost use Rattle.litmus_steps.specs.Made.{IsMade};
 ghost use Rattle.litmus_read.specs.Cells.{cell_placed, first_label, placed_steps};
+ghost use Rattle.litmus_read.specs.Kept.{IsKept};
 
 use elf_load::of_ddm_types::NoMemory;
 use litmus_model::{Fault, Name, Part, PlacedStep, Step, Token};
@@ -115,13 +116,14 @@ fn first_label(tokens: &[Token]) -> Option<Name>
 }
 
 /// Adds the labels of a cell, and says what follows them.
-#[tactic(auto, using(crate::proofs::CellSteps::label_next))]
+#[tactic(auto, using(crate::proofs::CellSteps::label_next, crate::proofs::KeptSteps::kept_label))]
 fn push_labels<'a>(
     steps: &mut Vec<PlacedStep>,
     cell: Cell,
     tokens: &'a [Token],
 ) -> Result<&'a [Token], NoMemory>
     ensures labels { IfOk result (λ left. first_label left.now ≡ None) }
+    ensures kept { IfOk result (λ left. (before thread : ℕ) → IsKept before thread steps.old.items → IsKept before thread steps.new.items) }
     ensures steps { IfOk result (λ left. behind steps.old.items (cell_placed cell.thread cell.line tokens.now) ≡ behind steps.new.items (cell_placed cell.thread cell.line left.now)) }
 {
     let mut left = tokens;
@@ -133,7 +135,7 @@ fn push_labels<'a>(
 }
 
 /// Adds the instruction that begins with this part.
-#[tactic(auto, using(crate::proofs::CellSteps::made_added, crate::proofs::CellSteps::mark_refused))]
+#[tactic(auto, using(crate::proofs::CellSteps::made_added, crate::proofs::CellSteps::mark_refused, crate::proofs::KeptSteps::kept_made))]
 fn push_instruction(
     alloc: Global,
     steps: &mut Vec<PlacedStep>,
@@ -141,7 +143,8 @@ fn push_instruction(
     first: &Part,
     operands: &[Token],
 ) -> Result<(), Unread>
-    ensures { Adds (placed_steps cell.thread cell.line (steps_behind_labels cell.line first.now operands.now)) steps.old.items steps.new.items result }
+    ensures steps { Adds (placed_steps cell.thread cell.line (steps_behind_labels cell.line first.now operands.now)) steps.old.items steps.new.items result }
+    ensures kept { OnOk result ((before : ℕ) → IsKept before cell.thread steps.old.items → IsKept before (cell.thread + 1) steps.new.items) }
 {
     match first {
         Part::Word(mnemonic) => {
@@ -160,7 +163,8 @@ pub(crate) fn read_cell(
     cell: Cell,
     tokens: &[Token],
 ) -> Result<(), Unread>
-    ensures { Adds (cell_placed cell.thread cell.line tokens.now) steps.old.items steps.new.items result }
+    ensures steps { Adds (cell_placed cell.thread cell.line tokens.now) steps.old.items steps.new.items result }
+    ensures kept { OnOk result ((before : ℕ) → IsKept before cell.thread steps.old.items → IsKept before (cell.thread + 1) steps.new.items) }
 {
     let left = push_labels(steps, cell, tokens)?;
     if left.is_empty() {

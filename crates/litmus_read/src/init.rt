@@ -1,14 +1,13 @@
 //! The initial state: what registers and locations begin with.
 
 ghost use Rattle.std.specs.Prelude.{◌≡◌, ◌∷◌, [], ◌++◌, ◌≤◌, List, IfOk, Ok, OnOk, drop, length};
-ghost use Rattle.std.specs.List.{position_or_len};
 ghost use Rattle.litmus_model.specs.declared.parts.Part.{Part as PartValue};
 ghost use Rattle.litmus_model.specs.Refusing.{and_then};
-ghost use Rattle.litmus_model.specs.Tokens.{is_part_mark};
-ghost use Rattle.litmus_model.specs.Init.{equals_place, given_of, given_value, givens_from, init_of, is_known_type, is_name_part, is_word, new_given, piece_givens, without_type};
+ghost use Rattle.litmus_model.specs.Init.{given_of, given_value, givens_from, init_of, is_known_type, is_name_part, is_word, new_given, piece_givens, without_type};
 ghost use Rattle.litmus_text.specs.Reads.{ReadsList};
 ghost use Rattle.litmus_read.specs.Becomes.{Becomes};
 
+use crate::parts::{equals_place, is_part_mark};
 use elf_load::of_ddm_types::NoMemory;
 use litmus_model::{Fault, Given, Part, Target, TestRefusal, Token, Value, is_given};
 use litmus_text::{Piece, Unread, in_line, is, is_name, parts_of, pieces_at};
@@ -45,15 +44,6 @@ fn is_known_type(part: &Part) -> bool
     }
 }
 
-pub(crate) fn is_part_mark(mark: u8, part: &Part) -> bool
-    ensures { result ≡ is_part_mark mark part.now }
-{
-    match part {
-        Part::Word(_) => false,
-        Part::Mark(byte) => *byte == mark,
-    }
-}
-
 /// How many parts a type is, of which these are the first two parts.
 #[tactic(auto, unfolding(litmus_model::specs::Init::without_type, litmus_model::specs::Refusing::and_then))]
 fn type_before(line: u32, first: &Part, second: &Part) -> Result<usize, TestRefusal>
@@ -81,20 +71,6 @@ fn type_length(line: u32, parts: &[Part]) -> Result<usize, TestRefusal>
     } else {
         type_before(line, &parts[0], &parts[1])
     }
-}
-
-/// How many parts are before the first `=`.
-#[tactic(auto, using(litmus_model::proofs::Searches::position_next, litmus_model::proofs::Searches::position_found, litmus_model::proofs::Searches::position_done))]
-pub(crate) fn equals_place(parts: &[Part]) -> usize
-    ensures place { result ≡ equals_place parts.now }
-    ensures inside { result ≤ length parts.now }
-{
-    for (place, part) in parts.iter().enumerate() {
-        if is_part_mark(b'=', part) {
-            return place;
-        }
-    }
-    parts.len()
 }
 
 /// The value behind `=`, and 0 where there is none.
