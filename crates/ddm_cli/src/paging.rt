@@ -46,10 +46,18 @@ fn see_bytes(bytes: &[u8])
     }
 }
 
-// Looks at the bytes of an image.
+// Looks at a word: it has 32 bits.
+fn see_word(word: u32)
+    ensures { word < 4294967296 }
+{
+    let _seen = word;
+}
+
+// Looks at the bytes of an image, and at its entry.
 fn see_image(image: &Image)
     ensures { IsOfBytes image.now }
 {
+    see_word(image.entry);
     'segments: for segment in &image.segments {
         see_bytes(&segment.bytes);
     }
