@@ -6,7 +6,7 @@ use Rattle.std.proofs.lemmas.List.{length-take}
 use Rattle.ddm_outside.specs.Causes.{Rose}
 use Rattle.ddm_outside.specs.SoundShelf.{told_of}
 use Rattle.ddm_outside.specs.declared.sound_shelf.SoundShelf.{SoundShelf}
-use Rattle.ddm_cli.specs.Commands.{Check, Command, ImageFrom, Resumption, Run, TurnsFrom, image_named, image_made, schedule_named, turns_seeded, to_run, to_list, to_check, to_resume, to_survey, to_record, to_measure, to_survey_runs, to_join, to_page, to_say, command_of, first_run, paged_run, recorded_run, surveyed_run}
+use Rattle.ddm_cli.specs.Commands.{Check, Command, ImageFrom, Resumption, Run, TurnsFrom, image_named, image_made, schedule_named, turns_seeded, paged_named, to_run, to_list, to_check, to_resume, to_survey, to_record, to_measure, to_survey_runs, to_join, to_page, to_say, command_of, first_run, paged_run, recorded_run, surveyed_run}
 use Rattle.ddm_cli.specs.Causes.{TreeCause}
 use Rattle.ddm_cli.specs.Told.{ScheduleGiven, image_faults, image_told, schedule_faults, schedule_told}
 use Rattle.ddm_cli.specs.Top.{Accepted, CantRead, CantReadFor, CantReadRest, Completes, HasAccepted, HasText, NotAccepted, NothingFailed, StatusHasCause, command_text, text_of}
@@ -37,6 +37,7 @@ module _ {F : Type 0} (told : F → List ℕ → Option (List ℕ)) (files files
   schedule-read : (turns : TurnsFrom) → Rose (schedule_faults (none files) turns) (schedule_faults (none files') turns) → ⊥
   schedule-read (schedule_named name) rose = never-rose rose
   schedule-read (turns_seeded seed count) rose = never-rose rose
+  schedule-read (paged_named name) rose = never-rose rose
 
   run-read : (prints : Prints) (role : FileRole) (r : Run) → CantRead told none files files' prints role r → ⊥
   run-read prints TreeFile r failed = never-rose failed
