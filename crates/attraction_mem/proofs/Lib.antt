@@ -1,3 +1,4 @@
+pub mod Copied
 pub mod Holding
 pub mod Marked
 pub mod Changing

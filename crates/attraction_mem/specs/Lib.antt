@@ -1,3 +1,4 @@
+pub mod Copying
 pub mod DdmTypes
 pub mod Marks
 pub mod Memory

@@ -5,6 +5,7 @@ ghost use Rattle.std.specs.Option.{option_map};
 ghost use Rattle.ddm_types.specs.declared.sizes.LeafState.{LeafState as State};
 ghost use Rattle.attraction_mem.specs.Memory.{entry_of, empty_memory, StandsIn, StandsAs, IsFree, IsLowestFree, IsFull, with_entry, place_of, without_entry, with_state, with_words, way_and_state, state_and_words};
 
+use crate::copying::copy_sets;
 use crate::marks::{is_marked, mark};
 use crate::places::{find_free, find_tag, first_place};
 use ddm_types::{Divisor, ItemId, LeafState, NoMemory, Words};
@@ -265,9 +266,14 @@ impl<const WAYS: usize, const WORDS: usize> AttractionMem<WAYS, WORDS> {
         requires { self.old.sets ≡ other.now.sets }
         ensures { self.new ≡ other.now }
     {
-        self.tags.copy_from_slice(&other.tags);
-        self.words.copy_from_slice(&other.words);
-        self.marks.copy_from_slice(&other.marks);
+        copy_sets::<WAYS, WORDS>(
+            &mut self.tags,
+            &mut self.words,
+            &mut self.marks,
+            &other.tags,
+            &other.words,
+            &other.marks,
+        );
     }
 
     /// A tag for each way of each set, one set after the other: the item that stands there and its state.

@@ -22,6 +22,8 @@ mod several_leaves;
 #[cfg(test)]
 mod surveys;
 #[cfg(test)]
+mod tables;
+#[cfg(test)]
 mod tiny_lists;
 #[cfg(test)]
 mod turns_that_go_on;
