@@ -1,6 +1,7 @@
 //! A run: a list of turns on a machine of any tree, which may take memory.
 
-ghost use Rattle.std.specs.Prelude.{◌≡◌, ◌+◌, ◌<◌, ◌≤◌, ◌++◌, ◌∷◌, [], Some, true, false, IfNone, IfOk, IfSome, OnErr, OnOk, OnSome, length, vec_capacity, vec_len, if◌then◌else◌};
+ghost use Rattle.std.specs.Prelude.{◌≡◌, ◌+◌, ◌<◌, ◌≤◌, ◌++◌, ◌∷◌, [], Some, true, false, IfNone, IfOk, IfSome};
+ghost use Rattle.std.specs.Prelude.{OnErr, OnOk, OnSome, length, vec_capacity, vec_len, if◌then◌else◌};
 ghost use Rattle.any_runs.specs.DdmTypes.declared.answers.TurnAnswer.TheVariants.{Empty};
 ghost use Rattle.any_runs.specs.TreeModel.Turns.Machine.{names_part, turn_of};
 ghost use Rattle.text_model.specs.Run.{counted_answer};
@@ -170,7 +171,9 @@ fn run_reserved<const WORDS: usize, C: Subtree<WORDS>>(
     requires few { CanRun turns.now machine.old }
     ensures after { OnOk result (machine.new ≡ ran turns.now (with_room (length turns.now) machine.old)) }
     ensures counts { IfOk result (λ counts. counts ≡ counts_in turns.now machine.old) }
-    ensures answers { OnOk result (answers.new.items ≡ (if keep then answers.old.items ++ answers_in turns.now machine.old else answers.old.items)) }
+    ensures answers { OnOk result
+        (answers.new.items
+        ≡ (if keep then answers.old.items ++ answers_in turns.now machine.old else answers.old.items)) }
     ensures order { OnOk result (StaysInOrder machine.old.machine machine.new.machine) }
     ensures same { OnErr result (machine.new ≡ machine.old) }
     ensures kept { OnErr result (answers.new.items ≡ answers.old.items) }
@@ -196,7 +199,9 @@ fn run_over<const WORDS: usize, C: Subtree<WORDS>>(
     requires few { CanRun turns.now machine.old }
     ensures after { OnOk result (machine.new ≡ ran turns.now (with_room (length turns.now) machine.old)) }
     ensures counts { IfOk result (λ counts. counts ≡ counts_in turns.now machine.old) }
-    ensures answers { OnOk result (answers.new.items ≡ (if keep then answers.old.items ++ answers_in turns.now machine.old else answers.old.items)) }
+    ensures answers { OnOk result
+        (answers.new.items
+        ≡ (if keep then answers.old.items ++ answers_in turns.now machine.old else answers.old.items)) }
     ensures order { OnOk result (StaysInOrder machine.old.machine machine.new.machine) }
     ensures same { OnErr result (machine.new ≡ machine.old) }
     ensures kept { OnErr result (answers.new.items ≡ answers.old.items) }
@@ -215,7 +220,10 @@ fn run_depths<const WAYS: usize, const WORDS: usize>(
     requires few { CanRun turns.now (depths_state machine.old) }
     ensures after { OnOk result (depths_state machine.new ≡ ran turns.now (with_room (length turns.now) (depths_state machine.old))) }
     ensures counts { IfOk result (λ counts. counts ≡ counts_in turns.now (depths_state machine.old)) }
-    ensures answers { OnOk result (answers.new.items ≡ (if keep then answers.old.items ++ answers_in turns.now (depths_state machine.old) else answers.old.items)) }
+    ensures answers { OnOk result
+        (answers.new.items
+        ≡ (if keep then answers.old.items ++ answers_in turns.now (depths_state machine.old)
+        else answers.old.items)) }
     ensures order { OnOk result (StaysInOrder (depths_state machine.old).machine (depths_state machine.new).machine) }
     ensures same { OnErr result (depths_state machine.new ≡ depths_state machine.old) }
     ensures kept { OnErr result (answers.new.items ≡ answers.old.items) }
@@ -239,7 +247,9 @@ fn run_machines<const WORDS: usize>(
     requires few { CanRun turns.now (state_in machine.old) }
     ensures after { OnOk result (state_in machine.new ≡ ran turns.now (with_room (length turns.now) (state_in machine.old))) }
     ensures counts { IfOk result (λ counts. counts ≡ counts_in turns.now (state_in machine.old)) }
-    ensures answers { OnOk result (answers.new.items ≡ (if keep then answers.old.items ++ answers_in turns.now (state_in machine.old) else answers.old.items)) }
+    ensures answers { OnOk result
+        (answers.new.items
+        ≡ (if keep then answers.old.items ++ answers_in turns.now (state_in machine.old) else answers.old.items)) }
     ensures order { OnOk result (StaysInOrder (state_in machine.old).machine (state_in machine.new).machine) }
     ensures same { OnErr result (state_in machine.new ≡ state_in machine.old) }
     ensures kept { OnErr result (answers.new.items ≡ answers.old.items) }
@@ -263,7 +273,10 @@ pub fn run(
     requires few { CanRun turns.now (machine_state machine.old) }
     ensures after { OnOk result (machine_state machine.new ≡ ran turns.now (with_room (length turns.now) (machine_state machine.old))) }
     ensures counts { IfOk result (λ counts. counts ≡ counts_in turns.now (machine_state machine.old)) }
-    ensures answers { OnOk result (answers.new.items ≡ (if keep then answers.old.items ++ answers_in turns.now (machine_state machine.old) else answers.old.items)) }
+    ensures answers { OnOk result
+        (answers.new.items
+        ≡ (if keep then answers.old.items ++ answers_in turns.now (machine_state machine.old)
+        else answers.old.items)) }
     ensures order { OnOk result (StaysInOrder (machine_state machine.old).machine (machine_state machine.new).machine) }
     ensures same { OnErr result (machine_state machine.new ≡ machine_state machine.old) }
     ensures kept { OnErr result (answers.new.items ≡ answers.old.items) }

@@ -22,8 +22,12 @@ fn read_over<const WORDS: usize, C: Subtree<WORDS> + Drop>(
     requires few { length words.now < 2 ^ 32 }
     requires head { 8 < length words.now }
     requires inside { from ≤ length words.now }
-    ensures read { IfOk result (λ r. read_state fresh.machine (slice_index words.now 8) from (drop from words.now) ≡ Ok (record { value = r.0.machine; at = r.1; rest = drop r.1 words.now })) }
-    ensures refused { IfErr result (λ e. e ≢ NoMemory → read_state fresh.machine (slice_index words.now 8) from (drop from words.now) ≡ Err e) }
+    ensures read { IfOk result
+        (λ r. read_state fresh.machine (slice_index words.now 8) from (drop from words.now)
+        ≡ Ok (record { value = r.0.machine; at = r.1; rest = drop r.1 words.now })) }
+    ensures refused { IfErr result
+        (λ e. e ≢ NoMemory →
+        read_state fresh.machine (slice_index words.now 8) from (drop from words.now) ≡ Err e) }
     ensures frame { IfOk result (λ r. frame_of r.0.machine ≡ frame_of fresh.machine) }
     ensures spare { IfOk result (λ r. r.0.spare ≡ 0) }
     ensures turns { IfOk result (λ r. r.0.turns ≡ 1048576) }
@@ -40,8 +44,13 @@ fn read_depths<const WAYS: usize, const WORDS: usize>(
     requires few { length words.now < 2 ^ 32 }
     requires head { 8 < length words.now }
     requires inside { from ≤ length words.now }
-    ensures read { IfOk result (λ r. read_state (depths_state fresh.entry).machine (slice_index words.now 8) from (drop from words.now) ≡ Ok (record { value = (depths_state r.0).machine; at = r.1; rest = drop r.1 words.now })) }
-    ensures refused { IfErr result (λ e. e ≢ NoMemory → read_state (depths_state fresh.entry).machine (slice_index words.now 8) from (drop from words.now) ≡ Err e) }
+    ensures read { IfOk result
+        (λ r. read_state (depths_state fresh.entry).machine (slice_index words.now 8) from (drop from words.now)
+        ≡ Ok (record { value = (depths_state r.0).machine; at = r.1; rest = drop r.1 words.now })) }
+    ensures refused { IfErr result
+        (λ e. e ≢ NoMemory →
+        read_state (depths_state fresh.entry).machine (slice_index words.now 8) from (drop from words.now)
+        ≡ Err e) }
     ensures frame { IfOk result (λ r. frame_of (depths_state r.0).machine ≡ frame_of (depths_state fresh.entry).machine) }
     ensures spare { IfOk result (λ r. (depths_state r.0).spare ≡ 0) }
     ensures turns { IfOk result (λ r. (depths_state r.0).turns ≡ 1048576) }
@@ -76,8 +85,12 @@ fn read_machines<const WORDS: usize>(
     requires few { length words.now < 2 ^ 32 }
     requires head { 8 < length words.now }
     requires inside { from ≤ length words.now }
-    ensures read { IfOk result (λ r. read_state (state_in fresh.entry).machine (slice_index words.now 8) from (drop from words.now) ≡ Ok (record { value = (state_in r.0).machine; at = r.1; rest = drop r.1 words.now })) }
-    ensures refused { IfErr result (λ e. e ≢ NoMemory → read_state (state_in fresh.entry).machine (slice_index words.now 8) from (drop from words.now) ≡ Err e) }
+    ensures read { IfOk result
+        (λ r. read_state (state_in fresh.entry).machine (slice_index words.now 8) from (drop from words.now)
+        ≡ Ok (record { value = (state_in r.0).machine; at = r.1; rest = drop r.1 words.now })) }
+    ensures refused { IfErr result
+        (λ e. e ≢ NoMemory →
+        read_state (state_in fresh.entry).machine (slice_index words.now 8) from (drop from words.now) ≡ Err e) }
     ensures frame { IfOk result (λ r. frame_of (state_in r.0).machine ≡ frame_of (state_in fresh.entry).machine) }
     ensures spare { IfOk result (λ r. (state_in r.0).spare ≡ 0) }
     ensures turns { IfOk result (λ r. (state_in r.0).turns ≡ 1048576) }
@@ -111,8 +124,12 @@ pub fn read_state(
     requires few { length words.now < 2 ^ 32 }
     requires head { 8 < length words.now }
     requires inside { from ≤ length words.now }
-    ensures ok { IfOk result (λ r. read_state (machine_state fresh).machine (slice_index words.now 8) from (drop from words.now) ≡ Ok (record { value = (machine_state r.0).machine; at = r.1; rest = drop r.1 words.now })) }
-    ensures refused { IfErr result (λ e. e ≢ NoMemory → read_state (machine_state fresh).machine (slice_index words.now 8) from (drop from words.now) ≡ Err e) }
+    ensures ok { IfOk result
+        (λ r. read_state (machine_state fresh).machine (slice_index words.now 8) from (drop from words.now)
+        ≡ Ok (record { value = (machine_state r.0).machine; at = r.1; rest = drop r.1 words.now })) }
+    ensures refused { IfErr result
+        (λ e. e ≢ NoMemory →
+        read_state (machine_state fresh).machine (slice_index words.now 8) from (drop from words.now) ≡ Err e) }
     ensures frame { IfOk result (λ r. frame_of (machine_state r.0).machine ≡ frame_of (machine_state fresh).machine) }
     ensures spare { IfOk result (λ r. (machine_state r.0).spare ≡ 0) }
     ensures turns { IfOk result (λ r. (machine_state r.0).turns ≡ 1048576) }

@@ -30,6 +30,7 @@ failures_of out = count_of out.sink
 -- held, or memory ran out.
 abbrev pub RunIsHeld : List (List ℕ) → SoundShelf → RoomySink → RoomySink → Status → Type 0
 RunIsHeld words files out out' status =
-    (prints : Prints) (r : Run) (text : List ℕ) → command_of words ≡ Ok (to_run prints r) → command_text (told_of files) (to_run prints r) ≡ Some text
+    (prints : Prints) (r : Run) (text : List ℕ) → command_of words ≡ Ok (to_run prints r) →
+    command_text (told_of files) (to_run prints r) ≡ Some text
     → length (held_of out) + length text < room_bytes
     → ((status ≡ Done) × (held_of out' ≡ held_of out ++ text)) ⊎ (status ≡ NoMemory)

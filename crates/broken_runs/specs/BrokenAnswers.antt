@@ -29,7 +29,9 @@ pub record OtherOperations : Type 0 where
 
 -- a turn of hart 0 answers that it has halted, and it goes on
 abbrev pub HaltsHart0 : Type 0
-HaltsHart0 = IsHaltedByTurn ((Turn.Down 0) ∷ (Turn.Hart 0 0) ∷ []) (TurnAnswer.Empty ∷ TurnAnswer.Halted (HaltCause.FetchOutside 0x1000c) ∷ []) ended_0
+HaltsHart0 =
+    IsHaltedByTurn ((Turn.Down 0) ∷ (Turn.Hart 0 0) ∷ [])
+    (TurnAnswer.Empty ∷ TurnAnswer.Halted (HaltCause.FetchOutside 0x1000c) ∷ []) ended_0
 
 -- ---- causes: every kind of them, of bus 0 and its leaves
 
@@ -63,4 +65,6 @@ pub record OtherCauses : Type 0 where
   -- and where a copy of leaf 1 was to leave, no other leaf has room
   pub no_room : causes_after 3 (Turn.Leave 0 1 0) ≡ noted (PendingWhy.Local 0) ∷ replies_full ∷ BusyCause.NoRoom 0 ∷ []
   -- leaf 1 erases, and that comes down in a list of one place
-  pub erase_under_way : causes_after 7 (Turn.Request 0 0) ≡ noted (PendingWhy.UpErase 1) ∷ noted PendingWhy.InDown ∷ BusyCause.QueueFull (QueueName.Down 0) ∷ []
+  pub erase_under_way :
+      causes_after 7 (Turn.Request 0 0)
+      ≡ noted (PendingWhy.UpErase 1) ∷ noted PendingWhy.InDown ∷ BusyCause.QueueFull (QueueName.Down 0) ∷ []

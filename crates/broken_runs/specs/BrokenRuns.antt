@@ -14,7 +14,10 @@ use Rattle.broken_runs.specs.Run.{hart_at, leaf_at, machine_of, flat_of}
 
 -- both harts are at a load; the copy of leaf 1 isn't the one that is found, and has another word
 abbrev pub two_words : MachineValue
-two_words = machine_of (leaf_at 0 (hart_at 0x10004 0 None) 0 (entry LeafState.Shared 5) ∷ leaf_at 1 (hart_at 0x10004 0 None) 0 (entry LeafState.Shared 3) ∷ []) []
+two_words =
+    machine_of
+    (leaf_at 0 (hart_at 0x10004 0 None) 0 (entry LeafState.Shared 5)
+    ∷ leaf_at 1 (hart_at 0x10004 0 None) 0 (entry LeafState.Shared 3) ∷ []) []
 
 abbrev pub loads_flat : FlatMachine
 loads_flat = flat_of (hart_at 0x10004 0 None) (hart_at 0x10004 0 None) 5
@@ -32,7 +35,10 @@ pub record LoadsAnotherWord : Type 0 where
 
 -- hart 0 is at a load into x7, where 9 stands in place of 0
 abbrev pub other_before_load : MachineValue
-other_before_load = machine_of (leaf_at 0 (hart_at 0x10004 9 None) 0 (entry LeafState.Shared 5) ∷ leaf_at 1 (hart_at 0x10004 0 None) 0 None ∷ []) []
+other_before_load =
+    machine_of
+    (leaf_at 0 (hart_at 0x10004 9 None) 0 (entry LeafState.Shared 5) ∷ leaf_at 1 (hart_at 0x10004 0 None) 0 None
+    ∷ []) []
 
 abbrev pub turn_of_hart_0 : List Turn
 turn_of_hart_0 = (Turn.Hart 0 0) ∷ []

@@ -8,7 +8,8 @@ use Rattle.broken_runs.specs.DdmTypes.declared.sizes.LeafState.{LeafState}
 use Rattle.broken_runs.specs.FlatModel.Flat.{FlatMachine}
 use Rattle.broken_runs.specs.TreeModel.State.Values.{LeafValue, MachineValue}
 use Rattle.tree_rules.specs.Small.{entry}
-use Rattle.broken_runs.specs.Run.{hart_at, leaf_at, machine_of, flat_of, key_of, first_load, first_put, store, second_load, second_put, ended_0, ended_1, ended_ops, ended_with, ended}
+use Rattle.broken_runs.specs.Run.{hart_at, leaf_at, machine_of, flat_of, key_of, first_load, first_put, store}
+use Rattle.broken_runs.specs.Run.{second_load, second_put, ended_0, ended_1, ended_ops, ended_with, ended}
 
 abbrev pub with_ops : List Op → MachineValue
 with_ops ops = ended_with (ended_0 ∷ ended_1 ∷ []) ops
@@ -34,7 +35,9 @@ one_left_out = with_ops (first_load ∷ store ∷ second_load ∷ first_put ∷ 
 
 -- of hart 1, the store and the load
 abbrev pub exchanged_in_hart : MachineValue
-exchanged_in_hart = with_ops (first_load ∷ record store { key = second_load.key } ∷ record second_load { key = store.key } ∷ second_put ∷ first_put ∷ [])
+exchanged_in_hart =
+    with_ops (first_load ∷ record store { key = second_load.key } ∷ record second_load { key = store.key }
+    ∷ second_put ∷ first_put ∷ [])
 
 -- the store of hart 1 comes before the load of hart 0, which reads the old word
 abbrev pub exchanged_between_harts : MachineValue
@@ -75,7 +78,9 @@ other_halt = with_leaves ended_0 (record ended_1 { hart = hart_at 0x1000c 7 (Som
 -- the start, where hart 0 has halted at a load that the flat hart completes
 abbrev pub halted_at_a_load : MachineValue
 halted_at_a_load =
-    machine_of (leaf_at 0 (hart_at 0x10004 0 (Some HaltCause.Breakpoint)) 0 None ∷ leaf_at 1 (hart_at 0x10000 0 None) 0 (entry LeafState.Exclusive 5) ∷ []) []
+    machine_of
+    (leaf_at 0 (hart_at 0x10004 0 (Some HaltCause.Breakpoint)) 0 None
+    ∷ leaf_at 1 (hart_at 0x10000 0 None) 0 (entry LeafState.Exclusive 5) ∷ []) []
 
 -- the flat start, where hart 0 has halted
 abbrev pub halted_flat_start : FlatMachine
@@ -92,4 +97,11 @@ no_copy = with_leaves ended_0 (record ended_1 { ways = None ∷ [] })
 
 -- there is a second item, and no leaf has it
 abbrev pub no_copy_of_the_second : MachineValue
-no_copy_of_the_second = record ended { items = record { size = 4; rows = record { address = 0x20000; writable = true } ∷ record { address = 0x20004; writable = true } ∷ [] } }
+no_copy_of_the_second =
+    record ended {
+      items = record {
+        size = 4;
+        rows = record { address = 0x20000; writable = true }
+            ∷ record { address = 0x20004; writable = true } ∷ [];
+      };
+    }

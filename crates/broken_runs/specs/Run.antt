@@ -25,7 +25,13 @@ use Rattle.tree_rules.specs.Small.{leaf_value, entry, machine}
 
 -- x5 has the word's address, x6 what is stored, x7 what was loaded; a call with 1000 in x17 puts out the byte of x10
 abbrev pub hart_at : ℕ → ℕ → Option HaltCause → HartValue
-hart_at pc loaded halt = record { registers = replicate 5 0 ++ 0x20000 ∷ 7 ∷ loaded ∷ 0 ∷ 0 ∷ 0x48 ∷ replicate 6 0 ++ 1000 ∷ replicate 14 0; pc = pc; halt = halt }
+hart_at pc loaded halt =
+    record {
+      registers = replicate 5 0 ++ 0x20000 ∷ 7 ∷ loaded ∷ 0 ∷ 0 ∷ 0x48 ∷ replicate 6 0 ++ 1000
+          ∷ replicate 14 0;
+      pc = pc;
+      halt = halt;
+    }
 
 -- a leaf whose hart has completed so many instructions, with its entry of the word's item
 abbrev pub leaf_at : ℕ → HartValue → ℕ → Option WayValue → LeafValue
@@ -33,7 +39,9 @@ leaf_at number hart done way = record (leaf_value number 0 done way []) { hart =
 
 -- at 0x10000 a store of x6, then a load into x7, then a call
 abbrev pub machine_of : List LeafValue → List Op → MachineValue
-machine_of leaves ops = record (machine (map leaf_node leaves) ops) { code = words_from 0x10000 (0x0062a023 ∷ 0x0002a383 ∷ 0x00000073 ∷ []) }
+machine_of leaves ops =
+    record (machine (map leaf_node leaves) ops)
+    { code = words_from 0x10000 (0x0062a023 ∷ 0x0002a383 ∷ 0x00000073 ∷ []) }
 
 abbrev pub flat_hart_of : HartValue → FlatHart
 flat_hart_of hart = record { hart = hart; reserved = None }

@@ -19,7 +19,11 @@
 
 ghost use Rattle.tree_rules.specs.Witness.{IsWitnessed};
 ghost use Rattle.broken_runs.specs.Run.{RunInOrder, ended, flat_start, start};
-ghost use Rattle.broken_runs.specs.BrokenWitnesses.{completed_otherwise, exchanged_between_harts, exchanged_in_hart, flat_end, halted_at_a_load, halted_flat_start, no_copy, no_copy_of_the_second, one_key_twice, one_left_out, one_more_done, other_byte, other_halt, other_pc, other_place, other_register, other_word_loaded, other_word_stored, stale_copy};
+ghost use Rattle.broken_runs.specs.BrokenWitnesses.{completed_otherwise, exchanged_between_harts, exchanged_in_hart};
+ghost use Rattle.broken_runs.specs.BrokenWitnesses.{flat_end, halted_at_a_load, halted_flat_start, no_copy};
+ghost use Rattle.broken_runs.specs.BrokenWitnesses.{no_copy_of_the_second, one_key_twice, one_left_out};
+ghost use Rattle.broken_runs.specs.BrokenWitnesses.{one_more_done, other_byte, other_halt, other_pc, other_place};
+ghost use Rattle.broken_runs.specs.BrokenWitnesses.{other_register, other_word_loaded, other_word_stored, stale_copy};
 ghost use Rattle.broken_runs.specs.BrokenRuns.{BusyWithoutCause, GoesOnAfterHalt, LoadsAnotherWord, WrongAtFirst};
 ghost use Rattle.broken_runs.specs.BrokenAnswers.{HaltsHart0, OtherCauses, OtherOperations};
 ghost use Rattle.broken_runs.specs.BrokenOutput.{OutputExchanged};

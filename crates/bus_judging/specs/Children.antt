@@ -6,7 +6,9 @@ use Rattle.std.specs.List.{list_any, list_all}
 use Rattle.bus_judging.specs.TreeModel.State.Lists.{all_from}
 use Rattle.bus_judging.specs.TreeModel.State.Values.{Note}
 use Rattle.tree_rules.specs.Bus.Faces.{ChildFace}
-use Rattle.tree_rules.specs.Bus.Item.{Bits, holds_it, holds_exclusive, one_holds, gives_none, gives_one, one_gives, giver_holds, reader_is_granted, reader_is_noted, eraser_is_noted, eraser_is_granted, may_erase, implies}
+use Rattle.tree_rules.specs.Bus.Item.{Bits, holds_it, holds_exclusive, one_holds, gives_none, gives_one, one_gives}
+use Rattle.tree_rules.specs.Bus.Item.{giver_holds, reader_is_granted, reader_is_noted, eraser_is_noted}
+use Rattle.tree_rules.specs.Bus.Item.{eraser_is_granted, may_erase, implies}
 
 pub record ChildrenFacts : Type 0 where
   pub count : ℕ

@@ -36,7 +36,14 @@ pub record ParentFacts : Type 0 where
   pub requests : RequestFacts
 
 abbrev pub facts_at : ParentFace → ParentFacts
-facts_at p = record { hold = p.hold; note = note_why p.note; answering = p.answering; parked = p.parked; queue = facts_of p.queue; requests = request_facts p.requests }
+facts_at p = record {
+  hold = p.hold;
+  note = note_why p.note;
+  answering = p.answering;
+  parked = p.parked;
+  queue = facts_of p.queue;
+  requests = request_facts p.requests;
+}
 
 -- ---- what is asked of those entries that move copies, by the first and the last of them
 

@@ -5,7 +5,12 @@ use Rattle.std.specs.Prelude.{Bool, true, false, not, ◌&&◌, ◌||◌, Option
 use Rattle.std.specs.Bool.{beq}
 use Rattle.bus_judging.specs.DdmTypes.declared.answers.PendingWhy.{PendingWhy}
 use Rattle.bus_judging.specs.TreeModel.State.States.{is_held, is_exclusive, is_shared}
-use Rattle.tree_rules.specs.Bus.Item.{Bits, ItemRule, implies, one_of_three, answering_held, exclusive_alone, parked_alone, exclusive_covered, queue_in_order, queue_start, inject_covered, erased_shared, hold_follows, local_noted, up_read_noted, data_read, up_erase_noted, erase_end, reads_noted, erases_noted, granted_held, exclusive_noted, giver, givers_held, read_answered, asked_alone, one_request, request_open, request_noted}
+use Rattle.tree_rules.specs.Bus.Item.{Bits, ItemRule, implies, one_of_three, answering_held, exclusive_alone}
+use Rattle.tree_rules.specs.Bus.Item.{parked_alone, exclusive_covered, queue_in_order, queue_start, inject_covered}
+use Rattle.tree_rules.specs.Bus.Item.{erased_shared, hold_follows, local_noted, up_read_noted, data_read}
+use Rattle.tree_rules.specs.Bus.Item.{up_erase_noted, erase_end, reads_noted, erases_noted, granted_held}
+use Rattle.tree_rules.specs.Bus.Item.{exclusive_noted, giver, givers_held, read_answered, asked_alone, one_request}
+use Rattle.tree_rules.specs.Bus.Item.{request_open, request_noted}
 use Rattle.bus_judging.specs.Queue.{QueueFacts}
 use Rattle.bus_judging.specs.Parent.{ParentFacts, starts_with, ends_in_inject, held_behind}
 
@@ -81,4 +86,6 @@ test_by_facts request_noted f k = implies f.requests.erases (notes_erase f.note 
 
 -- five rules of one item
 abbrev pub five_by_facts : ParentFacts → Bits → ItemRule → ItemRule → ItemRule → ItemRule → ItemRule → Bool
-five_by_facts f k a b c d e = (((test_by_facts a f k && test_by_facts b f k) && test_by_facts c f k) && test_by_facts d f k) && test_by_facts e f k
+five_by_facts f k a b c d e =
+    (((test_by_facts a f k && test_by_facts b f k) && test_by_facts c f k) && test_by_facts d f k)
+    && test_by_facts e f k

@@ -54,9 +54,33 @@ impl Model for ChildrenFacts {
 
     ghost Value = { ChildrenFacts };
 
-    ghost view = { λ f. record { count = f.count; held = f.held; sole = f.sole; exclusive = f.exclusive; one_gift = f.one_gift; no_gift = f.no_gift; givers = f.givers; readers = f.readers; eraser = f.eraser; reads = f.reads; erases = f.erases } };
+    ghost view = { λ f. record {
+      count = f.count;
+      held = f.held;
+      sole = f.sole;
+      exclusive = f.exclusive;
+      one_gift = f.one_gift;
+      no_gift = f.no_gift;
+      givers = f.givers;
+      readers = f.readers;
+      eraser = f.eraser;
+      reads = f.reads;
+      erases = f.erases;
+    } };
 
-    ghost inverse = { λ f. record { count = f.count; held = f.held; sole = f.sole; exclusive = f.exclusive; one_gift = f.one_gift; no_gift = f.no_gift; givers = f.givers; readers = f.readers; eraser = f.eraser; reads = f.reads; erases = f.erases } };
+    ghost inverse = { λ f. record {
+      count = f.count;
+      held = f.held;
+      sole = f.sole;
+      exclusive = f.exclusive;
+      one_gift = f.one_gift;
+      no_gift = f.no_gift;
+      givers = f.givers;
+      readers = f.readers;
+      eraser = f.eraser;
+      reads = f.reads;
+      erases = f.erases;
+    } };
 }
 
 /// The bits that the rules of a bus ask of its children and of the parent's parked copy. That what was granted fits what is held isn't
@@ -81,9 +105,32 @@ impl Model for Bits {
 
     ghost Value = { Bits };
 
-    ghost view = { λ k. record { held = k.held; sole = k.sole; exclusive = k.exclusive; one_gift = k.one_gift; no_gift = k.no_gift; givers = k.givers; granted = true; readers = k.readers; eraser = k.eraser; reads = k.reads; erases = k.erases } };
+    ghost view = { λ k. record {
+      held = k.held;
+      sole = k.sole;
+      exclusive = k.exclusive;
+      one_gift = k.one_gift;
+      no_gift = k.no_gift;
+      givers = k.givers;
+      granted = true;
+      readers = k.readers;
+      eraser = k.eraser;
+      reads = k.reads;
+      erases = k.erases;
+    } };
 
-    ghost inverse = { λ k. record { held = k.held; sole = k.sole; exclusive = k.exclusive; one_gift = k.one_gift; no_gift = k.no_gift; givers = k.givers; readers = k.readers; eraser = k.eraser; reads = k.reads; erases = k.erases } };
+    ghost inverse = { λ k. record {
+      held = k.held;
+      sole = k.sole;
+      exclusive = k.exclusive;
+      one_gift = k.one_gift;
+      no_gift = k.no_gift;
+      givers = k.givers;
+      readers = k.readers;
+      eraser = k.eraser;
+      reads = k.reads;
+      erases = k.erases;
+    } };
 }
 
 pub(crate) fn is_held(hold: Hold) -> bool
@@ -230,7 +277,8 @@ impl ChildrenFacts {
     #[tactic(auto, using(crate::proofs::Among::one_child_more))]
     pub fn push(&mut self, child: &ChildFace, reader: bool, eraser: bool)
         requires { self.old.count + 1 < 2 ^ 32 }
-        ensures { (note : Note) (cs : List Face) → self.old ≡ facts_among note cs → reader ≡ is_reader note (length cs) → eraser ≡ is_eraser note (length cs)
+        ensures { (note : Note) (cs : List Face) → self.old ≡ facts_among note cs →
+            reader ≡ is_reader note (length cs) → eraser ≡ is_eraser note (length cs)
             → self.new ≡ facts_among note (cs ++ child.now ∷ []) }
     {
         *self = self.with_child(child, reader, eraser);

@@ -4,10 +4,16 @@ ghost use Rattle.std.specs.Prelude.{true, ◌≡◌, ◌++◌, ◌∷◌, [], Li
 ghost use Rattle.bus_judging.specs.DdmTypes.declared.answers.TxKind.{TxKind};
 ghost use Rattle.bus_judging.specs.TreeModel.State.Kinds.{brings_copy, goes_up, is_kind};
 ghost use Rattle.tree_rules.specs.Bus.Faces.{ChildFace as Face, ParentFace, face_above};
-ghost use Rattle.tree_rules.specs.Bus.Item.{bits_of, item_holds, kept_place, one_of_three, top_holds, answering_held, exclusive_alone, parked_alone, exclusive_covered, queue_in_order, queue_start, inject_covered, erased_shared, hold_follows, local_noted, up_read_noted, data_read, up_erase_noted, erase_end, reads_noted, erases_noted, granted_held, exclusive_noted, giver, givers_held, read_answered, asked_alone, one_request, request_open, request_noted};
+ghost use Rattle.tree_rules.specs.Bus.Item.{bits_of, item_holds, kept_place, one_of_three, top_holds, answering_held};
+ghost use Rattle.tree_rules.specs.Bus.Item.{exclusive_alone, parked_alone, exclusive_covered, queue_in_order};
+ghost use Rattle.tree_rules.specs.Bus.Item.{queue_start, inject_covered, erased_shared, hold_follows, local_noted};
+ghost use Rattle.tree_rules.specs.Bus.Item.{up_read_noted, data_read, up_erase_noted, erase_end, reads_noted};
+ghost use Rattle.tree_rules.specs.Bus.Item.{erases_noted, granted_held, exclusive_noted, giver, givers_held};
+ghost use Rattle.tree_rules.specs.Bus.Item.{read_answered, asked_alone, one_request, request_open, request_noted};
 ghost use Rattle.bus_judging.specs.Children.{facts_among};
 ghost use Rattle.bus_judging.specs.Parent.{ends_in_inject, facts_at, held_behind, request_facts, starts_with};
-ghost use Rattle.bus_judging.specs.Tests.{any_comes, erase_is_due, exclusive_is_due, five_by_facts, granted_erase, granted_read, is_asked, notes_erase, notes_local, notes_read};
+ghost use Rattle.bus_judging.specs.Tests.{any_comes, erase_is_due, exclusive_is_due, five_by_facts, granted_erase};
+ghost use Rattle.bus_judging.specs.Tests.{granted_read, is_asked, notes_erase, notes_local, notes_read};
 
 use crate::children::{
     Bits, ChildFace, ChildrenFacts, either, implies, is_exclusive, is_held, is_shared,
@@ -89,9 +95,23 @@ impl Model for ParentFacts {
 
     ghost Value = { ParentFacts };
 
-    ghost view = { λ f. record { hold = f.hold; note = f.note; answering = f.answering; parked = f.parked; queue = f.queue; requests = f.requests } };
+    ghost view = { λ f. record {
+      hold = f.hold;
+      note = f.note;
+      answering = f.answering;
+      parked = f.parked;
+      queue = f.queue;
+      requests = f.requests;
+    } };
 
-    ghost inverse = { λ f. record { hold = f.hold; note = f.note; answering = f.answering; parked = f.parked; queue = f.queue; requests = f.requests } };
+    ghost inverse = { λ f. record {
+      hold = f.hold;
+      note = f.note;
+      answering = f.answering;
+      parked = f.parked;
+      queue = f.queue;
+      requests = f.requests;
+    } };
 }
 
 fn notes_local(note: Option<PendingWhy>) -> bool
@@ -272,7 +292,9 @@ impl ParentFacts {
 
     /// Whether the item keeps the rules of the bus over these children, once the buses below keep theirs.
     pub fn keeps_rules(&self, children: &ChildrenFacts) -> bool
-        ensures { (p : ParentFace) (cs : List Face) → self.now ≡ facts_at p → children.now ≡ facts_among p.note cs → result ≡ item_holds p (record (bits_of p cs) { granted = true }) }
+        ensures { (p : ParentFace) (cs : List Face) → self.now ≡ facts_at p →
+            children.now ≡ facts_among p.note cs →
+            result ≡ item_holds p (record (bits_of p cs) { granted = true }) }
     {
         self.all_hold(&children.bits(self.parked))
     }
@@ -287,7 +309,8 @@ impl ParentFacts {
 
     /// Whether the item keeps the rule of the top's bus: it has a holder, no copy is parked, and only exclusives come down.
     pub fn keeps_top(&self, children: &ChildrenFacts) -> bool
-        ensures { (p : ParentFace) (cs : List Face) → self.now ≡ facts_at p → children.now ≡ facts_among p.note cs → result ≡ top_holds p (bits_of p cs) }
+        ensures { (p : ParentFace) (cs : List Face) → self.now ≡ facts_at p →
+            children.now ≡ facts_among p.note cs → result ≡ top_holds p (bits_of p cs) }
     {
         let bits = children.bits(self.parked);
         bits.held & (!self.parked & self.queue.only_exclusives)

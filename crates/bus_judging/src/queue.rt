@@ -31,9 +31,33 @@ impl Model for QueueFacts {
 
     ghost Value = { QueueFacts };
 
-    ghost view = { λ f. record { first = f.first; last = f.last; first_move = f.first_move; last_move = f.last_move; fits = f.fits; reads = f.reads; brings_data = f.brings_data; erases = f.erases; exclusives = f.exclusives; injects = f.injects; only_exclusives = f.only_exclusives } };
+    ghost view = { λ f. record {
+      first = f.first;
+      last = f.last;
+      first_move = f.first_move;
+      last_move = f.last_move;
+      fits = f.fits;
+      reads = f.reads;
+      brings_data = f.brings_data;
+      erases = f.erases;
+      exclusives = f.exclusives;
+      injects = f.injects;
+      only_exclusives = f.only_exclusives;
+    } };
 
-    ghost inverse = { λ f. record { first = f.first; last = f.last; first_move = f.first_move; last_move = f.last_move; fits = f.fits; reads = f.reads; brings_data = f.brings_data; erases = f.erases; exclusives = f.exclusives; injects = f.injects; only_exclusives = f.only_exclusives } };
+    ghost inverse = { λ f. record {
+      first = f.first;
+      last = f.last;
+      first_move = f.first_move;
+      last_move = f.last_move;
+      fits = f.fits;
+      reads = f.reads;
+      brings_data = f.brings_data;
+      erases = f.erases;
+      exclusives = f.exclusives;
+      injects = f.injects;
+      only_exclusives = f.only_exclusives;
+    } };
 }
 
 /// Whether the one may stand behind the other.

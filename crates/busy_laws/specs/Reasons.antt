@@ -3,7 +3,8 @@
 -- Letters: p is the parent of the bus that takes its turn, ns are its children, c and k child numbers, n is a child, v a leaf, d a
 -- directory, x an item.
 -- To be believed: it is what is claimed of every busy turn.
-use Rattle.std.specs.Prelude.{◌≡◌, ℕ, ◌+◌, Bool, true, not, ◌||◌, nat_eq, List, [], ◌∷◌, ◌++◌, Option, Some, None, is_some, option_map, option_and_then, ⊤, if◌then◌else◌}
+use Rattle.std.specs.Prelude.{◌≡◌, ℕ, ◌+◌, Bool, true, not, ◌||◌, nat_eq, List, [], ◌∷◌, ◌++◌, Option, Some, None}
+use Rattle.std.specs.Prelude.{is_some, option_map, option_and_then, ⊤, if◌then◌else◌}
 use Rattle.busy_laws.specs.DdmTypes.declared.answers.TxKind.{TxKind}
 use Rattle.busy_laws.specs.DdmTypes.declared.answers.TxKind.TheVariants.{ReadTx, DataTx, EraseTx, ExclusiveTx, InjectTx, OutTx}
 use Rattle.busy_laws.specs.DdmTypes.declared.answers.PendingWhy.{PendingWhy}
@@ -17,9 +18,12 @@ use Rattle.busy_laws.specs.FlatModel.Hart.{ask_of}
 use Rattle.tree_model.specs.declared.BusTurn.{BusTurn}
 use Rattle.tree_model.specs.State.Lists.{find_from, first_of, first_some, some_if}
 use Rattle.tree_model.specs.State.States.{is_held, is_exclusive, is_shared}
-use Rattle.tree_model.specs.State.Values.{RequestValue, DownValue, LeafValue, Note, no_note, local, up_read, up_erase, DirValue, Node, leaf_node, dir_node, children, MachineValue, root_of}
+use Rattle.tree_model.specs.State.Values.{RequestValue, DownValue, LeafValue, Note, no_note, local, up_read, up_erase}
+use Rattle.tree_model.specs.State.Values.{DirValue, Node, leaf_node, dir_node, children, MachineValue, root_of}
 use Rattle.tree_model.specs.State.Leaf.{free_way, waiting_item, leaf_replies_full, buffer_full}
-use Rattle.tree_model.specs.State.Directory.{is_top, dir_hold, dir_note, is_answering, is_local, is_up_read, is_reader, is_parked, down_full, requests_full, replies_full, parking_full, pending}
+use Rattle.tree_model.specs.State.Directory.{is_top, dir_hold, dir_note, is_answering, is_local, is_up_read}
+use Rattle.tree_model.specs.State.Directory.{is_reader, is_parked, down_full, requests_full, replies_full}
+use Rattle.tree_model.specs.State.Directory.{parking_full, pending}
 use Rattle.tree_model.specs.State.Child.{reader_has_place, child_hold, child_request, child_reply, child_leaving}
 use Rattle.tree_model.specs.State.Place.{Where, at_top}
 use Rattle.tree_model.specs.Turns.Children.{child_at, holds_item, other_holds}
@@ -104,11 +108,15 @@ module _ (p : DirValue) (ns : List Node) where
 
   -- the read of child c: by the lowest other child that holds the item; where the parent doesn't hold it, it goes up
   abbrev pub read_needs : ℕ → ℕ → List Needed
-  read_needs c x = if is_held (dir_hold x p) then answered_by x (find_from (other_holds c x) 0 ns) (is_parked x p) (down_of p) else requests_of p ∷ []
+  read_needs c x =
+      if is_held (dir_hold x p) then answered_by x (find_from (other_holds c x) 0 ns) (is_parked x p) (down_of p)
+      else requests_of p ∷ []
 
   -- the erase of child c: every other child loses the item, and exclusive goes down or the erase goes up
   abbrev pub erase_needs : ℕ → ℕ → List Needed
-  erase_needs c x = told_each (λ i. not (nat_eq i c)) EraseTx x 0 ns ++ (if is_exclusive (dir_hold x p) then down_of p else requests_of p) ∷ []
+  erase_needs c x =
+      told_each (λ i. not (nat_eq i c)) EraseTx x 0 ns
+      ++ (if is_exclusive (dir_hold x p) then down_of p else requests_of p) ∷ []
 
   -- data that go up for the bus above
   abbrev pub answer_needs : ℕ → List Needed
@@ -135,7 +143,9 @@ module _ (p : DirValue) (ns : List Node) where
   -- an inject goes to the only reader, or as data to several; else it has its place
   abbrev pub inject_needs : ℕ → Note → List Needed
   inject_needs x (up_read first joined) =
-      if nat_eq joined 0 then (if reader_has_place x (child_at first ns) then told InjectTx x (child_at first ns) else []) else readers_told (up_read first joined) x
+      if nat_eq joined 0
+      then (if reader_has_place x (child_at first ns) then told InjectTx x (child_at first ns) else [])
+      else readers_told (up_read first joined) x
   inject_needs x no_note = []
   inject_needs x (local first joined) = []
   inject_needs x (up_erase k) = []
@@ -170,7 +180,9 @@ module _ (p : DirValue) (ns : List Node) where
 
   -- a read that joins one that is under way has none
   abbrev pub read_reason : ℕ → ℕ → Option BusyCause
-  read_reason c x = if is_local (dir_note x p) || is_up_read (dir_note x p) then None else first_some (pending_on x p) (first_full (read_needs c x))
+  read_reason c x =
+      if is_local (dir_note x p) || is_up_read (dir_note x p) then None
+      else first_some (pending_on x p) (first_full (read_needs c x))
 
   abbrev pub request_reason : ℕ → ℕ → TxKind → Option BusyCause
   request_reason c x ReadTx = read_reason c x
@@ -203,12 +215,15 @@ module _ (p : DirValue) (ns : List Node) where
 -- its set has no free way for a copy that it needs, and its buffer no place for the item that would make way
 abbrev pub fetch_reason : LeafValue → Need → Option BusyCause
 fetch_reason v no_need = None
-fetch_reason v (a_copy x state) = if is_some (free_way v.sizes x v.ways) then None else some_if (buffer_full v) (BusyCause.BufferFull v.number)
+fetch_reason v (a_copy x state) =
+    if is_some (free_way v.sizes x v.ways) then None else some_if (buffer_full v) (BusyCause.BufferFull v.number)
 fetch_reason v (no_other_copy x words) = None
 fetch_reason v (time x) = None
 
 abbrev pub hart_reason : List CodeWord → ItemTable → LeafValue → Option BusyCause
-hart_reason code items v = if is_some v.hart.halt || is_some (waiting_item v.ways v.buffer) then None else fetch_reason v (need_of (ask_of code items v.hart) v)
+hart_reason code items v =
+    if is_some v.hart.halt || is_some (waiting_item v.ways v.buffer) then None
+    else fetch_reason v (need_of (ask_of code items v.hart) v)
 
 -- ---- a turn of the machine
 

@@ -29,4 +29,6 @@ FailsNext shelf name = IsNone (told_of shelf name) ⊎ Contains (failing_reads s
 pub record RaisesCount (old new : MemoryShelf) (name : List ℕ) : Type 0 where
   pub here : count_of new name ≡ raised (count_of old name)
   pub shared : (other : List ℕ) → IsNone (told_of old name) → IsNone (told_of old other) → count_of new other ≡ count_of new name
-  pub others : (other : List ℕ) → other ≢ name → IsSome (told_of old name) ⊎ IsSome (told_of old other) → count_of new other ≡ count_of old other
+  pub others :
+      (other : List ℕ) → other ≢ name → IsSome (told_of old name) ⊎ IsSome (told_of old other) →
+      count_of new other ≡ count_of old other

@@ -1,5 +1,6 @@
 -- Decimal numbers in a text. A number is `0`, or a digit 1 to 9 followed by digits, so each number has one spelling.
-use Rattle.std.specs.Prelude.{ℕ, ◌+◌, ◌-◌, ◌*◌, Bool, not, ◌&&◌, nat_eq, nat_le, List, [], ◌∷◌, Option, Some, None, Result, Ok, Err, fold, position, if◌then◌else◌}
+use Rattle.std.specs.Prelude.{ℕ, ◌+◌, ◌-◌, ◌*◌, Bool, not, ◌&&◌, nat_eq, nat_le, List, [], ◌∷◌, Option, Some, None}
+use Rattle.std.specs.Prelude.{Result, Ok, Err, fold, position, if◌then◌else◌}
 use Rattle.ddm_text.specs.declared.reading.NumberRefusal.{NumberRefusal}
 use Rattle.ddm_text.specs.declared.reading.NumberRefusal.TheVariants.{NotANumber, TooLarge}
 

@@ -19,7 +19,9 @@ pub parts_code : Coded MachineParts
 parts_code = hlevel codes
 
 abbrev pub stored_machine : MachineState → Gv
-stored_machine s = parts_code.code (machine_parts (stored_node (root_of s.machine)) s.machine.code s.machine.items s.machine.ops s.machine.traffic s.spare s.turns)
+stored_machine s =
+    parts_code.code (machine_parts (stored_node (root_of s.machine)) s.machine.code s.machine.items s.machine.ops
+    s.machine.traffic s.spare s.turns)
 
 -- a machine of its parts
 abbrev made_of : List CodeWord → ItemTable → DirValue → Nodes → List Op → List Traffic → ℕ → ℕ → MachineState
@@ -31,7 +33,8 @@ made_of code items top kids ops traffic spare turns = record {
 
 same_parts : (a b : List CodeWord) (c d : ItemTable) (e f : DirValue) (g h : Nodes) (i j : List Op) (k l : List Traffic) (m n o p : ℕ)
     → a ≡ b → c ≡ d → e ≡ f → g ≡ h → i ≡ j → k ≡ l → m ≡ n → o ≡ p → made_of a c e g i k m o ≡ made_of b d f h j l n p
-same_parts a b c d e f g h i j k l m n o p code items top kids ops traffic spare turns = rw (code, items, top, kids, ops, traffic, spare, turns) refl
+same_parts a b c d e f g h i j k l m n o p code items top kids ops traffic spare turns =
+    rw (code, items, top, kids, ops, traffic, spare, turns) refl
 
 top_same : (d e : DirValue) (ns ms : Nodes) → dir_node d ns ≡ dir_node e ms → d ≡ e
 top_same d e ns ms same = cc

@@ -3,7 +3,8 @@
 -- Letters: n is a node, v a leaf, i why a hart is idle, k a leaf's number, t a turn, a an answer, c a child, o the item that a grant may
 -- have answered.
 -- To be believed with the contracts: it is what a machine remembers of its leaves.
-use Rattle.std.specs.Prelude.{◌≡◌, ◌≢◌, ◌⊎◌, ℕ, Bool, true, false, nat_eq, List, [], ◌∷◌, ◌++◌, Option, Some, None, length, slice_get, slice_set, if◌then◌else◌}
+use Rattle.std.specs.Prelude.{◌≡◌, ◌≢◌, ◌⊎◌, ℕ, Bool, true, false, nat_eq, List, [], ◌∷◌, ◌++◌, Option, Some, None}
+use Rattle.std.specs.Prelude.{length, slice_get, slice_set, if◌then◌else◌}
 use Rattle.ddm_tree.specs.DdmTypes.declared.answers.BusyCause.{BusyCause}
 use Rattle.ddm_tree.specs.DdmTypes.declared.answers.LogEntry.{LogEntry}
 use Rattle.ddm_tree.specs.DdmTypes.declared.answers.TurnAnswer.{TurnAnswer}
@@ -109,11 +110,15 @@ with_idle (Turn.Leave bus child choice) i idle = idle
 
 -- where the node is a leaf, each turn of its hart answers so and leaves it as it is
 pub record IsIdle (code : List CodeWord) (items : ItemTable) (i : Idle) (n : Node) : Type 0 where
-  pub each : (v : LeafValue) (now : Key) (victim : ℕ) → n ≡ leaf_node v → leaf_step code items now victim v ≡ record { answer = idle_answer i; leaf = v }
+  pub each :
+      (v : LeafValue) (now : Key) (victim : ℕ) → n ≡ leaf_node v →
+      leaf_step code items now victim v ≡ record { answer = idle_answer i; leaf = v }
 
 -- what is remembered of the leaves below a node is so there, and so where these paths lead below another one
 pub record AreIdle (code : List CodeWord) (items : ItemTable) (idle : List (Option Idle)) (n after : Node) : Type 0 where
-  pub each : (k : ℕ) (i : Idle) (path : List ℕ) → slice_get idle k ≡ Some (Some i) → Leads (leaf_of_number k) path n → IsIdle code items i (node_at path after)
+  pub each :
+      (k : ℕ) (i : Idle) (path : List ℕ) → slice_get idle k ≡ Some (Some i) → Leads (leaf_of_number k) path n →
+      IsIdle code items i (node_at path after)
 
 -- what the leaf of this number tells below a node, where its path is listed
 abbrev pub IsSeen : ℕ → List (List ℕ) → Node → Idle → Type 0
@@ -124,8 +129,11 @@ abbrev pub IsSeenOr : Type 0 → ℕ → List (List ℕ) → Node → List (Opti
 IsSeenOr otherwise k paths n before i = IsSeen k paths n i ⊎ ((slice_get before k ≡ Some (Some i)) × otherwise)
 
 -- after a grant it is what they tell for all leaves but these, where it may have changed
-pub record AreSeen (o : Option ℕ) (Others : ℕ → Type 0) (paths : List (List ℕ)) (n : Node) (before after : List (Option Idle)) : Type 0 where
-  pub each : (k : ℕ) (i : Idle) → slice_get after k ≡ Some (Some i) → IsSeenOr (Others k ⊎ (may_change (Some i) o ≡ false)) k paths n before i
+pub record AreSeen (o : Option ℕ) (Others : ℕ → Type 0) (paths : List (List ℕ)) (n : Node)
+    (before after : List (Option Idle)) : Type 0 where
+  pub each :
+      (k : ℕ) (i : Idle) → slice_get after k ≡ Some (Some i) →
+      IsSeenOr (Others k ⊎ (may_change (Some i) o ≡ false)) k paths n before i
 
 -- none of these children of the bus at this path is the leaf of this number
 abbrev pub IsNoChild : (ℕ → Type 0) → List ℕ → Node → ℕ → Type 0
@@ -160,10 +168,14 @@ IsUntouched t a bus_leaves bus_paths n k i = (entry : LogEntry) (bus : ℕ)
     → IsFarFrom bus_leaves bus k ⊎ (IsLeftOut a bus_paths n bus k ⊎ (may_change (Some i) (answered_by entry) ≡ false))
 
 -- what is remembered of a leaf after a turn: what the turn answered, what the leaf tells, or what was remembered and is untouched
-pub data IsKnown (t : Turn) (a : TurnAnswer) (bus_leaves bus_paths leaf_paths : List (List ℕ)) (n : Node) (before : List (Option Idle)) (k : ℕ) (i : Idle) : Type 0 where
+pub data IsKnown (t : Turn) (a : TurnAnswer) (bus_leaves bus_paths leaf_paths : List (List ℕ)) (n : Node)
+    (before : List (Option Idle)) (k : ℕ) (i : Idle) : Type 0 where
   is_told : named_by t ≡ leaf_of_number k → idle_told a ≡ Some i → IsKnown t a bus_leaves bus_paths leaf_paths n before k i
   is_seen : IsSeen k leaf_paths n i → IsKnown t a bus_leaves bus_paths leaf_paths n before k i
-  still_known : slice_get before k ≡ Some (Some i) → IsUntouched t a bus_leaves bus_paths n k i → IsKnown t a bus_leaves bus_paths leaf_paths n before k i
+  still_known :
+      slice_get before k ≡ Some (Some i) → IsUntouched t a bus_leaves bus_paths n k i →
+      IsKnown t a bus_leaves bus_paths leaf_paths n before k i
 
-pub record AreNoted (t : Turn) (a : TurnAnswer) (bus_leaves bus_paths leaf_paths : List (List ℕ)) (n : Node) (before after : List (Option Idle)) : Type 0 where
+pub record AreNoted (t : Turn) (a : TurnAnswer) (bus_leaves bus_paths leaf_paths : List (List ℕ)) (n : Node)
+    (before after : List (Option Idle)) : Type 0 where
   pub each : (k : ℕ) (i : Idle) → slice_get after k ≡ Some (Some i) → IsKnown t a bus_leaves bus_paths leaf_paths n before k i

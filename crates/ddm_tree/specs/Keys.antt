@@ -9,7 +9,9 @@ use Rattle.ddm_tree.specs.TreeRules.Order.Moments.{less, key_path, same_numbers}
 
 -- it has the leaf's path, and is less than its present key
 unfoldable pub is_key_before : ℕ → Key → Key → Bool
-is_key_before depth now key = same_numbers (key_path (key_numbers depth key)) (key_path (key_numbers depth now)) && less (key_numbers depth key) (key_numbers depth now)
+is_key_before depth now key =
+    same_numbers (key_path (key_numbers depth key)) (key_path (key_numbers depth now))
+    && less (key_numbers depth key) (key_numbers depth now)
 
 -- the key with the numbers of so many levels, and 0 in place of the others
 abbrev pub key_cut : ℕ → Key → Key

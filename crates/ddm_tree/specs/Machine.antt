@@ -30,7 +30,8 @@ pub record MachineState : Type 0 where
 
 -- the machine of its parts
 abbrev pub machine_of : List CodeWord → ItemTable → DirValue → List Node → List Op → List Traffic → MachineValue
-machine_of code items top kids ops traffic = record { code = code; items = items; top = top; kids = nodes kids; ops = ops; traffic = traffic }
+machine_of code items top kids ops traffic =
+    record { code = code; items = items; top = top; kids = nodes kids; ops = ops; traffic = traffic }
 
 -- without its operations
 abbrev pub without_ops : MachineValue → MachineValue
@@ -64,7 +65,10 @@ state_after t s =
 
 -- none of the counts is above this
 abbrev pub traffic_within : ℕ → Traffic → Bool
-traffic_within most t = nat_le t.reads most && (nat_le t.copies most && (nat_le t.erases most && (nat_le t.exclusives most && (nat_le t.outs most && nat_le t.injects most))))
+traffic_within most t =
+    nat_le t.reads most
+    && (nat_le t.copies most
+    && (nat_le t.erases most && (nat_le t.exclusives most && (nat_le t.outs most && nat_le t.injects most))))
 
 -- the machine has the leaf or bus of this name
 abbrev pub is_part : Name → MachineValue → Bool

@@ -54,7 +54,9 @@ leaf_read harts v k ws = if harts then read_hart v k ws else read_leaf (length v
 -- the harts of all leaves were read, or the rest of them
 pub record LeavesRead (harts : Bool) (words : List ℕ) (from : ℕ) (m after : MachineValue) (at : ℕ) : Type 0 where
   pub leaves : List LeafValue
-  pub read : read_each (leaf_read harts) (machine_leaves m) from (drop from words) ≡ Ok (record { value = leaves; at = at; rest = drop at words })
+  pub read :
+      read_each (leaf_read harts) (machine_leaves m) from (drop from words)
+      ≡ Ok (record { value = leaves; at = at; rest = drop at words })
   pub is : after ≡ with_root (refilled leaves [] (root_of m)) m
   pub frame : frame_of after ≡ frame_of m
 
@@ -76,12 +78,16 @@ pub data BusIsRefused (bus : ℕ) (words : List ℕ) (from : ℕ) (m : MachineVa
 -- all buses were read
 pub record BusesAreRead (words : List ℕ) (from : ℕ) (m after : MachineValue) (at : ℕ) : Type 0 where
   pub buses : List BusRead
-  pub read : read_buses (item_count m.items) m (range_with_len 0 (length m.traffic)) [] from (drop from words) ≡ Ok (record { value = buses; at = at; rest = drop at words })
+  pub read :
+      read_buses (item_count m.items) m (range_with_len 0 (length m.traffic)) [] from (drop from words)
+      ≡ Ok (record { value = buses; at = at; rest = drop at words })
   pub is : after ≡ record (with_root (refilled [] (map bus_dir buses) (root_of m)) m) { traffic = map bus_traffic buses }
   pub frame : frame_of after ≡ frame_of m
 
 -- the operations were read, in place of those that were there
 pub record OpsAreRead (retired : ℕ) (words : List ℕ) (from : ℕ) (m after : MachineValue) (at : ℕ) : Type 0 where
   pub ops : List Op
-  pub read : times (read_op (depth_of m) (tree_counts m).leaves) retired [] from (drop from words) ≡ Ok (record { value = ops; at = at; rest = drop at words })
+  pub read :
+      times (read_op (depth_of m) (tree_counts m).leaves) retired [] from (drop from words)
+      ≡ Ok (record { value = ops; at = at; rest = drop at words })
   pub is : after ≡ record m { ops = ops }

@@ -3,7 +3,8 @@
 -- known under a number, p and q paths, near the numbers of the leaves near a path, busy whether a turn is counted as a busy one, a its
 -- answer.
 -- To be believed with the contracts: it is what a machine remembers of its buses.
-use Rattle.std.specs.Prelude.{◌≡◌, ◌≢◌, ◌<◌, ◌⊎◌, ℕ, ◌+◌, ◌*◌, Bool, true, false, List, [], ◌∷◌, ◌++◌, Option, Some, None, ◌||◌, is_none, length, nat_eq, nat_lt, slice_get, if◌then◌else◌, ⊤}
+use Rattle.std.specs.Prelude.{◌≡◌, ◌≢◌, ◌<◌, ◌⊎◌, ℕ, ◌+◌, ◌*◌, Bool, true, false, List, [], ◌∷◌, ◌++◌, Option, Some}
+use Rattle.std.specs.Prelude.{None, ◌||◌, is_none, length, nat_eq, nat_lt, slice_get, if◌then◌else◌, ⊤}
 use Rattle.ddm_tree.specs.DdmTypes.declared.answers.Place.{Place}
 use Rattle.ddm_tree.specs.DdmTypes.declared.answers.TurnAnswer.{TurnAnswer}
 use Rattle.ddm_tree.specs.DdmTypes.declared.turns.Turn.{Turn}
@@ -218,7 +219,10 @@ OfTouched a (BusTurn.Leave c choice) = touches_child c a ≡ true
 -- the turns of a bus, by its path q, of which a turn of the leaf or bus at the path p that answers so may have changed what they find:
 -- those of the bus itself, those that it shows the bus above, and what comes down to the bus below a child
 abbrev pub IsTouched : TurnAnswer → List ℕ → List ℕ → BusTurn → Type 0
-IsTouched a p q t = ((q ≡ p) × OfTouched a t) ⊎ (((c : ℕ) × (p ≡ q ++ c ∷ []) × OfChild c t) ⊎ ((c : ℕ) × (q ≡ p ++ c ∷ []) × (touches_child c a ≡ true) × (t ≡ BusTurn.Down)))
+IsTouched a p q t =
+    ((q ≡ p) × OfTouched a t)
+    ⊎ (((c : ℕ) × (p ≡ q ++ c ∷ []) × OfChild c t)
+    ⊎ ((c : ℕ) × (q ≡ p ++ c ∷ []) × (touches_child c a ≡ true) × (t ≡ BusTurn.Down)))
 
 -- the turn is one that a child of this number shows its bus, if there is a number
 abbrev pub OfNamed : Option ℕ → BusTurn → Type 0

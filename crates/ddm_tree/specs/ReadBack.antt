@@ -23,7 +23,8 @@ node_read (Section.Hart leaf) (dir_node d ns) k ws = given (dir_node d ns) k ws
 node_read (Section.Leaf leaf) (leaf_node v) k ws = and_then (read_leaf (length v.ways) v k ws) (λ v k ws. given (leaf_node v) k ws)
 node_read (Section.Leaf leaf) (dir_node d ns) k ws = given (dir_node d ns) k ws
 node_read (Section.Bus bus) (leaf_node v) k ws = given (leaf_node v) k ws
-node_read (Section.Bus bus) (dir_node d ns) k ws = and_then (read_dir (length d.items) (length (children ns)) d k ws) (λ d k ws. given (dir_node d ns) k ws)
+node_read (Section.Bus bus) (dir_node d ns) k ws =
+    and_then (read_dir (length d.items) (length (children ns)) d k ws) (λ d k ws. given (dir_node d ns) k ws)
 
 -- at a path's end stands what was read there
 pub record IsPut (section : Section) (path words : List ℕ) (from at : ℕ) (old new : Node) : Type 0 where
@@ -39,6 +40,8 @@ PartRead section path words from old new (Err e) = node_read section (node_at pa
 -- the same of one of several nodes, and of the part below it
 abbrev pub ChildRead : Section → ℕ → List ℕ → List ℕ → ℕ → List Node → List Node → Result ℕ StateRefusal → Type 0
 ChildRead section c path words from old new (Ok at) =
-    (n : Node) × (node_read section (node_at path (child_at c old)) from (drop from words) ≡ Ok (record { value = n; at = at; rest = drop at words }))
+    (n : Node)
+    × (node_read section (node_at path (child_at c old)) from (drop from words)
+    ≡ Ok (record { value = n; at = at; rest = drop at words }))
     × (new ≡ slice_set old c (put_at path n (child_at c old)))
 ChildRead section c path words from old new (Err e) = node_read section (node_at path (child_at c old)) from (drop from words) ≡ Err e

@@ -1,7 +1,8 @@
 -- What is read of a leaf, or of a directory and its children, where a node is known to be one.
 -- Letters: n is a node, v a leaf, d a directory over the nodes ns, x an item, c a child.
 -- To be believed with the contracts: it is what the calls that read give.
-use Rattle.std.specs.Prelude.{ℕ, Bool, true, false, not, ◌&&◌, List, [], filter, length, map, Option, Some, None, is_none, option_map, slice_get}
+use Rattle.std.specs.Prelude.{ℕ, Bool, true, false, not, ◌&&◌, List, [], filter, length, map, Option, Some, None}
+use Rattle.std.specs.Prelude.{is_none, option_map, slice_get}
 use Rattle.ddm_tree.specs.DdmTypes.declared.keys.Stamp.{Stamp}
 use Rattle.ddm_tree.specs.DdmTypes.declared.sizes.Hold.{Hold}
 use Rattle.ddm_tree.specs.DdmTypes.declared.sizes.LeafState.{LeafState}
@@ -123,7 +124,9 @@ node_parked x (dir_node d ns) = copy_pair (parked_place x d) (parked_words x d)
 
 -- a directory's own copy: the last one in its down list, else the parked one
 abbrev pub own_place : ℕ → DirValue → Option CopyPlace
-own_place x d = first_some (option_map (λ k. CopyPlace.DownList d.bus k) (down_place x 0 d.down)) (option_map (λ k. CopyPlace.Parking d.bus k) (parked_place x d))
+own_place x d =
+    first_some (option_map (λ k. CopyPlace.DownList d.bus k) (down_place x 0 d.down))
+    (option_map (λ k. CopyPlace.Parking d.bus k) (parked_place x d))
 
 abbrev pub own_words : ℕ → DirValue → Option (List ℕ)
 own_words x d = first_some (queue_words (queue_of x d.down)) (parked_words x d)

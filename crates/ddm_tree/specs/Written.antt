@@ -27,4 +27,6 @@ dir_words_of bus m = words_or_none (ask_bus bus (λ w d ns. dir_words d) [] m)
 
 -- of the harts, the buses and the leaves, each in order of number
 abbrev pub tree_words : MachineValue → List ℕ
-tree_words m = flat_map hart_words (machine_leaves m) ++ flat_map (bus_words m) (range_with_len 0 (length m.traffic)) ++ flat_map leaf_words (machine_leaves m)
+tree_words m =
+    flat_map hart_words (machine_leaves m) ++ flat_map (bus_words m) (range_with_len 0 (length m.traffic))
+    ++ flat_map leaf_words (machine_leaves m)

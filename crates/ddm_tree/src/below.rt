@@ -15,7 +15,9 @@ ghost use Rattle.ddm_tree.specs.Path.{node_at, present_at, put_at, node_answer, 
 ghost use Rattle.ddm_tree.specs.Judging.{IsJudged};
 ghost use Rattle.ddm_tree.specs.Named.{name_of};
 ghost use Rattle.ddm_tree.specs.Ready.{IsAskable, IsReady, Leads, LeadsBelow, HasChild, IsChild, IsItemOf, IsRuled};
-ghost use Rattle.ddm_tree.specs.Reads.{leaf_count_among, node_hart, node_entry, node_children, node_child, node_child_hold, node_down, node_down_len, node_grants, node_leaf_lengths, node_leaving_count, node_lengths, node_parked, node_state, states_among};
+ghost use Rattle.ddm_tree.specs.Reads.{leaf_count_among, node_hart, node_entry, node_children, node_child};
+ghost use Rattle.ddm_tree.specs.Reads.{node_child_hold, node_down, node_down_len, node_grants, node_leaf_lengths};
+ghost use Rattle.ddm_tree.specs.Reads.{node_leaving_count, node_lengths, node_parked, node_state, states_among};
 
 use crate::named::Named;
 use crate::of_ddm_types::{
@@ -40,11 +42,18 @@ pub(crate) fn next<'a, 'b, const WORDS: usize, P: Parent<WORDS>, C: Subtree<WORD
     requires on { 0 < length path.now }
     ensures leads { Leads (name_of name) result.1.now (C.value result.0.now) }
     ensures below { LeadsBelow (name_of name) result.1.now (C.value result.0.now) }
-    ensures node { node_at path.now (dir_node (P.state parent.now) (nodes (map C.value children.now))) ≡ node_at result.1.now (C.value result.0.now) }
-    ensures present { (s : Stamp) → present_at path.now s (dir_node (P.state parent.now) (nodes (map C.value children.now))) ≡ present_at result.1.now (stamp_of (P.state parent.now)) (C.value result.0.now) }
-    ensures fits { widths_fit (skeleton (dir_node (P.state parent.now) (nodes (map C.value children.now)))) ≡ true → widths_fit (skeleton (C.value result.0.now)) ≡ true }
-    ensures askable { IsAskable WORDS (dir_node (P.state parent.now) (nodes (map C.value children.now))) → IsAskable WORDS (C.value result.0.now) }
-    ensures judged { (items : ℕ) → IsJudged items (dir_node (P.state parent.now) (nodes (map C.value children.now))) → IsJudged items (C.value result.0.now) }
+    ensures node { node_at path.now (dir_node (P.state parent.now) (nodes (map C.value children.now)))
+        ≡ node_at result.1.now (C.value result.0.now) }
+    ensures present { (s : Stamp) →
+        present_at path.now s (dir_node (P.state parent.now) (nodes (map C.value children.now)))
+        ≡ present_at result.1.now (stamp_of (P.state parent.now)) (C.value result.0.now) }
+    ensures fits { widths_fit (skeleton (dir_node (P.state parent.now) (nodes (map C.value children.now))))
+        ≡ true → widths_fit (skeleton (C.value result.0.now)) ≡ true }
+    ensures askable { IsAskable WORDS (dir_node (P.state parent.now) (nodes (map C.value children.now))) →
+        IsAskable WORDS (C.value result.0.now) }
+    ensures judged { (items : ℕ) →
+        IsJudged items (dir_node (P.state parent.now) (nodes (map C.value children.now))) →
+        IsJudged items (C.value result.0.now) }
 {
     match path.split_first() {
         Some((child, rest)) => (&children[child.0 as usize], rest),
@@ -67,8 +76,16 @@ fn turn_of_child<const WORDS: usize, C: Subtree<WORDS>>(
     requires ready { IsReady (item_count call.now.items.now) WORDS (child_at c (map C.value children.old)) }
     requires leads { Leads (named_by call.now.turn.now) rest.now (child_at c (map C.value children.old)) }
     requires names { HasChild (bus_turn_of call.now.turn.now) (node_at rest.now (child_at c (map C.value children.old))) }
-    ensures answer { let n = child_at c (map C.value children.old) in answer.new ≡ node_answer call.now.code.now call.now.items.now call.now.turn.now call.now.path.now (present_at rest.now present.now n) (node_at rest.now n) }
-    ensures after { let n = child_at c (map C.value children.old) in map C.value children.new ≡ slice_set (map C.value children.old) c (put_at rest.now (node_turned call.now.code.now call.now.items.now call.now.turn.now call.now.path.now (present_at rest.now present.now n) (node_at rest.now n)) n) }
+    ensures answer { let n = child_at c (map C.value children.old) in
+        answer.new
+        ≡ node_answer call.now.code.now call.now.items.now call.now.turn.now call.now.path.now
+        (present_at rest.now present.now n) (node_at rest.now n) }
+    ensures after { let n = child_at c (map C.value children.old) in
+        map C.value children.new
+        ≡ slice_set (map C.value children.old) c
+        (put_at rest.now
+        (node_turned call.now.code.now call.now.items.now call.now.turn.now call.now.path.now
+        (present_at rest.now present.now n) (node_at rest.now n)) n) }
 {
     children[c.0 as usize].turn(call, rest, present, answer);
 }
@@ -85,9 +102,17 @@ pub(crate) fn turn_under<const WORDS: usize, P: Parent<WORDS>, C: Subtree<WORDS>
     requires size { call.now.items.now.size ≡ 4 * WORDS }
     requires ready { IsReady (item_count call.now.items.now) WORDS (dir_node (P.state parent.old) (nodes (map C.value children.old))) }
     requires leads { Leads (named_by call.now.turn.now) rest.now (dir_node (P.state parent.old) (nodes (map C.value children.old))) }
-    requires child { HasChild (bus_turn_of call.now.turn.now) (node_at rest.now (dir_node (P.state parent.old) (nodes (map C.value children.old)))) }
-    ensures answer { let n = dir_node (P.state parent.old) (nodes (map C.value children.old)) in answer.new ≡ node_answer call.now.code.now call.now.items.now call.now.turn.now call.now.path.now (present_at rest.now present.now n) (node_at rest.now n) }
-    ensures after { let n = dir_node (P.state parent.old) (nodes (map C.value children.old)) in dir_node (P.state parent.new) (nodes (map C.value children.new)) ≡ put_at rest.now (node_turned call.now.code.now call.now.items.now call.now.turn.now call.now.path.now (present_at rest.now present.now n) (node_at rest.now n)) n }
+    requires child { HasChild (bus_turn_of call.now.turn.now)
+        (node_at rest.now (dir_node (P.state parent.old) (nodes (map C.value children.old)))) }
+    ensures answer { let n = dir_node (P.state parent.old) (nodes (map C.value children.old)) in
+        answer.new
+        ≡ node_answer call.now.code.now call.now.items.now call.now.turn.now call.now.path.now
+        (present_at rest.now present.now n) (node_at rest.now n) }
+    ensures after { let n = dir_node (P.state parent.old) (nodes (map C.value children.old)) in
+        dir_node (P.state parent.new) (nodes (map C.value children.new))
+        ≡ put_at rest.now
+        (node_turned call.now.code.now call.now.items.now call.now.turn.now call.now.path.now
+        (present_at rest.now present.now n) (node_at rest.now n)) n }
 {
     match rest.split_first() {
         Some((child, further)) => {
@@ -110,7 +135,10 @@ pub(crate) fn grants_under<const WORDS: usize, P: Parent<WORDS>, C: Subtree<WORD
     requires kind { goes_on_with turn ≡ true }
     requires leads { Leads (bus_of_number bus) path.now (dir_node (P.state parent.now) (nodes (map C.value children.now))) }
     requires child { HasChild turn (node_at path.now (dir_node (P.state parent.now) (nodes (map C.value children.now)))) }
-    ensures { (above : Stamp) → result ≡ node_grants above turn (node_at path.now (dir_node (P.state parent.now) (nodes (map C.value children.now)))) }
+    ensures { (above : Stamp) →
+        result
+        ≡ node_grants above turn
+        (node_at path.now (dir_node (P.state parent.now) (nodes (map C.value children.now)))) }
 {
     if path.is_empty() {
         would_grant(parent, children, turn)

@@ -44,7 +44,8 @@ pub(crate) fn copy_children<const WORDS: usize, C: CopyFrom<WORDS>>(
     children: &mut [C],
     others: &[C],
 )
-    requires alike { (number : ℕ) → number < length others.now → AreAlike (child_at number (map C.value children.old)) (child_at number (map C.value others.now)) }
+    requires alike { (number : ℕ) → number < length others.now →
+        AreAlike (child_at number (map C.value children.old)) (child_at number (map C.value others.now)) }
     requires as_many { length children.old ≡ length others.now }
     ensures { map C.value children.new ≡ map C.value others.now }
 {

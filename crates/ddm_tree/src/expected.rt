@@ -9,7 +9,9 @@ use crate::of_state_reading::{StateRefusal, keep, look};
 pub(crate) fn expect_word(words: &[u32], at: &mut u32, word: u32) -> Result<(), StateRefusal>
     requires few { length words.now < 2 ^ 32 }
     requires inside { at.old ≤ length words.now }
-    ensures read { OnOk result (word_that (λ w. nat_eq w word) at.old (drop at.old words.now) ≡ Ok (record { value = word; at = at.new; rest = drop at.new words.now })) }
+    ensures read { OnOk result
+        (word_that (λ w. nat_eq w word) at.old (drop at.old words.now)
+        ≡ Ok (record { value = word; at = at.new; rest = drop at.new words.now })) }
     ensures refused { IfErr result (λ e. word_that (λ w. nat_eq w word) at.old (drop at.old words.now) ≡ Err e) }
     ensures inside { at.new ≤ length words.now }
 {

@@ -76,7 +76,9 @@ pub(crate) fn found_among<const WORDS: usize, C: Subtree<WORDS>>(
     item: ItemId,
 ) -> Option<Found<WORDS>>
     requires { All (IsItemIn item) (map C.value children.now) }
-    ensures { result ≡ found_of (place_among item (nodes (map C.value children.now))) (words_among item (nodes (map C.value children.now))) }
+    ensures { result
+        ≡ found_of (place_among item (nodes (map C.value children.now)))
+        (words_among item (nodes (map C.value children.now))) }
 {
     for child in children {
         if is_held(child.hold(item)) {

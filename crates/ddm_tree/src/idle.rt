@@ -1,11 +1,14 @@
 //! Which harts are known to be idle, and why.
 
-ghost use Rattle.std.specs.Prelude.{◌≡◌, ◌⊎◌, ℕ, [], ◌∷◌, ◌++◌, Some, None, false, IfOk, IfSome, length, map, slice_get, slice_set, vec_items};
+ghost use Rattle.std.specs.Prelude.{◌≡◌, ◌⊎◌, ℕ, [], ◌∷◌, ◌++◌, Some, None, false, IfOk, IfSome, length, map};
+ghost use Rattle.std.specs.Prelude.{slice_get, slice_set, vec_items};
 ghost use Rattle.ddm_tree.specs.TreeModel.declared.TreeChild.{TreeChild};
 ghost use Rattle.ddm_tree.specs.TreeModel.State.Values.{DirValue, dir_node, nodes};
 ghost use Rattle.ddm_tree.specs.TreeModel.Turns.Machine.{named_by};
 ghost use Rattle.ddm_tree.specs.TreeModel.Turns.Tree.{bus_of_number, leaf_of_number};
-ghost use Rattle.ddm_tree.specs.Idle.{AreNoted, IsNoChild, IsNothing, AreSeen, NoneChanges, IsLooked, IsLookedAfter, IsSeen, answered_by, idle_answer, idle_for, idle_there, idle_told, may_change, node_rests, rests_by, with_idle};
+ghost use Rattle.ddm_tree.specs.Idle.{AreNoted, IsNoChild, IsNothing, AreSeen, NoneChanges, IsLooked, IsLookedAfter};
+ghost use Rattle.ddm_tree.specs.Idle.{IsSeen, answered_by, idle_answer, idle_for, idle_there, idle_told, may_change};
+ghost use Rattle.ddm_tree.specs.Idle.{node_rests, rests_by, with_idle};
 ghost use Rattle.ddm_tree.specs.Path.{node_at};
 ghost use Rattle.ddm_tree.specs.Quiet.{HartsAgree, IsNoneOf, KeepsBuses, idle_as};
 ghost use Rattle.ddm_tree.specs.Ready.{Leads};
@@ -189,7 +192,9 @@ fn rest_of<const WORDS: usize, C: Subtree<WORDS>>(
     leaf_paths: &[Vec<ChildNo>],
     leaf: usize,
 ) -> Option<Idle>
-    ensures { (d : DirValue) → IfSome result (λ i. IsSeen leaf (map vec_items leaf_paths.now) (dir_node d (nodes (map C.value children.now))) i) }
+    ensures { (d : DirValue) →
+        IfSome result (λ i. IsSeen leaf (map vec_items leaf_paths.now)
+        (dir_node d (nodes (map C.value children.now))) i) }
 {
     rest_under(children, leaf_paths.get(leaf)?)
 }
@@ -202,7 +207,9 @@ fn look<const WORDS: usize, C: Subtree<WORDS>>(
     leaf_paths: &[Vec<ChildNo>],
     leaf: usize,
 )
-    ensures looked { (d : DirValue) → IsLooked leaf (map vec_items leaf_paths.now) (dir_node d (nodes (map C.value children.now))) idle.old idle.new }
+    ensures looked { (d : DirValue) →
+        IsLooked leaf (map vec_items leaf_paths.now) (dir_node d (nodes (map C.value children.now))) idle.old
+        idle.new }
     ensures harts { HartsAgree quiet.old idle.old → HartsAgree quiet.new idle.new }
     ensures buses { KeepsBuses quiet.old quiet.new }
 {
@@ -219,7 +226,9 @@ fn look_after<const WORDS: usize, C: Subtree<WORDS>>(
     leaf: usize,
     answered: Option<ItemId>,
 )
-    ensures looked { (d : DirValue) → IsLookedAfter answered leaf (map vec_items leaf_paths.now) (dir_node d (nodes (map C.value children.now))) idle.old idle.new }
+    ensures looked { (d : DirValue) →
+        IsLookedAfter answered leaf (map vec_items leaf_paths.now)
+        (dir_node d (nodes (map C.value children.now))) idle.old idle.new }
     ensures harts { HartsAgree quiet.old idle.old → HartsAgree quiet.new idle.new }
     ensures buses { KeepsBuses quiet.old quiet.new }
 {
@@ -250,7 +259,9 @@ fn look_at_all<const WORDS: usize, C: Subtree<WORDS>>(
     leaves: &[usize],
     answered: &Option<ItemId>,
 )
-    ensures seen { (d : DirValue) → AreSeen answered.now (λ k. IsNoneOf k (length leaves.now) leaves.now) (map vec_items leaf_paths.now) (dir_node d (nodes (map C.value children.now))) idle.old idle.new }
+    ensures seen { (d : DirValue) →
+        AreSeen answered.now (λ k. IsNoneOf k (length leaves.now) leaves.now) (map vec_items leaf_paths.now)
+        (dir_node d (nodes (map C.value children.now))) idle.old idle.new }
     ensures harts { HartsAgree quiet.old idle.old → HartsAgree quiet.new idle.new }
     ensures buses { KeepsBuses quiet.old quiet.new }
 {
@@ -269,7 +280,9 @@ fn look_near<const WORDS: usize, C: Subtree<WORDS>>(
     leaves: &[usize],
     answered: Option<ItemId>,
 )
-    ensures seen { (d : DirValue) → AreSeen answered (λ k. IsNoneOf k (length leaves.now) leaves.now) (map vec_items leaf_paths.now) (dir_node d (nodes (map C.value children.now))) idle.old idle.new }
+    ensures seen { (d : DirValue) →
+        AreSeen answered (λ k. IsNoneOf k (length leaves.now) leaves.now) (map vec_items leaf_paths.now)
+        (dir_node d (nodes (map C.value children.now))) idle.old idle.new }
     ensures harts { HartsAgree quiet.old idle.old → HartsAgree quiet.new idle.new }
     ensures buses { KeepsBuses quiet.old quiet.new }
 {
@@ -296,7 +309,9 @@ pub(crate) fn leaf_under<const WORDS: usize, C: Subtree<WORDS>>(
     path: &[ChildNo],
     place: usize,
 ) -> Option<LeafNo>
-    ensures { (d : DirValue) (k : ℕ) → Leads (leaf_of_number k) (path.now ++ place ∷ []) (dir_node d (nodes (map C.value children.now))) → result ≡ Some k }
+    ensures { (d : DirValue) (k : ℕ) →
+        Leads (leaf_of_number k) (path.now ++ place ∷ []) (dir_node d (nodes (map C.value children.now))) →
+        result ≡ Some k }
 {
     match path.split_first() {
         None => leaf_of(children.get(place)?.label()),
@@ -315,7 +330,10 @@ fn look_child<const WORDS: usize, C: Subtree<WORDS>>(
     named: Option<usize>,
     answered: &Option<ItemId>,
 )
-    ensures seen { (d : DirValue) → let n = dir_node d (nodes (map C.value children.now)) in AreSeen answered.now (IsNoChild (λ c. named ≡ Some c) path.now n) (map vec_items leaf_paths.now) n idle.old idle.new }
+    ensures seen { (d : DirValue) →
+        let n = dir_node d (nodes (map C.value children.now)) in
+        AreSeen answered.now (IsNoChild (λ c. named ≡ Some c) path.now n) (map vec_items leaf_paths.now) n
+        idle.old idle.new }
     ensures harts { HartsAgree quiet.old idle.old → HartsAgree quiet.new idle.new }
     ensures buses { KeepsBuses quiet.old quiet.new }
 {
@@ -345,7 +363,10 @@ fn look_two<const WORDS: usize, C: Subtree<WORDS>>(
     second: Option<usize>,
     answered: &Option<ItemId>,
 )
-    ensures seen { (d : DirValue) → let n = dir_node d (nodes (map C.value children.now)) in AreSeen answered.now (IsNoChild (λ c. (first ≡ Some c) ⊎ (second ≡ Some c)) path.now n) (map vec_items leaf_paths.now) n idle.old idle.new }
+    ensures seen { (d : DirValue) →
+        let n = dir_node d (nodes (map C.value children.now)) in
+        AreSeen answered.now (IsNoChild (λ c. (first ≡ Some c) ⊎ (second ≡ Some c)) path.now n)
+        (map vec_items leaf_paths.now) n idle.old idle.new }
     ensures harts { HartsAgree quiet.old idle.old → HartsAgree quiet.new idle.new }
     ensures buses { KeepsBuses quiet.old quiet.new }
 {
@@ -375,7 +396,10 @@ fn look_on<const WORDS: usize, C: Subtree<WORDS>>(
     answer: &TurnAnswer,
     answered: Option<ItemId>,
 )
-    ensures noted { (d : DirValue) (t : Turn) (entry : LogEntry) → named_by t ≡ bus_of_number bus → answer.now ≡ TurnAnswer.Granted entry → answered ≡ answered_by entry → AreNoted t answer.now (map vec_items bus_leaves.now) (map vec_items bus_paths.now) (map vec_items leaf_paths.now) (dir_node d (nodes (map C.value children.now))) idle.old idle.new }
+    ensures noted { (d : DirValue) (t : Turn) (entry : LogEntry) → named_by t ≡ bus_of_number bus →
+        answer.now ≡ TurnAnswer.Granted entry → answered ≡ answered_by entry →
+        AreNoted t answer.now (map vec_items bus_leaves.now) (map vec_items bus_paths.now)
+        (map vec_items leaf_paths.now) (dir_node d (nodes (map C.value children.now))) idle.old idle.new }
     ensures harts { HartsAgree quiet.old idle.old → HartsAgree quiet.new idle.new }
     ensures buses { KeepsBuses quiet.old quiet.new }
 {
@@ -411,7 +435,9 @@ pub(crate) fn note<const WORDS: usize, C: Subtree<WORDS>>(
     turn: &Turn,
     answer: &TurnAnswer,
 )
-    ensures noted { (d : DirValue) → AreNoted turn.now answer.now (map vec_items bus_leaves.now) (map vec_items bus_paths.now) (map vec_items leaf_paths.now) (dir_node d (nodes (map C.value children.now))) idle.old idle.new }
+    ensures noted { (d : DirValue) →
+        AreNoted turn.now answer.now (map vec_items bus_leaves.now) (map vec_items bus_paths.now)
+        (map vec_items leaf_paths.now) (dir_node d (nodes (map C.value children.now))) idle.old idle.new }
     ensures harts { HartsAgree quiet.old idle.old → HartsAgree quiet.new idle.new }
     ensures buses { KeepsBuses quiet.old quiet.new }
 {

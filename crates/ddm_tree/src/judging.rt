@@ -70,7 +70,9 @@ fn with_child<const WORDS: usize, C: Subtree<WORDS>>(
     requires in_range { item < node_items (C.value child.now) }
     requires number { number < 16 }
     requires counted { facts.old.count + 1 < 2 ^ 32 }
-    ensures { (n : Note) (cs : List Face) → note.now ≡ note_why n → joined ≡ joined_in n → length cs ≡ number → facts.old ≡ facts_among n cs → facts.new ≡ facts_among n (cs ++ child_face item (C.value child.now) ∷ []) }
+    ensures { (n : Note) (cs : List Face) → note.now ≡ note_why n → joined ≡ joined_in n → length cs ≡ number →
+        facts.old ≡ facts_among n cs →
+        facts.new ≡ facts_among n (cs ++ child_face item (C.value child.now) ∷ []) }
 {
     let reader = is_reader(note, joined, number);
     let eraser = is_eraser(note, number);

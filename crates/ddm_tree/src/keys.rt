@@ -28,7 +28,10 @@ fn cut(key: &Key, depth: u32) -> Key
 
 /// Whether two keys have the same child numbers.
 fn same_children(key: &Key, other: &Key) -> bool
-    ensures { result ≡ (nat_eq key.now.c0 other.now.c0 && (nat_eq key.now.c1 other.now.c1 && (nat_eq key.now.c2 other.now.c2 && nat_eq key.now.c3 other.now.c3))) }
+    ensures { result
+        ≡ (nat_eq key.now.c0 other.now.c0
+        && (nat_eq key.now.c1 other.now.c1
+        && (nat_eq key.now.c2 other.now.c2 && nat_eq key.now.c3 other.now.c3))) }
 {
     key.c0 == other.c0 && (key.c1 == other.c1 && (key.c2 == other.c2 && key.c3 == other.c3))
 }

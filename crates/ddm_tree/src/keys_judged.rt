@@ -44,7 +44,9 @@ fn take_key(lasts: &mut [Option<Key>], op: &Op) -> bool
 impl<const WORDS: usize, C: Subtree<WORDS>> Parts<WORDS, C> {
     /// The least bus whose directory's stamps are out of order.
     pub fn broken_stamp(&self) -> Option<StateRefusal>
-        ensures { result ≡ option_map (λ bus. BrokenStamp bus) (find (stamps_broken (dirs_at self.now)) (range_with_len 0 (length self.now.traffic))) }
+        ensures { result
+            ≡ option_map (λ bus. BrokenStamp bus)
+            (find (stamps_broken (dirs_at self.now)) (range_with_len 0 (length self.now.traffic))) }
     {
         for bus in 0..self.counts.buses {
             if self.stamps_broken(BusNo(bus)) {

@@ -1,6 +1,7 @@
 //! The machine of a tree, and its turns.
 
-ghost use Rattle.std.specs.Prelude.{◌≡◌, ℕ, List, ◌+◌, ◌*◌, ◌<◌, ◌≤◌, ◌^◌, [], Some, true, false, is_ok, length, map, max, slice_get, vec_items, IfNone, IfOk, IfSome, OnSome, if◌then◌else◌};
+ghost use Rattle.std.specs.Prelude.{◌≡◌, ℕ, List, ◌+◌, ◌*◌, ◌<◌, ◌≤◌, ◌^◌, [], Some, true, false, is_ok, length, map};
+ghost use Rattle.std.specs.Prelude.{max, slice_get, vec_items, IfNone, IfOk, IfSome, OnSome, if◌then◌else◌};
 ghost use Rattle.ddm_tree.specs.DdmTypes.declared.answers.TurnAnswer.TheVariants.{Empty};
 ghost use Rattle.ddm_tree.specs.TreeModel.Turns.Machine.{named_by, names_part, no_traffic, turn_of};
 ghost use Rattle.ddm_tree.specs.DdmTypes.Keys.{stamp_zero};
@@ -73,13 +74,22 @@ impl<const WORDS: usize, C: Subtree<WORDS>> Model for Machine<WORDS, C> {
 
     ghost coded = { machine_code };
 
-    ghost view = { λ m. record { machine = machine_of m.code m.items m.top (map C.value m.children.items) m.ops.items m.traffic.items; spare = m.spare; turns = m.turns } };
+    ghost view = { λ m. record {
+      machine = machine_of m.code m.items m.top (map C.value m.children.items)
+          m.ops.items m.traffic.items;
+      spare = m.spare;
+      turns = m.turns;
+    } };
 
-    ghost invariant = { λ m. IsMachine WORDS (machine_of m.code m.items m.top (map C.value m.children.items) m.ops.items m.traffic.items) m.turns (map vec_items m.leaf_paths.items) (map vec_items m.bus_paths.items)
+    ghost invariant = { λ m. IsMachine WORDS
+        (machine_of m.code m.items m.top (map C.value m.children.items) m.ops.items m.traffic.items) m.turns
+        (map vec_items m.leaf_paths.items) (map vec_items m.bus_paths.items)
         × (tree_counts (machine_of m.code m.items m.top (map C.value m.children.items) m.ops.items m.traffic.items) ≡ m.counts)
         × (WORDS < 2 ^ 32) × (m.items.size ≡ 4 * WORDS) × (m.spare ≤ m.ops.spare)
-        × AreIdle m.code m.items m.idle (dir_node m.top (nodes (map C.value m.children.items))) (dir_node m.top (nodes (map C.value m.children.items)))
-        × AreQuiet m.quiet.items (dir_node m.top (nodes (map C.value m.children.items))) (dir_node m.top (nodes (map C.value m.children.items)))
+        × AreIdle m.code m.items m.idle (dir_node m.top (nodes (map C.value m.children.items)))
+        (dir_node m.top (nodes (map C.value m.children.items)))
+        × AreQuiet m.quiet.items (dir_node m.top (nodes (map C.value m.children.items)))
+        (dir_node m.top (nodes (map C.value m.children.items)))
         × HartsAgree m.quiet.items m.idle
         × AreNear (map vec_items m.bus_leaves.items) (map vec_items m.bus_paths.items) (map vec_items m.leaf_paths.items) };
 }
@@ -97,7 +107,13 @@ impl<const WORDS: usize, C: Subtree<WORDS> + Drop> Machine<WORDS, C> {
         requires fits { WORDS < 2 ^ 32 }
         requires size { items.size ≡ 4 * WORDS }
         requires parts { IsNew WORDS (new_machine code items top (map C.value children.items) counts) counts }
-        ensures { IfOk result (λ m. m ≡ record { machine = new_machine code items top.entry (map C.value children.items) counts; spare = 0; turns = 0 }) }
+        ensures { IfOk result
+            (λ m. m
+            ≡ record {
+              machine = new_machine code items top.entry (map C.value children.items) counts;
+              spare = 0;
+              turns = 0;
+            }) }
     {
         let leaf_paths = leaf_paths(alloc, &top, &children, counts.leaves)?;
         let bus_paths = bus_paths(alloc, &top, &children, counts.buses)?;
@@ -217,9 +233,19 @@ fn turn_found<const WORDS: usize, C: Subtree<WORDS>>(
 )
     requires size { items.now.size ≡ 4 * WORDS }
     requires ready { IsReady (item_count items.now) WORDS (dir_node top.old (nodes (map C.value children.old))) }
-    requires found { IsFound turn.now (dir_node top.old (nodes (map C.value children.old))) (map vec_items leaf_paths.now) (map vec_items bus_paths.now) }
-    ensures answer { (path : List ℕ) → listed_path (named_by turn.now) (map vec_items leaf_paths.now) (map vec_items bus_paths.now) ≡ Some path → let n = dir_node top.old (nodes (map C.value children.old)) in answer.new ≡ node_answer code.now items.now turn.now path (present_at path stamp_zero n) (node_at path n) }
-    ensures after { (path : List ℕ) → listed_path (named_by turn.now) (map vec_items leaf_paths.now) (map vec_items bus_paths.now) ≡ Some path → let n = dir_node top.old (nodes (map C.value children.old)) in dir_node top.new (nodes (map C.value children.new)) ≡ put_at path (node_turned code.now items.now turn.now path (present_at path stamp_zero n) (node_at path n)) n }
+    requires found { IsFound turn.now (dir_node top.old (nodes (map C.value children.old)))
+        (map vec_items leaf_paths.now) (map vec_items bus_paths.now) }
+    ensures answer { (path : List ℕ) →
+        listed_path (named_by turn.now) (map vec_items leaf_paths.now) (map vec_items bus_paths.now) ≡ Some path →
+        let n = dir_node top.old (nodes (map C.value children.old)) in
+        answer.new
+        ≡ node_answer code.now items.now turn.now path (present_at path stamp_zero n) (node_at path n) }
+    ensures after { (path : List ℕ) →
+        listed_path (named_by turn.now) (map vec_items leaf_paths.now) (map vec_items bus_paths.now) ≡ Some path →
+        let n = dir_node top.old (nodes (map C.value children.old)) in
+        dir_node top.new (nodes (map C.value children.new))
+        ≡ put_at path
+        (node_turned code.now items.now turn.now path (present_at path stamp_zero n) (node_at path n)) n }
 {
     let path = path_of(named(turn), leaf_paths, bus_paths);
     let call = TurnCall {
@@ -248,18 +274,40 @@ fn turn_made<const WORDS: usize, C: Subtree<WORDS>>(
 )
     requires size { items.now.size ≡ 4 * WORDS }
     requires ready { IsReady (item_count items.now) WORDS (dir_node top.old (nodes (map C.value children.old))) }
-    requires found { IsFound turn.now (dir_node top.old (nodes (map C.value children.old))) (map vec_items leaf_paths.now) (map vec_items bus_paths.now) }
-    requires paths { (k : ℕ) (path : List ℕ) → Leads (leaf_of_number k) path (dir_node top.old (nodes (map C.value children.old))) → slice_get (map vec_items leaf_paths.now) k ≡ Some path }
-    requires idle { AreIdle code.now items.now idle.old (dir_node top.old (nodes (map C.value children.old))) (dir_node top.old (nodes (map C.value children.old))) }
+    requires found { IsFound turn.now (dir_node top.old (nodes (map C.value children.old)))
+        (map vec_items leaf_paths.now) (map vec_items bus_paths.now) }
+    requires paths { (k : ℕ) (path : List ℕ) →
+        Leads (leaf_of_number k) path (dir_node top.old (nodes (map C.value children.old))) →
+        slice_get (map vec_items leaf_paths.now) k ≡ Some path }
+    requires idle { AreIdle code.now items.now idle.old (dir_node top.old (nodes (map C.value children.old)))
+        (dir_node top.old (nodes (map C.value children.old))) }
     requires harts { HartsAgree quiet.old idle.old }
     requires near { AreNear (map vec_items bus_leaves.now.items) (map vec_items bus_paths.now) (map vec_items leaf_paths.now) }
     requires ruled { IsTreeOk (item_count items.now) (dir_node top.old (nodes (map C.value children.old))) }
-    requires later { (path : List ℕ) → listed_path (named_by turn.now) (map vec_items leaf_paths.now) (map vec_items bus_paths.now) ≡ Some path → let n = dir_node top.old (nodes (map C.value children.old)) in IsTreeOk (item_count items.now) (put_at path (node_turned code.now items.now turn.now path (present_at path stamp_zero n) (node_at path n)) n) }
-    ensures answer { (path : List ℕ) → listed_path (named_by turn.now) (map vec_items leaf_paths.now) (map vec_items bus_paths.now) ≡ Some path → let n = dir_node top.old (nodes (map C.value children.old)) in answer.new ≡ node_answer code.now items.now turn.now path (present_at path stamp_zero n) (node_at path n) }
-    ensures after { (path : List ℕ) → listed_path (named_by turn.now) (map vec_items leaf_paths.now) (map vec_items bus_paths.now) ≡ Some path → let n = dir_node top.old (nodes (map C.value children.old)) in dir_node top.new (nodes (map C.value children.new)) ≡ put_at path (node_turned code.now items.now turn.now path (present_at path stamp_zero n) (node_at path n)) n }
-    ensures quiet { (path : List ℕ) → listed_path (named_by turn.now) (map vec_items leaf_paths.now) (map vec_items bus_paths.now) ≡ Some path → AreLearnedBelow (IsTouchedBy answer.new path) (dir_node top.new (nodes (map C.value children.new))) quiet.old quiet.new }
+    requires later { (path : List ℕ) →
+        listed_path (named_by turn.now) (map vec_items leaf_paths.now) (map vec_items bus_paths.now) ≡ Some path →
+        let n = dir_node top.old (nodes (map C.value children.old)) in
+        IsTreeOk (item_count items.now)
+        (put_at path
+        (node_turned code.now items.now turn.now path (present_at path stamp_zero n) (node_at path n)) n) }
+    ensures answer { (path : List ℕ) →
+        listed_path (named_by turn.now) (map vec_items leaf_paths.now) (map vec_items bus_paths.now) ≡ Some path →
+        let n = dir_node top.old (nodes (map C.value children.old)) in
+        answer.new
+        ≡ node_answer code.now items.now turn.now path (present_at path stamp_zero n) (node_at path n) }
+    ensures after { (path : List ℕ) →
+        listed_path (named_by turn.now) (map vec_items leaf_paths.now) (map vec_items bus_paths.now) ≡ Some path →
+        let n = dir_node top.old (nodes (map C.value children.old)) in
+        dir_node top.new (nodes (map C.value children.new))
+        ≡ put_at path
+        (node_turned code.now items.now turn.now path (present_at path stamp_zero n) (node_at path n)) n }
+    ensures quiet { (path : List ℕ) →
+        listed_path (named_by turn.now) (map vec_items leaf_paths.now) (map vec_items bus_paths.now) ≡ Some path →
+        AreLearnedBelow (IsTouchedBy answer.new path) (dir_node top.new (nodes (map C.value children.new)))
+        quiet.old quiet.new }
     ensures harts { HartsAgree quiet.new idle.new }
-    ensures idle { AreIdle code.now items.now idle.new (dir_node top.old (nodes (map C.value children.old))) (dir_node top.new (nodes (map C.value children.new))) }
+    ensures idle { AreIdle code.now items.now idle.new (dir_node top.old (nodes (map C.value children.old)))
+        (dir_node top.new (nodes (map C.value children.new))) }
 {
     match idle_for(turn, idle) {
         Some(known) => *answer = idle_answer(known),

@@ -56,7 +56,9 @@ fn directory<const WORDS: usize, C: Subtree<WORDS> + Drop>(
     requires bus { 0 < bus }
     requires some { 0 < length children.items }
     requires holders { All (IsHolder items) (map C.value children.items) }
-    ensures { IfOk result (λ d. dir_node d.state (nodes (map C.value d.children.items)) ≡ dir_over (dir_sizes config.now WORDS) level bus (map C.value children.items)) }
+    ensures { IfOk result
+        (λ d. dir_node d.state (nodes (map C.value d.children.items))
+        ≡ dir_over (dir_sizes config.now WORDS) level bus (map C.value children.items)) }
 {
     let mut state = DirState::new(alloc, bus, level, items, config)?;
     let held = held_items(alloc, items, &children)?;
@@ -113,7 +115,9 @@ pub fn directories<const WORDS: usize, C: Subtree<WORDS> + Drop>(
     requires widths { All (λ w. 0 < w) widths.now }
     requires whole { sum widths.now ≡ length children.items }
     requires holders { All (IsHolder items) (map C.value children.items) }
-    ensures { IfOk result (λ ds. map (λ d. dir_node d.state (nodes (map C.value d.children.items))) ds.items ≡ dirs_over (dir_sizes config.now WORDS) level first (cut_in widths.now (map C.value children.items))) }
+    ensures { IfOk result
+        (λ ds. map (λ d. dir_node d.state (nodes (map C.value d.children.items))) ds.items
+        ≡ dirs_over (dir_sizes config.now WORDS) level first (cut_in widths.now (map C.value children.items))) }
 {
     let mut dirs = Vec::new(alloc);
     let mut rest = children.into_iter();

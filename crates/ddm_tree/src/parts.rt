@@ -63,7 +63,9 @@ impl<const WORDS: usize, C: Subtree<WORDS>> Model for Parts<WORDS, C> {
 
     ghost view = { λ m. machine_of m.code m.items m.top (map C.value m.children.items) m.ops.items m.traffic.items };
 
-    ghost invariant = { λ m. IsParts WORDS (machine_of m.code m.items m.top (map C.value m.children.items) m.ops.items m.traffic.items) (map vec_items m.leaf_paths.items) (map vec_items m.bus_paths.items)
+    ghost invariant = { λ m. IsParts WORDS
+        (machine_of m.code m.items m.top (map C.value m.children.items) m.ops.items m.traffic.items)
+        (map vec_items m.leaf_paths.items) (map vec_items m.bus_paths.items)
         × (tree_counts (machine_of m.code m.items m.top (map C.value m.children.items) m.ops.items m.traffic.items) ≡ m.counts)
         × (WORDS < 2 ^ 32) × (m.items.size ≡ 4 * WORDS)
         × AreNear (map vec_items m.bus_leaves.items) (map vec_items m.bus_paths.items) (map vec_items m.leaf_paths.items) };
@@ -93,8 +95,14 @@ fn read_into<const WORDS: usize, C: Subtree<WORDS>>(
     requires inside { from ≤ length words.now }
     requires buses { widths_fit (skeleton (dir_node top.old (nodes (map C.value children.old)))) ≡ true }
     requires listed { has_path (section_name section) (length leaf_paths.now) (length bus_paths.now) }
-    requires leads { (path : List ℕ) → listed_path (section_name section) (map vec_items leaf_paths.now) (map vec_items bus_paths.now) ≡ Some path → Leads (section_name section) path (dir_node top.old (nodes (map C.value children.old))) }
-    ensures read { (path : List ℕ) → listed_path (section_name section) (map vec_items leaf_paths.now) (map vec_items bus_paths.now) ≡ Some path → PartRead section path words.now from (dir_node top.old (nodes (map C.value children.old))) (dir_node top.new (nodes (map C.value children.new))) result }
+    requires leads { (path : List ℕ) →
+        listed_path (section_name section) (map vec_items leaf_paths.now) (map vec_items bus_paths.now)
+        ≡ Some path → Leads (section_name section) path (dir_node top.old (nodes (map C.value children.old))) }
+    ensures read { (path : List ℕ) →
+        listed_path (section_name section) (map vec_items leaf_paths.now) (map vec_items bus_paths.now)
+        ≡ Some path →
+        PartRead section path words.now from (dir_node top.old (nodes (map C.value children.old)))
+        (dir_node top.new (nodes (map C.value children.new))) result }
     ensures inside { IfOk result (λ at. at ≤ length words.now) }
 {
     let path = path_of(section_name(&section), leaf_paths, bus_paths);

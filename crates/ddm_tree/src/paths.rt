@@ -22,7 +22,9 @@ pub(crate) fn path_up_among<const WORDS: usize, C: Subtree<WORDS>>(
 ) -> Result<Option<Vec<ChildNo>>, NoMemory>
     requires few { length children.now ≤ 16 }
     requires buses { All (λ n. widths_fit (skeleton n) ≡ true) (map C.value children.now) }
-    ensures { IfOk result (λ found. option_map vec_items found ≡ option_map reverse (path_among (name_of name.now) 0 (skeletons (nodes (map C.value children.now))))) }
+    ensures { IfOk result
+        (λ found. option_map vec_items found
+        ≡ option_map reverse (path_among (name_of name.now) 0 (skeletons (nodes (map C.value children.now))))) }
 {
     for i in 0..children.len() {
         if let Some(mut path) = children[i].path_up(alloc, name)? {
@@ -41,7 +43,11 @@ pub(crate) fn path_up_under<const WORDS: usize, P: Parent<WORDS>, C: Subtree<WOR
     name: &Named,
 ) -> Result<Option<Vec<ChildNo>>, NoMemory>
     requires { widths_fit (skeleton (dir_node (P.state parent.now) (nodes (map C.value children.now)))) ≡ true }
-    ensures { IfOk result (λ found. option_map vec_items found ≡ option_map reverse (path_to (name_of name.now) (skeleton (dir_node (P.state parent.now) (nodes (map C.value children.now)))))) }
+    ensures { IfOk result
+        (λ found. option_map vec_items found
+        ≡ option_map reverse
+        (path_to (name_of name.now)
+        (skeleton (dir_node (P.state parent.now) (nodes (map C.value children.now)))))) }
 {
     if is_bus(name, parent.bus()) {
         return Ok(Some(Vec::new(alloc)));
@@ -67,7 +73,10 @@ fn path_down<const WORDS: usize, P: Parent<WORDS>, C: Subtree<WORDS>>(
     name: &Named,
 ) -> Result<Vec<ChildNo>, NoMemory>
     requires { widths_fit (skeleton (dir_node (P.state parent.now) (nodes (map C.value children.now)))) ≡ true }
-    ensures { IfOk result (λ v. (path : List ℕ) → Leads (name_of name.now) path (dir_node (P.state parent.now) (nodes (map C.value children.now))) → v.items ≡ path) }
+    ensures { IfOk result
+        (λ v. (path : List ℕ) →
+        Leads (name_of name.now) path (dir_node (P.state parent.now) (nodes (map C.value children.now))) →
+        v.items ≡ path) }
 {
     match path_up_under(alloc, parent, children, name)? {
         Some(mut path) => {
@@ -86,7 +95,10 @@ pub(crate) fn leaf_paths<const WORDS: usize, P: Parent<WORDS>, C: Subtree<WORDS>
     leaves: u32,
 ) -> Result<Vec<Vec<ChildNo>>, NoMemory>
     requires { widths_fit (skeleton (dir_node (P.state parent.now) (nodes (map C.value children.now)))) ≡ true }
-    ensures { IfOk result (λ ps. (k : ℕ) (path : List ℕ) → k < leaves → Leads (leaf_of_number k) path (dir_node (P.state parent.now) (nodes (map C.value children.now))) → slice_get (map vec_items ps.items) k ≡ Some path) }
+    ensures { IfOk result
+        (λ ps. (k : ℕ) (path : List ℕ) → k < leaves →
+        Leads (leaf_of_number k) path (dir_node (P.state parent.now) (nodes (map C.value children.now))) →
+        slice_get (map vec_items ps.items) k ≡ Some path) }
 {
     let mut paths = Vec::new(alloc);
     for leaf in 0..leaves {
@@ -103,7 +115,10 @@ pub(crate) fn bus_paths<const WORDS: usize, P: Parent<WORDS>, C: Subtree<WORDS>>
     buses: u32,
 ) -> Result<Vec<Vec<ChildNo>>, NoMemory>
     requires { widths_fit (skeleton (dir_node (P.state parent.now) (nodes (map C.value children.now)))) ≡ true }
-    ensures { IfOk result (λ ps. (k : ℕ) (path : List ℕ) → k < buses → Leads (bus_of_number k) path (dir_node (P.state parent.now) (nodes (map C.value children.now))) → slice_get (map vec_items ps.items) k ≡ Some path) }
+    ensures { IfOk result
+        (λ ps. (k : ℕ) (path : List ℕ) → k < buses →
+        Leads (bus_of_number k) path (dir_node (P.state parent.now) (nodes (map C.value children.now))) →
+        slice_get (map vec_items ps.items) k ≡ Some path) }
 {
     let mut paths = Vec::new(alloc);
     for bus in 0..buses {

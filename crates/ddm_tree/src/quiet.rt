@@ -7,7 +7,10 @@ ghost use Rattle.ddm_tree.specs.TreeModel.State.Values.{DirValue, Node, Nodes, c
 ghost use Rattle.ddm_tree.specs.TreeModel.Turns.Children.{child_at};
 ghost use Rattle.ddm_tree.specs.TreeModel.Turns.Machine.{named_by};
 ghost use Rattle.ddm_tree.specs.Machine.{has_path, listed_path};
-ghost use Rattle.ddm_tree.specs.Quiet.{AreApart, AreLearned, AreLearnedBelow, AreNear, IsBlank, IsHartNoted, IsNear, IsTouched, IsTouchedBy, KeepsHarts, OfChild, OfNamed, OfTwo, busy_if, known_as, may_be_child, number_of, quiet_if, touches_child, turn_column, turn_row};
+ghost use Rattle.ddm_tree.specs.Quiet.{AreApart, AreLearned, AreLearnedBelow, AreNear, IsBlank, IsHartNoted, IsNear};
+ghost use Rattle.ddm_tree.specs.Quiet.{IsTouched, IsTouchedBy, KeepsHarts, OfChild, OfNamed, OfTwo, busy_if};
+ghost use Rattle.ddm_tree.specs.Quiet.{known_as, may_be_child, number_of, quiet_if, touches_child, turn_column};
+ghost use Rattle.ddm_tree.specs.Quiet.{turn_row};
 
 use crate::machine::{named, path_of};
 use crate::of_ddm_types::{ChildNo, NoMemory, Place, Turn, TurnAnswer};
@@ -125,7 +128,8 @@ fn put_down<const WORDS: usize, P: Parent<WORDS>>(quiet: &mut Quiet, parent: &P)
 fn put_child<const WORDS: usize, C: Agent<WORDS>>(quiet: &mut Quiet, place: usize, child: &C)
     requires fits { WORDS < 2 ^ 32 }
     requires place { place < 16 }
-    ensures { (d : DirValue) (ns : Nodes) → child_at place (children_of ns) ≡ C.value child.now → AreLearned (OfChild place) (dir_node d ns) quiet.old quiet.new }
+    ensures { (d : DirValue) (ns : Nodes) → child_at place (children_of ns) ≡ C.value child.now →
+        AreLearned (OfChild place) (dir_node d ns) quiet.old quiet.new }
 {
     quiet[2 * 16 + place] = quiet_if(child.first_request().is_none());
     quiet[3 * 16 + place] = quiet_if(child.first_reply().is_none());
@@ -167,7 +171,8 @@ fn learn_bus<const WORDS: usize, P: Parent<WORDS>, C: Agent<WORDS>>(
     children: &[C],
 )
     requires fits { WORDS < 2 ^ 32 }
-    ensures learned { AreLearnedBelow (λ q t. q ≡ []) (dir_node (P.state parent.now) (nodes (map C.value children.now))) known.old known.new }
+    ensures learned { AreLearnedBelow (λ q t. q ≡ [])
+        (dir_node (P.state parent.now) (nodes (map C.value children.now))) known.old known.new }
     ensures harts { KeepsHarts known.old known.new }
 {
     let bus = parent.bus().0 as usize;
@@ -202,7 +207,8 @@ fn learn_child<const WORDS: usize, P: Parent<WORDS>, C: Agent<WORDS>>(
     place: usize,
 )
     requires fits { WORDS < 2 ^ 32 }
-    ensures learned { AreLearnedBelow (λ q t. (q ≡ []) × OfChild place t) (dir_node (P.state parent.now) (nodes (map C.value children.now))) known.old known.new }
+    ensures learned { AreLearnedBelow (λ q t. (q ≡ []) × OfChild place t)
+        (dir_node (P.state parent.now) (nodes (map C.value children.now))) known.old known.new }
     ensures harts { KeepsHarts known.old known.new }
 {
     let bus = parent.bus().0 as usize;
@@ -253,7 +259,8 @@ fn learn_two<const WORDS: usize, P: Parent<WORDS>, C: Agent<WORDS>>(
     second: Option<usize>,
 )
     requires fits { WORDS < 2 ^ 32 }
-    ensures learned { AreLearnedBelow (λ q t. (q ≡ []) × OfTwo first second t) (dir_node (P.state parent.now) (nodes (map C.value children.now))) known.old known.new }
+    ensures learned { AreLearnedBelow (λ q t. (q ≡ []) × OfTwo first second t)
+        (dir_node (P.state parent.now) (nodes (map C.value children.now))) known.old known.new }
     ensures harts { KeepsHarts known.old known.new }
 {
     let bus = parent.bus().0 as usize;
@@ -289,7 +296,9 @@ pub(crate) fn two_touched(answer: &TurnAnswer) -> Option<(Option<usize>, Option<
 #[inline(always)]
 pub(crate) fn learn_down_of<const WORDS: usize, P: Parent<WORDS>>(known: &mut [Quiet], parent: &P)
     requires fits { WORDS < 2 ^ 32 }
-    ensures learned { (ns : Nodes) → AreLearnedBelow (λ q t. (q ≡ []) × (t ≡ BusTurn.Down)) (dir_node (P.state parent.now) ns) known.old known.new }
+    ensures learned { (ns : Nodes) →
+        AreLearnedBelow (λ q t. (q ≡ []) × (t ≡ BusTurn.Down)) (dir_node (P.state parent.now) ns) known.old
+        known.new }
     ensures harts { KeepsHarts known.old known.new }
 {
     let bus = parent.bus().0 as usize;
@@ -302,7 +311,9 @@ pub(crate) fn learn_down_of<const WORDS: usize, P: Parent<WORDS>>(known: &mut [Q
 #[inline(always)]
 fn learn_downs<const WORDS: usize, C: Subtree<WORDS>>(known: &mut [Quiet], children: &[C])
     requires fits { WORDS < 2 ^ 32 }
-    ensures learned { (d : DirValue) → AreLearnedBelow (λ q t. ((c : ℕ) × (q ≡ c ∷ [])) × (t ≡ BusTurn.Down)) (dir_node d (nodes (map C.value children.now))) known.old known.new }
+    ensures learned { (d : DirValue) →
+        AreLearnedBelow (λ q t. ((c : ℕ) × (q ≡ c ∷ [])) × (t ≡ BusTurn.Down))
+        (dir_node d (nodes (map C.value children.now))) known.old known.new }
     ensures harts { KeepsHarts known.old known.new }
 {
     for child in children {
@@ -318,7 +329,9 @@ fn learn_down_named<const WORDS: usize, C: Subtree<WORDS>>(
     named: Option<usize>,
 )
     requires fits { WORDS < 2 ^ 32 }
-    ensures learned { (d : DirValue) → AreLearnedBelow (λ q t. ((c : ℕ) × (named ≡ Some c) × (q ≡ c ∷ [])) × (t ≡ BusTurn.Down)) (dir_node d (nodes (map C.value children.now))) known.old known.new }
+    ensures learned { (d : DirValue) →
+        AreLearnedBelow (λ q t. ((c : ℕ) × (named ≡ Some c) × (q ≡ c ∷ [])) × (t ≡ BusTurn.Down))
+        (dir_node d (nodes (map C.value children.now))) known.old known.new }
     ensures harts { KeepsHarts known.old known.new }
 {
     if let Some(place) = named {
@@ -336,7 +349,9 @@ fn learn_all<const WORDS: usize, P: Parent<WORDS>, C: Subtree<WORDS>>(
     children: &[C],
 )
     requires fits { WORDS < 2 ^ 32 }
-    ensures learned { (a : Answer) → AreLearnedBelow (IsTouched a []) (dir_node (P.state parent.now) (nodes (map C.value children.now))) known.old known.new }
+    ensures learned { (a : Answer) →
+        AreLearnedBelow (IsTouched a []) (dir_node (P.state parent.now) (nodes (map C.value children.now)))
+        known.old known.new }
     ensures harts { KeepsHarts known.old known.new }
 {
     learn_bus(known, parent, children);
@@ -352,7 +367,8 @@ fn learn_touched<const WORDS: usize, P: Parent<WORDS>, C: Subtree<WORDS>>(
     answer: &TurnAnswer,
 )
     requires fits { WORDS < 2 ^ 32 }
-    ensures learned { AreLearnedBelow (IsTouched answer.now []) (dir_node (P.state parent.now) (nodes (map C.value children.now))) known.old known.new }
+    ensures learned { AreLearnedBelow (IsTouched answer.now [])
+        (dir_node (P.state parent.now) (nodes (map C.value children.now))) known.old known.new }
     ensures harts { KeepsHarts known.old known.new }
 {
     match two_touched(answer) {
@@ -374,7 +390,8 @@ fn learn_here<const WORDS: usize, P: Parent<WORDS>, C: Subtree<WORDS>>(
     answer: &TurnAnswer,
 )
     requires fits { WORDS < 2 ^ 32 }
-    ensures learned { AreLearnedBelow (IsTouched answer.now []) (dir_node (P.state parent.now) (nodes (map C.value children.now))) known.old known.new }
+    ensures learned { AreLearnedBelow (IsTouched answer.now [])
+        (dir_node (P.state parent.now) (nodes (map C.value children.now))) known.old known.new }
     ensures harts { KeepsHarts known.old known.new }
 {
     if children.len() > 2 {
@@ -395,7 +412,8 @@ pub(crate) fn learn_under<const WORDS: usize, P: Parent<WORDS>, C: Subtree<WORDS
     answer: &TurnAnswer,
 )
     requires fits { WORDS < 2 ^ 32 }
-    ensures learned { AreLearnedBelow (IsTouched answer.now path.now) (dir_node (P.state parent.now) (nodes (map C.value children.now))) known.old known.new }
+    ensures learned { AreLearnedBelow (IsTouched answer.now path.now)
+        (dir_node (P.state parent.now) (nodes (map C.value children.now))) known.old known.new }
     ensures harts { KeepsHarts known.old known.new }
 {
     let Some((child, rest)) = path.split_first() else {
@@ -468,7 +486,8 @@ fn learn_at<const WORDS: usize, C: Subtree<WORDS>>(
     answer: &TurnAnswer,
 )
     requires fits { WORDS < 2 ^ 32 }
-    ensures learned { AreLearnedBelow (IsTouched answer.now path.now) (dir_node top.now (nodes (map C.value children.now))) known.old known.new }
+    ensures learned { AreLearnedBelow (IsTouched answer.now path.now)
+        (dir_node top.now (nodes (map C.value children.now))) known.old known.new }
     ensures harts { KeepsHarts known.old known.new }
 {
     learn_under(known, top, children, path, answer);
@@ -486,7 +505,10 @@ pub(crate) fn note_buses<const WORDS: usize, C: Subtree<WORDS>>(
 )
     requires fits { WORDS < 2 ^ 32 }
     requires listed { has_path (named_by turn.now) (length leaf_paths.now) (length bus_paths.now) }
-    ensures learned { (path : List ℕ) → listed_path (named_by turn.now) (map vec_items leaf_paths.now) (map vec_items bus_paths.now) ≡ Some path → AreLearnedBelow (IsTouchedBy answer.now path) (dir_node top.now (nodes (map C.value children.now))) known.old known.new }
+    ensures learned { (path : List ℕ) →
+        listed_path (named_by turn.now) (map vec_items leaf_paths.now) (map vec_items bus_paths.now) ≡ Some path →
+        AreLearnedBelow (IsTouchedBy answer.now path) (dir_node top.now (nodes (map C.value children.now)))
+        known.old known.new }
     ensures harts { KeepsHarts known.old known.new }
 {
     match answer {

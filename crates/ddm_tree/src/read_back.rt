@@ -47,7 +47,9 @@ pub(crate) fn read_under<const WORDS: usize, P: Parent<WORDS>, C: Subtree<WORDS>
     requires buses { widths_fit (skeleton (dir_node (P.state parent.now) (nodes (map C.value children.old)))) ≡ true }
     requires leads { Leads (section_name section) path.now (dir_node (P.state parent.now) (nodes (map C.value children.old))) }
     requires on { 0 < length path.now }
-    ensures read { PartRead section path.now words.now from (dir_node (P.state parent.now) (nodes (map C.value children.old))) (dir_node (P.state parent.now) (nodes (map C.value children.new))) result }
+    ensures read { PartRead section path.now words.now from
+        (dir_node (P.state parent.now) (nodes (map C.value children.old)))
+        (dir_node (P.state parent.now) (nodes (map C.value children.new))) result }
     ensures inside { IfOk result (λ at. at ≤ length words.now) }
 {
     match path.split_first() {

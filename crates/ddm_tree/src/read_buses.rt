@@ -33,7 +33,9 @@ fn add_op(
 ) -> Result<(), StateRefusal>
     requires few { length words.now < 2 ^ 32 }
     requires inside { at.old ≤ length words.now }
-    ensures read { OnOk result (read_op depth leaves ops.old.items at.old (drop at.old words.now) ≡ Ok (record { value = ops.new.items; at = at.new; rest = drop at.new words.now })) }
+    ensures read { OnOk result
+        (read_op depth leaves ops.old.items at.old (drop at.old words.now)
+        ≡ Ok (record { value = ops.new.items; at = at.new; rest = drop at.new words.now })) }
     ensures refused { IfErr result (λ e. e ≢ NoMemory → read_op depth leaves ops.old.items at.old (drop at.old words.now) ≡ Err e) }
     ensures inside { at.new ≤ length words.now }
     ensures more { OnOk result (length ops.new.items ≡ length ops.old.items + 1) }
@@ -70,8 +72,12 @@ fn fill_ops(
 ) -> Result<(), StateRefusal>
     requires few { length words.now < 2 ^ 32 }
     requires inside { at.old ≤ length words.now }
-    ensures read { OnOk result (times (read_op counts.depth counts.leaves) retired [] at.old (drop at.old words.now) ≡ Ok (record { value = ops.new.items; at = at.new; rest = drop at.new words.now })) }
-    ensures refused { IfErr result (λ e. e ≢ NoMemory → times (read_op counts.depth counts.leaves) retired [] at.old (drop at.old words.now) ≡ Err e) }
+    ensures read { OnOk result
+        (times (read_op counts.depth counts.leaves) retired [] at.old (drop at.old words.now)
+        ≡ Ok (record { value = ops.new.items; at = at.new; rest = drop at.new words.now })) }
+    ensures refused { IfErr result
+        (λ e. e ≢ NoMemory →
+        times (read_op counts.depth counts.leaves) retired [] at.old (drop at.old words.now) ≡ Err e) }
     ensures inside { at.new ≤ length words.now }
     ensures many { OnOk result (length ops.new.items ≡ retired) }
 {
@@ -111,7 +117,10 @@ impl<const WORDS: usize, C: Subtree<WORDS> + Drop> Parts<WORDS, C> {
         requires few { length words.now < 2 ^ 32 }
         requires inside { from ≤ length words.now }
         ensures read { IfOk result (λ r. BusesAreRead words.now from self r.0 r.1) }
-        ensures refused { IfErr result (λ e. read_buses (item_count self.items) self (range_with_len 0 (length self.traffic)) [] from (drop from words.now) ≡ Err e) }
+        ensures refused { IfErr result
+            (λ e. read_buses (item_count self.items) self (range_with_len 0 (length self.traffic)) [] from
+            (drop from words.now)
+            ≡ Err e) }
         ensures inside { IfOk result (λ r. r.1 ≤ length words.now) }
     {
         let buses = self.counts().buses;
@@ -135,7 +144,10 @@ impl<const WORDS: usize, C: Subtree<WORDS> + Drop> Parts<WORDS, C> {
         requires few { length words.now < 2 ^ 32 }
         requires inside { from ≤ length words.now }
         ensures read { IfOk result (λ r. OpsAreRead retired words.now from self r.0 r.1) }
-        ensures refused { IfErr result (λ e. e ≢ NoMemory → times (read_op (depth_of self) (tree_counts self).leaves) retired [] from (drop from words.now) ≡ Err e) }
+        ensures refused { IfErr result
+            (λ e. e ≢ NoMemory →
+            times (read_op (depth_of self) (tree_counts self).leaves) retired [] from (drop from words.now)
+            ≡ Err e) }
         ensures inside { IfOk result (λ r. r.1 ≤ length words.now) }
         ensures many { IfOk result (λ r. length r.0.ops ≡ retired) }
     {

@@ -1,6 +1,7 @@
 //! Keys, effects and operations are read.
 
-ghost use Rattle.std.specs.Prelude.{◌≡◌, ◌<◌, ◌≤◌, ◌^◌, ◌++◌, ◌∷◌, ◌||◌, [], List, Ok, Err, drop, length, nat_eq, nat_le, nat_lt, IfErr, IfOk, if◌then◌else◌};
+ghost use Rattle.std.specs.Prelude.{◌≡◌, ◌<◌, ◌≤◌, ◌^◌, ◌++◌, ◌∷◌, ◌||◌, [], List, Ok, Err, drop, length, nat_eq};
+ghost use Rattle.std.specs.Prelude.{nat_le, nat_lt, IfErr, IfOk, if◌then◌else◌};
 ghost use Rattle.ddm_tree.specs.DdmTypes.declared.operations.Op.{Op as OpValue};
 ghost use Rattle.ddm_tree.specs.StateReading.Gives.{Gives};
 ghost use Rattle.ddm_tree.specs.StateReading.Parts.{effect_of, effect_size, read_key, read_op, read_traffic};
@@ -113,7 +114,9 @@ fn first_number(words: &[u32], at: &mut u32, code: u32) -> Result<u32, StateRefu
     requires few { length words.now < 2 ^ 32 }
     requires inside { at.old ≤ length words.now }
     requires code { code ≤ 7 }
-    ensures read { Gives (word_that (λ w. if nat_eq code 1 then nat_le w 255 else (nat_lt 0 (effect_size code) || nat_eq w 0)) at.old (drop at.old words.now)) words.now at.new result }
+    ensures read { Gives
+        (word_that (λ w. if nat_eq code 1 then nat_le w 255 else (nat_lt 0 (effect_size code) || nat_eq w 0))
+        at.old (drop at.old words.now)) words.now at.new result }
     ensures byte { IfOk result (λ w. code ≡ 1 → w ≤ 255) }
     ensures inside { at.new ≤ length words.now }
 {
@@ -135,7 +138,10 @@ pub(crate) fn read_op(
 ) -> Result<Op, StateRefusal>
     requires few { length words.now < 2 ^ 32 }
     requires inside { at.old ≤ length words.now }
-    ensures read { IfOk result (λ o. (ops : List OpValue) → read_op depth leaves ops at.old (drop at.old words.now) ≡ Ok (record { value = ops ++ o ∷ []; at = at.new; rest = drop at.new words.now })) }
+    ensures read { IfOk result
+        (λ o. (ops : List OpValue) →
+        read_op depth leaves ops at.old (drop at.old words.now)
+        ≡ Ok (record { value = ops ++ o ∷ []; at = at.new; rest = drop at.new words.now })) }
     ensures refused { IfErr result (λ e. (ops : List OpValue) → read_op depth leaves ops at.old (drop at.old words.now) ≡ Err e) }
     ensures inside { at.new ≤ length words.now }
 {

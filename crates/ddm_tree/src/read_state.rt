@@ -22,7 +22,9 @@ impl<const WORDS: usize, C: Subtree<WORDS> + Drop> Parts<WORDS, C> {
     fn read_words(self, retired: u32, words: &[u32], from: u32) -> Result<(Self, u32), StateRefusal>
         requires few { length words.now < 2 ^ 32 }
         requires inside { from ≤ length words.now }
-        ensures read { IfOk result (λ r. read_words self retired from (drop from words.now) ≡ Ok (record { value = r.0; at = r.1; rest = drop r.1 words.now })) }
+        ensures read { IfOk result
+            (λ r. read_words self retired from (drop from words.now)
+            ≡ Ok (record { value = r.0; at = r.1; rest = drop r.1 words.now })) }
         ensures refused { IfErr result (λ e. e ≢ WantOfMemory → read_words self retired from (drop from words.now) ≡ Err e) }
         ensures inside { IfOk result (λ r. r.1 ≤ length words.now) }
         ensures many { IfOk result (λ r. length r.0.ops < 2 ^ 32) }
@@ -81,8 +83,12 @@ impl<const WORDS: usize, C: Subtree<WORDS> + Drop> Machine<WORDS, C> {
         requires few { length words.now < 2 ^ 32 }
         requires head { 8 < length words.now }
         requires inside { from ≤ length words.now }
-        ensures read { IfOk result (λ r. read_state fresh.machine (slice_index words.now 8) from (drop from words.now) ≡ Ok (record { value = r.0.machine; at = r.1; rest = drop r.1 words.now })) }
-        ensures refused { IfErr result (λ e. e ≢ WantOfMemory → read_state fresh.machine (slice_index words.now 8) from (drop from words.now) ≡ Err e) }
+        ensures read { IfOk result
+            (λ r. read_state fresh.machine (slice_index words.now 8) from (drop from words.now)
+            ≡ Ok (record { value = r.0.machine; at = r.1; rest = drop r.1 words.now })) }
+        ensures refused { IfErr result
+            (λ e. e ≢ WantOfMemory →
+            read_state fresh.machine (slice_index words.now 8) from (drop from words.now) ≡ Err e) }
         ensures frame { IfOk result (λ r. frame_of r.0.machine ≡ frame_of fresh.machine) }
         ensures room { IfOk result (λ r. r.0.spare ≡ 0) }
         ensures turns { IfOk result (λ r. r.0.turns ≡ 1048576) }

@@ -23,7 +23,11 @@ pub(crate) fn stamps_fit_under<const WORDS: usize, P: Parent<WORDS>, C: Subtree<
 ) -> bool
     requires leads { Leads (bus_of_number bus) path.now (dir_node (P.state parent.now) (nodes (map C.value children.now))) }
     requires on { 0 < length path.now }
-    ensures { (s : Stamp) → result ≡ node_stamps_fit (present_at path.now s (dir_node (P.state parent.now) (nodes (map C.value children.now)))) (node_at path.now (dir_node (P.state parent.now) (nodes (map C.value children.now)))) }
+    ensures { (s : Stamp) →
+        result
+        ≡ node_stamps_fit
+        (present_at path.now s (dir_node (P.state parent.now) (nodes (map C.value children.now))))
+        (node_at path.now (dir_node (P.state parent.now) (nodes (map C.value children.now)))) }
 {
     let (part, rest) = next(parent, children, Named::Bus(bus), path);
     let present = parent.stamp();

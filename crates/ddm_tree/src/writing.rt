@@ -45,7 +45,10 @@ pub(crate) fn write_hart_under<const WORDS: usize, P: Parent<WORDS>, C: Subtree<
     out: &mut Vec<u32>,
 ) -> Result<(), NoMemory>
     requires leads { Leads (leaf_of_number leaf) path.now (dir_node (P.state parent.now) (nodes (map C.value children.now))) }
-    ensures ok { OnOk result (Adds out.old.items out.new.items (node_words hart_words (node_at path.now (dir_node (P.state parent.now) (nodes (map C.value children.now)))))) }
+    ensures ok { OnOk result
+        (Adds out.old.items out.new.items
+        (node_words hart_words
+        (node_at path.now (dir_node (P.state parent.now) (nodes (map C.value children.now)))))) }
     ensures err { OnErr result (Begins out.old.items out.new.items) }
 {
     let (child, rest) = next(parent, children, Named::Leaf(leaf), path);
@@ -61,7 +64,10 @@ pub(crate) fn write_leaf_under<const WORDS: usize, P: Parent<WORDS>, C: Subtree<
     out: &mut Vec<u32>,
 ) -> Result<(), NoMemory>
     requires leads { Leads (leaf_of_number leaf) path.now (dir_node (P.state parent.now) (nodes (map C.value children.now))) }
-    ensures ok { OnOk result (Adds out.old.items out.new.items (node_words leaf_words (node_at path.now (dir_node (P.state parent.now) (nodes (map C.value children.now)))))) }
+    ensures ok { OnOk result
+        (Adds out.old.items out.new.items
+        (node_words leaf_words
+        (node_at path.now (dir_node (P.state parent.now) (nodes (map C.value children.now)))))) }
     ensures err { OnErr result (Begins out.old.items out.new.items) }
 {
     let (child, rest) = next(parent, children, Named::Leaf(leaf), path);
@@ -78,7 +84,9 @@ pub(crate) fn write_part_under<const WORDS: usize, P: Parent<WORDS>, C: Subtree<
 ) -> Result<(), NoMemory>
     requires leads { Leads (bus_of_number bus) path.now (dir_node (P.state parent.now) (nodes (map C.value children.now))) }
     requires on { 0 < length path.now }
-    ensures ok { OnOk result (Adds out.old.items out.new.items (node_dir_words (node_at path.now (dir_node (P.state parent.now) (nodes (map C.value children.now)))))) }
+    ensures ok { OnOk result
+        (Adds out.old.items out.new.items
+        (node_dir_words (node_at path.now (dir_node (P.state parent.now) (nodes (map C.value children.now)))))) }
     ensures err { OnErr result (Begins out.old.items out.new.items) }
 {
     let (child, rest) = next(parent, children, Named::Bus(bus), path);
@@ -170,7 +178,9 @@ impl<const WORDS: usize, C: Subtree<WORDS>> Machine<WORDS, C> {
     }
 
     fn write_buses(&self, out: &mut Vec<u32>) -> Result<(), NoMemory>
-        ensures ok { OnOk result (Adds out.old.items out.new.items (flat_map (bus_words self.now.machine) (range_with_len 0 (length self.now.machine.traffic)))) }
+        ensures ok { OnOk result
+            (Adds out.old.items out.new.items
+            (flat_map (bus_words self.now.machine) (range_with_len 0 (length self.now.machine.traffic)))) }
         ensures err { OnErr result (Begins out.old.items out.new.items) }
     {
         for bus in 0..self.counts().buses {

@@ -1,5 +1,6 @@
 -- The code: a finite map from word address to word, as the list of its entries in order of address.
-use Rattle.std.specs.Prelude.{◌≡◌, ℕ, ◌+◌, ◌*◌, ◌<◌, ◌≤◌, nat_eq, nat_lt, List, [], ◌∷◌, length, Option, Some, None, if◌then◌else◌, AllPairs}
+use Rattle.std.specs.Prelude.{◌≡◌, ℕ, ◌+◌, ◌*◌, ◌<◌, ◌≤◌, nat_eq, nat_lt, List, [], ◌∷◌, length, Option, Some, None}
+use Rattle.std.specs.Prelude.{if◌then◌else◌, AllPairs}
 use Rattle.std.specs.List.{fold}
 use Rattle.ddm_types.specs.declared.code_map.CodePart.{CodePart}
 

@@ -12,7 +12,8 @@ pub record IsByteOfBoth (size address : ℕ) (s : Span) (byte : ℕ) : Type 0 wh
 abbrev pub Overlaps : ℕ → ℕ → Span → Type 0
 Overlaps size address s = (byte : ℕ) × IsByteOfBoth size address s byte
 
--- An item of `size` bytes at a multiple of `size` exists where a span overlaps it, and is writable where a writable span overlaps it; items are in order of address.
+-- An item of `size` bytes at a multiple of `size` exists where a span overlaps it, and is writable where a writable
+-- span overlaps it; items are in order of address.
 pub record AreItemsOf (size : ℕ) (spans : List Span) (t : ItemTable) : Type 0 where
   pub sized : t.size ≡ size
   pub at_multiples : All (λ row. row.address % size ≡ 0) t.rows

@@ -1,5 +1,6 @@
 -- The table of items, and which items a list of spans makes.
-use Rattle.std.specs.Prelude.{◌≡◌, ◌⊎◌, ℕ, ◌+◌, ◌-◌, ◌*◌, ◌/◌, Bool, false, ◌&&◌, nat_eq, nat_lt, nat_le, List, [], ◌∷◌, map, length, Option, position, slice_index_or, if◌then◌else◌}
+use Rattle.std.specs.Prelude.{◌≡◌, ◌⊎◌, ℕ, ◌+◌, ◌-◌, ◌*◌, ◌/◌, Bool, false, ◌&&◌, nat_eq, nat_lt, nat_le, List, []}
+use Rattle.std.specs.Prelude.{◌∷◌, map, length, Option, position, slice_index_or, if◌then◌else◌}
 use Rattle.std.specs.List.{list_any, fold, flat_map, range_with_len}
 use Rattle.ddm_types.specs.declared.sizes.Span.{Span}
 
@@ -47,7 +48,8 @@ overlaps size address s = nat_lt 0 s.bytes && (nat_lt s.start (address + size) &
 abbrev pub writes : ℕ → ℕ → Span → Bool
 writes size address s = s.writable && overlaps size address s
 
--- the items that a span overlaps, each as its address divided by the size: those from the item of its first byte to the item of its last one
+-- the items that a span overlaps, each as its address divided by the size: those from the item of its first byte to
+-- the item of its last one
 unfoldable pub span_numbers : ℕ → Span → List ℕ
 span_numbers size s =
     if nat_eq s.bytes 0 then []
@@ -66,6 +68,7 @@ item_numbers size spans = fold with_number [] (flat_map (span_numbers size) span
 abbrev pub item_row : ℕ → List Span → ℕ → ItemRow
 item_row size spans n = record { address = n * size; writable = list_any (writes size (n * size)) spans }
 
--- An item of this many bytes at a multiple of them exists where a span overlaps it, and is writable where a writable span overlaps it; items are in order of address.
+-- An item of this many bytes at a multiple of them exists where a span overlaps it, and is writable where a writable
+-- span overlaps it; items are in order of address.
 unfoldable pub items_of : ℕ → List Span → ItemTable
 items_of size spans = record { size = size; rows = map (item_row size spans) (item_numbers size spans) }

@@ -24,7 +24,9 @@ module _ (above : ℕ) where
 
   -- none is before the stamp that was taken over, or past the present one, and none falls
   abbrev pub stamps_among : Stamp → Stamp → DirValue → Statement
-  stamps_among taken present d = both (is_not (stamp_before present taken)) (both (each (stands_between taken present) d.down) (each_pair may_follow d.down))
+  stamps_among taken present d =
+      both (is_not (stamp_before present taken))
+      (both (each (stands_between taken present) d.down) (each_pair may_follow d.down))
 
 -- where the bus above has this present stamp
 unfoldable pub stamps_fit : Stamp → DirValue → Bool

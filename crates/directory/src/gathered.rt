@@ -21,7 +21,8 @@ pub(crate) fn with_entry<const WORDS: usize>(
     place: u32,
 )
     requires { place < length down.now.list }
-    ensures { (e : DownValue) (q : List TxKind) → slice_get down.now.list place ≡ Some e → facts.old ≡ facts_of q → facts.new ≡ facts_of (if nat_eq item e.item then q ++ e.kind ∷ [] else q) }
+    ensures { (e : DownValue) (q : List TxKind) → slice_get down.now.list place ≡ Some e →
+        facts.old ≡ facts_of q → facts.new ≡ facts_of (if nat_eq item e.item then q ++ e.kind ∷ [] else q) }
 {
     match down.get(place) {
         Some(entry) if item == entry.item => facts.push(entry.kind),
@@ -52,7 +53,9 @@ pub(crate) fn with_request(
     place: u32,
 )
     requires { place < length requests.now.list }
-    ensures { (r : TxKind × ℕ) (rs : List TxKind) → slice_get requests.now.list place ≡ Some r → facts.old ≡ request_facts rs → facts.new ≡ request_facts (if nat_eq item r.1 then rs ++ r.0 ∷ [] else rs) }
+    ensures { (r : TxKind × ℕ) (rs : List TxKind) → slice_get requests.now.list place ≡ Some r →
+        facts.old ≡ request_facts rs →
+        facts.new ≡ request_facts (if nat_eq item r.1 then rs ++ r.0 ∷ [] else rs) }
 {
     match requests.get(place) {
         Some(request) if item == request.1 => facts.push(request.0),

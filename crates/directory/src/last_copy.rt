@@ -17,7 +17,8 @@ pub(crate) fn later_copy<const WORDS: usize>(
     before: Option<(u32, Words<WORDS>)>,
 ) -> Option<(u32, Words<WORDS>)>
     requires { place < length down.now.list }
-    ensures { (e : DownValue) → slice_get down.now.list place ≡ Some e → result ≡ (if nat_eq item e.item && brings_copy e.kind then Some (place, e.words) else before.entry) }
+    ensures { (e : DownValue) → slice_get down.now.list place ≡ Some e →
+        result ≡ (if nat_eq item e.item && brings_copy e.kind then Some (place, e.words) else before.entry) }
 {
     match down.get(place) {
         Some(entry) if item == entry.item && brings_copy(entry.kind) => Some((place, entry.words)),

@@ -4,7 +4,8 @@ ghost use Rattle.std.specs.Prelude.{◌≡◌, ℕ, ◌<◌, ◌^◌, Bool, Opti
 ghost use Rattle.directory.specs.TreeModel.State.Values.{DirItem, absent_item};
 ghost use Rattle.directory.specs.TreeModel.State.Directory.{is_up_read, note_why, joined_by};
 ghost use Rattle.directory.specs.ItemStates.Parts.{note_of, joined_in, NamesChild};
-ghost use Rattle.directory.specs.Packed.{hold_bits, note_bits, answering_bits, packed_item, unpacked_item, hold_in, noted, note_in, note_with, IsPacked};
+ghost use Rattle.directory.specs.Packed.{hold_bits, note_bits, answering_bits, packed_item, unpacked_item, hold_in};
+ghost use Rattle.directory.specs.Packed.{noted, note_in, note_with, IsPacked};
 
 use crate::of_ddm_types::{ChildNo, Hold, PendingWhy};
 use std::marker::Model;

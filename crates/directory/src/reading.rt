@@ -1,12 +1,15 @@
 //! The words of a directory are read back.
 
-ghost use Rattle.std.specs.Prelude.{◌≡◌, ℕ, ◌<◌, ◌≤◌, ◌^◌, ◌+◌, ◌&&◌, ◌||◌, not, nat_eq, nat_le, nat_lt, false, [], None, Some, Ok, Err, drop, length, map, replicate, IfErr, IfOk, OnOk, if◌then◌else◌};
+ghost use Rattle.std.specs.Prelude.{◌≡◌, ℕ, ◌<◌, ◌≤◌, ◌^◌, ◌+◌, ◌&&◌, ◌||◌, not, nat_eq, nat_le, nat_lt, false, []};
+ghost use Rattle.std.specs.Prelude.{None, Some, Ok, Err, drop, length, map, replicate, IfErr, IfOk, OnOk};
+ghost use Rattle.std.specs.Prelude.{if◌then◌else◌};
 ghost use Rattle.directory.specs.TreeModel.State.Values.{absent_item};
 ghost use Rattle.directory.specs.ItemStates.Parts.{note_of, NamesChild};
 ghost use Rattle.directory.specs.StateWords.Parts.{is_recorded};
 ghost use Rattle.directory.specs.StateReading.Gives.{Gives, IsRead};
 ghost use Rattle.directory.specs.StateReading.Reading.{and_then, any_word, times, word_that};
-ghost use Rattle.directory.specs.StateReading.Parts.{at_rest, comes_after, hold_of, joins_fit, note_of_words, read_dir, read_record, read_records, word_to};
+ghost use Rattle.directory.specs.StateReading.Parts.{at_rest, comes_after, hold_of, joins_fit, note_of_words};
+ghost use Rattle.directory.specs.StateReading.Parts.{read_dir, read_record, read_records, word_to};
 ghost use Rattle.directory.specs.Packed.{note_with};
 
 use crate::of_ddm_types::{ChildNo, Hold, ItemId, PendingWhy};
@@ -85,7 +88,9 @@ fn child_word(words: &[u32], at: &mut u32, kind: u32, children: u32) -> Result<u
     requires few { length words.now < 2 ^ 32 }
     requires inside { at.old ≤ length words.now }
     requires children { children ≤ 16 }
-    ensures read { Gives (word_that (λ w. if nat_eq kind 0 then nat_eq w 0 else nat_lt w children) at.old (drop at.old words.now)) words.now at.new result }
+    ensures read { Gives
+        (word_that (λ w. if nat_eq kind 0 then nat_eq w 0 else nat_lt w children) at.old (drop at.old words.now))
+        words.now at.new result }
     ensures below { IfOk result (λ w. w < 16) }
     ensures inside { at.new ≤ length words.now }
 {
@@ -113,7 +118,9 @@ fn joined_word(
     requires inside { at.old ≤ length words.now }
     requires children { children ≤ 16 }
     requires child { child < 16 }
-    ensures read { Gives (word_that (λ w. if nat_eq kind 1 || nat_eq kind 2 then joins_fit children child w else nat_eq w 0) at.old (drop at.old words.now)) words.now at.new result }
+    ensures read { Gives
+        (word_that (λ w. if nat_eq kind 1 || nat_eq kind 2 then joins_fit children child w else nat_eq w 0)
+        at.old (drop at.old words.now)) words.now at.new result }
     ensures below { IfOk result (λ w. w < 65536) }
     ensures inside { at.new ≤ length words.now }
 {
@@ -140,8 +147,18 @@ fn kept_word(
     requires few { length words.now < 2 ^ 32 }
     requires inside { at.old ≤ length words.now }
     requires blank { blank.answering ≡ false }
-    ensures read { IfOk result (λ i. (w : ℕ) × (word_that (λ w. nat_le w 1 && (not top || nat_eq w 0) && is_recorded top (record blank { answering = nat_eq w 1 })) at.old (drop at.old words.now) ≡ Ok (record { value = w; at = at.new; rest = drop at.new words.now })) × (i ≡ record blank { answering = nat_eq w 1 })) }
-    ensures refused { IfErr result (λ e. word_that (λ w. nat_le w 1 && (not top || nat_eq w 0) && is_recorded top (record blank { answering = nat_eq w 1 })) at.old (drop at.old words.now) ≡ Err e) }
+    ensures read { IfOk result
+        (λ i. (w : ℕ)
+        × (word_that
+        (λ w. nat_le w 1 && (not top || nat_eq w 0)
+        && is_recorded top (record blank { answering = nat_eq w 1 })) at.old (drop at.old words.now)
+        ≡ Ok (record { value = w; at = at.new; rest = drop at.new words.now }))
+        × (i ≡ record blank { answering = nat_eq w 1 })) }
+    ensures refused { IfErr result
+        (λ e. word_that
+        (λ w. nat_le w 1 && (not top || nat_eq w 0)
+        && is_recorded top (record blank { answering = nat_eq w 1 })) at.old (drop at.old words.now)
+        ≡ Err e) }
     ensures inside { at.new ≤ length words.now }
 {
     let answering = look(words, *at)?;
@@ -175,8 +192,18 @@ impl ItemTable {
         requires inside { at.old ≤ length words.now }
         requires items { length self.old < 2 ^ 32 }
         requires children { children ≤ 16 }
-        ensures read { IfOk result (λ x. read_record (length self.old) children top (record { last = last; items = self.old }) at.old (drop at.old words.now) ≡ Ok (record { value = record { last = Some x; items = self.new }; at = at.new; rest = drop at.new words.now })) }
-        ensures refused { IfErr result (λ e. read_record (length self.old) children top (record { last = last; items = self.old }) at.old (drop at.old words.now) ≡ Err e) }
+        ensures read { IfOk result
+            (λ x. read_record (length self.old) children top (record { last = last; items = self.old }) at.old
+            (drop at.old words.now)
+            ≡ Ok (record {
+              value = record { last = Some x; items = self.new };
+              at = at.new;
+              rest = drop at.new words.now;
+            })) }
+        ensures refused { IfErr result
+            (λ e. read_record (length self.old) children top (record { last = last; items = self.old }) at.old
+            (drop at.old words.now)
+            ≡ Err e) }
         ensures inside { at.new ≤ length words.now }
         ensures items { length self.new ≡ length self.old }
     {
@@ -204,7 +231,13 @@ impl ItemTable {
         requires inside { at.old ≤ length words.now }
         requires items { length self.old < 2 ^ 32 }
         requires children { children ≤ 16 }
-        ensures read { IfOk result (λ last. read_records (length self.old) children top at.old (drop at.old words.now) ≡ Ok (record { value = record { last = last; items = self.new }; at = at.new; rest = drop at.new words.now })) }
+        ensures read { IfOk result
+            (λ last. read_records (length self.old) children top at.old (drop at.old words.now)
+            ≡ Ok (record {
+              value = record { last = last; items = self.new };
+              at = at.new;
+              rest = drop at.new words.now;
+            })) }
         ensures refused { IfErr result (λ e. read_records (length self.old) children top at.old (drop at.old words.now) ≡ Err e) }
         ensures inside { at.new ≤ length words.now }
         ensures items { length self.new ≡ length self.old }

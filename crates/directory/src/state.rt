@@ -1,6 +1,8 @@
 //! The state of a directory.
 
-ghost use Rattle.std.specs.Prelude.{◌≡◌, ℕ, ◌+◌, ◌<◌, ◌≤◌, ◌^◌, false, true, List, [], length, map, replicate, Option, None, option_copied, option_map, slice_get, IfOk, IfSome, is_some, unwrap_or};
+ghost use Rattle.std.specs.Prelude.{◌≡◌, ℕ, ◌+◌, ◌<◌, ◌≤◌, ◌^◌, false, true, List, [], length, map, replicate};
+ghost use Rattle.std.specs.Prelude.{Option, None, option_copied, option_map, slice_get, IfOk, IfSome, is_some};
+ghost use Rattle.std.specs.Prelude.{unwrap_or};
 ghost use Rattle.directory.specs.DdmTypes.declared.sizes.Hold.TheVariants.{Exclusive};
 ghost use Rattle.directory.specs.TreeModel.State.Values.{DirValue, absent_item};
 ghost use Rattle.directory.specs.TreeModel.State.Directory.{parked_place, queue_of, with_hold};
@@ -47,7 +49,13 @@ impl<const WORDS: usize> Model for DirState<WORDS> {
     ghost view = { λ d. record {
       bus = d.bus;
       level = d.level;
-      sizes = record { down_room = d.down.capacity; request_room = d.requests.capacity; reply_room = d.replies.capacity; parking_room = d.parking.capacity; width = WORDS };
+      sizes = record {
+        down_room = d.down.capacity;
+        request_room = d.requests.capacity;
+        reply_room = d.replies.capacity;
+        parking_room = d.parking.capacity;
+        width = WORDS;
+      };
       items = d.kept;
       down = d.down.list;
       requests = map request_of d.requests.list;

@@ -124,7 +124,10 @@ impl ItemTable {
     pub fn join(&mut self, item: ItemId, child: ChildNo)
         requires in_range { item < length self.old }
         requires child { child < 16 }
-        ensures { self.new ≡ slice_set self.old item (record (slice_index_or self.old item absent_item) { note = joined_by child (slice_index_or self.old item absent_item).note }) }
+        ensures { self.new
+            ≡ slice_set self.old item
+            (record (slice_index_or self.old item absent_item)
+            { note = joined_by child (slice_index_or self.old item absent_item).note }) }
     {
         self.put(item, self.at(item).with_joined(child));
     }

@@ -1,12 +1,18 @@
 //! A directory as a child of the bus above it.
 
-ghost use Rattle.std.specs.Prelude.{◌≡◌, ℕ, ◌+◌, ◌<◌, ◌++◌, ◌∷◌, [], Bool, false, true, not, ◌&&◌, ◌||◌, length, replicate, Option, None, IfSome, is_some, option_map, unwrap_or, if◌then◌else◌};
+ghost use Rattle.std.specs.Prelude.{◌≡◌, ℕ, ◌+◌, ◌<◌, ◌++◌, ◌∷◌, [], Bool, false, true, not, ◌&&◌, ◌||◌, length};
+ghost use Rattle.std.specs.Prelude.{replicate, Option, None, IfSome, is_some, option_map, unwrap_or, if◌then◌else◌};
 ghost use Rattle.directory.specs.DdmTypes.declared.answers.TxKind.TheVariants.{ReadTx, DataTx, EraseTx, ExclusiveTx, InjectTx};
 ghost use Rattle.directory.specs.TreeModel.State.Lists.{first_of, rest_of};
 ghost use Rattle.directory.specs.TreeModel.State.States.{is_held};
 ghost use Rattle.directory.specs.TreeModel.State.Values.{DirValue};
 ghost use Rattle.directory.specs.TreeModel.State.Child.{dir_full_for};
-ghost use Rattle.directory.specs.TreeModel.State.Directory.{dir_hold, dir_waits, dir_room, dir_leaving, inject_has_place, open_read, in_down, pending, pending_by, down_full, parking_full, parked_words, pushed_down, struck, dir_lose, dir_take_data, dir_take_exclusive, dir_answer, dir_take_inject, dir_give_up};
+ghost use Rattle.directory.specs.TreeModel.State.Directory.{dir_hold, dir_waits, dir_room, dir_leaving};
+ghost use Rattle.directory.specs.TreeModel.State.Directory.{inject_has_place, open_read, in_down, pending};
+ghost use Rattle.directory.specs.TreeModel.State.Directory.{pending_by, down_full, parking_full, parked_words};
+ghost use Rattle.directory.specs.TreeModel.State.Directory.{pushed_down, struck, dir_lose, dir_take_data};
+ghost use Rattle.directory.specs.TreeModel.State.Directory.{dir_take_exclusive, dir_answer, dir_take_inject};
+ghost use Rattle.directory.specs.TreeModel.State.Directory.{dir_give_up};
 ghost use Rattle.directory.specs.ItemStates.Parts.{request_pair, copy_pair};
 
 use crate::DirState;

@@ -1,6 +1,7 @@
 -- Files whose fields contradict each other or the limits.
 use Rattle.std.specs.Prelude.{◌≡◌, [], ◌∷◌, Err}
-use Rattle.elf_load.specs.declared.refusal.ImageRefusal.TheVariants.{WrongClass, TooManyHeaders, HeaderOutside, Dynamic, SegmentsOverlap, NoSegments, BadEntry}
+use Rattle.elf_load.specs.declared.refusal.ImageRefusal.TheVariants.{WrongClass, TooManyHeaders, HeaderOutside}
+use Rattle.elf_load.specs.declared.refusal.ImageRefusal.TheVariants.{Dynamic, SegmentsOverlap, NoSegments, BadEntry}
 use Rattle.elf_load.specs.SmallFile.{small_file, changed_at, read_small}
 
 -- places: 4 class, 18 machine, 24 entry, 28 table, 42 header size, 44 header count; the headers at 52 and 84

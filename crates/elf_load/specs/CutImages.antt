@@ -13,4 +13,7 @@ refused count r = replicate count (Err r)
 pub record CutImages : Type 0 where
   pub file_length : length small_file ≡ 144
   -- its first bytes alone, for each number of them below 144
-  pub refusals : map (λ (n : ℕ). read_small (take n small_file)) (range_with_len 0 144) ≡ refused 52 NotElf ++ refused 32 (HeaderOutside 0) ++ refused 32 (HeaderOutside 1) ++ refused 28 (SegmentOutside 0)
+  pub refusals :
+      map (λ (n : ℕ). read_small (take n small_file)) (range_with_len 0 144)
+      ≡ refused 52 NotElf ++ refused 32 (HeaderOutside 0) ++ refused 32 (HeaderOutside 1)
+      ++ refused 28 (SegmentOutside 0)

@@ -1,5 +1,7 @@
 -- The image of an ELF file's bytes, or the first refusal: 32 bits, little-endian, executable, RISC-V.
-use Rattle.std.specs.Prelude.{ℕ, ◌+◌, ◌*◌, Bool, true, false, not, ◌&&◌, ◌||◌, nat_eq, nat_lt, List, [], ◌∷◌, ◌++◌, map, length, take, drop, filter, sum_by, find, Option, Some, None, is_none, Result, Ok, Err, slice_index, bit_and, if◌then◌else◌}
+use Rattle.std.specs.Prelude.{ℕ, ◌+◌, ◌*◌, Bool, true, false, not, ◌&&◌, ◌||◌, nat_eq, nat_lt, List, [], ◌∷◌, ◌++◌}
+use Rattle.std.specs.Prelude.{map, length, take, drop, filter, sum_by, find, Option, Some, None, is_none, Result, Ok}
+use Rattle.std.specs.Prelude.{Err, slice_index, bit_and, if◌then◌else◌}
 use Rattle.std.specs.List.{range_with_len}
 use Rattle.byteorder.specs.Endian.{little_number}
 use Rattle.elf_load.specs.DdmTypes.ItemTable.{item_count, items_of}
@@ -169,7 +171,8 @@ header_refusal file_length earlier h = first_refusal (
 -- header by header
 unfoldable pub headers_refusal : ℕ → List ProgramHeader → List ProgramHeader → Option ImageRefusal
 headers_refusal file_length earlier [] = None
-headers_refusal file_length earlier (h ∷ hs) = first_some (header_refusal file_length earlier h) (headers_refusal file_length (earlier ++ h ∷ []) hs)
+headers_refusal file_length earlier (h ∷ hs) =
+    first_some (header_refusal file_length earlier h) (headers_refusal file_length (earlier ++ h ∷ []) hs)
 
 -- ---- the image
 
@@ -211,7 +214,9 @@ code_refusal loaded = first_refusal (
     [])
 
 unfoldable pub items_refusal : ℕ → List ProgramHeader → Option ImageRefusal
-items_refusal item_bytes loaded = refused_if (nat_lt 65536 (items_met item_bytes loaded)) (ImageRefusal.TooManyItems (items_met item_bytes loaded))
+items_refusal item_bytes loaded =
+    refused_if (nat_lt 65536 (items_met item_bytes loaded))
+    (ImageRefusal.TooManyItems (items_met item_bytes loaded))
 
 abbrev pub code_then_items : Option ImageRefusal → ℕ → List ProgramHeader → Option ImageRefusal
 code_then_items (Some r) item_bytes loaded = Some r

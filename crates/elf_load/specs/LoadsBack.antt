@@ -33,4 +33,6 @@ loaded_back segments = filter has_size (numbered_from 0 segments)
 -- an image that is read of a written one has its entry and its segments
 abbrev pub LoadsBack : Type 0
 LoadsBack =
-    (item_bytes entry : ℕ) (segments : List SegmentValue) (image : ImageValue) → IsWritable entry segments → image_of item_bytes (written_image entry segments) ≡ Ok image → image ≡ image_value entry (loaded_back segments)
+    (item_bytes entry : ℕ) (segments : List SegmentValue) (image : ImageValue) → IsWritable entry segments →
+    image_of item_bytes (written_image entry segments) ≡ Ok image →
+    image ≡ image_value entry (loaded_back segments)

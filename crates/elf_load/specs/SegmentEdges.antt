@@ -19,7 +19,9 @@ pub record SegmentEdges : Type 0 where
   pub last_bytes : read_with (blank_segment 1 0xfffffff0 16 6 ∷ []) ≡ Ok (image_with (blank_segment 1 0xfffffff0 16 6 ∷ []))
   pub past_the_last : read_with (blank_segment 1 0xfffffff0 17 6 ∷ []) ≡ Err (AddressWraps 1)
   -- a segment of no memory is left out, and the headers behind it keep their numbers
-  pub no_memory : read_with (blank_segment 1 0x10004 0 6 ∷ blank_segment 2 0x20000 16 6 ∷ []) ≡ Ok (image_with (blank_segment 2 0x20000 16 6 ∷ []))
+  pub no_memory :
+      read_with (blank_segment 1 0x10004 0 6 ∷ blank_segment 2 0x20000 16 6 ∷ [])
+      ≡ Ok (image_with (blank_segment 2 0x20000 16 6 ∷ []))
   -- segments that touch don't overlap, and those with one common byte do
   pub touching : read_with (blank_segment 1 0x1001c 16 6 ∷ []) ≡ Ok (image_with (blank_segment 1 0x1001c 16 6 ∷ []))
   pub one_common_byte : read_with (blank_segment 1 0x1001b 16 6 ∷ []) ≡ Err (SegmentsOverlap 0 1)

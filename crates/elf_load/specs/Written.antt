@@ -15,9 +15,12 @@ words ns = flat_map (little_bytes 4) ns
 abbrev pub identity : List ℕ
 identity = 0x7f ∷ 0x45 ∷ 0x4c ∷ 0x46 ∷ 1 ∷ 1 ∷ 1 ∷ 0 ∷ 0 ∷ 0 ∷ 0 ∷ 0 ∷ 0 ∷ 0 ∷ 0 ∷ 0 ∷ []
 
--- executable, RISC-V, version 1, entry, the program headers behind this header, no sections, no flags, the sizes of both headers, how many, no sections
+-- executable, RISC-V, version 1, entry, the program headers behind this header, no sections, no flags, the sizes of
+-- both headers, how many, no sections
 unfoldable pub file_header : ℕ → ℕ → List ℕ
-file_header entry count = identity ++ halves (2 ∷ 243 ∷ []) ++ words (1 ∷ entry ∷ 52 ∷ 0 ∷ 0 ∷ []) ++ halves (52 ∷ 32 ∷ count ∷ 0 ∷ 0 ∷ 0 ∷ [])
+file_header entry count =
+    identity ++ halves (2 ∷ 243 ∷ []) ++ words (1 ∷ entry ∷ 52 ∷ 0 ∷ 0 ∷ [])
+    ++ halves (52 ∷ 32 ∷ count ∷ 0 ∷ 0 ∷ 0 ∷ [])
 
 -- type, offset, vaddr, paddr, filesz, memsz, flags, align
 unfoldable pub program_header : ℕ → SegmentValue → List ℕ
@@ -32,4 +35,6 @@ unfoldable pub segment_bytes : List SegmentValue → List ℕ
 segment_bytes segments = flat_map (λ (s : SegmentValue). s.bytes) segments
 
 unfoldable pub written_image : ℕ → List SegmentValue → List ℕ
-written_image entry segments = file_header entry (length segments) ++ program_headers (52 + 32 * length segments) segments ++ segment_bytes segments
+written_image entry segments =
+    file_header entry (length segments) ++ program_headers (52 + 32 * length segments) segments
+    ++ segment_bytes segments

@@ -1,6 +1,7 @@
 //! The code of an image.
 
-ghost use Rattle.std.specs.Prelude.{◌≡◌, ◌&&◌, nat_lt, ◌+◌, ◌*◌, ◌^◌, ◌<◌, ◌≤◌, ℕ, All, AllPairs, IfOk, [], ◌∷◌, slice_index_or, vec_capacity};
+ghost use Rattle.std.specs.Prelude.{◌≡◌, ◌&&◌, nat_lt, ◌+◌, ◌*◌, ◌^◌, ◌<◌, ◌≤◌, ℕ, All, AllPairs, IfOk, [], ◌∷◌};
+ghost use Rattle.std.specs.Prelude.{slice_index_or, vec_capacity};
 ghost use Rattle.tree_model.specs.Start.Memory.{byte_at, memory_word, start_code};
 ghost use Rattle.tree_model.specs.Start.Sources.{is_executable};
 ghost use Rattle.elf_load.specs.ImageRule.{AreApart, EndsInside, HasMemory};

@@ -2,7 +2,8 @@
 
 ghost use Rattle.std.specs.Prelude.{◌≡◌, ℕ, ◌+◌, ◌<◌, ◌≤◌, IfNone, IsTrue, length, find};
 ghost use Rattle.std.specs.List.{range_with_len};
-ghost use Rattle.elf_load.specs.ElfFile.{file_refusal, flags_refusal, has_bit, is_elf, is_outside, is_right_class, kind_refusal, table_refusal};
+ghost use Rattle.elf_load.specs.ElfFile.{file_refusal, flags_refusal, has_bit, is_elf, is_outside, is_right_class};
+ghost use Rattle.elf_load.specs.ElfFile.{kind_refusal, table_refusal};
 ghost use Rattle.elf_load.specs.HeaderRule.{HasTable};
 
 use crate::fields::{half_at, word_in};

@@ -1,7 +1,8 @@
 //! The rules for program headers.
 
 ghost use Rattle.std.specs.Prelude.{◌≡◌, ◌+◌, [], find, filter};
-ghost use Rattle.elf_load.specs.ElfFile.{bytes_outside, has_memory, header_refusal, headers_refusal, is_dynamic, is_load, meets, overlap_with, wraps};
+ghost use Rattle.elf_load.specs.ElfFile.{bytes_outside, has_memory, header_refusal, headers_refusal, is_dynamic};
+ghost use Rattle.elf_load.specs.ElfFile.{is_load, meets, overlap_with, wraps};
 
 use crate::headers::ProgramHeader;
 use crate::refusal::{ImageRefusal, first_refusal, refused_if};

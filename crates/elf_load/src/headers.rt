@@ -2,7 +2,9 @@
 
 ghost use Rattle.std.specs.Prelude.{◌≡◌, ℕ, ◌+◌, ◌<◌, ◌≤◌, All, AllPairs, IfOk, OnOk, length, false, map, None};
 ghost use Rattle.elf_load.specs.DdmTypes.ItemTable.{IsItemSize};
-ghost use Rattle.elf_load.specs.ElfFile.{code_bytes, code_refusal, has_memory, header_at, header_count, header_place, header_refusal, header_span, headers_of, headers_refusal, items_met, loaded_headers, meets};
+ghost use Rattle.elf_load.specs.ElfFile.{code_bytes, code_refusal, has_memory, header_at, header_count, header_place};
+ghost use Rattle.elf_load.specs.ElfFile.{header_refusal, header_span, headers_of, headers_refusal, items_met};
+ghost use Rattle.elf_load.specs.ElfFile.{loaded_headers, meets};
 ghost use Rattle.elf_load.specs.HeaderRule.{HasTable, IsLoadable};
 
 use crate::fields::{half_at, word_in};

@@ -4,7 +4,9 @@ use Rattle.ddm_types.specs.declared.keys.Key.{Key}
 use Rattle.ddm_types.specs.declared.operations.Effect.{Effect}
 use Rattle.ddm_types.specs.declared.operations.Effect.TheVariants.{Plain, Put, Load, Store, Lr, ScOk, ScFail, Amo}
 use Rattle.ddm_types.specs.declared.operations.HaltCause.{HaltCause}
-use Rattle.ddm_types.specs.declared.operations.HaltCause.TheVariants.{Exit, Illegal, Breakpoint, UnknownCall, MisalignedTarget, FetchOutside, MisalignedAccess, LoadOutside, StoreOutside}
+use Rattle.ddm_types.specs.declared.operations.HaltCause.TheVariants.{Exit, Illegal, Breakpoint, UnknownCall}
+use Rattle.ddm_types.specs.declared.operations.HaltCause.TheVariants.{MisalignedTarget, FetchOutside}
+use Rattle.ddm_types.specs.declared.operations.HaltCause.TheVariants.{MisalignedAccess, LoadOutside, StoreOutside}
 use Rattle.ddm_types.specs.declared.operations.Op.{Op}
 use Rattle.ddm_types.specs.CodeMap.{CodeWord, words_from}
 use Rattle.ddm_types.specs.ItemTable.{ItemTable}
@@ -42,7 +44,9 @@ register_at_end code items m ts h r = register (flat_hart (machine_at_end code i
 abbrev pub four_items : ItemTable
 four_items = record {
   size = 16;
-  rows = record { address = 0x10000; writable = false } ∷ record { address = 0x10010; writable = false } ∷ record { address = 0x20000; writable = true } ∷ record { address = 0x30000; writable = true } ∷ [];
+  rows =
+      record { address = 0x10000; writable = false } ∷ record { address = 0x10010; writable = false }
+      ∷ record { address = 0x20000; writable = true } ∷ record { address = 0x30000; writable = true } ∷ [];
 }
 
 abbrev pub zeros : List ℕ
@@ -60,14 +64,19 @@ abbrev pub store_and_load_code : List CodeWord
 store_and_load_code = code_of (0x000202b7 ∷ 0x00700313 ∷ 0x0062a023 ∷ 0x0002a383 ∷ 0x05d00893 ∷ 0x00038513 ∷ 0x00000073 ∷ [])
 
 abbrev pub store_and_load_start : FlatMachine
-store_and_load_start = started 1 ((0x000202b7 ∷ 0x00700313 ∷ 0x0062a023 ∷ 0x0002a383 ∷ []) ∷ (0x05d00893 ∷ 0x00038513 ∷ 0x00000073 ∷ 0 ∷ []) ∷ zeros ∷ zeros ∷ [])
+store_and_load_start =
+    started 1 ((0x000202b7 ∷ 0x00700313 ∷ 0x0062a023 ∷ 0x0002a383 ∷ [])
+    ∷ (0x05d00893 ∷ 0x00038513 ∷ 0x00000073 ∷ 0 ∷ []) ∷ zeros ∷ zeros ∷ [])
 
 abbrev pub eight_steps : List Step
 eight_steps = replicate 8 (0, false)
 
 -- The word that was stored is loaded and becomes the exit code; the halted hart answers the same again.
 abbrev pub StoreAndLoadBack : Type 0
-StoreAndLoadBack = answers store_and_load_code four_items store_and_load_start eight_steps ≡ Ok Plain ∷ Ok Plain ∷ Ok (Store 0x20000 0 7) ∷ Ok (Load 0x20000 7) ∷ Ok Plain ∷ Ok Plain ∷ Err (Exit 7) ∷ Err (Exit 7) ∷ []
+StoreAndLoadBack =
+    answers store_and_load_code four_items store_and_load_start eight_steps
+    ≡ Ok Plain ∷ Ok Plain ∷ Ok (Store 0x20000 0 7) ∷ Ok (Load 0x20000 7) ∷ Ok Plain ∷ Ok Plain ∷ Err (Exit 7)
+    ∷ Err (Exit 7) ∷ []
 
 -- the machine afterwards: x2 is the end of the stack, x11 the number of harts, pc at the ECALL
 abbrev pub StoreAndLoadEnd : Type 0
@@ -82,7 +91,9 @@ StoreAndLoadEnd =
         };
         reserved = None;
       } ∷ [];
-      words = (0x000202b7 ∷ 0x00700313 ∷ 0x0062a023 ∷ 0x0002a383 ∷ []) ∷ (0x05d00893 ∷ 0x00038513 ∷ 0x00000073 ∷ 0 ∷ []) ∷ (7 ∷ 0 ∷ 0 ∷ 0 ∷ []) ∷ zeros ∷ [];
+      words =
+          (0x000202b7 ∷ 0x00700313 ∷ 0x0062a023 ∷ 0x0002a383 ∷ [])
+          ∷ (0x05d00893 ∷ 0x00038513 ∷ 0x00000073 ∷ 0 ∷ []) ∷ (7 ∷ 0 ∷ 0 ∷ 0 ∷ []) ∷ zeros ∷ [];
     }
 
 -- a record of hart 0
@@ -93,8 +104,13 @@ op_at key pc effect = record { key = key; hart = 0; pc = pc; effect = effect }
 abbrev pub StoreAndLoadLegal : Type 0
 StoreAndLoadLegal =
     (key : Key) →
-    Legal store_and_load_code four_items store_and_load_start (op_at key 0x10000 Plain ∷ op_at key 0x10004 Plain ∷ op_at key 0x10008 (Store 0x20000 0 7) ∷ op_at key 0x1000c (Load 0x20000 7) ∷ op_at key 0x10010 Plain ∷ op_at key 0x10014 Plain ∷ [])
-    × (legal_run store_and_load_code four_items store_and_load_start (op_at key 0x10000 Plain ∷ op_at key 0x10004 Plain ∷ op_at key 0x10008 (Store 0x20000 0 7) ∷ op_at key 0x1000c (Load 0x20000 8) ∷ []) ≡ None)
+    Legal store_and_load_code four_items store_and_load_start
+    (op_at key 0x10000 Plain ∷ op_at key 0x10004 Plain ∷ op_at key 0x10008 (Store 0x20000 0 7)
+    ∷ op_at key 0x1000c (Load 0x20000 7) ∷ op_at key 0x10010 Plain ∷ op_at key 0x10014 Plain ∷ [])
+    × (legal_run store_and_load_code four_items store_and_load_start
+    (op_at key 0x10000 Plain ∷ op_at key 0x10004 Plain ∷ op_at key 0x10008 (Store 0x20000 0 7)
+    ∷ op_at key 0x1000c (Load 0x20000 8) ∷ [])
+    ≡ None)
     × (legal_run store_and_load_code four_items store_and_load_start (op_at key 0x10004 Plain ∷ op_at key 0x10000 Plain ∷ []) ≡ None)
 
 -- addi x17, x0, 1000; addi x10, x0, 72; ecall
@@ -103,7 +119,9 @@ one_byte_code = code_of (0x3e800893 ∷ 0x04800513 ∷ 0x00000073 ∷ [])
 
 -- A byte is put, and the code ends.
 abbrev pub OneByteOfOutput : Type 0
-OneByteOfOutput = answers one_byte_code four_items (started 1 (zeros ∷ zeros ∷ zeros ∷ zeros ∷ [])) (replicate 4 (0, false)) ≡ Ok Plain ∷ Ok Plain ∷ Ok (Put 0x48) ∷ Err (FetchOutside 0x1000c) ∷ []
+OneByteOfOutput =
+    answers one_byte_code four_items (started 1 (zeros ∷ zeros ∷ zeros ∷ zeros ∷ [])) (replicate 4 (0, false))
+    ≡ Ok Plain ∷ Ok Plain ∷ Ok (Put 0x48) ∷ Err (FetchOutside 0x1000c) ∷ []
 
 -- lui x5, 32; lr.w x7, (x5); sc.w x6, x7, (x5)
 abbrev pub reserve_code : List CodeWord
@@ -127,13 +145,17 @@ lost_steps = (1, false) ∷ (1, false) ∷ (0, false) ∷ (0, false) ∷ (0, tru
 -- Another hart stores in between, though the same word: the SC fails and puts 1.
 abbrev pub ReservationLost : Type 0
 ReservationLost =
-    (answers reserve_code four_items reserve_start lost_steps ≡ Ok Plain ∷ Ok (Lr 0x20000 5) ∷ Ok Plain ∷ Ok (Lr 0x20000 5) ∷ Ok (ScOk 0x20000 5 5) ∷ Ok (ScFail 0x20000) ∷ [])
+    (answers reserve_code four_items reserve_start lost_steps
+    ≡ Ok Plain ∷ Ok (Lr 0x20000 5) ∷ Ok Plain ∷ Ok (Lr 0x20000 5) ∷ Ok (ScOk 0x20000 5 5) ∷ Ok (ScFail 0x20000)
+    ∷ [])
     × (register_at_end reserve_code four_items reserve_start lost_steps 1 6 ≡ 1)
 
 -- An SC that fails, here since it was not let to store, ends its hart's reservation, and no other's.
 abbrev pub FailedConditional : Type 0
 FailedConditional =
-    (answers reserve_code four_items reserve_start failed_steps ≡ Ok Plain ∷ Ok (Lr 0x20000 5) ∷ Ok Plain ∷ Ok (Lr 0x20000 5) ∷ Ok (ScFail 0x20000) ∷ Ok (ScOk 0x20000 5 5) ∷ [])
+    (answers reserve_code four_items reserve_start failed_steps
+    ≡ Ok Plain ∷ Ok (Lr 0x20000 5) ∷ Ok Plain ∷ Ok (Lr 0x20000 5) ∷ Ok (ScFail 0x20000) ∷ Ok (ScOk 0x20000 5 5)
+    ∷ [])
     × ((flat_hart (machine_at_end reserve_code four_items reserve_start first_steps) 1).reserved ≡ Some 2)
     × ((flat_hart (machine_at_end reserve_code four_items reserve_start first_steps) 0).reserved ≡ None)
   where
@@ -199,14 +221,22 @@ abbrev pub Stores : ℕ → ℕ → ℕ → ℕ → Type 0
 Stores word v6 before after =
     (asked word (hart_with 0x20000 v6 0) ≡ NeedsExclusive 1)
     × (finished word (hart_with 0x20000 v6 0) (before ∷ 0 ∷ 0 ∷ 9 ∷ [])
-    ≡ record { effect = Store 0x20000 before after; hart = record (hart_with 0x20000 v6 0) { pc = 0x10004 }; words = after ∷ 0 ∷ 0 ∷ 9 ∷ [] })
+    ≡ record {
+      effect = Store 0x20000 before after;
+      hart = record (hart_with 0x20000 v6 0) { pc = 0x10004 };
+      words = after ∷ 0 ∷ 0 ∷ 9 ∷ [];
+    })
 
 -- the same of an atomic operation, which puts the old word in x7
 abbrev pub Amos : ℕ → ℕ → ℕ → ℕ → Type 0
 Amos word v6 before after =
     (asked word (hart_with 0x20000 v6 0) ≡ NeedsExclusive 1)
     × (finished word (hart_with 0x20000 v6 0) (before ∷ 0 ∷ 0 ∷ 9 ∷ [])
-    ≡ record { effect = Amo 0x20000 before after; hart = record (hart_with 0x20000 v6 before) { pc = 0x10004 }; words = after ∷ 0 ∷ 0 ∷ 9 ∷ [] })
+    ≡ record {
+      effect = Amo 0x20000 before after;
+      hart = record (hart_with 0x20000 v6 before) { pc = 0x10004 };
+      words = after ∷ 0 ∷ 0 ∷ 9 ∷ [];
+    })
 
 abbrev pub Results : Type 0
 Results =
@@ -268,7 +298,9 @@ OtherWords =
     × ((finished 0x0062a223 (hart_with 0x20000 9 0) (1 ∷ 2 ∷ 3 ∷ 4 ∷ [])).effect ≡ Store 0x20004 2 9)  -- sw x6, 4(x5)
     × ((finished 0x0062a223 (hart_with 0x20000 9 0) (1 ∷ 2 ∷ 3 ∷ 4 ∷ [])).words ≡ 1 ∷ 9 ∷ 3 ∷ 4 ∷ [])  -- sw x6, 4(x5)
     × ((finished 0x0002a003 (hart_with 0x20000 0 0) (1 ∷ 2 ∷ 3 ∷ 4 ∷ [])).effect ≡ Load 0x20000 1)  -- lw x0, 0(x5)
-    × ((finished 0x0002a003 (hart_with 0x20000 0 0) (1 ∷ 2 ∷ 3 ∷ 4 ∷ [])).hart.registers ≡ (hart_with 0x20000 0 0).registers)  -- lw x0, 0(x5)
+    -- lw x0, 0(x5)
+    × ((finished 0x0002a003 (hart_with 0x20000 0 0) (1 ∷ 2 ∷ 3 ∷ 4 ∷ [])).hart.registers
+    ≡ (hart_with 0x20000 0 0).registers)
 
 abbrev pub AtomicOperations : Type 0
 AtomicOperations =
@@ -288,7 +320,13 @@ AtomicOperations =
 
 -- x5 is the address and gets the old word
 abbrev pub AmoOverAddress : Type 0
-AmoOverAddress = finished 0x0062a2af (hart_with 0x20000 3 0) (4 ∷ 0 ∷ 0 ∷ 0 ∷ []) ≡ record { effect = Amo 0x20000 4 7; hart = record (hart_with 4 3 0) { pc = 0x10004 }; words = 7 ∷ 0 ∷ 0 ∷ 0 ∷ [] }
+AmoOverAddress =
+    finished 0x0062a2af (hart_with 0x20000 3 0) (4 ∷ 0 ∷ 0 ∷ 0 ∷ [])
+    ≡ record {
+      effect = Amo 0x20000 4 7;
+      hart = record (hart_with 4 3 0) { pc = 0x10004 };
+      words = 7 ∷ 0 ∷ 0 ∷ 0 ∷ [];
+    }
 
 -- a hart that calls with a number in x17 and an argument in x10
 abbrev pub calling : ℕ → ℕ → HartValue

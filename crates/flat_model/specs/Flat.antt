@@ -1,5 +1,6 @@
 -- The flat machine: all harts over one memory.
-use Rattle.std.specs.Prelude.{ℕ, Bool, true, false, ◌&&◌, nat_eq, List, [], map, Option, Some, None, Result, Ok, Err, slice_set, slice_index_or, if◌then◌else◌}
+use Rattle.std.specs.Prelude.{ℕ, Bool, true, false, ◌&&◌, nat_eq, List, [], map, Option, Some, None, Result, Ok, Err}
+use Rattle.std.specs.Prelude.{slice_set, slice_index_or, if◌then◌else◌}
 use Rattle.std.specs.List.{range_with_len}
 use Rattle.ddm_types.specs.declared.operations.Effect.{Effect}
 use Rattle.ddm_types.specs.declared.operations.HaltCause.{HaltCause}
@@ -61,7 +62,12 @@ leaving f reserved = record { effect = f.effect; after = record { hart = f.hart;
 
 -- one that stores to an item
 abbrev pub storing_to : ℕ → Finished → Option ℕ → Change
-storing_to x f reserved = record { effect = f.effect; after = record { hart = f.hart; reserved = reserved }; stored = Some (record { item = x; words = f.words }) }
+storing_to x f reserved =
+    record {
+      effect = f.effect;
+      after = record { hart = f.hart; reserved = reserved };
+      stored = Some (record { item = x; words = f.words });
+    }
 
 -- an SC, which stores or fails, and ends its hart's reservation in either case
 abbrev pub conditional : Bool → ℕ → (Bool → Finished) → Change
@@ -102,7 +108,9 @@ unless_halted (Some cause) change = Err cause
 
 -- What a hart's step does, or why it halts. An SC stores exactly where `sc_ok` holds and the hart has its item reserved.
 unfoldable pub hart_step : List CodeWord → ItemTable → FlatHart → (ℕ → List ℕ) → Bool → Result Change HaltCause
-hart_step code items g words sc_ok = unless_halted g.hart.halt (change_by (ask_of code items g.hart) g.reserved (finish_of code items g.hart) words sc_ok)
+hart_step code items g words sc_ok =
+    unless_halted g.hart.halt
+    (change_by (ask_of code items g.hart) g.reserved (finish_of code items g.hart) words sc_ok)
 
 -- ---- the machine after a step
 

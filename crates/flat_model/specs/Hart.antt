@@ -1,10 +1,16 @@
 -- One hart: what its next instruction needs, and what it does.
-use Rattle.std.specs.Prelude.{ℕ, ◌+◌, ◌-◌, ◌*◌, ◌/◌, ◌%◌, ◌^◌, nat_eq, nat_lt, min, max, Bool, true, false, not, List, [], ◌∷◌, replicate, Option, Some, None, ℤ, int_lt, bit_and, bit_or, bit_xor, slice_index, slice_set, if◌then◌else◌}
+use Rattle.std.specs.Prelude.{ℕ, ◌+◌, ◌-◌, ◌*◌, ◌/◌, ◌%◌, ◌^◌, nat_eq, nat_lt, min, max, Bool, true, false, not, List}
+use Rattle.std.specs.Prelude.{[], ◌∷◌, replicate, Option, Some, None, ℤ, int_lt, bit_and, bit_or, bit_xor}
+use Rattle.std.specs.Prelude.{slice_index, slice_set, if◌then◌else◌}
 use Rattle.std.specs.Int.{w8, w16, w32, cast_signed, cast_unsigned, int_shr, to_le_bytes, from_le_bytes, from_bool}
 use Rattle.ddm_types.specs.declared.operations.Effect.{Effect}
-use Rattle.ddm_types.specs.declared.operations.Effect.TheVariants.{Plain as PlainEffect, Put as PutEffect, Load as LoadEffect, Store as StoreEffect, Lr as LrEffect, ScOk, ScFail, Amo as AmoEffect}
+use Rattle.ddm_types.specs.declared.operations.Effect.TheVariants.{Plain as PlainEffect, Put as PutEffect}
+use Rattle.ddm_types.specs.declared.operations.Effect.TheVariants.{Load as LoadEffect, Store as StoreEffect}
+use Rattle.ddm_types.specs.declared.operations.Effect.TheVariants.{Lr as LrEffect, ScOk, ScFail, Amo as AmoEffect}
 use Rattle.ddm_types.specs.declared.operations.HaltCause.{HaltCause}
-use Rattle.ddm_types.specs.declared.operations.HaltCause.TheVariants.{Exit, Illegal, Breakpoint, UnknownCall, MisalignedTarget, FetchOutside, MisalignedAccess, LoadOutside, StoreOutside}
+use Rattle.ddm_types.specs.declared.operations.HaltCause.TheVariants.{Exit, Illegal, Breakpoint, UnknownCall}
+use Rattle.ddm_types.specs.declared.operations.HaltCause.TheVariants.{MisalignedTarget, FetchOutside}
+use Rattle.ddm_types.specs.declared.operations.HaltCause.TheVariants.{MisalignedAccess, LoadOutside, StoreOutside}
 use Rattle.ddm_types.specs.declared.sizes.Start.{Start}
 use Rattle.ddm_types.specs.CodeMap.{CodeWord, word_at}
 use Rattle.ddm_types.specs.ItemTable.{ItemTable, item_at, row_at}
@@ -20,9 +26,13 @@ use Rattle.rv_decode.specs.declared.instructions.ImmOp.TheVariants.{Addi, Slti, 
 use Rattle.rv_decode.specs.declared.instructions.RegOp.{RegOp}
 use Rattle.rv_decode.specs.declared.instructions.RegOp.TheVariants.{Add, Sub, Sll, Slt, Sltu, Xor, Srl, Sra, Or, And}
 use Rattle.rv_decode.specs.declared.instructions.AmoOp.{AmoOp}
-use Rattle.rv_decode.specs.declared.instructions.AmoOp.TheVariants.{Add as AmoAdd, Swap as AmoSwap, Xor as AmoXor, Or as AmoOr, And as AmoAnd, Min as AmoMin, Max as AmoMax, Minu as AmoMinu, Maxu as AmoMaxu}
+use Rattle.rv_decode.specs.declared.instructions.AmoOp.TheVariants.{Add as AmoAdd, Swap as AmoSwap, Xor as AmoXor}
+use Rattle.rv_decode.specs.declared.instructions.AmoOp.TheVariants.{Or as AmoOr, And as AmoAnd, Min as AmoMin}
+use Rattle.rv_decode.specs.declared.instructions.AmoOp.TheVariants.{Max as AmoMax, Minu as AmoMinu, Maxu as AmoMaxu}
 use Rattle.rv_decode.specs.declared.instructions.Instr.{Instr}
-use Rattle.rv_decode.specs.declared.instructions.Instr.TheVariants.{Lui, Auipc, Jal, Jalr, Branch, Load, Store, Immediate, Register, Fence, Ecall, Ebreak, Lr, Sc, Amo}
+use Rattle.rv_decode.specs.declared.instructions.Instr.TheVariants.{Lui, Auipc, Jal, Jalr, Branch, Load, Store}
+use Rattle.rv_decode.specs.declared.instructions.Instr.TheVariants.{Immediate, Register, Fence, Ecall, Ebreak, Lr, Sc}
+use Rattle.rv_decode.specs.declared.instructions.Instr.TheVariants.{Amo}
 use Rattle.rv_decode.specs.Table.{decode_of}
 use Rattle.flat_model.specs.declared.Ask.{Ask}
 use Rattle.flat_model.specs.declared.Ask.TheVariants.{Plain, Put, NeedsShared, NeedsExclusive, Conditional, Halt}
@@ -57,7 +67,10 @@ written h rd v = advanced (with_register h rd v)
 -- at its start: x2 is the end of its stack, x10 its number, x11 the number of harts
 unfoldable pub hart_start : Start → ℕ → HartValue
 hart_start start hart = record {
-  registers = slice_set (slice_set (slice_set (replicate 32 0) 2 ((start.stack_base + (hart + 1) * start.stack_bytes) % 2 ^ 32)) 10 hart) 11 start.harts;
+  registers =
+      slice_set
+      (slice_set (slice_set (replicate 32 0) 2 ((start.stack_base + (hart + 1) * start.stack_bytes) % 2 ^ 32))
+      10 hart) 11 start.harts;
   pc = start.entry;
   halt = None;
 }
@@ -232,7 +245,8 @@ instr_action items h (Branch op rs1 rs2 offset) =
     if is_taken op (register h rs1) (register h rs2) then jump h (offset_by h.pc offset) else Computes (advanced h)
 -- RV32I, "Load and Store Instructions"
 instr_action items h (Load op rd rs1 offset) = aligned (load_bytes op) (offset_by (register h rs1) offset) (load_at items (Loads op rd))
-instr_action items h (Store op rs1 rs2 offset) = aligned (store_bytes op) (offset_by (register h rs1) offset) (store_at items (Stores op (register h rs2)))
+instr_action items h (Store op rs1 rs2 offset) =
+    aligned (store_bytes op) (offset_by (register h rs1) offset) (store_at items (Stores op (register h rs2)))
 -- RV32I, "Memory Ordering Instructions": nothing to do
 instr_action items h (Fence rd rs1 imm) = Computes (advanced h)
 -- RV32I, "Environment Call and Breakpoints"

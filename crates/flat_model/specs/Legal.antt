@@ -1,5 +1,6 @@
 -- Legal lists of completed instructions.
-use Rattle.std.specs.Prelude.{◌≡◌, ℕ, ◌-◌, ◌/◌, ◌%◌, slice_set, All, Bool, true, false, ◌&&◌, nat_eq, List, [], ◌∷◌, fold, Option, Some, None, IsSome, unwrap_or, option_and_then, Ok, Err, if◌then◌else◌}
+use Rattle.std.specs.Prelude.{◌≡◌, ℕ, ◌-◌, ◌/◌, ◌%◌, slice_set, All, Bool, true, false, ◌&&◌, nat_eq, List, [], ◌∷◌}
+use Rattle.std.specs.Prelude.{fold, Option, Some, None, IsSome, unwrap_or, option_and_then, Ok, Err, if◌then◌else◌}
 use Rattle.ddm_types.specs.declared.operations.Effect.{Effect}
 use Rattle.ddm_types.specs.declared.operations.Effect.TheVariants.{Plain, Put, Load, Store, Lr, ScOk, ScFail, Amo}
 use Rattle.ddm_types.specs.declared.operations.Op.{Op}

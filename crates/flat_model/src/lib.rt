@@ -5,7 +5,10 @@
 pub mod of_ddm_types;
 pub mod of_rv_decode;
 
-ghost use Rattle.flat_model.specs.Examples.{StoreAndLoadBack, StoreAndLoadEnd, StoreAndLoadLegal, OneByteOfOutput, ReservationKept, ReservationLost, FailedConditional, OwnStore, Results, Jumps, BytesAndHalves, OtherWords, AtomicOperations, AmoOverAddress, Asks, Halts, EffectsOnItems};
+ghost use Rattle.flat_model.specs.Examples.{StoreAndLoadBack, StoreAndLoadEnd, StoreAndLoadLegal, OneByteOfOutput};
+ghost use Rattle.flat_model.specs.Examples.{ReservationKept, ReservationLost, FailedConditional, OwnStore, Results};
+ghost use Rattle.flat_model.specs.Examples.{Jumps, BytesAndHalves, OtherWords, AtomicOperations, AmoOverAddress};
+ghost use Rattle.flat_model.specs.Examples.{Asks, Halts, EffectsOnItems};
 
 use ddm_types::{HaltCause, ItemId};
 

@@ -52,4 +52,5 @@ IsJudged s m o (Amo address before after) = ⊤
 -- of a turn that completes an instruction
 abbrev pub ConditionalStoresJudged : Type 0
 ConditionalStoresJudged =
-    (s : FlatMachine) (m : MachineValue) (hart victim : ℕ) (o : Op) → IsShaped m → IsMachineOk m → IsTimed m → IsCore s m → (turn_of (Turn.Hart hart victim) m).answer ≡ TurnAnswer.Retired o → IsJudged s m o o.effect
+    (s : FlatMachine) (m : MachineValue) (hart victim : ℕ) (o : Op) → IsShaped m → IsMachineOk m → IsTimed m →
+    IsCore s m → (turn_of (Turn.Hart hart victim) m).answer ≡ TurnAnswer.Retired o → IsJudged s m o o.effect

@@ -23,8 +23,12 @@ StartIsOrderly = (t : TreeValue) (i : ImageValue) (m : MachineValue) → IsTree 
 
 -- the order theorem: of every tree and image from which a machine is made, and every list of turns
 abbrev pub EveryRunIsWitnessed : Type 0
-EveryRunIsWitnessed = (t : TreeValue) (i : ImageValue) (m : MachineValue) → IsTree t → start_of t i ≡ Ok m → (ts : List Turn) → EachTurnWitnessed (flat_start_of t i) ts m
+EveryRunIsWitnessed =
+    (t : TreeValue) (i : ImageValue) (m : MachineValue) → IsTree t → start_of t i ≡ Ok m → (ts : List Turn) →
+    EachTurnWitnessed (flat_start_of t i) ts m
 
 -- and at its end all rules of order hold, and those of every bus
 abbrev pub EveryRunIsInOrder : Type 0
-EveryRunIsInOrder = (t : TreeValue) (i : ImageValue) (m : MachineValue) → IsTree t → start_of t i ≡ Ok m → (ts : List Turn) → IsMachineOk (run_of ts m).machine × IsInOrder (flat_start_of t i) (run_of ts m).machine
+EveryRunIsInOrder =
+    (t : TreeValue) (i : ImageValue) (m : MachineValue) → IsTree t → start_of t i ≡ Ok m → (ts : List Turn) →
+    IsMachineOk (run_of ts m).machine × IsInOrder (flat_start_of t i) (run_of ts m).machine

@@ -6,7 +6,8 @@ use Rattle.item_states.specs.DdmTypes.declared.answers.TxKind.{TxKind}
 use Rattle.item_states.specs.DdmTypes.declared.answers.PendingWhy.{PendingWhy}
 use Rattle.item_states.specs.DdmTypes.declared.answers.QueueName.{QueueName}
 use Rattle.item_states.specs.DdmTypes.declared.keys.Stamp.{Stamp}
-use Rattle.tree_model.specs.State.Values.{RequestValue, CopyValue, Note, no_note, local, up_read, up_erase, DirValue, Node, leaf_node, dir_node}
+use Rattle.tree_model.specs.State.Values.{RequestValue, CopyValue, Note, no_note, local, up_read, up_erase, DirValue}
+use Rattle.tree_model.specs.State.Values.{Node, leaf_node, dir_node}
 use Rattle.tree_model.specs.State.Leaf.{buffered}
 use Rattle.tree_model.specs.State.Directory.{is_top, parking_full, parked_words}
 use Rattle.tree_model.specs.Turns.Grant.{own_down_full, own_requests_full, own_replies_full}

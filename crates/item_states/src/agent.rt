@@ -3,7 +3,11 @@
 ghost use Rattle.std.specs.Prelude.{◌≡◌, ℕ, ◌<◌, true, Option, Some, None, option_map, IfSome};
 ghost use Rattle.item_states.specs.DdmTypes.declared.answers.TxKind.TheVariants.{ReadTx, DataTx, EraseTx, ExclusiveTx, InjectTx};
 ghost use Rattle.tree_model.specs.State.Values.{Node};
-ghost use Rattle.tree_model.specs.State.Child.{child_hold, child_waits, child_room, reader_has_place, child_full_for, child_request, child_reply, child_leaving, pending_below, child_lose, child_take_data, child_take_exclusive, child_answer, child_take_inject, child_request_taken, child_reply_taken, child_given, child_give_up};
+ghost use Rattle.tree_model.specs.State.Child.{child_hold, child_waits, child_room, reader_has_place, child_full_for};
+ghost use Rattle.tree_model.specs.State.Child.{child_request, child_reply, child_leaving, pending_below, child_lose};
+ghost use Rattle.tree_model.specs.State.Child.{child_take_data, child_take_exclusive, child_answer};
+ghost use Rattle.tree_model.specs.State.Child.{child_take_inject, child_request_taken, child_reply_taken};
+ghost use Rattle.tree_model.specs.State.Child.{child_given, child_give_up};
 ghost use Rattle.item_states.specs.Parts.{node_items, request_pair, copy_pair, has_given};
 
 use crate::of_ddm_types::{BusNo, Hold, ItemId, PendingWhy, QueueName, Stamp, TxKind, Words};

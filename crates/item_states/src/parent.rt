@@ -4,7 +4,11 @@ ghost use Rattle.std.specs.Prelude.{◌≡◌, ◌+◌, ◌<◌, ◌^◌, false,
 ghost use Rattle.item_states.specs.DdmTypes.declared.sizes.Hold.TheVariants.{Shared};
 ghost use Rattle.tree_model.specs.State.Values.{DirValue};
 ghost use Rattle.tree_model.specs.State.Lists.{first_of, rest_of};
-ghost use Rattle.tree_model.specs.State.Directory.{is_top, dir_hold, dir_note, is_answering, with_hold, with_note, with_answering, joined_by, note_why, down_full, requests_full, replies_full, parking_full, parked_words, is_parked, pushed_request, pushed_reply, with_parked, without_parked, place_released, pending, stamp_of};
+ghost use Rattle.tree_model.specs.State.Directory.{is_top, dir_hold, dir_note, is_answering, with_hold, with_note};
+ghost use Rattle.tree_model.specs.State.Directory.{with_answering, joined_by, note_why, down_full, requests_full};
+ghost use Rattle.tree_model.specs.State.Directory.{replies_full, parking_full, parked_words, is_parked};
+ghost use Rattle.tree_model.specs.State.Directory.{pushed_request, pushed_reply, with_parked, without_parked};
+ghost use Rattle.tree_model.specs.State.Directory.{place_released, pending, stamp_of};
 ghost use Rattle.item_states.specs.Parts.{note_of, joined_in, own_list_full, advanced, NamesChild, CanPark, TakesOver};
 
 use crate::DownEntry;

@@ -17,13 +17,23 @@ abbrev pub sizes_of : ℕ → ℕ → TreeSizes
 sizes_of sets places = record { sets = sets; buffer = 1; parking = 1; down = places; requests = places; replies = places }
 
 abbrev pub tree_with : List (List ℕ) → ℕ → TreeSizes → TreeValue
-tree_with levels ways sizes = record { levels = levels; way_count = ways; sizes = sizes; stack_base = 196608; stack_bytes = 0; item_bytes = 16 }
+tree_with levels ways sizes =
+    record {
+      levels = levels;
+      way_count = ways;
+      sizes = sizes;
+      stack_base = 196608;
+      stack_bytes = 0;
+      item_bytes = 16;
+    }
 
 -- code at 0x10000, and so many bytes at 0x20000 that begin with these
 abbrev pub program : List ℕ → ℕ → List ℕ → ℕ → ImageValue
 program code code_bytes words bytes = record {
   entry = 0x10000;
-  segments = record { header = 0; vaddr = 0x10000; flags = 5; bytes = code; memsz = code_bytes } ∷ record { header = 1; vaddr = 0x20000; flags = 6; bytes = words; memsz = bytes } ∷ [];
+  segments =
+      record { header = 0; vaddr = 0x10000; flags = 5; bytes = code; memsz = code_bytes }
+      ∷ record { header = 1; vaddr = 0x20000; flags = 6; bytes = words; memsz = bytes } ∷ [];
 }
 
 -- ---- one read: a hart loads a word that the other leaf holds
@@ -54,7 +64,9 @@ pub record OneReadGoesOn : Type 0 where
 abbrev pub four_leaves : ℕ → MachineValue
 four_leaves places =
     start_machine (tree_with ((4 ∷ []) ∷ []) 2 (sizes_of 8 places))
-    (program (183 ∷ 2 ∷ 2 ∷ 0 ∷ 19 ∷ 3 ∷ 64 ∷ 6 ∷ 147 ∷ 3 ∷ 16 ∷ 0 ∷ 47 ∷ 164 ∷ 114 ∷ 0 ∷ 19 ∷ 3 ∷ 243 ∷ 255 ∷ 227 ∷ 28 ∷ 3 ∷ 254 ∷ 147 ∷ 8 ∷ 208 ∷ 5 ∷ 115 ∷ 0 ∷ 0 ∷ 0 ∷ []) 32 [] 16)
+    (program
+    (183 ∷ 2 ∷ 2 ∷ 0 ∷ 19 ∷ 3 ∷ 64 ∷ 6 ∷ 147 ∷ 3 ∷ 16 ∷ 0 ∷ 47 ∷ 164 ∷ 114 ∷ 0 ∷ 19 ∷ 3 ∷ 243 ∷ 255 ∷ 227
+    ∷ 28 ∷ 3 ∷ 254 ∷ 147 ∷ 8 ∷ 208 ∷ 5 ∷ 115 ∷ 0 ∷ 0 ∷ 0 ∷ []) 32 [] 16)
 
 pub record FourLeaves : Type 0 where
   pub items : items_of_machine (four_leaves 16) ≡ 3
@@ -69,17 +81,21 @@ pub record FourLeaves : Type 0 where
 abbrev pub crossing_start : MachineValue
 crossing_start =
     start_machine (tree_with ((2 ∷ []) ∷ (3 ∷ 3 ∷ []) ∷ []) 4 (sizes_of 4 1))
-    (program (183 ∷ 2 ∷ 2 ∷ 0 ∷ 19 ∷ 19 ∷ 101 ∷ 0 ∷ 147 ∷ 19 ∷ 85 ∷ 0 ∷ 51 ∷ 3 ∷ 115 ∷ 0 ∷ 179 ∷ 130 ∷ 98 ∷ 0 ∷ 147 ∷ 35 ∷ 53 ∷ 0 ∷ 99 ∷ 148 ∷ 3 ∷ 0 ∷ 147 ∷ 130 ∷ 2 ∷ 241 ∷ 3 ∷ 164 ∷ 2 ∷ 0 ∷ []) 36 [] 256)
+    (program
+    (183 ∷ 2 ∷ 2 ∷ 0 ∷ 19 ∷ 19 ∷ 101 ∷ 0 ∷ 147 ∷ 19 ∷ 85 ∷ 0 ∷ 51 ∷ 3 ∷ 115 ∷ 0 ∷ 179 ∷ 130 ∷ 98 ∷ 0 ∷ 147
+    ∷ 35 ∷ 53 ∷ 0 ∷ 99 ∷ 148 ∷ 3 ∷ 0 ∷ 147 ∷ 130 ∷ 2 ∷ 241 ∷ 3 ∷ 164 ∷ 2 ∷ 0 ∷ []) 36 [] 256)
 
 -- each hart issues its read
 abbrev pub reads_issued : List Turn
 reads_issued =
-    replicate 8 (Turn.Hart 0 0) ++ replicate 8 (Turn.Hart 1 0) ++ replicate 8 (Turn.Hart 2 0) ++ replicate 9 (Turn.Hart 3 0) ++ replicate 9 (Turn.Hart 4 0) ++ replicate 9 (Turn.Hart 5 0)
+    replicate 8 (Turn.Hart 0 0) ++ replicate 8 (Turn.Hart 1 0) ++ replicate 8 (Turn.Hart 2 0)
+    ++ replicate 9 (Turn.Hart 3 0) ++ replicate 9 (Turn.Hart 4 0) ++ replicate 9 (Turn.Hart 5 0)
 
 -- a first read fills the replies of the directory over the other side, a second one those of a leaf, and a third the down list
 abbrev pub lists_filled : List Turn
 lists_filled =
-    Turn.Request 2 0 ∷ Turn.Request 0 1 ∷ Turn.Down 1 ∷ Turn.Reply 1 0 ∷ Turn.Request 1 0 ∷ Turn.Request 0 0 ∷ Turn.Down 2 ∷ Turn.Reply 2 0 ∷
+    Turn.Request 2 0 ∷ Turn.Request 0 1 ∷ Turn.Down 1 ∷ Turn.Reply 1 0 ∷ Turn.Request 1 0 ∷ Turn.Request 0 0
+    ∷ Turn.Down 2 ∷ Turn.Reply 2 0 ∷
     Turn.Request 2 1 ∷ Turn.Request 0 1 ∷ Turn.Down 1 ∷ Turn.Request 1 1 ∷ Turn.Request 0 0 ∷ Turn.Down 2 ∷
     Turn.Request 2 2 ∷ Turn.Request 0 1 ∷ Turn.Request 1 2 ∷ Turn.Request 0 0 ∷ []
 
@@ -106,6 +122,12 @@ pub record SmallListsJam : Type 0 where
   pub rules : machine_holds (crossing_after 18) ≡ true
   pub waits : some_leaf_waits (crossing_after 18) ≡ true
   pub jammed : first_granted (crossing_after 18) ≡ None
-  pub harts : map (answer_now (crossing_after 18)) (Turn.Hart 0 0 ∷ Turn.Hart 1 0 ∷ Turn.Hart 2 0 ∷ Turn.Hart 3 0 ∷ Turn.Hart 4 0 ∷ Turn.Hart 5 0 ∷ [])
-      ≡ TurnAnswer.Waiting 3 ∷ TurnAnswer.Waiting 9 ∷ TurnAnswer.Waiting 15 ∷ TurnAnswer.Waiting 6 ∷ TurnAnswer.Waiting 12 ∷ TurnAnswer.Waiting 18 ∷ []
-  pub full : list_all (full_now (crossing_after 18)) (Turn.Reply 0 0 ∷ Turn.Reply 0 1 ∷ Turn.Down 1 ∷ Turn.Reply 1 0 ∷ Turn.Down 2 ∷ Turn.Reply 2 0 ∷ []) ≡ true
+  pub harts :
+      map (answer_now (crossing_after 18))
+      (Turn.Hart 0 0 ∷ Turn.Hart 1 0 ∷ Turn.Hart 2 0 ∷ Turn.Hart 3 0 ∷ Turn.Hart 4 0 ∷ Turn.Hart 5 0 ∷ [])
+      ≡ TurnAnswer.Waiting 3 ∷ TurnAnswer.Waiting 9 ∷ TurnAnswer.Waiting 15 ∷ TurnAnswer.Waiting 6
+      ∷ TurnAnswer.Waiting 12 ∷ TurnAnswer.Waiting 18 ∷ []
+  pub full :
+      list_all (full_now (crossing_after 18))
+      (Turn.Reply 0 0 ∷ Turn.Reply 0 1 ∷ Turn.Down 1 ∷ Turn.Reply 1 0 ∷ Turn.Down 2 ∷ Turn.Reply 2 0 ∷ [])
+      ≡ true

@@ -1,7 +1,8 @@
 -- Whether a leaf waits, whether the lists have room, and which turn of a bus would be granted.
 -- Letters: m is a machine, v a leaf, d a directory over the children ns, t a turn.
 -- To be believed with the laws: it is what they speak of.
-use Rattle.std.specs.Prelude.{◌≡◌, ℕ, ◌*◌, ◌≤◌, Bool, true, false, ◌&&◌, ◌||◌, nat_le, List, ◌∷◌, ◌++◌, length, map, find, Option, None, is_some, unwrap_or, if◌then◌else◌}
+use Rattle.std.specs.Prelude.{◌≡◌, ℕ, ◌*◌, ◌≤◌, Bool, true, false, ◌&&◌, ◌||◌, nat_le, List, ◌∷◌, ◌++◌, length, map}
+use Rattle.std.specs.Prelude.{find, Option, None, is_some, unwrap_or, if◌then◌else◌}
 use Rattle.std.specs.List.{AllByRecursion, list_any, flat_map, range_with_len}
 use Rattle.jam_laws.specs.DdmTypes.declared.answers.BusyCause.{BusyCause}
 use Rattle.jam_laws.specs.DdmTypes.declared.answers.TurnAnswer.{TurnAnswer}
@@ -30,7 +31,9 @@ abbrev mutual
   pub lists_have : ℕ → Skeleton → Bool
   lists_have places (leaf_bone number sizes) = nat_le places sizes.reply_room
   lists_have places (dir_bone bus level sizes bones) =
-      nat_le places sizes.down_room && (nat_le places sizes.request_room && (nat_le places sizes.reply_room && lists_have_among places bones))
+      nat_le places sizes.down_room
+      && (nat_le places sizes.request_room
+      && (nat_le places sizes.reply_room && lists_have_among places bones))
 
   pub lists_have_among : ℕ → Skeletons → Bool
   lists_have_among places no_bones = true

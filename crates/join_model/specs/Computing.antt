@@ -7,5 +7,6 @@ use Rattle.join_model.specs.Files.{added, sum_of, sum_text}
 
 -- Where a proof says `unfolding joins_compute`, tables compute.
 unfoldable pub joins_compute : Unit {0}
-unfolding runs_compute counted tallied placed in_order table_of line_text joined with_line with_table with_tables heading_of_words line_of_words lines_from outcome_in table_in table_of_pieces text_of added sum_of sum_text
+unfolding runs_compute counted tallied placed in_order table_of line_text joined with_line with_table with_tables
+    heading_of_words line_of_words lines_from outcome_in table_in table_of_pieces text_of added sum_of sum_text
 joins_compute = tt

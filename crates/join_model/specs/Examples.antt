@@ -7,10 +7,16 @@ use Rattle.join_model.specs.declared.table.TableRefusal.TheVariants.{BadLine, No
 
 pub record SmallJoins : Type 0 where
   -- the second table has an outcome of the first, with a smaller seed
-  pub two : joined_text (codes "outcomes 2 runs 5\noutcome 3 7 a\noutcome 2 8 b c\nend\n" ∷ codes "outcomes 1 runs 2\noutcome 2 1 b c\nend\n" ∷ []) ≡ Ok (codes "outcomes 2 runs 7\noutcome 4 1 b c\noutcome 3 7 a\nend\n")
+  pub two :
+      joined_text (codes "outcomes 2 runs 5\noutcome 3 7 a\noutcome 2 8 b c\nend\n"
+      ∷ codes "outcomes 1 runs 2\noutcome 2 1 b c\nend\n" ∷ [])
+      ≡ Ok (codes "outcomes 2 runs 7\noutcome 4 1 b c\noutcome 3 7 a\nend\n")
   pub alone : joined_text (codes "survey 0 runs 0\nend\n" ∷ []) ≡ Ok (codes "survey 0 runs 0\nend\n")
   pub other : joined_text (codes "survey 0 runs 0\nend\n" ∷ codes "outcomes 0 runs 0\nend\n" ∷ []) ≡ Err (2, OtherKind)
-  pub many : joined_text (codes "outcomes 1 runs 18446744073709551615\noutcome 18446744073709551615 1 a\nend\n" ∷ codes "outcomes 1 runs 1\noutcome 1 1 a\nend\n" ∷ []) ≡ Err (2, TooManyRuns)
+  pub many :
+      joined_text (codes "outcomes 1 runs 18446744073709551615\noutcome 18446744073709551615 1 a\nend\n"
+      ∷ codes "outcomes 1 runs 1\noutcome 1 1 a\nend\n" ∷ [])
+      ≡ Err (2, TooManyRuns)
   pub second : joined_text (codes "outcomes 0 runs 0\nend\n" ∷ codes "outcomes 0 runs 0\n" ∷ []) ≡ Err (2, NoEnd 2)
 
 abbrev pub Refused : List ℕ → TableRefusal → Type 0

@@ -57,7 +57,9 @@ all_runs [] = []
 all_runs (runs ∷ more) = runs ++ all_runs more
 
 abbrev pub JoinedTablesAreRight : Type 0
-JoinedTablesAreRight = (runs : List (List SeedRun)) (tables : List (List OutcomeLine)) → AreTables runs tables → IsTableOf (all_runs runs) (joined tables)
+JoinedTablesAreRight =
+    (runs : List (List SeedRun)) (tables : List (List OutcomeLine)) → AreTables runs tables →
+    IsTableOf (all_runs runs) (joined tables)
 
 abbrev pub OneTable : Type 0
 OneTable = (runs : List SeedRun) → HasOneOutcome runs → (s t : List OutcomeLine) → IsTableOf runs s → IsTableOf runs t → s ≡ t

@@ -18,7 +18,8 @@ OutcomesAreTexts = (m : MachineValue) → IsOutcomeText (outcome_of m)
 -- what calls for so many seeds each print, of which each begins behind the one before it
 unfoldable pub range_texts : ShapeView → ℕ → MachineValue → ℕ → List ℕ → List (List ℕ)
 range_texts shape turns m first [] = []
-range_texts shape turns m first (count ∷ counts) = outcomes_text shape turns m first count ∷ range_texts shape turns m (first + count) counts
+range_texts shape turns m first (count ∷ counts) =
+    outcomes_text shape turns m first count ∷ range_texts shape turns m (first + count) counts
 
 -- together it is byte for byte what one call prints for all of them
 abbrev pub JoinedOutcomes : Type 0

@@ -1,7 +1,8 @@
 -- The text of a table, and what the bytes of a file are read as: a table, or the first refusal.
 -- Letters: n is the number of a line, counted from 1; l is a line of a table.
 -- To be believed: it is what is printed, and what is accepted.
-use Rattle.std.specs.Prelude.{ℕ, zero, suc, ◌+◌, ◌-◌, ◌&&◌, nat_eq, nat_le, nat_lt, bytes_eq, List, [], ◌∷◌, ◌++◌, length, flat_map, codes, decimal, Option, Some, None, Result, Ok, Err, if◌then◌else◌}
+use Rattle.std.specs.Prelude.{ℕ, zero, suc, ◌+◌, ◌-◌, ◌&&◌, nat_eq, nat_le, nat_lt, bytes_eq, List, [], ◌∷◌, ◌++◌}
+use Rattle.std.specs.Prelude.{length, flat_map, codes, decimal, Option, Some, None, Result, Ok, Err, if◌then◌else◌}
 use Rattle.std.specs.Result.{result_ok}
 use Rattle.join_model.specs.DdmText.Numbers.{number_of}
 use Rattle.join_model.specs.TextModel.Schedule.{pieces_at}
@@ -25,7 +26,8 @@ kind_name Survey = codes "survey"
 
 unfoldable pub text_of : Table → List ℕ
 text_of t =
-    kind_name t.kind ++ codes " " ++ decimal (length t.lines) ++ codes " runs " ++ decimal t.runs ++ codes "\n" ++ flat_map line_text t.lines ++ codes "end\n"
+    kind_name t.kind ++ codes " " ++ decimal (length t.lines) ++ codes " runs " ++ decimal t.runs ++ codes "\n"
+    ++ flat_map line_text t.lines ++ codes "end\n"
 
 -- ---- a line
 
@@ -67,7 +69,8 @@ outcome_in [] = []
 outcome_in (word ∷ words) = (32 ∷ word) ++ outcome_in words
 
 abbrev pub line_with : Option ℕ → Option ℕ → List ℕ → Option OutcomeLine
-line_with (Some times) (Some seed) outcome = if nat_le 1 times then Some (record { times = times; seed = seed; outcome = outcome }) else None
+line_with (Some times) (Some seed) outcome =
+    if nat_le 1 times then Some (record { times = times; seed = seed; outcome = outcome }) else None
 line_with (Some times) None outcome = None
 line_with None seed outcome = None
 
@@ -100,7 +103,8 @@ on_line n (Some l) more = with_line_before l (more l.times)
 unfoldable pub lines_from : ℕ → ℕ → ℕ → List (List ℕ) → Result (List OutcomeLine) TableRefusal
 lines_from n count left [] = Err (NoEnd n)
 lines_from n count left (piece ∷ []) = Err (NoEnd n)
-lines_from n zero left (piece ∷ next ∷ pieces) = if nat_eq left 0 && bytes_eq piece (codes "end") then after_end (n + 1) next pieces else Err (BadLine n)
+lines_from n zero left (piece ∷ next ∷ pieces) =
+    if nat_eq left 0 && bytes_eq piece (codes "end") then after_end (n + 1) next pieces else Err (BadLine n)
 lines_from n (suc count) left (piece ∷ next ∷ pieces) =
     on_line n (line_of_words left (pieces_at 32 piece)) (λ times. lines_from (n + 1) count (left - times) (next ∷ pieces))
 

@@ -59,7 +59,8 @@ pub record AreOfRuns (kind : TableKind) (runs : List (List SeedRun)) (tables : L
 abbrev pub JoinedTexts : Type 0
 JoinedTexts = (kind : TableKind) (runs : List (List SeedRun)) (t : Table) (ts : List Table) → AreOfRuns kind runs (t ∷ ts)
     → (lines : List OutcomeLine) → IsTableOf (all_runs runs) lines
-    → joined_text (map text_of (t ∷ ts)) ≡ Ok (text_of (record { kind = kind; runs = sum_by (λ (t : Table). t.runs) (t ∷ ts); lines = lines }))
+    → joined_text (map text_of (t ∷ ts))
+    ≡ Ok (text_of (record { kind = kind; runs = sum_by (λ (t : Table). t.runs) (t ∷ ts); lines = lines }))
 
 -- ---- ranges of seeds that follow one another
 
@@ -80,4 +81,5 @@ abbrev pub JoinedRanges : Type 0
 JoinedRanges = (kind : TableKind) (first : ℕ) (range : List (List ℕ)) (ranges : List (List (List ℕ)))
     → AllByRecursion (AllByRecursion IsOutcomeText) (range ∷ ranges) → first + length (all_outcomes (range ∷ ranges)) ≤ most_number + 1
     → length (all_outcomes (range ∷ ranges)) ≤ most_number → AreShort (range_tables kind first (range ∷ ranges))
-    → joined_text (map text_of (range_tables kind first (range ∷ ranges))) ≡ Ok (text_of (range_table kind first (all_outcomes (range ∷ ranges))))
+    → joined_text (map text_of (range_tables kind first (range ∷ ranges)))
+    ≡ Ok (text_of (range_table kind first (all_outcomes (range ∷ ranges))))

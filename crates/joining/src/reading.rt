@@ -1,6 +1,7 @@
 //! A table is read.
 
-ghost use Rattle.std.specs.Prelude.{◌≡◌, ◌≤◌, ◌&&◌, ◌++◌, ◌∷◌, bytes_eq, codes, nat_eq, zero, [], Ok, Err, length, sum_by, IfOk, OnOk, MatchResult};
+ghost use Rattle.std.specs.Prelude.{◌≡◌, ◌≤◌, ◌&&◌, ◌++◌, ◌∷◌, bytes_eq, codes, nat_eq, zero, [], Ok, Err, length};
+ghost use Rattle.std.specs.Prelude.{sum_by, IfOk, OnOk, MatchResult};
 ghost use Rattle.joining.specs.Said.{IsTableError, row_said, table_said, times};
 ghost use Rattle.joining.specs.declared.reading.TableError.TheVariants.{Memory};
 ghost use Rattle.joining.specs.TextModel.Schedule.{pieces_at};
@@ -69,7 +70,8 @@ fn is_end(line: &[u8], left: u64) -> bool
 // Whether the rest of a file is the line `end` alone, which is to be this line, where so many runs are left.
 fn end_of(rest: &[u8], left: u64, line: u32) -> Result<(), TableRefusal>
     requires { line ≤ 67108866 }
-    ensures { MatchResult result (λ u. lines_from line zero left (pieces_at 10 rest.now) ≡ Ok []) (λ r. lines_from line zero left (pieces_at 10 rest.now) ≡ Err r) }
+    ensures { MatchResult result (λ u. lines_from line zero left (pieces_at 10 rest.now) ≡ Ok [])
+        (λ r. lines_from line zero left (pieces_at 10 rest.now) ≡ Err r) }
 {
     let end = piece_end(rest, b'\n');
     if end == rest.len() {

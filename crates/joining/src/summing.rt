@@ -64,7 +64,9 @@ impl TableSum {
         requires few { self.old.tables < 4294967295 }
         requires counted { IsCounted self.old }
         requires table { sum_by times table.now.lines.items ≡ table.now.runs }
-        ensures sum { MatchResult result (λ u. added (sum_said self.old) (table_said table.now) ≡ Ok (sum_said self.new)) (λ e. IsTableError (added (sum_said self.old) (table_said table.now)) e) }
+        ensures sum { MatchResult result
+            (λ u. added (sum_said self.old) (table_said table.now) ≡ Ok (sum_said self.new))
+            (λ e. IsTableError (added (sum_said self.old) (table_said table.now)) e) }
         ensures counted { OnOk result (IsCounted self.new) }
         ensures kept { IfErr result (λ e. IsKept e self.old self.new) }
     {

@@ -26,7 +26,8 @@ fn place_of(text: &[u8], separator: u8) -> Option<usize>
 pub fn piece_end(text: &[u8], separator: u8) -> usize
     ensures within { result ≤ length text.now }
     ensures last { result ≡ length text.now → pieces_at separator text.now ≡ text.now ∷ [] }
-    ensures more { result < length text.now → pieces_at separator text.now ≡ take result text.now ∷ pieces_at separator (drop (result + 1) text.now) }
+    ensures more { result < length text.now →
+        pieces_at separator text.now ≡ take result text.now ∷ pieces_at separator (drop (result + 1) text.now) }
     ensures here { result < length text.now → drop result text.now ≡ separator ∷ drop (result + 1) text.now }
 {
     match place_of(text, separator) {
@@ -72,7 +73,9 @@ pub struct Heading {
 }
 
 fn heading_with(kind: &[u8], lines: &[u8], runs: &[u8]) -> Option<Heading>
-    ensures { option_map heading_said result ≡ heading_with (kind_named kind.now) (number_in 18446744073709551615 lines.now) (number_in 18446744073709551615 runs.now) }
+    ensures { option_map heading_said result
+        ≡ heading_with (kind_named kind.now) (number_in 18446744073709551615 lines.now)
+        (number_in 18446744073709551615 runs.now) }
 {
     let kind = kind_named(kind)?;
     let lines = number(lines, u64::MAX)?;

@@ -52,7 +52,8 @@ abbrev pub copied_item : ℕ × List ℕ → ℕ
 copied_item c = c.0
 
 -- the slot, the replies and the reservation name items of the leaf
-pub record AreParts (way_count width : ℕ) (e : EntriesValue) (slot : Option (TxKind × ℕ)) (replies : QueueList (ℕ × List ℕ)) (reservation : Option ℕ) : Type 0 where
+pub record AreParts (way_count width : ℕ) (e : EntriesValue) (slot : Option (TxKind × ℕ))
+    (replies : QueueList (ℕ × List ℕ)) (reservation : Option ℕ) : Type 0 where
   pub some_ways : 0 < way_count
   pub words_fit : width < 2 ^ 32
   pub items : length e.ways ≡ replies.items

@@ -2,7 +2,8 @@
 -- Letters: n is how many items there are, k the number of the next word, ws are the words from it on; s is an entry in a way, b one
 -- in the buffer.
 -- Proofs alone need it.
-use Rattle.std.specs.Prelude.{◌≡◌, ℕ, ◌<◌, Bool, true, not, ◌&&◌, nat_le, nat_lt, List, [], ◌∷◌, ◌++◌, drop, map, replicate, length, Option, None, is_some, is_none, Result, Ok}
+use Rattle.std.specs.Prelude.{◌≡◌, ℕ, ◌<◌, Bool, true, not, ◌&&◌, nat_le, nat_lt, List, [], ◌∷◌, ◌++◌, drop, map}
+use Rattle.std.specs.Prelude.{replicate, length, Option, None, is_some, is_none, Result, Ok}
 use Rattle.leaf_protocol.specs.DdmTypes.declared.sizes.LeafState.{LeafState}
 use Rattle.leaf_protocol.specs.TreeModel.State.States.{is_reading}
 use Rattle.leaf_protocol.specs.TreeModel.State.Shape.{are_distinct}
@@ -11,14 +12,18 @@ use Rattle.leaf_protocol.specs.TreeModel.State.Leaf.{entry_at, item_in_way, wait
 use Rattle.leaf_protocol.specs.StateWords.Parts.{StandingValue}
 use Rattle.leaf_protocol.specs.StateReading.declared.StateRefusal.{StateRefusal}
 use Rattle.leaf_protocol.specs.StateReading.Reading.{Read, and_then, given, times, word_that, any_word}
-use Rattle.leaf_protocol.specs.StateReading.Parts.{not_before, way_not_before, word_to, word_below, word_from_1, item_words, state_of, read_standing, read_buffered, ways_with, standing_item, item_of_buffer, places_differ, waiting_states, standing_state, buffer_state}
+use Rattle.leaf_protocol.specs.StateReading.Parts.{not_before, way_not_before, word_to, word_below, word_from_1}
+use Rattle.leaf_protocol.specs.StateReading.Parts.{item_words, state_of, read_standing, read_buffered, ways_with}
+use Rattle.leaf_protocol.specs.StateReading.Parts.{standing_item, item_of_buffer, places_differ, waiting_states}
+use Rattle.leaf_protocol.specs.StateReading.Parts.{standing_state, buffer_state}
 use Rattle.leaf_protocol.specs.Entries.{EntriesValue, may_be}
 use Rattle.leaf_protocol.specs.Leaf.{leaf_of}
 
 -- a leaf with these sizes and nothing else
 abbrev pub bare : ℕ → ℕ → ℕ → LeafValue
 bare way_count width sets =
-    leaf_of way_count width 0 (record { sets = sets; ways = []; buffer = []; room = 0 }) None (record { list = []; capacity = 0; items = 0 }) None
+    leaf_of way_count width 0 (record { sets = sets; ways = []; buffer = []; room = 0 }) None
+    (record { list = []; capacity = 0; items = 0 }) None
     (record { hart = record { registers = []; pc = 0; halt = None }; done = 0 })
 
 -- ---- one entry
@@ -61,7 +66,8 @@ may_stand s e = not (is_some (item_in_way e.sets s.item s.entry.way e.ways)) && 
 -- no item is there twice and no way is taken twice, and at most one entry waits
 abbrev pub are_together : ℕ → List StandingValue → List BufferValue → Bool
 are_together sets ss bs =
-    are_distinct (map standing_item ss ++ map item_of_buffer bs) && (places_differ sets ss && nat_le (waiting_states (map standing_state ss ++ map buffer_state bs)) 1)
+    are_distinct (map standing_item ss ++ map item_of_buffer bs)
+    && (places_differ sets ss && nat_le (waiting_states (map standing_state ss ++ map buffer_state bs)) 1)
 
 -- the sets, the places of the buffer and the items are as many as before
 pub record IsSized (e f : EntriesValue) : Type 0 where
@@ -81,19 +87,22 @@ pub record AreThere (n : ℕ) (ss : List StandingValue) (bs : List BufferValue) 
   pub buffer : whole ≡ true → e.buffer ≡ bs
 
 -- what was read of the entries in ways
-pub record StandingRead (n : ℕ) (read : Result (Read (List StandingValue)) StateRefusal) (words : List ℕ) (at : ℕ) (e : EntriesValue) (whole : Bool) : Type 0 where
+pub record StandingRead (n : ℕ) (read : Result (Read (List StandingValue)) StateRefusal) (words : List ℕ)
+    (at : ℕ) (e : EntriesValue) (whole : Bool) : Type 0 where
   pub entries : List StandingValue
   pub is : read ≡ Ok (record { value = entries; at = at; rest = drop at words })
   pub there : AreThere n entries [] e whole
 
 -- what was read of the entries in the buffer, behind those in ways
-pub record BufferRead (n : ℕ) (ss : List StandingValue) (read : Result (Read (List BufferValue)) StateRefusal) (words : List ℕ) (at : ℕ) (e : EntriesValue) (whole : Bool) : Type 0 where
+pub record BufferRead (n : ℕ) (ss : List StandingValue) (read : Result (Read (List BufferValue)) StateRefusal)
+    (words : List ℕ) (at : ℕ) (e : EntriesValue) (whole : Bool) : Type 0 where
   pub entries : List BufferValue
   pub is : read ≡ Ok (record { value = entries; at = at; rest = drop at words })
   pub there : AreThere n ss entries e whole
 
 -- what was read of both
-pub record EntriesRead (n : ℕ) (read : Result (Read (List StandingValue × List BufferValue)) StateRefusal) (words : List ℕ) (at : ℕ) (e : EntriesValue) (whole : Bool) : Type 0 where
+pub record EntriesRead (n : ℕ) (read : Result (Read (List StandingValue × List BufferValue)) StateRefusal)
+    (words : List ℕ) (at : ℕ) (e : EntriesValue) (whole : Bool) : Type 0 where
   pub standing : List StandingValue
   pub buffered : List BufferValue
   pub is : read ≡ Ok (record { value = (standing, buffered); at = at; rest = drop at words })

@@ -1,12 +1,18 @@
 //! The entries of a leaf, in ways and in the buffer.
 
-ghost use Rattle.std.specs.Prelude.{◌≡◌, ◌++◌, ◌∷◌, ◌%◌, ◌<◌, ◌≤◌, ◌^◌, [], true, false, Option, Some, None, IfOk, IfErr, IfSome, IsSome, is_some, filter, length, map, nat_le, option_map, replicate, unwrap_or};
+ghost use Rattle.std.specs.Prelude.{◌≡◌, ◌++◌, ◌∷◌, ◌%◌, ◌<◌, ◌≤◌, ◌^◌, [], true, false, Option, Some, None, IfOk};
+ghost use Rattle.std.specs.Prelude.{IfErr, IfSome, IsSome, is_some, filter, length, map, nat_le, option_map};
+ghost use Rattle.std.specs.Prelude.{replicate, unwrap_or};
 ghost use Rattle.leaf_protocol.specs.DdmTypes.declared.sizes.LeafState.TheVariants.{Exclusive};
 ghost use Rattle.leaf_protocol.specs.TreeModel.State.States.{is_reading, is_waiting};
-ghost use Rattle.leaf_protocol.specs.TreeModel.State.Leaf.{LeafEntry, blank, becomes, ends, enters, enters_free, entry_at, entry_state, entry_words, item_in_way, leaf_leaving, may_leave_buffer, spot_at, waiting_item, words_in, buffered};
+ghost use Rattle.leaf_protocol.specs.TreeModel.State.Leaf.{LeafEntry, blank, becomes, ends, enters, enters_free};
+ghost use Rattle.leaf_protocol.specs.TreeModel.State.Leaf.{entry_at, entry_state, entry_words, item_in_way};
+ghost use Rattle.leaf_protocol.specs.TreeModel.State.Leaf.{leaf_leaving, may_leave_buffer, spot_at, waiting_item};
+ghost use Rattle.leaf_protocol.specs.TreeModel.State.Leaf.{words_in, buffered};
 ghost use Rattle.leaf_protocol.specs.TreeModel.State.Child.{buffer_words};
 ghost use Rattle.leaf_protocol.specs.TreeModel.Start.Nodes.{or_each};
-ghost use Rattle.leaf_protocol.specs.Entries.{cleared, cleared_if, lowest_way, may_be, standing_place, waits_now, waiting_after, way_to_take, with_fate, with_mark};
+ghost use Rattle.leaf_protocol.specs.Entries.{cleared, cleared_if, lowest_way, may_be, standing_place, waits_now};
+ghost use Rattle.leaf_protocol.specs.Entries.{waiting_after, way_to_take, with_fate, with_mark};
 
 use crate::of_ddm_types::{ItemId, LeafState, NoMemory, Words};
 use crate::of_tree_model::LeafSpot;
@@ -30,7 +36,12 @@ impl<const WAYS: usize, const WORDS: usize> Model for Entries<WAYS, WORDS> {
 
     ghost Value = { EntriesValue };
 
-    ghost view = { λ e. record { sets = e.memory.sets; ways = ways_of e.items e.memory; buffer = e.buffer.list; room = e.buffer.capacity } };
+    ghost view = { λ e. record {
+      sets = e.memory.sets;
+      ways = ways_of e.items e.memory;
+      buffer = e.buffer.list;
+      room = e.buffer.capacity;
+    } };
 
     ghost invariant = { λ e. AreEntries WAYS WORDS e.items e.memory e.buffer.list e.waiting };
 }
@@ -291,7 +302,10 @@ impl<const WAYS: usize, const WORDS: usize> Entries<WAYS, WORDS> {
         requires place { place ≡ standing_place self.old.sets WAYS item self.old.ways }
         requires alone { may_be state (entry_at item self.old.ways self.old.buffer) (waiting_item self.old.ways self.old.buffer) ≡ true }
         requires keeps { is_reading state ≡ false }
-        ensures { self.new ≡ with_fate item (becomes state (words_in state WORDS (entry_words (entry_at item self.old.ways self.old.buffer)))) self.old }
+        ensures { self.new
+            ≡ with_fate item
+            (becomes state (words_in state WORDS (entry_words (entry_at item self.old.ways self.old.buffer))))
+            self.old }
     {
         if let Some(place) = place {
             self.waiting = waiting_after(item, waits(state), self.waiting);
@@ -331,7 +345,9 @@ impl<const WAYS: usize, const WORDS: usize> Entries<WAYS, WORDS> {
         requires absent { entry_at item self.old.ways self.old.buffer ≡ None }
         ensures way { IfOk result (λ way. lowest_way self.old.sets WAYS item self.old.ways ≡ Some way) }
         ensures full { IfErr result (λ e. (lowest_way self.old.sets WAYS item self.old.ways ≡ None) × (e.0 ≡ item % self.old.sets)) }
-        ensures after { self.new ≡ with_fate item (enters_free Exclusive words.entry (lowest_way self.old.sets WAYS item self.old.ways)) self.old }
+        ensures after { self.new
+            ≡ with_fate item
+            (enters_free Exclusive words.entry (lowest_way self.old.sets WAYS item self.old.ways)) self.old }
     {
         self.memory.place(item, LeafState::Exclusive, words)
     }
@@ -340,7 +356,9 @@ impl<const WAYS: usize, const WORDS: usize> Entries<WAYS, WORDS> {
     /// of the buffer. None: the buffer has no place.
     pub fn make_way(&mut self, item: ItemId, victim: u8) -> Option<u32>
         requires { entry_at item self.old.ways self.old.buffer ≡ None }
-        ensures way { result ≡ way_to_take (victim % WAYS) (nat_le self.old.room (length self.old.buffer)) (lowest_way self.old.sets WAYS item self.old.ways) }
+        ensures way { result
+            ≡ way_to_take (victim % WAYS) (nat_le self.old.room (length self.old.buffer))
+            (lowest_way self.old.sets WAYS item self.old.ways) }
         ensures after { self.new ≡ cleared_if item result self.old }
         ensures exists { IfSome result (λ way. way < WAYS) }
         ensures free { IfSome result (λ way. item_in_way self.new.sets item way self.new.ways ≡ None) }
@@ -380,7 +398,15 @@ impl<const WAYS: usize, const WORDS: usize> Entries<WAYS, WORDS> {
         requires room { length self.old.buffer < self.old.room }
         requires absent { entry_at item self.old.ways self.old.buffer ≡ None }
         requires alone { may_be state None (waiting_item self.old.ways self.old.buffer) ≡ true }
-        ensures { self.new ≡ record self.old { buffer = self.old.buffer ++ record { item = item; state = state; words = words_in state WORDS words.entry } ∷ [] } }
+        ensures { self.new
+            ≡ record self.old {
+              buffer = self.old.buffer
+                  ++ record {
+                    item = item;
+                    state = state;
+                    words = words_in state WORDS words.entry;
+                  } ∷ [];
+            } }
     {
         if self
             .buffer

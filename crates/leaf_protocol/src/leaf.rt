@@ -1,6 +1,7 @@
 //! The type of a leaf.
 
-ghost use Rattle.std.specs.Prelude.{◌≡◌, ◌%◌, ◌+◌, ◌*◌, ◌<◌, ◌≤◌, ◌^◌, Some, None, IfOk, IfErr, filter, is_some, length, map, option_map, slice_get};
+ghost use Rattle.std.specs.Prelude.{◌≡◌, ◌%◌, ◌+◌, ◌*◌, ◌<◌, ◌≤◌, ◌^◌, Some, None, IfOk, IfErr, filter, is_some};
+ghost use Rattle.std.specs.Prelude.{length, map, option_map, slice_get};
 ghost use Rattle.leaf_protocol.specs.TreeModel.State.Leaf.{free_way, leaf_entry, may_leave_buffer, spot_at, state_at, waiting_item};
 ghost use Rattle.leaf_protocol.specs.TreeModel.State.Lengths.{leaf_lengths};
 ghost use Rattle.leaf_protocol.specs.TreeModel.Start.Nodes.{leaf_sizes, new_leaf, or_each, placed};

@@ -1,10 +1,12 @@
 //! The words of a leaf are read back.
 
-ghost use Rattle.std.specs.Prelude.{◌≡◌, ℕ, ◌<◌, ◌≤◌, ◌^◌, ◌+◌, [], Ok, Err, drop, length, map, nat_eq, nat_lt, option_map, slice_index, if◌then◌else◌, IfErr, IfOk, IfSome, OnOk};
+ghost use Rattle.std.specs.Prelude.{◌≡◌, ℕ, ◌<◌, ◌≤◌, ◌^◌, ◌+◌, [], Ok, Err, drop, length, map, nat_eq, nat_lt};
+ghost use Rattle.std.specs.Prelude.{option_map, slice_index, if◌then◌else◌, IfErr, IfOk, IfSome, OnOk};
 ghost use Rattle.tx_queue.specs.QueueList.{AllBelow};
 ghost use Rattle.leaf_protocol.specs.StateReading.Gives.{Gives, IsRead};
 ghost use Rattle.leaf_protocol.specs.StateReading.Reading.{any_word, times, word_that, words_that};
-ghost use Rattle.leaf_protocol.specs.StateReading.Parts.{halt_has_number, read_copy, read_hart, read_leaf, reserved_of, slot_fits, slot_of, slot_state_fits};
+ghost use Rattle.leaf_protocol.specs.StateReading.Parts.{halt_has_number, read_copy, read_hart, read_leaf};
+ghost use Rattle.leaf_protocol.specs.StateReading.Parts.{reserved_of, slot_fits, slot_of, slot_state_fits};
 ghost use Rattle.leaf_protocol.specs.Leaf.{copied_item, copy_value, request_value};
 
 use crate::leaf::Leaf;
@@ -33,7 +35,9 @@ fn reserved_of(word: u32) -> Reservation
 fn asked_word(words: &[u32], at: &mut u32, items: u32, code: u32) -> Result<u32, StateRefusal>
     requires few { length words.now < 2 ^ 32 }
     requires inside { at.old ≤ length words.now }
-    ensures read { Gives (word_that (λ x. if nat_eq code 0 then nat_eq x 0 else nat_lt x items) at.old (drop at.old words.now)) words.now at.new result }
+    ensures read { Gives
+        (word_that (λ x. if nat_eq code 0 then nat_eq x 0 else nat_lt x items) at.old (drop at.old words.now))
+        words.now at.new result }
     ensures below { IfOk result (λ x. 0 < code → x < items) }
     ensures inside { at.new ≤ length words.now }
 {
@@ -79,8 +83,14 @@ fn read_reply<const WORDS: usize>(
     requires items { replies.old.items ≡ items }
     requires place { length replies.old.list < replies.old.capacity }
     requires below { AllBelow copied_item items replies.old.list }
-    ensures read { OnOk result (read_copy WORDS (λ x cs. nat_lt x items) (map copy_value replies.old.list) at.old (drop at.old words.now) ≡ Ok (record { value = map copy_value replies.new.list; at = at.new; rest = drop at.new words.now })) }
-    ensures refused { IfErr result (λ e. read_copy WORDS (λ x cs. nat_lt x items) (map copy_value replies.old.list) at.old (drop at.old words.now) ≡ Err e) }
+    ensures read { OnOk result
+        (read_copy WORDS (λ x cs. nat_lt x items) (map copy_value replies.old.list) at.old
+        (drop at.old words.now)
+        ≡ Ok (record { value = map copy_value replies.new.list; at = at.new; rest = drop at.new words.now })) }
+    ensures refused { IfErr result
+        (λ e. read_copy WORDS (λ x cs. nat_lt x items) (map copy_value replies.old.list) at.old
+        (drop at.old words.now)
+        ≡ Err e) }
     ensures below { AllBelow copied_item items replies.new.list }
     ensures count { length replies.new.list ≤ length replies.old.list + 1 }
     ensures capacity { replies.new.capacity ≡ replies.old.capacity }
@@ -106,7 +116,9 @@ fn read_replies<const WORDS: usize>(
     requires words_fit { WORDS < 2 ^ 32 }
     requires items { replies.old.items ≡ items }
     requires places { count ≤ replies.old.capacity }
-    ensures read { OnOk result (times (read_copy WORDS (λ x cs. nat_lt x items)) count [] at.old (drop at.old words.now) ≡ Ok (record { value = map copy_value replies.new.list; at = at.new; rest = drop at.new words.now })) }
+    ensures read { OnOk result
+        (times (read_copy WORDS (λ x cs. nat_lt x items)) count [] at.old (drop at.old words.now)
+        ≡ Ok (record { value = map copy_value replies.new.list; at = at.new; rest = drop at.new words.now })) }
     ensures refused { IfErr result (λ e. times (read_copy WORDS (λ x cs. nat_lt x items)) count [] at.old (drop at.old words.now) ≡ Err e) }
     ensures below { AllBelow copied_item items replies.new.list }
     ensures capacity { replies.new.capacity ≡ replies.old.capacity }
@@ -125,7 +137,9 @@ fn read_registers(words: &[u32], at: &mut u32) -> Result<[u32; 32], StateRefusal
     requires few { length words.now < 2 ^ 32 }
     requires inside { at.old ≤ length words.now }
     ensures zero { IfOk result (λ registers. slice_index registers 0 ≡ 0) }
-    ensures read { IfOk result (λ registers. words_that any_word 31 at.old (drop at.old words.now) ≡ Ok (record { value = drop 1 registers; at = at.new; rest = drop at.new words.now })) }
+    ensures read { IfOk result
+        (λ registers. words_that any_word 31 at.old (drop at.old words.now)
+        ≡ Ok (record { value = drop 1 registers; at = at.new; rest = drop at.new words.now })) }
     ensures refused { IfErr result (λ e. words_that any_word 31 at.old (drop at.old words.now) ≡ Err e) }
     ensures inside { at.new ≤ length words.now }
 {

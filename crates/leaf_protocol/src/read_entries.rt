@@ -1,6 +1,7 @@
 //! The entries of a leaf are read back.
 
-ghost use Rattle.std.specs.Prelude.{◌≡◌, ◌<◌, ◌≤◌, ◌^◌, ◌+◌, ◌∷◌, ◌++◌, ◌&&◌, [], Ok, Err, List, Some, drop, length, nat_lt, slice_set, not, IfErr, IfOk};
+ghost use Rattle.std.specs.Prelude.{◌≡◌, ◌<◌, ◌≤◌, ◌^◌, ◌+◌, ◌∷◌, ◌++◌, ◌&&◌, [], Ok, Err, List, Some, drop, length};
+ghost use Rattle.std.specs.Prelude.{nat_lt, slice_set, not, IfErr, IfOk};
 ghost use Rattle.std.specs.Bool.{OnTrue};
 ghost use Rattle.leaf_protocol.specs.StateWords.Parts.{StandingValue};
 ghost use Rattle.leaf_protocol.specs.TreeModel.State.States.{is_reading};
@@ -9,7 +10,8 @@ ghost use Rattle.leaf_protocol.specs.TreeModel.State.Leaf.{words_in};
 ghost use Rattle.leaf_protocol.specs.StateReading.Gives.{Gives};
 ghost use Rattle.leaf_protocol.specs.StateReading.Reading.{times, word_that};
 ghost use Rattle.leaf_protocol.specs.StateReading.Parts.{last_of, not_before, read_buffered, read_standing, way_not_before};
-ghost use Rattle.leaf_protocol.specs.ReadBack.{AreThere, BufferRead, IsSized, StandingRead, EntriesRead, bare, buffered_read, entries_read, entry_read, may_come, may_stand};
+ghost use Rattle.leaf_protocol.specs.ReadBack.{AreThere, BufferRead, IsSized, StandingRead, EntriesRead, bare};
+ghost use Rattle.leaf_protocol.specs.ReadBack.{buffered_read, entries_read, entry_read, may_come, may_stand};
 
 use crate::entries::{Entries, waits};
 use crate::of_ddm_types::{ItemId, LeafState, Words};
@@ -65,7 +67,9 @@ impl<const WAYS: usize, const WORDS: usize> Entries<WAYS, WORDS> {
     ) -> Result<u32, StateRefusal>
         requires few { length words.now < 2 ^ 32 }
         requires inside { at.old ≤ length words.now }
-        ensures read { Gives (word_that (λ x. nat_lt x (length self.now.ways) && not_before self.now.sets x last.now) at.old (drop at.old words.now)) words.now at.new result }
+        ensures read { Gives
+            (word_that (λ x. nat_lt x (length self.now.ways) && not_before self.now.sets x last.now) at.old
+            (drop at.old words.now)) words.now at.new result }
         ensures below { IfOk result (λ x. x < length self.now.ways) }
         ensures inside { at.new ≤ length words.now }
     {
@@ -84,7 +88,9 @@ impl<const WAYS: usize, const WORDS: usize> Entries<WAYS, WORDS> {
     ) -> Result<u32, StateRefusal>
         requires few { length words.now < 2 ^ 32 }
         requires inside { at.old ≤ length words.now }
-        ensures read { Gives (word_that (λ way. nat_lt way WAYS && way_not_before self.now.sets item way last.now) at.old (drop at.old words.now)) words.now at.new result }
+        ensures read { Gives
+            (word_that (λ way. nat_lt way WAYS && way_not_before self.now.sets item way last.now) at.old
+            (drop at.old words.now)) words.now at.new result }
         ensures below { IfOk result (λ way. way < WAYS) }
         ensures inside { at.new ≤ length words.now }
     {
@@ -103,7 +109,9 @@ impl<const WAYS: usize, const WORDS: usize> Entries<WAYS, WORDS> {
         requires few { length words.now < 2 ^ 32 }
         requires inside { at.old ≤ length words.now }
         requires words_fit { WORDS < 2 ^ 32 }
-        ensures read { Gives (entry_read (length self.now.ways) self.now.sets WAYS WORDS last.now at.old (drop at.old words.now)) words.now at.new result }
+        ensures read { Gives
+            (entry_read (length self.now.ways) self.now.sets WAYS WORDS last.now at.old (drop at.old words.now))
+            words.now at.new result }
         ensures item { IfOk result (λ s. s.item < length self.now.ways) }
         ensures way { IfOk result (λ s. s.entry.way < WAYS) }
         ensures words { IfOk result (λ s. s.entry.words ≡ words_in s.entry.state WORDS s.entry.words) }
@@ -165,7 +173,8 @@ impl<const WAYS: usize, const WORDS: usize> Entries<WAYS, WORDS> {
         requires room { length self.old.buffer < self.old.room }
         requires words { words.now ≡ words_in state WORDS words.now }
         ensures value { result ≡ (whole && may_come item state self.old) }
-        ensures buffer { OnTrue result (self.new.buffer ≡ self.old.buffer ++ record { item = item; state = state; words = words.now } ∷ []) }
+        ensures buffer { OnTrue result
+            (self.new.buffer ≡ self.old.buffer ++ record { item = item; state = state; words = words.now } ∷ []) }
         ensures count { length self.new.buffer ≤ length self.old.buffer + 1 }
         ensures ways { self.new.ways ≡ self.old.ways }
         ensures sizes { IsSized self.old self.new }
@@ -191,8 +200,11 @@ impl<const WAYS: usize, const WORDS: usize> Entries<WAYS, WORDS> {
         requires inside { at.old ≤ length words.now }
         requires words_fit { WORDS < 2 ^ 32 }
         ensures read { (ss : List StandingValue) → last.now ≡ last_of ss → IfOk result (λ r.
-            read_standing (length self.old.ways) (bare WAYS WORDS self.old.sets) ss at.old (drop at.old words.now) ≡ Ok (record { value = r.0 ∷ ss; at = at.new; rest = drop at.new words.now })) }
-        ensures there { (ss : List StandingValue) → AreThere (length self.old.ways) ss [] self.old whole → IfOk result (λ r. AreThere (length self.old.ways) (r.0 ∷ ss) [] self.new r.1) }
+            read_standing (length self.old.ways) (bare WAYS WORDS self.old.sets) ss at.old
+            (drop at.old words.now)
+            ≡ Ok (record { value = r.0 ∷ ss; at = at.new; rest = drop at.new words.now })) }
+        ensures there { (ss : List StandingValue) → AreThere (length self.old.ways) ss [] self.old whole →
+            IfOk result (λ r. AreThere (length self.old.ways) (r.0 ∷ ss) [] self.new r.1) }
         ensures refused { (ss : List StandingValue) → last.now ≡ last_of ss → IfErr result (λ e.
             read_standing (length self.old.ways) (bare WAYS WORDS self.old.sets) ss at.old (drop at.old words.now) ≡ Err e) }
         ensures buffer { self.new.buffer ≡ self.old.buffer }
@@ -214,8 +226,14 @@ impl<const WAYS: usize, const WORDS: usize> Entries<WAYS, WORDS> {
         requires few { length words.now < 2 ^ 32 }
         requires inside { at.old ≤ length words.now }
         requires words_fit { WORDS < 2 ^ 32 }
-        ensures read { IfOk result (StandingRead (length self.old.ways) (times (read_standing (length self.old.ways) (bare WAYS WORDS self.old.sets)) count [] at.old (drop at.old words.now)) words.now at.new self.new) }
-        ensures refused { IfErr result (λ e. times (read_standing (length self.old.ways) (bare WAYS WORDS self.old.sets)) count [] at.old (drop at.old words.now) ≡ Err e) }
+        ensures read { IfOk result
+            (StandingRead (length self.old.ways)
+            (times (read_standing (length self.old.ways) (bare WAYS WORDS self.old.sets)) count [] at.old
+            (drop at.old words.now)) words.now at.new self.new) }
+        ensures refused { IfErr result
+            (λ e. times (read_standing (length self.old.ways) (bare WAYS WORDS self.old.sets)) count [] at.old
+            (drop at.old words.now)
+            ≡ Err e) }
         ensures buffer { self.new.buffer ≡ [] }
         ensures sizes { IsSized self.old self.new }
         ensures inside { at.new ≤ length words.now }
@@ -240,7 +258,13 @@ impl<const WAYS: usize, const WORDS: usize> Entries<WAYS, WORDS> {
         requires few { length words.now < 2 ^ 32 }
         requires inside { at.old ≤ length words.now }
         requires words_fit { WORDS < 2 ^ 32 }
-        ensures read { IfOk result (λ b. buffered_read (length self.now.ways) WORDS at.old (drop at.old words.now) ≡ Ok (record { value = record { item = b.0; state = b.1; words = b.2 }; at = at.new; rest = drop at.new words.now })) }
+        ensures read { IfOk result
+            (λ b. buffered_read (length self.now.ways) WORDS at.old (drop at.old words.now)
+            ≡ Ok (record {
+              value = record { item = b.0; state = b.1; words = b.2 };
+              at = at.new;
+              rest = drop at.new words.now;
+            })) }
         ensures refused { IfErr result (λ e. buffered_read (length self.now.ways) WORDS at.old (drop at.old words.now) ≡ Err e) }
         ensures item { IfOk result (λ b. b.0 < length self.now.ways) }
         ensures words { IfOk result (λ b. b.2 ≡ words_in b.1 WORDS b.2) }
@@ -264,8 +288,13 @@ impl<const WAYS: usize, const WORDS: usize> Entries<WAYS, WORDS> {
         requires words_fit { WORDS < 2 ^ 32 }
         requires room { length self.old.buffer < self.old.room }
         ensures read { (ss : List StandingValue) (bs : List BufferValue) → AreThere (length self.old.ways) ss bs self.old whole →
-            IfOk result (BufferRead (length self.old.ways) ss (read_buffered (length self.old.ways) (bare WAYS WORDS self.old.sets) bs at.old (drop at.old words.now)) words.now at.new self.new) }
-        ensures refused { (bs : List BufferValue) → IfErr result (λ e. read_buffered (length self.old.ways) (bare WAYS WORDS self.old.sets) bs at.old (drop at.old words.now) ≡ Err e) }
+            IfOk result (BufferRead (length self.old.ways) ss
+            (read_buffered (length self.old.ways) (bare WAYS WORDS self.old.sets) bs at.old
+            (drop at.old words.now)) words.now at.new self.new) }
+        ensures refused { (bs : List BufferValue) →
+            IfErr result (λ e. read_buffered (length self.old.ways) (bare WAYS WORDS self.old.sets) bs at.old
+            (drop at.old words.now)
+            ≡ Err e) }
         ensures count { length self.new.buffer ≤ length self.old.buffer + 1 }
         ensures sizes { IsSized self.old self.new }
         ensures inside { at.new ≤ length words.now }
@@ -287,9 +316,13 @@ impl<const WAYS: usize, const WORDS: usize> Entries<WAYS, WORDS> {
         requires words_fit { WORDS < 2 ^ 32 }
         requires room { length self.old.buffer + count ≤ self.old.room }
         ensures read { (ss : List StandingValue) → AreThere (length self.old.ways) ss [] self.old whole →
-            IfOk result (BufferRead (length self.old.ways) ss (times (read_buffered (length self.old.ways) (bare WAYS WORDS self.old.sets)) count [] at.old (drop at.old words.now)) words.now at.new self.new) }
+            IfOk result (BufferRead (length self.old.ways) ss
+            (times (read_buffered (length self.old.ways) (bare WAYS WORDS self.old.sets)) count
+            [] at.old (drop at.old words.now)) words.now at.new self.new) }
         ensures refused { (ss : List StandingValue) → AreThere (length self.old.ways) ss [] self.old whole →
-            IfErr result (λ e. times (read_buffered (length self.old.ways) (bare WAYS WORDS self.old.sets)) count [] at.old (drop at.old words.now) ≡ Err e) }
+            IfErr result (λ e. times (read_buffered (length self.old.ways) (bare WAYS WORDS self.old.sets))
+            count [] at.old (drop at.old words.now)
+            ≡ Err e) }
         ensures sizes { IsSized self.old self.new }
         ensures inside { at.new ≤ length words.now }
     {
@@ -305,8 +338,14 @@ impl<const WAYS: usize, const WORDS: usize> Entries<WAYS, WORDS> {
         requires few { length words.now < 2 ^ 32 }
         requires inside { at.old ≤ length words.now }
         requires words_fit { WORDS < 2 ^ 32 }
-        ensures read { IfOk result (EntriesRead (length self.old.ways) (entries_read (length self.old.ways) WAYS WORDS self.old.sets self.old.room at.old (drop at.old words.now)) words.now at.new self.new) }
-        ensures refused { IfErr result (λ e. entries_read (length self.old.ways) WAYS WORDS self.old.sets self.old.room at.old (drop at.old words.now) ≡ Err e) }
+        ensures read { IfOk result
+            (EntriesRead (length self.old.ways)
+            (entries_read (length self.old.ways) WAYS WORDS self.old.sets self.old.room at.old
+            (drop at.old words.now)) words.now at.new self.new) }
+        ensures refused { IfErr result
+            (λ e. entries_read (length self.old.ways) WAYS WORDS self.old.sets self.old.room at.old
+            (drop at.old words.now)
+            ≡ Err e) }
         ensures sizes { IsSized self.old self.new }
         ensures inside { at.new ≤ length words.now }
     {

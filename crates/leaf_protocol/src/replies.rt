@@ -1,6 +1,7 @@
 //! The replies of a leaf.
 
-ghost use Rattle.std.specs.Prelude.{◌≡◌, ℕ, ◌^◌, ◌≤◌, ◌<◌, ◌↔◌, ◌++◌, ◌∷◌, [], drop, length, nat_le, option_copied, slice_get, IfErr, IfOk, IsErr, IsTrue, OnErr, OnOk, is_err};
+ghost use Rattle.std.specs.Prelude.{◌≡◌, ℕ, ◌^◌, ◌≤◌, ◌<◌, ◌↔◌, ◌++◌, ◌∷◌, [], drop, length, nat_le, option_copied};
+ghost use Rattle.std.specs.Prelude.{slice_get, IfErr, IfOk, IsErr, IsTrue, OnErr, OnOk, is_err};
 ghost use Rattle.std.specs.List.{flat_map};
 ghost use Rattle.leaf_protocol.specs.DdmText.Adds.{Adds};
 ghost use Rattle.leaf_protocol.specs.StateWords.Begins.{Begins};

@@ -11,7 +11,9 @@ ghost use Rattle.leaf_protocol.specs.FlatModel.Flat.{asked_item, has_reserved};
 ghost use Rattle.rv_hart.specs.Steps.{IsReady};
 ghost use Rattle.leaf_protocol.specs.TreeModel.State.States.{is_reading};
 ghost use Rattle.leaf_protocol.specs.TreeModel.State.Leaf.{free_way, leaf_entry, state_at, waiting_item};
-ghost use Rattle.leaf_protocol.specs.TreeModel.Turns.HartTurn.{change_here, deed_by_need, deed_of_change, deed_to_fetch, halts, leaf_step, need_of, need_to_read, need_to_write, upgrades, words_here};
+ghost use Rattle.leaf_protocol.specs.TreeModel.Turns.HartTurn.{change_here, deed_by_need, deed_of_change};
+ghost use Rattle.leaf_protocol.specs.TreeModel.Turns.HartTurn.{deed_to_fetch, halts, leaf_step, need_of};
+ghost use Rattle.leaf_protocol.specs.TreeModel.Turns.HartTurn.{need_to_read, need_to_write, upgrades, words_here};
 ghost use Rattle.leaf_protocol.specs.BusyLaws.Reasons.{busy_cause, hart_reason};
 ghost use Rattle.leaf_protocol.specs.LrScLaws.Failing.{leaf_fails, sc_failed};
 ghost use Rattle.leaf_protocol.specs.Entries.{standing_place};
@@ -81,7 +83,9 @@ impl<const WAYS: usize, const WORDS: usize> Leaf<WAYS, WORDS> {
         answer: &mut TurnAnswer,
     )
         requires { CanTry WORDS items.now self.old }
-        ensures { IsDone now self.old (deed_by_need code.now items.now victim self.old (need_of (ask_of code.now items.now self.old.hart) self.old)) answer.new self.new }
+        ensures { IsDone now self.old
+            (deed_by_need code.now items.now victim self.old
+            (need_of (ask_of code.now items.now self.old.hart) self.old)) answer.new self.new }
     {
         let mut step = Step::Advance;
         self.find_step(code, items, &mut step);
@@ -141,8 +145,18 @@ impl<const WAYS: usize, const WORDS: usize> Leaf<WAYS, WORDS> {
         requires can { CanTry WORDS _items.now self.old }
         requires step { IsStep WORDS _code.now _items.now self.old.hart step.now }
         requires ready { IsReady (ask_of _code.now _items.now self.old.hart) }
-        ensures answer { answer.new ≡ Retired (record { key = now; hart = self.old.number; pc = self.old.hart.pc; effect = (finish_of _code.now _items.now self.old.hart words.old stores).effect }) }
-        ensures after { self.new ≡ record self.old { hart = (finish_of _code.now _items.now self.old.hart words.old stores).hart; done = self.old.done + 1 } }
+        ensures answer { answer.new
+            ≡ Retired (record {
+              key = now;
+              hart = self.old.number;
+              pc = self.old.hart.pc;
+              effect = (finish_of _code.now _items.now self.old.hart words.old stores).effect;
+            }) }
+        ensures after { self.new
+            ≡ record self.old {
+              hart = (finish_of _code.now _items.now self.old.hart words.old stores).hart;
+              done = self.old.done + 1;
+            } }
         ensures words { words.new ≡ (finish_of _code.now _items.now self.old.hart words.old stores).words }
     {
         let pc = self.hart.pc();
@@ -189,7 +203,9 @@ impl<const WAYS: usize, const WORDS: usize> Leaf<WAYS, WORDS> {
         requires can { CanTry WORDS items.now self.old }
         requires step { IsStep WORDS code.now items.now self.old.hart step.now }
         requires asks { ask_of code.now items.now self.old.hart ≡ Conditional item }
-        ensures { IsDone now self.old (deed_by_need code.now items.now victim self.old (need_of (Conditional item) self.old)) answer.new self.new }
+        ensures { IsDone now self.old
+            (deed_by_need code.now items.now victim self.old (need_of (Conditional item) self.old)) answer.new
+            self.new }
     {
         if self.reservation.covers(item) {
             self.write(code, items, step, now, item, true, victim, answer);
@@ -234,7 +250,9 @@ impl<const WAYS: usize, const WORDS: usize> Leaf<WAYS, WORDS> {
         requires can { CanTry WORDS items.now self.old }
         requires step { IsStep WORDS code.now items.now self.old.hart step.now }
         requires asks { ask_of code.now items.now self.old.hart ≡ NeedsShared item lr }
-        ensures { IsDone now self.old (deed_by_need code.now items.now victim self.old (need_to_read item (leaf_entry item self.old))) answer.new self.new }
+        ensures { IsDone now self.old
+            (deed_by_need code.now items.now victim self.old (need_to_read item (leaf_entry item self.old)))
+            answer.new self.new }
     {
         match self.entries.words(item) {
             Some(words) => self.load(code, items, step, now, item, lr, words, answer),
@@ -284,7 +302,9 @@ impl<const WAYS: usize, const WORDS: usize> Leaf<WAYS, WORDS> {
         requires step { IsStep WORDS code.now items.now self.old.hart step.now }
         requires asks { ask_of code.now items.now self.old.hart ≡ write_ask conditional item }
         requires reserved { conditional ≡ true → has_reserved self.old.reservation item ≡ true }
-        ensures { IsDone now self.old (deed_by_need code.now items.now victim self.old (need_to_write item (leaf_entry item self.old))) answer.new self.new }
+        ensures { IsDone now self.old
+            (deed_by_need code.now items.now victim self.old (need_to_write item (leaf_entry item self.old)))
+            answer.new self.new }
     {
         let Some((state, place)) = self.entries.seek(item) else {
             self.fetch(item, LeafState::ReadingWaiting, victim, answer);
@@ -350,7 +370,10 @@ impl<const WAYS: usize, const WORDS: usize> Leaf<WAYS, WORDS> {
         requires absent { leaf_entry item self.old ≡ None }
         requires reading { is_reading state ≡ true }
         requires alone { waiting_item self.old.ways self.old.buffer ≡ None }
-        ensures { (now : KeyValue) → IsDone now self.old (deed_to_fetch item state victim self.old (free_way self.old.sizes item self.old.ways)) answer.new self.new }
+        ensures { (now : KeyValue) →
+            IsDone now self.old
+            (deed_to_fetch item state victim self.old (free_way self.old.sizes item self.old.ways)) answer.new
+            self.new }
     {
         let Some(way) = self.entries.make_way(item, victim) else {
             *answer = TurnAnswer::Busy(BusyCause::BufferFull(self.number));

@@ -5,7 +5,8 @@ ghost use Rattle.std.specs.List.{flat_map};
 ghost use Rattle.leaf_protocol.specs.DdmText.Adds.{Adds};
 ghost use Rattle.leaf_protocol.specs.StateWords.Begins.{Begins};
 ghost use Rattle.leaf_protocol.specs.StateWords.Numbers.{slot_words};
-ghost use Rattle.leaf_protocol.specs.StateWords.Parts.{buffer_words, counted, hart_words, leaf_words, standing, standing_at, standing_in, standing_words};
+ghost use Rattle.leaf_protocol.specs.StateWords.Parts.{buffer_words, counted, hart_words, leaf_words, standing};
+ghost use Rattle.leaf_protocol.specs.StateWords.Parts.{standing_at, standing_in, standing_words};
 ghost use Rattle.leaf_protocol.specs.Leaf.{request_value};
 
 use crate::entries::Entries;
@@ -114,7 +115,9 @@ impl<const WAYS: usize, const WORDS: usize> Entries<WAYS, WORDS> {
     #[tactic(auto, using(crate::proofs::Standing::words_of_way, crate::proofs::Standing::free_way))]
     fn write_set(&self, set: u32, out: &mut Vec<u32>) -> Result<(), NoMemory>
         requires { set < self.now.sets }
-        ensures ok { OnOk result (Adds out.old.items out.new.items (flat_map standing_words (standing_in self.now.sets self.now.ways WAYS set))) }
+        ensures ok { OnOk result
+            (Adds out.old.items out.new.items
+            (flat_map standing_words (standing_in self.now.sets self.now.ways WAYS set))) }
         ensures err { OnErr result (Begins out.old.items out.new.items) }
     {
         for way in 0..self.memory.ways() {

@@ -50,8 +50,12 @@ pub record HasItsLr (items : ItemTable) (earlier : List Op) (h address : ℕ) : 
 
 -- so it is of each SC that stores
 abbrev pub EachScHasItsLr : ItemTable → List Op → Type 0
-EachScHasItsLr items ops = (earlier later : List Op) (s : Op) (address was word : ℕ) → ops ≡ earlier ++ s ∷ later → s.effect ≡ ScOk address was word → HasItsLr items earlier s.hart address
+EachScHasItsLr items ops =
+    (earlier later : List Op) (s : Op) (address was word : ℕ) → ops ≡ earlier ++ s ∷ later →
+    s.effect ≡ ScOk address was word → HasItsLr items earlier s.hart address
 
 -- in each legal list from a start
 abbrev pub LegalScsHaveTheirLr : Type 0
-LegalScsHaveTheirLr = (code : List CodeWord) (items : ItemTable) (start : Start) (words : List (List ℕ)) → HasWholeWords items → (ops : List Op) → Legal code items (flat_start start words) ops → EachScHasItsLr items ops
+LegalScsHaveTheirLr =
+    (code : List CodeWord) (items : ItemTable) (start : Start) (words : List (List ℕ)) → HasWholeWords items →
+    (ops : List Op) → Legal code items (flat_start start words) ops → EachScHasItsLr items ops

@@ -50,7 +50,9 @@ is_unreserved (Ask.Halt cause) reserved = false
 
 -- the leaf's hart hasn't halted, no entry of its leaf waits for a transaction, and it comes to such an SC
 abbrev pub leaf_fails : List CodeWord → ItemTable → LeafValue → Bool
-leaf_fails code items v = if is_some v.hart.halt || is_some (waiting_item v.ways v.buffer) then false else is_unreserved (ask_of code items v.hart) v.reservation
+leaf_fails code items v =
+    if is_some v.hart.halt || is_some (waiting_item v.ways v.buffer) then false
+    else is_unreserved (ask_of code items v.hart) v.reservation
 
 abbrev pub fails_here : List CodeWord → ItemTable → Where → Node → Bool
 fails_here code items w (leaf_node v) = leaf_fails code items v
@@ -62,7 +64,9 @@ fails_unreserved t m = unwrap_or (read_in (named_by t) (fails_here m.code m.item
 
 -- an SC completes as failed exactly there: one that completes with its reservation has stored
 abbrev pub LeafFailsUnreserved : Type 0
-LeafFailsUnreserved = (code : List CodeWord) (items : ItemTable) (now : Key) (victim : ℕ) (v : LeafValue) → sc_failed (leaf_step code items now victim v).answer ≡ leaf_fails code items v
+LeafFailsUnreserved =
+    (code : List CodeWord) (items : ItemTable) (now : Key) (victim : ℕ) (v : LeafValue) →
+    sc_failed (leaf_step code items now victim v).answer ≡ leaf_fails code items v
 
 abbrev pub TurnFailsUnreserved : Type 0
 TurnFailsUnreserved = (t : Turn) (m : MachineValue) → sc_failed (turn_of t m).answer ≡ fails_unreserved t m

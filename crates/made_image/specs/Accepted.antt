@@ -7,4 +7,6 @@ use Rattle.made_image.specs.MadeImage.{made_image, made_program, made_segments, 
 
 abbrev pub MadeImagesLoad : Type 0
 MadeImagesLoad =
-    (item_bytes seed rounds : ℕ) → IsItemSize item_bytes → rounds ≤ 50000 → image_of item_bytes (made_image seed rounds) ≡ Ok (image_value 0x10000 (made_segments (program_bytes (made_program seed rounds))))
+    (item_bytes seed rounds : ℕ) → IsItemSize item_bytes → rounds ≤ 50000 →
+    image_of item_bytes (made_image seed rounds)
+    ≡ Ok (image_value 0x10000 (made_segments (program_bytes (made_program seed rounds))))

@@ -68,7 +68,9 @@ fn first_child(machine: &AnyMachine, asked: &Asked, bus: BusNo, kids: u32) -> Op
 /// The first turn of a bus that would be granted.
 fn first_of_bus(machine: &AnyMachine, bus: BusNo) -> Option<Turn>
     requires { is_part (bus_of_number bus) (machine_state machine.now).machine ≡ true }
-    ensures { result ≡ find (would_grant (machine_state machine.now).machine) (turns_of_bus bus (unwrap_or (child_count bus (machine_state machine.now).machine) 0)) }
+    ensures { result
+        ≡ find (would_grant (machine_state machine.now).machine)
+        (turns_of_bus bus (unwrap_or (child_count bus (machine_state machine.now).machine) 0)) }
 {
     if down_goes(machine, bus) {
         return Some(Turn::Down { bus });

@@ -11,7 +11,17 @@ pub record OpList : Type 0 where
   pub spare : ℕ
 
 abbrev pub moment_of : Op → Moment
-moment_of op = record { s0 = op.key.s0; c0 = op.key.c0; s1 = op.key.s1; c1 = op.key.c1; s2 = op.key.s2; c2 = op.key.c2; s3 = op.key.s3; c3 = op.key.c3; hart = op.hart }
+moment_of op = record {
+  s0 = op.key.s0;
+  c0 = op.key.c0;
+  s1 = op.key.s1;
+  c1 = op.key.c1;
+  s2 = op.key.s2;
+  c2 = op.key.c2;
+  s3 = op.key.s3;
+  c3 = op.key.c3;
+  hart = op.hart;
+}
 
 abbrev pub no_moment : Moment
 no_moment = record { s0 = 0; c0 = 0; s1 = 0; c1 = 0; s2 = 0; c2 = 0; s3 = 0; c3 = 0; hart = 0 }

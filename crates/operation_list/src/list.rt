@@ -1,6 +1,7 @@
 //! Operations in the order in which they completed.
 
-ghost use Rattle.std.specs.Prelude.{◌≡◌, ◌<◌, ◌≤◌, ◌+◌, ◌-◌, ◌^◌, ◌++◌, ◌∷◌, [], length, max, is_ok, slice_index_or, OnErr, OnOk, vec_capacity, if◌then◌else◌};
+ghost use Rattle.std.specs.Prelude.{◌≡◌, ◌<◌, ◌≤◌, ◌+◌, ◌-◌, ◌^◌, ◌++◌, ◌∷◌, [], length, max, is_ok, slice_index_or};
+ghost use Rattle.std.specs.Prelude.{OnErr, OnOk, vec_capacity, if◌then◌else◌};
 ghost use Rattle.ddm_types.specs.declared.operations.Op.{Op};
 ghost use Rattle.ddm_types.specs.Keys.{key_less};
 ghost use Rattle.operation_list.specs.Kept.{Extends, is_at, moment_of};

@@ -46,7 +46,8 @@ pub fn moment_of(op: &Op) -> Moment
 }
 
 impl Moment {
-    /// Whether it is the moment of an operation. All its numbers are compared, whichever differs: so the compiler takes several at once, and
+    /// Whether it is the moment of an operation. All its numbers are compared, whichever differs: so the compiler
+    /// takes several at once, and
     /// the processor has one branch to guess.
     #[inline(always)]
     pub fn is_of(&self, op: &Op) -> bool

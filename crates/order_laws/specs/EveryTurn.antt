@@ -15,7 +15,9 @@ EveryTurnKeepsTime = (t : Turn) (m : MachineValue) → IsShaped m → IsMachineO
 
 -- it keeps the core rules, with the same start
 abbrev pub TurnKeepsCore : Type 0
-TurnKeepsCore = (t : Turn) (m : MachineValue) (s : FlatMachine) → IsShaped m → IsMachineOk m → IsTimed m → IsCore s m → IsCore s (turn_of t m).machine
+TurnKeepsCore =
+    (t : Turn) (m : MachineValue) (s : FlatMachine) → IsShaped m → IsMachineOk m → IsTimed m → IsCore s m →
+    IsCore s (turn_of t m).machine
 
 -- ---- a run
 

@@ -8,7 +8,8 @@ use Rattle.order_laws.specs.TreeModel.State.Shape.{IsShaped}
 use Rattle.order_laws.specs.TreeModel.Turns.Machine.{turn_of}
 use Rattle.order_laws.specs.TreeRules.Statements.{Holds}
 use Rattle.order_laws.specs.TreeRules.Bus.Rules.{items_of_machine, IsMachineOk}
-use Rattle.order_laws.specs.TreeRules.Order.Rules.{commands_past_taken, reservations_kept, core_rule, claims_after_copies, copy_rule, IsTimed, IsCore}
+use Rattle.order_laws.specs.TreeRules.Order.Rules.{commands_past_taken, reservations_kept, core_rule}
+use Rattle.order_laws.specs.TreeRules.Order.Rules.{claims_after_copies, copy_rule, IsTimed, IsCore}
 use Rattle.order_laws.specs.Moves.CopiesMoved.{IsBusTurn}
 
 -- the machine after the turn
@@ -29,8 +30,13 @@ ClaimsAfterCopies s m t = (x : ℕ) → x < items_of_machine m → Holds (copy_r
 
 -- with these a bus's turn keeps the core rules, with the same start
 abbrev pub BusTurnKeepsCore : Type 0
-BusTurnKeepsCore = (s : FlatMachine) (m : MachineValue) (t : Turn) → IsShaped m → IsMachineOk m → IsTimed m → IsBusTurn t → CommandsPastAfter s m t → ReservationsAfter s m t → ClaimsAfterCopies s m t → IsCore s m → IsCore s (after_bus t m)
+BusTurnKeepsCore =
+    (s : FlatMachine) (m : MachineValue) (t : Turn) → IsShaped m → IsMachineOk m → IsTimed m → IsBusTurn t →
+    CommandsPastAfter s m t → ReservationsAfter s m t → ClaimsAfterCopies s m t → IsCore s m →
+    IsCore s (after_bus t m)
 
 -- it keeps each claim after the ends of the copies beside it
 abbrev pub BusTurnKeepsClaims : Type 0
-BusTurnKeepsClaims = (s : FlatMachine) (m : MachineValue) (t : Turn) → IsShaped m → IsMachineOk m → IsTimed m → IsBusTurn t → IsCore s m → ClaimsAfterCopies s m t
+BusTurnKeepsClaims =
+    (s : FlatMachine) (m : MachineValue) (t : Turn) → IsShaped m → IsMachineOk m → IsTimed m → IsBusTurn t →
+    IsCore s m → ClaimsAfterCopies s m t

@@ -19,4 +19,6 @@ HartTurnKeepsTime = (hart victim : ℕ) (m : MachineValue) → IsShaped m → Is
 
 -- and the core rules, with the same start
 abbrev pub HartTurnKeepsCore : Type 0
-HartTurnKeepsCore = (s : FlatMachine) (hart victim : ℕ) (m : MachineValue) → IsShaped m → IsMachineOk m → IsTimed m → IsCore s m → IsCore s (after_hart hart victim m)
+HartTurnKeepsCore =
+    (s : FlatMachine) (hart victim : ℕ) (m : MachineValue) → IsShaped m → IsMachineOk m → IsTimed m → IsCore s m →
+    IsCore s (after_hart hart victim m)

@@ -12,12 +12,16 @@ use Rattle.order_laws.specs.Moves.CopiesMoved.{IsBusTurn}
 
 -- a turn that completes no instruction keeps the rules of time
 abbrev pub TurnKeepsTime : Type 0
-TurnKeepsTime = (t : Turn) (m : MachineValue) → IsShaped m → IsTopOk m.top → IsTimed m → (turn_of t m).machine.ops ≡ m.ops → IsTimed (turn_of t m).machine
+TurnKeepsTime =
+    (t : Turn) (m : MachineValue) → IsShaped m → IsTopOk m.top → IsTimed m → (turn_of t m).machine.ops ≡ m.ops →
+    IsTimed (turn_of t m).machine
 
 -- every turn keeps the rule of commands: a read, an erase or an inject in a down list has a greater stamp than the last that the
 -- directory's own bus took over
 abbrev pub TurnKeepsCommands : Type 0
-TurnKeepsCommands = (t : Turn) (m : MachineValue) → IsShaped m → IsTopOk m.top → IsTimed m → CommandsArePastTaken m → CommandsArePastTaken (turn_of t m).machine
+TurnKeepsCommands =
+    (t : Turn) (m : MachineValue) → IsShaped m → IsTopOk m.top → IsTimed m → CommandsArePastTaken m →
+    CommandsArePastTaken (turn_of t m).machine
 
 -- it completes no instruction, and keeps the rules of time
 abbrev pub BusTurnKeepsTime : Type 0

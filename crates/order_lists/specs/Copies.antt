@@ -22,7 +22,10 @@ ends_before_op m k o = test_of (ended_before k (op_key (depth_of m) o))
 
 -- the copy's words are those after any set of operations that has each change of the item but those after the copy's end
 abbrev pub HasChangesToItsEnd : FlatMachine → MachineValue → ℕ → CopyAt → Type 0
-HasChangesToItsEnd s m x k = (chosen : Op → Bool) → AllByRecursion (λ o. changes_item m.items x o.effect ≡ true → chosen o ≡ not (ends_before_op m k o)) m.ops → k.words ≡ words_where s m.items m.ops x chosen
+HasChangesToItsEnd s m x k =
+    (chosen : Op → Bool) →
+    AllByRecursion (λ o. changes_item m.items x o.effect ≡ true → chosen o ≡ not (ends_before_op m k o)) m.ops →
+    k.words ≡ words_where s m.items m.ops x chosen
 
 -- the copy's end comes after its clock
 abbrev pub EndsAfterItsClock : CopyAt → Type 0

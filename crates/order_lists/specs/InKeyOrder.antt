@@ -23,7 +23,10 @@ pub record InKeyOrder (ops sorted : List Op) : Type 0 where
 
 -- one more operation stands behind the lesser ones and before the greater ones
 abbrev pub StandsInOrder : List Op → Op → Type 0
-StandsInOrder ops o = sorted_ops (ops ++ o ∷ []) ≡ filter (λ p. key_less p.key o.key) (sorted_ops ops) ++ o ∷ filter (λ p. key_less o.key p.key) (sorted_ops ops)
+StandsInOrder ops o =
+    sorted_ops (ops ++ o ∷ [])
+    ≡ filter (λ p. key_less p.key o.key) (sorted_ops ops) ++ o
+    ∷ filter (λ p. key_less o.key p.key) (sorted_ops ops)
 
 -- ---- one more operation, in its place among those of a legal list
 
@@ -45,4 +48,8 @@ pub record StaysLegal (code : List CodeWord) (items : ItemTable) (s without : Fl
   pub behind : FlatMachine
   pub lesser : legal_run code items s (filter (λ p. key_less p.key o.key) (sorted_ops ops)) ≡ Some behind
   pub hart : (flat_hart without o.hart).hart ≡ (flat_hart behind o.hart).hart
-  pub legal : (stepped : FlatMachine) → legal_step code items behind o ≡ Some stepped → (end : FlatMachine) × (legal_run code items s (sorted_ops (ops ++ o ∷ [])) ≡ Some end) × EndsWith items o without stepped end
+  pub legal :
+      (stepped : FlatMachine) → legal_step code items behind o ≡ Some stepped →
+      (end : FlatMachine)
+      × (legal_run code items s (sorted_ops (ops ++ o ∷ [])) ≡ Some end)
+      × EndsWith items o without stepped end

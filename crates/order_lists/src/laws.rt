@@ -36,8 +36,10 @@ pub fn own_order_kept()
 /// One more operation leaves the sorted list legal, where it comes after those of its hart and those on the item that it
 /// changes.
 pub fn one_more_stays_legal()
-    ensures { (code : List CodeWord) (items : ItemTable) (s without : FlatMachine) (ops : List Op) (o : Op) → HasWholeWords items → Holds (each_pair keys_differ (ops ++ o ∷ []))
-        → AllByRecursion (ComesAfter items o) ops → legal_run code items s (sorted_ops ops) ≡ Some without → StaysLegal code items s without ops o }
+    ensures { (code : List CodeWord) (items : ItemTable) (s without : FlatMachine) (ops : List Op) (o : Op) →
+        HasWholeWords items → Holds (each_pair keys_differ (ops ++ o ∷ []))
+        → AllByRecursion (ComesAfter items o) ops → legal_run code items s (sorted_ops ops) ≡ Some without →
+        StaysLegal code items s without ops o }
 {}
 
 /// A copy's words are those after any set of operations that has each change of the item but those after the copy's end; and
@@ -45,7 +47,8 @@ pub fn one_more_stays_legal()
 pub fn copy_words_known()
     ensures words { (s : FlatMachine) (m : MachineValue) (x : ℕ) → IsShaped m → IsTimed m → IsCore s m → x < items_of_machine m
         → AllByRecursion (HasChangesToItsEnd s m x) (copies_of x m) }
-    ensures ends { (s : FlatMachine) (m : MachineValue) (x : ℕ) → IsShaped m → IsTimed m → IsCore s m → AllByRecursion EndsAfterItsClock (copies_of x m) }
+    ensures ends { (s : FlatMachine) (m : MachineValue) (x : ℕ) → IsShaped m → IsTimed m → IsCore s m →
+        AllByRecursion EndsAfterItsClock (copies_of x m) }
 {}
 
 /// Where a leaf holds an item Exclusive, each operation on it is less than the leaf's present key, and no other copy goes on.

@@ -6,5 +6,6 @@ use Rattle.outcome_model.specs.Table.{counted, tallied, placed, in_order, table_
 
 -- Where a proof says `unfolding outcomes_compute`, the outcomes of runs compute.
 unfoldable pub outcomes_compute : Unit {0}
-unfolding runs_compute end_text ends_text outcome_of seed_outcome outcome_table outcomes_text counted tallied placed in_order table_of line_text table_text
+unfolding runs_compute end_text ends_text outcome_of seed_outcome outcome_table outcomes_text counted tallied placed
+    in_order table_of line_text table_text
 outcomes_compute = tt

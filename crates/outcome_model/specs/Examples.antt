@@ -30,7 +30,16 @@ word_bytes w = w % 256 ∷ w / 256 % 256 ∷ w / 65536 % 256 ∷ w / 16777216 �
 
 -- code at 0x10000, where the harts begin
 abbrev pub program : List ℕ → ImageValue
-program code = record { entry = 0x10000; segments = record { header = 0; vaddr = 0x10000; flags = 5; bytes = flat_map word_bytes code; memsz = 4 * length code } ∷ [] }
+program code = record {
+  entry = 0x10000;
+  segments = record {
+    header = 0;
+    vaddr = 0x10000;
+    flags = 5;
+    bytes = flat_map word_bytes code;
+    memsz = 4 * length code;
+  } ∷ [];
+}
 
 -- addi a7, zero, 1000; addi a0, zero, 0x48; ecall
 abbrev pub one_byte : MachineValue

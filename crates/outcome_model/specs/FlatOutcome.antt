@@ -34,5 +34,8 @@ pub record IsLegalOutcome (code : List CodeWord) (items : ItemTable) (s : FlatMa
 
 -- each line of a table of seeds from the start
 abbrev pub OutcomesAreLegal : Type 0
-OutcomesAreLegal = (t : TreeValue) (i : ImageValue) (m : MachineValue) → IsTree t → start_of t i ≡ Ok m → (shape : ShapeView) (turns first count : ℕ)
-    → AllByRecursion (λ (l : OutcomeLine). IsLegalOutcome m.code m.items (flat_start_of t i) l.outcome) (outcome_table shape turns m first count)
+OutcomesAreLegal =
+    (t : TreeValue) (i : ImageValue) (m : MachineValue) → IsTree t → start_of t i ≡ Ok m →
+    (shape : ShapeView) (turns first count : ℕ)
+    → AllByRecursion (λ (l : OutcomeLine). IsLegalOutcome m.code m.items (flat_start_of t i) l.outcome)
+    (outcome_table shape turns m first count)

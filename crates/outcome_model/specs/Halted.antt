@@ -17,7 +17,9 @@ all_halted m = list_all has_halted (machine_leaves m)
 
 -- then no turn changes its outcome, nor that they have halted
 abbrev pub HaltedStays : Type 0
-HaltedStays = (t : Turn) (m : MachineValue) → all_halted m ≡ true → (outcome_of (turn_of t m).machine ≡ outcome_of m) × (all_halted (turn_of t m).machine ≡ true)
+HaltedStays =
+    (t : Turn) (m : MachineValue) → all_halted m ≡ true →
+    (outcome_of (turn_of t m).machine ≡ outcome_of m) × (all_halted (turn_of t m).machine ≡ true)
 
 -- so a run may end there
 abbrev pub LaterTurnsChangeNoOutcome : Type 0

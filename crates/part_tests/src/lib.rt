@@ -1,4 +1,5 @@
-//! The calls of the parts of a leaf and of a bus, as tests: how they are used, and that those that take memory succeed where there is enough.
+//! The calls of the parts of a leaf and of a bus, as tests: how they are used, and that those that take memory
+//! succeed where there is enough.
 #![tactic(auto)]
 
 #[cfg(test)]

@@ -35,8 +35,16 @@ pub record Records (r : Recording) (why : RunEnd) (count : ℕ) (lines : List �
   pub text : schedule_text r.turns ≡ lines
 
 pub record SmallRecordings : Type 0 where
-  pub even : Records (recorded_of SeedKind.Even two_leaves 0 20) RunEnd.Halted 49 (codes "h 0 124\nh 1 239\nh 0 216\nh 0 173\nh 0 204\nh 1 229\ng 0 q 1\ng 0 r 0\nh 1 87\nh 1 31\nh 1 60\nend\n")
-  pub skewed : Records (recorded_of SeedKind.Skewed two_leaves 0 20) RunEnd.Halted 169 (codes "h 0 124\nh 0 216\nh 0 173\nh 0 204\nh 1 183\nh 1 139\ng 0 q 1\ng 0 r 0\nh 1 97\nh 1 98\nh 1 20\nend\n")
+  pub even :
+      Records (recorded_of SeedKind.Even two_leaves 0 20) RunEnd.Halted 49
+      (codes
+      "h 0 124\nh 1 239\nh 0 216\nh 0 173\nh 0 204\nh 1 229\ng 0 q 1\ng 0 r 0\nh 1 87\nh 1 31\nh 1 60\nend\n")
+  pub skewed :
+      Records (recorded_of SeedKind.Skewed two_leaves 0 20) RunEnd.Halted 169
+      (codes
+      "h 0 124\nh 0 216\nh 0 173\nh 0 204\nh 1 183\nh 1 139\ng 0 q 1\ng 0 r 0\nh 1 97\nh 1 98\nh 1 20\nend\n")
   -- rates of the turns of several buses
-  pub deep : Records (recorded_of SeedKind.Skewed four_leaves 4 9) RunEnd.Turns 35 (codes "h 0 100\nh 1 88\nh 2 111\nh 2 9\nh 0 80\nh 1 80\nh 0 85\ng 2 q 0\nh 0 180\nend\n")
+  pub deep :
+      Records (recorded_of SeedKind.Skewed four_leaves 4 9) RunEnd.Turns 35
+      (codes "h 0 100\nh 1 88\nh 2 111\nh 2 9\nh 0 80\nh 1 80\nh 0 85\ng 2 q 0\nh 0 180\nend\n")
   pub none : Records (recorded_of SeedKind.Even two_leaves 0 0) RunEnd.Turns 0 (codes "end\n")

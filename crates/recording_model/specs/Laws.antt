@@ -15,7 +15,8 @@ use Rattle.recording_model.specs.declared.RunEnd.{RunEnd}
 use Rattle.recording_model.specs.declared.SeedKind.{SeedKind}
 use Rattle.recording_model.specs.Doing.{does_something}
 use Rattle.recording_model.specs.LetBy.{Draw}
-use Rattle.recording_model.specs.Recording.{Recording, draw_does, drawn_limit, idle_limit, made_turns, recording_from, recording_of, recording_within}
+use Rattle.recording_model.specs.Recording.{Recording, draw_does, drawn_limit, idle_limit, made_turns, recording_from}
+use Rattle.recording_model.specs.Recording.{recording_of, recording_within}
 
 -- a turn that does nothing leaves the whole machine as it is
 abbrev pub DoesNothing : Type 0

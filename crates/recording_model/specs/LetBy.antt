@@ -1,7 +1,8 @@
 -- Which of the turns that a seed draws are let by.
 -- Letters: t is a turn, g a generator, w its next word and the generator after it.
 -- To be believed: it is what is made of a seed.
-use Rattle.std.specs.Prelude.{ℕ, zero, suc, ◌+◌, ◌*◌, ◌%◌, ◌^◌, Bool, true, nat_eq, List, [], ◌∷◌, length, map, sum_by, take, slice_index_or}
+use Rattle.std.specs.Prelude.{ℕ, zero, suc, ◌+◌, ◌*◌, ◌%◌, ◌^◌, Bool, true, nat_eq, List, [], ◌∷◌, length, map}
+use Rattle.std.specs.Prelude.{sum_by, take, slice_index_or}
 use Rattle.rand_pcg.specs.Lcg.{Lcg, started, increment_of}
 use Rattle.rand_pcg.specs.Pcg.{pcg32, multiplier_64}
 use Rattle.recording_model.specs.DdmTypes.declared.turns.Turn.{Turn}
@@ -71,7 +72,9 @@ let_by_rate (suc r) g = let w = pcg32 g in (nat_eq (w.0 % 2 ^ suc r) 0, w.1)
 
 unfoldable pub skewed_draws : ShapeView → List ℕ → Lcg → List Turn → List Draw
 skewed_draws shape rates g [] = []
-skewed_draws shape rates g (t ∷ ts) = let by = let_by_rate (rate_of shape rates t) g in record { turn = t; let_by = by.0 } ∷ skewed_draws shape rates by.1 ts
+skewed_draws shape rates g (t ∷ ts) =
+    let by = let_by_rate (rate_of shape rates t) g in
+    record { turn = t; let_by = by.0 } ∷ skewed_draws shape rates by.1 ts
 
 abbrev pub even_draw : Turn → Draw
 even_draw t = record { turn = t; let_by = true }

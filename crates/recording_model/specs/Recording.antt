@@ -60,7 +60,9 @@ unfoldable pub recording_from : ℕ → ℕ → List Draw → MachineValue → R
 recording_from left idle [] m = unless_ended (end_before left idle m) m (ended RunEnd.Drawn m)
 recording_from left idle (d ∷ ds) m =
     let did = draw_does d m in
-    unless_ended (end_before left idle m) m (with_draw d did (recording_from (if did then left - 1 else left) (if did then 0 else idle + 1) ds (after_draw d m)))
+    unless_ended (end_before left idle m) m
+    (with_draw d did (recording_from (if did then left - 1 else left) (if did then 0 else idle + 1) ds
+    (after_draw d m)))
 
 -- the run of a seed's first so many turns, of which so many may be recorded
 abbrev pub recording_within : ℕ → SeedKind → ShapeView → ℕ → ℕ → MachineValue → Recording

@@ -9,7 +9,9 @@ pub record ArrivedList (X : Type 0) : Type 0 where
 
 module _ {X : Type 0} where
   abbrev pub arrived_code : Coded X → Coded (ArrivedList X)
-  arrived_code c = code_by (List X × ℕ) (coded× (coded_list c) coded_ℕ) (λ a. (a.list, a.capacity)) (λ p. record { list = p.0; capacity = p.1 }) (λ _. refl)
+  arrived_code c =
+      code_by (List X × ℕ) (coded× (coded_list c) coded_ℕ) (λ a. (a.list, a.capacity))
+      (λ p. record { list = p.0; capacity = p.1 }) (λ _. refl)
 
   -- the entries of the places with these numbers
   abbrev pub in_order : List X → List ℕ → List X

@@ -1,6 +1,8 @@
 //! Entries in order of arrival, each in a place of its own.
 
-ghost use Rattle.std.specs.Prelude.{◌≡◌, ℕ, ◌+◌, ◌<◌, ◌≤◌, ◌++◌, ◌∷◌, [], true, not, length, map, filter, find, position, remove, option_map, nat_le, nat_lt, slice_get, slice_index_or, slice_set, if◌then◌else◌, IfOk, IfSome, vec_capacity, vec_len};
+ghost use Rattle.std.specs.Prelude.{◌≡◌, ℕ, ◌+◌, ◌<◌, ◌≤◌, ◌++◌, ◌∷◌, [], true, not, length, map, filter, find};
+ghost use Rattle.std.specs.Prelude.{position, remove, option_map, nat_le, nat_lt, slice_get, slice_index_or};
+ghost use Rattle.std.specs.Prelude.{slice_set, if◌then◌else◌, IfOk, IfSome, vec_capacity, vec_len};
 ghost use Rattle.replacement.specs.TreeModel.State.Shape.{are_distinct};
 ghost use Rattle.replacement.specs.TreeModel.State.Lists.{names_item};
 ghost use Rattle.replacement.specs.Places.{times};

@@ -1,6 +1,8 @@
 //! The buffer of a leaf.
 
-ghost use Rattle.std.specs.Prelude.{◌≡◌, ◌<◌, ◌↔◌, ◌^◌, None, true, if◌then◌else◌, ◌++◌, ◌∷◌, [], length, filter, find, map, not, nat_le, position, option_map, slice_get, IfOk, IsErr, IsSome, OnErr, OnOk, is_err};
+ghost use Rattle.std.specs.Prelude.{◌≡◌, ◌<◌, ◌↔◌, ◌^◌, None, true, if◌then◌else◌, ◌++◌, ◌∷◌, [], length, filter};
+ghost use Rattle.std.specs.Prelude.{find, map, not, nat_le, position, option_map, slice_get, IfOk, IsErr, IsSome};
+ghost use Rattle.std.specs.Prelude.{OnErr, OnOk, is_err};
 ghost use Rattle.replacement.specs.TreeModel.State.Leaf.{is_buffered};
 ghost use Rattle.replacement.specs.TreeModel.State.Shape.{are_distinct};
 ghost use Rattle.replacement.specs.TreeModel.State.Leaf.{buffer_item};
@@ -156,7 +158,12 @@ impl<const WORDS: usize> Buffer<WORDS> {
         requires fresh { find (is_buffered item) self.old.list ≡ None }
         ensures full { IsErr result ↔ (length self.old.list ≡ self.old.capacity) }
         ensures test { is_err result ≡ nat_le self.old.capacity (length self.old.list) }
-        ensures ok { OnOk result (self.new ≡ record self.old { list = self.old.list ++ record { item = item; state = state; words = words.entry } ∷ [] }) }
+        ensures ok { OnOk result
+            (self.new
+            ≡ record self.old {
+              list = self.old.list
+                  ++ record { item = item; state = state; words = words.entry } ∷ [];
+            }) }
         ensures err { OnErr result (self.new ≡ self.old) }
     {
         if self.entries.len() >= self.entries.capacity() {

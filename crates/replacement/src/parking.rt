@@ -1,6 +1,8 @@
 //! The parking of a directory.
 
-ghost use Rattle.std.specs.Prelude.{◌≡◌, ◌+◌, ◌-◌, ◌^◌, ◌<◌, ◌≤◌, ◌↔◌, ◌++◌, ◌∷◌, [], None, true, length, map, filter, find, not, nat_le, position, option_map, slice_get, IfOk, IsErr, OnErr, OnOk, is_err};
+ghost use Rattle.std.specs.Prelude.{◌≡◌, ◌+◌, ◌-◌, ◌^◌, ◌<◌, ◌≤◌, ◌↔◌, ◌++◌, ◌∷◌, [], None, true, length, map};
+ghost use Rattle.std.specs.Prelude.{filter, find, not, nat_le, position, option_map, slice_get, IfOk, IsErr, OnErr};
+ghost use Rattle.std.specs.Prelude.{OnOk, is_err};
 ghost use Rattle.replacement.specs.TreeModel.State.Leaf.{is_copy};
 ghost use Rattle.replacement.specs.TreeModel.State.Shape.{are_distinct};
 ghost use Rattle.replacement.specs.TreeModel.State.Leaf.{copy_item};
@@ -104,7 +106,11 @@ impl<const WORDS: usize> Parking<WORDS> {
     pub fn put_reserved(&mut self, item: ItemId, words: Words<WORDS>)
         requires fresh { find (is_copy item) self.old.list ≡ None }
         requires kept { 0 < self.old.reserved }
-        ensures { self.new ≡ record self.old { list = self.old.list ++ record { item = item; words = words.entry } ∷ []; reserved = self.old.reserved - 1 } }
+        ensures { self.new
+            ≡ record self.old {
+              list = self.old.list ++ record { item = item; words = words.entry } ∷ [];
+              reserved = self.old.reserved - 1;
+            } }
     {
         let kept = self.reserved - 1;
         self.entries.put(ParkedCopy { item, words });

@@ -27,7 +27,9 @@ impl<const WORDS: usize> Parking<WORDS> {
     fn item_word(&self, words: &[u32], at: &mut u32, items: u32) -> Result<ItemId, StateRefusal>
         requires few { length words.now < 2 ^ 32 }
         requires inside { at.old ≤ length words.now }
-        ensures read { Gives (word_that (λ x. nat_lt x items && not (list_any (is_copy x) self.now.list)) at.old (drop at.old words.now)) words.now at.new result }
+        ensures read { Gives
+            (word_that (λ x. nat_lt x items && not (list_any (is_copy x) self.now.list)) at.old
+            (drop at.old words.now)) words.now at.new result }
         ensures below { IfOk result (λ x. x < items) }
         ensures lacks { IfOk result (λ x. list_any (is_copy x) self.now.list ≡ false) }
         ensures inside { at.new ≤ length words.now }
@@ -45,8 +47,14 @@ impl<const WORDS: usize> Parking<WORDS> {
         requires inside { at.old ≤ length words.now }
         requires place { length self.old.list + self.old.reserved < self.old.capacity }
         requires below { All (λ c. c.item < items) self.old.list }
-        ensures read { OnOk result (read_copy WORDS (λ x cs. nat_lt x items && not (list_any (is_copy x) cs)) self.old.list at.old (drop at.old words.now) ≡ Ok (record { value = self.new.list; at = at.new; rest = drop at.new words.now })) }
-        ensures refused { IfErr result (λ e. read_copy WORDS (λ x cs. nat_lt x items && not (list_any (is_copy x) cs)) self.old.list at.old (drop at.old words.now) ≡ Err e) }
+        ensures read { OnOk result
+            (read_copy WORDS (λ x cs. nat_lt x items && not (list_any (is_copy x) cs)) self.old.list at.old
+            (drop at.old words.now)
+            ≡ Ok (record { value = self.new.list; at = at.new; rest = drop at.new words.now })) }
+        ensures refused { IfErr result
+            (λ e. read_copy WORDS (λ x cs. nat_lt x items && not (list_any (is_copy x) cs)) self.old.list at.old
+            (drop at.old words.now)
+            ≡ Err e) }
         ensures inside { at.new ≤ length words.now }
         ensures more { OnOk result (length self.new.list ≡ length self.old.list + 1) }
         ensures below { All (λ c. c.item < items) self.new.list }
@@ -68,8 +76,16 @@ impl<const WORDS: usize> Parking<WORDS> {
         requires words_fit { WORDS < 2 ^ 32 }
         requires few { length words.now < 2 ^ 32 }
         requires inside { at.old ≤ length words.now }
-        ensures read { OnOk result (listed self.old.capacity (read_copy WORDS (λ x cs. nat_lt x items && not (list_any (is_copy x) cs))) at.old (drop at.old words.now) ≡ Ok (record { value = self.new.list; at = at.new; rest = drop at.new words.now })) }
-        ensures refused { IfErr result (λ e. listed self.old.capacity (read_copy WORDS (λ x cs. nat_lt x items && not (list_any (is_copy x) cs))) at.old (drop at.old words.now) ≡ Err e) }
+        ensures read { OnOk result
+            (listed self.old.capacity
+            (read_copy WORDS (λ x cs. nat_lt x items && not (list_any (is_copy x) cs))) at.old
+            (drop at.old words.now)
+            ≡ Ok (record { value = self.new.list; at = at.new; rest = drop at.new words.now })) }
+        ensures refused { IfErr result
+            (λ e. listed self.old.capacity
+            (read_copy WORDS (λ x cs. nat_lt x items && not (list_any (is_copy x) cs))) at.old
+            (drop at.old words.now)
+            ≡ Err e) }
         ensures inside { at.new ≤ length words.now }
         ensures below { All (λ c. c.item < items) self.new.list }
         ensures capacity { self.new.capacity ≡ self.old.capacity }

@@ -48,4 +48,6 @@ pub record CanStart (ways width : ℕ) (t : TreeValue) (i : ImageValue) (code : 
 
 -- the nodes at this level, of which the first is over the bus of this number: the leaves behind the last level
 abbrev pub nodes_at : TreeValue → ImageValue → ℕ → ℕ → List Node
-nodes_at t i level first = under_levels (dir_sizes t.sizes (width_of t)) level first (drop level t.levels) (map leaf_node (start_leaves t i))
+nodes_at t i level first =
+    under_levels (dir_sizes t.sizes (width_of t)) level first (drop level t.levels)
+    (map leaf_node (start_leaves t i))

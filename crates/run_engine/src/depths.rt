@@ -32,8 +32,11 @@ fn level_over<const WORDS: usize, C: Subtree<WORDS> + Drop>(
     requires deep { level < length tree.now.levels }
     requires some { 0 < first }
     requires few { first ≤ 1000 }
-    requires children { map C.value children.items ≡ nodes_at tree.now image.now (level + 1) (first + length (slice_index_or tree.now.levels level [])) }
-    ensures { IfOk result (λ ds. map (λ d. dir_node d.state (nodes (map C.value d.children.items))) ds.items ≡ nodes_at tree.now image.now level first) }
+    requires children { map C.value children.items
+        ≡ nodes_at tree.now image.now (level + 1) (first + length (slice_index_or tree.now.levels level [])) }
+    ensures { IfOk result
+        (λ ds. map (λ d. dir_node d.state (nodes (map C.value d.children.items))) ds.items
+        ≡ nodes_at tree.now image.now level first) }
 {
     let widths = tree.nodes.level(level);
     directories(
@@ -71,7 +74,9 @@ fn clusters_at<const WAYS: usize, const WORDS: usize>(
     requires some { 0 < first }
     requires few { first ≤ 1000 }
     requires parts { CanFill WAYS WORDS tree.now image.now items.now }
-    ensures { IfOk result (λ cs. map (λ c. dir_node c.dir.state (nodes (map leaf_node c.dir.children.items))) cs.items ≡ nodes_at tree.now image.now level first) }
+    ensures { IfOk result
+        (λ cs. map (λ c. dir_node c.dir.state (nodes (map leaf_node c.dir.children.items))) cs.items
+        ≡ nodes_at tree.now image.now level first) }
 {
     let leaves: Vec<Leaf<WAYS, WORDS>> = start_leaves(alloc, tree, image, items)?;
     let dirs = level_over(alloc, tree, image, items, level, first, leaves)?;

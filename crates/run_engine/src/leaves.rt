@@ -24,7 +24,9 @@ pub fn new_leaves<const WAYS: usize, const WORDS: usize>(
     requires words_fit { WORDS < 2 ^ 32 }
     requires harts { start.harts ≤ 64 }
     requires stacks { start.stack_base + start.harts * start.stack_bytes ≤ 4294967280 }
-    ensures { IfOk result (λ leaves. leaves.items ≡ map (new_leaf (leaf_sizes config.now WAYS WORDS) start items) (range_with_len 0 start.harts)) }
+    ensures { IfOk result
+        (λ leaves. leaves.items
+        ≡ map (new_leaf (leaf_sizes config.now WAYS WORDS) start items) (range_with_len 0 start.harts)) }
 {
     let mut leaves = Vec::new(alloc);
     for leaf in 0..start.harts {

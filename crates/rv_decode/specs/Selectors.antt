@@ -12,10 +12,15 @@ use Rattle.rv_decode.specs.declared.instructions.ImmOp.TheVariants.{Addi, Slti, 
 use Rattle.rv_decode.specs.declared.instructions.RegOp.{RegOp}
 use Rattle.rv_decode.specs.declared.instructions.RegOp.TheVariants.{Add, Sub, Sll, Slt, Sltu, Xor, Srl, Sra, Or, And}
 use Rattle.rv_decode.specs.declared.instructions.AmoOp.{AmoOp}
-use Rattle.rv_decode.specs.declared.instructions.AmoOp.TheVariants.{Add as AmoAdd, Swap as AmoSwap, Xor as AmoXor, Or as AmoOr, And as AmoAnd, Min as AmoMin, Max as AmoMax, Minu as AmoMinu, Maxu as AmoMaxu}
+use Rattle.rv_decode.specs.declared.instructions.AmoOp.TheVariants.{Add as AmoAdd, Swap as AmoSwap, Xor as AmoXor}
+use Rattle.rv_decode.specs.declared.instructions.AmoOp.TheVariants.{Or as AmoOr, And as AmoAnd, Min as AmoMin}
+use Rattle.rv_decode.specs.declared.instructions.AmoOp.TheVariants.{Max as AmoMax, Minu as AmoMinu, Maxu as AmoMaxu}
 use Rattle.rv_decode.specs.declared.instructions.Instr.{Instr}
-use Rattle.rv_decode.specs.declared.instructions.Instr.TheVariants.{Lui, Auipc, Jal, Jalr, Branch, Load, Store, Immediate, Register, Fence, Ecall, Ebreak, Lr, Sc, Amo}
-use Rattle.rv_decode.specs.Table.{field, rd_of, rs1_of, rs2_of, aq_of, rl_of, i_immediate, s_immediate, b_immediate, u_immediate, j_immediate, shift_amount}
+use Rattle.rv_decode.specs.declared.instructions.Instr.TheVariants.{Lui, Auipc, Jal, Jalr, Branch, Load, Store}
+use Rattle.rv_decode.specs.declared.instructions.Instr.TheVariants.{Immediate, Register, Fence, Ecall, Ebreak, Lr, Sc}
+use Rattle.rv_decode.specs.declared.instructions.Instr.TheVariants.{Amo}
+use Rattle.rv_decode.specs.Table.{field, rd_of, rs1_of, rs2_of, aq_of, rl_of, i_immediate, s_immediate, b_immediate}
+use Rattle.rv_decode.specs.Table.{u_immediate, j_immediate, shift_amount}
 
 -- ---- the operation that funct3, funct7 or funct5 selects
 

@@ -2,7 +2,10 @@
 ghost use Rattle.std.specs.Prelude.{◌≡◌, IfSome};
 ghost use Rattle.rv_decode.specs.Table.{field, decode_of};
 ghost use Rattle.rv_decode.specs.Valid.{IsValid};
-ghost use Rattle.rv_decode.specs.Selectors.{branch_op, load_op, store_op, immediate_op, shift_op, register_op, amo_op, jump_of, branch_of, load_of, store_of, shift_of, immediate_of, register_of, fence_of, system_of, load_reserved_of, amo_of, atomic_of, by_opcode};
+ghost use Rattle.rv_decode.specs.Selectors.{branch_op, load_op, store_op, immediate_op, shift_op, register_op};
+ghost use Rattle.rv_decode.specs.Selectors.{amo_op, jump_of, branch_of, load_of, store_of, shift_of, immediate_of};
+ghost use Rattle.rv_decode.specs.Selectors.{register_of, fence_of, system_of, load_reserved_of, amo_of, atomic_of};
+ghost use Rattle.rv_decode.specs.Selectors.{by_opcode};
 
 use crate::fields::{
     aq, b_immediate, fence_immediate, funct3, funct5, funct7, i_immediate, j_immediate, opcode, rd,

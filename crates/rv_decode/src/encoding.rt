@@ -2,7 +2,9 @@
 ghost use Rattle.std.specs.Prelude.{◌≡◌, ◌+◌, ◌*◌, ◌^◌, ◌<◌, ◌≤◌, ℕ, Some};
 ghost use Rattle.rv_decode.specs.Table.{field, decode_of};
 ghost use Rattle.rv_decode.specs.Valid.{FitsBits, FitsOperation, IsValid, IsRegister, IsUpper};
-ghost use Rattle.rv_decode.specs.Encode.{encode_of, bits_of, bit_of, r_word, i_word, s_word, b_word, u_word, j_word, atomic_word, branch_funct3, load_funct3, store_funct3, immediate_funct3, immediate_funct7, register_funct3, register_funct7, amo_funct5};
+ghost use Rattle.rv_decode.specs.Encode.{encode_of, bits_of, bit_of, r_word, i_word, s_word, b_word, u_word, j_word};
+ghost use Rattle.rv_decode.specs.Encode.{atomic_word, branch_funct3, load_funct3, store_funct3, immediate_funct3};
+ghost use Rattle.rv_decode.specs.Encode.{immediate_funct7, register_funct3, register_funct7, amo_funct5};
 
 use crate::fields::bits;
 use crate::instructions::{AmoOp, BranchOp, ImmOp, Instr, LoadOp, Reg, RegOp, StoreOp};

@@ -1,7 +1,8 @@
 //! The fields of a word and its immediates, as RV32I lays them out ("Base Instruction Formats", "Immediate Encoding
 //! Variants").
 ghost use Rattle.std.specs.Prelude.{◌≡◌, ◌+◌, ◌^◌, ◌<◌, ◌≤◌};
-ghost use Rattle.rv_decode.specs.Table.{field, signed, rd_of, rs1_of, rs2_of, i_immediate, s_immediate, b_immediate, u_immediate, j_immediate, shift_amount, aq_of, rl_of};
+ghost use Rattle.rv_decode.specs.Table.{field, signed, rd_of, rs1_of, rs2_of, i_immediate, s_immediate, b_immediate};
+ghost use Rattle.rv_decode.specs.Table.{u_immediate, j_immediate, shift_amount, aq_of, rl_of};
 
 use crate::instructions::Reg;
 

@@ -7,7 +7,8 @@ ghost use Rattle.rv_decode.specs.declared.instructions.Instr.{Instr as InstrValu
 ghost use Rattle.rv_decode.specs.Table.{decode_of, Decodes};
 ghost use Rattle.rv_decode.specs.Valid.{IsValid};
 ghost use Rattle.rv_decode.specs.Encode.{encode_of};
-ghost use Rattle.rv_decode.specs.Examples.{InstructionVectors, OutsideVectors, ProgramWords, JumpWords, MemoryWords, ImmediateWords, RegisterWords, AtomicWords};
+ghost use Rattle.rv_decode.specs.Examples.{InstructionVectors, OutsideVectors, ProgramWords, JumpWords, MemoryWords};
+ghost use Rattle.rv_decode.specs.Examples.{ImmediateWords, RegisterWords, AtomicWords};
 
 mod decoding;
 mod encoding;

@@ -3,7 +3,8 @@
 ghost use Rattle.std.specs.Prelude.{◌≡◌, ◌+◌, ◌*◌, ◌/◌, ◌<◌, ◌≤◌, ◌&&◌, false, None, Some, IfOk, [], length, if◌then◌else◌};
 ghost use Rattle.rv_flat.specs.DdmTypes.ItemTable.{IsItemSize, item_count};
 ghost use Rattle.rv_flat.specs.FlatModel.Hart.{finish_of, register};
-ghost use Rattle.rv_flat.specs.FlatModel.Flat.{flat_halted, flat_hart, flat_start, flat_step, has_reserved, item_words, leaving, machine_after, storing_to, with_change};
+ghost use Rattle.rv_flat.specs.FlatModel.Flat.{flat_halted, flat_hart, flat_start, flat_step, has_reserved};
+ghost use Rattle.rv_flat.specs.FlatModel.Flat.{item_words, leaving, machine_after, storing_to, with_change};
 ghost use Rattle.rv_flat.specs.Asks.{IsOfItem, IsOfNoItem, next_ask};
 ghost use Rattle.rv_flat.specs.FlatState.{HasItems, outcome_of, with_machine, word_at};
 ghost use Rattle.rv_flat.specs.ItemWords.{words_by_item};
@@ -101,7 +102,8 @@ impl FlatMachine {
         requires items { HasItems self.old items.now }
         requires ask { IsOfNoItem (next_ask code.now items.now (flat_hart self.old.machine hart)) }
         ensures effect { result ≡ (finish_of code.now items.now (flat_hart self.old.machine hart).hart [] false).effect }
-        ensures machine { let done = finish_of code.now items.now (flat_hart self.old.machine hart).hart [] false in
+        ensures machine { let done =
+            finish_of code.now items.now (flat_hart self.old.machine hart).hart [] false in
             let reserved = (flat_hart self.old.machine hart).reserved in
             self.new ≡ with_machine self.old (with_change self.old.machine hart (leaving done reserved)) }
     {
@@ -121,11 +123,14 @@ impl FlatMachine {
         requires hart { hart < length self.old.machine.harts }
         requires items { HasItems self.old items.now }
         requires ask { IsOfItem item (next_ask code.now items.now (flat_hart self.old.machine hart)) }
-        requires keeps { let done = finish_of code.now items.now (flat_hart self.old.machine hart).hart (item_words self.old.machine item) false in
+        requires keeps { let done =
+            finish_of code.now items.now (flat_hart self.old.machine hart).hart (item_words self.old.machine item) false in
             done.words ≡ item_words self.old.machine item }
-        ensures effect { let done = finish_of code.now items.now (flat_hart self.old.machine hart).hart (item_words self.old.machine item) false in
+        ensures effect { let done =
+            finish_of code.now items.now (flat_hart self.old.machine hart).hart (item_words self.old.machine item) false in
             result ≡ done.effect }
-        ensures machine { let done = finish_of code.now items.now (flat_hart self.old.machine hart).hart (item_words self.old.machine item) false in
+        ensures machine { let done =
+            finish_of code.now items.now (flat_hart self.old.machine hart).hart (item_words self.old.machine item) false in
             self.new ≡ with_machine self.old (with_change self.old.machine hart (leaving done reserved)) }
     {
         let own = &mut self.harts[hart.0 as usize];
@@ -147,9 +152,11 @@ impl FlatMachine {
         requires hart { hart < length self.old.machine.harts }
         requires items { HasItems self.old items.now }
         requires ask { IsOfItem item (next_ask code.now items.now (flat_hart self.old.machine hart)) }
-        ensures effect { let done = finish_of code.now items.now (flat_hart self.old.machine hart).hart (item_words self.old.machine item) sc_ok in
+        ensures effect { let done =
+            finish_of code.now items.now (flat_hart self.old.machine hart).hart (item_words self.old.machine item) sc_ok in
             result ≡ done.effect }
-        ensures machine { let done = finish_of code.now items.now (flat_hart self.old.machine hart).hart (item_words self.old.machine item) sc_ok in
+        ensures machine { let done =
+            finish_of code.now items.now (flat_hart self.old.machine hart).hart (item_words self.old.machine item) sc_ok in
             self.new ≡ with_machine self.old (with_change self.old.machine hart (storing_to item done reserved)) }
     {
         free_all(&mut self.harts, item);

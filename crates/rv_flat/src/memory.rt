@@ -1,6 +1,7 @@
 //! The words of the flat machine.
 
-ghost use Rattle.std.specs.Prelude.{◌≡◌, ◌⊎◌, ◌*◌, ◌/◌, ◌<◌, ◌≤◌, false, None, Some, IfOk, length, slice_index, slice_index_or, slice_set, []};
+ghost use Rattle.std.specs.Prelude.{◌≡◌, ◌⊎◌, ◌*◌, ◌/◌, ◌<◌, ◌≤◌, false, None, Some, IfOk, length, slice_index};
+ghost use Rattle.std.specs.Prelude.{slice_index_or, slice_set, []};
 ghost use Rattle.rv_flat.specs.FlatModel.Hart.{ask_of, finish_of};
 ghost use Rattle.rv_flat.specs.DdmTypes.ItemTable.{IsItemSize};
 ghost use Rattle.rv_hart.specs.Steps.{IsReady};
@@ -131,7 +132,11 @@ impl Memory {
         requires running { hart.old.hart.halt ≡ None }
         requires size { memory_size self.now ≡ items.now.size }
         ensures effect { result ≡ (finish_of code.now items.now hart.old.hart [] false).effect }
-        ensures hart { hart.new ≡ record { hart = (finish_of code.now items.now hart.old.hart [] false).hart; reserved = hart.old.reserved } }
+        ensures hart { hart.new
+            ≡ record {
+              hart = (finish_of code.now items.now hart.old.hart [] false).hart;
+              reserved = hart.old.reserved;
+            } }
     {
         let reserved = hart.reserved();
         match self {

@@ -35,9 +35,16 @@ pub record IsChangeBy (ask : Ask) (reserved : Option ℕ) (f : Finished) (before
 -- an instruction that is ready, finished on the words of its item, is the flat machine's step of its hart
 abbrev pub FinishesAsFlat : Type 0
 FinishesAsFlat =
-    (code : List CodeWord) (items : ItemTable) (g : FlatHart) (item_words : ℕ → List ℕ) (words : List ℕ) (sc_ok : Bool) → g.hart.halt ≡ None → IsReady (ask_of code items g.hart) → AreWordsOf (ask_of code items g.hart) item_words words → IsOkAnd (hart_step code items g item_words sc_ok) (IsChangeBy (ask_of code items g.hart) g.reserved (finish_of code items g.hart words (may_store (ask_of code items g.hart) g.reserved sc_ok)) words)
+    (code : List CodeWord) (items : ItemTable) (g : FlatHart) (item_words : ℕ → List ℕ) (words : List ℕ)
+    (sc_ok : Bool) → g.hart.halt ≡ None → IsReady (ask_of code items g.hart) →
+    AreWordsOf (ask_of code items g.hart) item_words words →
+    IsOkAnd (hart_step code items g item_words sc_ok)
+    (IsChangeBy (ask_of code items g.hart) g.reserved
+    (finish_of code items g.hart words (may_store (ask_of code items g.hart) g.reserved sc_ok)) words)
 
 -- where a halt is asked for, the flat machine's step halts for the same cause
 abbrev pub HaltsAsFlat : Type 0
 HaltsAsFlat =
-    (code : List CodeWord) (items : ItemTable) (g : FlatHart) (item_words : ℕ → List ℕ) (sc_ok : Bool) (cause : HaltCause) → g.hart.halt ≡ None → ask_of code items g.hart ≡ Halt cause → hart_step code items g item_words sc_ok ≡ Err cause
+    (code : List CodeWord) (items : ItemTable) (g : FlatHart) (item_words : ℕ → List ℕ) (sc_ok : Bool)
+    (cause : HaltCause) → g.hart.halt ≡ None → ask_of code items g.hart ≡ Halt cause →
+    hart_step code items g item_words sc_ok ≡ Err cause

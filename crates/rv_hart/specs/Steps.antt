@@ -2,7 +2,8 @@
 use Rattle.std.specs.Prelude.{◌≡◌, ℕ, ◌+◌, ◌*◌, ◌%◌, ◌<◌, ◌≤◌, nat_eq, List, Option, Some, None, Result, Ok, Err, if◌then◌else◌}
 use Rattle.rv_hart.specs.DdmTypes.declared.operations.Effect.{Effect}
 use Rattle.rv_hart.specs.DdmTypes.declared.operations.HaltCause.{HaltCause}
-use Rattle.rv_hart.specs.DdmTypes.declared.operations.HaltCause.TheVariants.{Illegal, FetchOutside, MisalignedAccess, LoadOutside, StoreOutside}
+use Rattle.rv_hart.specs.DdmTypes.declared.operations.HaltCause.TheVariants.{Illegal, FetchOutside, MisalignedAccess}
+use Rattle.rv_hart.specs.DdmTypes.declared.operations.HaltCause.TheVariants.{LoadOutside, StoreOutside}
 use Rattle.rv_hart.specs.DdmTypes.CodeMap.{CodeWord, word_at}
 use Rattle.rv_hart.specs.DdmTypes.ItemTable.{ItemTable, item_at, row_at}
 use Rattle.rv_hart.specs.RvDecode.declared.instructions.Instr.{Instr}
@@ -10,10 +11,13 @@ use Rattle.rv_hart.specs.RvDecode.declared.instructions.Instr.TheVariants.{Load 
 use Rattle.rv_hart.specs.RvDecode.Table.{decode_of}
 use Rattle.flat_model.specs.declared.Ask.{Ask}
 use Rattle.flat_model.specs.declared.Ask.TheVariants.{Plain, Put as PutAsk, NeedsShared, NeedsExclusive, Conditional, Halt as HaltAsk}
-use Rattle.flat_model.specs.Hart.{HartValue, Finished, Access as AccessValue, Action, Halts, Computes, Puts, Loads, Stores, Reserves, StoresIfReserved, Changes, advanced, written, with_register, next_pc, load_bytes, store_bytes}
+use Rattle.flat_model.specs.Hart.{HartValue, Finished, Access as AccessValue, Action, Halts, Computes, Puts, Loads}
+use Rattle.flat_model.specs.Hart.{Stores, Reserves, StoresIfReserved, Changes, advanced, written, with_register}
+use Rattle.flat_model.specs.Hart.{next_pc, load_bytes, store_bytes}
 use Rattle.rv_hart.specs.declared.steps.Access.{Access}
 use Rattle.rv_hart.specs.declared.steps.Step.{Step}
-use Rattle.rv_hart.specs.declared.steps.Step.TheVariants.{Halt, Advance, Write, Jump, Link, Put, Load, Store, Reserve, StoreIfReserved, Change}
+use Rattle.rv_hart.specs.declared.steps.Step.TheVariants.{Halt, Advance, Write, Jump, Link, Put, Load, Store, Reserve}
+use Rattle.rv_hart.specs.declared.steps.Step.TheVariants.{StoreIfReserved, Change}
 use Rattle.rv_hart.specs.HartState.{HartState}
 
 -- ---- the next instruction

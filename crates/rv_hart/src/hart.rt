@@ -2,7 +2,10 @@
 
 ghost use Rattle.std.specs.Prelude.{◌≡◌, ◌+◌, ◌*◌, ◌<◌, ◌≤◌, ℕ, None, Some, slice_index};
 ghost use Rattle.rv_hart.specs.DdmTypes.ItemTable.{ItemTable};
-ghost use Rattle.flat_model.specs.Hart.{action_of, advanced, ask_of, call, changing, finish_by, finish_of, hart_start, instr_action, is_taken, load_bytes, loading, next_pc, offset_by, register, reserving, store_bytes, storing, storing_if, with_register, written};
+ghost use Rattle.flat_model.specs.Hart.{action_of, advanced, ask_of, call, changing, finish_by, finish_of};
+ghost use Rattle.flat_model.specs.Hart.{hart_start, instr_action, is_taken, load_bytes, loading, next_pc, offset_by};
+ghost use Rattle.flat_model.specs.Hart.{register, reserving, store_bytes, storing, storing_if, with_register};
+ghost use Rattle.flat_model.specs.Hart.{written};
 ghost use Rattle.rv_hart.specs.HartState.{with_hart};
 ghost use Rattle.rv_hart.specs.Steps.{HasNoAccess, IsFinished, IsInWord, IsInside, IsReady, access_value, action_by, fetched, GoesOn};
 
@@ -149,7 +152,8 @@ impl Hart {
 
     #[tactic(auto, unfolding(flat_model::specs::Hart::instr_action))]
     fn branch_step(&self, op: BranchOp, rs1: Reg, rs2: Reg, offset: i32) -> Step
-        ensures value { (items : ItemTable) → action_by self.now.hart result ≡ instr_action items self.now.hart (Instr.Branch op rs1 rs2 offset) }
+        ensures value { (items : ItemTable) →
+            action_by self.now.hart result ≡ instr_action items self.now.hart (Instr.Branch op rs1 rs2 offset) }
         ensures inside { (size : ℕ) → IsInside size result }
     {
         if is_taken(op, self.register(rs1), self.register(rs2)) {
@@ -343,7 +347,8 @@ impl Hart {
         access: Access,
     ) -> Effect
         requires { IsInWord (4 * WORDS) 4 access }
-        ensures { IsFinished (storing_if sc_ok self.old.hart rd value (access_value access) words.old) self.old.done self.new result words.new }
+        ensures { IsFinished (storing_if sc_ok self.old.hart rd value (access_value access) words.old)
+            self.old.done self.new result words.new }
     {
         let address = access.word_address();
         if !sc_ok {
@@ -391,7 +396,8 @@ impl Hart {
     ) -> Effect
         requires goes_on { GoesOn (action_by self.old.hart step) }
         requires inside { IsInside (4 * WORDS) step }
-        ensures { IsFinished (finish_by (action_by self.old.hart step) self.old.hart words.old sc_ok) self.old.done self.new result words.new }
+        ensures { IsFinished (finish_by (action_by self.old.hart step) self.old.hart words.old sc_ok)
+            self.old.done self.new result words.new }
     {
         match step {
             Step::Halt(_) => unreachable!(),
@@ -427,7 +433,8 @@ impl Hart {
         requires goes_on { GoesOn (action_by self.old.hart step.now) }
         requires inside { IsInside (4 * WORDS) step.now }
         requires count { self.old.done < 4294967295 }
-        ensures { IsFinished (finish_by (action_by self.old.hart step.now) self.old.hart words.old sc_ok) (self.old.done + 1) self.new result words.new }
+        ensures { IsFinished (finish_by (action_by self.old.hart step.now) self.old.hart words.old sc_ok)
+            (self.old.done + 1) self.new result words.new }
     {
         let effect = self.take(*step, words, sc_ok);
         self.done += 1;

@@ -1,7 +1,9 @@
 //! What an instruction does, as far as that is known before the words of its item are.
 ghost use Rattle.std.specs.Prelude.{◌≡◌, ℕ, ◌*◌, ◌<◌, Some};
 ghost use Rattle.rv_hart.specs.DdmTypes.ItemTable.{item_at};
-ghost use Rattle.flat_model.specs.Hart.{ask_by, access_in, aligned, jump, next_pc, with_register, byte_place, word_address, load_at, store_at, load_bytes, store_bytes, Loads, Stores, Reserves, StoresIfReserved, Changes, HartValue};
+ghost use Rattle.flat_model.specs.Hart.{ask_by, access_in, aligned, jump, next_pc, with_register, byte_place};
+ghost use Rattle.flat_model.specs.Hart.{word_address, load_at, store_at, load_bytes, store_bytes, Loads, Stores};
+ghost use Rattle.flat_model.specs.Hart.{Reserves, StoresIfReserved, Changes, HartValue};
 ghost use Rattle.rv_hart.specs.Steps.{load_item, store_item, access_value, action_by, IsInside};
 
 use crate::bytes::{load_bytes, store_bytes};

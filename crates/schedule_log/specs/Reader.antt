@@ -62,7 +62,8 @@ pub record Fed (shape : ShapeView) (old : ReaderView) (more : List ℕ) (new : R
 -- what a call of `feed` does, by its answer
 abbrev pub FeedGives : ShapeView → ReaderView → List ℕ → ReaderView → List Turn → List Turn → Result (Unit {0}) FeedError → Type 0
 FeedGives shape old more new before after (Ok u) = Fed shape old more new before after × (answer_of new.standing ≡ Ok u)
-FeedGives shape old more new before after (Err (error.Refused line refusal)) = Fed shape old more new before after × (answer_of new.standing ≡ Err (error.Refused line refusal))
+FeedGives shape old more new before after (Err (error.Refused line refusal)) =
+    Fed shape old more new before after × (answer_of new.standing ≡ Err (error.Refused line refusal))
 FeedGives shape old more new before after (Err error.NoMemory) = (new ≡ old) × (after ≡ before)
 
 -- ---- parts
@@ -97,10 +98,17 @@ pub record LinesRead (shape : ShapeView) (before_lines made : ℕ) (text : List 
 
 -- the lines of a text's front were read where `first` turns were there, of which so many were lines before it: now there are `made`, and
 -- these bytes are left
-pub record ReadUpTo (shape : ShapeView) (before_lines first : ℕ) (text : List ℕ) (before : List Turn) (made : ℕ) (left : List ℕ) (after : List Turn) : Type 0 where
-  pub turns : after ++ (reading_on shape (before_lines + (made - first) + 1) made left).turns ≡ before ++ (reading_on shape (before_lines + 1) first text).turns
-  pub standing : (reading_on shape (before_lines + (made - first) + 1) made left).standing ≡ (reading_on shape (before_lines + 1) first text).standing
-  pub count : made + length (reading_on shape (before_lines + (made - first) + 1) made left).turns ≡ first + length (reading_on shape (before_lines + 1) first text).turns
+pub record ReadUpTo (shape : ShapeView) (before_lines first : ℕ) (text : List ℕ) (before : List Turn) (made : ℕ)
+    (left : List ℕ) (after : List Turn) : Type 0 where
+  pub turns :
+      after ++ (reading_on shape (before_lines + (made - first) + 1) made left).turns
+      ≡ before ++ (reading_on shape (before_lines + 1) first text).turns
+  pub standing :
+      (reading_on shape (before_lines + (made - first) + 1) made left).standing
+      ≡ (reading_on shape (before_lines + 1) first text).standing
+  pub count :
+      made + length (reading_on shape (before_lines + (made - first) + 1) made left).turns
+      ≡ first + length (reading_on shape (before_lines + 1) first text).turns
   pub held : held_of text ≡ held_of left
   pub is_rest : left ≡ drop (length text - length left) text
   pub within : length left ≤ length text

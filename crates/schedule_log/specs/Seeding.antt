@@ -16,7 +16,9 @@ pub record SeededView : Type 0 where
   pub left : List Turn
 
 abbrev pub seeded_view : ℕ → List ℕ → Lcg → ℕ → SeededView
-seeded_view harts buses g n = let shape : ShapeView = record { harts = harts; buses = buses } in record { shape = shape; left = turns_left shape g n }
+seeded_view harts buses g n =
+    let shape : ShapeView = record { harts = harts; buses = buses } in
+    record { shape = shape; left = turns_left shape g n }
 
 -- ---- parts
 

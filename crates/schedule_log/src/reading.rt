@@ -1,6 +1,7 @@
 //! A schedule is read in pieces.
 
-ghost use Rattle.std.specs.Prelude.{◌≡◌, ◌+◌, ◌*◌, ◌<◌, ◌≤◌, ℕ, List, [], ◌++◌, IfOk, IsOk, OnErr, drop, length, nat_eq, position, take, vec_capacity, vec_len};
+ghost use Rattle.std.specs.Prelude.{◌≡◌, ◌+◌, ◌*◌, ◌<◌, ◌≤◌, ℕ, List, [], ◌++◌, IfOk, IsOk, OnErr, drop, length};
+ghost use Rattle.std.specs.Prelude.{nat_eq, position, take, vec_capacity, vec_len};
 ghost use Rattle.schedule_log.specs.DdmTypes.declared.turns.Turn.{Turn as OneTurn};
 ghost use Rattle.schedule_log.specs.Reader.{FeedGives, IsInLine, LinesRead, ReadUpTo, begun, begun_behind, finish_of};
 ghost use Rattle.schedule_log.specs.Shapes.{shape_view};
@@ -50,7 +51,9 @@ fn read_remembered<'a>(
     requires room { 5 * vec_len turns.old + length text.now < 5 * vec_capacity turns.old }
     ensures few { result.0 ≤ 1048576 }
     ensures room { vec_len turns.new < vec_capacity turns.new }
-    ensures lines { (lines first : ℕ) (whole : List ℕ) (before : List OneTurn) → ReadUpTo seen.now lines first whole before made text.now turns.old.items → ReadUpTo seen.now lines first whole before result.0 result.1.now turns.new.items }
+    ensures lines { (lines first : ℕ) (whole : List ℕ) (before : List OneTurn) →
+        ReadUpTo seen.now lines first whole before made text.now turns.old.items →
+        ReadUpTo seen.now lines first whole before result.0 result.1.now turns.new.items }
 {
     if text.len() >= LEAST_BYTES * (MOST_TURNS - made) as usize {
         return (made, text);
@@ -231,7 +234,12 @@ impl Model for ScheduleReader {
 
     ghost Value = { ReaderView };
 
-    ghost view = { λ r. record { made = r.made; lines = r.lines; held = held_by r.standing r.held.items; standing = standing_of r.lines r.standing } };
+    ghost view = { λ r. record {
+      made = r.made;
+      lines = r.lines;
+      held = held_by r.standing r.held.items;
+      standing = standing_of r.lines r.standing;
+    } };
 
     ghost invariant = { λ r. (r.lines ≤ r.made) × (r.made ≤ 1048576) };
 }

@@ -1,6 +1,7 @@
 //! The turns of a seed.
 
-ghost use Rattle.std.specs.Prelude.{◌≡◌, ◌≤◌, ℕ, ◌<◌, ◌+◌, ◌*◌, ◌/◌, ◌%◌, ◌++◌, [], ◌∷◌, drop, length, min, slice_index_or, take, All, IfOk};
+ghost use Rattle.std.specs.Prelude.{◌≡◌, ◌≤◌, ℕ, ◌<◌, ◌+◌, ◌*◌, ◌/◌, ◌%◌, ◌++◌, [], ◌∷◌, drop, length, min};
+ghost use Rattle.std.specs.Prelude.{slice_index_or, take, All, IfOk};
 ghost use Rattle.schedule_log.specs.DdmTypes.declared.turns.Turn.{Turn as OneTurn};
 ghost use Rattle.rand_pcg.specs.Pcg.{pcg32};
 ghost use Rattle.tree_config.specs.Levels.{leaves_of, widths_of};
@@ -25,7 +26,9 @@ const STREAM: u64 = 54;
 // The turn of a hart and that of a bus, one of which two words of the generator draw, for a tree with this many harts and buses.
 #[inline(always)]
 fn both_turns<'a, D: BusDraws>(draws: &'a D, harts: &Divisor, a: u32, b: u32) -> (Turn, &'a Turn)
-    ensures { (t : OneTurn) → slice_index_or (result.0 ∷ result.1.now ∷ []) (a / 2 % 2) t ≡ seeded_turn (record { harts = harts.now; buses = D.widths draws.now }) a b }
+    ensures { (t : OneTurn) →
+        slice_index_or (result.0 ∷ result.1.now ∷ []) (a / 2 % 2) t
+        ≡ seeded_turn (record { harts = harts.now; buses = D.widths draws.now }) a b }
 {
     let (victim, hart) = harts.divide(b);
     let of_hart = Turn::Hart {
@@ -46,7 +49,11 @@ fn put_next<D: BusDraws>(
     place: usize,
 )
     requires inside { place + 1 < length block.old }
-    ensures front { (n : ℕ) → take (place + 1) block.new ++ turns_left (record { harts = harts.now; buses = D.widths draws.now }) words.new n ≡ take place block.old ++ turns_left (record { harts = harts.now; buses = D.widths draws.now }) words.old (n + 1) }
+    ensures front { (n : ℕ) →
+        take (place + 1) block.new
+        ++ turns_left (record { harts = harts.now; buses = D.widths draws.now }) words.new n
+        ≡ take place block.old
+        ++ turns_left (record { harts = harts.now; buses = D.widths draws.now }) words.old (n + 1) }
     ensures behind { drop (place + 2) block.new ≡ drop (place + 2) block.old }
 {
     let a = words.next_word();
@@ -66,7 +73,10 @@ fn put_turns<D: BusDraws>(
     count: usize,
 )
     requires inside { count < length block.old }
-    ensures front { (n : ℕ) → take count block.new ++ turns_left (record { harts = harts.now; buses = D.widths draws.now }) words.new n ≡ turns_left (record { harts = harts.now; buses = D.widths draws.now }) words.old (count + n) }
+    ensures front { (n : ℕ) →
+        take count block.new
+        ++ turns_left (record { harts = harts.now; buses = D.widths draws.now }) words.new n
+        ≡ turns_left (record { harts = harts.now; buses = D.widths draws.now }) words.old (count + n) }
     ensures behind { drop (count + 1) block.new ≡ drop (count + 1) block.old }
 {
     let mut taken = mem::replace(words, Pcg32::new(0, STREAM));
@@ -85,7 +95,10 @@ fn put_drawn(
     count: usize,
 )
     requires inside { count < length block.old }
-    ensures front { (n : ℕ) → take count block.new ++ turns_left (record { harts = harts.now; buses = widths_drawn draws.now }) words.new n ≡ turns_left (record { harts = harts.now; buses = widths_drawn draws.now }) words.old (count + n) }
+    ensures front { (n : ℕ) →
+        take count block.new
+        ++ turns_left (record { harts = harts.now; buses = widths_drawn draws.now }) words.new n
+        ≡ turns_left (record { harts = harts.now; buses = widths_drawn draws.now }) words.old (count + n) }
     ensures behind { drop (count + 1) block.new ≡ drop (count + 1) block.old }
 {
     match draws {

@@ -155,7 +155,9 @@ pub(crate) fn remembered<'a>(places: &'a [Seen], text: &[u8]) -> Option<(&'a See
     requires { length places.now ≡ 16384 }
     ensures some { IfSome result (λ r. 5 ≤ r.1) }
     ensures within { IfSome result (λ r. r.1 ≤ length text.now) }
-    ensures turn { (shape : ShapeView) → All (IsSeenAt shape) places.now → IfSome result (λ r. (lines made : ℕ) → made < 1048576 → BeginsWithTurn shape lines made text.now r.0.now.turn r.1) }
+    ensures turn { (shape : ShapeView) → All (IsSeenAt shape) places.now →
+        IfSome result (λ r. (lines made : ℕ) → made < 1048576 →
+        BeginsWithTurn shape lines made text.now r.0.now.turn r.1) }
 {
     if text.len() < SPELLED_BYTES {
         return None;

@@ -53,7 +53,10 @@ module _ {S T O : Type 0} (space : Space S T O) where
 
     -- the state after a turn is looked at
     abbrev pub looked_at : Kept S T → Searched S T O → Searched S T O
-    looked_at e s = if s.full then s else (if space.ended e.state then record s { found = with_found (found_at e) s.found } else with_state e s)
+    looked_at e s =
+        if s.full then s
+        else (if space.ended e.state then record s { found = with_found (found_at e) s.found }
+        else with_state e s)
 
     abbrev pub looked_through : Kept S T → List T → Searched S T O → Searched S T O
     looked_through k [] s = s

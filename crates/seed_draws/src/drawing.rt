@@ -18,7 +18,9 @@ use std::marker::Model;
 // Whether the next turn of a seed of this kind is let by.
 #[inline(always)]
 fn lets_by(kind: SeedKind, skewing: &mut Skewing, turn: &Turn) -> bool
-    ensures draws { (later : List OneTurn) → draws_left kind skewing.old.shape skewing.old (turn.now ∷ later) ≡ record { turn = turn.now; let_by = result } ∷ draws_left kind skewing.old.shape skewing.new later }
+    ensures draws { (later : List OneTurn) →
+        draws_left kind skewing.old.shape skewing.old (turn.now ∷ later)
+        ≡ record { turn = turn.now; let_by = result } ∷ draws_left kind skewing.old.shape skewing.new later }
     ensures shape { skewing.new.shape ≡ skewing.old.shape }
 {
     match kind {

@@ -14,7 +14,10 @@ is_word n = nat_lt n 4294967296
 abbrev mutual
   pub rooms_small : Skeleton → Bool
   rooms_small (leaf_bone number sizes) = is_word sizes.way_count && (is_word sizes.buffer_room && is_word sizes.reply_room)
-  rooms_small (dir_bone bus level sizes bones) = (is_word sizes.down_room && (is_word sizes.request_room && (is_word sizes.reply_room && is_word sizes.parking_room))) && rooms_small_among bones
+  rooms_small (dir_bone bus level sizes bones) =
+      (is_word sizes.down_room
+      && (is_word sizes.request_room && (is_word sizes.reply_room && is_word sizes.parking_room)))
+      && rooms_small_among bones
 
   pub rooms_small_among : Skeletons → Bool
   rooms_small_among no_bones = true

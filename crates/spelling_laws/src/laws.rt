@@ -19,22 +19,31 @@ ghost use Rattle.spelling_laws.specs.Spelled.{IsSpelled};
 
 /// Words that are read into a machine are those that are spelled of what was read: a state has one spelling.
 pub fn accepted_words_are_spelled()
-    ensures words { (fresh m : MachineValue) (retired k at : ℕ) (ws rest : List ℕ) → CanRead fresh → read_words fresh retired k ws ≡ Ok (record { value = m; at = at; rest = rest }) → ws ≡ state_words m ++ rest }
-    ensures next { (fresh m : MachineValue) (retired k at : ℕ) (ws rest : List ℕ) → CanRead fresh → read_words fresh retired k ws ≡ Ok (record { value = m; at = at; rest = rest }) → at ≡ k + length (state_words m) }
-    ensures completed { (fresh m : MachineValue) (retired k at : ℕ) (ws rest : List ℕ) → CanRead fresh → read_words fresh retired k ws ≡ Ok (record { value = m; at = at; rest = rest }) → length m.ops ≡ retired }
+    ensures words { (fresh m : MachineValue) (retired k at : ℕ) (ws rest : List ℕ) → CanRead fresh →
+        read_words fresh retired k ws ≡ Ok (record { value = m; at = at; rest = rest }) →
+        ws ≡ state_words m ++ rest }
+    ensures next { (fresh m : MachineValue) (retired k at : ℕ) (ws rest : List ℕ) → CanRead fresh →
+        read_words fresh retired k ws ≡ Ok (record { value = m; at = at; rest = rest }) →
+        at ≡ k + length (state_words m) }
+    ensures completed { (fresh m : MachineValue) (retired k at : ℕ) (ws rest : List ℕ) → CanRead fresh →
+        read_words fresh retired k ws ≡ Ok (record { value = m; at = at; rest = rest }) → length m.ops ≡ retired }
 {}
 
 /// The words that are spelled of a machine are read as that machine, into one before its first turn of the same frame; what stands
 /// behind them is left.
 pub fn spelled_words_are_read()
-    ensures { (fresh m : MachineValue) (k : ℕ) (rest : List ℕ) → CanRead fresh → frame_of m ≡ frame_of fresh → IsSpelled m → read_words fresh (length m.ops) k (state_words m ++ rest) ≡ Ok (record { value = m; at = k + length (state_words m); rest = rest }) }
+    ensures { (fresh m : MachineValue) (k : ℕ) (rest : List ℕ) → CanRead fresh → frame_of m ≡ frame_of fresh →
+        IsSpelled m →
+        read_words fresh (length m.ops) k (state_words m ++ rest)
+        ≡ Ok (record { value = m; at = k + length (state_words m); rest = rest }) }
 {}
 
 /// The words that are spelled of a machine, and those of its checkpoint, are numbers of 32 bits, where there are so few items, places
 /// and operations that their numbers are.
 pub fn spelled_words_are_small()
     ensures state { (m : MachineValue) → IsShaped m → IsSpelled m → IsSmall m → AllByRecursion IsWord (state_words m) }
-    ensures checkpoint { (m : MachineValue) (turns retired granted busy : ℕ) → IsShaped m → IsSpelled m → IsSmall m → turns ≤ most_counted → retired ≤ most_counted → granted ≤ most_counted → busy ≤ most_counted
+    ensures checkpoint { (m : MachineValue) (turns retired granted busy : ℕ) → IsShaped m → IsSpelled m →
+        IsSmall m → turns ≤ most_counted → retired ≤ most_counted → granted ≤ most_counted → busy ≤ most_counted
         → AllByRecursion IsWord (checkpoint_words m turns retired granted busy) }
 {}
 

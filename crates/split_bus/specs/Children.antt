@@ -3,7 +3,8 @@
 use Rattle.std.specs.Prelude.{ℕ, Bool, true, Option}
 use Rattle.split_bus.specs.DdmTypes.declared.answers.QueueName.{QueueName}
 use Rattle.split_bus.specs.TreeModel.State.Values.{Note, no_note, local, up_read, up_erase, Node}
-use Rattle.split_bus.specs.TreeModel.Turns.Children.{holds_item, other_holds, waits_with_room, has_room, other_waits, room_after, room_before, other_full, full_to_lose, reader_full}
+use Rattle.split_bus.specs.TreeModel.Turns.Children.{holds_item, other_holds, waits_with_room, has_room, other_waits}
+use Rattle.split_bus.specs.TreeModel.Turns.Children.{room_after, room_before, other_full, full_to_lose, reader_full}
 use Rattle.split_bus.specs.declared.sought.Sought.{Sought}
 use Rattle.split_bus.specs.declared.readers.Readers.{Readers}
 use Rattle.split_bus.specs.declared.readers.Noted.{Noted}

@@ -12,4 +12,6 @@ use Rattle.bus_laws.specs.KeepsBus.{KeepsBus}
 -- Where the rules of the bus hold before, and those of each child, they hold after, whatever it answers; the bus above, of which
 -- this is the present stamp, sees the same of the parent, or that it has answered.
 unfoldable pub StaysRuled : Stamp → DirValue → List Node → TurnAnswer → DirValue → List Node → Type 0
-StaysRuled above p ns answer q ms = (n : ℕ) → IsBusOk n p ns → AllByRecursion (IsChildOk n) ns → KeepsBus n above p ns (record { answer = answer; parent = q; kids = ms })
+StaysRuled above p ns answer q ms =
+    (n : ℕ) → IsBusOk n p ns → AllByRecursion (IsChildOk n) ns →
+    KeepsBus n above p ns (record { answer = answer; parent = q; kids = ms })

@@ -7,7 +7,9 @@ ghost use Rattle.split_bus.specs.TreeModel.State.Directory.{dir_note, parked_wor
 ghost use Rattle.split_bus.specs.TreeModel.State.Child.{child_full_for};
 ghost use Rattle.split_bus.specs.TreeModel.Turns.Grant.{outcome_of, own_replies_full, unless_full};
 ghost use Rattle.split_bus.specs.TreeModel.Turns.Children.{child_at, holds_item, reader_full};
-ghost use Rattle.split_bus.specs.TreeModel.Turns.Down.{data_to_readers, down_by_kind, down_by_note, down_data, down_erase, down_exclusive, down_read, down_turn, exclusive_to, read_by_child, read_by_parked, without_up_erase};
+ghost use Rattle.split_bus.specs.TreeModel.Turns.Down.{data_to_readers, down_by_kind, down_by_note, down_data};
+ghost use Rattle.split_bus.specs.TreeModel.Turns.Down.{down_erase, down_exclusive, down_read, down_turn};
+ghost use Rattle.split_bus.specs.TreeModel.Turns.Down.{exclusive_to, read_by_child, read_by_parked, without_up_erase};
 ghost use Rattle.split_bus.specs.Children.{note_of, note_of_readers};
 ghost use Rattle.split_bus.specs.Outcomes.{AreSized, IsOutcome, IsReady, fronted};
 
@@ -32,7 +34,14 @@ fn exclusive_to<const WORDS: usize, P: Parent<WORDS>, C: Agent<WORDS>>(
 ) -> TurnAnswer
     requires few { length children.old ≤ 16 }
     requires ready { IsReady WORDS entry.now.item (P.state parent.old) (map C.value children.old) }
-    ensures { let x = entry.now.item in let p = P.state parent.old in let q = fronted entry.now p in let ns = map C.value children.old in IsOutcome (outcome_of p ns (unless_full (child_full_for ExclusiveTx x (child_at d ns)) (exclusive_to x q ns d))) result (P.state parent.new) (map C.value children.new) }
+    ensures { let x = entry.now.item in
+        let p = P.state parent.old in
+        let q = fronted entry.now p in
+        let ns = map C.value children.old in
+        IsOutcome
+        (outcome_of p ns (unless_full (child_full_for ExclusiveTx x (child_at d ns))
+        (exclusive_to x q ns d))) result (P.state parent.new)
+        (map C.value children.new) }
 {
     if let Some(list) = full_to_take_exclusive(children, d, entry.item) {
         return full(list);
@@ -58,7 +67,12 @@ fn down_exclusive<const WORDS: usize, P: Parent<WORDS>, C: Agent<WORDS>>(
 ) -> TurnAnswer
     requires few { length children.old ≤ 16 }
     requires ready { IsReady WORDS entry.now.item (P.state parent.old) (map C.value children.old) }
-    ensures { let x = entry.now.item in let p = P.state parent.old in let q = fronted entry.now p in let ns = map C.value children.old in IsOutcome (outcome_of p ns (down_exclusive x q ns (note_of noted.now))) result (P.state parent.new) (map C.value children.new) }
+    ensures { let x = entry.now.item in
+        let p = P.state parent.old in
+        let q = fronted entry.now p in
+        let ns = map C.value children.old in
+        IsOutcome (outcome_of p ns (down_exclusive x q ns (note_of noted.now))) result
+        (P.state parent.new) (map C.value children.new) }
 {
     match noted {
         Noted::UpErase(d) => exclusive_to(parent, children, entry, *d),
@@ -70,7 +84,8 @@ fn down_exclusive<const WORDS: usize, P: Parent<WORDS>, C: Agent<WORDS>>(
 fn note_erased<const WORDS: usize, P: Parent<WORDS>>(parent: &mut P, item: ItemId, noted: &Noted)
     requires in_range { item < length (P.state parent.old).items }
     requires noted { note_of noted.now ≡ dir_note item (P.state parent.old) }
-    ensures { let p = P.state parent.old in P.state parent.new ≡ with_note item (without_up_erase (dir_note item p)) (without_parked item p) }
+    ensures { let p = P.state parent.old in
+        P.state parent.new ≡ with_note item (without_up_erase (dir_note item p)) (without_parked item p) }
 {
     parent.unpark(item);
     if let Noted::UpErase(_) = noted {
@@ -88,7 +103,12 @@ fn down_erase<const WORDS: usize, P: Parent<WORDS>, C: Agent<WORDS>>(
     requires few { length children.old ≤ 16 }
     requires noted { note_of noted.now ≡ dir_note entry.now.item (P.state parent.old) }
     requires ready { IsReady WORDS entry.now.item (P.state parent.old) (map C.value children.old) }
-    ensures { let x = entry.now.item in let p = P.state parent.old in let q = fronted entry.now p in let ns = map C.value children.old in IsOutcome (outcome_of p ns (down_erase x q ns)) result (P.state parent.new) (map C.value children.new) }
+    ensures { let x = entry.now.item in
+        let p = P.state parent.old in
+        let q = fronted entry.now p in
+        let ns = map C.value children.old in
+        IsOutcome (outcome_of p ns (down_erase x q ns)) result (P.state parent.new)
+        (map C.value children.new) }
 {
     if let Some(list) = find_full(children, &Hearers::LoseAll, entry.item) {
         return full(list);
@@ -115,7 +135,13 @@ fn read_by_child<const WORDS: usize, P: Parent<WORDS>, C: Agent<WORDS>>(
     requires few { length children.old ≤ 16 }
     requires within { k < length children.old }
     requires ready { IsReady WORDS entry.now.item (P.state parent.old) (map C.value children.old) }
-    ensures { let x = entry.now.item in let p = P.state parent.old in let q = fronted entry.now p in let ns = map C.value children.old in IsOutcome (outcome_of p ns (unless_full (child_full_for ReadTx x (child_at k ns)) (read_by_child x q ns k))) result (P.state parent.new) (map C.value children.new) }
+    ensures { let x = entry.now.item in
+        let p = P.state parent.old in
+        let q = fronted entry.now p in
+        let ns = map C.value children.old in
+        IsOutcome
+        (outcome_of p ns (unless_full (child_full_for ReadTx x (child_at k ns)) (read_by_child x q ns k)))
+        result (P.state parent.new) (map C.value children.new) }
 {
     if let Some(list) = full_to_answer(children, k, entry.item) {
         return full(list);
@@ -140,7 +166,12 @@ fn read_by_parked<const WORDS: usize, P: Parent<WORDS>, C: Agent<WORDS>>(
 ) -> TurnAnswer
     requires few { length children.old ≤ 16 }
     requires ready { IsReady WORDS entry.now.item (P.state parent.old) (map C.value children.old) }
-    ensures { let x = entry.now.item in let p = P.state parent.old in let q = fronted entry.now p in let ns = map C.value children.old in IsOutcome (outcome_of p ns (unless_full (own_replies_full q) (read_by_parked x q ns words.now))) result (P.state parent.new) (map C.value children.new) }
+    ensures { let x = entry.now.item in
+        let p = P.state parent.old in
+        let q = fronted entry.now p in
+        let ns = map C.value children.old in
+        IsOutcome (outcome_of p ns (unless_full (own_replies_full q) (read_by_parked x q ns words.now)))
+        result (P.state parent.new) (map C.value children.new) }
 {
     if let Some(list) = parent.list_full(ParentList::Replies) {
         return full(list);
@@ -164,7 +195,12 @@ fn down_read<const WORDS: usize, P: Parent<WORDS>, C: Agent<WORDS>>(
 ) -> TurnAnswer
     requires few { length children.old ≤ 16 }
     requires ready { IsReady WORDS entry.now.item (P.state parent.old) (map C.value children.old) }
-    ensures { let x = entry.now.item in let p = P.state parent.old in let q = fronted entry.now p in let ns = map C.value children.old in IsOutcome (outcome_of p ns (down_read x q ns (find_from (holds_item x) 0 ns) (parked_words x q))) result (P.state parent.new) (map C.value children.new) }
+    ensures { let x = entry.now.item in
+        let p = P.state parent.old in
+        let q = fronted entry.now p in
+        let ns = map C.value children.old in
+        IsOutcome (outcome_of p ns (down_read x q ns (find_from (holds_item x) 0 ns) (parked_words x q)))
+        result (P.state parent.new) (map C.value children.new) }
 {
     match find(children, &Sought::Holder, entry.item) {
         Some(k) => read_by_child(parent, children, entry, k),
@@ -184,7 +220,14 @@ fn data_to_readers<const WORDS: usize, P: Parent<WORDS>, C: Agent<WORDS>>(
 ) -> TurnAnswer
     requires few { length children.old ≤ 16 }
     requires ready { IsReady WORDS entry.now.item (P.state parent.old) (map C.value children.old) }
-    ensures { let x = entry.now.item in let p = P.state parent.old in let q = fronted entry.now p in let ns = map C.value children.old in IsOutcome (outcome_of p ns (unless_full (first_given (reader_full (note_of_readers readers.now) x) 0 ns) (data_to_readers x q ns entry.now.words readers.now.first readers.now.joined))) result (P.state parent.new) (map C.value children.new) }
+    ensures { let x = entry.now.item in
+        let p = P.state parent.old in
+        let q = fronted entry.now p in
+        let ns = map C.value children.old in
+        IsOutcome
+        (outcome_of p ns (unless_full (first_given (reader_full (note_of_readers readers.now) x) 0 ns)
+        (data_to_readers x q ns entry.now.words readers.now.first readers.now.joined)))
+        result (P.state parent.new) (map C.value children.new) }
 {
     if let Some(list) = find_full(children, &Hearers::TakeData(*readers), entry.item) {
         return full(list);
@@ -210,7 +253,12 @@ fn down_data<const WORDS: usize, P: Parent<WORDS>, C: Agent<WORDS>>(
 ) -> TurnAnswer
     requires few { length children.old ≤ 16 }
     requires ready { IsReady WORDS entry.now.item (P.state parent.old) (map C.value children.old) }
-    ensures { let x = entry.now.item in let p = P.state parent.old in let q = fronted entry.now p in let ns = map C.value children.old in IsOutcome (outcome_of p ns (down_data x q ns entry.now.words (note_of noted.now))) result (P.state parent.new) (map C.value children.new) }
+    ensures { let x = entry.now.item in
+        let p = P.state parent.old in
+        let q = fronted entry.now p in
+        let ns = map C.value children.old in
+        IsOutcome (outcome_of p ns (down_data x q ns entry.now.words (note_of noted.now))) result
+        (P.state parent.new) (map C.value children.new) }
 {
     match noted {
         Noted::UpRead(readers) => data_to_readers(parent, children, entry, readers),
@@ -228,7 +276,12 @@ fn down_by_kind<const WORDS: usize, P: Parent<WORDS>, C: Agent<WORDS>>(
     requires few { length children.old ≤ 16 }
     requires noted { note_of noted.now ≡ dir_note entry.now.item (P.state parent.old) }
     requires ready { IsReady WORDS entry.now.item (P.state parent.old) (map C.value children.old) }
-    ensures { let x = entry.now.item in let p = P.state parent.old in let q = fronted entry.now p in let ns = map C.value children.old in IsOutcome (outcome_of p ns (down_by_kind x q ns entry.now.words entry.now.kind)) result (P.state parent.new) (map C.value children.new) }
+    ensures { let x = entry.now.item in
+        let p = P.state parent.old in
+        let q = fronted entry.now p in
+        let ns = map C.value children.old in
+        IsOutcome (outcome_of p ns (down_by_kind x q ns entry.now.words entry.now.kind)) result
+        (P.state parent.new) (map C.value children.new) }
 {
     match entry.kind {
         TxKind::ReadTx => down_read(parent, children, entry),
@@ -248,7 +301,12 @@ fn down_by_note<const WORDS: usize, P: Parent<WORDS>, C: Agent<WORDS>>(
 ) -> TurnAnswer
     requires few { length children.old ≤ 16 }
     requires ready { IsReady WORDS entry.now.item (P.state parent.old) (map C.value children.old) }
-    ensures { let x = entry.now.item in let p = P.state parent.old in let q = fronted entry.now p in let ns = map C.value children.old in IsOutcome (outcome_of p ns (down_by_note x q ns entry.now.words entry.now.kind (dir_note x q))) result (P.state parent.new) (map C.value children.new) }
+    ensures { let x = entry.now.item in
+        let p = P.state parent.old in
+        let q = fronted entry.now p in
+        let ns = map C.value children.old in
+        IsOutcome (outcome_of p ns (down_by_note x q ns entry.now.words entry.now.kind (dir_note x q)))
+        result (P.state parent.new) (map C.value children.new) }
 {
     let noted = Noted::of(parent, entry.item);
     match &noted {
@@ -270,7 +328,10 @@ pub(crate) fn down<const WORDS: usize, P: Parent<WORDS>, C: Agent<WORDS>>(
     requires count { (P.state parent.old).count + 1 < 2 ^ 32 }
     requires few { length children.old ≤ 16 }
     requires sized { AreSized (P.state parent.old) (map C.value children.old) }
-    ensures { let p = P.state parent.old in let ns = map C.value children.old in IsOutcome (outcome_of p ns (down_turn p ns p.down)) answer.new (P.state parent.new) (map C.value children.new) }
+    ensures { let p = P.state parent.old in
+        let ns = map C.value children.old in
+        IsOutcome (outcome_of p ns (down_turn p ns p.down)) answer.new (P.state parent.new)
+        (map C.value children.new) }
 {
     match parent.first_down() {
         Some(entry) => *answer = down_by_note(parent, children, &entry),

@@ -10,7 +10,9 @@ ghost use Rattle.split_bus.specs.TreeModel.State.Child.{child_reply, child_reque
 ghost use Rattle.split_bus.specs.TreeModel.State.Directory.{dir_hold, dir_note, is_answering, parked_words, pending};
 ghost use Rattle.split_bus.specs.TreeModel.Turns.Bus.{bus_step, reply_turn, request_by_kind, request_turn};
 ghost use Rattle.split_bus.specs.TreeModel.Turns.Children.{child_at, holds_item, other_holds};
-ghost use Rattle.split_bus.specs.TreeModel.Turns.Down.{down_by_kind, down_by_note, down_data, down_erase, down_exclusive, down_inject, down_read, down_turn, inject_taker, inject_to_read, inject_to_taker};
+ghost use Rattle.split_bus.specs.TreeModel.Turns.Down.{down_by_kind, down_by_note, down_data, down_erase};
+ghost use Rattle.split_bus.specs.TreeModel.Turns.Down.{down_exclusive, down_inject, down_read, down_turn};
+ghost use Rattle.split_bus.specs.TreeModel.Turns.Down.{inject_taker, inject_to_read, inject_to_taker};
 ghost use Rattle.split_bus.specs.TreeModel.Turns.Reply.{reply_answering, reply_by_note};
 ghost use Rattle.split_bus.specs.TreeModel.Turns.RequestErase.{request_erase};
 ghost use Rattle.split_bus.specs.TreeModel.Turns.RequestRead.{read_granted, read_held, request_read};
@@ -39,7 +41,11 @@ fn down_read_goes<const WORDS: usize, P: Parent<WORDS>, C: Agent<WORDS>>(
 ) -> bool
     requires few { length children.now ≤ 16 }
     requires kept { IsKept WORDS entry.now.item (P.state parent.now) (map C.value children.now) }
-    ensures { let x = entry.now.item in let p = P.state parent.now in let q = fronted entry.now p in let ns = map C.value children.now in result ≡ grants (down_read x q ns (find_from (holds_item x) 0 ns) (parked_words x q)) }
+    ensures { let x = entry.now.item in
+        let p = P.state parent.now in
+        let q = fronted entry.now p in
+        let ns = map C.value children.now in
+        result ≡ grants (down_read x q ns (find_from (holds_item x) 0 ns) (parked_words x q)) }
 {
     match find(children, &Sought::Holder, entry.item) {
         Some(k) => full_to_answer(children, k, entry.item).is_none(),
@@ -59,7 +65,11 @@ fn down_data_goes<const WORDS: usize, P: Parent<WORDS>, C: Agent<WORDS>>(
 ) -> bool
     requires few { length children.now ≤ 16 }
     requires kept { IsKept WORDS entry.now.item (P.state parent.now) (map C.value children.now) }
-    ensures { let x = entry.now.item in let p = P.state parent.now in let q = fronted entry.now p in let ns = map C.value children.now in result ≡ grants (down_data x q ns entry.now.words (note_of noted.now)) }
+    ensures { let x = entry.now.item in
+        let p = P.state parent.now in
+        let q = fronted entry.now p in
+        let ns = map C.value children.now in
+        result ≡ grants (down_data x q ns entry.now.words (note_of noted.now)) }
 {
     match noted {
         Noted::UpRead(readers) => {
@@ -77,7 +87,10 @@ fn down_erase_goes<const WORDS: usize, P: Parent<WORDS>, C: Agent<WORDS>>(
 ) -> bool
     requires few { length children.now ≤ 16 }
     requires kept { IsKept WORDS entry.now.item (P.state parent.now) (map C.value children.now) }
-    ensures { let x = entry.now.item in let p = P.state parent.now in let q = fronted entry.now p in let ns = map C.value children.now in result ≡ grants (down_erase x q ns) }
+    ensures { let x = entry.now.item in
+        let p = P.state parent.now in
+        let q = fronted entry.now p in
+        let ns = map C.value children.now in result ≡ grants (down_erase x q ns) }
 {
     find_full(children, &Hearers::LoseAll, entry.item).is_none()
 }
@@ -90,7 +103,10 @@ fn down_exclusive_goes<const WORDS: usize, P: Parent<WORDS>, C: Agent<WORDS>>(
     noted: &Noted,
 ) -> bool
     requires kept { IsKept WORDS entry.now.item (P.state parent.now) (map C.value children.now) }
-    ensures { let x = entry.now.item in let p = P.state parent.now in let q = fronted entry.now p in let ns = map C.value children.now in result ≡ grants (down_exclusive x q ns (note_of noted.now)) }
+    ensures { let x = entry.now.item in
+        let p = P.state parent.now in
+        let q = fronted entry.now p in
+        let ns = map C.value children.now in result ≡ grants (down_exclusive x q ns (note_of noted.now)) }
 {
     match noted {
         Noted::UpErase(d) => full_to_take_exclusive(children, *d, entry.item).is_none(),
@@ -107,7 +123,11 @@ fn inject_read_goes<const WORDS: usize, P: Parent<WORDS>, C: Agent<WORDS>>(
 ) -> bool
     requires few { length children.now ≤ 16 }
     requires kept { IsKept WORDS entry.now.item (P.state parent.now) (map C.value children.now) }
-    ensures { let x = entry.now.item in let p = P.state parent.now in let q = fronted entry.now p in let ns = map C.value children.now in result ≡ grants (inject_to_read x q ns entry.now.words readers.now.first readers.now.joined) }
+    ensures { let x = entry.now.item in
+        let p = P.state parent.now in
+        let q = fronted entry.now p in
+        let ns = map C.value children.now in
+        result ≡ grants (inject_to_read x q ns entry.now.words readers.now.first readers.now.joined) }
 {
     if readers.joined != 0 {
         find_full(children, &Hearers::TakeData(*readers), entry.item).is_none()
@@ -125,7 +145,11 @@ fn inject_placed_goes<const WORDS: usize, P: Parent<WORDS>, C: Agent<WORDS>>(
 ) -> bool
     requires few { length children.now ≤ 16 }
     requires kept { IsKept WORDS entry.now.item (P.state parent.now) (map C.value children.now) }
-    ensures { let x = entry.now.item in let p = P.state parent.now in let q = fronted entry.now p in let ns = map C.value children.now in result ≡ grants (inject_to_taker x q ns entry.now.words (inject_taker x q ns entry.now.words)) }
+    ensures { let x = entry.now.item in
+        let p = P.state parent.now in
+        let q = fronted entry.now p in
+        let ns = map C.value children.now in
+        result ≡ grants (inject_to_taker x q ns entry.now.words (inject_taker x q ns entry.now.words)) }
 {
     inject_taker(parent, children, entry).is_some()
         || !is_parked(parent, entry.item) && parent.keeps_place()
@@ -140,7 +164,11 @@ fn down_inject_goes<const WORDS: usize, P: Parent<WORDS>, C: Agent<WORDS>>(
 ) -> bool
     requires few { length children.now ≤ 16 }
     requires kept { IsKept WORDS entry.now.item (P.state parent.now) (map C.value children.now) }
-    ensures { let x = entry.now.item in let p = P.state parent.now in let q = fronted entry.now p in let ns = map C.value children.now in result ≡ grants (down_inject x q ns entry.now.words (note_of noted.now)) }
+    ensures { let x = entry.now.item in
+        let p = P.state parent.now in
+        let q = fronted entry.now p in
+        let ns = map C.value children.now in
+        result ≡ grants (down_inject x q ns entry.now.words (note_of noted.now)) }
 {
     match noted {
         Noted::UpRead(readers) => inject_read_goes(parent, children, entry, readers),
@@ -160,7 +188,11 @@ fn down_kind_goes<const WORDS: usize, P: Parent<WORDS>, C: Agent<WORDS>>(
     requires few { length children.now ≤ 16 }
     requires noted { note_of noted.now ≡ dir_note entry.now.item (P.state parent.now) }
     requires kept { IsKept WORDS entry.now.item (P.state parent.now) (map C.value children.now) }
-    ensures { let x = entry.now.item in let p = P.state parent.now in let q = fronted entry.now p in let ns = map C.value children.now in result ≡ grants (down_by_kind x q ns entry.now.words entry.now.kind) }
+    ensures { let x = entry.now.item in
+        let p = P.state parent.now in
+        let q = fronted entry.now p in
+        let ns = map C.value children.now in
+        result ≡ grants (down_by_kind x q ns entry.now.words entry.now.kind) }
 {
     match entry.kind {
         TxKind::ReadTx => down_read_goes(parent, children, entry),
@@ -180,7 +212,11 @@ fn down_entry_goes<const WORDS: usize, P: Parent<WORDS>, C: Agent<WORDS>>(
 ) -> bool
     requires few { length children.now ≤ 16 }
     requires kept { IsKept WORDS entry.now.item (P.state parent.now) (map C.value children.now) }
-    ensures { let x = entry.now.item in let p = P.state parent.now in let q = fronted entry.now p in let ns = map C.value children.now in result ≡ grants (down_by_note x q ns entry.now.words entry.now.kind (dir_note x q)) }
+    ensures { let x = entry.now.item in
+        let p = P.state parent.now in
+        let q = fronted entry.now p in
+        let ns = map C.value children.now in
+        result ≡ grants (down_by_note x q ns entry.now.words entry.now.kind (dir_note x q)) }
 {
     let noted = Noted::of(parent, entry.item);
     match &noted {
@@ -216,7 +252,11 @@ fn read_held_goes<const WORDS: usize, P: Parent<WORDS>, C: Agent<WORDS>>(
 ) -> bool
     requires few { length children.now ≤ 16 }
     requires kept { IsKept WORDS item (P.state parent.now) (map C.value children.now) }
-    ensures { (above : Stamp) → let p = P.state parent.now in let ns = map C.value children.now in result ≡ grants (read_held c item p ns above (find_from (other_holds c item) 0 ns) (parked_words item p)) }
+    ensures { (above : Stamp) →
+        let p = P.state parent.now in
+        let ns = map C.value children.now in
+        result
+        ≡ grants (read_held c item p ns above (find_from (other_holds c item) 0 ns) (parked_words item p)) }
 {
     match find(children, &Sought::OtherHolder(c), item) {
         Some(k) => full_to_answer(children, k, item).is_none(),
@@ -236,7 +276,10 @@ fn read_granted_goes<const WORDS: usize, P: Parent<WORDS>, C: Agent<WORDS>>(
 ) -> bool
     requires few { length children.now ≤ 16 }
     requires kept { IsKept WORDS item (P.state parent.now) (map C.value children.now) }
-    ensures { (above : Stamp) → let p = P.state parent.now in let ns = map C.value children.now in result ≡ grants (read_granted c item p ns above (is_held (dir_hold item p))) }
+    ensures { (above : Stamp) →
+        let p = P.state parent.now in
+        let ns = map C.value children.now in
+        result ≡ grants (read_granted c item p ns above (is_held (dir_hold item p))) }
 {
     if is_held(parent.hold(item)) {
         read_held_goes(parent, children, c, item)
@@ -254,7 +297,10 @@ fn read_goes<const WORDS: usize, P: Parent<WORDS>, C: Agent<WORDS>>(
 ) -> bool
     requires few { length children.now ≤ 16 }
     requires kept { IsKept WORDS item (P.state parent.now) (map C.value children.now) }
-    ensures { (above : Stamp) → let p = P.state parent.now in let ns = map C.value children.now in result ≡ grants (request_read c item p ns above (dir_note item p)) }
+    ensures { (above : Stamp) →
+        let p = P.state parent.now in
+        let ns = map C.value children.now in
+        result ≡ grants (request_read c item p ns above (dir_note item p)) }
 {
     match Noted::of(parent, item) {
         Noted::Local(_) | Noted::UpRead(_) => true,
@@ -274,7 +320,10 @@ fn erase_goes<const WORDS: usize, P: Parent<WORDS>, C: Agent<WORDS>>(
 ) -> bool
     requires few { length children.now ≤ 16 }
     requires kept { IsKept WORDS item (P.state parent.now) (map C.value children.now) }
-    ensures { (above : Stamp) → let p = P.state parent.now in let ns = map C.value children.now in result ≡ grants (request_erase above c item p ns (pending item p)) }
+    ensures { (above : Stamp) →
+        let p = P.state parent.now in
+        let ns = map C.value children.now in
+        result ≡ grants (request_erase above c item p ns (pending item p)) }
 {
     match parent.pending(item) {
         Some(_) => false,
@@ -325,7 +374,9 @@ fn asked_goes<const WORDS: usize, P: Parent<WORDS>, C: Agent<WORDS>>(
 ) -> bool
     requires few { length children.now ≤ 16 }
     requires kept { IsKept WORDS item (P.state parent.now) (map C.value children.now) }
-    ensures { (above : Stamp) → let p = P.state parent.now in let ns = map C.value children.now in result ≡ grants (request_by_kind above p ns c item kind) }
+    ensures { (above : Stamp) →
+        let p = P.state parent.now in
+        let ns = map C.value children.now in result ≡ grants (request_by_kind above p ns c item kind) }
 {
     match kind {
         TxKind::ReadTx => read_goes(parent, children, c, item),
@@ -344,7 +395,10 @@ fn request_goes<const WORDS: usize, P: Parent<WORDS>, C: Agent<WORDS>>(
     requires few { length children.now ≤ 16 }
     requires child { c < length children.now }
     requires sized { AreSized (P.state parent.now) (map C.value children.now) }
-    ensures { (above : Stamp) → let p = P.state parent.now in let ns = map C.value children.now in result ≡ grants (request_turn above p ns c (child_request (child_at c ns))) }
+    ensures { (above : Stamp) →
+        let p = P.state parent.now in
+        let ns = map C.value children.now in
+        result ≡ grants (request_turn above p ns c (child_request (child_at c ns))) }
 {
     match named_request(parent, children, c) {
         Some((kind, item)) => asked_goes(parent, children, c, kind, item),
@@ -361,7 +415,9 @@ fn answering_goes<const WORDS: usize, P: Parent<WORDS>, C: Agent<WORDS>>(
     words: &Words<WORDS>,
 ) -> bool
     requires { IsKept WORDS item (P.state parent.now) (map C.value children.now) }
-    ensures { let p = P.state parent.now in let ns = map C.value children.now in result ≡ grants (reply_answering c item words.now p ns (is_answering item p)) }
+    ensures { let p = P.state parent.now in
+        let ns = map C.value children.now in
+        result ≡ grants (reply_answering c item words.now p ns (is_answering item p)) }
 {
     parent.answering(item) && parent.list_full(ParentList::Replies).is_none()
 }
@@ -376,7 +432,9 @@ fn words_go<const WORDS: usize, P: Parent<WORDS>, C: Agent<WORDS>>(
 ) -> bool
     requires few { length children.now ≤ 16 }
     requires kept { IsKept WORDS item (P.state parent.now) (map C.value children.now) }
-    ensures { let p = P.state parent.now in let ns = map C.value children.now in result ≡ grants (reply_by_note c item words.now p ns (dir_note item p)) }
+    ensures { let p = P.state parent.now in
+        let ns = map C.value children.now in
+        result ≡ grants (reply_by_note c item words.now p ns (dir_note item p)) }
 {
     match Noted::of(parent, item) {
         Noted::Local(readers) => {
@@ -398,7 +456,10 @@ fn reply_goes<const WORDS: usize, P: Parent<WORDS>, C: Agent<WORDS>>(
     requires few { length children.now ≤ 16 }
     requires child { c < length children.now }
     requires sized { AreSized (P.state parent.now) (map C.value children.now) }
-    ensures { (above : Stamp) → let p = P.state parent.now in let ns = map C.value children.now in result ≡ grants (reply_turn above p ns c (child_reply (child_at c ns))) }
+    ensures { (above : Stamp) →
+        let p = P.state parent.now in
+        let ns = map C.value children.now in
+        result ≡ grants (reply_turn above p ns c (child_reply (child_at c ns))) }
 {
     match named_reply(parent, children, c) {
         Some((item, words)) => words_go(parent, children, c, item, &words),

@@ -7,7 +7,9 @@ ghost use Rattle.split_bus.specs.TreeModel.State.Directory.{is_parked};
 ghost use Rattle.split_bus.specs.TreeModel.State.Child.{child_full_for, reader_has_place};
 ghost use Rattle.split_bus.specs.TreeModel.Turns.Grant.{granted, outcome_of, unless_full};
 ghost use Rattle.split_bus.specs.TreeModel.Turns.Children.{child_at, reader_full};
-ghost use Rattle.split_bus.specs.TreeModel.Turns.Down.{down_inject, inject_parked, inject_taker, inject_to_child, inject_to_parking, inject_to_read, inject_to_reader, inject_to_readers, inject_to_taker};
+ghost use Rattle.split_bus.specs.TreeModel.Turns.Down.{down_inject, inject_parked, inject_taker, inject_to_child};
+ghost use Rattle.split_bus.specs.TreeModel.Turns.Down.{inject_to_parking, inject_to_read, inject_to_reader};
+ghost use Rattle.split_bus.specs.TreeModel.Turns.Down.{inject_to_readers, inject_to_taker};
 ghost use Rattle.split_bus.specs.Children.{note_of, note_of_readers};
 ghost use Rattle.split_bus.specs.Outcomes.{HaveItem, IsOutcome, IsReady, fronted};
 
@@ -31,7 +33,14 @@ fn inject_to_reader<const WORDS: usize, P: Parent<WORDS>, C: Agent<WORDS>>(
     requires few { length children.old ≤ 16 }
     requires place { reader_has_place entry.now.item (child_at d (map C.value children.old)) ≡ true }
     requires ready { IsReady WORDS entry.now.item (P.state parent.old) (map C.value children.old) }
-    ensures { let x = entry.now.item in let p = P.state parent.old in let q = fronted entry.now p in let ns = map C.value children.old in IsOutcome (outcome_of p ns (unless_full (child_full_for InjectTx x (child_at d ns)) (inject_to_reader x q ns entry.now.words d))) result (P.state parent.new) (map C.value children.new) }
+    ensures { let x = entry.now.item in
+        let p = P.state parent.old in
+        let q = fronted entry.now p in
+        let ns = map C.value children.old in
+        IsOutcome
+        (outcome_of p ns (unless_full (child_full_for InjectTx x (child_at d ns))
+        (inject_to_reader x q ns entry.now.words d))) result (P.state parent.new)
+        (map C.value children.new) }
 {
     if let Some(list) = full_to_take_inject(children, d, entry.item) {
         return full(list);
@@ -57,7 +66,15 @@ fn inject_to_readers<const WORDS: usize, P: Parent<WORDS>, C: Agent<WORDS>>(
 ) -> TurnAnswer
     requires few { length children.old ≤ 16 }
     requires ready { IsReady WORDS entry.now.item (P.state parent.old) (map C.value children.old) }
-    ensures { let x = entry.now.item in let p = P.state parent.old in let q = fronted entry.now p in let ns = map C.value children.old in IsOutcome (outcome_of p ns (unless_full (first_given (reader_full (note_of_readers readers.now) x) 0 ns) (inject_to_readers x q ns entry.now.words readers.now.first readers.now.joined))) result (P.state parent.new) (map C.value children.new) }
+    ensures { let x = entry.now.item in
+        let p = P.state parent.old in
+        let q = fronted entry.now p in
+        let ns = map C.value children.old in
+        IsOutcome
+        (outcome_of p ns (unless_full (first_given (reader_full (note_of_readers readers.now) x) 0 ns)
+        (inject_to_readers x q ns entry.now.words readers.now.first
+        readers.now.joined))) result (P.state parent.new)
+        (map C.value children.new) }
 {
     if let Some(list) = find_full(children, &Hearers::TakeData(*readers), entry.item) {
         return full(list);
@@ -83,7 +100,13 @@ fn inject_to_read<const WORDS: usize, P: Parent<WORDS>, C: Agent<WORDS>>(
 ) -> TurnAnswer
     requires few { length children.old ≤ 16 }
     requires ready { IsReady WORDS entry.now.item (P.state parent.old) (map C.value children.old) }
-    ensures { let x = entry.now.item in let p = P.state parent.old in let q = fronted entry.now p in let ns = map C.value children.old in IsOutcome (outcome_of p ns (inject_to_read x q ns entry.now.words readers.now.first readers.now.joined)) result (P.state parent.new) (map C.value children.new) }
+    ensures { let x = entry.now.item in
+        let p = P.state parent.old in
+        let q = fronted entry.now p in
+        let ns = map C.value children.old in
+        IsOutcome
+        (outcome_of p ns (inject_to_read x q ns entry.now.words readers.now.first readers.now.joined))
+        result (P.state parent.new) (map C.value children.new) }
 {
     if readers.joined != 0 {
         inject_to_readers(parent, children, entry, readers)
@@ -118,9 +141,15 @@ fn inject_to_child<const WORDS: usize, P: Parent<WORDS>, C: Agent<WORDS>>(
     k: ChildNo,
 ) -> TurnAnswer
     requires few { length children.old ≤ 16 }
-    requires found { let p = P.state parent.old in inject_taker entry.now.item (fronted entry.now p) (map C.value children.old) entry.now.words ≡ Some k }
+    requires found { let p = P.state parent.old in
+        inject_taker entry.now.item (fronted entry.now p) (map C.value children.old) entry.now.words ≡ Some k }
     requires ready { IsReady WORDS entry.now.item (P.state parent.old) (map C.value children.old) }
-    ensures { let x = entry.now.item in let p = P.state parent.old in let q = fronted entry.now p in let ns = map C.value children.old in IsOutcome (outcome_of p ns (granted (inject_to_child x q ns entry.now.words k))) result (P.state parent.new) (map C.value children.new) }
+    ensures { let x = entry.now.item in
+        let p = P.state parent.old in
+        let q = fronted entry.now p in
+        let ns = map C.value children.old in
+        IsOutcome (outcome_of p ns (granted (inject_to_child x q ns entry.now.words k))) result
+        (P.state parent.new) (map C.value children.new) }
 {
     let stamp = take_front(parent, entry.stamp);
     parent.release_place();
@@ -144,7 +173,12 @@ fn inject_parked<const WORDS: usize, P: Parent<WORDS>, C: Agent<WORDS>>(
     requires once { is_parked entry.now.item (P.state parent.old) ≡ false }
     requires kept { nat_eq (P.state parent.old).reserved 0 ≡ false }
     requires ready { IsReady WORDS entry.now.item (P.state parent.old) (map C.value children.old) }
-    ensures { let x = entry.now.item in let p = P.state parent.old in let q = fronted entry.now p in let ns = map C.value children.old in IsOutcome (outcome_of p ns (granted (inject_parked x q ns entry.now.words))) result (P.state parent.new) (map C.value children.new) }
+    ensures { let x = entry.now.item in
+        let p = P.state parent.old in
+        let q = fronted entry.now p in
+        let ns = map C.value children.old in
+        IsOutcome (outcome_of p ns (granted (inject_parked x q ns entry.now.words))) result
+        (P.state parent.new) (map C.value children.new) }
 {
     take_front(parent, entry.stamp);
     parent.park(entry.item, entry.words, true);
@@ -165,7 +199,12 @@ fn inject_to_parking<const WORDS: usize, P: Parent<WORDS>, C: Agent<WORDS>>(
 ) -> TurnAnswer
     requires few { length children.old ≤ 16 }
     requires ready { IsReady WORDS entry.now.item (P.state parent.old) (map C.value children.old) }
-    ensures { let x = entry.now.item in let p = P.state parent.old in let q = fronted entry.now p in let ns = map C.value children.old in IsOutcome (outcome_of p ns (inject_to_parking x q ns entry.now.words)) result (P.state parent.new) (map C.value children.new) }
+    ensures { let x = entry.now.item in
+        let p = P.state parent.old in
+        let q = fronted entry.now p in
+        let ns = map C.value children.old in
+        IsOutcome (outcome_of p ns (inject_to_parking x q ns entry.now.words)) result (P.state parent.new)
+        (map C.value children.new) }
 {
     if is_parked(parent, entry.item) || !parent.keeps_place() {
         TurnAnswer::Empty
@@ -182,7 +221,13 @@ fn inject_to_taker<const WORDS: usize, P: Parent<WORDS>, C: Agent<WORDS>>(
 ) -> TurnAnswer
     requires few { length children.old ≤ 16 }
     requires ready { IsReady WORDS entry.now.item (P.state parent.old) (map C.value children.old) }
-    ensures { let x = entry.now.item in let p = P.state parent.old in let q = fronted entry.now p in let ns = map C.value children.old in IsOutcome (outcome_of p ns (inject_to_taker x q ns entry.now.words (inject_taker x q ns entry.now.words))) result (P.state parent.new) (map C.value children.new) }
+    ensures { let x = entry.now.item in
+        let p = P.state parent.old in
+        let q = fronted entry.now p in
+        let ns = map C.value children.old in
+        IsOutcome
+        (outcome_of p ns (inject_to_taker x q ns entry.now.words (inject_taker x q ns entry.now.words)))
+        result (P.state parent.new) (map C.value children.new) }
 {
     match inject_taker(parent, children, entry) {
         Some(k) => inject_to_child(parent, children, entry, k),
@@ -199,7 +244,12 @@ pub(crate) fn down_inject<const WORDS: usize, P: Parent<WORDS>, C: Agent<WORDS>>
 ) -> TurnAnswer
     requires few { length children.old ≤ 16 }
     requires ready { IsReady WORDS entry.now.item (P.state parent.old) (map C.value children.old) }
-    ensures { let x = entry.now.item in let p = P.state parent.old in let q = fronted entry.now p in let ns = map C.value children.old in IsOutcome (outcome_of p ns (down_inject x q ns entry.now.words (note_of noted.now))) result (P.state parent.new) (map C.value children.new) }
+    ensures { let x = entry.now.item in
+        let p = P.state parent.old in
+        let q = fronted entry.now p in
+        let ns = map C.value children.old in
+        IsOutcome (outcome_of p ns (down_inject x q ns entry.now.words (note_of noted.now))) result
+        (P.state parent.new) (map C.value children.new) }
 {
     match noted {
         Noted::UpRead(readers) => inject_to_read(parent, children, entry, readers),

@@ -6,7 +6,9 @@ ghost use Rattle.split_bus.specs.TreeModel.State.Directory.{dir_hold, is_parked,
 ghost use Rattle.split_bus.specs.TreeModel.State.Child.{child_hold};
 ghost use Rattle.split_bus.specs.TreeModel.Turns.Grant.{granted, outcome_of};
 ghost use Rattle.split_bus.specs.TreeModel.Turns.Children.{child_at};
-ghost use Rattle.split_bus.specs.TreeModel.Turns.Leave.{leave_by_hold, leave_inject, leave_of, leave_parked, leave_shared, leave_taker, leave_to, other_copy, out_gone, parked_unless_full};
+ghost use Rattle.split_bus.specs.TreeModel.Turns.Leave.{leave_by_hold, leave_inject, leave_of, leave_parked};
+ghost use Rattle.split_bus.specs.TreeModel.Turns.Leave.{leave_shared, leave_taker, leave_to, other_copy, out_gone};
+ghost use Rattle.split_bus.specs.TreeModel.Turns.Leave.{parked_unless_full};
 ghost use Rattle.item_states.specs.Parts.{has_given};
 ghost use Rattle.split_bus.specs.Outcomes.{HaveItem, IsOutcome, IsReady};
 
@@ -43,7 +45,10 @@ fn out_gone<const WORDS: usize, P: Parent<WORDS>, C: Agent<WORDS>>(
     requires child { c < length children.old }
     requires there { has_given item (child_at c (map C.value children.old)) ≡ true }
     requires ready { IsReady WORDS item (P.state parent.old) (map C.value children.old) }
-    ensures { let p = P.state parent.old in let ns = map C.value children.old in IsOutcome (outcome_of p ns (granted (out_gone c item p ns))) result (P.state parent.new) (map C.value children.new) }
+    ensures { let p = P.state parent.old in
+        let ns = map C.value children.old in
+        IsOutcome (outcome_of p ns (granted (out_gone c item p ns))) result (P.state parent.new)
+        (map C.value children.new) }
 {
     parent.advance(None);
     give_up(children, c, item);
@@ -64,7 +69,10 @@ fn leave_parked<const WORDS: usize, P: Parent<WORDS>, C: Agent<WORDS>>(
     requires once { is_parked item (P.state parent.old) ≡ false }
     requires place { parking_full (P.state parent.old) ≡ false }
     requires ready { IsReady WORDS item (P.state parent.old) (map C.value children.old) }
-    ensures { let p = P.state parent.old in let ns = map C.value children.old in IsOutcome (outcome_of p ns (granted (leave_parked c item p ns kind))) result (P.state parent.new) (map C.value children.new) }
+    ensures { let p = P.state parent.old in
+        let ns = map C.value children.old in
+        IsOutcome (outcome_of p ns (granted (leave_parked c item p ns kind))) result (P.state parent.new)
+        (map C.value children.new) }
 {
     parent.advance(None);
     let words = give_up(children, c, item);
@@ -85,7 +93,10 @@ fn leave_to<const WORDS: usize, P: Parent<WORDS>, C: Agent<WORDS>>(
     requires there { has_given item (child_at c (map C.value children.old)) ≡ true }
     requires found { leave_taker c item (P.state parent.old) (map C.value children.old) ≡ Some k }
     requires ready { IsReady WORDS item (P.state parent.old) (map C.value children.old) }
-    ensures { let p = P.state parent.old in let ns = map C.value children.old in IsOutcome (outcome_of p ns (granted (leave_to c item p ns k))) result (P.state parent.new) (map C.value children.new) }
+    ensures { let p = P.state parent.old in
+        let ns = map C.value children.old in
+        IsOutcome (outcome_of p ns (granted (leave_to c item p ns k))) result (P.state parent.new)
+        (map C.value children.new) }
 {
     let stamp = parent.advance(None);
     let words = give_up(children, c, item);
@@ -138,7 +149,10 @@ fn parked_unless_full<const WORDS: usize, P: Parent<WORDS>, C: Agent<WORDS>>(
     requires child { c < length children.old }
     requires there { has_given item (child_at c (map C.value children.old)) ≡ true }
     requires ready { IsReady WORDS item (P.state parent.old) (map C.value children.old) }
-    ensures { let p = P.state parent.old in let ns = map C.value children.old in IsOutcome (outcome_of p ns (parked_unless_full c item p ns kind)) result (P.state parent.new) (map C.value children.new) }
+    ensures { let p = P.state parent.old in
+        let ns = map C.value children.old in
+        IsOutcome (outcome_of p ns (parked_unless_full c item p ns kind)) result (P.state parent.new)
+        (map C.value children.new) }
 {
     if is_parked(parent, item) {
         TurnAnswer::Empty
@@ -160,7 +174,10 @@ fn leave_inject<const WORDS: usize, P: Parent<WORDS>, C: Agent<WORDS>>(
     requires child { c < length children.old }
     requires there { has_given item (child_at c (map C.value children.old)) ≡ true }
     requires ready { IsReady WORDS item (P.state parent.old) (map C.value children.old) }
-    ensures { let p = P.state parent.old in let ns = map C.value children.old in IsOutcome (outcome_of p ns (leave_inject c item p ns (leave_taker c item p ns))) result (P.state parent.new) (map C.value children.new) }
+    ensures { let p = P.state parent.old in
+        let ns = map C.value children.old in
+        IsOutcome (outcome_of p ns (leave_inject c item p ns (leave_taker c item p ns))) result
+        (P.state parent.new) (map C.value children.new) }
 {
     match leave_taker(parent, children, c, item) {
         Some(k) => leave_to(parent, children, c, item, k),
@@ -185,7 +202,11 @@ fn leave_shared<const WORDS: usize, P: Parent<WORDS>, C: Agent<WORDS>>(
     requires child { c < length children.old }
     requires there { has_given item (child_at c (map C.value children.old)) ≡ true }
     requires ready { IsReady WORDS item (P.state parent.old) (map C.value children.old) }
-    ensures { let p = P.state parent.old in let ns = map C.value children.old in IsOutcome (outcome_of p ns (leave_shared c item p ns (other_copy c item p ns) (is_shared (dir_hold item p)))) result (P.state parent.new) (map C.value children.new) }
+    ensures { let p = P.state parent.old in
+        let ns = map C.value children.old in
+        IsOutcome
+        (outcome_of p ns (leave_shared c item p ns (other_copy c item p ns) (is_shared (dir_hold item p))))
+        result (P.state parent.new) (map C.value children.new) }
 {
     if other_copy(parent, children, c, item) {
         out_gone(parent, children, c, item)
@@ -207,7 +228,10 @@ fn leave_by_hold<const WORDS: usize, P: Parent<WORDS>, C: Agent<WORDS>>(
     requires child { c < length children.old }
     requires there { has_given item (child_at c (map C.value children.old)) ≡ true }
     requires ready { IsReady WORDS item (P.state parent.old) (map C.value children.old) }
-    ensures { let p = P.state parent.old in let ns = map C.value children.old in IsOutcome (outcome_of p ns (leave_by_hold c item p ns (child_hold item (child_at c ns)))) result (P.state parent.new) (map C.value children.new) }
+    ensures { let p = P.state parent.old in
+        let ns = map C.value children.old in
+        IsOutcome (outcome_of p ns (leave_by_hold c item p ns (child_hold item (child_at c ns)))) result
+        (P.state parent.new) (map C.value children.new) }
 {
     match child(children, c, item).hold(item) {
         Hold::Shared => leave_shared(parent, children, c, item),
@@ -226,7 +250,10 @@ pub(crate) fn leave<const WORDS: usize, P: Parent<WORDS>, C: Agent<WORDS>>(
     requires child { c < length children.old }
     requires there { has_given item (child_at c (map C.value children.old)) ≡ true }
     requires ready { IsReady WORDS item (P.state parent.old) (map C.value children.old) }
-    ensures { let p = P.state parent.old in let ns = map C.value children.old in IsOutcome (outcome_of p ns (leave_of c item p ns)) result (P.state parent.new) (map C.value children.new) }
+    ensures { let p = P.state parent.old in
+        let ns = map C.value children.old in
+        IsOutcome (outcome_of p ns (leave_of c item p ns)) result (P.state parent.new)
+        (map C.value children.new) }
 {
     if let Some(why) = parent.pending(item) {
         return pending(parent, item, why);

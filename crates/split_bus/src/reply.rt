@@ -29,7 +29,12 @@ fn reply_to_readers<const WORDS: usize, P: Parent<WORDS>, C: Agent<WORDS>>(
     requires few { length children.old ≤ 16 }
     requires child { c < length children.old }
     requires ready { IsReady WORDS item (P.state parent.old) (map C.value children.old) }
-    ensures { let p = P.state parent.old in let ns = map C.value children.old in IsOutcome (outcome_of p ns (unless_full (first_given (reader_full (note_of_readers readers.now) item) 0 ns) (reply_to_readers c item words.now p ns readers.now.first readers.now.joined))) result (P.state parent.new) (map C.value children.new) }
+    ensures { let p = P.state parent.old in
+        let ns = map C.value children.old in
+        IsOutcome
+        (outcome_of p ns (unless_full (first_given (reader_full (note_of_readers readers.now) item) 0 ns)
+        (reply_to_readers c item words.now p ns readers.now.first readers.now.joined)))
+        result (P.state parent.new) (map C.value children.new) }
 {
     if let Some(list) = find_full(children, &Hearers::TakeData(*readers), item) {
         return full(list);
@@ -72,7 +77,10 @@ fn reply_to_parent<const WORDS: usize, P: Parent<WORDS>, C: Agent<WORDS>>(
     requires few { length children.old ≤ 16 }
     requires child { c < length children.old }
     requires ready { IsReady WORDS item (P.state parent.old) (map C.value children.old) }
-    ensures { let p = P.state parent.old in let ns = map C.value children.old in IsOutcome (outcome_of p ns (unless_full (own_replies_full p) (reply_to_parent c item words.now p ns))) result (P.state parent.new) (map C.value children.new) }
+    ensures { let p = P.state parent.old in
+        let ns = map C.value children.old in
+        IsOutcome (outcome_of p ns (unless_full (own_replies_full p) (reply_to_parent c item words.now p ns)))
+        result (P.state parent.new) (map C.value children.new) }
 {
     if let Some(list) = parent.list_full(ParentList::Replies) {
         return full(list);
@@ -94,7 +102,10 @@ fn reply_answering<const WORDS: usize, P: Parent<WORDS>, C: Agent<WORDS>>(
     requires few { length children.old ≤ 16 }
     requires child { c < length children.old }
     requires ready { IsReady WORDS item (P.state parent.old) (map C.value children.old) }
-    ensures { let p = P.state parent.old in let ns = map C.value children.old in IsOutcome (outcome_of p ns (reply_answering c item words.now p ns (is_answering item p))) result (P.state parent.new) (map C.value children.new) }
+    ensures { let p = P.state parent.old in
+        let ns = map C.value children.old in
+        IsOutcome (outcome_of p ns (reply_answering c item words.now p ns (is_answering item p))) result
+        (P.state parent.new) (map C.value children.new) }
 {
     if parent.answering(item) {
         reply_to_parent(parent, children, c, item, words)
@@ -114,7 +125,10 @@ pub(crate) fn reply<const WORDS: usize, P: Parent<WORDS>, C: Agent<WORDS>>(
     requires few { length children.old ≤ 16 }
     requires child { c < length children.old }
     requires ready { IsReady WORDS item (P.state parent.old) (map C.value children.old) }
-    ensures { let p = P.state parent.old in let ns = map C.value children.old in IsOutcome (outcome_of p ns (reply_by_note c item words.now p ns (dir_note item p))) result (P.state parent.new) (map C.value children.new) }
+    ensures { let p = P.state parent.old in
+        let ns = map C.value children.old in
+        IsOutcome (outcome_of p ns (reply_by_note c item words.now p ns (dir_note item p))) result
+        (P.state parent.new) (map C.value children.new) }
 {
     match Noted::of(parent, item) {
         Noted::Local(readers) => reply_to_readers(parent, children, c, item, words, &readers),

@@ -31,7 +31,10 @@ pub(crate) fn full_to_erase<const WORDS: usize, P: Parent<WORDS>, C: Agent<WORDS
 ) -> Option<QueueName>
     requires few { length children.now ≤ 16 }
     requires have { HaveItem item (map C.value children.now) }
-    ensures { let p = P.state parent.now in let ns = map C.value children.now in result ≡ first_some (first_given (other_full c item) 0 ns) (erase_list_full above c item p ns exclusive) }
+    ensures { let p = P.state parent.now in
+        let ns = map C.value children.now in
+        result
+        ≡ first_some (first_given (other_full c item) 0 ns) (erase_list_full above c item p ns exclusive) }
 {
     match find_full(children, &Hearers::LoseOthers(c), item) {
         Some(list) => Some(list),
@@ -56,7 +59,10 @@ fn send_erase<const WORDS: usize, P: Parent<WORDS>>(
     requires sized { (P.state parent.old).sizes.width ≡ WORDS }
     requires in_range { item < length (P.state parent.old).items }
     requires room { (if exclusive then down_full (P.state parent.old) else requests_full (P.state parent.old)) ≡ false }
-    ensures { let p = P.state parent.old in P.state parent.new ≡ (if exclusive then pushed_down ExclusiveTx item (blank p.sizes.width) above p else pushed_request EraseTx item p) }
+    ensures { let p = P.state parent.old in
+        P.state parent.new
+        ≡ (if exclusive then pushed_down ExclusiveTx item (blank p.sizes.width) above p
+        else pushed_request EraseTx item p) }
 {
     if exclusive {
         parent.push_down(DownEntry {
@@ -81,7 +87,14 @@ fn erase_of_all<const WORDS: usize, P: Parent<WORDS>, C: Agent<WORDS>>(
     requires few { length children.old ≤ 16 }
     requires child { c < length children.old }
     requires ready { IsReady WORDS item (P.state parent.old) (map C.value children.old) }
-    ensures { let p = P.state parent.old in let ns = map C.value children.old in IsOutcome (outcome_of p ns (unless_full (first_some (first_given (other_full c item) 0 ns) (erase_list_full above c item p ns (is_exclusive (dir_hold item p)))) (erase_of_all above c item p ns))) result (P.state parent.new) (map C.value children.new) }
+    ensures { let p = P.state parent.old in
+        let ns = map C.value children.old in
+        IsOutcome
+        (outcome_of p ns (unless_full
+        (first_some (first_given (other_full c item) 0 ns)
+        (erase_list_full above c item p ns (is_exclusive (dir_hold item p))))
+        (erase_of_all above c item p ns))) result (P.state parent.new)
+        (map C.value children.new) }
 {
     let exclusive = is_exclusive(parent.hold(item));
     if let Some(list) = full_to_erase(parent, children, above, c, item, exclusive) {
@@ -105,7 +118,10 @@ pub(crate) fn request_erase<const WORDS: usize, P: Parent<WORDS>, C: Agent<WORDS
     requires few { length children.old ≤ 16 }
     requires child { c < length children.old }
     requires ready { IsReady WORDS item (P.state parent.old) (map C.value children.old) }
-    ensures { let p = P.state parent.old in let ns = map C.value children.old in IsOutcome (outcome_of p ns (request_erase above c item p ns (pending item p))) result (P.state parent.new) (map C.value children.new) }
+    ensures { let p = P.state parent.old in
+        let ns = map C.value children.old in
+        IsOutcome (outcome_of p ns (request_erase above c item p ns (pending item p))) result
+        (P.state parent.new) (map C.value children.new) }
 {
     match parent.pending(item) {
         Some(why) => pending(parent, item, why),

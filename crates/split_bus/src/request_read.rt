@@ -8,7 +8,8 @@ ghost use Rattle.split_bus.specs.TreeModel.State.Directory.{dir_hold, dir_note, 
 ghost use Rattle.split_bus.specs.TreeModel.State.Child.{child_full_for};
 ghost use Rattle.split_bus.specs.TreeModel.Turns.Grant.{granted, outcome_of, own_down_full, own_requests_full, unless_full};
 ghost use Rattle.split_bus.specs.TreeModel.Turns.Children.{child_at, other_holds};
-ghost use Rattle.split_bus.specs.TreeModel.Turns.RequestRead.{joins, read_granted, read_held, read_of_child, read_of_parent, read_of_parked, request_read};
+ghost use Rattle.split_bus.specs.TreeModel.Turns.RequestRead.{joins, read_granted, read_held, read_of_child};
+ghost use Rattle.split_bus.specs.TreeModel.Turns.RequestRead.{read_of_parent, read_of_parked, request_read};
 ghost use Rattle.split_bus.specs.Outcomes.{IsOutcome, IsReady};
 
 use crate::answers::{full, granted, pending};
@@ -29,7 +30,10 @@ fn joins<const WORDS: usize, P: Parent<WORDS>, C: Agent<WORDS>>(
     requires few { length children.old ≤ 16 }
     requires child { c < length children.old }
     requires ready { IsReady WORDS item (P.state parent.old) (map C.value children.old) }
-    ensures { let p = P.state parent.old in let ns = map C.value children.old in IsOutcome (outcome_of p ns (granted (joins c item p ns))) result (P.state parent.new) (map C.value children.new) }
+    ensures { let p = P.state parent.old in
+        let ns = map C.value children.old in
+        IsOutcome (outcome_of p ns (granted (joins c item p ns))) result (P.state parent.new)
+        (map C.value children.new) }
 {
     parent.advance(None);
     parent.join(item, c);
@@ -50,7 +54,12 @@ fn read_of_child<const WORDS: usize, P: Parent<WORDS>, C: Agent<WORDS>>(
     requires found { find_from (other_holds c item) 0 (map C.value children.old) ≡ Some k }
     requires within { k < length children.old }
     requires ready { IsReady WORDS item (P.state parent.old) (map C.value children.old) }
-    ensures { let p = P.state parent.old in let ns = map C.value children.old in IsOutcome (outcome_of p ns (unless_full (child_full_for ReadTx item (child_at k ns)) (read_of_child c item p ns k))) result (P.state parent.new) (map C.value children.new) }
+    ensures { let p = P.state parent.old in
+        let ns = map C.value children.old in
+        IsOutcome
+        (outcome_of p ns (unless_full (child_full_for ReadTx item (child_at k ns))
+        (read_of_child c item p ns k))) result (P.state parent.new)
+        (map C.value children.new) }
 {
     if let Some(list) = full_to_answer(children, k, item) {
         return full(list);
@@ -80,7 +89,11 @@ fn read_of_parked<const WORDS: usize, P: Parent<WORDS>, C: Agent<WORDS>>(
     requires few { length children.old ≤ 16 }
     requires child { c < length children.old }
     requires ready { IsReady WORDS item (P.state parent.old) (map C.value children.old) }
-    ensures { let p = P.state parent.old in let ns = map C.value children.old in IsOutcome (outcome_of p ns (unless_full (own_down_full p) (read_of_parked c item p ns above words.now))) result (P.state parent.new) (map C.value children.new) }
+    ensures { let p = P.state parent.old in
+        let ns = map C.value children.old in
+        IsOutcome
+        (outcome_of p ns (unless_full (own_down_full p) (read_of_parked c item p ns above words.now)))
+        result (P.state parent.new) (map C.value children.new) }
 {
     if let Some(list) = parent.list_full(ParentList::Down) {
         return full(list);
@@ -114,7 +127,10 @@ fn read_of_parent<const WORDS: usize, P: Parent<WORDS>, C: Agent<WORDS>>(
     requires few { length children.old ≤ 16 }
     requires child { c < length children.old }
     requires ready { IsReady WORDS item (P.state parent.old) (map C.value children.old) }
-    ensures { let p = P.state parent.old in let ns = map C.value children.old in IsOutcome (outcome_of p ns (unless_full (own_requests_full p) (read_of_parent c item p ns))) result (P.state parent.new) (map C.value children.new) }
+    ensures { let p = P.state parent.old in
+        let ns = map C.value children.old in
+        IsOutcome (outcome_of p ns (unless_full (own_requests_full p) (read_of_parent c item p ns))) result
+        (P.state parent.new) (map C.value children.new) }
 {
     if let Some(list) = parent.list_full(ParentList::Requests) {
         return full(list);
@@ -137,7 +153,11 @@ fn read_held<const WORDS: usize, P: Parent<WORDS>, C: Agent<WORDS>>(
     requires few { length children.old ≤ 16 }
     requires child { c < length children.old }
     requires ready { IsReady WORDS item (P.state parent.old) (map C.value children.old) }
-    ensures { let p = P.state parent.old in let ns = map C.value children.old in IsOutcome (outcome_of p ns (read_held c item p ns above (find_from (other_holds c item) 0 ns) (parked_words item p))) result (P.state parent.new) (map C.value children.new) }
+    ensures { let p = P.state parent.old in
+        let ns = map C.value children.old in
+        IsOutcome
+        (outcome_of p ns (read_held c item p ns above (find_from (other_holds c item) 0 ns)
+        (parked_words item p))) result (P.state parent.new) (map C.value children.new) }
 {
     match find(children, &Sought::OtherHolder(c), item) {
         Some(k) => read_of_child(parent, children, c, k, item),
@@ -159,7 +179,10 @@ fn read_granted<const WORDS: usize, P: Parent<WORDS>, C: Agent<WORDS>>(
     requires few { length children.old ≤ 16 }
     requires child { c < length children.old }
     requires ready { IsReady WORDS item (P.state parent.old) (map C.value children.old) }
-    ensures { let p = P.state parent.old in let ns = map C.value children.old in IsOutcome (outcome_of p ns (read_granted c item p ns above (is_held (dir_hold item p)))) result (P.state parent.new) (map C.value children.new) }
+    ensures { let p = P.state parent.old in
+        let ns = map C.value children.old in
+        IsOutcome (outcome_of p ns (read_granted c item p ns above (is_held (dir_hold item p)))) result
+        (P.state parent.new) (map C.value children.new) }
 {
     if is_held(parent.hold(item)) {
         read_held(parent, children, above, c, item)
@@ -179,7 +202,10 @@ pub(crate) fn request_read<const WORDS: usize, P: Parent<WORDS>, C: Agent<WORDS>
     requires few { length children.old ≤ 16 }
     requires child { c < length children.old }
     requires ready { IsReady WORDS item (P.state parent.old) (map C.value children.old) }
-    ensures { let p = P.state parent.old in let ns = map C.value children.old in IsOutcome (outcome_of p ns (request_read c item p ns above (dir_note item p))) result (P.state parent.new) (map C.value children.new) }
+    ensures { let p = P.state parent.old in
+        let ns = map C.value children.old in
+        IsOutcome (outcome_of p ns (request_read c item p ns above (dir_note item p))) result
+        (P.state parent.new) (map C.value children.new) }
 {
     match Noted::of(parent, item) {
         Noted::Local(_) | Noted::UpRead(_) => joins(parent, children, c, item),

@@ -3,7 +3,9 @@
 ghost use Rattle.std.specs.Prelude.{◌≡◌, ◌^◌, ◌<◌, ◌≤◌, None, true, length, map};
 ghost use Rattle.split_bus.specs.DdmTypes.declared.answers.TxKind.TheVariants.{ExclusiveTx, InjectTx, ReadTx};
 ghost use Rattle.split_bus.specs.TreeModel.State.Lists.{first_given, map_from};
-ghost use Rattle.split_bus.specs.TreeModel.State.Child.{child_answer, child_full_for, child_give_up, child_given, child_reply_taken, child_request_taken, child_take_exclusive, child_take_inject, reader_has_place};
+ghost use Rattle.split_bus.specs.TreeModel.State.Child.{child_answer, child_full_for, child_give_up, child_given};
+ghost use Rattle.split_bus.specs.TreeModel.State.Child.{child_reply_taken, child_request_taken, child_take_exclusive};
+ghost use Rattle.split_bus.specs.TreeModel.State.Child.{child_take_inject, reader_has_place};
 ghost use Rattle.split_bus.specs.TreeModel.Turns.Children.{child_at, erased_by, loses, only, reader_takes};
 ghost use Rattle.item_states.specs.Parts.{has_given, node_items};
 ghost use Rattle.split_bus.specs.Children.{full_to_hear, note_of_readers};
@@ -177,7 +179,9 @@ pub(crate) fn take_data<const WORDS: usize, C: Agent<WORDS>>(
     requires few { length children.old ≤ 16 }
     requires have { HaveItem item (map C.value children.old) }
     requires room { first_given (full_to_hear (TakeData readers.now) item) 0 (map C.value children.old) ≡ None }
-    ensures { map C.value children.new ≡ map_from (reader_takes (note_of_readers readers.now) item words.now stamp) 0 (map C.value children.old) }
+    ensures { map C.value children.new
+        ≡ map_from (reader_takes (note_of_readers readers.now) item words.now stamp) 0
+        (map C.value children.old) }
 {
     for i in 0..children.len() {
         take_data_as_reader(&mut children[i], readers, item, words, stamp, i);

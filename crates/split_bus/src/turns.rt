@@ -87,7 +87,10 @@ fn request_turn<const WORDS: usize, P: Parent<WORDS>, C: Agent<WORDS>>(
     requires few { length children.old ≤ 16 }
     requires child { c < length children.old }
     requires sized { AreSized (P.state parent.old) (map C.value children.old) }
-    ensures { let p = P.state parent.old in let ns = map C.value children.old in IsOutcome (outcome_of p ns (request_turn above p ns c (child_request (child_at c ns)))) answer.new (P.state parent.new) (map C.value children.new) }
+    ensures { let p = P.state parent.old in
+        let ns = map C.value children.old in
+        IsOutcome (outcome_of p ns (request_turn above p ns c (child_request (child_at c ns)))) answer.new
+        (P.state parent.new) (map C.value children.new) }
 {
     match request_of(parent, children, c) {
         Some((TxKind::ReadTx, item)) => {
@@ -113,7 +116,11 @@ fn reply_turn<const WORDS: usize, P: Parent<WORDS>, C: Agent<WORDS>>(
     requires few { length children.old ≤ 16 }
     requires child { c < length children.old }
     requires sized { AreSized (P.state parent.old) (map C.value children.old) }
-    ensures { (above : Stamp) → let p = P.state parent.old in let ns = map C.value children.old in IsOutcome (outcome_of p ns (reply_turn above p ns c (child_reply (child_at c ns)))) answer.new (P.state parent.new) (map C.value children.new) }
+    ensures { (above : Stamp) →
+        let p = P.state parent.old in
+        let ns = map C.value children.old in
+        IsOutcome (outcome_of p ns (reply_turn above p ns c (child_reply (child_at c ns)))) answer.new
+        (P.state parent.new) (map C.value children.new) }
 {
     match reply_of(parent, children, c) {
         Some((item, words)) => *answer = reply(parent, children, c, item, &words),
@@ -135,7 +142,11 @@ fn leave_turn<const WORDS: usize, P: Parent<WORDS>, C: Agent<WORDS>>(
     requires few { length children.old ≤ 16 }
     requires child { c < length children.old }
     requires sized { AreSized (P.state parent.old) (map C.value children.old) }
-    ensures { (above : Stamp) → let p = P.state parent.old in let ns = map C.value children.old in IsOutcome (outcome_of p ns (leave_turn above p ns c (child_leaving choice (child_at c ns)))) answer.new (P.state parent.new) (map C.value children.new) }
+    ensures { (above : Stamp) →
+        let p = P.state parent.old in
+        let ns = map C.value children.old in
+        IsOutcome (outcome_of p ns (leave_turn above p ns c (child_leaving choice (child_at c ns))))
+        answer.new (P.state parent.new) (map C.value children.new) }
 {
     match leaving_of(parent, children, c, choice) {
         Some(item) => *answer = leave(parent, children, c, item),
@@ -158,7 +169,8 @@ pub fn grant_into<const WORDS: usize, P: Parent<WORDS>, C: Agent<WORDS>>(
     requires few { length children.old ≤ 16 }
     requires child { NamesOneOf (length children.old) turn }
     requires sized { AreSized (P.state parent.old) (map C.value children.old) }
-    ensures { IsOutcome (bus_step above turn (P.state parent.old) (map C.value children.old)) answer.new (P.state parent.new) (map C.value children.new) }
+    ensures { IsOutcome (bus_step above turn (P.state parent.old) (map C.value children.old)) answer.new
+        (P.state parent.new) (map C.value children.new) }
 {
     match turn {
         BusTurn::Down => down(parent, children, answer),
@@ -181,8 +193,10 @@ pub fn grant<const WORDS: usize, P: Parent<WORDS>, C: Agent<WORDS>>(
     requires few { length children.old ≤ 16 }
     requires child { NamesOneOf (length children.old) turn }
     requires sized { AreSized (P.state parent.old) (map C.value children.old) }
-    ensures outcome { IsOutcome (bus_step above turn (P.state parent.old) (map C.value children.old)) result (P.state parent.new) (map C.value children.new) }
-    ensures rules { StaysRuled above (P.state parent.old) (map C.value children.old) result (P.state parent.new) (map C.value children.new) }
+    ensures outcome { IsOutcome (bus_step above turn (P.state parent.old) (map C.value children.old)) result
+        (P.state parent.new) (map C.value children.new) }
+    ensures rules { StaysRuled above (P.state parent.old) (map C.value children.old) result (P.state parent.new)
+        (map C.value children.new) }
     ensures busy { busy_cause result ≡ bus_reason (P.state parent.old) (map C.value children.old) turn }
 {
     let mut answer = TurnAnswer::Empty;

@@ -1,6 +1,7 @@
 //! The words of memory at the start.
 
-ghost use Rattle.std.specs.Prelude.{◌≡◌, ◌≤◌, ◌^◌, ◌&&◌, ◌||◌, ◌+◌, ◌-◌, ◌*◌, ◌/◌, ◌++◌, ◌∷◌, [], length, nat_le, nat_lt, slice_index_or, flat_map, IfOk, OnOk};
+ghost use Rattle.std.specs.Prelude.{◌≡◌, ◌≤◌, ◌^◌, ◌&&◌, ◌||◌, ◌+◌, ◌-◌, ◌*◌, ◌/◌, ◌++◌, ◌∷◌, [], length, nat_le};
+ghost use Rattle.std.specs.Prelude.{nat_lt, slice_index_or, flat_map, IfOk, OnOk};
 ghost use Rattle.start_memory.specs.DdmTypes.ItemTable.{IsItemSize};
 ghost use Rattle.start_memory.specs.TreeModel.Start.Memory.{byte_at, item_words, memory_word};
 

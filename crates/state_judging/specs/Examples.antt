@@ -4,8 +4,11 @@ use Rattle.std.specs.Prelude.{◌≡◌, Bool, true, [], ◌∷◌, ◌++◌, So
 use Rattle.state_judging.specs.DdmTypes.Keys.{stamp_zero}
 use Rattle.state_judging.specs.DdmTypes.declared.sizes.Hold.{Hold}
 use Rattle.state_judging.specs.TreeModel.State.Directory.{with_hold}
-use Rattle.state_judging.specs.TreeModel.State.Values.{LeafValue, DirValue, Node, Nodes, leaf_node, dir_node, no_nodes, more_nodes, MachineValue}
-use Rattle.state_judging.specs.TreeRules.Examples.{two_writers_turns, two_writers_start, two_writers_after, stale_load_all, stale_load_start, stale_load_after, last_copy_turns, last_copy_start, run_keeps}
+use Rattle.state_judging.specs.TreeModel.State.Values.{LeafValue, DirValue, Node, Nodes, leaf_node, dir_node}
+use Rattle.state_judging.specs.TreeModel.State.Values.{no_nodes, more_nodes, MachineValue}
+use Rattle.state_judging.specs.TreeRules.Examples.{two_writers_turns, two_writers_start, two_writers_after}
+use Rattle.state_judging.specs.TreeRules.Examples.{stale_load_all, stale_load_start, stale_load_after}
+use Rattle.state_judging.specs.TreeRules.Examples.{last_copy_turns, last_copy_start, run_keeps}
 use Rattle.state_reading.specs.declared.StateRefusal.TheVariants.{BrokenRule, BrokenStamp, BrokenKey}
 use Rattle.state_judging.specs.Judged.{judged}
 

@@ -1,7 +1,8 @@
 -- A state that was read, judged by the rules of a bus and of time: the first that is broken, and where.
 -- Letters: m is a machine, p the directory over a bus and ns its children, x an item, o an operation.
 -- To be believed: it is how a checkpoint is judged.
-use Rattle.std.specs.Prelude.{ℕ, ◌+◌, Bool, true, not, ◌&&◌, ◌||◌, nat_eq, List, [], ◌∷◌, length, find, Option, Some, None, option_map, Result, Err, if◌then◌else◌}
+use Rattle.std.specs.Prelude.{ℕ, ◌+◌, Bool, true, not, ◌&&◌, ◌||◌, nat_eq, List, [], ◌∷◌, length, find, Option, Some}
+use Rattle.std.specs.Prelude.{None, option_map, Result, Err, if◌then◌else◌}
 use Rattle.std.specs.List.{list_any, range_with_len}
 use Rattle.state_judging.specs.DdmTypes.declared.operations.Op.{Op}
 use Rattle.state_judging.specs.DdmTypes.Keys.{key_less}
@@ -78,7 +79,8 @@ module _ (m : MachineValue) where
   abbrev pub broken_key : List Op → ℕ → List Op → Option StateRefusal
   broken_key before k [] = None
   broken_key before k (o ∷ ops) =
-      first_some (if is_key_of_leaf o && not (list_any (same_key o) before) then None else Some (BrokenKey k)) (broken_key (o ∷ before) (k + 1) ops)
+      first_some (if is_key_of_leaf o && not (list_any (same_key o) before) then None else Some (BrokenKey k))
+      (broken_key (o ∷ before) (k + 1) ops)
 
 -- ---- all of them, in this order
 

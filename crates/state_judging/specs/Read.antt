@@ -5,7 +5,8 @@
 use Rattle.std.specs.Prelude.{◌≡◌, ℕ, Bool, true, ◌&&◌, nat_eq, nat_le, nat_lt, length}
 use Rattle.std.specs.List.{list_all}
 use Rattle.state_judging.specs.TreeModel.declared.Traffic.{Traffic}
-use Rattle.state_judging.specs.TreeModel.State.Values.{DirValue, Node, Nodes, leaf_node, dir_node, no_nodes, more_nodes, children, MachineValue, root_of}
+use Rattle.state_judging.specs.TreeModel.State.Values.{DirValue, Node, Nodes, leaf_node, dir_node, no_nodes}
+use Rattle.state_judging.specs.TreeModel.State.Values.{more_nodes, children, MachineValue, root_of}
 use Rattle.state_judging.specs.TreeModel.State.Shape.{Skeleton, Skeletons, leaf_bone, dir_bone, no_bones, more_bones, skeleton, IsShaped}
 use Rattle.state_judging.specs.TreeRules.Statements.{Holds}
 use Rattle.state_judging.specs.TreeRules.Bus.Own.{leaf_holds, dir_holds, IsTopOk}

@@ -20,7 +20,8 @@ pub fn started_machines_can_be_read()
 /// What is read into a machine before its first turn keeps, whatever the words are, what each part keeps by itself; and nothing that
 /// no turn changes is changed.
 pub fn what_is_read()
-    ensures { (fresh m : MachineValue) (retired k at : ℕ) (ws rest : List ℕ) → CanRead fresh → read_words fresh retired k ws ≡ Ok (record { value = m; at = at; rest = rest })
+    ensures { (fresh m : MachineValue) (retired k at : ℕ) (ws rest : List ℕ) → CanRead fresh →
+        read_words fresh retired k ws ≡ Ok (record { value = m; at = at; rest = rest })
         → IsRead m × (frame_of m ≡ frame_of fresh) }
 {}
 

@@ -19,7 +19,9 @@ pub parts_code : Coded StateParts
 parts_code = hlevel codes
 
 abbrev pub stored_state : MachineValue → Gv
-stored_state m = parts_code.code (state_parts (forget m).code (forget m).items (stored_node (root_of (forget m))) (forget m).traffic (puts_of m))
+stored_state m =
+    parts_code.code (state_parts (forget m).code (forget m).items (stored_node (root_of (forget m)))
+    (forget m).traffic (puts_of m))
 
 abbrev pub same_stored : Gv → Gv → Bool
 same_stored gnil gnil = true

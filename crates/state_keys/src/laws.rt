@@ -20,7 +20,9 @@ ghost use Rattle.state_keys.specs.Same.{same_state};
 /// Machines of one start, which keep the rules of their buses and whose values have their form, have the same words exactly where they
 /// are alike. Words are read into `fresh`, which has their frame.
 pub fn keys_are_exact()
-    ensures alike { (fresh m n : MachineValue) (most : ℕ) → CanRead fresh → frame_of m ≡ frame_of fresh → frame_of n ≡ frame_of fresh → IsMachineOk m → IsMachineOk n → HasForm most m → HasForm most n → state_key m ≡ state_key n → Alike m n }
+    ensures alike { (fresh m n : MachineValue) (most : ℕ) → CanRead fresh → frame_of m ≡ frame_of fresh →
+        frame_of n ≡ frame_of fresh → IsMachineOk m → IsMachineOk n → HasForm most m → HasForm most n →
+        state_key m ≡ state_key n → Alike m n }
     ensures same { (m n : MachineValue) → Alike m n → state_key m ≡ state_key n }
 {}
 
@@ -32,5 +34,8 @@ pub fn states_are_told()
 
 /// So in the runs of one start it says what the words do.
 pub fn runs_are_told()
-    ensures { (t : TreeValue) (i : ImageValue) (m : MachineValue) → IsTree t → IsOfBytes i → start_of t i ≡ Ok m → (ts us : List Turn) → same_state (run_of ts m).machine (run_of us m).machine ≡ pointwise nat_eq (state_key (run_of ts m).machine) (state_key (run_of us m).machine) }
+    ensures { (t : TreeValue) (i : ImageValue) (m : MachineValue) → IsTree t → IsOfBytes i → start_of t i ≡ Ok m →
+        (ts us : List Turn) →
+        same_state (run_of ts m).machine (run_of us m).machine
+        ≡ pointwise nat_eq (state_key (run_of ts m).machine) (state_key (run_of us m).machine) }
 {}

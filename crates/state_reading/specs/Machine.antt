@@ -6,7 +6,8 @@ use Rattle.std.specs.List.{range_with_len}
 use Rattle.state_reading.specs.DdmTypes.declared.operations.Op.{Op}
 use Rattle.state_reading.specs.DdmTypes.ItemTable.{item_count}
 use Rattle.state_reading.specs.TreeModel.declared.Traffic.{Traffic}
-use Rattle.state_reading.specs.TreeModel.State.Values.{LeafValue, DirValue, Node, Nodes, leaf_node, dir_node, no_nodes, more_nodes, children, MachineValue, root_of}
+use Rattle.state_reading.specs.TreeModel.State.Values.{LeafValue, DirValue, Node, Nodes, leaf_node, dir_node}
+use Rattle.state_reading.specs.TreeModel.State.Values.{no_nodes, more_nodes, children, MachineValue, root_of}
 use Rattle.state_reading.specs.TreeModel.State.Shape.{tree_counts, depth_of}
 use Rattle.state_reading.specs.TreeModel.Turns.Machine.{ask_bus, machine_leaves, with_root}
 use Rattle.state_reading.specs.declared.StateRefusal.{StateRefusal}
@@ -17,7 +18,8 @@ module _ {A B : Type 0} where
   -- one of each, in their order
   unfoldable pub read_each : (A → ℕ → List ℕ → Result (Read B) StateRefusal) → List A → ℕ → List ℕ → Result (Read (List B)) StateRefusal
   read_each read [] k ws = given [] k ws
-  read_each read (a ∷ rest) k ws = and_then (read a k ws) (λ b k ws. and_then (read_each read rest k ws) (λ more k ws. given (b ∷ more) k ws))
+  read_each read (a ∷ rest) k ws =
+      and_then (read a k ws) (λ b k ws. and_then (read_each read rest k ws) (λ more k ws. given (b ∷ more) k ws))
 
 -- a bus: the directory over it, how many children it has, and its traffic
 pub record BusRead : Type 0 where
@@ -27,10 +29,13 @@ pub record BusRead : Type 0 where
 abbrev pub read_bus_of : ℕ → Option (DirValue × ℕ) → ℕ → List ℕ → Result (Read (List BusRead)) StateRefusal
 read_bus_of n None k ws = given [] k ws
 read_bus_of n (Some b) k ws =
-    and_then (read_dir n b.1 b.0 k ws) (λ d k ws. and_then (read_traffic k ws) (λ t k ws. given (record { dir = d; traffic = t } ∷ []) k ws))
+    and_then (read_dir n b.1 b.0 k ws)
+    (λ d k ws. and_then (read_traffic k ws) (λ t k ws. given (record { dir = d; traffic = t } ∷ []) k ws))
 
 abbrev pub read_bus : ℕ → MachineValue → List BusRead → ℕ → ℕ → List ℕ → Result (Read (List BusRead)) StateRefusal
-read_bus n m before bus k ws = and_then (read_bus_of n (ask_bus bus (λ w d ns. (d, length ns)) (m.top, 0) m) k ws) (λ b k ws. given (before ++ b) k ws)
+read_bus n m before bus k ws =
+    and_then (read_bus_of n (ask_bus bus (λ w d ns. (d, length ns)) (m.top, 0) m) k ws)
+    (λ b k ws. given (before ++ b) k ws)
 
 abbrev pub read_buses : ℕ → MachineValue → List ℕ → List BusRead → ℕ → List ℕ → Result (Read (List BusRead)) StateRefusal
 read_buses n m [] before k ws = given before k ws
@@ -54,7 +59,9 @@ abbrev pub bus_traffic : BusRead → Traffic
 bus_traffic b = b.traffic
 
 abbrev pub refilled_machine : MachineValue → List LeafValue → List BusRead → List Op → MachineValue
-refilled_machine m leaves buses ops = record (with_root (refilled leaves (map bus_dir buses) (root_of m)) m) { ops = ops; traffic = map bus_traffic buses }
+refilled_machine m leaves buses ops =
+    record (with_root (refilled leaves (map bus_dir buses) (root_of m)) m)
+    { ops = ops; traffic = map bus_traffic buses }
 
 -- the words of a state, in which so many instructions were completed
 unfoldable pub read_words : MachineValue → ℕ → ℕ → List ℕ → Result (Read MachineValue) StateRefusal

@@ -2,7 +2,9 @@
 -- don't say of it.
 -- Letters: n is how many items there are, k the number of the next word, ws are the words from it on.
 -- To be believed: it is how a checkpoint is judged.
-use Rattle.std.specs.Prelude.{ℕ, ◌+◌, ◌-◌, ◌%◌, ◌^◌, Bool, true, false, not, ◌&&◌, ◌||◌, nat_eq, nat_lt, nat_le, List, [], ◌∷◌, ◌++◌, length, map, replicate, slice_set, slice_index_or, Option, Some, None, Result, Err, if◌then◌else◌}
+use Rattle.std.specs.Prelude.{ℕ, ◌+◌, ◌-◌, ◌%◌, ◌^◌, Bool, true, false, not, ◌&&◌, ◌||◌, nat_eq, nat_lt, nat_le, List}
+use Rattle.std.specs.Prelude.{[], ◌∷◌, ◌++◌, length, map, replicate, slice_set, slice_index_or, Option, Some, None}
+use Rattle.std.specs.Prelude.{Result, Err, if◌then◌else◌}
 use Rattle.std.specs.List.{list_any}
 use Rattle.state_reading.specs.DdmTypes.declared.answers.TxKind.{TxKind}
 use Rattle.state_reading.specs.DdmTypes.declared.sizes.Hold.{Hold}
@@ -16,7 +18,9 @@ use Rattle.state_reading.specs.TreeModel.declared.Traffic.{Traffic}
 use Rattle.state_reading.specs.TreeModel.State.Kinds.{brings_copy}
 use Rattle.state_reading.specs.TreeModel.State.States.{is_reading, is_waiting, is_upgrading}
 use Rattle.state_reading.specs.TreeModel.State.Shape.{are_distinct}
-use Rattle.state_reading.specs.TreeModel.State.Values.{RequestValue, CopyValue, DownValue, WayValue, BufferValue, LeafValue, Note, no_note, local, up_read, up_erase, DirItem, DirValue, absent_item}
+use Rattle.state_reading.specs.TreeModel.State.Values.{RequestValue, CopyValue, DownValue, WayValue, BufferValue}
+use Rattle.state_reading.specs.TreeModel.State.Values.{LeafValue, Note, no_note, local, up_read, up_erase, DirItem}
+use Rattle.state_reading.specs.TreeModel.State.Values.{DirValue, absent_item}
 use Rattle.state_reading.specs.TreeModel.State.Leaf.{state_at, is_copy}
 use Rattle.state_reading.specs.TreeModel.State.Directory.{is_top, in_set}
 use Rattle.state_reading.specs.TreeModel.Start.Nodes.{held_exclusive}
@@ -93,10 +97,16 @@ read_hart v k ws =
 -- ---- a leaf
 
 abbrev pub state_of : ℕ → LeafState
-state_of code = slice_index_or (LeafState.Shared ∷ LeafState.Exclusive ∷ LeafState.Waiting ∷ LeafState.Reading ∷ LeafState.ReadingWaiting ∷ []) (code - 1) LeafState.Shared
+state_of code =
+    slice_index_or
+    (LeafState.Shared ∷ LeafState.Exclusive ∷ LeafState.Waiting ∷ LeafState.Reading ∷ LeafState.ReadingWaiting
+    ∷ []) (code - 1) LeafState.Shared
 
 abbrev pub slot_of : ℕ → ℕ → Option RequestValue
-slot_of code x = slice_index_or (None ∷ Some (record { kind = TxKind.ReadTx; item = x }) ∷ Some (record { kind = TxKind.EraseTx; item = x }) ∷ []) code None
+slot_of code x =
+    slice_index_or
+    (None ∷ Some (record { kind = TxKind.ReadTx; item = x }) ∷ Some (record { kind = TxKind.EraseTx; item = x })
+    ∷ []) code None
 
 abbrev pub reserved_of : ℕ → Option ℕ
 reserved_of w = if nat_eq w 0 then None else Some (w - 1)
@@ -198,7 +208,14 @@ read_leaf n v k ws =
     and_then (times (read_buffered n v) buffered [] k ws) (λ buffer k ws.
     and_then (word_to v.sizes.reply_room k ws) (λ replied k ws.
     and_then (times (read_copy v.sizes.width (λ x cs. nat_lt x n)) replied [] k ws) (λ replies k ws.
-    unless_broken ss (record v { ways = ways_with ss (replicate n None); buffer = buffer; slot = slot_of code asked; replies = replies; reservation = reserved_of reserved }) k ws)))))))))
+    unless_broken ss
+    (record v {
+      ways = ways_with ss (replicate n None);
+      buffer = buffer;
+      slot = slot_of code asked;
+      replies = replies;
+      reservation = reserved_of reserved;
+    }) k ws)))))))))
 
 -- ---- a directory
 
@@ -229,11 +246,29 @@ module _ (n kids : ℕ) (top : Bool) where
       and_then (word_to 3 k ws) (λ note k ws.
       and_then (word_that (λ w. if nat_eq note 0 then nat_eq w 0 else nat_lt w kids) k ws) (λ child k ws.
       and_then (word_that (λ w. if nat_eq note 1 || nat_eq note 2 then joins_fit kids child w else nat_eq w 0) k ws) (λ joined k ws.
-      and_then (word_that (λ w. nat_le w 1 && (not top || nat_eq w 0) && is_recorded top (record { hold = hold_of hold; note = note_of_words note child joined; answering = nat_eq w 1 })) k ws) (λ answering k ws.
-      given (record { last = Some x; items = slice_set r.items x (record { hold = hold_of hold; note = note_of_words note child joined; answering = nat_eq answering 1 }) }) k ws))))))
+      and_then
+      (word_that
+      (λ w. nat_le w 1 && (not top || nat_eq w 0)
+      && is_recorded top (record {
+        hold = hold_of hold;
+        note = note_of_words note child joined;
+        answering = nat_eq w 1;
+      })) k ws) (λ answering k ws.
+      given
+      (record {
+        last = Some x;
+        items = slice_set r.items x
+            (record {
+              hold = hold_of hold;
+              note = note_of_words note child joined;
+              answering = nat_eq answering 1;
+            });
+      }) k ws))))))
 
 abbrev pub kind_of : ℕ → TxKind
-kind_of code = slice_index_or (TxKind.ReadTx ∷ TxKind.DataTx ∷ TxKind.EraseTx ∷ TxKind.ExclusiveTx ∷ TxKind.InjectTx ∷ []) (code - 1) TxKind.ReadTx
+kind_of code =
+    slice_index_or (TxKind.ReadTx ∷ TxKind.DataTx ∷ TxKind.EraseTx ∷ TxKind.ExclusiveTx ∷ TxKind.InjectTx ∷ [])
+    (code - 1) TxKind.ReadTx
 
 module _ (n level width : ℕ) where
   abbrev pub read_down : List DownValue → ℕ → List ℕ → Result (Read (List DownValue)) StateRefusal
@@ -268,9 +303,21 @@ read_dir n kids d k ws =
     and_then (listed d.sizes.down_room (read_down n d.level d.sizes.width) k ws) (λ down k ws.
     and_then (listed d.sizes.request_room (read_request n) k ws) (λ requests k ws.
     and_then (listed d.sizes.reply_room (read_copy d.sizes.width (λ x cs. nat_lt x n)) k ws) (λ replies k ws.
-    and_then (listed d.sizes.parking_room (read_copy d.sizes.width (λ x cs. nat_lt x n && not (list_any (is_copy x) cs))) k ws) (λ parked k ws.
+    and_then
+    (listed d.sizes.parking_room
+    (read_copy d.sizes.width (λ x cs. nat_lt x n && not (list_any (is_copy x) cs))) k ws) (λ parked k ws.
     and_then (word_to (d.sizes.parking_room - length parked) k ws) (λ reserved k ws.
-    given (record d { items = items.items; down = down; requests = requests; replies = replies; parked = parked; reserved = reserved; count = count; epoch = epoch }) k ws))))))))
+    given
+    (record d {
+      items = items.items;
+      down = down;
+      requests = requests;
+      replies = replies;
+      parked = parked;
+      reserved = reserved;
+      count = count;
+      epoch = epoch;
+    }) k ws))))))))
 
 -- ---- traffic and operations
 
@@ -291,7 +338,8 @@ effect_size code = slice_index_or (0 ∷ 1 ∷ 2 ∷ 3 ∷ 2 ∷ 3 ∷ 1 ∷ 3 �
 abbrev pub effect_of : ℕ → ℕ → ℕ → ℕ → Effect
 effect_of code a b c =
     slice_index_or
-    (Effect.Plain ∷ Effect.Put a ∷ Effect.Load a b ∷ Effect.Store a b c ∷ Effect.Lr a b ∷ Effect.ScOk a b c ∷ Effect.ScFail a ∷ Effect.Amo a b c ∷ [])
+    (Effect.Plain ∷ Effect.Put a ∷ Effect.Load a b ∷ Effect.Store a b c ∷ Effect.Lr a b ∷ Effect.ScOk a b c
+    ∷ Effect.ScFail a ∷ Effect.Amo a b c ∷ [])
     code Effect.Plain
 
 -- the numbers of a key, in a tree of so many levels of buses

@@ -1,6 +1,7 @@
 //! Single words of a checkpoint are read.
 
-ghost use Rattle.std.specs.Prelude.{◌≡◌, ◌<◌, ◌≤◌, ◌+◌, ◌∷◌, ◌^◌, true, false, [], drop, length, nat_eq, nat_le, nat_lt, ◌||◌, OnOk, IfOk, IfErr, Ok, Err, ◌&&◌};
+ghost use Rattle.std.specs.Prelude.{◌≡◌, ◌<◌, ◌≤◌, ◌+◌, ◌∷◌, ◌^◌, true, false, [], drop, length, nat_eq, nat_le};
+ghost use Rattle.std.specs.Prelude.{nat_lt, ◌||◌, OnOk, IfOk, IfErr, Ok, Err, ◌&&◌};
 ghost use Rattle.state_reading.specs.DdmTypes.Keys.{stamp_zero};
 ghost use Rattle.state_reading.specs.declared.StateRefusal.TheVariants.{BadWord, Cut};
 ghost use Rattle.state_reading.specs.Gives.{Gives};
@@ -118,7 +119,9 @@ pub fn words_if(
 ) -> Result<(), StateRefusal>
     requires few { length words.now < 2 ^ 32 }
     requires inside { at.old ≤ length words.now }
-    ensures read { OnOk result (words_that (λ w. means || nat_eq w 0) (length into.old) at.old (drop at.old words.now) ≡ Ok (record { value = into.new; at = at.new; rest = drop at.new words.now })) }
+    ensures read { OnOk result
+        (words_that (λ w. means || nat_eq w 0) (length into.old) at.old (drop at.old words.now)
+        ≡ Ok (record { value = into.new; at = at.new; rest = drop at.new words.now })) }
     ensures refused { IfErr result (λ e. words_that (λ w. means || nat_eq w 0) (length into.old) at.old (drop at.old words.now) ≡ Err e) }
     ensures inside { at.new ≤ length words.now }
 {

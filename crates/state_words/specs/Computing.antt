@@ -6,5 +6,6 @@ use Rattle.state_words.specs.Machine.{bus_words, state_words, head_words, checkp
 
 -- Where a proof says `unfolding words_compute`, checkpoints compute.
 unfoldable pub words_compute : Unit {0}
-unfolding tree_computes standing_at standing_in standing leaf_words records_from records dir_words bus_words state_words head_words checkpoint_words checkpoint_bytes
+unfolding tree_computes standing_at standing_in standing leaf_words records_from records dir_words bus_words
+    state_words head_words checkpoint_words checkpoint_bytes
 words_compute = tt

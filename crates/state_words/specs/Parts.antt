@@ -1,16 +1,20 @@
 -- The words of a checkpoint for a hart, a leaf, a directory, the top, a bus's traffic and an operation.
 -- Letters: v is a leaf, d a directory, x an item, e an entry.
 -- To be believed: it is the written format.
-use Rattle.std.specs.Prelude.{ℕ, ◌+◌, Bool, true, false, ◌||◌, List, [], ◌∷◌, ◌++◌, length, drop, count_by, filter_map, option_map, Option, Some, None, if◌then◌else◌}
+use Rattle.std.specs.Prelude.{ℕ, ◌+◌, Bool, true, false, ◌||◌, List, [], ◌∷◌, ◌++◌, length, drop, count_by}
+use Rattle.std.specs.Prelude.{filter_map, option_map, Option, Some, None, if◌then◌else◌}
 use Rattle.std.specs.List.{flat_map, range_with_len}
 use Rattle.state_words.specs.DdmTypes.declared.operations.Op.{Op}
 use Rattle.state_words.specs.TreeModel.declared.Traffic.{Traffic}
-use Rattle.state_words.specs.TreeModel.State.Values.{RequestValue, CopyValue, DownValue, WayValue, BufferValue, LeafValue, Note, no_note, local, up_read, up_erase, DirItem, DirValue}
+use Rattle.state_words.specs.TreeModel.State.Values.{RequestValue, CopyValue, DownValue, WayValue, BufferValue}
+use Rattle.state_words.specs.TreeModel.State.Values.{LeafValue, Note, no_note, local, up_read, up_erase, DirItem}
+use Rattle.state_words.specs.TreeModel.State.Values.{DirValue}
 use Rattle.state_words.specs.TreeModel.State.Kinds.{kind_number}
 use Rattle.state_words.specs.TreeModel.State.States.{is_held}
 use Rattle.state_words.specs.TreeModel.State.Leaf.{way_at, item_in_way}
 use Rattle.state_words.specs.TreeModel.State.Directory.{is_top}
-use Rattle.state_words.specs.Numbers.{hold_number, note_words, flag_number, state_number, slot_words, reserved_word, halt_words, effect_words, stamp_words, key_words}
+use Rattle.state_words.specs.Numbers.{hold_number, note_words, flag_number, state_number, slot_words, reserved_word}
+use Rattle.state_words.specs.Numbers.{halt_words, effect_words, stamp_words, key_words}
 
 -- how many there are, and then the words of each
 abbrev pub counted : {X : Type 0} → (X → List ℕ) → List X → List ℕ
@@ -57,7 +61,9 @@ item_and_words c = c.item ∷ c.words
 -- the reservation, the slot, the entries in ways, the buffer and the replies
 unfoldable pub leaf_words : LeafValue → List ℕ
 leaf_words v =
-    reserved_word v.reservation ∷ slot_words v.slot ++ counted standing_words (standing v.sizes.sets v.ways v.sizes.way_count) ++ counted buffer_words v.buffer
+    reserved_word v.reservation
+    ∷ slot_words v.slot ++ counted standing_words (standing v.sizes.sets v.ways v.sizes.way_count)
+    ++ counted buffer_words v.buffer
     ++ counted item_and_words v.replies
 
 -- ---- a directory

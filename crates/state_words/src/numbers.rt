@@ -2,7 +2,8 @@
 
 ghost use Rattle.std.specs.Prelude.{◌≡◌, ◌+◌, ◌<◌, ◌^◌, IfSome};
 ghost use Rattle.state_words.specs.TreeModel.State.Kinds.{kind_number};
-ghost use Rattle.state_words.specs.Numbers.{effect_words, flag_number, halt_words, hold_number, key_words, reserved_word, slot_number, stamp_words, state_number};
+ghost use Rattle.state_words.specs.Numbers.{effect_words, flag_number, halt_words, hold_number, key_words};
+ghost use Rattle.state_words.specs.Numbers.{reserved_word, slot_number, stamp_words, state_number};
 ghost use Rattle.state_words.specs.Parts.{traffic_words};
 
 use crate::of_ddm_types::{Effect, HaltCause, Hold, ItemId, Key, LeafState, Stamp, TxKind};

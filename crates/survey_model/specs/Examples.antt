@@ -11,4 +11,6 @@ survey_of kind turns first count = survey_text kind (shape_of two_leaves) turns 
 
 pub record SmallSurveys : Type 0 where
   pub even : survey_of SeedKind.Even 5 0 4 ≡ codes "survey 2 runs 4\noutcome 2 0 turns hart 0 exit 663 out - hart 1 running out -\noutcome 2 1 turns hart 0 running out - hart 1 running out -\nend\n"
-  pub skewed : survey_of SeedKind.Skewed 20 0 1 ≡ codes "survey 1 runs 1\noutcome 1 0 halted hart 0 exit 663 out - hart 1 exit 663 out -\nend\n"
+  pub skewed :
+      survey_of SeedKind.Skewed 20 0 1
+      ≡ codes "survey 1 runs 1\noutcome 1 0 halted hart 0 exit 663 out - hart 1 exit 663 out -\nend\n"

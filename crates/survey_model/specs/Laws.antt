@@ -31,7 +31,8 @@ pub record IsLegalEnd (code : List CodeWord) (items : ItemTable) (s : FlatMachin
 abbrev pub SurveyedEndsAreLegal : Type 0
 SurveyedEndsAreLegal = (t : TreeValue) (i : ImageValue) (m : MachineValue) → IsTree t → start_of t i ≡ Ok m
     → (kind : SeedKind) (shape : ShapeView) (turns first count : ℕ)
-    → AllByRecursion (λ (l : OutcomeLine). IsLegalEnd m.code m.items (flat_start_of t i) l.outcome) (survey_table kind shape turns m first count)
+    → AllByRecursion (λ (l : OutcomeLine). IsLegalEnd m.code m.items (flat_start_of t i) l.outcome)
+    (survey_table kind shape turns m first count)
 
 -- ---- the table
 

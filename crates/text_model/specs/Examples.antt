@@ -86,7 +86,14 @@ store_and_load_hart = record {
 
 -- an item that only leaf 0 has
 abbrev pub item_in_way : ℕ → ℕ → List ℕ → ItemView
-item_in_way number address words = record { number = number; address = address; words = words; place = CopyPlace.LeafWay 0 number; states = Some Exclusive ∷ [] }
+item_in_way number address words =
+    record {
+      number = number;
+      address = address;
+      words = words;
+      place = CopyPlace.LeafWay 0 number;
+      states = Some Exclusive ∷ [];
+    }
 
 -- the items, by the word that is stored and loaded back
 abbrev pub store_and_load_items : ℕ → List ItemView
@@ -121,7 +128,12 @@ store_and_load_summary = codes "ddm 1\nturns 8 retired 6 granted 0 busy 0\nhart 
 
 -- the hart at the start
 abbrev pub untouched_hart : HartValue
-untouched_hart = record { registers = 0 ∷ 0 ∷ 0x00030010 ∷ 0 ∷ 0 ∷ 0 ∷ 0 ∷ 0 ∷ 0 ∷ 0 ∷ 0 ∷ 1 ∷ replicate 20 0; pc = 0x00010000; halt = None }
+untouched_hart =
+    record {
+      registers = 0 ∷ 0 ∷ 0x00030010 ∷ 0 ∷ 0 ∷ 0 ∷ 0 ∷ 0 ∷ 0 ∷ 0 ∷ 0 ∷ 1 ∷ replicate 20 0;
+      pc = 0x00010000;
+      halt = None;
+    }
 
 -- the machine at the start
 abbrev pub no_turns : ReportView
@@ -188,7 +200,13 @@ one_read_traffic = record { reads = 1; copies = 1; erases = 0; exclusives = 0; o
 
 -- the item at the end
 abbrev pub one_read_item : ItemView
-one_read_item = record { number = 1; address = 0x00020000; words = 5 ∷ 0 ∷ 0 ∷ 0 ∷ []; place = CopyPlace.LeafWay 0 1; states = Some Shared ∷ Some Shared ∷ [] }
+one_read_item = record {
+  number = 1;
+  address = 0x00020000;
+  words = 5 ∷ 0 ∷ 0 ∷ 0 ∷ [];
+  place = CopyPlace.LeafWay 0 1;
+  states = Some Shared ∷ Some Shared ∷ [];
+}
 
 -- ---- answers of other runs
 
@@ -228,4 +246,10 @@ deep_op = op_at (record { s0 = 1; c0 = 2; s1 = 3; c1 = 4; s2 = 5; c2 = 6; s3 = 7
 
 -- an item whose only copy is parked
 abbrev pub parked_item : ItemView
-parked_item = record { number = 1; address = 0x00020000; words = 5 ∷ 0 ∷ 0 ∷ 0 ∷ []; place = CopyPlace.Parking 1 0; states = None ∷ None ∷ [] }
+parked_item = record {
+  number = 1;
+  address = 0x00020000;
+  words = 5 ∷ 0 ∷ 0 ∷ 0 ∷ [];
+  place = CopyPlace.Parking 1 0;
+  states = None ∷ None ∷ [];
+}

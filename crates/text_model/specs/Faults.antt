@@ -1,7 +1,8 @@
 -- The line that tells why a command gave nothing.
 use Rattle.std.specs.Prelude.{ℕ, ◌+◌, Bool, ◌&&◌, nat_le, List, [], ◌∷◌, ◌++◌, codes, decimal, flat_map, map, if◌then◌else◌}
 use Rattle.text_model.specs.declared.ScheduleRefusal.{ScheduleRefusal}
-use Rattle.text_model.specs.declared.ScheduleRefusal.TheVariants.{BadTurn, TooManyTurns, NoSuchHart, NoSuchBus, NoSuchChild, NoEnd, AfterEnd}
+use Rattle.text_model.specs.declared.ScheduleRefusal.TheVariants.{BadTurn, TooManyTurns, NoSuchHart, NoSuchBus}
+use Rattle.text_model.specs.declared.ScheduleRefusal.TheVariants.{NoSuchChild, NoEnd, AfterEnd}
 
 -- ---- the words of a refusal's name
 
@@ -80,7 +81,9 @@ schedule_refusal_name AfterEnd = codes "AfterEnd"
 
 -- a schedule that is refused in a line
 unfoldable pub schedule_fault : ℕ → ScheduleRefusal → List ℕ
-schedule_fault line refusal = codes "ddm: schedule line " ++ decimal line ++ codes ": " ++ name_words (schedule_refusal_name refusal) ++ codes "\n"
+schedule_fault line refusal =
+    codes "ddm: schedule line " ++ decimal line ++ codes ": " ++ name_words (schedule_refusal_name refusal)
+    ++ codes "\n"
 
 -- a file that can't be read, by what it is: `image`, `tree`, `schedule`, `witness`, `checkpoint`
 unfoldable pub read_fault : List ℕ → List ℕ

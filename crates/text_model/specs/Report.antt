@@ -1,5 +1,6 @@
 -- The report of a machine after a run, and its summary.
-use Rattle.std.specs.Prelude.{ℕ, ◌+◌, ◌*◌, nat_eq, List, [], ◌∷◌, ◌++◌, Option, Some, None, codes, decimal, drop, take, flat_map, if◌then◌else◌}
+use Rattle.std.specs.Prelude.{ℕ, ◌+◌, ◌*◌, nat_eq, List, [], ◌∷◌, ◌++◌, Option, Some, None, codes, decimal, drop}
+use Rattle.std.specs.Prelude.{take, flat_map, if◌then◌else◌}
 use Rattle.ddm_text.specs.Hex.{hex2, hex8}
 use Rattle.text_model.specs.DdmTypes.declared.operations.HaltCause.{HaltCause}
 use Rattle.text_model.specs.DdmTypes.declared.operations.Effect.{Effect}
@@ -19,7 +20,9 @@ use Rattle.text_model.specs.Words.{effect_text, state_text}
 
 -- what the turns came to
 unfoldable pub turns_line : RunCounts → List ℕ
-turns_line counts = codes "turns " ++ decimal counts.turns ++ codes " retired " ++ decimal counts.retired ++ codes " granted " ++ decimal counts.granted ++ codes " busy " ++ decimal counts.busy ++ codes "\n"
+turns_line counts =
+    codes "turns " ++ decimal counts.turns ++ codes " retired " ++ decimal counts.retired ++ codes " granted "
+    ++ decimal counts.granted ++ codes " busy " ++ decimal counts.busy ++ codes "\n"
 
 -- the first two lines
 unfoldable pub head_lines : RunCounts → List ℕ
@@ -33,7 +36,9 @@ word_texts words = flat_map (λ word. codes " " ++ hex8 word) words
 
 -- how a hart stands
 unfoldable pub hart_line : ℕ → Option HaltCause → ℕ → ℕ → List ℕ
-hart_line number halt pc done = codes "hart " ++ decimal number ++ codes " " ++ state_text halt ++ codes " pc " ++ hex8 pc ++ codes " done " ++ decimal done ++ codes "\n"
+hart_line number halt pc done =
+    codes "hart " ++ decimal number ++ codes " " ++ state_text halt ++ codes " pc " ++ hex8 pc ++ codes " done "
+    ++ decimal done ++ codes "\n"
 
 -- its registers but the first
 unfoldable pub regs_line : ℕ → List ℕ → List ℕ
@@ -156,7 +161,9 @@ key_text depth key = number_stops (take (2 * depth) (level_numbers key)) ++ deci
 
 -- the line of an operation
 unfoldable pub op_line : ℕ → Op → List ℕ
-op_line depth op = codes "op " ++ decimal op.hart ++ codes " " ++ key_text depth op.key ++ codes " " ++ hex8 op.pc ++ codes " " ++ effect_text op.effect ++ codes "\n"
+op_line depth op =
+    codes "op " ++ decimal op.hart ++ codes " " ++ key_text depth op.key ++ codes " " ++ hex8 op.pc ++ codes " "
+    ++ effect_text op.effect ++ codes "\n"
 
 -- the lines of operations
 unfoldable pub op_lines : ℕ → List Op → List ℕ

@@ -39,7 +39,9 @@ found_or None = record { place = CopyPlace.Parking 0 0; words = [] }
 found_or (Some f) = f
 
 abbrev pub item_view : MachineValue → ℕ → ItemRow → ItemView
-item_view m x row = let f = found_or (found_copy x m) in record { number = x; address = row.address; words = f.words; place = f.place; states = states_of x m }
+item_view m x row =
+    let f = found_or (found_copy x m) in
+    record { number = x; address = row.address; words = f.words; place = f.place; states = states_of x m }
 
 abbrev pub item_views : MachineValue → ℕ → List ItemRow → List ItemView
 item_views m x [] = []

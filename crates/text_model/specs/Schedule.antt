@@ -1,11 +1,13 @@
 -- The text of a schedule: a line for each turn, then the line `end`. Each line ends with a line feed.
-use Rattle.std.specs.Prelude.{ℕ, ◌+◌, ◌&&◌, nat_eq, nat_lt, bytes_eq, List, [], ◌∷◌, ◌++◌, length, Option, Some, None, Result, Ok, Err, codes, decimal, flat_map, replicate, slice_get, if◌then◌else◌}
+use Rattle.std.specs.Prelude.{ℕ, ◌+◌, ◌&&◌, nat_eq, nat_lt, bytes_eq, List, [], ◌∷◌, ◌++◌, length, Option, Some, None}
+use Rattle.std.specs.Prelude.{Result, Ok, Err, codes, decimal, flat_map, replicate, slice_get, if◌then◌else◌}
 use Rattle.std.specs.Result.{result_ok}
 use Rattle.text_model.specs.DdmTypes.declared.turns.Turn.{Turn}
 use Rattle.text_model.specs.DdmTypes.declared.turns.Turn.TheVariants.{Hart, Down, Request, Reply, Leave}
 use Rattle.ddm_text.specs.Numbers.{number_of}
 use Rattle.text_model.specs.declared.ScheduleRefusal.{ScheduleRefusal}
-use Rattle.text_model.specs.declared.ScheduleRefusal.TheVariants.{BadTurn, TooManyTurns, NoSuchHart, NoSuchBus, NoSuchChild, NoEnd, AfterEnd}
+use Rattle.text_model.specs.declared.ScheduleRefusal.TheVariants.{BadTurn, TooManyTurns, NoSuchHart, NoSuchBus}
+use Rattle.text_model.specs.declared.ScheduleRefusal.TheVariants.{NoSuchChild, NoEnd, AfterEnd}
 
 -- ---- writing
 
@@ -262,7 +264,9 @@ end_with line (byte ∷ bytes) = refused_at line AfterEnd
 
 -- a line that says this, with the bytes behind its line feed
 abbrev pub reading_of_line : ShapeView → ℕ → ℕ → LineMeaning → List ℕ → Reading
-reading_of_line shape line made (turn_line_of turn) more = unless_refused line (refusal_of_turn shape made turn) (with_turn turn (reading_on shape (line + 1) (made + 1) more))
+reading_of_line shape line made (turn_line_of turn) more =
+    unless_refused line (refusal_of_turn shape made turn)
+    (with_turn turn (reading_on shape (line + 1) (made + 1) more))
 reading_of_line shape line made end_line more = nothing_but (end_with (line + 1) more)
 reading_of_line shape line made no_line more = nothing_but (refused_at line BadTurn)
 

@@ -2,7 +2,10 @@
 use Rattle.std.specs.Prelude.{ℕ, List, ◌++◌, Option, Some, None, codes, decimal}
 use Rattle.ddm_text.specs.Hex.{hex2, hex8}
 use Rattle.text_model.specs.DdmTypes.declared.operations.HaltCause.{HaltCause}
-use Rattle.text_model.specs.DdmTypes.declared.operations.HaltCause.TheVariants.{Exit, Illegal, Breakpoint, UnknownCall, MisalignedTarget, FetchOutside, MisalignedAccess, LoadOutside, StoreOutside}
+use Rattle.text_model.specs.DdmTypes.declared.operations.HaltCause.TheVariants.{Exit, Illegal, Breakpoint}
+use Rattle.text_model.specs.DdmTypes.declared.operations.HaltCause.TheVariants.{UnknownCall, MisalignedTarget}
+use Rattle.text_model.specs.DdmTypes.declared.operations.HaltCause.TheVariants.{FetchOutside, MisalignedAccess}
+use Rattle.text_model.specs.DdmTypes.declared.operations.HaltCause.TheVariants.{LoadOutside, StoreOutside}
 use Rattle.text_model.specs.DdmTypes.declared.operations.Effect.{Effect}
 use Rattle.text_model.specs.DdmTypes.declared.operations.Effect.TheVariants.{Plain, Put, Load, Store, Lr, ScOk, ScFail, Amo}
 use Rattle.text_model.specs.DdmTypes.declared.answers.TxKind.{TxKind}
@@ -91,7 +94,9 @@ busy_text (NoRoom item) = codes "room " ++ decimal item
 
 -- a granted transaction
 unfoldable pub entry_text : LogEntry → List ℕ
-entry_text entry = kind_text entry.kind ++ codes " " ++ decimal entry.item ++ codes " from " ++ place_text entry.source ++ codes " to " ++ place_text entry.taker
+entry_text entry =
+    kind_text entry.kind ++ codes " " ++ decimal entry.item ++ codes " from " ++ place_text entry.source
+    ++ codes " to " ++ place_text entry.taker
 
 -- what a turn answered
 unfoldable pub answer_text : TurnAnswer → List ℕ

@@ -4,8 +4,14 @@ ghost use Rattle.std.specs.Prelude.{◌≡◌, [], ◌∷◌, codes};
 ghost use Rattle.text_model.specs.Schedule.{schedule_text};
 ghost use Rattle.text_model.specs.Trace.{trace_text};
 ghost use Rattle.text_model.specs.Report.{report_of, summary_of, turns_line, out_line, bus_line, item_line, op_line};
-ghost use Rattle.text_model.specs.Faults.{usage_fault, image_fault, tree_fault, tree_key_fault, unknown_key_fault, schedule_fault, read_fault};
-ghost use Rattle.text_model.specs.Examples.{IsRefused, IsRefusedAfter, IsRefusedWhereCut, Gives, eight_turns, eight_turns_text, store_and_load, store_and_load_report, store_and_load_summary, no_turns, no_turns_report, output_ops, one_read_turns, one_read_answers, one_read_trace, one_read_counts, one_read_traffic, one_read_item, first_load, other_turns, other_answers, other_trace, deep_op, parked_item};
+ghost use Rattle.text_model.specs.Faults.{usage_fault, image_fault, tree_fault, tree_key_fault, unknown_key_fault};
+ghost use Rattle.text_model.specs.Faults.{schedule_fault, read_fault};
+ghost use Rattle.text_model.specs.Examples.{IsRefused, IsRefusedAfter, IsRefusedWhereCut, Gives, eight_turns};
+ghost use Rattle.text_model.specs.Examples.{eight_turns_text, store_and_load, store_and_load_report};
+ghost use Rattle.text_model.specs.Examples.{store_and_load_summary, no_turns, no_turns_report, output_ops};
+ghost use Rattle.text_model.specs.Examples.{one_read_turns, one_read_answers, one_read_trace, one_read_counts};
+ghost use Rattle.text_model.specs.Examples.{one_read_traffic, one_read_item, first_load, other_turns, other_answers};
+ghost use Rattle.text_model.specs.Examples.{other_trace, deep_op, parked_item};
 
 use crate::ScheduleRefusal;
 

@@ -2,7 +2,9 @@
 
 ghost use Rattle.std.specs.Prelude.{◌≡◌, ℕ, ◌+◌, ◌<◌, ◌≤◌, List, [], ◌∷◌, ◌++◌, length, filter, All};
 ghost use Rattle.text_model.specs.DdmTypes.declared.turns.Turn.{Turn};
-ghost use Rattle.text_model.specs.Schedule.{ShapeView, meaning_of, Reading, in_line, refused_at, nothing_but, schedule_of, schedule_text, reading_on, held_of, resumed, reading_of_line};
+ghost use Rattle.text_model.specs.Schedule.{ShapeView, meaning_of, Reading, in_line, refused_at, nothing_but};
+ghost use Rattle.text_model.specs.Schedule.{schedule_of, schedule_text, reading_on, held_of, resumed};
+ghost use Rattle.text_model.specs.Schedule.{reading_of_line};
 ghost use Rattle.text_model.specs.DdmTypes.declared.operations.Op.{Op};
 ghost use Rattle.text_model.specs.FlatModel.Legal.{is_of};
 ghost use Rattle.text_model.specs.Report.{put_texts};
@@ -42,7 +44,9 @@ pub fn schedule_lines()
 /// A text is read part by part: a reader needs the turns so far, how far it has come, and at most 24 bytes of the last line.
 pub fn schedule_parts()
     ensures resumed { (shape : ShapeView) (line made : ℕ) (text more : List ℕ)
-        → reading_on shape line made (text ++ more) ≡ (let reading = reading_on shape line made text in resumed shape made (held_of text) more reading.turns reading.standing) }
+        → reading_on shape line made (text ++ more)
+        ≡ (let reading = reading_on shape line made text in
+        resumed shape made (held_of text) more reading.turns reading.standing) }
     ensures held { (shape : ShapeView) (line made current : ℕ) (text : List ℕ)
         → (reading_on shape line made text).standing ≡ in_line current
         → length (held_of text) ≤ 24 }

@@ -1,4 +1,5 @@
-//! The calls that read, judge and print files and texts, as tests: how they are used, and that those that take memory succeed where there is enough.
+//! The calls that read, judge and print files and texts, as tests: how they are used, and that those that take memory
+//! succeed where there is enough.
 #![tactic(auto)]
 
 #[cfg(test)]

@@ -50,7 +50,14 @@ before = record {
   code = record { address = 0x10000; word = 0x0002a023 } ∷ record { address = 0x10004; word = 0x0002a383 } ∷ [];
   items = record { size = 16; rows = record { address = 0x20000; writable = true } ∷ [] };
   top = top;
-  kids = more_nodes (leaf_node (leaf_at 0 0x10000 (Some (record { way = 0; state = LeafState.Exclusive; words = 5 ∷ 0 ∷ 0 ∷ 0 ∷ [] })))) (more_nodes (leaf_node (leaf_at 1 0x10004 None)) no_nodes);
+  kids =
+      more_nodes
+      (leaf_node (leaf_at 0 0x10000 (Some (record {
+        way = 0;
+        state = LeafState.Exclusive;
+        words = 5 ∷ 0 ∷ 0 ∷ 0 ∷ [];
+      }))))
+      (more_nodes (leaf_node (leaf_at 1 0x10004 None)) no_nodes);
   ops = put_of 0 0x48 ∷ put_of 1 0x49 ∷ [];
   traffic = no_traffic ∷ [];
 }
@@ -65,6 +72,20 @@ pub record ACircle : Type 0 where
   pub puts : puts_of after ≡ (0x48 ∷ []) ∷ (0x49 ∷ []) ∷ []
   pub alike : Alike before after
   -- the store that hart 0 then completes is the same operation at another time
-  pub store_before : (turn_of (Turn.Hart 0 0) before).answer ≡ TurnAnswer.Retired (record { key = record key_zero { i = 1 }; hart = 0; pc = 0x10000; effect = Effect.Store 0x20000 5 0 })
-  pub store_after : (turn_of (Turn.Hart 0 0) after).answer ≡ TurnAnswer.Retired (record { key = record key_zero { s0 = 4; i = 1 }; hart = 0; pc = 0x10000; effect = Effect.Store 0x20000 5 0 })
-  pub store_forgotten : forget_answer (turn_of (Turn.Hart 0 0) after).answer ≡ TurnAnswer.Retired (record { key = key_zero; hart = 0; pc = 0x10000; effect = Effect.Store 0x20000 5 0 })
+  pub store_before :
+      (turn_of (Turn.Hart 0 0) before).answer
+      ≡ TurnAnswer.Retired
+      (record { key = record key_zero { i = 1 }; hart = 0; pc = 0x10000; effect = Effect.Store 0x20000 5 0 })
+  pub store_after :
+      (turn_of (Turn.Hart 0 0) after).answer
+      ≡ TurnAnswer.Retired
+      (record {
+        key = record key_zero { s0 = 4; i = 1 };
+        hart = 0;
+        pc = 0x10000;
+        effect = Effect.Store 0x20000 5 0;
+      })
+  pub store_forgotten :
+      forget_answer (turn_of (Turn.Hart 0 0) after).answer
+      ≡ TurnAnswer.Retired
+      (record { key = key_zero; hart = 0; pc = 0x10000; effect = Effect.Store 0x20000 5 0 })

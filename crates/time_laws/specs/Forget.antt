@@ -7,7 +7,8 @@ use Rattle.time_laws.specs.DdmTypes.declared.operations.Effect.{Effect}
 use Rattle.time_laws.specs.DdmTypes.declared.operations.Op.{Op}
 use Rattle.time_laws.specs.DdmTypes.Keys.{stamp_zero, key_zero}
 use Rattle.tree_model.specs.declared.Traffic.{Traffic}
-use Rattle.tree_model.specs.State.Values.{DownValue, LeafValue, DirValue, Node, Nodes, leaf_node, dir_node, no_nodes, more_nodes, MachineValue}
+use Rattle.tree_model.specs.State.Values.{DownValue, LeafValue, DirValue, Node, Nodes, leaf_node, dir_node, no_nodes}
+use Rattle.tree_model.specs.State.Values.{more_nodes, MachineValue}
 use Rattle.tree_model.specs.Turns.Machine.{no_traffic, machine_leaves}
 
 -- ---- a machine

@@ -2,7 +2,8 @@
 
 ghost use Rattle.std.specs.Prelude.{◌≡◌, ◌<◌, ◌^◌, ◌++◌, ◌∷◌, [], false, length, option_copied, slice_get, IfOk, if◌then◌else◌};
 ghost use Rattle.top_node.specs.TreeModel.State.Values.{DirValue};
-ghost use Rattle.top_node.specs.TreeModel.State.Directory.{down_full, in_down, is_parked, parked_place, place_released, pushed_reply, replies_full, with_parked};
+ghost use Rattle.top_node.specs.TreeModel.State.Directory.{down_full, in_down, is_parked, parked_place};
+ghost use Rattle.top_node.specs.TreeModel.State.Directory.{place_released, pushed_reply, replies_full, with_parked};
 ghost use Rattle.top_node.specs.TreeModel.State.Lengths.{dir_lengths};
 ghost use Rattle.top_node.specs.TreeModel.Start.Nodes.{new_top, top_sizes};
 ghost use Rattle.top_node.specs.ItemStates.Parts.{CanPark};

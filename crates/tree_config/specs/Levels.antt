@@ -1,5 +1,6 @@
 -- The levels of a tree of buses: for each level, from the top, the numbers of children of its buses from left to right.
-use Rattle.std.specs.Prelude.{ℕ, ◌+◌, ◌≡◌, ◌≤◌, suc, zero, Bool, ◌&&◌, not, nat_eq, nat_le, List, [], ◌∷◌, ◌++◌, map, length, sum, slice_index, IsTrue}
+use Rattle.std.specs.Prelude.{ℕ, ◌+◌, ◌≡◌, ◌≤◌, suc, zero, Bool, ◌&&◌, not, nat_eq, nat_le, List, [], ◌∷◌, ◌++◌, map}
+use Rattle.std.specs.Prelude.{length, sum, slice_index, IsTrue}
 use Rattle.std.specs.List.{list_all, list_any, range_with_len}
 use Rattle.tree_model.specs.Start.Sources.{TreeValue, leaf_count, bus_widths}
 use Rattle.tree_config.specs.ShapeText.{Tree, Trees, leaf_tree, group_tree, no_trees, more_trees}

@@ -1,5 +1,6 @@
 -- A tree file: the tree that a file's bytes say, or the first refusal in the order in which the file is judged.
-use Rattle.std.specs.Prelude.{ℕ, ℤ, pos, negsuc, Bool, nat_lt, nat_le, List, [], ◌∷◌, length, codes, bytes_eq, Option, Some, None, Result, Ok, Err, if◌then◌else◌}
+use Rattle.std.specs.Prelude.{ℕ, ℤ, pos, negsuc, Bool, nat_lt, nat_le, List, [], ◌∷◌, length, codes, bytes_eq, Option}
+use Rattle.std.specs.Prelude.{Some, None, Result, Ok, Err, if◌then◌else◌}
 use Rattle.std.specs.List.{list_any}
 use Rattle.std.specs.Ordering.{nat_cmp, match_ordering}
 use Rattle.std.specs.Cmp.Lexicographic.{slice_cmp}
@@ -41,7 +42,9 @@ key_name key.StackBytes = codes "stack_bytes"
 key_name key.ItemBytes = codes "item_bytes"
 
 abbrev pub every_key : List TreeKey
-every_key = key.Shape ∷ key.Ways ∷ key.Sets ∷ key.Buffer ∷ key.Parking ∷ key.Down ∷ key.Requests ∷ key.Replies ∷ key.StackBase ∷ key.StackBytes ∷ key.ItemBytes ∷ []
+every_key =
+    key.Shape ∷ key.Ways ∷ key.Sets ∷ key.Buffer ∷ key.Parking ∷ key.Down ∷ key.Requests ∷ key.Replies
+    ∷ key.StackBase ∷ key.StackBytes ∷ key.ItemBytes ∷ []
 
 abbrev pub is_known : List ℕ → Bool
 is_known name = list_any (λ k. bytes_eq name (key_name k)) every_key
@@ -93,7 +96,9 @@ sizes_at ms =
 -- the bytes of each stack, where so many harts have one and the first begins here
 unfoldable pub stack_bytes_at : ℕ → ℕ → Members → Result ℕ TreeRefusal
 stack_bytes_at base harts ms =
-    number_at key.StackBytes ms >>= (λ bytes. ok_if (nat_le (stacks_end base harts bytes) highest_end) bytes (refusal.OutOfRange key.StackBytes))
+    number_at key.StackBytes ms >>=
+    (λ bytes. ok_if (nat_le (stacks_end base harts bytes) highest_end) bytes
+    (refusal.OutOfRange key.StackBytes))
 
 abbrev pub number_or : ℕ → TreeKey → Option Data → Result ℕ TreeRefusal
 number_or n k None = Ok n

@@ -1,10 +1,12 @@
 //! The text of a shape, in passes with a few counters.
 
-ghost use Rattle.std.specs.Prelude.{◌≡◌, ◌<◌, ◌≤◌, ◌&&◌, IfSome, ◌^◌, ◌++◌, ◌∷◌, [], ◌+◌, ℕ, false, length, not, nat_eq, slice_index, map, IfOk};
+ghost use Rattle.std.specs.Prelude.{◌≡◌, ◌<◌, ◌≤◌, ◌&&◌, IfSome, ◌^◌, ◌++◌, ◌∷◌, [], ◌+◌, ℕ, false, length, not};
+ghost use Rattle.std.specs.Prelude.{nat_eq, slice_index, map, IfOk};
 ghost use Rattle.std.specs.List.{list_any, range_with_len};
 ghost use Rattle.tree_config.specs.Lists.{lists_of};
 ghost use Rattle.tree_config.specs.ShapeText.{leaf_byte};
-ghost use Rattle.tree_config.specs.ShapeScan.{closed, count_after, depth_after, depths_in, ends_group, is_whole, open_count, place_from, progress_after, widths_in, with_if};
+ghost use Rattle.tree_config.specs.ShapeScan.{closed, count_after, depth_after, depths_in, ends_group, is_whole};
+ghost use Rattle.tree_config.specs.ShapeScan.{open_count, place_from, progress_after, widths_in, with_if};
 
 use crate::of_ddm_types::NoMemory;
 use std::alloc::Global;

@@ -13,7 +13,8 @@ use Rattle.tree_model.specs.Turns.Grant.{Outcome}
 use Rattle.tree_model.specs.Turns.Machine.{named_by, answer_here, node_after, turn_of}
 
 -- this node has the name; this is what is read of it where it stands, and the other node is what it becomes
-pub record ReadAndChanged {A : Type 0} (name : Name) (read : Where → Node → A) (change : Where → Node → Node) (a : A) (w : Where) (n m : Node) : Type 0 where
+pub record ReadAndChanged {A : Type 0} (name : Name) (read : Where → Node → A) (change : Where → Node → Node)
+    (a : A) (w : Where) (n m : Node) : Type 0 where
   pub named : is_named name n ≡ true
   pub reads : read w n ≡ a
   pub becomes : m ≡ change w n
@@ -50,7 +51,9 @@ TurnsHere t m a = ReadAndChanged (named_by t) (answer_here m.code m.items t) (no
 
 -- a turn changes one node of the tree, which answers
 abbrev pub ChangesOneNode : Turn → MachineValue → Type 0
-ChangesOneNode t m = (path : List ℕ) × ChangedAt (TurnsHere t m (turn_of t m).answer) at_top path (root_of m) (root_of (turn_of t m).machine)
+ChangesOneNode t m =
+    (path : List ℕ)
+    × ChangedAt (TurnsHere t m (turn_of t m).answer) at_top path (root_of m) (root_of (turn_of t m).machine)
 
 -- a machine without the node that the turn names stays as it is
 abbrev pub ChangesNothing : Turn → MachineValue → Type 0

@@ -14,10 +14,30 @@ use Rattle.tree_rules.specs.Witness.{busy_has_cause}
 -- ---- two harts that store to one word
 
 abbrev pub two_writers_tree : TreeValue
-two_writers_tree = record { levels = (2 ∷ []) ∷ []; way_count = 4; sizes = record { sets = 1; buffer = 1; parking = 1; down = 16; requests = 16; replies = 16 }; stack_base = 196608; stack_bytes = 0; item_bytes = 16 }
+two_writers_tree =
+    record {
+      levels = (2 ∷ []) ∷ [];
+      way_count = 4;
+      sizes = record { sets = 1; buffer = 1; parking = 1; down = 16; requests = 16; replies = 16 };
+      stack_base = 196608;
+      stack_bytes = 0;
+      item_bytes = 16;
+    }
 
 abbrev pub two_writers_image : ImageValue
-two_writers_image = record { entry = 0x10000; segments = record { header = 0; vaddr = 0x10000; flags = 5; bytes = 183 ∷ 2 ∷ 2 ∷ 0 ∷ 131 ∷ 163 ∷ 2 ∷ 0 ∷ 19 ∷ 3 ∷ 21 ∷ 0 ∷ 35 ∷ 160 ∷ 98 ∷ 0 ∷ []; memsz = 16 } ∷ record { header = 1; vaddr = 0x20000; flags = 6; bytes = 5 ∷ 0 ∷ 0 ∷ 0 ∷ []; memsz = 16 } ∷ [] }
+two_writers_image =
+    record {
+      entry = 0x10000;
+      segments = record {
+        header = 0;
+        vaddr = 0x10000;
+        flags = 5;
+        bytes = 183 ∷ 2 ∷ 2 ∷ 0 ∷ 131 ∷ 163 ∷ 2 ∷ 0 ∷ 19 ∷ 3 ∷ 21 ∷ 0 ∷ 35 ∷ 160 ∷ 98 ∷ 0
+            ∷ [];
+        memsz = 16;
+      }
+          ∷ record { header = 1; vaddr = 0x20000; flags = 6; bytes = 5 ∷ 0 ∷ 0 ∷ 0 ∷ []; memsz = 16 } ∷ [];
+    }
 
 abbrev pub two_writers_start : MachineValue
 two_writers_start = start_machine two_writers_tree two_writers_image
@@ -40,10 +60,31 @@ two_writers_after count = (run_of (take count two_writers_turns) two_writers_sta
 -- ---- a load that reads an old word after a store was done, and a load of a flag that doesn't
 
 abbrev pub stale_load_tree : TreeValue
-stale_load_tree = record { levels = (2 ∷ []) ∷ (2 ∷ 2 ∷ []) ∷ []; way_count = 4; sizes = record { sets = 1; buffer = 1; parking = 1; down = 16; requests = 16; replies = 16 }; stack_base = 196608; stack_bytes = 0; item_bytes = 16 }
+stale_load_tree =
+    record {
+      levels = (2 ∷ []) ∷ (2 ∷ 2 ∷ []) ∷ [];
+      way_count = 4;
+      sizes = record { sets = 1; buffer = 1; parking = 1; down = 16; requests = 16; replies = 16 };
+      stack_base = 196608;
+      stack_bytes = 0;
+      item_bytes = 16;
+    }
 
 abbrev pub stale_load_image : ImageValue
-stale_load_image = record { entry = 0x10000; segments = record { header = 0; vaddr = 0x10000; flags = 5; bytes = 183 ∷ 2 ∷ 2 ∷ 0 ∷ 131 ∷ 163 ∷ 2 ∷ 0 ∷ 99 ∷ 8 ∷ 5 ∷ 0 ∷ 3 ∷ 164 ∷ 2 ∷ 0 ∷ 131 ∷ 164 ∷ 2 ∷ 1 ∷ 3 ∷ 166 ∷ 2 ∷ 0 ∷ 35 ∷ 160 ∷ 178 ∷ 0 ∷ 35 ∷ 168 ∷ 178 ∷ 0 ∷ []; memsz = 32 } ∷ record { header = 1; vaddr = 0x20000; flags = 6; bytes = 5 ∷ 0 ∷ 0 ∷ 0 ∷ []; memsz = 32 } ∷ [] }
+stale_load_image =
+    record {
+      entry = 0x10000;
+      segments = record {
+        header = 0;
+        vaddr = 0x10000;
+        flags = 5;
+        bytes = 183 ∷ 2 ∷ 2 ∷ 0 ∷ 131 ∷ 163 ∷ 2 ∷ 0 ∷ 99 ∷ 8 ∷ 5 ∷ 0 ∷ 3 ∷ 164 ∷ 2 ∷ 0
+            ∷ 131 ∷ 164 ∷ 2 ∷ 1 ∷ 3 ∷ 166 ∷ 2 ∷ 0 ∷ 35 ∷ 160 ∷ 178 ∷ 0 ∷ 35 ∷ 168 ∷ 178
+            ∷ 0 ∷ [];
+        memsz = 32;
+      }
+          ∷ record { header = 1; vaddr = 0x20000; flags = 6; bytes = 5 ∷ 0 ∷ 0 ∷ 0 ∷ []; memsz = 32 } ∷ [];
+    }
 
 abbrev pub stale_load_start : MachineValue
 stale_load_start = start_machine stale_load_tree stale_load_image
@@ -79,10 +120,30 @@ stale_load_all = stale_load_turns ++ stale_load_rest
 -- ---- the last copy of an item leaves its leaf, is passed on and parked
 
 abbrev pub last_copy_tree : TreeValue
-last_copy_tree = record { levels = (2 ∷ []) ∷ (1 ∷ 1 ∷ []) ∷ []; way_count = 1; sizes = record { sets = 1; buffer = 1; parking = 1; down = 2; requests = 2; replies = 2 }; stack_base = 196608; stack_bytes = 0; item_bytes = 16 }
+last_copy_tree =
+    record {
+      levels = (2 ∷ []) ∷ (1 ∷ 1 ∷ []) ∷ [];
+      way_count = 1;
+      sizes = record { sets = 1; buffer = 1; parking = 1; down = 2; requests = 2; replies = 2 };
+      stack_base = 196608;
+      stack_bytes = 0;
+      item_bytes = 16;
+    }
 
 abbrev pub last_copy_image : ImageValue
-last_copy_image = record { entry = 0x10000; segments = record { header = 0; vaddr = 0x10000; flags = 5; bytes = 183 ∷ 2 ∷ 2 ∷ 0 ∷ 131 ∷ 163 ∷ 2 ∷ 0 ∷ 55 ∷ 3 ∷ 1 ∷ 0 ∷ 3 ∷ 36 ∷ 3 ∷ 0 ∷ []; memsz = 16 } ∷ record { header = 1; vaddr = 0x20000; flags = 6; bytes = 5 ∷ 0 ∷ 0 ∷ 0 ∷ []; memsz = 16 } ∷ [] }
+last_copy_image =
+    record {
+      entry = 0x10000;
+      segments = record {
+        header = 0;
+        vaddr = 0x10000;
+        flags = 5;
+        bytes = 183 ∷ 2 ∷ 2 ∷ 0 ∷ 131 ∷ 163 ∷ 2 ∷ 0 ∷ 55 ∷ 3 ∷ 1 ∷ 0 ∷ 3 ∷ 36 ∷ 3 ∷ 0
+            ∷ [];
+        memsz = 16;
+      }
+          ∷ record { header = 1; vaddr = 0x20000; flags = 6; bytes = 5 ∷ 0 ∷ 0 ∷ 0 ∷ []; memsz = 16 } ∷ [];
+    }
 
 abbrev pub last_copy_start : MachineValue
 last_copy_start = start_machine last_copy_tree last_copy_image

@@ -42,8 +42,11 @@ written_tests m = map (λ r. test_of (written_rule r m 0)) written_rules
 -- the stamp 9 since.
 abbrev pub late_exclusive : MachineValue
 late_exclusive = machine (
-    bus_over 1 1 Hold.Exclusive no_note [] (stamp 9 0) 1 (bus_over 3 2 Hold.Exclusive (up_erase 0) (told TxKind.ExclusiveTx (stamp 5 3)) (stamp 5 2) 4 (leaf_at 0 0x10000 0 LeafState.Waiting 5))
-    ∷ bus_over 2 1 Hold.Invalid no_note (told TxKind.EraseTx (stamp 7 0)) (stamp 1 0) 1 (bus_over 4 2 Hold.Shared no_note [] (stamp 1 1) 1 (leaf_at 1 0x10004 0 LeafState.Shared 5)) ∷ []) []
+    bus_over 1 1 Hold.Exclusive no_note [] (stamp 9 0) 1
+    (bus_over 3 2 Hold.Exclusive (up_erase 0) (told TxKind.ExclusiveTx (stamp 5 3)) (stamp 5 2) 4
+    (leaf_at 0 0x10000 0 LeafState.Waiting 5))
+    ∷ bus_over 2 1 Hold.Invalid no_note (told TxKind.EraseTx (stamp 7 0)) (stamp 1 0) 1
+    (bus_over 4 2 Hold.Shared no_note [] (stamp 1 1) 1 (leaf_at 1 0x10004 0 LeafState.Shared 5)) ∷ []) []
 
 abbrev pub late_start : FlatMachine
 late_start = flat 0x10000 0x10004
@@ -61,14 +64,22 @@ pub record LateExclusive : Type 0 where
 -- ---- clocks: a new word at a leaf whose key would be before the store
 
 abbrev pub store : Op
-store = record { key = record { s0 = 5; c0 = 1; s1 = 1; c1 = 0; s2 = 1; c2 = 0; s3 = 0; c3 = 0; i = 0 }; hart = 1; pc = 0x10000; effect = Effect.Store 0x20000 5 7 }
+store = record {
+  key = record { s0 = 5; c0 = 1; s1 = 1; c1 = 0; s2 = 1; c2 = 0; s3 = 0; c3 = 0; i = 0 };
+  hart = 1;
+  pc = 0x10000;
+  effect = Effect.Store 0x20000 5 7;
+}
 
 -- Leaf 1 has stored 7 with a key that begins with 5, and leaf 0 has that word, but bus 3 has taken over the stamp (3, 0) last.
 -- Bus 1 has taken over the stamp 9.
 abbrev pub early_word : MachineValue
 early_word = machine (
-    bus_over 1 1 Hold.Shared no_note [] (stamp 9 0) 1 (bus_over 3 2 Hold.Shared no_note [] (stamp 3 0) 1 (leaf_at 0 0x10004 0 LeafState.Shared 7))
-    ∷ bus_over 2 1 Hold.Shared no_note [] (stamp 5 0) 1 (bus_over 4 2 Hold.Shared no_note [] (stamp 5 1) 1 (leaf_at 1 0x10004 1 LeafState.Shared 7)) ∷ []) (store ∷ [])
+    bus_over 1 1 Hold.Shared no_note [] (stamp 9 0) 1
+    (bus_over 3 2 Hold.Shared no_note [] (stamp 3 0) 1 (leaf_at 0 0x10004 0 LeafState.Shared 7))
+    ∷ bus_over 2 1 Hold.Shared no_note [] (stamp 5 0) 1
+    (bus_over 4 2 Hold.Shared no_note [] (stamp 5 1) 1 (leaf_at 1 0x10004 1 LeafState.Shared 7)) ∷ [])
+    (store ∷ [])
 
 abbrev pub early_start : FlatMachine
 early_start = flat 0x10004 0x10000

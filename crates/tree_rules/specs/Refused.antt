@@ -26,7 +26,9 @@ use Rattle.tree_rules.specs.Small.{all_but, entry, leaf_sizes, leaf_value, leaf_
 
 -- leaf 0 reads, and leaf 1 holds the item Shared and has it in its replies
 abbrev pub reader_and_giver : List Node
-reader_and_giver = leaf_with 0 (entry LeafState.Reading 0) [] ∷ leaf_with 1 (entry LeafState.Shared 5) (record { item = 0; words = 5 ∷ [] } ∷ []) ∷ []
+reader_and_giver =
+    leaf_with 0 (entry LeafState.Reading 0) []
+    ∷ leaf_with 1 (entry LeafState.Shared 5) (record { item = 0; words = 5 ∷ [] } ∷ []) ∷ []
 
 -- the parent notes leaf 0's read, and is answering besides
 abbrev pub noted_and_answering : DirValue
@@ -47,12 +49,24 @@ pub record AskedTwice : Type 0 where
 -- ---- exclusive children
 
 pub record ExclusiveChildren : Type 0 where
-  pub two : bus_holds 1 (dir_with Hold.Exclusive no_note false) (leaf_with 0 (entry LeafState.Exclusive 5) [] ∷ leaf_with 1 (entry LeafState.Exclusive 5) [] ∷ []) ≡ false
-  pub one : bus_holds 1 (dir_with Hold.Exclusive no_note false) (leaf_with 0 (entry LeafState.Exclusive 5) [] ∷ leaf_with 1 None [] ∷ []) ≡ true
+  pub two :
+      bus_holds 1 (dir_with Hold.Exclusive no_note false)
+      (leaf_with 0 (entry LeafState.Exclusive 5) [] ∷ leaf_with 1 (entry LeafState.Exclusive 5) [] ∷ [])
+      ≡ false
+  pub one :
+      bus_holds 1 (dir_with Hold.Exclusive no_note false)
+      (leaf_with 0 (entry LeafState.Exclusive 5) [] ∷ leaf_with 1 None [] ∷ [])
+      ≡ true
   -- under a parent that holds the item Shared
-  pub uncovered : bus_holds 1 (dir_with Hold.Shared no_note false) (leaf_with 0 (entry LeafState.Exclusive 5) [] ∷ leaf_with 1 None [] ∷ []) ≡ false
+  pub uncovered :
+      bus_holds 1 (dir_with Hold.Shared no_note false)
+      (leaf_with 0 (entry LeafState.Exclusive 5) [] ∷ leaf_with 1 None [] ∷ [])
+      ≡ false
   -- a child that waits for data which nobody was asked for
-  pub unnoted : bus_holds 1 (dir_with Hold.Invalid no_note false) (leaf_with 0 (entry LeafState.Reading 0) [] ∷ leaf_with 1 None [] ∷ []) ≡ false
+  pub unnoted :
+      bus_holds 1 (dir_with Hold.Invalid no_note false)
+      (leaf_with 0 (entry LeafState.Reading 0) [] ∷ leaf_with 1 None [] ∷ [])
+      ≡ false
 
 -- ---- faces
 
@@ -64,11 +78,20 @@ child hold reads erases replies = record { hold = hold; reads = reads; erases = 
 
 pub record FacesRefused : Type 0 where
   -- a child with a granted read that holds the item
-  pub reads_and_holds : tests_of (parent Hold.Shared (local 0 0) [] []) (child Hold.Shared true false 0 ∷ child Hold.Shared false false 1 ∷ []) ≡ all_but 16 25
+  pub reads_and_holds :
+      tests_of (parent Hold.Shared (local 0 0) [] [])
+      (child Hold.Shared true false 0 ∷ child Hold.Shared false false 1 ∷ [])
+      ≡ all_but 16 25
   -- two exclusives come down
-  pub two_exclusives : tests_of (parent Hold.Exclusive (up_erase 0) (ExclusiveTx ∷ ExclusiveTx ∷ []) []) (child Hold.Shared false true 0 ∷ []) ≡ all_but 4 25
+  pub two_exclusives :
+      tests_of (parent Hold.Exclusive (up_erase 0) (ExclusiveTx ∷ ExclusiveTx ∷ []) [])
+      (child Hold.Shared false true 0 ∷ [])
+      ≡ all_but 4 25
   -- a read is asked for twice
-  pub two_requests : tests_of (parent Hold.Invalid (up_read 0 0) [] (ReadTx ∷ ReadTx ∷ [])) (child Hold.Invalid true false 0 ∷ []) ≡ all_but 22 25
+  pub two_requests :
+      tests_of (parent Hold.Invalid (up_read 0 0) [] (ReadTx ∷ ReadTx ∷ []))
+      (child Hold.Invalid true false 0 ∷ [])
+      ≡ all_but 22 25
   -- data is asked for
   pub data_asked : tests_of (parent Hold.Invalid (up_read 0 0) [] (DataTx ∷ [])) (child Hold.Invalid true false 0 ∷ []) ≡ all_but 22 25
 
@@ -82,11 +105,19 @@ without_ways = record (leaf_value 0 0 0 None []) { sizes = record leaf_sizes { w
 
 -- two entries of which each waits
 abbrev pub waiting_twice : LeafValue
-waiting_twice = record (leaf_value 0 0 0 None []) { sizes = record leaf_sizes { way_count = 2 }; ways = entry LeafState.Reading 0 ∷ Some (record { way = 1; state = LeafState.Waiting; words = 5 ∷ [] }) ∷ [] }
+waiting_twice =
+    record (leaf_value 0 0 0 None []) {
+      sizes = record leaf_sizes { way_count = 2 };
+      ways = entry LeafState.Reading 0 ∷ Some (record { way = 1; state = LeafState.Waiting; words = 5 ∷ [] })
+          ∷ [];
+    }
 
 -- an exclusive that comes down to the top with a stamp
 abbrev pub stamped_top : DirValue
-stamped_top = dir_value 0 0 Hold.Exclusive (up_erase 0) false (record { kind = ExclusiveTx; item = 0; words = 0 ∷ []; stamp = record stamp_zero { s0 = 1 } } ∷ []) stamp_zero 9
+stamped_top =
+    dir_value 0 0 Hold.Exclusive (up_erase 0) false
+    (record { kind = ExclusiveTx; item = 0; words = 0 ∷ []; stamp = record stamp_zero { s0 = 1 } } ∷ [])
+    stamp_zero 9
 
 pub record OwnRefused : Type 0 where
   pub no_way : leaf_tests 1 without_ways ≡ all_but 0 10
@@ -119,7 +150,10 @@ pub record ShapesRefused : Type 0 where
   pub sixteen_children : shape_tests (machine_of 1 (leaves_from 0 16)) ≡ replicate 6 true
   pub seventeen_children : shape_tests (machine_of 1 (leaves_from 0 17)) ≡ all_but 1 6
   pub traffic_missing : shape_tests (machine_of 0 (leaves_from 0 1)) ≡ all_but 3 6
-  pub odd_address : shape_tests (record (machine_of 1 (leaves_from 0 1)) { items = record { size = 4; rows = record { address = 2; writable = true } ∷ [] } }) ≡ all_but 5 6
+  pub odd_address :
+      shape_tests (record (machine_of 1 (leaves_from 0 1))
+      { items = record { size = 4; rows = record { address = 2; writable = true } ∷ [] } })
+      ≡ all_but 5 6
 
 -- ---- order
 
@@ -145,4 +179,6 @@ pub record OrderRefused : Type 0 where
   -- a flat hart that has halted beside one that goes on
   pub halted_core : core_tests halted_start two_writers_start ≡ all_but 3 7
   -- its next operation isn't legal
-  pub halted_next : core_tests halted_start (turn_of (Turn.Hart 0 0) two_writers_start).machine ≡ true ∷ true ∷ false ∷ false ∷ true ∷ true ∷ true ∷ []
+  pub halted_next :
+      core_tests halted_start (turn_of (Turn.Hart 0 0) two_writers_start).machine
+      ≡ true ∷ true ∷ false ∷ false ∷ true ∷ true ∷ true ∷ []

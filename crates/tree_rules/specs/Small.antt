@@ -8,7 +8,8 @@ use Rattle.tree_rules.specs.DdmTypes.Keys.{stamp_zero}
 use Rattle.tree_rules.specs.DdmTypes.CodeMap.{words_from}
 use Rattle.tree_rules.specs.FlatModel.Hart.{HartValue}
 use Rattle.tree_rules.specs.FlatModel.Flat.{FlatMachine}
-use Rattle.tree_model.specs.State.Values.{CopyValue, DownValue, WayValue, LeafSizes, LeafValue, Note, no_note, DirSizes, DirValue, Node, leaf_node, nodes, MachineValue}
+use Rattle.tree_model.specs.State.Values.{CopyValue, DownValue, WayValue, LeafSizes, LeafValue, Note, no_note}
+use Rattle.tree_model.specs.State.Values.{DirSizes, DirValue, Node, leaf_node, nodes, MachineValue}
 use Rattle.tree_model.specs.Turns.Machine.{no_traffic}
 
 -- of so many tests all pass but this one
@@ -31,7 +32,18 @@ abbrev pub entry : LeafState → ℕ → Option WayValue
 entry state word = Some (record { way = 0; state = state; words = word ∷ [] })
 
 abbrev pub leaf_value : ℕ → ℕ → ℕ → Option WayValue → List CopyValue → LeafValue
-leaf_value number pc done way replies = record { number = number; sizes = leaf_sizes; hart = hart_at pc; done = done; ways = way ∷ []; buffer = []; slot = None; replies = replies; reservation = None }
+leaf_value number pc done way replies =
+    record {
+      number = number;
+      sizes = leaf_sizes;
+      hart = hart_at pc;
+      done = done;
+      ways = way ∷ [];
+      buffer = [];
+      slot = None;
+      replies = replies;
+      reservation = None;
+    }
 
 abbrev pub leaf_with : ℕ → Option WayValue → List CopyValue → Node
 leaf_with number way replies = leaf_node (leaf_value number 0 0 way replies)
@@ -69,4 +81,8 @@ machine kids ops = record {
 
 -- the harts at these pcs, over a memory whose one word is 5
 abbrev pub flat : ℕ → ℕ → FlatMachine
-flat pc other = record { harts = record { hart = hart_at pc; reserved = None } ∷ record { hart = hart_at other; reserved = None } ∷ []; words = (5 ∷ []) ∷ [] }
+flat pc other = record {
+  harts = record { hart = hart_at pc; reserved = None }
+      ∷ record { hart = hart_at other; reserved = None } ∷ [];
+  words = (5 ∷ []) ∷ [];
+}

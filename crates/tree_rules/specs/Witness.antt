@@ -1,7 +1,8 @@
 -- What a run has in common with the flat machine, for every tree: the witness, which is the operations in the order of their
 -- keys, is one run of it, and all that is printed is that run's.
 -- To be believed: it is what is claimed of every run.
-use Rattle.std.specs.Prelude.{◌≡◌, ℕ, ◌<◌, Bool, true, false, not, ◌||◌, nat_eq, List, [], ◌∷◌, ◌++◌, ◌+◌, length, filter, take, Option, Some, None, IfSome, IsTrue, Err, ⊤}
+use Rattle.std.specs.Prelude.{◌≡◌, ℕ, ◌<◌, Bool, true, false, not, ◌||◌, nat_eq, List, [], ◌∷◌, ◌++◌, ◌+◌, length}
+use Rattle.std.specs.Prelude.{filter, take, Option, Some, None, IfSome, IsTrue, Err, ⊤}
 use Rattle.std.specs.List.{AllByRecursion}
 use Rattle.tree_rules.specs.DdmTypes.declared.answers.TurnAnswer.{TurnAnswer}
 use Rattle.tree_rules.specs.DdmTypes.declared.answers.PendingWhy.{PendingWhy}
@@ -91,7 +92,8 @@ abbrev pub cause_holds : Turn → MachineValue → BusyCause → Bool
 cause_holds t m (BusyCause.ItemPending bus x why) = is_told (ask_bus bus (λ w d ns. pends_by why x d) false m)
 cause_holds t m (BusyCause.QueueFull list) = is_full list m
 cause_holds t m (BusyCause.BufferFull leaf) = is_told (ask_leaf leaf (λ w v. nat_eq (length v.buffer) v.sizes.buffer_room) false m)
-cause_holds t m (BusyCause.ParkingFull bus) = is_told (ask_bus bus (λ w d ns. nat_eq (length d.parked + d.reserved) d.sizes.parking_room) false m)
+cause_holds t m (BusyCause.ParkingFull bus) =
+    is_told (ask_bus bus (λ w d ns. nat_eq (length d.parked + d.reserved) d.sizes.parking_room) false m)
 cause_holds t m (BusyCause.NoRoom x) = leaves_nowhere t x m
 
 abbrev pub busy_has_cause : Turn → MachineValue → TurnAnswer → Bool

@@ -1,6 +1,8 @@
 //! The rules computed on runs and on states made by hand.
 
-ghost use Rattle.tree_rules.specs.Examples.{KeepsRules, two_writers_flat, two_writers_turns, two_writers_start, stale_load_flat, stale_load_all, stale_load_start, last_copy_flat, last_copy_turns, last_copy_start};
+ghost use Rattle.tree_rules.specs.Examples.{KeepsRules, two_writers_flat, two_writers_turns, two_writers_start};
+ghost use Rattle.tree_rules.specs.Examples.{stale_load_flat, stale_load_all, stale_load_start, last_copy_flat};
+ghost use Rattle.tree_rules.specs.Examples.{last_copy_turns, last_copy_start};
 ghost use Rattle.tree_rules.specs.CopiesOfAWord.{Copies, Claims};
 ghost use Rattle.tree_rules.specs.Refused.{AskedTwice, ExclusiveChildren, FacesRefused, OwnRefused, ShapesRefused, OrderRefused};
 ghost use Rattle.tree_rules.specs.Lag.{LateExclusive, EarlyWord};

@@ -12,7 +12,9 @@ pub record QueueList (X : Type 0) : Type 0 where
 module _ {X : Type 0} where
   abbrev pub queue_code : Coded X → Coded (QueueList X)
   queue_code c =
-      code_by (List X × (ℕ × ℕ)) (coded× (coded_list c) (coded× coded_ℕ coded_ℕ)) (λ q. (q.list, (q.capacity, q.items))) (λ p. record { list = p.0; capacity = p.1.0; items = p.1.1 }) (λ _. refl)
+      code_by (List X × (ℕ × ℕ)) (coded× (coded_list c) (coded× coded_ℕ coded_ℕ))
+      (λ q. (q.list, (q.capacity, q.items))) (λ p. record { list = p.0; capacity = p.1.0; items = p.1.1 })
+      (λ _. refl)
 
   -- how many entries name the item
   abbrev pub count_naming : (X → ℕ) → ℕ → List X → ℕ

@@ -1,6 +1,7 @@
 //! A bounded list of transactions.
 
-ghost use Rattle.std.specs.Prelude.{◌≡◌, ℕ, ◌<◌, ◌↔◌, ◌++◌, ◌∷◌, [], false, drop, length, nat_le, option_copied, slice_get, slice_index, IfErr, IfOk, IfSome, IsErr, IsTrue, OnOk, is_err};
+ghost use Rattle.std.specs.Prelude.{◌≡◌, ℕ, ◌<◌, ◌↔◌, ◌++◌, ◌∷◌, [], false, drop, length, nat_le, option_copied};
+ghost use Rattle.std.specs.Prelude.{slice_get, slice_index, IfErr, IfOk, IfSome, IsErr, IsTrue, OnOk, is_err};
 ghost use Rattle.std.specs.List.{list_any};
 ghost use Rattle.circular_buffer.specs.Buffer.{buffer};
 ghost use Rattle.tx_queue.specs.TreeModel.State.Lists.{names_item};

@@ -1,6 +1,7 @@
 //! The words of a list are read back.
 
-ghost use Rattle.std.specs.Prelude.{◌≡◌, ◌+◌, ◌<◌, ◌≤◌, ◌^◌, ◌||◌, false, nat_eq, nat_le, nat_lt, Ok, Err, drop, length, map, IfErr, IfOk, OnOk};
+ghost use Rattle.std.specs.Prelude.{◌≡◌, ◌+◌, ◌<◌, ◌≤◌, ◌^◌, ◌||◌, false, nat_eq, nat_le, nat_lt, Ok, Err, drop};
+ghost use Rattle.std.specs.Prelude.{length, map, IfErr, IfOk, OnOk};
 ghost use Rattle.state_reading.specs.Gives.{Gives};
 ghost use Rattle.state_reading.specs.Reading.{word_that};
 ghost use Rattle.state_reading.specs.Parts.{listed, read_copy, read_down, read_request};
@@ -34,8 +35,12 @@ impl Queue<(TxKind, ItemId)> {
         requires inside { at.old ≤ length words.now }
         requires numbered { self.old.items < 2 ^ 32 }
         requires place { nat_le self.old.capacity (length self.old.list) ≡ false }
-        ensures read { OnOk result (read_request self.old.items (map request_value self.old.list) at.old (drop at.old words.now) ≡ Ok (record { value = map request_value self.new.list; at = at.new; rest = drop at.new words.now })) }
-        ensures refused { IfErr result (λ e. read_request self.old.items (map request_value self.old.list) at.old (drop at.old words.now) ≡ Err e) }
+        ensures read { OnOk result
+            (read_request self.old.items (map request_value self.old.list) at.old (drop at.old words.now)
+            ≡ Ok (record { value = map request_value self.new.list; at = at.new; rest = drop at.new words.now })) }
+        ensures refused { IfErr result
+            (λ e. read_request self.old.items (map request_value self.old.list) at.old (drop at.old words.now)
+            ≡ Err e) }
         ensures inside { at.new ≤ length words.now }
         ensures more { OnOk result (length self.new.list ≡ length self.old.list + 1) }
         ensures capacity { self.new.capacity ≡ self.old.capacity }
@@ -53,8 +58,11 @@ impl Queue<(TxKind, ItemId)> {
         requires few { length words.now < 2 ^ 32 }
         requires inside { at.old ≤ length words.now }
         requires numbered { self.old.items < 2 ^ 32 }
-        ensures read { OnOk result (listed self.old.capacity (read_request self.old.items) at.old (drop at.old words.now) ≡ Ok (record { value = map request_value self.new.list; at = at.new; rest = drop at.new words.now })) }
-        ensures refused { IfErr result (λ e. listed self.old.capacity (read_request self.old.items) at.old (drop at.old words.now) ≡ Err e) }
+        ensures read { OnOk result
+            (listed self.old.capacity (read_request self.old.items) at.old (drop at.old words.now)
+            ≡ Ok (record { value = map request_value self.new.list; at = at.new; rest = drop at.new words.now })) }
+        ensures refused { IfErr result
+            (λ e. listed self.old.capacity (read_request self.old.items) at.old (drop at.old words.now) ≡ Err e) }
         ensures inside { at.new ≤ length words.now }
         ensures capacity { self.new.capacity ≡ self.old.capacity }
         ensures items { self.new.items ≡ self.old.items }
@@ -76,8 +84,14 @@ impl<const WORDS: usize> Queue<(ItemId, Words<WORDS>)> {
         requires inside { at.old ≤ length words.now }
         requires numbered { self.old.items < 2 ^ 32 }
         requires place { nat_le self.old.capacity (length self.old.list) ≡ false }
-        ensures read { OnOk result (read_copy WORDS (λ x cs. nat_lt x self.old.items) (map copy_value self.old.list) at.old (drop at.old words.now) ≡ Ok (record { value = map copy_value self.new.list; at = at.new; rest = drop at.new words.now })) }
-        ensures refused { IfErr result (λ e. read_copy WORDS (λ x cs. nat_lt x self.old.items) (map copy_value self.old.list) at.old (drop at.old words.now) ≡ Err e) }
+        ensures read { OnOk result
+            (read_copy WORDS (λ x cs. nat_lt x self.old.items) (map copy_value self.old.list) at.old
+            (drop at.old words.now)
+            ≡ Ok (record { value = map copy_value self.new.list; at = at.new; rest = drop at.new words.now })) }
+        ensures refused { IfErr result
+            (λ e. read_copy WORDS (λ x cs. nat_lt x self.old.items) (map copy_value self.old.list) at.old
+            (drop at.old words.now)
+            ≡ Err e) }
         ensures inside { at.new ≤ length words.now }
         ensures more { OnOk result (length self.new.list ≡ length self.old.list + 1) }
         ensures capacity { self.new.capacity ≡ self.old.capacity }
@@ -95,8 +109,14 @@ impl<const WORDS: usize> Queue<(ItemId, Words<WORDS>)> {
         requires few { length words.now < 2 ^ 32 }
         requires inside { at.old ≤ length words.now }
         requires numbered { self.old.items < 2 ^ 32 }
-        ensures read { OnOk result (listed self.old.capacity (read_copy WORDS (λ x cs. nat_lt x self.old.items)) at.old (drop at.old words.now) ≡ Ok (record { value = map copy_value self.new.list; at = at.new; rest = drop at.new words.now })) }
-        ensures refused { IfErr result (λ e. listed self.old.capacity (read_copy WORDS (λ x cs. nat_lt x self.old.items)) at.old (drop at.old words.now) ≡ Err e) }
+        ensures read { OnOk result
+            (listed self.old.capacity (read_copy WORDS (λ x cs. nat_lt x self.old.items)) at.old
+            (drop at.old words.now)
+            ≡ Ok (record { value = map copy_value self.new.list; at = at.new; rest = drop at.new words.now })) }
+        ensures refused { IfErr result
+            (λ e. listed self.old.capacity (read_copy WORDS (λ x cs. nat_lt x self.old.items)) at.old
+            (drop at.old words.now)
+            ≡ Err e) }
         ensures inside { at.new ≤ length words.now }
         ensures capacity { self.new.capacity ≡ self.old.capacity }
         ensures items { self.new.items ≡ self.old.items }
@@ -117,7 +137,9 @@ impl<const WORDS: usize> Queue<DownEntry<WORDS>> {
         requires inside { at.old ≤ length words.now }
         requires numbered { self.old.items < 2 ^ 32 }
         requires place { nat_le self.old.capacity (length self.old.list) ≡ false }
-        ensures read { OnOk result (read_down self.old.items level WORDS self.old.list at.old (drop at.old words.now) ≡ Ok (record { value = self.new.list; at = at.new; rest = drop at.new words.now })) }
+        ensures read { OnOk result
+            (read_down self.old.items level WORDS self.old.list at.old (drop at.old words.now)
+            ≡ Ok (record { value = self.new.list; at = at.new; rest = drop at.new words.now })) }
         ensures refused { IfErr result (λ e. read_down self.old.items level WORDS self.old.list at.old (drop at.old words.now) ≡ Err e) }
         ensures inside { at.new ≤ length words.now }
         ensures more { OnOk result (length self.new.list ≡ length self.old.list + 1) }
@@ -148,8 +170,12 @@ impl<const WORDS: usize> Queue<DownEntry<WORDS>> {
         requires few { length words.now < 2 ^ 32 }
         requires inside { at.old ≤ length words.now }
         requires numbered { self.old.items < 2 ^ 32 }
-        ensures read { OnOk result (listed self.old.capacity (read_down self.old.items level WORDS) at.old (drop at.old words.now) ≡ Ok (record { value = self.new.list; at = at.new; rest = drop at.new words.now })) }
-        ensures refused { IfErr result (λ e. listed self.old.capacity (read_down self.old.items level WORDS) at.old (drop at.old words.now) ≡ Err e) }
+        ensures read { OnOk result
+            (listed self.old.capacity (read_down self.old.items level WORDS) at.old (drop at.old words.now)
+            ≡ Ok (record { value = self.new.list; at = at.new; rest = drop at.new words.now })) }
+        ensures refused { IfErr result
+            (λ e. listed self.old.capacity (read_down self.old.items level WORDS) at.old (drop at.old words.now)
+            ≡ Err e) }
         ensures inside { at.new ≤ length words.now }
         ensures capacity { self.new.capacity ≡ self.old.capacity }
         ensures items { self.new.items ≡ self.old.items }

@@ -15,7 +15,9 @@ use Rattle.value_laws.specs.DdmTypes.CodeMap.{CodeWord}
 use Rattle.value_laws.specs.FlatModel.Hart.{HartValue}
 use Rattle.value_laws.specs.TreeModel.declared.Traffic.{Traffic}
 use Rattle.value_laws.specs.TreeModel.State.Kinds.{goes_up}
-use Rattle.value_laws.specs.TreeModel.State.Values.{RequestValue, CopyValue, DownValue, WayValue, BufferValue, LeafValue, DirValue, Node, Nodes, leaf_node, dir_node, no_nodes, more_nodes, MachineValue, root_of}
+use Rattle.value_laws.specs.TreeModel.State.Values.{RequestValue, CopyValue, DownValue, WayValue, BufferValue}
+use Rattle.value_laws.specs.TreeModel.State.Values.{LeafValue, DirValue, Node, Nodes, leaf_node, dir_node, no_nodes}
+use Rattle.value_laws.specs.TreeModel.State.Values.{more_nodes, MachineValue, root_of}
 
 -- a number of 32 bits
 abbrev pub IsWord : ℕ → Type 0

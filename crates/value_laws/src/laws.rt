@@ -18,7 +18,8 @@ pub fn turn_keeps_form()
 
 /// And after a run, no count of which is above that of its turns.
 pub fn run_keeps_form()
-    ensures { (ts : List Turn) (most : ℕ) (m : MachineValue) → IsShaped m → HasForm most m → HasForm (most + length ts) (run_of ts m).machine }
+    ensures { (ts : List Turn) (most : ℕ) (m : MachineValue) → IsShaped m → HasForm most m →
+        HasForm (most + length ts) (run_of ts m).machine }
 {}
 
 /// A machine of a tree and an image of bytes begins so.
@@ -28,7 +29,8 @@ pub fn start_has_form()
 
 /// So in every machine of a run no count is above the number of its turns.
 pub fn every_run_has_form()
-    ensures { (t : TreeValue) (i : ImageValue) (m : MachineValue) → IsTree t → IsOfBytes i → start_of t i ≡ Ok m → (ts : List Turn) → HasForm (length ts) (run_of ts m).machine }
+    ensures { (t : TreeValue) (i : ImageValue) (m : MachineValue) → IsTree t → IsOfBytes i → start_of t i ≡ Ok m →
+        (ts : List Turn) → HasForm (length ts) (run_of ts m).machine }
 {}
 
 /// Where no count is above a bound, none is above a greater one.

@@ -35,9 +35,21 @@ op_of i pc = record { key = record key_zero { i = i }; hart = 0; pc = pc; effect
 
 pub record LinesOfOperations : Type 0 where
   pub plain : op_in (codes "op 0 0.0.1 00010004 plain") ≡ Some (op_of 1 0x10004)
-  pub put : op_in (codes "op 7 4294967295.1.0.0.0 0001abcd put 4f") ≡ Some (record { key = record key_zero { s0 = 4294967295; c0 = 1 }; hart = 7; pc = 0x1abcd; effect = Put 0x4f })
+  pub put :
+      op_in (codes "op 7 4294967295.1.0.0.0 0001abcd put 4f")
+      ≡ Some (record {
+        key = record key_zero { s0 = 4294967295; c0 = 1 };
+        hart = 7;
+        pc = 0x1abcd;
+        effect = Put 0x4f;
+      })
   pub failed : op_in (codes "op 0 1.2.3.4.5.6.7.8.9 00010000 scfail 00020000")
-      ≡ Some (record { key = record { s0 = 1; c0 = 2; s1 = 3; c1 = 4; s2 = 5; c2 = 6; s3 = 7; c3 = 8; i = 9 }; hart = 0; pc = 0x10000; effect = ScFail 0x20000 })
+      ≡ Some (record {
+        key = record { s0 = 1; c0 = 2; s1 = 3; c1 = 4; s2 = 5; c2 = 6; s3 = 7; c3 = 8; i = 9 };
+        hart = 0;
+        pc = 0x10000;
+        effect = ScFail 0x20000;
+      })
   -- a number that is too large, another spelling, and too few or too many numbers of a key
   pub large : op_in (codes "op 4294967296 0.0.1 00010004 plain") ≡ None
   pub spelling : op_in (codes "op 0 0.00.1 00010004 plain") ≡ None
@@ -53,7 +65,10 @@ pub record LinesOfOperations : Type 0 where
 -- ---- one hart stores 7, loads it back and exits
 
 abbrev pub six : Setting
-six = setting_of (image_of (0x000202b7 ∷ 0x00700313 ∷ 0x0062a023 ∷ 0x0002a383 ∷ 0x05d00893 ∷ 0x00038513 ∷ 0x00000073 ∷ []) [] 16) 1 196608 16
+six =
+    setting_of
+    (image_of (0x000202b7 ∷ 0x00700313 ∷ 0x0062a023 ∷ 0x0002a383 ∷ 0x05d00893 ∷ 0x00038513 ∷ 0x00000073 ∷ []) []
+    16) 1 196608 16
 
 abbrev pub first_two : List ℕ
 first_two = codes "op 0 0.0.0 00010000 plain\nop 0 0.0.1 00010004 plain\n"
@@ -88,7 +103,11 @@ pub record SixOperations : Type 0 where
 -- ---- one hart stores what another had loaded before, and loads later in turns
 
 abbrev pub eight : Setting
-eight = setting_of (image_of (0x000202b7 ∷ 0x0002a383 ∷ 0x00050863 ∷ 0x0002a403 ∷ 0x0102a483 ∷ 0x0002a603 ∷ 0x00b2a023 ∷ 0x00b2a823 ∷ []) (5 ∷ []) 32) 4 196608 0
+eight =
+    setting_of
+    (image_of
+    (0x000202b7 ∷ 0x0002a383 ∷ 0x00050863 ∷ 0x0002a403 ∷ 0x0102a483 ∷ 0x0002a603 ∷ 0x00b2a023 ∷ 0x00b2a823
+    ∷ []) (5 ∷ []) 32) 4 196608 0
 
 abbrev pub reader_lines : List ℕ
 reader_lines = codes "op 3 0.1.0.1.0 00010000 plain\nop 3 0.1.2.1.1 00010004 load 00020000 00000005\nop 3 0.1.2.1.2 00010008 plain\n"

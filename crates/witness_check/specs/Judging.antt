@@ -1,5 +1,6 @@
 -- How a text stands that is read as a witness, byte by byte.
-use Rattle.std.specs.Prelude.{ℕ, ◌+◌, Bool, true, false, nat_eq, nat_lt, List, [], ◌∷◌, ◌++◌, fold, length, Option, Some, None, Result, Ok, Err, if◌then◌else◌}
+use Rattle.std.specs.Prelude.{ℕ, ◌+◌, Bool, true, false, nat_eq, nat_lt, List, [], ◌∷◌, ◌++◌, fold, length, Option}
+use Rattle.std.specs.Prelude.{Some, None, Result, Ok, Err, if◌then◌else◌}
 use Rattle.witness_check.specs.DdmTypes.declared.operations.Op.{Op}
 use Rattle.witness_check.specs.DdmTypes.CodeMap.{CodeWord}
 use Rattle.witness_check.specs.DdmTypes.ItemTable.{ItemTable}

@@ -1,5 +1,6 @@
 -- The operation that a line of a witness is: the line that a report has of it, read backwards.
-use Rattle.std.specs.Prelude.{ℕ, ◌+◌, ◌-◌, ◌*◌, ◌&&◌, nat_eq, nat_le, bytes_eq, List, [], ◌∷◌, length, take, drop, Option, Some, None, codes, option_map, option_and_then, if◌then◌else◌}
+use Rattle.std.specs.Prelude.{ℕ, ◌+◌, ◌-◌, ◌*◌, ◌&&◌, nat_eq, nat_le, bytes_eq, List, [], ◌∷◌, length, take, drop}
+use Rattle.std.specs.Prelude.{Option, Some, None, codes, option_map, option_and_then, if◌then◌else◌}
 use Rattle.witness_check.specs.DdmTypes.declared.operations.Effect.{Effect}
 use Rattle.witness_check.specs.DdmTypes.declared.operations.Effect.TheVariants.{Plain, Put, Load, Store, Lr, ScOk, ScFail, Amo}
 use Rattle.witness_check.specs.DdmTypes.declared.operations.Op.{Op}
@@ -57,7 +58,8 @@ key_of_numbers (a ∷ b ∷ c ∷ d ∷ i ∷ []) = Some (record key_zero { s0 =
 key_of_numbers (a ∷ b ∷ c ∷ d ∷ e ∷ f ∷ []) = None
 key_of_numbers (a ∷ b ∷ c ∷ d ∷ e ∷ f ∷ i ∷ []) = Some (record key_zero { s0 = a; c0 = b; s1 = c; c1 = d; s2 = e; c2 = f; i = i })
 key_of_numbers (a ∷ b ∷ c ∷ d ∷ e ∷ f ∷ g ∷ h ∷ []) = None
-key_of_numbers (a ∷ b ∷ c ∷ d ∷ e ∷ f ∷ g ∷ h ∷ i ∷ []) = Some (record { s0 = a; c0 = b; s1 = c; c1 = d; s2 = e; c2 = f; s3 = g; c3 = h; i = i })
+key_of_numbers (a ∷ b ∷ c ∷ d ∷ e ∷ f ∷ g ∷ h ∷ i ∷ []) =
+    Some (record { s0 = a; c0 = b; s1 = c; c1 = d; s2 = e; c2 = f; s3 = g; c3 = h; i = i })
 key_of_numbers (a ∷ b ∷ c ∷ d ∷ e ∷ f ∷ g ∷ h ∷ i ∷ j ∷ more) = None
 
 -- the key that a word is: numbers joined by full stops
@@ -100,8 +102,10 @@ with_all make None before after = None
 abbrev pub effect_of_three : List ℕ → List ℕ → List ℕ → List ℕ → Option Effect
 effect_of_three name a b c =
     if bytes_eq name (codes "store") then with_all (λ address before after. Store address before after) (hex8_in a) (hex8_in b) (hex8_in c)
-    else (if bytes_eq name (codes "scok") then with_all (λ address before after. ScOk address before after) (hex8_in a) (hex8_in b) (hex8_in c)
-    else (if bytes_eq name (codes "amo") then with_all (λ address before after. Amo address before after) (hex8_in a) (hex8_in b) (hex8_in c)
+    else (if bytes_eq name (codes "scok")
+    then with_all (λ address before after. ScOk address before after) (hex8_in a) (hex8_in b) (hex8_in c)
+    else (if bytes_eq name (codes "amo")
+    then with_all (λ address before after. Amo address before after) (hex8_in a) (hex8_in b) (hex8_in c)
     else None))
 
 -- the effect that words are

@@ -1,12 +1,14 @@
 -- A reader of a witness's text, and what more bytes make of it.
-use Rattle.std.specs.Prelude.{◌≡◌, ℕ, ◌+◌, ◌≤◌, ◌<◌, Bool, true, false, nat_lt, min, List, [], length, Option, Some, None, Result, Ok, Err, if◌then◌else◌}
+use Rattle.std.specs.Prelude.{◌≡◌, ℕ, ◌+◌, ◌≤◌, ◌<◌, Bool, true, false, nat_lt, min, List, [], length, Option, Some}
+use Rattle.std.specs.Prelude.{None, Result, Ok, Err, if◌then◌else◌}
 use Rattle.witness_check.specs.DdmTypes.declared.sizes.Start.{Start}
 use Rattle.witness_check.specs.DdmTypes.ItemTable.{ItemTable}
 use Rattle.witness_check.specs.FlatModel.Flat.{FlatMachine}
 use Rattle.rv_flat.specs.FlatState.{FlatState, HasItems}
 use Rattle.witness_check.specs.TreeModel.Start.Sources.{ImageValue, TreeValue, start_of_harts}
 use Rattle.witness_check.specs.declared.refusal.CheckRefusal.{CheckRefusal}
-use Rattle.witness_check.specs.declared.refusal.CheckRefusal.TheVariants.{TooLong, TooManyItems, StackOverlap, BadLine, TooManyLines, NotLegal, NoMemory}
+use Rattle.witness_check.specs.declared.refusal.CheckRefusal.TheVariants.{TooLong, TooManyItems, StackOverlap}
+use Rattle.witness_check.specs.declared.refusal.CheckRefusal.TheVariants.{BadLine, TooManyLines, NotLegal, NoMemory}
 use Rattle.witness_check.specs.Judging.{Program, Standing, going, refused, lines_limit, line_limit, text_limit, lines_of, standing_of}
 use Rattle.witness_check.specs.Start.{Setting, program_of, machine_of}
 

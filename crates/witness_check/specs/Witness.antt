@@ -8,7 +8,8 @@ use Rattle.witness_check.specs.DdmTypes.declared.keys.Key.{Key}
 use Rattle.witness_check.specs.FlatModel.Legal.{Legal}
 use Rattle.text_model.specs.Report.{op_line}
 use Rattle.witness_check.specs.declared.refusal.CheckRefusal.{CheckRefusal}
-use Rattle.witness_check.specs.declared.refusal.CheckRefusal.TheVariants.{TooLong, TooManyItems, StackOverlap, BadLine, TooManyLines, NotLegal, NoMemory}
+use Rattle.witness_check.specs.declared.refusal.CheckRefusal.TheVariants.{TooLong, TooManyItems, StackOverlap}
+use Rattle.witness_check.specs.declared.refusal.CheckRefusal.TheVariants.{BadLine, TooManyLines, NotLegal, NoMemory}
 use Rattle.witness_check.specs.Judging.{lines_limit, text_limit}
 use Rattle.witness_check.specs.Start.{Setting, program_of, machine_of, start_refusal}
 
@@ -52,7 +53,8 @@ pub record IsLineOf (line : List ℕ) (op : Op) : Type 0 where
 -- the text is the lines of these operations, and this rest behind them
 abbrev pub BeginsWith : List ℕ → List Op → List ℕ → Type 0
 BeginsWith text [] rest = text ≡ rest
-BeginsWith text (op ∷ ops) rest = (line : List ℕ) × (more : List ℕ) × (text ≡ line ++ 10 ∷ more) × IsLineOf line op × BeginsWith more ops rest
+BeginsWith text (op ∷ ops) rest =
+    (line : List ℕ) × (more : List ℕ) × (text ≡ line ++ 10 ∷ more) × IsLineOf line op × BeginsWith more ops rest
 
 -- operations that are legal from the start
 abbrev pub AreLegal : Setting → List Op → Type 0

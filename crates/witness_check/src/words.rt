@@ -1,6 +1,8 @@
 //! The words of a line.
 
-ghost use Rattle.std.specs.Prelude.{◌≡◌, ◌≤◌, ◌<◌, ◌+◌, [], ◌∷◌, ◌||◌, ◌&&◌, true, drop, if◌then◌else◌, is_some, length, MatchOption, nat_eq, nat_le, not, option_map, position, slice_index, take};
+ghost use Rattle.std.specs.Prelude.{◌≡◌, ◌≤◌, ◌<◌, ◌+◌, [], ◌∷◌, ◌||◌, ◌&&◌, true, drop, if◌then◌else◌, is_some};
+ghost use Rattle.std.specs.Prelude.{length, MatchOption, nat_eq, nat_le, not, option_map, position, slice_index};
+ghost use Rattle.std.specs.Prelude.{take};
 ghost use Rattle.std.specs.List.{position_or_len};
 ghost use Rattle.witness_check.specs.DdmText.Numbers.{is_digit};
 ghost use Rattle.text_model.specs.Schedule.{pieces_at, place_in};
@@ -85,7 +87,9 @@ fn is_stop(text: &[u8], place: usize) -> bool
 // The place of the first full stop, or the end.
 fn stop_of(text: &[u8]) -> usize
     ensures within { result ≤ length text.now }
-    ensures pieces { pieces_at 46 text.now ≡ take result text.now ∷ (if nat_eq result (length text.now) then [] else pieces_at 46 (drop (result + 1) text.now)) }
+    ensures pieces { pieces_at 46 text.now
+        ≡ take result text.now
+        ∷ (if nat_eq result (length text.now) then [] else pieces_at 46 (drop (result + 1) text.now)) }
 {
     match place_of(b'.', text) {
         None => text.len(),
@@ -98,7 +102,9 @@ fn stop_of(text: &[u8]) -> usize
 fn long_number_end(text: &[u8]) -> Option<usize>
     ensures { MatchOption result (numbers_in (pieces_at 46 text.now) ≡ None)
         (λ end. (end ≤ length text.now) × (is_some (place_in (take end text.now)) ≡ true)
-        × (pieces_at 46 text.now ≡ take end text.now ∷ (if nat_eq end (length text.now) then [] else pieces_at 46 (drop (end + 1) text.now)))) }
+        × (pieces_at 46 text.now
+        ≡ take end text.now
+        ∷ (if nat_eq end (length text.now) then [] else pieces_at 46 (drop (end + 1) text.now)))) }
 {
     let end = stop_of(text);
     match number(&text[..end]) {
@@ -111,7 +117,9 @@ fn long_number_end(text: &[u8]) -> Option<usize>
 fn number_end(text: &[u8]) -> Option<usize>
     ensures { MatchOption result (numbers_in (pieces_at 46 text.now) ≡ None)
         (λ end. (end ≤ length text.now) × (is_some (place_in (take end text.now)) ≡ true)
-        × (pieces_at 46 text.now ≡ take end text.now ∷ (if nat_eq end (length text.now) then [] else pieces_at 46 (drop (end + 1) text.now)))) }
+        × (pieces_at 46 text.now
+        ≡ take end text.now
+        ∷ (if nat_eq end (length text.now) then [] else pieces_at 46 (drop (end + 1) text.now)))) }
 {
     let end = digits_in_front(text);
     if !is_short(text, end) {

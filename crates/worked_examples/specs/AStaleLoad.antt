@@ -7,7 +7,10 @@ abbrev pub tree : TreeValue
 tree = tree_of ((2 ∷ []) ∷ (2 ∷ 2 ∷ []) ∷ []) 4 1 1 1
 
 abbrev pub image : ImageValue
-image = program (0x000202b7 ∷ 0x0002a383 ∷ 0x00050863 ∷ 0x0002a403 ∷ 0x0102a483 ∷ 0x0002a603 ∷ 0x00b2a023 ∷ 0x00b2a823 ∷ []) (0x00000005 ∷ []) 32
+image =
+    program
+    (0x000202b7 ∷ 0x0002a383 ∷ 0x00050863 ∷ 0x0002a403 ∷ 0x0102a483 ∷ 0x0002a603 ∷ 0x00b2a023 ∷ 0x00b2a823 ∷ [])
+    (0x00000005 ∷ []) 32
 
 -- the lines of the turns until the stale load
 abbrev pub until_load : List ℕ

@@ -17,7 +17,9 @@ shared_item = record { start = 0x20000; bytes = 4; writable = true } ∷ record 
 abbrev pub linked : ImageValue
 linked = record {
   entry = 0x10000;
-  segments = record { header = 2; vaddr = 0x10000; flags = 5; bytes = []; memsz = 0x400 } ∷ record { header = 3; vaddr = 0x11400; flags = 6; bytes = []; memsz = 0x120 } ∷ [];
+  segments =
+      record { header = 2; vaddr = 0x10000; flags = 5; bytes = []; memsz = 0x400 }
+      ∷ record { header = 3; vaddr = 0x11400; flags = 6; bytes = []; memsz = 0x120 } ∷ [];
 }
 
 abbrev pub linked_tree : TreeValue

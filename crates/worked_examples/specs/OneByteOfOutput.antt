@@ -14,5 +14,8 @@ abbrev pub turns : List ℕ
 turns = codes "h 0 0\nh 0 0\nh 0 0\nh 0 0\nend\n"
 
 pub record OneByteOfOutput : Type 0 where
-  pub trace : trace_in tree image turns ≡ codes "t 0 h 0 0 retired plain\nt 1 h 0 0 retired plain\nt 2 h 0 0 retired put 48\nt 3 h 0 0 halted nofetch 0001000c\n"
+  pub trace :
+      trace_in tree image turns
+      ≡ codes
+      "t 0 h 0 0 retired plain\nt 1 h 0 0 retired plain\nt 2 h 0 0 retired put 48\nt 3 h 0 0 halted nofetch 0001000c\n"
   pub output : output_in 0 tree image turns ≡ codes "out 0 48\n"

@@ -82,7 +82,10 @@ claims_at x (at_child c) n = claims_in x c n
 -- where the node holds the item Exclusive then, it did before, and as far as its bus knows its claim hasn't fallen
 abbrev pub OwnKept : ℕ → Where → Node → Node → Type 0
 OwnKept x at_top n k = Unit {0}
-OwnKept x (at_child c) n k = child_is_exclusive x k ≡ true → (child_is_exclusive x n ≡ true) × (less_at (moment_length (length c.above)) (claim x c k) (claim x c n) ≡ false)
+OwnKept x (at_child c) n k =
+    child_is_exclusive x k ≡ true →
+    (child_is_exclusive x n ≡ true)
+    × (less_at (moment_length (length c.above)) (claim x c k) (claim x c n) ≡ false)
 
 pub record ClaimsAt (x : ℕ) (bus : BusTurned) (w : Where) (n k : Node) : Type 0 where
   pub own : OwnKept x w n k
@@ -100,8 +103,12 @@ pub record ClaimsAmong (x : ℕ) (bus : BusTurned) (above : List ℕ) (d : DirVa
 -- each erase of the item inside a child then was there before, or it is of the new moment, and no child holds the item Exclusive
 abbrev pub NewErases : ℕ → BusTurned → Type 0
 NewErases x t =
-    (i : ℕ) → i < length (children t.kids) → (e : List ℕ) → In e (erases_in x (spot_in t.path t.dir_after i) (child_at i (children t.kids_after)))
-    → In e (erases_in x (spot_in t.path t.dir i) (child_at i (children t.kids))) ⊎ ((e ≡ new_moment t) × ((j : ℕ) → j < length (children t.kids) → child_is_exclusive x (child_at j (children t.kids_after)) ≡ false))
+    (i : ℕ) → i < length (children t.kids) → (e : List ℕ) →
+    In e (erases_in x (spot_in t.path t.dir_after i) (child_at i (children t.kids_after)))
+    → In e (erases_in x (spot_in t.path t.dir i) (child_at i (children t.kids)))
+    ⊎ ((e ≡ new_moment t)
+    × ((j : ℕ) → j < length (children t.kids) →
+    child_is_exclusive x (child_at j (children t.kids_after)) ≡ false))
 
 -- a leaf under the bus isn't past the bus's old moment
 abbrev pub IsBelowOld : BusTurned → LeafAt → Type 0

@@ -46,10 +46,20 @@ MovesOf t m x = (root_of (turn_of t m).machine ≡ root_of m) ⊎ TurnMoves x m 
 -- ---- the parts by themselves
 
 abbrev pub CopiesMoved : Turn → MachineValue → ℕ → Type 0
-CopiesMoved t m x = (root_of (turn_of t m).machine ≡ root_of m) ⊎ ((bus : BusTurned) × AllFrom (MovedBy x bus) (copies_of x m) (copies_of x (turn_of t m).machine))
+CopiesMoved t m x =
+    (root_of (turn_of t m).machine ≡ root_of m)
+    ⊎ ((bus : BusTurned) × AllFrom (MovedBy x bus) (copies_of x m) (copies_of x (turn_of t m).machine))
 
 abbrev pub ClaimsMoved : Turn → MachineValue → ℕ → Type 0
-ClaimsMoved t m x = (root_of (turn_of t m).machine ≡ root_of m) ⊎ ((bus : BusTurned) × ClaimsFrom bus.path (new_moment bus) (claims_of x m) (claims_of x (turn_of t m).machine))
+ClaimsMoved t m x =
+    (root_of (turn_of t m).machine ≡ root_of m)
+    ⊎ ((bus : BusTurned)
+    × ClaimsFrom bus.path (new_moment bus) (claims_of x m) (claims_of x (turn_of t m).machine))
 
 abbrev pub ErasesNew : Turn → MachineValue → ℕ → Type 0
-ErasesNew t m x = (root_of (turn_of t m).machine ≡ root_of m) ⊎ ((bus : BusTurned) × ((node_at bus.path (root_of m) ≡ dir_node bus.dir bus.kids) × ((node_at bus.path (root_of (turn_of t m).machine) ≡ dir_node bus.dir_after bus.kids_after) × NewErases x bus)))
+ErasesNew t m x =
+    (root_of (turn_of t m).machine ≡ root_of m)
+    ⊎ ((bus : BusTurned)
+    × ((node_at bus.path (root_of m) ≡ dir_node bus.dir bus.kids)
+    × ((node_at bus.path (root_of (turn_of t m).machine) ≡ dir_node bus.dir_after bus.kids_after)
+    × NewErases x bus)))

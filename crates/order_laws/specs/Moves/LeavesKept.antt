@@ -15,7 +15,10 @@ pub record KeepsLeaf (v w : LeafValue) : Type 0 where
   pub hart : w.hart ≡ v.hart
   pub done : w.done ≡ v.done
   -- an item that is reserved then was before, and the words of it that the leaf had it has
-  pub reserved : (y : ℕ) → w.reservation ≡ Some y → (v.reservation ≡ Some y) × (is_held (leaf_hold y v) ≡ true → held_words (leaf_entry y w) ≡ held_words (leaf_entry y v))
+  pub reserved :
+      (y : ℕ) → w.reservation ≡ Some y →
+      (v.reservation ≡ Some y)
+      × (is_held (leaf_hold y v) ≡ true → held_words (leaf_entry y w) ≡ held_words (leaf_entry y v))
 
 -- at the same place, where the present moment of the bus hasn't fallen
 pub record LeafKept (a b : LeafAt) : Type 0 where

@@ -10,7 +10,8 @@ use Rattle.flat_model.specs.Flat.{FlatMachine, flat_start}
 use Rattle.tree_model.specs.State.Lists.{first_some}
 use Rattle.tree_model.specs.State.Values.{LeafValue, leaf_node, nodes, MachineValue}
 use Rattle.tree_model.specs.Turns.Machine.{no_traffic}
-use Rattle.tree_model.specs.Start.Sources.{SegmentValue, ImageValue, TreeValue, leaf_count, bus_widths, width_of, place_count, start_of_harts, segment_span, stack_spans}
+use Rattle.tree_model.specs.Start.Sources.{SegmentValue, ImageValue, TreeValue, leaf_count, bus_widths, width_of}
+use Rattle.tree_model.specs.Start.Sources.{place_count, start_of_harts, segment_span, stack_spans}
 use Rattle.tree_model.specs.Start.Memory.{start_items, start_words, start_code}
 use Rattle.tree_model.specs.Start.Nodes.{leaf_sizes, dir_sizes, top_sizes, new_leaf, new_top, placed_items, under_levels}
 

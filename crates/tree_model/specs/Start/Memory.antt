@@ -1,7 +1,8 @@
 -- Memory before the first turn: the items of an image's segments and of the stacks, their words, and the code.
 -- Letters: t is a tree, i an image, s a segment, a an address.
 -- To be believed: it is what the machine is.
-use Rattle.std.specs.Prelude.{ℕ, ◌+◌, ◌-◌, ◌*◌, ◌/◌, Bool, ◌&&◌, nat_lt, nat_le, List, [], ◌∷◌, ◌++◌, map, find, Option, Some, None, slice_index_or, if◌then◌else◌}
+use Rattle.std.specs.Prelude.{ℕ, ◌+◌, ◌-◌, ◌*◌, ◌/◌, Bool, ◌&&◌, nat_lt, nat_le, List, [], ◌∷◌, ◌++◌, map, find}
+use Rattle.std.specs.Prelude.{Option, Some, None, slice_index_or, if◌then◌else◌}
 use Rattle.std.specs.List.{flat_map, range_with_len, fold}
 use Rattle.tree_model.specs.DdmTypes.ItemTable.{ItemRow, ItemTable, items_of}
 use Rattle.tree_model.specs.DdmTypes.CodeMap.{CodeWord, words_from}
@@ -26,7 +27,9 @@ byte_at segments a = byte_of a (find (has_byte a) segments)
 
 -- a word of memory, its low byte first
 unfoldable pub memory_word : List SegmentValue → ℕ → ℕ
-memory_word segments a = byte_at segments a + 256 * byte_at segments (a + 1) + 65536 * byte_at segments (a + 2) + 16777216 * byte_at segments (a + 3)
+memory_word segments a =
+    byte_at segments a + 256 * byte_at segments (a + 1) + 65536 * byte_at segments (a + 2)
+    + 16777216 * byte_at segments (a + 3)
 
 abbrev pub item_words : ℕ → List SegmentValue → ℕ → List ℕ
 item_words width segments a = map (λ k. memory_word segments (a + 4 * k)) (range_with_len 0 width)
@@ -46,7 +49,10 @@ past_word s = (s.vaddr + s.memsz) / 4
 
 abbrev pub segment_code : SegmentValue → List CodeWord
 segment_code s =
-    if is_executable s then words_from (4 * first_word s) (map (λ n. memory_word (s ∷ []) (4 * n)) (range_with_len (first_word s) (past_word s - first_word s)))
+    if is_executable s
+    then words_from (4 * first_word s)
+    (map (λ n. memory_word (s ∷ []) (4 * n))
+    (range_with_len (first_word s) (past_word s - first_word s)))
     else []
 
 -- in the order of their addresses

@@ -11,7 +11,17 @@ abbrev pub no_sizes : LeafSizes
 no_sizes = record { sets = 1; way_count = 0; buffer_room = 0; reply_room = 0; width = 0 }
 
 abbrev pub no_leaf : LeafValue
-no_leaf = record { number = 0; sizes = no_sizes; hart = no_hart; done = 0; ways = []; buffer = []; slot = None; replies = []; reservation = None }
+no_leaf = record {
+  number = 0;
+  sizes = no_sizes;
+  hart = no_hart;
+  done = 0;
+  ways = [];
+  buffer = [];
+  slot = None;
+  replies = [];
+  reservation = None;
+}
 
 abbrev pub no_node : Node
 no_node = leaf_node no_leaf

@@ -12,8 +12,12 @@ use Rattle.tree_model.specs.declared.TreeChild.{TreeChild}
 use Rattle.tree_model.specs.State.Lists.{first_of, rest_of, some_if}
 use Rattle.tree_model.specs.State.States.{is_held}
 use Rattle.tree_model.specs.State.Values.{RequestValue, CopyValue, BufferValue, LeafValue, DirValue, Node, leaf_node, dir_node}
-use Rattle.tree_model.specs.State.Leaf.{leaf_hold, leaf_waits, leaf_room, leaf_replies_full, leaf_leaving, leaf_lose, leaf_take_data, leaf_take_exclusive, leaf_answer, leaf_take_inject, leaf_give_up, buffered}
-use Rattle.tree_model.specs.State.Directory.{dir_hold, dir_waits, dir_room, inject_has_place, down_full, pending, dir_leaving, parked_words, dir_lose, dir_take_data, dir_take_exclusive, dir_answer, dir_take_inject, dir_give_up}
+use Rattle.tree_model.specs.State.Leaf.{leaf_hold, leaf_waits, leaf_room, leaf_replies_full, leaf_leaving, leaf_lose}
+use Rattle.tree_model.specs.State.Leaf.{leaf_take_data, leaf_take_exclusive, leaf_answer, leaf_take_inject}
+use Rattle.tree_model.specs.State.Leaf.{leaf_give_up, buffered}
+use Rattle.tree_model.specs.State.Directory.{dir_hold, dir_waits, dir_room, inject_has_place, down_full, pending}
+use Rattle.tree_model.specs.State.Directory.{dir_leaving, parked_words, dir_lose, dir_take_data, dir_take_exclusive}
+use Rattle.tree_model.specs.State.Directory.{dir_answer, dir_take_inject, dir_give_up}
 
 abbrev pub child_label : Node → TreeChild
 child_label (leaf_node v) = TreeChild.LeafChild v.number

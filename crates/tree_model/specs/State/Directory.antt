@@ -1,7 +1,9 @@
 -- A directory: what it keeps of each item, its lists, what the bus above tells it, and what the bus below makes of it.
 -- Letters: d is a directory, e an entry of its down list, x an item, c and d in notes children, s a stamp.
 -- To be believed: it is what the machine is.
-use Rattle.std.specs.Prelude.{ℕ, ◌+◌, ◌-◌, ◌^◌, Bool, true, false, not, ◌&&◌, ◌||◌, nat_eq, nat_le, List, [], ◌∷◌, ◌++◌, map, length, filter, position, bit_or, Option, Some, None, slice_index_or, slice_set, if◌then◌else◌}
+use Rattle.std.specs.Prelude.{ℕ, ◌+◌, ◌-◌, ◌^◌, Bool, true, false, not, ◌&&◌, ◌||◌, nat_eq, nat_le, List, [], ◌∷◌}
+use Rattle.std.specs.Prelude.{◌++◌, map, length, filter, position, bit_or, Option, Some, None, slice_index_or}
+use Rattle.std.specs.Prelude.{slice_set, if◌then◌else◌}
 use Rattle.std.specs.Int.{bit_at}
 use Rattle.tree_model.specs.DdmTypes.declared.answers.TxKind.{TxKind}
 use Rattle.tree_model.specs.DdmTypes.declared.answers.TxKind.TheVariants.{ReadTx, DataTx, EraseTx, ExclusiveTx, InjectTx}
@@ -12,7 +14,8 @@ use Rattle.tree_model.specs.DdmTypes.Keys.{stamp_at}
 use Rattle.tree_model.specs.State.Lists.{first_of, has_some, without_first, names_item, chosen}
 use Rattle.tree_model.specs.State.Kinds.{has_kind}
 use Rattle.tree_model.specs.State.States.{is_held}
-use Rattle.tree_model.specs.State.Values.{RequestValue, CopyValue, DownValue, Note, no_note, local, up_read, up_erase, DirItem, absent_item, DirValue}
+use Rattle.tree_model.specs.State.Values.{RequestValue, CopyValue, DownValue, Note, no_note, local, up_read, up_erase}
+use Rattle.tree_model.specs.State.Values.{DirItem, absent_item, DirValue}
 use Rattle.tree_model.specs.State.Leaf.{blank, is_request, is_copy, copy_item, words_of_item}
 
 -- the directory with no bus above
@@ -227,7 +230,9 @@ dir_leaving choice parked = chosen copy_item choice parked
 
 -- it held the item, and is told to lose it: it holds none, its erase that isn't granted yet is struck, and erase goes down
 abbrev pub dir_lost : ℕ → Stamp → DirValue → DirValue
-dir_lost x s d = record (pushed_down EraseTx x (blank d.sizes.width) s (with_hold x Hold.Invalid d)) { requests = struck EraseTx x d.requests }
+dir_lost x s d =
+    record (pushed_down EraseTx x (blank d.sizes.width) s (with_hold x Hold.Invalid d))
+    { requests = struck EraseTx x d.requests }
 
 -- Told to lose the item: nothing where it holds none.
 unfoldable pub dir_lose : ℕ → Stamp → DirValue → DirValue

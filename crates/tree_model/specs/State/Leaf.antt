@@ -1,7 +1,9 @@
 -- A leaf: its attraction memory, buffer, slot, replies and reservation, and what the bus tells it.
 -- Letters: v is a leaf, e an entry, x and y items, r a request or a reservation.
 -- To be believed: it is what the machine is.
-use Rattle.std.specs.Prelude.{ℕ, ◌%◌, Bool, false, not, ◌&&◌, ◌||◌, nat_eq, nat_le, List, [], ◌∷◌, ◌++◌, map, length, replicate, filter, find, position, Option, Some, None, is_some, is_none, option_map, slice_index_or, slice_set, if◌then◌else◌}
+use Rattle.std.specs.Prelude.{ℕ, ◌%◌, Bool, false, not, ◌&&◌, ◌||◌, nat_eq, nat_le, List, [], ◌∷◌, ◌++◌, map, length}
+use Rattle.std.specs.Prelude.{replicate, filter, find, position, Option, Some, None, is_some, is_none, option_map}
+use Rattle.std.specs.Prelude.{slice_index_or, slice_set, if◌then◌else◌}
 use Rattle.std.specs.List.{range_with_len}
 use Rattle.tree_model.specs.DdmTypes.declared.answers.TxKind.{TxKind}
 use Rattle.tree_model.specs.DdmTypes.declared.answers.TxKind.TheVariants.{ReadTx}
@@ -11,7 +13,9 @@ use Rattle.flat_model.specs.Flat.{has_reserved}
 use Rattle.tree_model.specs.declared.LeafSpot.{LeafSpot}
 use Rattle.tree_model.specs.State.Lists.{find_from, first_some, names_item, chosen}
 use Rattle.tree_model.specs.State.Kinds.{is_kind}
-use Rattle.tree_model.specs.State.States.{entry_hold, state_lost, asked_when_lost, state_with_data, asked_with_data, state_with_exclusive, state_with_inject, state_answered, is_waiting, is_reading, may_leave}
+use Rattle.tree_model.specs.State.States.{entry_hold, state_lost, asked_when_lost, state_with_data, asked_with_data}
+use Rattle.tree_model.specs.State.States.{state_with_exclusive, state_with_inject, state_answered, is_waiting}
+use Rattle.tree_model.specs.State.States.{is_reading, may_leave}
 use Rattle.tree_model.specs.State.Values.{RequestValue, CopyValue, WayValue, BufferValue, LeafSizes, LeafValue}
 
 -- words that are all 0
@@ -87,7 +91,9 @@ way_spot e = LeafSpot.Way e.way
 
 -- where the entry stands
 abbrev pub spot_at : ℕ → List (Option WayValue) → List BufferValue → Option LeafSpot
-spot_at x ways buffer = first_some (option_map way_spot (way_at x ways)) (option_map (λ k. LeafSpot.Buffer k) (position (is_buffered x) buffer))
+spot_at x ways buffer =
+    first_some (option_map way_spot (way_at x ways))
+    (option_map (λ k. LeafSpot.Buffer k) (position (is_buffered x) buffer))
 
 -- ---- sets and ways: the set of an item is its number modulo the number of sets
 
@@ -217,7 +223,11 @@ asked_by table (Some e) = table e.state
 
 -- Told to lose the item: S and E end; W becomes B and asks to read again; R and B stay. A reservation on it ends.
 unfoldable pub leaf_lose : ℕ → LeafValue → LeafValue
-leaf_lose x v = record (with_fate x (fate_when_lost v.sizes.width (leaf_entry x v)) v) { slot = slot_asking (asked_by asked_when_lost (leaf_entry x v)) x v.slot; reservation = unreserved x v.reservation }
+leaf_lose x v =
+    record (with_fate x (fate_when_lost v.sizes.width (leaf_entry x v)) v) {
+      slot = slot_asking (asked_by asked_when_lost (leaf_entry x v)) x v.slot;
+      reservation = unreserved x v.reservation;
+    }
 
 abbrev pub fate_with_data : ℕ → List ℕ → Option LeafEntry → Fate
 fate_with_data width words None = stays
@@ -225,7 +235,9 @@ fate_with_data width words (Some e) = fate_by width words (state_with_data e.sta
 
 -- Told data: R becomes S; B becomes W and asks to erase.
 unfoldable pub leaf_take_data : ℕ → List ℕ → LeafValue → LeafValue
-leaf_take_data x words v = record (with_fate x (fate_with_data v.sizes.width words (leaf_entry x v)) v) { slot = slot_asking (asked_by asked_with_data (leaf_entry x v)) x v.slot }
+leaf_take_data x words v =
+    record (with_fate x (fate_with_data v.sizes.width words (leaf_entry x v)) v)
+    { slot = slot_asking (asked_by asked_with_data (leaf_entry x v)) x v.slot }
 
 abbrev pub fate_with_exclusive : ℕ → Option LeafEntry → Fate
 fate_with_exclusive width None = stays
@@ -250,7 +262,9 @@ reply_of x (Some e) = reply_by x e.words (state_answered e.state)
 
 -- Told to answer a read: the words go to its replies; E becomes S, and S and W stay.
 unfoldable pub leaf_answer : ℕ → LeafValue → LeafValue
-leaf_answer x v = record (with_fate x (fate_answering v.sizes.width (leaf_entry x v)) v) { replies = v.replies ++ reply_of x (leaf_entry x v) }
+leaf_answer x v =
+    record (with_fate x (fate_answering v.sizes.width (leaf_entry x v)) v)
+    { replies = v.replies ++ reply_of x (leaf_entry x v) }
 
 abbrev pub fate_with_inject : LeafSizes → ℕ → List ℕ → List (Option WayValue) → Option LeafEntry → Fate
 fate_with_inject sizes x words ways None = enters_free LeafState.Exclusive words (free_way sizes x ways)
@@ -259,7 +273,9 @@ fate_with_inject sizes x words ways (Some e) = fate_by sizes.width words (state_
 -- Told inject: R and B become E, and a read that isn't granted yet is struck; with no entry the item comes, E, into the
 -- lowest free way.
 unfoldable pub leaf_take_inject : ℕ → List ℕ → LeafValue → LeafValue
-leaf_take_inject x words v = record (with_fate x (fate_with_inject v.sizes x words v.ways (leaf_entry x v)) v) { slot = slot_struck x v.slot }
+leaf_take_inject x words v =
+    record (with_fate x (fate_with_inject v.sizes x words v.ways (leaf_entry x v)) v)
+    { slot = slot_struck x v.slot }
 
 -- the copy leaves, and a reservation on it ends
 abbrev pub leaf_give_up : ℕ → LeafValue → LeafValue

@@ -7,7 +7,12 @@ use Rattle.tree_model.specs.State.Values.{DirValue, LeafValue}
 
 -- parked copies and the places that are kept for injects count together
 abbrev pub dir_lengths : DirValue → DirLengths
-dir_lengths d = record { down = length d.down; requests = length d.requests; replies = length d.replies; parking = length d.parked + d.reserved }
+dir_lengths d = record {
+  down = length d.down;
+  requests = length d.requests;
+  replies = length d.replies;
+  parking = length d.parked + d.reserved;
+}
 
 abbrev pub no_dir_lengths : DirLengths
 no_dir_lengths = record { down = 0; requests = 0; replies = 0; parking = 0 }

@@ -1,6 +1,7 @@
 -- Maps, tests and searches over a list that see each element's index, and the first element of a list.
 -- To be believed: it is what the machine is.
-use Rattle.std.specs.Prelude.{ℕ, ◌+◌, ◌%◌, Bool, true, false, ◌&&◌, nat_eq, List, [], ◌∷◌, length, Option, Some, None, option_map, slice_get, if◌then◌else◌}
+use Rattle.std.specs.Prelude.{ℕ, ◌+◌, ◌%◌, Bool, true, false, ◌&&◌, nat_eq, List, [], ◌∷◌, length, Option, Some, None}
+use Rattle.std.specs.Prelude.{option_map, slice_get, if◌then◌else◌}
 use Rattle.std.specs.List.{list_all}
 
 module _ {X : Type 0} where

@@ -6,7 +6,8 @@ use Rattle.std.specs.List.{list_any, list_all}
 use Rattle.tree_model.specs.DdmTypes.declared.sizes.TreeCounts.{TreeCounts}
 use Rattle.tree_model.specs.DdmTypes.ItemTable.{ItemTable, ItemRow}
 use Rattle.tree_model.specs.DdmTypes.CodeMap.{CodeWord}
-use Rattle.tree_model.specs.State.Values.{LeafSizes, DirSizes, Node, Nodes, leaf_node, dir_node, no_nodes, more_nodes, MachineValue, root_of}
+use Rattle.tree_model.specs.State.Values.{LeafSizes, DirSizes, Node, Nodes, leaf_node, dir_node, no_nodes, more_nodes}
+use Rattle.tree_model.specs.State.Values.{MachineValue, root_of}
 
 -- ---- the skeleton of a tree
 
@@ -58,7 +59,8 @@ depth_of m = levels_of (skeleton (root_of m))
 abbrev mutual
   pub levels_fit : ℕ → ℕ → Skeleton → Bool
   levels_fit depth above (leaf_bone number sizes) = nat_eq above depth
-  levels_fit depth above (dir_bone bus level sizes bones) = nat_eq level above && (nat_le above 3 && levels_fit_among depth (above + 1) bones)
+  levels_fit depth above (dir_bone bus level sizes bones) =
+      nat_eq level above && (nat_le above 3 && levels_fit_among depth (above + 1) bones)
 
   pub levels_fit_among : ℕ → ℕ → Skeletons → Bool
   levels_fit_among depth above no_bones = true

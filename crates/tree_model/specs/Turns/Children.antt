@@ -8,7 +8,9 @@ use Rattle.tree_model.specs.DdmTypes.declared.answers.QueueName.{QueueName}
 use Rattle.tree_model.specs.DdmTypes.declared.keys.Stamp.{Stamp}
 use Rattle.tree_model.specs.State.Values.{Note, Node}
 use Rattle.tree_model.specs.State.Directory.{is_reader}
-use Rattle.tree_model.specs.State.Child.{child_holds, child_waits, child_room, child_full_for, child_lose, child_take_data, child_answer, child_take_inject, child_request_taken, child_reply_taken, child_give_up}
+use Rattle.tree_model.specs.State.Child.{child_holds, child_waits, child_room, child_full_for, child_lose}
+use Rattle.tree_model.specs.State.Child.{child_take_data, child_answer, child_take_inject, child_request_taken}
+use Rattle.tree_model.specs.State.Child.{child_reply_taken, child_give_up}
 use Rattle.tree_model.specs.State.Blank.{no_node}
 
 abbrev pub child_at : ℕ → List Node → Node

@@ -10,10 +10,13 @@ use Rattle.tree_model.specs.DdmTypes.declared.answers.Place.{Place}
 use Rattle.tree_model.specs.DdmTypes.declared.sizes.Hold.{Hold}
 use Rattle.tree_model.specs.State.Lists.{map_from, find_from, first_given, first_some}
 use Rattle.tree_model.specs.State.Values.{DownValue, Note, no_note, local, up_read, up_erase, DirValue, Node}
-use Rattle.tree_model.specs.State.Directory.{dir_note, with_hold, with_note, with_answering, parked_words, is_parked, pushed_reply, with_parked, without_parked, place_released, stamp_of, front_taken}
+use Rattle.tree_model.specs.State.Directory.{dir_note, with_hold, with_note, with_answering, parked_words, is_parked}
+use Rattle.tree_model.specs.State.Directory.{pushed_reply, with_parked, without_parked, place_released, stamp_of}
+use Rattle.tree_model.specs.State.Directory.{front_taken}
 use Rattle.tree_model.specs.State.Child.{child_full_for, reader_has_place, child_take_exclusive, child_answer, child_take_inject}
 use Rattle.tree_model.specs.Turns.Grant.{Grant, Judged, nothing_there, granted, is_pending, unless_full, own_replies_full, data_taker}
-use Rattle.tree_model.specs.Turns.Children.{child_at, holds_item, waits_with_room, has_room, full_to_lose, reader_full, only, loses, reader_takes}
+use Rattle.tree_model.specs.Turns.Children.{child_at, holds_item, waits_with_room, has_room, full_to_lose}
+use Rattle.tree_model.specs.Turns.Children.{reader_full, only, loses, reader_takes}
 
 -- a note UpErase ends
 abbrev pub without_up_erase : Note → Note
@@ -158,7 +161,10 @@ module _ (x : ℕ) (q : DirValue) (ns : List Node) where
 
     -- the same where the only reader has no place for it
     abbrev pub inject_to_only_reader : ℕ → Judged
-    inject_to_only_reader d = if reader_has_place x (child_at d ns) then unless_full (child_full_for InjectTx x (child_at d ns)) (inject_to_reader d) else nothing_there
+    inject_to_only_reader d =
+        if reader_has_place x (child_at d ns)
+        then unless_full (child_full_for InjectTx x (child_at d ns)) (inject_to_reader d)
+        else nothing_there
 
     abbrev pub inject_to_read : ℕ → ℕ → Judged
     inject_to_read first joined =

@@ -65,7 +65,9 @@ down_place x k (e ∷ es) = last_place (nat_eq x e.item && brings_copy e.kind) k
 abbrev mutual
   pub place_found : ℕ → Node → Option CopyPlace
   place_found x (leaf_node v) = leaf_place x v
-  place_found x (dir_node d ns) = first_some (option_map (λ k. CopyPlace.DownList d.bus k) (down_place x 0 d.down)) (first_some (option_map (λ k. CopyPlace.Parking d.bus k) (parked_place x d)) (place_among x ns))
+  place_found x (dir_node d ns) =
+      first_some (option_map (λ k. CopyPlace.DownList d.bus k) (down_place x 0 d.down))
+      (first_some (option_map (λ k. CopyPlace.Parking d.bus k) (parked_place x d)) (place_among x ns))
 
   pub place_among : ℕ → Nodes → Option CopyPlace
   place_among x no_nodes = None

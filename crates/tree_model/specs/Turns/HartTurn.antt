@@ -2,7 +2,8 @@
 -- instruction does what the flat machine's step does over the words that the leaf has.
 -- Letters: v is a leaf, e an entry, x and y items, c a change.
 -- To be believed: it is what the machine is.
-use Rattle.std.specs.Prelude.{ℕ, ◌+◌, ◌%◌, Bool, true, false, List, [], ◌∷◌, ◌++◌, Option, Some, None, Result, Ok, Err, slice_set, if◌then◌else◌}
+use Rattle.std.specs.Prelude.{ℕ, ◌+◌, ◌%◌, Bool, true, false, List, [], ◌∷◌, ◌++◌, Option, Some, None, Result, Ok}
+use Rattle.std.specs.Prelude.{Err, slice_set, if◌then◌else◌}
 use Rattle.tree_model.specs.DdmTypes.declared.answers.TxKind.TheVariants.{ReadTx, EraseTx}
 use Rattle.tree_model.specs.DdmTypes.declared.answers.BusyCause.TheVariants.{BufferFull}
 use Rattle.tree_model.specs.DdmTypes.declared.answers.TurnAnswer.{TurnAnswer}
@@ -16,7 +17,9 @@ use Rattle.flat_model.specs.declared.Ask.{Ask}
 use Rattle.flat_model.specs.Hart.{ask_of, finish_of}
 use Rattle.flat_model.specs.Flat.{Stored, Change, change_by, has_reserved}
 use Rattle.tree_model.specs.State.Values.{WayValue, BufferValue, LeafValue}
-use Rattle.tree_model.specs.State.Leaf.{blank, LeafEntry, way_at, leaf_entry, entry_words, item_in_way, free_way, becomes, enters, ways_after, buffer_after, buffer_full, waiting_item, slot_asking}
+use Rattle.tree_model.specs.State.Leaf.{blank, LeafEntry, way_at, leaf_entry, entry_words, item_in_way, free_way}
+use Rattle.tree_model.specs.State.Leaf.{becomes, enters, ways_after, buffer_after, buffer_full, waiting_item}
+use Rattle.tree_model.specs.State.Leaf.{slot_asking}
 
 -- ---- what a turn comes to
 
@@ -183,4 +186,8 @@ pub record LeafOutcome : Type 0 where
   pub leaf : LeafValue
 
 unfoldable pub leaf_step : List CodeWord → ItemTable → Key → ℕ → LeafValue → LeafOutcome
-leaf_step code items now victim v = record { answer = answer_of_deed now v (deed_of code items victim v); leaf = leaf_after_deed v (deed_of code items victim v) }
+leaf_step code items now victim v =
+    record {
+      answer = answer_of_deed now v (deed_of code items victim v);
+      leaf = leaf_after_deed v (deed_of code items victim v);
+    }

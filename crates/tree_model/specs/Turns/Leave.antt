@@ -58,11 +58,15 @@ module _ (c x : ℕ) (p : DirValue) (ns : List Node) where
   -- who takes the copy: the lowest other child that waits for it and has room, else the first behind c with room, else, on
   -- the top's bus, the first before c with room
   abbrev pub leave_taker : Option ℕ
-  leave_taker = first_some (find_from (other_waits c x) 0 ns) (first_some (find_from (room_after c x) 0 ns) (find_from (room_before (is_top p) c x) 0 ns))
+  leave_taker =
+      first_some (find_from (other_waits c x) 0 ns)
+      (first_some (find_from (room_after c x) 0 ns) (find_from (room_before (is_top p) c x) 0 ns))
 
   -- where a copy is parked already, which doesn't arise, nothing is there
   abbrev pub parked_unless_full : TxKind → Judged
-  parked_unless_full kind = if is_parked x p then nothing_there else (if parking_full p then refused (ParkingFull p.bus) else granted (leave_parked kind))
+  parked_unless_full kind =
+      if is_parked x p then nothing_there
+      else (if parking_full p then refused (ParkingFull p.bus) else granted (leave_parked kind))
 
   -- an inject; where nobody takes it, it is parked, and on the top's bus refused
   abbrev pub leave_inject : Option ℕ → Judged

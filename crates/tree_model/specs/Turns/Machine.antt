@@ -1,7 +1,8 @@
 -- The machine, one turn of it, and a run over a list of turns.
 -- Letters: m is a machine, t a turn, n a node and w where it stands, v a leaf, d a directory over the children ns.
 -- To be believed: it is what the machine is.
-use Rattle.std.specs.Prelude.{ℕ, ◌+◌, Bool, false, nat_lt, List, [], ◌∷◌, ◌++◌, length, Option, Some, None, is_some, slice_get, slice_set, slice_index_or}
+use Rattle.std.specs.Prelude.{ℕ, ◌+◌, Bool, false, nat_lt, List, [], ◌∷◌, ◌++◌, length, Option, Some, None, is_some}
+use Rattle.std.specs.Prelude.{slice_get, slice_set, slice_index_or}
 use Rattle.tree_model.specs.DdmTypes.declared.answers.TxKind.{TxKind}
 use Rattle.tree_model.specs.DdmTypes.declared.answers.LogEntry.{LogEntry}
 use Rattle.tree_model.specs.DdmTypes.declared.answers.TurnAnswer.{TurnAnswer}
@@ -18,7 +19,8 @@ use Rattle.tree_model.specs.declared.LeafLengths.{LeafLengths}
 use Rattle.tree_model.specs.declared.LeafSpot.{LeafSpot}
 use Rattle.tree_model.specs.declared.TreeChild.{TreeChild}
 use Rattle.tree_model.specs.declared.Traffic.{Traffic}
-use Rattle.tree_model.specs.State.Values.{DownValue, LeafValue, DirValue, Node, Nodes, leaf_node, dir_node, no_nodes, more_nodes, nodes, children, MachineValue, root_of}
+use Rattle.tree_model.specs.State.Values.{DownValue, LeafValue, DirValue, Node, Nodes, leaf_node, dir_node, no_nodes}
+use Rattle.tree_model.specs.State.Values.{more_nodes, nodes, children, MachineValue, root_of}
 use Rattle.tree_model.specs.State.Blank.{no_hart}
 use Rattle.tree_model.specs.State.Leaf.{LeafEntry, leaf_entry, spot_at}
 use Rattle.tree_model.specs.State.Directory.{parked_words, parked_place}

@@ -38,4 +38,6 @@ module _ (above : Stamp) (c x : ℕ) (p : DirValue) (ns : List Node) where
 
   abbrev pub request_erase : Option PendingWhy → Judged
   request_erase (Some why) = is_pending p.bus x why
-  request_erase None = unless_full (first_some (first_given (other_full c x) 0 ns) (erase_list_full (is_exclusive (dir_hold x p)))) erase_of_all
+  request_erase None =
+      unless_full (first_some (first_given (other_full c x) 0 ns) (erase_list_full (is_exclusive (dir_hold x p))))
+      erase_of_all

@@ -9,7 +9,8 @@ use Rattle.tree_model.specs.DdmTypes.declared.keys.Stamp.{Stamp}
 use Rattle.tree_model.specs.State.Lists.{map_from, find_from}
 use Rattle.tree_model.specs.State.States.{is_held}
 use Rattle.tree_model.specs.State.Values.{Note, no_note, local, up_read, up_erase, DirValue, Node}
-use Rattle.tree_model.specs.State.Directory.{dir_hold, dir_note, with_note, joined_by, parked_words, pushed_down, pushed_request, without_parked, pending, stamp_of, counted}
+use Rattle.tree_model.specs.State.Directory.{dir_hold, dir_note, with_note, joined_by, parked_words, pushed_down}
+use Rattle.tree_model.specs.State.Directory.{pushed_request, without_parked, pending, stamp_of, counted}
 use Rattle.tree_model.specs.State.Child.{child_full_for, child_request_taken}
 use Rattle.tree_model.specs.Turns.Grant.{Grant, Judged, nothing_there, granted, is_pending, unless_full, own_down_full, own_requests_full}
 use Rattle.tree_model.specs.Turns.Children.{child_at, other_holds, only, read_from}

@@ -45,7 +45,9 @@ module _ (name : Name) where
       -- the tree in which it was changed
       pub changed_in : Where → Node → Node
       changed_in w (leaf_node v) = if is_named name (leaf_node v) then change w (leaf_node v) else leaf_node v
-      changed_in w (dir_node d ns) = if is_named name (dir_node d ns) then change w (dir_node d ns) else dir_node d (changed_among (where_path w) d 0 ns)
+      changed_in w (dir_node d ns) =
+          if is_named name (dir_node d ns) then change w (dir_node d ns)
+          else dir_node d (changed_among (where_path w) d 0 ns)
 
       pub changed_among : List ℕ → DirValue → ℕ → Nodes → Nodes
       changed_among path d i no_nodes = no_nodes
@@ -71,9 +73,17 @@ module _ (R : Where → Node → Node → Type 0) where
     -- the second tree is the first one, but for the node at this path below
     pub data ChangedAt : Where → List ℕ → Node → Node → Type 0 where
       changed_here : {w : Where} {n m : Node} → R w n m → ChangedAt w [] n m
-      changed_below : {w : Where} {d : DirValue} {ns ms : Nodes} {i : ℕ} {path : List ℕ} → ChangedAmong (where_path w) d 0 i path ns ms → ChangedAt w (i ∷ path) (dir_node d ns) (dir_node d ms)
+      changed_below :
+          {w : Where} {d : DirValue} {ns ms : Nodes} {i : ℕ} {path : List ℕ} →
+          ChangedAmong (where_path w) d 0 i path ns ms → ChangedAt w (i ∷ path) (dir_node d ns) (dir_node d ms)
 
     -- of the children from number k on, of a directory with this path, that of number i was changed
     pub data ChangedAmong : List ℕ → DirValue → ℕ → ℕ → List ℕ → Nodes → Nodes → Type 0 where
-      changed_first : {above : List ℕ} {d : DirValue} {k : ℕ} {path : List ℕ} {n m : Node} {ns : Nodes} → ChangedAt (at_child (spot_in above d k)) path n m → ChangedAmong above d k k path (more_nodes n ns) (more_nodes m ns)
-      changed_later : {above : List ℕ} {d : DirValue} {k i : ℕ} {path : List ℕ} {n : Node} {ns ms : Nodes} → ChangedAmong above d (k + 1) i path ns ms → ChangedAmong above d k i path (more_nodes n ns) (more_nodes n ms)
+      changed_first :
+          {above : List ℕ} {d : DirValue} {k : ℕ} {path : List ℕ} {n m : Node} {ns : Nodes} →
+          ChangedAt (at_child (spot_in above d k)) path n m →
+          ChangedAmong above d k k path (more_nodes n ns) (more_nodes m ns)
+      changed_later :
+          {above : List ℕ} {d : DirValue} {k i : ℕ} {path : List ℕ} {n : Node} {ns ms : Nodes} →
+          ChangedAmong above d (k + 1) i path ns ms →
+          ChangedAmong above d k i path (more_nodes n ns) (more_nodes n ms)

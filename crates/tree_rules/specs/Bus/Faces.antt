@@ -10,7 +10,8 @@ use Rattle.tree_model.specs.State.Kinds.{has_kind}
 use Rattle.tree_model.specs.State.States.{is_reading, is_upgrading, is_shared}
 use Rattle.tree_model.specs.State.Values.{LeafValue, Note, DirValue, Node, leaf_node, dir_node}
 use Rattle.tree_model.specs.State.Leaf.{words_of_item, slot_has, state_at, leaf_hold}
-use Rattle.tree_model.specs.State.Directory.{dir_hold, dir_note, is_answering, is_up_read, is_up_erase, queue_kinds, request_kinds, is_parked}
+use Rattle.tree_model.specs.State.Directory.{dir_hold, dir_note, is_answering, is_up_read, is_up_erase, queue_kinds}
+use Rattle.tree_model.specs.State.Directory.{request_kinds, is_parked}
 
 -- ---- the face of a parent
 
@@ -67,7 +68,11 @@ face_reads p = is_up_read p.note && (not (has_some p.queue) && not (has_kind Rea
 -- a granted erase where it holds the item Shared with a note UpErase, no erase of it among its requests, and neither an erase
 -- nor an exclusive of it in its down list
 abbrev pub face_erases : ParentFace → Bool
-face_erases p = is_shared p.hold && (is_up_erase p.note && (not (has_kind EraseTx p.requests) && (not (has_kind EraseTx p.queue) && not (has_kind ExclusiveTx p.queue))))
+face_erases p =
+    is_shared p.hold
+    && (is_up_erase p.note
+    && (not (has_kind EraseTx p.requests)
+    && (not (has_kind EraseTx p.queue) && not (has_kind ExclusiveTx p.queue))))
 
 -- a directory as the bus above sees it: by its own face, and how many replies of the item it has
 abbrev pub face_above : ParentFace → ℕ → ChildFace

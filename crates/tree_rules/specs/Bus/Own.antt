@@ -10,7 +10,8 @@ use Rattle.tree_rules.specs.FlatModel.Flat.{has_reserved}
 use Rattle.tree_model.specs.State.Lists.{all_from, has_some}
 use Rattle.tree_model.specs.State.Kinds.{brings_copy}
 use Rattle.tree_model.specs.State.States.{is_waiting, is_reading, is_upgrading, is_exclusive}
-use Rattle.tree_model.specs.State.Values.{RequestValue, CopyValue, DownValue, WayValue, BufferValue, LeafValue, Note, no_note, local, up_read, up_erase, DirItem, DirValue}
+use Rattle.tree_model.specs.State.Values.{RequestValue, CopyValue, DownValue, WayValue, BufferValue, LeafValue, Note}
+use Rattle.tree_model.specs.State.Values.{no_note, local, up_read, up_erase, DirItem, DirValue}
 use Rattle.tree_model.specs.State.Leaf.{copy_item, buffer_item, way_at, state_at, stands_in, waiting_item}
 use Rattle.tree_model.specs.State.Directory.{in_set}
 use Rattle.tree_model.specs.State.Rooms.{leaf_within, dir_within}
@@ -100,7 +101,9 @@ leaf_test leaf_replies n v = list_all (copy_fits n) v.replies
 leaf_test reservation_fits n v = reserves_below n v.reservation
 
 abbrev pub leaf_rules : List LeafRule
-leaf_rules = has_ways ∷ leaf_lists ∷ ways_fit ∷ ways_alone ∷ buffer_fit ∷ buffered_once ∷ one_waiting ∷ slot_fits ∷ leaf_replies ∷ reservation_fits ∷ []
+leaf_rules =
+    has_ways ∷ leaf_lists ∷ ways_fit ∷ ways_alone ∷ buffer_fit ∷ buffered_once ∷ one_waiting ∷ slot_fits
+    ∷ leaf_replies ∷ reservation_fits ∷ []
 
 abbrev pub leaf_holds : ℕ → LeafValue → Bool
 leaf_holds n v = list_all (λ r. leaf_test r n v) leaf_rules

@@ -29,7 +29,10 @@ abbrev pub item_holds_at : DirValue → List Node → ℕ → Bool
 item_holds_at p ns x = item_holds (parent_face x p) (bits_of (parent_face x p) (faces_of x ns))
 
 abbrev pub bus_holds : ℕ → DirValue → List Node → Bool
-bus_holds n p ns = dir_holds n (length ns) p && (list_all (item_holds_at p ns) (range_with_len 0 n) && nat_eq p.reserved (kept_places p (range_with_len 0 n)))
+bus_holds n p ns =
+    dir_holds n (length ns) p
+    && (list_all (item_holds_at p ns) (range_with_len 0 n)
+    && nat_eq p.reserved (kept_places p (range_with_len 0 n)))
 
 -- a child of a bus: a leaf by itself, a directory with its own bus
 abbrev pub IsChildOk : ℕ → Node → Type 0
@@ -73,7 +76,9 @@ pub record IsMachineOk (m : MachineValue) : Type 0 where
   pub held : (x : ℕ) → x < items_of_machine m → IsTrue (held_at_top m x)
 
 abbrev pub machine_holds : MachineValue → Bool
-machine_holds m = tree_holds (items_of_machine m) (root_of m) && (top_is_ok m.top && list_all (held_at_top m) (range_with_len 0 (items_of_machine m)))
+machine_holds m =
+    tree_holds (items_of_machine m) (root_of m)
+    && (top_is_ok m.top && list_all (held_at_top m) (range_with_len 0 (items_of_machine m)))
 
 -- ---- a run: in the machine and after every turn
 

@@ -28,12 +28,15 @@ abbrev mutual
   -- x Exclusive; else the moment of the last stamp that its own bus took over.
   pub claim : ℕ → Spot → Node → List ℕ
   claim x c (leaf_node v) = spot_moment c
-  claim x c (dir_node d ns) = unwrap_or (first_some (last_exclusive c.above (queue_of x d.down)) (first_claim x (spot_path c) d 0 ns)) (moment_at c.above d.epoch)
+  claim x c (dir_node d ns) =
+      unwrap_or (first_some (last_exclusive c.above (queue_of x d.down)) (first_claim x (spot_path c) d 0 ns))
+      (moment_at c.above d.epoch)
 
   -- the claim of the first child that holds x Exclusive, from child i on
   pub first_claim : ℕ → List ℕ → DirValue → ℕ → Nodes → Option (List ℕ)
   first_claim x path d i no_nodes = None
-  first_claim x path d i (more_nodes n ns) = if child_is_exclusive x n then Some (claim x (spot_in path d i) n) else first_claim x path d (i + 1) ns
+  first_claim x path d i (more_nodes n ns) =
+      if child_is_exclusive x n then Some (claim x (spot_in path d i) n) else first_claim x path d (i + 1) ns
 
 -- a claim with the path of its child
 pub record ClaimAt : Type 0 where

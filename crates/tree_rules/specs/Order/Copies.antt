@@ -36,7 +36,13 @@ first_erase above (e ∷ es) = if is_kind EraseTx e.kind then Some (moment_at ab
 abbrev pub downs : List ℕ → List ℕ → List DownValue → List CopyAt
 downs place above [] = []
 downs place above (e ∷ es) =
-    if brings_copy e.kind then record { place = place; clock = moment_at above e.stamp; end = first_erase above es; words = e.words } ∷ downs place above es
+    if brings_copy e.kind
+    then record {
+      place = place;
+      clock = moment_at above e.stamp;
+      end = first_erase above es;
+      words = e.words;
+    } ∷ downs place above es
     else downs place above es
 
 -- replies, parked copies or an entry of these words
@@ -61,13 +67,18 @@ abbrev mutual
   pub inner : ℕ → Spot → Node → List CopyAt
   inner x c (leaf_node v) = entry_copies (spot_path c) (spot_moment c) (leaf_entry x v)
   inner x c (dir_node d ns) =
-      map (cut (first_erase c.above (queue_of x d.down))) (gathering x (spot_path c) (moment_at c.above d.epoch) d (handed x (spot_path c) (moment_at c.above d.epoch) d 0 ns)) ++ downs (spot_path c) c.above (queue_of x d.down)
+      map (cut (first_erase c.above (queue_of x d.down)))
+      (gathering x (spot_path c) (moment_at c.above d.epoch) d
+      (handed x (spot_path c) (moment_at c.above d.epoch) d 0 ns))
+      ++ downs (spot_path c) c.above (queue_of x d.down)
 
   -- what the children of a directory with this path hand to it, from child i on: the copies inside them, and their replies as
   -- copies of the directory's place
   pub handed : ℕ → List ℕ → List ℕ → DirValue → ℕ → Nodes → List CopyAt
   handed x path bound d i no_nodes = []
-  handed x path bound d i (more_nodes n ns) = (inner x (spot_in path d i) n ++ copies_here path bound (words_of_item x (child_replies n))) ++ handed x path bound d (i + 1) ns
+  handed x path bound d i (more_nodes n ns) =
+      (inner x (spot_in path d i) n ++ copies_here path bound (words_of_item x (child_replies n)))
+      ++ handed x path bound d (i + 1) ns
 
 -- all that stands below a directory, and its parked copies
 abbrev pub gathered : ℕ → List ℕ → List ℕ → DirValue → Nodes → List CopyAt

@@ -1,9 +1,13 @@
 -- The rules of order that tie a machine to a start: commands of down lists, words and claims of copies, clocks, reservations,
 -- and the flat machine after the operations (rules 3, 7, 8 and 10 to 13).
 -- To be believed where a rule is relied on; the order of the witness needs no reader here.
-use Rattle.std.specs.Prelude.{ℕ, ◌-◌, Bool, true, false, ◌&&◌, nat_eq, nat_lt, nat_le, List, length, filter, Option, Some, None, is_none, Ok, Err}
+use Rattle.std.specs.Prelude.{ℕ, ◌-◌, Bool, true, false, ◌&&◌, nat_eq, nat_lt, nat_le, List, length, filter, Option}
+use Rattle.std.specs.Prelude.{Some, None, is_none, Ok, Err}
 use Rattle.tree_rules.specs.DdmTypes.declared.operations.HaltCause.{HaltCause}
-use Rattle.tree_rules.specs.DdmTypes.declared.operations.HaltCause.TheVariants.{Exit, Illegal, Breakpoint, UnknownCall, MisalignedTarget, FetchOutside, MisalignedAccess, LoadOutside, StoreOutside}
+use Rattle.tree_rules.specs.DdmTypes.declared.operations.HaltCause.TheVariants.{Exit, Illegal, Breakpoint}
+use Rattle.tree_rules.specs.DdmTypes.declared.operations.HaltCause.TheVariants.{UnknownCall, MisalignedTarget}
+use Rattle.tree_rules.specs.DdmTypes.declared.operations.HaltCause.TheVariants.{FetchOutside, MisalignedAccess}
+use Rattle.tree_rules.specs.DdmTypes.declared.operations.HaltCause.TheVariants.{LoadOutside, StoreOutside}
 use Rattle.tree_rules.specs.DdmTypes.declared.operations.Op.{Op}
 use Rattle.tree_rules.specs.DdmTypes.Keys.{key_less}
 use Rattle.tree_rules.specs.DdmTypes.ItemTable.{ItemTable}
@@ -57,7 +61,10 @@ has_right_words s depth items ops x k = is_so (same_numbers k.words (words_until
 -- before it
 abbrev pub knows_change : ℕ → ItemTable → ℕ → CopyAt → Op → Statement
 knows_change depth items x k o =
-    where_so (changes_item items x o.effect) (where_not (is_under k.place (op_path depth o)) (either (is_so (less_at (moment_length (parted k.place (op_path depth o))) (op_key depth o) k.clock)) (ended_before k (op_key depth o))))
+    where_so (changes_item items x o.effect)
+    (where_not (is_under k.place (op_path depth o))
+    (either (is_so (less_at (moment_length (parted k.place (op_path depth o))) (op_key depth o) k.clock))
+    (ended_before k (op_key depth o))))
 
 -- ---- 11: claims
 
@@ -72,11 +79,15 @@ parts_at_claim t place = nat_eq (parted t.child place) (claim_level t) && nat_lt
 -- a claim is after each operation on the item under another child of its bus
 abbrev pub claim_is_after_op : ℕ → ItemTable → ℕ → ClaimAt → Op → Statement
 claim_is_after_op depth items x t o =
-    where_so (on_item items x o.effect) (where_so (parts_at_claim t (op_path depth o)) (is_so (less_at (moment_length (claim_level t)) (op_key depth o) t.moment)))
+    where_so (on_item items x o.effect)
+    (where_so (parts_at_claim t (op_path depth o))
+    (is_so (less_at (moment_length (claim_level t)) (op_key depth o) t.moment)))
 
 -- a copy under another child of its bus has an end there, and the claim is after it
 abbrev pub claim_is_after_end : ClaimAt → List ℕ → Statement
-claim_is_after_end t e = both (is_so (nat_le (moment_length (claim_level t)) (length e))) (is_so (less_at (moment_length (claim_level t)) e t.moment))
+claim_is_after_end t e =
+    both (is_so (nat_le (moment_length (claim_level t)) (length e)))
+    (is_so (less_at (moment_length (claim_level t)) e t.moment))
 
 abbrev pub claim_is_after_copy : ClaimAt → CopyAt → Statement
 claim_is_after_copy t k = where_so (parts_at_claim t k.place) (there_and (claim_is_after_end t) k.end)
@@ -85,11 +96,14 @@ claim_is_after_copy t k = where_so (parts_at_claim t k.place) (there_and (claim_
 
 -- the item that a hart has reserved after the operations with keys less than this
 abbrev pub reserved_until : FlatMachine → ℕ → ItemTable → List Op → ℕ → List ℕ → Option ℕ
-reserved_until s depth items ops h now = reservation items h (flat_hart s h).reserved (filter (λ o. less (op_key depth o) now) (sorted_ops ops))
+reserved_until s depth items ops h now =
+    reservation items h (flat_hart s h).reserved (filter (λ o. less (op_key depth o) now) (sorted_ops ops))
 
 -- a leaf that has reserved an item has words of it, and the flat machine has it reserved for the leaf's hart at this moment
 abbrev pub keeps_reserved : FlatMachine → ℕ → ItemTable → List Op → LeafAt → ℕ → Statement
-keeps_reserved s depth items ops a x = both (is_so (is_held (leaf_hold x a.leaf))) (is_so (has_reserved (reserved_until s depth items ops a.leaf.number (leaf_now a)) x))
+keeps_reserved s depth items ops a x =
+    both (is_so (is_held (leaf_hold x a.leaf)))
+    (is_so (has_reserved (reserved_until s depth items ops a.leaf.number (leaf_now a)) x))
 
 abbrev pub keeps_reservation : FlatMachine → ℕ → ItemTable → List Op → LeafAt → Statement
 keeps_reservation s depth items ops a = if_there (keeps_reserved s depth items ops a) a.leaf.reservation
@@ -126,7 +140,9 @@ halts_with cause (Err other) = same_halt other cause
 
 -- its next step there is this halt, whether or not an SC stores
 abbrev pub halts_next : List CodeWord → ItemTable → FlatMachine → ℕ → HaltCause → Statement
-halts_next code items z h cause = both (is_so (halts_with cause (flat_step code items z h true))) (is_so (halts_with cause (flat_step code items z h false)))
+halts_next code items z h cause =
+    both (is_so (halts_with cause (flat_step code items z h true)))
+    (is_so (halts_with cause (flat_step code items z h false)))
 
 -- a hart that halted is one whose next step is that halt
 abbrev pub halts_as_flat : List CodeWord → ItemTable → FlatMachine → LeafAt → Statement

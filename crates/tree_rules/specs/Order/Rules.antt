@@ -57,7 +57,9 @@ time_rule stamps_end m = each (λ c. each (time.entry_ends c) c.dir.down) (dirs_
 time_rule epochs_end m = each time.epoch_ends (dirs_at m)
 
 abbrev pub time_rules : List TimeRule
-time_rules = keys_differ ∷ ops_of_leaves ∷ keys_end ∷ keys_have_paths ∷ keys_are_past ∷ taken_is_past ∷ stamps_between ∷ stamps_rise ∷ stamps_end ∷ epochs_end ∷ []
+time_rules =
+    keys_differ ∷ ops_of_leaves ∷ keys_end ∷ keys_have_paths ∷ keys_are_past ∷ taken_is_past ∷ stamps_between
+    ∷ stamps_rise ∷ stamps_end ∷ epochs_end ∷ []
 
 pub record IsTimed (m : MachineValue) : Type 0 where
   pub each : (r : TimeRule) → Holds (time_rule r m)
@@ -120,7 +122,10 @@ pub record IsCore (s : FlatMachine) (m : MachineValue) : Type 0 where
   pub copies : (x : ℕ) → x < items_of_machine m → (r : CopyRule) → Holds (copy_rule r s m x)
 
 abbrev pub is_core : FlatMachine → MachineValue → Bool
-is_core s m = list_all (λ r. test_of (core_rule r s m)) core_rules && list_all (λ x. list_all (λ r. test_of (copy_rule r s m x)) copy_rules) (range_with_len 0 (items_of_machine m))
+is_core s m =
+    list_all (λ r. test_of (core_rule r s m)) core_rules
+    && list_all (λ x. list_all (λ r. test_of (copy_rule r s m x)) copy_rules)
+    (range_with_len 0 (items_of_machine m))
 
 -- ---- what follows, of one item
 

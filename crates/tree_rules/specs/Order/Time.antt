@@ -66,7 +66,9 @@ lies_between c e = both (is_not (less (entry_moment c e) (taken_moment c))) (is_
 
 -- an entry that stands behind another has no lesser stamp, and that of a read, an erase or an inject is greater
 abbrev pub may_stand_behind : DirAt → DownValue → DownValue → Statement
-may_stand_behind c e f = both (is_not (less (entry_moment c f) (entry_moment c e))) (where_so (comes_later f.kind) (is_so (less (entry_moment c e) (entry_moment c f))))
+may_stand_behind c e f =
+    both (is_not (less (entry_moment c f) (entry_moment c e)))
+    (where_so (comes_later f.kind) (is_so (less (entry_moment c e) (entry_moment c f))))
 
 -- the numbers of a stamp from this level on are 0
 abbrev pub stamp_ends : ℕ → Stamp → Bool

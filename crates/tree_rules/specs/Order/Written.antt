@@ -48,7 +48,9 @@ is_beside c path = is_under c.spot.above path && (not (is_under (dir_path c) pat
 
 -- under the other children of the bus above each operation on the item is before that moment, and each copy ends before it
 abbrev pub beside_op_is_before : ℕ → ItemTable → ℕ → DirAt → Op → Statement
-beside_op_is_before depth items x c o = where_so (on_item items x o.effect) (where_so (is_beside c (op_path depth o)) (is_so (before (op_key depth o) (exclusive_since x c))))
+beside_op_is_before depth items x c o =
+    where_so (on_item items x o.effect)
+    (where_so (is_beside c (op_path depth o)) (is_so (before (op_key depth o) (exclusive_since x c))))
 
 abbrev pub beside_copy_ends : ℕ → DirAt → CopyAt → Statement
 beside_copy_ends x c k = where_so (is_beside c k.place) (there_and (λ e. is_so (before e (exclusive_since x c))) k.end)
@@ -64,7 +66,9 @@ beside_copies_end x copies c = where_so (is_exclusive (dir_hold x c.dir)) (each 
 -- an operation of another leaf of the leaf's bus that changes the item has a lesser key than the leaf's present one
 abbrev pub knows_beside : ℕ → ItemTable → ℕ → LeafAt → Op → Statement
 knows_beside depth items x a o =
-    where_so (changes_item items x o.effect) (where_so (is_under a.spot.above (op_path depth o)) (where_not (same_numbers (leaf_path a) (op_path depth o)) (is_so (less (op_key depth o) (leaf_now a)))))
+    where_so (changes_item items x o.effect)
+    (where_so (is_under a.spot.above (op_path depth o))
+    (where_not (same_numbers (leaf_path a) (op_path depth o)) (is_so (less (op_key depth o) (leaf_now a)))))
 
 abbrev pub leaf_knows_changes : ℕ → ItemTable → List Op → ℕ → LeafAt → Statement
 leaf_knows_changes depth items ops x a = where_so (is_held (leaf_hold x a.leaf)) (each (knows_beside depth items x a) ops)
@@ -76,7 +80,9 @@ known_until k c = if same_numbers k.place (dir_path c) then k.clock else taken_m
 -- at a directory over a copy: a change under another child of the bus above is known there, or the copy ended before it
 abbrev pub beside_change_is_known : ℕ → ItemTable → ℕ → CopyAt → DirAt → Op → Statement
 beside_change_is_known depth items x k c o =
-    where_so (changes_item items x o.effect) (where_so (is_beside c (op_path depth o)) (either (is_so (before (op_key depth o) (known_until k c))) (ended_before k (op_key depth o))))
+    where_so (changes_item items x o.effect)
+    (where_so (is_beside c (op_path depth o))
+    (either (is_so (before (op_key depth o) (known_until k c))) (ended_before k (op_key depth o))))
 
 abbrev pub dir_knows_changes : ℕ → ItemTable → List Op → ℕ → CopyAt → DirAt → Statement
 dir_knows_changes depth items ops x k c = where_so (is_under (dir_path c) k.place) (each (beside_change_is_known depth items x k c) ops)
