@@ -1,5 +1,6 @@
 -- How a memory is stored: a tag and words for each place, where place `set * ways + way` is that way of that set.
-use Rattle.std.specs.Prelude.{◌≡◌, ℕ, ◌+◌, ◌*◌, ◌/◌, ◌%◌, ◌<◌, ◌≤◌, Bool, false, nat_eq, List, [], ◌∷◌, length, Option, Some, None, slice_index_or, IsSome}
+use Rattle.std.specs.Prelude.{◌≡◌, ℕ, ◌+◌, ◌*◌, ◌/◌, ◌%◌, ◌<◌, ◌≤◌, Bool, false, nat_eq, List, [], ◌∷◌, length}
+use Rattle.std.specs.Prelude.{Option, Some, None, slice_index_or, IsSome}
 use Rattle.std.specs.FinMap as map
 use Rattle.ddm_types.specs.declared.sizes.LeafState.{LeafState}
 use Rattle.attraction_mem.specs.Memory.{EntryValue, MemoryValue}

@@ -1,9 +1,12 @@
 //! A leaf's memory in sets and ways.
 
-ghost use Rattle.std.specs.Prelude.{◌≡◌, ◌+◌, ◌*◌, ◌%◌, ◌<◌, ◌≤◌, ◌↔◌, ℕ, [], length, Option, Some, None, Ok, IfOk, IfErr, OnErr, IfSome, IfNone, IsSome, is_some, slice_index_or};
+ghost use Rattle.std.specs.Prelude.{◌≡◌, ◌+◌, ◌*◌, ◌%◌, ◌<◌, ◌≤◌, ◌↔◌, ℕ, [], length, Option, Some, None, Ok, IfOk};
+ghost use Rattle.std.specs.Prelude.{IfErr, OnErr, IfSome, IfNone, IsSome, is_some, slice_index_or};
 ghost use Rattle.std.specs.Option.{option_map};
 ghost use Rattle.ddm_types.specs.declared.sizes.LeafState.{LeafState as State};
-ghost use Rattle.attraction_mem.specs.Memory.{entry_of, empty_memory, StandsIn, StandsAs, IsFree, IsLowestFree, IsFull, with_entry, place_of, without_entry, with_state, with_words, way_and_state, state_and_words};
+ghost use Rattle.attraction_mem.specs.Memory.{entry_of, empty_memory, StandsIn, StandsAs, IsFree, IsLowestFree};
+ghost use Rattle.attraction_mem.specs.Memory.{IsFull, with_entry, place_of, without_entry, with_state, with_words};
+ghost use Rattle.attraction_mem.specs.Memory.{way_and_state, state_and_words};
 
 use crate::copying::copy_sets;
 use crate::marks::{is_marked, mark};

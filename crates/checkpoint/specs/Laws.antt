@@ -22,7 +22,8 @@ use Rattle.checkpoint.specs.Resumed.{Resumed, resumed}
 -- what is saved of a run of at most so many turns is read back, where the sizes of the tree are words and the file isn't too long
 abbrev pub SavedIsReadBack : Type 0
 SavedIsReadBack =
-    (t : TreeValue) (i : ImageValue) (fresh : MachineValue) (turns : List Turn) → IsTree t → IsOfBytes i → start_of t i ≡ Ok fresh → HasSmallSizes t → length turns ≤ 1048576
+    (t : TreeValue) (i : ImageValue) (fresh : MachineValue) (turns : List Turn) → IsTree t → IsOfBytes i →
+    start_of t i ≡ Ok fresh → HasSmallSizes t → length turns ≤ 1048576
     → let r = run_of turns fresh in length (saved r.machine (counts_of r.answers)) ≤ 536870912
     → resumed fresh (saved r.machine (counts_of r.answers)) ≡ Ok (record { machine = r.machine; counts = counts_of r.answers })
 

@@ -2,7 +2,8 @@
 -- refusal in the order in which files are judged.
 -- Letters: m is the machine before its first turn, k the number of a word, ws are words.
 -- To be believed: it is how a checkpoint is judged.
-use Rattle.std.specs.Prelude.{ℕ, ◌+◌, ◌*◌, nat_eq, nat_lt, nat_le, List, [], ◌∷◌, drop, length, Option, Some, None, Result, Ok, Err, slice_index, if◌then◌else◌}
+use Rattle.std.specs.Prelude.{ℕ, ◌+◌, ◌*◌, nat_eq, nat_lt, nat_le, List, [], ◌∷◌, drop, length, Option, Some, None}
+use Rattle.std.specs.Prelude.{Result, Ok, Err, slice_index, if◌then◌else◌}
 use Rattle.std.specs.Int.{w32, from_le_bytes}
 use Rattle.checkpoint.specs.TreeModel.State.Lists.{first_some}
 use Rattle.checkpoint.specs.TreeModel.State.Values.{MachineValue}
@@ -30,7 +31,8 @@ size_words s = s.leaves ∷ s.buses ∷ s.items ∷ s.item_words ∷ s.ways ∷ 
 abbrev pub other_machine : List ℕ → ℕ → List ℕ → Option ResumeRefusal
 other_machine [] k ws = None
 other_machine (n ∷ ns) k [] = Some (ResumeRefusal.Cut k)
-other_machine (n ∷ ns) k (w ∷ ws) = first_some (if nat_eq w n then None else Some (ResumeRefusal.OtherMachine k)) (other_machine ns (k + 1) ws)
+other_machine (n ∷ ns) k (w ∷ ws) =
+    first_some (if nat_eq w n then None else Some (ResumeRefusal.OtherMachine k)) (other_machine ns (k + 1) ws)
 
 abbrev pub bad_count : ℕ → List ℕ → Option ResumeRefusal
 bad_count k [] = Some (ResumeRefusal.Cut k)
@@ -39,7 +41,8 @@ bad_count k (w ∷ ws) = if nat_le w most_counted then None else Some (ResumeRef
 abbrev pub bad_head : MachineSizes → List ℕ → Option ResumeRefusal
 bad_head s ws =
     first_some (other_machine (size_words s) 2 (drop 2 ws))
-    (first_some (bad_count 7 (drop 7 ws)) (first_some (bad_count 8 (drop 8 ws)) (first_some (bad_count 9 (drop 9 ws)) (bad_count 10 (drop 10 ws)))))
+    (first_some (bad_count 7 (drop 7 ws))
+    (first_some (bad_count 8 (drop 8 ws)) (first_some (bad_count 9 (drop 9 ws)) (bad_count 10 (drop 10 ws)))))
 
 abbrev pub file_refusal : StateRefusal → ResumeRefusal
 file_refusal (StateRefusal.Cut k) = ResumeRefusal.Cut k
@@ -56,7 +59,9 @@ pub record Resumed : Type 0 where
 
 -- nothing may follow the end word
 abbrev pub resumed_by : ℕ → RunCounts → Result (Read MachineValue) StateRefusal → Result Resumed ResumeRefusal
-resumed_by bytes counts (Ok r) = if nat_lt (4 * r.at) bytes then Err ResumeRefusal.AfterEnd else Ok (record { machine = r.value; counts = counts })
+resumed_by bytes counts (Ok r) =
+    if nat_lt (4 * r.at) bytes then Err ResumeRefusal.AfterEnd
+    else Ok (record { machine = r.value; counts = counts })
 resumed_by bytes counts (Err e) = Err (file_refusal e)
 
 abbrev pub counts_in : List ℕ → RunCounts
@@ -70,7 +75,9 @@ abbrev pub bad_name : ℕ → List ℕ → Option ResumeRefusal
 bad_name bytes ws =
     if nat_lt 536870912 bytes then Some ResumeRefusal.TooLong
     else (if nat_lt bytes 8 then Some ResumeRefusal.NotCheckpoint
-    else (if nat_eq (slice_index ws 0) 0x434d4444 then (if nat_eq (slice_index ws 1) 1 then None else Some (ResumeRefusal.WrongVersion (slice_index ws 1)))
+    else (if nat_eq (slice_index ws 0) 0x434d4444
+    then (if nat_eq (slice_index ws 1) 1 then None
+    else Some (ResumeRefusal.WrongVersion (slice_index ws 1)))
     else Some ResumeRefusal.NotCheckpoint))
 
 -- a file's length, its name and its head, for a machine of these sizes

@@ -21,7 +21,8 @@ pub fn accepted_is_saved()
 /// What is saved of a machine that keeps the rules is read back as that machine and these counts, where there are so few items, places
 /// and operations that their numbers are words, and the file isn't too long.
 pub fn saved_machines_are_read_back()
-    ensures { (fresh m : MachineValue) (c : RunCounts) → CanRead fresh → frame_of m ≡ frame_of fresh → IsSpelled m → IsSmall m → judged m ≡ None → c.retired ≡ length m.ops → CountsFit c
+    ensures { (fresh m : MachineValue) (c : RunCounts) → CanRead fresh → frame_of m ≡ frame_of fresh →
+        IsSpelled m → IsSmall m → judged m ≡ None → c.retired ≡ length m.ops → CountsFit c
         → length (saved m c) ≤ 536870912 → resumed fresh (saved m c) ≡ Ok (record { machine = m; counts = c }) }
 {}
 

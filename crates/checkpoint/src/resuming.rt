@@ -1,11 +1,13 @@
 //! A checkpoint is judged, and gives a machine.
 
-ghost use Rattle.std.specs.Prelude.{◌≡◌, ◌≢◌, ◌+◌, ◌*◌, ◌<◌, ◌≤◌, ◌^◌, ℕ, List, ◌∷◌, None, Some, Ok, Err, false, drop, length, slice_index, IfOk, IfErr, OnOk, nat_lt};
+ghost use Rattle.std.specs.Prelude.{◌≡◌, ◌≢◌, ◌+◌, ◌*◌, ◌<◌, ◌≤◌, ◌^◌, ℕ, List, ◌∷◌, None, Some, Ok, Err, false};
+ghost use Rattle.std.specs.Prelude.{drop, length, slice_index, IfOk, IfErr, OnOk, nat_lt};
 ghost use Rattle.checkpoint.specs.TreeModel.State.Shape.{frame_of};
 ghost use Rattle.checkpoint.specs.AnyMachine.Any.{machine_state};
 ghost use Rattle.checkpoint.specs.AnyMachine.Kind.{kind_of};
 ghost use Rattle.checkpoint.specs.AnyRuns.Run.{AreBelow};
-ghost use Rattle.checkpoint.specs.Resumed.{bad_count, bad_head, bad_name, counts_in, file_refusal, judged_head, other_machine, resumed, size_words, whole_words};
+ghost use Rattle.checkpoint.specs.Resumed.{bad_count, bad_head, bad_name, counts_in, file_refusal, judged_head};
+ghost use Rattle.checkpoint.specs.Resumed.{other_machine, resumed, size_words, whole_words};
 ghost use Rattle.checkpoint.specs.declared.ResumeRefusal.TheVariants as refusal;
 
 use crate::ResumeRefusal;
@@ -49,7 +51,10 @@ fn judge_name(bytes: u64, words: &[u32]) -> Result<(), ResumeRefusal>
 /// The word there has to be this number of the machine.
 fn judge_size(words: &[u32], at: u32, number: u32) -> Result<(), ResumeRefusal>
     requires { at < 11 }
-    ensures ok { OnOk result ((ns : List ℕ) → other_machine (number ∷ ns) at (drop at words.now) ≡ other_machine ns (at + 1) (drop (at + 1) words.now)) }
+    ensures ok { OnOk result
+        ((ns : List ℕ) →
+        other_machine (number ∷ ns) at (drop at words.now)
+        ≡ other_machine ns (at + 1) (drop (at + 1) words.now)) }
     ensures refused { IfErr result (λ r. (ns : List ℕ) → other_machine (number ∷ ns) at (drop at words.now) ≡ Some r) }
 {
     let Some(word) = words.get(at as usize) else {
@@ -158,7 +163,9 @@ pub fn resume(
     fresh: AnyMachine,
     file: &CheckpointFile,
 ) -> Result<(AnyMachine, RunCounts), ResumeRefusal>
-    ensures ok { IfOk result (λ r. resumed (machine_state fresh).machine file.now ≡ Ok (record { machine = (machine_state r.0).machine; counts = r.1 })) }
+    ensures ok { IfOk result
+        (λ r. resumed (machine_state fresh).machine file.now
+        ≡ Ok (record { machine = (machine_state r.0).machine; counts = r.1 })) }
     ensures few { IfOk result (λ r. AreBelow 1048577 r.1) }
     ensures spare { IfOk result (λ r. (machine_state r.0).spare ≡ 0) }
     ensures turns { IfOk result (λ r. (machine_state r.0).turns ≡ 1048576) }

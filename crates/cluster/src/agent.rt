@@ -63,8 +63,12 @@ impl<const WAYS: usize, const WORDS: usize> Agent<WORDS> for Cluster<WAYS, WORDS
 
     fn take_data(&mut self, item: ItemId, words: Words<WORDS>, stamp: Stamp)
         requires in_range { item < node_items (dir_node self.old.dir.state (nodes (map leaf_node self.old.dir.children.items))) }
-        requires room { child_full_for DataTx item (dir_node self.old.dir.state (nodes (map leaf_node self.old.dir.children.items))) ≡ None }
-        ensures { dir_node self.new.dir.state (nodes (map leaf_node self.new.dir.children.items)) ≡ child_take_data item words.entry stamp (dir_node self.old.dir.state (nodes (map leaf_node self.old.dir.children.items))) }
+        requires room { child_full_for DataTx item
+            (dir_node self.old.dir.state (nodes (map leaf_node self.old.dir.children.items)))
+            ≡ None }
+        ensures { dir_node self.new.dir.state (nodes (map leaf_node self.new.dir.children.items))
+            ≡ child_take_data item words.entry stamp
+            (dir_node self.old.dir.state (nodes (map leaf_node self.old.dir.children.items))) }
     {
         self.dir.take_data(item, words, stamp);
     }
@@ -79,9 +83,13 @@ impl<const WAYS: usize, const WORDS: usize> Agent<WORDS> for Cluster<WAYS, WORDS
 
     fn take_inject(&mut self, item: ItemId, words: Words<WORDS>, stamp: Stamp)
         requires in_range { item < node_items (dir_node self.old.dir.state (nodes (map leaf_node self.old.dir.children.items))) }
-        requires room { child_full_for InjectTx item (dir_node self.old.dir.state (nodes (map leaf_node self.old.dir.children.items))) ≡ None }
+        requires room { child_full_for InjectTx item
+            (dir_node self.old.dir.state (nodes (map leaf_node self.old.dir.children.items)))
+            ≡ None }
         requires place { reader_has_place item (dir_node self.old.dir.state (nodes (map leaf_node self.old.dir.children.items))) ≡ true }
-        ensures { dir_node self.new.dir.state (nodes (map leaf_node self.new.dir.children.items)) ≡ child_take_inject item words.entry stamp (dir_node self.old.dir.state (nodes (map leaf_node self.old.dir.children.items))) }
+        ensures { dir_node self.new.dir.state (nodes (map leaf_node self.new.dir.children.items))
+            ≡ child_take_inject item words.entry stamp
+            (dir_node self.old.dir.state (nodes (map leaf_node self.old.dir.children.items))) }
     {
         self.dir.take_inject(item, words, stamp);
     }

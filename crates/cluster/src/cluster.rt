@@ -16,7 +16,8 @@ pub struct Cluster<const WAYS: usize, const WORDS: usize> {
 
 impl<const WAYS: usize, const WORDS: usize> Cluster<WAYS, WORDS> {
     pub fn new(dir: Dir<WORDS, Leaf<WAYS, WORDS>>) -> Self
-        ensures { dir_node result.dir.state (nodes (map leaf_node result.dir.children.items)) ≡ dir_node dir.entry.state (nodes (map leaf_node dir.entry.children.items)) }
+        ensures { dir_node result.dir.state (nodes (map leaf_node result.dir.children.items))
+            ≡ dir_node dir.entry.state (nodes (map leaf_node dir.entry.children.items)) }
     {
         Cluster { dir }
     }
@@ -27,7 +28,9 @@ pub fn clusters<const WAYS: usize, const WORDS: usize>(
     alloc: Global,
     dirs: Vec<Dir<WORDS, Leaf<WAYS, WORDS>>>,
 ) -> Result<Vec<Cluster<WAYS, WORDS>>, NoMemory>
-    ensures { IfOk result (λ cs. map (λ c. dir_node c.dir.state (nodes (map leaf_node c.dir.children.items))) cs.items ≡ map (λ d. dir_node d.state (nodes (map leaf_node d.children.items))) dirs.entry.items) }
+    ensures { IfOk result
+        (λ cs. map (λ c. dir_node c.dir.state (nodes (map leaf_node c.dir.children.items))) cs.items
+        ≡ map (λ d. dir_node d.state (nodes (map leaf_node d.children.items))) dirs.entry.items) }
 {
     let mut clusters = Vec::new(alloc);
     for dir in dirs {

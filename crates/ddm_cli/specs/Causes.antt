@@ -25,7 +25,8 @@ use Rattle.ddm_cli.specs.Parts.{before_page, items_of, parts_in}
 use Rattle.ddm_cli.specs.Told.{ScheduleGiven, written, paged, seeded}
 use Rattle.ddm_cli.specs.declared.command.Prints.{Prints}
 use Rattle.ddm_cli.specs.declared.status.Status.{Status}
-use Rattle.ddm_cli.specs.declared.status.Status.TheVariants.{ImageLoad, ImageBuild, Tree, Schedule, Witness, Checkpoint, SmallLists, ReadFault, NoMemory}
+use Rattle.ddm_cli.specs.declared.status.Status.TheVariants.{ImageLoad, ImageBuild, Tree, Schedule, Witness}
+use Rattle.ddm_cli.specs.declared.status.Status.TheVariants.{Checkpoint, SmallLists, ReadFault, NoMemory}
 
 -- where a file is told, it is accepted
 abbrev pub Accepts : {A B : Type 0} → (A → Option B) → Option A → Type 0
@@ -108,7 +109,8 @@ HasSmallList prints key t file = IsSomeAnd (parts_in t file) (λ p. list_refused
 -- why nothing is printed of turns of a machine with so many items
 abbrev pub RanCause : Prints → TreeValue → ℕ → Option ScheduleGiven → ℕ → ℕ → Status → Type 0
 RanCause prints t items told before now (SmallLists key) = list_refused prints t.sizes items ≡ Some key
-RanCause prints t items told before now s = (list_refused prints t.sizes items ≡ None) × ScheduleCause (IsRefused t.levels) told before now s
+RanCause prints t items told before now s =
+    (list_refused prints t.sizes items ≡ None) × ScheduleCause (IsRefused t.levels) told before now s
 
 -- ---- the image and the witness, where a witness is judged
 

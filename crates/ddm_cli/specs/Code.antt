@@ -1,7 +1,9 @@
 -- The number that the process ends with, for each status.
 use Rattle.std.specs.Prelude.{ℕ}
 use Rattle.ddm_cli.specs.declared.status.Status.{Status}
-use Rattle.ddm_cli.specs.declared.status.Status.TheVariants.{Done, Usage, ImageLoad, ImageBuild, Tree, Schedule, Witness, Checkpoint, SmallLists, Table, ReadFault, UnreadTable, WriteFault, NoMemory}
+use Rattle.ddm_cli.specs.declared.status.Status.TheVariants.{Done, Usage, ImageLoad, ImageBuild, Tree, Schedule}
+use Rattle.ddm_cli.specs.declared.status.Status.TheVariants.{Witness, Checkpoint, SmallLists, Table, ReadFault}
+use Rattle.ddm_cli.specs.declared.status.Status.TheVariants.{UnreadTable, WriteFault, NoMemory}
 
 -- the number of each status
 abbrev pub exit_code : Status → ℕ

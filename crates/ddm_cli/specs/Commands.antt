@@ -1,7 +1,8 @@
 -- The commands, and the words that say them.
 -- Letters: k is the index of a word, counted from 0.
 -- To be believed with the contracts: they speak of it.
-use Rattle.std.specs.Prelude.{ℕ, ◌+◌, ◌-◌, ◌*◌, ◌≤◌, min, nat_le, nat_lt, List, [], ◌∷◌, drop, length, Result, Ok, Err, Option, Some, None, slice_get, option_and_then, if◌then◌else◌, bytes_eq, codes}
+use Rattle.std.specs.Prelude.{ℕ, ◌+◌, ◌-◌, ◌*◌, ◌≤◌, min, nat_le, nat_lt, List, [], ◌∷◌, drop, length, Result, Ok}
+use Rattle.std.specs.Prelude.{Err, Option, Some, None, slice_get, option_and_then, if◌then◌else◌, bytes_eq, codes}
 use Rattle.std.specs.Result.{result_ok}
 use Rattle.ddm_cli.specs.DdmText.Numbers.{number_of}
 use Rattle.ddm_cli.specs.RecordingModel.declared.SeedKind.{SeedKind}
@@ -61,7 +62,8 @@ pub record Seeds : Type 0 where
   pub count : ℕ
   pub turns : ℕ
 
--- whose recorded run is written or measured: the files of an image and of a tree, the kind of the seed and the seed, and how many turns may be
+-- whose recorded run is written or measured: the files of an image and of a tree, the kind of the seed and the seed,
+-- and how many turns may be
 -- recorded
 pub record Recorded : Type 0 where
   pub image : List ℕ
@@ -126,7 +128,8 @@ abbrev recorded_value : List ℕ → List ℕ → SeedKind → ℕ → ℕ → R
 recorded_value image tree kind seed turns = record { image = image; tree = tree; kind = kind; seed = seed; turns = turns }
 
 abbrev survey_value : List ℕ → List ℕ → SeedKind → ℕ → ℕ → ℕ → Survey
-survey_value image tree kind first count turns = record { image = image; tree = tree; kind = kind; first = first; count = count; turns = turns }
+survey_value image tree kind first count turns =
+    record { image = image; tree = tree; kind = kind; first = first; count = count; turns = turns }
 
 abbrev paged_value : List ℕ → List ℕ → List ℕ → Paged
 paged_value image tree schedule = record { image = image; tree = tree; schedule = schedule }
@@ -218,7 +221,9 @@ made_run words =
 -- check IMAGE TREE WITNESS
 unfoldable pub file_check : List (List ℕ) → Result Command ℕ
 file_check words =
-    word_at words 1 (λ image. word_at words 2 (λ tree. word_at words 3 (λ witness. ends_at words 4 (to_check (check_value image tree witness)))))
+    word_at words 1 (λ image. word_at words 2
+    (λ tree. word_at words 3
+    (λ witness. ends_at words 4 (to_check (check_value image tree witness)))))
 
 -- resume IMAGE TREE CHECKPOINT SCHEDULE
 unfoldable pub file_resume : List (List ℕ) → Result Command ℕ
@@ -229,12 +234,16 @@ file_resume words =
 -- outcomes IMAGE TREE FIRST COUNT TURNS
 unfoldable pub seeds_survey : List (List ℕ) → Result Command ℕ
 seeds_survey words =
-    word_at words 1 (λ image. word_at words 2 (λ tree. seed_at words 3 (λ first. number_at words 4 1 (most_seeds first) (λ count. count_at words 5 (λ turns.
+    word_at words 1 (λ image. word_at words 2
+    (λ tree. seed_at words 3
+    (λ first. number_at words 4 1 (most_seeds first) (λ count. count_at words 5 (λ turns.
     ends_at words 6 (to_survey (seeds_value image tree first count turns)))))))
 
 -- the kind of a seed that a word says
 unfoldable pub kind_named : List ℕ → Option SeedKind
-kind_named word = if bytes_eq word (codes "even") then Some SeedKind.Even else (if bytes_eq word (codes "skewed") then Some SeedKind.Skewed else None)
+kind_named word =
+    if bytes_eq word (codes "even") then Some SeedKind.Even
+    else (if bytes_eq word (codes "skewed") then Some SeedKind.Skewed else None)
 
 -- on with the kind there
 abbrev pub kind_at : List (List ℕ) → ℕ → (SeedKind → Result Command ℕ) → Result Command ℕ
@@ -249,13 +258,18 @@ seed_record words =
 -- measure IMAGE TREE KIND SEED TURNS
 unfoldable pub seed_measure : List (List ℕ) → Result Command ℕ
 seed_measure words =
-    word_at words 1 (λ image. word_at words 2 (λ tree. kind_at words 3 (λ kind. seed_at words 4 (λ seed. number_at words 5 0 1000000000 (λ turns.
+    word_at words 1 (λ image. word_at words 2
+    (λ tree. kind_at words 3
+    (λ kind. seed_at words 4 (λ seed. number_at words 5 0 1000000000 (λ turns.
     ends_at words 6 (to_measure (recorded_value image tree kind seed turns)))))))
 
 -- survey IMAGE TREE KIND FIRST COUNT TURNS
 unfoldable pub runs_survey : List (List ℕ) → Result Command ℕ
 runs_survey words =
-    word_at words 1 (λ image. word_at words 2 (λ tree. kind_at words 3 (λ kind. seed_at words 4 (λ first. number_at words 5 1 (most_seeds first) (λ count. count_at words 6 (λ turns.
+    word_at words 1 (λ image. word_at words 2
+    (λ tree. kind_at words 3
+    (λ kind. seed_at words 4
+    (λ first. number_at words 5 1 (most_seeds first) (λ count. count_at words 6 (λ turns.
     ends_at words 7 (to_survey_runs (survey_value image tree kind first count turns))))))))
 
 -- join TABLE TABLE ..
@@ -268,7 +282,9 @@ tables_named words =
 -- page IMAGE TREE SCHEDULE
 unfoldable pub file_page : List (List ℕ) → Result Command ℕ
 file_page words =
-    word_at words 1 (λ image. word_at words 2 (λ tree. word_at words 3 (λ schedule. ends_at words 4 (to_page (paged_value image tree schedule)))))
+    word_at words 1 (λ image. word_at words 2
+    (λ tree. word_at words 3
+    (λ schedule. ends_at words 4 (to_page (paged_value image tree schedule)))))
 
 -- the command of a name
 unfoldable pub about_named : List ℕ → Option About

@@ -16,7 +16,13 @@ use Rattle.ddm_cli.specs.declared.making.Made.{Made}
 
 -- the counts of turns and of more turns
 abbrev pub counts_plus : RunCounts → RunCounts → RunCounts
-counts_plus c d = record { turns = c.turns + d.turns; retired = c.retired + d.retired; granted = c.granted + d.granted; busy = c.busy + d.busy }
+counts_plus c d =
+    record {
+      turns = c.turns + d.turns;
+      retired = c.retired + d.retired;
+      granted = c.granted + d.granted;
+      busy = c.busy + d.busy;
+    }
 
 -- they fit into words
 pub record CanCount (c d : RunCounts) : Type 0 where
@@ -46,7 +52,8 @@ pub record HasMade (first : RunCounts) (keep forgets : Bool) (s after : MachineS
   pub trace_kept : made.trace.items ≡ (if keep then trace_from first.turns turns (run_of turns s.machine).answers else [])
 
 -- and they are all that the schedule has, where it is told
-pub record HasAllMade {A : Type 0} (judge : A → Option (List Turn)) (told : Option A) (first : RunCounts) (keep forgets : Bool) (s after : MachineState) (made : Made) : Type 0 where
+pub record HasAllMade {A : Type 0} (judge : A → Option (List Turn)) (told : Option A) (first : RunCounts)
+    (keep forgets : Bool) (s after : MachineState) (made : Made) : Type 0 where
   pub turns : List Turn
   pub accepted : AcceptedAs judge told turns
   pub all : HasMade first keep forgets s after made turns

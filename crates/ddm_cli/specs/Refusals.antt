@@ -1,6 +1,7 @@
 -- The fault lines of refusals: each by its name and its numbers, or by a key.
 use Rattle.std.specs.Prelude.{ℕ, List, [], ◌∷◌, ◌++◌, codes}
-use Rattle.ddm_cli.specs.TextModel.Faults.{checkpoint_fault, image_fault, shown_key, tree_fault, tree_key_fault, unknown_key_fault, witness_fault, witness_line_fault}
+use Rattle.ddm_cli.specs.TextModel.Faults.{checkpoint_fault, image_fault, shown_key, tree_fault, tree_key_fault}
+use Rattle.ddm_cli.specs.TextModel.Faults.{unknown_key_fault, witness_fault, witness_line_fault}
 use Rattle.ddm_cli.specs.ElfLoad.declared.refusal.ImageRefusal.{ImageRefusal}
 use Rattle.ddm_cli.specs.ElfLoad.declared.refusal.ImageRefusal.TheVariants as image
 use Rattle.ddm_cli.specs.TreeConfig.TreeFile.{key_name}

@@ -45,19 +45,28 @@ pub record HasCheckedWitness (tree image report : List ℕ) : Type 0 where
 
 -- so it is of every report of a tree, an image and a schedule that are accepted
 abbrev pub ReportsPassTheCheck : Type 0
-ReportsPassTheCheck = (tree image : List ℕ) (schedule : ScheduleGiven) (report : List ℕ) → AreBytes image → IsAskable schedule → text_of Report tree image schedule ≡ Some report → HasCheckedWitness tree image report
+ReportsPassTheCheck =
+    (tree image : List ℕ) (schedule : ScheduleGiven) (report : List ℕ) → AreBytes image → IsAskable schedule →
+    text_of Report tree image schedule ≡ Some report → HasCheckedWitness tree image report
 
 -- ---- a run that is saved and goes on
 
 -- the file gives the machine and the counts of the first turns, and with it the rest of the turns print what all of them print at once
-pub record IsWholeRun (tree image : List ℕ) (p : Parts) (file : List ℕ) (first : List Turn) (rest : List ℕ) (more : List Turn) : Type 0 where
-  pub state : let run = run_of first (start_machine p.tree p.image) in resumed_at p file ≡ Some (record { machine = run.machine; counts = counts_of run.answers })
+pub record IsWholeRun (tree image : List ℕ) (p : Parts) (file : List ℕ) (first : List Turn) (rest : List ℕ)
+    (more : List Turn) : Type 0 where
+  pub state :
+      let run = run_of first (start_machine p.tree p.image) in
+      resumed_at p file ≡ Some (record { machine = run.machine; counts = counts_of run.answers })
   pub text : resumed_text tree image file rest ≡ Some (text_at Report p (first ++ more))
-  pub of_all : (all : ScheduleGiven) → turns_of p.tree.levels all ≡ Some (first ++ more) → text_of Report tree image all ≡ resumed_text tree image file rest
+  pub of_all :
+      (all : ScheduleGiven) → turns_of p.tree.levels all ≡ Some (first ++ more) →
+      text_of Report tree image all ≡ resumed_text tree image file rest
 
 -- so it is of the checkpoint of each schedule, and each schedule of the rest that is accepted behind its turns
 abbrev pub SavedRunsAreWhole : Type 0
-SavedRunsAreWhole = (tree image : List ℕ) (p : Parts) (schedule : ScheduleGiven) (first : List Turn) (rest : List ℕ) (more : List Turn) → AreBytes image → IsAskable schedule → parts_of tree image ≡ Some p
+SavedRunsAreWhole =
+    (tree image : List ℕ) (p : Parts) (schedule : ScheduleGiven) (first : List Turn) (rest : List ℕ)
+    (more : List Turn) → AreBytes image → IsAskable schedule → parts_of tree image ≡ Some p
     → turns_of p.tree.levels schedule ≡ Some first → turns_at p.tree.levels (length first) rest ≡ Some more
     → IsWholeRun tree image p (text_at Checkpoint p first) first rest more
 

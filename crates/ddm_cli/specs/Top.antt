@@ -1,5 +1,6 @@
 -- What a command answers, and why.
-use Rattle.std.specs.Prelude.{◌≡◌, ◌⊎◌, ℕ, ◌-◌, List, [], length, slice_get, take, Option, Some, IsSome, IfSome, IsSomeAnd, IsOk, option_and_then, option_map, IfOk, Result, Ok, Err, IsOkAnd}
+use Rattle.std.specs.Prelude.{◌≡◌, ◌⊎◌, ℕ, ◌-◌, List, [], length, slice_get, take, Option, Some, IsSome, IfSome}
+use Rattle.std.specs.Prelude.{IsSomeAnd, IsOk, option_and_then, option_map, IfOk, Result, Ok, Err, IsOkAnd}
 use Rattle.std.specs.List.{AllByRecursion}
 use Rattle.std.specs.Result.{result_ok}
 use Rattle.ddm_cli.specs.DdmTypes.declared.turns.Turn.{Turn}
@@ -26,26 +27,33 @@ use Rattle.witness_check.specs.Start.{Setting, check_of}
 use Rattle.witness_check.specs.Witness.{IsAccepted}
 use Rattle.witness_check.specs.declared.refusal.CheckRefusal.{CheckRefusal}
 use Rattle.ddm_cli.specs.About.{about_text}
-use Rattle.ddm_cli.specs.Causes.{Accepts, HasNoSetting, HasSmallList, IsRefused, IsUnloaded, IsUnresumed, IsUnscheduled, IsUnstarted, TreeCause}
+use Rattle.ddm_cli.specs.Causes.{Accepts, HasNoSetting, HasSmallList, IsRefused, IsUnloaded, IsUnresumed}
+use Rattle.ddm_cli.specs.Causes.{IsUnscheduled, IsUnstarted, TreeCause}
 use Rattle.ddm_cli.specs.OutcomeModel.FlatOutcome.{IsLegalOutcome}
 use Rattle.ddm_cli.specs.OutcomeModel.Outcomes.{outcome_table, outcomes_text}
 use Rattle.ddm_cli.specs.OutcomeModel.Table.{OutcomeLine}
 use Rattle.ddm_cli.specs.RecordingModel.Recording.{record_text, recording_of}
 use Rattle.ddm_cli.specs.MeasureModel.Text.{measure_text}
-use Rattle.ddm_cli.specs.Commands.{Check, Command, ImageFrom, Paged, Recorded, Resumption, Run, Seeds, Survey, TurnsFrom, to_run, to_list, to_check, to_resume, to_survey, to_record, to_measure, to_survey_runs, to_join, to_page, to_say, command_of, first_run, paged_run, recorded_run, surveyed_run}
+use Rattle.ddm_cli.specs.Commands.{Check, Command, ImageFrom, Paged, Recorded, Resumption, Run, Seeds, Survey}
+use Rattle.ddm_cli.specs.Commands.{TurnsFrom, to_run, to_list, to_check, to_resume, to_survey, to_record, to_measure}
+use Rattle.ddm_cli.specs.Commands.{to_survey_runs, to_join, to_page, to_say, command_of, first_run, paged_run}
+use Rattle.ddm_cli.specs.Commands.{recorded_run, surveyed_run}
 use Rattle.ddm_cli.specs.SurveyModel.Laws.{IsLegalEnd}
 use Rattle.ddm_cli.specs.SurveyModel.Survey.{survey_table, survey_text}
 use Rattle.ddm_cli.specs.Pages.{paged_text}
 use Rattle.ddm_cli.specs.Parts.{Parts, parts_for, parts_of, resumed_at, setting_at, tree_at, turns_at, turns_of}
 use Rattle.ddm_cli.specs.Printed.{Writes, legal_line, printed, resumed_report}
-use Rattle.ddm_cli.specs.Refusals.{build_line, checkpoint_line, image_line, small_lists_line, tree_line, tree_line_head, tree_line_rest, witness_line}
+use Rattle.ddm_cli.specs.Refusals.{build_line, checkpoint_line, image_line, small_lists_line, tree_line}
+use Rattle.ddm_cli.specs.Refusals.{tree_line_head, tree_line_rest, witness_line}
 use Rattle.joining.specs.JoinModel.Files.{joined_text, sum_of}
 use Rattle.ddm_cli.specs.TableLines.{table_line, unread_table_line}
 use Rattle.ddm_cli.specs.Told.{ScheduleGiven, files_told, image_faults, image_told, schedule_faults, schedule_told}
 use Rattle.ddm_cli.specs.declared.command.Prints.{Prints}
 use Rattle.ddm_cli.specs.declared.command.Prints.TheVariants.{Report}
 use Rattle.ddm_cli.specs.declared.status.Status.{Status}
-use Rattle.ddm_cli.specs.declared.status.Status.TheVariants.{Done, Usage, ImageLoad, ImageBuild, Tree, Schedule, Witness, Checkpoint, SmallLists, Table, ReadFault, UnreadTable, WriteFault, NoMemory}
+use Rattle.ddm_cli.specs.declared.status.Status.TheVariants.{Done, Usage, ImageLoad, ImageBuild, Tree, Schedule}
+use Rattle.ddm_cli.specs.declared.status.Status.TheVariants.{Witness, Checkpoint, SmallLists, Table, ReadFault}
+use Rattle.ddm_cli.specs.declared.status.Status.TheVariants.{UnreadTable, WriteFault, NoMemory}
 
 -- ---- the text
 
@@ -119,10 +127,15 @@ survey_of s tree image = option_map (survey_at s) (parts_of tree image)
 -- what a command prints, where its files are told and accepted
 abbrev pub command_text : (List ℕ → Option (List ℕ)) → Command → Option (List ℕ)
 command_text told (to_run prints r) =
-    option_and_then (λ tree. option_and_then (λ image. option_and_then (text_of prints tree image) (schedule_told told r.turns)) (image_told told r.image)) (told r.tree)
+    option_and_then
+    (λ tree. option_and_then
+    (λ image. option_and_then (text_of prints tree image) (schedule_told told r.turns))
+    (image_told told r.image)) (told r.tree)
 command_text told (to_list tree seed count) = option_and_then (list_of seed count) (told tree)
 command_text told (to_check c) =
-    option_and_then (λ tree. option_and_then (λ image. option_and_then (verdict_of tree image) (told c.witness)) (told c.image)) (told c.tree)
+    option_and_then
+    (λ tree. option_and_then (λ image. option_and_then (verdict_of tree image) (told c.witness))
+    (told c.image)) (told c.tree)
 command_text told (to_resume r) =
     option_and_then (λ tree. option_and_then (λ image. option_and_then (λ checkpoint.
     option_and_then (resumed_text tree image checkpoint) (told r.schedule)) (told r.checkpoint)) (told r.image)) (told r.tree)
@@ -132,7 +145,10 @@ command_text told (to_measure r) = option_and_then (λ tree. option_and_then (me
 command_text told (to_survey_runs s) = option_and_then (λ tree. option_and_then (survey_of s tree) (told s.image)) (told s.tree)
 command_text told (to_join names) = option_and_then (λ files. result_ok (joined_text files)) (files_told told names)
 command_text told (to_page p) =
-    option_and_then (λ tree. option_and_then (λ image. option_and_then (paged_text tree image) (schedule_told told (paged_run p).turns)) (told p.image)) (told p.tree)
+    option_and_then
+    (λ tree. option_and_then
+    (λ image. option_and_then (paged_text tree image) (schedule_told told (paged_run p).turns))
+    (told p.image)) (told p.tree)
 command_text told (to_say a) = Some (about_text a)
 
 -- ---- order
@@ -166,7 +182,9 @@ RecordedInOrder r p = TurnsInOrder p (recording_of r.kind (shape_view p.tree.lev
 -- after each turn that a machine of a checkpoint makes
 pub record GoesOnInOrder (p : Parts) (r : Resumed) (turns : List Turn) : Type 0 where
   -- where a run from the start comes to that machine, they are in order, with the operations of both together
-  pub of_run : (first : List Turn) → r.machine ≡ (run_of first (start_machine p.tree p.image)).machine → RunInOrder (flat_start_of p.tree p.image) r.machine turns
+  pub of_run :
+      (first : List Turn) → r.machine ≡ (run_of first (start_machine p.tree p.image)).machine →
+      RunInOrder (flat_start_of p.tree p.image) r.machine turns
   -- and whatever it is, if it keeps the rules that every machine keeps: from whatever start its operations are in order, they stay so
   pub stays : IsShaped r.machine → KeepsRules r.machine → (k : ℕ) → StaysInOrder r.machine (run_of (take k turns) r.machine).machine
   pub judged : AreJudged turns r.machine
@@ -188,11 +206,15 @@ RefusesImage refused tree image = Accepts tree_at tree × Both tree image (λ t 
 
 -- the tree and the image are accepted, and with the tree the schedule
 abbrev pub AcceptsRun : Prints → Option (List ℕ) → Option (List ℕ) → Option ScheduleGiven → Type 0
-AcceptsRun prints tree image schedule = AcceptsParts prints tree image × Both tree schedule (λ t s. IfSome (tree_at t) (λ value. IsSome (turns_of value.levels s)))
+AcceptsRun prints tree image schedule =
+    AcceptsParts prints tree image
+    × Both tree schedule (λ t s. IfSome (tree_at t) (λ value. IsSome (turns_of value.levels s)))
 
 -- the schedule is refused in a line for the tree, which is accepted with the image
 abbrev pub RefusesSchedule : Prints → ℕ → ScheduleRefusal → Option (List ℕ) → Option (List ℕ) → Option ScheduleGiven → Type 0
-RefusesSchedule prints line r tree image schedule = AcceptsParts prints tree image × Both tree schedule (λ t s. IfSome (tree_at t) (λ value. IsRefused value.levels line r s))
+RefusesSchedule prints line r tree image schedule =
+    AcceptsParts prints tree image
+    × Both tree schedule (λ t s. IfSome (tree_at t) (λ value. IsRefused value.levels line r s))
 
 -- where all three are told and accepted, their run is in order
 abbrev pub FilesInOrder : Option (List ℕ) → Option (List ℕ) → Option ScheduleGiven → Type 0
@@ -227,30 +249,41 @@ abbrev pub AcceptsCheckpoint : Option (List ℕ) → Option (List ℕ) → Optio
 AcceptsCheckpoint tree image checkpoint = AcceptsParts Report tree image × WithParts tree image checkpoint (λ c p. IsSome (resumed_at p c))
 
 -- what holds of the parts, of the machine of a checkpoint that is accepted for them, and of a schedule, where all are told
-abbrev pub WithResumed : Option (List ℕ) → Option (List ℕ) → Option (List ℕ) → Option (List ℕ) → (Parts → Resumed → List ℕ → Type 0) → Type 0
-WithResumed tree image checkpoint schedule P = IfSome schedule (λ s. WithParts tree image checkpoint (λ c p. IfSome (resumed_at p c) (λ r. P p r s)))
+abbrev pub WithResumed :
+    Option (List ℕ) → Option (List ℕ) → Option (List ℕ) → Option (List ℕ) → (Parts → Resumed → List ℕ → Type 0) →
+    Type 0
+WithResumed tree image checkpoint schedule P =
+    IfSome schedule (λ s. WithParts tree image checkpoint (λ c p. IfSome (resumed_at p c) (λ r. P p r s)))
 
 -- and with it the schedule, which goes on from its turns
 abbrev pub AcceptsRest : Option (List ℕ) → Option (List ℕ) → Option (List ℕ) → Option (List ℕ) → Type 0
 AcceptsRest tree image checkpoint schedule =
-    AcceptsCheckpoint tree image checkpoint × WithResumed tree image checkpoint schedule (λ p r s. IsSome (turns_at p.tree.levels r.counts.turns s))
+    AcceptsCheckpoint tree image checkpoint
+    × WithResumed tree image checkpoint schedule (λ p r s. IsSome (turns_at p.tree.levels r.counts.turns s))
 
 -- where all four are told, this is their text
 abbrev pub HasResumedText : Option (List ℕ) → Option (List ℕ) → Option (List ℕ) → Option (List ℕ) → List ℕ → Type 0
-HasResumedText tree image checkpoint schedule text = Both tree image (λ t i. IfSome checkpoint (λ c. IfSome schedule (λ s. resumed_text t i c s ≡ Some text)))
+HasResumedText tree image checkpoint schedule text =
+    Both tree image (λ t i. IfSome checkpoint (λ c. IfSome schedule (λ s. resumed_text t i c s ≡ Some text)))
 
 -- the checkpoint is refused for the tree and the image, which are accepted
 abbrev pub RefusesCheckpoint : ResumeRefusal → Option (List ℕ) → Option (List ℕ) → Option (List ℕ) → Type 0
-RefusesCheckpoint r tree image checkpoint = AcceptsParts Report tree image × WithParts tree image checkpoint (λ c p. IsUnresumed (start_machine p.tree p.image) r c)
+RefusesCheckpoint r tree image checkpoint =
+    AcceptsParts Report tree image
+    × WithParts tree image checkpoint (λ c p. IsUnresumed (start_machine p.tree p.image) r c)
 
 -- the schedule is refused in a line, where it goes on from the turns of the checkpoint, which is accepted
 abbrev pub RefusesRest : ℕ → ScheduleRefusal → Option (List ℕ) → Option (List ℕ) → Option (List ℕ) → Option (List ℕ) → Type 0
 RefusesRest line refusal tree image checkpoint schedule =
-    AcceptsCheckpoint tree image checkpoint × WithResumed tree image checkpoint schedule (λ p r s. IsUnscheduled p.tree.levels r.counts.turns line refusal s)
+    AcceptsCheckpoint tree image checkpoint
+    × WithResumed tree image checkpoint schedule
+    (λ p r s. IsUnscheduled p.tree.levels r.counts.turns line refusal s)
 
 -- where all four are told and accepted, the run goes on in order
 abbrev pub RestInOrder : Option (List ℕ) → Option (List ℕ) → Option (List ℕ) → Option (List ℕ) → Type 0
-RestInOrder tree image checkpoint schedule = WithResumed tree image checkpoint schedule (λ p r s. IfSome (turns_at p.tree.levels r.counts.turns s) (GoesOnInOrder p r))
+RestInOrder tree image checkpoint schedule =
+    WithResumed tree image checkpoint schedule
+    (λ p r s. IfSome (turns_at p.tree.levels r.counts.turns s) (GoesOnInOrder p r))
 
 -- ---- what a command reads
 
@@ -260,7 +293,8 @@ module _ {F : Type 0} (told : F → List ℕ → Option (List ℕ)) where
   HasAccepted files text (to_run prints r) =
       AcceptsRun prints (told files r.tree) (image_told (told files) r.image) (schedule_told (told files) r.turns)
       × HasText prints (told files r.tree) (image_told (told files) r.image) (schedule_told (told files) r.turns) text
-  HasAccepted files text (to_list tree seed count) = Accepts tree_at (told files tree) × IfSome (told files tree) (λ t. list_of seed count t ≡ Some text)
+  HasAccepted files text (to_list tree seed count) =
+      Accepts tree_at (told files tree) × IfSome (told files tree) (λ t. list_of seed count t ≡ Some text)
   HasAccepted files text (to_check c) =
       AcceptsSetting (told files c.tree) (told files c.image)
       × ((lines : ℕ) × (text ≡ legal_line lines) × HasLegalLines lines (told files c.tree) (told files c.image) (told files c.witness))
@@ -268,13 +302,17 @@ module _ {F : Type 0} (told : F → List ℕ → Option (List ℕ)) where
       AcceptsRest (told files r.tree) (told files r.image) (told files r.checkpoint) (told files r.schedule)
       × HasResumedText (told files r.tree) (told files r.image) (told files r.checkpoint) (told files r.schedule) text
   HasAccepted files text (to_survey s) =
-      AcceptsParts Report (told files s.tree) (told files s.image) × Both (told files s.tree) (told files s.image) (λ t i. outcomes_of s t i ≡ Some text)
+      AcceptsParts Report (told files s.tree) (told files s.image)
+      × Both (told files s.tree) (told files s.image) (λ t i. outcomes_of s t i ≡ Some text)
   HasAccepted files text (to_record r) =
-      AcceptsParts Report (told files r.tree) (told files r.image) × Both (told files r.tree) (told files r.image) (λ t i. record_of r t i ≡ Some text)
+      AcceptsParts Report (told files r.tree) (told files r.image)
+      × Both (told files r.tree) (told files r.image) (λ t i. record_of r t i ≡ Some text)
   HasAccepted files text (to_measure r) =
-      AcceptsParts Report (told files r.tree) (told files r.image) × Both (told files r.tree) (told files r.image) (λ t i. measure_of r t i ≡ Some text)
+      AcceptsParts Report (told files r.tree) (told files r.image)
+      × Both (told files r.tree) (told files r.image) (λ t i. measure_of r t i ≡ Some text)
   HasAccepted files text (to_survey_runs s) =
-      AcceptsParts Report (told files s.tree) (told files s.image) × Both (told files s.tree) (told files s.image) (λ t i. survey_of s t i ≡ Some text)
+      AcceptsParts Report (told files s.tree) (told files s.image)
+      × Both (told files s.tree) (told files s.image) (λ t i. survey_of s t i ≡ Some text)
   HasAccepted files text (to_join names) = IfSome (files_told (told files) names) (λ tables. joined_text tables ≡ Ok text)
   HasAccepted files text (to_page p) =
       AcceptsRun Report (told files p.tree) (told files p.image) (schedule_told (told files) (paged_run p).turns)
@@ -292,7 +330,8 @@ module _ {F : Type 0} (told : F → List ℕ → Option (List ℕ)) where
   -- where all that a run is made of is told and accepted, it is in order, and so are the runs of many seeds; one that goes on stays so;
   -- other commands make none
   abbrev pub IsInOrder : F → Command → Type 0
-  IsInOrder files (to_run prints r) = FilesInOrder (told files r.tree) (image_told (told files) r.image) (schedule_told (told files) r.turns)
+  IsInOrder files (to_run prints r) =
+      FilesInOrder (told files r.tree) (image_told (told files) r.image) (schedule_told (told files) r.turns)
   IsInOrder files (to_list tree seed count) = Unit {0}
   IsInOrder files (to_check c) = Unit {0}
   IsInOrder files (to_resume r) = RestInOrder (told files r.tree) (told files r.image) (told files r.checkpoint) (told files r.schedule)
@@ -332,7 +371,9 @@ module _ {F : Type 0} (told : F → List ℕ → Option (List ℕ)) where
     NoRun prints (ImageLoad r) n = RefusesImage (λ t. IsUnloaded t r) (told files n.tree) (image_told (told files) n.image)
     NoRun prints (ImageBuild r) n = RefusesImage (λ t. IsUnstarted t r) (told files n.tree) (image_told (told files) n.image)
     NoRun prints (SmallLists key) n = RefusesImage (HasSmallList prints key) (told files n.tree) (image_told (told files) n.image)
-    NoRun prints (Schedule line r) n = RefusesSchedule prints line r (told files n.tree) (image_told (told files) n.image) (schedule_told (told files) n.turns)
+    NoRun prints (Schedule line r) n =
+        RefusesSchedule prints line r (told files n.tree) (image_told (told files) n.image)
+        (schedule_told (told files) n.turns)
     NoRun prints (ReadFault role) n = CantRead prints role n
     NoRun prints NoMemory n = Unit {0}
     NoRun prints _ n = ⊥
@@ -351,7 +392,8 @@ module _ {F : Type 0} (told : F → List ℕ → Option (List ℕ)) where
     NoVerdict (ImageLoad r) c = RefusesImage (λ t. IsUnloaded t r) (told files c.tree) (told files c.image)
     NoVerdict (ImageBuild r) c = RefusesImage (λ t. HasNoSetting t r) (told files c.tree) (told files c.image)
     NoVerdict (Witness r) c =
-        AcceptsSetting (told files c.tree) (told files c.image) × IsJudged (Err r) (told files c.tree) (told files c.image) (told files c.witness)
+        AcceptsSetting (told files c.tree) (told files c.image)
+        × IsJudged (Err r) (told files c.tree) (told files c.image) (told files c.witness)
     NoVerdict (ReadFault role) c = CantReadFor role c
     NoVerdict NoMemory c = Unit {0}
     NoVerdict _ c = ⊥
@@ -361,7 +403,9 @@ module _ {F : Type 0} (told : F → List ℕ → Option (List ℕ)) where
     CantReadRest TreeFile r = FileFailed r.tree
     CantReadRest ImageFile r = FileFailed r.image × Accepts tree_at (told files r.tree)
     CantReadRest CheckpointFile r = FileFailed r.checkpoint × AcceptsParts Report (told files r.tree) (told files r.image)
-    CantReadRest ScheduleFile r = FileFailed r.schedule × AcceptsCheckpoint (told files r.tree) (told files r.image) (told files r.checkpoint)
+    CantReadRest ScheduleFile r =
+        FileFailed r.schedule
+        × AcceptsCheckpoint (told files r.tree) (told files r.image) (told files r.checkpoint)
     CantReadRest WitnessFile r = ⊥
 
     -- why nothing is printed of a run that goes on; the other statuses are no such answers
@@ -370,14 +414,18 @@ module _ {F : Type 0} (told : F → List ℕ → Option (List ℕ)) where
     NoRest (ImageLoad r) n = RefusesImage (λ t. IsUnloaded t r) (told files n.tree) (told files n.image)
     NoRest (ImageBuild r) n = RefusesImage (λ t. IsUnstarted t r) (told files n.tree) (told files n.image)
     NoRest (Checkpoint r) n = RefusesCheckpoint r (told files n.tree) (told files n.image) (told files n.checkpoint)
-    NoRest (Schedule line r) n = RefusesRest line r (told files n.tree) (told files n.image) (told files n.checkpoint) (told files n.schedule)
+    NoRest (Schedule line r) n =
+        RefusesRest line r (told files n.tree) (told files n.image) (told files n.checkpoint)
+        (told files n.schedule)
     NoRest (ReadFault role) n = CantReadRest role n
     NoRest NoMemory n = Unit {0}
     NoRest _ n = ⊥
 
     -- the tables before this one are accepted, and the count of its failed reads rose
     abbrev pub CantReadTable : ℕ → List (List ℕ) → Type 0
-    CantReadTable n names = IsSomeAnd (slice_get names (n - 1)) FileFailed × IfSome (files_told (told files) (take (n - 1) names)) (λ tables. IsOk (sum_of tables))
+    CantReadTable n names =
+        IsSomeAnd (slice_get names (n - 1)) FileFailed
+        × IfSome (files_told (told files) (take (n - 1) names)) (λ tables. IsOk (sum_of tables))
 
     -- why tables aren't put together; the other statuses are no such answers
     abbrev pub NoJoin : Status → List (List ℕ) → Type 0
@@ -422,7 +470,8 @@ module _ {F : Type 0} (told : F → List ℕ → Option (List ℕ)) where
 
 -- ---- the command
 
-module _ {F K : Type 0} (told : F → List ℕ → Option (List ℕ)) (faults : F → List ℕ → ℕ) (held : K → Option (List ℕ)) (failures : K → ℕ) where
+module _ {F K : Type 0} (told : F → List ℕ → Option (List ℕ)) (faults : F → List ℕ → ℕ)
+    (held : K → Option (List ℕ)) (failures : K → ℕ) where
   -- a first part of the text was written, and the count of failed writes rose
   abbrev pub WritesPart : K → K → List ℕ → Type 0
   WritesPart out out' text = AppendsPart (held out) (held out') text × Rose (failures out) (failures out')
@@ -438,13 +487,17 @@ module _ {F K : Type 0} (told : F → List ℕ → Option (List ℕ)) (faults : 
   StatusHasCause words files files' out out' (Tree r) = Refused told faults files files' words (Tree r) × (held out' ≡ held out)
   StatusHasCause words files files' out out' (ImageLoad r) = Refused told faults files files' words (ImageLoad r) × (held out' ≡ held out)
   StatusHasCause words files files' out out' (ImageBuild r) = Refused told faults files files' words (ImageBuild r) × (held out' ≡ held out)
-  StatusHasCause words files files' out out' (Schedule line r) = Refused told faults files files' words (Schedule line r) × (held out' ≡ held out)
+  StatusHasCause words files files' out out' (Schedule line r) =
+      Refused told faults files files' words (Schedule line r) × (held out' ≡ held out)
   StatusHasCause words files files' out out' (Witness r) = Refused told faults files files' words (Witness r) × (held out' ≡ held out)
   StatusHasCause words files files' out out' (Checkpoint r) = Refused told faults files files' words (Checkpoint r) × (held out' ≡ held out)
-  StatusHasCause words files files' out out' (SmallLists key) = Refused told faults files files' words (SmallLists key) × (held out' ≡ held out)
+  StatusHasCause words files files' out out' (SmallLists key) =
+      Refused told faults files files' words (SmallLists key) × (held out' ≡ held out)
   StatusHasCause words files files' out out' (Table n r) = Refused told faults files files' words (Table n r) × (held out' ≡ held out)
-  StatusHasCause words files files' out out' (UnreadTable n) = Refused told faults files files' words (UnreadTable n) × (held out' ≡ held out)
-  StatusHasCause words files files' out out' (ReadFault role) = Refused told faults files files' words (ReadFault role) × (held out' ≡ held out)
+  StatusHasCause words files files' out out' (UnreadTable n) =
+      Refused told faults files files' words (UnreadTable n) × (held out' ≡ held out)
+  StatusHasCause words files files' out out' (ReadFault role) =
+      Refused told faults files files' words (ReadFault role) × (held out' ≡ held out)
   StatusHasCause words files files' out out' NoMemory = Refused told faults files files' words NoMemory × (held out' ≡ held out)
 
   -- Where the words are in the grammar, the told files are accepted and nothing failed, all was done, or memory ran out.

@@ -4,7 +4,11 @@ use Rattle.std.specs.String.{string_bytes}
 use Rattle.ddm_cli.specs.Commands as said
 use Rattle.ddm_cli.specs.declared.command.Check.{Check}
 use Rattle.ddm_cli.specs.declared.command.Command.{Command}
-use Rattle.ddm_cli.specs.declared.command.Command.TheVariants.{Run as ToRun, List as ToList, Check as ToCheck, Resume as ToResume, Outcomes as ToSurvey, Record as ToRecord, Measure as ToMeasure, Survey as ToSurveyRuns, Join as ToJoin, Page as ToPage, About as ToSay}
+use Rattle.ddm_cli.specs.declared.command.Command.TheVariants.{Run as ToRun, List as ToList, Check as ToCheck}
+use Rattle.ddm_cli.specs.declared.command.Command.TheVariants.{Resume as ToResume, Outcomes as ToSurvey}
+use Rattle.ddm_cli.specs.declared.command.Command.TheVariants.{Record as ToRecord, Measure as ToMeasure}
+use Rattle.ddm_cli.specs.declared.command.Command.TheVariants.{Survey as ToSurveyRuns, Join as ToJoin, Page as ToPage}
+use Rattle.ddm_cli.specs.declared.command.Command.TheVariants.{About as ToSay}
 use Rattle.ddm_cli.specs.declared.command.ImageSource.{ImageSource}
 use Rattle.ddm_cli.specs.declared.command.ImageSource.TheVariants.{File as ImageFile, Made}
 use Rattle.ddm_cli.specs.declared.command.Paged.{Paged}

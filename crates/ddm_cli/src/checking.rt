@@ -40,7 +40,9 @@ fn feed_file<F: Shelf>(
     requires room { 0 < length buffer.old }
     requires begins { (s : Setting) × (reader.old ≡ begun s) }
     ensures read { IfOk result (λ u. IfSome (F.told files.old name.now) (IsBehind reader.old reader.new)) }
-    ensures cause { IfErr result (WitnessCause reader.old (F.told files.old name.now) (F.faults files.old name.now) (F.faults files.new name.now)) }
+    ensures cause { IfErr result
+        (WitnessCause reader.old (F.told files.old name.now) (F.faults files.old name.now)
+        (F.faults files.new name.now)) }
 {
     let mut at = 0;
     'reading: loop {
@@ -67,7 +69,9 @@ fn lines_in<F: Shelf>(
     requires room { 0 < length buffer.old }
     requires begins { (s : Setting) × (reader ≡ begun s) }
     ensures comes { IfOk result (λ lines. IfSome (F.told files.old name.now) (ComesTo reader (Ok lines))) }
-    ensures cause { IfErr result (WitnessCause reader (F.told files.old name.now) (F.faults files.old name.now) (F.faults files.new name.now)) }
+    ensures cause { IfErr result
+        (WitnessCause reader (F.told files.old name.now) (F.faults files.old name.now)
+        (F.faults files.new name.now)) }
 {
     feed_file(files, name, buffer, &mut reader)?;
     match reader.finish() {

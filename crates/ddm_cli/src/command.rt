@@ -91,7 +91,8 @@ pub struct Seeds<'a> {
     pub turns: u32,
 }
 
-/// Whose recorded run is written or measured: the machine of the files of an image and of a tree, over the turns of a seed that are let by, of which
+/// Whose recorded run is written or measured: the machine of the files of an image and of a tree, over the turns of a
+/// seed that are let by, of which
 /// so many may be recorded.
 #[derive(Clone, Copy)]
 pub struct Recorded<'a> {

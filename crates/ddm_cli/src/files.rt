@@ -59,7 +59,9 @@ pub fn image_in<F: Shelf>(
 ) -> Result<Image, Status>
     requires { 0 < length buffer.old }
     ensures found { IfOk result (λ i. IfSome (F.told files.old name.now) (λ file. image_of tree.now.item_bytes file ≡ Ok i)) }
-    ensures cause { IfErr result (NoImage tree.now (F.told files.old name.now) (F.faults files.old name.now) (F.faults files.new name.now)) }
+    ensures cause { IfErr result
+        (NoImage tree.now (F.told files.old name.now) (F.faults files.old name.now)
+        (F.faults files.new name.now)) }
     ensures same { F.told files.new ≡ F.told files.old }
     ensures later { (other : List ℕ) → F.faults files.old other ≤ F.faults files.new other }
 {
@@ -80,9 +82,14 @@ pub fn image_file<F: Shelf>(
     tree: &TreeConfig,
 ) -> Result<AnyMachine, Status>
     requires { 0 < length buffer.old }
-    ensures found { IfOk result (λ m. (i : ImageValue) × IsStart tree.now i (machine_state m) × IfSome (F.told files.old name.now) (λ file. image_of tree.now.item_bytes file ≡ Ok i)) }
+    ensures found { IfOk result
+        (λ m. (i : ImageValue)
+        × IsStart tree.now i (machine_state m)
+        × IfSome (F.told files.old name.now) (λ file. image_of tree.now.item_bytes file ≡ Ok i)) }
     ensures taken { IfOk result (λ m. Accepts (parts_in tree.now) (F.told files.old name.now)) }
-    ensures cause { IfErr result (ImageCause tree.now (F.told files.old name.now) (F.faults files.old name.now) (F.faults files.new name.now)) }
+    ensures cause { IfErr result
+        (ImageCause tree.now (F.told files.old name.now) (F.faults files.old name.now)
+        (F.faults files.new name.now)) }
     ensures same { F.told files.new ≡ F.told files.old }
     ensures later { (other : List ℕ) → F.faults files.old other ≤ F.faults files.new other }
 {
@@ -99,10 +106,15 @@ pub fn image_machines<F: Shelf>(
     tree: &TreeConfig,
 ) -> Result<(AnyMachine, AnyMachine), Status>
     requires { 0 < length buffer.old }
-    ensures found { IfOk result (λ ms. (i : ImageValue) × IsStart tree.now i (machine_state ms.0) × IfSome (F.told files.old name.now) (λ file. image_of tree.now.item_bytes file ≡ Ok i)) }
+    ensures found { IfOk result
+        (λ ms. (i : ImageValue)
+        × IsStart tree.now i (machine_state ms.0)
+        × IfSome (F.told files.old name.now) (λ file. image_of tree.now.item_bytes file ≡ Ok i)) }
     ensures alike { IfOk result (λ ms. machine_state ms.1 ≡ machine_state ms.0) }
     ensures kind { IfOk result (λ ms. kind_of ms.1 ≡ kind_of ms.0) }
-    ensures cause { IfErr result (ImageCause tree.now (F.told files.old name.now) (F.faults files.old name.now) (F.faults files.new name.now)) }
+    ensures cause { IfErr result
+        (ImageCause tree.now (F.told files.old name.now) (F.faults files.old name.now)
+        (F.faults files.new name.now)) }
     ensures same { F.told files.new ≡ F.told files.old }
     ensures later { (other : List ℕ) → F.faults files.old other ≤ F.faults files.new other }
 {
@@ -119,7 +131,10 @@ fn made_machine(
 ) -> Result<AnyMachine, Status>
     requires some { 1 ≤ rounds }
     requires few { rounds ≤ 50000 }
-    ensures found { IfOk result (λ m. (i : ImageValue) × IsStart tree.now i (machine_state m) × (image_of tree.now.item_bytes (made_image seed rounds) ≡ Ok i)) }
+    ensures found { IfOk result
+        (λ m. (i : ImageValue)
+        × IsStart tree.now i (machine_state m)
+        × (image_of tree.now.item_bytes (made_image seed rounds) ≡ Ok i)) }
     ensures taken { IfOk result (λ m. IsSome (parts_in tree.now (made_image seed rounds))) }
     ensures cause { IfErr result (ImageCause tree.now (Some (made_image seed rounds)) 0 0) }
 {
@@ -138,9 +153,16 @@ pub fn image_machine<F: Shelf>(
 ) -> Result<AnyMachine, Status>
     requires room { 0 < length buffer.old }
     requires made { IsMakeable (image_from image) }
-    ensures found { IfOk result (λ m. (i : ImageValue) × IsStart tree.now i (machine_state m) × IfSome (image_told (F.told files.old) (image_from image.entry)) (λ file. image_of tree.now.item_bytes file ≡ Ok i)) }
+    ensures found { IfOk result
+        (λ m. (i : ImageValue)
+        × IsStart tree.now i (machine_state m)
+        × IfSome (image_told (F.told files.old) (image_from image.entry))
+        (λ file. image_of tree.now.item_bytes file ≡ Ok i)) }
     ensures taken { IfOk result (λ m. Accepts (parts_in tree.now) (image_told (F.told files.old) (image_from image.entry))) }
-    ensures cause { IfErr result (ImageCause tree.now (image_told (F.told files.old) (image_from image.entry)) (image_faults (F.faults files.old) (image_from image.entry)) (image_faults (F.faults files.new) (image_from image.entry))) }
+    ensures cause { IfErr result
+        (ImageCause tree.now (image_told (F.told files.old) (image_from image.entry))
+        (image_faults (F.faults files.old) (image_from image.entry))
+        (image_faults (F.faults files.new) (image_from image.entry))) }
     ensures same { F.told files.new ≡ F.told files.old }
     ensures later { (other : List ℕ) → F.faults files.old other ≤ F.faults files.new other }
 {
@@ -160,7 +182,9 @@ pub fn setting_file<F: Shelf>(
 ) -> Result<WitnessReader, Status>
     requires { 0 < length buffer.old }
     ensures found { IfOk result (BeginsFor tree.now (F.told files.old name.now)) }
-    ensures cause { IfErr result (JudgedImageCause tree.now (F.told files.old name.now) (F.faults files.old name.now) (F.faults files.new name.now)) }
+    ensures cause { IfErr result
+        (JudgedImageCause tree.now (F.told files.old name.now) (F.faults files.old name.now)
+        (F.faults files.new name.now)) }
     ensures same { F.told files.new ≡ F.told files.old }
     ensures later { (other : List ℕ) → F.faults files.old other ≤ F.faults files.new other }
 {

@@ -1,6 +1,7 @@
 //! The command `join`: the tables of several files, put together as one.
 
-ghost use Rattle.std.specs.Prelude.{◌≡◌, ◌≤◌, ◌<◌, ◌+◌, ℕ, List, Ok, length, map, take, IfErr, IfOk, IfSome, MatchResult, OnErr, OnOk, sum_by};
+ghost use Rattle.std.specs.Prelude.{◌≡◌, ◌≤◌, ◌<◌, ◌+◌, ℕ, List, Ok, length, map, take, IfErr, IfOk, IfSome};
+ghost use Rattle.std.specs.Prelude.{MatchResult, OnErr, OnOk, sum_by};
 ghost use Rattle.std.specs.String.{string_bytes};
 ghost use Rattle.ddm_cli.specs.DdmOutside.Causes.{HasCause, Rose};
 ghost use Rattle.ddm_cli.specs.Commands.{IsInRange, to_join};
@@ -63,7 +64,9 @@ fn table_file<F: Shelf>(
     requires room { 0 < length buffer.old }
     ensures found { IfOk result (λ t. IfSome (F.told files.old name.now) (λ file. table_in file ≡ Ok (table_said t))) }
     ensures counted { IfOk result (λ t. sum_by times t.lines.items ≡ t.runs) }
-    ensures cause { IfErr result (TableCause number (F.told files.old name.now) (F.faults files.old name.now) (F.faults files.new name.now)) }
+    ensures cause { IfErr result
+        (TableCause number (F.told files.old name.now) (F.faults files.old name.now)
+        (F.faults files.new name.now)) }
     ensures same { F.told files.new ≡ F.told files.old }
     ensures later { (other : List ℕ) → F.faults files.old other ≤ F.faults files.new other }
 {
@@ -91,7 +94,9 @@ fn tables_sum<F: Shelf>(
 ) -> Result<TableSum, Status>
     requires room { 0 < length buffer.old }
     requires few { length names.now ≤ 256 }
-    ensures sum { IfOk result (λ s. IfSome (files_told (F.told files.old) (map string_bytes names.now)) (λ tables. sum_of tables ≡ Ok (sum_said s))) }
+    ensures sum { IfOk result
+        (λ s. IfSome (files_told (F.told files.old) (map string_bytes names.now))
+        (λ tables. sum_of tables ≡ Ok (sum_said s))) }
     ensures refused { IfErr result (λ status. NoJoin F.told F.faults files.old files.new status (map string_bytes names.now)) }
 {
     let mut sum = TableSum::new(alloc);
@@ -135,7 +140,9 @@ pub fn write_joined<F: Shelf, K: Sink>(
     names: &[String],
 ) -> Result<Result<(), Failed>, Status>
     requires range { IsInRange (to_join (map string_bytes names.now)) }
-    ensures written { IfOk result (WritesAccepted F.told files.old (K.held out.old) (K.held out.new) (to_join (map string_bytes names.now))) }
+    ensures written { IfOk result
+        (WritesAccepted F.told files.old (K.held out.old) (K.held out.new)
+        (to_join (map string_bytes names.now))) }
     ensures failed { IfOk result (HasCause (K.faults out.old) (K.faults out.new)) }
     ensures refused { IfErr result (λ status. NoJoin F.told F.faults files.old files.new status (map string_bytes names.now)) }
     ensures same { OnErr result (K.held out.new ≡ K.held out.old) }

@@ -78,7 +78,13 @@ fn make_turns(
     requires counted { CanCount made.old.counts (counts_in turns.now (machine_state machine.old)) }
     ensures after { OnOk result (machine_state machine.new ≡ ran turns.now (with_room (length turns.now) (machine_state machine.old))) }
     ensures counts { OnOk result (made.new.counts ≡ counts_plus made.old.counts (counts_in turns.now (machine_state machine.old))) }
-    ensures trace { OnOk result (made.new.trace.items ≡ (if keep then made.old.trace.items ++ trace_from made.old.counts.turns turns.now (answers_in turns.now (machine_state machine.old)) else made.old.trace.items)) }
+    ensures trace { OnOk result
+        (made.new.trace.items
+        ≡ (if keep
+        then made.old.trace.items
+        ++ trace_from made.old.counts.turns turns.now
+        (answers_in turns.now (machine_state machine.old))
+        else made.old.trace.items)) }
 {
     answers.clear();
     let counts = run(machine, turns, answers, keep)?;
@@ -103,8 +109,12 @@ pub fn schedule_made<F: Shelf>(
 ) -> Result<Made, Status>
     requires room { 0 < length buffer.old }
     requires start { CanGoOn tree.now.levels first (machine_state machine.old) }
-    ensures all { IfOk result (λ made. HasAllMade (turns_at tree.now.levels first.turns) (F.told files.old name.now) first keep false (machine_state machine.old) (machine_state machine.new) made) }
-    ensures cause { IfErr result (ScheduleCause (IsUnscheduled tree.now.levels first.turns) (F.told files.old name.now) (F.faults files.old name.now) (F.faults files.new name.now)) }
+    ensures all { IfOk result
+        (λ made. HasAllMade (turns_at tree.now.levels first.turns) (F.told files.old name.now) first keep false
+        (machine_state machine.old) (machine_state machine.new) made) }
+    ensures cause { IfErr result
+        (ScheduleCause (IsUnscheduled tree.now.levels first.turns) (F.told files.old name.now)
+        (F.faults files.old name.now) (F.faults files.new name.now)) }
     ensures later { (other : List ℕ) → F.faults files.old other ≤ F.faults files.new other }
 {
     let mut reader = ScheduleReader::after(alloc, first.turns)?;
@@ -141,7 +151,9 @@ fn turn_block(alloc: Global) -> Result<Vec<Turn>, NoMemory>
 
 // Forgets the operations of a machine of which none is printed.
 fn forget_unprinted(machine: &mut AnyMachine, prints: Prints)
-    ensures { machine_state machine.new ≡ record (machine_state machine.old) { machine = kept_of (is_summary prints) (machine_state machine.old).machine } }
+    ensures { machine_state machine.new
+        ≡ record (machine_state machine.old)
+        { machine = kept_of (is_summary prints) (machine_state machine.old).machine } }
 {
     if prints.is_summary() {
         forget_ops(machine);
@@ -160,7 +172,9 @@ fn seed_made(
     requires few { count ≤ 1048576 }
     requires tree { IsTree tree.now }
     requires start { CanGoOn tree.now.levels no_counts (machine_state machine.old) }
-    ensures { IfOk result (λ made. HasAllMade (turns_of tree.now.levels) (Some (Told.seeded seed count)) no_counts (is_trace prints) (is_summary prints) (machine_state machine.old) (machine_state machine.new) made) }
+    ensures { IfOk result
+        (λ made. HasAllMade (turns_of tree.now.levels) (Some (Told.seeded seed count)) no_counts
+        (is_trace prints) (is_summary prints) (machine_state machine.old) (machine_state machine.new) made) }
 {
     let mut left = SeededTurns::new(alloc, &tree.nodes)?;
     left.begin(seed, count);
@@ -197,8 +211,14 @@ pub fn turns_made<F: Shelf>(
     requires few { AreFew (turns_from turns) }
     requires tree { IsTree tree.now }
     requires start { CanGoOn tree.now.levels no_counts (machine_state machine.old) }
-    ensures all { IfOk result (λ made. HasAllMade (turns_of tree.now.levels) (schedule_told (F.told files.old) (turns_from turns.entry)) no_counts (is_trace prints) (is_summary prints) (machine_state machine.old) (machine_state machine.new) made) }
-    ensures cause { IfErr result (ScheduleCause (IsRefused tree.now.levels) (schedule_told (F.told files.old) (turns_from turns.entry)) (schedule_faults (F.faults files.old) (turns_from turns.entry)) (schedule_faults (F.faults files.new) (turns_from turns.entry))) }
+    ensures all { IfOk result
+        (λ made. HasAllMade (turns_of tree.now.levels)
+        (schedule_told (F.told files.old) (turns_from turns.entry)) no_counts (is_trace prints)
+        (is_summary prints) (machine_state machine.old) (machine_state machine.new) made) }
+    ensures cause { IfErr result
+        (ScheduleCause (IsRefused tree.now.levels) (schedule_told (F.told files.old) (turns_from turns.entry))
+        (schedule_faults (F.faults files.old) (turns_from turns.entry))
+        (schedule_faults (F.faults files.new) (turns_from turns.entry))) }
     ensures later { (other : List ℕ) → F.faults files.old other ≤ F.faults files.new other }
 {
     match turns {

@@ -72,8 +72,14 @@ fn first_machine<F: Shelf>(
     tree: &TreeConfig,
 ) -> Result<AnyMachine, Status>
     requires { 0 < length buffer.old }
-    ensures found { IfOk result (λ m. (i : ImageValue) × IsStart tree.now i (machine_state m) × IsOfBytes i × IfSome (F.told files.old name.now) (λ file. image_of tree.now.item_bytes file ≡ Ok i)) }
-    ensures cause { IfErr result (ImageCause tree.now (F.told files.old name.now) (F.faults files.old name.now) (F.faults files.new name.now)) }
+    ensures found { IfOk result
+        (λ m. (i : ImageValue)
+        × IsStart tree.now i (machine_state m)
+        × IsOfBytes i
+        × IfSome (F.told files.old name.now) (λ file. image_of tree.now.item_bytes file ≡ Ok i)) }
+    ensures cause { IfErr result
+        (ImageCause tree.now (F.told files.old name.now) (F.faults files.old name.now)
+        (F.faults files.new name.now)) }
     ensures same { F.told files.new ≡ F.told files.old }
     ensures later { (other : List ℕ) → F.faults files.old other ≤ F.faults files.new other }
 {
@@ -93,7 +99,9 @@ fn turns_read<F: Shelf>(
     requires { 0 < length buffer.old }
     ensures accepted { IfOk result (λ turns. AcceptedAs (turns_at tree.now.levels before_page) (F.told files.old name.now) turns.items) }
     ensures given { IfOk result (λ turns. GivesTurnsOf (shape_view tree.now.levels) before_page turns.items) }
-    ensures cause { IfErr result (ScheduleCause (IsUnscheduled tree.now.levels before_page) (F.told files.old name.now) (F.faults files.old name.now) (F.faults files.new name.now)) }
+    ensures cause { IfErr result
+        (ScheduleCause (IsUnscheduled tree.now.levels before_page) (F.told files.old name.now)
+        (F.faults files.old name.now) (F.faults files.new name.now)) }
 {
     let mut reader = ScheduleReader::after(alloc, BEFORE_PAGE)?;
     let mut turns = Vec::new(alloc);
@@ -129,7 +137,9 @@ fn page_read<F: Shelf>(
     requires tree { IsTree tree.now }
     requires start { (i : ImageValue) × IsStart tree.now i (machine_state machine.old) × IsOfBytes i }
     ensures page { IfOk result (λ text. IsPageBy tree.now (F.told files.old name.now) (machine_state machine.old).machine text.items) }
-    ensures cause { IfErr result (ScheduleCause (IsUnscheduled tree.now.levels before_page) (F.told files.old name.now) (F.faults files.old name.now) (F.faults files.new name.now)) }
+    ensures cause { IfErr result
+        (ScheduleCause (IsUnscheduled tree.now.levels before_page) (F.told files.old name.now)
+        (F.faults files.old name.now) (F.faults files.new name.now)) }
 {
     let turns = turns_read(alloc, files, name, buffer, tree)?;
     Ok(page_text(alloc, tree, machine, &turns)?)
@@ -138,7 +148,8 @@ fn page_read<F: Shelf>(
 // The page of a tree file, an image file and a schedule file, or the status without it.
 fn page_said<F: Shelf>(alloc: Global, files: &mut F, paged: Paged<'_>) -> Result<Vec<u8>, Status>
     ensures taken { IfOk result (λ text. HasAccepted F.told files.old text.items (to_page (paged_from paged.entry))) }
-    ensures refused { IfErr result (λ status. NoRun F.told F.faults files.old files.new Report status (paged_run (paged_from paged.entry))) }
+    ensures refused { IfErr result
+        (λ status. NoRun F.told F.faults files.old files.new Report status (paged_run (paged_from paged.entry))) }
 {
     let mut buffer = read_buffer(alloc)?;
     let tree = tree_file(alloc, files, paged.tree, &mut buffer)?;
@@ -164,7 +175,8 @@ pub fn write_paged<F: Shelf, K: Sink>(
 ) -> Result<Result<(), Failed>, Status>
     ensures written { IfOk result (WritesAccepted F.told files.old (K.held out.old) (K.held out.new) (to_page (paged_from paged.entry))) }
     ensures failed { IfOk result (HasCause (K.faults out.old) (K.faults out.new)) }
-    ensures refused { IfErr result (λ status. NoRun F.told F.faults files.old files.new Report status (paged_run (paged_from paged.entry))) }
+    ensures refused { IfErr result
+        (λ status. NoRun F.told F.faults files.old files.new Report status (paged_run (paged_from paged.entry))) }
     ensures same { OnErr result (K.held out.new ≡ K.held out.old) }
 {
     let text = page_said(alloc, files, paged)?;

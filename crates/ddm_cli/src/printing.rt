@@ -57,7 +57,9 @@ pub fn write_report<K: Sink>(
     buffer: &mut [u8],
 ) -> Result<Result<(), Failed>, NoMemory>
     requires room { 1024 ≤ length buffer.old }
-    ensures written { let m = (machine_state machine.now).machine in IfOk result (Writes (K.held out.old) (K.held out.new) (made.now.trace.items ++ report_of (view_of (depth_of m) made.now.counts m))) }
+    ensures written { let m = (machine_state machine.now).machine in
+        IfOk result (Writes (K.held out.old) (K.held out.new)
+        (made.now.trace.items ++ report_of (view_of (depth_of m) made.now.counts m))) }
     ensures cause { IfOk result (HasCause (K.faults out.old) (K.faults out.new)) }
     ensures same { OnErr result (K.held out.new ≡ K.held out.old) }
 {
@@ -78,7 +80,9 @@ fn write_made<K: Sink>(
     requires room { 1024 ≤ length buffer.old }
     requires counted { is_summary prints ≡ false → made.now.counts.retired ≡ length (machine_state machine.now).machine.ops }
     requires large { prints ≡ Unjamming → has_large_lists (machine_state machine.now).machine ≡ true }
-    ensures written { IfOk result (Writes (K.held out.old) (K.held out.new) (made_text prints (machine_state machine.now).machine made.now)) }
+    ensures written { IfOk result
+        (Writes (K.held out.old) (K.held out.new)
+        (made_text prints (machine_state machine.now).machine made.now)) }
     ensures cause { IfOk result (HasCause (K.faults out.old) (K.faults out.new)) }
     ensures same { OnErr result (K.held out.new ≡ K.held out.old) }
 {
@@ -112,10 +116,16 @@ pub fn write_ran<F: Shelf, K: Sink>(
     requires few { AreFew (turns_from turns) }
     requires tree { IsTree tree.now }
     requires start { HasStart tree.now (machine_state machine.old) }
-    ensures ran { IfOk result (WritesRan prints tree.now.levels (schedule_told (F.told files.old) (turns_from turns.entry)) (machine_state machine.old).machine (K.held out.old) (K.held out.new)) }
+    ensures ran { IfOk result
+        (WritesRan prints tree.now.levels (schedule_told (F.told files.old) (turns_from turns.entry))
+        (machine_state machine.old).machine (K.held out.old) (K.held out.new)) }
     ensures failed { IfOk result (HasCause (K.faults out.old) (K.faults out.new)) }
     ensures large { OnOk result (list_refused prints tree.now.sizes (item_count (machine_state machine.old).machine.items) ≡ None) }
-    ensures cause { IfErr result (RanCause prints tree.now (item_count (machine_state machine.old).machine.items) (schedule_told (F.told files.old) (turns_from turns.entry)) (schedule_faults (F.faults files.old) (turns_from turns.entry)) (schedule_faults (F.faults files.new) (turns_from turns.entry))) }
+    ensures cause { IfErr result
+        (RanCause prints tree.now (item_count (machine_state machine.old).machine.items)
+        (schedule_told (F.told files.old) (turns_from turns.entry))
+        (schedule_faults (F.faults files.old) (turns_from turns.entry))
+        (schedule_faults (F.faults files.new) (turns_from turns.entry))) }
     ensures same { OnErr result (K.held out.new ≡ K.held out.old) }
     ensures later { (other : List ℕ) → F.faults files.old other ≤ F.faults files.new other }
 {

@@ -25,7 +25,9 @@ fn recorded_said<F: Shelf>(
 ) -> Result<Vec<u8>, Status>
     requires range { IsInRange (to_record (recorded_from recorded)) }
     ensures taken { IfOk result (λ text. HasAccepted F.told files.old text.items (to_record (recorded_from recorded.entry))) }
-    ensures refused { IfErr result (λ status. NoRun F.told F.faults files.old files.new Report status (recorded_run (recorded_from recorded.entry))) }
+    ensures refused { IfErr result
+        (λ status. NoRun F.told F.faults files.old files.new Report status
+        (recorded_run (recorded_from recorded.entry))) }
 {
     let mut buffer = read_buffer(alloc)?;
     let tree = tree_file(alloc, files, recorded.tree, &mut buffer)?;
@@ -53,9 +55,13 @@ pub fn write_recorded<F: Shelf, K: Sink>(
     recorded: Recorded<'_>,
 ) -> Result<Result<(), Failed>, Status>
     requires range { IsInRange (to_record (recorded_from recorded)) }
-    ensures written { IfOk result (WritesAccepted F.told files.old (K.held out.old) (K.held out.new) (to_record (recorded_from recorded.entry))) }
+    ensures written { IfOk result
+        (WritesAccepted F.told files.old (K.held out.old) (K.held out.new)
+        (to_record (recorded_from recorded.entry))) }
     ensures failed { IfOk result (HasCause (K.faults out.old) (K.faults out.new)) }
-    ensures refused { IfErr result (λ status. NoRun F.told F.faults files.old files.new Report status (recorded_run (recorded_from recorded.entry))) }
+    ensures refused { IfErr result
+        (λ status. NoRun F.told F.faults files.old files.new Report status
+        (recorded_run (recorded_from recorded.entry))) }
     ensures same { OnErr result (K.held out.new ≡ K.held out.old) }
 {
     let text = recorded_said(alloc, files, recorded)?;

@@ -34,7 +34,9 @@ fn resumed(
     fresh: AnyMachine,
     file: &CheckpointFile,
 ) -> Result<(AnyMachine, RunCounts), Status>
-    ensures found { IfOk result (λ r. resumed (machine_state fresh).machine file.now ≡ Ok (record { machine = (machine_state r.0).machine; counts = r.1 })) }
+    ensures found { IfOk result
+        (λ r. resumed (machine_state fresh).machine file.now
+        ≡ Ok (record { machine = (machine_state r.0).machine; counts = r.1 })) }
     ensures few { IfOk result (λ r. AreBelow 1048577 r.1) }
     ensures turns { IfOk result (λ r. (machine_state r.0).turns ≡ 1048576) }
     ensures frame { IfOk result (λ r. frame_of (machine_state r.0).machine ≡ frame_of (machine_state fresh).machine) }
@@ -65,7 +67,9 @@ fn read_checkpoint<F: Shelf>(
 ) -> Result<CheckpointFile, ReadError>
     requires { 0 < length buffer.old }
     ensures found { IfOk result (λ read. IfSome (F.told files.old name.now) (λ file. read ≡ file)) }
-    ensures cause { IfErr result (ReadCause (F.told files.old name.now) 536870912 (F.faults files.old name.now) (F.faults files.new name.now)) }
+    ensures cause { IfErr result
+        (ReadCause (F.told files.old name.now) 536870912 (F.faults files.old name.now)
+        (F.faults files.new name.now)) }
     ensures same { F.told files.new ≡ F.told files.old }
     ensures later { (other : List ℕ) → F.faults files.old other ≤ F.faults files.new other }
 {
@@ -94,11 +98,16 @@ fn resumed_file<F: Shelf>(
     fresh: AnyMachine,
 ) -> Result<(AnyMachine, RunCounts), Status>
     requires { 0 < length buffer.old }
-    ensures found { IfOk result (λ r. IfSome (F.told files.old name.now) (λ file. resumed (machine_state fresh).machine file ≡ Ok (record { machine = (machine_state r.0).machine; counts = r.1 }))) }
+    ensures found { IfOk result
+        (λ r. IfSome (F.told files.old name.now)
+        (λ file. resumed (machine_state fresh).machine file
+        ≡ Ok (record { machine = (machine_state r.0).machine; counts = r.1 }))) }
     ensures few { IfOk result (λ r. AreBelow 1048577 r.1) }
     ensures turns { IfOk result (λ r. (machine_state r.0).turns ≡ 1048576) }
     ensures frame { IfOk result (λ r. frame_of (machine_state r.0).machine ≡ frame_of (machine_state fresh).machine) }
-    ensures cause { IfErr result (CheckpointCause (machine_state fresh).machine (F.told files.old name.now) (F.faults files.old name.now) (F.faults files.new name.now)) }
+    ensures cause { IfErr result
+        (CheckpointCause (machine_state fresh).machine (F.told files.old name.now) (F.faults files.old name.now)
+        (F.faults files.new name.now)) }
     ensures same { F.told files.new ≡ F.told files.old }
     ensures later { (other : List ℕ) → F.faults files.old other ≤ F.faults files.new other }
 {
@@ -135,9 +144,14 @@ fn write_rest<F: Shelf, K: Sink>(
 ) -> Result<Result<(), Failed>, Status>
     requires room { 1024 ≤ length buffer.old }
     requires start { CanGoOn tree.now.levels first (machine_state machine.old) }
-    ensures ran { IfOk result (WritesRest tree.now.levels (F.told files.old name.now) (record { machine = (machine_state machine.old).machine; counts = first }) (K.held out.old) (K.held out.new)) }
+    ensures ran { IfOk result
+        (WritesRest tree.now.levels (F.told files.old name.now)
+        (record { machine = (machine_state machine.old).machine; counts = first }) (K.held out.old)
+        (K.held out.new)) }
     ensures failed { IfOk result (HasCause (K.faults out.old) (K.faults out.new)) }
-    ensures cause { IfErr result (ScheduleCause (IsUnscheduled tree.now.levels first.turns) (F.told files.old name.now) (F.faults files.old name.now) (F.faults files.new name.now)) }
+    ensures cause { IfErr result
+        (ScheduleCause (IsUnscheduled tree.now.levels first.turns) (F.told files.old name.now)
+        (F.faults files.old name.now) (F.faults files.new name.now)) }
     ensures same { OnErr result (K.held out.new ≡ K.held out.old) }
 {
     let made = schedule_made(alloc, files, name, buffer, tree, first, machine, false)?;
@@ -152,7 +166,9 @@ pub fn write_resumed<F: Shelf, K: Sink>(
     out: &mut K,
     resumption: Resumption<'_>,
 ) -> Result<Result<(), Failed>, Status>
-    ensures written { IfOk result (WritesAccepted F.told files.old (K.held out.old) (K.held out.new) (to_resume (resumption_from resumption.entry))) }
+    ensures written { IfOk result
+        (WritesAccepted F.told files.old (K.held out.old) (K.held out.new)
+        (to_resume (resumption_from resumption.entry))) }
     ensures failed { IfOk result (HasCause (K.faults out.old) (K.faults out.new)) }
     ensures refused { IfErr result (λ status. NoRest F.told F.faults files.old files.new status (resumption_from resumption.entry)) }
     ensures same { OnErr result (K.held out.new ≡ K.held out.old) }

@@ -40,7 +40,10 @@ fn survey_text(
     requires alike { machine_state machine.old ≡ machine_state start.now }
     requires kind { kind_of machine.old ≡ kind_of start.now }
     requires seeds { seeds.first + seeds.count ≤ 18446744073709551616 }
-    ensures { IfOk result (λ text. text.items ≡ survey_text seeds.entry.kind (shape_view tree.now.levels) seeds.entry.turns (machine_state start.now).machine seeds.entry.first seeds.entry.count) }
+    ensures { IfOk result
+        (λ text. text.items
+        ≡ survey_text seeds.entry.kind (shape_view tree.now.levels) seeds.entry.turns
+        (machine_state start.now).machine seeds.entry.first seeds.entry.count) }
 {
     let lines = survey(
         alloc,
@@ -61,7 +64,9 @@ fn survey_text(
 fn survey_said<F: Shelf>(alloc: Global, files: &mut F, seeds: Survey<'_>) -> Result<Vec<u8>, Status>
     requires range { IsInRange (to_survey_runs (survey_from seeds)) }
     ensures taken { IfOk result (λ text. HasAccepted F.told files.old text.items (to_survey_runs (survey_from seeds.entry))) }
-    ensures refused { IfErr result (λ status. NoRun F.told F.faults files.old files.new Report status (surveyed_run (survey_from seeds.entry))) }
+    ensures refused { IfErr result
+        (λ status. NoRun F.told F.faults files.old files.new Report status
+        (surveyed_run (survey_from seeds.entry))) }
 {
     let mut buffer = read_buffer(alloc)?;
     let tree = tree_file(alloc, files, seeds.tree, &mut buffer)?;
@@ -83,9 +88,13 @@ pub fn write_survey<F: Shelf, K: Sink>(
     seeds: Survey<'_>,
 ) -> Result<Result<(), Failed>, Status>
     requires range { IsInRange (to_survey_runs (survey_from seeds)) }
-    ensures written { IfOk result (WritesAccepted F.told files.old (K.held out.old) (K.held out.new) (to_survey_runs (survey_from seeds.entry))) }
+    ensures written { IfOk result
+        (WritesAccepted F.told files.old (K.held out.old) (K.held out.new)
+        (to_survey_runs (survey_from seeds.entry))) }
     ensures failed { IfOk result (HasCause (K.faults out.old) (K.faults out.new)) }
-    ensures refused { IfErr result (λ status. NoRun F.told F.faults files.old files.new Report status (surveyed_run (survey_from seeds.entry))) }
+    ensures refused { IfErr result
+        (λ status. NoRun F.told F.faults files.old files.new Report status
+        (surveyed_run (survey_from seeds.entry))) }
     ensures same { OnErr result (K.held out.new ≡ K.held out.old) }
 {
     let text = survey_said(alloc, files, seeds)?;

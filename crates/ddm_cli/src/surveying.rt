@@ -41,7 +41,10 @@ fn table_text(
     requires kind { kind_of machine.old ≡ kind_of start.now }
     requires seeds { seeds.first + seeds.count ≤ 18446744073709551616 }
     requires turns { seeds.turns ≤ 1048576 }
-    ensures { IfOk result (λ text. text.items ≡ outcomes_text (shape_view tree.now.levels) seeds.entry.turns (machine_state start.now).machine seeds.entry.first seeds.entry.count) }
+    ensures { IfOk result
+        (λ text. text.items
+        ≡ outcomes_text (shape_view tree.now.levels) seeds.entry.turns (machine_state start.now).machine
+        seeds.entry.first seeds.entry.count) }
 {
     let lines = outcomes(
         alloc,
@@ -65,7 +68,8 @@ fn outcomes_said<F: Shelf>(
 ) -> Result<Vec<u8>, Status>
     requires range { IsInRange (to_survey (seeds_from seeds)) }
     ensures taken { IfOk result (λ text. HasAccepted F.told files.old text.items (to_survey (seeds_from seeds.entry))) }
-    ensures refused { IfErr result (λ status. NoRun F.told F.faults files.old files.new Report status (first_run (seeds_from seeds.entry))) }
+    ensures refused { IfErr result
+        (λ status. NoRun F.told F.faults files.old files.new Report status (first_run (seeds_from seeds.entry))) }
 {
     let mut buffer = read_buffer(alloc)?;
     let tree = tree_file(alloc, files, seeds.tree, &mut buffer)?;
@@ -89,7 +93,8 @@ pub fn write_outcomes<F: Shelf, K: Sink>(
     requires range { IsInRange (to_survey (seeds_from seeds)) }
     ensures written { IfOk result (WritesAccepted F.told files.old (K.held out.old) (K.held out.new) (to_survey (seeds_from seeds.entry))) }
     ensures failed { IfOk result (HasCause (K.faults out.old) (K.faults out.new)) }
-    ensures refused { IfErr result (λ status. NoRun F.told F.faults files.old files.new Report status (first_run (seeds_from seeds.entry))) }
+    ensures refused { IfErr result
+        (λ status. NoRun F.told F.faults files.old files.new Report status (first_run (seeds_from seeds.entry))) }
     ensures same { OnErr result (K.held out.new ≡ K.held out.old) }
 {
     let text = outcomes_said(alloc, files, seeds)?;

@@ -5,7 +5,8 @@ ghost use Rattle.ddm_cli.specs.DdmOutside.Causes.{HasCause};
 ghost use Rattle.std.specs.String.{string_bytes};
 ghost use Rattle.ddm_cli.specs.Causes.{TreeCause};
 ghost use Rattle.ddm_cli.specs.Commands.{IsInRange, to_list, to_run};
-ghost use Rattle.ddm_cli.specs.Top.{Completes, HasAccepted, NoRun, NotAccepted, Offers, RunIsWitnessed, StatusHasCause, WritesAccepted, fault_line, status_of};
+ghost use Rattle.ddm_cli.specs.Top.{Completes, HasAccepted, NoRun, NotAccepted, Offers, RunIsWitnessed};
+ghost use Rattle.ddm_cli.specs.Top.{StatusHasCause, WritesAccepted, fault_line, status_of};
 ghost use Rattle.ddm_cli.specs.Views.{command_from, run_from};
 
 use crate::about::write_about;

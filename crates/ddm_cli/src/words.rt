@@ -1,8 +1,13 @@
 //! The words of a command are read.
 
-ghost use Rattle.std.specs.Prelude.{◌≡◌, ◌≤◌, ◌<◌, ◌*◌, ◌+◌, map, length, Err, IfOk, IfSome, IsOk, MatchResult, None, Ok, Some, option_and_then, slice_get};
+ghost use Rattle.std.specs.Prelude.{◌≡◌, ◌≤◌, ◌<◌, ◌*◌, ◌+◌, map, length, Err, IfOk, IfSome, IsOk, MatchResult, None};
+ghost use Rattle.std.specs.Prelude.{Ok, Some, option_and_then, slice_get};
 ghost use Rattle.std.specs.String.{string_bytes};
-ghost use Rattle.ddm_cli.specs.Commands.{IsInRange, about_named, command_of, ends_at, file_check, file_page, file_resume, file_run, help_alone, help_asked, help_of_two, help_said, help_topic, kind_named, made_run, named_command, number_in, runs_survey, seed_list, seed_measure, seed_record, seed_run, seeds_survey, tables_named, to_say, word_at};
+ghost use Rattle.ddm_cli.specs.Commands.{IsInRange, about_named, command_of, ends_at, file_check, file_page};
+ghost use Rattle.ddm_cli.specs.Commands.{file_resume, file_run, help_alone, help_asked, help_of_two, help_said};
+ghost use Rattle.ddm_cli.specs.Commands.{help_topic, kind_named, made_run, named_command, number_in, runs_survey};
+ghost use Rattle.ddm_cli.specs.Commands.{seed_list, seed_measure, seed_record, seed_run, seeds_survey, tables_named};
+ghost use Rattle.ddm_cli.specs.Commands.{to_say, word_at};
 ghost use Rattle.ddm_cli.specs.Views.{command_from};
 
 use crate::command::{

@@ -48,7 +48,8 @@ pub struct Dir<const WORDS: usize, C: Subtree<WORDS>> {
 impl<const WORDS: usize, C: Subtree<WORDS>> Dir<WORDS, C> {
     /// The directory over these children.
     pub fn new(state: DirState<WORDS>, children: Vec<C>) -> Self
-        ensures { dir_node result.state (nodes (map C.value result.children.items)) ≡ dir_node state.entry (nodes (map C.value children.items)) }
+        ensures { dir_node result.state (nodes (map C.value result.children.items))
+            ≡ dir_node state.entry (nodes (map C.value children.items)) }
     {
         Dir { state, children }
     }
@@ -108,7 +109,9 @@ impl<const WORDS: usize, C: Subtree<WORDS>> Agent<WORDS> for Dir<WORDS, C> {
     fn take_data(&mut self, item: ItemId, words: Words<WORDS>, stamp: Stamp)
         requires in_range { item < node_items (dir_node self.old.state (nodes (map C.value self.old.children.items))) }
         requires room { child_full_for DataTx item (dir_node self.old.state (nodes (map C.value self.old.children.items))) ≡ None }
-        ensures { dir_node self.new.state (nodes (map C.value self.new.children.items)) ≡ child_take_data item words.entry stamp (dir_node self.old.state (nodes (map C.value self.old.children.items))) }
+        ensures { dir_node self.new.state (nodes (map C.value self.new.children.items))
+            ≡ child_take_data item words.entry stamp
+            (dir_node self.old.state (nodes (map C.value self.old.children.items))) }
     {
         self.state.up_take_data(item, words, stamp);
     }
@@ -125,7 +128,9 @@ impl<const WORDS: usize, C: Subtree<WORDS>> Agent<WORDS> for Dir<WORDS, C> {
         requires in_range { item < node_items (dir_node self.old.state (nodes (map C.value self.old.children.items))) }
         requires room { child_full_for InjectTx item (dir_node self.old.state (nodes (map C.value self.old.children.items))) ≡ None }
         requires place { reader_has_place item (dir_node self.old.state (nodes (map C.value self.old.children.items))) ≡ true }
-        ensures { dir_node self.new.state (nodes (map C.value self.new.children.items)) ≡ child_take_inject item words.entry stamp (dir_node self.old.state (nodes (map C.value self.old.children.items))) }
+        ensures { dir_node self.new.state (nodes (map C.value self.new.children.items))
+            ≡ child_take_inject item words.entry stamp
+            (dir_node self.old.state (nodes (map C.value self.old.children.items))) }
     {
         self.state.up_take_inject(item, words, stamp);
     }

@@ -5,13 +5,16 @@ ghost use Rattle.ddm_tree.specs.DdmTypes.ItemTable.{item_count};
 ghost use Rattle.ddm_tree.specs.TreeModel.State.Shape.{IsShaped, tree_counts};
 ghost use Rattle.ddm_tree.specs.TreeModel.State.Values.{root_of};
 ghost use Rattle.ddm_tree.specs.TreeModel.Turns.Found.{found_copy, states_of};
-ghost use Rattle.ddm_tree.specs.TreeModel.Turns.Machine.{child_count, child_hold_of, child_of, down_entry_of, granted_of, grants_of, is_child_of, leaf_lengths_at, lengths_at, named_by, names_part, now_of, turn_of};
+ghost use Rattle.ddm_tree.specs.TreeModel.Turns.Machine.{child_count, child_hold_of, child_of, down_entry_of};
+ghost use Rattle.ddm_tree.specs.TreeModel.Turns.Machine.{granted_of, grants_of, is_child_of, leaf_lengths_at};
+ghost use Rattle.ddm_tree.specs.TreeModel.Turns.Machine.{lengths_at, named_by, names_part, now_of, turn_of};
 ghost use Rattle.split_bus.specs.Outcomes.{is_granted};
 ghost use Rattle.ddm_tree.specs.TreeModel.Turns.Tree.{leaf_of_number, bus_of_number};
 ghost use Rattle.ddm_tree.specs.Machine.{is_part};
 ghost use Rattle.ddm_tree.specs.Rules.{KeepsRules};
 ghost use Rattle.ddm_tree.specs.Ready.{Leads};
-ghost use Rattle.ddm_tree.specs.Reads.{counted_hart_of, down_len_of, entry_at, is_down_request_or_reply, leaving_count_of, parked_at, state_of};
+ghost use Rattle.ddm_tree.specs.Reads.{counted_hart_of, down_len_of, entry_at, is_down_request_or_reply};
+ghost use Rattle.ddm_tree.specs.Reads.{leaving_count_of, parked_at, state_of};
 
 use crate::below::{
     child_under, children_under, down_len_under, down_under, entry_under, grants_under, hart_under,

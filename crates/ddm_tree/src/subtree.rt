@@ -1,6 +1,7 @@
 //! What every part of the tree can do: the trait of leaves and directories.
 
-ghost use Rattle.std.specs.Prelude.{◌≡◌, ℕ, [], ◌∷◌, ◌+◌, ◌*◌, ◌<◌, ◌≤◌, ◌^◌, ◌++◌, true, false, length, take, Some, IfOk, IfSome, OnErr, OnOk, option_map, reverse, vec_items};
+ghost use Rattle.std.specs.Prelude.{◌≡◌, ℕ, [], ◌∷◌, ◌+◌, ◌*◌, ◌<◌, ◌≤◌, ◌^◌, ◌++◌, true, false, length, take, Some};
+ghost use Rattle.std.specs.Prelude.{IfOk, IfSome, OnErr, OnOk, option_map, reverse, vec_items};
 ghost use Rattle.ddm_tree.specs.DdmTypes.ItemTable.{item_count};
 ghost use Rattle.ddm_tree.specs.TreeModel.declared.BusTurn.{BusTurn};
 ghost use Rattle.ddm_tree.specs.TreeModel.Start.Nodes.{held_by, or_each};
@@ -23,7 +24,9 @@ ghost use Rattle.ddm_tree.specs.Judging.{IsJudged, node_broken};
 ghost use Rattle.ddm_tree.specs.Named.{name_of};
 ghost use Rattle.ddm_tree.specs.Quiet.{AreLearnedBelow, IsTouched, KeepsHarts};
 ghost use Rattle.ddm_tree.specs.Ready.{IsAskable, IsReady, Leads, LeadsBelow, HasChild, IsChild, IsItemIn, IsItemOf, IsRuled};
-ghost use Rattle.ddm_tree.specs.Reads.{leaf_count, leaving_count, node_hart, node_entry, node_children, node_child, node_child_hold, node_down, node_down_len, node_grants, node_leaf_lengths, node_leaving_count, node_lengths, node_parked, node_state, node_states};
+ghost use Rattle.ddm_tree.specs.Reads.{leaf_count, leaving_count, node_hart, node_entry, node_children, node_child};
+ghost use Rattle.ddm_tree.specs.Reads.{node_child_hold, node_down, node_down_len, node_grants, node_leaf_lengths};
+ghost use Rattle.ddm_tree.specs.Reads.{node_leaving_count, node_lengths, node_parked, node_state, node_states};
 ghost use Rattle.ddm_tree.specs.Stamps.{node_stamps_fit};
 ghost use Rattle.ddm_tree.specs.ReadBack.{PartRead, section_name};
 ghost use Rattle.ddm_tree.specs.Written.{node_dir_words, node_words};
@@ -63,8 +66,14 @@ pub trait Subtree<const WORDS: usize>: Agent<WORDS> {
         requires ready { IsReady (item_count call.now.items.now) WORDS (Self.value self.old) }
         requires leads { Leads (named_by call.now.turn.now) rest.now (Self.value self.old) }
         requires child { HasChild (bus_turn_of call.now.turn.now) (node_at rest.now (Self.value self.old)) }
-        ensures answer { answer.new ≡ node_answer call.now.code.now call.now.items.now call.now.turn.now call.now.path.now (present_at rest.now present.now (Self.value self.old)) (node_at rest.now (Self.value self.old)) }
-        ensures after { Self.value self.new ≡ put_at rest.now (node_turned call.now.code.now call.now.items.now call.now.turn.now call.now.path.now (present_at rest.now present.now (Self.value self.old)) (node_at rest.now (Self.value self.old))) (Self.value self.old) };
+        ensures answer { answer.new
+            ≡ node_answer call.now.code.now call.now.items.now call.now.turn.now call.now.path.now
+            (present_at rest.now present.now (Self.value self.old)) (node_at rest.now (Self.value self.old)) }
+        ensures after { Self.value self.new
+            ≡ put_at rest.now
+            (node_turned call.now.code.now call.now.items.now call.now.turn.now call.now.path.now
+            (present_at rest.now present.now (Self.value self.old))
+            (node_at rest.now (Self.value self.old))) (Self.value self.old) };
 
     /// Whether a Down, Request or Reply turn of this bus would be granted.
     fn grants_below(&self, bus: BusNo, path: &[ChildNo], turn: BusTurn) -> bool
@@ -98,7 +107,9 @@ pub trait Subtree<const WORDS: usize>: Agent<WORDS> {
     /// The path from here to a leaf or a bus, from its end on; None where it isn't in this part.
     fn path_up(&self, alloc: Global, name: &Named) -> Result<Option<Vec<ChildNo>>, NoMemory>
         requires { widths_fit (skeleton (Self.value self.now)) ≡ true }
-        ensures { IfOk result (λ found. option_map vec_items found ≡ option_map reverse (path_to (name_of name.now) (skeleton (Self.value self.now)))) };
+        ensures { IfOk result
+            (λ found. option_map vec_items found
+            ≡ option_map reverse (path_to (name_of name.now) (skeleton (Self.value self.now)))) };
 
     /// The hart of this leaf.
     fn hart_below(&self, leaf: LeafNo, path: &[ChildNo]) -> &Hart
@@ -198,7 +209,9 @@ pub trait Subtree<const WORDS: usize>: Agent<WORDS> {
     /// Whether the stamps are in order that the directory over this bus keeps, where the bus above this part has this present stamp.
     fn stamps_fit_below(&self, bus: BusNo, path: &[ChildNo], present: &Stamp) -> bool
         requires { LeadsBelow (bus_of_number bus) path.now (Self.value self.now) }
-        ensures { result ≡ node_stamps_fit (present_at path.now present.now (Self.value self.now)) (node_at path.now (Self.value self.now)) };
+        ensures { result
+            ≡ node_stamps_fit (present_at path.now present.now (Self.value self.now))
+            (node_at path.now (Self.value self.now)) };
 
     /// The copy of an item that is parked at this bus, with its place.
     fn parked_below(

@@ -17,7 +17,9 @@ pub turn_code : Coded Turn
 turn_code = hlevel codes
 
 abbrev pub found_code : Coded MachineFound
-found_code = code_by (List ℕ × List Turn) (coded× (coded_list coded_ℕ) (coded_list turn_code)) (λ f. (f.outcome, f.schedule)) (λ p. record { outcome = p.0; schedule = p.1 }) (λ _. refl)
+found_code =
+    code_by (List ℕ × List Turn) (coded× (coded_list coded_ℕ) (coded_list turn_code))
+    (λ f. (f.outcome, f.schedule)) (λ p. record { outcome = p.0; schedule = p.1 }) (λ _. refl)
 
 -- a line has this outcome
 abbrev pub has_outcome : List ℕ → MachineFound → Bool

@@ -29,7 +29,9 @@ fn gone_on(alloc: Global, schedule: &[Turn], turn: Turn) -> Result<Vec<Turn>, No
 // What a search keeps before the first state is taken up.
 fn begin<M: States>(alloc: Global, states: &mut M) -> Result<Search, NoMemory>
     ensures start { M.start states.new ≡ M.start states.old }
-    ensures begun { IfOk result (λ s. (most : ℕ) → searched_by (M.start states.old) s ≡ begun (quiet_space same_state) most (M.start states.old)) }
+    ensures begun { IfOk result
+        (λ s. (most : ℕ) →
+        searched_by (M.start states.old) s ≡ begun (quiet_space same_state) most (M.start states.old)) }
     ensures kept { IfOk result (λ s. IsKept (M.start states.old) s) }
 {
     states.go_to(&[])?;
@@ -60,7 +62,11 @@ impl Search {
         requires taking { TakesUp (M.start states.now) schedule.now self.old }
         requires reached { M.reached states.now ≡ state_by (M.start states.now) (schedule.now ++ turn ∷ []) }
         ensures taking { OnOk result (TakesUp (M.start states.now) schedule.now self.new) }
-        ensures searched { OnOk result (searched_by (M.start states.now) self.new ≡ with_state (quiet_space same_state) most (kept_by (M.start states.now) (schedule.now ++ turn ∷ [])) (searched_by (M.start states.now) self.old)) }
+        ensures searched { OnOk result
+            (searched_by (M.start states.now) self.new
+            ≡ with_state (quiet_space same_state) most
+            (kept_by (M.start states.now) (schedule.now ++ turn ∷ []))
+            (searched_by (M.start states.now) self.old)) }
     {
         let words = states.key(alloc)?;
         if self.known.has(&words) {
@@ -91,7 +97,11 @@ impl Search {
         ensures start { M.start states.new ≡ M.start states.old }
         ensures at { M.at states.new ≡ M.at states.old }
         ensures taking { OnOk result (TakesUp (M.start states.old) schedule.now self.new) }
-        ensures searched { OnOk result (searched_by (M.start states.old) self.new ≡ looked_at (quiet_space same_state) most (kept_by (M.start states.old) (schedule.now ++ turn ∷ [])) (searched_by (M.start states.old) self.old)) }
+        ensures searched { OnOk result
+            (searched_by (M.start states.old) self.new
+            ≡ looked_at (quiet_space same_state) most
+            (kept_by (M.start states.old) (schedule.now ++ turn ∷ []))
+            (searched_by (M.start states.old) self.old)) }
     {
         if self.full {
             return Ok(());
@@ -122,7 +132,10 @@ impl Search {
         requires at { M.at states.old ≡ state_by (M.start states.old) schedule.now }
         ensures start { M.start states.new ≡ M.start states.old }
         ensures taking { OnOk result (TakesUp (M.start states.old) schedule.now self.new) }
-        ensures searched { OnOk result (searched_by (M.start states.old) self.new ≡ looked_through (quiet_space same_state) most (kept_by (M.start states.old) schedule.now) turns.now (searched_by (M.start states.old) self.old)) }
+        ensures searched { OnOk result
+            (searched_by (M.start states.old) self.new
+            ≡ looked_through (quiet_space same_state) most (kept_by (M.start states.old) schedule.now)
+            turns.now (searched_by (M.start states.old) self.old)) }
     {
         for turn in turns {
             self.look_at(alloc, states, schedule, *turn, most)?;
@@ -145,7 +158,11 @@ impl Search {
         ensures start { M.start states.new ≡ M.start states.old }
         ensures at { OnOk result (M.at states.new ≡ M.at states.old) }
         ensures taking { OnOk result (TakesUp (M.start states.old) schedule.now self.new) }
-        ensures searched { OnOk result ((most : ℕ) → searched_by (M.start states.old) self.new ≡ with_jam (quiet_space same_state) most (kept_by (M.start states.old) schedule.now) (searched_by (M.start states.old) self.old)) }
+        ensures searched { OnOk result
+            ((most : ℕ) →
+            searched_by (M.start states.old) self.new
+            ≡ with_jam (quiet_space same_state) most (kept_by (M.start states.old) schedule.now)
+            (searched_by (M.start states.old) self.old)) }
     {
         if !turns.is_empty() {
             return Ok(());
@@ -172,7 +189,9 @@ impl Search {
         requires kept { IsKept (M.start states.old) self.old }
         ensures start { M.start states.new ≡ M.start states.old }
         ensures kept { OnOk result (IsKept (M.start states.old) self.new) }
-        ensures searched { OnOk result (searched_by (M.start states.old) self.new ≡ next_taken_up (quiet_space same_state) most (searched_by (M.start states.old) self.old)) }
+        ensures searched { OnOk result
+            (searched_by (M.start states.old) self.new
+            ≡ next_taken_up (quiet_space same_state) most (searched_by (M.start states.old) self.old)) }
     {
         if self.rests() {
             return Ok(());
@@ -194,7 +213,9 @@ pub fn search<M: States>(alloc: Global, states: &mut M, most: u32) -> Result<Sea
     ensures start { M.start states.new ≡ M.start states.old }
     ensures searched { IfOk result (λ s. searched_by (M.start states.old) s ≡ searched (quiet_space same_state) most (M.start states.old)) }
     ensures kept { IfOk result (λ s. IsKept (M.start states.old) s) }
-    ensures right { 0 < most → has_ways (M.start states.old) ≡ true → all_halted (M.start states.old) ≡ false → IfOk result (λ s. IsRight (quiet_space same_state) (M.start states.old) (searched_by (M.start states.old) s)) }
+    ensures right { 0 < most → has_ways (M.start states.old) ≡ true → all_halted (M.start states.old) ≡ false →
+        IfOk result (λ s. IsRight (quiet_space same_state) (M.start states.old)
+        (searched_by (M.start states.old) s)) }
 {
     let mut search = begin(alloc, states)?;
     for _taken in 0..most {

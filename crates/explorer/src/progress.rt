@@ -25,7 +25,14 @@ impl Model for Search {
 
     ghost Value = { SearchState };
 
-    ghost view = { λ s. record { keys = s.known; schedules = s.schedules; found = s.found.items; jams = s.jams.items; next = s.next; full = s.full } };
+    ghost view = { λ s. record {
+      keys = s.known;
+      schedules = s.schedules;
+      found = s.found.items;
+      jams = s.jams.items;
+      next = s.next;
+      full = s.full;
+    } };
 }
 
 impl Search {

@@ -17,6 +17,8 @@ most_bytes turns = 405 * 1048576 + 60 * turns
 
 -- so it is after so many turns of the machine of each tree file that is accepted and each image of bytes
 abbrev pub CheckpointsAreBounded : Type 0
-CheckpointsAreBounded = (file : List ℕ) (t : TreeValue) (i : ImageValue) (m : MachineValue) (turns : List Turn) (made retired granted busy : ℕ)
+CheckpointsAreBounded =
+    (file : List ℕ) (t : TreeValue) (i : ImageValue) (m : MachineValue) (turns : List Turn)
+    (made retired granted busy : ℕ)
     → tree_of file ≡ Ok t → IsOfBytes i → start_of t i ≡ Ok m
     → length (checkpoint_bytes (run_of turns m).machine made retired granted busy) ≤ most_bytes (length turns)

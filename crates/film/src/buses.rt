@@ -30,7 +30,8 @@ pub(crate) fn add_bus<const WORDS: usize, C: Subtree<WORDS>>(
     requires bus { is_part (bus_of_number bus) machine.now.machine ≡ true }
     requires level { level ≤ 3 }
     requires children { (count : ℕ) → child_count bus machine.now.machine ≡ Some count → count ≤ 16 }
-    ensures { (d : DirValue) (ns : List Node) (most : ℕ) → IsOver bus d ns machine.now.machine → d.bus ≡ bus → d.level ≡ level → length d.items ≡ item_count machine.now.machine.items → DirHasForm width most d
+    ensures { (d : DirValue) (ns : List Node) (most : ℕ) → IsOver bus d ns machine.now.machine → d.bus ≡ bus →
+        d.level ≡ level → length d.items ≡ item_count machine.now.machine.items → DirHasForm width most d
         → AllByRecursion (IsPlain (is_top d)) d.items → OnOk result (still.new ≡ still.old ++ bus_parts machine.now.machine bus) }
 {
     words.clear();

@@ -26,7 +26,8 @@ fn add_leaf_hart<const WORDS: usize, C: Subtree<WORDS>>(
 ) -> Result<(), NoMemory>
     requires shape { IsShaped machine.now.machine }
     requires leaf { is_part (leaf_of_number leaf) machine.now.machine ≡ true }
-    ensures { (v : LeafValue) → slice_get (machine_leaves machine.now.machine) leaf ≡ Some v → OnOk result (still.new ≡ still.old ++ hart_parts v) }
+    ensures { (v : LeafValue) → slice_get (machine_leaves machine.now.machine) leaf ≡ Some v →
+        OnOk result (still.new ≡ still.old ++ hart_parts v) }
 {
     let hart = machine.hart(HartNo(leaf.0));
     add_hart(
@@ -71,7 +72,8 @@ fn add_leaf_entry<const WORDS: usize, C: Subtree<WORDS>>(
     requires shape { IsShaped machine.now.machine }
     requires leaf { is_part (leaf_of_number leaf) machine.now.machine ≡ true }
     requires item { item < item_count machine.now.machine.items }
-    ensures { (v : LeafValue) → slice_get (machine_leaves machine.now.machine) leaf ≡ Some v → OnOk result (still.new ≡ still.old ++ entry_part leaf item (way_at item v.ways) ∷ []) }
+    ensures { (v : LeafValue) → slice_get (machine_leaves machine.now.machine) leaf ≡ Some v →
+        OnOk result (still.new ≡ still.old ++ entry_part leaf item (way_at item v.ways) ∷ []) }
 {
     let entry = machine.leaf_entry(leaf, item);
     add_given(still, part, leaf, item, &entry)?;
@@ -88,7 +90,8 @@ fn add_entries<const WORDS: usize, C: Subtree<WORDS>>(
     requires small { WORDS ≤ 16 }
     requires shape { IsShaped machine.now.machine }
     requires leaf { is_part (leaf_of_number leaf) machine.now.machine ≡ true }
-    ensures { (v : LeafValue) → slice_get (machine_leaves machine.now.machine) leaf ≡ Some v → length v.ways ≡ item_count machine.now.machine.items
+    ensures { (v : LeafValue) → slice_get (machine_leaves machine.now.machine) leaf ≡ Some v →
+        length v.ways ≡ item_count machine.now.machine.items
         → OnOk result (still.new ≡ still.old ++ entry_parts v) }
 {
     'items: for item in 0..machine.items().len() {
@@ -108,7 +111,8 @@ fn add_waiting<const WORDS: usize, C: Subtree<WORDS>>(
 ) -> Result<(), NoMemory>
     requires shape { IsShaped machine.now.machine }
     requires leaf { is_part (leaf_of_number leaf) machine.now.machine ≡ true }
-    ensures { (v : LeafValue) (most : ℕ) → slice_get (machine_leaves machine.now.machine) leaf ≡ Some v → LeafHasForm width most v → OnOk result (still.new ≡ still.old ++ leaf_list_parts v) }
+    ensures { (v : LeafValue) (most : ℕ) → slice_get (machine_leaves machine.now.machine) leaf ≡ Some v →
+        LeafHasForm width most v → OnOk result (still.new ≡ still.old ++ leaf_list_parts v) }
 {
     words.clear();
     machine.write_leaf(leaf, words)?;
@@ -129,7 +133,8 @@ pub(crate) fn add_leaf<const WORDS: usize, C: Subtree<WORDS>>(
     requires small { WORDS ≤ 16 }
     requires shape { IsShaped machine.now.machine }
     requires leaf { is_part (leaf_of_number leaf) machine.now.machine ≡ true }
-    ensures { (v : LeafValue) (most : ℕ) → slice_get (machine_leaves machine.now.machine) leaf ≡ Some v → length v.ways ≡ item_count machine.now.machine.items → LeafHasForm width most v
+    ensures { (v : LeafValue) (most : ℕ) → slice_get (machine_leaves machine.now.machine) leaf ≡ Some v →
+        length v.ways ≡ item_count machine.now.machine.items → LeafHasForm width most v
         → OnOk result (still.new ≡ still.old ++ leaf_parts v) }
 {
     add_leaf_hart(still, part, machine, leaf)?;

@@ -64,7 +64,10 @@ fn add_buses<const WORDS: usize, C: Subtree<WORDS>>(
     levels: &[u32],
 ) -> Result<(), NoMemory>
     requires { IsFilmed levels.now machine.now.machine }
-    ensures { OnOk result (still.new ≡ still.old ++ flat_map (bus_parts machine.now.machine) (range_with_len 0 (length machine.now.machine.traffic))) }
+    ensures { OnOk result
+        (still.new
+        ≡ still.old
+        ++ flat_map (bus_parts machine.now.machine) (range_with_len 0 (length machine.now.machine.traffic))) }
 {
     let width = machine.sizes().item_words;
     'buses: for bus in 0..machine.counts().buses {
@@ -82,7 +85,10 @@ fn add_copies<const WORDS: usize, C: Subtree<WORDS>>(
     machine: &Machine<WORDS, C>,
 ) -> Result<(), NoMemory>
     requires small { WORDS ≤ 16 }
-    ensures { OnOk result (still.new ≡ still.old ++ map (place_part machine.now.machine) (range_with_len 0 (item_count machine.now.machine.items))) }
+    ensures { OnOk result
+        (still.new
+        ≡ still.old
+        ++ map (place_part machine.now.machine) (range_with_len 0 (item_count machine.now.machine.items))) }
 {
     'items: for item in 0..machine.items().len() {
         add_copy(still, &mut room.part, machine, ItemId(item))?;

@@ -12,11 +12,13 @@ ghost use Rattle.value_laws.specs.Images.{IsOfBytes};
 
 /// Each part of the machine of a tree and an image of bytes has a key of its own.
 pub fn starts_have_keys_once()
-    ensures { (t : TreeValue) (i : ImageValue) → IsTree t → IsOfBytes i → start_refusal t i ≡ None → has_keys_once (still (start_machine t i)) ≡ true }
+    ensures { (t : TreeValue) (i : ImageValue) → IsTree t → IsOfBytes i → start_refusal t i ≡ None →
+        has_keys_once (still (start_machine t i)) ≡ true }
 {}
 
 /// What the head of a film and each of its turns tell, put in one after the other, is all that the machine has after the run.
 pub fn films_of_runs_tell_all()
     ensures { (t : TreeValue) (i : ImageValue) (turns : List Turn) → IsTree t → IsOfBytes i → start_refusal t i ≡ None
-        → all_replayed (told_in turns (start_machine t i)) (map without_value (still (start_machine t i))) ≡ still (run_of turns (start_machine t i)).machine }
+        → all_replayed (told_in turns (start_machine t i)) (map without_value (still (start_machine t i)))
+        ≡ still (run_of turns (start_machine t i)).machine }
 {}

@@ -70,7 +70,9 @@ abbrev pub reservation : Example
 reservation = record {
   tree = tree_of ((2 ∷ []) ∷ []) 4 16;
   image = program (0x000202b7 ∷ 0x1002a3af ∷ 0x1872a32f ∷ []) (0x00000005 ∷ []) 16;
-  turns = Hart 1 0 ∷ Hart 1 0 ∷ Hart 0 0 ∷ Hart 0 0 ∷ Request 0 0 ∷ Reply 0 1 ∷ Hart 0 0 ∷ Hart 0 0 ∷ Request 0 0 ∷ Down 0 ∷ Hart 0 0 ∷ Hart 1 0 ∷ [];
+  turns =
+      Hart 1 0 ∷ Hart 1 0 ∷ Hart 0 0 ∷ Hart 0 0 ∷ Request 0 0 ∷ Reply 0 1 ∷ Hart 0 0 ∷ Hart 0 0 ∷ Request 0 0
+      ∷ Down 0 ∷ Hart 0 0 ∷ Hart 1 0 ∷ [];
   film = codes "film 1\ntree 1 2\nsizes 4 1 1 1 16 16 16 16\nitem 0 00010000\nitem 1 00020000 w\npc 0 00010000\nreg 0 2 00030000\nreg 0 11 00000002\nentry 0 0 E 0 000202b7 1002a3af 1872a32f 00000000\npc 1 00010000\nreg 1 2 00030000\nreg 1 10 00000001\nreg 1 11 00000002\nentry 1 1 E 0 00000005 00000000 00000000 00000000\ntime 0 0\ndir 0 0 E\ndir 0 1 E\ncopy 0 leaf 0\ncopy 1 leaf 1\nt 0 h 1 0 retired plain\npc 1 00010004\nreg 1 5 00020000\nt 1 h 1 0 retired lr 00020000 00000005\npc 1 00010008\nreg 1 7 00000005\nreserved 1 1\nt 2 h 0 0 retired plain\npc 0 00010004\nreg 0 5 00020000\nt 3 h 0 0 issued read 1\nentry 0 1 R 1\nslot 0 read 1\nt 4 g 0 q 0 granted read 1 from child 0 to child 1\nslot 0\nentry 1 1 S 0 00000005 00000000 00000000 00000000\nleafreplies 1 | 1 00000005 00000000 00000000 00000000\ntime 0 1\ndir 0 1 E local 0\nt 5 g 0 r 1 granted data 1 from child 1 to child 0\nentry 0 1 S 1 00000005 00000000 00000000 00000000\nleafreplies 1\ntime 0 2\ndir 0 1 E\ncopy 1 leaf 0\nt 6 h 0 0 retired lr 00020000 00000005\npc 0 00010008\nreg 0 7 00000005\nreserved 0 1\nt 7 h 0 0 issued erase 1\nentry 0 1 W 1 00000005 00000000 00000000 00000000\nslot 0 erase 1\nt 8 g 0 q 0 granted erase 1 from child 0 to all\nslot 0\nentry 1 1\nreserved 1\ntime 0 3\ndir 0 1 E uperase 0\ndown 0 | exclusive 1\nt 9 g 0 d granted exclusive 1 from parent to child 0\nentry 0 1 E 1 00000005 00000000 00000000 00000000\ntime 0 4\ndir 0 1 E\ndown 0\nt 10 h 0 0 retired scok 00020000 00000005 00000005\npc 0 0001000c\nreserved 0\nt 11 h 1 0 retired scfail 00020000\npc 1 0001000c\nreg 1 6 00000001\nddm 1\nturns 12 retired 6 granted 4 busy 0\nhart 0 running pc 0001000c done 3\nregs 0 00000000 00030000 00000000 00000000 00020000 00000000 00000005 00000000 00000000 00000000 00000002 00000000 00000000 00000000 00000000 00000000 00000000 00000000 00000000 00000000 00000000 00000000 00000000 00000000 00000000 00000000 00000000 00000000 00000000 00000000 00000000\nout 0 -\nhart 1 running pc 0001000c done 3\nregs 1 00000000 00030000 00000000 00000000 00020000 00000001 00000005 00000000 00000000 00000001 00000002 00000000 00000000 00000000 00000000 00000000 00000000 00000000 00000000 00000000 00000000 00000000 00000000 00000000 00000000 00000000 00000000 00000000 00000000 00000000 00000000\nout 1 -\nbus 0 read 1 data 1 erase 1 exclusive 1 out 0 inject 0\nitem 0 00010000 000202b7 1002a3af 1872a32f 00000000 leaf 0 way 0 E-\nitem 1 00020000 00000005 00000000 00000000 00000000 leaf 0 way 1 E-\nop 0 0.0.0 00010000 plain\nop 1 0.1.0 00010000 plain\nop 1 0.1.1 00010004 lr 00020000 00000005\nop 0 2.0.1 00010004 lr 00020000 00000005\nop 0 4.0.2 00010008 scok 00020000 00000005 00000005\nop 1 4.1.2 00010008 scfail 00020000\nend\n";
 }
 
@@ -78,8 +80,14 @@ reservation = record {
 abbrev pub joined_reads : Example
 joined_reads = record {
   tree = tree_of ((2 ∷ []) ∷ (3 ∷ 1 ∷ []) ∷ []) 4 16;
-  image = program (0x000202b7 ∷ 0x0202a383 ∷ 0x05d00893 ∷ 0x00000073 ∷ []) (0x00000000 ∷ 0x00000000 ∷ 0x00000000 ∷ 0x00000000 ∷ 0x00000000 ∷ 0x00000000 ∷ 0x00000000 ∷ 0x00000000 ∷ 0x00000005 ∷ []) 48;
-  turns = Hart 0 0 ∷ Hart 0 0 ∷ Hart 1 0 ∷ Hart 1 0 ∷ Hart 2 0 ∷ Hart 2 0 ∷ Request 1 2 ∷ Request 1 0 ∷ Request 0 0 ∷ Request 1 1 ∷ Request 0 0 ∷ Reply 0 1 ∷ Down 2 ∷ Reply 2 0 ∷ Reply 0 1 ∷ Down 1 ∷ Hart 0 0 ∷ Hart 1 0 ∷ Hart 2 0 ∷ Hart 2 0 ∷ Hart 2 0 ∷ Hart 2 0 ∷ [];
+  image =
+      program (0x000202b7 ∷ 0x0202a383 ∷ 0x05d00893 ∷ 0x00000073 ∷ [])
+      (0x00000000 ∷ 0x00000000 ∷ 0x00000000 ∷ 0x00000000 ∷ 0x00000000 ∷ 0x00000000 ∷ 0x00000000 ∷ 0x00000000
+      ∷ 0x00000005 ∷ []) 48;
+  turns =
+      Hart 0 0 ∷ Hart 0 0 ∷ Hart 1 0 ∷ Hart 1 0 ∷ Hart 2 0 ∷ Hart 2 0 ∷ Request 1 2 ∷ Request 1 0 ∷ Request 0 0
+      ∷ Request 1 1 ∷ Request 0 0 ∷ Reply 0 1 ∷ Down 2 ∷ Reply 2 0 ∷ Reply 0 1 ∷ Down 1 ∷ Hart 0 0 ∷ Hart 1 0
+      ∷ Hart 2 0 ∷ Hart 2 0 ∷ Hart 2 0 ∷ Hart 2 0 ∷ [];
   film = codes "film 1\ntree 2 2 3 1\nsizes 4 1 1 1 16 16 16 16\nitem 0 00010000\nitem 1 00020000 w\nitem 2 00020010 w\nitem 3 00020020 w\npc 0 00010000\nreg 0 2 00030000\nreg 0 11 00000004\nentry 0 0 E 0 000202b7 0202a383 05d00893 00000073\npc 1 00010000\nreg 1 2 00030000\nreg 1 10 00000001\nreg 1 11 00000004\nentry 1 1 E 0 00000000 00000000 00000000 00000000\npc 2 00010000\nreg 2 2 00030000\nreg 2 10 00000002\nreg 2 11 00000004\nentry 2 2 E 0 00000000 00000000 00000000 00000000\npc 3 00010000\nreg 3 2 00030000\nreg 3 10 00000003\nreg 3 11 00000004\nentry 3 3 E 0 00000005 00000000 00000000 00000000\ntime 0 0\ndir 0 0 E\ndir 0 1 E\ndir 0 2 E\ndir 0 3 E\ntime 1 0.0\ndir 1 0 E\ndir 1 1 E\ndir 1 2 E\ntime 2 0.0\ndir 2 3 E\ncopy 0 leaf 0\ncopy 1 leaf 1\ncopy 2 leaf 2\ncopy 3 leaf 3\nt 0 h 0 0 retired plain\npc 0 00010004\nreg 0 5 00020000\nt 1 h 0 0 issued read 3\nentry 0 3 R 1\nslot 0 read 3\nt 2 h 1 0 retired plain\npc 1 00010004\nreg 1 5 00020000\nt 3 h 1 0 issued read 3\nentry 1 3 R 1\nslot 1 read 3\nt 4 h 2 0 retired plain\npc 2 00010004\nreg 2 5 00020000\nt 5 h 2 0 issued read 3\nentry 2 3 R 1\nslot 2 read 3\nt 6 g 1 q 2 granted read 3 from child 2 to parent\nslot 2\ntime 1 0.1\ndir 1 3 upread 2\nrequests 1 | read 3\nt 7 g 1 q 0 granted read 3 from child 0 to joined\nslot 0\ntime 1 0.2\ndir 1 3 upread 2 0\nt 8 g 0 q 0 granted read 3 from child 0 to child 1\ntime 0 1\ndir 0 3 E local 0\nrequests 1\ndir 2 3 E answering\ndown 2 | read 3 1\nt 9 g 1 q 1 granted read 3 from child 1 to joined\nslot 1\ntime 1 0.3\ndir 1 3 upread 2 0 1\nt 10 g 0 q 0 empty\nt 11 g 0 r 1 empty\nt 12 g 2 d granted read 3 from parent to child 0\nentry 3 3 S 0 00000005 00000000 00000000 00000000\nleafreplies 3 | 3 00000005 00000000 00000000 00000000\ntime 2 1.1\ndown 2\nt 13 g 2 r 0 granted data 3 from child 0 to parent\nleafreplies 3\ntime 2 1.2\ndir 2 3 S\nreplies 2 | 3 00000005 00000000 00000000 00000000\nt 14 g 0 r 1 granted data 3 from child 1 to child 0\ntime 0 2\ndir 0 3 E\ndir 1 3 S upread 2 0 1\ndown 1 | data 3 2 00000005 00000000 00000000 00000000\nreplies 2\ncopy 3 bus 1 down\nt 15 g 1 d granted data 3 from parent to readers\nentry 0 3 S 1 00000005 00000000 00000000 00000000\nentry 1 3 S 1 00000005 00000000 00000000 00000000\nentry 2 3 S 1 00000005 00000000 00000000 00000000\ntime 1 2.4\ndir 1 3 S\ndown 1\ncopy 3 leaf 0\nt 16 h 0 0 retired load 00020020 00000005\npc 0 00010008\nreg 0 7 00000005\nt 17 h 1 0 retired load 00020020 00000005\npc 1 00010008\nreg 1 7 00000005\nt 18 h 2 0 retired load 00020020 00000005\npc 2 00010008\nreg 2 7 00000005\nt 19 h 2 0 retired plain\npc 2 0001000c\nreg 2 17 0000005d\nt 20 h 2 0 halted exit 2\nhalt 2 exit 2\nt 21 h 2 0 halted exit 2\nddm 1\nturns 22 retired 7 granted 8 busy 0\nhart 0 running pc 00010008 done 2\nregs 0 00000000 00030000 00000000 00000000 00020000 00000000 00000005 00000000 00000000 00000000 00000004 00000000 00000000 00000000 00000000 00000000 00000000 00000000 00000000 00000000 00000000 00000000 00000000 00000000 00000000 00000000 00000000 00000000 00000000 00000000 00000000\nout 0 -\nhart 1 running pc 00010008 done 2\nregs 1 00000000 00030000 00000000 00000000 00020000 00000000 00000005 00000000 00000000 00000001 00000004 00000000 00000000 00000000 00000000 00000000 00000000 00000000 00000000 00000000 00000000 00000000 00000000 00000000 00000000 00000000 00000000 00000000 00000000 00000000 00000000\nout 1 -\nhart 2 exit 2 pc 0001000c done 3\nregs 2 00000000 00030000 00000000 00000000 00020000 00000000 00000005 00000000 00000000 00000002 00000004 00000000 00000000 00000000 00000000 00000000 0000005d 00000000 00000000 00000000 00000000 00000000 00000000 00000000 00000000 00000000 00000000 00000000 00000000 00000000 00000000\nout 2 -\nhart 3 running pc 00010000 done 0\nregs 3 00000000 00030000 00000000 00000000 00000000 00000000 00000000 00000000 00000000 00000003 00000004 00000000 00000000 00000000 00000000 00000000 00000000 00000000 00000000 00000000 00000000 00000000 00000000 00000000 00000000 00000000 00000000 00000000 00000000 00000000 00000000\nout 3 -\nbus 0 read 1 data 1 erase 0 exclusive 0 out 0 inject 0\nbus 1 read 3 data 1 erase 0 exclusive 0 out 0 inject 0\nbus 2 read 1 data 1 erase 0 exclusive 0 out 0 inject 0\nitem 0 00010000 000202b7 0202a383 05d00893 00000073 leaf 0 way 0 E---\nitem 1 00020000 00000000 00000000 00000000 00000000 leaf 1 way 0 -E--\nitem 2 00020010 00000000 00000000 00000000 00000000 leaf 2 way 0 --E-\nitem 3 00020020 00000005 00000000 00000000 00000000 leaf 0 way 1 SSSS\nop 0 0.0.0.0.0 00010000 plain\nop 1 0.0.0.1.0 00010000 plain\nop 2 0.0.0.2.0 00010000 plain\nop 0 2.0.4.0.1 00010004 load 00020020 00000005\nop 1 2.0.4.1.1 00010004 load 00020020 00000005\nop 2 2.0.4.2.1 00010004 load 00020020 00000005\nop 2 2.0.4.2.2 00010008 plain\nend\n";
 }
 
@@ -88,7 +96,11 @@ abbrev pub parking : Example
 parking = record {
   tree = tree_of ((2 ∷ []) ∷ (1 ∷ 1 ∷ []) ∷ []) 1 2;
   image = program (0x000202b7 ∷ 0x0002a383 ∷ 0x00010337 ∷ 0x00032403 ∷ []) (0x00000005 ∷ []) 16;
-  turns = Hart 0 0 ∷ Hart 0 0 ∷ Request 1 0 ∷ Request 0 0 ∷ Down 2 ∷ Reply 2 0 ∷ Reply 0 1 ∷ Down 1 ∷ Hart 0 0 ∷ Leave 1 0 0 ∷ Leave 0 0 0 ∷ Down 2 ∷ Leave 0 1 0 ∷ Down 1 ∷ Hart 0 0 ∷ Hart 0 0 ∷ Request 1 0 ∷ Leave 1 0 0 ∷ Down 1 ∷ Hart 0 0 ∷ Leave 0 0 0 ∷ Hart 1 0 ∷ Hart 1 0 ∷ Hart 1 0 ∷ Hart 1 0 ∷ Leave 2 0 0 ∷ Leave 0 1 0 ∷ Down 1 ∷ [];
+  turns =
+      Hart 0 0 ∷ Hart 0 0 ∷ Request 1 0 ∷ Request 0 0 ∷ Down 2 ∷ Reply 2 0 ∷ Reply 0 1 ∷ Down 1 ∷ Hart 0 0
+      ∷ Leave 1 0 0 ∷ Leave 0 0 0 ∷ Down 2 ∷ Leave 0 1 0 ∷ Down 1 ∷ Hart 0 0 ∷ Hart 0 0 ∷ Request 1 0
+      ∷ Leave 1 0 0 ∷ Down 1 ∷ Hart 0 0 ∷ Leave 0 0 0 ∷ Hart 1 0 ∷ Hart 1 0 ∷ Hart 1 0 ∷ Hart 1 0 ∷ Leave 2 0 0
+      ∷ Leave 0 1 0 ∷ Down 1 ∷ [];
   film = codes "film 1\ntree 2 2 1 1\nsizes 1 1 1 1 2 2 2 16\nitem 0 00010000\nitem 1 00020000 w\npc 0 00010000\nreg 0 2 00030000\nreg 0 11 00000002\nentry 0 0 E 0 000202b7 0002a383 00010337 00032403\npc 1 00010000\nreg 1 2 00030000\nreg 1 10 00000001\nreg 1 11 00000002\nentry 1 1 E 0 00000005 00000000 00000000 00000000\ntime 0 0\ndir 0 0 E\ndir 0 1 E\ntime 1 0.0\ndir 1 0 E\ntime 2 0.0\ndir 2 1 E\ncopy 0 leaf 0\ncopy 1 leaf 1\nt 0 h 0 0 retired plain\npc 0 00010004\nreg 0 5 00020000\nt 1 h 0 0 issued read 1\nentry 0 0\nentry 0 1 R 0\nbuffer 0 | 0 E 000202b7 0002a383 00010337 00032403\nslot 0 read 1\nt 2 g 1 q 0 granted read 1 from child 0 to parent\nslot 0\ntime 1 0.1\ndir 1 1 upread 0\nrequests 1 | read 1\nt 3 g 0 q 0 granted read 1 from child 0 to child 1\ntime 0 1\ndir 0 1 E local 0\nrequests 1\ndir 2 1 E answering\ndown 2 | read 1 1\nt 4 g 2 d granted read 1 from parent to child 0\nentry 1 1 S 0 00000005 00000000 00000000 00000000\nleafreplies 1 | 1 00000005 00000000 00000000 00000000\ntime 2 1.1\ndown 2\nt 5 g 2 r 0 granted data 1 from child 0 to parent\nleafreplies 1\ntime 2 1.2\ndir 2 1 S\nreplies 2 | 1 00000005 00000000 00000000 00000000\nt 6 g 0 r 1 granted data 1 from child 1 to child 0\ntime 0 2\ndir 0 1 E\ndir 1 1 S upread 0\ndown 1 | data 1 2 00000005 00000000 00000000 00000000\nreplies 2\ncopy 1 bus 1 down\nt 7 g 1 d granted data 1 from parent to child 0\nentry 0 1 S 0 00000005 00000000 00000000 00000000\ntime 1 2.2\ndir 1 1 S\ndown 1\ncopy 1 leaf 0\nt 8 h 0 0 retired load 00020000 00000005\npc 0 00010008\nreg 0 7 00000005\nt 9 g 1 l 0 0 granted inject 0 from child 0 to parking\nbuffer 0\ntime 1 2.3\nparked 1 | 0 000202b7 0002a383 00010337 00032403\ncopy 0 bus 1 parking\nt 10 g 0 l 0 0 granted inject 0 from child 0 to child 1\ntime 0 3\ndir 1 0\nparked 1\ndir 2 0 E\ndown 2 | inject 0 3 000202b7 0002a383 00010337 00032403\nkept 2 1\ncopy 0 bus 2 down\nt 11 g 2 d granted inject 0 from parent to parking\ntime 2 3.3\ndown 2\nparked 2 | 0 000202b7 0002a383 00010337 00032403\nkept 2\ncopy 0 bus 2 parking\nt 12 g 0 l 1 0 granted inject 0 from child 1 to child 0\ntime 0 4\ndir 1 0 E\ndown 1 | inject 0 4 000202b7 0002a383 00010337 00032403\nkept 1 1\ndir 2 0\nparked 2\ncopy 0 bus 1 down\nt 13 g 1 d granted inject 0 from parent to parking\ntime 1 4.4\ndown 1\nparked 1 | 0 000202b7 0002a383 00010337 00032403\nkept 1\ncopy 0 bus 1 parking\nt 14 h 0 0 retired plain\npc 0 0001000c\nreg 0 6 00010000\nt 15 h 0 0 issued read 0\nentry 0 0 R 0\nentry 0 1\nbuffer 0 | 1 S 00000005 00000000 00000000 00000000\nslot 0 read 0\nt 16 g 1 q 0 granted read 0 from child 0 to parking\nslot 0\ntime 1 4.5\ndir 1 0 E upread 0\ndown 1 | data 0 4 000202b7 0002a383 00010337 00032403\nparked 1\ncopy 0 bus 1 down\nt 17 g 1 l 0 0 granted out 1 from child 0 to parking\nbuffer 0\ntime 1 4.6\nparked 1 | 1 00000005 00000000 00000000 00000000\ncopy 1 bus 1 parking\nt 18 g 1 d granted data 0 from parent to child 0\nentry 0 0 S 0 000202b7 0002a383 00010337 00032403\ntime 1 4.7\ndir 1 0 E\ndown 1\ncopy 0 leaf 0\nt 19 h 0 0 retired load 00010000 000202b7\npc 0 00010010\nreg 0 8 000202b7\nt 20 g 0 l 0 0 granted out 1 from child 0 to gone\ntime 0 5\ndir 1 1\nparked 1\ncopy 1 leaf 1\nt 21 h 1 0 retired plain\npc 1 00010004\nreg 1 5 00020000\nt 22 h 1 0 retired load 00020000 00000005\npc 1 00010008\nreg 1 7 00000005\nt 23 h 1 0 retired plain\npc 1 0001000c\nreg 1 6 00010000\nt 24 h 1 0 issued read 0\nentry 1 0 R 0\nentry 1 1\nbuffer 1 | 1 S 00000005 00000000 00000000 00000000\nslot 1 read 0\nt 25 g 2 l 0 0 granted out 1 from child 0 to parking\nbuffer 1\ntime 2 3.4\nparked 2 | 1 00000005 00000000 00000000 00000000\ncopy 1 bus 2 parking\nt 26 g 0 l 1 0 granted inject 1 from child 1 to child 0\ntime 0 6\ndir 1 1 E\ndown 1 | inject 1 6 00000005 00000000 00000000 00000000\nkept 1 1\ndir 2 1\nparked 2\ncopy 1 bus 1 down\nt 27 g 1 d granted inject 1 from parent to parking\ntime 1 6.8\ndown 1\nparked 1 | 1 00000005 00000000 00000000 00000000\nkept 1\ncopy 1 bus 1 parking\nddm 1\nturns 28 retired 7 granted 18 busy 0\nhart 0 running pc 00010010 done 4\nregs 0 00000000 00030000 00000000 00000000 00020000 00010000 00000005 000202b7 00000000 00000000 00000002 00000000 00000000 00000000 00000000 00000000 00000000 00000000 00000000 00000000 00000000 00000000 00000000 00000000 00000000 00000000 00000000 00000000 00000000 00000000 00000000\nout 0 -\nhart 1 running pc 0001000c done 3\nregs 1 00000000 00030000 00000000 00000000 00020000 00010000 00000005 00000000 00000000 00000001 00000002 00000000 00000000 00000000 00000000 00000000 00000000 00000000 00000000 00000000 00000000 00000000 00000000 00000000 00000000 00000000 00000000 00000000 00000000 00000000 00000000\nout 1 -\nbus 0 read 1 data 1 erase 0 exclusive 0 out 1 inject 3\nbus 1 read 2 data 2 erase 0 exclusive 0 out 1 inject 3\nbus 2 read 1 data 1 erase 0 exclusive 0 out 1 inject 1\nitem 0 00010000 000202b7 0002a383 00010337 00032403 leaf 0 way 0 SR\nitem 1 00020000 00000005 00000000 00000000 00000000 bus 1 parking 0 --\nop 0 0.0.0.0.0 00010000 plain\nop 0 2.0.2.0.1 00010004 load 00020000 00000005\nop 1 3.1.3.0.0 00010000 plain\nop 1 3.1.3.0.1 00010004 load 00020000 00000005\nop 1 3.1.3.0.2 00010008 plain\nop 0 4.0.4.0.2 00010008 plain\nop 0 4.0.7.0.3 0001000c load 00010000 000202b7\nend\n";
 }
 
@@ -96,7 +108,10 @@ parking = record {
 abbrev pub full_buffer : Example
 full_buffer = record {
   tree = tree_of ((4 ∷ []) ∷ []) 1 16;
-  image = program (0x000202b7 ∷ 0x0002a383 ∷ 0x0102a403 ∷ 0x00000073 ∷ []) (0x00000005 ∷ 0x00000000 ∷ 0x00000000 ∷ 0x00000000 ∷ 0x00000006 ∷ 0x00000000 ∷ 0x00000000 ∷ 0x00000000 ∷ []) 32;
+  image =
+      program (0x000202b7 ∷ 0x0002a383 ∷ 0x0102a403 ∷ 0x00000073 ∷ [])
+      (0x00000005 ∷ 0x00000000 ∷ 0x00000000 ∷ 0x00000000 ∷ 0x00000006 ∷ 0x00000000 ∷ 0x00000000 ∷ 0x00000000
+      ∷ []) 32;
   turns = Hart 0 0 ∷ Hart 0 0 ∷ Request 0 0 ∷ Reply 0 1 ∷ Hart 0 0 ∷ Hart 0 0 ∷ Leave 0 0 0 ∷ Hart 0 0 ∷ [];
   film = codes "film 1\ntree 1 4\nsizes 1 1 1 1 16 16 16 16\nitem 0 00010000\nitem 1 00020000 w\nitem 2 00020010 w\npc 0 00010000\nreg 0 2 00030000\nreg 0 11 00000004\nentry 0 0 E 0 000202b7 0002a383 0102a403 00000073\npc 1 00010000\nreg 1 2 00030000\nreg 1 10 00000001\nreg 1 11 00000004\nentry 1 1 E 0 00000005 00000000 00000000 00000000\npc 2 00010000\nreg 2 2 00030000\nreg 2 10 00000002\nreg 2 11 00000004\nentry 2 2 E 0 00000006 00000000 00000000 00000000\npc 3 00010000\nreg 3 2 00030000\nreg 3 10 00000003\nreg 3 11 00000004\ntime 0 0\ndir 0 0 E\ndir 0 1 E\ndir 0 2 E\ncopy 0 leaf 0\ncopy 1 leaf 1\ncopy 2 leaf 2\nt 0 h 0 0 retired plain\npc 0 00010004\nreg 0 5 00020000\nt 1 h 0 0 issued read 1\nentry 0 0\nentry 0 1 R 0\nbuffer 0 | 0 E 000202b7 0002a383 0102a403 00000073\nslot 0 read 1\nt 2 g 0 q 0 granted read 1 from child 0 to child 1\nslot 0\nentry 1 1 S 0 00000005 00000000 00000000 00000000\nleafreplies 1 | 1 00000005 00000000 00000000 00000000\ntime 0 1\ndir 0 1 E local 0\nt 3 g 0 r 1 granted data 1 from child 1 to child 0\nentry 0 1 S 0 00000005 00000000 00000000 00000000\nleafreplies 1\ntime 0 2\ndir 0 1 E\ncopy 1 leaf 0\nt 4 h 0 0 retired load 00020000 00000005\npc 0 00010008\nreg 0 7 00000005\nt 5 h 0 0 busy buffer 0\nt 6 g 0 l 0 0 granted inject 0 from child 0 to child 3\nbuffer 0\nentry 3 0 E 0 000202b7 0002a383 0102a403 00000073\ntime 0 3\ncopy 0 leaf 3\nt 7 h 0 0 issued read 2\nentry 0 1\nentry 0 2 R 0\nbuffer 0 | 1 S 00000005 00000000 00000000 00000000\nslot 0 read 2\nddm 1\nturns 8 retired 2 granted 3 busy 1\nhart 0 running pc 00010008 done 2\nregs 0 00000000 00030000 00000000 00000000 00020000 00000000 00000005 00000000 00000000 00000000 00000004 00000000 00000000 00000000 00000000 00000000 00000000 00000000 00000000 00000000 00000000 00000000 00000000 00000000 00000000 00000000 00000000 00000000 00000000 00000000 00000000\nout 0 -\nhart 1 running pc 00010000 done 0\nregs 1 00000000 00030000 00000000 00000000 00000000 00000000 00000000 00000000 00000000 00000001 00000004 00000000 00000000 00000000 00000000 00000000 00000000 00000000 00000000 00000000 00000000 00000000 00000000 00000000 00000000 00000000 00000000 00000000 00000000 00000000 00000000\nout 1 -\nhart 2 running pc 00010000 done 0\nregs 2 00000000 00030000 00000000 00000000 00000000 00000000 00000000 00000000 00000000 00000002 00000004 00000000 00000000 00000000 00000000 00000000 00000000 00000000 00000000 00000000 00000000 00000000 00000000 00000000 00000000 00000000 00000000 00000000 00000000 00000000 00000000\nout 2 -\nhart 3 running pc 00010000 done 0\nregs 3 00000000 00030000 00000000 00000000 00000000 00000000 00000000 00000000 00000000 00000003 00000004 00000000 00000000 00000000 00000000 00000000 00000000 00000000 00000000 00000000 00000000 00000000 00000000 00000000 00000000 00000000 00000000 00000000 00000000 00000000 00000000\nout 3 -\nbus 0 read 1 data 1 erase 0 exclusive 0 out 0 inject 1\nitem 0 00010000 000202b7 0002a383 0102a403 00000073 leaf 3 way 0 ---E\nitem 1 00020000 00000005 00000000 00000000 00000000 leaf 0 buffer 0 SS--\nitem 2 00020010 00000006 00000000 00000000 00000000 leaf 2 way 0 R-E-\nop 0 0.0.0 00010000 plain\nop 0 2.0.1 00010004 load 00020000 00000005\nend\n";
 }
@@ -105,8 +120,17 @@ full_buffer = record {
 abbrev pub stale_load : Example
 stale_load = record {
   tree = tree_of ((2 ∷ []) ∷ (2 ∷ 2 ∷ []) ∷ []) 4 16;
-  image = program (0x000202b7 ∷ 0x0002a383 ∷ 0x00050863 ∷ 0x0002a403 ∷ 0x0102a483 ∷ 0x0002a603 ∷ 0x00b2a023 ∷ 0x00b2a823 ∷ []) (0x00000005 ∷ []) 32;
-  turns = Hart 3 0 ∷ Hart 3 0 ∷ Request 2 1 ∷ Reply 2 0 ∷ Hart 3 0 ∷ Hart 3 0 ∷ Hart 0 0 ∷ Hart 0 0 ∷ Request 1 0 ∷ Request 0 0 ∷ Down 2 ∷ Reply 2 0 ∷ Reply 0 1 ∷ Down 1 ∷ Hart 0 0 ∷ Hart 0 0 ∷ Hart 0 0 ∷ Request 1 0 ∷ Request 0 0 ∷ Down 0 ∷ Down 1 ∷ Hart 0 0 ∷ Hart 3 0 ∷ Hart 0 0 ∷ Request 1 0 ∷ Request 0 0 ∷ Down 2 ∷ Down 2 ∷ Reply 2 1 ∷ Reply 0 1 ∷ Down 1 ∷ Request 1 0 ∷ Request 0 0 ∷ Down 0 ∷ Down 1 ∷ Hart 0 0 ∷ Down 2 ∷ Hart 3 0 ∷ Request 2 1 ∷ Request 0 1 ∷ Down 1 ∷ Reply 1 0 ∷ Reply 0 0 ∷ Down 2 ∷ Hart 3 0 ∷ Hart 3 0 ∷ [];
+  image =
+      program
+      (0x000202b7 ∷ 0x0002a383 ∷ 0x00050863 ∷ 0x0002a403 ∷ 0x0102a483 ∷ 0x0002a603 ∷ 0x00b2a023 ∷ 0x00b2a823
+      ∷ []) (0x00000005 ∷ []) 32;
+  turns =
+      Hart 3 0 ∷ Hart 3 0 ∷ Request 2 1 ∷ Reply 2 0 ∷ Hart 3 0 ∷ Hart 3 0 ∷ Hart 0 0 ∷ Hart 0 0 ∷ Request 1 0
+      ∷ Request 0 0 ∷ Down 2 ∷ Reply 2 0 ∷ Reply 0 1 ∷ Down 1 ∷ Hart 0 0 ∷ Hart 0 0 ∷ Hart 0 0 ∷ Request 1 0
+      ∷ Request 0 0 ∷ Down 0 ∷ Down 1 ∷ Hart 0 0 ∷ Hart 3 0 ∷ Hart 0 0 ∷ Request 1 0 ∷ Request 0 0 ∷ Down 2
+      ∷ Down 2 ∷ Reply 2 1 ∷ Reply 0 1 ∷ Down 1 ∷ Request 1 0 ∷ Request 0 0 ∷ Down 0 ∷ Down 1 ∷ Hart 0 0
+      ∷ Down 2 ∷ Hart 3 0 ∷ Request 2 1 ∷ Request 0 1 ∷ Down 1 ∷ Reply 1 0 ∷ Reply 0 0 ∷ Down 2 ∷ Hart 3 0
+      ∷ Hart 3 0 ∷ [];
   film = codes "film 1\ntree 2 2 2 2\nsizes 4 1 1 1 16 16 16 16\nitem 0 00010000\nitem 1 00010010\nitem 2 00020000 w\nitem 3 00020010 w\npc 0 00010000\nreg 0 2 00030000\nreg 0 11 00000004\nentry 0 0 E 0 000202b7 0002a383 00050863 0002a403\npc 1 00010000\nreg 1 2 00030000\nreg 1 10 00000001\nreg 1 11 00000004\nentry 1 1 E 0 0102a483 0002a603 00b2a023 00b2a823\npc 2 00010000\nreg 2 2 00030000\nreg 2 10 00000002\nreg 2 11 00000004\nentry 2 2 E 0 00000005 00000000 00000000 00000000\npc 3 00010000\nreg 3 2 00030000\nreg 3 10 00000003\nreg 3 11 00000004\nentry 3 3 E 0 00000000 00000000 00000000 00000000\ntime 0 0\ndir 0 0 E\ndir 0 1 E\ndir 0 2 E\ndir 0 3 E\ntime 1 0.0\ndir 1 0 E\ndir 1 1 E\ntime 2 0.0\ndir 2 2 E\ndir 2 3 E\ncopy 0 leaf 0\ncopy 1 leaf 1\ncopy 2 leaf 2\ncopy 3 leaf 3\nt 0 h 3 0 retired plain\npc 3 00010004\nreg 3 5 00020000\nt 1 h 3 0 issued read 2\nentry 3 2 R 1\nslot 3 read 2\nt 2 g 2 q 1 granted read 2 from child 1 to child 0\nentry 2 2 S 0 00000005 00000000 00000000 00000000\nleafreplies 2 | 2 00000005 00000000 00000000 00000000\nslot 3\ntime 2 0.1\ndir 2 2 E local 1\nt 3 g 2 r 0 granted data 2 from child 0 to child 1\nleafreplies 2\nentry 3 2 S 1 00000005 00000000 00000000 00000000\ntime 2 0.2\ndir 2 2 E\nt 4 h 3 0 retired load 00020000 00000005\npc 3 00010008\nreg 3 7 00000005\nt 5 h 3 0 retired plain\npc 3 0001000c\nt 6 h 0 0 retired plain\npc 0 00010004\nreg 0 5 00020000\nt 7 h 0 0 issued read 2\nentry 0 2 R 1\nslot 0 read 2\nt 8 g 1 q 0 granted read 2 from child 0 to parent\nslot 0\ntime 1 0.1\ndir 1 2 upread 0\nrequests 1 | read 2\nt 9 g 0 q 0 granted read 2 from child 0 to child 1\ntime 0 1\ndir 0 2 E local 0\nrequests 1\ndir 2 2 E answering\ndown 2 | read 2 1\nt 10 g 2 d granted read 2 from parent to child 0\nleafreplies 2 | 2 00000005 00000000 00000000 00000000\ntime 2 1.3\ndown 2\nt 11 g 2 r 0 granted data 2 from child 0 to parent\nleafreplies 2\ntime 2 1.4\ndir 2 2 S\nreplies 2 | 2 00000005 00000000 00000000 00000000\nt 12 g 0 r 1 granted data 2 from child 1 to child 0\ntime 0 2\ndir 0 2 E\ndir 1 2 S upread 0\ndown 1 | data 2 2 00000005 00000000 00000000 00000000\nreplies 2\ncopy 2 bus 1 down\nt 13 g 1 d granted data 2 from parent to child 0\nentry 0 2 S 1 00000005 00000000 00000000 00000000\ntime 1 2.2\ndir 1 2 S\ndown 1\ncopy 2 leaf 0\nt 14 h 0 0 retired load 00020000 00000005\npc 0 00010008\nreg 0 7 00000005\nt 15 h 0 0 retired plain\npc 0 00010018\nt 16 h 0 0 issued erase 2\nentry 0 2 W 1 00000005 00000000 00000000 00000000\nslot 0 erase 2\nt 17 g 1 q 0 granted erase 2 from child 0 to all\nslot 0\ntime 1 2.3\ndir 1 2 S uperase 0\nrequests 1 | erase 2\nt 18 g 0 q 0 granted erase 2 from child 0 to all\ntime 0 3\ndir 0 2 E uperase 0\ndown 0 | exclusive 2\nrequests 1\ndir 2 2\ndown 2 | erase 2 3\nt 19 g 0 d granted exclusive 2 from parent to child 0\ntime 0 4\ndir 0 2 E\ndown 0\ndir 1 2 E uperase 0\ndown 1 | exclusive 2 4\nt 20 g 1 d granted exclusive 2 from parent to child 0\nentry 0 2 E 1 00000005 00000000 00000000 00000000\ntime 1 4.4\ndir 1 2 E\ndown 1\nt 21 h 0 0 retired store 00020000 00000005 00000004\npc 0 0001001c\nentry 0 2 E 1 00000004 00000000 00000000 00000000\nt 22 h 3 0 retired load 00020000 00000005\npc 3 00010010\nreg 3 8 00000005\nt 23 h 0 0 issued read 3\nentry 0 3 B 2\nslot 0 read 3\nt 24 g 1 q 0 granted read 3 from child 0 to parent\nslot 0\ntime 1 4.5\ndir 1 3 upread 0\nrequests 1 | read 3\nt 25 g 0 q 0 granted read 3 from child 0 to child 1\ntime 0 5\ndir 0 3 E local 0\nrequests 1\ndir 2 3 E answering\ndown 2 | erase 2 3 | read 3 5\nt 26 g 2 d granted erase 2 from parent to all\nentry 2 2\nentry 3 2\ntime 2 3.5\ndown 2 | read 3 5\nt 27 g 2 d granted read 3 from parent to child 1\nentry 3 3 S 0 00000000 00000000 00000000 00000000\nleafreplies 3 | 3 00000000 00000000 00000000 00000000\ntime 2 5.6\ndown 2\nt 28 g 2 r 1 granted data 3 from child 1 to parent\nleafreplies 3\ntime 2 5.7\ndir 2 3 S\nreplies 2 | 3 00000000 00000000 00000000 00000000\nt 29 g 0 r 1 granted data 3 from child 1 to child 0\ntime 0 6\ndir 0 3 E\ndir 1 3 S upread 0\ndown 1 | data 3 6 00000000 00000000 00000000 00000000\nreplies 2\ncopy 3 bus 1 down\nt 30 g 1 d granted data 3 from parent to child 0\nentry 0 3 W 2 00000000 00000000 00000000 00000000\nslot 0 erase 3\ntime 1 6.6\ndir 1 3 S\ndown 1\ncopy 3 leaf 0\nt 31 g 1 q 0 granted erase 3 from child 0 to all\nslot 0\ntime 1 6.7\ndir 1 3 S uperase 0\nrequests 1 | erase 3\nt 32 g 0 q 0 granted erase 3 from child 0 to all\ntime 0 7\ndir 0 3 E uperase 0\ndown 0 | exclusive 3\nrequests 1\ndir 2 3\ndown 2 | erase 3 7\nt 33 g 0 d granted exclusive 3 from parent to child 0\ntime 0 8\ndir 0 3 E\ndown 0\ndir 1 3 E uperase 0\ndown 1 | exclusive 3 8\nt 34 g 1 d granted exclusive 3 from parent to child 0\nentry 0 3 E 2 00000000 00000000 00000000 00000000\ntime 1 8.8\ndir 1 3 E\ndown 1\nt 35 h 0 0 retired store 00020010 00000000 00000004\npc 0 00010020\nentry 0 3 E 2 00000004 00000000 00000000 00000000\nt 36 g 2 d granted erase 3 from parent to all\nentry 3 3\ntime 2 7.8\ndown 2\nt 37 h 3 0 issued read 3\nentry 3 3 R 0\nslot 3 read 3\nt 38 g 2 q 1 granted read 3 from child 1 to parent\nslot 3\ntime 2 7.9\ndir 2 3 upread 1\nrequests 2 | read 3\nt 39 g 0 q 1 granted read 3 from child 1 to child 0\ntime 0 9\ndir 0 3 E local 1\ndir 1 3 E answering\ndown 1 | read 3 9\nrequests 2\nt 40 g 1 d granted read 3 from parent to child 0\nentry 0 3 S 2 00000004 00000000 00000000 00000000\nleafreplies 0 | 3 00000004 00000000 00000000 00000000\ntime 1 9.9\ndown 1\nt 41 g 1 r 0 granted data 3 from child 0 to parent\nleafreplies 0\ntime 1 9.10\ndir 1 3 S\nreplies 1 | 3 00000004 00000000 00000000 00000000\nt 42 g 0 r 0 granted data 3 from child 0 to child 1\ntime 0 10\ndir 0 3 E\nreplies 1\ndir 2 3 S upread 1\ndown 2 | data 3 10 00000004 00000000 00000000 00000000\nt 43 g 2 d granted data 3 from parent to child 1\nentry 3 3 S 0 00000004 00000000 00000000 00000000\ntime 2 10.10\ndir 2 3 S\ndown 2\nt 44 h 3 0 retired load 00020010 00000004\npc 3 00010014\nreg 3 9 00000004\nt 45 h 3 0 issued read 2\nentry 3 2 R 1\nslot 3 read 2\nddm 1\nturns 46 retired 10 granted 30 busy 0\nhart 0 running pc 00010020 done 5\nregs 0 00000000 00030000 00000000 00000000 00020000 00000000 00000005 00000000 00000000 00000000 00000004 00000000 00000000 00000000 00000000 00000000 00000000 00000000 00000000 00000000 00000000 00000000 00000000 00000000 00000000 00000000 00000000 00000000 00000000 00000000 00000000\nout 0 -\nhart 1 running pc 00010000 done 0\nregs 1 00000000 00030000 00000000 00000000 00000000 00000000 00000000 00000000 00000000 00000001 00000004 00000000 00000000 00000000 00000000 00000000 00000000 00000000 00000000 00000000 00000000 00000000 00000000 00000000 00000000 00000000 00000000 00000000 00000000 00000000 00000000\nout 1 -\nhart 2 running pc 00010000 done 0\nregs 2 00000000 00030000 00000000 00000000 00000000 00000000 00000000 00000000 00000000 00000002 00000004 00000000 00000000 00000000 00000000 00000000 00000000 00000000 00000000 00000000 00000000 00000000 00000000 00000000 00000000 00000000 00000000 00000000 00000000 00000000 00000000\nout 2 -\nhart 3 running pc 00010014 done 5\nregs 3 00000000 00030000 00000000 00000000 00020000 00000000 00000005 00000005 00000004 00000003 00000004 00000000 00000000 00000000 00000000 00000000 00000000 00000000 00000000 00000000 00000000 00000000 00000000 00000000 00000000 00000000 00000000 00000000 00000000 00000000 00000000\nout 3 -\nbus 0 read 3 data 3 erase 2 exclusive 2 out 0 inject 0\nbus 1 read 3 data 3 erase 2 exclusive 2 out 0 inject 0\nbus 2 read 4 data 4 erase 2 exclusive 0 out 0 inject 0\nitem 0 00010000 000202b7 0002a383 00050863 0002a403 leaf 0 way 0 E---\nitem 1 00010010 0102a483 0002a603 00b2a023 00b2a823 leaf 1 way 0 -E--\nitem 2 00020000 00000004 00000000 00000000 00000000 leaf 0 way 1 E--R\nitem 3 00020010 00000004 00000000 00000000 00000000 leaf 0 way 2 S--S\nop 0 0.0.0.0.0 00010000 plain\nop 3 0.1.0.1.0 00010000 plain\nop 3 0.1.2.1.1 00010004 load 00020000 00000005\nop 3 0.1.2.1.2 00010008 plain\nop 3 1.1.4.1.3 0001000c load 00020000 00000005\nop 0 2.0.2.0.1 00010004 load 00020000 00000005\nop 0 2.0.2.0.2 00010008 plain\nop 0 4.0.4.0.3 00010018 store 00020000 00000005 00000004\nop 0 8.0.8.0.4 0001001c store 00020010 00000000 00000004\nop 3 10.1.10.1.4 00010010 load 00020010 00000004\nend\n";
 }
 

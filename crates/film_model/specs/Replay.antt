@@ -1,6 +1,7 @@
 -- How a reader of a film puts what it tells together again.
 -- Letters: p and c are parts, c one that is told; m is a machine, t a turn.
-use Rattle.std.specs.Prelude.{◌≡◌, ℕ, Bool, true, false, not, ◌&&◌, ◌||◌, nat_eq, List, [], ◌∷◌, length, map, filter, if◌then◌else◌, bytes_eq}
+use Rattle.std.specs.Prelude.{◌≡◌, ℕ, Bool, true, false, not, ◌&&◌, ◌||◌, nat_eq, List, [], ◌∷◌, length, map, filter}
+use Rattle.std.specs.Prelude.{if◌then◌else◌, bytes_eq}
 use Rattle.film_model.specs.DdmTypes.declared.turns.Turn.{Turn}
 use Rattle.film_model.specs.TreeModel.State.Values.{Node, Nodes, leaf_node, dir_node, no_nodes, more_nodes, MachineValue, root_of}
 use Rattle.film_model.specs.TreeModel.State.Rooms.{all_within}

@@ -1,6 +1,7 @@
 //! Worked examples of films, as theorems: each clause is one, and there is nothing to run.
 
-ghost use Rattle.film_model.specs.Examples.{IsFilmed, HasKeysOnce, no_turns, one_read, reservation, joined_reads, parking, full_buffer, stale_load, output};
+ghost use Rattle.film_model.specs.Examples.{IsFilmed, HasKeysOnce, no_turns, one_read, reservation, joined_reads};
+ghost use Rattle.film_model.specs.Examples.{parking, full_buffer, stale_load, output};
 
 /// Films of small runs.
 pub fn small_films()

@@ -11,7 +11,8 @@ ghost use Rattle.film_model.specs.TreeModel.Turns.Machine.{run_of};
 ghost use Rattle.film_model.specs.Film.{film_of};
 ghost use Rattle.film_model.specs.Markup.{HasNoMarkup};
 ghost use Rattle.film_model.specs.Part.{Part, changes};
-ghost use Rattle.film_model.specs.Replay.{IsReplayable, all_replayed, has_keys_once, have_registers, part_key, replayed, told_in, without_value};
+ghost use Rattle.film_model.specs.Replay.{IsReplayable, all_replayed, has_keys_once, have_registers, part_key};
+ghost use Rattle.film_model.specs.Replay.{replayed, told_in, without_value};
 ghost use Rattle.film_model.specs.Still.{still};
 
 /// What a turn changed, put into the parts before it, gives the parts after it: nothing is left out.

@@ -14,4 +14,5 @@ IsPlain false i = ⊤
 -- the words behind the records
 abbrev pub dir_list_words : DirValue → List ℕ
 dir_list_words d =
-    counted down_words d.down ++ counted request_words d.requests ++ counted item_and_words d.replies ++ counted item_and_words d.parked ++ d.reserved ∷ []
+    counted down_words d.down ++ counted request_words d.requests ++ counted item_and_words d.replies
+    ++ counted item_and_words d.parked ++ d.reserved ∷ []

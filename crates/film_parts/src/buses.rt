@@ -38,7 +38,9 @@ fn present(level: u32, number: u32, above: [u32; 4]) -> [u32; 4]
 // Puts the present stamp of a bus at the end: the numbers of those above it, and its own count, which is next.
 fn push_time(out: &mut Vec<u8>, level: u32, words: &mut StateWords<'_>) -> Result<(), NoMemory>
     requires { level ≤ 3 }
-    ensures { (count : ℕ) (epoch : Stamp) (rest : List ℕ) → words.old ≡ count ∷ stamp_words epoch ++ rest → OnOk result (Puts out.old.items out.new.items (stamp_text (stamp_numbers level (stamp_at epoch level count))) words.new rest) }
+    ensures { (count : ℕ) (epoch : Stamp) (rest : List ℕ) → words.old ≡ count ∷ stamp_words epoch ++ rest →
+        OnOk result (Puts out.old.items out.new.items
+        (stamp_text (stamp_numbers level (stamp_at epoch level count))) words.new rest) }
 {
     let count = words.next();
     let s0 = words.next();
@@ -106,7 +108,10 @@ fn add_copies(
     words: &mut StateWords<'_>,
     width: usize,
 ) -> Result<(), NoMemory>
-    ensures { (cs : List CopyValue) (rest : List ℕ) → words.old ≡ counted item_and_words cs ++ rest → AllByRecursion (CopyHasForm width) cs → OnOk result (Tells still.old still.new (record { key = key_of name.now bus; value = listed copy_text cs } ∷ []) words.new rest) }
+    ensures { (cs : List CopyValue) (rest : List ℕ) → words.old ≡ counted item_and_words cs ++ rest →
+        AllByRecursion (CopyHasForm width) cs →
+        OnOk result (Tells still.old still.new
+        (record { key = key_of name.now bus; value = listed copy_text cs } ∷ []) words.new rest) }
 {
     part.begin(name, bus)?;
     push_copies(&mut part.value, words, width)?;
@@ -138,7 +143,9 @@ fn add_dir_lists(
     words: &mut StateWords<'_>,
     width: usize,
 ) -> Result<(), NoMemory>
-    ensures { (d : DirValue) (most : ℕ) → d.bus ≡ shape.now.bus → d.level ≡ shape.now.level → DirHasForm width most d → words.old ≡ dir_list_words d → OnOk result (still.new ≡ still.old ++ dir_list_parts d) }
+    ensures { (d : DirValue) (most : ℕ) → d.bus ≡ shape.now.bus → d.level ≡ shape.now.level →
+        DirHasForm width most d → words.old ≡ dir_list_words d →
+        OnOk result (still.new ≡ still.old ++ dir_list_parts d) }
 {
     add_down(still, part, shape, words, width)?;
     add_requests(still, part, shape.bus, words)?;
@@ -159,7 +166,9 @@ pub fn add_dir(
 ) -> Result<(), NoMemory>
     requires level { shape.now.level ≤ 3 }
     requires children { shape.now.children ≤ 16 }
-    ensures { (d : DirValue) (most : ℕ) → d.bus ≡ shape.now.bus → d.level ≡ shape.now.level → length d.items ≡ items → DirHasForm width most d → AllByRecursion (IsPlain (is_top d)) d.items → words.old ≡ dir_words d → OnOk result (still.new ≡ still.old ++ dir_parts shape.now.children d) }
+    ensures { (d : DirValue) (most : ℕ) → d.bus ≡ shape.now.bus → d.level ≡ shape.now.level →
+        length d.items ≡ items → DirHasForm width most d → AllByRecursion (IsPlain (is_top d)) d.items →
+        words.old ≡ dir_words d → OnOk result (still.new ≡ still.old ++ dir_parts shape.now.children d) }
 {
     add_time(still, part, shape, words)?;
     add_items(still, part, shape, items, words)?;

@@ -1,6 +1,7 @@
 //! What a directory keeps of each item.
 
-ghost use Rattle.std.specs.Prelude.{◌≡◌, ◌≤◌, ◌<◌, ◌+◌, ℕ, Bool, if◌then◌else◌, List, [], ◌∷◌, ◌++◌, OnOk, IfOk, codes, count_by, length, slice_index, nat_eq, true};
+ghost use Rattle.std.specs.Prelude.{◌≡◌, ◌≤◌, ◌<◌, ◌+◌, ℕ, Bool, if◌then◌else◌, List, [], ◌∷◌, ◌++◌, OnOk, IfOk};
+ghost use Rattle.std.specs.Prelude.{codes, count_by, length, slice_index, nat_eq, true};
 ghost use Rattle.std.specs.List.{AllByRecursion};
 ghost use Rattle.film_parts.specs.DdmText.Adds.{Adds};
 ghost use Rattle.film_parts.specs.DdmTypes.declared.sizes.Hold.{Hold};
@@ -63,7 +64,8 @@ fn push_note(
     joined: u32,
 ) -> Result<(), NoMemory>
     requires { children ≤ 16 }
-    ensures { (note : Note) → kind ∷ child ∷ joined ∷ [] ≡ note_words note → OnOk result (Adds out.old.items out.new.items (note_text children note)) }
+    ensures { (note : Note) → kind ∷ child ∷ joined ∷ [] ≡ note_words note →
+        OnOk result (Adds out.old.items out.new.items (note_text children note)) }
 {
     match kind {
         1 => {
@@ -87,7 +89,8 @@ fn push_note(
 // Puts at the end whether it is answering, by a flag.
 #[tactic(auto, unfolding(film_model::specs::Directory::answering_text))]
 fn push_answering(out: &mut Vec<u8>, flag: u32) -> Result<(), NoMemory>
-    ensures { (answering : Bool) → flag ≡ flag_number answering → OnOk result (Adds out.old.items out.new.items (answering_text answering)) }
+    ensures { (answering : Bool) → flag ≡ flag_number answering →
+        OnOk result (Adds out.old.items out.new.items (answering_text answering)) }
 {
     if flag == 1 {
         return push_bytes(out, b" answering");
@@ -98,7 +101,8 @@ fn push_answering(out: &mut Vec<u8>, flag: u32) -> Result<(), NoMemory>
 // Puts what is kept of an item at the end, by the record of the item in the next words.
 fn push_record(out: &mut Vec<u8>, children: u32, words: &mut StateWords<'_>) -> Result<(), NoMemory>
     requires { children ≤ 16 }
-    ensures { (x : ℕ) (i : DirItem) (rest : List ℕ) → words.old ≡ record_words x i ++ rest → OnOk result (Puts out.old.items out.new.items (dir_item_text children i) words.new rest) }
+    ensures { (x : ℕ) (i : DirItem) (rest : List ℕ) → words.old ≡ record_words x i ++ rest →
+        OnOk result (Puts out.old.items out.new.items (dir_item_text children i) words.new rest) }
 {
     words.take(1);
     let hold = words.next();
@@ -149,7 +153,9 @@ fn push_item(
     requires { shape.now.children ≤ 16 }
     ensures { (i : DirItem) (more : List DirItem) (rest : List ℕ) → let top = nat_eq shape.now.level 0 in
         words.old ≡ records_from top item (i ∷ more) ++ rest → records ≡ count_by (is_recorded top) (i ∷ more) → IsPlain top i
-        → IfOk result (λ left. (left ≡ count_by (is_recorded top) more) × Puts out.old.items out.new.items (dir_item_text shape.now.children i) words.new (records_from top (item + 1) more ++ rest)) }
+        → IfOk result (λ left. (left ≡ count_by (is_recorded top) more)
+        × Puts out.old.items out.new.items (dir_item_text shape.now.children i) words.new
+        (records_from top (item + 1) more ++ rest)) }
 {
     if is_next(words, item, records) {
         push_record(out, shape.children, words)?;
@@ -171,7 +177,9 @@ fn add_item(
     requires { shape.now.children ≤ 16 }
     ensures { (i : DirItem) (more : List DirItem) (rest : List ℕ) → let top = nat_eq shape.now.level 0 in
         words.old ≡ records_from top item (i ∷ more) ++ rest → records ≡ count_by (is_recorded top) (i ∷ more) → IsPlain top i
-        → IfOk result (λ left. (left ≡ count_by (is_recorded top) more) × Tells still.old still.new (dir_part shape.now.bus shape.now.children item i ∷ []) words.new (records_from top (item + 1) more ++ rest)) }
+        → IfOk result (λ left. (left ≡ count_by (is_recorded top) more)
+        × Tells still.old still.new (dir_part shape.now.bus shape.now.children item i ∷ [])
+        words.new (records_from top (item + 1) more ++ rest)) }
 {
     part.begin_one(b"dir", shape.bus, item)?;
     let left = push_item(&mut part.value, shape, item, records, words)?;

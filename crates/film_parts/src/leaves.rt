@@ -7,7 +7,8 @@ ghost use Rattle.film_parts.specs.StateWords.Numbers.{reserved_word, slot_words}
 ghost use Rattle.film_parts.specs.StateWords.Parts.{buffer_words, counted, item_and_words, leaf_words};
 ghost use Rattle.film_parts.specs.TreeModel.State.Values.{BufferValue, CopyValue, LeafValue, RequestValue};
 ghost use Rattle.film_parts.specs.ValueLaws.Values.{BufferHasForm, CopyHasForm, LeafHasForm, SlotHasForm};
-ghost use Rattle.film_model.specs.Leaf.{buffer_text, copy_text, entry_part, hart_parts, leaf_list_parts, register_part, reservation_text, slot_text, stopped_text};
+ghost use Rattle.film_model.specs.Leaf.{buffer_text, copy_text, entry_part, hart_parts, leaf_list_parts};
+ghost use Rattle.film_model.specs.Leaf.{register_part, reservation_text, slot_text, stopped_text};
 ghost use Rattle.film_model.specs.Part.{key_of, listed, numbered};
 ghost use Rattle.film_parts.specs.DdmText.Adds.{Adds};
 ghost use Rattle.film_parts.specs.DdmText.Hex.{hex8};
@@ -86,7 +87,9 @@ pub fn add_hart(
     halt: Option<HaltCause>,
     registers: &[u32; 32],
 ) -> Result<(), NoMemory>
-    ensures { (v : LeafValue) → v.number ≡ leaf → v.hart ≡ record { registers = registers.now; pc = pc; halt = halt } → OnOk result (still.new ≡ still.old ++ hart_parts v) }
+    ensures { (v : LeafValue) → v.number ≡ leaf →
+        v.hart ≡ record { registers = registers.now; pc = pc; halt = halt } →
+        OnOk result (still.new ≡ still.old ++ hart_parts v) }
 {
     add_pc(still, part, leaf.0, pc)?;
     add_halt(still, part, leaf.0, halt)?;
@@ -104,7 +107,10 @@ pub fn add_entry(
     way: u32,
     words: &[u32],
 ) -> Result<(), NoMemory>
-    ensures { OnOk result (still.new ≡ still.old ++ entry_part leaf item (Some (record { way = way; state = state; words = words.now })) ∷ []) }
+    ensures { OnOk result
+        (still.new
+        ≡ still.old ++ entry_part leaf item (Some (record { way = way; state = state; words = words.now }))
+        ∷ []) }
 {
     part.begin_one(b"entry", leaf.0, item.0)?;
     push_way(&mut part.value, state, way, words)?;
@@ -146,7 +152,8 @@ fn add_buffer(
 // Puts at the end what a slot asks for, by its two words.
 #[tactic(auto, unfolding(film_model::specs::Leaf::slot_text, film_model::specs::Leaf::request_text))]
 fn push_slot(out: &mut Vec<u8>, kind: u32, item: u32) -> Result<(), NoMemory>
-    ensures { (slot : Option RequestValue) → kind ∷ item ∷ [] ≡ slot_words slot → SlotHasForm slot → OnOk result (Adds out.old.items out.new.items (slot_text slot)) }
+    ensures { (slot : Option RequestValue) → kind ∷ item ∷ [] ≡ slot_words slot → SlotHasForm slot →
+        OnOk result (Adds out.old.items out.new.items (slot_text slot)) }
 {
     if kind == 0 {
         return Ok(());
@@ -196,7 +203,8 @@ fn add_leaf_replies(
 // Puts the item of a reservation at the end, by its word.
 #[tactic(auto, unfolding(film_model::specs::Leaf::reservation_text))]
 fn push_reserved(out: &mut Vec<u8>, word: u32) -> Result<(), NoMemory>
-    ensures { (reservation : Option ℕ) → word ≡ reserved_word reservation → OnOk result (Adds out.old.items out.new.items (reservation_text reservation)) }
+    ensures { (reservation : Option ℕ) → word ≡ reserved_word reservation →
+        OnOk result (Adds out.old.items out.new.items (reservation_text reservation)) }
 {
     if word > 0 {
         return push_number(out, word - 1);
@@ -228,7 +236,8 @@ pub fn add_leaf_lists(
     width: usize,
 ) -> Result<(), NoMemory>
     requires { width < 4294967296 }
-    ensures { (v : LeafValue) (most : ℕ) → v.number ≡ leaf → words.old ≡ leaf_words v → LeafHasForm width most v → OnOk result (still.new ≡ still.old ++ leaf_list_parts v) }
+    ensures { (v : LeafValue) (most : ℕ) → v.number ≡ leaf → words.old ≡ leaf_words v → LeafHasForm width most v →
+        OnOk result (still.new ≡ still.old ++ leaf_list_parts v) }
 {
     let reserved = words.next();
     let kind = words.next();

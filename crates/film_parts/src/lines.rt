@@ -21,7 +21,8 @@ fn push_line(out: &mut Vec<u8>, still: &Still, place: usize) -> Result<(), NoMem
 // Puts its line at the end, if it has a value.
 fn push_if_valued(out: &mut Vec<u8>, still: &Still, place: usize) -> Result<(), NoMemory>
     requires { place < length still.now }
-    ensures { let part = slice_index_or still.now place no_part in OnOk result (Adds out.old.items out.new.items (if has_value part then part_line part else [])) }
+    ensures { let part = slice_index_or still.now place no_part in
+        OnOk result (Adds out.old.items out.new.items (if has_value part then part_line part else [])) }
 {
     if still.value(place).is_empty() {
         return Ok(());
@@ -38,7 +39,10 @@ fn push_if_changed(
 ) -> Result<(), NoMemory>
     requires before { place < length before.now }
     requires after { place < length after.now }
-    ensures { let part = slice_index_or after.now place no_part in OnOk result (Adds out.old.items out.new.items (if bytes_eq (slice_index_or before.now place no_part).value part.value then [] else part_line part)) }
+    ensures { let part = slice_index_or after.now place no_part in
+        OnOk result (Adds out.old.items out.new.items
+        (if bytes_eq (slice_index_or before.now place no_part).value part.value then []
+        else part_line part)) }
 {
     if before.value(place) == after.value(place) {
         return Ok(());

@@ -7,7 +7,8 @@ ghost use Rattle.film_parts.specs.Puts.{Puts};
 ghost use Rattle.film_parts.specs.DdmTypes.declared.keys.Stamp.{Stamp};
 ghost use Rattle.film_parts.specs.Forms.{IsWide, IsWideStanding};
 ghost use Rattle.film_parts.specs.StateWords.Numbers.{stamp_words};
-ghost use Rattle.film_parts.specs.StateWords.Parts.{StandingValue, buffer_words, counted, down_words, item_and_words, request_words, standing_words};
+ghost use Rattle.film_parts.specs.StateWords.Parts.{StandingValue, buffer_words, counted, down_words, item_and_words};
+ghost use Rattle.film_parts.specs.StateWords.Parts.{request_words, standing_words};
 ghost use Rattle.film_parts.specs.TreeModel.State.Values.{BufferValue, CopyValue, DownValue, RequestValue};
 ghost use Rattle.film_parts.specs.ValueLaws.Values.{BufferHasForm, CopyHasForm};
 ghost use Rattle.film_model.specs.Directory.{down_text, down_words as told_words, told_stamp};
@@ -59,7 +60,9 @@ pub(crate) fn push_copies(
     words: &mut StateWords<'_>,
     width: usize,
 ) -> Result<(), NoMemory>
-    ensures { (cs : List CopyValue) (rest : List ℕ) → words.old ≡ counted item_and_words cs ++ rest → AllByRecursion (CopyHasForm width) cs → OnOk result (Puts out.old.items out.new.items (listed copy_text cs) words.new rest) }
+    ensures { (cs : List CopyValue) (rest : List ℕ) → words.old ≡ counted item_and_words cs ++ rest →
+        AllByRecursion (CopyHasForm width) cs →
+        OnOk result (Puts out.old.items out.new.items (listed copy_text cs) words.new rest) }
 {
     let count = words.next();
     'entries: for _place in 0..count {
@@ -83,7 +86,8 @@ fn push_request(out: &mut Vec<u8>, words: &mut StateWords<'_>) -> Result<(), NoM
 
 /// Puts the next list at the end, whose entries are requests.
 pub(crate) fn push_requests(out: &mut Vec<u8>, words: &mut StateWords<'_>) -> Result<(), NoMemory>
-    ensures { (rs : List RequestValue) (rest : List ℕ) → words.old ≡ counted request_words rs ++ rest → OnOk result (Puts out.old.items out.new.items (listed request_text rs) words.new rest) }
+    ensures { (rs : List RequestValue) (rest : List ℕ) → words.old ≡ counted request_words rs ++ rest →
+        OnOk result (Puts out.old.items out.new.items (listed request_text rs) words.new rest) }
 {
     let count = words.next();
     'entries: for _place in 0..count {
@@ -117,7 +121,9 @@ pub(crate) fn push_buffer(
     words: &mut StateWords<'_>,
     width: usize,
 ) -> Result<(), NoMemory>
-    ensures { (es : List BufferValue) (rest : List ℕ) → words.old ≡ counted buffer_words es ++ rest → AllByRecursion (BufferHasForm width) es → OnOk result (Puts out.old.items out.new.items (listed buffer_text es) words.new rest) }
+    ensures { (es : List BufferValue) (rest : List ℕ) → words.old ≡ counted buffer_words es ++ rest →
+        AllByRecursion (BufferHasForm width) es →
+        OnOk result (Puts out.old.items out.new.items (listed buffer_text es) words.new rest) }
 {
     let count = words.next();
     'entries: for _place in 0..count {
@@ -150,7 +156,8 @@ fn push_told_stamp(
     level: usize,
     words: &mut StateWords<'_>,
 ) -> Result<(), NoMemory>
-    ensures { (stamp : Stamp) (rest : List ℕ) → words.old ≡ stamp_words stamp ++ rest → OnOk result (Puts out.old.items out.new.items (told_stamp level stamp) words.new rest) }
+    ensures { (stamp : Stamp) (rest : List ℕ) → words.old ≡ stamp_words stamp ++ rest →
+        OnOk result (Puts out.old.items out.new.items (told_stamp level stamp) words.new rest) }
 {
     let numbers = words.take(4);
     push_stamp(out, first_of(numbers, level))?;
@@ -185,7 +192,9 @@ pub(crate) fn push_down_list(
     words: &mut StateWords<'_>,
     width: usize,
 ) -> Result<(), NoMemory>
-    ensures { (es : List DownValue) (rest : List ℕ) → words.old ≡ counted down_words es ++ rest → AllByRecursion (IsWide width) es → OnOk result (Puts out.old.items out.new.items (listed (down_text level) es) words.new rest) }
+    ensures { (es : List DownValue) (rest : List ℕ) → words.old ≡ counted down_words es ++ rest →
+        AllByRecursion (IsWide width) es →
+        OnOk result (Puts out.old.items out.new.items (listed (down_text level) es) words.new rest) }
 {
     let count = words.next();
     'entries: for _place in 0..count {
@@ -197,7 +206,8 @@ pub(crate) fn push_down_list(
 /// Passes over the next list, whose entries stand in ways.
 pub(crate) fn skip_standing(words: &mut StateWords<'_>, width: usize)
     requires { width < 4294967296 }
-    ensures { (ss : List StandingValue) (rest : List ℕ) → words.old ≡ counted standing_words ss ++ rest → AllByRecursion (IsWideStanding width) ss → words.new ≡ rest }
+    ensures { (ss : List StandingValue) (rest : List ℕ) → words.old ≡ counted standing_words ss ++ rest →
+        AllByRecursion (IsWideStanding width) ss → words.new ≡ rest }
 {
     let count = words.next();
     'standing: for _place in 0..count {

@@ -86,7 +86,9 @@ fn film_change(
 ) -> Result<(), NoMemory>
     requires filmed { IsFilmed levels.now (machine_state machine.now).machine }
     requires rested { rested ≡ true → reel.old.before ≡ still_of (machine_state machine.now).machine }
-    ensures text { OnOk result (Adds text.old.items text.new.items (changed reel.old.before (still_of (machine_state machine.now).machine))) }
+    ensures text { OnOk result
+        (Adds text.old.items text.new.items
+        (changed reel.old.before (still_of (machine_state machine.now).machine))) }
     ensures before { OnOk result (reel.new.before ≡ still_of (machine_state machine.now).machine) }
 {
     if rested {

@@ -34,7 +34,9 @@ parked_copies bus (Some (Some place)) = CopyPlace.Parking bus place ∷ []
 -- of a down list whose first entry has the place k
 abbrev pub down_copies : ℕ → ℕ → ℕ → List DownValue → List CopyPlace
 down_copies x bus k [] = []
-down_copies x bus k (e ∷ es) = place_list (if nat_eq x e.item && brings_copy e.kind then Some (CopyPlace.DownList bus k) else None) ++ down_copies x bus (k + 1) es
+down_copies x bus k (e ∷ es) =
+    place_list (if nat_eq x e.item && brings_copy e.kind then Some (CopyPlace.DownList bus k) else None)
+    ++ down_copies x bus (k + 1) es
 
 -- the down list over a bus
 abbrev pub down_of : ℕ → MachineValue → Option (List DownValue)

@@ -101,7 +101,11 @@ fn push_parked_copies<const WORDS: usize, C: Subtree<WORDS>>(
 ) -> Result<(), NoMemory>
     requires small { WORDS ≤ 16 }
     requires item { item < item_count machine.now.machine.items }
-    ensures { OnOk result (places.new.items ≡ places.old.items ++ flat_map (λ bus. parked_copies bus (parked_place_of bus item machine.now.machine)) (buses_of machine.now.machine)) }
+    ensures { OnOk result
+        (places.new.items
+        ≡ places.old.items
+        ++ flat_map (λ bus. parked_copies bus (parked_place_of bus item machine.now.machine))
+        (buses_of machine.now.machine)) }
 {
     for number in 0..machine.counts().buses {
         let bus = BusNo(number);
@@ -134,7 +138,11 @@ fn push_all_down_copies<const WORDS: usize, C: Subtree<WORDS>>(
     item: ItemId,
 ) -> Result<(), NoMemory>
     requires small { WORDS ≤ 16 }
-    ensures { OnOk result (places.new.items ≡ places.old.items ++ flat_map (λ bus. down_copies item bus 0 (unwrap_or (down_of bus machine.now.machine) [])) (buses_of machine.now.machine)) }
+    ensures { OnOk result
+        (places.new.items
+        ≡ places.old.items
+        ++ flat_map (λ bus. down_copies item bus 0 (unwrap_or (down_of bus machine.now.machine) []))
+        (buses_of machine.now.machine)) }
 {
     for number in 0..machine.counts().buses {
         push_down_copies(places, machine, item, BusNo(number))?;

@@ -5,7 +5,8 @@ ghost use Rattle.std.specs.List.{position_or_len};
 ghost use Rattle.rv_decode.specs.Valid.{IsValid};
 ghost use Rattle.litmus_model.specs.Kept.{test_from};
 ghost use Rattle.litmus_model.specs.Sound.{IsSound};
-ghost use Rattle.litmus_model.specs.Image.{begins_from, block_of, blocks_of, code_bytes, code_of, item_of, leaf_word, memory_of, placed_image, test_image, test_segments};
+ghost use Rattle.litmus_model.specs.Image.{begins_from, block_of, blocks_of, code_bytes, code_of, item_of, leaf_word};
+ghost use Rattle.litmus_model.specs.Image.{memory_of, placed_image, test_image, test_segments};
 ghost use Rattle.litmus_image.specs.Made.{Makes, all_of, leaf_words};
 
 use crate::instructions::{jump_by_number, push_prologue};

@@ -1,5 +1,6 @@
 -- The final section: what is observed, and the condition.
-use Rattle.std.specs.Prelude.{ℕ, ◌+◌, ◌-◌, Bool, true, false, not, ◌&&◌, ◌||◌, nat_eq, bytes_eq, codes, List, [], ◌∷◌, ◌++◌, take, drop, Option, Some, None, is_some, Ok, if◌then◌else◌}
+use Rattle.std.specs.Prelude.{ℕ, ◌+◌, ◌-◌, Bool, true, false, not, ◌&&◌, ◌||◌, nat_eq, bytes_eq, codes, List, [], ◌∷◌}
+use Rattle.std.specs.Prelude.{◌++◌, take, drop, Option, Some, None, is_some, Ok, if◌then◌else◌}
 use Rattle.std.specs.List.{position_or_len}
 use Rattle.std.specs.Option.{option_or, option_map_or}
 use Rattle.litmus_model.specs.declared.parts.Part.{Part}

@@ -86,7 +86,9 @@ waiting = record {
 }
 
 abbrev pub conditions_text : List ℕ
-conditions_text = codes "RISCV Many\n{}\nP0|P1;\nnop|amoswap.w a0,zero,(a1);\nlocations [y;0:a0;]\n~exists (not true \\/ [y]=z /\\ 1:x1=0x10)\n"
+conditions_text =
+    codes
+    "RISCV Many\n{}\nP0|P1;\nnop|amoswap.w a0,zero,(a1);\nlocations [y;0:a0;]\n~exists (not true \\/ [y]=z /\\ 1:x1=0x10)\n"
 
 abbrev pub conditions : Test
 conditions = record {

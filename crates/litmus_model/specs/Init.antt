@@ -1,5 +1,6 @@
 -- The initial state: what registers and locations begin with.
-use Rattle.std.specs.Prelude.{ℕ, Bool, true, false, ◌&&◌, ◌||◌, nat_eq, bytes_eq, codes, List, [], ◌∷◌, ◌++◌, take, drop, Option, Some, None, Ok, if◌then◌else◌}
+use Rattle.std.specs.Prelude.{ℕ, Bool, true, false, ◌&&◌, ◌||◌, nat_eq, bytes_eq, codes, List, [], ◌∷◌, ◌++◌, take}
+use Rattle.std.specs.Prelude.{drop, Option, Some, None, Ok, if◌then◌else◌}
 use Rattle.std.specs.List.{list_any, position_or_len}
 use Rattle.litmus_model.specs.declared.parts.Part.{Part}
 use Rattle.litmus_model.specs.declared.parts.Part.TheVariants.{Word, Mark}

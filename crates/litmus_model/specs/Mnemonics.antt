@@ -1,5 +1,6 @@
 -- What a mnemonic says: the form of its instruction.
-use Rattle.std.specs.Prelude.{ℕ, Bool, true, false, not, ◌||◌, nat_eq, bytes_eq, codes, List, [], ◌∷◌, length, take, drop, take_while, Option, Some, None, Ok, if◌then◌else◌}
+use Rattle.std.specs.Prelude.{ℕ, Bool, true, false, not, ◌||◌, nat_eq, bytes_eq, codes, List, [], ◌∷◌, length, take}
+use Rattle.std.specs.Prelude.{drop, take_while, Option, Some, None, Ok, if◌then◌else◌}
 use Rattle.std.specs.List.{list_any}
 use Rattle.std.specs.Option.{option_or, option_map, option_and_then, option_map_or}
 use Rattle.rv_decode.specs.declared.instructions.BranchOp.TheVariants.{Beq, Bne, Blt, Bge, Bltu, Bgeu}
@@ -7,11 +8,15 @@ use Rattle.rv_decode.specs.declared.instructions.LoadOp.TheVariants.{Lb, Lh, Lw,
 use Rattle.rv_decode.specs.declared.instructions.StoreOp.TheVariants.{Sb, Sh, Sw}
 use Rattle.rv_decode.specs.declared.instructions.ImmOp.TheVariants.{Addi, Slti, Sltiu, Xori, Ori, Andi, Slli, Srli, Srai}
 use Rattle.rv_decode.specs.declared.instructions.RegOp.TheVariants.{Add, Sub, Sll, Slt, Sltu, Xor, Srl, Sra, Or, And}
-use Rattle.rv_decode.specs.declared.instructions.AmoOp.TheVariants.{Add as AmoAdd, Swap as AmoSwap, Xor as AmoXor, Or as AmoOr, And as AmoAnd, Min as AmoMin, Max as AmoMax, Minu as AmoMinu, Maxu as AmoMaxu}
+use Rattle.rv_decode.specs.declared.instructions.AmoOp.TheVariants.{Add as AmoAdd, Swap as AmoSwap, Xor as AmoXor}
+use Rattle.rv_decode.specs.declared.instructions.AmoOp.TheVariants.{Or as AmoOr, And as AmoAnd, Min as AmoMin}
+use Rattle.rv_decode.specs.declared.instructions.AmoOp.TheVariants.{Max as AmoMax, Minu as AmoMinu, Maxu as AmoMaxu}
 use Rattle.litmus_model.specs.declared.test.Orders.{Orders}
 use Rattle.litmus_model.specs.declared.test.Move.TheVariants.{Mv, Not, Neg, Seqz, Snez}
 use Rattle.litmus_model.specs.declared.test.Form.{Form}
-use Rattle.litmus_model.specs.declared.test.Form.TheVariants.{Registers, Immediate, Upper, Number, Load, Store, Branch, ZeroBranch, Jump, Move, Nothing, Fence, FixedFence, LoadReserved, StoreConditional, Amo}
+use Rattle.litmus_model.specs.declared.test.Form.TheVariants.{Registers, Immediate, Upper, Number, Load, Store}
+use Rattle.litmus_model.specs.declared.test.Form.TheVariants.{Branch, ZeroBranch, Jump, Move, Nothing, Fence}
+use Rattle.litmus_model.specs.declared.test.Form.TheVariants.{FixedFence, LoadReserved, StoreConditional, Amo}
 use Rattle.litmus_model.specs.declared.refusal.Fault.TheVariants.{SixtyFourBits, UnknownInstruction}
 use Rattle.litmus_model.specs.Refusing.{Judged, refused}
 
@@ -90,7 +95,8 @@ behind_stem w = drop (length (stem w)) w
 unfoldable pub atomic_form : List ℕ → Option Form
 atomic_form w =
     if bytes_eq (take 2 (behind_stem w)) (codes ".w") then
-    option_and_then (λ (form : Orders → Form). option_map form (meaning_in order_rows (drop 2 (behind_stem w)))) (meaning_in atomic_rows (stem w))
+    option_and_then (λ (form : Orders → Form). option_map form (meaning_in order_rows (drop 2 (behind_stem w))))
+    (meaning_in atomic_rows (stem w))
     else None
 
 -- ---- what other machines have

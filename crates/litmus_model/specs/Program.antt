@@ -1,5 +1,6 @@
 -- The program: rows of cells, a cell for each thread.
-use Rattle.std.specs.Prelude.{ℕ, ◌+◌, Bool, true, false, not, ◌&&◌, nat_eq, bytes_eq, decimal, List, [], ◌∷◌, ◌++◌, length, map, filter, drop, Option, Some, None, Ok, if◌then◌else◌}
+use Rattle.std.specs.Prelude.{ℕ, ◌+◌, Bool, true, false, not, ◌&&◌, nat_eq, bytes_eq, decimal, List, [], ◌∷◌, ◌++◌}
+use Rattle.std.specs.Prelude.{length, map, filter, drop, Option, Some, None, Ok, if◌then◌else◌}
 use Rattle.std.specs.List.{list_any, filter_map, range_with_len}
 use Rattle.std.specs.Option.{option_map_or}
 use Rattle.litmus_model.specs.declared.parts.Part.{Part}

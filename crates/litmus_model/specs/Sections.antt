@@ -1,5 +1,6 @@
 -- The sections of a test's text: the header, the initial state, the program and the final section.
-use Rattle.std.specs.Prelude.{ℕ, ◌+◌, Bool, ◌&&◌, ◌||◌, nat_eq, nat_le, bytes_eq, codes, List, [], ◌∷◌, ◌++◌, length, take, drop, filter, Ok, if◌then◌else◌}
+use Rattle.std.specs.Prelude.{ℕ, ◌+◌, Bool, ◌&&◌, ◌||◌, nat_eq, nat_le, bytes_eq, codes, List, [], ◌∷◌, ◌++◌, length}
+use Rattle.std.specs.Prelude.{take, drop, filter, Ok, if◌then◌else◌}
 use Rattle.std.specs.List.{list_all, list_any, position_or_len}
 use Rattle.litmus_model.specs.declared.parts.Part.{Part}
 use Rattle.litmus_model.specs.declared.parts.Part.TheVariants.{Word, Mark}

@@ -22,5 +22,8 @@ none_text = codes "Test Wait Required\nHistogram (0 states)\nOk\n\nWitnesses\nPo
 
 pub record ExampleStates : Type 0 where
   pub seen : states_text message_passing 16 (run_states (state 3 1 (0 ∷ []) ∷ state 1 3 (1 ∷ []) ∷ []) 5 1 0) ≡ seen_text
-  pub forbidden : states_text conditions 16 (run_states (state 2 4 (0 ∷ 16 ∷ 0x200010 ∷ []) ∷ state 1 5 (0xffffffff ∷ 0 ∷ 0x200000 ∷ []) ∷ []) 4 0 1) ≡ forbidden_text
+  pub forbidden :
+      states_text conditions 16
+      (run_states (state 2 4 (0 ∷ 16 ∷ 0x200010 ∷ []) ∷ state 1 5 (0xffffffff ∷ 0 ∷ 0x200000 ∷ []) ∷ []) 4 0 1)
+      ≡ forbidden_text
   pub none : states_text waiting 16 (run_states [] 3 3 0) ≡ none_text

@@ -1,5 +1,6 @@
 -- What is printed of the states to which runs of a test came, in the words of litmus7.
-use Rattle.std.specs.Prelude.{ℕ, ◌+◌, ◌-◌, ◌^◌, Bool, true, false, not, nat_eq, nat_lt, List, [], ◌∷◌, ◌++◌, length, replicate, find, sum_by, codes, decimal, Option, Some, None, if◌then◌else◌}
+use Rattle.std.specs.Prelude.{ℕ, ◌+◌, ◌-◌, ◌^◌, Bool, true, false, not, nat_eq, nat_lt, List, [], ◌∷◌, ◌++◌, length}
+use Rattle.std.specs.Prelude.{replicate, find, sum_by, codes, decimal, Option, Some, None, if◌then◌else◌}
 use Rattle.std.specs.List.{flat_map}
 use Rattle.litmus_model.specs.declared.parts.Target.{Target}
 use Rattle.litmus_model.specs.declared.parts.Target.TheVariants.{Register, Location}
@@ -90,7 +91,8 @@ chunk_text test item_bytes chunk.And = codes " /\\ "
 chunk_text test item_bytes chunk.Or = codes " \\/ "
 chunk_text test item_bytes chunk.True = codes "true"
 chunk_text test item_bytes chunk.False = codes "false"
-chunk_text test item_bytes (chunk.Is target value) = target_text target ++ codes "=" ++ word_text test item_bytes (word_of test item_bytes value)
+chunk_text test item_bytes (chunk.Is target value) =
+    target_text target ++ codes "=" ++ word_text test item_bytes (word_of test item_bytes value)
 
 abbrev pub quantifier_text : Quantifier → List ℕ
 quantifier_text Exists = codes "exists"
@@ -110,7 +112,9 @@ kind_text Forall = codes "Required"
 
 unfoldable pub runs_that : Bool → Test → ℕ → List StateLine → ℕ
 runs_that satisfy test item_bytes states =
-    sum_by (λ (s : StateLine). if satisfies test item_bytes s.words then (if satisfy then s.times else 0) else (if satisfy then 0 else s.times)) states
+    sum_by
+    (λ (s : StateLine). if satisfies test item_bytes s.words then (if satisfy then s.times else 0)
+    else (if satisfy then 0 else s.times)) states
 
 abbrev pub is_validated : Quantifier → ℕ → ℕ → Bool
 is_validated Exists t f = nat_lt 0 t
@@ -151,4 +155,5 @@ states_text test item_bytes r =
     flat_map (histogram_line test item_bytes) r.states ++
     verdict_text test item_bytes (runs_that true test item_bytes r.states) (runs_that false test item_bytes r.states) ++
     flat_map (seed_line test item_bytes) r.states ++
-    line (codes "Runs " ++ test.name ++ codes " " ++ decimal r.runs ++ codes " unfinished " ++ decimal r.unfinished ++ codes " faulted " ++ decimal r.faulted)
+    line (codes "Runs " ++ test.name ++ codes " " ++ decimal r.runs ++ codes " unfinished "
+    ++ decimal r.unfinished ++ codes " faulted " ++ decimal r.faulted)

@@ -1,5 +1,6 @@
 -- The steps of an instruction: of the form of its mnemonic, and of its operands.
-use Rattle.std.specs.Prelude.{ℕ, ◌+◌, ◌-◌, ◌*◌, ◌%◌, ◌^◌, Bool, ◌&&◌, nat_lt, List, [], ◌∷◌, map, ℤ, pos, negsuc, neg_ℤ, int_le, Option, Some, None, Ok, if◌then◌else◌}
+use Rattle.std.specs.Prelude.{ℕ, ◌+◌, ◌-◌, ◌*◌, ◌%◌, ◌^◌, Bool, ◌&&◌, nat_lt, List, [], ◌∷◌, map, ℤ, pos, negsuc}
+use Rattle.std.specs.Prelude.{neg_ℤ, int_le, Option, Some, None, Ok, if◌then◌else◌}
 use Rattle.std.specs.Int.{w32, cast_unsigned}
 use Rattle.std.specs.Option.{option_map, option_and_then}
 use Rattle.rv_decode.specs.declared.instructions.ImmOp.{ImmOp}

@@ -1,5 +1,7 @@
 -- What words say: numbers, registers, names, threads; targets and values.
-use Rattle.std.specs.Prelude.{ℕ, ◌+◌, ◌-◌, ◌*◌, ◌^◌, ◌&&◌, ◌||◌, Bool, false, nat_eq, nat_lt, nat_le, bytes_eq, codes, ℤ, pos, neg_ℤ, List, [], ◌∷◌, length, take, drop, position, fold, Option, Some, None, Ok, if◌then◌else◌}
+use Rattle.std.specs.Prelude.{ℕ, ◌+◌, ◌-◌, ◌*◌, ◌^◌, ◌&&◌, ◌||◌, Bool, false, nat_eq, nat_lt, nat_le, bytes_eq, codes}
+use Rattle.std.specs.Prelude.{ℤ, pos, neg_ℤ, List, [], ◌∷◌, length, take, drop, position, fold, Option, Some, None}
+use Rattle.std.specs.Prelude.{Ok, if◌then◌else◌}
 use Rattle.std.specs.List.{list_all}
 use Rattle.std.specs.Int.{w32, cast_unsigned}
 use Rattle.std.specs.Option.{option_or, option_map, option_map_or}

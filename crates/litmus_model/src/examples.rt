@@ -1,7 +1,10 @@
 //! Worked examples of tests, as theorems: each clause is one, and there is nothing to run.
 
-ghost use Rattle.litmus_model.specs.declared.refusal.Fault.TheVariants.{OpenComment, OtherArchitecture, SixtyFourBits, NoLabel, Twice, BadCondition};
-ghost use Rattle.litmus_model.specs.Examples.{Says, IsRefused, ExampleImage, message_passing_text, message_passing, waiting_text, waiting, conditions_text, conditions, open_comment, other_architecture, wide_load, no_label, given_twice, open_bracket};
+ghost use Rattle.litmus_model.specs.declared.refusal.Fault.TheVariants.{OpenComment, OtherArchitecture};
+ghost use Rattle.litmus_model.specs.declared.refusal.Fault.TheVariants.{SixtyFourBits, NoLabel, Twice, BadCondition};
+ghost use Rattle.litmus_model.specs.Examples.{Says, IsRefused, ExampleImage, message_passing_text, message_passing};
+ghost use Rattle.litmus_model.specs.Examples.{waiting_text, waiting, conditions_text, conditions, open_comment};
+ghost use Rattle.litmus_model.specs.Examples.{other_architecture, wide_load, no_label, given_twice, open_bracket};
 ghost use Rattle.litmus_model.specs.StatesExamples.{ExampleStates};
 
 /// What the texts of small tests say.

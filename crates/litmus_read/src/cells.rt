@@ -124,7 +124,9 @@ fn push_labels<'a>(
 ) -> Result<&'a [Token], NoMemory>
     ensures labels { IfOk result (λ left. first_label left.now ≡ None) }
     ensures kept { IfOk result (λ left. (before thread : ℕ) → IsKept before thread steps.old.items → IsKept before thread steps.new.items) }
-    ensures steps { IfOk result (λ left. behind steps.old.items (cell_placed cell.thread cell.line tokens.now) ≡ behind steps.new.items (cell_placed cell.thread cell.line left.now)) }
+    ensures steps { IfOk result
+        (λ left. behind steps.old.items (cell_placed cell.thread cell.line tokens.now)
+        ≡ behind steps.new.items (cell_placed cell.thread cell.line left.now)) }
 {
     let mut left = tokens;
     'labels: while let Some(label) = first_label(left) {
@@ -143,8 +145,12 @@ fn push_instruction(
     first: &Part,
     operands: &[Token],
 ) -> Result<(), Unread>
-    ensures steps { Adds (placed_steps cell.thread cell.line (steps_behind_labels cell.line first.now operands.now)) steps.old.items steps.new.items result }
-    ensures kept { OnOk result ((before : ℕ) → IsKept before cell.thread steps.old.items → IsKept before (cell.thread + 1) steps.new.items) }
+    ensures steps { Adds
+        (placed_steps cell.thread cell.line (steps_behind_labels cell.line first.now operands.now))
+        steps.old.items steps.new.items result }
+    ensures kept { OnOk result
+        ((before : ℕ) → IsKept before cell.thread steps.old.items →
+        IsKept before (cell.thread + 1) steps.new.items) }
 {
     match first {
         Part::Word(mnemonic) => {
@@ -164,7 +170,9 @@ pub(crate) fn read_cell(
     tokens: &[Token],
 ) -> Result<(), Unread>
     ensures steps { Adds (cell_placed cell.thread cell.line tokens.now) steps.old.items steps.new.items result }
-    ensures kept { OnOk result ((before : ℕ) → IsKept before cell.thread steps.old.items → IsKept before (cell.thread + 1) steps.new.items) }
+    ensures kept { OnOk result
+        ((before : ℕ) → IsKept before cell.thread steps.old.items →
+        IsKept before (cell.thread + 1) steps.new.items) }
 {
     let left = push_labels(steps, cell, tokens)?;
     if left.is_empty() {

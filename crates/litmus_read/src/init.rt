@@ -3,7 +3,8 @@
 ghost use Rattle.std.specs.Prelude.{◌≡◌, ◌∷◌, [], ◌++◌, ◌≤◌, List, IfOk, Ok, OnOk, drop, length};
 ghost use Rattle.litmus_model.specs.declared.parts.Part.{Part as PartValue};
 ghost use Rattle.litmus_model.specs.Refusing.{and_then};
-ghost use Rattle.litmus_model.specs.Init.{given_of, given_value, givens_from, init_of, is_known_type, is_name_part, is_word, new_given, piece_givens, without_type};
+ghost use Rattle.litmus_model.specs.Init.{given_of, given_value, givens_from, init_of, is_known_type, is_name_part};
+ghost use Rattle.litmus_model.specs.Init.{is_word, new_given, piece_givens, without_type};
 ghost use Rattle.litmus_text.specs.Reads.{ReadsList};
 ghost use Rattle.litmus_read.specs.Becomes.{Becomes};
 
@@ -47,7 +48,9 @@ fn is_known_type(part: &Part) -> bool
 /// How many parts a type is, of which these are the first two parts.
 #[tactic(auto, unfolding(litmus_model::specs::Init::without_type, litmus_model::specs::Refusing::and_then))]
 fn type_before(line: u32, first: &Part, second: &Part) -> Result<usize, TestRefusal>
-    ensures parts { (rest : List PartValue) → without_type line (first.now ∷ second.now ∷ rest) ≡ and_then result (λ n. Ok (drop n (first.now ∷ second.now ∷ rest))) }
+    ensures parts { (rest : List PartValue) →
+        without_type line (first.now ∷ second.now ∷ rest)
+        ≡ and_then result (λ n. Ok (drop n (first.now ∷ second.now ∷ rest))) }
     ensures short { IfOk result (λ n. n ≤ 1) }
 {
     if !is_name_part(first) || !(is_word(second) || is_part_mark(b'*', second)) {

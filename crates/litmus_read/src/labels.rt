@@ -3,7 +3,8 @@
 ghost use Rattle.std.specs.Prelude.{◌≡◌, ◌∷◌, [], ◌||◌, List, bytes_eq};
 ghost use Rattle.std.specs.List.{list_any, range_with_len};
 ghost use Rattle.litmus_model.specs.declared.parts.PlacedStep.{PlacedStep as StepValue};
-ghost use Rattle.litmus_model.specs.Program.{goal_of, goals_are_there, is_new, is_there, label_of, labels_differ, labels_of, program_labels, thread_labels};
+ghost use Rattle.litmus_model.specs.Program.{goal_of, goals_are_there, is_new, is_there, label_of, labels_differ};
+ghost use Rattle.litmus_model.specs.Program.{labels_of, program_labels, thread_labels};
 ghost use Rattle.litmus_text.specs.Reads.{Reads};
 ghost use Rattle.litmus_read.specs.Becomes.{Judges};
 
@@ -33,7 +34,9 @@ fn goal_of(step: &Step) -> Option<Name>
 
 #[tactic(auto, using(crate::proofs::LabelSearch::no_label, crate::proofs::LabelSearch::some_label))]
 fn is_label(step: &PlacedStep, name: &Name) -> bool
-    ensures { (others : List StepValue) → list_any (bytes_eq name.now) (labels_of (step.now ∷ others)) ≡ (result || list_any (bytes_eq name.now) (labels_of others)) }
+    ensures { (others : List StepValue) →
+        list_any (bytes_eq name.now) (labels_of (step.now ∷ others))
+        ≡ (result || list_any (bytes_eq name.now) (labels_of others)) }
 {
     match label_of(&step.step) {
         Some(label) => same_name(name, &label),

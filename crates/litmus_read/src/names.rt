@@ -2,7 +2,8 @@
 
 ghost use Rattle.std.specs.Prelude.{◌≡◌, ◌∷◌, [], ◌≤◌, ℕ, IfOk, length};
 ghost use Rattle.litmus_model.specs.Tokens.{parts_of};
-ghost use Rattle.litmus_model.specs.Program.{is_thread_name, name_threads, no_open_row, not_too_many, thread_count, thread_name, whole_rows};
+ghost use Rattle.litmus_model.specs.Program.{is_thread_name, name_threads, no_open_row, not_too_many, thread_count};
+ghost use Rattle.litmus_model.specs.Program.{thread_name, whole_rows};
 ghost use Rattle.litmus_text.specs.Reads.{Reads};
 ghost use Rattle.litmus_read.specs.Rows.{Cuts, Drops, Opens, named_count};
 

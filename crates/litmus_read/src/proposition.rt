@@ -59,7 +59,8 @@ fn after_operator(operator: &Chunk, standing: &Standing) -> Option<Standing>
 /// Ends the atom that has been begun.
 #[tactic(auto, using(crate::proofs::Readings::atom_ends, crate::proofs::Readings::atom_unwanted, crate::proofs::Readings::atom_refused))]
 fn end_atom(alloc: Global, threads: u32, reading: &mut Reading) -> Result<(), Unread>
-    ensures atom { (end : ℕ) (cs : List RawChunk) → begins_with_atom cs ≡ false → Leads (from_here threads end reading.old cs) (from_here threads end reading.new cs) result }
+    ensures atom { (end : ℕ) (cs : List RawChunk) → begins_with_atom cs ≡ false →
+        Leads (from_here threads end reading.old cs) (from_here threads end reading.new cs) result }
     ensures ended { OnOk result (reading.new.row.items ≡ []) }
 {
     if reading.row.is_empty() {
@@ -83,7 +84,9 @@ fn take_operator(
     line: u32,
     operator: &Chunk,
 ) -> Result<(), Unread>
-    ensures { (end : ℕ) (cs : List RawChunk) → Leads (from_here threads end reading.old (raw_operator line operator.now ∷ cs)) (from_here threads end reading.new cs) result }
+    ensures { (end : ℕ) (cs : List RawChunk) →
+        Leads (from_here threads end reading.old (raw_operator line operator.now ∷ cs))
+        (from_here threads end reading.new cs) result }
 {
     end_atom(alloc, threads, reading)?;
     if reading.standing.brackets == 4_294_967_295 {
@@ -111,7 +114,9 @@ fn begun(reading: &Reading, token: &Token) -> u32
 
 /// Takes a part of an atom.
 fn take_part(reading: &mut Reading, token: &Token) -> Result<(), NoMemory>
-    ensures { OnOk result ((threads end : ℕ) (cs : List RawChunk) → from_here threads end reading.old (with_atom token.now cs) ≡ from_here threads end reading.new cs) }
+    ensures { OnOk result
+        ((threads end : ℕ) (cs : List RawChunk) →
+        from_here threads end reading.old (with_atom token.now cs) ≡ from_here threads end reading.new cs) }
 {
     reading.line = begun(reading, token);
     push_part(&mut reading.row, &token.part)?;
@@ -127,7 +132,9 @@ fn take_tokens(
     tokens: &[Token],
 ) -> Result<usize, Unread>
     requires { 0 < length tokens.now }
-    ensures taken { (end : ℕ) → Takes (from_here threads end reading.old (chunks_of tokens.now)) (λ count. from_here threads end reading.new (chunks_of (drop count tokens.now))) result }
+    ensures taken { (end : ℕ) →
+        Takes (from_here threads end reading.old (chunks_of tokens.now))
+        (λ count. from_here threads end reading.new (chunks_of (drop count tokens.now))) result }
     ensures some { IfOk result (λ count. 0 < count) }
     ensures inside { IfOk result (λ count. count ≤ length tokens.now) }
 {

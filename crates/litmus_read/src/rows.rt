@@ -18,7 +18,9 @@ fn read_piece(
     piece: &Piece,
 ) -> Result<(), Unread>
     ensures steps { Adds (cell_placed cell.thread cell.line piece.now.tokens) steps.old.items steps.new.items result }
-    ensures kept { OnOk result ((before : ℕ) → IsKept before cell.thread steps.old.items → IsKept before (cell.thread + 1) steps.new.items) }
+    ensures kept { OnOk result
+        ((before : ℕ) → IsKept before cell.thread steps.old.items →
+        IsKept before (cell.thread + 1) steps.new.items) }
 {
     read_cell(alloc, steps, cell, &piece.tokens)
 }

@@ -1,6 +1,8 @@
 -- The rows of tables in code, as those of the definition.
 use Rattle.std.specs.Prelude.{codes, List, [], ◌∷◌, map}
-use Rattle.rv_decode.specs.declared.instructions.AmoOp.TheVariants.{Add as AmoAdd, Swap as AmoSwap, Xor as AmoXor, Or as AmoOr, And as AmoAnd, Min as AmoMin, Max as AmoMax, Minu as AmoMinu, Maxu as AmoMaxu}
+use Rattle.rv_decode.specs.declared.instructions.AmoOp.TheVariants.{Add as AmoAdd, Swap as AmoSwap, Xor as AmoXor}
+use Rattle.rv_decode.specs.declared.instructions.AmoOp.TheVariants.{Or as AmoOr, And as AmoAnd, Min as AmoMin}
+use Rattle.rv_decode.specs.declared.instructions.AmoOp.TheVariants.{Max as AmoMax, Minu as AmoMinu, Maxu as AmoMaxu}
 use Rattle.litmus_model.specs.declared.test.Orders.{Orders}
 use Rattle.litmus_model.specs.declared.test.Form.{Form}
 use Rattle.litmus_model.specs.declared.test.Form.TheVariants as form

@@ -4,7 +4,9 @@ ghost use Rattle.std.specs.Prelude.{◌≡◌, ◌≤◌, ℕ, List, IfOk, IfSom
 ghost use Rattle.std.specs.List.{list_any, prefix_len};
 ghost use Rattle.std.specs.Option.{option_map};
 ghost use Rattle.std.specs.Borrow.{Bor};
-ghost use Rattle.litmus_model.specs.Mnemonics.{atomic_form, atomic_rows, behind_stem, fence_rows, form_in_tables, form_of, is_wide, is_wide_atomic, jump_rows, meaning_in, order_rows, plain_rows, stem};
+ghost use Rattle.litmus_model.specs.Mnemonics.{atomic_form, atomic_rows, behind_stem, fence_rows, form_in_tables};
+ghost use Rattle.litmus_model.specs.Mnemonics.{form_of, is_wide, is_wide_atomic, jump_rows, meaning_in, order_rows};
+ghost use Rattle.litmus_model.specs.Mnemonics.{plain_rows, stem};
 ghost use Rattle.litmus_steps.specs.Made.{is_form};
 ghost use Rattle.litmus_steps.specs.Rows.{form_with, named_rows};
 

@@ -3,7 +3,8 @@
 ghost use Rattle.std.specs.Prelude.{◌≡◌, ◌+◌, ◌++◌, ◌≤◌, [], IfOk, OnOk, length};
 ghost use Rattle.std.specs.List.{list_all};
 ghost use Rattle.litmus_model.specs.Bytes.{is_between};
-ghost use Rattle.litmus_model.specs.Sections.{ended_word, head_word, head_word_with, head_words, is_between_words, is_test_name, line_feeds, name_in, name_of};
+ghost use Rattle.litmus_model.specs.Sections.{ended_word, head_word, head_word_with, head_words, is_between_words};
+ghost use Rattle.litmus_model.specs.Sections.{is_test_name, line_feeds, name_in, name_of};
 ghost use Rattle.litmus_text.specs.Reads.{ReadsList};
 
 use crate::bytes::{is, is_blank, is_line_feed};

@@ -50,7 +50,10 @@ fn take_token(
     tokens: &mut Vec<Token>,
     token: &Token,
 ) -> Result<(), NoMemory>
-    ensures { OnOk result ((ts : List TokenValue) (end : ℕ) → pieces.old.items ++ with_tokens tokens.old.items (pieces_at mark end (token.now ∷ ts)) ≡ pieces.new.items ++ with_tokens tokens.new.items (pieces_at mark end ts)) }
+    ensures { OnOk result
+        ((ts : List TokenValue) (end : ℕ) →
+        pieces.old.items ++ with_tokens tokens.old.items (pieces_at mark end (token.now ∷ ts))
+        ≡ pieces.new.items ++ with_tokens tokens.new.items (pieces_at mark end ts)) }
 {
     if is_mark(mark, token) {
         end_piece(alloc, pieces, tokens, token.line)

@@ -11,7 +11,8 @@ use Rattle.litmus_model.specs.Operands.{place, place_at, register_in}
 unfoldable pub plain_place : Part → Part → Part → Option Place
 plain_place (Word l) register right = None
 plain_place (Mark left) register (Word r) = None
-plain_place (Mark left) register (Mark right) = if nat_eq left 40 && nat_eq right 41 then place (register_in register) (Some (pos 0)) else None
+plain_place (Mark left) register (Mark right) =
+    if nat_eq left 40 && nat_eq right 41 then place (register_in register) (Some (pos 0)) else None
 
 -- behind the parts of an offset
 unfoldable pub bracketed : ℕ → List Part → Part → Part → Part → Judged (Option Place)

@@ -2,7 +2,8 @@
 
 ghost use Rattle.std.specs.Prelude.{◌≡◌, ◌+◌, ◌*◌, ◌≤◌, min, nat_lt, take};
 ghost use Rattle.std.specs.List.{list_all};
-ghost use Rattle.litmus_model.specs.Words.{are_digits, digit_value, digits_value, is_hexadecimal, negated, number_at, number_in_base, number_of, signed_number};
+ghost use Rattle.litmus_model.specs.Words.{are_digits, digit_value, digits_value, is_hexadecimal, negated, number_at};
+ghost use Rattle.litmus_model.specs.Words.{number_in_base, number_of, signed_number};
 
 use litmus_model::{Fault, Part, TestRefusal};
 use litmus_text::{begins_with_digit, in_line, is, is_digit};

@@ -3,7 +3,8 @@
 ghost use Rattle.std.specs.Prelude.{◌≡◌, ◌<◌, ◌≤◌, ◌≤ℤ◌, IfOk, IfSome, pos};
 ghost use Rattle.std.specs.Int.{w32, cast_unsigned};
 ghost use Rattle.rv_decode.specs.Valid.{FitsBits, IsRegister, IsShiftAmount};
-ghost use Rattle.litmus_model.specs.Operands.{label_operand, memory_operand, number_operand, place, place_at, register_in, register_operand, set_operand, short_operand, within};
+ghost use Rattle.litmus_model.specs.Operands.{label_operand, memory_operand, number_operand, place, place_at};
+ghost use Rattle.litmus_model.specs.Operands.{register_in, register_operand, set_operand, short_operand, within};
 ghost use Rattle.litmus_words.specs.Brackets.{IsPlace, bracketed, plain_place};
 
 use crate::letters::letter_bits;

@@ -1,7 +1,8 @@
 //! Targets and values.
 
 ghost use Rattle.std.specs.Prelude.{◌≡◌, ◌≤◌, pos, neg_ℤ};
-ghost use Rattle.litmus_model.specs.Words.{location_target, number_value, register_at, register_target, target_of, thread_digits, value_of, word_of};
+ghost use Rattle.litmus_model.specs.Words.{location_target, number_value, register_at, register_target, target_of};
+ghost use Rattle.litmus_model.specs.Words.{thread_digits, value_of, word_of};
 ghost use Rattle.litmus_words.specs.Tables.{digits_in};
 
 use crate::numbers::{are_digits, capped_value, front, number_at};

@@ -43,7 +43,11 @@ fn push_buses<const WORDS: usize, C: Subtree<WORDS>>(
 ) -> Result<(), NoMemory>
     requires form { HasForms machine.now.machine }
     requires width { HasItemWords WORDS machine.now.machine }
-    ensures { OnOk result (out.new.items ≡ out.old.items ++ flat_map (bus_words (forget machine.now.machine)) (range_with_len 0 (length machine.now.machine.traffic))) }
+    ensures { OnOk result
+        (out.new.items
+        ≡ out.old.items
+        ++ flat_map (bus_words (forget machine.now.machine))
+        (range_with_len 0 (length machine.now.machine.traffic))) }
 {
     for bus in 0..machine.counts().buses {
         part.clear();

@@ -138,7 +138,12 @@ unfoldable pub bus_busy : List Made → ℕ → ℕ
 bus_busy made b = of_bus b is_busy made
 
 unfoldable pub item_counts : List Made → ℕ → ItemCounts
-item_counts made x = record { reads = of_all (asks_for is_read x) made; erases = of_all (asks_for is_erase x) made; injects = of_all (injects x) made }
+item_counts made x =
+    record {
+      reads = of_all (asks_for is_read x) made;
+      erases = of_all (asks_for is_erase x) made;
+      injects = of_all (injects x) made;
+    }
 
 -- Of the recorded turns is counted what they answered; busy turns are among those that were made.
 unfoldable pub totals_of : Recording → MachineValue → RunTotals

@@ -22,34 +22,43 @@ use Rattle.measure_model.specs.Measures.{Measures, measures_of}
 
 unfoldable pub totals_line : RunTotals → List ℕ
 totals_line t =
-    codes "turns " ++ decimal t.turns ++ codes " drawn " ++ decimal t.drawn ++ codes " retired " ++ decimal t.retired ++ codes " issued " ++ decimal t.issued
+    codes "turns " ++ decimal t.turns ++ codes " drawn " ++ decimal t.drawn ++ codes " retired "
+    ++ decimal t.retired ++ codes " issued " ++ decimal t.issued
     ++ codes " granted " ++ decimal t.granted ++ codes " halted " ++ decimal t.halted ++ codes " busy " ++ decimal t.busy ++ codes "\n"
 
 unfoldable pub hart_counts_line : LeafValue → HartCounts → List ℕ
 hart_counts_line v c =
-    codes "hart " ++ decimal v.number ++ codes " " ++ state_text v.hart.halt ++ codes " pc " ++ hex8 v.hart.pc ++ codes " done " ++ decimal v.done
-    ++ codes " loads " ++ decimal c.loads ++ codes " stores " ++ decimal c.stores ++ codes " amos " ++ decimal c.amos ++ codes " failed " ++ decimal c.failed
+    codes "hart " ++ decimal v.number ++ codes " " ++ state_text v.hart.halt ++ codes " pc " ++ hex8 v.hart.pc
+    ++ codes " done " ++ decimal v.done
+    ++ codes " loads " ++ decimal c.loads ++ codes " stores " ++ decimal c.stores ++ codes " amos "
+    ++ decimal c.amos ++ codes " failed " ++ decimal c.failed
     ++ codes " reads " ++ decimal c.reads ++ codes " erases " ++ decimal c.erases ++ codes " busy " ++ decimal c.busy ++ codes "\n"
 
 -- what a bus has granted, and how often it was busy
 unfoldable pub bus_counts_line : ℕ → Traffic → ℕ → List ℕ
 bus_counts_line b t busy =
-    codes "bus " ++ decimal b ++ codes " read " ++ decimal t.reads ++ codes " data " ++ decimal t.copies ++ codes " erase " ++ decimal t.erases
-    ++ codes " exclusive " ++ decimal t.exclusives ++ codes " out " ++ decimal t.outs ++ codes " inject " ++ decimal t.injects ++ codes " busy " ++ decimal busy ++ codes "\n"
+    codes "bus " ++ decimal b ++ codes " read " ++ decimal t.reads ++ codes " data " ++ decimal t.copies
+    ++ codes " erase " ++ decimal t.erases
+    ++ codes " exclusive " ++ decimal t.exclusives ++ codes " out " ++ decimal t.outs ++ codes " inject "
+    ++ decimal t.injects ++ codes " busy " ++ decimal busy ++ codes "\n"
 
 unfoldable pub most_line : ℕ → DirLengths → List ℕ
 most_line b l =
-    codes "most bus " ++ decimal b ++ codes " down " ++ decimal l.down ++ codes " requests " ++ decimal l.requests ++ codes " replies " ++ decimal l.replies
+    codes "most bus " ++ decimal b ++ codes " down " ++ decimal l.down ++ codes " requests "
+    ++ decimal l.requests ++ codes " replies " ++ decimal l.replies
     ++ codes " parking " ++ decimal l.parking ++ codes "\n"
 
 unfoldable pub leaf_most_line : ℕ → LeafLengths → List ℕ
-leaf_most_line k l = codes "most leaf " ++ decimal k ++ codes " replies " ++ decimal l.replies ++ codes " buffer " ++ decimal l.buffer ++ codes "\n"
+leaf_most_line k l =
+    codes "most leaf " ++ decimal k ++ codes " replies " ++ decimal l.replies ++ codes " buffer "
+    ++ decimal l.buffer ++ codes "\n"
 
 -- of an item, where there is anything to be told
 unfoldable pub item_counts_line : ℕ → ItemRow → ItemCounts → List ℕ
 item_counts_line x row c =
     if nat_eq (c.reads + c.erases + c.injects) 0 then []
-    else codes "item " ++ decimal x ++ codes " " ++ hex8 row.address ++ codes " reads " ++ decimal c.reads ++ codes " erases " ++ decimal c.erases ++ codes " injects " ++ decimal c.injects ++ codes "\n"
+    else codes "item " ++ decimal x ++ codes " " ++ hex8 row.address ++ codes " reads " ++ decimal c.reads
+    ++ codes " erases " ++ decimal c.erases ++ codes " injects " ++ decimal c.injects ++ codes "\n"
 
 -- ---- a line for each of a list, by number
 
@@ -79,7 +88,8 @@ item_counts_lines x rows cs = []
 unfoldable pub measures_text : RunEnd → Measures → MachineValue → List ℕ
 measures_text end s k =
     codes "measure 1\nend " ++ end_word end ++ codes "\n" ++ totals_line s.totals ++ hart_counts_lines (machine_leaves k) s.harts
-    ++ bus_counts_lines 0 k.traffic s.busy ++ most_lines 0 s.most ++ leaf_most_lines 0 s.leaf_most ++ item_counts_lines 0 k.items.rows s.items ++ codes "end\n"
+    ++ bus_counts_lines 0 k.traffic s.busy ++ most_lines 0 s.most ++ leaf_most_lines 0 s.leaf_most
+    ++ item_counts_lines 0 k.items.rows s.items ++ codes "end\n"
 
 abbrev pub run_text : Recording → MachineValue → List ℕ
 run_text r m = measures_text r.end (measures_of r m) r.machine

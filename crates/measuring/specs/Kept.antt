@@ -13,7 +13,14 @@ use Rattle.measuring.specs.declared.tally.Tally.{Tally}
 
 -- the measures that are kept
 abbrev pub tally_of : Tally → Measures
-tally_of k = record { totals = k.totals; harts = k.harts.items; busy = k.busy.items; most = k.most.items; leaf_most = k.leaf_most.items; items = k.items.items }
+tally_of k = record {
+  totals = k.totals;
+  harts = k.harts.items;
+  busy = k.busy.items;
+  most = k.most.items;
+  leaf_most = k.leaf_most.items;
+  items = k.items.items;
+}
 
 abbrev pub no_totals : RunTotals
 no_totals = record { turns = 0; drawn = 0; retired = 0; issued = 0; granted = 0; halted = 0; busy = 0 }

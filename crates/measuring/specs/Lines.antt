@@ -14,4 +14,6 @@ pub record HasHart (k : ℕ) (h : HartState) (v : LeafValue) : Type 0 where
 
 -- where there is anything to be told of an item with this address
 abbrev pub told_item : ℕ → ℕ → ItemCounts → List ℕ
-told_item x address c = codes "item " ++ decimal x ++ codes " " ++ hex8 address ++ codes " reads " ++ decimal c.reads ++ codes " erases " ++ decimal c.erases ++ codes " injects " ++ decimal c.injects ++ codes "\n"
+told_item x address c =
+    codes "item " ++ decimal x ++ codes " " ++ hex8 address ++ codes " reads " ++ decimal c.reads
+    ++ codes " erases " ++ decimal c.erases ++ codes " injects " ++ decimal c.injects ++ codes "\n"

@@ -13,7 +13,12 @@ use Rattle.measure_model.specs.Lengths.{lengths_in, lengths_over}
 
 -- each is the greater of both
 abbrev pub raised : DirLengths → DirLengths → DirLengths
-raised l n = record { down = max l.down n.down; requests = max l.requests n.requests; replies = max l.replies n.replies; parking = max l.parking n.parking }
+raised l n = record {
+  down = max l.down n.down;
+  requests = max l.requests n.requests;
+  replies = max l.replies n.replies;
+  parking = max l.parking n.parking;
+}
 
 abbrev pub leaf_raised : LeafLengths → LeafLengths → LeafLengths
 leaf_raised l n = record { replies = max l.replies n.replies; buffer = max l.buffer n.buffer }

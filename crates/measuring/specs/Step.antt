@@ -26,8 +26,20 @@ harts_busy (Turn.Leave bus child choice) cs = cs
 
 abbrev pub after_came : Came → Turn → TurnAnswer → MachineValue → Measures → Measures
 after_came Came.ToNothing t a m s = s
-after_came Came.ToBusy t a m s = record s { totals = record s.totals { busy = more true s.totals.busy }; harts = harts_busy t s.harts; busy = busy_after t s.busy }
-after_came Came.ToDoing t a m s = record s { totals = totals_after a s.totals; harts = harts_after t a s.harts; most = turn_over m t s.most; leaf_most = turn_in m t s.leaf_most; items = items_after a s.items }
+after_came Came.ToBusy t a m s =
+    record s {
+      totals = record s.totals { busy = more true s.totals.busy };
+      harts = harts_busy t s.harts;
+      busy = busy_after t s.busy;
+    }
+after_came Came.ToDoing t a m s =
+    record s {
+      totals = totals_after a s.totals;
+      harts = harts_after t a s.harts;
+      most = turn_over m t s.most;
+      leaf_most = turn_in m t s.leaf_most;
+      items = items_after a s.items;
+    }
 
 -- each drawn turn names a part of the machine, and so many turns more can be counted
 pub record CanMeasure (draws : List Draw) (s : MachineState) : Type 0 where

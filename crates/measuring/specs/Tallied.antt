@@ -7,7 +7,8 @@ use Rattle.ddm_types.specs.ItemTable.{item_count}
 use Rattle.ddm_types.specs.declared.turns.Turn.{Turn}
 use Rattle.recording_model.specs.TreeModel.State.Shape.{tree_counts}
 use Rattle.recording_model.specs.TreeModel.State.Values.{MachineValue}
-use Rattle.measure_model.specs.Counts.{bus_busy, hart_counts, is_busy, is_granted, is_halted, is_issued, is_retired, item_counts, made_of, of_all}
+use Rattle.measure_model.specs.Counts.{bus_busy, hart_counts, is_busy, is_granted, is_halted, is_issued, is_retired}
+use Rattle.measure_model.specs.Counts.{item_counts, made_of, of_all}
 use Rattle.measure_model.specs.Lengths.{most_in, most_over}
 use Rattle.measure_model.specs.Measures.{Measures}
 use Rattle.measure_model.specs.declared.RunTotals.{RunTotals}

@@ -4,7 +4,8 @@ use Rattle.std.specs.Prelude.{ℕ, ◌+◌, Bool, true, min, List, slice_index_o
 use Rattle.ddm_types.specs.declared.answers.TurnAnswer.{TurnAnswer}
 use Rattle.ddm_types.specs.declared.answers.TxKind.{TxKind}
 use Rattle.ddm_types.specs.declared.turns.Turn.{Turn}
-use Rattle.measure_model.specs.Counts.{has_effect, is_amo, is_busy, is_erase, is_failed, is_granted, is_halted, is_inject, is_issued, is_load, is_read, is_retired, is_store, asks}
+use Rattle.measure_model.specs.Counts.{has_effect, is_amo, is_busy, is_erase, is_failed, is_granted, is_halted}
+use Rattle.measure_model.specs.Counts.{is_inject, is_issued, is_load, is_read, is_retired, is_store, asks}
 use Rattle.measure_model.specs.declared.HartCounts.{HartCounts}
 use Rattle.measure_model.specs.declared.ItemCounts.{ItemCounts}
 use Rattle.measure_model.specs.declared.RunTotals.{RunTotals}

@@ -65,7 +65,9 @@ fn look_around<const WORDS: usize, C: Subtree<WORDS>>(
     bus: BusNo,
 )
     requires { is_part (bus_of_number bus) machine.now.machine ≡ true }
-    ensures most { most.new.items ≡ all_over machine.now.machine (labels_of bus machine.now.machine) (seen_over machine.now.machine bus most.old.items) }
+    ensures most { most.new.items
+        ≡ all_over machine.now.machine (labels_of bus machine.now.machine)
+        (seen_over machine.now.machine bus most.old.items) }
     ensures leaf_most { leaf_most.new.items ≡ all_in machine.now.machine (labels_of bus machine.now.machine) leaf_most.old.items }
 {
     look_over(most, machine, bus);

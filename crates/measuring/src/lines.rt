@@ -148,7 +148,9 @@ pub(crate) fn push_item(
     address: u32,
     counts: &ItemCounts,
 ) -> Result<(), NoMemory>
-    ensures { OnOk result ((row : ItemRow) → row.address ≡ address → Adds out.old.items out.new.items (item_counts_line item row counts.now)) }
+    ensures { OnOk result
+        ((row : ItemRow) → row.address ≡ address →
+        Adds out.old.items out.new.items (item_counts_line item row counts.now)) }
 {
     if is_nothing(counts) {
         return Ok(());

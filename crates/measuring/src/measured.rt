@@ -30,7 +30,9 @@ pub fn measure_text(
     most: u32,
 ) -> Result<Vec<u8>, NoMemory>
     requires { IsStart (shape_view shape.now) (machine_state machine.old) }
-    ensures text { IfOk result (λ text. text.items ≡ measure_text kind (shape_view shape.now) seed most (machine_state machine.old).machine) }
+    ensures text { IfOk result
+        (λ text. text.items
+        ≡ measure_text kind (shape_view shape.now) seed most (machine_state machine.old).machine) }
     ensures kind { kind_of machine.new ≡ kind_of machine.old }
 {
     let mut draws = SeedDraws::new(alloc, shape)?;

@@ -126,8 +126,13 @@ fn measure_depths<const WAYS: usize, const WORDS: usize>(
     requires flags { length flags.old ≡ (tree_counts (depths_state machine.old).machine).leaves }
     requires starts { tally_of tally.old ≡ measured_so 0 [] [] (depths_state machine.old).machine }
     ensures end { IfOk result (λ end. end ≡ (recorded most draws.old.left (depths_state machine.old)).end) }
-    ensures measures { OnOk result (tally_of tally.new ≡ measures_of (recorded most draws.old.left (depths_state machine.old)) (depths_state machine.old).machine) }
-    ensures after { OnOk result (without_ops (depths_state machine.new).machine ≡ without_ops (recorded most draws.old.left (depths_state machine.old)).machine) }
+    ensures measures { OnOk result
+        (tally_of tally.new
+        ≡ measures_of (recorded most draws.old.left (depths_state machine.old))
+        (depths_state machine.old).machine) }
+    ensures after { OnOk result
+        (without_ops (depths_state machine.new).machine
+        ≡ without_ops (recorded most draws.old.left (depths_state machine.old)).machine) }
     ensures levels { levels_in machine.new ≡ levels_in machine.old }
 {
     match machine {
@@ -151,8 +156,12 @@ fn measure_machines<const WORDS: usize>(
     requires flags { length flags.old ≡ (tree_counts (state_in machine.old).machine).leaves }
     requires starts { tally_of tally.old ≡ measured_so 0 [] [] (state_in machine.old).machine }
     ensures end { IfOk result (λ end. end ≡ (recorded most draws.old.left (state_in machine.old)).end) }
-    ensures measures { OnOk result (tally_of tally.new ≡ measures_of (recorded most draws.old.left (state_in machine.old)) (state_in machine.old).machine) }
-    ensures after { OnOk result (without_ops (state_in machine.new).machine ≡ without_ops (recorded most draws.old.left (state_in machine.old)).machine) }
+    ensures measures { OnOk result
+        (tally_of tally.new
+        ≡ measures_of (recorded most draws.old.left (state_in machine.old)) (state_in machine.old).machine) }
+    ensures after { OnOk result
+        (without_ops (state_in machine.new).machine
+        ≡ without_ops (recorded most draws.old.left (state_in machine.old)).machine) }
     ensures kind { kind_in machine.new ≡ kind_in machine.old }
 {
     match machine {
@@ -176,8 +185,13 @@ pub(crate) fn measure_any(
     requires flags { length flags.old ≡ (tree_counts (machine_state machine.old).machine).leaves }
     requires starts { tally_of tally.old ≡ measured_so 0 [] [] (machine_state machine.old).machine }
     ensures end { IfOk result (λ end. end ≡ (recorded most draws.old.left (machine_state machine.old)).end) }
-    ensures measures { OnOk result (tally_of tally.new ≡ measures_of (recorded most draws.old.left (machine_state machine.old)) (machine_state machine.old).machine) }
-    ensures after { OnOk result (without_ops (machine_state machine.new).machine ≡ without_ops (recorded most draws.old.left (machine_state machine.old)).machine) }
+    ensures measures { OnOk result
+        (tally_of tally.new
+        ≡ measures_of (recorded most draws.old.left (machine_state machine.old))
+        (machine_state machine.old).machine) }
+    ensures after { OnOk result
+        (without_ops (machine_state machine.new).machine
+        ≡ without_ops (recorded most draws.old.left (machine_state machine.old)).machine) }
     ensures kind { kind_of machine.new ≡ kind_of machine.old }
 {
     match machine {

@@ -13,7 +13,10 @@ use tree_model::{DirLengths, LeafLengths};
 
 /// Those over each bus.
 pub(crate) fn first_over(alloc: Global, machine: &AnyMachine) -> Result<Vec<DirLengths>, NoMemory>
-    ensures { IfOk result (λ most. most.items ≡ map (λ b. lengths_over b (machine_state machine.now).machine) (range_with_len 0 (tree_counts (machine_state machine.now).machine).buses)) }
+    ensures { IfOk result
+        (λ most. most.items
+        ≡ map (λ b. lengths_over b (machine_state machine.now).machine)
+        (range_with_len 0 (tree_counts (machine_state machine.now).machine).buses)) }
 {
     let mut most = Vec::new(alloc);
     for bus in 0..machine.counts().buses {
@@ -24,7 +27,10 @@ pub(crate) fn first_over(alloc: Global, machine: &AnyMachine) -> Result<Vec<DirL
 
 /// And those of each leaf.
 pub(crate) fn first_in(alloc: Global, machine: &AnyMachine) -> Result<Vec<LeafLengths>, NoMemory>
-    ensures { IfOk result (λ most. most.items ≡ map (λ k. lengths_in k (machine_state machine.now).machine) (range_with_len 0 (tree_counts (machine_state machine.now).machine).leaves)) }
+    ensures { IfOk result
+        (λ most. most.items
+        ≡ map (λ k. lengths_in k (machine_state machine.now).machine)
+        (range_with_len 0 (tree_counts (machine_state machine.now).machine).leaves)) }
 {
     let mut most = Vec::new(alloc);
     for leaf in 0..machine.counts().leaves {

@@ -6,7 +6,8 @@ ghost use Rattle.report.specs.DdmText.Adds.{Adds};
 ghost use Rattle.recording.specs.AnyMachine.Any.{machine_state, state_in};
 ghost use Rattle.recording_model.specs.TreeModel.State.Shape.{tree_counts};
 ghost use Rattle.recording_model.specs.TreeModel.Turns.Machine.{machine_leaves};
-ghost use Rattle.measure_model.specs.Text.{bus_counts_lines, hart_counts_lines, item_counts_lines, leaf_most_lines, measures_text, most_lines};
+ghost use Rattle.measure_model.specs.Text.{bus_counts_lines, hart_counts_lines, item_counts_lines, leaf_most_lines};
+ghost use Rattle.measure_model.specs.Text.{measures_text, most_lines};
 ghost use Rattle.measuring.specs.Kept.{tally_of};
 ghost use Rattle.measuring.specs.Sized.{IsSized};
 

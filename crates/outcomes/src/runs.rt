@@ -31,7 +31,8 @@ fn run_until_halted(machine: &mut AnyMachine, seeds: &mut SeededTurns)
     requires named { NameParts seeds.old.left (machine_state machine.old).machine }
     requires few { CanRun seeds.old.left (machine_state machine.old) }
     requires spare { length seeds.old.left ≤ (machine_state machine.old).spare }
-    ensures outcome { outcome_of (machine_state machine.new).machine ≡ outcome_of (run_of seeds.old.left (machine_state machine.old).machine).machine }
+    ensures outcome { outcome_of (machine_state machine.new).machine
+        ≡ outcome_of (run_of seeds.old.left (machine_state machine.old).machine).machine }
     ensures keeps { KeepsRoom (machine_state machine.old) (machine_state machine.new) }
     ensures kind { kind_of machine.new ≡ kind_of machine.old }
     ensures shape { seeds.new.shape ≡ seeds.old.shape }
@@ -60,7 +61,8 @@ fn run_seed(
     requires shape { HasShape seeds.old.shape (machine_state start.now).machine }
     requires start { IsStart turns (machine_state start.now) }
     requires twin { IsTwin turns start.now machine.old }
-    ensures outcome { outcome_of (machine_state machine.new).machine ≡ seed_outcome seeds.old.shape turns (machine_state start.now).machine seed }
+    ensures outcome { outcome_of (machine_state machine.new).machine
+        ≡ seed_outcome seeds.old.shape turns (machine_state start.now).machine seed }
     ensures twin { IsTwin turns start.now machine.new }
     ensures shape { seeds.new.shape ≡ seeds.old.shape }
 {
@@ -85,7 +87,10 @@ fn count_seed(
     requires start { IsStart turns (machine_state start.now) }
     requires twin { IsTwin turns start.now machine.old }
     requires few { AreFew lines.old.items }
-    ensures counted { OnOk result (lines.new.items ≡ counted seed (seed_outcome seeds.old.shape turns (machine_state start.now).machine seed) lines.old.items) }
+    ensures counted { OnOk result
+        (lines.new.items
+        ≡ counted seed (seed_outcome seeds.old.shape turns (machine_state start.now).machine seed)
+        lines.old.items) }
     ensures twin { IsTwin turns start.now machine.new }
     ensures shape { seeds.new.shape ≡ seeds.old.shape }
 {
@@ -111,7 +116,9 @@ pub fn outcomes(
     requires kind { kind_of start.now ≡ kind_of machine.old }
     requires frame { frame_of (machine_state machine.old).machine ≡ frame_of (machine_state start.now).machine }
     requires seeds { first + count ≤ 2 ^ 64 }
-    ensures table { IfOk result (λ lines. lines.items ≡ outcome_table (shape_view shape.now) turns (machine_state start.now).machine first count) }
+    ensures table { IfOk result
+        (λ lines. lines.items
+        ≡ outcome_table (shape_view shape.now) turns (machine_state start.now).machine first count) }
     ensures kind { kind_of machine.new ≡ kind_of start.now }
     ensures frame { frame_of (machine_state machine.new).machine ≡ frame_of (machine_state start.now).machine }
 {

@@ -65,7 +65,9 @@ fn record_seed(
     requires none { (machine_state start.now).machine.ops ≡ [] }
     requires twin { IsTwin 0 start.now machine.old }
     ensures end { IfOk result (λ end. end ≡ (recording_of kind runs.old.recorder.shape seed most (machine_state start.now).machine).end) }
-    ensures after { OnOk result ((machine_state machine.new).machine ≡ (recording_of kind runs.old.recorder.shape seed most (machine_state start.now).machine).machine) }
+    ensures after { OnOk result
+        ((machine_state machine.new).machine
+        ≡ (recording_of kind runs.old.recorder.shape seed most (machine_state start.now).machine).machine) }
     ensures twin { OnOk result (IsTwin 0 start.now machine.new) }
     ensures same { runs.new.recorder ≡ runs.old.recorder }
 {
@@ -95,7 +97,10 @@ fn count_recorded(
     requires none { (machine_state start.now).machine.ops ≡ [] }
     requires twin { IsTwin 0 start.now machine.old }
     requires few { AreFew lines.old.items }
-    ensures counted { OnOk result (lines.new.items ≡ counted seed (seed_end kind runs.old.recorder.shape most (machine_state start.now).machine seed) lines.old.items) }
+    ensures counted { OnOk result
+        (lines.new.items
+        ≡ counted seed (seed_end kind runs.old.recorder.shape most (machine_state start.now).machine seed)
+        lines.old.items) }
     ensures twin { OnOk result (IsTwin 0 start.now machine.new) }
     ensures same { OnOk result (runs.new.recorder ≡ runs.old.recorder) }
 {
@@ -121,7 +126,9 @@ pub fn survey(
     requires none { (machine_state start.now).machine.ops ≡ [] }
     requires twin { IsTwin 0 start.now machine.old }
     requires seeds { first + count ≤ 2 ^ 64 }
-    ensures { IfOk result (λ lines. lines.items ≡ survey_table kind (shape_view shape.now) most (machine_state start.now).machine first count) }
+    ensures { IfOk result
+        (λ lines. lines.items
+        ≡ survey_table kind (shape_view shape.now) most (machine_state start.now).machine first count) }
 {
     let mut runs = Runs {
         recorder: Recorder::new(alloc, shape, start)?,

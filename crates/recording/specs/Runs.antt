@@ -1,7 +1,8 @@
 -- What a recorded run needs of its machine, and what is kept of it while it goes on.
 -- Letters: m is a machine, s one as the code has it, p how far a run is.
 -- To be believed with the contracts: they speak of it.
-use Rattle.std.specs.Prelude.{◌≡◌, ◌≤◌, ℕ, ◌+◌, ◌-◌, Bool, true, false, not, nat_eq, List, All, Option, Some, None, length, map, slice_index_or, if◌then◌else◌}
+use Rattle.std.specs.Prelude.{◌≡◌, ◌≤◌, ℕ, ◌+◌, ◌-◌, Bool, true, false, not, nat_eq, List, All, Option, Some, None}
+use Rattle.std.specs.Prelude.{length, map, slice_index_or, if◌then◌else◌}
 use Rattle.ddm_types.specs.declared.answers.TurnAnswer.{TurnAnswer}
 use Rattle.ddm_types.specs.declared.turns.Turn.{Turn}
 use Rattle.tree_model.specs.State.Shape.{tree_counts}

@@ -40,7 +40,12 @@ impl Model for Recorder {
 impl Recorder {
     /// For the parts of a tree, of which this is a machine.
     pub fn new(alloc: Global, shape: &Shape, machine: &AnyMachine) -> Result<Recorder, NoMemory>
-        ensures { IfOk result (λ r. r ≡ record { shape = shape_view shape.now; harts = (tree_counts (machine_state machine.now).machine).leaves }) }
+        ensures { IfOk result
+            (λ r. r
+            ≡ record {
+              shape = shape_view shape.now;
+              harts = (tree_counts (machine_state machine.now).machine).leaves;
+            }) }
     {
         let draws = SeedDraws::new(alloc, shape)?;
         let halted = Vec::from_elem(alloc, false, machine.counts().leaves as usize)?;
@@ -59,8 +64,11 @@ impl Recorder {
         requires begins { CanBegin most self.old (machine_state machine.old) }
         requires room { length turns.old.items + most ≤ vec_capacity turns.old }
         ensures end { result ≡ (recording_of kind self.old.shape seed most (machine_state machine.old).machine).end }
-        ensures turns { turns.new.items ≡ turns.old.items ++ (recording_of kind self.old.shape seed most (machine_state machine.old).machine).turns }
-        ensures after { (machine_state machine.new).machine ≡ (recording_of kind self.old.shape seed most (machine_state machine.old).machine).machine }
+        ensures turns { turns.new.items
+            ≡ turns.old.items
+            ++ (recording_of kind self.old.shape seed most (machine_state machine.old).machine).turns }
+        ensures after { (machine_state machine.new).machine
+            ≡ (recording_of kind self.old.shape seed most (machine_state machine.old).machine).machine }
         ensures same { self.new ≡ self.old }
         ensures kind { kind_of machine.new ≡ kind_of machine.old }
     {

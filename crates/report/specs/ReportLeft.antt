@@ -1,11 +1,13 @@
 -- What is left of a report that is given part by part.
 -- Letters: v is what a report shows, k and n are numbers of parts.
-use Rattle.std.specs.Prelude.{◌≡◌, ℕ, ◌+◌, ◌<◌, ◌≤◌, nat_lt, Option, List, [], ◌++◌, length, drop, codes, decimal, slice_index_or, ⊤, if◌then◌else◌}
+use Rattle.std.specs.Prelude.{◌≡◌, ℕ, ◌+◌, ◌<◌, ◌≤◌, nat_lt, Option, List, [], ◌++◌, length, drop, codes, decimal}
+use Rattle.std.specs.Prelude.{slice_index_or, ⊤, if◌then◌else◌}
 use Rattle.std.specs.List.{flat_map}
 use Rattle.report.specs.DdmTypes.declared.sizes.LeafState.{LeafState}
 use Rattle.report.specs.TreeModel.declared.CopyPlace.{CopyPlace}
 use Rattle.report.specs.TreeModel.State.Blank.{no_hart}
-use Rattle.text_model.specs.Report.{HartView, ItemView, ReportView, bus_lines_from, hart_line_of, hart_lines, item_lines, letter_texts, op_lines, put_texts, regs_line, report_of}
+use Rattle.text_model.specs.Report.{HartView, ItemView, ReportView, bus_lines_from, hart_line_of, hart_lines}
+use Rattle.text_model.specs.Report.{item_lines, letter_texts, op_lines, put_texts, regs_line, report_of}
 use Rattle.report.specs.LineParts.{are_silent, dash_behind, item_front}
 use Rattle.report.specs.declared.report_parts.ReportPart.{ReportPart}
 use Rattle.report.specs.declared.report_parts.ReportPart.TheVariants.{Head, Hart, Output, Bus, Item, States, Operation, End, Nothing}
@@ -49,7 +51,9 @@ states_shown v k = (slice_index_or v.items k no_item).states
 abbrev pub from_part : ReportView → ReportPart → List ℕ
 from_part v Head = report_of v
 from_part v (Hart k) = from_hart v k
-from_part v (Output k n) = put_texts k (drop n v.completed) ++ (dash_behind (put_texts k v.completed) ++ (codes "\n" ++ from_hart v (k + 1)))
+from_part v (Output k n) =
+    put_texts k (drop n v.completed)
+    ++ (dash_behind (put_texts k v.completed) ++ (codes "\n" ++ from_hart v (k + 1)))
 from_part v (Bus k) = from_bus v k
 from_part v (Item k) = from_item v k
 from_part v (States k n) = letter_texts (drop n (states_shown v k)) ++ (codes "\n" ++ from_item v (k + 1))

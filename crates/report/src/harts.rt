@@ -198,7 +198,9 @@ pub fn push_hart_front<W: TextBuffer>(
     number: HartNo,
     hart: &Hart,
 ) -> Result<(), NoMemory>
-    ensures text { OnOk result (Adds (W.text out.old) (W.text out.new) (hart_front (record { number = number; hart = hart.now.hart; done = hart.now.done }))) }
+    ensures text { OnOk result
+        (Adds (W.text out.old) (W.text out.new)
+        (hart_front (record { number = number; hart = hart.now.hart; done = hart.now.done }))) }
     ensures room { UsesRoom 429 (W.room out.old) (W.room out.new) result }
 {
     push_hart_line(out, number, hart.halted(), hart.pc(), hart.done())?;

@@ -179,7 +179,8 @@ fn put_few_states<const WORDS: usize>(
     requires leaves { leaves ≡ (tree_counts (state_in machine.now).machine).leaves }
     requires from { from ≤ leaves }
     ensures within { result ≤ leaves }
-    ensures states { let all = states_of item (state_in machine.now).machine in letter_texts (drop from all) ≡ line.new ++ letter_texts (drop result all) }
+    ensures states { let all = states_of item (state_in machine.now).machine in
+        letter_texts (drop from all) ≡ line.new ++ letter_texts (drop result all) }
     ensures room { length line.new ≤ 500 }
     ensures long { result < leaves → 500 ≤ length line.new }
 {
@@ -202,7 +203,8 @@ fn put_many_states<const WORDS: usize>(
     requires leaves { leaves ≡ (tree_counts (state_in machine.now).machine).leaves }
     requires from { from ≤ leaves }
     ensures within { result ≤ leaves }
-    ensures states { let all = states_of item (state_in machine.now).machine in letter_texts (drop from all) ≡ line.new ++ letter_texts (drop result all) }
+    ensures states { let all = states_of item (state_in machine.now).machine in
+        letter_texts (drop from all) ≡ line.new ++ letter_texts (drop result all) }
     ensures room { length line.new ≤ 500 }
     ensures long { result < leaves → 500 ≤ length line.new }
 {
@@ -229,7 +231,8 @@ pub fn put_states<const WORDS: usize>(
     requires leaves { leaves ≡ (tree_counts (state_in machine.now).machine).leaves }
     requires from { from ≤ leaves }
     ensures within { result ≤ leaves }
-    ensures states { let all = states_of item (state_in machine.now).machine in letter_texts (drop from all) ≡ line.new ++ letter_texts (drop result all) }
+    ensures states { let all = states_of item (state_in machine.now).machine in
+        letter_texts (drop from all) ≡ line.new ++ letter_texts (drop result all) }
     ensures room { length line.new ≤ 500 }
     ensures long { result < leaves → 500 ≤ length line.new }
 {

@@ -82,7 +82,8 @@ fn put_output_part(
     requires empty { line.old ≡ [] }
     requires hart { hart < size.harts }
     requires from { from ≤ length ops.now.items }
-    ensures { (v : ReportView) → v.completed ≡ ops.now.items → HasSize v size → HasPart v (Output hart from) → Gives v (Output hart from) line.new result }
+    ensures { (v : ReportView) → v.completed ≡ ops.now.items → HasSize v size → HasPart v (Output hart from) →
+        Gives v (Output hart from) line.new result }
 {
     if size.silent {
         put_silence(line);

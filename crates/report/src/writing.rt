@@ -47,7 +47,9 @@ fn put_line<K: Sink>(
     requires within { filled ≤ length buffer.old }
     requires room { LEAST_PIECE ≤ length buffer.old }
     ensures within { IfOk result (λ n. n ≤ length buffer.new) }
-    ensures ok { IfOk result (λ n. IsWrittenFrom (K.held sink.old) (K.held sink.new) (take filled buffer.old ++ line.now) (take n buffer.new)) }
+    ensures ok { IfOk result
+        (λ n. IsWrittenFrom (K.held sink.old) (K.held sink.new) (take filled buffer.old ++ line.now)
+        (take n buffer.new)) }
     ensures err { OnErr result (AppendsPart (K.held sink.old) (K.held sink.new) (take filled buffer.old ++ line.now)) }
     ensures cause { HasCause (K.faults sink.old) (K.faults sink.new) result }
 {

@@ -16,5 +16,7 @@ use Rattle.lr_sc_laws.specs.Between.{EachScHasItsLr}
 -- The machine keeps its rules, and its operations are in order from a flat machine at its start. Then before each SC that stores there
 -- is its LR, and between them no store of another hart to its item.
 abbrev pub TurnsKeepPairs : Type 0
-TurnsKeepPairs = (start : Start) (words : List (List ℕ)) (t : Turn) (m : MachineValue) → IsShaped m → IsMachineOk m → IsTimed m → IsCore (flat_start start words) m
+TurnsKeepPairs =
+    (start : Start) (words : List (List ℕ)) (t : Turn) (m : MachineValue) → IsShaped m → IsMachineOk m → IsTimed m →
+    IsCore (flat_start start words) m
     → let after = (turn_of t m).machine in EachScHasItsLr after.items (sorted_ops after.ops)

@@ -43,7 +43,9 @@ pub record RunInOrder (s : FlatMachine) (m : MachineValue) (turns : List Turn) :
 -- ---- of every run
 
 abbrev pub AllRunsInOrder : Type 0
-AllRunsInOrder = (t : TreeValue) (i : ImageValue) → IsTree t → start_refusal t i ≡ None → (first turns : List Turn) → RunInOrder (flat_start_of t i) (run_of first (start_machine t i)).machine turns
+AllRunsInOrder =
+    (t : TreeValue) (i : ImageValue) → IsTree t → start_refusal t i ≡ None → (first turns : List Turn) →
+    RunInOrder (flat_start_of t i) (run_of first (start_machine t i)).machine turns
 
 abbrev pub AllTurnsJudged : Type 0
 AllTurnsJudged = (turns : List Turn) (m : MachineValue) → AreJudged turns m

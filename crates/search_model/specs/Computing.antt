@@ -9,5 +9,6 @@ use Rattle.search_model.specs.Explored.{line_text, explored_text, explore_text, 
 
 -- Where a proof says `unfolding searches_compute`, the searches of machines compute.
 unfoldable pub searches_compute : Unit {0}
-unfolding outcomes_compute all_halted does_something searched lost doing_turns is_quiet quiet_turns tried_turns line_text explored_text explore_text reach_text
+unfolding outcomes_compute all_halted does_something searched lost doing_turns is_quiet quiet_turns tried_turns
+    line_text explored_text explore_text reach_text
 searches_compute = tt

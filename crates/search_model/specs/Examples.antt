@@ -15,9 +15,13 @@ abbrev pub same_places : MachineValue → MachineValue → Bool
 same_places m n = pointwise nat_eq (places_of m) (places_of n)
 
 pub record TwoExits : Type 0 where
-  pub all : explore_text same_places 10 two_exits ≡ codes "outcomes 1 jams 0 lost 0 states 4 all\noutcome 4 hart 0 exit 0 out - hart 1 exit 1 out -\nend\n"
+  pub all :
+      explore_text same_places 10 two_exits
+      ≡ codes "outcomes 1 jams 0 lost 0 states 4 all\noutcome 4 hart 0 exit 0 out - hart 1 exit 1 out -\nend\n"
   -- exactly as many places as states
-  pub just : explore_text same_places 4 two_exits ≡ codes "outcomes 1 jams 0 lost 0 states 4 all\noutcome 4 hart 0 exit 0 out - hart 1 exit 1 out -\nend\n"
+  pub just :
+      explore_text same_places 4 two_exits
+      ≡ codes "outcomes 1 jams 0 lost 0 states 4 all\noutcome 4 hart 0 exit 0 out - hart 1 exit 1 out -\nend\n"
   pub few : explore_text same_places 3 two_exits ≡ codes "outcomes 0 jams 0 states 3 turns 2\nend\n"
   pub line : reach_text same_places 10 1 two_exits ≡ Some (codes "h 0 0\nh 0 0\nh 1 0\nh 1 0\nend\n")
   pub no_line : reach_text same_places 10 2 two_exits ≡ None

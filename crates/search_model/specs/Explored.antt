@@ -1,7 +1,8 @@
 -- What is printed of a search: the table of its outcomes, jams and lost states, and the schedule of a line of it.
 -- Letters: m is the machine that it begins with, s the search, f is a found outcome, e a kept state.
 -- To be believed: it is what the commands print.
-use Rattle.std.specs.Prelude.{ℕ, ◌-◌, Bool, List, [], ◌∷◌, ◌++◌, length, flat_map, codes, decimal, Option, option_map, slice_get, if◌then◌else◌}
+use Rattle.std.specs.Prelude.{ℕ, ◌-◌, Bool, List, [], ◌∷◌, ◌++◌, length, flat_map, codes, decimal, Option, option_map}
+use Rattle.std.specs.Prelude.{slice_get, if◌then◌else◌}
 use Rattle.search_model.specs.DdmTypes.declared.turns.Turn.{Turn}
 use Rattle.search_model.specs.TextModel.Schedule.{schedule_text}
 use Rattle.tree_model.specs.State.Values.{MachineValue}
@@ -37,7 +38,8 @@ module _ (same : MachineValue → MachineValue → Bool) where
   unfoldable pub explored_text : MachineSearch → List ℕ
   explored_text s =
       codes "outcomes " ++ decimal (length s.found) ++ codes " jams " ++ decimal (length s.jams) ++ counts_text s ++ codes "\n"
-      ++ flat_map (line_text (codes "outcome")) s.found ++ flat_map (line_text (codes "jam")) s.jams ++ flat_map (line_text (codes "lost")) (first_lost (lost_states s)) ++ codes "end\n"
+      ++ flat_map (line_text (codes "outcome")) s.found ++ flat_map (line_text (codes "jam")) s.jams
+      ++ flat_map (line_text (codes "lost")) (first_lost (lost_states s)) ++ codes "end\n"
 
   -- the table of a machine, of so many states at most
   unfoldable pub explore_text : ℕ → MachineValue → List ℕ

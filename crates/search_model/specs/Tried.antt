@@ -8,7 +8,8 @@ use Rattle.search_model.specs.DdmTypes.declared.answers.TurnAnswer.{TurnAnswer}
 use Rattle.search_model.specs.DdmTypes.declared.operations.Effect.{Effect}
 use Rattle.search_model.specs.DdmTypes.declared.turns.Turn.{Turn}
 use Rattle.tree_model.specs.State.Leaf.{may_leave_buffer}
-use Rattle.tree_model.specs.State.Values.{LeafValue, Node, Nodes, leaf_node, dir_node, no_nodes, more_nodes, children, MachineValue, root_of}
+use Rattle.tree_model.specs.State.Values.{LeafValue, Node, Nodes, leaf_node, dir_node, no_nodes, more_nodes, children}
+use Rattle.tree_model.specs.State.Values.{MachineValue, root_of}
 use Rattle.tree_model.specs.Turns.Machine.{machine_leaves, turn_of}
 use Rattle.recording_model.specs.Doing.{does_something, had_halted}
 

@@ -118,7 +118,10 @@ lost_ops = reserves 3 ++ reserves 0 ++ does 0 2 (ScOk 0x20000 5 5) ∷ does 3 2 
 
 -- An SC whose reservation was kept stores; one whose reservation another hart's SC ended fails.
 pub record Reservations : Type 0 where
-  pub kept : text_of kept_ops (two_levels reserve_and_store) ≡ codes "h 3 0\nh 3 0\ng 2 q 1\ng 0 q 1\ng 1 d\ng 1 r 1\ng 0 r 0\ng 2 d\nh 3 0\nh 3 0\ng 2 q 1\ng 0 q 1\ng 1 d\ng 0 d\ng 2 d\nh 3 0\nend\n"
+  pub kept :
+      text_of kept_ops (two_levels reserve_and_store)
+      ≡ codes
+      "h 3 0\nh 3 0\ng 2 q 1\ng 0 q 1\ng 1 d\ng 1 r 1\ng 0 r 0\ng 2 d\nh 3 0\nh 3 0\ng 2 q 1\ng 0 q 1\ng 1 d\ng 0 d\ng 2 d\nh 3 0\nend\n"
   pub lost : text_of lost_ops (two_levels reserve_and_store) ≡ codes "h 3 0\nh 3 0\ng 2 q 1\ng 0 q 1\ng 1 d\ng 1 r 1\ng 0 r 0\ng 2 d\nh 3 0\nh 0 0\nh 0 0\ng 1 q 0\ng 1 r 1\nh 0 0\nh 0 0\ng 1 q 0\ng 0 q 0\ng 2 d\ng 0 d\ng 1 d\nh 0 0\nh 3 0\nend\n"
 
 -- ---- refused
@@ -127,9 +130,13 @@ pub record Refusals : Type 0 where
   -- two items, and one way for them
   pub no_room : text_of (loads_5 0) (start_machine (tree_with ((2 ∷ []) ∷ []) 1) (program load_and_store)) ≡ codes "ddm: no room: ways\n"
   -- another word is loaded
-  pub other_word : text_of (loads_5 0 ++ does 1 0 Plain ∷ does 1 1 (Load 0x20000 6) ∷ []) one_level ≡ codes "ddm: witness line 4: not served\n"
+  pub other_word :
+      text_of (loads_5 0 ++ does 1 0 Plain ∷ does 1 1 (Load 0x20000 6) ∷ []) one_level
+      ≡ codes "ddm: witness line 4: not served\n"
   -- the SC fails, and has its reservation
-  pub failing : text_of (reserves 3 ++ does 3 2 (ScFail 0x20000) ∷ []) (two_levels reserve_and_store) ≡ codes "ddm: witness line 3: not served\n"
+  pub failing :
+      text_of (reserves 3 ++ does 3 2 (ScFail 0x20000) ∷ []) (two_levels reserve_and_store)
+      ≡ codes "ddm: witness line 3: not served\n"
   -- 1,048,575 turns before line 7
   pub too_many : serve_from 7 1048575 (loads_5 0) one_level ≡ Err (too_many_turns 8)
 

@@ -9,7 +9,8 @@ use Rattle.serving_model.specs.DdmTypes.declared.turns.Turn.{Turn}
 use Rattle.bus_laws.specs.FlatModel.declared.Ask.{Ask}
 use Rattle.bus_laws.specs.FlatModel.Hart.{ask_of}
 use Rattle.bus_laws.specs.FlatModel.Flat.{FlatHart, no_flat_hart}
-use Rattle.serving_model.specs.TreeModel.State.Values.{RequestValue, WayValue, LeafValue, DirValue, Node, Nodes, leaf_node, dir_node, children, MachineValue}
+use Rattle.serving_model.specs.TreeModel.State.Values.{RequestValue, WayValue, LeafValue, DirValue, Node, Nodes}
+use Rattle.serving_model.specs.TreeModel.State.Values.{leaf_node, dir_node, children, MachineValue}
 use Rattle.serving_model.specs.TreeModel.State.Leaf.{way_at}
 use Rattle.serving_model.specs.TreeModel.Turns.Children.{child_at}
 use Rattle.serving_model.specs.TreeModel.Turns.Machine.{ask_leaf}
@@ -42,7 +43,8 @@ MayEndFor flat h m = (g : FlatHart) → hart_at h m ≡ Some g → (x : ℕ) →
 
 -- the leaf has an entry of the item in this state and asks for this, all else of it is at rest, and it has the flat
 -- memory
-pub record LeafIs (n : ℕ) (flat : FlatView) (g : FlatHart) (x : ℕ) (state : LeafState) (asks : Option RequestValue) (v : LeafValue) : Type 0 where
+pub record LeafIs (n : ℕ) (flat : FlatView) (g : FlatHart) (x : ℕ) (state : LeafState)
+    (asks : Option RequestValue) (v : LeafValue) : Type 0 where
   pub entry : WayValue
   pub here : way_at x v.ways ≡ Some entry
   pub in_state : entry.state ≡ state
@@ -61,7 +63,11 @@ pub record LeafIs (n : ℕ) (flat : FlatView) (g : FlatHart) (x : ℕ) (state : 
 -- the leaf is so, and all else is at rest
 pub data Spine (n : ℕ) (flat : FlatView) (h : ℕ) (Q : LeafValue → Type 0) : Node → Type 0 where
   at_leaf : {v : LeafValue} → nat_eq v.number h ≡ true → Q v → Spine n flat h Q (leaf_node v)
-  over : {d : DirValue} {ns : Nodes} → (c : ℕ) → child_over h ns ≡ Some c → c < length (children ns) → dir_rests d ≡ true → dir_has_room d.sizes ≡ true → ((j : ℕ) → j < length (children ns) → j ≢ c → Settled n flat (child_at j (children ns))) → Spine n flat h Q (child_at c (children ns)) → Spine n flat h Q (dir_node d ns)
+  over :
+      {d : DirValue} {ns : Nodes} → (c : ℕ) → child_over h ns ≡ Some c → c < length (children ns) →
+      dir_rests d ≡ true → dir_has_room d.sizes ≡ true →
+      ((j : ℕ) → j < length (children ns) → j ≢ c → Settled n flat (child_at j (children ns))) →
+      Spine n flat h Q (child_at c (children ns)) → Spine n flat h Q (dir_node d ns)
 
 -- the same of a whole tree; its top sends nothing up
 pub record RootSpine (n : ℕ) (flat : FlatView) (h : ℕ) (Q : LeafValue → Type 0) (d : DirValue) (ns : Nodes) : Type 0 where

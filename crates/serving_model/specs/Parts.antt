@@ -9,7 +9,8 @@ use Rattle.serving_model.specs.DdmTypes.declared.answers.TurnAnswer.{TurnAnswer}
 use Rattle.serving_model.specs.DdmTypes.declared.turns.Turn.{Turn}
 use Rattle.bus_laws.specs.FlatModel.Hart.{HartValue}
 use Rattle.bus_laws.specs.FlatModel.Flat.{has_reserved}
-use Rattle.serving_model.specs.TreeModel.State.Values.{WayValue, DirValue, Node, Nodes, leaf_node, dir_node, no_nodes, more_nodes, nodes, MachineValue, root_of}
+use Rattle.serving_model.specs.TreeModel.State.Values.{WayValue, DirValue, Node, Nodes, leaf_node, dir_node, no_nodes}
+use Rattle.serving_model.specs.TreeModel.State.Values.{more_nodes, nodes, MachineValue, root_of}
 use Rattle.serving_model.specs.TreeModel.State.States.{is_reading}
 use Rattle.serving_model.specs.TreeModel.State.Leaf.{way_at, unreserved}
 use Rattle.serving_model.specs.TreeModel.State.Place.{Where, at_child, stamp_above, where_path, spot_in}
@@ -26,10 +27,15 @@ use Rattle.serving_model.specs.Rest.{tree_rests, tree_has_room}
 pub data Runs : Where → Node → List Turn → Node → Type 0 where
   stays : {w : Where} {n : Node} → Runs w n [] n
   -- a turn of the part's own bus is granted, and then others
-  turned : {w : Where} {d : DirValue} {t : Turn} {ts : List Turn} {m : Node} → (ns : List Node) (g : Grant) → named_by t ≡ bus_of_number d.bus → bus_judged (stamp_above w) d ns (bus_turn_of t) ≡ granted g
+  turned :
+      {w : Where} {d : DirValue} {t : Turn} {ts : List Turn} {m : Node} → (ns : List Node) (g : Grant) →
+      named_by t ≡ bus_of_number d.bus → bus_judged (stamp_above w) d ns (bus_turn_of t) ≡ granted g
       → Runs w (dir_node g.parent (nodes g.kids)) ts m → Runs w (dir_node d (nodes ns)) (t ∷ ts) m
   -- turns within one child, and then others
-  below : {w : Where} {d : DirValue} {m : Node} {us : List Turn} → (ns : List Node) (i : ℕ) (ts : List Turn) (c : Node) → i < length ns → Runs (at_child (spot_in (where_path w) d i)) (child_at i ns) ts c
+  below :
+      {w : Where} {d : DirValue} {m : Node} {us : List Turn} →
+      (ns : List Node) (i : ℕ) (ts : List Turn) (c : Node) → i < length ns →
+      Runs (at_child (spot_in (where_path w) d i)) (child_at i ns) ts c
       → Runs w (dir_node d (nodes (slice_set ns i c))) us m → Runs w (dir_node d (nodes ns)) (ts ++ us) m
 
 -- a turn was granted

@@ -6,7 +6,9 @@ use Rattle.std.specs.List.{list_all}
 use Rattle.serving_model.specs.DdmTypes.ItemTable.{item_count}
 use Rattle.serving_model.specs.TreeModel.State.Lists.{has_some}
 use Rattle.serving_model.specs.TreeModel.State.States.{may_leave}
-use Rattle.serving_model.specs.TreeModel.State.Values.{WayValue, LeafSizes, LeafValue, DirItem, DirSizes, DirValue, Node, Nodes, leaf_node, dir_node, no_nodes, more_nodes, MachineValue, root_of}
+use Rattle.serving_model.specs.TreeModel.State.Values.{WayValue, LeafSizes, LeafValue, DirItem, DirSizes, DirValue}
+use Rattle.serving_model.specs.TreeModel.State.Values.{Node, Nodes, leaf_node, dir_node, no_nodes, more_nodes}
+use Rattle.serving_model.specs.TreeModel.State.Values.{MachineValue, root_of}
 use Rattle.serving_model.specs.TreeModel.State.Directory.{note_why}
 use Rattle.serving_model.specs.TreeModel.State.Shape.{Skeleton, Skeletons, leaf_bone, dir_bone, no_bones, more_bones, skeletons}
 
@@ -27,7 +29,11 @@ item_rests i = is_none (note_why i.note) && not i.answering
 
 -- nothing comes down, nothing goes up, and no copy is parked or has a place kept for it
 abbrev pub dir_rests : DirValue → Bool
-dir_rests d = list_all item_rests d.items && (not (has_some d.down) && (not (has_some d.requests) && (not (has_some d.replies) && (not (has_some d.parked) && nat_eq d.reserved 0))))
+dir_rests d =
+    list_all item_rests d.items
+    && (not (has_some d.down)
+    && (not (has_some d.requests)
+    && (not (has_some d.replies) && (not (has_some d.parked) && nat_eq d.reserved 0))))
 
 abbrev mutual
   pub tree_rests : Node → Bool

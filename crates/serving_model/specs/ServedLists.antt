@@ -2,7 +2,8 @@
 -- reservation stores, is one that the machine completes.
 -- Letters: f is a flat machine, m a machine that shows it.
 -- To be believed: it is what is claimed of them.
-use Rattle.std.specs.Prelude.{◌≡◌, ◌<◌, ℕ, Bool, true, false, not, ◌&&◌, nat_eq, List, [], ◌∷◌, ◌++◌, length, Option, Some, None, is_some, option_and_then, Ok, Err, if◌then◌else◌}
+use Rattle.std.specs.Prelude.{◌≡◌, ◌<◌, ℕ, Bool, true, false, not, ◌&&◌, nat_eq, List, [], ◌∷◌, ◌++◌, length, Option}
+use Rattle.std.specs.Prelude.{Some, None, is_some, option_and_then, Ok, Err, if◌then◌else◌}
 use Rattle.serving_model.specs.DdmTypes.CodeMap.{CodeWord}
 use Rattle.serving_model.specs.DdmTypes.ItemTable.{ItemTable}
 use Rattle.serving_model.specs.DdmTypes.declared.operations.Effect.{Effect}
@@ -53,16 +54,22 @@ where_next test (Some next) = test next
 -- no record of a legal list is of such an SC
 abbrev pub reserved_ones_store : List CodeWord → ItemTable → FlatMachine → List Op → Bool
 reserved_ones_store code items f [] = true
-reserved_ones_store code items f (op ∷ ops) = not (fails_reserved code items f op) && where_next (λ next. reserved_ones_store code items next ops) (legal_step code items f op)
+reserved_ones_store code items f (op ∷ ops) =
+    not (fails_reserved code items f op)
+    && where_next (λ next. reserved_ones_store code items next ops) (legal_step code items f op)
 
 pub record IsStoring (code : List CodeWord) (items : ItemTable) (f : FlatMachine) (ops : List Op) (last : FlatMachine) : Type 0 where
   pub legal : storing_run code items f ops ≡ Some last → legal_run code items f ops ≡ Some last
   pub reserved : storing_run code items f ops ≡ Some last → reserved_ones_store code items f ops ≡ true
-  pub stores : legal_run code items f ops ≡ Some last → reserved_ones_store code items f ops ≡ true → storing_run code items f ops ≡ Some last
+  pub stores :
+      legal_run code items f ops ≡ Some last → reserved_ones_store code items f ops ≡ true →
+      storing_run code items f ops ≡ Some last
 
 -- They are the legal lists in which each SC stores whose hart has its item reserved, and no others.
 abbrev pub StoringRunsAreLegal : Type 0
-StoringRunsAreLegal = (code : List CodeWord) (items : ItemTable) (f : FlatMachine) (ops : List Op) (last : FlatMachine) → IsStoring code items f ops last
+StoringRunsAreLegal =
+    (code : List CodeWord) (items : ItemTable) (f : FlatMachine) (ops : List Op) (last : FlatMachine) →
+    IsStoring code items f ops last
 
 -- ---- lists that are served
 
@@ -87,7 +94,9 @@ pub data IsServedList (line made : ℕ) (m : MachineValue) (ops : List Op) (f : 
 -- Where a machine shows a flat machine, and has its harts, each such list of the flat machine is served, unless its
 -- turns are too many.
 abbrev pub ListsAreServed : Type 0
-ListsAreServed = (m : MachineValue) (f last : FlatMachine) (ops : List Op) (line made : ℕ) → Shows m f → ((h : ℕ) → h < length f.harts → is_some (hart_at h m) ≡ true)
+ListsAreServed =
+    (m : MachineValue) (f last : FlatMachine) (ops : List Op) (line made : ℕ) → Shows m f →
+    ((h : ℕ) → h < length f.harts → is_some (hart_at h m) ≡ true)
     → storing_run m.code m.items f ops ≡ Some last → IsServedList line made m ops last
 
 -- ---- from the start
@@ -99,7 +108,9 @@ pub record StartShows (m : MachineValue) (f : FlatMachine) : Type 0 where
 
 -- The machine of every accepted tree with room shows its flat machine before its first turn.
 abbrev pub StartsAreShown : Type 0
-StartsAreShown = (t : TreeValue) (i : ImageValue) (m : MachineValue) → IsTree t → start_of t i ≡ Ok m → has_room m ≡ true → StartShows m (flat_start_of t i)
+StartsAreShown =
+    (t : TreeValue) (i : ImageValue) (m : MachineValue) → IsTree t → start_of t i ≡ Ok m → has_room m ≡ true →
+    StartShows m (flat_start_of t i)
 
 -- the machine shows every order of one flat memory: the list is served, unless its turns are too many
 pub data IsServed (ops : List Op) (m : MachineValue) (f : FlatMachine) : Type 0 where

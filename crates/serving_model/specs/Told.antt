@@ -42,5 +42,7 @@ pub record AreTold (m : MachineValue) (kind : TxKind) (h x : ℕ) : Type 0 where
 
 -- Where a hart's turn in a machine at rest, with room, issues a request.
 abbrev pub WalksAreTold : Type 0
-WalksAreTold = (m : MachineValue) (flat : FlatView) (h victim : ℕ) (kind : TxKind) (x : ℕ) → IsShaped m → IsMachineOk m → is_at_rest m ≡ true → has_room m ≡ true → AllHave flat m.kids → MayEndFor flat h m
+WalksAreTold =
+    (m : MachineValue) (flat : FlatView) (h victim : ℕ) (kind : TxKind) (x : ℕ) → IsShaped m → IsMachineOk m →
+    is_at_rest m ≡ true → has_room m ≡ true → AllHave flat m.kids → MayEndFor flat h m
     → (turn_of (Turn.Hart h victim) m).answer ≡ TurnAnswer.Issued kind x → AreTold (turn_of (Turn.Hart h victim) m).machine kind h x

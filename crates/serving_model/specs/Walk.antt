@@ -84,13 +84,18 @@ abbrev mutual
 -- from child c, which is over the leaf, to another child, and back
 abbrev pub read_across : ℕ → ℕ → ℕ → ℕ → Nodes → List Turn
 read_across h x bus c ns =
-    turns_of_child c (asks h ns) ++ Turn.Request bus c ∷ turns_by (λ k. turns_of_child k (gives x ns) ++ Turn.Reply bus k ∷ turns_of_child c (takes h ns)) (other_holder c x ns)
+    turns_of_child c (asks h ns) ++ Turn.Request bus c
+    ∷ turns_by (λ k. turns_of_child k (gives x ns) ++ Turn.Reply bus k ∷ turns_of_child c (takes h ns))
+    (other_holder c x ns)
 
 -- the bus where the read turns, the lowest over the leaf with a child that holds the item
 abbrev mutual
   pub read_turns : ℕ → ℕ → Node → List Turn
   read_turns h x (leaf_node v) = []
-  read_turns h x (dir_node d ns) = turns_by (λ c. if child_holds x (child_at c (children ns)) then turns_of_child c (reads h x ns) else read_across h x d.bus c ns) (child_over h ns)
+  read_turns h x (dir_node d ns) =
+      turns_by
+      (λ c. if child_holds x (child_at c (children ns)) then turns_of_child c (reads h x ns)
+      else read_across h x d.bus c ns) (child_over h ns)
 
   pub reads : ℕ → ℕ → Nodes → List (List Turn)
   reads h x no_nodes = []
@@ -112,7 +117,9 @@ abbrev mutual
 abbrev mutual
   pub clear_turns : ℕ → ℕ → Node → List Turn
   clear_turns h x (leaf_node v) = []
-  clear_turns h x (dir_node d ns) = turns_by (λ c. turns_of_child c (clears h x ns) ++ Turn.Request d.bus c ∷ turns_of_others c (loses x ns)) (child_over h ns)
+  clear_turns h x (dir_node d ns) =
+      turns_by (λ c. turns_of_child c (clears h x ns) ++ Turn.Request d.bus c ∷ turns_of_others c (loses x ns))
+      (child_over h ns)
 
   pub clears : ℕ → ℕ → Nodes → List (List Turn)
   clears h x no_nodes = []

@@ -2,7 +2,9 @@
 
 ghost use Rattle.serving_model.specs.ServedLists.{StoringRunsAreLegal, ListsAreServed, StartsAreShown, EveryOrderIsShown};
 ghost use Rattle.serving_model.specs.Told.{WalksAreTold};
-ghost use Rattle.serving_model.specs.Laws.{PartsGive, PartsLose, RunsAreTheMachines, ReadsAreServed, ErasesAreServed, WalksBringTheItem, RequestsComplete, InstructionsAreServed, StepsAreShown, WalksAreShort, GrantsKeepHarts};
+ghost use Rattle.serving_model.specs.Laws.{PartsGive, PartsLose, RunsAreTheMachines, ReadsAreServed, ErasesAreServed};
+ghost use Rattle.serving_model.specs.Laws.{WalksBringTheItem, RequestsComplete, InstructionsAreServed, StepsAreShown};
+ghost use Rattle.serving_model.specs.Laws.{WalksAreShort, GrantsKeepHarts};
 
 /// A part of the tree that holds an item, and is at rest, gives it when it is told to answer: its turns are granted, and it is at rest
 /// again when its reply is taken.

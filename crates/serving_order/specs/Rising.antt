@@ -22,7 +22,9 @@ use Rattle.serving_model.specs.ServedLists.{storing_run}
 
 -- both are on the item, and one of them stores to it
 abbrev pub conflict : ItemTable → ℕ → Op → Op → Bool
-conflict items x o p = on_item items x o.effect && (on_item items x p.effect && (changes_item items x o.effect || changes_item items x p.effect))
+conflict items x o p =
+    on_item items x o.effect
+    && (on_item items x p.effect && (changes_item items x o.effect || changes_item items x p.effect))
 
 abbrev pub has_lesser_key : ItemTable → ℕ → Op → Op → Statement
 has_lesser_key items x o p = where_so (conflict items x o p) (is_so (key_less o.key p.key))
@@ -33,10 +35,14 @@ KeysRise items ops = (x : ℕ) → Holds (each_pair (has_lesser_key items x) ops
 
 -- In a machine at rest, an operation that completes has a greater key than those before it that it conflicts with.
 abbrev pub RestingTurnsRise : Type 0
-RestingTurnsRise = (s : FlatMachine) (m : MachineValue) (hart victim : ℕ) (op : Op) → IsOrderly s m → is_at_rest m ≡ true → (turn_of (Turn.Hart hart victim) m).answer ≡ TurnAnswer.Retired op
+RestingTurnsRise =
+    (s : FlatMachine) (m : MachineValue) (hart victim : ℕ) (op : Op) → IsOrderly s m → is_at_rest m ≡ true →
+    (turn_of (Turn.Hart hart victim) m).answer ≡ TurnAnswer.Retired op
     → (x : ℕ) → Holds (each (λ o. has_lesser_key m.items x o op) m.ops)
 
 -- So keys rise in the run of every list that is served.
 abbrev pub ServedKeysRise : Type 0
 ServedKeysRise = (t : TreeValue) (i : ImageValue) (m : MachineValue) → IsTree t → start_of t i ≡ Ok m → has_room m ≡ true
-    → (ops : List Op) (last : FlatMachine) (turns : List Turn) → storing_run m.code m.items (flat_start_of t i) ops ≡ Some last → serve_of ops m ≡ Ok turns → KeysRise m.items (run_of turns m).machine.ops
+    → (ops : List Op) (last : FlatMachine) (turns : List Turn) →
+    storing_run m.code m.items (flat_start_of t i) ops ≡ Some last → serve_of ops m ≡ Ok turns →
+    KeysRise m.items (run_of turns m).machine.ops

@@ -1,10 +1,12 @@
 -- Parts of a tree, by the bus at the top of each.
 -- Letters: m is a machine, n a part, c the number of a child, x an item.
 -- To be believed with the contracts: they speak of them.
-use Rattle.std.specs.Prelude.{◌≡◌, ℕ, ◌+◌, Bool, true, false, nat_eq, List, [], Option, None, Some, is_some, unwrap_or, slice_set, IfSome, if◌then◌else◌}
+use Rattle.std.specs.Prelude.{◌≡◌, ℕ, ◌+◌, Bool, true, false, nat_eq, List, [], Option, None, Some, is_some}
+use Rattle.std.specs.Prelude.{unwrap_or, slice_set, IfSome, if◌then◌else◌}
 use Rattle.std.specs.List.{flat_map}
 use Rattle.headline.specs.DdmTypes.declared.turns.Turn.{Turn}
-use Rattle.headline.specs.TreeModel.State.Values.{LeafValue, Node, Nodes, leaf_node, dir_node, no_nodes, more_nodes, nodes, children, MachineValue}
+use Rattle.headline.specs.TreeModel.State.Values.{LeafValue, Node, Nodes, leaf_node, dir_node, no_nodes, more_nodes}
+use Rattle.headline.specs.TreeModel.State.Values.{nodes, children, MachineValue}
 use Rattle.headline.specs.TreeModel.State.Blank.{no_node}
 use Rattle.headline.specs.TreeModel.Turns.Children.{child_at}
 use Rattle.headline.specs.TreeModel.Turns.Machine.{ask_bus, child_count}

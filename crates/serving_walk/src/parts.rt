@@ -25,7 +25,8 @@ pub(crate) fn below<T: Tree>(tree: &T, bus: BusNo, child: ChildNo) -> Option<Bus
     ensures there { IsBus result (T.value tree.now) }
     ensures part { IfSome result (λ p. part_at (Some p) (T.value tree.now) ≡ under bus child (T.value tree.now)) }
     ensures fewer { bus_count (part_at result (T.value tree.now)) < bus_count (part_at (Some bus) (T.value tree.now)) }
-    ensures same { (turns : Node → List Turn) → OfBuses turns → turns (part_at result (T.value tree.now)) ≡ turns (under bus child (T.value tree.now)) }
+    ensures same { (turns : Node → List Turn) → OfBuses turns →
+        turns (part_at result (T.value tree.now)) ≡ turns (under bus child (T.value tree.now)) }
 {
     match tree.child(bus, child) {
         TreeChild::LeafChild(_) => None,

@@ -67,7 +67,9 @@ fn read_across<T: Tree>(
     requires there { is_some (child_count bus (T.value tree.now)) ≡ true }
     requires child { is_child_of child (child_count bus (T.value tree.now)) ≡ true }
     requires item { item < item_count (T.value tree.now).items }
-    ensures { OnOk result (out.new.items ≡ out.old.items ++ read_across leaf item bus child (kids_of (part_at (Some bus) (T.value tree.now)))) }
+    ensures { OnOk result
+        (out.new.items
+        ≡ out.old.items ++ read_across leaf item bus child (kids_of (part_at (Some bus) (T.value tree.now)))) }
 {
     ask(tree, leaf, below(tree, bus, child), out)?;
     out.push(Turn::Request { bus, child })?;

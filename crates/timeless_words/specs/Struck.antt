@@ -16,7 +16,9 @@ module _ (width : ℕ) where
   -- so many entries of a down list: a kind and an item, a stamp, a copy
   unfoldable pub entries_struck : ℕ → List ℕ → List ℕ
   entries_struck zero ws = ws
-  entries_struck (suc count) ws = take 2 ws ++ (0 ∷ 0 ∷ 0 ∷ 0 ∷ []) ++ take width (drop 4 (drop 2 ws)) ++ entries_struck count (drop width (drop 4 (drop 2 ws)))
+  entries_struck (suc count) ws =
+      take 2 ws ++ (0 ∷ 0 ∷ 0 ∷ 0 ∷ []) ++ take width (drop 4 (drop 2 ws))
+      ++ entries_struck count (drop width (drop 4 (drop 2 ws)))
 
   -- how many there are, and the entries
   abbrev pub list_struck : List ℕ → List ℕ

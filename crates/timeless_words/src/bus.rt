@@ -60,7 +60,9 @@ fn push_struck(words: &[u32], item_words: usize, out: &mut Vec<u32>) -> Result<(
 
 /// Puts the words of a bus at the end, given those of the directory over it: as if it had granted nothing, and all had come at once.
 pub fn push_bus(words: &[u32], item_words: usize, out: &mut Vec<u32>) -> Result<(), NoMemory>
-    ensures { OnOk result ((d : DirValue) → AllByRecursion (IsWide item_words) d.down → words.now ≡ dir_words d → out.new.items ≡ out.old.items ++ (dir_words (forget_dir d) ++ traffic_words no_traffic)) }
+    ensures { OnOk result
+        ((d : DirValue) → AllByRecursion (IsWide item_words) d.down → words.now ≡ dir_words d →
+        out.new.items ≡ out.old.items ++ (dir_words (forget_dir d) ++ traffic_words no_traffic)) }
 {
     push_struck(words, item_words, out)
 }

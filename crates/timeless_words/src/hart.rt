@@ -26,7 +26,9 @@ fn push_struck(words: &[u32], out: &mut Vec<u32>) -> Result<(), NoMemory>
 
 /// Puts the words of a hart at the end, as if it had completed no instruction.
 pub fn push_hart(words: &[u32], out: &mut Vec<u32>) -> Result<(), NoMemory>
-    ensures { OnOk result ((v : LeafValue) → length v.hart.registers ≡ 32 → words.now ≡ hart_words v → out.new.items ≡ out.old.items ++ hart_words (forget_leaf v)) }
+    ensures { OnOk result
+        ((v : LeafValue) → length v.hart.registers ≡ 32 → words.now ≡ hart_words v →
+        out.new.items ≡ out.old.items ++ hart_words (forget_leaf v)) }
 {
     push_struck(words, out)
 }

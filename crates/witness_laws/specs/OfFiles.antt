@@ -37,4 +37,6 @@ pub record IsChecked (t : TreeValue) (i : ImageValue) (turns : List Turn) : Type
   pub judged : check_of (setting_of t i) (printed_witness t i turns) ≡ Ok (length (ops_of_run t i turns))
 
 abbrev pub WitnessesOfFilesAreChecked : Type 0
-WitnessesOfFilesAreChecked = (tree image : List ℕ) (t : TreeValue) (i : ImageValue) → AreOfFiles tree image t i → (turns : List Turn) → AreWritten t turns ⊎ AreSeeded t turns → IsChecked t i turns
+WitnessesOfFilesAreChecked =
+    (tree image : List ℕ) (t : TreeValue) (i : ImageValue) → AreOfFiles tree image t i → (turns : List Turn) →
+    AreWritten t turns ⊎ AreSeeded t turns → IsChecked t i turns

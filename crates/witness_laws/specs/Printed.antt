@@ -31,10 +31,14 @@ ReportsEndWithTheWitness = (t : TreeValue) (i : ImageValue) (turns : List Turn)
 
 -- they are accepted as a witness for the same tree and image, a line for each operation
 abbrev pub PrintedWitnessesAreAccepted : Type 0
-PrintedWitnessesAreAccepted = (t : TreeValue) (i : ImageValue) (turns : List Turn) → IsTree t → IsOfBytes i → start_refusal t i ≡ None → length turns ≤ 1048576
+PrintedWitnessesAreAccepted =
+    (t : TreeValue) (i : ImageValue) (turns : List Turn) → IsTree t → IsOfBytes i → start_refusal t i ≡ None →
+    length turns ≤ 1048576
     → IsAccepted (setting_of t i) (printed_witness t i turns) (length (ops_of_run t i turns))
 
 -- so that the checker comes to their number
 abbrev pub PrintedWitnessesAreJudgedLegal : Type 0
-PrintedWitnessesAreJudgedLegal = (t : TreeValue) (i : ImageValue) (turns : List Turn) → IsTree t → IsOfBytes i → start_refusal t i ≡ None → length turns ≤ 1048576
+PrintedWitnessesAreJudgedLegal =
+    (t : TreeValue) (i : ImageValue) (turns : List Turn) → IsTree t → IsOfBytes i → start_refusal t i ≡ None →
+    length turns ≤ 1048576
     → check_of (setting_of t i) (printed_witness t i turns) ≡ Ok (length (ops_of_run t i turns))
