@@ -2,7 +2,7 @@
 # or lay it into ~/.local/share/bash-completion/completions under the name ddm.
 _ddm() {
     local word=${COMP_WORDS[COMP_CWORD]} files=""
-    local commands="run trace seed schedule make check unjam save resume outcomes record measure survey join page"
+    local commands="run trace seed schedule make check unjam save resume outcomes record measure survey join page assemble"
     COMPREPLY=()
     if [ "$COMP_CWORD" = 1 ]; then
         mapfile -t COMPREPLY < <(compgen -W "$commands help --help --version" -- "$word")
@@ -12,7 +12,7 @@ _ddm() {
     case ${COMP_WORDS[1]} in
         run | trace | check | unjam | save | page) files=" 2 3 4 " ;;
         resume) files=" 2 3 4 5 " ;;
-        seed | outcomes | record | measure | survey) files=" 2 3 " ;;
+        seed | outcomes | record | measure | survey | assemble) files=" 2 3 " ;;
         join) files=" $COMP_CWORD " ;;
         schedule) files=" 2 " ;;
         make) files=" 4 " ;;

@@ -1,19 +1,20 @@
 -- What follows of the clauses of the top call where no read fails, and no write does or only where the sink is full.
--- A command more needs a line of `command-read`, and one of `command-unread`.
+-- A command more needs a line of `command-read`, of `command-unread` and of `command-untested`.
 use Rattle.std.proofs.Common.{◌≡◌, ◌⊎◌, inl, inr, ℕ, ◌+◌, ◌-◌, ◌<◌, ◌≤◌, List, ◌++◌, length, take, Option, Some, None, Result, Ok, Err, subst, sym, ap, ◌∙◌, arith, length-append}
 use Rattle.std.specs.Prelude.{IsOkAnd, IsSomeAnd, option_and_then, slice_get}
 use Rattle.std.proofs.lemmas.List.{length-take}
 use Rattle.ddm_outside.specs.Causes.{Rose}
 use Rattle.ddm_outside.specs.SoundShelf.{told_of}
 use Rattle.ddm_outside.specs.declared.sound_shelf.SoundShelf.{SoundShelf}
-use Rattle.ddm_cli.specs.Commands.{Check, Command, ImageFrom, Resumption, Run, TurnsFrom, image_named, image_made, schedule_named, turns_seeded, paged_named, to_run, to_list, to_check, to_resume, to_survey, to_record, to_measure, to_survey_runs, to_join, to_page, to_say, command_of, first_run, paged_run, recorded_run, surveyed_run}
+use Rattle.ddm_cli.specs.Assembling.{NoAssembly}
+use Rattle.ddm_cli.specs.Commands.{Assembly, Check, Command, ImageFrom, Resumption, Run, TurnsFrom, image_named, image_made, schedule_named, turns_seeded, paged_named, to_run, to_list, to_check, to_resume, to_survey, to_record, to_measure, to_survey_runs, to_join, to_page, to_assemble, to_say, command_of, first_run, paged_run, recorded_run, surveyed_run}
 use Rattle.ddm_cli.specs.Causes.{TreeCause}
 use Rattle.ddm_cli.specs.Told.{ScheduleGiven, image_faults, image_told, schedule_faults, schedule_told}
 use Rattle.ddm_cli.specs.Top.{Accepted, CantRead, CantReadFor, CantReadRest, Completes, HasAccepted, HasText, NotAccepted, NothingFailed, StatusHasCause, command_text, text_of}
 use Rattle.ddm_cli.specs.declared.command.Prints.{Prints}
 use Rattle.ddm_cli.specs.declared.command.Prints.TheVariants.{Report}
 use Rattle.ddm_cli.specs.declared.status.Status.{Status}
-use Rattle.ddm_cli.specs.declared.status.Status.TheVariants.{Done, Usage, ImageLoad, ImageBuild, Tree, Schedule, Witness, Checkpoint, SmallLists, Table, ReadFault, UnreadTable, WriteFault, NoMemory}
+use Rattle.ddm_cli.specs.declared.status.Status.TheVariants.{Done, Usage, ImageLoad, ImageBuild, Tree, Schedule, Witness, Checkpoint, SmallLists, Table, ReadFault, UnreadTable, WriteFault, NoMemory, Litmus, UnreadTest}
 use Rattle.asked_commands.specs.ReportCrate.declared.roles.FileRole.{FileRole}
 use Rattle.asked_commands.specs.ReportCrate.declared.roles.FileRole.TheVariants.{ImageFile, TreeFile, ScheduleFile, WitnessFile, CheckpointFile}
 use Rattle.asked_commands.specs.Asked.{IsNoFault, RunIsHeld, failures_of, held_of}
@@ -67,6 +68,13 @@ module _ {F : Type 0} (told : F → List ℕ → Option (List ℕ)) (files files
   tree-read file WitnessFile failed = failed
   tree-read file CheckpointFile failed = failed
 
+  assembly-read : (role : FileRole) (a : Assembly) → NoAssembly told none files files' (ReadFault role) a → ⊥
+  assembly-read TreeFile a failed = never-rose failed
+  assembly-read ImageFile a failed = failed
+  assembly-read ScheduleFile a failed = failed
+  assembly-read WitnessFile a failed = failed
+  assembly-read CheckpointFile a failed = failed
+
   command-read : (role : FileRole) (c : Command) → NotAccepted told none files files' (ReadFault role) c → ⊥
   command-read role (to_run prints r) failed = run-read prints role r failed
   command-read role (to_list tree seed count) failed = tree-read (told files tree) role failed
@@ -78,6 +86,7 @@ module _ {F : Type 0} (told : F → List ℕ → Option (List ℕ)) (files files
   command-read role (to_survey_runs n) failed = run-read Report role (surveyed_run n) failed
   command-read role (to_join names) failed = failed
   command-read role (to_page p) failed = run-read Report role (paged_run p) failed
+  command-read role (to_assemble a) failed = assembly-read role a failed
   command-read role (to_say about) failed = failed
 
   table-read : (name : Option (List ℕ)) → IsSomeAnd name (λ n. Rose 0 0) → ⊥
@@ -95,7 +104,22 @@ module _ {F : Type 0} (told : F → List ℕ → Option (List ℕ)) (files files
   command-unread n (to_survey_runs s) failed = failed
   command-unread n (to_join names) failed = table-read (slice_get names (n - 1)) failed.0
   command-unread n (to_page p) failed = failed
+  command-unread n (to_assemble a) failed = failed
   command-unread n (to_say about) failed = failed
+
+  command-untested : (c : Command) → NotAccepted told none files files' UnreadTest c → ⊥
+  command-untested (to_run prints r) failed = failed
+  command-untested (to_list tree seed count) failed = failed
+  command-untested (to_check c) failed = failed
+  command-untested (to_resume r) failed = failed
+  command-untested (to_survey s) failed = failed
+  command-untested (to_record r) failed = failed
+  command-untested (to_measure r) failed = failed
+  command-untested (to_survey_runs s) failed = failed
+  command-untested (to_join names) failed = failed
+  command-untested (to_page p) failed = failed
+  command-untested (to_assemble a) failed = never-rose failed.0
+  command-untested (to_say about) failed = failed
 
   words-read : (role : FileRole) (c : Result Command ℕ) → IsOkAnd c (NotAccepted told none files files' (ReadFault role)) → ⊥
   words-read role (Ok c) failed = command-read role c failed
@@ -104,6 +128,10 @@ module _ {F : Type 0} (told : F → List ℕ → Option (List ℕ)) (files files
   words-unread : (n : ℕ) (c : Result Command ℕ) → IsOkAnd c (NotAccepted told none files files' (UnreadTable n)) → ⊥
   words-unread n (Ok c) failed = command-unread n c failed
   words-unread n (Err k) failed = failed
+
+  words-untested : (c : Result Command ℕ) → IsOkAnd c (NotAccepted told none files files' UnreadTest) → ⊥
+  words-untested (Ok c) failed = command-untested c failed
+  words-untested (Err k) failed = failed
 
   -- ---- nor a write
 
@@ -121,6 +149,8 @@ module _ {F : Type 0} (told : F → List ℕ → Option (List ℕ)) (files files
     no-fault words (Table n r) came = tt
     no-fault words (ReadFault role) came = words-read role (command_of words) came.0
     no-fault words (UnreadTable n) came = words-unread n (command_of words) came.0
+    no-fault words (Litmus r) came = tt
+    no-fault words UnreadTest came = words-untested (command_of words) came.0
     no-fault words WriteFault came = never-rose came.2.1
     no-fault words NoMemory came = tt
 
@@ -173,6 +203,8 @@ module _ (words : List (List ℕ)) (files files' : SoundShelf) (out out' : Roomy
     held-most (Table n r) came = no-more (same-list _ _ came.1)
     held-most (ReadFault role) came = no-more (same-list _ _ came.1)
     held-most (UnreadTable n) came = no-more (same-list _ _ came.1)
+    held-most (Litmus x) came = no-more (same-list _ _ came.1)
+    held-most UnreadTest came = no-more (same-list _ _ came.1)
     held-most NoMemory came = no-more (same-list _ _ came.1)
 
     -- so there was room, and no count rose

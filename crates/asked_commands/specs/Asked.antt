@@ -8,7 +8,7 @@ use Rattle.ddm_cli.specs.Commands.{Run, to_run, command_of}
 use Rattle.ddm_cli.specs.Top.{command_text}
 use Rattle.ddm_cli.specs.declared.command.Prints.{Prints}
 use Rattle.ddm_cli.specs.declared.status.Status.{Status}
-use Rattle.ddm_cli.specs.declared.status.Status.TheVariants.{Done, NoMemory, ReadFault, UnreadTable, WriteFault}
+use Rattle.ddm_cli.specs.declared.status.Status.TheVariants.{Done, NoMemory, ReadFault, UnreadTable, UnreadTest, WriteFault}
 use Rattle.asked_commands.specs.Room.{room_bytes}
 use Rattle.asked_commands.specs.declared.roomy_sink.RoomySink.{RoomySink}
 
@@ -16,6 +16,7 @@ use Rattle.asked_commands.specs.declared.roomy_sink.RoomySink.{RoomySink}
 abbrev pub IsNoFault : Status → Type 0
 IsNoFault (ReadFault role) = ⊥
 IsNoFault (UnreadTable n) = ⊥
+IsNoFault UnreadTest = ⊥
 IsNoFault WriteFault = ⊥
 IsNoFault _ = ⊤
 

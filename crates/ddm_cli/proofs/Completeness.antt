@@ -18,18 +18,19 @@ use Rattle.ddm_cli.specs.TextModel.declared.ScheduleRefusal.{ScheduleRefusal}
 use Rattle.ddm_cli.specs.Causes.{HasNoSetting, HasSmallList, IsRefused, IsUnloaded, IsUnresumed, IsUnscheduled, IsUnstarted}
 use Rattle.witness_check.specs.Start.{Setting, check_of, judged}
 use Rattle.witness_check.specs.declared.refusal.CheckRefusal.{CheckRefusal}
-use Rattle.ddm_cli.specs.Commands.{Check, Command, Paged, Recorded, Resumption, Run, Seeds, Survey, to_run, to_list, to_check, to_resume, to_survey, to_record, to_measure, to_survey_runs, to_join, to_page, to_say, first_run, paged_run, recorded_run, surveyed_run}
+use Rattle.ddm_cli.specs.Commands.{Check, Command, Paged, Recorded, Resumption, Run, Seeds, Survey, to_run, to_list, to_check, to_resume, to_survey, to_record, to_measure, to_survey_runs, to_join, to_page, to_assemble, to_say, first_run, paged_run, recorded_run, surveyed_run}
 use Rattle.ddm_cli.specs.Lists.{list_refused}
 use Rattle.ddm_cli.specs.Parts.{Parts, if_judged, if_large, if_started, items_of, parts_for, parts_in, parts_of, resumed_at, setting_at, setting_in, tree_at, turns_at, turns_of}
 use Rattle.ddm_cli.specs.Told.{ScheduleGiven, written, paged, seeded, image_told, schedule_told}
 use Rattle.ddm_cli.specs.Top.{Both, command_text, list_of, measure_at, outcomes_at, record_at, rest_with, resumed_text, resumed_with, survey_at, text_of, text_with, verdict_in, verdict_of, IsJudged, StatusHasCause, Completes, NoRest, NoRun, NotAccepted, NothingFailed, NoVerdict, RefusesImage, WithParts, WithResumed}
+use Rattle.ddm_cli.proofs.Assemblies.{assembly_refused}
 use Rattle.ddm_cli.proofs.Joins.{join_refused}
 use Rattle.ddm_cli.proofs.Pages.{paged_report, paged_report_said}
 use Rattle.ddm_cli.proofs.Settings.{start_refused}
 use Rattle.ddm_cli.specs.declared.command.Prints.{Prints}
 use Rattle.ddm_cli.specs.declared.command.Prints.TheVariants.{Report}
 use Rattle.ddm_cli.specs.declared.status.Status.{Status}
-use Rattle.ddm_cli.specs.declared.status.Status.TheVariants.{Done, Usage, ImageLoad, ImageBuild, Tree, Schedule, Witness, Checkpoint, SmallLists, Table, ReadFault, UnreadTable, WriteFault, NoMemory}
+use Rattle.ddm_cli.specs.declared.status.Status.TheVariants.{Done, Usage, ImageLoad, ImageBuild, Tree, Schedule, Witness, Checkpoint, SmallLists, Table, ReadFault, UnreadTable, WriteFault, NoMemory, Litmus, UnreadTest}
 
 -- ---- a file that gives no part gives no text
 
@@ -280,6 +281,8 @@ module _ {F K : Type 0} (told : F → List ℕ → Option (List ℕ)) (faults : 
       by_status (SmallLists x) refused = absurd (no_image prints (told files r.tree) (image_told (told files) r.image) tree.0 image.0 schedule.0 text (HasSmallList prints x) (λ u. too_small prints x u image.0) tree.1 image.1 schedule.2 refused)
       by_status (Table n r) refused = absurd refused
       by_status (UnreadTable n) refused = absurd refused
+      by_status (Litmus x) refused = absurd refused
+      by_status UnreadTest refused = absurd refused
       by_status (Schedule line x) refused =
           let here = both_here (told files r.tree) (schedule_told (told files) r.turns) tree.0 schedule.0 (λ u. IsRefused u.levels line x) tree.1 schedule.1 refused.1 in
           absurd (unscheduled prints tree.0 image.0 schedule.0 text line x here schedule.2)
@@ -312,6 +315,8 @@ module _ {F K : Type 0} (told : F → List ℕ → Option (List ℕ)) (faults : 
       by_status (SmallLists x) refused = absurd refused
       by_status (Table n r) refused = absurd refused
       by_status (UnreadTable n) refused = absurd refused
+      by_status (Litmus x) refused = absurd refused
+      by_status UnreadTest refused = absurd refused
       by_status (ReadFault TreeFile) refused = absurd (calm refused)
       by_status (ReadFault ImageFile) refused = absurd refused
       by_status (ReadFault ScheduleFile) refused = absurd refused
@@ -339,6 +344,8 @@ module _ {F K : Type 0} (told : F → List ℕ → Option (List ℕ)) (faults : 
       by_status (SmallLists x) refused = absurd refused
       by_status (Table n r) refused = absurd refused
       by_status (UnreadTable n) refused = absurd refused
+      by_status (Litmus x) refused = absurd refused
+      by_status UnreadTest refused = absurd refused
       by_status (Tree x) refused =
           let is = tree_here (told files c.tree) tree.0 x tree.1 refused in
           let nothing = no_setting tree.0 image.0 (refused_tree tree.0 x is) in
@@ -375,6 +382,8 @@ module _ {F K : Type 0} (told : F → List ℕ → Option (List ℕ)) (faults : 
       by_status (SmallLists x) refused = absurd refused
       by_status (Table n r) refused = absurd refused
       by_status (UnreadTable n) refused = absurd refused
+      by_status (Litmus x) refused = absurd refused
+      by_status UnreadTest refused = absurd refused
       by_status (Tree x) refused =
           let is = tree_here (told files n.tree) tree.0 x tree.1 refused in
           absurd (no_tree tree.0 image.0 checkpoint.0 schedule.0 text (refused_tree tree.0 x is) schedule.2)
@@ -446,6 +455,7 @@ module _ {F K : Type 0} (told : F → List ℕ → Option (List ℕ)) (faults : 
     command_refused (to_survey_runs o) text has calm = ends_refused o text has calm
     command_refused (to_join names) text has calm = join_refused told faults files files' names text has calm
     command_refused (to_page p) text has calm = page_refused p text has calm
+    command_refused (to_assemble a) text has calm = assembly_refused told faults files files' a text has calm
     command_refused (to_say a) text has calm = λ s refused. absurd refused
 
   pub completes : (words : List (List ℕ)) (files files' : F) (out out' : K) (status : Status) → StatusHasCause told faults held failures words files files' out out' status → Completes told faults held failures words files files' out out' status
@@ -462,4 +472,6 @@ module _ {F K : Type 0} (told : F → List ℕ → Option (List ℕ)) (faults : 
   completes words files files' out out' (SmallLists key) came c text said has calm quiet = inr (command_refused files files' c text has calm (SmallLists key) (rw said at came.0))
   completes words files files' out out' (Table n r) came c text said has calm quiet = inr (command_refused files files' c text has calm (Table n r) (rw said at came.0))
   completes words files files' out out' (UnreadTable n) came c text said has calm quiet = inr (command_refused files files' c text has calm (UnreadTable n) (rw said at came.0))
+  completes words files files' out out' (Litmus x) came c text said has calm quiet = inr (command_refused files files' c text has calm (Litmus x) (rw said at came.0))
+  completes words files files' out out' UnreadTest came c text said has calm quiet = inr (command_refused files files' c text has calm UnreadTest (rw said at came.0))
   completes words files files' out out' (ReadFault role) came c text said has calm quiet = inr (command_refused files files' c text has calm (ReadFault role) (rw said at came.0))

@@ -11,7 +11,7 @@ use Rattle.witness_check.specs.Start as check
 use Rattle.ddm_cli.specs.Causes.{Accepts, BuildCause, HasNoSetting, ImageCause, IsOfStart, IsUnstarted, JudgedImageCause, NoImage, SettingCause}
 use Rattle.ddm_cli.specs.Parts.{BeginsFor, parts_in, setting_in}
 use Rattle.ddm_cli.specs.declared.status.Status.{Status}
-use Rattle.ddm_cli.specs.declared.status.Status.TheVariants.{Done, Usage, ImageLoad, ImageBuild, Tree, Schedule, Witness, Checkpoint, SmallLists, Table, ReadFault, UnreadTable, WriteFault, NoMemory}
+use Rattle.ddm_cli.specs.declared.status.Status.TheVariants.{Done, Usage, ImageLoad, ImageBuild, Tree, Schedule, Witness, Checkpoint, SmallLists, Table, ReadFault, UnreadTable, WriteFault, NoMemory, Litmus, UnreadTest}
 use Rattle.ddm_cli.proofs.Judged.{some_parts}
 use Rattle.ddm_cli.proofs.Settings.{setting_started}
 
@@ -34,6 +34,8 @@ module _ (t : TreeValue) (told : Option (List ℕ)) (before now : ℕ) where
   no_machine (SmallLists key) cause = absurd cause
   no_machine (Table n r) cause = absurd cause
   no_machine (UnreadTable n) cause = absurd cause
+  no_machine (Litmus x) cause = absurd cause
+  no_machine UnreadTest cause = absurd cause
   no_machine WriteFault cause = absurd cause
 
   pub no_reader : (s : Status) → NoImage t told before now s → JudgedImageCause t told before now s
@@ -50,6 +52,8 @@ module _ (t : TreeValue) (told : Option (List ℕ)) (before now : ℕ) where
   no_reader (SmallLists key) cause = absurd cause
   no_reader (Table n r) cause = absurd cause
   no_reader (UnreadTable n) cause = absurd cause
+  no_reader (Litmus x) cause = absurd cause
+  no_reader UnreadTest cause = absurd cause
   no_reader WriteFault cause = absurd cause
 
   module _ (i : ImageValue) (has : HasImage t told i) where
@@ -79,6 +83,8 @@ module _ (t : TreeValue) (told : Option (List ℕ)) (before now : ℕ) where
     not_built (SmallLists key) cause = absurd cause
     not_built (Table n r) cause = absurd cause
     not_built (UnreadTable n) cause = absurd cause
+    not_built (Litmus x) cause = absurd cause
+    not_built UnreadTest cause = absurd cause
     not_built WriteFault cause = absurd cause
 
     pub not_begun : (s : Status) → SettingCause t i s → JudgedImageCause t told before now s
@@ -95,6 +101,8 @@ module _ (t : TreeValue) (told : Option (List ℕ)) (before now : ℕ) where
     not_begun (SmallLists key) cause = absurd cause
     not_begun (Table n r) cause = absurd cause
     not_begun (UnreadTable n) cause = absurd cause
+    not_begun (Litmus x) cause = absurd cause
+    not_begun UnreadTest cause = absurd cause
     not_begun WriteFault cause = absurd cause
 
 -- ---- an image with which the machine, or the flat machine, has a start

@@ -25,7 +25,7 @@ use Rattle.joining.specs.Said.{IsTableError}
 use Rattle.joining.specs.declared.reading.TableError.{TableError}
 use Rattle.joining.specs.declared.reading.TableError.TheVariants.{Refused, Memory}
 use Rattle.ddm_cli.specs.declared.status.Status.{Status}
-use Rattle.ddm_cli.specs.declared.status.Status.TheVariants.{Done, Usage, ImageLoad, ImageBuild, Tree, Schedule, Witness, Checkpoint, SmallLists, Table, ReadFault, UnreadTable, WriteFault, NoMemory}
+use Rattle.ddm_cli.specs.declared.status.Status.TheVariants.{Done, Usage, ImageLoad, ImageBuild, Tree, Schedule, Witness, Checkpoint, SmallLists, Table, ReadFault, UnreadTable, WriteFault, NoMemory, Litmus, UnreadTest}
 
 -- a file that is longer than any table
 pub table_in-long : (file : List ℕ) → 67108864 < length file → table_in file ≡ Err TooLong
@@ -142,6 +142,8 @@ module _ {F : Type 0} (told : F → List ℕ → Option (List ℕ)) (faults : F 
         let whole : sum_of all.0 ≡ Err (n, r) = first-refused n all.0 (n, r) here in
         absurd (cc (sym all.3 ∙ whole))
     by_status (UnreadTable n) refused = absurd (named (FileFailed told faults files files') names (n - 1) calm refused.0)
+    by_status (Litmus x) refused = absurd refused
+    by_status UnreadTest refused = absurd refused
 
 -- ---- why the tables aren't put together, table by table
 
@@ -202,6 +204,8 @@ module _ {F : Type 0} (told : F → List ℕ → Option (List ℕ)) (faults : F 
   table-refused before earlier (Table n r) cause =
       subst (λ k. NoJoin told faults files files' (Table k r) names) (sym cause.0) (with-next (λ file. table_in file ≡ Err r) (λ tables. sum_of tables ≡ Err (place + 1, r)) cause.1 (λ tables file before is. numbered (tables ++ file ∷ []) r (sum-unread tables file s r before is)))
   table-refused before earlier (UnreadTable n) cause = subst (λ k. CantReadTable told faults files files' k names) (sym cause.0) (no-read (rose_before (faults files name) before (faults files' name) earlier cause.1))
+  table-refused before earlier (Litmus x) cause = absurd cause
+  table-refused before earlier UnreadTest cause = absurd cause
   table-refused before earlier NoMemory cause = tt
   table-refused before earlier Done cause = absurd cause
   table-refused before earlier WriteFault cause = absurd cause

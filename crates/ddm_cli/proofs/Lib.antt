@@ -28,6 +28,7 @@ pub mod LargeLists
 pub mod Taken
 pub mod InOrder
 pub mod Pages
+pub mod Assemblies
 pub mod Completeness
 pub mod Rests
 pub mod FileInPieces

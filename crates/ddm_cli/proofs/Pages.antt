@@ -30,7 +30,7 @@ use Rattle.ddm_cli.specs.Told.{ScheduleGiven, paged}
 use Rattle.ddm_cli.specs.Top.{AcceptsRun, HasPage, text_at, text_of, text_with}
 use Rattle.ddm_cli.specs.declared.command.Prints.TheVariants.{Report}
 use Rattle.ddm_cli.specs.declared.status.Status.{Status}
-use Rattle.ddm_cli.specs.declared.status.Status.TheVariants.{Done, Usage, ImageLoad, ImageBuild, Tree, Schedule, Witness, Checkpoint, SmallLists, Table, ReadFault, UnreadTable, WriteFault, NoMemory}
+use Rattle.ddm_cli.specs.declared.status.Status.TheVariants.{Done, Usage, ImageLoad, ImageBuild, Tree, Schedule, Witness, Checkpoint, SmallLists, Table, ReadFault, UnreadTable, WriteFault, NoMemory, Litmus, UnreadTest}
 use Rattle.ddm_cli.proofs.Causes.{takes_parts}
 use Rattle.ddm_cli.proofs.Judged.{both_taken}
 use Rattle.ddm_cli.proofs.Schedules.{piece_read}
@@ -124,6 +124,8 @@ paged_caused t items told before now (Checkpoint r) cause = absurd cause
 paged_caused t items told before now (SmallLists key) cause = absurd cause
 paged_caused t items told before now (Table n r) cause = absurd cause
 paged_caused t items told before now (UnreadTable n) cause = absurd cause
+paged_caused t items told before now (Litmus x) cause = absurd cause
+paged_caused t items told before now UnreadTest cause = absurd cause
 paged_caused t items told before now WriteFault cause = absurd cause
 
 -- ---- where there is a page, there is a report

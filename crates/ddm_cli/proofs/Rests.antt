@@ -32,7 +32,7 @@ use Rattle.std.proofs.lemmas.Option.{IfSome_then}
 use Rattle.ddm_cli.specs.Top.{AcceptsCheckpoint, AcceptsRest, HasResumedText, NoRest, WithParts, WithResumed}
 use Rattle.ddm_cli.specs.declared.command.Prints.TheVariants.{Report}
 use Rattle.ddm_cli.specs.declared.status.Status.{Status}
-use Rattle.ddm_cli.specs.declared.status.Status.TheVariants.{Done, Usage, ImageLoad, ImageBuild, Tree, Schedule, Witness, Checkpoint, SmallLists, Table, ReadFault, UnreadTable, WriteFault, NoMemory}
+use Rattle.ddm_cli.specs.declared.status.Status.TheVariants.{Done, Usage, ImageLoad, ImageBuild, Tree, Schedule, Witness, Checkpoint, SmallLists, Table, ReadFault, UnreadTable, WriteFault, NoMemory, Litmus, UnreadTest}
 use Rattle.ddm_cli.proofs.Causes.{takes_parts}
 use Rattle.ddm_cli.proofs.Judged.{both_taken}
 use Rattle.ddm_cli.proofs.RunsInPieces.{starts_on}
@@ -163,6 +163,8 @@ module _ {F : Type 0} (told : F → List ℕ → Option (List ℕ)) (faults : F 
   checkpoint_refused earlier (SmallLists key) cause = absurd cause
   checkpoint_refused earlier (Table n r) cause = absurd cause
   checkpoint_refused earlier (UnreadTable n) cause = absurd cause
+  checkpoint_refused earlier (Litmus x) cause = absurd cause
+  checkpoint_refused earlier UnreadTest cause = absurd cause
   checkpoint_refused earlier WriteFault cause = absurd cause
 
   -- and of the schedule since the checkpoint was read, or before
@@ -187,4 +189,6 @@ module _ {F : Type 0} (told : F → List ℕ → Option (List ℕ)) (faults : F 
     rest_refused (SmallLists key) cause = absurd cause
     rest_refused (Table n r) cause = absurd cause
     rest_refused (UnreadTable n) cause = absurd cause
+    rest_refused (Litmus x) cause = absurd cause
+    rest_refused UnreadTest cause = absurd cause
     rest_refused WriteFault cause = absurd cause

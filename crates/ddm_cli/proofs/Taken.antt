@@ -33,7 +33,7 @@ use Rattle.ddm_cli.specs.Top.{AcceptsParts, AcceptsRun, Both, HasText, NoRun, Re
 use Rattle.ddm_cli.specs.declared.command.Prints.{Prints}
 use Rattle.ddm_cli.specs.declared.command.Prints.TheVariants.{Report, Trace, Summary}
 use Rattle.ddm_cli.specs.declared.status.Status.{Status}
-use Rattle.ddm_cli.specs.declared.status.Status.TheVariants.{Done, Usage, ImageLoad, ImageBuild, Tree, Schedule, Witness, Checkpoint, SmallLists, Table, ReadFault, UnreadTable, WriteFault, NoMemory}
+use Rattle.ddm_cli.specs.declared.status.Status.TheVariants.{Done, Usage, ImageLoad, ImageBuild, Tree, Schedule, Witness, Checkpoint, SmallLists, Table, ReadFault, UnreadTable, WriteFault, NoMemory, Litmus, UnreadTest}
 use Rattle.ddm_cli.proofs.ReportCrate.Written.{rose_before}
 use Rattle.ddm_cli.proofs.Causes.{parts_are, takes_parts}
 use Rattle.ddm_cli.proofs.Judged.{parts_taken}
@@ -129,6 +129,8 @@ file_caused levels told before now (Checkpoint r) cause = absurd cause
 file_caused levels told before now (SmallLists key) cause = absurd cause
 file_caused levels told before now (Table n r) cause = absurd cause
 file_caused levels told before now (UnreadTable n) cause = absurd cause
+file_caused levels told before now (Litmus x) cause = absurd cause
+file_caused levels told before now UnreadTest cause = absurd cause
 file_caused levels told before now WriteFault cause = absurd cause
 
 -- counts that don't fall, from one call to the next
@@ -156,6 +158,8 @@ module _ {F : Type 0} (told : F → List ℕ → Option (List ℕ)) (faults : F 
   ran_refused (SmallLists key) cause = small_list_of prints (told files n.tree) (image_told (told files) n.image) t i key tree image start.accepted (ap (λ k. list_refused prints t.sizes k) (sym (items_started t i s start)) ∙ cause)
   ran_refused (Table n r) cause = absurd cause.1
   ran_refused (UnreadTable n) cause = absurd cause.1
+  ran_refused (Litmus x) cause = absurd cause.1
+  ran_refused UnreadTest cause = absurd cause.1
   ran_refused (Schedule line r) cause = (accepted cause.0, with_tree (told files n.tree) (schedule_told (told files) n.turns) t (λ levels. IsRefused levels line r) tree cause.1)
   ran_refused (ReadFault ScheduleFile) cause = (rose_before (schedule_faults (faults files) n.turns) before (schedule_faults (faults files') n.turns) earlier cause.1, accepted cause.0)
   ran_refused (ReadFault TreeFile) cause = absurd cause.1

@@ -13,7 +13,7 @@ use Rattle.ddm_cli.specs.Printed.{Writes}
 use Rattle.ddm_cli.specs.Refusals.{tree_line, tree_line_head, tree_line_rest}
 use Rattle.ddm_cli.specs.Top.{Offers, fault_line, line_head, line_rest}
 use Rattle.ddm_cli.specs.declared.status.Status.{Status}
-use Rattle.ddm_cli.specs.declared.status.Status.TheVariants.{Done, Usage, ImageLoad, ImageBuild, Tree, Schedule, Witness, Checkpoint, SmallLists, Table, ReadFault, UnreadTable, WriteFault, NoMemory}
+use Rattle.ddm_cli.specs.declared.status.Status.TheVariants.{Done, Usage, ImageLoad, ImageBuild, Tree, Schedule, Witness, Checkpoint, SmallLists, Table, ReadFault, UnreadTable, WriteFault, NoMemory, Litmus, UnreadTest}
 
 -- what two calls in a row wrote
 pub writes_of : {E : Type 0} (old new : Option (List ℕ)) (a : List ℕ) (w : Result (Unit {0}) E) → OnOk w (Appends old new a) → OnErr w (AppendsPart old new a) → Writes old new a w
@@ -56,6 +56,8 @@ line_parts (Checkpoint r) = sym (append-nil _)
 line_parts (SmallLists key) = sym (append-nil _)
 line_parts (Table n r) = sym (append-nil _)
 line_parts (UnreadTable n) = sym (append-nil _)
+line_parts (Litmus x) = sym (append-nil _)
+line_parts UnreadTest = sym (append-nil _)
 line_parts (ReadFault role) = sym (append-nil _)
 line_parts WriteFault = sym (append-nil _)
 line_parts NoMemory = sym (append-nil _)

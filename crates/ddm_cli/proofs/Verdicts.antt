@@ -22,7 +22,7 @@ use Rattle.ddm_cli.specs.Printed.{legal_line}
 use Rattle.ddm_cli.specs.Reads.{HasFed, IsBehind}
 use Rattle.ddm_cli.specs.Top.{AcceptsSetting, HasLegalLines, IsJudged, NoVerdict}
 use Rattle.ddm_cli.specs.declared.status.Status.{Status}
-use Rattle.ddm_cli.specs.declared.status.Status.TheVariants.{Done, Usage, ImageLoad, ImageBuild, Tree, Schedule, Witness, Checkpoint, SmallLists, Table, ReadFault, UnreadTable, WriteFault, NoMemory}
+use Rattle.ddm_cli.specs.declared.status.Status.TheVariants.{Done, Usage, ImageLoad, ImageBuild, Tree, Schedule, Witness, Checkpoint, SmallLists, Table, ReadFault, UnreadTable, WriteFault, NoMemory, Litmus, UnreadTest}
 
 -- ---- how a text stands
 
@@ -166,4 +166,6 @@ module _ {F : Type 0} (told : F → List ℕ → Option (List ℕ)) (faults : F 
   verdict_refused (SmallLists key) cause = absurd cause
   verdict_refused (Table n r) cause = absurd cause
   verdict_refused (UnreadTable n) cause = absurd cause
+  verdict_refused (Litmus x) cause = absurd cause
+  verdict_refused UnreadTest cause = absurd cause
   verdict_refused WriteFault cause = absurd cause

@@ -103,6 +103,7 @@ faults_text = lines_of (
     codes " 6 cannot read the schedule          see that the file is there and may be read" ∷
     codes " 6 cannot read the witness           see that the file is there and may be read" ∷
     codes " 6 cannot read the checkpoint        see that the file is there and may be read" ∷
+    codes " 6 cannot read the test              see that the file is there and may be read" ∷
     codes " 6 cannot read table N               see that the file is there and may be read" ∷
     codes " 7 cannot write                      see that the disk has room and the reader" ∷
     codes "                                     goes on" ∷
@@ -128,6 +129,14 @@ faults_text = lines_of (
     codes "12 small lists: KEY                  give this list in the tree eight places an" ∷
     codes "                                     item, an item for each line `item` of ddm" ∷
     codes "                                     run" ∷
+    codes "13 litmus: too long                  65536 bytes are the most" ∷
+    codes "13 litmus line N: WHAT               write line N as herd7 reads RISC-V of 32" ∷
+    codes "                                     bits" ∷
+    codes "13 litmus: too many observed N       64 registers and locations are the most" ∷
+    codes "13 litmus: too many locations N      256 are the most" ∷
+    codes "13 litmus: too many threads N        give a tree with N leaves or more" ∷
+    codes "13 litmus: other places N            name N leaves, one for each thread" ∷
+    codes "13 litmus: no leaf N                 the tree's leaves are counted from 0 on" ∷
     codes "15 table N: too long                 67108864 bytes are the most" ∷
     codes "15 table N line L: bad line          give tables as ddm outcomes or ddm survey" ∷
     codes "                                     puts them out" ∷
@@ -162,6 +171,8 @@ help_text = lines_of (
     codes "                                   what the recorded runs of many seeds come to" ∷
     codes "  ddm join TABLE TABLE ..          the table of all runs of several tables" ∷
     codes "  ddm page IMAGE TREE SCHEDULE     a page that shows the run turn by turn, for a browser" ∷
+    codes "  ddm assemble FILE TREE [all] [PLACES]" ∷
+    codes "                                   the image of a litmus test" ∷
     codes "  ddm help COMMAND                 more of one of these" ∷
     codes "  ddm --help, ddm --version" ∷
     [])
@@ -263,6 +274,14 @@ own_text about.Page = lines_of (
     codes "ddm page IMAGE TREE SCHEDULE" ∷
     codes "Makes the turns as run does, and prints an HTML page that shows each of them in" ∷
     codes "a browser. There are at most 100000 turns." ∷
+    [])
+own_text about.Assemble = lines_of (
+    codes "ddm assemble FILE TREE [PLACES], ddm assemble FILE TREE all [PLACES]" ∷
+    codes "Puts out the image of a litmus test of RISC-V, in the format of herd7: the" ∷
+    codes "bytes of an ELF file, which other commands run. PLACES are the leaves of the" ∷
+    codes "threads, 0,2; without them thread K is on leaf K. In the image for the runs of" ∷
+    codes "seeds, each thread first loads what it will use, and waits; with all it" ∷
+    codes "doesn't." ∷
     [])
 
 -- what is said behind it, of each command

@@ -3,7 +3,7 @@ use Rattle.std.specs.Prelude.{ℕ}
 use Rattle.ddm_cli.specs.declared.status.Status.{Status}
 use Rattle.ddm_cli.specs.declared.status.Status.TheVariants.{Done, Usage, ImageLoad, ImageBuild, Tree, Schedule}
 use Rattle.ddm_cli.specs.declared.status.Status.TheVariants.{Witness, Checkpoint, SmallLists, Table, ReadFault}
-use Rattle.ddm_cli.specs.declared.status.Status.TheVariants.{UnreadTable, WriteFault, NoMemory}
+use Rattle.ddm_cli.specs.declared.status.Status.TheVariants.{UnreadTable, WriteFault, NoMemory, Litmus, UnreadTest}
 
 -- the number of each status
 abbrev pub exit_code : Status → ℕ
@@ -21,3 +21,5 @@ exit_code (Witness r) = 10
 exit_code (Checkpoint r) = 11
 exit_code (SmallLists key) = 12
 exit_code (Table n r) = 15
+exit_code (Litmus r) = 13
+exit_code UnreadTest = 6

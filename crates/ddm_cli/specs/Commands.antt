@@ -1,11 +1,15 @@
 -- The commands, and the words that say them.
 -- Letters: k is the index of a word, counted from 0.
 -- To be believed with the contracts: they speak of it.
-use Rattle.std.specs.Prelude.{ℕ, ◌+◌, ◌-◌, ◌*◌, ◌≤◌, min, nat_le, nat_lt, List, [], ◌∷◌, drop, length, Result, Ok}
+use Rattle.std.specs.Prelude.{ℕ, ◌+◌, ◌-◌, ◌*◌, ◌≤◌, Bool, false, min, nat_le, nat_lt, List, [], ◌∷◌, drop, length, Result, Ok}
 use Rattle.std.specs.Prelude.{Err, Option, Some, None, slice_get, option_and_then, if◌then◌else◌, bytes_eq, codes}
+use Rattle.std.specs.Option.{option_map}
 use Rattle.std.specs.Result.{result_ok}
 use Rattle.ddm_cli.specs.DdmText.Numbers.{number_of}
 use Rattle.ddm_cli.specs.RecordingModel.declared.SeedKind.{SeedKind}
+use Rattle.litmus_files.specs.LitmusModel.declared.test.Runs.{Runs}
+use Rattle.litmus_files.specs.LitmusModel.declared.test.Runs.TheVariants.{OfSeeds, All}
+use Rattle.litmus_files.specs.Places.{places_in}
 use Rattle.ddm_cli.specs.declared.command.About.{About}
 use Rattle.ddm_cli.specs.declared.command.About.TheVariants as about
 use Rattle.ddm_cli.specs.declared.command.Prints.{Prints}
@@ -88,6 +92,13 @@ pub record Paged : Type 0 where
   pub tree : List ℕ
   pub schedule : List ℕ
 
+-- whose image is put out: the files of a test and of a tree, the runs that it is for, and the leaves of its threads where they are said
+pub record Assembly : Type 0 where
+  pub test : List ℕ
+  pub tree : List ℕ
+  pub runs : Runs
+  pub places : Option (List ℕ)
+
 pub data Command : Type 0 where
   -- to run a machine and print this of it
   to_run : Prints → Run → Command
@@ -109,6 +120,8 @@ pub data Command : Type 0 where
   to_join : List (List ℕ) → Command
   -- to print the page of a run
   to_page : Paged → Command
+  -- to print the image of a litmus test
+  to_assemble : Assembly → Command
   -- to say something of the program itself
   to_say : About → Command
 
@@ -133,6 +146,9 @@ survey_value image tree kind first count turns =
 
 abbrev paged_value : List ℕ → List ℕ → List ℕ → Paged
 paged_value image tree schedule = record { image = image; tree = tree; schedule = schedule }
+
+abbrev assembly_value : List ℕ → List ℕ → Runs → Option (List ℕ) → Assembly
+assembly_value test tree runs places = record { test = test; tree = tree; runs = runs; places = places }
 
 -- the run of the first of them
 abbrev pub first_run : Seeds → Run
@@ -164,6 +180,7 @@ IsInRange (to_measure r) = r.turns ≤ 1000000000
 IsInRange (to_survey_runs s) = (1 ≤ s.count) × (s.count ≤ 1000000) × (s.first + s.count ≤ 18446744073709551616) × (s.turns ≤ 1048576)
 IsInRange (to_join names) = (2 ≤ length names) × (length names ≤ 256)
 IsInRange (to_page p) = Unit {0}
+IsInRange (to_assemble a) = Unit {0}
 IsInRange (to_say a) = Unit {0}
 
 -- ---- words in their order: the command that they say, or the index of the first word at fault or of the first that is missing
@@ -286,6 +303,30 @@ file_page words =
     (λ tree. word_at words 3
     (λ schedule. ends_at words 4 (to_page (paged_value image tree schedule)))))
 
+-- the places that a word names; none need be said
+abbrev pub places_said : Option (List ℕ) → Option (Option (List ℕ))
+places_said None = Some None
+places_said (Some word) = option_map (λ places. Some places) (places_in word)
+
+-- on with those that the word there names
+abbrev pub places_at : List (List ℕ) → ℕ → (Option (List ℕ) → Result Command ℕ) → Result Command ℕ
+places_at words k next = on_found k (places_said (slice_get words k)) next
+
+-- assemble FILE TREE, and places from this index on
+unfoldable pub placed_assembly : List (List ℕ) → Runs → ℕ → Result Command ℕ
+placed_assembly words runs k =
+    word_at words 1 (λ test. word_at words 2 (λ tree. places_at words k (λ places.
+    ends_at words (k + 1) (to_assemble (assembly_value test tree runs places)))))
+
+abbrev pub is_all : Option (List ℕ) → Bool
+is_all None = false
+is_all (Some word) = bytes_eq word (codes "all")
+
+-- assemble FILE TREE [PLACES] and assemble FILE TREE all [PLACES]
+unfoldable pub test_assembly : List (List ℕ) → Result Command ℕ
+test_assembly words =
+    if is_all (slice_get words 3) then placed_assembly words All 4 else placed_assembly words OfSeeds 3
+
 -- the command of a name
 unfoldable pub about_named : List ℕ → Option About
 about_named name =
@@ -304,7 +345,8 @@ about_named name =
     else (if bytes_eq name (codes "survey") then Some about.Survey
     else (if bytes_eq name (codes "join") then Some about.Join
     else (if bytes_eq name (codes "page") then Some about.Page
-    else None))))))))))))))
+    else (if bytes_eq name (codes "assemble") then Some about.Assemble
+    else None)))))))))))))))
 
 -- help COMMAND
 unfoldable pub help_said : List (List ℕ) → Result Command ℕ
@@ -327,10 +369,11 @@ named_command words name =
     else (if bytes_eq name (codes "survey") then runs_survey words
     else (if bytes_eq name (codes "join") then tables_named words
     else (if bytes_eq name (codes "page") then file_page words
+    else (if bytes_eq name (codes "assemble") then test_assembly words
     else (if bytes_eq name (codes "help") then help_said words
     else (if bytes_eq name (codes "--help") then ends_at words 1 (to_say about.Help)
     else (if bytes_eq name (codes "--version") then ends_at words 1 (to_say about.Version)
-    else Err 0)))))))))))))))))
+    else Err 0))))))))))))))))))
 
 -- ---- words that ask for help, and are just these
 

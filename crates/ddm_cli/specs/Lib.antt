@@ -22,10 +22,12 @@ pub mod TreeConfig
 pub mod TreeModel
 pub mod TreeRules
 pub mod About
+pub mod Assembling
 pub mod Causes
 pub mod Code
 pub mod Commands
 pub mod Listing
+pub mod LitmusLines
 pub mod Lists
 pub mod Made
 pub mod Pages

@@ -27,6 +27,7 @@ use Rattle.witness_check.specs.Start.{Setting, check_of}
 use Rattle.witness_check.specs.Witness.{IsAccepted}
 use Rattle.witness_check.specs.declared.refusal.CheckRefusal.{CheckRefusal}
 use Rattle.ddm_cli.specs.About.{about_text}
+use Rattle.ddm_cli.specs.Assembling.{NoAssembly, assembled_of}
 use Rattle.ddm_cli.specs.Causes.{Accepts, HasNoSetting, HasSmallList, IsRefused, IsUnloaded, IsUnresumed}
 use Rattle.ddm_cli.specs.Causes.{IsUnscheduled, IsUnstarted, TreeCause}
 use Rattle.ddm_cli.specs.OutcomeModel.FlatOutcome.{IsLegalOutcome}
@@ -36,7 +37,7 @@ use Rattle.ddm_cli.specs.RecordingModel.Recording.{record_text, recording_of}
 use Rattle.ddm_cli.specs.MeasureModel.Text.{measure_text}
 use Rattle.ddm_cli.specs.Commands.{Check, Command, ImageFrom, Paged, Recorded, Resumption, Run, Seeds, Survey}
 use Rattle.ddm_cli.specs.Commands.{TurnsFrom, to_run, to_list, to_check, to_resume, to_survey, to_record, to_measure}
-use Rattle.ddm_cli.specs.Commands.{to_survey_runs, to_join, to_page, to_say, command_of, first_run, paged_run}
+use Rattle.ddm_cli.specs.Commands.{to_survey_runs, to_join, to_page, to_assemble, to_say, command_of, first_run, paged_run}
 use Rattle.ddm_cli.specs.Commands.{recorded_run, surveyed_run}
 use Rattle.ddm_cli.specs.SurveyModel.Laws.{IsLegalEnd}
 use Rattle.ddm_cli.specs.SurveyModel.Survey.{survey_table, survey_text}
@@ -46,6 +47,7 @@ use Rattle.ddm_cli.specs.Printed.{Writes, legal_line, printed, resumed_report}
 use Rattle.ddm_cli.specs.Refusals.{build_line, checkpoint_line, image_line, small_lists_line, tree_line}
 use Rattle.ddm_cli.specs.Refusals.{tree_line_head, tree_line_rest, witness_line}
 use Rattle.joining.specs.JoinModel.Files.{joined_text, sum_of}
+use Rattle.ddm_cli.specs.LitmusLines.{litmus_line, unread_test_line}
 use Rattle.ddm_cli.specs.TableLines.{table_line, unread_table_line}
 use Rattle.ddm_cli.specs.Told.{ScheduleGiven, files_told, image_faults, image_told, schedule_faults, schedule_told}
 use Rattle.ddm_cli.specs.declared.command.Prints.{Prints}
@@ -53,7 +55,7 @@ use Rattle.ddm_cli.specs.declared.command.Prints.TheVariants.{Report}
 use Rattle.ddm_cli.specs.declared.status.Status.{Status}
 use Rattle.ddm_cli.specs.declared.status.Status.TheVariants.{Done, Usage, ImageLoad, ImageBuild, Tree, Schedule}
 use Rattle.ddm_cli.specs.declared.status.Status.TheVariants.{Witness, Checkpoint, SmallLists, Table, ReadFault}
-use Rattle.ddm_cli.specs.declared.status.Status.TheVariants.{UnreadTable, WriteFault, NoMemory}
+use Rattle.ddm_cli.specs.declared.status.Status.TheVariants.{UnreadTable, WriteFault, NoMemory, Litmus, UnreadTest}
 
 -- ---- the text
 
@@ -149,6 +151,7 @@ command_text told (to_page p) =
     (λ tree. option_and_then
     (λ image. option_and_then (paged_text tree image) (schedule_told told (paged_run p).turns))
     (told p.image)) (told p.tree)
+command_text told (to_assemble a) = option_and_then (λ tree. option_and_then (assembled_of a tree) (told a.test)) (told a.tree)
 command_text told (to_say a) = Some (about_text a)
 
 -- ---- order
@@ -317,6 +320,9 @@ module _ {F : Type 0} (told : F → List ℕ → Option (List ℕ)) where
   HasAccepted files text (to_page p) =
       AcceptsRun Report (told files p.tree) (told files p.image) (schedule_told (told files) (paged_run p).turns)
       × HasPage (told files p.tree) (told files p.image) (schedule_told (told files) (paged_run p).turns) text
+  HasAccepted files text (to_assemble a) =
+      Accepts tree_at (told files a.tree)
+      × Both (told files a.tree) (told files a.test) (λ t f. assembled_of a t f ≡ Some text)
   HasAccepted files text (to_say a) = text ≡ about_text a
 
   -- the words are in the grammar, and this is what their command prints
@@ -341,6 +347,7 @@ module _ {F : Type 0} (told : F → List ℕ → Option (List ℕ)) where
   IsInOrder files (to_survey_runs s) = Both (told files s.tree) (told files s.image) (λ t i. IfSome (parts_of t i) (EndsAreRuns s))
   IsInOrder files (to_join names) = Unit {0}
   IsInOrder files (to_page p) = FilesInOrder (told files p.tree) (told files p.image) (schedule_told (told files) (paged_run p).turns)
+  IsInOrder files (to_assemble a) = Unit {0}
   IsInOrder files (to_say a) = Unit {0}
 
   abbrev pub RunIsWitnessed : List (List ℕ) → F → Type 0
@@ -447,6 +454,7 @@ module _ {F : Type 0} (told : F → List ℕ → Option (List ℕ)) where
     NotAccepted s (to_survey_runs n) = NoRun Report s (surveyed_run n)
     NotAccepted s (to_join names) = NoJoin s names
     NotAccepted s (to_page p) = NoRun Report s (paged_run p)
+    NotAccepted s (to_assemble a) = NoAssembly told faults files files' s a
     NotAccepted s (to_say a) = ⊥
 
     -- why there is no text
@@ -466,6 +474,7 @@ module _ {F : Type 0} (told : F → List ℕ → Option (List ℕ)) where
     NothingFailed (to_survey_runs s) = (¬ FileFailed s.tree) × (¬ FileFailed s.image)
     NothingFailed (to_join names) = AllByRecursion (λ name. ¬ FileFailed name) names
     NothingFailed (to_page p) = (¬ FileFailed p.tree) × (¬ FileFailed p.image) × (¬ FileFailed p.schedule)
+    NothingFailed (to_assemble a) = (¬ FileFailed a.tree) × (¬ FileFailed a.test)
     NothingFailed (to_say a) = Unit {0}
 
 -- ---- the command
@@ -496,6 +505,8 @@ module _ {F K : Type 0} (told : F → List ℕ → Option (List ℕ)) (faults : 
   StatusHasCause words files files' out out' (Table n r) = Refused told faults files files' words (Table n r) × (held out' ≡ held out)
   StatusHasCause words files files' out out' (UnreadTable n) =
       Refused told faults files files' words (UnreadTable n) × (held out' ≡ held out)
+  StatusHasCause words files files' out out' (Litmus r) = Refused told faults files files' words (Litmus r) × (held out' ≡ held out)
+  StatusHasCause words files files' out out' UnreadTest = Refused told faults files files' words UnreadTest × (held out' ≡ held out)
   StatusHasCause words files files' out out' (ReadFault role) =
       Refused told faults files files' words (ReadFault role) × (held out' ≡ held out)
   StatusHasCause words files files' out out' NoMemory = Refused told faults files files' words NoMemory × (held out' ≡ held out)
@@ -528,6 +539,8 @@ fault_line (Checkpoint r) = checkpoint_line r
 fault_line (SmallLists key) = small_lists_line key
 fault_line (Table n r) = table_line n r
 fault_line (UnreadTable n) = unread_table_line n
+fault_line (Litmus r) = litmus_line r
+fault_line UnreadTest = unread_test_line
 fault_line (ReadFault role) = read_fault (role_text role)
 fault_line WriteFault = write_fault
 fault_line NoMemory = memory_fault

@@ -8,7 +8,8 @@ use Rattle.ddm_cli.specs.declared.command.Command.TheVariants.{Run as ToRun, Lis
 use Rattle.ddm_cli.specs.declared.command.Command.TheVariants.{Resume as ToResume, Outcomes as ToSurvey}
 use Rattle.ddm_cli.specs.declared.command.Command.TheVariants.{Record as ToRecord, Measure as ToMeasure}
 use Rattle.ddm_cli.specs.declared.command.Command.TheVariants.{Survey as ToSurveyRuns, Join as ToJoin, Page as ToPage}
-use Rattle.ddm_cli.specs.declared.command.Command.TheVariants.{About as ToSay}
+use Rattle.ddm_cli.specs.declared.command.Command.TheVariants.{Assemble as ToAssemble, About as ToSay}
+use Rattle.ddm_cli.specs.declared.command.Assembly.{Assembly}
 use Rattle.ddm_cli.specs.declared.command.ImageSource.{ImageSource}
 use Rattle.ddm_cli.specs.declared.command.ImageSource.TheVariants.{File as ImageFile, Made}
 use Rattle.ddm_cli.specs.declared.command.Paged.{Paged}
@@ -49,6 +50,9 @@ survey_from s = record { image = s.image.now; tree = s.tree.now; kind = s.kind; 
 abbrev pub paged_from : Paged → said.Paged
 paged_from p = record { image = p.image.now; tree = p.tree.now; schedule = p.schedule.now }
 
+abbrev pub assembly_from : Assembly → said.Assembly
+assembly_from a = record { test = a.test.now; tree = a.tree.now; runs = a.runs; places = a.places }
+
 abbrev pub command_from : Command → said.Command
 command_from (ToRun prints run) = said.to_run prints (run_from run)
 command_from (ToList tree seed count) = said.to_list tree.now seed count
@@ -60,4 +64,5 @@ command_from (ToMeasure recorded) = said.to_measure (recorded_from recorded)
 command_from (ToSurveyRuns survey) = said.to_survey_runs (survey_from survey)
 command_from (ToJoin names) = said.to_join (map string_bytes names.now)
 command_from (ToPage paged) = said.to_page (paged_from paged)
+command_from (ToAssemble assembly) = said.to_assemble (assembly_from assembly)
 command_from (ToSay about) = said.to_say about

@@ -10,7 +10,7 @@ use crate::of_ddm_outside::{Failed, Sink};
 use crate::of_report::write_all;
 
 const HELP: &[u8] =
-    b"ddm runs RV32IA programs on a Data Diffusion Machine; every run is one order of one flat memory.\n\n  ddm run IMAGE TREE SCHEDULE      the report of a run: harts, traffic, items and the witness\n  ddm trace IMAGE TREE SCHEDULE    a line for each turn, and then the report\n  ddm seed IMAGE TREE SEED TURNS   the report of the schedule of a seed\n  ddm schedule TREE SEED TURNS     the schedule of a seed\n  ddm make SEED ROUNDS TREE        the summary of a random program under a seeded schedule\n  ddm check IMAGE TREE WITNESS     whether a witness is one legal run of the flat machine\n  ddm unjam IMAGE TREE SCHEDULE    the turn of a bus that goes on where a leaf waits\n  ddm save IMAGE TREE SCHEDULE     the checkpoint of the machine after a run\n  ddm resume IMAGE TREE CHECKPOINT SCHEDULE\n                                   the report of a run that goes on from a checkpoint\n  ddm outcomes IMAGE TREE FIRST COUNT TURNS\n                                   what the runs of many seeds come to\n  ddm record IMAGE TREE KIND SEED TURNS\n                                   the schedule of the turns of a seed that do something\n  ddm measure IMAGE TREE KIND SEED TURNS\n                                   what such a run is measured by\n  ddm survey IMAGE TREE KIND FIRST COUNT TURNS\n                                   what the recorded runs of many seeds come to\n  ddm join TABLE TABLE ..          the table of all runs of several tables\n  ddm page IMAGE TREE SCHEDULE     a page that shows the run turn by turn, for a browser\n  ddm help COMMAND                 more of one of these\n  ddm --help, ddm --version\n";
+    b"ddm runs RV32IA programs on a Data Diffusion Machine; every run is one order of one flat memory.\n\n  ddm run IMAGE TREE SCHEDULE      the report of a run: harts, traffic, items and the witness\n  ddm trace IMAGE TREE SCHEDULE    a line for each turn, and then the report\n  ddm seed IMAGE TREE SEED TURNS   the report of the schedule of a seed\n  ddm schedule TREE SEED TURNS     the schedule of a seed\n  ddm make SEED ROUNDS TREE        the summary of a random program under a seeded schedule\n  ddm check IMAGE TREE WITNESS     whether a witness is one legal run of the flat machine\n  ddm unjam IMAGE TREE SCHEDULE    the turn of a bus that goes on where a leaf waits\n  ddm save IMAGE TREE SCHEDULE     the checkpoint of the machine after a run\n  ddm resume IMAGE TREE CHECKPOINT SCHEDULE\n                                   the report of a run that goes on from a checkpoint\n  ddm outcomes IMAGE TREE FIRST COUNT TURNS\n                                   what the runs of many seeds come to\n  ddm record IMAGE TREE KIND SEED TURNS\n                                   the schedule of the turns of a seed that do something\n  ddm measure IMAGE TREE KIND SEED TURNS\n                                   what such a run is measured by\n  ddm survey IMAGE TREE KIND FIRST COUNT TURNS\n                                   what the recorded runs of many seeds come to\n  ddm join TABLE TABLE ..          the table of all runs of several tables\n  ddm page IMAGE TREE SCHEDULE     a page that shows the run turn by turn, for a browser\n  ddm assemble FILE TREE [all] [PLACES]\n                                   the image of a litmus test\n  ddm help COMMAND                 more of one of these\n  ddm --help, ddm --version\n";
 
 const VERSION: &[u8] = b"ddm 1\n";
 
@@ -81,6 +81,7 @@ stands what to do.
  6 cannot read the schedule          see that the file is there and may be read
  6 cannot read the witness           see that the file is there and may be read
  6 cannot read the checkpoint        see that the file is there and may be read
+ 6 cannot read the test              see that the file is there and may be read
  6 cannot read table N               see that the file is there and may be read
  7 cannot write                      see that the disk has room and the reader
                                      goes on
@@ -106,6 +107,14 @@ stands what to do.
 12 small lists: KEY                  give this list in the tree eight places an
                                      item, an item for each line `item` of ddm
                                      run
+13 litmus: too long                  65536 bytes are the most
+13 litmus line N: WHAT               write line N as herd7 reads RISC-V of 32
+                                     bits
+13 litmus: too many observed N       64 registers and locations are the most
+13 litmus: too many locations N      256 are the most
+13 litmus: too many threads N        give a tree with N leaves or more
+13 litmus: other places N            name N leaves, one for each thread
+13 litmus: no leaf N                 the tree's leaves are counted from 0 on
 15 table N: too long                 67108864 bytes are the most
 15 table N line L: bad line          give tables as ddm outcomes or ddm survey
                                      puts them out
@@ -198,6 +207,14 @@ Makes the turns as run does, and prints an HTML page that shows each of them in
 a browser. There are at most 100000 turns.
 ";
 
+const ASSEMBLE: &[u8] = br"ddm assemble FILE TREE [PLACES], ddm assemble FILE TREE all [PLACES]
+Puts out the image of a litmus test of RISC-V, in the format of herd7: the
+bytes of an ELF file, which other commands run. PLACES are the leaves of the
+threads, 0,2; without them thread K is on leaf K. In the image for the runs of
+seeds, each thread first loads what it will use, and waits; with all it
+doesn't.
+";
+
 const NAMED: &[u8] = br#"
 IMAGE is an ELF file for RV32IA of at most 4 MiB. Every hart begins at its
 entry, its number in a0, the number of harts in a1. An example, made from C:
@@ -272,6 +289,7 @@ fn own_text(about: About) -> &'static [u8]
         About::Survey => SURVEY,
         About::Join => JOIN,
         About::Page => PAGE,
+        About::Assemble => ASSEMBLE,
     }
 }
 
@@ -295,7 +313,8 @@ fn further_text(about: About) -> &'static [u8]
         | About::Measure
         | About::Survey
         | About::Join
-        | About::Page => named_text(),
+        | About::Page
+        | About::Assemble => named_text(),
     }
 }
 

@@ -3,6 +3,7 @@
 ghost use Rattle.std.specs.Prelude.{◌≡◌};
 ghost use Rattle.ddm_cli.specs.Printed.{is_summary, is_trace};
 
+use litmus_files::{Places, Runs};
 use outcomes::of_recording::SeedKind;
 
 /// What is printed of a run.
@@ -123,6 +124,16 @@ pub struct Paged<'a> {
     pub schedule: &'a str,
 }
 
+/// Whose image is put out: that of the litmus test of a file for the tree of a file, for the runs of seeds or of all schedules, its
+/// threads on these leaves, where some are said.
+#[derive(Clone, Copy)]
+pub struct Assembly<'a> {
+    pub test: &'a str,
+    pub tree: &'a str,
+    pub runs: Runs,
+    pub places: Option<Places>,
+}
+
 /// What the program says of itself.
 #[derive(Clone, Copy, Debug, PartialEq, Eq)]
 pub enum About {
@@ -149,6 +160,7 @@ pub enum About {
     Survey,
     Join,
     Page,
+    Assemble,
 }
 
 /// What the words of a command say.
@@ -177,5 +189,7 @@ pub enum Command<'a> {
     Join(&'a [String]),
     /// The page of a run.
     Page(Paged<'a>),
+    /// The image of a litmus test.
+    Assemble(Assembly<'a>),
     About(About),
 }

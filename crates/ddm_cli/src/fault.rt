@@ -3,6 +3,7 @@
 ghost use Rattle.std.specs.Prelude.{◌≡◌};
 ghost use Rattle.ddm_cli.specs.Top.{fault_line, line_head, Offers};
 
+use crate::litmus_lines::{litmus_line, unread_test_line};
 use crate::of_ddm_outside::Sink;
 use crate::of_report::{FaultLine, memory_line, read_line, usage_line, write_all, write_line};
 use crate::refusal_lines::{
@@ -29,7 +30,9 @@ fn line_head(status: &Status) -> FaultLine
         Status::Checkpoint(refusal) => checkpoint_line(refusal),
         Status::SmallLists(key) => small_lists_line(*key),
         Status::Table(number, refusal) => table_line(*number, *refusal),
+        Status::Litmus(refusal) => litmus_line(*refusal),
         Status::ReadFault(role) => read_line(*role),
+        Status::UnreadTest => unread_test_line(),
         Status::UnreadTable(number) => unread_table_line(*number),
         Status::WriteFault => write_line(),
         Status::NoMemory => memory_line(),

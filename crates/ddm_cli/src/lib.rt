@@ -2,6 +2,7 @@
 #![tactic(auto)]
 
 mod about;
+mod assembled;
 mod checking;
 mod command;
 mod fault;
@@ -11,6 +12,7 @@ mod judging;
 pub mod laws;
 mod limits;
 mod listing;
+mod litmus_lines;
 mod making;
 mod measured;
 pub mod of_any_machine;
@@ -44,6 +46,7 @@ pub use crate::of_schedule_log::ScheduleRefusal;
 pub use checkpoint::ResumeRefusal;
 pub use fault::tell;
 pub use joining::of_join_model::TableRefusal;
+pub use litmus_files::FileRefusal;
 pub use status::{Status, code};
 pub use top::ddm_main;
 pub use witness_check::CheckRefusal;

@@ -11,6 +11,7 @@ use crate::of_text_model::ScheduleRefusal;
 use crate::of_tree_config::{TreeKey, TreeRefusal};
 use checkpoint::ResumeRefusal;
 use joining::of_join_model::TableRefusal;
+use litmus_files::FileRefusal;
 use run_engine::BuildRefusal;
 use witness_check::CheckRefusal;
 
@@ -36,7 +37,11 @@ pub enum Status {
     SmallLists(TreeKey),
     /// The number of the table, counted from 1, and why it isn't accepted.
     Table(u32, TableRefusal),
+    /// Why the file is no litmus test, or has no image for the tree.
+    Litmus(FileRefusal),
     ReadFault(FileRole),
+    /// The litmus test can't be read.
+    UnreadTest,
     /// The number of the table that can't be read.
     UnreadTable(u32),
     WriteFault,
@@ -53,12 +58,13 @@ pub fn code(status: &Status) -> u8
         Status::ImageLoad(_) | Status::ImageBuild(_) => 3,
         Status::Tree(_) => 4,
         Status::Schedule(_, _) => 5,
-        Status::ReadFault(_) | Status::UnreadTable(_) => 6,
+        Status::ReadFault(_) | Status::UnreadTest | Status::UnreadTable(_) => 6,
         Status::WriteFault => 7,
         Status::NoMemory => 8,
         Status::Witness(_) => 10,
         Status::Checkpoint(_) => 11,
         Status::SmallLists(_) => 12,
+        Status::Litmus(_) => 13,
         Status::Table(_, _) => 15,
     }
 }

@@ -10,6 +10,7 @@ ghost use Rattle.ddm_cli.specs.Top.{StatusHasCause, WritesAccepted, fault_line, 
 ghost use Rattle.ddm_cli.specs.Views.{command_from, run_from};
 
 use crate::about::write_about;
+use crate::assembled::write_assembled;
 use crate::checking::write_check;
 use crate::command::{Command, Prints, Run};
 use crate::fault::tell;
@@ -122,6 +123,7 @@ fn write_command<F: Shelf, K: Sink>(
         Command::Survey(survey) => write_survey(alloc, files, out, survey),
         Command::Join(names) => write_joined(alloc, files, out, names),
         Command::Page(paged) => write_paged(alloc, files, out, paged),
+        Command::Assemble(assembly) => write_assembled(alloc, files, out, assembly),
         Command::About(about) => Ok(write_about(out, about)),
     }
 }

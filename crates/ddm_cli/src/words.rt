@@ -5,16 +5,18 @@ ghost use Rattle.std.specs.Prelude.{Ok, Some, option_and_then, slice_get};
 ghost use Rattle.std.specs.String.{string_bytes};
 ghost use Rattle.ddm_cli.specs.Commands.{IsInRange, about_named, command_of, ends_at, file_check, file_page};
 ghost use Rattle.ddm_cli.specs.Commands.{file_resume, file_run, help_alone, help_asked, help_of_two, help_said};
-ghost use Rattle.ddm_cli.specs.Commands.{help_topic, kind_named, made_run, named_command, number_in, runs_survey};
+ghost use Rattle.ddm_cli.specs.Commands.{help_topic, is_all, kind_named, made_run, named_command, number_in, placed_assembly};
+ghost use Rattle.ddm_cli.specs.Commands.{places_said, runs_survey, test_assembly};
 ghost use Rattle.ddm_cli.specs.Commands.{seed_list, seed_measure, seed_record, seed_run, seeds_survey, tables_named};
 ghost use Rattle.ddm_cli.specs.Commands.{to_say, word_at};
 ghost use Rattle.ddm_cli.specs.Views.{command_from};
 
 use crate::command::{
-    About, Check, Command, ImageSource, Paged, Prints, Recorded, Resumption, Run, Seeds, Survey,
-    TurnSource,
+    About, Assembly, Check, Command, ImageSource, Paged, Prints, Recorded, Resumption, Run, Seeds,
+    Survey, TurnSource,
 };
 use crate::of_ddm_text::read_decimal;
+use litmus_files::{Places, Runs, read_places};
 use outcomes::of_recording::SeedKind;
 
 const MOST_TURNS: u64 = 1_048_576;
@@ -378,6 +380,70 @@ fn file_page(words: &[String]) -> Result<Command<'_>, u32>
     }))
 }
 
+/// The places that the word there names, where there is one.
+fn places_at(words: &[String], k: usize) -> Result<Option<Places>, u32>
+    requires { k ≤ 7 }
+    ensures { MatchResult result
+        (λ places. places_said (slice_get (map string_bytes words.now) k) ≡ Some places)
+        (λ at. (at ≡ k) × (places_said (slice_get (map string_bytes words.now) k) ≡ None)) }
+{
+    match words.get(k) {
+        None => Ok(None),
+        Some(word) => match read_places(word.as_bytes()) {
+            Some(places) => Ok(Some(places)),
+            None => Err(k as u32),
+        },
+    }
+}
+
+/// `assemble FILE TREE`, and places from this word on.
+#[tactic(auto, unfolding(crate::specs::Commands::placed_assembly))]
+fn placed_assembly(words: &[String], runs: Runs, k: usize) -> Result<Command<'_>, u32>
+    requires { k ≤ 4 }
+    ensures is { MatchResult result
+        (λ c. placed_assembly (map string_bytes words.now) runs k ≡ Ok (command_from c))
+        (λ at. placed_assembly (map string_bytes words.now) runs k ≡ Err at) }
+    ensures range { IfOk result (λ c. IsInRange (command_from c)) }
+{
+    let test = word(words, 1)?;
+    let tree = word(words, 2)?;
+    let places = places_at(words, k)?;
+    if words.len() > k + 1 {
+        return Err(k as u32 + 1);
+    }
+    Ok(Command::Assemble(Assembly {
+        test,
+        tree,
+        runs,
+        places,
+    }))
+}
+
+/// Whether the word there is `all`.
+fn is_all(words: &[String], k: usize) -> bool
+    ensures { result ≡ is_all (slice_get (map string_bytes words.now) k) }
+{
+    match words.get(k) {
+        None => false,
+        Some(word) => word.as_str() == "all",
+    }
+}
+
+/// `assemble FILE TREE [PLACES]` and `assemble FILE TREE all [PLACES]`.
+#[tactic(auto, unfolding(crate::specs::Commands::test_assembly))]
+fn test_assembly(words: &[String]) -> Result<Command<'_>, u32>
+    ensures is { MatchResult result
+        (λ c. test_assembly (map string_bytes words.now) ≡ Ok (command_from c))
+        (λ k. test_assembly (map string_bytes words.now) ≡ Err k) }
+    ensures range { IfOk result (λ c. IsInRange (command_from c)) }
+{
+    if is_all(words, 3) {
+        placed_assembly(words, Runs::All, 4)
+    } else {
+        placed_assembly(words, Runs::OfSeeds, 3)
+    }
+}
+
 /// The command of a name.
 #[tactic(auto, unfolding(crate::specs::Commands::about_named))]
 fn about_named(name: &str) -> Option<About>
@@ -399,6 +465,7 @@ fn about_named(name: &str) -> Option<About>
         "survey" => Some(About::Survey),
         "join" => Some(About::Join),
         "page" => Some(About::Page),
+        "assemble" => Some(About::Assemble),
         _ => None,
     }
 }
@@ -502,6 +569,7 @@ fn named_command(words: &[String]) -> Result<Command<'_>, u32>
         "survey" => runs_survey(words),
         "join" => tables_named(words),
         "page" => file_page(words),
+        "assemble" => test_assembly(words),
         "help" => help_said(words),
         "--help" => alone(words, About::Help),
         "--version" => alone(words, About::Version),

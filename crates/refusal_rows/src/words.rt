@@ -6,7 +6,7 @@ use std::test::Fail;
 
 #[test]
 fn words_at_fault(rt: HostRuntime) -> Result<(), Fail> {
-    let commands: [(&[&str], u32); 75] = [
+    let commands: [(&[&str], u32); 80] = [
         (&[], 0),
         (&["walk"], 0),
         (&["run", "a", "b"], 3),
@@ -73,6 +73,11 @@ fn words_at_fault(rt: HostRuntime) -> Result<(), Fail> {
         (&["survey", "i", "t", "skewed", "0", "1", "1", "more"], 7),
         (&["join"], 1),
         (&["join", "a"], 2),
+        (&["assemble", "l"], 2),
+        (&["assemble", "l", "t", "0,0"], 3),
+        (&["assemble", "l", "t", "1,0", "more"], 4),
+        (&["assemble", "l", "t", "all", "64"], 4),
+        (&["assemble", "l", "t", "all", "1,0", "more"], 5),
         (&["RUN", "a", "b", "c"], 0),
         (&["help", "walk"], 1),
         (&["help", "run", "more"], 2),
@@ -134,7 +139,7 @@ fn of_itself(rt: HostRuntime) -> Result<(), Fail> {
     }
     for name in [
         "run", "trace", "seed", "schedule", "make", "check", "unjam", "save", "resume", "outcomes",
-        "record", "measure", "survey", "join", "page",
+        "record", "measure", "survey", "join", "page", "assemble",
     ] {
         let said = output(alloc, &["help", name], &no_files)?;
         let line = format!(in alloc; "ddm {name} ")?;
@@ -209,6 +214,7 @@ fn of_faults(rt: HostRuntime) -> Result<(), Fail> {
         " 6 cannot read the schedule ",
         " 6 cannot read the witness ",
         " 6 cannot read the checkpoint ",
+        " 6 cannot read the test ",
         " 7 cannot write ",
         " 8 no memory ",
         "10 witness: too long ",
@@ -227,6 +233,13 @@ fn of_faults(rt: HostRuntime) -> Result<(), Fail> {
         "11 checkpoint: broken stamp BUS ",
         "11 checkpoint: broken key OPERATION ",
         "12 small lists: KEY ",
+        "13 litmus: too long ",
+        "13 litmus line N: WHAT ",
+        "13 litmus: too many observed N ",
+        "13 litmus: too many locations N ",
+        "13 litmus: too many threads N ",
+        "13 litmus: other places N ",
+        "13 litmus: no leaf N ",
     ] {
         assert!(rt; has_start(&faults, start), "{start}");
     }
