@@ -1,10 +1,12 @@
 -- Different leaves, one more at a time: there is room for 64.
-use Rattle.std.proofs.Common.{◌≡◌, ℕ, ◌+◌, ◌-◌, ◌<◌, List, [], ◌∷◌, ◌++◌, length, drop, set, refl, sym, ap, ◌∙◌, arith, length-append}
-use Rattle.std.specs.Prelude.{Bool, true, false, ◌||◌, nat_eq, replicate}
+use Rattle.std.proofs.Common.{◌≡◌, ℕ, ◌+◌, ◌-◌, ◌<◌, ◌≤◌, cond, Some, None, Ok, Err, Option, List, [], ◌∷◌, ◌++◌, length, drop, set, refl, sym, ap, ◌∙◌, arith, length-append}
+use Rattle.std.specs.Prelude.{Bool, true, false, ◌||◌, nat_eq, nat_le, replicate}
 use Rattle.std.specs.List.{AllByRecursion, IsDistinct, list_any}
 use Rattle.std.proofs.lemmas.Bool.Decides.{nat_tests}
 use Rattle.std.proofs.lemmas.List.{drop-replicate, drop-set-lt, drop_more, length-set}
 use Rattle.std.proofs.lemmas.Map.Steps.{length-le_from_distinct_below}
+use Rattle.ddm_text.specs.declared.reading.NumberRefusal.TheVariants.{TooLarge}
+use Rattle.ddm_text.specs.Numbers.{at_most, number_of, number_stop, unless_stopped, value_of}
 use Rattle.litmus_files.specs.declared.places.Places.TheInside.{Inside}
 use Rattle.litmus_files.specs.Different.{AreLeaves}
 use Rattle.litmus_files.specs.Kept.{IsPadded}
@@ -68,3 +70,14 @@ padded_more p leaf h few =
           drop-set-lt (p.count + 1) p.leaves p.count leaf (omega arith) ∙ sym behind ∙ ap (drop 1) h.zeros ∙ drop-replicate 1 (64 - p.count) 0
           ∙ ap (λ (n : ℕ). replicate n 0) fewer;
     }
+
+limited : (stop : Option ℕ) (value most n : ℕ) → unless_stopped stop (at_most most value) ≡ Ok n → n ≤ most
+limited (Some place) value most n is = absurd (let wrong : ⊥ = cc in wrong)
+limited None value most n is = by_test (nat_le value most) refl is where
+  by_test : (b : Bool) → nat_le value most ≡ b → (cond b (Ok value) (Err TooLarge)) ≡ Ok n → n ≤ most
+  by_test true fits same = let here : value ≡ n = cc in let within : value ≤ most = grind (arith, nat_tests) in omega (arith, here, within)
+  by_test false fits same = absurd (let wrong : ⊥ = cc in wrong)
+
+pub number_within : (bytes : List ℕ) (most n : ℕ) → Ok n ≡ number_of bytes most → n ≤ most
+unfolding number_of
+number_within bytes most n is = limited (number_stop bytes) (value_of bytes) most n (sym is)

@@ -1,0 +1,2 @@
+pub mod WordsFit
+pub mod Listed

@@ -1,0 +1,4 @@
+pub mod Lists
+pub mod FlatHarts
+pub mod Ends
+pub mod Logs
