@@ -41,7 +41,7 @@ both-told None test t P taken holds = tt
 both-told (Some f) None t P taken holds = tt
 both-told (Some f) (Some g) t P taken holds = rw taken holds
 
-accepts-tree : (tree : Option (List ℕ)) (t : TreeValue) → AcceptedAs tree_at tree t → Accepts tree_at tree
+pub accepts-tree : (tree : Option (List ℕ)) (t : TreeValue) → AcceptedAs tree_at tree t → Accepts tree_at tree
 accepts-tree None t taken = tt
 accepts-tree (Some f) t taken = rw taken refl
 

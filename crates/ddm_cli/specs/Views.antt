@@ -1,6 +1,7 @@
 -- A command as the code has it, and as it is said.
-use Rattle.std.specs.Prelude.{map}
+use Rattle.std.specs.Prelude.{ℕ, List, map, None, Option}
 use Rattle.std.specs.String.{string_bytes}
+use Rattle.litmus_files.specs.Places.{places_in}
 use Rattle.ddm_cli.specs.Commands as said
 use Rattle.ddm_cli.specs.declared.command.Check.{Check}
 use Rattle.ddm_cli.specs.declared.command.Command.{Command}
@@ -13,6 +14,8 @@ use Rattle.ddm_cli.specs.declared.command.Assembly.{Assembly}
 use Rattle.ddm_cli.specs.declared.command.ImageSource.{ImageSource}
 use Rattle.ddm_cli.specs.declared.command.ImageSource.TheVariants.{File as ImageFile, Made}
 use Rattle.ddm_cli.specs.declared.command.Paged.{Paged}
+use Rattle.ddm_cli.specs.declared.command.Placing.{Placing}
+use Rattle.ddm_cli.specs.declared.command.Placing.TheVariants.{InOrder, Named}
 use Rattle.ddm_cli.specs.declared.command.Recorded.{Recorded}
 use Rattle.ddm_cli.specs.declared.command.Run.{Run}
 use Rattle.ddm_cli.specs.declared.command.Resumption.{Resumption}
@@ -50,8 +53,13 @@ survey_from s = record { image = s.image.now; tree = s.tree.now; kind = s.kind; 
 abbrev pub paged_from : Paged → said.Paged
 paged_from p = record { image = p.image.now; tree = p.tree.now; schedule = p.schedule.now }
 
+-- the leaves of threads that are said
+abbrev pub placing_from : Placing → Option (List ℕ)
+placing_from InOrder = None
+placing_from (Named word) = places_in word.now
+
 abbrev pub assembly_from : Assembly → said.Assembly
-assembly_from a = record { test = a.test.now; tree = a.tree.now; runs = a.runs; places = a.places }
+assembly_from a = record { test = a.test.now; tree = a.tree.now; runs = a.runs; places = placing_from a.placing }
 
 abbrev pub command_from : Command → said.Command
 command_from (ToRun prints run) = said.to_run prints (run_from run)

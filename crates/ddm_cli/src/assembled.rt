@@ -6,16 +6,16 @@ ghost use Rattle.ddm_cli.specs.DdmOutside.Causes.{HasCause};
 ghost use Rattle.ddm_cli.specs.Assembling.{AssemblyCause, NoAssembly, TestCause, assembled_at};
 ghost use Rattle.ddm_cli.specs.Commands.{to_assemble};
 ghost use Rattle.ddm_cli.specs.Top.{HasAccepted, WritesAccepted};
-ghost use Rattle.ddm_cli.specs.Views.{assembly_from};
+ghost use Rattle.ddm_cli.specs.Views.{assembly_from, placing_from};
 
-use crate::command::Assembly;
+use crate::command::{Assembly, Placing};
 use crate::files::tree_file;
 use crate::of_ddm_outside::{Failed, Shelf, Sink};
 use crate::of_report::write_all;
 use crate::of_tree_config::TreeConfig;
 use crate::reading::{ReadError, read_buffer, read_whole};
 use crate::status::Status;
-use litmus_files::{FileRefusal, TestRefusal, Unassembled, assembled};
+use litmus_files::{FileRefusal, Places, TestRefusal, Unassembled, assembled, read_places};
 use std::alloc::Global;
 
 /// The most bytes of a litmus test that are read.
@@ -44,6 +44,16 @@ pub fn test_file<F: Shelf>(
     }
 }
 
+// The leaves that the words say; None where each thread is on the leaf of its own number.
+fn places_of(placing: Placing<'_>) -> Option<Places>
+    ensures { result ≡ placing_from placing.entry }
+{
+    match placing {
+        Placing::InOrder => None,
+        Placing::Named(word) => read_places(word.as_bytes()),
+    }
+}
+
 // The image of the test of a file's bytes.
 #[tactic(auto, unfolding(crate::specs::Assembling::assembled_at))]
 fn image_said(
@@ -57,7 +67,8 @@ fn image_said(
     ensures cause { IfErr result (AssemblyCause (assembly_from assembly.entry) tree.now (Some file.now)) }
 {
     let leaves = tree.nodes.harts();
-    match assembled(alloc, assembly.runs, file, leaves, tree.item_bytes, assembly.places) {
+    let places = places_of(assembly.placing);
+    match assembled(alloc, assembly.runs, file, leaves, tree.item_bytes, places) {
         Ok(made) => Ok(made.image),
         Err(Unassembled::Refused(refusal)) => Err(Status::Litmus(refusal)),
         Err(Unassembled::NoMemory) => Err(Status::NoMemory),

@@ -3,7 +3,7 @@
 ghost use Rattle.std.specs.Prelude.{◌≡◌};
 ghost use Rattle.ddm_cli.specs.Printed.{is_summary, is_trace};
 
-use litmus_files::{Places, Runs};
+use litmus_files::Runs;
 use outcomes::of_recording::SeedKind;
 
 /// What is printed of a run.
@@ -124,14 +124,23 @@ pub struct Paged<'a> {
     pub schedule: &'a str,
 }
 
+/// On which leaves the threads of a litmus test are.
+#[derive(Clone, Copy)]
+pub enum Placing<'a> {
+    /// Each on the leaf of its own number.
+    InOrder,
+    /// On those that this word names.
+    Named(&'a str),
+}
+
 /// Whose image is put out: that of the litmus test of a file for the tree of a file, for the runs of seeds or of all schedules, its
-/// threads on these leaves, where some are said.
+/// threads on these leaves.
 #[derive(Clone, Copy)]
 pub struct Assembly<'a> {
     pub test: &'a str,
     pub tree: &'a str,
     pub runs: Runs,
-    pub places: Option<Places>,
+    pub placing: Placing<'a>,
 }
 
 /// What the program says of itself.

@@ -9,14 +9,14 @@ ghost use Rattle.ddm_cli.specs.Commands.{help_topic, is_all, kind_named, made_ru
 ghost use Rattle.ddm_cli.specs.Commands.{places_said, runs_survey, test_assembly};
 ghost use Rattle.ddm_cli.specs.Commands.{seed_list, seed_measure, seed_record, seed_run, seeds_survey, tables_named};
 ghost use Rattle.ddm_cli.specs.Commands.{to_say, word_at};
-ghost use Rattle.ddm_cli.specs.Views.{command_from};
+ghost use Rattle.ddm_cli.specs.Views.{command_from, placing_from};
 
 use crate::command::{
-    About, Assembly, Check, Command, ImageSource, Paged, Prints, Recorded, Resumption, Run, Seeds,
-    Survey, TurnSource,
+    About, Assembly, Check, Command, ImageSource, Paged, Placing, Prints, Recorded, Resumption,
+    Run, Seeds, Survey, TurnSource,
 };
 use crate::of_ddm_text::read_decimal;
-use litmus_files::{Places, Runs, read_places};
+use litmus_files::{Runs, read_places};
 use outcomes::of_recording::SeedKind;
 
 const MOST_TURNS: u64 = 1_048_576;
@@ -381,16 +381,16 @@ fn file_page(words: &[String]) -> Result<Command<'_>, u32>
 }
 
 /// The places that the word there names, where there is one.
-fn places_at(words: &[String], k: usize) -> Result<Option<Places>, u32>
+fn placing_at(words: &[String], k: usize) -> Result<Placing<'_>, u32>
     requires { k ≤ 7 }
     ensures { MatchResult result
-        (λ places. places_said (slice_get (map string_bytes words.now) k) ≡ Some places)
+        (λ placing. places_said (slice_get (map string_bytes words.now) k) ≡ Some (placing_from placing))
         (λ at. (at ≡ k) × (places_said (slice_get (map string_bytes words.now) k) ≡ None)) }
 {
     match words.get(k) {
-        None => Ok(None),
+        None => Ok(Placing::InOrder),
         Some(word) => match read_places(word.as_bytes()) {
-            Some(places) => Ok(Some(places)),
+            Some(_) => Ok(Placing::Named(word.as_str())),
             None => Err(k as u32),
         },
     }
@@ -407,7 +407,7 @@ fn placed_assembly(words: &[String], runs: Runs, k: usize) -> Result<Command<'_>
 {
     let test = word(words, 1)?;
     let tree = word(words, 2)?;
-    let places = places_at(words, k)?;
+    let placing = placing_at(words, k)?;
     if words.len() > k + 1 {
         return Err(k as u32 + 1);
     }
@@ -415,7 +415,7 @@ fn placed_assembly(words: &[String], runs: Runs, k: usize) -> Result<Command<'_>
         test,
         tree,
         runs,
-        places,
+        placing,
     }))
 }
 
