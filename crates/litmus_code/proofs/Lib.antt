@@ -1,2 +1,3 @@
 pub mod WordsFit
 pub mod Listed
+pub mod Threads

@@ -1,5 +1,5 @@
 -- The word of a valid instruction has 32 bits.
-use Rattle.std.proofs.Common.{◌≡◌, ℕ, ◌+◌, ◌*◌, ◌-◌, ◌/◌, ◌%◌, ◌^◌, ◌<◌, ◌≤◌, arith}
+use Rattle.std.proofs.Common.{◌≡◌, ℕ, ◌+◌, ◌*◌, ◌/◌, ◌%◌, ◌^◌, ◌<◌, ◌≤◌, arith}
 use Rattle.std.specs.Prelude.{Bool, true, false, ℤ, pos, negsuc}
 use Rattle.rv_decode.specs.declared.instructions.AmoOp.{AmoOp}
 use Rattle.rv_decode.specs.declared.instructions.BranchOp.{BranchOp}

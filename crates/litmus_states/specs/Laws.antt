@@ -1,7 +1,7 @@
 -- What the log of a test says, in the words of its reader.
 -- Letters: t is a tree, i an image, m its machine, s a flat machine, x an item, k a thread, h a hart's number.
 -- To be believed: it is what is claimed of every log.
-use Rattle.std.specs.Prelude.{◌≡◌, ℕ, ◌<◌, Bool, List, length, map, Ok, Err, slice_index}
+use Rattle.std.specs.Prelude.{◌≡◌, ℕ, ◌+◌, ◌<◌, Bool, List, length, map, sum_by, Ok, Err, slice_index}
 use Rattle.std.specs.List.{AllByRecursion}
 use Rattle.std.specs.Option.{option_map_or}
 use Rattle.outcome_model.specs.DdmTypes.CodeMap.{CodeWord}
@@ -21,9 +21,9 @@ use Rattle.recording_model.specs.declared.SeedKind.{SeedKind}
 use Rattle.litmus_model.specs.declared.parts.Target.{Target}
 use Rattle.litmus_model.specs.declared.parts.Target.TheVariants.{Register, Location}
 use Rattle.litmus_model.specs.Image.{address_of}
-use Rattle.litmus_model.specs.StatesText.{StateLine}
+use Rattle.litmus_model.specs.StatesText.{RunStates, StateLine}
 use Rattle.litmus_model.specs.Test.{Test}
-use Rattle.litmus_states.specs.States.{states_in, states_table, test_ends}
+use Rattle.litmus_states.specs.States.{run_states, states_in, states_table, test_ends}
 
 -- ---- each state
 
@@ -59,3 +59,14 @@ StatesAreCounted =
     (first count : ℕ)
     → IsTable first (test_ends test item_bytes places kind shape turns m first count)
     (states_table test item_bytes places kind shape turns m first count)
+
+abbrev pub state_times : StateLine → ℕ
+state_times s = s.times
+
+-- each run is counted once: for the state to which it came, or as one that hadn't ended, or as one in which a hart faulted
+abbrev pub RunsAreComplete : Type 0
+RunsAreComplete =
+    (test : Test) (item_bytes : ℕ) (places : List ℕ) (kind : SeedKind) (shape : ShapeView) (turns : ℕ) (m : MachineValue)
+    (first count : ℕ)
+    → let r : RunStates = run_states count (states_table test item_bytes places kind shape turns m first count) in
+    sum_by state_times r.states + r.unfinished + r.faulted ≡ count
