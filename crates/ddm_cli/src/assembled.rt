@@ -88,7 +88,10 @@ fn assembled_said<F: Shelf>(
 {
     let mut buffer = read_buffer(alloc)?;
     let tree = tree_file(alloc, files, assembly.tree, &mut buffer)?;
-    let file = test_file(alloc, files, assembly.test, &mut buffer)?;
+    let file = match test_file(alloc, files, assembly.test, &mut buffer) {
+        Ok(file) => file,
+        Err(status) => return Err(status),
+    };
     image_said(alloc, assembly, &tree, &file)
 }
 
