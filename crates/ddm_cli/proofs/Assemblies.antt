@@ -17,7 +17,7 @@ use Rattle.litmus_files.specs.declared.assembling.FileRefusal.{FileRefusal}
 use Rattle.litmus_files.specs.declared.assembling.FileRefusal.TheVariants.{Test, Image}
 use Rattle.ddm_cli.specs.Assembling.{AssemblyCause, NoAssembly, TestCause, assembled_at, assembled_of}
 use Rattle.ddm_cli.specs.Causes.{AcceptedAs, Accepts, TreeCause}
-use Rattle.ddm_cli.specs.Commands.{Assembly, to_assemble}
+use Rattle.ddm_words.specs.Commands.{Assembly, to_assemble}
 use Rattle.ddm_cli.specs.Parts.{tree_at}
 use Rattle.ddm_cli.specs.Top.{Both, NothingFailed, command_text}
 use Rattle.ddm_cli.specs.declared.status.Status.{Status}

@@ -11,7 +11,7 @@ use Rattle.litmus_files.specs.Assembled.{file_image}
 use Rattle.litmus_files.specs.declared.assembling.FileRefusal.{FileRefusal}
 use Rattle.litmus_files.specs.declared.assembling.FileRefusal.TheVariants.{Test}
 use Rattle.ddm_cli.specs.Causes.{Accepts}
-use Rattle.ddm_cli.specs.Commands.{Assembly}
+use Rattle.ddm_words.specs.Commands.{Assembly}
 use Rattle.ddm_cli.specs.Parts.{tree_at}
 use Rattle.ddm_cli.specs.declared.status.Status.{Status}
 use Rattle.ddm_cli.specs.declared.status.Status.TheVariants.{Litmus, NoMemory, ReadFault, Tree, UnreadTest}

@@ -2,9 +2,9 @@ pub mod AnyMachine
 pub mod AnyRuns
 pub mod BusLaws
 pub mod DdmOutside
-pub mod DdmText
 pub mod DdmTree
 pub mod DdmTypes
+pub mod DdmWords
 pub mod ElfLoad
 pub mod FileLaws
 pub mod JamLaws
@@ -21,11 +21,9 @@ pub mod TextModel
 pub mod TreeConfig
 pub mod TreeModel
 pub mod TreeRules
-pub mod About
 pub mod Assembling
 pub mod Causes
 pub mod Code
-pub mod Commands
 pub mod Listing
 pub mod LitmusLines
 pub mod Lists
@@ -42,5 +40,4 @@ pub mod Tables
 pub mod Together
 pub mod Told
 pub mod Top
-pub mod Views
 pub mod Opened

@@ -4,11 +4,11 @@ ghost use Rattle.std.specs.Prelude.{◌≡◌, ◌<◌, ◌≤◌, ℕ, List, Ok
 ghost use Rattle.ddm_cli.specs.BusLaws.IsTree.{IsTree};
 ghost use Rattle.ddm_cli.specs.DdmOutside.Causes.{HasCause};
 ghost use Rattle.ddm_cli.specs.Assembling.{AssemblyCause, NoAssembly, TestCause, assembled_at};
-ghost use Rattle.ddm_cli.specs.Commands.{to_assemble};
+ghost use Rattle.ddm_words.specs.Commands.{to_assemble};
 ghost use Rattle.ddm_cli.specs.Top.{HasAccepted, WritesAccepted};
-ghost use Rattle.ddm_cli.specs.Views.{assembly_from, placing_from};
+ghost use Rattle.ddm_words.specs.Views.{assembly_from, placing_from};
 
-use crate::command::{Assembly, Placing};
+use ddm_words::{Assembly, Placing};
 use crate::files::tree_file;
 use crate::of_ddm_outside::{Failed, Shelf, Sink};
 use crate::of_report::write_all;

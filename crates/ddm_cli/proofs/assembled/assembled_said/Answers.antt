@@ -2,7 +2,7 @@ use Rattle.std.proofs.Common.{◌≡◌, Ok, Some, subst}
 use Rattle.std.specs.Prelude.{IfSome}
 use Rattle.std.proofs.lemmas.Result.{IfErr-weaker, IfOk-weaker}
 use Rattle.ddm_cli.specs.Assembling.{AssemblyCause, assembled_at}
-use Rattle.ddm_cli.specs.Views.{assembly_from}
+use Rattle.ddm_words.specs.Views.{assembly_from}
 use Rattle.ddm_cli.proofs.Assemblies.{assembly-refused, cause-of-file, image-taken, of-file, test-refused}
 use Rattle.ddm_cli.proofs.assembled.assembled_said.Goals as goal
 
