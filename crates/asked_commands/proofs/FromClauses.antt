@@ -6,12 +6,12 @@ use Rattle.std.proofs.lemmas.List.{length-take}
 use Rattle.ddm_outside.specs.Causes.{Rose}
 use Rattle.ddm_outside.specs.SoundShelf.{told_of}
 use Rattle.ddm_outside.specs.declared.sound_shelf.SoundShelf.{SoundShelf}
-use Rattle.ddm_cli.specs.Commands.{Check, Command, ImageFrom, Resumption, Run, TurnsFrom, image_named, image_made, schedule_named, turns_seeded, paged_named, to_run, to_list, to_check, to_resume, to_survey, to_record, to_measure, to_survey_runs, to_join, to_page, to_say, command_of, first_run, paged_run, recorded_run, surveyed_run}
+use Rattle.ddm_cli.specs.DdmWords.Commands.{Check, Command, ImageFrom, Resumption, Run, TurnsFrom, image_named, image_made, schedule_named, turns_seeded, paged_named, to_run, to_list, to_check, to_resume, to_survey, to_record, to_measure, to_survey_runs, to_join, to_page, to_say, command_of, first_run, paged_run, recorded_run, surveyed_run}
 use Rattle.ddm_cli.specs.Causes.{TreeCause}
 use Rattle.ddm_cli.specs.Told.{ScheduleGiven, image_faults, image_told, schedule_faults, schedule_told}
 use Rattle.ddm_cli.specs.Top.{Accepted, CantRead, CantReadFor, CantReadRest, Completes, HasAccepted, HasText, NotAccepted, NothingFailed, StatusHasCause, command_text, text_of}
-use Rattle.ddm_cli.specs.declared.command.Prints.{Prints}
-use Rattle.ddm_cli.specs.declared.command.Prints.TheVariants.{Report}
+use Rattle.ddm_cli.specs.DdmWords.declared.command.Prints.{Prints}
+use Rattle.ddm_cli.specs.DdmWords.declared.command.Prints.TheVariants.{Report}
 use Rattle.ddm_cli.specs.declared.status.Status.{Status}
 use Rattle.ddm_cli.specs.declared.status.Status.TheVariants.{Done, Usage, ImageLoad, ImageBuild, Tree, Schedule, Witness, Checkpoint, SmallLists, Table, ReadFault, UnreadTable, WriteFault, NoMemory}
 use Rattle.asked_commands.specs.ReportCrate.declared.roles.FileRole.{FileRole}

@@ -4,9 +4,9 @@ use Rattle.std.specs.Prelude.{◌≡◌, ◌⊎◌, ◌+◌, ◌<◌, ℕ, List,
 use Rattle.ddm_outside.specs.MemorySink.{count_of, held_bytes}
 use Rattle.ddm_outside.specs.SoundShelf.{told_of}
 use Rattle.ddm_outside.specs.declared.sound_shelf.SoundShelf.{SoundShelf}
-use Rattle.ddm_cli.specs.Commands.{Run, to_run, command_of}
+use Rattle.ddm_cli.specs.DdmWords.Commands.{Run, to_run, command_of}
 use Rattle.ddm_cli.specs.Top.{command_text}
-use Rattle.ddm_cli.specs.declared.command.Prints.{Prints}
+use Rattle.ddm_cli.specs.DdmWords.declared.command.Prints.{Prints}
 use Rattle.ddm_cli.specs.declared.status.Status.{Status}
 use Rattle.ddm_cli.specs.declared.status.Status.TheVariants.{Done, NoMemory, ReadFault, UnreadTable, WriteFault}
 use Rattle.asked_commands.specs.Room.{room_bytes}

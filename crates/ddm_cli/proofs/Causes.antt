@@ -10,7 +10,7 @@ use Rattle.ddm_cli.specs.Causes.{AcceptedAs}
 use Rattle.ddm_cli.specs.Lists.{list_refused}
 use Rattle.ddm_cli.specs.Parts.{Parts, parts_for, tree_at}
 use Rattle.ddm_cli.specs.Top.{AcceptsParts}
-use Rattle.ddm_cli.specs.declared.command.Prints.{Prints}
+use Rattle.ddm_words.specs.declared.command.Prints.{Prints}
 use Rattle.ddm_cli.proofs.Judged.{both_taken}
 
 -- the parts of files that were taken, where no list is refused

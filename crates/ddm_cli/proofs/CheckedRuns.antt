@@ -12,7 +12,7 @@ use Rattle.ddm_cli.specs.Printed.{legal_line}
 use Rattle.ddm_cli.specs.Together.{HasCheckedWitness, IsAskable, ReportsPassTheCheck}
 use Rattle.ddm_cli.specs.Told.{ScheduleGiven}
 use Rattle.ddm_cli.specs.Top.{text_at, text_with, verdict_in}
-use Rattle.ddm_cli.specs.declared.command.Prints.TheVariants.{Report}
+use Rattle.ddm_words.specs.declared.command.Prints.TheVariants.{Report}
 use Rattle.witness_check.proofs.Accepting as accepting
 use Rattle.witness_check.specs.Reader.{setting_of}
 use Rattle.witness_check.specs.Start as check

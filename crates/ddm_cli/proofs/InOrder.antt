@@ -17,7 +17,7 @@ use Rattle.ddm_cli.specs.ElfLoad.declared.refusal.ImageRefusal.{ImageRefusal}
 use Rattle.ddm_cli.specs.TreeConfig.TreeFile.{tree_of}
 use Rattle.ddm_cli.specs.TreeConfig.declared.refusal.TreeRefusal.{TreeRefusal}
 use Rattle.ddm_cli.specs.RecordingModel.Recording.{recording_of}
-use Rattle.ddm_cli.specs.Commands.{Command, Recorded, Seeds, Survey, to_run, to_list, to_check, to_resume, to_survey, to_record, to_measure, to_survey_runs, to_join, to_page, to_say, command_of, paged_run}
+use Rattle.ddm_words.specs.Commands.{Command, Recorded, Seeds, Survey, to_run, to_list, to_check, to_resume, to_survey, to_record, to_measure, to_survey_runs, to_join, to_page, to_say, command_of, paged_run}
 use Rattle.ddm_cli.specs.Parts.{Parts, if_started, parts_in, parts_of, resumed_at, tree_at, turns_at, turns_of}
 use Rattle.ddm_cli.specs.Told.{ScheduleGiven, image_told, schedule_told}
 use Rattle.ddm_cli.specs.Top.{Both, EndsAreRuns, FilesInOrder, GoesOnInOrder, IsInOrder, OutcomesAreRuns, RecordedInOrder, RestInOrder, RunsInOrder, RunIsWitnessed, TurnsInOrder}

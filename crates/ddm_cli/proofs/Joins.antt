@@ -14,7 +14,7 @@ use Rattle.joining.specs.TextModel.Schedule.{pieces_at}
 use Rattle.joining.specs.JoinModel.declared.table.TableRefusal.TheVariants.{OtherKind, TooLong, TooManyRuns}
 use Rattle.std.proofs.lemmas.Bool.{lt-ltb}
 use Rattle.joining.specs.JoinModel.declared.table.TableRefusal.{TableRefusal}
-use Rattle.ddm_cli.specs.Commands.{to_join}
+use Rattle.ddm_words.specs.Commands.{to_join}
 use Rattle.ddm_cli.specs.Told.{files_told}
 use Rattle.ddm_cli.specs.Tables.{TableCause, table_status}
 use Rattle.ddm_cli.specs.Top.{CantReadTable, FileFailed, NoJoin, NothingFailed, command_text}

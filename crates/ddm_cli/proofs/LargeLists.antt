@@ -16,8 +16,8 @@ use Rattle.ddm_cli.proofs.JamLaws.LargeLists.{made-large, run-large}
 use Rattle.ddm_cli.specs.DdmTree.Machine.{MachineState}
 use Rattle.ddm_cli.specs.Lists.{list_refused, small_list}
 use Rattle.ddm_cli.specs.Parts.{HasStart, IsStart}
-use Rattle.ddm_cli.specs.declared.command.Prints.{Prints}
-use Rattle.ddm_cli.specs.declared.command.Prints.TheVariants.{Unjamming}
+use Rattle.ddm_words.specs.declared.command.Prints.{Prints}
+use Rattle.ddm_words.specs.declared.command.Prints.TheVariants.{Unjamming}
 use Rattle.ddm_cli.proofs.EachTurn.{starts}
 
 -- ---- the items of the start

@@ -28,7 +28,7 @@ use Rattle.ddm_cli.specs.Parts.{IsStart, Parts, before_page, if_large, parts_for
 use Rattle.ddm_cli.specs.Reads.{HasRead}
 use Rattle.ddm_cli.specs.Told.{ScheduleGiven, paged}
 use Rattle.ddm_cli.specs.Top.{AcceptsRun, HasPage, text_at, text_of, text_with}
-use Rattle.ddm_cli.specs.declared.command.Prints.TheVariants.{Report}
+use Rattle.ddm_words.specs.declared.command.Prints.TheVariants.{Report}
 use Rattle.ddm_cli.specs.declared.status.Status.{Status}
 use Rattle.ddm_cli.specs.declared.status.Status.TheVariants.{Done, Usage, ImageLoad, ImageBuild, Tree, Schedule, Witness, Checkpoint, SmallLists, Table, ReadFault, UnreadTable, WriteFault, NoMemory}
 use Rattle.ddm_cli.proofs.Causes.{takes_parts}

@@ -9,10 +9,10 @@ use Rattle.ddm_cli.specs.ScheduleLog.Shapes.{shape_view}
 use Rattle.ddm_cli.specs.RecordingModel.Recording.{record_text}
 use Rattle.ddm_cli.specs.RecordingCrate.Runs.{IsStart as CanBegin}
 use Rattle.ddm_cli.specs.Causes.{AcceptedAs}
-use Rattle.ddm_cli.specs.Commands.{Recorded}
+use Rattle.ddm_words.specs.Commands.{Recorded}
 use Rattle.ddm_cli.specs.Parts.{HasStart, IsStart, tree_at}
 use Rattle.ddm_cli.specs.Top.{AcceptsParts, Both, record_at, record_of}
-use Rattle.ddm_cli.specs.declared.command.Prints.TheVariants.{Report}
+use Rattle.ddm_words.specs.declared.command.Prints.TheVariants.{Report}
 use Rattle.ddm_cli.proofs.Causes.{takes_parts}
 use Rattle.ddm_cli.proofs.Judged.{both_taken}
 use Rattle.ddm_cli.proofs.Surveys.{has_shape}

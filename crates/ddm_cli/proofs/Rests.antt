@@ -21,7 +21,7 @@ use Rattle.checkpoint.specs.declared.ResumeRefusal.TheVariants as resume
 use Rattle.ddm_cli.specs.ReportCrate.declared.roles.FileRole.TheVariants.{ImageFile, TreeFile, ScheduleFile, WitnessFile, CheckpointFile}
 use Rattle.ddm_cli.proofs.ReportCrate.Written.{rose_before}
 use Rattle.ddm_cli.specs.Causes.{AcceptedAs, CheckpointCause, IsUnresumed, IsUnscheduled, ScheduleCause}
-use Rattle.ddm_cli.specs.Commands.{Resumption}
+use Rattle.ddm_words.specs.Commands.{Resumption}
 use Rattle.ddm_cli.specs.Made.{CanGoOn}
 use Rattle.ddm_cli.specs.Parts.{HasStart, IsStart, Parts, resumed_at, tree_at, turns_at}
 use Rattle.ddm_cli.specs.Printed.{resumed_report}
@@ -30,7 +30,7 @@ use Rattle.ddm_cli.specs.declared.reading.ReadError.{ReadError}
 use Rattle.ddm_cli.specs.declared.reading.ReadError.TheVariants as read
 use Rattle.std.proofs.lemmas.Option.{IfSome_then}
 use Rattle.ddm_cli.specs.Top.{AcceptsCheckpoint, AcceptsRest, HasResumedText, NoRest, WithParts, WithResumed}
-use Rattle.ddm_cli.specs.declared.command.Prints.TheVariants.{Report}
+use Rattle.ddm_words.specs.declared.command.Prints.TheVariants.{Report}
 use Rattle.ddm_cli.specs.declared.status.Status.{Status}
 use Rattle.ddm_cli.specs.declared.status.Status.TheVariants.{Done, Usage, ImageLoad, ImageBuild, Tree, Schedule, Witness, Checkpoint, SmallLists, Table, ReadFault, UnreadTable, WriteFault, NoMemory}
 use Rattle.ddm_cli.proofs.Causes.{takes_parts}

@@ -19,7 +19,7 @@ use Rattle.ddm_cli.specs.Printed.{resumed_report, saved_after}
 use Rattle.ddm_cli.specs.Together.{SavedRunsAreWhole}
 use Rattle.ddm_cli.specs.Told.{ScheduleGiven}
 use Rattle.ddm_cli.specs.Top.{rest_with, resumed_text, resumed_with, text_at, text_of, text_with}
-use Rattle.ddm_cli.specs.declared.command.Prints.TheVariants.{Report, Checkpoint}
+use Rattle.ddm_words.specs.declared.command.Prints.TheVariants.{Report, Checkpoint}
 use Rattle.ddm_cli.proofs.RunsInPieces.{machine_append}
 use Rattle.ddm_cli.proofs.StartNames.{start_depth}
 use Rattle.ddm_cli.proofs.TreeModel.FrameKept.{run-frame}

@@ -7,10 +7,10 @@ use Rattle.ddm_cli.specs.DdmTree.Machine.{MachineState}
 use Rattle.ddm_cli.specs.ScheduleLog.Shapes.{shape_view}
 use Rattle.ddm_cli.specs.SurveyModel.Survey.{survey_text}
 use Rattle.ddm_cli.specs.Causes.{AcceptedAs}
-use Rattle.ddm_cli.specs.Commands.{Survey}
+use Rattle.ddm_words.specs.Commands.{Survey}
 use Rattle.ddm_cli.specs.Parts.{IsStart, tree_at}
 use Rattle.ddm_cli.specs.Top.{AcceptsParts, Both, survey_at, survey_of}
-use Rattle.ddm_cli.specs.declared.command.Prints.TheVariants.{Report}
+use Rattle.ddm_words.specs.declared.command.Prints.TheVariants.{Report}
 use Rattle.ddm_cli.proofs.Causes.{takes_parts}
 use Rattle.ddm_cli.proofs.Judged.{both_taken}
 

@@ -31,11 +31,12 @@ use Rattle.ddm_cli.specs.TextModel.Report.{report_of, summary_of}
 use Rattle.ddm_cli.specs.TextModel.Trace.{trace_from, trace_text}
 use Rattle.ddm_cli.proofs.TextModel.Numbered.{trace_from-append}
 use Rattle.ddm_cli.specs.Made.{CanCount, CanGoOn, HasAllMade, HasMade, counts_plus, kept_of}
-use Rattle.ddm_cli.specs.Printed.{Writes, is_summary, is_trace, made_text, printed, resumed_report, unjam_line, unjam_text_of, saved_after}
+use Rattle.ddm_words.specs.Kept.{is_summary, is_trace}
+use Rattle.ddm_cli.specs.Printed.{Writes, made_text, printed, resumed_report, unjam_line, unjam_text_of, saved_after}
 use Rattle.ddm_cli.specs.Reads.{HasRead, WritesRan, WritesRest}
 use Rattle.ddm_cli.specs.Told.{ScheduleGiven, written}
-use Rattle.ddm_cli.specs.declared.command.Prints.{Prints}
-use Rattle.ddm_cli.specs.declared.command.Prints.TheVariants.{Report, Trace, Summary, Unjamming, Checkpoint}
+use Rattle.ddm_words.specs.declared.command.Prints.{Prints}
+use Rattle.ddm_words.specs.declared.command.Prints.TheVariants.{Report, Trace, Summary, Unjamming, Checkpoint}
 use Rattle.std.specs.Option.{option_map}
 use Rattle.std.proofs.lemmas.Result.{IfOk-weaker}
 use Rattle.ddm_cli.proofs.Taken.{file_accepted, ran_report, ran_summary, ran_trace}

@@ -10,7 +10,7 @@ use Rattle.ddm_cli.specs.Parts.{Parts, if_large, items_of, parts_for, parts_of, 
 use Rattle.ddm_cli.specs.Together.{SeedsPrintTheSame}
 use Rattle.ddm_cli.specs.Told.{written, seeded}
 use Rattle.ddm_cli.specs.Top.{list_at, text_at, text_with}
-use Rattle.ddm_cli.specs.declared.command.Prints.{Prints}
+use Rattle.ddm_words.specs.declared.command.Prints.{Prints}
 use Rattle.ddm_cli.proofs.FileLaws.Schedules.{seeded-read}
 use Rattle.ddm_cli.proofs.AcceptedParts.{parts-told, tree-told}
 

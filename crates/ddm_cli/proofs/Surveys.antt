@@ -11,10 +11,10 @@ use Rattle.ddm_cli.specs.ScheduleLog.Shapes.{shape_view}
 use Rattle.ddm_cli.specs.OutcomeModel.Outcomes.{outcomes_text}
 use Rattle.outcomes.specs.Runs.{HasShape, IsStart as CanBegin}
 use Rattle.ddm_cli.specs.Causes.{AcceptedAs}
-use Rattle.ddm_cli.specs.Commands.{Seeds}
+use Rattle.ddm_words.specs.Commands.{Seeds}
 use Rattle.ddm_cli.specs.Parts.{HasStart, IsStart, tree_at}
 use Rattle.ddm_cli.specs.Top.{AcceptsParts, Both, outcomes_at, outcomes_of}
-use Rattle.ddm_cli.specs.declared.command.Prints.TheVariants.{Report}
+use Rattle.ddm_words.specs.declared.command.Prints.TheVariants.{Report}
 use Rattle.ddm_cli.proofs.Causes.{takes_parts}
 use Rattle.ddm_cli.proofs.Judged.{both_taken}
 use Rattle.ddm_cli.proofs.StartNames.{named_parts, start_ops}

@@ -23,15 +23,15 @@ use Rattle.ddm_cli.specs.ElfLoad.ElfFile.{image_of}
 use Rattle.ddm_cli.specs.TreeConfig.declared.refusal.TreeKey.{TreeKey}
 use Rattle.ddm_cli.specs.ReportCrate.declared.roles.FileRole.TheVariants.{ImageFile, TreeFile, ScheduleFile, WitnessFile, CheckpointFile}
 use Rattle.ddm_cli.specs.Causes.{AcceptedAs, Accepts, HasSmallList, IsRefused, IsUnscheduled, RanCause, ScheduleCause}
-use Rattle.ddm_cli.specs.Commands.{Run, TurnsFrom, schedule_named, paged_named, turns_seeded}
+use Rattle.ddm_words.specs.Commands.{Run, TurnsFrom, schedule_named, paged_named, turns_seeded}
 use Rattle.ddm_cli.specs.Lists.{list_refused}
 use Rattle.ddm_cli.specs.Parts.{IsStart, Parts, tree_at, turns_at, turns_of}
 use Rattle.ddm_cli.specs.Printed.{printed}
 use Rattle.ddm_cli.specs.Reads.{IsRanBy}
 use Rattle.ddm_cli.specs.Told.{ScheduleGiven, written, image_told, schedule_faults, schedule_told}
 use Rattle.ddm_cli.specs.Top.{AcceptsParts, AcceptsRun, Both, HasText, NoRun, RefusesImage, list_at, list_of, text_at}
-use Rattle.ddm_cli.specs.declared.command.Prints.{Prints}
-use Rattle.ddm_cli.specs.declared.command.Prints.TheVariants.{Report, Trace, Summary}
+use Rattle.ddm_words.specs.declared.command.Prints.{Prints}
+use Rattle.ddm_words.specs.declared.command.Prints.TheVariants.{Report, Trace, Summary}
 use Rattle.ddm_cli.specs.declared.status.Status.{Status}
 use Rattle.ddm_cli.specs.declared.status.Status.TheVariants.{Done, Usage, ImageLoad, ImageBuild, Tree, Schedule, Witness, Checkpoint, SmallLists, Table, ReadFault, UnreadTable, WriteFault, NoMemory}
 use Rattle.ddm_cli.proofs.ReportCrate.Written.{rose_before}

@@ -16,7 +16,7 @@ use Rattle.witness_check.specs.declared.refusal.CheckRefusal.TheVariants as refu
 use Rattle.witness_check.proofs.Accepting.{accepted_is}
 use Rattle.witness_check.proofs.Pieces.{answer_is, nothing_yet, piece_more, refused_stays}
 use Rattle.ddm_cli.specs.Causes.{AcceptedAs, ComesTo, WitnessCause}
-use Rattle.ddm_cli.specs.Commands.{Check}
+use Rattle.ddm_words.specs.Commands.{Check}
 use Rattle.ddm_cli.specs.Parts.{BeginsFor, setting_at, setting_in, tree_at}
 use Rattle.ddm_cli.specs.Printed.{legal_line}
 use Rattle.ddm_cli.specs.Reads.{HasFed, IsBehind}

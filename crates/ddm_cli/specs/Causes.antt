@@ -23,7 +23,7 @@ use Rattle.witness_check.specs.declared.refusal.CheckRefusal.{CheckRefusal}
 use Rattle.ddm_cli.specs.Lists.{list_refused}
 use Rattle.ddm_cli.specs.Parts.{before_page, items_of, parts_in}
 use Rattle.ddm_cli.specs.Told.{ScheduleGiven, written, paged, seeded}
-use Rattle.ddm_cli.specs.declared.command.Prints.{Prints}
+use Rattle.ddm_words.specs.declared.command.Prints.{Prints}
 use Rattle.ddm_cli.specs.declared.status.Status.{Status}
 use Rattle.ddm_cli.specs.declared.status.Status.TheVariants.{ImageLoad, ImageBuild, Tree, Schedule, Witness}
 use Rattle.ddm_cli.specs.declared.status.Status.TheVariants.{Checkpoint, SmallLists, ReadFault, NoMemory}

@@ -2,9 +2,9 @@ pub mod AnyMachine
 pub mod AnyRuns
 pub mod BusLaws
 pub mod DdmOutside
-pub mod DdmText
 pub mod DdmTree
 pub mod DdmTypes
+pub mod DdmWords
 pub mod ElfLoad
 pub mod FileLaws
 pub mod JamLaws
@@ -21,10 +21,8 @@ pub mod TextModel
 pub mod TreeConfig
 pub mod TreeModel
 pub mod TreeRules
-pub mod About
 pub mod Causes
 pub mod Code
-pub mod Commands
 pub mod Listing
 pub mod Lists
 pub mod Made
@@ -40,5 +38,4 @@ pub mod Tables
 pub mod Together
 pub mod Told
 pub mod Top
-pub mod Views
 pub mod Opened

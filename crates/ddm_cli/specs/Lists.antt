@@ -4,8 +4,8 @@ use Rattle.std.specs.Prelude.{ℕ, ◌*◌, nat_lt, Option, Some, None, if◌the
 use Rattle.ddm_cli.specs.DdmTypes.declared.sizes.TreeSizes.{TreeSizes}
 use Rattle.ddm_cli.specs.TreeConfig.declared.refusal.TreeKey.{TreeKey}
 use Rattle.ddm_cli.specs.TreeConfig.declared.refusal.TreeKey.TheVariants as key
-use Rattle.ddm_cli.specs.declared.command.Prints.{Prints}
-use Rattle.ddm_cli.specs.declared.command.Prints.TheVariants.{Report, Trace, Summary, Unjamming, Checkpoint}
+use Rattle.ddm_words.specs.declared.command.Prints.{Prints}
+use Rattle.ddm_words.specs.declared.command.Prints.TheVariants.{Report, Trace, Summary, Unjamming, Checkpoint}
 
 -- the first of the lists that has less than eight places for each of so many items
 abbrev pub small_list : TreeSizes → ℕ → Option TreeKey

@@ -20,7 +20,7 @@ use Rattle.witness_check.specs.Start as check
 use Rattle.witness_check.specs.Start.{Setting}
 use Rattle.ddm_cli.specs.Lists.{list_refused}
 use Rattle.ddm_cli.specs.Told.{ScheduleGiven, written, paged, seeded}
-use Rattle.ddm_cli.specs.declared.command.Prints.{Prints}
+use Rattle.ddm_words.specs.declared.command.Prints.{Prints}
 
 -- what a machine is made from
 pub record Parts : Type 0 where

@@ -13,9 +13,9 @@ use Rattle.ddm_cli.specs.ReportCrate.Appends.{Appends, AppendsPart}
 use Rattle.checkpoint.specs.Resumed.{Resumed}
 use Rattle.checkpoint.specs.Saved.{saved}
 use Rattle.ddm_cli.specs.Made.{counts_plus}
-use Rattle.ddm_cli.specs.declared.command.Prints.{Prints}
+use Rattle.ddm_words.specs.declared.command.Prints.{Prints}
 use Rattle.ddm_cli.specs.declared.making.Made.{Made}
-use Rattle.ddm_cli.specs.declared.command.Prints.TheVariants.{Report, Trace, Summary, Unjamming, Checkpoint}
+use Rattle.ddm_words.specs.declared.command.Prints.TheVariants.{Report, Trace, Summary, Unjamming, Checkpoint}
 
 -- the turn of a bus that goes on, if a leaf waits
 abbrev pub unjam_line : Option Turn → List ℕ
@@ -43,22 +43,6 @@ unfoldable pub resumed_report : List Turn → Resumed → List ℕ
 resumed_report turns r =
     let run = run_of turns r.machine in
     report_of (view_of (depth_of r.machine) (counts_plus r.counts (counts_of run.answers)) run.machine)
-
--- a trace is kept while the turns are made
-abbrev pub is_trace : Prints → Bool
-is_trace Report = false
-is_trace Trace = true
-is_trace Summary = false
-is_trace Unjamming = false
-is_trace Checkpoint = false
-
--- no operation is printed, so each is forgotten once it is counted
-abbrev pub is_summary : Prints → Bool
-is_summary Report = false
-is_summary Trace = false
-is_summary Summary = true
-is_summary Unjamming = false
-is_summary Checkpoint = false
 
 -- the same of turns that were made, whose trace is kept where it is asked for
 abbrev pub made_text : Prints → MachineValue → Made → List ℕ

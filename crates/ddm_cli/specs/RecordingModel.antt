@@ -1,3 +1,2 @@
 -- Of `recording_model`, what this crate names.
 pub use Rattle.outcomes.specs.RecordingModel.Recording
-pub use Rattle.outcomes.specs.RecordingModel.declared

@@ -17,8 +17,8 @@ use Rattle.ddm_cli.specs.Parts.{Parts, parts_of, resumed_at, tree_at, turns_at, 
 use Rattle.ddm_cli.specs.Printed.{legal_line}
 use Rattle.ddm_cli.specs.Told.{ScheduleGiven, written, paged, seeded}
 use Rattle.ddm_cli.specs.Top.{list_at, resumed_text, text_at, text_of, verdict_of}
-use Rattle.ddm_cli.specs.declared.command.Prints.{Prints}
-use Rattle.ddm_cli.specs.declared.command.Prints.TheVariants.{Report, Checkpoint}
+use Rattle.ddm_words.specs.declared.command.Prints.{Prints}
+use Rattle.ddm_words.specs.declared.command.Prints.TheVariants.{Report, Checkpoint}
 
 -- a seed is given with as many turns as words may ask for
 abbrev pub IsAskable : ScheduleGiven → Type 0

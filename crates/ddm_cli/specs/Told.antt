@@ -3,7 +3,7 @@
 use Rattle.std.specs.Prelude.{ℕ, List, [], ◌∷◌, Option, Some, option_and_then}
 use Rattle.std.specs.Option.{option_map}
 use Rattle.ddm_cli.specs.MadeImage.MadeImage.{made_image}
-use Rattle.ddm_cli.specs.Commands.{ImageFrom, TurnsFrom, image_named, image_made, schedule_named, paged_named, turns_seeded}
+use Rattle.ddm_words.specs.Commands.{ImageFrom, TurnsFrom, image_named, image_made, schedule_named, paged_named, turns_seeded}
 
 -- the bytes of a schedule file; those of one that a page is made of; or a seed and a number of turns
 pub data ScheduleGiven : Type 0 where

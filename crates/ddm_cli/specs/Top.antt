@@ -26,7 +26,7 @@ use Rattle.checkpoint.specs.declared.ResumeRefusal.{ResumeRefusal}
 use Rattle.witness_check.specs.Start.{Setting, check_of}
 use Rattle.witness_check.specs.Witness.{IsAccepted}
 use Rattle.witness_check.specs.declared.refusal.CheckRefusal.{CheckRefusal}
-use Rattle.ddm_cli.specs.About.{about_text}
+use Rattle.ddm_words.specs.About.{about_text}
 use Rattle.ddm_cli.specs.Causes.{Accepts, HasNoSetting, HasSmallList, IsRefused, IsUnloaded, IsUnresumed}
 use Rattle.ddm_cli.specs.Causes.{IsUnscheduled, IsUnstarted, TreeCause}
 use Rattle.ddm_cli.specs.OutcomeModel.FlatOutcome.{IsLegalOutcome}
@@ -34,10 +34,10 @@ use Rattle.ddm_cli.specs.OutcomeModel.Outcomes.{outcome_table, outcomes_text}
 use Rattle.ddm_cli.specs.OutcomeModel.Table.{OutcomeLine}
 use Rattle.ddm_cli.specs.RecordingModel.Recording.{record_text, recording_of}
 use Rattle.ddm_cli.specs.MeasureModel.Text.{measure_text}
-use Rattle.ddm_cli.specs.Commands.{Check, Command, ImageFrom, Paged, Recorded, Resumption, Run, Seeds, Survey}
-use Rattle.ddm_cli.specs.Commands.{TurnsFrom, to_run, to_list, to_check, to_resume, to_survey, to_record, to_measure}
-use Rattle.ddm_cli.specs.Commands.{to_survey_runs, to_join, to_page, to_say, command_of, first_run, paged_run}
-use Rattle.ddm_cli.specs.Commands.{recorded_run, surveyed_run}
+use Rattle.ddm_words.specs.Commands.{Check, Command, ImageFrom, Paged, Recorded, Resumption, Run, Seeds, Survey}
+use Rattle.ddm_words.specs.Commands.{TurnsFrom, to_run, to_list, to_check, to_resume, to_survey, to_record, to_measure}
+use Rattle.ddm_words.specs.Commands.{to_survey_runs, to_join, to_page, to_say, command_of, first_run, paged_run}
+use Rattle.ddm_words.specs.Commands.{recorded_run, surveyed_run}
 use Rattle.ddm_cli.specs.SurveyModel.Laws.{IsLegalEnd}
 use Rattle.ddm_cli.specs.SurveyModel.Survey.{survey_table, survey_text}
 use Rattle.ddm_cli.specs.Pages.{paged_text}
@@ -48,8 +48,8 @@ use Rattle.ddm_cli.specs.Refusals.{tree_line_head, tree_line_rest, witness_line}
 use Rattle.joining.specs.JoinModel.Files.{joined_text, sum_of}
 use Rattle.ddm_cli.specs.TableLines.{table_line, unread_table_line}
 use Rattle.ddm_cli.specs.Told.{ScheduleGiven, files_told, image_faults, image_told, schedule_faults, schedule_told}
-use Rattle.ddm_cli.specs.declared.command.Prints.{Prints}
-use Rattle.ddm_cli.specs.declared.command.Prints.TheVariants.{Report}
+use Rattle.ddm_words.specs.declared.command.Prints.{Prints}
+use Rattle.ddm_words.specs.declared.command.Prints.TheVariants.{Report}
 use Rattle.ddm_cli.specs.declared.status.Status.{Status}
 use Rattle.ddm_cli.specs.declared.status.Status.TheVariants.{Done, Usage, ImageLoad, ImageBuild, Tree, Schedule}
 use Rattle.ddm_cli.specs.declared.status.Status.TheVariants.{Witness, Checkpoint, SmallLists, Table, ReadFault}

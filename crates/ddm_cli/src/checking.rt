@@ -5,13 +5,13 @@ ghost use Rattle.ddm_cli.specs.DdmOutside.Causes.{HasCause};
 ghost use Rattle.witness_check.specs.Reader.{begun};
 ghost use Rattle.witness_check.specs.Start.{Setting};
 ghost use Rattle.ddm_cli.specs.Causes.{ComesTo, WitnessCause};
-ghost use Rattle.ddm_cli.specs.Commands.{to_check};
+ghost use Rattle.ddm_words.specs.Commands.{to_check};
 ghost use Rattle.ddm_cli.specs.Printed.{legal_line};
 ghost use Rattle.ddm_cli.specs.Reads.{IsBehind};
 ghost use Rattle.ddm_cli.specs.Top.{HasAccepted, NoVerdict, WritesAccepted};
-ghost use Rattle.ddm_cli.specs.Views.{check_from};
+ghost use Rattle.ddm_words.specs.Views.{check_from};
 
-use crate::command::Check;
+use ddm_words::Check;
 use crate::files::{setting_file, tree_file};
 use crate::of_ddm_outside::{Failed, Shelf, Sink};
 use crate::of_report::{FileRole, Line, write_all};

@@ -8,12 +8,12 @@ ghost use Rattle.ddm_cli.specs.MadeImage.MadeImage.{made_image};
 ghost use Rattle.ddm_cli.specs.AnyMachine.Any.{machine_state};
 ghost use Rattle.ddm_cli.specs.AnyMachine.Kind.{kind_of};
 ghost use Rattle.ddm_cli.specs.Causes.{ImageCause, AcceptedAs, Accepts, JudgedImageCause, NoImage, TreeCause};
-ghost use Rattle.ddm_cli.specs.Commands.{IsMakeable};
+ghost use Rattle.ddm_words.specs.Commands.{IsMakeable};
 ghost use Rattle.ddm_cli.specs.Parts.{BeginsFor, IsStart, parts_in, tree_at};
 ghost use Rattle.ddm_cli.specs.Told.{image_faults, image_told};
-ghost use Rattle.ddm_cli.specs.Views.{image_from};
+ghost use Rattle.ddm_words.specs.Views.{image_from};
 
-use crate::command::ImageSource;
+use ddm_words::ImageSource;
 use crate::judging::{begun, built, built_twice, judged_tree, loaded};
 use crate::limits::{MOST_IMAGE, MOST_TREE};
 use crate::of_ddm_outside::Shelf;

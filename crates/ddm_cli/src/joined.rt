@@ -4,7 +4,7 @@ ghost use Rattle.std.specs.Prelude.{◌≡◌, ◌≤◌, ◌<◌, ◌+◌, ℕ,
 ghost use Rattle.std.specs.Prelude.{MatchResult, OnErr, OnOk, sum_by};
 ghost use Rattle.std.specs.String.{string_bytes};
 ghost use Rattle.ddm_cli.specs.DdmOutside.Causes.{HasCause, Rose};
-ghost use Rattle.ddm_cli.specs.Commands.{IsInRange, to_join};
+ghost use Rattle.ddm_words.specs.Commands.{IsInRange, to_join};
 ghost use Rattle.ddm_cli.specs.Tables.{TableCause, table_status};
 ghost use Rattle.ddm_cli.specs.Told.{files_told};
 ghost use Rattle.ddm_cli.specs.Top.{HasAccepted, NoJoin, WritesAccepted};

@@ -1,9 +1,7 @@
 //! The command line as a library: from the words of a command and the files that they name to what is printed.
 #![tactic(auto)]
 
-mod about;
 mod checking;
-mod command;
 mod fault;
 mod files;
 mod joined;
@@ -30,6 +28,7 @@ mod reading;
 mod recorded;
 mod refusal_lines;
 mod resuming;
+mod saying;
 mod status;
 mod survey;
 mod surveying;
@@ -37,14 +36,13 @@ mod table_lines;
 mod top;
 mod unjamming;
 mod unknown_key;
-mod words;
 
 pub use crate::of_report::FileRole;
 pub use crate::of_schedule_log::ScheduleRefusal;
 pub use checkpoint::ResumeRefusal;
+pub use ddm_words::first_fault;
 pub use fault::tell;
 pub use joining::of_join_model::TableRefusal;
 pub use status::{Status, code};
 pub use top::ddm_main;
 pub use witness_check::CheckRefusal;
-pub use words::first_fault;

@@ -2,12 +2,12 @@
 
 ghost use Rattle.std.specs.Prelude.{◌≡◌, IfErr, IfOk, OnErr};
 ghost use Rattle.ddm_cli.specs.DdmOutside.Causes.{HasCause};
-ghost use Rattle.ddm_cli.specs.Commands.{IsInRange, recorded_run, to_measure};
+ghost use Rattle.ddm_words.specs.Commands.{IsInRange, recorded_run, to_measure};
 ghost use Rattle.ddm_cli.specs.Top.{HasAccepted, NoRun, WritesAccepted};
-ghost use Rattle.ddm_cli.specs.Views.{recorded_from};
-ghost use Rattle.ddm_cli.specs.declared.command.Prints.TheVariants.{Report};
+ghost use Rattle.ddm_words.specs.Views.{recorded_from};
+ghost use Rattle.ddm_words.specs.declared.command.Prints.TheVariants.{Report};
 
-use crate::command::Recorded;
+use ddm_words::Recorded;
 use crate::files::{image_file, tree_file};
 use crate::of_any_machine::release;
 use crate::of_ddm_outside::{Failed, Shelf, Sink};

@@ -11,14 +11,14 @@ ghost use Rattle.ddm_cli.specs.TextModel.ReadBack.{GivesTurnsOf};
 ghost use Rattle.ddm_cli.specs.ScheduleLog.Shapes.{shape_view};
 ghost use Rattle.film_runs.specs.ValueLaws.Images.{IsOfBytes};
 ghost use Rattle.ddm_cli.specs.Causes.{AcceptedAs, ImageCause, IsUnscheduled, ScheduleCause};
-ghost use Rattle.ddm_cli.specs.Commands.{paged_run, to_page};
+ghost use Rattle.ddm_words.specs.Commands.{paged_run, to_page};
 ghost use Rattle.ddm_cli.specs.Paging.{IsPageBy};
 ghost use Rattle.ddm_cli.specs.Parts.{HasStart, IsStart, before_page, turns_at};
 ghost use Rattle.ddm_cli.specs.Top.{HasAccepted, NoRun, WritesAccepted};
-ghost use Rattle.ddm_cli.specs.Views.{paged_from};
-ghost use Rattle.ddm_cli.specs.declared.command.Prints.TheVariants.{Report};
+ghost use Rattle.ddm_words.specs.Views.{paged_from};
+ghost use Rattle.ddm_words.specs.declared.command.Prints.TheVariants.{Report};
 
-use crate::command::Paged;
+use ddm_words::Paged;
 use crate::files::{image_in, tree_file};
 use crate::judging::built;
 use crate::of_any_machine::release;

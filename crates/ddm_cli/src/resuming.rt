@@ -7,13 +7,13 @@ ghost use Rattle.ddm_cli.specs.AnyRuns.Run.{AreBelow};
 ghost use Rattle.checkpoint.specs.Resumed.{resumed};
 ghost use Rattle.ddm_cli.specs.DdmOutside.Causes.{HasCause};
 ghost use Rattle.ddm_cli.specs.Causes.{CheckpointCause, IsUnscheduled, ScheduleCause};
-ghost use Rattle.ddm_cli.specs.Commands.{to_resume};
+ghost use Rattle.ddm_words.specs.Commands.{to_resume};
 ghost use Rattle.ddm_cli.specs.Made.{CanGoOn};
 ghost use Rattle.ddm_cli.specs.Reads.{ReadCause, WritesRest, checkpoint_status, unread};
 ghost use Rattle.ddm_cli.specs.Top.{NoRest, WritesAccepted};
-ghost use Rattle.ddm_cli.specs.Views.{resumption_from};
+ghost use Rattle.ddm_words.specs.Views.{resumption_from};
 
-use crate::command::Resumption;
+use ddm_words::Resumption;
 use crate::files::{image_file, tree_file};
 use crate::making::schedule_made;
 use crate::of_any_machine::release;

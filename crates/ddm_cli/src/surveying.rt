@@ -7,13 +7,13 @@ ghost use Rattle.ddm_cli.specs.AnyMachine.Kind.{kind_of};
 ghost use Rattle.ddm_cli.specs.DdmOutside.Causes.{HasCause};
 ghost use Rattle.ddm_cli.specs.ScheduleLog.Shapes.{shape_view};
 ghost use Rattle.ddm_cli.specs.OutcomeModel.Outcomes.{outcomes_text};
-ghost use Rattle.ddm_cli.specs.Commands.{IsInRange, first_run, to_survey};
+ghost use Rattle.ddm_words.specs.Commands.{IsInRange, first_run, to_survey};
 ghost use Rattle.ddm_cli.specs.Parts.{HasStart};
 ghost use Rattle.ddm_cli.specs.Top.{HasAccepted, NoRun, WritesAccepted};
-ghost use Rattle.ddm_cli.specs.Views.{seeds_from};
-ghost use Rattle.ddm_cli.specs.declared.command.Prints.TheVariants.{Report};
+ghost use Rattle.ddm_words.specs.Views.{seeds_from};
+ghost use Rattle.ddm_words.specs.declared.command.Prints.TheVariants.{Report};
 
-use crate::command::Seeds;
+use ddm_words::Seeds;
 use crate::files::{image_machines, tree_file};
 use crate::of_any_machine::release;
 use crate::of_ddm_outside::{Failed, Shelf, Sink};

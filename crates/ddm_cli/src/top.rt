@@ -4,14 +4,14 @@ ghost use Rattle.std.specs.Prelude.{◌≡◌, ◌≤◌, length, map, IfOk, IfE
 ghost use Rattle.ddm_cli.specs.DdmOutside.Causes.{HasCause};
 ghost use Rattle.std.specs.String.{string_bytes};
 ghost use Rattle.ddm_cli.specs.Causes.{TreeCause};
-ghost use Rattle.ddm_cli.specs.Commands.{IsInRange, to_list, to_run};
+ghost use Rattle.ddm_words.specs.Commands.{IsInRange, to_list, to_run};
 ghost use Rattle.ddm_cli.specs.Top.{Completes, HasAccepted, NoRun, NotAccepted, Offers, RunIsWitnessed};
 ghost use Rattle.ddm_cli.specs.Top.{StatusHasCause, WritesAccepted, fault_line, status_of};
-ghost use Rattle.ddm_cli.specs.Views.{command_from, run_from};
+ghost use Rattle.ddm_words.specs.Views.{command_from, run_from};
 
-use crate::about::write_about;
+use crate::saying::write_about;
 use crate::checking::write_check;
-use crate::command::{Command, Prints, Run};
+use ddm_words::{Command, Prints, Run};
 use crate::fault::tell;
 use crate::files::{image_machine, tree_file};
 use crate::joined::write_joined;
@@ -28,7 +28,7 @@ use crate::resuming::write_resumed;
 use crate::status::Status;
 use crate::survey::write_survey;
 use crate::surveying::write_outcomes;
-use crate::words::command_said;
+use ddm_words::command_said;
 use std::alloc::Global;
 
 // Runs a machine and writes what is printed of it, or answers the status without a text.

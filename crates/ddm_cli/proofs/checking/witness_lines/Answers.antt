@@ -1,6 +1,6 @@
 use Rattle.std.proofs.Common.{◌≤◌, arith}
 use Rattle.std.proofs.lemmas.Result.{IfErr-weaker, IfOk-weaker}
-use Rattle.ddm_cli.specs.Views.{check_from}
+use Rattle.ddm_words.specs.Views.{check_from}
 use Rattle.ddm_cli.proofs.Verdicts.{verdict_refused, verdict_taken}
 use Rattle.ddm_cli.proofs.checking.witness_lines.Goals as goal
 

@@ -11,7 +11,7 @@ use Rattle.ddm_cli.specs.ScheduleLog.Shapes.{shape_view}
 use Rattle.ddm_cli.specs.AnyMachine.Any.{machine_state}
 use Rattle.ddm_cli.specs.DdmTree.Machine.{MachineState}
 use Rattle.ddm_cli.specs.Made.{kept_of}
-use Rattle.ddm_cli.specs.Printed.{is_summary, is_trace}
+use Rattle.ddm_words.specs.Kept.{is_summary, is_trace}
 use Rattle.ddm_cli.proofs.RunsInPieces.{all_made, block_kept, more_made, next_block, nothing_made}
 use Rattle.ddm_cli.proofs.making.seed_made.Goals as goal
 

@@ -4,7 +4,7 @@ use Rattle.ddm_cli.specs.DdmTypes.declared.turns.Turn.{Turn}
 use Rattle.ddm_cli.specs.AnyMachine.Any.{machine_state}
 use Rattle.ddm_cli.specs.TextModel.Run.{no_counts}
 use Rattle.ddm_cli.specs.Made.{HasMade}
-use Rattle.ddm_cli.specs.Printed.{is_summary, is_trace}
+use Rattle.ddm_words.specs.Kept.{is_summary, is_trace}
 use Rattle.ddm_cli.proofs.making.seed_made.Given as goal
 
 -- some turns were made, and the others are left; the block has places

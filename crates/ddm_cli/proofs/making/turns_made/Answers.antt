@@ -3,7 +3,7 @@ use Rattle.std.proofs.lemmas.Result.{IfErr-weaker}
 use Rattle.ddm_cli.specs.TextModel.declared.RunCounts.{RunCounts}
 use Rattle.ddm_cli.specs.AnyMachine.Any.{machine_state}
 use Rattle.ddm_cli.specs.Made.{CanGoOn}
-use Rattle.ddm_cli.specs.Printed.{is_summary, is_trace}
+use Rattle.ddm_words.specs.Kept.{is_summary, is_trace}
 use Rattle.ddm_cli.proofs.RunsInPieces.{file_made}
 use Rattle.ddm_cli.proofs.Taken.{file_caused}
 use Rattle.ddm_cli.proofs.making.turns_made.Goals as goal

@@ -4,7 +4,7 @@ use Rattle.ddm_cli.specs.AnyMachine.Any.{machine_state}
 use Rattle.ddm_cli.specs.ScheduleLog.Shapes.{shape_view}
 use Rattle.ddm_cli.specs.RecordingCrate.Runs.{IsStart as CanBegin}
 use Rattle.ddm_cli.specs.MeasureModel.Text.{measure_text}
-use Rattle.ddm_cli.specs.Views.{recorded_from}
+use Rattle.ddm_words.specs.Views.{recorded_from}
 use Rattle.ddm_cli.proofs.Measures.{measures_taken}
 use Rattle.ddm_cli.proofs.Records.{can_record}
 use Rattle.ddm_cli.proofs.measured.measured_said.Goals as goal

@@ -1,10 +1,10 @@
 use Rattle.std.proofs.Common.{◌≤◌, arith}
 use Rattle.std.proofs.lemmas.Result.{IfErr-weaker, IfOk-weaker}
 use Rattle.ddm_cli.specs.AnyMachine.Any.{machine_state}
-use Rattle.ddm_cli.specs.Commands.{paged_run}
+use Rattle.ddm_words.specs.Commands.{paged_run}
 use Rattle.ddm_cli.specs.DdmTypes.ItemTable.{item_count}
-use Rattle.ddm_cli.specs.Views.{paged_from}
-use Rattle.ddm_cli.specs.declared.command.Prints.TheVariants.{Report}
+use Rattle.ddm_words.specs.Views.{paged_from}
+use Rattle.ddm_words.specs.declared.command.Prints.TheVariants.{Report}
 use Rattle.ddm_cli.proofs.Pages.{page_taken, paged_caused}
 use Rattle.ddm_cli.proofs.Taken.{ran_refused}
 use Rattle.ddm_cli.proofs.paging.page_said.Goals as goal

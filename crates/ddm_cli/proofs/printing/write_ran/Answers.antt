@@ -3,9 +3,9 @@ use Rattle.ddm_cli.specs.DdmTypes.ItemTable.{item_count}
 use Rattle.ddm_cli.specs.AnyMachine.Any.{machine_state}
 use Rattle.ddm_cli.specs.TextModel.Run.{no_counts}
 use Rattle.ddm_cli.specs.Lists.{list_refused}
-use Rattle.ddm_cli.specs.Printed.{is_summary}
+use Rattle.ddm_words.specs.Kept.{is_summary}
 use Rattle.ddm_cli.specs.Told.{schedule_told}
-use Rattle.ddm_cli.specs.Views.{turns_from}
+use Rattle.ddm_words.specs.Views.{turns_from}
 use Rattle.ddm_cli.proofs.LargeLists.{stay_large}
 use Rattle.ddm_cli.proofs.RunsInPieces.{made_written, retired_counted, starts_on, unforgotten}
 use Rattle.ddm_cli.proofs.StartNames.{start_ops}

@@ -4,7 +4,7 @@ use Rattle.ddm_cli.specs.AnyMachine.Any.{machine_state}
 use Rattle.ddm_cli.specs.ScheduleLog.Shapes.{shape_view}
 use Rattle.ddm_cli.specs.RecordingCrate.Runs.{IsStart as CanBegin}
 use Rattle.ddm_cli.specs.RecordingModel.Recording.{record_text}
-use Rattle.ddm_cli.specs.Views.{recorded_from}
+use Rattle.ddm_words.specs.Views.{recorded_from}
 use Rattle.ddm_cli.proofs.Records.{can_record, record_taken}
 use Rattle.ddm_cli.proofs.recorded.recorded_said.Goals as goal
 

@@ -5,7 +5,7 @@ use Rattle.ddm_cli.specs.Causes.{CheckpointCause}
 use Rattle.std.proofs.lemmas.Result.{IfErr-weaker, IfOk-weaker}
 use Rattle.checkpoint.specs.Resumed.{Resumed}
 use Rattle.ddm_cli.specs.AnyMachine.Any.{machine_state}
-use Rattle.ddm_cli.specs.Views.{resumption_from}
+use Rattle.ddm_words.specs.Views.{resumption_from}
 use Rattle.ddm_cli.proofs.Rests.{checkpoint_refused, gives_from, goes_on, rest_refused, rest_taken}
 use Rattle.ddm_cli.proofs.resuming.write_resumed.Goals as goal
 

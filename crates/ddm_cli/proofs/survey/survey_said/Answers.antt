@@ -1,5 +1,5 @@
 use Rattle.ddm_cli.specs.AnyMachine.Any.{machine_state}
-use Rattle.ddm_cli.specs.Views.{survey_from}
+use Rattle.ddm_words.specs.Views.{survey_from}
 use Rattle.ddm_cli.proofs.RunSurveys.{ends_taken}
 use Rattle.ddm_cli.proofs.survey.survey_said.Goals as goal
 

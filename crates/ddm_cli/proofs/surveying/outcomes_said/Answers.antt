@@ -1,5 +1,5 @@
 use Rattle.ddm_cli.specs.AnyMachine.Any.{machine_state}
-use Rattle.ddm_cli.specs.Views.{seeds_from}
+use Rattle.ddm_words.specs.Views.{seeds_from}
 use Rattle.ddm_cli.proofs.Surveys.{survey_taken}
 use Rattle.ddm_cli.proofs.surveying.outcomes_said.Goals as goal
 

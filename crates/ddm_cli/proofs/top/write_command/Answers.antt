@@ -1,5 +1,5 @@
 use Rattle.std.proofs.Common.{refl}
-use Rattle.ddm_cli.specs.About.{about_text}
+use Rattle.ddm_words.specs.About.{about_text}
 use Rattle.ddm_cli.proofs.top.write_command.Goals as goal
 
 pub returns-in-About-clause-written : goal.returns-in-About-clause-written

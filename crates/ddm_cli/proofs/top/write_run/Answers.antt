@@ -2,7 +2,7 @@ use Rattle.std.proofs.Common.{◌≤◌}
 use Rattle.std.proofs.lemmas.Result.{IfErr-weaker}
 use Rattle.ddm_cli.specs.AnyMachine.Any.{machine_state}
 use Rattle.ddm_cli.specs.Told.{schedule_faults}
-use Rattle.ddm_cli.specs.Views.{run_from}
+use Rattle.ddm_words.specs.Views.{run_from}
 use Rattle.ddm_cli.proofs.Taken.{all_taken, later_faults, ok_besides, ran_refused}
 use Rattle.ddm_cli.proofs.top.write_run.Goals as goal
 

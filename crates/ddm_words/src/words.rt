@@ -3,19 +3,19 @@
 ghost use Rattle.std.specs.Prelude.{◌≡◌, ◌≤◌, ◌<◌, ◌*◌, ◌+◌, map, length, Err, IfOk, IfSome, IsOk, MatchResult, None};
 ghost use Rattle.std.specs.Prelude.{Ok, Some, option_and_then, slice_get};
 ghost use Rattle.std.specs.String.{string_bytes};
-ghost use Rattle.ddm_cli.specs.Commands.{IsInRange, about_named, command_of, ends_at, file_check, file_page};
-ghost use Rattle.ddm_cli.specs.Commands.{file_resume, file_run, help_alone, help_asked, help_of_two, help_said};
-ghost use Rattle.ddm_cli.specs.Commands.{help_topic, kind_named, made_run, named_command, number_in, runs_survey};
-ghost use Rattle.ddm_cli.specs.Commands.{seed_list, seed_measure, seed_record, seed_run, seeds_survey, tables_named};
-ghost use Rattle.ddm_cli.specs.Commands.{to_say, word_at};
-ghost use Rattle.ddm_cli.specs.Views.{command_from};
+ghost use Rattle.ddm_words.specs.Commands.{IsInRange, about_named, command_of, ends_at, file_check, file_page};
+ghost use Rattle.ddm_words.specs.Commands.{file_resume, file_run, help_alone, help_asked, help_of_two, help_said};
+ghost use Rattle.ddm_words.specs.Commands.{help_topic, kind_named, made_run, named_command, number_in, runs_survey};
+ghost use Rattle.ddm_words.specs.Commands.{seed_list, seed_measure, seed_record, seed_run, seeds_survey, tables_named};
+ghost use Rattle.ddm_words.specs.Commands.{to_say, word_at};
+ghost use Rattle.ddm_words.specs.Views.{command_from};
 
 use crate::command::{
     About, Check, Command, ImageSource, Paged, Prints, Recorded, Resumption, Run, Seeds, Survey,
     TurnSource,
 };
-use crate::of_ddm_text::read_decimal;
-use outcomes::of_recording::SeedKind;
+use ddm_text::read_decimal;
+use recording_model::SeedKind;
 
 const MOST_TURNS: u64 = 1_048_576;
 

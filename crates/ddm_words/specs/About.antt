@@ -1,8 +1,8 @@
 -- What the program says of itself.
 use Rattle.std.specs.Prelude.{ℕ, List, [], ◌∷◌, ◌++◌, codes}
 use Rattle.std.specs.List.{flat_map}
-use Rattle.ddm_cli.specs.declared.command.About.{About}
-use Rattle.ddm_cli.specs.declared.command.About.TheVariants as about
+use Rattle.ddm_words.specs.declared.command.About.{About}
+use Rattle.ddm_words.specs.declared.command.About.TheVariants as about
 
 -- a text of these lines
 abbrev lines_of : List (List ℕ) → List ℕ

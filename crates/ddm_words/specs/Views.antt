@@ -1,24 +1,24 @@
 -- A command as the code has it, and as it is said.
 use Rattle.std.specs.Prelude.{map}
 use Rattle.std.specs.String.{string_bytes}
-use Rattle.ddm_cli.specs.Commands as said
-use Rattle.ddm_cli.specs.declared.command.Check.{Check}
-use Rattle.ddm_cli.specs.declared.command.Command.{Command}
-use Rattle.ddm_cli.specs.declared.command.Command.TheVariants.{Run as ToRun, List as ToList, Check as ToCheck}
-use Rattle.ddm_cli.specs.declared.command.Command.TheVariants.{Resume as ToResume, Outcomes as ToSurvey}
-use Rattle.ddm_cli.specs.declared.command.Command.TheVariants.{Record as ToRecord, Measure as ToMeasure}
-use Rattle.ddm_cli.specs.declared.command.Command.TheVariants.{Survey as ToSurveyRuns, Join as ToJoin, Page as ToPage}
-use Rattle.ddm_cli.specs.declared.command.Command.TheVariants.{About as ToSay}
-use Rattle.ddm_cli.specs.declared.command.ImageSource.{ImageSource}
-use Rattle.ddm_cli.specs.declared.command.ImageSource.TheVariants.{File as ImageFile, Made}
-use Rattle.ddm_cli.specs.declared.command.Paged.{Paged}
-use Rattle.ddm_cli.specs.declared.command.Recorded.{Recorded}
-use Rattle.ddm_cli.specs.declared.command.Run.{Run}
-use Rattle.ddm_cli.specs.declared.command.Resumption.{Resumption}
-use Rattle.ddm_cli.specs.declared.command.Seeds.{Seeds}
-use Rattle.ddm_cli.specs.declared.command.Survey.{Survey}
-use Rattle.ddm_cli.specs.declared.command.TurnSource.{TurnSource}
-use Rattle.ddm_cli.specs.declared.command.TurnSource.TheVariants.{File as ScheduleFile, Seeded}
+use Rattle.ddm_words.specs.Commands as said
+use Rattle.ddm_words.specs.declared.command.Check.{Check}
+use Rattle.ddm_words.specs.declared.command.Command.{Command}
+use Rattle.ddm_words.specs.declared.command.Command.TheVariants.{Run as ToRun, List as ToList, Check as ToCheck}
+use Rattle.ddm_words.specs.declared.command.Command.TheVariants.{Resume as ToResume, Outcomes as ToSurvey}
+use Rattle.ddm_words.specs.declared.command.Command.TheVariants.{Record as ToRecord, Measure as ToMeasure}
+use Rattle.ddm_words.specs.declared.command.Command.TheVariants.{Survey as ToSurveyRuns, Join as ToJoin, Page as ToPage}
+use Rattle.ddm_words.specs.declared.command.Command.TheVariants.{About as ToSay}
+use Rattle.ddm_words.specs.declared.command.ImageSource.{ImageSource}
+use Rattle.ddm_words.specs.declared.command.ImageSource.TheVariants.{File as ImageFile, Made}
+use Rattle.ddm_words.specs.declared.command.Paged.{Paged}
+use Rattle.ddm_words.specs.declared.command.Recorded.{Recorded}
+use Rattle.ddm_words.specs.declared.command.Run.{Run}
+use Rattle.ddm_words.specs.declared.command.Resumption.{Resumption}
+use Rattle.ddm_words.specs.declared.command.Seeds.{Seeds}
+use Rattle.ddm_words.specs.declared.command.Survey.{Survey}
+use Rattle.ddm_words.specs.declared.command.TurnSource.{TurnSource}
+use Rattle.ddm_words.specs.declared.command.TurnSource.TheVariants.{File as ScheduleFile, Seeded}
 
 abbrev pub image_from : ImageSource → said.ImageFrom
 image_from (ImageFile name) = said.image_named name.now

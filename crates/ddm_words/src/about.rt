@@ -1,13 +1,9 @@
 //! What the program says of itself: help, its faults, its version.
 
 ghost use Rattle.std.specs.Prelude.{◌≡◌};
-ghost use Rattle.ddm_cli.specs.DdmOutside.Causes.{HasCause};
-ghost use Rattle.ddm_cli.specs.About.{about_text, faults_text, further_text, help_text, named_text, own_text};
-ghost use Rattle.ddm_cli.specs.Printed.{Writes};
+ghost use Rattle.ddm_words.specs.About.{faults_text, further_text, help_text, named_text, own_text};
 
 use crate::command::About;
-use crate::of_ddm_outside::{Failed, Sink};
-use crate::of_report::write_all;
 
 const HELP: &[u8] =
     b"ddm runs RV32IA programs on a Data Diffusion Machine; every run is one order of one flat memory.\n\n  ddm run IMAGE TREE SCHEDULE      the report of a run: harts, traffic, items and the witness\n  ddm trace IMAGE TREE SCHEDULE    a line for each turn, and then the report\n  ddm seed IMAGE TREE SEED TURNS   the report of the schedule of a seed\n  ddm schedule TREE SEED TURNS     the schedule of a seed\n  ddm make SEED ROUNDS TREE        the summary of a random program under a seeded schedule\n  ddm check IMAGE TREE WITNESS     whether a witness is one legal run of the flat machine\n  ddm unjam IMAGE TREE SCHEDULE    the turn of a bus that goes on where a leaf waits\n  ddm save IMAGE TREE SCHEDULE     the checkpoint of the machine after a run\n  ddm resume IMAGE TREE CHECKPOINT SCHEDULE\n                                   the report of a run that goes on from a checkpoint\n  ddm outcomes IMAGE TREE FIRST COUNT TURNS\n                                   what the runs of many seeds come to\n  ddm record IMAGE TREE KIND SEED TURNS\n                                   the schedule of the turns of a seed that do something\n  ddm measure IMAGE TREE KIND SEED TURNS\n                                   what such a run is measured by\n  ddm survey IMAGE TREE KIND FIRST COUNT TURNS\n                                   what the recorded runs of many seeds come to\n  ddm join TABLE TABLE ..          the table of all runs of several tables\n  ddm page IMAGE TREE SCHEDULE     a page that shows the run turn by turn, for a browser\n  ddm help COMMAND                 more of one of these\n  ddm --help, ddm --version\n";
@@ -248,8 +244,8 @@ fn named_text() -> &'static [u8]
     NAMED
 }
 
-// What is said of this alone.
-fn own_text(about: About) -> &'static [u8]
+/// What is said of this alone.
+pub fn own_text(about: About) -> &'static [u8]
     ensures { result.now ≡ own_text about }
 {
     match about {
@@ -275,8 +271,8 @@ fn own_text(about: About) -> &'static [u8]
     }
 }
 
-// What is said behind it.
-fn further_text(about: About) -> &'static [u8]
+/// What is said behind it.
+pub fn further_text(about: About) -> &'static [u8]
     ensures { result.now ≡ further_text about }
 {
     match about {
@@ -297,13 +293,4 @@ fn further_text(about: About) -> &'static [u8]
         | About::Join
         | About::Page => named_text(),
     }
-}
-
-/// Writes what the program says of itself.
-pub fn write_about<K: Sink>(out: &mut K, about: About) -> Result<(), Failed>
-    ensures written { Writes (K.held out.old) (K.held out.new) (about_text about) result }
-    ensures cause { HasCause (K.faults out.old) (K.faults out.new) result }
-{
-    write_all(out, own_text(about))?;
-    write_all(out, further_text(about))
 }

@@ -1,9 +1,9 @@
 //! What a command is.
 
 ghost use Rattle.std.specs.Prelude.{◌≡◌};
-ghost use Rattle.ddm_cli.specs.Printed.{is_summary, is_trace};
+ghost use Rattle.ddm_words.specs.Kept.{is_summary, is_trace};
 
-use outcomes::of_recording::SeedKind;
+use recording_model::SeedKind;
 
 /// What is printed of a run.
 #[derive(Clone, Copy, Debug, PartialEq, Eq)]
@@ -20,7 +20,7 @@ pub enum Prints {
 
 impl Prints {
     /// Whether a line for each turn is kept while they are made.
-    pub(crate) fn is_trace(self) -> bool
+    pub fn is_trace(self) -> bool
         ensures { result ≡ is_trace self }
     {
         match self {
@@ -30,7 +30,7 @@ impl Prints {
     }
 
     /// Whether no operation is printed, so that none is kept.
-    pub(crate) fn is_summary(self) -> bool
+    pub fn is_summary(self) -> bool
         ensures { result ≡ is_summary self }
     {
         match self {

@@ -1,9 +1,9 @@
 use Rattle.std.proofs.Common.{subst}
-use Rattle.ddm_cli.specs.About.{own_text, further_text}
+use Rattle.ddm_words.specs.About.{own_text, further_text}
 use Rattle.ddm_cli.specs.Printed.{Writes}
 use Rattle.ddm_cli.specs.ReportCrate.Appends.{Appends}
 use Rattle.ddm_cli.proofs.Telling.{writes_more, writes_of}
-use Rattle.ddm_cli.proofs.about.write_about.Goals as goal
+use Rattle.ddm_cli.proofs.saying.write_about.Goals as goal
 
 pub returns-clause-written : goal.returns-clause-written
 returns-clause-written g c =

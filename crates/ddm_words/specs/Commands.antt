@@ -4,12 +4,12 @@
 use Rattle.std.specs.Prelude.{ℕ, ◌+◌, ◌-◌, ◌*◌, ◌≤◌, min, nat_le, nat_lt, List, [], ◌∷◌, drop, length, Result, Ok}
 use Rattle.std.specs.Prelude.{Err, Option, Some, None, slice_get, option_and_then, if◌then◌else◌, bytes_eq, codes}
 use Rattle.std.specs.Result.{result_ok}
-use Rattle.ddm_cli.specs.DdmText.Numbers.{number_of}
-use Rattle.ddm_cli.specs.RecordingModel.declared.SeedKind.{SeedKind}
-use Rattle.ddm_cli.specs.declared.command.About.{About}
-use Rattle.ddm_cli.specs.declared.command.About.TheVariants as about
-use Rattle.ddm_cli.specs.declared.command.Prints.{Prints}
-use Rattle.ddm_cli.specs.declared.command.Prints.TheVariants.{Report, Trace, Summary, Unjamming, Checkpoint}
+use Rattle.ddm_text.specs.Numbers.{number_of}
+use Rattle.recording_model.specs.declared.SeedKind.{SeedKind}
+use Rattle.ddm_words.specs.declared.command.About.{About}
+use Rattle.ddm_words.specs.declared.command.About.TheVariants as about
+use Rattle.ddm_words.specs.declared.command.Prints.{Prints}
+use Rattle.ddm_words.specs.declared.command.Prints.TheVariants.{Report, Trace, Summary, Unjamming, Checkpoint}
 
 -- ---- what a command is
 

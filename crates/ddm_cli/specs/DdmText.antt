@@ -1,2 +1,0 @@
--- Of `ddm_text`, what this crate and those above it name.
-pub use Rattle.outcomes.specs.DdmText.Numbers

@@ -1,0 +1,3 @@
+-- Of `ddm_words`, what those above this crate name.
+pub use Rattle.ddm_words.specs.Commands
+pub use Rattle.ddm_words.specs.declared

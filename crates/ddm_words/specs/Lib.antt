@@ -1,0 +1,4 @@
+pub mod About
+pub mod Commands
+pub mod Kept
+pub mod Views
