@@ -1,4 +1,4 @@
-// What stands in the box of a directory and of a leaf.
+// What is in the box of a directory and of a leaf.
 
 function fillDir(bus, mode, px) {
   const d = machine.dir(bus, ui.item), top = bus === 0, s = film.sizes;

@@ -12,6 +12,9 @@ function drawCard() {
   card.innerHTML = turnText(turn);
   const other = card.querySelector('#showother');
   if (other) other.addEventListener('click', () => chooseItem(turn.item));
+  for (const button of card.querySelectorAll('[data-turn]')) {
+    button.addEventListener('click', () => goTo(Number(button.dataset.turn)));
+  }
   const details = card.querySelector('details');
   if (details) details.addEventListener('toggle', () => { ui.details = details.open; });
 }
@@ -28,8 +31,9 @@ function startText() {
     the picture shows one of them. A <b>directory</b> between two buses keeps what waits to go up or down.</p>
     <p class="more">Each turn lets one hart try an instruction, or one bus move one thing.
     <kbd>→</kbd> goes on, <kbd>←</kbd> back, <kbd>?</kbd> tells all keys and signs.</p>`
-    + (stale.length ? `<p><button id="gostale">Go to ${stale.length === 1 ? 'the'
-    : 'a'} load of an old value (turn ${stale[0].turn})</button></p>` : '');
+    + (stale.length ? `<p class="more">In turn ${stale[0].turn} hart ${stale[0].hart} loads a value that another hart
+    has already overwritten. The page shows why, and why one order of one memory still explains it.
+    <button id="gostale">Go to turn ${stale[0].turn}</button></p>` : '');
 }
 
 function turnText(turn) {
@@ -46,8 +50,7 @@ function turnText(turn) {
       + `<button id="showother">Show ${about}</button></div>`);
   }
   if (turn.op && turn.op.stale) {
-    const [happened, why] = staleWords(turn.op);
-    paragraphs.push(`<div class="stale"><b>${escapeText(happened)}</b><br>${escapeText(why)}</div>`);
+    paragraphs.push(staleText(turn.op));
   } else if (turn.op) {
     paragraphs.push(`<div class="more">Its place in the one order is its key, `
       + `<span class="mono">${turn.op.key}</span>.</div>`);
@@ -55,6 +58,15 @@ function turnText(turn) {
   paragraphs.push(`<div class="raw mono" title="the line of the trace">${escapeText(turn.text)}</div>`,
     changesText(turn));
   return paragraphs.join('');
+}
+
+// what a stale load is, with ways to the turns that explain it
+function staleText(op) {
+  const [happened, how, why] = staleWords(op).map(escapeText), loses = losesCopy(op);
+  const ways = [[op.stale.turn, 'the store']];
+  if (loses) ways.push([loses.number, `leaf ${op.hart} lose its copy`]);
+  const buttons = ways.map(([turn, what]) => `<button data-turn="${turn}">${what} (turn ${turn})</button>`);
+  return `<div class="stale"><b>${happened}</b><br>${how}<br>${why}<br>See ${buttons.join(' ')}</div>`;
 }
 
 const ANSWER_WORDS = {

@@ -26,7 +26,7 @@ function findOperations(film) {
     }
     film.opsUpTo.push(film.ops.length);
   }
-  // a load is stale where a store to its word was completed before it, and stands behind it in the witness
+  // a load is stale where a store to its word was completed before it, and comes after it in the witness
   const stores = new Map();
   film.stale = [];
   for (const op of film.ops) {

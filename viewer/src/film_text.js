@@ -24,7 +24,7 @@ function parseFilm(text) {
     }
     return [line.slice(0, end), line.slice(end + 1)];
   };
-  const values = [];    // of all parts, as they stand
+  const values = [];    // of all parts, as they are
   let turn = null;
   for (; at < lines.length; at++) {
     const line = lines[at];

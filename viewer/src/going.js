@@ -1,6 +1,6 @@
 // Going to a turn, and playing.
 
-// the place of the last turn of the sequence that isn't behind this one
+// the place of the last turn of the sequence that isn't after this one
 function placeOf(turn) {
   let low = 0, high = ui.sequence.length;
   while (low < high) {
@@ -39,7 +39,7 @@ function jump(by, holds) {
       return true;
     }
   }
-  say(by > 0 ? 'There is none behind this turn.' : 'There is none before this turn.');
+  say(by > 0 ? 'There is none after this turn.' : 'There is none before this turn.');
   return false;
 }
 

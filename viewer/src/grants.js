@@ -65,16 +65,32 @@ function erasesAbove(leaf, item) {
   return found;
 }
 
-// [what happened, why it is legal]
+// whether an entry of a list is why the present turn's load is stale
+function isWhyStale(entry, key) {
+  const turn = film.turns[machine.at];
+  return Boolean(turn && turn.op && turn.op.stale) && entry.kind === 'erase' && entry.item === turn.item
+    && erasesAbove(turn.op.hart, turn.item).some(({bus}) => key === 'down ' + bus);
+}
+
+// the first turn after an operation in which its leaf loses its copy of the item, or none
+function losesCopy(op) {
+  const key = `entry ${op.hart} ${op.item}`;
+  return film.turns.find(turn => turn.number > op.turn && turn.changes.some((part, k) =>
+    k % 3 === 0 && film.keys[part] === key && turn.changes[k + 2] === ''));
+}
+
+// [what happened, how it could, why it is legal]
 function staleWords(op) {
   const store = op.stale, ago = op.turn - store.turn, waits = erasesAbove(op.hart, op.item);
-  const why = waits.length ? `The erase that is to end this copy still waits in the down list of ${together(waits)}`
+  const how = waits.length
+    ? `Before that store, every other copy was sent an erase (an invalidate). The one for leaf ${op.hart}`
+      + ` still waits in the down list of ${together(waits)}, ringed in the picture`
     : `Leaf ${op.hart} hasn’t heard of that store yet`;
   return [
     `An old value: hart ${store.hart} stored ${shortWord(store.effect[3])} here in turn ${store.turn}, ${ago}`
       + ` ${plural(ago, 'turn')} ago.`,
-    `${why}, so leaf ${op.hart} reads its own copy. That is legal: in the one order of all instructions this`
-      + ` load stands before`
-      + ` that store, as its key ${op.key} is less than ${store.key}. The lines under “Order” show it.`,
+    `${how}. So leaf ${op.hart} reads its own copy.`,
+    `This is legal: in the one order of all instructions this load comes before that store, since its key`
+      + ` ${op.key} is less than ${store.key}. Under “Order” its line crosses others.`,
   ];
 }

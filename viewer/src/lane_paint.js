@@ -155,7 +155,7 @@ function cross(c, x, y, r, color) {
   c.stroke();
 }
 
-// behind the slider: where the item is concerned, and where loads are stale
+// under the slider: where the item is concerned, and where loads are stale
 function drawDensity(colors) {
   const canvas = document.querySelector('#density');
   const ratio = devicePixelRatio || 1;

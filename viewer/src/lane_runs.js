@@ -1,6 +1,6 @@
 // The states of the chosen item over time, for the lanes.
 
-// for each leaf and each bus the places (of ui.sequence) from which on the item stands there so: [[place, state],
+// for each leaf and each bus the places (of ui.sequence) from which on the item is there so: [[place, state],
 // ..]
 function stateRuns() {
   const item = ui.item, places = film.turns.length;

@@ -1,4 +1,4 @@
-// Where the boxes of leaves and directories stand, and the wires between them.
+// Where the boxes of leaves and directories are, and the wires between them.
 // A box is big, mid or small, by the width that a leaf has.
 
 const picture = {boxes: [], labels: [], width: 0, height: 0};
@@ -32,7 +32,7 @@ function layOut() {
   const leafTop = y;
   stage.style.width = W + 'px';
   stage.style.height = height + 'px';
-  // leaves stand side by side; a directory stands over the middle of its own
+  // leaves are side by side; a directory is over the middle of its own
   const x0 = 8, middle = {leaf: leaves === 0 ? [] : film.leaves.map((_, n) => x0 + per * (n + .5)), bus: []};
   const span = [];
   for (let bus = film.buses.length - 1; bus >= 0; bus--) {

@@ -1,6 +1,6 @@
 // The machine after a turn, as the film tells it.
 
-// All parts as they stand after turn `at`; -1 is the start. A move puts in what each turn on the way changed, or
+// All parts as they are after turn `at`; -1 is the start. A move puts in what each turn on the way changed, or
 // what was before.
 class Machine {
   constructor(film) { this.film = film; this.reset(); }
@@ -56,7 +56,7 @@ class Machine {
     return is;
   }
 
-  // no stamp stands in the top's list
+  // there is no stamp in the top's list
   downList(bus) {
     return this.list('down ' + bus)
       .map(w => ({kind: w[0], item: Number(w[1]), stamp: bus === 0 ? ''

@@ -21,7 +21,7 @@ function addressName(address) {
   return name ? name : address.toString(16);
 }
 
-// a word as a person reads it: small numbers in decimal, others as they stand
+// a word as a person reads it: small numbers in decimal, others as they are
 function shortWord(word) {
   const n = parseInt(word, 16);
   return n < 10000 ? String(n) : n > 0xffffd8f0 ? String(n - 0x100000000) : word;

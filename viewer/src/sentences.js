@@ -135,7 +135,7 @@ const PENDING_WORDS = {
   upread: child => `a read of ${child} was sent up from there`,
   uperase: child => `${child} is ending all other copies`,
   answering: (child, bus) => `${parentName(bus)} is asked for it from above`,
-  down: (child, bus) => `something about it stands in the down list of ${parentName(bus)}`,
+  down: (child, bus) => `something about it is in the down list of ${parentName(bus)}`,
 };
 
 const LIST_WORDS = {

@@ -1,4 +1,4 @@
-// Signs that stand in boxes and tables: the tile of a state, the chip of an entry, lists of them, notes.
+// Signs in boxes and tables: the tile of a state, the chip of an entry, lists of them, notes.
 
 function tile(state, classes, title) {
   const none = !state || state === '-';
@@ -6,14 +6,14 @@ function tile(state, classes, title) {
     ? ` title="${escapeText(title)}"` : ''}>${none ? '–' : state}</span>`;
 }
 
-function chip(entry, fresh, short) {
+function chip(entry, fresh, short, why) {
   const mine = entry.item === ui.item, kind = entry.kind;
   const label = kind === 'parked' ? itemName(entry.item) : short
     ? {read: 'rd', data: 'da', erase: 'er', exclusive: 'ex', inject: 'in'}[kind]
     : `${kind} ${itemName(entry.item).replace(/^item /, '')}`;
   const title = `${kind} ${itemName(entry.item)}${entry.words.length ? ': ' + entry.words.join(' ')
     : ''}${entry.stamp ? ', told at moment ' + entry.stamp : ''}`;
-  return `<span class="chip ${kind}${mine ? ' me' : ''}${fresh ? ' fresh'
+  return `<span class="chip ${kind}${mine ? ' me' : ''}${fresh ? ' fresh' : ''}${why ? ' why'
     : ''}" title="${escapeText(title)}">${escapeText(label)}</span>`;
 }
 
@@ -30,7 +30,7 @@ function isFresh(key) {
 function chips(entries, key, most, short) {
   const fresh = isFresh(key);
   const shown = entries.slice(0, entries.length > most ? most - 1 : most)
-    .map((e, n) => chip(e, fresh && n === entries.length - 1, short));
+    .map((e, n) => chip(e, fresh && n === entries.length - 1, short, isWhyStale(e, key)));
   if (entries.length > shown.length) {
     const rest = entries.slice(shown.length);
     const mine = rest.find(e => e.item === ui.item);

@@ -1,4 +1,4 @@
-// Begins: with the film that stands in the page, or by asking for one.
+// Begins: with the film that is in the page, or by asking for one.
 
 listen();
 begin($('#film').textContent);

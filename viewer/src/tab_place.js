@@ -1,4 +1,4 @@
-// Tab 2: one leaf or one directory, with all that stands there.
+// Tab 2: one leaf or one directory, with all that is there.
 
 function drawPlace(pane) {
   const {leaf, bus} = ui.place;

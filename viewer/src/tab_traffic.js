@@ -13,7 +13,7 @@ function drawTraffic(pane) {
     + `<span title="${trafficWords(traffic)}">${granted(traffic)} <span class="soft">of ${granted(all[bus])}</span></span>`);
   const rows = now.map((traffic, bus) => `<tr><td>${bus}</td>`
     + KINDS.map(kind => `<td>${traffic[kind]}<span class="soft">/${all[bus][kind]}</span></td>`).join('') + '</tr>');
-  show(pane, '<p class="soft">What each bus has granted so far; behind it, pale, in the whole run.</p>'
+  show(pane, '<p class="soft">What each bus has granted so far; pale, in the whole run.</p>'
     + `<p class="kinds">${legend}</p><div class="bars">${bars.join('')}</div>`
     + `<table><tr><th>bus</th>${KINDS.map(kind => `<th>${kind}</th>`).join('')}</tr>${rows.join('')}</table>`);
 }

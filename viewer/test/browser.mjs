@@ -10,7 +10,7 @@ const NUMBERED = {
 };
 const wait = ms => new Promise(done => setTimeout(done, ms));
 
-// calls `use` with a tab, and ends the browser behind it
+// calls `use` with a tab, and then ends the browser
 export async function withTab(use) {
   const profile = mkdtempSync(join(tmpdir(), 'profile-'));
   const flags = ['--headless=new', '--no-sandbox', '--disable-gpu', '--remote-debugging-pipe', '--hide-scrollbars'];

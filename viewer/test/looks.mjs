@@ -46,7 +46,7 @@ const STICKS_OUT = `(() => {
   return out;
 })()`;
 
-// pairs of colours that text stands in
+// pairs of colours that text is in
 const POOR_CONTRAST = `(() => {
   const probe = document.body.appendChild(document.createElement('span'));
   const light = name => {

@@ -38,7 +38,7 @@ for (const name of filmNames()) {
   writeFileSync(at('moments'), moments.join(''));
 }
 
-// after how many turns the longest lists stand for the first time, so that the order of a list is tried
+// after how many turns the longest lists are there for the first time, so that the order of a list is tried
 function longestLists(most, partsAfter) {
   let longest = 0, found = 0;
   for (let count = 0; count <= most; count++) {

@@ -35,9 +35,12 @@ async function testKeys(tab, check) {
   check('the stale load’s item is shown', await tab.run('ddmPage.ui.item') === 2);
   const card = await tab.text('#card');
   check('the card says what is old', /An old value: hart 0 stored 4 here in turn 21, 1 turn ago/.test(card));
-  check('the card says why', /still waits in the down list of directory 2, so leaf 3 reads its own copy/.test(card));
+  check('the card says why', /still waits in the down list of directory 2, ringed in the picture\. So leaf 3 reads its own copy/.test(card));
+  check('the erase that waits is ringed', await tab.run(`document.querySelectorAll('.chip.erase.why').length`) === 1);
+  const ways = await tab.run(`[...document.querySelectorAll('#card [data-turn]')].map(way => way.dataset.turn)`);
+  check(`the store and the loss of the copy are a click away: ${ways}`, ways.join() === '21,26');
   const order = await tab.run(`[...document.querySelectorAll('.opo')].map(op => op.title.split('\\n')[1])`);
-  check(`the load stands before the store: ${order}`, order.join() === 'turn 4,turn 22,turn 14,turn 21');
+  check(`the load is before the store: ${order}`, order.join() === 'turn 4,turn 22,turn 14,turn 21');
   const first = {i: 'turn.items.includes(ui.item)', h: `turn.kind === 'h' && turn.hart === 0`,
     b: `turn.kind !== 'h' && turn.bus === 0`};
   for (const [key, holds] of Object.entries(first)) {

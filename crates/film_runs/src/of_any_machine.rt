@@ -1,3 +1,3 @@
 //! What this crate and those above it name of `any_machine`.
 
-pub use film::of_any_machine::AnyMachine;
+pub use film::of_any_machine::{AnyMachine, Machines};

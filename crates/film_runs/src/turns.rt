@@ -1,21 +1,23 @@
 //! Turns that are made and filmed.
 
-ghost use Rattle.std.specs.Prelude.{◌≡◌, ◌<◌, ◌++◌, [], ◌∷◌, IfOk, OnOk, true};
+ghost use Rattle.std.specs.Prelude.{◌≡◌, ◌<◌, ◌++◌, [], ◌∷◌, IfOk, OnOk, is_some, true};
 ghost use Rattle.film_runs.specs.TextModel.Run.{no_counts};
-ghost use Rattle.film_runs.specs.AnyMachine.Any.{machine_state};
+ghost use Rattle.film_runs.specs.AnyMachine.Any.{machine_state, state_in};
 ghost use Rattle.film_runs.specs.AnyRuns.Run.{AreBelow, CanRun, NameParts, counts_in, ran, with_room};
 ghost use Rattle.film_runs.specs.Counts.{sum};
 ghost use Rattle.film_runs.specs.DdmText.Adds.{Adds};
 ghost use Rattle.film_runs.specs.Film.Filmed.{IsFilmed};
-ghost use Rattle.film_runs.specs.Resting.{one_rests, rests};
+ghost use Rattle.film_runs.specs.Resting.{one_rests};
 ghost use Rattle.film_runs.specs.TreeModel.State.Shape.{IsShaped};
-ghost use Rattle.film_runs.specs.TreeModel.Turns.Machine.{names_part, run_of, turn_of};
+ghost use Rattle.film_runs.specs.TreeModel.Turns.Machine.{hart_of, names_part, now_of, run_of, turn_of};
+ghost use Rattle.film_runs.specs.DdmTypes.declared.turns.Turn.{Turn};
+ghost use Rattle.recording_model.specs.Doing.{does_by, had_halted, is_halted};
 ghost use Rattle.film_runs.specs.FilmModel.Film.{turn_film, turns_film};
 ghost use Rattle.film_runs.specs.FilmModel.Part.{changed};
 ghost use Rattle.film_runs.specs.FilmModel.Still.{still as still_of};
 
-use crate::of_any_machine::AnyMachine;
-use crate::of_ddm_types::{NoMemory, Turn, TurnAnswer};
+use crate::of_any_machine::{AnyMachine, Machines};
+use crate::of_ddm_types::{HartNo, NoMemory, Turn, TurnAnswer};
 use film::of_any_runs::{RunCounts, run};
 use film::{Still, StillRoom, push_changed, take_still};
 use report::push_trace;
@@ -53,25 +55,69 @@ impl Reel {
     }
 }
 
-// Whether an answer says that its turn changed nothing.
-fn rests(answer: &TurnAnswer) -> bool
-    ensures { result ≡ rests answer.now }
+// Whether a hart has halted.
+#[tactic(auto, using(crate::proofs::Resting::leaf_there))]
+fn halted_among<const WORDS: usize>(machine: &Machines<WORDS>, hart: HartNo) -> bool
+    requires shape { IsShaped (state_in machine.now).machine }
+    requires leaf { is_some (now_of hart (state_in machine.now).machine) ≡ true }
+    ensures { result ≡ is_halted (hart_of hart (state_in machine.now).machine) }
 {
-    match answer {
-        TurnAnswer::Waiting(_) | TurnAnswer::Empty | TurnAnswer::Busy(_) => true,
-        TurnAnswer::Retired(_)
-        | TurnAnswer::Issued(..)
-        | TurnAnswer::Halted(_)
-        | TurnAnswer::Granted(_) => false,
+    machine.hart(hart).halted().is_some()
+}
+
+// The same, whatever the width.
+fn is_halted(machine: &AnyMachine, hart: HartNo) -> bool
+    requires shape { IsShaped (machine_state machine.now).machine }
+    requires leaf { is_some (now_of hart (machine_state machine.now).machine) ≡ true }
+    ensures { result ≡ is_halted (hart_of hart (machine_state machine.now).machine) }
+{
+    match machine {
+        AnyMachine::Narrow(machine) => halted_among(machine, hart),
+        AnyMachine::Wide(machine) => halted_among(machine, hart),
     }
 }
 
-// Whether there is one answer, and it is such.
-fn one_rests(answers: &[TurnAnswer]) -> bool
-    ensures { result ≡ one_rests answers.now }
+// Whether the hart whose turn it is has halted; a bus has none.
+fn had_halted(machine: &AnyMachine, turn: &Turn) -> bool
+    requires shape { IsShaped (machine_state machine.now).machine }
+    requires named { names_part turn.now (machine_state machine.now).machine ≡ true }
+    ensures { result ≡ had_halted turn.now (machine_state machine.now).machine }
+{
+    match *turn {
+        Turn::Hart { hart, .. } => is_halted(machine, hart),
+        Turn::Down { .. } | Turn::Request { .. } | Turn::Reply { .. } | Turn::Leave { .. } => false,
+    }
+}
+
+// The same of one turn.
+fn one_halted(machine: &AnyMachine, turns: &[Turn]) -> bool
+    requires shape { IsShaped (machine_state machine.now).machine }
+    requires named { NameParts turns.now (machine_state machine.now).machine }
+    ensures { (turn : Turn) → turns.now ≡ turn ∷ [] → result ≡ had_halted turn (machine_state machine.now).machine }
+{
+    match turns {
+        [turn] => had_halted(machine, turn),
+        _ => false,
+    }
+}
+
+// Whether a turn that answers so did something, where its hart had halted before or not.
+fn does_by(answer: &TurnAnswer, halted: bool) -> bool
+    ensures { result ≡ does_by answer.now halted }
+{
+    match answer {
+        TurnAnswer::Waiting(_) | TurnAnswer::Empty | TurnAnswer::Busy(_) => false,
+        TurnAnswer::Halted(_) => !halted,
+        TurnAnswer::Retired(_) | TurnAnswer::Issued(..) | TurnAnswer::Granted(_) => true,
+    }
+}
+
+// Whether there is one answer, and its turn did nothing.
+fn one_rests(answers: &[TurnAnswer], halted: bool) -> bool
+    ensures { result ≡ one_rests halted answers.now }
 {
     match answers {
-        [answer] => rests(answer),
+        [answer] => !does_by(answer, halted),
         _ => false,
     }
 }
@@ -120,11 +166,12 @@ pub fn film_turn(
     ensures filmed { OnOk result (IsFilmed levels.now (turn_of turn (machine_state machine.old).machine).machine) }
     ensures counts { IfOk result (λ counts. counts ≡ counts_in (turn ∷ []) (machine_state machine.old)) }
 {
-    reel.answers.clear();
     let turns = [turn];
+    let halted = one_halted(machine, &turns);
+    reel.answers.clear();
     let counts = run(machine, &turns, &mut reel.answers, true)?;
     push_trace(text, number, &turns, &reel.answers)?;
-    let rested = one_rests(&reel.answers);
+    let rested = one_rests(&reel.answers, halted);
     film_change(text, reel, machine, levels, rested)?;
     Ok(counts)
 }

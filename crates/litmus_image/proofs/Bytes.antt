@@ -73,6 +73,12 @@ short_code leaves places runs test item_bytes sound few fewer =
     let c = short_blocks runs test item_bytes sound in
     omega (arith, a, b, c, few, fewer)
 
+pub some_code : (leaves : ℕ) (places : List ℕ) (blocks : List (List Instr)) → 4 ≤ length (code_bytes (code_of leaves places blocks))
+some_code leaves places blocks =
+    let a = length-code_bytes (code_of leaves places blocks) in
+    let b = length-code_of leaves places blocks in
+    omega (arith, a, b)
+
 -- ---- memory
 
 pub zeros_none : (old : List ℕ) → old ≡ old ++ replicate 0 0

@@ -4,3 +4,5 @@ pub mod Own
 pub mod Blocks
 pub mod Valid
 pub mod Bytes
+pub mod ItemCounts
+pub mod Accepted

@@ -6,6 +6,7 @@ use Rattle.std.specs.Global.{Vec}
 use Rattle.rv_decode.specs.declared.instructions.Instr.{Instr}
 use Rattle.litmus_model.specs.declared.refusal.ImageRefusal.{ImageRefusal}
 use Rattle.litmus_model.specs.Image.{leaf_word}
+use Rattle.litmus_image.specs.declared.assembling.TestImage.{TestImage}
 use Rattle.litmus_image.specs.declared.places.Unmade.{Unmade}
 use Rattle.litmus_image.specs.declared.places.Unmade.TheVariants.{Refused, NoMemory}
 
@@ -13,6 +14,12 @@ abbrev pub Makes : Result (List ℕ) ImageRefusal → Result (Vec ℕ) Unmade �
 Makes judged (Ok numbers) = judged ≡ Ok numbers.items
 Makes judged (Err (Refused refusal)) = judged ≡ Err refusal
 Makes judged (Err NoMemory) = Unit {0}
+
+-- the same of an image
+abbrev pub Assembles : Result (List ℕ) ImageRefusal → Result TestImage Unmade → Type 0
+Assembles judged (Ok made) = judged ≡ Ok made.bytes.items
+Assembles judged (Err (Refused refusal)) = judged ≡ Err refusal
+Assembles judged (Err NoMemory) = Unit {0}
 
 -- the instructions of all threads
 abbrev pub all_of : List (List Instr) → List Instr

@@ -1,13 +1,13 @@
 //! The image of a test.
 
-ghost use Rattle.std.specs.Prelude.{◌≡◌, ◌+◌, ◌++◌, ◌≤◌, All, IfOk, OnOk, length, option_copied, nat_eq, replicate};
+ghost use Rattle.std.specs.Prelude.{◌≡◌, ◌+◌, ◌++◌, ◌≤◌, All, IfOk, Ok, OnOk, length, option_copied, nat_eq, replicate};
 ghost use Rattle.std.specs.List.{position_or_len};
 ghost use Rattle.rv_decode.specs.Valid.{IsValid};
 ghost use Rattle.litmus_model.specs.Kept.{test_from};
 ghost use Rattle.litmus_model.specs.Sound.{IsSound};
 ghost use Rattle.litmus_model.specs.Image.{begins_from, block_of, blocks_of, code_bytes, code_of, item_of, leaf_word};
-ghost use Rattle.litmus_model.specs.Image.{memory_of, placed_image, test_image, test_segments};
-ghost use Rattle.litmus_image.specs.Made.{Makes, all_of, leaf_words};
+ghost use Rattle.litmus_model.specs.Image.{memory_of, placed_image, places_of, test_image, test_segments};
+ghost use Rattle.litmus_image.specs.Made.{Assembles, all_of, leaf_words};
 
 use crate::instructions::{jump_by_number, push_prologue};
 use crate::layout::{MEMORY, first_value, word_of};
@@ -261,6 +261,13 @@ fn placed_image(
     write_image(alloc, ENTRY, &segments)
 }
 
+/// The image of a test, and the leaves of its threads.
+#[derive(Drop)]
+pub struct TestImage {
+    pub bytes: Vec<u8>,
+    pub places: Vec<u32>,
+}
+
 /// The image of a test for a tree with so many leaves and bytes in an item. Places are the leaves of the threads.
 #[tactic(auto, using(crate::proofs::Bytes::placed), unfolding(litmus_model::specs::Image::test_image))]
 pub fn assemble(
@@ -270,13 +277,16 @@ pub fn assemble(
     leaves: u32,
     item_bytes: u32,
     places: Option<&[u32]>,
-) -> Result<Vec<u8>, Unmade>
+) -> Result<TestImage, Unmade>
     requires sound { IsSound (test_from test.now) }
     requires large { 4 ≤ item_bytes }
     requires small { item_bytes ≤ 64 }
     requires leaves { leaves ≤ 64 }
-    ensures { Makes (test_image runs (test_from test.now) leaves item_bytes (option_copied places.entry)) result }
+    ensures image { Assembles (test_image runs (test_from test.now) leaves item_bytes (option_copied places.entry)) result }
+    ensures places { IfOk result
+        (λ made. places_of test.now.threads leaves (option_copied places.entry) ≡ Ok made.places.items) }
 {
     let places = places_of(alloc, test.threads, leaves, places)?;
-    Ok(placed_image(alloc, runs, test, leaves, item_bytes, &places)?)
+    let bytes = placed_image(alloc, runs, test, leaves, item_bytes, &places)?;
+    Ok(TestImage { bytes, places })
 }

@@ -26,7 +26,7 @@ fn place_of(names: &[Name], name: &Name) -> usize
 
 /// The word that a value is.
 #[tactic(auto, unfolding(litmus_model::specs::Image::address_of))]
-pub(crate) fn word_of(test: &Test, item_bytes: u32, value: &Value) -> u32
+pub fn word_of(test: &Test, item_bytes: u32, value: &Value) -> u32
     requires few { length test.now.locations.items ≤ 256 }
     requires small { item_bytes ≤ 64 }
     ensures { result ≡ word_of (test_from test.now) item_bytes value.now }

@@ -3,9 +3,12 @@
 
 mod assembling;
 mod instructions;
+mod laws;
 mod layout;
 mod own_code;
 mod places;
 
-pub use assembling::assemble;
+pub use assembling::{TestImage, assemble};
+pub use laws::assembled_images_load;
+pub use layout::word_of;
 pub use places::Unmade;

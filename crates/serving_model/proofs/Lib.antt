@@ -31,7 +31,9 @@ pub mod Turned
 pub mod Shown
 pub mod Listed
 pub mod StoringRuns
+pub mod LegalHarts
 pub mod StartShows
+pub mod StartRoom
 pub mod EveryOrder
 pub mod Served
 pub mod Short

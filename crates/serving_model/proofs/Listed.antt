@@ -66,15 +66,15 @@ module _ (m : MachineValue) (f : FlatMachine) (h : ℕ) (g : FlatHart) (c : Chan
   by-walks : (kind : TxKind) (x : ℕ) → (turn_of t m).answer ≡ TurnAnswer.Issued kind x → Adds (run_of (turns_behind h (TurnAnswer.Issued kind x) m1) m1).machine
   unfolding run_of
   by-walks kind x is =
-      let last = last-answer m f h g c s own step kind x is in
+      let last = last-answer m f h g s own c step kind x is in
       let m3 = (run_of (walks_of h m1) m1).machine in
-      let kept : m3.ops ≡ m.ops = walks-keep m f h g c s own step kind x is ∙ issued-keeps t m kind x is in
+      let kept : m3.ops ≡ m.ops = walks-keep m f h g s own c step kind x is ∙ issued-keeps t m kind x is in
       let adds : (turn_of t m3).machine.ops ≡ m.ops ++ operation last.0 h g c ∷ [] = retired-adds t m3 (operation last.0 h g c) last.1 ∙ ap (λ ops. ops ++ operation last.0 h g c ∷ []) kept in
       subst Adds (sym (run-on (walks_of h m1) (t ∷ []) m1)) (record { key = last.0; adds = adds })
 
   pub adds-one : Adds (run_of (turns_to_complete h m) m).machine
   unfolding run_of turns_to_complete
-  adds-one = by (first-answer m f h g c s own step) where
+  adds-one = by (first-answer m f h g s own c step) where
     by : ((key : Key) × ((turn_of t m).answer ≡ TurnAnswer.Retired (operation key h g c))) ⊎ ((kind : TxKind) × (x : ℕ) × ((turn_of t m).answer ≡ TurnAnswer.Issued kind x)) → Adds (run_of (turns_behind h (turn_of t m).answer m1) m1).machine
     by (inl once) = by-answer (turn_of t m).answer refl once.0 once.1
     by (inr issued) = subst (λ a. Adds (run_of (turns_behind h a m1) m1).machine) (sym issued.2) (by-walks issued.0 issued.1 issued.2)
@@ -145,7 +145,7 @@ module _ (m : MachineValue) (f : FlatMachine) (op : Op) (ops : List Op) (next la
   m2 = (run_of ts m).machine
 
   shows2 : Shows m2 next
-  shows2 = subst (Shows m2) one.after (shown m f h g c s hart.1 one.step)
+  shows2 = subst (Shows m2) one.after (shown m f h g s hart.1 c one.step)
 
   harts2 : Harts m2 next
   harts2 i l = same-harts i ts m ∙ harts i (subst (λ k. i < k) (ap (λ (n : FlatMachine). length n.harts) (sym one.after) ∙ (same_counts f h c).0) l)
@@ -154,13 +154,13 @@ module _ (m : MachineValue) (f : FlatMachine) (op : Op) (ops : List Op) (next la
   later2 = subst (λ (a : Frame). storing_run a.code a.items next ops ≡ Some last) (sym (run-frame ts m)) later
 
   pc : op.pc ≡ g.hart.pc
-  pc = sym one.pc ∙ ap (λ (a : FlatHart). a.hart.pc) (sym (same-hart m f h g c s hart.1 one.step))
+  pc = sym one.pc ∙ ap (λ (a : FlatHart). a.hart.pc) (sym (same-hart m f h g s hart.1))
 
   effect : op.effect ≡ c.effect
   effect = sym one.effect
 
   completes : completes_op op (run_of ts m).answers ≡ true
-  completes = op-served m f h g c s hart.1 one.step op refl pc effect
+  completes = op-served m f h g s hart.1 c one.step op refl pc effect
 
   adds : Adds m f h g c s hart.1 one.step m2
   adds = adds-one m f h g c s hart.1 one.step

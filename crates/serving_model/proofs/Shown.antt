@@ -31,9 +31,10 @@ use Rattle.serving_model.specs.OneLeaf.{leaf_hart, hart_at, written_item, MayEnd
 use Rattle.serving_model.specs.Serving.{walks_of, turns_behind, turns_to_complete, completes_op}
 use Rattle.serving_model.specs.Shows.{same_reservation, view, Shows}
 use Rattle.serving_model.specs.Laws.{Comes}
+use Rattle.serving_model.specs.Told.{AreTold}
 use Rattle.serving_model.proofs.TreeModel.FrameKept.{turn-frame, run-frame, turn-shape, run-shape}
 use Rattle.serving_model.proofs.Wants.{WantsTo, to_read, to_write, to_write_reserved, Wants}
-use Rattle.serving_model.proofs.Instruction.{run-on, same-top, root-same, Reads, root-reads, Came, came, walked}
+use Rattle.serving_model.proofs.Instruction.{run-on, same-top, root-same, Reads, root-reads, Came, came, walked, told}
 use Rattle.serving_model.proofs.Completing.{own-is}
 use Rattle.serving_model.proofs.Found.{RootFound, root-found}
 use Rattle.serving_model.proofs.Served.{operation, Answers, at_once, asks, answers, done, done-same, step3, served}
@@ -91,7 +92,7 @@ room-of : Skeleton → ItemTable → Bool
 room-of (leaf_bone number sizes) items = false
 room-of (dir_bone bus level sizes bones) items = nat_lt 0 sizes.down_room && trees_have_room (item_count items) bones
 
-module _ (m : MachineValue) (f : FlatMachine) (h : ℕ) (g : FlatHart) (c : Change) (s : Shows m f) (own : hart_at h m ≡ Some g) (flat-step : hart_step m.code m.items (flat_hart f h) (item_words f) true ≡ Ok c) where
+module _ (m : MachineValue) (f : FlatMachine) (h : ℕ) (g : FlatHart) (s : Shows m f) (own : hart_at h m ≡ Some g) where
   abbrev t : Turn
   t = Turn.Hart h 0
 
@@ -115,12 +116,6 @@ module _ (m : MachineValue) (f : FlatMachine) (h : ℕ) (g : FlatHart) (c : Chan
       let has = found.calm.settled.copies in
       sym found.is ∙ (ap (λ (a : HartValue). record { hart = a; reserved = found.leaf.reservation }) has.same_hart ∙ (ap (λ (a : Option ℕ). record { hart = (flat_hart f found.leaf.number).hart; reserved = a }) (sym (same-is _ _ has.allowed)) ∙ ap (flat_hart f) number))
 
-  step : hart_step m.code m.items g (item_words f) true ≡ Ok c
-  step = subst (λ a. hart_step m.code m.items a (item_words f) true ≡ Ok c) (sym same-hart) flat-step
-
-  within : h < length f.harts
-  within = in_range m.code m.items f h (item_words f) true c flat-step
-
   abbrev written : Option ℕ
   written = written_item (ask_of m.code m.items g.hart)
 
@@ -135,119 +130,130 @@ module _ (m : MachineValue) (f : FlatMachine) (h : ℕ) (g : FlatHart) (c : Chan
     one : (a b : FlatHart) → Some a ≡ Some b → a ≡ b
     one a b e = cc
 
-  abbrev Ended-here : ℕ → Option ℕ → Type 0
-  Ended-here k r = (r ≡ (flat_hart f k).reserved) ⊎ Ended f h c k r
+  -- the walks for what it issues can be told
+  pub told-here : (kind : TxKind) (x : ℕ) → (turn_of t m).answer ≡ TurnAnswer.Issued kind x → AreTold m1 kind h x
+  told-here kind x is = told m flat h 0 kind x s.shaped s.rules s.rests s.room have may is
 
-  at-once : (op : Op) → (turn_of t m).answer ≡ TurnAnswer.Retired op → Shows m1 (with_change f h c)
-  at-once op is = turn-shows f h c (λ k r. same_reservation (flat_hart f k).reserved r) (λ k r allowed. inl (sym (same-is _ _ allowed))) m g 0 s.shaped s.rules s.rests s.room s.leaves own step within s.words op is
+  module _ (c : Change) (flat-step : hart_step m.code m.items (flat_hart f h) (item_words f) true ≡ Ok c) where
+    step : hart_step m.code m.items g (item_words f) true ≡ Ok c
+    step = subst (λ a. hart_step m.code m.items a (item_words f) true ≡ Ok c) (sym same-hart) flat-step
 
-  -- after walks
-  module _ (kind : TxKind) (x : ℕ) (is : (turn_of t m).answer ≡ TurnAnswer.Issued kind x) where
-    abbrev ts : List Turn
-    ts = walks_of h m1
+    within : h < length f.harts
+    within = in_range m.code m.items f h (item_words f) true c flat-step
 
-    abbrev m3 : MachineValue
-    m3 = (run_of ts m1).machine
+    abbrev Ended-here : ℕ → Option ℕ → Type 0
+    Ended-here k r = (r ≡ (flat_hart f k).reserved) ⊎ Ended f h c k r
 
-    all : Came m flat h 0 kind x s.shaped s.rules s.rests s.room have may is ts
-    all = came m flat h 0 kind x s.shaped s.rules s.rests s.room have may is
+    at-once : (op : Op) → (turn_of t m).answer ≡ TurnAnswer.Retired op → Shows m1 (with_change f h c)
+    at-once op is = turn-shows f h c (λ k r. same_reservation (flat_hart f k).reserved r) (λ k r allowed. inl (sym (same-is _ _ allowed))) m g 0 s.shaped s.rules s.rests s.room s.leaves own step within s.words op is
 
-    comes : Comes m1 ts flat h x
-    comes = walked m flat h 0 kind x s.shaped s.rules s.rests s.room have may is
+    -- after walks
+    module _ (kind : TxKind) (x : ℕ) (is : (turn_of t m).answer ≡ TurnAnswer.Issued kind x) where
+      abbrev ts : List Turn
+      ts = walks_of h m1
 
-    frames : frame_of m3 ≡ frame_of m
-    frames = run-frame ts m1 ∙ turn-frame t m
+      abbrev m3 : MachineValue
+      m3 = (run_of ts m1).machine
 
-    -- what an ended reservation was ended for
-    stored-is : {state : LeafState} → (k : ℕ) (r : Option ℕ) (ask : Ask) → WantsTo x g.reserved ask state → change_by ask g.reserved (finish_of m.code m.items g.hart) (item_words f) true ≡ Ok c → ended (written_item ask) (flat_hart f k).reserved r ≡ true → Ended f h c k r
-    unfolding ended
-    stored-is k r ask (to_read lr e) change left = absurd (true≢false (sym left ∙ ap (λ a. ended (written_item a) (flat_hart f k).reserved r) e))
-    stored-is k r ask (to_write e) change left = ends (subst (λ a. change_by a g.reserved (finish_of m.code m.items g.hart) (item_words f) true ≡ Ok c) e change) (subst (λ a. ended (written_item a) (flat_hart f k).reserved r ≡ true) e left) where
-      stored-of : Result Change HaltCause → Option Stored
-      stored-of (Ok d) = d.stored
-      stored-of (Err cause) = None
+      all : Came m flat h 0 kind x s.shaped s.rules s.rests s.room have may is ts
+      all = came m flat h 0 kind x s.shaped s.rules s.rests s.room have may is
 
-      ends : change_by (Ask.NeedsExclusive x) g.reserved (finish_of m.code m.items g.hart) (item_words f) true ≡ Ok c → same_reservation (unreserved x (flat_hart f k).reserved) r ≡ true → Ended f h c k r
-      ends change left = record { store = record { item = x; words = (finish_of m.code m.items g.hart (item_words f x) false).words }; is = sym (ap stored-of change); left = sym (same-is _ _ left) }
-    stored-is k r ask (to_write_reserved e has) change left = ends (subst (λ a. change_by a g.reserved (finish_of m.code m.items g.hart) (item_words f) true ≡ Ok c) e change) (subst (λ a. ended (written_item a) (flat_hart f k).reserved r ≡ true) e left) where
-      stored-of : Result Change HaltCause → Option Stored
-      stored-of (Ok d) = d.stored
-      stored-of (Err cause) = None
+      comes : Comes m1 ts flat h x
+      comes = walked m flat h 0 kind x s.shaped s.rules s.rests s.room have may is
 
-      ends : change_by (Ask.Conditional x) g.reserved (finish_of m.code m.items g.hart) (item_words f) true ≡ Ok c → same_reservation (unreserved x (flat_hart f k).reserved) r ≡ true → Ended f h c k r
-      ends change left = record { store = record { item = x; words = (finish_of m.code m.items g.hart (item_words f x) true).words }; is = sym (ap stored-of (sym (ap (λ b. Ok (conditional b x (finish_of m.code m.items g.hart (item_words f x)))) has) ∙ change)); left = sym (same-is _ _ left) }
+      frames : frame_of m3 ≡ frame_of m
+      frames = run-frame ts m1 ∙ turn-frame t m
 
-    same-g : all.g ≡ g
-    same-g = one all.g g (sym all.own ∙ own) where
-      one : (a b : FlatHart) → Some a ≡ Some b → a ≡ b
-      one a b e = cc
+      -- what an ended reservation was ended for
+      stored-is : {state : LeafState} → (k : ℕ) (r : Option ℕ) (ask : Ask) → WantsTo x g.reserved ask state → change_by ask g.reserved (finish_of m.code m.items g.hart) (item_words f) true ≡ Ok c → ended (written_item ask) (flat_hart f k).reserved r ≡ true → Ended f h c k r
+      unfolding ended
+      stored-is k r ask (to_read lr e) change left = absurd (true≢false (sym left ∙ ap (λ a. ended (written_item a) (flat_hart f k).reserved r) e))
+      stored-is k r ask (to_write e) change left = ends (subst (λ a. change_by a g.reserved (finish_of m.code m.items g.hart) (item_words f) true ≡ Ok c) e change) (subst (λ a. ended (written_item a) (flat_hart f k).reserved r ≡ true) e left) where
+        stored-of : Result Change HaltCause → Option Stored
+        stored-of (Ok d) = d.stored
+        stored-of (Err cause) = None
 
-    wants : Wants m.code m.items g x all.state
-    wants = subst (λ a. Wants m.code m.items a x all.state) same-g all.wants
+        ends : change_by (Ask.NeedsExclusive x) g.reserved (finish_of m.code m.items g.hart) (item_words f) true ≡ Ok c → same_reservation (unreserved x (flat_hart f k).reserved) r ≡ true → Ended f h c k r
+        ends change left = record { store = record { item = x; words = (finish_of m.code m.items g.hart (item_words f x) false).words }; is = sym (ap stored-of change); left = sym (same-is _ _ left) }
+      stored-is k r ask (to_write_reserved e has) change left = ends (subst (λ a. change_by a g.reserved (finish_of m.code m.items g.hart) (item_words f) true ≡ Ok c) e change) (subst (λ a. ended (written_item a) (flat_hart f k).reserved r ≡ true) e left) where
+        stored-of : Result Change HaltCause → Option Stored
+        stored-of (Ok d) = d.stored
+        stored-of (Err cause) = None
 
-    change : change_by (ask_of m.code m.items g.hart) g.reserved (finish_of m.code m.items g.hart) (item_words f) true ≡ Ok c
-    unfolding hart_step
-    change = ap (λ o. unless_halted o (change_by (ask_of m.code m.items g.hart) g.reserved (finish_of m.code m.items g.hart) (item_words f) true)) (sym wants.running) ∙ step
+        ends : change_by (Ask.Conditional x) g.reserved (finish_of m.code m.items g.hart) (item_words f) true ≡ Ok c → same_reservation (unreserved x (flat_hart f k).reserved) r ≡ true → Ended f h c k r
+        ends change left = record { store = record { item = x; words = (finish_of m.code m.items g.hart (item_words f x) true).words }; is = sym (ap stored-of (sym (ap (λ b. Ok (conditional b x (finish_of m.code m.items g.hart (item_words f x)))) has) ∙ change)); left = sym (same-is _ _ left) }
 
-    allows : (k : ℕ) (r : Option ℕ) → may_before f written k r ≡ true → Ended-here k r
-    allows k r allowed = by (same_reservation (flat_hart f k).reserved r) refl allowed where
-      by : (b : Bool) → same_reservation (flat_hart f k).reserved r ≡ b → (b || ended written (flat_hart f k).reserved r) ≡ true → Ended-here k r
-      by true is e = inl (sym (same-is _ _ is))
-      by false is e = inr (stored-is k r (ask_of m.code m.items g.hart) wants.asks change e)
+      same-g : all.g ≡ g
+      same-g = one all.g g (sym all.own ∙ own) where
+        one : (a b : FlatHart) → Some a ≡ Some b → a ≡ b
+        one a b e = cc
 
-    parts : (m3.top ≡ comes.served.top) × (m3.kids ≡ comes.served.kids)
-    parts = same-top m3.top comes.served.top m3.kids comes.served.kids comes.served.brings.root
+      wants : Wants m.code m.items g x all.state
+      wants = subst (λ a. Wants m.code m.items a x all.state) same-g all.wants
 
-    pub rests3 : is_at_rest m3 ≡ true
-    rests3 = ap tree_rests comes.served.brings.root ∙ comes.rests
+      change : change_by (ask_of m.code m.items g.hart) g.reserved (finish_of m.code m.items g.hart) (item_words f) true ≡ Ok c
+      unfolding hart_step
+      change = ap (λ o. unless_halted o (change_by (ask_of m.code m.items g.hart) g.reserved (finish_of m.code m.items g.hart) (item_words f) true)) (sym wants.running) ∙ step
 
-    have3 : AllHave flat m3.kids
-    have3 = subst (AllHave flat) (sym parts.1) comes.copies
+      allows : (k : ℕ) (r : Option ℕ) → may_before f written k r ≡ true → Ended-here k r
+      allows k r allowed = by (same_reservation (flat_hart f k).reserved r) refl allowed where
+        by : (b : Bool) → same_reservation (flat_hart f k).reserved r ≡ b → (b || ended written (flat_hart f k).reserved r) ≡ true → Ended-here k r
+        by true is e = inl (sym (same-is _ _ is))
+        by false is e = inr (stored-is k r (ask_of m.code m.items g.hart) wants.asks change e)
 
-    room3 : has_room m3 ≡ true
-    unfolding room-of
-    room3 = ap (λ (a : Frame). room-of a.bones a.items) frames ∙ s.room
+      parts : (m3.top ≡ comes.served.top) × (m3.kids ≡ comes.served.kids)
+      parts = same-top m3.top comes.served.top m3.kids comes.served.kids comes.served.brings.root
 
-    own3 : hart_at h m3 ≡ Some g
-    own3 =
-        let n = items_of_machine m1 in
-        let Q : LeafValue → Type 0 = λ v. LeafIs n flat all.g x all.state None v in
-        let root = root-same n flat h Q m3.top all.served.top m3.kids all.served.kids all.served.brings.root all.served.rests in
-        let one = root-reads (of_leaf (λ w v. leaf_hart v) no_flat_hart) n flat h Q m3.top m3.kids root in
-        one.says ∙ ap Some (own-is m.code m.items n flat all.g x all.state all.usable all.wants one.leaf one.is ∙ same-g)
+      pub rests3 : is_at_rest m3 ≡ true
+      rests3 = ap tree_rests comes.served.brings.root ∙ comes.rests
 
-    counts3 : length f.words ≡ items_of_machine m3
-    counts3 = s.words ∙ sym (ap (λ (a : Frame). item_count a.items) frames)
+      have3 : AllHave flat m3.kids
+      have3 = subst (AllHave flat) (sym parts.1) comes.copies
 
-    pub walks-keep : m3.ops ≡ m1.ops
-    walks-keep = all.served.brings.operations
+      room3 : has_room m3 ≡ true
+      unfolding room-of
+      room3 = ap (λ (a : Frame). room-of a.bones a.items) frames ∙ s.room
 
-    pub last-answer : (key : Key) × ((turn_of t m3).answer ≡ TurnAnswer.Retired (operation key h g c))
-    last-answer =
-        let d = done m flat h g c s.shaped s.rules s.rests s.room have may own step kind x is in
-        (d.key, d.answer ∙ ap (λ (e : Change). TurnAnswer.Retired (operation d.key h g e)) (done-same m flat h g c s.shaped s.rules s.rests s.room have may own step kind x is))
+      own3 : hart_at h m3 ≡ Some g
+      own3 =
+          let n = items_of_machine m1 in
+          let Q : LeafValue → Type 0 = λ v. LeafIs n flat all.g x all.state None v in
+          let root = root-same n flat h Q m3.top all.served.top m3.kids all.served.kids all.served.brings.root all.served.rests in
+          let one = root-reads (of_leaf (λ w v. leaf_hart v) no_flat_hart) n flat h Q m3.top m3.kids root in
+          one.says ∙ ap Some (own-is m.code m.items n flat all.g x all.state all.usable all.wants one.leaf one.is ∙ same-g)
 
-    after-walks : Shows (turn_of t m3).machine (with_change f h c)
-    after-walks =
-        let d = done m flat h g c s.shaped s.rules s.rests s.room have may own step kind x is in
-        turn-shows f h c (may_before f written) allows m3 g 0 (run-shape ts m1 (turn-shape t m s.shaped)) (run-keeps_rules ts m1 (turn-keeps_rules t m s.rules)) rests3 room3 have3 own3 (step3 m flat h g c s.shaped s.rules s.rests s.room have may own step kind x is) within counts3 (operation d.key h g d.change) d.answer
+      counts3 : length f.words ≡ items_of_machine m3
+      counts3 = s.words ∙ sym (ap (λ (a : Frame). item_count a.items) frames)
 
-  -- what its turns answer
+      pub walks-keep : m3.ops ≡ m1.ops
+      walks-keep = all.served.brings.operations
 
-  pub first-answer : ((key : Key) × ((turn_of t m).answer ≡ TurnAnswer.Retired (operation key h g c))) ⊎ ((kind : TxKind) × (x : ℕ) × ((turn_of t m).answer ≡ TurnAnswer.Issued kind x))
-  first-answer = by (answers m flat h g c s.shaped s.rules s.rests s.room have may own step) where
-    by : Answers m flat h g c s.shaped s.rules s.rests s.room have may own step → ((key : Key) × ((turn_of t m).answer ≡ TurnAnswer.Retired (operation key h g c))) ⊎ ((kind : TxKind) × (x : ℕ) × ((turn_of t m).answer ≡ TurnAnswer.Issued kind x))
-    by (at_once key is) = inl (key, is)
-    by (asks kind x is) = inr (kind, x, is)
+      pub last-answer : (key : Key) × ((turn_of t m3).answer ≡ TurnAnswer.Retired (operation key h g c))
+      last-answer =
+          let d = done m flat h g c s.shaped s.rules s.rests s.room have may own step kind x is in
+          (d.key, d.answer ∙ ap (λ (e : Change). TurnAnswer.Retired (operation d.key h g e)) (done-same m flat h g c s.shaped s.rules s.rests s.room have may own step kind x is))
 
-  pub op-served : (op : Op) → op.hart ≡ h → op.pc ≡ g.hart.pc → op.effect ≡ c.effect → completes_op op (run_of (turns_to_complete h m) m).answers ≡ true
-  op-served op hart pc effect = served m flat h g c s.shaped s.rules s.rests s.room have may own step op hart pc effect
+      after-walks : Shows (turn_of t m3).machine (with_change f h c)
+      after-walks =
+          let d = done m flat h g c s.shaped s.rules s.rests s.room have may own step kind x is in
+          turn-shows f h c (may_before f written) allows m3 g 0 (run-shape ts m1 (turn-shape t m s.shaped)) (run-keeps_rules ts m1 (turn-keeps_rules t m s.rules)) rests3 room3 have3 own3 (step3 m flat h g c s.shaped s.rules s.rests s.room have may own step kind x is) within counts3 (operation d.key h g d.change) d.answer
 
-  by-answer : Answers m flat h g c s.shaped s.rules s.rests s.room have may own step → Shows (run_of (turns_behind h (turn_of t m).answer m1) m1).machine (with_change f h c)
-  unfolding run_of
-  by-answer (at_once key is) = subst (λ a. Shows (run_of (turns_behind h a m1) m1).machine (with_change f h c)) (sym is) (at-once (operation key h g c) is)
-  by-answer (asks kind x is) = subst (λ a. Shows (run_of (turns_behind h a m1) m1).machine (with_change f h c)) (sym is) (subst (λ k. Shows k (with_change f h c)) (sym (run-on (walks_of h m1) (t ∷ []) m1)) (after-walks kind x is))
+    -- what its turns answer
 
-  pub shown : Shows (run_of (turns_to_complete h m) m).machine (with_change f h c)
-  unfolding run_of turns_to_complete
-  shown = by-answer (answers m flat h g c s.shaped s.rules s.rests s.room have may own step)
+    pub first-answer : ((key : Key) × ((turn_of t m).answer ≡ TurnAnswer.Retired (operation key h g c))) ⊎ ((kind : TxKind) × (x : ℕ) × ((turn_of t m).answer ≡ TurnAnswer.Issued kind x))
+    first-answer = by (answers m flat h g c s.shaped s.rules s.rests s.room have may own step) where
+      by : Answers m flat h g c s.shaped s.rules s.rests s.room have may own step → ((key : Key) × ((turn_of t m).answer ≡ TurnAnswer.Retired (operation key h g c))) ⊎ ((kind : TxKind) × (x : ℕ) × ((turn_of t m).answer ≡ TurnAnswer.Issued kind x))
+      by (at_once key is) = inl (key, is)
+      by (asks kind x is) = inr (kind, x, is)
+
+    pub op-served : (op : Op) → op.hart ≡ h → op.pc ≡ g.hart.pc → op.effect ≡ c.effect → completes_op op (run_of (turns_to_complete h m) m).answers ≡ true
+    op-served op hart pc effect = served m flat h g c s.shaped s.rules s.rests s.room have may own step op hart pc effect
+
+    by-answer : Answers m flat h g c s.shaped s.rules s.rests s.room have may own step → Shows (run_of (turns_behind h (turn_of t m).answer m1) m1).machine (with_change f h c)
+    unfolding run_of
+    by-answer (at_once key is) = subst (λ a. Shows (run_of (turns_behind h a m1) m1).machine (with_change f h c)) (sym is) (at-once (operation key h g c) is)
+    by-answer (asks kind x is) = subst (λ a. Shows (run_of (turns_behind h a m1) m1).machine (with_change f h c)) (sym is) (subst (λ k. Shows k (with_change f h c)) (sym (run-on (walks_of h m1) (t ∷ []) m1)) (after-walks kind x is))
+
+    pub shown : Shows (run_of (turns_to_complete h m) m).machine (with_change f h c)
+    unfolding run_of turns_to_complete
+    shown = by-answer (answers m flat h g c s.shaped s.rules s.rests s.room have may own step)

@@ -10,6 +10,7 @@ use Rattle.serving_model.specs.TreeModel.State.Values.{WayValue, LeafSizes, Leaf
 use Rattle.serving_model.specs.TreeModel.State.Values.{Node, Nodes, leaf_node, dir_node, no_nodes, more_nodes}
 use Rattle.serving_model.specs.TreeModel.State.Values.{MachineValue, root_of}
 use Rattle.serving_model.specs.TreeModel.State.Directory.{note_why}
+use Rattle.serving_model.specs.TreeModel.Start.Sources.{TreeValue}
 use Rattle.serving_model.specs.TreeModel.State.Shape.{Skeleton, Skeletons, leaf_bone, dir_bone, no_bones, more_bones, skeletons}
 
 -- ---- at rest
@@ -69,3 +70,9 @@ abbrev mutual
 -- the top sends nothing up
 abbrev pub has_room : MachineValue → Bool
 has_room m = nat_lt 0 m.top.sizes.down_room && trees_have_room (item_count m.items) (skeletons m.kids)
+
+-- A tree whose sizes have room for n items: the items of one set of a leaf are no more than its ways, and each list has a place.
+abbrev pub sizes_have_room : TreeValue → ℕ → Bool
+sizes_have_room t n =
+    nat_le n (t.sizes.sets * t.way_count)
+    && (nat_lt 0 t.sizes.down && (nat_lt 0 t.sizes.requests && nat_lt 0 t.sizes.replies))

@@ -5,7 +5,7 @@
 use Rattle.std.specs.Prelude.{◌≡◌, ◌<◌, ℕ, Bool, true, false, not, ◌&&◌, nat_eq, List, [], ◌∷◌, ◌++◌, length, Option}
 use Rattle.std.specs.Prelude.{Some, None, is_some, option_and_then, Ok, Err, if◌then◌else◌}
 use Rattle.serving_model.specs.DdmTypes.CodeMap.{CodeWord}
-use Rattle.serving_model.specs.DdmTypes.ItemTable.{ItemTable}
+use Rattle.serving_model.specs.DdmTypes.ItemTable.{ItemTable, item_count}
 use Rattle.serving_model.specs.DdmTypes.declared.operations.Effect.{Effect}
 use Rattle.serving_model.specs.DdmTypes.declared.operations.Op.{Op}
 use Rattle.serving_model.specs.DdmTypes.declared.turns.Turn.{Turn}
@@ -18,7 +18,7 @@ use Rattle.bus_laws.specs.IsTree.{IsTree}
 use Rattle.serving_model.specs.TreeModel.Start.Sources.{ImageValue, TreeValue}
 use Rattle.serving_model.specs.TreeModel.Start.Machine.{start_of, flat_start_of}
 use Rattle.serving_model.specs.TreeModel.Turns.Machine.{run_of}
-use Rattle.serving_model.specs.Rest.{has_room}
+use Rattle.serving_model.specs.Rest.{has_room, sizes_have_room}
 use Rattle.serving_model.specs.OneLeaf.{hart_at}
 use Rattle.serving_model.specs.Serving.{same_operation, too_many_turns, serve_from, serve_of}
 use Rattle.serving_model.specs.Shows.{Shows}
@@ -111,6 +111,12 @@ abbrev pub StartsAreShown : Type 0
 StartsAreShown =
     (t : TreeValue) (i : ImageValue) (m : MachineValue) → IsTree t → start_of t i ≡ Ok m → has_room m ≡ true →
     StartShows m (flat_start_of t i)
+
+-- Where the sizes of a tree have room for its items, its machine has.
+abbrev pub StartsHaveRoom : Type 0
+StartsHaveRoom =
+    (t : TreeValue) (i : ImageValue) (m : MachineValue) → start_of t i ≡ Ok m →
+    sizes_have_room t (item_count m.items) ≡ true → has_room m ≡ true
 
 -- the machine shows every order of one flat memory: the list is served, unless its turns are too many
 pub data IsServed (ops : List Op) (m : MachineValue) (f : FlatMachine) : Type 0 where

@@ -1,6 +1,7 @@
 //! What holds of walks, as theorems: there is nothing to run.
 
-ghost use Rattle.serving_model.specs.ServedLists.{StoringRunsAreLegal, ListsAreServed, StartsAreShown, EveryOrderIsShown};
+ghost use Rattle.serving_model.specs.ServedLists.{StoringRunsAreLegal, ListsAreServed, StartsAreShown};
+ghost use Rattle.serving_model.specs.ServedLists.{StartsHaveRoom, EveryOrderIsShown};
 ghost use Rattle.serving_model.specs.Told.{WalksAreTold};
 ghost use Rattle.serving_model.specs.Laws.{PartsGive, PartsLose, RunsAreTheMachines, ReadsAreServed, ErasesAreServed};
 ghost use Rattle.serving_model.specs.Laws.{WalksBringTheItem, RequestsComplete, InstructionsAreServed, StepsAreShown};
@@ -75,6 +76,11 @@ pub fn lists_are_served()
 /// The machine of every accepted tree with room shows its flat machine before its first turn.
 pub fn starts_are_shown()
     ensures { StartsAreShown }
+{}
+
+/// A machine has room where the sizes of its tree have.
+pub fn starts_have_room()
+    ensures { StartsHaveRoom }
 {}
 
 /// The machine of every accepted tree with room shows every order of one flat memory: each list of operations that the memory

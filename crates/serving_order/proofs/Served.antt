@@ -63,16 +63,16 @@ module _ (s : FlatMachine) (m : MachineValue) (f : FlatMachine) (h : ℕ) (g : F
   unfolding run_of
   by-walks kind x is =
       let m3 = (run_of (walks_of h m1) m1).machine in
-      let last = last-answer m f h g c shows own step kind x is in
-      let kept : m3.ops ≡ m.ops = walks-keep m f h g c shows own step kind x is ∙ (ops_after t m ∙ ap (λ a. ops_with a m.ops) is) in
+      let last = last-answer m f h g shows own c step kind x is in
+      let kept : m3.ops ≡ m.ops = walks-keep m f h g shows own c step kind x is ∙ (ops_after t m ∙ ap (λ a. ops_with a m.ops) is) in
       let items : m3.items ≡ m.items = ap (λ (a : Frame). a.items) (run-frame (walks_of h m1) m1 ∙ turn-frame t m) in
       let before : KeysRise m3.items m3.ops = subst (λ ops. KeysRise m3.items ops) (sym kept) (subst (λ i. KeysRise i m.ops) (sym items) rise) in
-      let after : KeysRise m3.items (turn_of t m3).machine.ops = one-rises s m3 h (operation last.0 h g c) (run-orderly s m1 (walks_of h m1) (turn-orderly s m t orderly)) (rests3 m f h g c shows own step kind x is) last.1 before in
+      let after : KeysRise m3.items (turn_of t m3).machine.ops = one-rises s m3 h (operation last.0 h g c) (run-orderly s m1 (walks_of h m1) (turn-orderly s m t orderly)) (rests3 m f h g shows own c step kind x is) last.1 before in
       subst (λ a. KeysRise m.items (run_of (turns_behind h a m1) m1).machine.ops) (sym is) (subst (λ (k : MachineValue). KeysRise m.items k.ops) (sym (run-on (walks_of h m1) (t ∷ []) m1)) (subst (λ i. KeysRise i (turn_of t m3).machine.ops) items after))
 
   completing-rises : KeysRise m.items (run_of (turns_to_complete h m) m).machine.ops
   unfolding run_of turns_to_complete
-  completing-rises = by (first-answer m f h g c shows own step) where
+  completing-rises = by (first-answer m f h g shows own c step) where
     by : ((key : Key) × ((turn_of t m).answer ≡ TurnAnswer.Retired (operation key h g c))) ⊎ ((kind : TxKind) × (x : ℕ) × ((turn_of t m).answer ≡ TurnAnswer.Issued kind x)) → KeysRise m.items (run_of (turns_behind h (turn_of t m).answer m1) m1).machine.ops
     by (inl once) = at-once once.0 once.1
     by (inr issued) = by-walks issued.0 issued.1 issued.2
@@ -109,7 +109,7 @@ module _ (s : FlatMachine) where
       let ts = turns_to_complete op.hart m in
       let hart = some-hart (hart_at op.hart m) (was.harts op.hart (in_range m.code m.items f op.hart (item_words f) true one.change one.step)) in
       record {
-        shows = subst (Shows (run_of ts m).machine) one.after (shown m f op.hart hart.0 one.change was.shows hart.1 one.step);
+        shows = subst (Shows (run_of ts m).machine) one.after (shown m f op.hart hart.0 was.shows hart.1 one.change one.step);
         harts = λ i l. same-harts i ts m ∙ was.harts i (subst (λ k. i < k) (ap (λ (n : FlatMachine). length n.harts) (sym one.after) ∙ (same_counts f op.hart one.change).0) l);
         orderly = run-orderly s m ts was.orderly;
         rise = subst (λ (a : Frame). KeysRise a.items (run_of ts m).machine.ops) (sym (run-frame ts m)) (completing-rises s m f op.hart hart.0 one.change was.shows hart.1 one.step was.orderly was.rise);

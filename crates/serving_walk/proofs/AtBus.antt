@@ -12,9 +12,9 @@ use Rattle.headline.specs.TreeModel.State.Values.{DirValue, Node, Nodes, leaf_no
 use Rattle.headline.specs.TreeModel.State.Blank.{no_node}
 use Rattle.headline.specs.TreeModel.State.Child.{child_label, child_hold}
 use Rattle.headline.specs.TreeModel.State.Shape.{skeleton, skeletons, buses_of, buses_among, are_distinct, buses_differ, IsShaped}
-use Rattle.headline.specs.TreeModel.State.Place.{at_top}
+use Rattle.headline.specs.TreeModel.State.Place.{Where, at_top}
 use Rattle.headline.specs.TreeModel.Turns.Children.{child_at}
-use Rattle.headline.specs.TreeModel.Turns.Tree.{leaf_of_number, bus_of_number, is_named, of_dir}
+use Rattle.headline.specs.TreeModel.Turns.Tree.{leaf_of_number, bus_of_number, is_named, read_in, of_dir}
 use Rattle.headline.specs.TreeModel.Turns.Machine.{ask_bus, child_count, child_of, child_hold_of, is_child_of}
 use Rattle.headline.proofs.TreeModel.Children.{nodes-children}
 use Rattle.headline.proofs.BusLaws.StartSums.{one_if}
@@ -89,7 +89,7 @@ module _ (m : MachineValue) (shaped : IsShaped m) where
   asked : {A : Type 0} (d : DirValue) (ns : Nodes) → StandsIn (dir_node d ns) (root_of m) → (q : DirValue → List Node → A) (other : A) → ask_bus d.bus (λ w e ks. q e ks) other m ≡ Some (q d (children ns))
   asked d ns i q other = (read-one (bus_of_number d.bus) (of_dir (λ w e ks. q e ks) other) at_top (root_of m) (dir_node d ns) i (eq-eqb d.bus d.bus refl) (one-bus d.bus)).1
 
-  part-standing : (d : DirValue) (ns : Nodes) → StandsIn (dir_node d ns) (root_of m) → part_at (Some d.bus) m ≡ dir_node d ns
+  pub part-standing : (d : DirValue) (ns : Nodes) → StandsIn (dir_node d ns) (root_of m) → part_at (Some d.bus) m ≡ dir_node d ns
   unfolding part_at
   part-standing d ns i = ap (λ o. unwrap_or o no_node) (asked d ns i (λ e ks. dir_node e (nodes ks)) no_node) ∙ ap (dir_node d) (nodes-children ns)
 
@@ -116,6 +116,10 @@ module _ (m : MachineValue) (shaped : IsShaped m) where
     by (Some count) is e =
         let r = was-read (bus_of_number b) (of_dir (λ w d ns. length ns) 0) count at_top (root_of m) is in
         of-node r.node r.named r.stands
+
+  -- whatever is read of it
+  pub read-at : {A : Type 0} (b : ℕ) (a : AtBus b) (read : Where → Node → A) → (w : Where) × (read_in (bus_of_number b) read at_top (root_of m) ≡ Some (read w (dir_node a.dir a.kids)))
+  read-at b a read = read-one (bus_of_number b) read at_top (root_of m) (dir_node a.dir a.kids) a.stands (eq-eqb a.dir.bus b a.number) (one-bus b)
 
   -- ---- a child of a bus
 

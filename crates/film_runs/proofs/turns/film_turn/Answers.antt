@@ -1,7 +1,8 @@
-use Rattle.std.proofs.Common.{List, length, sym, subst, ap, ◌∙◌}
+use Rattle.std.proofs.Common.{Bool, List, length, refl, sym, subst, ap, ◌∙◌}
 use Rattle.film_runs.specs.AnyMachine.Any.{machine_state}
 use Rattle.film_runs.specs.DdmTypes.declared.answers.TurnAnswer.{TurnAnswer}
 use Rattle.film_runs.specs.Film.Filmed.{IsFilmed}
+use Rattle.film_runs.specs.Resting.{one_rests}
 use Rattle.film_runs.specs.TreeModel.State.Values.{MachineValue}
 use Rattle.film_runs.specs.FilmModel.Still.{still as still_of}
 use Rattle.film_runs.proofs.FilmedAfter.{filmed_after}
@@ -24,7 +25,8 @@ pub film_change-requires-clause-rested : goal.film_change-requires-clause-rested
 film_change-requires-clause-rested c = λ rested.
     let m = (machine_state c.args.machine.now).machine in
     let answers = answer_after c.clear.new.self.items c.run.new.answers.items c.deref-2.result.now c.args.turn m c.deref-2.ensures.value c.in_ok-counts.ensures.answers c.clear.ensures.items in
-    still_rests c.args.turn m (machine_state c.run.new.machine).machine c.deref-2.result.now c.args.reel.now.before answers (sym c.one_rests-rested.ensures ∙ rested)
+    let told = ap (λ (halted : Bool). one_rests halted c.deref-2.result.now) (sym (c.one_halted-halted.ensures c.args.turn refl)) ∙ sym c.one_rests-rested.ensures ∙ rested in
+    still_rests c.args.turn m (machine_state c.run.new.machine).machine c.deref-2.result.now c.args.reel.now.before answers told
     (machine_after (machine_state c.run.new.machine) (machine_state c.args.machine.now) c.args.turn c.in_ok-counts.ensures.after) c.requires.before
 
 pub returns-clause-text : goal.returns-clause-text

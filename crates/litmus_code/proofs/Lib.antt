@@ -1,0 +1,3 @@
+pub mod WordsFit
+pub mod Listed
+pub mod Threads

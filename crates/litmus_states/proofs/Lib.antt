@@ -1,0 +1,5 @@
+pub mod Lists
+pub mod FlatHarts
+pub mod Ends
+pub mod Logs
+pub mod Complete

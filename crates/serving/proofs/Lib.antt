@@ -1,0 +1,5 @@
+pub mod Named
+pub mod Walked
+pub mod Steps
+pub mod Lines
+pub mod Completes
