@@ -9,12 +9,12 @@ use Rattle.ddm_cli.proofs.ReportCrate.Written.{rose_before}
 use Rattle.ddm_cli.specs.TreeModel.Start.Sources.{TreeValue, leaf_count}
 use Rattle.ddm_cli.specs.TreeConfig.TreeFile.{tree_of}
 use Rattle.ddm_cli.specs.TreeConfig.declared.refusal.TreeRefusal.{TreeRefusal}
-use Rattle.litmus_files.specs.LitmusModel.declared.refusal.TestRefusal.{TestRefusal}
-use Rattle.litmus_files.specs.LitmusModel.declared.refusal.TestRefusal.TheVariants.{TooLong}
-use Rattle.litmus_files.specs.LitmusModel.Test.{test_of}
-use Rattle.litmus_files.specs.Assembled.{file_image, image_read}
-use Rattle.litmus_files.specs.declared.assembling.FileRefusal.{FileRefusal}
-use Rattle.litmus_files.specs.declared.assembling.FileRefusal.TheVariants.{Test, Image}
+use Rattle.ddm_words.specs.LitmusModel.declared.refusal.TestRefusal.{TestRefusal}
+use Rattle.ddm_words.specs.LitmusModel.declared.refusal.TestRefusal.TheVariants.{TooLong}
+use Rattle.ddm_words.specs.LitmusModel.Test.{test_of}
+use Rattle.ddm_words.specs.LitmusFiles.Assembled.{file_image, image_read}
+use Rattle.ddm_words.specs.LitmusFiles.declared.assembling.FileRefusal.{FileRefusal}
+use Rattle.ddm_words.specs.LitmusFiles.declared.assembling.FileRefusal.TheVariants.{Test, Image}
 use Rattle.ddm_cli.specs.Assembling.{AssemblyCause, NoAssembly, TestCause, assembled_at, assembled_of}
 use Rattle.ddm_cli.specs.Causes.{AcceptedAs, Accepts, TreeCause}
 use Rattle.ddm_words.specs.Commands.{Assembly, to_assemble}

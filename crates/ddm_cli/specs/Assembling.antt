@@ -6,10 +6,10 @@ use Rattle.ddm_cli.specs.DdmOutside.Causes.{Rose}
 use Rattle.ddm_cli.specs.TreeModel.Start.Sources.{TreeValue, leaf_count}
 use Rattle.ddm_cli.specs.TreeConfig.TreeFile.{tree_of}
 use Rattle.ddm_cli.specs.ReportCrate.declared.roles.FileRole.TheVariants.{TreeFile}
-use Rattle.litmus_files.specs.LitmusModel.Test.{test_of}
-use Rattle.litmus_files.specs.Assembled.{file_image}
-use Rattle.litmus_files.specs.declared.assembling.FileRefusal.{FileRefusal}
-use Rattle.litmus_files.specs.declared.assembling.FileRefusal.TheVariants.{Test}
+use Rattle.ddm_words.specs.LitmusModel.Test.{test_of}
+use Rattle.ddm_words.specs.LitmusFiles.Assembled.{file_image}
+use Rattle.ddm_words.specs.LitmusFiles.declared.assembling.FileRefusal.{FileRefusal}
+use Rattle.ddm_words.specs.LitmusFiles.declared.assembling.FileRefusal.TheVariants.{Test}
 use Rattle.ddm_cli.specs.Causes.{Accepts}
 use Rattle.ddm_words.specs.Commands.{Assembly}
 use Rattle.ddm_cli.specs.Parts.{tree_at}

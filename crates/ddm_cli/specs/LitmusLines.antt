@@ -1,13 +1,13 @@
 -- The fault lines of litmus tests: each refusal by its name, and by its line or its number.
 use Rattle.std.specs.Prelude.{ℕ, List, ◌++◌, codes, decimal}
-use Rattle.litmus_files.specs.LitmusModel.declared.refusal.Fault.{Fault}
-use Rattle.litmus_files.specs.LitmusModel.declared.refusal.Fault.TheVariants as fault
-use Rattle.litmus_files.specs.LitmusModel.declared.refusal.TestRefusal.{TestRefusal}
-use Rattle.litmus_files.specs.LitmusModel.declared.refusal.TestRefusal.TheVariants.{TooLong, InLine, TooManyObserved, TooManyLocations}
-use Rattle.litmus_files.specs.LitmusModel.declared.refusal.ImageRefusal.{ImageRefusal}
-use Rattle.litmus_files.specs.LitmusModel.declared.refusal.ImageRefusal.TheVariants.{TooManyThreads, OtherPlaces, NoLeaf}
-use Rattle.litmus_files.specs.declared.assembling.FileRefusal.{FileRefusal}
-use Rattle.litmus_files.specs.declared.assembling.FileRefusal.TheVariants.{Test, Image}
+use Rattle.ddm_words.specs.LitmusModel.declared.refusal.Fault.{Fault}
+use Rattle.ddm_words.specs.LitmusModel.declared.refusal.Fault.TheVariants as fault
+use Rattle.ddm_words.specs.LitmusModel.declared.refusal.TestRefusal.{TestRefusal}
+use Rattle.ddm_words.specs.LitmusModel.declared.refusal.TestRefusal.TheVariants.{TooLong, InLine, TooManyObserved, TooManyLocations}
+use Rattle.ddm_words.specs.LitmusModel.declared.refusal.ImageRefusal.{ImageRefusal}
+use Rattle.ddm_words.specs.LitmusModel.declared.refusal.ImageRefusal.TheVariants.{TooManyThreads, OtherPlaces, NoLeaf}
+use Rattle.ddm_words.specs.LitmusFiles.declared.assembling.FileRefusal.{FileRefusal}
+use Rattle.ddm_words.specs.LitmusFiles.declared.assembling.FileRefusal.TheVariants.{Test, Image}
 
 abbrev pub fault_name : Fault → List ℕ
 fault_name fault.OpenComment = codes "open comment"

@@ -15,7 +15,7 @@ use crate::of_report::write_all;
 use crate::of_tree_config::TreeConfig;
 use crate::reading::{ReadError, read_buffer, read_whole};
 use crate::status::Status;
-use litmus_files::{FileRefusal, Places, TestRefusal, Unassembled, assembled, read_places};
+use ddm_words::of_litmus_files::{FileRefusal, Places, TestRefusal, Unassembled, assembled, read_places};
 use std::alloc::Global;
 
 /// The most bytes of a litmus test that are read.

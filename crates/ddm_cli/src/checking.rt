@@ -11,12 +11,12 @@ ghost use Rattle.ddm_cli.specs.Reads.{IsBehind};
 ghost use Rattle.ddm_cli.specs.Top.{HasAccepted, NoVerdict, WritesAccepted};
 ghost use Rattle.ddm_words.specs.Views.{check_from};
 
-use ddm_words::Check;
 use crate::files::{setting_file, tree_file};
 use crate::of_ddm_outside::{Failed, Shelf, Sink};
 use crate::of_report::{FileRole, Line, write_all};
 use crate::reading::read_buffer;
 use crate::status::Status;
+use ddm_words::Check;
 use std::alloc::Global;
 use witness_check::WitnessReader;
 

@@ -13,7 +13,6 @@ ghost use Rattle.ddm_cli.specs.Parts.{BeginsFor, IsStart, parts_in, tree_at};
 ghost use Rattle.ddm_cli.specs.Told.{image_faults, image_told};
 ghost use Rattle.ddm_words.specs.Views.{image_from};
 
-use ddm_words::ImageSource;
 use crate::judging::{begun, built, built_twice, judged_tree, loaded};
 use crate::limits::{MOST_IMAGE, MOST_TREE};
 use crate::of_ddm_outside::Shelf;
@@ -23,6 +22,7 @@ use crate::of_report::FileRole;
 use crate::of_tree_config::{TreeConfig, TreeRefusal};
 use crate::reading::{ReadError, read_whole};
 use crate::status::Status;
+use ddm_words::ImageSource;
 use run_engine::AnyMachine;
 use std::alloc::Global;
 use witness_check::WitnessReader;

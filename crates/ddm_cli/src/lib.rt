@@ -45,7 +45,7 @@ pub use checkpoint::ResumeRefusal;
 pub use ddm_words::first_fault;
 pub use fault::tell;
 pub use joining::of_join_model::TableRefusal;
-pub use litmus_files::FileRefusal;
+pub use ddm_words::of_litmus_files::FileRefusal;
 pub use status::{Status, code};
 pub use top::ddm_main;
 pub use witness_check::CheckRefusal;

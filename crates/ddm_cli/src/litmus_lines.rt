@@ -1,11 +1,11 @@
 //! The line of each refusal of a litmus test.
 
 ghost use Rattle.std.specs.Prelude.{◌≡◌, ◌≤◌, length};
-ghost use Rattle.litmus_files.specs.LitmusModel.declared.refusal.TestRefusal.TheVariants.{TooLong};
+ghost use Rattle.ddm_words.specs.LitmusModel.declared.refusal.TestRefusal.TheVariants.{TooLong};
 ghost use Rattle.ddm_cli.specs.LitmusLines.{fault_name, in_line, litmus_line, numbered, test_line, unplaced_line, unread_test_line};
 
 use crate::of_report::FaultLine;
-use litmus_files::{Fault, FileRefusal, ImageRefusal, TestRefusal};
+use ddm_words::of_litmus_files::{Fault, FileRefusal, ImageRefusal, TestRefusal};
 
 // The name of what is wrong in a line.
 fn fault_name(fault: Fault) -> &'static [u8]

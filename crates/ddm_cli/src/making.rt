@@ -15,7 +15,6 @@ ghost use Rattle.ddm_cli.specs.Told as Told;
 ghost use Rattle.ddm_cli.specs.Told.{schedule_faults, schedule_told};
 ghost use Rattle.ddm_words.specs.Views.{turns_from};
 
-use ddm_words::{Prints, TurnSource};
 use crate::limits::BLOCK_TURNS;
 use crate::of_ddm_outside::Shelf;
 use crate::of_ddm_types::{BusNo, NoMemory, Turn, TurnAnswer};
@@ -24,6 +23,7 @@ use crate::of_schedule_log::{FeedError, ScheduleReader, SeededTurns};
 use crate::of_text_model::RunCounts;
 use crate::of_tree_config::TreeConfig;
 use crate::status::Status;
+use ddm_words::{Prints, TurnSource};
 use run_engine::{AnyMachine, forget_ops, run};
 use std::alloc::Global;
 

@@ -7,13 +7,13 @@ ghost use Rattle.ddm_cli.specs.Top.{HasAccepted, NoRun, WritesAccepted};
 ghost use Rattle.ddm_words.specs.Views.{recorded_from};
 ghost use Rattle.ddm_words.specs.declared.command.Prints.TheVariants.{Report};
 
-use ddm_words::Recorded;
 use crate::files::{image_file, tree_file};
 use crate::of_any_machine::release;
 use crate::of_ddm_outside::{Failed, Shelf, Sink};
 use crate::of_report::write_all;
 use crate::reading::read_buffer;
 use crate::status::Status;
+use ddm_words::Recorded;
 use outcomes::of_measuring::measure_text;
 use std::alloc::Global;
 

@@ -18,7 +18,6 @@ ghost use Rattle.ddm_cli.specs.Top.{HasAccepted, NoRun, WritesAccepted};
 ghost use Rattle.ddm_words.specs.Views.{paged_from};
 ghost use Rattle.ddm_words.specs.declared.command.Prints.TheVariants.{Report};
 
-use ddm_words::Paged;
 use crate::files::{image_in, tree_file};
 use crate::judging::built;
 use crate::of_any_machine::release;
@@ -30,6 +29,7 @@ use crate::of_schedule_log::{FeedError, ScheduleReader};
 use crate::of_tree_config::TreeConfig;
 use crate::reading::read_buffer;
 use crate::status::Status;
+use ddm_words::Paged;
 use film_runs::page_text;
 use run_engine::AnyMachine;
 use std::alloc::Global;

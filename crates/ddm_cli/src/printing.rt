@@ -22,7 +22,6 @@ ghost use Rattle.ddm_cli.specs.Told.{schedule_faults, schedule_told};
 ghost use Rattle.ddm_words.specs.Views.{turns_from};
 ghost use Rattle.ddm_words.specs.declared.command.Prints.TheVariants.{Unjamming};
 
-use ddm_words::{Prints, TurnSource};
 use crate::making::{Made, turns_made};
 use crate::of_ddm_outside::{Failed, Shelf, Sink};
 use crate::of_ddm_types::NoMemory;
@@ -31,6 +30,7 @@ use crate::of_tree_config::TreeConfig;
 use crate::status::Status;
 use crate::unjamming::{list_refused, write_unjamming};
 use checkpoint::CheckpointPieces;
+use ddm_words::{Prints, TurnSource};
 use run_engine::AnyMachine;
 use std::alloc::Global;
 

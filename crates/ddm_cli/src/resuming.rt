@@ -13,7 +13,6 @@ ghost use Rattle.ddm_cli.specs.Reads.{ReadCause, WritesRest, checkpoint_status, 
 ghost use Rattle.ddm_cli.specs.Top.{NoRest, WritesAccepted};
 ghost use Rattle.ddm_words.specs.Views.{resumption_from};
 
-use ddm_words::Resumption;
 use crate::files::{image_file, tree_file};
 use crate::making::schedule_made;
 use crate::of_any_machine::release;
@@ -25,6 +24,7 @@ use crate::printing::write_report;
 use crate::reading::{ReadError, read_buffer};
 use crate::status::Status;
 use checkpoint::{CheckpointFile, MOST_BYTES, ResumeRefusal, resume};
+use ddm_words::Resumption;
 use run_engine::AnyMachine;
 use std::alloc::Global;
 

@@ -11,7 +11,7 @@ use crate::of_text_model::ScheduleRefusal;
 use crate::of_tree_config::{TreeKey, TreeRefusal};
 use checkpoint::ResumeRefusal;
 use joining::of_join_model::TableRefusal;
-use litmus_files::FileRefusal;
+use ddm_words::of_litmus_files::FileRefusal;
 use run_engine::BuildRefusal;
 use witness_check::CheckRefusal;
 

@@ -13,7 +13,6 @@ ghost use Rattle.ddm_cli.specs.Top.{HasAccepted, NoRun, WritesAccepted};
 ghost use Rattle.ddm_words.specs.Views.{survey_from};
 ghost use Rattle.ddm_words.specs.declared.command.Prints.TheVariants.{Report};
 
-use ddm_words::Survey;
 use crate::files::{image_machines, tree_file};
 use crate::of_any_machine::release;
 use crate::of_ddm_outside::{Failed, Shelf, Sink};
@@ -22,6 +21,7 @@ use crate::of_report::write_all;
 use crate::of_tree_config::TreeConfig;
 use crate::reading::read_buffer;
 use crate::status::Status;
+use ddm_words::Survey;
 use outcomes::{push_survey, survey};
 use run_engine::AnyMachine;
 use std::alloc::Global;

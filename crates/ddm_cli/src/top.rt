@@ -9,10 +9,8 @@ ghost use Rattle.ddm_cli.specs.Top.{Completes, HasAccepted, NoRun, NotAccepted, 
 ghost use Rattle.ddm_cli.specs.Top.{StatusHasCause, WritesAccepted, fault_line, status_of};
 ghost use Rattle.ddm_words.specs.Views.{command_from, run_from};
 
-use crate::saying::write_about;
 use crate::assembled::write_assembled;
 use crate::checking::write_check;
-use ddm_words::{Command, Prints, Run};
 use crate::fault::tell;
 use crate::files::{image_machine, tree_file};
 use crate::joined::write_joined;
@@ -26,10 +24,11 @@ use crate::printing::write_ran;
 use crate::reading::read_buffer;
 use crate::recorded::write_recorded;
 use crate::resuming::write_resumed;
+use crate::saying::write_about;
 use crate::status::Status;
 use crate::survey::write_survey;
 use crate::surveying::write_outcomes;
-use ddm_words::command_said;
+use ddm_words::{Command, Prints, Run, command_said};
 use std::alloc::Global;
 
 // Runs a machine and writes what is printed of it, or answers the status without a text.

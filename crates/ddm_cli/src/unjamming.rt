@@ -7,11 +7,11 @@ ghost use Rattle.ddm_cli.specs.JamLaws.GoesOn.{has_large_lists, unjamming_turn};
 ghost use Rattle.ddm_cli.specs.Lists.{list_refused, small_list};
 ghost use Rattle.ddm_cli.specs.Printed.{Writes, unjam_line};
 
-use ddm_words::Prints;
 use crate::of_ddm_outside::{Failed, Sink};
 use crate::of_ddm_types::{TreeSizes, Turn};
 use crate::of_report::{Line, push_turn, write_all};
 use crate::of_tree_config::TreeKey;
+use ddm_words::Prints;
 use no_jam::unjam;
 use run_engine::AnyMachine;
 

@@ -7,9 +7,9 @@ use Rattle.std.specs.Option.{option_map}
 use Rattle.std.specs.Result.{result_ok}
 use Rattle.ddm_text.specs.Numbers.{number_of}
 use Rattle.recording_model.specs.declared.SeedKind.{SeedKind}
-use Rattle.litmus_files.specs.LitmusModel.declared.test.Runs.{Runs}
-use Rattle.litmus_files.specs.LitmusModel.declared.test.Runs.TheVariants.{OfSeeds, All}
-use Rattle.litmus_files.specs.Places.{places_in}
+use Rattle.ddm_words.specs.LitmusModel.declared.test.Runs.{Runs}
+use Rattle.ddm_words.specs.LitmusModel.declared.test.Runs.TheVariants.{OfSeeds, All}
+use Rattle.ddm_words.specs.LitmusFiles.Places.{places_in}
 use Rattle.ddm_words.specs.declared.command.About.{About}
 use Rattle.ddm_words.specs.declared.command.About.TheVariants as about
 use Rattle.ddm_words.specs.declared.command.Prints.{Prints}

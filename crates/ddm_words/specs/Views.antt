@@ -1,7 +1,7 @@
 -- A command as the code has it, and as it is said.
 use Rattle.std.specs.Prelude.{ℕ, List, map, None, Option}
 use Rattle.std.specs.String.{string_bytes}
-use Rattle.litmus_files.specs.Places.{places_in}
+use Rattle.ddm_words.specs.LitmusFiles.Places.{places_in}
 use Rattle.ddm_words.specs.Commands as said
 use Rattle.ddm_words.specs.declared.command.Check.{Check}
 use Rattle.ddm_words.specs.declared.command.Command.{Command}

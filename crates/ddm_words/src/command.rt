@@ -3,7 +3,7 @@
 ghost use Rattle.std.specs.Prelude.{◌≡◌};
 ghost use Rattle.ddm_words.specs.Kept.{is_summary, is_trace};
 
-use litmus_files::Runs;
+use crate::of_litmus_files::Runs;
 use recording_model::SeedKind;
 
 /// What is printed of a run.

@@ -16,7 +16,7 @@ use crate::command::{
     Run, Seeds, Survey, TurnSource,
 };
 use ddm_text::read_decimal;
-use litmus_files::{Runs, read_places};
+use crate::of_litmus_files::{Runs, read_places};
 use recording_model::SeedKind;
 
 const MOST_TURNS: u64 = 1_048_576;

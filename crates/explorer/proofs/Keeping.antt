@@ -4,7 +4,9 @@ use Rattle.std.proofs.Common.{◌≡◌, ℕ, zero, suc, ◌<◌, ◌≤◌, Boo
 use Rattle.std.specs.Prelude.{nat_eq, nat_lt, slice_get, Some}
 use Rattle.std.specs.List.{list_any}
 use Rattle.std.specs.Cmp.Lexicographic.{pointwise}
-use Rattle.std.proofs.lemmas.Bool.{lt-ltb, le-ltb}
+use Rattle.std.proofs.lemmas.Bool.{lt-ltb, le-ltb, or_parts}
+use Rattle.std.proofs.lemmas.Cmp.{nat_list_eq_equiv}
+use Rattle.std.proofs.lemmas.List.Folds.{list_any-append}
 use Rattle.std.proofs.lemmas.List.{length-map, map-append, take-append-drop, take-append-le, drop-append-le}
 use Rattle.std.proofs.lemmas.Option.{get_or_from_slice_get}
 use Rattle.ddm_types.specs.declared.turns.Turn.{Turn}
@@ -15,7 +17,7 @@ use Rattle.search_model.specs.Machines.{quiet_space}
 use Rattle.search_store.specs.Schedule.{gone_on}
 use Rattle.state_keys.specs.Key.{state_key}
 use Rattle.state_keys.specs.Same.{same_state}
-use Rattle.explorer.specs.Searching.{SearchState, state_by, kept_by, key_by, searched_by, IsKept, TakesUp, KeysTell}
+use Rattle.explorer.specs.Searching.{SearchState, state_by, kept_by, key_by, searched_by, AreOnce, IsKept, TakesUp, KeysTell}
 
 -- what is got by its number is there also where more is behind
 pub early-got : {X : Type 0} (xs ys : List X) (n : ℕ) (x : X) → slice_get xs n ≡ Some x → slice_get (xs ++ ys) n ≡ Some x
@@ -23,6 +25,15 @@ early-got [] ys zero x there = cc
 early-got [] ys (suc n) x there = cc
 early-got (y ∷ xs) ys zero x there = there
 early-got (y ∷ xs) ys (suc n) x there = early-got xs ys n x there
+
+-- words that are new are there once
+once-more : (k : List ℕ) (ks : List (List ℕ)) → AreOnce ks → list_any (pointwise nat_eq k) ks ≡ false → AreOnce (ks ++ k ∷ [])
+once-more k [] once new = (refl, tt)
+once-more k (h ∷ ks) once new = (
+  list_any-append (pointwise nat_eq h) ks (k ∷ []) ∙ ap (λ b. b || (pointwise nat_eq h k || false)) once.0
+      ∙ ap (λ b. b || false) (nat_list_eq_equiv.symm h k ∙ (or_parts _ _ new).0),
+  once-more k ks once.1 ((or_parts _ _ new).1),
+)
 
 -- one state more
 abbrev pub kept_more : List ℕ → List Turn → SearchState → SearchState
@@ -77,9 +88,12 @@ module _ (m : MachineValue) where
         ∙ ap (λ b. cond b (record (searched_by m v) { waiting = (searched_by m v).waiting ++ kept_by m ts ∷ [] }) (record (searched_by m v) { full = true })) (ap (λ n. nat_lt n most) (kept-counted v) ∙ le-ltb _ _ none)
 
     -- what is kept stays beside its words
-    pub more-kept : (v : SearchState) → IsKept m v → length v.schedules < 1048576 → IsKept m (kept_more (key_by m ts) ts v)
-    more-kept v is few = record {
+    pub more-kept :
+        (v : SearchState) → IsKept m v → list_any (pointwise nat_eq (key_by m ts)) v.keys ≡ false
+        → length v.schedules < 1048576 → IsKept m (kept_more (key_by m ts) ts v)
+    more-kept v is has few = record {
       keys = ap (λ ks. ks ++ key_by m ts ∷ []) is.keys ∙ sym (map-append (key_by m) v.schedules (ts ∷ []));
+      once = once-more (key_by m ts) v.keys is.once has;
       next = omega (arith, is.next, length-append v.schedules (ts ∷ []));
       few = omega (arith, few, length-append v.schedules (ts ∷ []));
     }
@@ -102,8 +116,8 @@ grown m before turn v w keys ss words whole taken added longer spelled =
     ∙ ap (λ (s : SearchState). record s { keys = s.keys ++ key_by m (before ++ turn ∷ []) ∷ []; schedules = s.schedules ++ gone_on s.schedules s.next turn ∷ [] }) whole
     ∙ ap (λ l. record v { keys = v.keys ++ key_by m (before ++ turn ∷ []) ∷ []; schedules = v.schedules ++ (l ++ turn ∷ []) ∷ [] }) (get_or_from_slice_get v.schedules v.next before [] taken)
 
-pub grown-taking : (m : MachineValue) (most : ℕ) (tell : KeysTell m) (before : List Turn) (turn : Turn) (v : SearchState) → TakesUp m before v → length v.schedules < 1048576 → TakesUp m before (kept_more (key_by m (before ++ turn ∷ [])) (before ++ turn ∷ []) v)
-grown-taking m most tell before turn v taking few = record {
-  kept = more-kept m most tell (before ++ turn ∷ []) v taking.kept few;
+pub grown-taking : (m : MachineValue) (most : ℕ) (tell : KeysTell m) (before : List Turn) (turn : Turn) (v : SearchState) → TakesUp m before v → list_any (pointwise nat_eq (key_by m (before ++ turn ∷ []))) v.keys ≡ false → length v.schedules < 1048576 → TakesUp m before (kept_more (key_by m (before ++ turn ∷ [])) (before ++ turn ∷ []) v)
+grown-taking m most tell before turn v taking has few = record {
+  kept = more-kept m most tell (before ++ turn ∷ []) v taking.kept has few;
   taken = early-got v.schedules ((before ++ turn ∷ []) ∷ []) v.next before taking.taken;
 }

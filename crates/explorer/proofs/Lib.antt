@@ -1,3 +1,7 @@
+pub mod SearchModel
+pub mod StateKeys
 pub mod Keeping
-pub mod TurnsLooked
+pub mod Lefts
 pub mod Right
+pub mod TurnsLooked
+pub mod Ways

@@ -141,7 +141,7 @@ module _ (most : ℕ) (m : MachineValue) (w : SearchState) (ts : List Turn) (tak
   there-next = slice_get_within w.schedules w.next ts taking.taken
 
   pub moved-kept : IsKept m (if w.full then w else record w { next = w.next + 1 })
-  moved-kept = if-either (IsKept m) w.full w (record w { next = w.next + 1 }) (λ full. taking.kept) (λ runs. record { keys = taking.kept.keys; next = omega (arith, there-next); few = taking.kept.few })
+  moved-kept = if-either (IsKept m) w.full w (record w { next = w.next + 1 }) (λ full. taking.kept) (λ runs. record { keys = taking.kept.keys; once = taking.kept.once; next = omega (arith, there-next); few = taking.kept.few })
 
 -- ---- what is begun with
 

@@ -1,1 +1,4 @@
+pub mod SearchModel
+pub mod StateKeys
 pub mod Searching
+pub mod Losing

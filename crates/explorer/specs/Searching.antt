@@ -1,7 +1,7 @@
 -- A search as the code keeps it, and the search of the tables that it is.
 -- Letters: m is the machine that it begins with, v what is kept, ss are schedules by number, ts is a schedule, f is a line, o an outcome.
 -- To be believed with the contracts: they speak of it.
-use Rattle.std.specs.Prelude.{◌≡◌, ℕ, ◌≤◌, Bool, nat_eq, List, [], ◌∷◌, ◌++◌, length, map, take, drop, slice_get, Some, refl, if◌then◌else◌}
+use Rattle.std.specs.Prelude.{◌≡◌, ℕ, ◌≤◌, Bool, false, nat_eq, List, [], ◌∷◌, ◌++◌, length, map, take, drop, slice_get, Some, ⊤, refl, if◌then◌else◌}
 use Rattle.std.specs.List.{list_any}
 use Rattle.std.specs.Coded.{Coded, codes, code_by, coded×, coded_list, coded_ℕ}
 use Rattle.std.specs.Cmp.Lexicographic.{pointwise}
@@ -28,6 +28,11 @@ has_outcome o f = pointwise nat_eq f.outcome o
 -- the lines with one more, where its outcome is new
 abbrev pub noted : MachineFound → List MachineFound → List MachineFound
 noted f fs = if list_any (has_outcome f.outcome) fs then fs else fs ++ f ∷ []
+
+-- no words are there twice
+abbrev pub AreOnce : List (List ℕ) → Type 0
+AreOnce [] = ⊤
+AreOnce (k ∷ ks) = (list_any (pointwise nat_eq k) ks ≡ false) × AreOnce ks
 
 -- ---- a search as the code keeps it
 
@@ -61,9 +66,11 @@ module _ (m : MachineValue) where
     full = v.full;
   }
 
-  -- the words of each state are beside its schedule, no more states were taken up than there are, and these are not too many
+  -- the words of each state are beside its schedule and come once, no more states were taken up than there are, and these are not
+  -- too many
   pub record IsKept (v : SearchState) : Type 0 where
     pub keys : v.keys ≡ map key_by v.schedules
+    pub once : AreOnce v.keys
     pub next : v.next ≤ length v.schedules
     pub few : length v.schedules ≤ 1048576
 

@@ -4,10 +4,13 @@
 
 mod line;
 mod looking;
+mod losing;
+pub mod of_ddm_types;
 mod progress;
 mod states;
 
 pub use line::Line;
 pub use looking::search;
+pub use losing::lost_states;
 pub use progress::Search;
 pub use states::States;

@@ -11,13 +11,13 @@ use std::marker::Model;
 /// A breadth first search. States are numbered in the order in which they were come to; those below `next` were taken up.
 #[derive(Drop)]
 pub struct Search {
-    pub(crate) known: KnownStates,
-    pub(crate) schedules: Schedules,
-    pub(crate) found: Vec<Line>,
-    pub(crate) jams: Vec<Line>,
-    pub(crate) next: u32,
+    pub known: KnownStates,
+    pub schedules: Schedules,
+    pub found: Vec<Line>,
+    pub jams: Vec<Line>,
+    pub next: u32,
     /// A state had no place, and the search ended there.
-    pub(crate) full: bool,
+    pub full: bool,
 }
 
 impl Model for Search {

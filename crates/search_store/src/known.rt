@@ -2,7 +2,7 @@
 
 ghost use Rattle.std.specs.Prelude.{◌≡◌, ◌++◌, ◌∷◌, [], OnErr, OnOk, false};
 ghost use Rattle.std.specs.List.{list_any};
-ghost use Rattle.search_store.specs.Known.{same_words};
+ghost use Rattle.search_store.specs.Known.{place_of, same_words};
 
 use ddm_types::NoMemory;
 use indexmap::IndexSet;
@@ -38,6 +38,13 @@ impl KnownStates {
         ensures { result ≡ list_any (same_words words.now) self.now }
     {
         self.words.contains(words)
+    }
+
+    /// The number of the state with these words.
+    pub fn find(&self, words: &[u32]) -> Option<usize>
+        ensures { result ≡ place_of words.now self.now }
+    {
+        self.words.get_index_of(words)
     }
 
     /// Puts the words of a state behind the others. They must be new.

@@ -14,6 +14,7 @@ pub mod HexCounts
 pub mod KeyTexts
 pub mod EffectTexts
 pub mod LineTexts
+pub mod SaidOps
 pub mod Accepting
 pub mod Refusing
 pub mod Starts

@@ -10,5 +10,6 @@ pub mod Judging
 pub mod Start
 pub mod Reader
 pub mod Witness
+pub mod Listed
 pub mod Computing
 pub mod Examples

@@ -9,6 +9,7 @@ mod hex;
 mod judge;
 pub mod laws;
 mod lines;
+mod listed;
 pub mod of_ddm_text;
 pub mod of_ddm_types;
 pub mod of_elf_load;
@@ -19,5 +20,6 @@ mod words;
 
 pub use checking::check;
 pub use examples::{eight_operations, lines_of_operations, six_operations};
+pub use listed::ops_of;
 pub use reader::WitnessReader;
 pub use refusal::CheckRefusal;

@@ -22,9 +22,11 @@ add-requires-then-len-most g c =
 pub returns-in_ok-add-2-clause-taking : goal.returns-in_ok-add-2-clause-taking
 returns-in_ok-add-2-clause-taking g c =
     let m = g.M.States.start c.args.states.now in
+    let ts = c.args.schedule.now ++ c.args.turn ∷ [] in
+    let has : list_any (pointwise nat_eq (key_by m ts)) c.args.self.now.keys ≡ false = held m ts c.args.self.now _ _ _ _ _ c.in_ok-words.ensures c.requires.reached c.deref.ensures.value c.has.ensures c.self.view_is ∙ c.if-has.false in
     let same = grown m c.args.schedule.now c.args.turn c.args.self.now _ _ _ _ c.self.view_is c.requires.taking.taken c.in_ok-add.ensures.added c.in_ok-add-2.ensures.added (c.in_ok-words.ensures ∙ ap state_key c.requires.reached) in
     let few : length c.args.self.now.schedules < 1048576 = omega (arith, c.requires.most, c.if-len-most.true, c.len.ensures, ap (λ (s : SearchState). length s.schedules) c.self.view_is) in
-    subst (TakesUp m c.args.schedule.now) (sym same) (grown-taking m c.args.most c.requires.tell c.args.schedule.now c.args.turn c.args.self.now c.requires.taking few)
+    subst (TakesUp m c.args.schedule.now) (sym same) (grown-taking m c.args.most c.requires.tell c.args.schedule.now c.args.turn c.args.self.now c.requires.taking has few)
 
 pub returns-in_ok-add-2-clause-searched : goal.returns-in_ok-add-2-clause-searched
 returns-in_ok-add-2-clause-searched g c =

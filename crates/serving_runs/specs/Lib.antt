@@ -1,0 +1,2 @@
+pub mod ServingModel
+pub mod Served
