@@ -8,14 +8,16 @@ ghost use Rattle.ddm_words.specs.Commands.{to_assemble};
 ghost use Rattle.ddm_cli.specs.Top.{HasAccepted, WritesAccepted};
 ghost use Rattle.ddm_words.specs.Views.{assembly_from, placing_from};
 
-use ddm_words::{Assembly, Placing};
 use crate::files::tree_file;
 use crate::of_ddm_outside::{Failed, Shelf, Sink};
 use crate::of_report::write_all;
 use crate::of_tree_config::TreeConfig;
 use crate::reading::{ReadError, read_buffer, read_whole};
 use crate::status::Status;
-use ddm_words::of_litmus_files::{FileRefusal, Places, TestRefusal, Unassembled, assembled, read_places};
+use ddm_words::of_litmus_files::{
+    FileRefusal, Places, TestRefusal, Unassembled, assembled, read_places,
+};
+use ddm_words::{Assembly, Placing};
 use std::alloc::Global;
 
 /// The most bytes of a litmus test that are read.

@@ -10,8 +10,8 @@ use crate::of_report::FileRole;
 use crate::of_text_model::ScheduleRefusal;
 use crate::of_tree_config::{TreeKey, TreeRefusal};
 use checkpoint::ResumeRefusal;
-use joining::of_join_model::TableRefusal;
 use ddm_words::of_litmus_files::FileRefusal;
+use joining::of_join_model::TableRefusal;
 use run_engine::BuildRefusal;
 use witness_check::CheckRefusal;
 

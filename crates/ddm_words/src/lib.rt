@@ -8,7 +8,7 @@ mod words;
 
 pub use about::{further_text, own_text};
 pub use command::{
-    About, Assembly, Check, Command, ImageSource, Paged, Placing, Prints, Recorded, Resumption, Run,
-    Seeds, Survey, TurnSource,
+    About, Assembly, Check, Command, ImageSource, Paged, Placing, Prints, Recorded, Resumption,
+    Run, Seeds, Survey, TurnSource,
 };
 pub use words::{command_said, first_fault};

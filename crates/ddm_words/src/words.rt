@@ -15,8 +15,8 @@ use crate::command::{
     About, Assembly, Check, Command, ImageSource, Paged, Placing, Prints, Recorded, Resumption,
     Run, Seeds, Survey, TurnSource,
 };
-use ddm_text::read_decimal;
 use crate::of_litmus_files::{Runs, read_places};
+use ddm_text::read_decimal;
 use recording_model::SeedKind;
 
 const MOST_TURNS: u64 = 1_048_576;

@@ -12,5 +12,5 @@ pub mod of_ddm_types;
 pub mod of_tree_model;
 mod stills;
 
-pub use film_parts::{Still, push_changed, push_valued};
-pub use stills::{StillRoom, take_still};
+pub use film_parts::{Still, push_changed, push_valued, put_changed};
+pub use stills::{StillRoom, take_hart, take_still};

@@ -1,12 +1,16 @@
 //! The still of a machine of any tree.
 
-ghost use Rattle.std.specs.Prelude.{◌≡◌, ◌≤◌, [], ◌++◌, OnOk, flat_map, length, map};
+ghost use Rattle.std.specs.Prelude.{◌≡◌, ◌≤◌, [], ◌++◌, OnOk, Some, flat_map, length, map, slice_get, true};
 ghost use Rattle.std.specs.List.{range_with_len};
 ghost use Rattle.film.specs.AnyMachine.Any.{depths_state, machine_state, state_in};
+ghost use Rattle.film.specs.DdmTree.Machine.{is_part};
 ghost use Rattle.film.specs.DdmTypes.ItemTable.{item_count};
 ghost use Rattle.film.specs.Filmed.{IsFilmed};
+ghost use Rattle.film.specs.TreeModel.State.Shape.{IsShaped};
+ghost use Rattle.film.specs.TreeModel.State.Values.{LeafValue};
 ghost use Rattle.film.specs.TreeModel.Turns.Machine.{machine_leaves};
-ghost use Rattle.film.specs.FilmModel.Leaf.{leaf_parts};
+ghost use Rattle.film.specs.TreeModel.Turns.Tree.{leaf_of_number};
+ghost use Rattle.film.specs.FilmModel.Leaf.{hart_parts, leaf_parts};
 ghost use Rattle.film.specs.FilmModel.Still.{bus_parts, place_part, still as still_of};
 
 use crate::buses::add_bus;
@@ -14,8 +18,8 @@ use crate::copies::add_copy;
 use crate::leaves::add_leaf;
 use crate::of_any_machine::{AnyMachine, Depths, Machines};
 use crate::of_ddm_tree::{Dir, Machine, Subtree};
-use crate::of_ddm_types::{BusNo, ItemId, LeafNo, NoMemory};
-use film_parts::{PartText, Still};
+use crate::of_ddm_types::{BusNo, HartNo, ItemId, LeafNo, NoMemory};
+use film_parts::{PartText, Still, add_hart};
 use std::alloc::Global;
 
 /// What a still is made with: its memory is used again for the next one.
@@ -175,5 +179,47 @@ pub fn take_still(
     match machine {
         AnyMachine::Narrow(machine) => still_of_machines(still, room, machine, levels),
         AnyMachine::Wide(machine) => still_of_machines(still, room, machine, levels),
+    }
+}
+
+fn hart_of_machines<const WORDS: usize>(
+    still: &mut Still,
+    room: &mut StillRoom,
+    machine: &Machines<WORDS>,
+    hart: HartNo,
+) -> Result<(), NoMemory>
+    requires shape { IsShaped (state_in machine.now).machine }
+    requires leaf { is_part (leaf_of_number hart) (state_in machine.now).machine ≡ true }
+    ensures { (v : LeafValue) → slice_get (machine_leaves (state_in machine.now).machine) hart ≡ Some v →
+        OnOk result (still.new ≡ hart_parts v) }
+{
+    let read = machine.hart(hart);
+    still.clear();
+    add_hart(
+        still,
+        &mut room.part,
+        LeafNo(hart.0),
+        read.pc(),
+        read.halted(),
+        &read.registers(),
+    )?;
+    Ok(())
+}
+
+/// Makes it the parts of a hart alone.
+pub fn take_hart(
+    still: &mut Still,
+    room: &mut StillRoom,
+    machine: &AnyMachine,
+    hart: HartNo,
+) -> Result<(), NoMemory>
+    requires shape { IsShaped (machine_state machine.now).machine }
+    requires leaf { is_part (leaf_of_number hart) (machine_state machine.now).machine ≡ true }
+    ensures { (v : LeafValue) → slice_get (machine_leaves (machine_state machine.now).machine) hart ≡ Some v →
+        OnOk result (still.new ≡ hart_parts v) }
+{
+    match machine {
+        AnyMachine::Narrow(machine) => hart_of_machines(still, room, machine, hart),
+        AnyMachine::Wide(machine) => hart_of_machines(still, room, machine, hart),
     }
 }

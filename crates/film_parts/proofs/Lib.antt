@@ -1,5 +1,6 @@
 pub mod Spans
 pub mod PartLines
+pub mod PartsPut
 pub mod ListSteps
 pub mod ListEntries
 pub mod Numbered

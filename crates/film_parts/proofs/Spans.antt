@@ -1,6 +1,6 @@
 -- Parts stay what they are where more text is put behind theirs.
 -- Letters: s is where a part is.
-use Rattle.std.proofs.Common.{◌≡◌, ℕ, ◌+◌, ◌-◌, ◌≤◌, true, ◌&&◌, nat_le, List, [], ◌∷◌, ◌++◌, drop, take, map, length, refl, ap, ap₂, ◌∙◌, length-append, length-drop, append_assoc, take_at, drop_at, take_all, arith}
+use Rattle.std.proofs.Common.{◌≡◌, ℕ, zero, suc, ◌+◌, ◌-◌, ◌≤◌, Bool, true, ◌&&◌, nat_le, List, [], ◌∷◌, ◌++◌, drop, take, map, length, slice_set, refl, ap, ap₂, ◌∙◌, length-append, length-drop, append_assoc, take_at, drop_at, take_all, arith}
 use Rattle.std.specs.List.{list_all}
 use Rattle.std.proofs.lemmas.Bool.{leb-true, le-leb, and_parts}
 use Rattle.std.proofs.lemmas.List.{take-append-le, drop-append-le, map-append}
@@ -81,3 +81,27 @@ pub spans-pushed : (ss : List PartSpan) (text key value : List ℕ) → list_all
 spans-pushed ss text key value within =
     list_all-append (is_within (length (text ++ key ++ value))) ss (new_span text key value ∷ [])
     ∙ rw (spans-more ss (text ++ key) value (spans-more ss text key within), new-within text key value) refl
+
+-- ---- a part that is put in place of one
+
+map-set : {X Y : Type 0} (f : X → Y) (xs : List X) (i : ℕ) (x : X) → map f (slice_set xs i x) ≡ slice_set (map f xs) i (f x)
+map-set f [] i x = refl
+map-set f (y ∷ ys) zero x = refl
+map-set f (y ∷ ys) (suc i) x = ap (λ (zs : List _). f y ∷ zs) (map-set f ys i x)
+
+all-set : {X : Type 0} (test : X → Bool) (xs : List X) (i : ℕ) (x : X) → list_all test xs ≡ true → test x ≡ true → list_all test (slice_set xs i x) ≡ true
+all-set test [] i x all one = all
+all-set test (y ∷ ys) zero x all one = rw (one, (and_parts (test y) (list_all test ys) all).1) refl
+all-set test (y ∷ ys) (suc i) x all one = let both = and_parts (test y) (list_all test ys) all in rw (both.0, all-set test ys i x both.1 one) refl
+
+pub parts-put : (ss : List PartSpan) (place : ℕ) (text key value : List ℕ) → list_all (is_within (length text)) ss ≡ true →
+    map (part_at (text ++ key ++ value)) (slice_set ss place (new_span text key value)) ≡ slice_set (map (part_at text) ss) place (record { key = key; value = value })
+parts-put ss place text key value within =
+    map-set (part_at (text ++ key ++ value)) ss place (new_span text key value)
+    ∙ ap₂ (λ (ps : List Part) (p : Part). slice_set ps place p)
+    (ap (λ (t : List ℕ). map (part_at t) ss) (append_assoc text key value) ∙ parts-more ss text (key ++ value) within)
+    (ap₂ (λ (k : List ℕ) (v : List ℕ). (let p : Part = record { key = k; value = v } in p)) (new-key text key value) (new-value text key value))
+
+pub spans-put : (ss : List PartSpan) (place : ℕ) (text key value : List ℕ) → list_all (is_within (length text)) ss ≡ true → list_all (is_within (length (text ++ key ++ value))) (slice_set ss place (new_span text key value)) ≡ true
+spans-put ss place text key value within =
+    all-set (is_within (length (text ++ key ++ value))) ss place (new_span text key value) (spans-more ss (text ++ key) value (spans-more ss text key within)) (new-within text key value)

@@ -21,7 +21,7 @@ pub use buses::add_dir;
 pub use cursor::StateWords;
 pub use items::BusShape;
 pub use leaves::{add_entry, add_hart, add_leaf_lists, add_no_entry};
-pub use lines::{push_changed, push_valued};
+pub use lines::{push_changed, push_valued, put_changed};
 pub use part_text::PartText;
 pub use places::add_place;
 pub use still::Still;

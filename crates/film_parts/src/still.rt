@@ -1,4 +1,4 @@
-ghost use Rattle.std.specs.Prelude.{◌≡◌, ◌<◌, [], ◌∷◌, ◌++◌, OnOk, length, slice_index_or};
+ghost use Rattle.std.specs.Prelude.{◌≡◌, ◌<◌, [], ◌∷◌, ◌++◌, OnOk, length, slice_index_or, slice_set};
 ghost use Rattle.film_model.specs.Part.{Part};
 ghost use Rattle.film_parts.specs.Spans.{no_part};
 
@@ -92,6 +92,24 @@ impl Still {
             value: middle,
             end,
         })?;
+        Ok(())
+    }
+
+    /// Puts a part in place of the one at a place. The text of that one stays behind it, unused.
+    pub fn put(&mut self, place: usize, key: &[u8], value: &[u8]) -> Result<(), NoMemory>
+        requires { place < length self.old }
+        ensures { OnOk result (self.new ≡ slice_set self.old place (record { key = key.now; value = value.now })) }
+    {
+        let start = self.text.len();
+        self.text.extend_from_slice(key)?;
+        let middle = self.text.len();
+        self.text.extend_from_slice(value)?;
+        let end = self.text.len();
+        self.spans[place] = PartSpan {
+            key: start,
+            value: middle,
+            end,
+        };
         Ok(())
     }
 }

@@ -8,3 +8,6 @@ pub mod Resting
 pub mod StartFilmed
 pub mod StartLevels
 pub mod WholePage
+pub mod HartTold
+pub mod HartsAlone
+pub mod OwnEffects

@@ -25,7 +25,7 @@ use Rattle.film_runs.specs.TreeModel.Turns.Tree.{leaf_of_number, of_leaf}
 
 -- ---- parts that are the same
 
-no_changes : (ps : List Part) → changes ps ps ≡ []
+pub no_changes : (ps : List Part) → changes ps ps ≡ []
 no_changes [] = refl
 no_changes (p ∷ ps) = ap (λ (same : Bool). cond same (changes ps ps) (p ∷ changes ps ps)) ((bytes_eq-Decides p.value p.value).1 refl) ∙ no_changes ps
 

@@ -11,6 +11,7 @@ pub mod TextModel
 pub mod TreeModel
 pub mod ValueLaws
 pub mod Counts
+pub mod HartAlone
 pub mod Levels
 pub mod Opened
 pub mod Paged

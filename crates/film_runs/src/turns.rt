@@ -1,12 +1,13 @@
 //! Turns that are made and filmed.
 
-ghost use Rattle.std.specs.Prelude.{◌≡◌, ◌<◌, ◌++◌, [], ◌∷◌, IfOk, OnOk, is_some, true};
+ghost use Rattle.std.specs.Prelude.{◌≡◌, ◌<◌, ◌++◌, [], ◌∷◌, ℕ, IfOk, IfSome, OnOk, is_some, true};
 ghost use Rattle.film_runs.specs.TextModel.Run.{no_counts};
 ghost use Rattle.film_runs.specs.AnyMachine.Any.{machine_state, state_in};
 ghost use Rattle.film_runs.specs.AnyRuns.Run.{AreBelow, CanRun, NameParts, counts_in, ran, with_room};
 ghost use Rattle.film_runs.specs.Counts.{sum};
 ghost use Rattle.film_runs.specs.DdmText.Adds.{Adds};
 ghost use Rattle.film_runs.specs.Film.Filmed.{IsFilmed};
+ghost use Rattle.film_runs.specs.HartAlone.{CameFrom, hart_alone, hart_changed, is_own};
 ghost use Rattle.film_runs.specs.Resting.{one_rests};
 ghost use Rattle.film_runs.specs.TreeModel.State.Shape.{IsShaped};
 ghost use Rattle.film_runs.specs.TreeModel.Turns.Machine.{hart_of, names_part, now_of, run_of, turn_of};
@@ -15,11 +16,13 @@ ghost use Rattle.recording_model.specs.Doing.{does_by, had_halted, is_halted};
 ghost use Rattle.film_runs.specs.FilmModel.Film.{turn_film, turns_film};
 ghost use Rattle.film_runs.specs.FilmModel.Part.{changed};
 ghost use Rattle.film_runs.specs.FilmModel.Still.{still as still_of};
+ghost use Rattle.film_runs.specs.ValueLaws.Values.{HasForm};
 
 use crate::of_any_machine::{AnyMachine, Machines};
 use crate::of_ddm_types::{HartNo, NoMemory, Turn, TurnAnswer};
+use ddm_types::Effect;
 use film::of_any_runs::{RunCounts, run};
-use film::{Still, StillRoom, push_changed, take_still};
+use film::{Still, StillRoom, push_changed, put_changed, take_hart, take_still};
 use report::push_trace;
 use std::alloc::Global;
 use std::mem::swap;
@@ -122,16 +125,113 @@ fn one_rests(answers: &[TurnAnswer], halted: bool) -> bool
     }
 }
 
-// Puts at the end of a text the parts that are different now. Where it is known that nothing changed, no still is taken.
+// Whether an answer of a hart's turn says that it changed the hart alone.
+fn hart_alone(answer: &TurnAnswer) -> bool
+    ensures { result ≡ hart_alone answer.now }
+{
+    match answer {
+        TurnAnswer::Retired(op) => is_own(&op.effect),
+        TurnAnswer::Halted(_) => true,
+        TurnAnswer::Issued(..)
+        | TurnAnswer::Waiting(_)
+        | TurnAnswer::Granted(_)
+        | TurnAnswer::Empty
+        | TurnAnswer::Busy(_) => false,
+    }
+}
+
+// Whether an instruction of this effect changes no word and no reservation.
+fn is_own(effect: &Effect) -> bool
+    ensures { result ≡ is_own effect.now }
+{
+    match effect {
+        Effect::Plain | Effect::Put { .. } | Effect::Load { .. } => true,
+        Effect::Store { .. }
+        | Effect::Lr { .. }
+        | Effect::ScOk { .. }
+        | Effect::ScFail { .. }
+        | Effect::Amo { .. } => false,
+    }
+}
+
+// The hart that a turn changed, where it changed that alone.
+fn hart_changed(turn: &Turn, answers: &[TurnAnswer]) -> Option<HartNo>
+    ensures { result ≡ hart_changed turn.now answers.now }
+{
+    match *turn {
+        Turn::Hart { hart, .. } => match answers {
+            [answer] if hart_alone(answer) => Some(hart),
+            _ => None,
+        },
+        Turn::Down { .. } | Turn::Request { .. } | Turn::Reply { .. } | Turn::Leave { .. } => None,
+    }
+}
+
+// The same of one turn.
+fn one_changed(turns: &[Turn], answers: &[TurnAnswer]) -> Option<HartNo>
+    ensures { (turn : Turn) → turns.now ≡ turn ∷ [] → result ≡ hart_changed turn answers.now }
+{
+    match turns {
+        [turn] => hart_changed(turn, answers),
+        _ => None,
+    }
+}
+
+// Puts at the end of a text the parts of a hart that are different now, where nothing else is. Of each leaf there are 2 parts of the pc
+// and the halt, 31 of registers, one of each item, and 4 of what waits.
+fn film_hart(
+    text: &mut Vec<u8>,
+    reel: &mut Reel,
+    machine: &AnyMachine,
+    hart: HartNo,
+) -> Result<(), NoMemory>
+    requires formed { (most : ℕ) × HasForm most (machine_state machine.now).machine }
+    requires came { CameFrom hart reel.old.before (machine_state machine.now).machine }
+    ensures text { OnOk result
+        (Adds text.old.items text.new.items (changed reel.old.before (still_of (machine_state machine.now).machine))) }
+    ensures before { OnOk result (reel.new.before ≡ still_of (machine_state machine.now).machine) }
+{
+    // The shape and the rules that every machine keeps, on which it rests where a part is.
+    machine.counts();
+    let _parts = reel.before.len();
+    let from = hart.0 as usize * (37 + machine.items().len() as usize);
+    take_hart(&mut reel.after, &mut reel.room, machine, hart)?;
+    put_changed(text, &mut reel.before, from, &reel.after)?;
+    Ok(())
+}
+
+// Puts at the end of a text the parts that are different now, whatever changed.
+fn film_all(
+    text: &mut Vec<u8>,
+    reel: &mut Reel,
+    machine: &AnyMachine,
+    levels: &[u32],
+) -> Result<(), NoMemory>
+    requires { IsFilmed levels.now (machine_state machine.now).machine }
+    ensures text { OnOk result
+        (Adds text.old.items text.new.items
+        (changed reel.old.before (still_of (machine_state machine.now).machine))) }
+    ensures before { OnOk result (reel.new.before ≡ still_of (machine_state machine.now).machine) }
+{
+    take_still(&mut reel.after, &mut reel.room, machine, levels)?;
+    push_changed(text, &reel.before, &reel.after)?;
+    swap(&mut reel.before, &mut reel.after);
+    Ok(())
+}
+
+// Puts at the end of a text the parts that are different now. Where it is known that nothing changed, or that only a hart did, not all
+// parts are read.
 fn film_change(
     text: &mut Vec<u8>,
     reel: &mut Reel,
     machine: &AnyMachine,
     levels: &[u32],
     rested: bool,
+    hart: Option<HartNo>,
 ) -> Result<(), NoMemory>
     requires filmed { IsFilmed levels.now (machine_state machine.now).machine }
     requires rested { rested ≡ true → reel.old.before ≡ still_of (machine_state machine.now).machine }
+    requires came { IfSome hart (λ k. CameFrom k reel.old.before (machine_state machine.now).machine) }
     ensures text { OnOk result
         (Adds text.old.items text.new.items
         (changed reel.old.before (still_of (machine_state machine.now).machine))) }
@@ -140,10 +240,10 @@ fn film_change(
     if rested {
         return Ok(());
     }
-    take_still(&mut reel.after, &mut reel.room, machine, levels)?;
-    push_changed(text, &reel.before, &reel.after)?;
-    swap(&mut reel.before, &mut reel.after);
-    Ok(())
+    match hart {
+        Some(hart) => film_hart(text, reel, machine, hart),
+        None => film_all(text, reel, machine, levels),
+    }
 }
 
 /// Makes a turn, puts its film at the end of a text, and gives what it came to. The turn has this number, counted from 0.
@@ -166,13 +266,16 @@ pub fn film_turn(
     ensures filmed { OnOk result (IsFilmed levels.now (turn_of turn (machine_state machine.old).machine).machine) }
     ensures counts { IfOk result (λ counts. counts ≡ counts_in (turn ∷ []) (machine_state machine.old)) }
 {
+    // The rules that every machine keeps, on which it rests how many parts a hart has.
+    machine.counts();
     let turns = [turn];
     let halted = one_halted(machine, &turns);
     reel.answers.clear();
     let counts = run(machine, &turns, &mut reel.answers, true)?;
     push_trace(text, number, &turns, &reel.answers)?;
     let rested = one_rests(&reel.answers, halted);
-    film_change(text, reel, machine, levels, rested)?;
+    let hart = one_changed(&turns, &reel.answers);
+    film_change(text, reel, machine, levels, rested, hart)?;
     Ok(counts)
 }
 

@@ -12,8 +12,8 @@ use Rattle.tree_model.proofs.NamedNode.{read_in-is_some}
 use Rattle.state_judging.proofs.BusNumbers.{numbered-bus}
 use Rattle.value_laws.specs.Values.{DownHasForm, LeafHasForm, PartsHaveForm, PartsHaveFormAmong}
 use Rattle.search_laws.specs.Space.{IsOneOf}
-use Rattle.search_model.specs.Tried.{buses_of}
-use Rattle.search_model.proofs.Named.{Placed, IsBusOf, place_here, find, find_among, found-bus, read-there}
+use Rattle.explorer.specs.SearchModel.Tried.{buses_of}
+use Rattle.explorer.proofs.SearchModel.Named.{Placed, IsBusOf, place_here, find, find_among, found-bus, read-there}
 use Rattle.timeless_words.specs.Struck.{IsWide}
 use Rattle.machine_states.proofs.Places.{some-there}
 use Rattle.machine_states.specs.Words.{HasForms}

@@ -5,7 +5,7 @@ use Rattle.std.specs.Prelude.{slice_get}
 use Rattle.tree_model.specs.State.Shape.{IsShaped, tree_counts}
 use Rattle.tree_model.specs.State.Values.{LeafValue, MachineValue}
 use Rattle.tree_model.specs.Turns.Machine.{ask_leaf, machine_leaves}
-use Rattle.ddm_tree.proofs.LeafList.{leaf-listed, leaf-number, leaves-counted}
+use Rattle.any_runs.proofs.DdmTree.LeafList.{leaf-listed, leaf-number, leaves-counted}
 use Rattle.machine_states.proofs.Places.{get-there, got}
 
 module _ (m : MachineValue) (shaped : IsShaped m) where

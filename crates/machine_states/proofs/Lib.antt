@@ -3,3 +3,16 @@ pub mod Loops
 pub mod Leaves
 pub mod Forms
 pub mod Timeless
+pub mod Tests
+pub mod BusOrder
+pub mod Buses
+pub mod Nothing
+pub mod Granted
+pub mod Few
+pub mod Begins
+pub mod Rooms
+pub mod Runs
+pub mod LeftOut
+pub mod Judged
+pub mod States
+pub mod Table

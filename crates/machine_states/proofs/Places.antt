@@ -41,3 +41,9 @@ pub got : {X Y : Type 0} (f : X → Y) (xs : List X) (k : ℕ) (x : X) → slice
 got f [] k x is = cc
 got f (y ∷ ys) zero x is = let same : y ≡ x = cc in ap (λ z. Some (f z)) same
 got f (y ∷ ys) (suc k) x is = got f ys k x is
+
+-- what is got, by itself
+pub got-own : {X : Type 0} (xs : List X) (k : ℕ) (x : X) → k < length xs → x ≡ slice_index_or xs k x → slice_get xs k ≡ Some x
+got-own xs k x less is =
+    let there = get-there xs k less in
+    there.at ∙ ap Some (sym (is ∙ or-found xs k x there.one there.at))

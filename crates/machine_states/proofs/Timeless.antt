@@ -14,7 +14,7 @@ use Rattle.tree_model.specs.Turns.Tree.{bus_of_number, is_named, has_node, has_a
 use Rattle.state_words.specs.Machine.{bus_words, words_or_none, state_words}
 use Rattle.state_words.specs.Parts.{hart_words, leaf_words, dir_words, traffic_words}
 use Rattle.time_laws.specs.Forget.{forget_leaf, forget_dir, forget_node, forget_nodes, forget_traffic, forget, put_by_effect, put_by, put_bytes, puts_of}
-use Rattle.state_keys.specs.Key.{put_words, state_key}
+use Rattle.explorer.specs.StateKeys.Key.{put_words, state_key}
 use Rattle.machine_states.specs.Words.{timeless_hart}
 
 -- ---- the leaves

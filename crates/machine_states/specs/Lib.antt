@@ -1,1 +1,6 @@
+pub mod Places
+pub mod Started
 pub mod Words
+pub mod Listed
+pub mod Ready
+pub mod Table

@@ -6,12 +6,12 @@ ghost use Rattle.tree_model.specs.Turns.Machine.{machine_leaves};
 ghost use Rattle.state_words.specs.Machine.{bus_words};
 ghost use Rattle.state_words.specs.Parts.{leaf_words};
 ghost use Rattle.time_laws.specs.Forget.{forget, put_by, puts_of};
-ghost use Rattle.state_keys.specs.Key.{put_words, state_key};
+ghost use Rattle.explorer.specs.StateKeys.Key.{put_words, state_key};
 ghost use Rattle.machine_states.specs.Words.{HasForms, HasItemWords, timeless_hart};
 
-use ddm_tree::{Machine, Subtree};
+use any_runs::of_ddm_tree::{Machine, Subtree};
+use any_runs::of_operation_list::Operations;
 use ddm_types::{BusNo, Effect, HartNo, LeafNo, NoMemory, Op};
-use operation_list::Operations;
 use std::alloc::Global;
 use timeless_words::{push_bus, push_hart};
 
@@ -26,7 +26,8 @@ fn push_harts<const WORDS: usize, C: Subtree<WORDS>>(
     out: &mut Vec<u32>,
 ) -> Result<(), NoMemory>
     requires { HasForms machine.now.machine }
-    ensures { OnOk result (out.new.items ≡ out.old.items ++ flat_map timeless_hart (machine_leaves machine.now.machine)) }
+    ensures { OnOk result
+        (out.new.items ≡ out.old.items ++ flat_map timeless_hart (machine_leaves machine.now.machine)) }
 {
     for leaf in 0..machine.counts().leaves {
         part.clear();
@@ -114,7 +115,7 @@ fn push_all_puts<const WORDS: usize, C: Subtree<WORDS>>(
 }
 
 /// Puts the words of the machine's state at the end.
-pub fn push_state<const WORDS: usize, C: Subtree<WORDS>>(
+pub(crate) fn push_state<const WORDS: usize, C: Subtree<WORDS>>(
     alloc: Global,
     machine: &Machine<WORDS, C>,
     out: &mut Vec<u32>,

@@ -4,6 +4,7 @@ pub mod DdmTree
 pub mod HeadlineCrate
 pub mod InspectorCrate
 pub mod OutcomeModel
+pub mod RecordingModel
 pub mod ReportCrate
 pub mod ScheduleLog
 pub mod StartParts

@@ -21,6 +21,7 @@ mod runs;
 mod surveying;
 mod text;
 
+pub use ending::{all_halted, put_outcome};
 pub use line::OutcomeLine;
 pub use runs::outcomes;
 pub use surveying::survey;

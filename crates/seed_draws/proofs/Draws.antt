@@ -3,7 +3,7 @@
 use Rattle.std.proofs.Common.{◌≡◌, ◌≤◌, ◌<◌, append_assoc, append-nil, zero-add, All, drop, ℕ, zero, suc, ◌+◌, ◌*◌, ◌-◌, ◌%◌, Bool, true, false, List, [], ◌∷◌, ◌++◌, length, map, take, sum_by, nat_lt, refl, sym, ap, ◌∙◌, take_all, ltb-true, ltb-false, arith}
 use Rattle.std.specs.Prelude.{slice_index_or, slice_set}
 use Rattle.std.specs.List.{range_with_len}
-use Rattle.std.proofs.lemmas.List.{drop_all, get_or_past, length-map, take_more, take_more_set}
+use Rattle.std.proofs.lemmas.List.{drop_all, drop_more, get_or-take, get_or_past, length-map, length-take, take_more, take_more_set}
 use Rattle.std.proofs.lemmas.List.FromFn.{get_or-map-range_with_len, length-map-range_with_len}
 use Rattle.std.proofs.lemmas.List.Elements.{All-cons, All-head, All-nil, All-tail}
 use Rattle.std.proofs.lemmas.List.Sums.{sum_by-append}
@@ -15,7 +15,7 @@ use Rattle.seed_draws.specs.TextModel.ReadBack.{IsTurnOf}
 use Rattle.seed_draws.specs.TextModel.Seeded.{seeded_turns}
 use Rattle.recording_model.specs.declared.SeedKind.{SeedKind}
 use Rattle.recording_model.specs.LetBy.{Draw, Skew, draws_of, seed_draws, skew_of, even_draw, let_by_rate, rate_of, rate_of_word, skew_from, skewed_draws, turns_before, turns_of_bus, turns_of_tree}
-use Rattle.seed_draws.specs.Parts.{ArePlaces, DrawsView, SkewView, draws_left}
+use Rattle.seed_draws.specs.Parts.{ArePlaces, DrawsView, SkewView, draws_left, turns_in_block}
 
 -- ---- places
 
@@ -55,7 +55,7 @@ skew-few zero g = All-nil (λ (r : ℕ). r ≤ 6)
 skew-few (suc n) g = let w = pcg32 g in All-cons (λ (r : ℕ). r ≤ 6) (rate_of_word w.0) (skew_from n w.1).rates (rate-few (w.0 % 4)) (skew-few n w.1)
 
 -- a slice that is the whole list was written
-pub whole-written : (new old : List ℕ) (len : ℕ) → length new ≡ len → length old ≡ len → take len (new ++ drop (length new) old) ≡ new
+pub whole-written : {X : Type 0} (new old : List X) (len : ℕ) → length new ≡ len → length old ≡ len → take len (new ++ drop (length new) old) ≡ new
 whole-written new old len same was =
     let none : drop (length new) old ≡ [] = drop_all (length new) old (omega (arith, same, was)) in
     ap (λ xs. take len (new ++ xs)) none ∙ ap (take len) (append-nil new) ∙ take_all len new (omega (arith, same))
@@ -104,6 +104,15 @@ skewed-next kind before after t by later is rates step = rw is (
   where
     drawn : Bool → Draw
     drawn by = record { turn = t; let_by = by }
+
+-- ---- one turn of a block is taken
+
+pub one-taken : (n end : ℕ) (block later : List Turn) (d : Turn) → n < end → end ≤ length block
+    → turns_in_block n end block later ≡ slice_index_or block n d ∷ turns_in_block (n + 1) end block later
+one-taken n end block later d before inside =
+    let long = length-take end block in
+    ap (λ (ts : List Turn). ts ++ later)
+    (drop_more (take end block) n d (omega (arith, long, before, inside)) ∙ ap (λ (t : Turn). t ∷ drop (n + 1) (take end block)) (get_or-take end block n d before))
 
 -- ---- a seed begins
 

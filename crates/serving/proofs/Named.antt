@@ -1,9 +1,9 @@
 -- A turn that is granted names a bus and a child of it; which turns do is a fact of the skeleton, which no turn changes.
 -- Letters: b is the number of a bus, c that of a child, t a turn, m a machine.
 use Rattle.std.proofs.Common.{◌≡◌, ℕ, ◌+◌, ◌<◌, ◌≤◌, Bool, true, false, List, [], ◌∷◌, length, Option, Some, None, is_some, refl, sym, ap, subst, ◌∙◌, arith, ◌⊎◌, inl, inr}
-use Rattle.std.specs.Prelude.{All, ◌||◌, nat_eq, nat_lt, if◌then◌else◌}
+use Rattle.std.specs.Prelude.{All, ◌||◌, nat_eq, if◌then◌else◌}
 use Rattle.std.specs.List.{list_all}
-use Rattle.std.proofs.lemmas.Bool.{and_parts, true≢false, cases_lt, eq-eqb}
+use Rattle.std.proofs.lemmas.Bool.{and_parts, true≢false, cases_lt}
 use Rattle.std.proofs.lemmas.Bool.Decides.{nat_tests}
 use Rattle.std.proofs.lemmas.List.Elements.{All-nil, All-cons, All-weaker}
 use Rattle.std.proofs.Math.ListN.{get_or-eq_default}
@@ -18,13 +18,11 @@ use Rattle.headline.specs.TreeModel.State.Leaf.{leaf_leaving}
 use Rattle.headline.specs.TreeModel.State.Place.{Where, at_top, at_child, where_path, spot_in, stamp_above, key_at_leaf}
 use Rattle.headline.specs.TreeModel.State.Shape.{Skeleton, Skeletons, leaf_bone, dir_bone, no_bones, more_bones, skeleton, skeletons, bone_count, Frame, frame_of, IsShaped}
 use Rattle.headline.specs.TreeModel.Turns.Bus.{bus_step}
-use Rattle.headline.specs.TreeModel.Turns.Children.{child_at}
 use Rattle.headline.specs.TreeModel.Turns.Machine.{Turned, named_by, answer_here, turn_answer, turn_of, run_of, child_count, is_child_of, names_part}
-use Rattle.headline.specs.TreeModel.Turns.Tree.{leaf_of_number, bus_of_number, is_named, has_node, has_among, read_in, read_among, of_leaf, of_dir}
+use Rattle.headline.specs.TreeModel.Turns.Tree.{leaf_of_number, bus_of_number, has_node, has_among, read_in, read_among, of_leaf, of_dir}
 use Rattle.headline.proofs.TreeModel.NamedNode.{read_in-is_some}
 use Rattle.headline.proofs.TreeModel.FrameKept.{turn-frame, run-frame, turn-shape}
 use Rattle.headline.proofs.TreeModel.TurnChanges.{turn-answered, turn-unanswered}
-use Rattle.headline.proofs.Standing.{StandsIn}
 use Rattle.serving_model.specs.Parts.{is_granted}
 use Rattle.serving_model.proofs.Spine.{bone_over, over-is}
 use Rattle.serving_walk.proofs.AtBus.{AtBus, at-bus, read-at}

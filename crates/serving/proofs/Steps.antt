@@ -1,7 +1,7 @@
 -- In a machine that shows a flat machine an operation is completed only where its hart's step on the flat memory is, and
 -- then the machine shows the flat machine after it.
 -- Letters: m is the machine, f the flat one, h a hart, g its state, v its leaf, a an answer, c a change.
-use Rattle.std.proofs.Common.{◌≡◌, ℕ, List, [], ◌∷◌, Option, Some, None, Result, Ok, Err, true, false, is_some, refl, sym, ap, subst, ◌∙◌}
+use Rattle.std.proofs.Common.{◌≡◌, ℕ, List, ◌∷◌, Option, Some, None, Result, Ok, Err, true, false, refl, sym, ap, subst, ◌∙◌}
 use Rattle.std.proofs.lemmas.Bool.{true≢false}
 use Rattle.headline.specs.DdmTypes.CodeMap.{CodeWord}
 use Rattle.headline.specs.DdmTypes.ItemTable.{ItemTable}
@@ -17,8 +17,8 @@ use Rattle.headline.specs.FlatModel.Hart.{ask_of, finish_of}
 use Rattle.headline.specs.FlatModel.Flat.{Change, FlatHart, no_flat_hart, FlatMachine, flat_hart, item_words, change_by, unless_halted, with_change, hart_step}
 use Rattle.headline.specs.TreeModel.State.Place.{at_top, key_at_leaf}
 use Rattle.headline.specs.TreeModel.State.Shape.{Skeleton, leaf_bone, dir_bone, Frame, frame_of}
-use Rattle.headline.specs.TreeModel.State.Values.{LeafValue, leaf_node, dir_node, MachineValue, root_of}
-use Rattle.headline.specs.TreeModel.Turns.HartTurn.{no_need, need_of, words_here, change_here, deed_of_change, deed_by_need, deed_unless_waiting, deed_unless_halted, deed_of, answer_of_deed, leaf_step}
+use Rattle.headline.specs.TreeModel.State.Values.{LeafValue, dir_node, MachineValue, root_of}
+use Rattle.headline.specs.TreeModel.Turns.HartTurn.{need_of, words_here, change_here, deed_of_change, deed_by_need, deed_unless_waiting, deed_unless_halted, deed_of, answer_of_deed, leaf_step}
 use Rattle.headline.specs.TreeModel.Turns.Machine.{Turned, answer_here, names_part, turn_of, run_of}
 use Rattle.headline.specs.TreeModel.Turns.Tree.{leaf_of_number, of_leaf}
 use Rattle.headline.specs.TreeRules.Bus.Rules.{items_of_machine}

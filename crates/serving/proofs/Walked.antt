@@ -1,5 +1,5 @@
 -- The walks that are made: those of the definition, and what they need.
-use Rattle.std.proofs.Common.{◌≡◌, ◌≢◌, ℕ, ◌<◌, true, List, [], ◌∷◌, ◌++◌, length, ◌≤◌, Bool, false, Option, None, Some, is_some, refl, ap, subst, sym, ◌∙◌, arith}
+use Rattle.std.proofs.Common.{◌≡◌, ◌≢◌, ℕ, ◌<◌, true, List, [], ◌∷◌, ◌++◌, length, ◌≤◌, false, Option, None, Some, is_some, refl, ap, subst, sym, ◌∙◌, arith}
 use Rattle.std.proofs.lemmas.List.{length-append}
 use Rattle.std.specs.Prelude.{All}
 use Rattle.headline.specs.DdmTypes.ItemTable.{item_count}
@@ -7,7 +7,7 @@ use Rattle.headline.specs.DdmTypes.declared.answers.TxKind.{TxKind}
 use Rattle.headline.specs.DdmTypes.declared.answers.TxKind.TheVariants.{ReadTx, DataTx, EraseTx, ExclusiveTx, InjectTx, OutTx}
 use Rattle.headline.specs.DdmTypes.declared.sizes.LeafState.{LeafState}
 use Rattle.headline.specs.DdmTypes.declared.turns.Turn.{Turn}
-use Rattle.headline.specs.TreeModel.State.Values.{Node, dir_node, MachineValue, root_of}
+use Rattle.headline.specs.TreeModel.State.Values.{Node, MachineValue, root_of}
 use Rattle.headline.specs.TreeModel.State.Shape.{Skeleton, leaf_bone, dir_bone, Frame, frame_of, IsShaped}
 use Rattle.headline.specs.TreeModel.Turns.Machine.{child_count, names_part, turn_of, run_of}
 use Rattle.headline.proofs.TreeModel.FrameKept.{run-frame, run-shape}

@@ -1,6 +1,6 @@
 -- A machine that is served, and why a list isn't.
 -- To be believed with the contracts: they speak of it.
-use Rattle.std.specs.Prelude.{◌≡◌, Bool, true, false, List, [], ◌∷◌, Option, Some, None, Result, Err}
+use Rattle.std.specs.Prelude.{◌≡◌, Bool, true, false, List, ◌∷◌, Option, Some, None, Result, Err}
 use Rattle.headline.specs.DdmTypes.declared.answers.TurnAnswer.{TurnAnswer}
 use Rattle.headline.specs.DdmTypes.declared.sizes.LeafState.{LeafState}
 use Rattle.headline.specs.DdmTypes.declared.turns.Turn.{Turn}

@@ -1,11 +1,15 @@
-use Rattle.std.proofs.Common.{Bool, List, length, refl, sym, subst, ap, ◌∙◌}
+use Rattle.std.proofs.Common.{ℕ, Bool, List, Option, length, refl, sym, subst, ap, ◌∙◌}
+use Rattle.std.specs.Prelude.{IfSome}
+use Rattle.film.proofs.EachLeaf.{machine_ok}
 use Rattle.film_runs.specs.AnyMachine.Any.{machine_state}
 use Rattle.film_runs.specs.DdmTypes.declared.answers.TurnAnswer.{TurnAnswer}
 use Rattle.film_runs.specs.Film.Filmed.{IsFilmed}
+use Rattle.film_runs.specs.HartAlone.{CameFrom}
 use Rattle.film_runs.specs.Resting.{one_rests}
 use Rattle.film_runs.specs.TreeModel.State.Values.{MachineValue}
 use Rattle.film_runs.specs.FilmModel.Still.{still as still_of}
 use Rattle.film_runs.proofs.FilmedAfter.{filmed_after}
+use Rattle.film_runs.proofs.HartTold.{came_after}
 use Rattle.film_runs.proofs.OneTurn.{answer_after, machine_after, text_after}
 use Rattle.film_runs.proofs.Resting.{still_rests}
 use Rattle.film_runs.proofs.turns.film_turn.Goals as goal
@@ -28,6 +32,15 @@ film_change-requires-clause-rested c = λ rested.
     let told = ap (λ (halted : Bool). one_rests halted c.deref-2.result.now) (sym (c.one_halted-halted.ensures c.args.turn refl)) ∙ sym c.one_rests-rested.ensures ∙ rested in
     still_rests c.args.turn m (machine_state c.run.new.machine).machine c.deref-2.result.now c.args.reel.now.before answers told
     (machine_after (machine_state c.run.new.machine) (machine_state c.args.machine.now) c.args.turn c.in_ok-counts.ensures.after) c.requires.before
+
+pub film_change-requires-clause-came : goal.film_change-requires-clause-came
+film_change-requires-clause-came c =
+    let m = (machine_state c.args.machine.now).machine in
+    let next = (machine_state c.run.new.machine).machine in
+    let answers = answer_after c.clear.new.self.items c.run.new.answers.items c.deref-3.result.now c.args.turn m c.deref-3.ensures.value c.in_ok-counts.ensures.answers c.clear.ensures.items in
+    let came = came_after c.args.turn m next c.deref-3.result.now c.args.reel.now.before c.requires.filmed.most answers
+    (machine_after (machine_state c.run.new.machine) (machine_state c.args.machine.now) c.args.turn c.in_ok-counts.ensures.after) c.requires.before (machine_ok m c.counts.ensures.rules) c.requires.filmed.form in
+    subst (λ (o : Option ℕ). IfSome o (λ k. CameFrom k c.args.reel.now.before next)) (sym (c.one_changed-hart.ensures c.args.turn refl)) came
 
 pub returns-clause-text : goal.returns-clause-text
 returns-clause-text c =

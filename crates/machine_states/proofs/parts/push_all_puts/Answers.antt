@@ -4,8 +4,8 @@ use Rattle.std.proofs.lemmas.List.{length-map, take_all}
 use Rattle.tree_model.specs.State.Shape.{tree_counts}
 use Rattle.tree_model.specs.Turns.Machine.{machine_leaves}
 use Rattle.time_laws.specs.Forget.{put_by, put_bytes, puts_of}
-use Rattle.state_keys.specs.Key.{put_words}
-use Rattle.ddm_tree.proofs.LeafList.{leaves-counted}
+use Rattle.explorer.specs.StateKeys.Key.{put_words}
+use Rattle.any_runs.proofs.DdmTree.LeafList.{leaves-counted}
 use Rattle.machine_states.proofs.Leaves.{leaf-at}
 use Rattle.machine_states.proofs.Places.{got}
 use Rattle.machine_states.proofs.Loops.{flat-place}

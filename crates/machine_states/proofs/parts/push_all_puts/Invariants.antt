@@ -1,6 +1,6 @@
 use Rattle.std.proofs.Common.{◌≡◌, ◌++◌, flat_map, take}
 use Rattle.time_laws.specs.Forget.{puts_of}
-use Rattle.state_keys.specs.Key.{put_words}
+use Rattle.explorer.specs.StateKeys.Key.{put_words}
 use Rattle.machine_states.proofs.parts.push_all_puts.Given as goal
 
 abbrev pub invariant-loop-leaf : goal.invariant-loop-leaf

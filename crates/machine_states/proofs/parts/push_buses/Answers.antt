@@ -3,7 +3,7 @@ use Rattle.std.specs.List.{AllByRecursion, range_with_len}
 use Rattle.tree_model.specs.State.Shape.{tree_counts}
 use Rattle.state_words.specs.Parts.{dir_words, traffic_words}
 use Rattle.state_words.specs.Machine.{bus_words, words_or_none}
-use Rattle.ddm_text.specs.Adds.{alone}
+use Rattle.any_runs.specs.DdmText.Adds.{alone}
 use Rattle.state_judging.proofs.BusNumbers.{buses-counted, numbered-bus}
 use Rattle.time_laws.specs.Forget.{forget, forget_dir}
 use Rattle.timeless_words.specs.Struck.{IsWide}

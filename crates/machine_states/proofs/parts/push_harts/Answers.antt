@@ -3,8 +3,8 @@ use Rattle.std.proofs.lemmas.List.{take_all}
 use Rattle.tree_model.specs.State.Shape.{tree_counts}
 use Rattle.tree_model.specs.Turns.Machine.{machine_leaves}
 use Rattle.state_words.specs.Parts.{hart_words}
-use Rattle.ddm_text.specs.Adds.{alone}
-use Rattle.ddm_tree.proofs.LeafList.{leaf-there, leaves-counted}
+use Rattle.any_runs.specs.DdmText.Adds.{alone}
+use Rattle.any_runs.proofs.DdmTree.LeafList.{leaf-there, leaves-counted}
 use Rattle.machine_states.specs.Words.{timeless_hart}
 use Rattle.machine_states.proofs.Places.{get-one}
 use Rattle.machine_states.proofs.Leaves.{leaf-at, leaf-asked}

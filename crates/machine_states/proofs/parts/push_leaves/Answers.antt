@@ -4,7 +4,7 @@ use Rattle.tree_model.specs.State.Shape.{tree_counts}
 use Rattle.tree_model.specs.Turns.Machine.{machine_leaves}
 use Rattle.state_words.specs.Parts.{leaf_words}
 use Rattle.state_words.specs.Machine.{words_or_none}
-use Rattle.ddm_tree.proofs.LeafList.{leaf-there, leaves-counted}
+use Rattle.any_runs.proofs.DdmTree.LeafList.{leaf-there, leaves-counted}
 use Rattle.machine_states.proofs.Leaves.{leaf-at, leaf-asked}
 use Rattle.machine_states.proofs.Loops.{flat-place}
 use Rattle.machine_states.proofs.parts.push_leaves.Goals as goal

@@ -4,7 +4,7 @@ use Rattle.tree_model.specs.Turns.Machine.{machine_leaves}
 use Rattle.state_words.specs.Machine.{bus_words}
 use Rattle.state_words.specs.Parts.{leaf_words}
 use Rattle.time_laws.specs.Forget.{forget, puts_of}
-use Rattle.state_keys.specs.Key.{put_words}
+use Rattle.explorer.specs.StateKeys.Key.{put_words}
 use Rattle.timeless_words.proofs.Forgotten.{when-ok}
 use Rattle.machine_states.specs.Words.{timeless_hart}
 use Rattle.machine_states.proofs.Timeless.{joined-up, key-parts}

@@ -1,4 +1,4 @@
-use Rattle.std.proofs.Common.{◌≡◌, Err, length, sym, ap, subst, ◌++◌, ◌∙◌, arith, rules, true, length-append}
+use Rattle.std.proofs.Common.{◌≡◌, Err, length, sym, ap, subst, ◌∙◌, arith, rules, true, length-append}
 use Rattle.std.proofs.lemmas.Result.{on_ok_weaker, IfErr-weaker}
 use Rattle.headline.specs.DdmTypes.declared.turns.Turn.{Turn}
 use Rattle.headline.specs.TreeModel.Turns.Machine.{names_part}

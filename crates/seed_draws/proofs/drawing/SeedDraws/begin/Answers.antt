@@ -12,7 +12,7 @@ pub returns-clause-draws : goal.returns-clause-draws
 returns-clause-draws c =
     let shape : ShapeView = c.args.self.now.shape in
     let same : c.self.inside.seeds.shape ≡ shape = ap (λ (v : DrawsView). v.shape) c.self.view_is in
-    let skewed : c.self.inside.skewing.shape ≡ shape = c.self.invariant ∙ same in
+    let skewed : c.self.inside.skewing.shape ≡ shape = c.self.invariant.0 ∙ same in
     let turns = ap (λ (v : SeededView). v.left) c.begin.ensures.turns ∙ ap (λ (s : ShapeView). seeded_turns s c.args.seed c.args.count) same in
     begun c.args.kind shape c.begin.new.self.shape c.begin-2.new.self c.args.seed c.args.count c.begin.new.self.left (ap (λ (v : SeededView). v.shape) c.begin.ensures.turns ∙ same)
     (c.begin-2.ensures.rates ∙ ap (λ (s : ShapeView). (skew_of s c.args.seed).rates) skewed) (c.begin-2.ensures.words ∙ ap (λ (s : ShapeView). (skew_of s c.args.seed).words) skewed) turns
