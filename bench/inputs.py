@@ -6,6 +6,7 @@ import subprocess
 TURNS = 1_000_000
 PAGED = 100_000
 ROUNDS = 50_000
+BUSY = 8000
 # The shape of each tree, the sets of a leaf and the bytes of a stack.
 TREES = {
     "L": ("(L)", 64, 256),
@@ -16,6 +17,9 @@ TREES = {
     "leaves64": ("(" + ("(" + "((LLLL)(LLLL)(LLLL)(LLLL))" * 2 + ")") * 2 + ")", 128, 0),
     "one16": ("(" + "L" * 16 + ")", 512, 0),
 }
+EXAMPLES = pathlib.Path(__file__).resolve().parent.parent / "examples"
+# The image of the stencil, and trees of four and of sixteen leaves.
+STENCIL = [str(EXAMPLES / "stencil" / name) for name in ("image", "tree.toml", "sixteen_leaves.toml")]
 RECORDED = ("LL", "2x2", "deep8", "leaves64")
 # Four instructions on one word, for ever: lui; lw, addi, sw, jal.
 LOOP = (0x000202B7, 0x0002A303, 0x00130313, 0x0062A023, 0xFF5FF06F)
@@ -113,6 +117,8 @@ def write_inputs(folder, program):
         (folder / f"fair_{name}").write_bytes(fair_schedule(TREES[name][0]))
         (folder / f"seeded_{name}").write_bytes(printed("schedule", name, "42", str(TURNS)))
     (folder / "paged").write_bytes(fair_schedule(TREES["LL"][0], PAGED))
+    for name, tree_file in (("busy_4", STENCIL[1]), ("busy_16", STENCIL[2])):
+        (folder / name).write_bytes(printed("record", STENCIL[0], tree_file, "even", "42", str(BUSY)))
     report = printed("run", "loop", "L", "retire").splitlines(keepends=True)
     (folder / "witness").write_bytes(b"".join(line for line in report if line.startswith(b"op ")))
     (folder / "saved").write_bytes(printed("save", "loop", "L", "retire"))

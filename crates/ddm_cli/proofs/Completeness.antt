@@ -195,7 +195,7 @@ unresumed : (p : Parts) (checkpoint : List ℕ) (r : ResumeRefusal) → IsUnresu
 unfolding resumed_at
 unresumed p checkpoint r is = rw is refl
 
--- a schedule that is refused behind so many turns gives none
+-- a schedule that is refused after so many turns gives none
 no_rest : (levels : List (List ℕ)) (made line : ℕ) (r : ScheduleRefusal) (schedule : List ℕ) → IsUnscheduled levels made line r schedule → turns_at levels made schedule ≡ None
 unfolding turns_at
 no_rest levels made line r schedule is = rw is refl

@@ -57,7 +57,7 @@ both_taken tree image p = by_tree (tree_at tree) refl where
   by_tree None is e = cc
   by_tree (Some t) is e = parts_taken image t p (tree_taken tree t is) e
 
--- where a run from the start comes to the machine, the turns behind it are in order
+-- where a run from the start comes to the machine, the turns after it are in order
 goes_on : (p : Parts) → ArePartsTaken p → (m : MachineValue) (turns first : List Turn) → m ≡ (run_of first (start_machine p.tree p.image)).machine → RunInOrder (flat_start_of p.tree p.image) m turns
 goes_on p taken m turns first is = rw is (runs-in_order p.tree p.image taken.tree taken.accepted first turns)
 

@@ -39,7 +39,7 @@ use Rattle.ddm_cli.proofs.Taken.{with_tree}
 
 -- ---- the pieces of a schedule file
 
--- one more, whose turns were put behind those before
+-- one more, whose turns were put after those before
 pub next_read : (tree_levels : List (List ℕ)) (told : Option (List ℕ)) (count : ℕ) (reader : ReaderView) (turns : List Turn) → HasRead tree_levels before_page told count reader turns
     → (levels : List (List ℕ)) (n : ℕ) (into : List ℕ) (new : ReaderView) (after : List Turn) → levels ≡ tree_levels → n ≤ length into → IfSome told (λ file. ReadsPart file count n into)
     → Fed (shape_view levels) reader (take n into) new turns after → HasRead tree_levels before_page told (count + n) new after

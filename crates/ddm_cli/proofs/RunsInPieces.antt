@@ -255,7 +255,7 @@ retired_counted keep s now made turns none has =
     let ops : now.machine.ops ≡ ops_of_answers answers = ap (λ (m : MachineValue). m.ops) has.machine ∙ run-ops turns s.machine ∙ ap (λ ops. ops ++ ops_of_answers answers) none in
     ap (λ (c : RunCounts). c.retired) (counts_run keep false s now made turns has) ∙ sym (retired_ops answers) ∙ ap length (sym ops)
 
--- where no trace is kept, the report stands alone
+-- where no trace is kept, the report is alone
 report_alone : (first : RunCounts) (s now : MachineState) (made : Made) (turns : List Turn) (report : List ℕ) → HasMade first false false s now made turns → made.trace.items ++ report ≡ report
 report_alone first s now made turns report has = ap (λ t. t ++ report) has.trace_kept
 
@@ -289,7 +289,7 @@ pub made_written : {E : Type 0} (prints : Prints) (levels : List (List ℕ)) (to
 made_written prints levels told s now made old new w has writes =
     (made_text prints now.machine made, record { turns = has.turns; accepted = has.accepted; text_is = made_printed prints s now made has.turns has.all }, writes)
 
--- ---- turns behind those of a checkpoint
+-- ---- turns after those of a checkpoint
 
 rest_printed : (first : RunCounts) (s now : MachineState) (made : Made) (turns : List Turn) → HasMade first false false s now made turns
     → made.trace.items ++ report_of (view_of (depth_of now.machine) made.counts now.machine) ≡ resumed_report turns (record { machine = s.machine; counts = first })

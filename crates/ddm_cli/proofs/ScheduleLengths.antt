@@ -15,7 +15,7 @@ GoesOn (refused_at line refusal) = ⊥
 
 -- ---- bytes
 
--- the bytes of pieces, with one behind each
+-- the bytes of pieces, with one after each
 abbrev total : List (List ℕ) → ℕ
 total [] = 0
 total (piece ∷ pieces) = length piece + 1 + total pieces

@@ -18,7 +18,7 @@ use Rattle.ddm_cli.specs.Parts.{turns_at}
 use Rattle.ddm_cli.specs.Reads.{HasRead}
 use Rattle.ddm_cli.proofs.ScheduleLengths.{GoesOn, short_text}
 
--- ---- a refused text with more behind it
+-- ---- a refused text with more after it
 
 refused_stays : (shape : ShapeView) (made : ℕ) (text more : List ℕ) (line : ℕ) (refusal : ScheduleRefusal) → (reading_of shape made text).standing ≡ refused_at line refusal → (reading_of shape made (text ++ more)).standing ≡ refused_at line refusal
 unfolding resumed
@@ -73,7 +73,7 @@ module _ (levels : List (List ℕ)) (made : ℕ) (told : Option (List ℕ)) wher
         front None so_far part = tt
         front (Some file) so_far part = so_far ∙ ap (λ t. read.text ++ t) part.bytes ∙ sym (append_assoc read.text (take n into) (drop (count + n) file))
 
-    -- one more, of which the reader gave the turns behind none
+    -- one more, of which the reader gave the turns after none
     pub more_read : (n : ℕ) (into : List ℕ) (new : ReaderView) (none more : List Turn) → none ≡ [] → n ≤ length into → IfSome told (λ file. ReadsPart file count n into) → Fed (shape_view levels) reader (take n into) new none more
         → HasRead levels made told (count + n) new (turns ++ more)
     more_read n into new none more is few part f =
@@ -94,7 +94,7 @@ module _ (levels : List (List ℕ)) (made : ℕ) (told : Option (List ℕ)) wher
         let on : GoesOn (reading_of (shape_view levels) made read.text).standing = subst GoesOn standing_is (answer_goes_on reader.standing e) in
         omega (arith, short_text (shape_view levels) made read.text few on, read.size)
 
-    -- a line is refused, whatever is behind
+    -- a line is refused, whatever is after
     pub refused_read : (line : ℕ) (refusal : ScheduleRefusal) → answer_of reader.standing ≡ Err (error.Refused line refusal) → IfSome told (IsUnscheduled levels made line refusal)
     refused_read line refusal e = by told read.front where
       shape : ShapeView

@@ -90,7 +90,7 @@ module _ (t : TreeValue) (i : ImageValue) (tree : IsTree t) where
   abbrev leaves : List Node
   leaves = map leaf_node (start_leaves t i)
 
-  -- the top is one bus, with the widths of the levels below behind its own
+  -- the top is one bus, with the widths of the levels below after its own
   record HasTop (first : List ℕ) (others : List (List ℕ)) : Type 0 where
     width : ℕ
     one : first ≡ width ∷ []

@@ -24,7 +24,7 @@ use Rattle.ddm_cli.specs.Top.{AcceptsSetting, HasLegalLines, IsJudged, NoVerdict
 use Rattle.ddm_cli.specs.declared.status.Status.{Status}
 use Rattle.ddm_cli.specs.declared.status.Status.TheVariants.{Done, Usage, ImageLoad, ImageBuild, Tree, Schedule, Witness, Checkpoint, SmallLists, Table, ReadFault, UnreadTable, WriteFault, NoMemory, Litmus, UnreadTest}
 
--- ---- how a text stands
+-- ---- where a text is
 
 -- an answer is an error where the text is too long
 answer_long : (st : Standing) (r : CheckRefusal) → feed_answer st ≡ Err r → (st ≡ refused refusal.TooLong) × (r ≡ refusal.TooLong)
@@ -95,7 +95,7 @@ module _ (first : ReaderView) (told : Option (List ℕ)) where
       let short = short_text s read.text (subst (λ (r : ReaderView). feed_answer r.standing ≡ Ok tt) (read.behind s begins) e) in
       omega (arith, short, read.size)
 
-  -- or it is, whatever is behind
+  -- or it is, whatever is after
   pub long_fed : (count : ℕ) (reader : ReaderView) → HasFed first told count reader → (r : CheckRefusal) → feed_answer reader.standing ≡ Err r → IfSome told (ComesTo first (Err r))
   long_fed count reader read r e = by told read.front where
     comes : (file : List ℕ) → file ≡ read.text ++ drop count file → ComesTo first (Err r) file

@@ -44,7 +44,7 @@ kept_of true m = without_ops m
 kept_of false m = m
 
 -- These turns were made of a machine, whose turns before came to `first`: machine and counts are those of their run, but for operations
--- that are forgotten, and for a trace their lines are kept, of which the first one is counted behind those turns.
+-- that are forgotten, and for a trace their lines are kept, of which the first one is counted after those turns.
 pub record HasMade (first : RunCounts) (keep forgets : Bool) (s after : MachineState) (made : Made) (turns : List Turn) : Type 0 where
   pub machine : kept_of forgets after.machine ≡ kept_of forgets (run_of turns s.machine).machine
   pub number : after.turns ≡ s.turns + length turns

@@ -1,6 +1,6 @@
 -- What is printed of a run, and of a witness that is accepted.
 -- Letters: m is a machine, t a turn.
-use Rattle.std.specs.Prelude.{ℕ, Bool, false, true, List, ◌++◌, Option, Some, None, Result, MatchResult, codes, decimal}
+use Rattle.std.specs.Prelude.{ℕ, List, ◌++◌, Option, Some, None, Result, MatchResult, codes, decimal}
 use Rattle.ddm_cli.specs.DdmTypes.declared.turns.Turn.{Turn}
 use Rattle.ddm_cli.specs.TreeModel.State.Values.{MachineValue}
 use Rattle.ddm_cli.specs.TreeModel.State.Shape.{depth_of}
@@ -56,6 +56,6 @@ made_text Trace m made = made.trace.items ++ report_of (view_of (depth_of m) mad
 abbrev pub legal_line : ℕ → List ℕ
 legal_line lines = codes "legal " ++ decimal lines ++ codes "\n"
 
--- a text was written behind what was there, or a first part of it where a write failed
+-- a text was written after what was there, or a first part of it where a write failed
 abbrev pub Writes : {E : Type 0} → Option (List ℕ) → Option (List ℕ) → List ℕ → Result (Unit {0}) E → Type 0
 Writes old new text result = MatchResult result (λ u. Appends old new text) (λ e. AppendsPart old new text)

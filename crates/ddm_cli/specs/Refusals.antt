@@ -102,7 +102,7 @@ small_lists_line k = codes "ddm: small lists: " ++ key_name k ++ codes "\n"
 
 -- ---- the line of an unknown key in two parts, since a key may be as long as its file
 
--- the whole line, but of an unknown key what stands before it
+-- the whole line, but of an unknown key what is before it
 abbrev pub tree_line_head : TreeRefusal → List ℕ
 tree_line_head (tree.UnknownKey key) = codes "ddm: tree: unknown key "
 tree_line_head r = tree_line r

@@ -62,7 +62,7 @@ pub record IsWholeRun (tree image : List ℕ) (p : Parts) (file : List ℕ) (fir
       (all : ScheduleGiven) → turns_of p.tree.levels all ≡ Some (first ++ more) →
       text_of Report tree image all ≡ resumed_text tree image file rest
 
--- so it is of the checkpoint of each schedule, and each schedule of the rest that is accepted behind its turns
+-- so it is of the checkpoint of each schedule, and each schedule of the rest that is accepted after its turns
 abbrev pub SavedRunsAreWhole : Type 0
 SavedRunsAreWhole =
     (tree image : List ℕ) (p : Parts) (schedule : ScheduleGiven) (first : List Turn) (rest : List ℕ)

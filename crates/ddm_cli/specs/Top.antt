@@ -329,7 +329,7 @@ module _ {F : Type 0} (told : F → List ℕ → Option (List ℕ)) where
   abbrev pub Accepted : List (List ℕ) → F → List ℕ → Type 0
   Accepted words files text = IsOkAnd (command_of words) (HasAccepted files text)
 
-  -- it was written behind what was there, or a first part of it where a write failed
+  -- it was written after what was there, or a first part of it where a write failed
   abbrev pub WritesAccepted : {E : Type 0} → F → Option (List ℕ) → Option (List ℕ) → Command → Result (Unit {0}) E → Type 0
   WritesAccepted files old new c result = (text : List ℕ) × HasAccepted files text c × Writes old new text result
 
@@ -487,7 +487,7 @@ module _ {F K : Type 0} (told : F → List ℕ → Option (List ℕ)) (faults : 
 
   -- the cause of each status, from what was there before the call and after it
   abbrev pub StatusHasCause : List (List ℕ) → F → F → K → K → Status → Type 0
-  -- the text stands behind what was there
+  -- the text is after what was there
   StatusHasCause words files files' out out' Done = (text : List ℕ) × Accepted told words files text × Appends (held out) (held out') text
   -- a first part of the text does
   StatusHasCause words files files' out out' WriteFault = (text : List ℕ) × Accepted told words files text × WritesPart out out' text
@@ -545,7 +545,7 @@ fault_line (ReadFault role) = read_fault (role_text role)
 fault_line WriteFault = write_fault
 fault_line NoMemory = memory_fault
 
--- the line in two parts: of an unknown key what stands before it, and the key
+-- the line in two parts: of an unknown key what is before it, and the key
 abbrev pub line_head : Status → List ℕ
 line_head (Tree r) = tree_line_head r
 line_head s = fault_line s

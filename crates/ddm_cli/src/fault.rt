@@ -14,7 +14,7 @@ use crate::status::Status;
 use crate::table_lines::{table_line, unread_table_line};
 use crate::unknown_key::tell_rest;
 
-// The line of a status; for an unknown key what stands before it.
+// The line of a status; for an unknown key what is before it.
 #[tactic(auto, unfolding(crate::specs::Top::fault_line))]
 fn line_head(status: &Status) -> FaultLine
     ensures { result ≡ line_head status.now }

@@ -96,7 +96,7 @@ fn make_turns(
 }
 
 /// Makes the turns of a schedule file on a machine whose turns before came to `first`, those of each piece that is read before the
-/// next one is asked for. So a line that is refused is answered before any byte is asked for that comes behind the piece with its end.
+/// next one is asked for. So a line that is refused is answered before any byte is asked for that comes after the piece with its end.
 pub fn schedule_made<F: Shelf>(
     alloc: Global,
     files: &mut F,

@@ -34,7 +34,7 @@ use film_runs::page_text;
 use run_engine::AnyMachine;
 use std::alloc::Global;
 
-// A schedule is read behind so many turns, of which there are 1,048,576 at most: so 100,000 are left for a page.
+// A schedule is read after so many turns, of which there are 1,048,576 at most: so 100,000 are left for a page.
 const BEFORE_PAGE: u32 = 948_576;
 
 // Looks at bytes: each is one.

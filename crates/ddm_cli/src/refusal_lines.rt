@@ -13,7 +13,7 @@ use checkpoint::ResumeRefusal;
 use run_engine::BuildRefusal;
 use witness_check::CheckRefusal;
 
-// Puts numbers at the end, each behind a space.
+// Puts numbers at the end, each after a space.
 fn push_numbers(line: &mut FaultLine, numbers: &[u64])
     requires line { length line.old ≤ 32 }
     requires numbers { length numbers.now ≤ 2 }
@@ -126,7 +126,7 @@ fn keyed(name: &[u8], key: TreeKey) -> FaultLine
     line
 }
 
-// What stands before an unknown key.
+// What is before an unknown key.
 fn before_key() -> FaultLine
     ensures { result ≡ codes "ddm: tree: unknown key " }
 {
@@ -135,8 +135,9 @@ fn before_key() -> FaultLine
     line
 }
 
-/// The line for a tree file that isn't accepted; for an unknown key what stands before the key.
-#[tactic(auto, unfolding(crate::specs::Opened::tree_fault, crate::specs::Opened::tree_key_fault, crate::specs::Opened::key_refusal_text, crate::specs::Opened::refusal_text, crate::specs::Opened::name_words))]
+/// The line for a tree file that isn't accepted; for an unknown key what is before the key.
+#[tactic(auto, unfolding(crate::specs::Opened::tree_fault, crate::specs::Opened::tree_key_fault, // of a tree
+crate::specs::Opened::key_refusal_text, crate::specs::Opened::refusal_text, crate::specs::Opened::name_words))]
 pub fn tree_line_head(refusal: &TreeRefusal) -> FaultLine
     ensures { result ≡ tree_line_head refusal.now }
 {

@@ -53,7 +53,7 @@ fn tell_key<K: Sink>(faults_out: &mut K, key: &str) -> Result<(), Failed>
     write_all(faults_out, b"\n")
 }
 
-/// Writes what a status's line has behind its head, which is an unknown key.
+/// Writes what a status's line has after its head, which is an unknown key.
 pub fn tell_rest<K: Sink>(faults_out: &mut K, status: &Status) -> Result<(), Failed>
     ensures ok { OnOk result (Appends (K.held faults_out.old) (K.held faults_out.new) (line_rest status.now)) }
     ensures err { OnErr result (AppendsPart (K.held faults_out.old) (K.held faults_out.new) (line_rest status.now)) }

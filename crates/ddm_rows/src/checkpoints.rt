@@ -90,18 +90,18 @@ const HOLD_OF_BUS_2: usize = 556;
 // of its holds the item. A file that says that it holds the item Shared breaks a rule of bus 2, and none of bus 0.
 #[test]
 fn the_bus_that_is_named(rt: HostRuntime) -> Result<(), Fail> {
-    let alloc = rt.alloc();
-    let code = [
+    const CODE: &[u32] = &[
         0x000102b7, // lui x5,0x10
         0x0002a383, // lw x7,0(x5)
         0x0002a403, // lw x8,0(x5)
         0x00000073, // ecall
     ];
-    let turns = ["h 1 0", "h 1 0", "g 2 q 0", "g 0 q 1", "g 1 d", "g 1 r 0"];
+    const TURNS: &[&str] = &["h 1 0", "h 1 0", "g 2 q 0", "g 0 q 1", "g 1 d", "g 1 r 0"];
+    let alloc = rt.alloc();
     let files = Files {
         tree: tree("((L)(L))", [4, 1, 1, 1]).bytes(alloc)?,
-        image: image(alloc, &code, &[], 0)?,
-        schedule: schedule(alloc, &turns, 1)?,
+        image: image(alloc, CODE, &[], 0)?,
+        schedule: schedule(alloc, TURNS, 1)?,
     };
     let file = output(alloc, SAVE, &files)?;
     assert_eq!(rt; file.len(), 792);
@@ -129,9 +129,9 @@ fn run_of(alloc: Global, turns: &[Turn]) -> Result<Files, Fail> {
 fn a_run_in_two_parts(rt: HostRuntime) -> Result<(), Fail> {
     let alloc = rt.alloc();
     let mut turns = WORD_READ.to_vec(alloc)?;
-    turns.extend_from_slice(&WORD_STORED)?;
-    turns.extend_from_slice(&FLAG_ASKED)?;
-    turns.extend_from_slice(&FLAG_READ)?;
+    turns.extend_from_slice(WORD_STORED)?;
+    turns.extend_from_slice(FLAG_ASKED)?;
+    turns.extend_from_slice(FLAG_READ)?;
     let whole = output(alloc, RUN, &run_of(alloc, &turns)?)?;
     for made in 0..turns.len() {
         let (before, behind) = turns.split_at(made);

@@ -8,13 +8,13 @@ use std::test::Fail;
 // independent simulator.
 #[test]
 fn measured_run(rt: HostRuntime) -> Result<(), Fail> {
+    const WORDS: &[&str] = &["measure", "image", "tree", "even", "100", "2000"];
     let alloc = rt.alloc();
     let files = Files {
         tree: tree("((L)(L))", [2, 1, 1, 1]).bytes(alloc)?,
         image: store_and_load(alloc)?,
         schedule: Vec::new(alloc),
     };
-    let words = ["measure", "image", "tree", "even", "100", "2000"];
     let lines = "measure 1\n\
         end halted\n\
         turns 26 drawn 380 retired 12 issued 1 granted 11 halted 2 busy 0\n\
@@ -30,6 +30,6 @@ fn measured_run(rt: HostRuntime) -> Result<(), Fail> {
         most leaf 1 replies 0 buffer 0\n\
         item 2 00020000 reads 1 erases 0 injects 0\n\
         end\n";
-    assert_eq!(rt; output(alloc, &words, &files)?.as_slice(), lines.as_bytes());
+    assert_eq!(rt; output(alloc, WORDS, &files)?.as_slice(), lines.as_bytes());
     Ok(())
 }

@@ -8,13 +8,13 @@ use std::test::Fail;
 
 /// Two harts that exit with their numbers, in two instructions each.
 fn two_exits(alloc: Global) -> Result<Files, Fail> {
-    let code = [
+    const CODE: &[u32] = &[
         0x05d00893, // addi x17,x0,93
         0x00000073, // ecall
     ];
     Ok(Files {
         tree: tree("(LL)", [4, 1, 1, 1]).bytes(alloc)?,
-        image: image_of(alloc, &[code_segment(alloc, &code)?])?,
+        image: image_of(alloc, &[code_segment(alloc, CODE)?])?,
         schedule: Vec::new(alloc),
     })
 }
@@ -22,79 +22,79 @@ fn two_exits(alloc: Global) -> Result<Files, Fail> {
 // How many turns each hart has in six was counted by hand, from the published generator.
 #[test]
 fn eight_seeds(rt: HostRuntime) -> Result<(), Fail> {
+    const WORDS: &[&str] = &["outcomes", "image", "tree", "0", "8", "6"];
     let alloc = rt.alloc();
     let files = two_exits(alloc)?;
-    let words = ["outcomes", "image", "tree", "0", "8", "6"];
     let lines = "outcomes 4 runs 8\n\
         outcome 4 1 hart 0 exit 0 out - hart 1 exit 1 out -\n\
         outcome 2 3 hart 0 exit 0 out - hart 1 running out -\n\
         outcome 1 0 hart 0 running out - hart 1 running out -\n\
         outcome 1 6 hart 0 running out - hart 1 exit 1 out -\n\
         end\n";
-    assert_eq!(rt; output(alloc, &words, &files)?.as_slice(), lines.as_bytes());
+    assert_eq!(rt; output(alloc, WORDS, &files)?.as_slice(), lines.as_bytes());
     Ok(())
 }
 
 // Three turns that do something are one too few. Which hart has two of them comes from an independent simulator.
 #[test]
 fn recorded_runs(rt: HostRuntime) -> Result<(), Fail> {
+    const WORDS: &[&str] = &["survey", "image", "tree", "skewed", "0", "8", "3"];
     let alloc = rt.alloc();
     let files = two_exits(alloc)?;
-    let words = ["survey", "image", "tree", "skewed", "0", "8", "3"];
     let lines = "survey 2 runs 8\n\
         outcome 4 0 turns hart 0 exit 0 out - hart 1 running out -\n\
         outcome 4 2 turns hart 0 running out - hart 1 exit 1 out -\n\
         end\n";
-    assert_eq!(rt; output(alloc, &words, &files)?.as_slice(), lines.as_bytes());
+    assert_eq!(rt; output(alloc, WORDS, &files)?.as_slice(), lines.as_bytes());
     Ok(())
 }
 
 // Both harts store 7 to one word and read it back.
 #[test]
 fn one_outcome(rt: HostRuntime) -> Result<(), Fail> {
+    const WORDS: &[&str] = &["outcomes", "image", "tree", "100", "25", "2000"];
     let alloc = rt.alloc();
     let files = Files {
         tree: tree("((L)(L))", [2, 1, 1, 1]).bytes(alloc)?,
         image: store_and_load(alloc)?,
         schedule: Vec::new(alloc),
     };
-    let words = ["outcomes", "image", "tree", "100", "25", "2000"];
     let lines = "outcomes 1 runs 25\n\
         outcome 25 100 hart 0 exit 7 out - hart 1 exit 7 out -\n\
         end\n";
-    assert_eq!(rt; output(alloc, &words, &files)?.as_slice(), lines.as_bytes());
+    assert_eq!(rt; output(alloc, WORDS, &files)?.as_slice(), lines.as_bytes());
     Ok(())
 }
 
 #[test]
 fn the_last_seed(rt: HostRuntime) -> Result<(), Fail> {
+    const LAST: &str = "18446744073709551615";
+    const ONE: &[&str] = &["outcomes", "image", "tree", LAST, "1", "0"];
+    const TWO: &[&str] = &["outcomes", "image", "tree", LAST, "2", "0"];
     let alloc = rt.alloc();
     let files = two_exits(alloc)?;
-    let last = "18446744073709551615";
-    let one = ["outcomes", "image", "tree", last, "1", "0"];
     let lines = "outcomes 1 runs 1\n\
         outcome 1 18446744073709551615 hart 0 running out - hart 1 running out -\n\
         end\n";
-    assert_eq!(rt; output(alloc, &one, &files)?.as_slice(), lines.as_bytes());
-    let two = ["outcomes", "image", "tree", last, "2", "0"];
-    assert!(rt; ask(alloc, &two, &files)?.is_refusal(2, "ddm: usage: word 4"));
+    assert_eq!(rt; output(alloc, ONE, &files)?.as_slice(), lines.as_bytes());
+    assert!(rt; ask(alloc, TWO, &files)?.is_refusal(2, "ddm: usage: word 4"));
     Ok(())
 }
 
 #[test]
 fn a_read_or_a_write_fails(rt: HostRuntime) -> Result<(), Fail> {
-    let alloc = rt.alloc();
-    let files = two_exits(alloc)?;
-    let words = ["outcomes", "image", "tree", "0", "2", "6"];
-    let reads = [
+    const WORDS: &[&str] = &["outcomes", "image", "tree", "0", "2", "6"];
+    const READS: &[(u64, &str)] = &[
         (0, "ddm: cannot read the tree"),
         (2, "ddm: cannot read the image"),
     ];
-    for (number, line) in reads {
-        let mut failing = shelf(alloc, &files, &[number])?;
+    let alloc = rt.alloc();
+    let files = two_exits(alloc)?;
+    for (number, line) in READS {
+        let mut failing = shelf(alloc, &files, &[*number])?;
         let answer = ask_with(
             alloc,
-            &words,
+            WORDS,
             &mut failing,
             sink(alloc, &[])?,
             sink(alloc, &[])?,
@@ -104,7 +104,7 @@ fn a_read_or_a_write_fails(rt: HostRuntime) -> Result<(), Fail> {
     let mut files = shelf(alloc, &files, &[])?;
     let answer = ask_with(
         alloc,
-        &words,
+        WORDS,
         &mut files,
         sink(alloc, &[1])?,
         sink(alloc, &[])?,

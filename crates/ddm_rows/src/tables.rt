@@ -72,8 +72,9 @@ fn two_tables(rt: HostRuntime) -> Result<(), Fail> {
 // A file that is named more than once is counted as often.
 #[test]
 fn one_file_three_times(rt: HostRuntime) -> Result<(), Fail> {
+    const THREE: &[&str] = &["join", "b", "b", "b"];
     let alloc = rt.alloc();
-    let answer = joined(alloc, &["join", "b", "b", "b"], [LOWER, SURVEY], &[], &[])?;
+    let answer = joined(alloc, THREE, [LOWER, SURVEY], &[], &[])?;
     assert!(rt; answer.is_done());
     assert_eq!(rt;
         answer.out.bytes(),
@@ -85,13 +86,7 @@ fn one_file_three_times(rt: HostRuntime) -> Result<(), Fail> {
 // The tables of seeds 0 to 2 and of 3 to 7 are put together as that of 0 to 7.
 #[test]
 fn ranges_that_follow_one_another(rt: HostRuntime) -> Result<(), Fail> {
-    let alloc = rt.alloc();
-    let files = Files {
-        tree: tree("(LL)", [4, 1, 1, 1]).bytes(alloc)?,
-        image: store_and_load(alloc)?,
-        schedule: Vec::new(alloc),
-    };
-    let calls: [(&[&str], &[&str], &[&str]); 2] = [
+    const CALLS: &[(&[&str], &[&str], &[&str])] = &[
         (
             &["outcomes", "image", "tree", "0", "3", "40"],
             &["outcomes", "image", "tree", "3", "5", "40"],
@@ -103,7 +98,13 @@ fn ranges_that_follow_one_another(rt: HostRuntime) -> Result<(), Fail> {
             &["survey", "image", "tree", "skewed", "0", "8", "9"],
         ),
     ];
-    for (first, second, whole) in calls {
+    let alloc = rt.alloc();
+    let files = Files {
+        tree: tree("(LL)", [4, 1, 1, 1]).bytes(alloc)?,
+        image: store_and_load(alloc)?,
+        schedule: Vec::new(alloc),
+    };
+    for (first, second, whole) in CALLS {
         let first = output(alloc, first, &files)?;
         let second = output(alloc, second, &files)?;
         let answer = joined(alloc, TWO, [&first, &second], &[], &[])?;
@@ -119,8 +120,7 @@ fn ranges_that_follow_one_another(rt: HostRuntime) -> Result<(), Fail> {
 // The first fault ends the command, and names the file by its number and its line.
 #[test]
 fn refused_tables(rt: HostRuntime) -> Result<(), Fail> {
-    let alloc = rt.alloc();
-    let refused: [(&[u8], &[u8], &str); 9] = [
+    const REFUSED: &[(&[u8], &[u8], &str)] = &[
         (b"", UPPER, "ddm: table 1 line 1: no end"),
         (
             LOWER,
@@ -151,8 +151,9 @@ fn refused_tables(rt: HostRuntime) -> Result<(), Fail> {
         (SURVEY, LOWER, "ddm: table 2: other kind"),
         (MOST, LOWER, "ddm: table 2: too many runs"),
     ];
-    for (first, second, line) in refused {
-        let answer = joined(alloc, TWO, [first, second], &[], &[])?;
+    let alloc = rt.alloc();
+    for (first, second, line) in REFUSED {
+        let answer = joined(alloc, TWO, [*first, *second], &[], &[])?;
         assert!(rt; answer.is_refusal(15, line), "{line}");
     }
     Ok(())

@@ -6,6 +6,9 @@ use asked_commands::files::{Files, TreeFile, add_to_one_word, load_and_exit, sch
 use std::alloc::Global;
 use std::test::Fail;
 
+/// The turns after which hart 0 waits for what it reads.
+const ASKED: &[&str] = &["h 0 0", "h 0 0"];
+
 /// The files of a read under way: hart 0 of two has made these turns.
 fn one_read(alloc: Global, turns: &[&str]) -> Result<Files, Fail> {
     Ok(Files {
@@ -33,19 +36,19 @@ fn four_leaves(alloc: Global, places: [u32; 3]) -> Result<Files, Fail> {
 
 #[test]
 fn a_read_goes_on(rt: HostRuntime) -> Result<(), Fail> {
-    let alloc = rt.alloc();
-    let turns = ["h 0 0", "h 0 0", "g 0 q 0", "g 0 r 1", "h 0 0"];
-    let lines: [(usize, &[u8]); 4] = [
+    const TURNS: &[&str] = &["h 0 0", "h 0 0", "g 0 q 0", "g 0 r 1", "h 0 0"];
+    const LINES: &[(usize, &[u8])] = &[
         (2, b"turn g 0 q 0\n"),
         (3, b"turn g 0 r 1\n"),
         (4, b"none\n"),
         (5, b"none\n"),
     ];
-    for (made, line) in lines {
-        let files = one_read(alloc, &turns[..made])?;
+    let alloc = rt.alloc();
+    for (made, line) in LINES {
+        let files = one_read(alloc, &TURNS[..*made])?;
         assert_eq!(rt;
             output(alloc, UNJAM, &files)?.as_slice(),
-            line,
+            *line,
             "after {made}"
         );
     }
@@ -54,15 +57,15 @@ fn a_read_goes_on(rt: HostRuntime) -> Result<(), Fail> {
 
 #[test]
 fn small_lists(rt: HostRuntime) -> Result<(), Fail> {
-    let alloc = rt.alloc();
-    let lists = [
+    const LISTS: &[([u32; 3], &str)] = &[
         ([16, 16, 16], "ddm: small lists: down"),
         ([23, 24, 24], "ddm: small lists: down"),
         ([24, 23, 23], "ddm: small lists: requests"),
         ([24, 24, 23], "ddm: small lists: replies"),
     ];
-    for (places, line) in lists {
-        let answer = ask(alloc, UNJAM, &four_leaves(alloc, places)?)?;
+    let alloc = rt.alloc();
+    for (places, line) in LISTS {
+        let answer = ask(alloc, UNJAM, &four_leaves(alloc, *places)?)?;
         assert!(rt; answer.is_refusal(12, line), "{places:?}");
     }
     let files = four_leaves(alloc, [24, 24, 24])?;
@@ -96,9 +99,7 @@ fn small_lists_come_before_the_schedule(rt: HostRuntime) -> Result<(), Fail> {
 // Each file is read twice: all of its bytes, and then none behind them.
 #[test]
 fn a_read_of_a_file_fails(rt: HostRuntime) -> Result<(), Fail> {
-    let alloc = rt.alloc();
-    let files = one_read(alloc, &["h 0 0", "h 0 0"])?;
-    let reads = [
+    const READS: &[(u64, &str)] = &[
         (0, "ddm: cannot read the tree"),
         (1, "ddm: cannot read the tree"),
         (2, "ddm: cannot read the image"),
@@ -106,8 +107,10 @@ fn a_read_of_a_file_fails(rt: HostRuntime) -> Result<(), Fail> {
         (4, "ddm: cannot read the schedule"),
         (5, "ddm: cannot read the schedule"),
     ];
-    for (number, line) in reads {
-        let mut shelf = shelf(alloc, &files, &[number])?;
+    let alloc = rt.alloc();
+    let files = one_read(alloc, ASKED)?;
+    for (number, line) in READS {
+        let mut shelf = shelf(alloc, &files, &[*number])?;
         let answer = ask_with(
             alloc,
             UNJAM,
@@ -132,15 +135,15 @@ fn a_read_of_a_file_fails(rt: HostRuntime) -> Result<(), Fail> {
 // Each write takes ten bytes, and those before the one that fails are there.
 #[test]
 fn a_write_fails(rt: HostRuntime) -> Result<(), Fail> {
+    const WRITES: &[(u64, &[u8])] = &[(0, b""), (1, b"turn g 0 q")];
     let alloc = rt.alloc();
-    let files = one_read(alloc, &["h 0 0", "h 0 0"])?;
-    let writes: [(u64, &[u8]); 2] = [(0, b""), (1, b"turn g 0 q")];
-    for (number, held) in writes {
+    let files = one_read(alloc, ASKED)?;
+    for (number, held) in WRITES {
         let mut shelf = shelf(alloc, &files, &[])?;
-        let out = sink(alloc, &[number])?;
+        let out = sink(alloc, &[*number])?;
         let answer = ask_with(alloc, UNJAM, &mut shelf, out, sink(alloc, &[])?)?;
         assert_eq!(rt; code(&answer.status), 7, "write {number}");
-        assert_eq!(rt; answer.out.bytes(), held, "write {number}");
+        assert_eq!(rt; answer.out.bytes(), *held, "write {number}");
         assert_eq!(rt;
             answer.faults_out.bytes(),
             b"ddm: cannot write\n".as_slice()

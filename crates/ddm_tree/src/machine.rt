@@ -167,6 +167,7 @@ impl<const WORDS: usize, C: Subtree<WORDS>> Machine<WORDS, C> {
         ensures passed { OnSome result (self.new ≡ state_after turn.now self.old) }
         ensures counted { IfSome result (λ busy. passed_as (turn_of turn.now self.old.machine).answer ≡ Some busy) }
         ensures empty { IfSome result (λ _. is_hart_turn turn.now ≡ false → (turn_of turn.now self.old.machine).answer ≡ Empty) }
+        ensures kept { OnSome result (self.new.machine ≡ self.old.machine) }
         ensures same { IfNone result (self.new ≡ self.old) }
     {
         let busy = known_as(&self.quiet, turn)?;

@@ -284,7 +284,7 @@ own_text about.Assemble = lines_of (
     codes "doesn't." ∷
     [])
 
--- what is said behind it, of each command
+-- what is said after it, of each command
 abbrev pub further_text : About → List ℕ
 further_text about.Help = []
 further_text about.Version = []

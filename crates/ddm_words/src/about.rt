@@ -6,7 +6,33 @@ ghost use Rattle.ddm_words.specs.About.{faults_text, further_text, help_text, na
 use crate::command::About;
 
 const HELP: &[u8] =
-    b"ddm runs RV32IA programs on a Data Diffusion Machine; every run is one order of one flat memory.\n\n  ddm run IMAGE TREE SCHEDULE      the report of a run: harts, traffic, items and the witness\n  ddm trace IMAGE TREE SCHEDULE    a line for each turn, and then the report\n  ddm seed IMAGE TREE SEED TURNS   the report of the schedule of a seed\n  ddm schedule TREE SEED TURNS     the schedule of a seed\n  ddm make SEED ROUNDS TREE        the summary of a random program under a seeded schedule\n  ddm check IMAGE TREE WITNESS     whether a witness is one legal run of the flat machine\n  ddm unjam IMAGE TREE SCHEDULE    the turn of a bus that goes on where a leaf waits\n  ddm save IMAGE TREE SCHEDULE     the checkpoint of the machine after a run\n  ddm resume IMAGE TREE CHECKPOINT SCHEDULE\n                                   the report of a run that goes on from a checkpoint\n  ddm outcomes IMAGE TREE FIRST COUNT TURNS\n                                   what the runs of many seeds come to\n  ddm record IMAGE TREE KIND SEED TURNS\n                                   the schedule of the turns of a seed that do something\n  ddm measure IMAGE TREE KIND SEED TURNS\n                                   what such a run is measured by\n  ddm survey IMAGE TREE KIND FIRST COUNT TURNS\n                                   what the recorded runs of many seeds come to\n  ddm join TABLE TABLE ..          the table of all runs of several tables\n  ddm page IMAGE TREE SCHEDULE     a page that shows the run turn by turn, for a browser\n  ddm assemble FILE TREE [all] [PLACES]\n                                   the image of a litmus test\n  ddm help COMMAND                 more of one of these\n  ddm --help, ddm --version\n";
+    br"ddm runs RV32IA programs on a Data Diffusion Machine; every run is one order of one flat memory.
+
+  ddm run IMAGE TREE SCHEDULE      the report of a run: harts, traffic, items and the witness
+  ddm trace IMAGE TREE SCHEDULE    a line for each turn, and then the report
+  ddm seed IMAGE TREE SEED TURNS   the report of the schedule of a seed
+  ddm schedule TREE SEED TURNS     the schedule of a seed
+  ddm make SEED ROUNDS TREE        the summary of a random program under a seeded schedule
+  ddm check IMAGE TREE WITNESS     whether a witness is one legal run of the flat machine
+  ddm unjam IMAGE TREE SCHEDULE    the turn of a bus that goes on where a leaf waits
+  ddm save IMAGE TREE SCHEDULE     the checkpoint of the machine after a run
+  ddm resume IMAGE TREE CHECKPOINT SCHEDULE
+                                   the report of a run that goes on from a checkpoint
+  ddm outcomes IMAGE TREE FIRST COUNT TURNS
+                                   what the runs of many seeds come to
+  ddm record IMAGE TREE KIND SEED TURNS
+                                   the schedule of the turns of a seed that do something
+  ddm measure IMAGE TREE KIND SEED TURNS
+                                   what such a run is measured by
+  ddm survey IMAGE TREE KIND FIRST COUNT TURNS
+                                   what the recorded runs of many seeds come to
+  ddm join TABLE TABLE ..          the table of all runs of several tables
+  ddm page IMAGE TREE SCHEDULE     a page that shows the run turn by turn, for a browser
+  ddm assemble FILE TREE [all] [PLACES]
+                                   the image of a litmus test
+  ddm help COMMAND                 more of one of these
+  ddm --help, ddm --version
+";
 
 const VERSION: &[u8] = b"ddm 1\n";
 
@@ -289,7 +315,7 @@ pub fn own_text(about: About) -> &'static [u8]
     }
 }
 
-/// What is said behind it.
+/// What is said after it.
 pub fn further_text(about: About) -> &'static [u8]
     ensures { result.now ≡ further_text about }
 {

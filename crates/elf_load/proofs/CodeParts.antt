@@ -101,3 +101,6 @@ parts_words [] [] all = refl
 parts_words [] (p ∷ ps) all = absurd all
 parts_words (s ∷ ss) [] all = absurd all
 parts_words (s ∷ ss) (p ∷ ps) all = rw (all.0.words, parts_words ss ps all.1) refl
+
+-- Parts of code are aligned, end inside their segments and are apart.
+pub ruleset parts_apart = (parts_aligned, parts_end, parts_disjoint)

@@ -53,3 +53,6 @@ find_in_here p hs k d inside holds = rw (drop-cons hs k d, holds) refl
 
 pub more_segments : (file : List ℕ) (hs : List ProgramHeader) (k : ℕ) (d : ProgramHeader) → k < length hs → map (segment_of file) (take (k + 1) hs) ≡ map (segment_of file) (take k hs) ++ segment_of file (get_or hs k d) ∷ []
 more_segments file hs k d inside = rw add-one (ap (λ (l : List ProgramHeader). map (segment_of file) l) (take-suc hs k d inside) ∙ map-append (segment_of file) (take k hs) (get_or hs k d ∷ []))
+
+-- A search of program headers.
+pub ruleset headers_search = (headers_next, headers_here, headers_done)

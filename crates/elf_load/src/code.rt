@@ -150,7 +150,7 @@ fn parts_of(alloc: Global, segments: &[Segment]) -> Result<Vec<CodePart>, NoMemo
 }
 
 /// The code of segments.
-#[tactic(auto, using(crate::proofs::CodeParts::parts_aligned, crate::proofs::CodeParts::parts_end, crate::proofs::CodeParts::parts_disjoint))]
+#[tactic(auto, using(crate::proofs::CodeParts::parts_apart))]
 pub fn code_of(alloc: Global, segments: &[Segment]) -> Result<Code, NoMemory>
     requires ends { All EndsInside segments.now }
     requires apart { AllPairs AreApart segments.now }

@@ -104,7 +104,7 @@ fn header_refusal(
     ])
 }
 
-#[tactic(auto, using(crate::proofs::HeaderSteps::headers_next, crate::proofs::HeaderSteps::headers_here, crate::proofs::HeaderSteps::headers_done))]
+#[tactic(auto, using(crate::proofs::HeaderSteps::headers_search))]
 /// What the program headers of a file of this length are refused for.
 pub fn headers_refusal(file_length: u64, headers: &[ProgramHeader]) -> Option<ImageRefusal>
     ensures { result ≡ headers_refusal file_length [] headers.now }

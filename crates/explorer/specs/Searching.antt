@@ -1,7 +1,8 @@
 -- A search as the code keeps it, and the search of the tables that it is.
 -- Letters: m is the machine that it begins with, v what is kept, ss are schedules by number, ts is a schedule, f is a line, o an outcome.
 -- To be believed with the contracts: they speak of it.
-use Rattle.std.specs.Prelude.{◌≡◌, ℕ, ◌≤◌, Bool, false, nat_eq, List, [], ◌∷◌, ◌++◌, length, map, take, drop, slice_get, Some, ⊤, refl, if◌then◌else◌}
+use Rattle.std.specs.Prelude.{◌≡◌, ℕ, ◌≤◌, Bool, false, nat_eq, List, [], ◌∷◌, ◌++◌, length, map, take, drop}
+use Rattle.std.specs.Prelude.{slice_get, Some, ⊤, refl, if◌then◌else◌}
 use Rattle.std.specs.List.{list_any}
 use Rattle.std.specs.Coded.{Coded, codes, code_by, coded×, coded_list, coded_ℕ}
 use Rattle.std.specs.Cmp.Lexicographic.{pointwise}

@@ -157,9 +157,9 @@ module _ {X : Type 0} (part : ℕ → X → Part) (front : List ℕ) (keys : (i 
   numbers_group : (k i : ℕ) (es : List X) → ((j : ℕ) (e : X) → kind (part j e) ≡ k) → i + length es ≤ 4294967296 → Group k (k + 1) (numbered part i es)
   numbers_group k i es is few = record { once = numbers_once i es few; kinds = numbers_kinds k i es is }
 
--- ---- by the number behind the word
+-- ---- by the number after the word
 
--- what is behind the first space, and what is before it
+-- what is after the first space, and what is before it
 abbrev behind : List ℕ → List ℕ
 behind [] = []
 behind (b ∷ bs) = cond (nat_eq b 32) bs (behind bs)

@@ -1,4 +1,4 @@
--- Text that can stand within a page as it is.
+-- Text that can be within a page as it is.
 use Rattle.std.specs.Prelude.{◌≡◌, ℕ, Bool, true, not, ◌||◌, nat_eq, List}
 use Rattle.std.specs.List.{list_all}
 

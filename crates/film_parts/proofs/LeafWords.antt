@@ -63,7 +63,7 @@ two_words : (slot : Option RequestValue) → slot_words slot ≡ slice_index (sl
 two_words None = refl
 two_words (Some r) = refl
 
--- a reservation and a slot, and what is behind them
+-- a reservation and a slot, and what is after them
 module _ (w0 rest : List ℕ) (reserved : ℕ) (slot : Option RequestValue) (is : w0 ≡ reserved ∷ slot_words slot ++ rest) where
   spelled : w0 ≡ reserved ∷ slice_index (slot_words slot) 0 ∷ slice_index (slot_words slot) 1 ∷ rest
   spelled = is ∙ ap (λ (ws : List ℕ). reserved ∷ ws ++ rest) (two_words slot)
@@ -77,7 +77,7 @@ module _ (w0 rest : List ℕ) (reserved : ℕ) (slot : Option RequestValue) (is 
   pub behind_slot : drop 1 (drop 1 (drop 1 w0)) ≡ rest
   behind_slot = ap (λ (ws : List ℕ). drop 1 (drop 1 (drop 1 ws))) spelled
 
--- what is behind the slot of a leaf
+-- what is after the slot of a leaf
 abbrev pub list_words : LeafValue → List ℕ
 list_words v = counted standing_words (standing v.sizes.sets v.ways v.sizes.way_count) ++ (counted buffer_words v.buffer ++ (counted item_and_words v.replies ++ []))
 

@@ -19,7 +19,7 @@ use Rattle.film_model.specs.Part.{number_text, stamp_text}
 use Rattle.text_model.specs.Report.{letter_text, word_texts}
 use Rattle.text_model.specs.Words.{kind_text}
 
--- the words of an item, and those behind them
+-- the words of an item, and those after them
 pub front : (ws words rest : List ℕ) (width : ℕ) → ws ≡ words ++ rest → length words ≡ width → take width ws ≡ words
 front ws words rest width is wide = ap (take width) is ∙ take_at words rest width wide
 

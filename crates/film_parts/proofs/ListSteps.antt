@@ -8,7 +8,7 @@ use Rattle.film_model.specs.Part.{listed}
 use Rattle.film_parts.specs.StateWords.Parts.{counted}
 use Rattle.film_parts.specs.Puts.{Puts}
 
--- the entry at a place, those behind it, and what holds of it
+-- the entry at a place, those after it, and what holds of it
 pub record Split {X : Type 0} (P : X → Type 0) (place : ℕ) (xs : List X) : Type 0 where
   pub x : X
   pub is : drop place xs ≡ x ∷ drop (suc place) xs
@@ -29,7 +29,7 @@ all_true (x ∷ xs) = (tt, all_true xs)
 pub first_word : {words : List ℕ} {count n : ℕ} {rest : List ℕ} → count ≡ slice_index words 0 → words ≡ n ∷ rest → count ≡ n
 first_word word is = word ∙ ap (λ (w : List ℕ). slice_index w 0) is
 
--- a word that was read, and those behind it
+-- a word that was read, and those after it
 pub next_words : {words after : List ℕ} {n : ℕ} {rest : List ℕ} → after ≡ drop 1 words → words ≡ n ∷ rest → after ≡ rest
 next_words left is = left ∙ ap (drop 1) is
 

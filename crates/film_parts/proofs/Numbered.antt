@@ -1,4 +1,4 @@
--- Parts that are numbered: one more behind those that are there, and the rest.
+-- Parts that are numbered: one more after those that are there, and the rest.
 -- Letters: x is an element, xs are elements.
 use Rattle.std.proofs.Common.{◌≡◌, ◌<◌, ℕ, zero, suc, ◌+◌, List, [], ◌∷◌, ◌++◌, drop, get_or, length, refl, sym, ap, subst, ◌∙◌, append_assoc, append-nil, arith}
 use Rattle.film_model.specs.Part.{Part, numbered}

@@ -1,4 +1,4 @@
--- Parts stay what they are where more text is put behind theirs.
+-- Parts stay what they are where more text is put after theirs.
 -- Letters: s is where a part is.
 use Rattle.std.proofs.Common.{◌≡◌, ℕ, zero, suc, ◌+◌, ◌-◌, ◌≤◌, Bool, true, ◌&&◌, nat_le, List, [], ◌∷◌, ◌++◌, drop, take, map, length, slice_set, refl, ap, ap₂, ◌∙◌, length-append, length-drop, append_assoc, take_at, drop_at, take_all, arith}
 use Rattle.std.specs.List.{list_all}
@@ -47,7 +47,7 @@ spans-longer (s ∷ ss) size more within =
 pub spans-more : (ss : List PartSpan) (text more : List ℕ) → list_all (is_within (length text)) ss ≡ true → list_all (is_within (length (text ++ more))) ss ≡ true
 spans-more ss text more within = rw (length-append text more) (spans-longer ss (length text) (length more) within)
 
--- the part that is put behind the others
+-- the part that is put after the others
 abbrev pub new_span : List ℕ → List ℕ → List ℕ → PartSpan
 new_span text key value = record { key = length text; value = length (text ++ key); end = length (text ++ key ++ value) }
 

@@ -1,4 +1,4 @@
--- What a call puts at the end of a text or behind the parts of a still, and which words it leaves.
+-- What a call puts at the end of a text or after the parts of a still, and which words it leaves.
 -- To be believed with the contracts: they speak of it.
 use Rattle.std.specs.Prelude.{◌≡◌, ℕ, List, ◌++◌}
 use Rattle.film_parts.specs.DdmText.Adds.{Adds}

@@ -11,7 +11,7 @@ abbrev pub IsPlain : Bool → DirItem → Type 0
 IsPlain true i = (i.hold ≡ Hold.Exclusive) × (i.answering ≡ false)
 IsPlain false i = ⊤
 
--- the words behind the records
+-- the words after the records
 abbrev pub dir_list_words : DirValue → List ℕ
 dir_list_words d =
     counted down_words d.down ++ counted request_words d.requests ++ counted item_and_words d.replies

@@ -60,7 +60,14 @@ fn add_time(
     words: &mut StateWords<'_>,
 ) -> Result<(), NoMemory>
     requires { shape.now.level ≤ 3 }
-    ensures { (count : ℕ) (epoch : Stamp) (rest : List ℕ) → words.old ≡ count ∷ stamp_words epoch ++ rest → OnOk result (Tells still.old still.new (record { key = key_of (codes "time") shape.now.bus; value = stamp_text (stamp_numbers shape.now.level (stamp_at epoch shape.now.level count)) } ∷ []) words.new rest) }
+    ensures { (count : ℕ) (epoch : Stamp) (rest : List ℕ) → words.old ≡ count ∷ stamp_words epoch ++ rest →
+        OnOk result (Tells still.old still.new
+        (record {
+          key = key_of (codes "time") shape.now.bus;
+          value = stamp_text (stamp_numbers shape.now.level
+              (stamp_at epoch shape.now.level count));
+        } ∷ []) words.new
+        rest) }
 {
     part.begin(b"time", shape.bus)?;
     push_time(&mut part.value, shape.level, words)?;
@@ -76,7 +83,13 @@ fn add_down(
     words: &mut StateWords<'_>,
     width: usize,
 ) -> Result<(), NoMemory>
-    ensures { (es : List DownValue) (rest : List ℕ) → words.old ≡ counted down_words es ++ rest → AllByRecursion (IsWide width) es → OnOk result (Tells still.old still.new (record { key = key_of (codes "down") shape.now.bus; value = listed (down_text shape.now.level) es } ∷ []) words.new rest) }
+    ensures { (es : List DownValue) (rest : List ℕ) → words.old ≡ counted down_words es ++ rest →
+        AllByRecursion (IsWide width) es →
+        OnOk result (Tells still.old still.new
+        (record {
+          key = key_of (codes "down") shape.now.bus;
+          value = listed (down_text shape.now.level) es;
+        } ∷ []) words.new rest) }
 {
     part.begin(b"down", shape.bus)?;
     push_down_list(&mut part.value, shape.level as usize, words, width)?;
@@ -91,7 +104,10 @@ fn add_requests(
     bus: u32,
     words: &mut StateWords<'_>,
 ) -> Result<(), NoMemory>
-    ensures { (rs : List RequestValue) (rest : List ℕ) → words.old ≡ counted request_words rs ++ rest → OnOk result (Tells still.old still.new (record { key = key_of (codes "requests") bus; value = listed request_text rs } ∷ []) words.new rest) }
+    ensures { (rs : List RequestValue) (rest : List ℕ) → words.old ≡ counted request_words rs ++ rest →
+        OnOk result (Tells still.old still.new
+        (record { key = key_of (codes "requests") bus; value = listed request_text rs } ∷ [])
+        words.new rest) }
 {
     part.begin(b"requests", bus)?;
     push_requests(&mut part.value, words)?;
@@ -126,7 +142,9 @@ fn add_kept(
     bus: u32,
     words: &mut StateWords<'_>,
 ) -> Result<(), NoMemory>
-    ensures { (kept : ℕ) (rest : List ℕ) → words.old ≡ kept ∷ rest → OnOk result (Tells still.old still.new (record { key = key_of (codes "kept") bus; value = count_text kept } ∷ []) words.new rest) }
+    ensures { (kept : ℕ) (rest : List ℕ) → words.old ≡ kept ∷ rest →
+        OnOk result (Tells still.old still.new
+        (record { key = key_of (codes "kept") bus; value = count_text kept } ∷ []) words.new rest) }
 {
     part.begin(b"kept", bus)?;
     let kept = words.next();

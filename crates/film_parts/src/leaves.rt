@@ -141,7 +141,11 @@ fn add_buffer(
     words: &mut StateWords<'_>,
     width: usize,
 ) -> Result<(), NoMemory>
-    ensures { (es : List BufferValue) (rest : List ℕ) → words.old ≡ counted buffer_words es ++ rest → AllByRecursion (BufferHasForm width) es → OnOk result (Tells still.old still.new (record { key = key_of (codes "buffer") leaf; value = listed buffer_text es } ∷ []) words.new rest) }
+    ensures { (es : List BufferValue) (rest : List ℕ) → words.old ≡ counted buffer_words es ++ rest →
+        AllByRecursion (BufferHasForm width) es →
+        OnOk result (Tells still.old still.new
+        (record { key = key_of (codes "buffer") leaf; value = listed buffer_text es } ∷ [])
+        words.new rest) }
 {
     part.begin(b"buffer", leaf)?;
     push_buffer(&mut part.value, words, width)?;
@@ -176,7 +180,9 @@ fn add_slot(
     kind: u32,
     item: u32,
 ) -> Result<(), NoMemory>
-    ensures { (slot : Option RequestValue) → kind ∷ item ∷ [] ≡ slot_words slot → SlotHasForm slot → OnOk result (still.new ≡ still.old ++ record { key = key_of (codes "slot") leaf; value = slot_text slot } ∷ []) }
+    ensures { (slot : Option RequestValue) → kind ∷ item ∷ [] ≡ slot_words slot → SlotHasForm slot →
+        OnOk result (still.new
+        ≡ still.old ++ record { key = key_of (codes "slot") leaf; value = slot_text slot } ∷ []) }
 {
     part.begin(b"slot", leaf)?;
     push_slot(&mut part.value, kind, item)?;
@@ -192,7 +198,11 @@ fn add_leaf_replies(
     words: &mut StateWords<'_>,
     width: usize,
 ) -> Result<(), NoMemory>
-    ensures { (cs : List CopyValue) (rest : List ℕ) → words.old ≡ counted item_and_words cs ++ rest → AllByRecursion (CopyHasForm width) cs → OnOk result (Tells still.old still.new (record { key = key_of (codes "leafreplies") leaf; value = listed copy_text cs } ∷ []) words.new rest) }
+    ensures { (cs : List CopyValue) (rest : List ℕ) → words.old ≡ counted item_and_words cs ++ rest →
+        AllByRecursion (CopyHasForm width) cs →
+        OnOk result (Tells still.old still.new
+        (record { key = key_of (codes "leafreplies") leaf; value = listed copy_text cs } ∷ [])
+        words.new rest) }
 {
     part.begin(b"leafreplies", leaf)?;
     push_copies(&mut part.value, words, width)?;
@@ -219,7 +229,11 @@ fn add_reserved(
     leaf: u32,
     word: u32,
 ) -> Result<(), NoMemory>
-    ensures { (reservation : Option ℕ) → word ≡ reserved_word reservation → OnOk result (still.new ≡ still.old ++ record { key = key_of (codes "reserved") leaf; value = reservation_text reservation } ∷ []) }
+    ensures { (reservation : Option ℕ) → word ≡ reserved_word reservation →
+        OnOk result (still.new
+        ≡ still.old
+        ++ record { key = key_of (codes "reserved") leaf; value = reservation_text reservation }
+        ∷ []) }
 {
     part.begin(b"reserved", leaf)?;
     push_reserved(&mut part.value, word)?;

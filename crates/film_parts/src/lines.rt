@@ -1,3 +1,4 @@
+//! The lines of a film: those of the parts that have a value, and those of the parts that a turn has changed.
 ghost use Rattle.std.specs.Prelude.{◌≡◌, ◌<◌, ◌≤◌, ◌+◌, ◌++◌, [], OnOk, bytes_eq, drop, length, slice_index_or, slice_set, take, true};
 ghost use Rattle.std.specs.Prelude.{if◌then◌else◌};
 ghost use Rattle.film_parts.specs.DdmText.Adds.{Adds};

@@ -46,7 +46,8 @@ fn push_next_words(
 
 // Puts a copy at the end, as an entry of a list.
 fn push_copy(out: &mut Vec<u8>, words: &mut StateWords<'_>, width: usize) -> Result<(), NoMemory>
-    ensures { (c : CopyValue) (rest : List ℕ) → words.old ≡ item_and_words c ++ rest → CopyHasForm width c → OnOk result (Puts out.old.items out.new.items (codes " |" ++ copy_text c) words.new rest) }
+    ensures { (c : CopyValue) (rest : List ℕ) → words.old ≡ item_and_words c ++ rest → CopyHasForm width c →
+        OnOk result (Puts out.old.items out.new.items (codes " |" ++ copy_text c) words.new rest) }
 {
     push_bytes(out, b" |")?;
     push_next_number(out, words)?;
@@ -73,7 +74,8 @@ pub(crate) fn push_copies(
 
 // Puts a request at the end, as an entry of a list.
 fn push_request(out: &mut Vec<u8>, words: &mut StateWords<'_>) -> Result<(), NoMemory>
-    ensures { (r : RequestValue) (rest : List ℕ) → words.old ≡ request_words r ++ rest → OnOk result (Puts out.old.items out.new.items (codes " |" ++ request_text r) words.new rest) }
+    ensures { (r : RequestValue) (rest : List ℕ) → words.old ≡ request_words r ++ rest →
+        OnOk result (Puts out.old.items out.new.items (codes " |" ++ request_text r) words.new rest) }
 {
     push_bytes(out, b" |")?;
     push_bytes(out, b" ")?;
@@ -102,7 +104,8 @@ fn push_buffered(
     words: &mut StateWords<'_>,
     width: usize,
 ) -> Result<(), NoMemory>
-    ensures { (e : BufferValue) (rest : List ℕ) → words.old ≡ buffer_words e ++ rest → BufferHasForm width e → OnOk result (Puts out.old.items out.new.items (codes " |" ++ buffer_text e) words.new rest) }
+    ensures { (e : BufferValue) (rest : List ℕ) → words.old ≡ buffer_words e ++ rest → BufferHasForm width e →
+        OnOk result (Puts out.old.items out.new.items (codes " |" ++ buffer_text e) words.new rest) }
 {
     push_bytes(out, b" |")?;
     push_next_number(out, words)?;
@@ -171,7 +174,8 @@ fn push_down(
     words: &mut StateWords<'_>,
     width: usize,
 ) -> Result<(), NoMemory>
-    ensures { (e : DownValue) (rest : List ℕ) → words.old ≡ down_words e ++ rest → length e.words ≡ width → OnOk result (Puts out.old.items out.new.items (codes " |" ++ down_text level e) words.new rest) }
+    ensures { (e : DownValue) (rest : List ℕ) → words.old ≡ down_words e ++ rest → length e.words ≡ width →
+        OnOk result (Puts out.old.items out.new.items (codes " |" ++ down_text level e) words.new rest) }
 {
     push_bytes(out, b" |")?;
     push_bytes(out, b" ")?;
@@ -203,7 +207,7 @@ pub(crate) fn push_down_list(
     Ok(())
 }
 
-/// Passes over the next list, whose entries stand in ways.
+/// Passes over the next list, whose entries are in ways.
 pub(crate) fn skip_standing(words: &mut StateWords<'_>, width: usize)
     requires { width < 4294967296 }
     ensures { (ss : List StandingValue) (rest : List ℕ) → words.old ≡ counted standing_words ss ++ rest →

@@ -49,7 +49,7 @@ impl PartText {
         push_number(&mut self.key, one)
     }
 
-    /// Puts it behind the parts of a still.
+    /// Puts it after the parts of a still.
     pub(crate) fn end(&self, still: &mut Still) -> Result<(), NoMemory>
         ensures { OnOk result (still.new ≡ still.old ++ record { key = self.now.key.items; value = self.now.value.items } ∷ []) }
     {

@@ -1,3 +1,4 @@
+//! A still as it is kept: its parts, with all keys and values in one text.
 ghost use Rattle.std.specs.Prelude.{◌≡◌, ◌<◌, [], ◌∷◌, ◌++◌, OnOk, length, slice_index_or, slice_set};
 ghost use Rattle.film_model.specs.Part.{Part};
 ghost use Rattle.film_parts.specs.Spans.{no_part};
@@ -78,7 +79,7 @@ impl Still {
         &self.text[span.value..span.end]
     }
 
-    /// Puts a part behind the others.
+    /// Puts a part after the others.
     pub fn push(&mut self, key: &[u8], value: &[u8]) -> Result<(), NoMemory>
         ensures { OnOk result (self.new ≡ self.old ++ record { key = key.now; value = value.now } ∷ []) }
     {
@@ -95,7 +96,7 @@ impl Still {
         Ok(())
     }
 
-    /// Puts a part in place of the one at a place. The text of that one stays behind it, unused.
+    /// Puts a part in place of the one at a place. The text of that one stays in the still, unused.
     pub fn put(&mut self, place: usize, key: &[u8], value: &[u8]) -> Result<(), NoMemory>
         requires { place < length self.old }
         ensures { OnOk result (self.new ≡ slice_set self.old place (record { key = key.now; value = value.now })) }

@@ -50,7 +50,7 @@ pub(crate) fn push_words(out: &mut Vec<u8>, words: &[u32]) -> Result<(), NoMemor
     Ok(())
 }
 
-// Puts numbers at the end, each behind a full stop.
+// Puts numbers at the end, each after a full stop.
 fn push_dotted(out: &mut Vec<u8>, numbers: &[u32]) -> Result<(), NoMemory>
     ensures { OnOk result (Adds out.old.items out.new.items (flat_map (λ k. codes "." ++ decimal k) numbers.now)) }
 {

@@ -26,3 +26,6 @@ atomic_operations = ((refl, refl), (refl, refl), (refl, refl), (refl, refl), (re
 pub amo_over_address : AmoOverAddress
 unfolding flat_computes
 amo_over_address = refl
+
+-- What single instructions show.
+pub ruleset instruction_tables = (results, jumps, bytes_and_halves, other_words, atomic_operations, amo_over_address)

@@ -34,3 +34,6 @@ failed_conditional = (refl, refl, refl)
 pub own_store : OwnStore
 unfolding flat_computes
 own_store = (refl, refl)
+
+-- What programs show of reservations.
+pub ruleset reservation_programs = (reservation_kept, reservation_lost, failed_conditional, own_store)

@@ -40,7 +40,7 @@ pub fn one_byte_of_output()
 
 /// A conditional store where the reservation was kept, where another hart's store ended it, and where it
 /// was not let to store; a store of the hart's own.
-#[tactic(auto, using(crate::proofs::Programs::reservation_kept, crate::proofs::Programs::reservation_lost, crate::proofs::Programs::failed_conditional, crate::proofs::Programs::own_store))]
+#[tactic(auto, using(crate::proofs::Programs::reservation_programs))]
 pub fn reservations()
     ensures kept { ReservationKept }
     ensures lost { ReservationLost }
@@ -50,7 +50,7 @@ pub fn reservations()
 
 /// Single instructions at chosen operands: wrapping, signs, shifts, jumps, bytes and half words at each
 /// offset, and the atomic operations.
-#[tactic(auto, using(crate::proofs::Instructions::results, crate::proofs::Instructions::jumps, crate::proofs::Instructions::bytes_and_halves, crate::proofs::Instructions::other_words, crate::proofs::Instructions::atomic_operations, crate::proofs::Instructions::amo_over_address))]
+#[tactic(auto, using(crate::proofs::Instructions::instruction_tables))]
 pub fn single_instructions()
     ensures results { Results }
     ensures jumps { Jumps }

@@ -10,7 +10,7 @@ use Rattle.litmus_image.specs.Made.{all_of}
 use Rattle.litmus_code.specs.Laws.{LeavesAreThere, ThreadsAreThere}
 use Rattle.litmus_code.proofs.Listed.{code-is-there}
 
--- ---- lists behind one another
+-- ---- lists after one another
 
 get-left : {A : Type 0} (xs ys : List A) (i : ℕ) (x : A) → slice_get xs i ≡ Some x → slice_get (xs ++ ys) i ≡ Some x
 get-left [] ys i x is = absurd (let wrong : ⊥ = cc in wrong)
@@ -29,7 +29,7 @@ numbered f n (suc count) (suc k) inside =
     let e : n + 1 + k ≡ n + suc k = omega arith in
     numbered f (n + 1) count k (omega (arith, inside)) ∙ ap (λ (j : ℕ). Some (f j)) e
 
--- ---- blocks behind one another
+-- ---- blocks after one another
 
 record InBlocks (bs : List (List Instr)) (at begin place : ℕ) (x : Instr) : Type 0 where
   behind : ℕ

@@ -18,3 +18,6 @@ large_item item_bytes is = elim is as (λ h. 4 ≤ item_bytes) [ inl e ↦ omega
 
 pub small_item : (item_bytes : ℕ) → IsItemSize item_bytes → item_bytes ≤ 64
 small_item item_bytes is = elim is as (λ h. item_bytes ≤ 64) [ inl e ↦ omega (arith, e) | inr e ↦ omega (arith, e) ]
+
+-- An image loads, and its items have a size that is allowed.
+pub ruleset image_sizes = (image_loads, large_item, small_item)

@@ -32,7 +32,7 @@ none_in_front (b ∷ bs) = by_test (is_comma b) refl where
 abbrev pub piece_at : List ℕ → ℕ → ℕ → List ℕ
 piece_at word begun at = take (at - begun) (drop begun word)
 
--- this piece and those behind it
+-- this piece and those after it
 abbrev pub pieces_left : List ℕ → ℕ → ℕ → List (List ℕ)
 pieces_left word begun at = with_front (piece_at word begun at) (slice_split is_comma (drop at word))
 
@@ -114,3 +114,6 @@ last_piece word leaves begun at past before =
     let whole = take_all (at - begun) (drop begun word) (omega (arith, long, past)) in
     let same = take_all (length word - begun) (drop begun word) (omega (arith, long)) in
     rw (drop_all at word past, whole, same, append-nil (drop begun word)) (by_last leaves (next_leaf leaves (drop begun word)))
+
+-- One byte more of a piece.
+pub ruleset piece_steps = (piece_ends, piece_fails, piece_goes_on, last_piece)

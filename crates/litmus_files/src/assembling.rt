@@ -91,7 +91,7 @@ fn image_of(
 
 /// The test of a file and its image for a tree with so many leaves and bytes in an item. Places are the leaves of the
 /// threads; where none are given, thread k is on leaf k.
-#[tactic(auto, using(crate::proofs::Images::image_loads, crate::proofs::Images::large_item, crate::proofs::Images::small_item), unfolding(crate::specs::Assembled::file_image))]
+#[tactic(auto, using(crate::proofs::Images::image_sizes), unfolding(crate::specs::Assembled::file_image))]
 pub fn assembled(
     alloc: Global,
     runs: Runs,

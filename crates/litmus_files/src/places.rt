@@ -46,7 +46,7 @@ impl Places {
         }
     }
 
-    /// One leaf more, behind the others.
+    /// One leaf more, after the others.
     fn with(&self, leaf: u32) -> Places
         requires { length self.now < 64 }
         ensures { result ≡ self.now ++ leaf ∷ [] }
@@ -78,7 +78,7 @@ fn leaf_of(bytes: &[u8]) -> Option<u32>
     }
 }
 
-#[tactic(auto, using(litmus_model::proofs::Searches::any_next, litmus_model::proofs::Searches::any_found, litmus_model::proofs::Searches::any_done))]
+#[tactic(auto, using(litmus_model::proofs::Searches::any_search))]
 fn is_among(leaves: &[u32], leaf: u32) -> bool
     ensures { result ≡ list_any (nat_eq leaf) leaves.now }
 {
@@ -105,7 +105,7 @@ fn with_next(places: &Places, bytes: &[u8]) -> Option<Places>
 }
 
 /// The different leaves that a word names, 0 to 63, with commas between them; None where it is no such list.
-#[tactic(auto, using(crate::proofs::Leaves::no_leaves, crate::proofs::Pieces::piece_ends, crate::proofs::Pieces::piece_fails, crate::proofs::Pieces::piece_goes_on, crate::proofs::Pieces::last_piece))]
+#[tactic(auto, using(crate::proofs::Leaves::no_leaves, crate::proofs::Pieces::piece_steps))]
 pub fn read_places(word: &[u8]) -> Option<Places>
     ensures { result ≡ places_in word.now }
 {

@@ -198,3 +198,6 @@ no_leaves places begins = refl
 pub more_leaves : (places begins : List ℕ) (n : ℕ) → leaf_words places begins n ++ leaf_word places begins n ∷ [] ≡ leaf_words places begins (n + 1)
 unfolding leaf_words
 more_leaves places begins n = sym (map-range_with_len_more (leaf_word places begins) 0 n n (omega arith))
+
+-- Where blocks begin.
+pub ruleset begins_of_blocks = (as_many_begins, near_begins)

@@ -173,3 +173,6 @@ unfolding places_of
 placed threads leaves places ps h =
     let both = placed_case (nat_lt leaves threads) threads leaves (TooManyThreads threads) (named_places threads leaves places) ps refl h in
     (both.1, named threads leaves places ps both.0)
+
+-- An image is short, and its two segments fit.
+pub ruleset short_image = (short_code, short_memory, room, two_segments, fit_memory)

@@ -49,3 +49,12 @@ own_next old steps ss at i d inside =
 pub own_done : (old : List Instr) (steps ss : List PlacedStep) (at i : ℕ) → length ss ≤ i → old ++ resolved_from steps at (drop i ss) ≡ old
 unfolding resolved_from
 own_done old steps ss at i past = rw (drop_of_length-le ss past) (append-nil old)
+
+-- The place of a label.
+pub ruleset label_search = (label_found, label_next, label_done)
+
+-- How many instructions there are.
+pub ruleset count_steps = (count_next, count_done)
+
+-- A thread's own instructions.
+pub ruleset own_steps = (own_next, own_done)

@@ -218,3 +218,6 @@ valid_leaves places begins leaves small near = λ k d h.
     let inside : k < leaves = omega (arith, h, length-map-range_with_len (leaf_word places begins) 0 leaves) in
     let is = get_or-map-range_with_len (leaf_word places begins) 0 leaves k k d inside (omega arith) in
     subst IsValid (sym is) (valid_leaf places begins k (omega (arith, inside, small)) near)
+
+-- All pieces of the code are valid.
+pub ruleset valid_pieces = (valid_jump, valid_leaves, valid_blocks)

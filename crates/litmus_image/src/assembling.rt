@@ -84,7 +84,7 @@ fn blocks_of(
 }
 
 /// The thread that is placed on a leaf; how many threads there are, where none is.
-#[tactic(auto, using(litmus_model::proofs::Searches::position_next, litmus_model::proofs::Searches::position_found, litmus_model::proofs::Searches::position_done))]
+#[tactic(auto, using(litmus_model::proofs::Searches::position_search))]
 fn thread_on(leaf: u32, places: &[u32]) -> usize
     ensures thread { result ≡ position_or_len (nat_eq leaf) places.now }
     ensures inside { result ≤ length places.now }
@@ -147,7 +147,7 @@ fn push_words(bytes: &mut Vec<u8>, code: &[Instr]) -> Result<(), NoMemory>
 }
 
 /// The bytes of the code.
-#[tactic(auto, using(crate::proofs::Blocks::as_many_begins, crate::proofs::Blocks::near_begins, crate::proofs::Valid::valid_jump, crate::proofs::Valid::valid_leaves, crate::proofs::Valid::valid_blocks, crate::proofs::Bytes::whole_code))]
+#[tactic(auto, using(crate::proofs::Blocks::begins_of_blocks, crate::proofs::Valid::valid_pieces, crate::proofs::Bytes::whole_code))]
 fn code_of(
     alloc: Global,
     runs: Runs,
@@ -238,7 +238,7 @@ fn test_segments(alloc: Global, code: Vec<u8>, memory: Vec<u8>) -> Result<Vec<Se
 }
 
 /// The image of a test whose threads are on these leaves.
-#[tactic(auto, using(crate::proofs::Bytes::short_code, crate::proofs::Bytes::short_memory, crate::proofs::Bytes::room, crate::proofs::Bytes::two_segments, crate::proofs::Bytes::fit_memory), unfolding(litmus_model::specs::Image::placed_image))]
+#[tactic(auto, using(crate::proofs::Bytes::short_image), unfolding(litmus_model::specs::Image::placed_image))]
 fn placed_image(
     alloc: Global,
     runs: Runs,

@@ -11,7 +11,7 @@ use litmus_model::{Given, Name, Target, Test, Value, same_name, same_target};
 pub(crate) const MEMORY: u32 = 0x20_0000;
 
 /// The number of the first of these names that is this one; how many they are, where none is.
-#[tactic(auto, using(litmus_model::proofs::Searches::position_next, litmus_model::proofs::Searches::position_found, litmus_model::proofs::Searches::position_done))]
+#[tactic(auto, using(litmus_model::proofs::Searches::position_search))]
 fn place_of(names: &[Name], name: &Name) -> usize
     ensures place { result ≡ position_or_len (bytes_eq name.now) names.now }
     ensures inside { result ≤ length names.now }
@@ -38,7 +38,7 @@ pub fn word_of(test: &Test, item_bytes: u32, value: &Value) -> u32
 }
 
 /// What is given of a target, and 0 where nothing is.
-#[tactic(auto, using(litmus_model::proofs::Searches::find_next, litmus_model::proofs::Searches::find_found, litmus_model::proofs::Searches::find_done), unfolding(litmus_model::specs::Image::first_value))]
+#[tactic(auto, using(litmus_model::proofs::Searches::find_search), unfolding(litmus_model::specs::Image::first_value))]
 pub(crate) fn first_value(test: &Test, target: &Target) -> Value
     ensures { result ≡ first_value (test_from test.now) target.now }
 {

@@ -28,7 +28,7 @@ fn is_label_of(name: &Name, step: &Step) -> bool
 }
 
 /// How many of these steps' instructions are before a label.
-#[tactic(auto, using(crate::proofs::Own::label_found, crate::proofs::Own::label_next, crate::proofs::Own::label_done, crate::proofs::Own::count_next, crate::proofs::Own::count_done))]
+#[tactic(auto, using(crate::proofs::Own::label_search, crate::proofs::Own::count_steps))]
 fn label_place(name: &Name, steps: &[PlacedStep]) -> u32
     requires near { instruction_count steps.now ≤ 512 }
     ensures place { result ≡ label_place name.now steps.now }
@@ -97,7 +97,7 @@ fn push_resolved(
 }
 
 /// A thread's own instructions.
-#[tactic(auto, using(crate::proofs::Own::own_next, crate::proofs::Own::own_done, crate::proofs::Own::count_next, crate::proofs::Own::count_done))]
+#[tactic(auto, using(crate::proofs::Own::own_steps, crate::proofs::Own::count_steps))]
 pub(crate) fn push_own(code: &mut Vec<Instr>, steps: &[PlacedStep]) -> Result<(), NoMemory>
     requires near { instruction_count steps.now ≤ 512 }
     ensures { OnOk result (code.new.items ≡ code.old.items ++ own_code steps.now) }

@@ -26,7 +26,7 @@ impl From<NoMemory> for Unmade {
 }
 
 /// The first place that is no leaf.
-#[tactic(auto, using(litmus_model::proofs::Searches::find_next, litmus_model::proofs::Searches::find_found, litmus_model::proofs::Searches::find_done), unfolding(litmus_model::specs::Image::outside))]
+#[tactic(auto, using(litmus_model::proofs::Searches::find_search), unfolding(litmus_model::specs::Image::outside))]
 fn outside(leaves: u32, places: &[u32]) -> Option<u32>
     ensures { result ≡ outside leaves places.now }
 {

@@ -31,3 +31,12 @@ position_found p xs k d inside passes = rw (drop-cons xs k d inside, passes) ref
 
 pub position_done : {A : Type 0} (p : A → Bool) (xs : List A) (k : ℕ) → length xs ≤ k → position_or_len p (drop k xs) ≡ 0
 position_done p xs k past = rw (drop_of_length-le xs past) refl
+
+-- Whether any element passes.
+pub ruleset any_search = (any_next, any_found, any_done)
+
+-- The first element that passes.
+pub ruleset find_search = (find_next, find_found, find_done)
+
+-- The place of the first element that passes.
+pub ruleset position_search = (position_next, position_found, position_done)

@@ -41,7 +41,9 @@ abbrev given : Target → Value → Given
 given target value = record { target = target; value = value }
 
 abbrev pub message_passing_text : List ℕ
-message_passing_text = codes "RISCV MP\n{0:x6=x; 1:x6=x;}\n P0 | P1 ;\n li x5,1 | lw x5,0(x6) ;\n sw x5,0(x6) | ;\nexists (1:x5=1)\n"
+message_passing_text =
+    codes "RISCV MP\n{0:x6=x; 1:x6=x;}\n P0 | P1 ;\n li x5,1 | lw x5,0(x6) ;\n sw x5,0(x6) | ;\n"
+    ++ codes "exists (1:x5=1)\n"
 
 abbrev pub message_passing : Test
 message_passing = record {
@@ -61,7 +63,9 @@ message_passing = record {
 }
 
 abbrev pub waiting_text : List ℕ
-waiting_text = codes "RISCV Wait\n(* until (* another *) stores *)\n{x=-1; int y; P0:s0=x;}\nP0;\na:lr.w.aq t0,(s0);\nbgtz t0,a;\nli t1,4096;\nfence r,rw;\nj b;\nb:;\nforall x=-1\n"
+waiting_text =
+    codes "RISCV Wait\n(* until (* another *) stores *)\n{x=-1; int y; P0:s0=x;}\nP0;\n"
+    ++ codes "a:lr.w.aq t0,(s0);\nbgtz t0,a;\nli t1,4096;\nfence r,rw;\nj b;\nb:;\nforall x=-1\n"
 
 abbrev pub waiting : Test
 waiting = record {

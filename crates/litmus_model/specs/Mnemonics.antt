@@ -65,7 +65,8 @@ jump_rows =
 
 -- `fence.tso` has the mode 8 and orders reads and writes; `fence.i` is a fence that orders nothing, as no code is written
 unfoldable pub fence_rows : List (Named Form)
-fence_rows = row (codes "fence") Fence ∷ row (codes "fence.tso") (FixedFence 0x833) ∷ row (codes "fence.i") (FixedFence 0) ∷ []
+fence_rows =
+    row (codes "fence") Fence ∷ row (codes "fence.tso") (FixedFence 0x833) ∷ row (codes "fence.i") (FixedFence 0) ∷ []
 
 -- ---- instructions of memory that are atomic: a name, `.w`, and orders
 

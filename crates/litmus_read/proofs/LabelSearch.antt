@@ -64,3 +64,12 @@ threads_refused k n program r inside bad = rw (thread_first k n inside, bad) ref
 pub threads_done : (k n : ℕ) (program : List PlacedStep) → n ≤ k → program_labels (range_with_len k (n - k)) program ≡ Ok program
 unfolding program_labels
 threads_done k n program past = let count : n - k ≡ 0 = omega (arith, past) in rw count refl
+
+-- The labels of a thread.
+pub ruleset label_steps = (labels_begun, labels_next, labels_refused, labels_done)
+
+-- The goals of jumps.
+pub ruleset goal_steps = (goals_next, goals_refused, goals_done)
+
+-- One thread after another.
+pub ruleset thread_steps = (threads_next, threads_refused, threads_done)

@@ -160,3 +160,9 @@ pub locations_fail : (threads : ℕ) (tokens rest : List Token) (t u : Token) (e
     → is_part_word (codes "locations") t.part ≡ true → Reads (observed_from rest) (behind_locations threads (get_or tokens 0 u).line rest) (Err e) → Reads (observed_from tokens) (observed_of threads tokens) (Err e)
 locations_fail threads tokens rest t u (Refused r) some is are word fails = locations_observed threads tokens rest t u some is are word ∙ fails
 locations_fail threads tokens rest t u NoMemory some is are word fails = tt
+
+-- What one piece names.
+pub ruleset piece_cases = (nothing_named, one_named, bad_named, no_target)
+
+-- One piece after another.
+pub ruleset piece_steps = (pieces_begun, pieces_next, pieces_done)

@@ -47,3 +47,6 @@ well_asked end tokens rest t q n some is are asked =
     first_asked end tokens rest t some is are
     ∙ asked
     ∙ ap (λ (left : List Token). Ok (record { quantifier = q; proposition = left })) (ap (drop n) are ∙ drop_later tokens n)
+
+-- Whether a condition is denied.
+pub ruleset denials = (not_denied, other_denied, denied_by)

@@ -91,3 +91,6 @@ rows_fail old new threads rows k d (Refused r) inside whole fails =
     whole ∙ refused_behind old r (rows_steps threads (drop k rows))
     (rw (drop_more rows k d inside) (refused_first r (one_row threads (get_or rows k d)) (rows_steps threads (drop (k + 1) rows)) fails))
 rows_fail old new threads rows k d NoMemory inside whole fails = tt
+
+-- One row after another.
+pub ruleset rows_in_turn = (rows_begun, rows_next, rows_done)

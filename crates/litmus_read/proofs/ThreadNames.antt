@@ -80,3 +80,9 @@ too_many rows d many = rw (drop_more rows 257 d many) refl
 pub not_many : (rows : List Piece) → length rows ≤ 257 → not_too_many rows ≡ Ok (drop 1 rows)
 unfolding not_too_many
 not_many rows few = rw (drop_all 257 rows few) refl
+
+-- One name after another.
+pub ruleset name_steps = (names_next, names_fail, names_done)
+
+-- Where the rows end.
+pub ruleset row_ends = (no_pieces, rows_closed, rows_open)

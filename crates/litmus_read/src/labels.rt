@@ -75,7 +75,7 @@ fn is_there(steps: &[PlacedStep], label: Option<Name>) -> bool
 }
 
 /// Refuses a label that an earlier step is.
-#[tactic(auto, using(crate::proofs::LabelSearch::labels_begun, crate::proofs::LabelSearch::labels_next, crate::proofs::LabelSearch::labels_refused, crate::proofs::LabelSearch::labels_done))]
+#[tactic(auto, using(crate::proofs::LabelSearch::label_steps))]
 fn judge_differing(steps: &[PlacedStep]) -> Result<(), TestRefusal>
     ensures { Judges (labels_differ [] steps.now) result }
 {
@@ -88,7 +88,7 @@ fn judge_differing(steps: &[PlacedStep]) -> Result<(), TestRefusal>
 }
 
 /// Refuses a step that goes to no label of these.
-#[tactic(auto, using(crate::proofs::LabelSearch::goals_next, crate::proofs::LabelSearch::goals_refused, crate::proofs::LabelSearch::goals_done))]
+#[tactic(auto, using(crate::proofs::LabelSearch::goal_steps))]
 fn judge_goals(steps: &[PlacedStep]) -> Result<(), TestRefusal>
     ensures { Judges (goals_are_there (labels_of steps.now) steps.now) result }
 {
@@ -110,7 +110,7 @@ fn judge_thread(steps: &[PlacedStep]) -> Result<(), TestRefusal>
 }
 
 /// Judges the labels of a program, thread by thread.
-#[tactic(auto, using(crate::proofs::LabelSearch::threads_next, crate::proofs::LabelSearch::threads_refused, crate::proofs::LabelSearch::threads_done))]
+#[tactic(auto, using(crate::proofs::LabelSearch::thread_steps))]
 pub(crate) fn judge_labels(
     alloc: Global,
     threads: u32,

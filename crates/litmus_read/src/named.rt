@@ -27,7 +27,7 @@ fn push_target(named: &mut Vec<Target>, target: Target) -> Result<(), NoMemory>
 }
 
 /// Adds the target of these tokens, where there are any.
-#[tactic(auto, using(crate::proofs::NamedTargets::nothing_named, crate::proofs::NamedTargets::one_named, crate::proofs::NamedTargets::bad_named, crate::proofs::NamedTargets::no_target))]
+#[tactic(auto, using(crate::proofs::NamedTargets::piece_cases))]
 fn push_named(
     alloc: Global,
     threads: u32,
@@ -59,7 +59,7 @@ fn push_piece(
 }
 
 /// The targets of pieces.
-#[tactic(auto, using(crate::proofs::NamedTargets::pieces_begun, crate::proofs::NamedTargets::pieces_next, crate::proofs::NamedTargets::pieces_done))]
+#[tactic(auto, using(crate::proofs::NamedTargets::piece_steps))]
 fn pieces_targets(alloc: Global, threads: u32, pieces: &[Piece]) -> Result<Vec<Target>, Unread>
     ensures { ReadsList (pieces_targets threads pieces.now) result }
 {

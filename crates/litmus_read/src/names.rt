@@ -54,7 +54,7 @@ fn cell_names(alloc: Global, number: u32, cell: &Piece) -> Result<bool, NoMemory
 }
 
 /// Whether cells name the threads from 0 on.
-#[tactic(auto, using(crate::proofs::ThreadNames::names_next, crate::proofs::ThreadNames::names_fail, crate::proofs::ThreadNames::names_done))]
+#[tactic(auto, using(crate::proofs::ThreadNames::name_steps))]
 fn name_threads(alloc: Global, threads: u32, cells: &[Piece]) -> Result<bool, NoMemory>
     requires { length cells.now ≡ threads }
     ensures { IfOk result (λ named. named ≡ name_threads 0 cells.now) }
@@ -113,7 +113,7 @@ fn closed(last: &Piece) -> Result<(), TestRefusal>
 }
 
 /// How many pieces are rows: all but the last, which must be empty.
-#[tactic(auto, using(crate::proofs::ThreadNames::no_pieces, crate::proofs::ThreadNames::rows_closed, crate::proofs::ThreadNames::rows_open))]
+#[tactic(auto, using(crate::proofs::ThreadNames::row_ends))]
 pub(crate) fn whole_rows(pieces: &[Piece]) -> Result<usize, TestRefusal>
     ensures rows { Cuts (whole_rows pieces.now) pieces.now result }
     ensures inside { IfOk result (λ n. n ≤ length pieces.now) }

@@ -28,7 +28,7 @@ pub(crate) fn is_part_word(name: &str, part: &Part) -> bool
 }
 
 /// How many parts are before the first `=`.
-#[tactic(auto, using(litmus_model::proofs::Searches::position_next, litmus_model::proofs::Searches::position_found, litmus_model::proofs::Searches::position_done))]
+#[tactic(auto, using(litmus_model::proofs::Searches::position_search))]
 pub(crate) fn equals_place(parts: &[Part]) -> usize
     ensures place { result ≡ equals_place parts.now }
     ensures inside { result ≤ length parts.now }

@@ -16,7 +16,7 @@ pub(crate) struct Asked {
 }
 
 /// `exists` behind `~`, which is in this line.
-#[tactic(auto, using(crate::proofs::Quantifiers::not_denied, crate::proofs::Quantifiers::other_denied, crate::proofs::Quantifiers::denied_by))]
+#[tactic(auto, using(crate::proofs::Quantifiers::denials))]
 fn denied(line: u32, tokens: &[Token]) -> Result<Asked, TestRefusal>
     ensures asked { Asks tokens.now (denied line tokens.now) result }
     ensures inside { IfOk result (λ asked. asked.tokens ≤ length tokens.now) }

@@ -63,7 +63,7 @@ fn read_row(
 }
 
 /// The steps of rows that have so many cells.
-#[tactic(auto, using(crate::proofs::RowSteps::rows_begun, crate::proofs::RowSteps::rows_next, crate::proofs::RowSteps::rows_done, crate::proofs::KeptSteps::kept_none))]
+#[tactic(auto, using(crate::proofs::RowSteps::rows_in_turn, crate::proofs::KeptSteps::kept_none))]
 pub(crate) fn read_rows(
     alloc: Global,
     threads: u32,

@@ -56,3 +56,6 @@ more_given line f (a ∷ []) many = absurd (omega (arith, many))
 more_given line f (a ∷ b ∷ []) many = absurd (omega (arith, many))
 more_given line f (a ∷ b ∷ c ∷ []) many = absurd (omega (arith, many))
 more_given line f (a ∷ b ∷ c ∷ e ∷ rest) many = four line f a b c e rest
+
+-- How many operands are given.
+pub ruleset operand_counts = (none_given, one_given, two_given, three_given, more_given)

@@ -513,7 +513,7 @@ fn is_wide_atomic(word: &[u8]) -> bool
     }
 }
 
-#[tactic(auto, using(litmus_model::proofs::Searches::any_next, litmus_model::proofs::Searches::any_found, litmus_model::proofs::Searches::any_done))]
+#[tactic(auto, using(litmus_model::proofs::Searches::any_search))]
 fn is_among(names: &[&str], word: &[u8]) -> bool
     ensures { result ≡ list_any (λ (name : Bor (List ℕ)). bytes_eq word.now name.now) names.now }
 {

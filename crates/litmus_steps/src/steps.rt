@@ -53,7 +53,8 @@ fn immediate_operand(op: ImmOp, line: u32, operand: &Operand) -> Result<Option<i
 }
 
 /// The address of an atomic instruction, which has no offset.
-#[tactic(auto, unfolding(litmus_model::specs::Steps::address_operand, litmus_model::specs::Steps::without_offset, litmus_model::specs::Refusing::and_then))]
+#[tactic(auto, unfolding(litmus_model::specs::Steps::address_operand, litmus_model::specs::Steps::without_offset, // in turn
+litmus_model::specs::Refusing::and_then))]
 fn address_operand(line: u32, operand: &Operand) -> Result<Option<Reg>, TestRefusal>
     ensures register { result ≡ address_operand line operand.now }
     ensures valid { IfOk result (λ r. IfSome r IsRegister) }
@@ -153,7 +154,7 @@ fn three_operands(
 }
 
 /// The steps of an instruction of this form with these operands; None where it has others.
-#[tactic(auto, using(crate::proofs::Counts::none_given, crate::proofs::Counts::one_given, crate::proofs::Counts::two_given, crate::proofs::Counts::three_given, crate::proofs::Counts::more_given))]
+#[tactic(auto, using(crate::proofs::Counts::operand_counts))]
 pub fn form_steps(line: u32, form: Form, operands: &[Operand]) -> Result<Option<Made>, TestRefusal>
     requires { is_form form ≡ true }
     ensures steps { result ≡ form_steps line form operands.now }

@@ -9,7 +9,7 @@ use elf_load::of_ddm_types::NoMemory;
 use litmus_model::{Chunk, Given, Name, Target, Value, same_name};
 use std::alloc::Global;
 
-#[tactic(auto, using(litmus_model::proofs::Searches::any_next, litmus_model::proofs::Searches::any_found, litmus_model::proofs::Searches::any_done))]
+#[tactic(auto, using(litmus_model::proofs::Searches::any_search))]
 fn has_name(names: &[Name], name: &Name) -> bool
     ensures { result ≡ list_any (bytes_eq name.now) names.now }
 {

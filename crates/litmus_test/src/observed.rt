@@ -46,8 +46,8 @@ fn is_at(target: &Target, other: &Target) -> bool
     is_before(target, other) || same_target(target, other)
 }
 
-/// How many of these targets are before this one, which has a place there or behind them all.
-#[tactic(auto, using(litmus_model::proofs::Searches::position_next, litmus_model::proofs::Searches::position_found, litmus_model::proofs::Searches::position_done))]
+/// How many of these targets are before this one, which has a place there or after them all.
+#[tactic(auto, using(litmus_model::proofs::Searches::position_search))]
 fn place_of(targets: &[Target], target: &Target) -> usize
     ensures place { result ≡ position_or_len (is_at target.now) targets.now }
     ensures inside { result ≤ length targets.now }

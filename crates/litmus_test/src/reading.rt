@@ -33,7 +33,8 @@ fn counted(count: usize) -> Result<u32, NoMemory>
 }
 
 /// The test of these parts, unless too much is observed or named.
-#[tactic(auto, using(crate::proofs::Sounds::is_sound), unfolding(litmus_model::specs::Test::judged_test, litmus_model::specs::Test::names_in, litmus_model::specs::Test::observed_targets))]
+#[tactic(auto, using(crate::proofs::Sounds::is_sound), // of all parts
+unfolding(litmus_model::specs::Test::judged_test, litmus_model::specs::Test::names_in, litmus_model::specs::Test::observed_targets))]
 fn judged_test(
     alloc: Global,
     name: Vec<u8>,

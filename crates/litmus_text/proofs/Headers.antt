@@ -119,3 +119,6 @@ riscv_named last words rest w v some same there is behind =
     let first : w ≡ get_or words 0 v = same ∙ there in
     let named : bytes_eq (get_or words 0 v).bytes (codes "RISCV") ≡ true = rw (← first) is in
     rw (behind, riscv_word last words v some named, ← first) refl
+
+-- The name of a test.
+pub ruleset name_cases = (no_name, good_name, bad_name, far_name)

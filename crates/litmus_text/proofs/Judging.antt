@@ -34,3 +34,6 @@ pub second_refused : {A : Type 0} (old mid : List A) (r : TestRefusal) (j m : Ju
 unfolding behind and_then
 second_refused old mid r (Ok xs) m first second = rw second refl
 second_refused old mid r (Err s) m first second = absurd (cc)
+
+-- What comes after nothing, and after what is refused.
+pub ruleset after_or_refused = (behind_nothing, refused_behind)

@@ -152,3 +152,12 @@ last_fails first line old new word shown text k (Refused r) past whole same answ
     let refused : judged_tokens (word_token line word) ≡ Err r = ap (λ (w : List ℕ). judged_tokens (word_token line w)) (sym same) ∙ answer in
     whole ∙ refused_behind old r (judged_tokens (tokens_from line word (drop k text))) (tokens_done line word text k past ∙ refused)
 last_fails first line old new word shown text k NoMemory past whole same answer = tt
+
+-- A text without comments.
+pub ruleset text_steps = (byte_shown, text_done, text_open)
+
+-- The end of a token.
+pub ruleset token_ends = (no_end, both_ended, word_refused, mark_refused)
+
+-- One token after another.
+pub ruleset token_steps = (tokens_next, tokens_refused, tokens_done)

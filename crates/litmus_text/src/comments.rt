@@ -87,7 +87,7 @@ fn push_byte(bytes: &mut Vec<u8>, byte: u8) -> Result<(), NoMemory>
 }
 
 /// A text whose comments are blanks.
-#[tactic(auto, using(crate::proofs::Judging::behind_nothing, crate::proofs::Judging::refused_behind, crate::proofs::Texts::byte_shown, crate::proofs::Texts::text_done, crate::proofs::Texts::text_open))]
+#[tactic(auto, using(crate::proofs::Judging::after_or_refused, crate::proofs::Texts::text_steps))]
 pub(crate) fn without_comments(alloc: Global, text: &[u8]) -> Result<Vec<u8>, Unread>
     requires { length text.now ≤ 65536 }
     ensures { ReadsList (without_comments text.now) result }

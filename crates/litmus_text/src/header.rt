@@ -142,7 +142,7 @@ fn is_test_name(name: &[u8]) -> bool
 }
 
 /// The second word of the line.
-#[tactic(auto, using(crate::proofs::Headers::no_name, crate::proofs::Headers::good_name, crate::proofs::Headers::bad_name, crate::proofs::Headers::far_name))]
+#[tactic(auto, using(crate::proofs::Headers::name_cases))]
 fn name_in(alloc: Global, line: u32, words: &[HeadWord]) -> Result<Vec<u8>, Unread>
     ensures { ReadsList (name_in line words.now) result }
 {

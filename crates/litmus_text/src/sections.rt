@@ -48,7 +48,7 @@ fn is_final(token: &Token) -> bool
     }
 }
 
-#[tactic(auto, using(litmus_model::proofs::Searches::position_next, litmus_model::proofs::Searches::position_found, litmus_model::proofs::Searches::position_done))]
+#[tactic(auto, using(litmus_model::proofs::Searches::position_search))]
 fn place_of_final(tokens: &[Token]) -> usize
     ensures place { result ≡ position_or_len is_final tokens.now }
     ensures inside { result ≤ length tokens.now }
@@ -61,7 +61,7 @@ fn place_of_final(tokens: &[Token]) -> usize
     tokens.len()
 }
 
-#[tactic(auto, using(litmus_model::proofs::Searches::position_next, litmus_model::proofs::Searches::position_found, litmus_model::proofs::Searches::position_done))]
+#[tactic(auto, using(litmus_model::proofs::Searches::position_search))]
 fn place_of_brace(text: &[u8]) -> usize
     ensures place { result ≡ position_or_len (λ b. nat_eq b 123) text.now }
     ensures inside { result ≤ length text.now }

@@ -52,7 +52,7 @@ fn push_mark(tokens: &mut Vec<Token>, line: u32, byte: u8) -> Result<(), Unread>
 }
 
 /// Adds the tokens that end with a byte, where these bytes of a word are before it.
-#[tactic(auto, using(crate::proofs::Texts::no_end, crate::proofs::Texts::both_ended, crate::proofs::Texts::word_refused, crate::proofs::Texts::mark_refused))]
+#[tactic(auto, using(crate::proofs::Texts::token_ends))]
 fn push_ended(tokens: &mut Vec<Token>, line: u32, word: &[u8], byte: u8) -> Result<(), Unread>
     ensures { Adds (judged_tokens (ended line word.now byte)) tokens.old.items tokens.new.items result }
 {
@@ -76,7 +76,7 @@ fn go_on(word: &mut Vec<u8>, byte: u8) -> Result<(), NoMemory>
 }
 
 /// The tokens of a text that begins in this line.
-#[tactic(auto, using(crate::proofs::Judging::behind_nothing, crate::proofs::Judging::refused_behind, crate::proofs::Texts::tokens_next, crate::proofs::Texts::tokens_refused, crate::proofs::Texts::tokens_done))]
+#[tactic(auto, using(crate::proofs::Judging::after_or_refused, crate::proofs::Texts::token_steps))]
 pub(crate) fn tokens_of(alloc: Global, first: u32, text: &[u8]) -> Result<Vec<Token>, Unread>
     requires { first + length text.now ≤ 131072 }
     ensures { ReadsList (tokens_of first text.now) result }
@@ -103,7 +103,7 @@ pub fn is_mark(mark: u8, token: &Token) -> bool
 }
 
 /// How many tokens are before the first mark of this kind.
-#[tactic(auto, using(litmus_model::proofs::Searches::position_next, litmus_model::proofs::Searches::position_found, litmus_model::proofs::Searches::position_done))]
+#[tactic(auto, using(litmus_model::proofs::Searches::position_search))]
 pub fn place_of(mark: u8, tokens: &[Token]) -> usize
     ensures place { result ≡ position_or_len (is_mark mark) tokens.now }
     ensures inside { result ≤ length tokens.now }

@@ -49,3 +49,6 @@ all_taken t word at = rw (drop_all t.at word (omega (arith, at))) (ap (λ (m : �
 pub some_taken : (t : Taken) (word : List ℕ) (d : ℕ) → t.at < length word → bits_left t [] word ≡ None
 unfolding bits_left letter_bits
 some_taken t word d more = rw (drop_more word t.at d more) refl
+
+-- The next letter of a set.
+pub ruleset letter_cases = (no_byte, same_letter, other_letter)

@@ -51,3 +51,6 @@ bad_register threads line t r refusal few are near bad = rw (digits_are t are, w
 pub word_below : (n : ℕ) → (n ≡ 0 → ⊥) → word_of (neg_ℤ (pos n)) ≡ 4294967295 - (n - 1)
 word_below zero some = absurd (some refl)
 word_below (suc n) some = omega arith
+
+-- A register of a thread.
+pub ruleset register_cases = (no_thread, other_thread, register_there, bad_register)

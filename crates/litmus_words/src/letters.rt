@@ -12,7 +12,7 @@ struct Taken {
 }
 
 /// With one letter more, if it comes next.
-#[tactic(auto, using(crate::proofs::TakenLetters::no_byte, crate::proofs::TakenLetters::same_letter, crate::proofs::TakenLetters::other_letter))]
+#[tactic(auto, using(crate::proofs::TakenLetters::letter_cases))]
 fn after_letter(byte: u8, bit: u32, so_far: Taken, word: &[u8]) -> Taken
     requires at { so_far.at ≤ length word.now }
     requires bits { so_far.bits ≤ 15 }

@@ -49,7 +49,8 @@ fn place_in(names: &[&str], word: &[u8]) -> Option<usize>
 }
 
 /// The register of this name.
-#[tactic(auto, unfolding(litmus_model::specs::Words::register_of, litmus_model::specs::Words::numbered_names, litmus_model::specs::Words::abi_names))]
+#[tactic(auto, unfolding(litmus_model::specs::Words::register_of, // by both tables
+litmus_model::specs::Words::numbered_names, litmus_model::specs::Words::abi_names))]
 pub(crate) fn register_of(word: &[u8]) -> Option<Reg>
     ensures register { result ≡ register_of word.now }
     ensures valid { IfSome result (λ register. register < 32) }

@@ -43,7 +43,7 @@ fn digits_of(word: &[u8]) -> &[u8]
 }
 
 /// A register of a thread, of so many threads; None where the first word names no thread.
-#[tactic(auto, using(crate::proofs::ThreadWords::no_thread, crate::proofs::ThreadWords::other_thread, crate::proofs::ThreadWords::register_there, crate::proofs::ThreadWords::bad_register))]
+#[tactic(auto, using(crate::proofs::ThreadWords::register_cases))]
 fn register_target(
     threads: u32,
     line: u32,

@@ -55,7 +55,7 @@ flat-place f xs k x old now there is =
     let next : k + 1 ≡ suc k = omega arith in
     ap (λ l. l ++ f x) is ∙ append_assoc old (flat_map f (take k xs)) (f x) ∙ ap (λ l. old ++ l) (sym (ap (λ n. flat_map f (take n xs)) next ∙ flat-more f xs k x there))
 
--- lists one behind the other, in other groups
+-- lists one after the other, in other groups
 pub grouped : {X : Type 0} (a b c d e : List X) → (((a ++ b) ++ c) ++ d) ++ e ≡ a ++ (((b ++ c) ++ d) ++ e)
 grouped [] b c d e = refl
 grouped (x ∷ a) b c d e = ap (λ l. x ∷ l) (grouped a b c d e)

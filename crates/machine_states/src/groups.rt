@@ -6,7 +6,7 @@ ghost use Rattle.machine_states.specs.Listed.{hart_turns};
 
 use ddm_types::{BusNo, ChildNo, HartNo, NoMemory, Turn};
 
-// Each puts turns behind the others.
+// Each puts turns after the others.
 
 fn push_victims(turns: &mut Vec<Turn>, hart: HartNo, ways: u32) -> Result<(), NoMemory>
     requires { ways ≤ 4 }

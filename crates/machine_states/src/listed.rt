@@ -35,7 +35,7 @@ fn ways(machine: &AnyMachine) -> u32
     }
 }
 
-// Puts the Leave turns of a bus behind the others.
+// Puts the Leave turns of a bus after the others.
 fn push_leaves(
     turns: &mut Vec<Turn>,
     machine: &AnyMachine,
@@ -57,7 +57,7 @@ fn push_leaves(
     Ok(())
 }
 
-// Puts all turns of a bus behind the others.
+// Puts all turns of a bus after the others.
 fn push_bus(turns: &mut Vec<Turn>, machine: &AnyMachine, bus: BusNo) -> Result<(), NoMemory>
     requires shaped { IsShaped (machine_state machine.now).machine }
     requires places { HasFewPlaces (kind_of machine.now).ways (machine_state machine.now).machine }

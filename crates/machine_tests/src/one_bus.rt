@@ -51,7 +51,8 @@ pub type OneBus = Machine<4, Leaf<4, 4>>;
 /// A tree of this shape: leaves of one set, one place in each buffer, and lists of 16 entries.
 fn tree_of(alloc: Global, shape: &str, stack_bytes: u32) -> Result<TreeConfig, Fail> {
     let text = format!(in alloc;
-        "shape = \"{shape}\"\nways = 4\nsets = 1\nbuffer = 1\nparking = 1\ndown = 16\nrequests = 16\nreplies = 16\nstack_base = 196608\nstack_bytes = {stack_bytes}\n"
+        "shape = \"{shape}\"\nways = 4\nsets = 1\nbuffer = 1\nparking = 1\ndown = 16\nrequests = 16\n\
+        replies = 16\nstack_base = 196608\nstack_bytes = {stack_bytes}\n"
     )?;
     Ok(read_tree(alloc, text.as_str().as_bytes())?)
 }

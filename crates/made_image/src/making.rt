@@ -110,7 +110,8 @@ fn made_segments(alloc: Global, code: Vec<u8>) -> Result<Vec<Segment>, NoMemory>
 }
 
 /// The ELF file of the random program of a seed with so many rounds.
-#[tactic(auto, using(crate::proofs::Lengths::made_fits), unfolding(crate::specs::MadeImage::made_image, crate::specs::MadeImage::made_segments))]
+#[tactic(auto, using(crate::proofs::Lengths::made_fits), // of two segments
+unfolding(crate::specs::MadeImage::made_image, crate::specs::MadeImage::made_segments))]
 pub fn make_image(alloc: Global, seed: u64, rounds: u32) -> Result<Vec<u8>, NoMemory>
     requires some { 1 ≤ rounds }
     requires few { rounds ≤ 50000 }

@@ -58,4 +58,9 @@ pub record SmallOutcomes : Type 0 where
   pub halted : outcome_of (after_turns 4) ≡ codes " hart 0 nofetch 0001000c out 48"
   -- three turns later
   pub stays : outcome_of (after_turns 7) ≡ codes " hart 0 nofetch 0001000c out 48"
-  pub eight_seeds : outcomes_text (shape_with 2) 6 two_exits 0 8 ≡ codes "outcomes 4 runs 8\noutcome 4 1 hart 0 exit 0 out - hart 1 exit 1 out -\noutcome 2 3 hart 0 exit 0 out - hart 1 running out -\noutcome 1 0 hart 0 running out - hart 1 running out -\noutcome 1 6 hart 0 running out - hart 1 exit 1 out -\nend\n"
+  pub eight_seeds :
+      outcomes_text (shape_with 2) 6 two_exits 0 8
+      ≡ codes "outcomes 4 runs 8\noutcome 4 1 hart 0 exit 0 out - hart 1 exit 1 out -\n"
+      ++ codes "outcome 2 3 hart 0 exit 0 out - hart 1 running out -\n"
+      ++ codes "outcome 1 0 hart 0 running out - hart 1 running out -\n"
+      ++ codes "outcome 1 6 hart 0 running out - hart 1 exit 1 out -\nend\n"

@@ -7,7 +7,7 @@ use asked_commands::files::{
 use asked_commands::{Status, code};
 use std::test::Fail;
 
-// Each file is read twice: all of its bytes, and then none behind them.
+// Each file is read twice: all of its bytes, and then none after them.
 #[test]
 fn a_read_fails(rt: HostRuntime) -> Result<(), Fail> {
     let alloc = rt.alloc();

@@ -7,4 +7,4 @@ mod Signed
 mod Words
 mod Selected
 mod Decoded
-mod Encoded
+pub mod Encoded

@@ -34,3 +34,6 @@ register_words = (refl, refl, refl, refl, refl, refl, refl, refl, refl, refl, re
 pub atomic_words : AtomicWords
 unfolding decode_computes
 atomic_words = (refl, refl, refl, refl, refl, refl, refl, refl, refl, refl, refl, refl, refl, refl, refl, refl, refl)
+
+-- What an assembler makes of instructions.
+pub ruleset assembled_words = (program_words, jump_words, memory_words, immediate_words, register_words, atomic_words)

@@ -27,7 +27,7 @@ pub fn decoder_vectors()
 {}
 
 /// Each word of the worked programs, and a word of each row of the table, is what an assembler says.
-#[tactic(auto, using(crate::proofs::Vectors::program_words, crate::proofs::Vectors::jump_words, crate::proofs::Vectors::memory_words, crate::proofs::Vectors::immediate_words, crate::proofs::Vectors::register_words, crate::proofs::Vectors::atomic_words))]
+#[tactic(auto, using(crate::proofs::Vectors::assembled_words))]
 pub fn assembler_words()
     ensures programs { ProgramWords }
     ensures jumps { JumpWords }

@@ -141,3 +141,12 @@ halted_harts m h cause = length-set m.harts h _
 pub halted_items : (m : FlatMachine) (h : ℕ) (cause : HaltCause) → length (flat_halted m h cause).words ≡ length m.words
 unfolding flat_halted
 halted_items m h cause = refl
+
+-- How many harts and items there are at the start.
+pub ruleset start_lengths = (start_harts, start_items)
+
+-- What a step does.
+pub ruleset step_cases = (step_halts, step_plain, step_puts, step_shares, step_stores, step_keeps, step_loses)
+
+-- What a step leaves as long as it was.
+pub ruleset step_lengths = (shared_words, failing_words, same_harts, same_items, halted_harts, halted_items)

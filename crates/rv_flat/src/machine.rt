@@ -36,7 +36,7 @@ impl Model for FlatMachine {
 
 impl FlatMachine {
     /// The machine at its start. `words` has the words of all items, in order of address.
-    #[tactic(auto, using(crate::proofs::Outcomes::start_harts, crate::proofs::Outcomes::start_items), unfolding(crate::specs::Opened::flat_start))]
+    #[tactic(auto, using(crate::proofs::Outcomes::start_lengths), unfolding(crate::specs::Opened::flat_start))]
     pub fn new(
         alloc: Global,
         items: &Items,
@@ -167,7 +167,7 @@ impl FlatMachine {
 
     /// Carries out a hart's next instruction, and answers what it did or why the hart halts. Where `sc_ok`
     /// is false an SC fails, also where the hart still has its reservation.
-    #[tactic(auto, using(crate::proofs::Outcomes::step_halts, crate::proofs::Outcomes::step_plain, crate::proofs::Outcomes::step_puts, crate::proofs::Outcomes::step_shares, crate::proofs::Outcomes::step_stores, crate::proofs::Outcomes::step_keeps, crate::proofs::Outcomes::step_loses, crate::proofs::Outcomes::shared_words, crate::proofs::Outcomes::failing_words, crate::proofs::Outcomes::same_harts, crate::proofs::Outcomes::same_items, crate::proofs::Outcomes::halted_harts, crate::proofs::Outcomes::halted_items))]
+    #[tactic(auto, using(crate::proofs::Outcomes::step_cases, crate::proofs::Outcomes::step_lengths))]
     pub fn step(
         &mut self,
         code: &Code,

@@ -13,3 +13,6 @@ item_at_from items a x e = (row_from items.size a (row_at items x) (position-Som
 pub item_at_below : (items : ItemTable) (a x : ℕ) → item_at items a ≡ Some x → a < (row_at items x).address + items.size
 unfolding item_at
 item_at_below items a x e = (row_from items.size a (row_at items x) (position-Some (row_has items.size a) items.rows x no_row e).1).1
+
+-- The item that has a byte.
+pub ruleset item_at_cases = (item_at_from, item_at_below)

@@ -103,7 +103,7 @@ fn store_item(items: &Items, bytes: u32, address: u32) -> Result<ItemId, HaltCau
     }
 }
 
-#[tactic(auto, using(flat_model::proofs::Items::item_at_inside, crate::proofs::Accesses::item_at_from, crate::proofs::Accesses::item_at_below))]
+#[tactic(auto, using(flat_model::proofs::Items::item_at_inside, crate::proofs::Accesses::item_at_cases))]
 fn locate(items: &Items, item: ItemId, address: u32) -> Access
     requires { item_at items.now address ≡ Some item }
     ensures value { access_value result ≡ access_in items.now address item }

@@ -12,7 +12,7 @@ use serving_walk::Tree;
 pub trait Server: Tree {
     ghost made: { Self → ℕ };
 
-    /// Makes turns, and puts their answers behind the others.
+    /// Makes turns, and puts their answers after the others.
     fn make(&mut self, turns: &[Turn], answers: &mut Vec<TurnAnswer>) -> Result<(), NoMemory>
         requires named { All (λ t. names_part t (Self.value self.old) ≡ true) turns.now }
         requires few { made self.old + length turns.now ≤ 4294967295 }

@@ -85,7 +85,10 @@ one_level_ops = loads_5 0 ++ loads_5 1 ++ stores 0 5 1 ++ stores 1 1 2
 
 -- On one bus with two leaves: a read across the bus, a store that erases the other copy, and one that reads first.
 pub record OneLevel : Type 0 where
-  pub text : text_of one_level_ops one_level ≡ codes "h 0 0\nh 0 0\ng 0 q 0\ng 0 r 1\nh 0 0\nh 1 0\nh 1 0\nh 0 0\nh 0 0\ng 0 q 0\ng 0 d\nh 0 0\nh 1 0\nh 1 0\ng 0 q 1\ng 0 r 0\ng 0 q 1\ng 0 d\nh 1 0\nend\n"
+  pub text :
+      text_of one_level_ops one_level
+      ≡ codes "h 0 0\nh 0 0\ng 0 q 0\ng 0 r 1\nh 0 0\nh 1 0\nh 1 0\nh 0 0\nh 0 0\ng 0 q 0\ng 0 d\nh 0 0\n"
+      ++ codes "h 1 0\nh 1 0\ng 0 q 1\ng 0 r 0\ng 0 q 1\ng 0 d\nh 1 0\nend\n"
   pub rests : ends_at_rest one_level_ops one_level ≡ true
 
 abbrev pub two_levels : List ℕ → MachineValue
@@ -96,7 +99,11 @@ two_level_ops = loads_5 0 ++ loads_5 2 ++ loads_5 3 ++ stores 0 5 1
 
 -- On two buses under one: reads over the top and beside, and a store that erases copies on both sides.
 pub record TwoLevels : Type 0 where
-  pub text : text_of two_level_ops (two_levels load_and_store) ≡ codes "h 0 0\nh 0 0\ng 1 q 0\ng 1 r 1\nh 0 0\nh 2 0\nh 2 0\ng 2 q 0\ng 0 q 1\ng 1 d\ng 1 r 0\ng 0 r 0\ng 2 d\nh 2 0\nh 3 0\nh 3 0\ng 2 q 1\ng 2 r 0\nh 3 0\nh 0 0\nh 0 0\ng 1 q 0\ng 0 q 0\ng 2 d\ng 0 d\ng 1 d\nh 0 0\nend\n"
+  pub text :
+      text_of two_level_ops (two_levels load_and_store)
+      ≡ codes "h 0 0\nh 0 0\ng 1 q 0\ng 1 r 1\nh 0 0\nh 2 0\nh 2 0\ng 2 q 0\ng 0 q 1\ng 1 d\ng 1 r 0\n"
+      ++ codes "g 0 r 0\ng 2 d\nh 2 0\nh 3 0\nh 3 0\ng 2 q 1\ng 2 r 0\nh 3 0\nh 0 0\nh 0 0\ng 1 q 0\n"
+      ++ codes "g 0 q 0\ng 2 d\ng 0 d\ng 1 d\nh 0 0\nend\n"
   pub rests : ends_at_rest two_level_ops (two_levels load_and_store) ≡ true
 
 abbrev pub three_levels : MachineValue
@@ -107,7 +114,12 @@ three_level_ops = loads_5 0 ++ loads_5 3 ++ loads_5 6 ++ stores 6 5 7
 
 -- On three levels: a read that turns half way up, one that turns at the top, and an erase of copies on all sides.
 pub record ThreeLevels : Type 0 where
-  pub text : text_of three_level_ops three_levels ≡ codes "h 0 0\nh 0 0\ng 3 q 0\ng 3 r 1\nh 0 0\nh 3 0\nh 3 0\ng 4 q 1\ng 1 q 1\ng 3 d\ng 3 r 0\ng 1 r 0\ng 4 d\nh 3 0\nh 6 0\nh 6 0\ng 6 q 0\ng 2 q 1\ng 0 q 1\ng 1 d\ng 3 d\ng 3 r 0\ng 1 r 0\ng 0 r 0\ng 2 d\ng 6 d\nh 6 0\nh 6 0\nh 6 0\ng 6 q 0\ng 2 q 1\ng 0 q 1\ng 1 d\ng 3 d\ng 4 d\ng 0 d\ng 2 d\ng 6 d\nh 6 0\nend\n"
+  pub text :
+      text_of three_level_ops three_levels
+      ≡ codes "h 0 0\nh 0 0\ng 3 q 0\ng 3 r 1\nh 0 0\nh 3 0\nh 3 0\ng 4 q 1\ng 1 q 1\ng 3 d\ng 3 r 0\n"
+      ++ codes "g 1 r 0\ng 4 d\nh 3 0\nh 6 0\nh 6 0\ng 6 q 0\ng 2 q 1\ng 0 q 1\ng 1 d\ng 3 d\ng 3 r 0\n"
+      ++ codes "g 1 r 0\ng 0 r 0\ng 2 d\ng 6 d\nh 6 0\nh 6 0\nh 6 0\ng 6 q 0\ng 2 q 1\ng 0 q 1\ng 1 d\n"
+      ++ codes "g 3 d\ng 4 d\ng 0 d\ng 2 d\ng 6 d\nh 6 0\nend\n"
   pub rests : ends_at_rest three_level_ops three_levels ≡ true
 
 abbrev pub kept_ops : List Op
@@ -122,13 +134,18 @@ pub record Reservations : Type 0 where
       text_of kept_ops (two_levels reserve_and_store)
       ≡ codes
       "h 3 0\nh 3 0\ng 2 q 1\ng 0 q 1\ng 1 d\ng 1 r 1\ng 0 r 0\ng 2 d\nh 3 0\nh 3 0\ng 2 q 1\ng 0 q 1\ng 1 d\ng 0 d\ng 2 d\nh 3 0\nend\n"
-  pub lost : text_of lost_ops (two_levels reserve_and_store) ≡ codes "h 3 0\nh 3 0\ng 2 q 1\ng 0 q 1\ng 1 d\ng 1 r 1\ng 0 r 0\ng 2 d\nh 3 0\nh 0 0\nh 0 0\ng 1 q 0\ng 1 r 1\nh 0 0\nh 0 0\ng 1 q 0\ng 0 q 0\ng 2 d\ng 0 d\ng 1 d\nh 0 0\nh 3 0\nend\n"
+  pub lost :
+      text_of lost_ops (two_levels reserve_and_store)
+      ≡ codes "h 3 0\nh 3 0\ng 2 q 1\ng 0 q 1\ng 1 d\ng 1 r 1\ng 0 r 0\ng 2 d\nh 3 0\nh 0 0\nh 0 0\n"
+      ++ codes "g 1 q 0\ng 1 r 1\nh 0 0\nh 0 0\ng 1 q 0\ng 0 q 0\ng 2 d\ng 0 d\ng 1 d\nh 0 0\nh 3 0\nend\n"
 
 -- ---- refused
 
 pub record Refusals : Type 0 where
   -- two items, and one way for them
-  pub no_room : text_of (loads_5 0) (start_machine (tree_with ((2 ∷ []) ∷ []) 1) (program load_and_store)) ≡ codes "ddm: no room: ways\n"
+  pub no_room :
+      text_of (loads_5 0) (start_machine (tree_with ((2 ∷ []) ∷ []) 1) (program load_and_store))
+      ≡ codes "ddm: no room: ways\n"
   -- another word is loaded
   pub other_word :
       text_of (loads_5 0 ++ does 1 0 Plain ∷ does 1 1 (Load 0x20000 6) ∷ []) one_level

@@ -1,5 +1,5 @@
 -- Worked examples: small schedules, and the report and the trace of small runs.
-use Rattle.std.specs.Prelude.{◌≡◌, ℕ, ◌+◌, ◌/◌, ◌<◌, List, [], ◌∷◌, Some, None, Ok, Err, codes, replicate, take}
+use Rattle.std.specs.Prelude.{◌≡◌, ℕ, ◌+◌, ◌/◌, ◌<◌, List, [], ◌∷◌, Some, None, Ok, Err, ◌++◌, codes, replicate, take}
 use Rattle.text_model.specs.DdmTypes.declared.turns.Turn.{Turn}
 use Rattle.text_model.specs.DdmTypes.declared.turns.Turn.TheVariants.{Hart, Down, Request, Reply, Leave}
 use Rattle.text_model.specs.DdmTypes.declared.keys.Key.{Key}
@@ -118,11 +118,26 @@ store_and_load = record {
 
 -- its report
 abbrev pub store_and_load_report : List ℕ
-store_and_load_report = codes "ddm 1\nturns 8 retired 6 granted 0 busy 0\nhart 0 exit 7 pc 00010018 done 6\nregs 0 00000000 00030010 00000000 00000000 00020000 00000007 00000007 00000000 00000000 00000007 00000001 00000000 00000000 00000000 00000000 00000000 0000005d 00000000 00000000 00000000 00000000 00000000 00000000 00000000 00000000 00000000 00000000 00000000 00000000 00000000 00000000\nout 0 -\nbus 0 read 0 data 0 erase 0 exclusive 0 out 0 inject 0\nitem 0 00010000 000202b7 00700313 0062a023 0002a383 leaf 0 way 0 E\nitem 1 00010010 05d00893 00038513 00000073 00000000 leaf 0 way 1 E\nitem 2 00020000 00000007 00000000 00000000 00000000 leaf 0 way 2 E\nitem 3 00030000 00000000 00000000 00000000 00000000 leaf 0 way 3 E\nop 0 0.0.0 00010000 plain\nop 0 0.0.1 00010004 plain\nop 0 0.0.2 00010008 store 00020000 00000000 00000007\nop 0 0.0.3 0001000c load 00020000 00000007\nop 0 0.0.4 00010010 plain\nop 0 0.0.5 00010014 plain\nend\n"
+store_and_load_report =
+    codes "ddm 1\nturns 8 retired 6 granted 0 busy 0\nhart 0 exit 7 pc 00010018 done 6\n"
+    ++ codes "regs 0 00000000 00030010 00000000 00000000 00020000 00000007 00000007 00000000 00000000 "
+    ++ codes "00000007 00000001 00000000 00000000 00000000 00000000 00000000 0000005d 00000000 00000000 "
+    ++ codes "00000000 00000000 00000000 00000000 00000000 00000000 00000000 00000000 00000000 00000000 "
+    ++ codes "00000000 00000000\nout 0 -\nbus 0 read 0 data 0 erase 0 exclusive 0 out 0 inject 0\n"
+    ++ codes "item 0 00010000 000202b7 00700313 0062a023 0002a383 leaf 0 way 0 E\n"
+    ++ codes "item 1 00010010 05d00893 00038513 00000073 00000000 leaf 0 way 1 E\n"
+    ++ codes "item 2 00020000 00000007 00000000 00000000 00000000 leaf 0 way 2 E\n"
+    ++ codes "item 3 00030000 00000000 00000000 00000000 00000000 leaf 0 way 3 E\n"
+    ++ codes "op 0 0.0.0 00010000 plain\nop 0 0.0.1 00010004 plain\n"
+    ++ codes "op 0 0.0.2 00010008 store 00020000 00000000 00000007\n"
+    ++ codes "op 0 0.0.3 0001000c load 00020000 00000007\nop 0 0.0.4 00010010 plain\n"
+    ++ codes "op 0 0.0.5 00010014 plain\nend\n"
 
 -- its summary
 abbrev pub store_and_load_summary : List ℕ
-store_and_load_summary = codes "ddm 1\nturns 8 retired 6 granted 0 busy 0\nhart 0 exit 7 pc 00010018 done 6\nbus 0 read 0 data 0 erase 0 exclusive 0 out 0 inject 0\nend\n"
+store_and_load_summary =
+    codes "ddm 1\nturns 8 retired 6 granted 0 busy 0\nhart 0 exit 7 pc 00010018 done 6\n"
+    ++ codes "bus 0 read 0 data 0 erase 0 exclusive 0 out 0 inject 0\nend\n"
 
 -- the same before any turn
 
@@ -149,7 +164,16 @@ no_turns = record {
 
 -- its report
 abbrev pub no_turns_report : List ℕ
-no_turns_report = codes "ddm 1\nturns 0 retired 0 granted 0 busy 0\nhart 0 running pc 00010000 done 0\nregs 0 00000000 00030010 00000000 00000000 00000000 00000000 00000000 00000000 00000000 00000000 00000001 00000000 00000000 00000000 00000000 00000000 00000000 00000000 00000000 00000000 00000000 00000000 00000000 00000000 00000000 00000000 00000000 00000000 00000000 00000000 00000000\nout 0 -\nbus 0 read 0 data 0 erase 0 exclusive 0 out 0 inject 0\nitem 0 00010000 000202b7 00700313 0062a023 0002a383 leaf 0 way 0 E\nitem 1 00010010 05d00893 00038513 00000073 00000000 leaf 0 way 1 E\nitem 2 00020000 00000000 00000000 00000000 00000000 leaf 0 way 2 E\nitem 3 00030000 00000000 00000000 00000000 00000000 leaf 0 way 3 E\nend\n"
+no_turns_report =
+    codes "ddm 1\nturns 0 retired 0 granted 0 busy 0\nhart 0 running pc 00010000 done 0\n"
+    ++ codes "regs 0 00000000 00030010 00000000 00000000 00000000 00000000 00000000 00000000 00000000 "
+    ++ codes "00000000 00000001 00000000 00000000 00000000 00000000 00000000 00000000 00000000 00000000 "
+    ++ codes "00000000 00000000 00000000 00000000 00000000 00000000 00000000 00000000 00000000 00000000 "
+    ++ codes "00000000 00000000\nout 0 -\nbus 0 read 0 data 0 erase 0 exclusive 0 out 0 inject 0\n"
+    ++ codes "item 0 00010000 000202b7 00700313 0062a023 0002a383 leaf 0 way 0 E\n"
+    ++ codes "item 1 00010010 05d00893 00038513 00000073 00000000 leaf 0 way 1 E\n"
+    ++ codes "item 2 00020000 00000000 00000000 00000000 00000000 leaf 0 way 2 E\n"
+    ++ codes "item 3 00030000 00000000 00000000 00000000 00000000 leaf 0 way 3 E\nend\n"
 
 -- ---- one byte of output: of two harts, the second puts `H`
 
@@ -188,7 +212,11 @@ one_read_answers =
 
 -- their trace
 abbrev pub one_read_trace : List ℕ
-one_read_trace = codes "t 0 h 0 0 retired plain\nt 1 h 0 0 issued read 1\nt 2 g 0 q 0 granted read 1 from child 0 to child 1\nt 3 g 0 r 1 granted data 1 from child 1 to child 0\nt 4 h 0 0 retired load 00020000 00000005\n"
+one_read_trace =
+    codes "t 0 h 0 0 retired plain\nt 1 h 0 0 issued read 1\n"
+    ++ codes "t 2 g 0 q 0 granted read 1 from child 0 to child 1\n"
+    ++ codes "t 3 g 0 r 1 granted data 1 from child 1 to child 0\n"
+    ++ codes "t 4 h 0 0 retired load 00020000 00000005\n"
 
 -- what the turns came to
 abbrev pub one_read_counts : RunCounts
@@ -238,7 +266,15 @@ other_answers =
 
 -- their trace, as if they were one run
 abbrev pub other_trace : List ℕ
-other_trace = codes "t 0 g 0 q 0 busy item 0 1 uperase 1\nt 1 g 0 d granted exclusive 1 from parent to child 1\nt 2 h 1 0 retired store 00020000 00000005 00000002\nt 3 h 1 0 issued erase 1\nt 4 g 0 q 2 granted read 1 from child 2 to joined\nt 5 g 0 r 1 granted data 1 from child 1 to readers\nt 6 h 2 0 waiting 1\nt 7 g 0 d empty\nt 8 g 0 q 1 busy queue down 2\nt 9 h 0 73 busy buffer 0\nt 10 g 0 l 0 0 busy room 0\nt 11 g 1 l 0 0 granted inject 0 from child 0 to parking\nt 12 g 0 l 0 255 granted out 1 from child 0 to gone\nt 13 g 2 d granted erase 2 from parent to all\nt 14 h 0 0 halted nofetch 0001000c\n"
+other_trace =
+    codes "t 0 g 0 q 0 busy item 0 1 uperase 1\nt 1 g 0 d granted exclusive 1 from parent to child 1\n"
+    ++ codes "t 2 h 1 0 retired store 00020000 00000005 00000002\nt 3 h 1 0 issued erase 1\n"
+    ++ codes "t 4 g 0 q 2 granted read 1 from child 2 to joined\n"
+    ++ codes "t 5 g 0 r 1 granted data 1 from child 1 to readers\nt 6 h 2 0 waiting 1\nt 7 g 0 d empty\n"
+    ++ codes "t 8 g 0 q 1 busy queue down 2\nt 9 h 0 73 busy buffer 0\nt 10 g 0 l 0 0 busy room 0\n"
+    ++ codes "t 11 g 1 l 0 0 granted inject 0 from child 0 to parking\n"
+    ++ codes "t 12 g 0 l 0 255 granted out 1 from child 0 to gone\n"
+    ++ codes "t 13 g 2 d granted erase 2 from parent to all\nt 14 h 0 0 halted nofetch 0001000c\n"
 
 -- an operation in a tree of four levels
 abbrev pub deep_op : Op

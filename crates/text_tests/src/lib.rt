@@ -1,19 +1,13 @@
-//! The calls that read, judge and print files and texts, as tests: how they are used, and that those that take memory
+//! The calls that read, judge and put out files and texts, as tests: how they are used, and that those that take memory
 //! succeed where there is enough.
 #![tactic(auto)]
 
-#[cfg(test)]
-mod of_ddm_outside;
 #[cfg(test)]
 mod of_ddm_text;
 #[cfg(test)]
 mod of_ddm_types;
 #[cfg(test)]
 mod of_tree_config;
-#[cfg(test)]
-mod of_tree_model;
-#[cfg(test)]
-mod of_witness_order;
 #[cfg(test)]
 mod with_ddm_outside;
 #[cfg(test)]
@@ -22,8 +16,6 @@ mod with_ddm_text;
 mod with_elf_load;
 #[cfg(test)]
 mod with_made_image;
-#[cfg(test)]
-mod with_report;
 #[cfg(test)]
 mod with_schedule_log;
 #[cfg(test)]

@@ -2,11 +2,11 @@
 
 ghost use Rattle.std.specs.Prelude.{◌≡◌, ◌<◌, ◌≤◌, All, length, IfOk};
 
-use crate::of_ddm_outside::{
+use crate::of_ddm_text::Text;
+use ddm_outside::{
     Failed, FileShelf, MemoryShelf, MemorySink, NamedFile, Shelf, Sink, SoundShelf, SoundSink,
     StdSink,
 };
-use crate::of_ddm_text::Text;
 use std::alloc::Global;
 use std::io::Write;
 use std::os::fd::AsRawFd;

@@ -11,7 +11,8 @@ use std::test::Fail;
 
 // One bus with two leaves.
 const TWO_LEAVES: &str =
-    "shape = \"(LL)\"\nways = 1\nsets = 1\nbuffer = 1\nparking = 1\ndown = 16\nrequests = 16\nreplies = 16\nstack_base = 196608\nstack_bytes = 0\n";
+    "shape = \"(LL)\"\nways = 1\nsets = 1\nbuffer = 1\nparking = 1\ndown = 16\nrequests = 16\n\
+    replies = 16\nstack_base = 196608\nstack_bytes = 0\n";
 
 // The schedule of the seed 42 with three turns, for that tree.
 const SEEDED: &str = "g 0 r 1\nh 1 73\ng 0 q 1\nend\n";

@@ -7,11 +7,14 @@ use std::process::Abort;
 use std::test::Fail;
 
 const PLAIN: &str =
-    "shape = \"((LL)(L))\"\nways = 4\nsets = 1\nbuffer = 2\nparking = 3\ndown = 16\nrequests = 17\nreplies = 18\nstack_base = 196608\nstack_bytes = 16\n";
+    "shape = \"((LL)(L))\"\nways = 4\nsets = 1\nbuffer = 2\nparking = 3\ndown = 16\nrequests = 17\n\
+    replies = 18\nstack_base = 196608\nstack_bytes = 16\n";
 
 // Comments, another order, quoted keys, another base, and separators.
 const ORDERED: &str =
-    "# a tree\nitem_bytes = 0x40\n\"stack_bytes\" = 0\nstack_base = 4_294_967_280 # the last\nreplies = 4096\n'requests' = 1\ndown = 1\nparking = 64\nbuffer = 16\nsets = 4096\nways = 1\nshape = '(((((L))))'\n";
+    "# a tree\nitem_bytes = 0x40\n\"stack_bytes\" = 0\nstack_base = 4_294_967_280 # the last\n\
+    replies = 4096\n'requests' = 1\ndown = 1\nparking = 64\nbuffer = 16\nsets = 4096\nways = 1\n\
+    shape = '(((((L))))'\n";
 
 fn refusal(rt: &impl Abort, alloc: Global, text: &str) -> TreeRefusal {
     read_tree(alloc, text.as_bytes())

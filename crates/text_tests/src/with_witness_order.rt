@@ -1,10 +1,10 @@
 //! Tests of operations put in order.
 
 use crate::of_ddm_types::{ChildNo, Effect, HartNo, Key, NoMemory, Op, Stamp};
-use crate::of_witness_order::{Ordered, Witness};
 use operation_list::Operations;
 use std::alloc::Global;
 use std::test::Fail;
+use witness_order::{Ordered, Witness};
 
 // An operation of a hart in a tree of two levels of buses.
 fn op(hart: u32, numbers: [u32; 5]) -> Op {

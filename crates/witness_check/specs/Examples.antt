@@ -90,13 +90,17 @@ pub record SixOperations : Type 0 where
   pub cut : check_of six (first_two ++ stored ++ loaded ++ last_two) ≡ Err (BadLine 6)
   pub nothing : check_of six [] ≡ Ok 0
   -- a load of another word
-  pub another_word : check_of six (first_two ++ stored ++ codes "op 0 0.0.3 0001000c load 00020000 00000008\n") ≡ Err (NotLegal 4)
+  pub another_word :
+      check_of six (first_two ++ stored ++ codes "op 0 0.0.3 0001000c load 00020000 00000008\n")
+      ≡ Err (NotLegal 4)
   -- the keys aren't judged
   pub other_keys : check_of six (codes "op 0 9.9.9.9.9 00010000 plain\nop 0 0.0.0 00010004 plain\n") ≡ Ok 2
   -- a hart that isn't there
   pub no_hart : check_of six (codes "op 1 0.0.0 00010000 plain\n") ≡ Err (NotLegal 1)
   -- behind its last step the hart exits, which is no operation
-  pub behind : check_of six (first_two ++ stored ++ loaded ++ last_two ++ codes "\nop 0 0.0.6 00010018 plain\n") ≡ Err (NotLegal 7)
+  pub behind :
+      check_of six (first_two ++ stored ++ loaded ++ last_two ++ codes "\nop 0 0.0.6 00010018 plain\n")
+      ≡ Err (NotLegal 7)
   -- a stack that meets the code
   pub overlap : check_of (record six { start = record six.start { stack_base = 65536 } }) [] ≡ Err (StackOverlap 0 0)
 
@@ -110,7 +114,9 @@ eight =
     ∷ []) (5 ∷ []) 32) 4 196608 0
 
 abbrev pub reader_lines : List ℕ
-reader_lines = codes "op 3 0.1.0.1.0 00010000 plain\nop 3 0.1.2.1.1 00010004 load 00020000 00000005\nop 3 0.1.2.1.2 00010008 plain\n"
+reader_lines =
+    codes "op 3 0.1.0.1.0 00010000 plain\nop 3 0.1.2.1.1 00010004 load 00020000 00000005\n"
+    ++ codes "op 3 0.1.2.1.2 00010008 plain\n"
 
 abbrev pub late_load : List ℕ
 late_load = codes "op 3 1.1.4.1.3 0001000c load 00020000 00000005\n"
@@ -119,7 +125,9 @@ abbrev pub writer_start : List ℕ
 writer_start = codes "op 0 0.0.0.0.0 00010000 plain\n"
 
 abbrev pub writer_lines : List ℕ
-writer_lines = codes "op 0 2.0.2.0.1 00010004 load 00020000 00000005\nop 0 2.0.2.0.2 00010008 plain\nop 0 4.0.4.0.3 00010018 store 00020000 00000005 00000004\n"
+writer_lines =
+    codes "op 0 2.0.2.0.1 00010004 load 00020000 00000005\nop 0 2.0.2.0.2 00010008 plain\n"
+    ++ codes "op 0 4.0.4.0.3 00010018 store 00020000 00000005 00000004\n"
 
 pub record EightOperations : Type 0 where
   -- in the order of their keys

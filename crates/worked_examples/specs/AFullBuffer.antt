@@ -23,11 +23,18 @@ no_room = ended until_out
 
 -- what both print until the buffer is found full
 abbrev pub first_lines : List ℕ
-first_lines = codes "t 0 h 0 0 retired plain\nt 1 h 0 0 issued read 1\nt 2 g 0 q 0 granted read 1 from child 0 to child 1\nt 3 g 0 r 1 granted data 1 from child 1 to child 0\nt 4 h 0 0 retired load 00020000 00000005\nt 5 h 0 0 busy buffer 0\n"
+first_lines =
+    codes "t 0 h 0 0 retired plain\nt 1 h 0 0 issued read 1\n"
+    ++ codes "t 2 g 0 q 0 granted read 1 from child 0 to child 1\n"
+    ++ codes "t 3 g 0 r 1 granted data 1 from child 1 to child 0\n"
+    ++ codes "t 4 h 0 0 retired load 00020000 00000005\nt 5 h 0 0 busy buffer 0\n"
 
 pub record AFullBuffer : Type 0 where
   pub trace :
       trace_in tree image turns
       ≡ first_lines ++ codes "t 6 g 0 l 0 0 granted inject 0 from child 0 to child 3\nt 7 h 0 0 issued read 2\n"
   pub keys : completed_keys_in tree image turns ≡ codes "0.0.0\n2.0.1\n"
-  pub no_room_trace : trace_in (tree_of ((3 ∷ []) ∷ []) 1 1 1 1) image no_room ≡ first_lines ++ codes "t 6 g 0 l 0 0 busy room 0\n"
+  pub no_room_trace :
+      trace_in (tree_of ((3 ∷ []) ∷ []) 1 1 1 1) image no_room
+      ≡ first_lines
+      ++ codes "t 6 g 0 l 0 0 busy room 0\n"

@@ -22,7 +22,23 @@ abbrev pub turns : List ℕ
 turns = ended (until_data ++ codes "g 0 q 0\ng 0 d\nh 0 0\n")
 
 pub record TwoWriters : Type 0 where
-  pub trace : trace_in tree image turns ≡ codes "t 0 h 0 0 retired plain\nt 1 h 0 0 issued read 1\nt 2 g 0 q 0 granted read 1 from child 0 to child 1\nt 3 g 0 r 1 granted data 1 from child 1 to child 0\nt 4 h 0 0 retired load 00020000 00000005\nt 5 h 0 0 retired plain\nt 6 h 0 0 issued erase 1\nt 7 h 1 0 retired plain\nt 8 h 1 0 retired load 00020000 00000005\nt 9 h 1 0 retired plain\nt 10 h 1 0 issued erase 1\nt 11 g 0 q 1 granted erase 1 from child 1 to all\nt 12 g 0 q 0 busy item 0 1 uperase 1\nt 13 g 0 d granted exclusive 1 from parent to child 1\nt 14 h 1 0 retired store 00020000 00000005 00000002\nt 15 g 0 q 0 granted read 1 from child 0 to child 1\nt 16 g 0 r 1 granted data 1 from child 1 to child 0\nt 17 g 0 q 0 granted erase 1 from child 0 to all\nt 18 g 0 d granted exclusive 1 from parent to child 0\nt 19 h 0 0 retired store 00020000 00000002 00000001\n"
+  pub trace :
+      trace_in tree image turns
+      ≡ codes "t 0 h 0 0 retired plain\nt 1 h 0 0 issued read 1\n"
+      ++ codes "t 2 g 0 q 0 granted read 1 from child 0 to child 1\n"
+      ++ codes "t 3 g 0 r 1 granted data 1 from child 1 to child 0\n"
+      ++ codes "t 4 h 0 0 retired load 00020000 00000005\nt 5 h 0 0 retired plain\n"
+      ++ codes "t 6 h 0 0 issued erase 1\nt 7 h 1 0 retired plain\n"
+      ++ codes "t 8 h 1 0 retired load 00020000 00000005\nt 9 h 1 0 retired plain\n"
+      ++ codes "t 10 h 1 0 issued erase 1\nt 11 g 0 q 1 granted erase 1 from child 1 to all\n"
+      ++ codes "t 12 g 0 q 0 busy item 0 1 uperase 1\n"
+      ++ codes "t 13 g 0 d granted exclusive 1 from parent to child 1\n"
+      ++ codes "t 14 h 1 0 retired store 00020000 00000005 00000002\n"
+      ++ codes "t 15 g 0 q 0 granted read 1 from child 0 to child 1\n"
+      ++ codes "t 16 g 0 r 1 granted data 1 from child 1 to child 0\n"
+      ++ codes "t 17 g 0 q 0 granted erase 1 from child 0 to all\n"
+      ++ codes "t 18 g 0 d granted exclusive 1 from parent to child 0\n"
+      ++ codes "t 19 h 0 0 retired store 00020000 00000002 00000001\n"
   pub counts : counts_in tree image turns ≡ codes "turns 20 retired 8 granted 8 busy 1\n"
   pub traffic : traffic_in tree image turns ≡ codes "bus 0 read 2 data 2 erase 2 exclusive 2 out 0 inject 0\n"
   -- leaf 0 lost the item while it waited: it is reading-and-waiting

@@ -55,3 +55,6 @@ returns-clause-counted g c = subst (λ s. passed_as (turn_of c.args.turn.now s.m
 
 pub returns-clause-empty : goal.returns-clause-empty
 returns-clause-empty g c = λ bus. subst (λ s. (turn_of c.args.turn.now s.machine).answer ≡ TurnAnswer.Empty) c.self.view_is ((passed g c).2 bus)
+
+pub returns-clause-kept : goal.returns-clause-kept
+returns-clause-kept g c = ap (λ s. s.machine) c.self.view_is

@@ -1,11 +1,11 @@
 //! Tests of reports, traces and fault lines.
 
-use crate::of_ddm_outside::MemorySink;
-use crate::of_ddm_types::{
+use report::of_ddm_outside::MemorySink;
+use report::of_ddm_types::{
     BusNo, ChildNo, Effect, HaltCause, HartNo, ItemId, Key, LogEntry, Op, Place, Turn, TurnAnswer,
     TxKind,
 };
-use crate::of_tree_model::Traffic;
+use report::of_tree_model::Traffic;
 use report::{
     TracePieces, memory_line, push_bus_line, push_hart_line, push_op_line, push_trace, trace_text,
     usage_line, write_all,
