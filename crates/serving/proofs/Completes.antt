@@ -6,16 +6,16 @@ use Rattle.std.proofs.Common.{◌≡◌, ◌≢◌, ℕ, zero, suc, ◌+◌, ◌
 use Rattle.std.specs.Prelude.{All}
 use Rattle.std.proofs.lemmas.List.{drop_all, length-append}
 use Rattle.std.proofs.lemmas.List.Elements.{All-cons, All-nil}
-use Rattle.headline.specs.DdmTypes.declared.answers.TurnAnswer.{TurnAnswer}
-use Rattle.headline.specs.DdmTypes.declared.operations.Op.{Op}
-use Rattle.headline.specs.DdmTypes.declared.turns.Turn.{Turn}
-use Rattle.headline.specs.TreeModel.State.Shape.{frame_of, IsShaped}
-use Rattle.headline.specs.TreeModel.State.Values.{MachineValue}
-use Rattle.headline.specs.TreeModel.Turns.Machine.{names_part, turn_of, run_of}
-use Rattle.headline.proofs.TreeModel.FrameKept.{turn-frame, turn-shape}
-use Rattle.serving_model.specs.Serving.{same_operation, completes_op, walks_of, turns_behind, turns_to_complete}
-use Rattle.serving_model.specs.Told.{AreTold}
-use Rattle.serving_model.proofs.Instruction.{run-on}
+use Rattle.serving.specs.DdmTypes.declared.answers.TurnAnswer.{TurnAnswer}
+use Rattle.serving.specs.DdmTypes.declared.operations.Op.{Op}
+use Rattle.serving.specs.DdmTypes.declared.turns.Turn.{Turn}
+use Rattle.serving.specs.TreeModel.State.Shape.{frame_of, IsShaped}
+use Rattle.serving.specs.TreeModel.State.Values.{MachineValue}
+use Rattle.serving.specs.TreeModel.Turns.Machine.{names_part, turn_of, run_of}
+use Rattle.serving.proofs.TreeModel.FrameKept.{turn-frame, turn-shape}
+use Rattle.serving.specs.ServingModel.Serving.{same_operation, completes_op, walks_of, turns_behind, turns_to_complete}
+use Rattle.serving.specs.ServingModel.Told.{AreTold}
+use Rattle.serving.proofs.ServingModel.Instruction.{run-on}
 use Rattle.serving.specs.Shown.{IsShown, issued_first}
 use Rattle.serving.specs.declared.completing.Issued.{Issued}
 use Rattle.serving.proofs.Named.{frame-names, run-names}

@@ -1,3 +1,6 @@
+pub mod HeadlineCrate
+pub mod ServingModel
+pub mod TreeModel
 pub mod Named
 pub mod Walked
 pub mod Steps

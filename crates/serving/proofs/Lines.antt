@@ -6,11 +6,11 @@ use Rattle.std.specs.Prelude.{All, nat_lt}
 use Rattle.std.proofs.lemmas.Bool.Decides.{nat_tests}
 use Rattle.std.proofs.lemmas.List.{drop_all, length-append}
 use Rattle.std.proofs.lemmas.List.Elements.{All-get_or, All-weaker}
-use Rattle.headline.specs.DdmTypes.declared.operations.Op.{Op}
-use Rattle.headline.specs.DdmTypes.declared.turns.Turn.{Turn}
-use Rattle.headline.specs.TreeModel.State.Values.{MachineValue}
-use Rattle.headline.specs.TreeModel.Turns.Machine.{names_part, run_of}
-use Rattle.serving_model.specs.Serving.{ServingRefusal, not_served, too_many_turns, with_turns, turns_to_complete, completes_op, serve_from}
+use Rattle.serving.specs.DdmTypes.declared.operations.Op.{Op}
+use Rattle.serving.specs.DdmTypes.declared.turns.Turn.{Turn}
+use Rattle.serving.specs.TreeModel.State.Values.{MachineValue}
+use Rattle.serving.specs.TreeModel.Turns.Machine.{names_part, run_of}
+use Rattle.serving.specs.ServingModel.Serving.{ServingRefusal, not_served, too_many_turns, with_turns, turns_to_complete, completes_op, serve_from}
 use Rattle.serving.specs.Shown.{IsShown}
 use Rattle.serving.proofs.Completes.{drop-next}
 use Rattle.serving.proofs.Named.{run-names}

@@ -7,24 +7,24 @@ use Rattle.std.proofs.lemmas.Bool.{and_parts, true≢false, cases_lt}
 use Rattle.std.proofs.lemmas.Bool.Decides.{nat_tests}
 use Rattle.std.proofs.lemmas.List.Elements.{All-nil, All-cons, All-weaker}
 use Rattle.std.proofs.Math.ListN.{get_or-eq_default}
-use Rattle.headline.specs.DdmTypes.declared.answers.TurnAnswer.{TurnAnswer}
-use Rattle.headline.specs.DdmTypes.declared.keys.Stamp.{Stamp}
-use Rattle.headline.specs.DdmTypes.declared.turns.Turn.{Turn}
-use Rattle.headline.specs.DdmTypes.Keys.{key_zero}
-use Rattle.headline.specs.TreeModel.declared.BusTurn.{BusTurn}
-use Rattle.headline.specs.TreeModel.State.Values.{DirValue, Node, Nodes, leaf_node, dir_node, no_nodes, more_nodes, children, MachineValue, root_of}
-use Rattle.headline.specs.TreeModel.State.Blank.{no_node}
-use Rattle.headline.specs.TreeModel.State.Leaf.{leaf_leaving}
-use Rattle.headline.specs.TreeModel.State.Place.{Where, at_top, at_child, where_path, spot_in, stamp_above, key_at_leaf}
-use Rattle.headline.specs.TreeModel.State.Shape.{Skeleton, Skeletons, leaf_bone, dir_bone, no_bones, more_bones, skeleton, skeletons, bone_count, Frame, frame_of, IsShaped}
-use Rattle.headline.specs.TreeModel.Turns.Bus.{bus_step}
-use Rattle.headline.specs.TreeModel.Turns.Machine.{Turned, named_by, answer_here, turn_answer, turn_of, run_of, child_count, is_child_of, names_part}
-use Rattle.headline.specs.TreeModel.Turns.Tree.{leaf_of_number, bus_of_number, has_node, has_among, read_in, read_among, of_leaf, of_dir}
-use Rattle.headline.proofs.TreeModel.NamedNode.{read_in-is_some}
-use Rattle.headline.proofs.TreeModel.FrameKept.{turn-frame, run-frame, turn-shape}
-use Rattle.headline.proofs.TreeModel.TurnChanges.{turn-answered, turn-unanswered}
-use Rattle.serving_model.specs.Parts.{is_granted}
-use Rattle.serving_model.proofs.Spine.{bone_over, over-is}
+use Rattle.serving.specs.DdmTypes.declared.answers.TurnAnswer.{TurnAnswer}
+use Rattle.serving.specs.DdmTypes.declared.keys.Stamp.{Stamp}
+use Rattle.serving.specs.DdmTypes.declared.turns.Turn.{Turn}
+use Rattle.serving.specs.DdmTypes.Keys.{key_zero}
+use Rattle.serving.specs.TreeModel.declared.BusTurn.{BusTurn}
+use Rattle.serving.specs.TreeModel.State.Values.{DirValue, Node, Nodes, leaf_node, dir_node, no_nodes, more_nodes, children, MachineValue, root_of}
+use Rattle.serving.specs.TreeModel.State.Blank.{no_node}
+use Rattle.serving.specs.TreeModel.State.Leaf.{leaf_leaving}
+use Rattle.serving.specs.TreeModel.State.Place.{Where, at_top, at_child, where_path, spot_in, stamp_above, key_at_leaf}
+use Rattle.serving.specs.TreeModel.State.Shape.{Skeleton, Skeletons, leaf_bone, dir_bone, no_bones, more_bones, skeleton, skeletons, bone_count, Frame, frame_of, IsShaped}
+use Rattle.serving.specs.TreeModel.Turns.Bus.{bus_step}
+use Rattle.serving.specs.TreeModel.Turns.Machine.{Turned, named_by, answer_here, turn_answer, turn_of, run_of, child_count, is_child_of, names_part}
+use Rattle.serving.specs.TreeModel.Turns.Tree.{leaf_of_number, bus_of_number, has_node, has_among, read_in, read_among, of_leaf, of_dir}
+use Rattle.serving.proofs.TreeModel.NamedNode.{read_in-is_some}
+use Rattle.serving.proofs.TreeModel.FrameKept.{turn-frame, run-frame, turn-shape}
+use Rattle.serving.proofs.TreeModel.TurnChanges.{turn-answered, turn-unanswered}
+use Rattle.serving.specs.ServingModel.Parts.{is_granted}
+use Rattle.serving.proofs.ServingModel.Spine.{bone_over, over-is}
 use Rattle.serving_walk.proofs.AtBus.{AtBus, at-bus, read-at}
 
 -- ---- the skeleton alone

@@ -3,38 +3,38 @@
 -- Letters: m is the machine, f the flat one, h a hart, g its state, v its leaf, a an answer, c a change.
 use Rattle.std.proofs.Common.{◌≡◌, ℕ, List, ◌∷◌, Option, Some, None, Result, Ok, Err, true, false, refl, sym, ap, subst, ◌∙◌}
 use Rattle.std.proofs.lemmas.Bool.{true≢false}
-use Rattle.headline.specs.DdmTypes.CodeMap.{CodeWord}
-use Rattle.headline.specs.DdmTypes.ItemTable.{ItemTable}
-use Rattle.headline.specs.DdmTypes.Keys.{key_zero}
-use Rattle.headline.specs.DdmTypes.declared.answers.TurnAnswer.{TurnAnswer}
-use Rattle.headline.specs.DdmTypes.declared.answers.TxKind.{TxKind}
-use Rattle.headline.specs.DdmTypes.declared.keys.Key.{Key}
-use Rattle.headline.specs.DdmTypes.declared.operations.HaltCause.{HaltCause}
-use Rattle.headline.specs.DdmTypes.declared.operations.Op.{Op}
-use Rattle.headline.specs.DdmTypes.declared.turns.Turn.{Turn}
-use Rattle.headline.specs.FlatModel.declared.Ask.{Ask}
-use Rattle.headline.specs.FlatModel.Hart.{ask_of, finish_of}
-use Rattle.headline.specs.FlatModel.Flat.{Change, FlatHart, no_flat_hart, FlatMachine, flat_hart, item_words, change_by, unless_halted, with_change, hart_step}
-use Rattle.headline.specs.TreeModel.State.Place.{at_top, key_at_leaf}
-use Rattle.headline.specs.TreeModel.State.Shape.{Skeleton, leaf_bone, dir_bone, Frame, frame_of}
-use Rattle.headline.specs.TreeModel.State.Values.{LeafValue, dir_node, MachineValue, root_of}
-use Rattle.headline.specs.TreeModel.Turns.HartTurn.{need_of, words_here, change_here, deed_of_change, deed_by_need, deed_unless_waiting, deed_unless_halted, deed_of, answer_of_deed, leaf_step}
-use Rattle.headline.specs.TreeModel.Turns.Machine.{Turned, answer_here, names_part, turn_of, run_of}
-use Rattle.headline.specs.TreeModel.Turns.Tree.{leaf_of_number, of_leaf}
-use Rattle.headline.specs.TreeRules.Bus.Rules.{items_of_machine}
-use Rattle.headline.proofs.TreeModel.FrameKept.{run-frame}
-use Rattle.headline.proofs.TreeModel.NamedNode.{read_in-is_some}
-use Rattle.headline.proofs.TreeModel.TurnChanges.{turn-answered}
-use Rattle.serving_model.specs.OneLeaf.{leaf_hart, hart_at}
-use Rattle.serving_model.specs.Serving.{turns_behind, turns_to_complete, completes_op}
-use Rattle.serving_model.specs.Shows.{view, Shows}
-use Rattle.serving_model.specs.Told.{AreTold}
-use Rattle.serving_model.proofs.Completing.{nothing-waits}
-use Rattle.serving_model.proofs.Found.{RootFound, root-found}
-use Rattle.serving_model.proofs.Instruction.{Reads, root-reads}
-use Rattle.serving_model.proofs.Listed.{some-hart}
-use Rattle.serving_model.proofs.Settled.{LeafRests, leaf-rests}
-use Rattle.serving_model.proofs.Shown.{same-hart, told-here, shown}
+use Rattle.serving.specs.DdmTypes.CodeMap.{CodeWord}
+use Rattle.serving.specs.DdmTypes.ItemTable.{ItemTable}
+use Rattle.serving.specs.DdmTypes.Keys.{key_zero}
+use Rattle.serving.specs.DdmTypes.declared.answers.TurnAnswer.{TurnAnswer}
+use Rattle.serving.specs.DdmTypes.declared.answers.TxKind.{TxKind}
+use Rattle.serving.specs.DdmTypes.declared.keys.Key.{Key}
+use Rattle.serving.specs.DdmTypes.declared.operations.HaltCause.{HaltCause}
+use Rattle.serving.specs.DdmTypes.declared.operations.Op.{Op}
+use Rattle.serving.specs.DdmTypes.declared.turns.Turn.{Turn}
+use Rattle.serving.specs.FlatModel.declared.Ask.{Ask}
+use Rattle.serving.specs.FlatModel.Hart.{ask_of, finish_of}
+use Rattle.serving.specs.FlatModel.Flat.{Change, FlatHart, no_flat_hart, FlatMachine, flat_hart, item_words, change_by, unless_halted, with_change, hart_step}
+use Rattle.serving.specs.TreeModel.State.Place.{at_top, key_at_leaf}
+use Rattle.serving.specs.TreeModel.State.Shape.{Skeleton, leaf_bone, dir_bone, Frame, frame_of}
+use Rattle.serving.specs.TreeModel.State.Values.{LeafValue, dir_node, MachineValue, root_of}
+use Rattle.serving.specs.TreeModel.Turns.HartTurn.{need_of, words_here, change_here, deed_of_change, deed_by_need, deed_unless_waiting, deed_unless_halted, deed_of, answer_of_deed, leaf_step}
+use Rattle.serving.specs.TreeModel.Turns.Machine.{Turned, answer_here, names_part, turn_of, run_of}
+use Rattle.serving.specs.TreeModel.Turns.Tree.{leaf_of_number, of_leaf}
+use Rattle.serving.specs.TreeRules.Bus.Rules.{items_of_machine}
+use Rattle.serving.proofs.TreeModel.FrameKept.{run-frame}
+use Rattle.serving.proofs.TreeModel.NamedNode.{read_in-is_some}
+use Rattle.serving.proofs.TreeModel.TurnChanges.{turn-answered}
+use Rattle.serving.specs.ServingModel.OneLeaf.{leaf_hart, hart_at}
+use Rattle.serving.specs.ServingModel.Serving.{turns_behind, turns_to_complete, completes_op}
+use Rattle.serving.specs.ServingModel.Shows.{view, Shows}
+use Rattle.serving.specs.ServingModel.Told.{AreTold}
+use Rattle.serving.proofs.ServingModel.Completing.{nothing-waits}
+use Rattle.serving.proofs.ServingModel.Found.{RootFound, root-found}
+use Rattle.serving.proofs.ServingModel.Instruction.{Reads, root-reads}
+use Rattle.serving.proofs.ServingModel.Listed.{some-hart}
+use Rattle.serving.proofs.ServingModel.Settled.{LeafRests, leaf-rests}
+use Rattle.serving.proofs.ServingModel.Shown.{same-hart, told-here, shown}
 use Rattle.serving.specs.Shown.{IsShown}
 
 -- ---- a leaf at rest whose hart's step halts

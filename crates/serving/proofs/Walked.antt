@@ -2,20 +2,20 @@
 use Rattle.std.proofs.Common.{◌≡◌, ◌≢◌, ℕ, ◌<◌, true, List, [], ◌∷◌, ◌++◌, length, ◌≤◌, false, Option, None, Some, is_some, refl, ap, subst, sym, ◌∙◌, arith}
 use Rattle.std.proofs.lemmas.List.{length-append}
 use Rattle.std.specs.Prelude.{All}
-use Rattle.headline.specs.DdmTypes.ItemTable.{item_count}
-use Rattle.headline.specs.DdmTypes.declared.answers.TxKind.{TxKind}
-use Rattle.headline.specs.DdmTypes.declared.answers.TxKind.TheVariants.{ReadTx, DataTx, EraseTx, ExclusiveTx, InjectTx, OutTx}
-use Rattle.headline.specs.DdmTypes.declared.sizes.LeafState.{LeafState}
-use Rattle.headline.specs.DdmTypes.declared.turns.Turn.{Turn}
-use Rattle.headline.specs.TreeModel.State.Values.{Node, MachineValue, root_of}
-use Rattle.headline.specs.TreeModel.State.Shape.{Skeleton, leaf_bone, dir_bone, Frame, frame_of, IsShaped}
-use Rattle.headline.specs.TreeModel.Turns.Machine.{child_count, names_part, turn_of, run_of}
-use Rattle.headline.proofs.TreeModel.FrameKept.{run-frame, run-shape}
-use Rattle.headline.proofs.Standing.{in_here}
+use Rattle.serving.specs.DdmTypes.ItemTable.{item_count}
+use Rattle.serving.specs.DdmTypes.declared.answers.TxKind.{TxKind}
+use Rattle.serving.specs.DdmTypes.declared.answers.TxKind.TheVariants.{ReadTx, DataTx, EraseTx, ExclusiveTx, InjectTx, OutTx}
+use Rattle.serving.specs.DdmTypes.declared.sizes.LeafState.{LeafState}
+use Rattle.serving.specs.DdmTypes.declared.turns.Turn.{Turn}
+use Rattle.serving.specs.TreeModel.State.Values.{Node, MachineValue, root_of}
+use Rattle.serving.specs.TreeModel.State.Shape.{Skeleton, leaf_bone, dir_bone, Frame, frame_of, IsShaped}
+use Rattle.serving.specs.TreeModel.Turns.Machine.{child_count, names_part, turn_of, run_of}
+use Rattle.serving.proofs.TreeModel.FrameKept.{run-frame, run-shape}
+use Rattle.serving.proofs.HeadlineCrate.Standing.{in_here}
 use Rattle.serving_walk.specs.Parts.{part_at}
-use Rattle.serving_model.specs.Serving.{walk_by_kind, walk_of, walks_of}
-use Rattle.serving_model.specs.Told.{AreTold, entry_state_at, walk_by_state, walked}
-use Rattle.serving_model.specs.Walk.{erase_turns}
+use Rattle.serving.specs.ServingModel.Serving.{walk_by_kind, walk_of, walks_of}
+use Rattle.serving.specs.ServingModel.Told.{AreTold, entry_state_at, walk_by_state, walked}
+use Rattle.serving.specs.ServingModel.Walk.{erase_turns}
 use Rattle.serving.specs.Shown.{waits_to_write}
 use Rattle.serving.proofs.Named.{frame-names, all-named}
 use Rattle.serving_walk.proofs.AtBus.{AtBus, at-standing, part-standing}

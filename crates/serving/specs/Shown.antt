@@ -1,13 +1,13 @@
 -- A machine that is served, and why a list isn't.
 -- To be believed with the contracts: they speak of it.
 use Rattle.std.specs.Prelude.{◌≡◌, Bool, true, false, List, ◌∷◌, Option, Some, None, Result, Err}
-use Rattle.headline.specs.DdmTypes.declared.answers.TurnAnswer.{TurnAnswer}
-use Rattle.headline.specs.DdmTypes.declared.sizes.LeafState.{LeafState}
-use Rattle.headline.specs.DdmTypes.declared.turns.Turn.{Turn}
-use Rattle.headline.specs.FlatModel.Flat.{FlatMachine}
-use Rattle.headline.specs.TreeModel.State.Values.{MachineValue}
-use Rattle.serving_model.specs.Serving.{ServingRefusal, not_served, too_many_turns}
-use Rattle.serving_model.specs.Shows.{Shows}
+use Rattle.serving.specs.DdmTypes.declared.answers.TurnAnswer.{TurnAnswer}
+use Rattle.serving.specs.DdmTypes.declared.sizes.LeafState.{LeafState}
+use Rattle.serving.specs.DdmTypes.declared.turns.Turn.{Turn}
+use Rattle.serving.specs.FlatModel.Flat.{FlatMachine}
+use Rattle.serving.specs.TreeModel.State.Values.{MachineValue}
+use Rattle.serving.specs.ServingModel.Serving.{ServingRefusal, not_served, too_many_turns}
+use Rattle.serving.specs.ServingModel.Shows.{Shows}
 use Rattle.serving.specs.declared.completing.Issued.{Issued}
 use Rattle.serving.specs.declared.refusal.ServeRefusal.{ServeRefusal}
 use Rattle.serving.specs.declared.refusal.ServeRefusal.TheVariants.{NotServed, TooManyTurns, NoMemory}

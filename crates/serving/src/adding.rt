@@ -1,7 +1,7 @@
 //! Turns are made, and added to a schedule.
 
 ghost use Rattle.std.specs.Prelude.{◌≡◌, ◌+◌, ◌<◌, ◌≤◌, ◌++◌, IfErr, true, length, All, OnOk};
-ghost use Rattle.headline.specs.TreeModel.Turns.Machine.{names_part, run_of};
+ghost use Rattle.serving.specs.TreeModel.Turns.Machine.{names_part, run_of};
 ghost use Rattle.serving.specs.declared.refusal.Stop.TheVariants.{TooMany};
 
 use crate::refusal::Stop;

@@ -1,9 +1,9 @@
 //! One instruction is completed.
 
 ghost use Rattle.std.specs.Prelude.{◌≡◌, ◌+◌, ◌<◌, ◌≤◌, ◌++◌, IfErr, OnOk, true, length};
-ghost use Rattle.headline.specs.DdmTypes.declared.turns.Turn.{Turn};
-ghost use Rattle.headline.specs.TreeModel.Turns.Machine.{names_part, run_of};
-ghost use Rattle.serving_model.specs.Serving.{turns_to_complete};
+ghost use Rattle.serving.specs.DdmTypes.declared.turns.Turn.{Turn};
+ghost use Rattle.serving.specs.TreeModel.Turns.Machine.{names_part, run_of};
+ghost use Rattle.serving.specs.ServingModel.Serving.{turns_to_complete};
 ghost use Rattle.serving.specs.Shown.{IsShown, issued_first};
 ghost use Rattle.serving.specs.declared.refusal.Stop.TheVariants.{TooMany};
 

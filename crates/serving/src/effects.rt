@@ -1,7 +1,7 @@
 //! Effects are compared.
 
 ghost use Rattle.std.specs.Prelude.{◌≡◌};
-ghost use Rattle.serving_model.specs.FlatModel.Legal.{same_effect};
+ghost use Rattle.serving.specs.FlatModel.Legal.{same_effect};
 
 use ddm_types::Effect;
 

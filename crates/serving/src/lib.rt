@@ -4,6 +4,8 @@
 mod adding;
 mod completing;
 mod effects;
+pub mod of_serving_walk;
+pub mod of_tree_model;
 mod refusal;
 mod server;
 mod serving;

@@ -1,9 +1,9 @@
 //! A machine that is served: it can be looked at, and makes turns.
 
 ghost use Rattle.std.specs.Prelude.{◌≡◌, ℕ, ◌+◌, ◌≤◌, ◌++◌, Some, true, length, All, OnOk};
-ghost use Rattle.headline.specs.TreeModel.Turns.Machine.{names_part, run_of};
-ghost use Rattle.headline.specs.DdmTypes.declared.turns.Turn.{Turn};
-ghost use Rattle.serving_model.specs.Told.{entry_state_at};
+ghost use Rattle.serving.specs.TreeModel.Turns.Machine.{names_part, run_of};
+ghost use Rattle.serving.specs.DdmTypes.declared.turns.Turn.{Turn};
+ghost use Rattle.serving.specs.ServingModel.Told.{entry_state_at};
 
 use ddm_types::{ItemId, LeafNo, LeafState, NoMemory, Turn, TurnAnswer};
 use serving_walk::Tree;

@@ -1,9 +1,9 @@
 //! A list of operations is served.
 
 ghost use Rattle.std.specs.Prelude.{◌≡◌, ◌≤◌, All, IfErr, IfOk, Ok, true, length};
-ghost use Rattle.headline.specs.DdmTypes.declared.turns.Turn.{Turn};
-ghost use Rattle.headline.specs.TreeModel.Turns.Machine.{names_part};
-ghost use Rattle.serving_model.specs.Serving.{completes_op, same_operation, serve_from};
+ghost use Rattle.serving.specs.DdmTypes.declared.turns.Turn.{Turn};
+ghost use Rattle.serving.specs.TreeModel.Turns.Machine.{names_part};
+ghost use Rattle.serving.specs.ServingModel.Serving.{completes_op, same_operation, serve_from};
 ghost use Rattle.serving.specs.Shown.{IsShown, Refuses};
 
 use crate::completing::complete;

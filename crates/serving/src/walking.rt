@@ -1,13 +1,13 @@
 //! The walks for what a leaf asks for are made.
 
 ghost use Rattle.std.specs.Prelude.{◌≡◌, ◌+◌, ◌<◌, ◌≤◌, ◌++◌, IfErr, IfOk, OnOk, true, length};
-ghost use Rattle.headline.specs.DdmTypes.ItemTable.{item_count};
-ghost use Rattle.headline.specs.DdmTypes.declared.turns.Turn.{Turn};
-ghost use Rattle.headline.specs.TreeModel.State.Shape.{IsShaped};
-ghost use Rattle.headline.specs.TreeModel.State.Values.{root_of};
-ghost use Rattle.headline.specs.TreeModel.Turns.Machine.{names_part, run_of};
-ghost use Rattle.serving_model.specs.Serving.{walk_by_kind, walks_of};
-ghost use Rattle.serving_model.specs.Told.{AreTold, entry_state_at, walk_by_state};
+ghost use Rattle.serving.specs.DdmTypes.ItemTable.{item_count};
+ghost use Rattle.serving.specs.DdmTypes.declared.turns.Turn.{Turn};
+ghost use Rattle.serving.specs.TreeModel.State.Shape.{IsShaped};
+ghost use Rattle.serving.specs.TreeModel.State.Values.{root_of};
+ghost use Rattle.serving.specs.TreeModel.Turns.Machine.{names_part, run_of};
+ghost use Rattle.serving.specs.ServingModel.Serving.{walk_by_kind, walks_of};
+ghost use Rattle.serving.specs.ServingModel.Told.{AreTold, entry_state_at, walk_by_state};
 ghost use Rattle.serving.specs.Shown.{waits_to_write};
 ghost use Rattle.serving.specs.declared.refusal.Stop.TheVariants.{TooMany};
 

@@ -35,6 +35,7 @@ pub mod LegalHarts
 pub mod StartShows
 pub mod StartRoom
 pub mod EveryOrder
+pub mod ServedLegal
 pub mod Served
 pub mod Short
 pub mod Harts

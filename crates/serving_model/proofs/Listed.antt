@@ -122,6 +122,21 @@ pub some-hart : (o : Option FlatHart) → is_some o ≡ true → (g : FlatHart) 
 some-hart None e = absurd (true≢false (sym e))
 some-hart (Some g) e = (g, refl)
 
+-- ---- after one operation
+
+module _ (m : MachineValue) (f : FlatMachine) (op : Op) (next : FlatMachine) (s : Shows m f) (harts : Harts m f) (one : Stepped m.code m.items f op next) where
+  abbrev after : MachineValue
+  after = (run_of (turns_to_complete op.hart m) m).machine
+
+  pub own-hart : (g : FlatHart) × (hart_at op.hart m ≡ Some g)
+  own-hart = some-hart (hart_at op.hart m) (harts op.hart (in_range m.code m.items f op.hart (item_words f) true one.change one.step))
+
+  pub shows-next : Shows after next
+  shows-next = subst (Shows after) one.after (shown m f op.hart own-hart.0 s own-hart.1 one.change one.step)
+
+  pub harts-next : Harts after next
+  harts-next i l = same-harts i (turns_to_complete op.hart m) m ∙ harts i (subst (λ k. i < k) (ap (λ (n : FlatMachine). length n.harts) (sym one.after) ∙ (same_counts f op.hart one.change).0) l)
+
 -- ---- the list
 
 module _ (m : MachineValue) (f : FlatMachine) (op : Op) (ops : List Op) (next last : FlatMachine) (line made : ℕ) (s : Shows m f) (harts : Harts m f) (one : Stepped m.code m.items f op next)
@@ -133,7 +148,7 @@ module _ (m : MachineValue) (f : FlatMachine) (op : Op) (ops : List Op) (next la
   c = one.change
 
   hart : (g : FlatHart) × (hart_at h m ≡ Some g)
-  hart = some-hart (hart_at h m) (harts h (in_range m.code m.items f h (item_words f) true c one.step))
+  hart = own-hart m f op next s harts one
 
   abbrev g : FlatHart
   g = hart.0
@@ -143,12 +158,6 @@ module _ (m : MachineValue) (f : FlatMachine) (op : Op) (ops : List Op) (next la
 
   abbrev m2 : MachineValue
   m2 = (run_of ts m).machine
-
-  shows2 : Shows m2 next
-  shows2 = subst (Shows m2) one.after (shown m f h g s hart.1 c one.step)
-
-  harts2 : Harts m2 next
-  harts2 i l = same-harts i ts m ∙ harts i (subst (λ k. i < k) (ap (λ (n : FlatMachine). length n.harts) (sym one.after) ∙ (same_counts f h c).0) l)
 
   later2 : storing_run m2.code m2.items next ops ≡ Some last
   later2 = subst (λ (a : Frame). storing_run a.code a.items next ops ≡ Some last) (sym (run-frame ts m)) later
@@ -185,7 +194,7 @@ module _ (m : MachineValue) (f : FlatMachine) (op : Op) (ops : List Op) (next la
 
     at : (b : Bool) → nat_lt turn_limit (made + length ts) ≡ b → IsServedList line made m (op ∷ ops) last
     at true many = too_many line (rw many refl)
-    at false few = by few (rest m2 (line + 1) (made + length ts) shows2 harts2 later2)
+    at false few = by few (rest m2 (line + 1) (made + length ts) (shows-next m f op next s harts one) (harts-next m f op next s harts one) later2)
 
 pub listed : (ops : List Op) (m : MachineValue) (f last : FlatMachine) (line made : ℕ) → Shows m f → Harts m f → storing_run m.code m.items f ops ≡ Some last → IsServedList line made m ops last
 unfolding serve_from run_of

@@ -120,17 +120,22 @@ module _ (m : MachineValue) (flat : FlatView) (h : ℕ) (g : FlatHart) (c : Chan
       one-of : {a b : Change} → (let r : Result Change HaltCause = Ok a in r ≡ Ok b) → a ≡ b
       one-of e = cc
 
-  module _ (op : Op) (hart : op.hart ≡ h) (pc : op.pc ≡ g.hart.pc) (effect : op.effect ≡ c.effect) where
+  module _ (op : Op) where
     abbrev whole : TurnAnswer → List TurnAnswer
     whole a = a ∷ (run_of (turns_behind h a m1) m1).answers
 
-    by-answer : Answers → completes_op op (whole (turn_of t m).answer) ≡ true
+    by-answer : Answers → (key : Key) × (completes_op op (whole (turn_of t m).answer) ≡ same_operation op (operation key h g c))
     unfolding run_of
-    by-answer (at_once key is) = subst (λ a. completes_op op (whole a) ≡ true) (sym is) (same-op op key h g c hart pc effect)
+    by-answer (at_once key is) = (key, ap (λ a. completes_op op (whole a)) is)
     by-answer (asks kind x is) =
-        let last : completes_op op ((turn_of t (m3 kind x is)).answer ∷ []) ≡ true = subst (λ a. completes_op op (a ∷ []) ≡ true) (sym (done kind x is).answer) (same-op op (done kind x is).key h g (done kind x is).change hart pc (effect ∙ ap (λ (d : Change). d.effect) (sym (done-same kind x is)))) in
-        subst (λ a. completes_op op (whole a) ≡ true) (sym is) (granted-first op (walks_of h m1) (t ∷ []) m1 (walks-granted kind x is) ∙ last)
+        let d = done kind x is in
+        let last : completes_op op ((turn_of t (m3 kind x is)).answer ∷ []) ≡ same_operation op (operation d.key h g c) = ap (λ a. completes_op op (a ∷ [])) d.answer ∙ ap (λ (e : Change). same_operation op (operation d.key h g e)) (done-same kind x is) in
+        (d.key, ap (λ a. completes_op op (whole a)) is ∙ (granted-first op (walks_of h m1) (t ∷ []) m1 (walks-granted kind x is) ∙ last))
 
-    pub served : completes_op op (run_of (turns_to_complete h m) m).answers ≡ true
+    -- what the turns complete is that of the step, whatever is asked for
+    pub completes-step : (key : Key) × (completes_op op (run_of (turns_to_complete h m) m).answers ≡ same_operation op (operation key h g c))
     unfolding run_of turns_to_complete
-    served = by-answer answers
+    completes-step = by-answer answers
+
+    pub served : op.hart ≡ h → op.pc ≡ g.hart.pc → op.effect ≡ c.effect → completes_op op (run_of (turns_to_complete h m) m).answers ≡ true
+    served hart pc effect = completes-step.1 ∙ same-op op completes-step.0 h g c hart pc effect

@@ -28,7 +28,7 @@ use Rattle.serving_model.specs.TreeRules.Bus.Rules.{items_of_machine}
 use Rattle.serving_model.specs.Rest.{tree_rests, trees_have_room, is_at_rest, has_room}
 use Rattle.serving_model.specs.Parts.{FlatView, MayEnd, Have, AllHave}
 use Rattle.serving_model.specs.OneLeaf.{leaf_hart, hart_at, written_item, MayEndFor, LeafIs}
-use Rattle.serving_model.specs.Serving.{walks_of, turns_behind, turns_to_complete, completes_op}
+use Rattle.serving_model.specs.Serving.{walks_of, turns_behind, turns_to_complete, same_operation, completes_op}
 use Rattle.serving_model.specs.Shows.{same_reservation, view, Shows}
 use Rattle.serving_model.specs.Laws.{Comes}
 use Rattle.serving_model.specs.Told.{AreTold}
@@ -37,7 +37,7 @@ use Rattle.serving_model.proofs.Wants.{WantsTo, to_read, to_write, to_write_rese
 use Rattle.serving_model.proofs.Instruction.{run-on, same-top, root-same, Reads, root-reads, Came, came, walked, told}
 use Rattle.serving_model.proofs.Completing.{own-is}
 use Rattle.serving_model.proofs.Found.{RootFound, root-found}
-use Rattle.serving_model.proofs.Served.{operation, Answers, at_once, asks, answers, done, done-same, step3, served}
+use Rattle.serving_model.proofs.Served.{operation, Answers, at_once, asks, answers, done, done-same, step3, completes-step, served}
 use Rattle.serving_model.proofs.Stepped.{same-is, same-self, Ended}
 use Rattle.serving_model.proofs.Turned.{turn-shows}
 
@@ -245,6 +245,9 @@ module _ (m : MachineValue) (f : FlatMachine) (h : ℕ) (g : FlatHart) (s : Show
       by : Answers m flat h g c s.shaped s.rules s.rests s.room have may own step → ((key : Key) × ((turn_of t m).answer ≡ TurnAnswer.Retired (operation key h g c))) ⊎ ((kind : TxKind) × (x : ℕ) × ((turn_of t m).answer ≡ TurnAnswer.Issued kind x))
       by (at_once key is) = inl (key, is)
       by (asks kind x is) = inr (kind, x, is)
+
+    pub op-completes : (op : Op) → (key : Key) × (completes_op op (run_of (turns_to_complete h m) m).answers ≡ same_operation op (operation key h g c))
+    op-completes op = completes-step m flat h g c s.shaped s.rules s.rests s.room have may own step op
 
     pub op-served : (op : Op) → op.hart ≡ h → op.pc ≡ g.hart.pc → op.effect ≡ c.effect → completes_op op (run_of (turns_to_complete h m) m).answers ≡ true
     op-served op hart pc effect = served m flat h g c s.shaped s.rules s.rests s.room have may own step op hart pc effect

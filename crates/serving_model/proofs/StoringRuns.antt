@@ -80,7 +80,7 @@ module _ (code : List CodeWord) (items : ItemTable) (words : ℕ → List ℕ) (
   as-said : hart_step code items g words true ≡ Ok c → hart_step code items g words (is_sc_ok c.effect) ≡ Ok c
   as-said step = steps (is_sc_ok c.effect) true step (again true step)
 
-  not-failed : hart_step code items g words true ≡ Ok c → fails_by (ask_of code items g.hart) g.reserved c.effect ≡ false
+  pub not-failed : hart_step code items g words true ≡ Ok c → fails_by (ask_of code items g.hart) g.reserved c.effect ≡ false
   not-failed step = never-fails (ask_of code items g.hart) g.reserved (finish_of code items g.hart) words c (changes true step) (again true step)
 
   stores : (e : Effect) → fails_by (ask_of code items g.hart) g.reserved e ≡ false → hart_step code items g words (is_sc_ok e) ≡ Ok c → hart_step code items g words true ≡ Ok c
@@ -89,7 +89,7 @@ module _ (code : List CodeWord) (items : ItemTable) (words : ℕ → List ℕ) (
 -- ---- lists
 
 module _ (code : List CodeWord) (items : ItemTable) where
-  step-legal : (f next : FlatMachine) (op : Op) → storing_step code items f op ≡ Some next → legal_step code items f op ≡ Some next
+  pub step-legal : (f next : FlatMachine) (op : Op) → storing_step code items f op ≡ Some next → legal_step code items f op ≡ Some next
   step-legal f next op e =
       let s = stepped code items f op next e in
       let made = flat_step_is code items f op.hart (is_sc_ok s.change.effect) s.change (as-said code items (item_words f) (flat_hart f op.hart) s.change s.step) in
@@ -101,7 +101,7 @@ module _ (code : List CodeWord) (items : ItemTable) where
       let s = stepped code items f op next e in
       subst (λ (a : Effect). fails_by (ask_of code items (flat_hart f op.hart).hart) (flat_hart f op.hart).reserved a ≡ false) s.effect (not-failed code items (item_words f) (flat_hart f op.hart) s.change s.step)
 
-  step-stores : (f next : FlatMachine) (op : Op) → legal_step code items f op ≡ Some next → fails_reserved code items f op ≡ false → storing_step code items f op ≡ Some next
+  pub step-stores : (f next : FlatMachine) (op : Op) → legal_step code items f op ≡ Some next → fails_reserved code items f op ≡ false → storing_step code items f op ≡ Some next
   step-stores f next op e none =
       let c = record_change code items f next op e in
       let step = stores code items (item_words f) (flat_hart f op.hart) c.change op.effect none c.step in

@@ -128,3 +128,11 @@ pub data IsServed (ops : List Op) (m : MachineValue) (f : FlatMachine) : Type 0 
 abbrev pub EveryOrderIsShown : Type 0
 EveryOrderIsShown = (t : TreeValue) (i : ImageValue) (m : MachineValue) → IsTree t → start_of t i ≡ Ok m → has_room m ≡ true
     → (ops : List Op) (last : FlatMachine) → storing_run m.code m.items (flat_start_of t i) ops ≡ Some last → IsServed ops m last
+
+-- And every legal list that is served is completed so: no other operation completes, and none in another order.
+abbrev pub ServedListsAreCompleted : Type 0
+ServedListsAreCompleted =
+    (t : TreeValue) (i : ImageValue) (m : MachineValue) → IsTree t → start_of t i ≡ Ok m → has_room m ≡ true →
+    (ops : List Op) (last : FlatMachine) (turns : List Turn) →
+    legal_run m.code m.items (flat_start_of t i) ops ≡ Some last → serve_of ops m ≡ Ok turns →
+    Completed m ops last turns

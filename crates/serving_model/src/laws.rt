@@ -1,7 +1,7 @@
 //! What holds of walks, as theorems: there is nothing to run.
 
 ghost use Rattle.serving_model.specs.ServedLists.{StoringRunsAreLegal, ListsAreServed, StartsAreShown};
-ghost use Rattle.serving_model.specs.ServedLists.{StartsHaveRoom, EveryOrderIsShown};
+ghost use Rattle.serving_model.specs.ServedLists.{StartsHaveRoom, EveryOrderIsShown, ServedListsAreCompleted};
 ghost use Rattle.serving_model.specs.Told.{WalksAreTold};
 ghost use Rattle.serving_model.specs.Laws.{PartsGive, PartsLose, RunsAreTheMachines, ReadsAreServed, ErasesAreServed};
 ghost use Rattle.serving_model.specs.Laws.{WalksBringTheItem, RequestsComplete, InstructionsAreServed, StepsAreShown};
@@ -88,6 +88,11 @@ pub fn starts_have_room()
 /// order and no other; unless the schedule has too many turns.
 pub fn every_order_is_shown()
     ensures { EveryOrderIsShown }
+{}
+
+/// Every legal list that is served is completed: its run completes just these operations, in this order.
+pub fn served_lists_are_completed()
+    ensures { ServedListsAreCompleted }
 {}
 
 /// An instruction takes at most four turns of each bus, and two of its hart.

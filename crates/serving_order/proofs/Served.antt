@@ -1,7 +1,7 @@
 -- Keys rise in the run of a list that is served: each of its operations completes in a machine at rest.
 -- Letters: s is the flat machine at the start, f the one before an operation, m the machine, h a hart, c the change of its
 -- step.
-use Rattle.std.proofs.Common.{◌≡◌, ℕ, ◌+◌, ◌<◌, Bool, true, false, List, [], ◌∷◌, ◌++◌, length, Option, Some, None, Result, Ok, Err, refl, sym, ap, subst, ◌∙◌, ◌⊎◌, inl, inr}
+use Rattle.std.proofs.Common.{◌≡◌, ℕ, ◌+◌, true, List, [], ◌∷◌, ◌++◌, length, Option, Some, None, Result, Ok, Err, refl, sym, ap, subst, ◌∙◌, ◌⊎◌, inl, inr}
 use Rattle.std.specs.Prelude.{nat_lt, option_and_then, if◌then◌else◌}
 use Rattle.headline.specs.DdmTypes.ItemTable.{ItemTable}
 use Rattle.headline.specs.DdmTypes.declared.answers.TurnAnswer.{TurnAnswer}
@@ -10,8 +10,6 @@ use Rattle.headline.specs.DdmTypes.declared.keys.Key.{Key}
 use Rattle.headline.specs.DdmTypes.declared.operations.Op.{Op}
 use Rattle.headline.specs.DdmTypes.declared.turns.Turn.{Turn}
 use Rattle.headline.specs.FlatModel.Flat.{Change, FlatHart, FlatMachine, flat_hart, item_words, hart_step}
-use Rattle.flat_model.proofs.Frames.{same_counts}
-use Rattle.flat_model.proofs.Insert.{in_range}
 use Rattle.headline.specs.TreeModel.Start.Sources.{ImageValue, TreeValue}
 use Rattle.headline.specs.TreeModel.Start.Machine.{StartRefusal, start_machine, start_refusal, start_or, start_of, flat_start_of}
 use Rattle.headline.specs.TreeModel.State.Values.{MachineValue}
@@ -28,13 +26,14 @@ use Rattle.headline.proofs.OrderLists.Listed.{each_pair-push}
 use Rattle.headline.proofs.StartOrder.{start-orderly}
 use Rattle.serving_model.specs.Rest.{is_at_rest, has_room}
 use Rattle.serving_model.specs.OneLeaf.{hart_at}
-use Rattle.serving_model.specs.Serving.{ServingRefusal, no_room, not_served, too_many_turns, turn_limit, with_turns, walks_of, turns_behind, turns_to_complete, completes_op, serve_from, serve_of}
+use Rattle.serving_model.specs.Serving.{ServingRefusal, no_room, turn_limit, walks_of, turns_behind, turns_to_complete, completes_op, serve_from, serve_of}
 use Rattle.serving_model.specs.Shows.{Shows}
 use Rattle.serving_model.specs.ServedLists.{storing_step, storing_run, StartShows}
 use Rattle.serving_model.proofs.Instruction.{run-on}
 use Rattle.serving_model.proofs.Served.{operation}
-use Rattle.serving_model.proofs.Shown.{first-answer, walks-keep, last-answer, rests3, shown}
-use Rattle.serving_model.proofs.Listed.{Stepped, stepped, Harts, same-harts, some-hart}
+use Rattle.serving_model.proofs.Shown.{first-answer, walks-keep, last-answer, rests3}
+use Rattle.serving_model.proofs.Listed.{Stepped, stepped, Harts, own-hart, shows-next, harts-next}
+use Rattle.serving_model.proofs.ServedLegal.{GoesOn, chosen}
 use Rattle.serving_model.proofs.StartShows.{start-shows}
 use Rattle.serving_order.specs.Rising.{has_lesser_key, KeysRise, ServedKeysRise}
 use Rattle.serving_order.proofs.Rising.{turns-rise}
@@ -79,23 +78,6 @@ module _ (s : FlatMachine) (m : MachineValue) (f : FlatMachine) (h : ℕ) (g : F
 
 -- ---- lists
 
--- a schedule that goes on is that of the rest, behind these turns
-record GoesOn (ts : List Turn) (rest : Result (List Turn) ServingRefusal) (turns : List Turn) : Type 0 where
-  later : List Turn
-  served : rest ≡ Ok later
-  joined : turns ≡ ts ++ later
-
-goes-on : (ts : List Turn) (rest : Result (List Turn) ServingRefusal) (turns : List Turn) → with_turns ts rest ≡ Ok turns → GoesOn ts rest turns
-goes-on ts (Ok later) turns e = record { later = later; served = refl; joined = same e } where
-  same : (let r : Result (List Turn) ServingRefusal = Ok (ts ++ later) in r ≡ Ok turns) → turns ≡ ts ++ later
-  same e = cc
-goes-on ts (Err refusal) turns e = cc
-
-chosen : (many completed : Bool) (ts : List Turn) (rest : Result (List Turn) ServingRefusal) (line : ℕ) (turns : List Turn) → (if many then Err (too_many_turns line) else if completed then with_turns ts rest else Err (not_served line)) ≡ Ok turns → GoesOn ts rest turns
-chosen true completed ts rest line turns e = cc
-chosen false true ts rest line turns e = goes-on ts rest turns e
-chosen false false ts rest line turns e = cc
-
 -- what holds before each operation
 record Before (s : FlatMachine) (m : MachineValue) (f : FlatMachine) : Type 0 where
   shows : Shows m f
@@ -107,10 +89,10 @@ module _ (s : FlatMachine) where
   after-one : (m : MachineValue) (f next : FlatMachine) (op : Op) → Before s m f → Stepped m.code m.items f op next → Before s (run_of (turns_to_complete op.hart m) m).machine next
   after-one m f next op was one =
       let ts = turns_to_complete op.hart m in
-      let hart = some-hart (hart_at op.hart m) (was.harts op.hart (in_range m.code m.items f op.hart (item_words f) true one.change one.step)) in
+      let hart = own-hart m f op next was.shows was.harts one in
       record {
-        shows = subst (Shows (run_of ts m).machine) one.after (shown m f op.hart hart.0 was.shows hart.1 one.change one.step);
-        harts = λ i l. same-harts i ts m ∙ was.harts i (subst (λ k. i < k) (ap (λ (n : FlatMachine). length n.harts) (sym one.after) ∙ (same_counts f op.hart one.change).0) l);
+        shows = shows-next m f op next was.shows was.harts one;
+        harts = harts-next m f op next was.shows was.harts one;
         orderly = run-orderly s m ts was.orderly;
         rise = subst (λ (a : Frame). KeysRise a.items (run_of ts m).machine.ops) (sym (run-frame ts m)) (completing-rises s m f op.hart hart.0 one.change was.shows hart.1 one.step was.orderly was.rise);
       }
@@ -121,7 +103,7 @@ module _ (s : FlatMachine) where
     same : (let r : Result (List Turn) ServingRefusal = Ok [] in r ≡ Ok turns) → [] ≡ turns
     same e = cc
   list-rises (op ∷ ops) m f last line made turns was run e = at (λ m2 f2 line made later was run e. list-rises ops m2 f2 last line made later was run e) (storing_step m.code m.items f op) refl run where
-    g : GoesOn (turns_to_complete op.hart m) (serve_from (line + 1) (made + length (turns_to_complete op.hart m)) ops (run_of (turns_to_complete op.hart m) m).machine) turns
+    g : GoesOn (completes_op op (run_of (turns_to_complete op.hart m) m).answers) (turns_to_complete op.hart m) (serve_from (line + 1) (made + length (turns_to_complete op.hart m)) ops (run_of (turns_to_complete op.hart m) m).machine) turns
     g = chosen (nat_lt turn_limit (made + length (turns_to_complete op.hart m))) (completes_op op (run_of (turns_to_complete op.hart m) m).answers) (turns_to_complete op.hart m) (serve_from (line + 1) (made + length (turns_to_complete op.hart m)) ops (run_of (turns_to_complete op.hart m) m).machine) line turns e
 
     at : ((k : MachineValue) (f2 : FlatMachine) (line made : ℕ) (later : List Turn) → Before s k f2 → storing_run k.code k.items f2 ops ≡ Some last → serve_from line made ops k ≡ Ok later → KeysRise k.items (run_of later k).machine.ops)

@@ -1,2 +1,5 @@
-pub mod Parts
-pub mod CanStart
+pub mod ServingModel
+pub mod TreeModel
+mod Parts
+mod CanStart
+pub mod Complete

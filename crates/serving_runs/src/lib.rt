@@ -1,6 +1,7 @@
-//! The machine of any tree is served: the schedule on which it completes the operations of a witness in their order.
+//! The machine of any tree is served: the schedule on which it completes legal operations in their order.
 #![tactic(auto)]
 
+pub mod laws;
 mod looking;
 mod refusal;
 mod room;

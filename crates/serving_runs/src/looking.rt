@@ -1,14 +1,14 @@
 //! What a walk looks at in a machine of any tree: a child of a bus, and what it holds.
 
 ghost use Rattle.std.specs.Prelude.{◌≡◌, ◌<◌, Some, true};
-ghost use Rattle.headline.specs.DdmTypes.ItemTable.{item_count};
-ghost use Rattle.headline.specs.TreeModel.Turns.Machine.{child_count, child_hold_of, child_of, is_child_of};
+ghost use Rattle.serving_runs.specs.DdmTypes.ItemTable.{item_count};
+ghost use Rattle.serving_runs.specs.TreeModel.Turns.Machine.{child_count, child_hold_of, child_of, is_child_of};
 ghost use Rattle.any_runs.specs.AnyMachine.Any.{depths_state, machine_state, state_in};
 
 use any_runs::of_any_machine::{AnyMachine, Depths, Machines};
 use any_runs::of_ddm_tree::{Dir, Machine, Subtree};
 use ddm_types::{BusNo, ChildNo, Hold, ItemId};
-use headline::of_tree_model::TreeChild;
+use serving::of_tree_model::TreeChild;
 
 // Each call below has one for machines whose directories under bus 0 are over these children: a check of three types within
 // one another is beyond its limits.

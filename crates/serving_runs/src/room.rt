@@ -1,7 +1,7 @@
 //! Whether the sizes of a tree have room for its items.
 
 ghost use Rattle.std.specs.Prelude.{◌≡◌};
-ghost use Rattle.serving_model.specs.Rest.{sizes_have_room};
+ghost use Rattle.serving_runs.specs.ServingModel.Rest.{sizes_have_room};
 
 use tree_config::TreeConfig;
 

@@ -6,9 +6,9 @@ use crate::looking::{child, child_hold};
 use any_runs::of_any_machine::AnyMachine;
 use any_runs::run;
 use ddm_types::{BusNo, ChildNo, Hold, ItemId, LeafNo, LeafState, NoMemory, Turn, TurnAnswer};
-use headline::of_tree_model::TreeChild;
 use serving::Server;
-use serving_walk::Tree;
+use serving::of_serving_walk::Tree;
+use serving::of_tree_model::TreeChild;
 
 /// A machine of any tree. It isn't dropped: `release` lets its machine go.
 pub(crate) struct Served {

@@ -1,10 +1,10 @@
-//! The text of a served witness.
+//! The text of served operations.
 
 ghost use Rattle.std.specs.Prelude.{◌≡◌, ◌≤◌, ◌⊎◌, List, All, Ok, IfErr, IfOk, Result, length, true};
-ghost use Rattle.headline.specs.DdmTypes.declared.turns.Turn.{Turn};
-ghost use Rattle.headline.specs.TreeModel.Turns.Machine.{names_part};
-ghost use Rattle.text_model.specs.Schedule.{schedule_text};
-ghost use Rattle.serving_model.specs.Serving.{ServingRefusal, serve_from};
+ghost use Rattle.serving_runs.specs.DdmTypes.declared.turns.Turn.{Turn};
+ghost use Rattle.serving_runs.specs.TreeModel.Turns.Machine.{names_part};
+ghost use Rattle.serving_runs.specs.TextModel.Schedule.{schedule_text};
+ghost use Rattle.serving_runs.specs.ServingModel.Serving.{ServingRefusal, serve_from};
 ghost use Rattle.serving.specs.Shown as served;
 ghost use Rattle.serving.specs.Shown.{IsShown};
 ghost use Rattle.any_runs.specs.AnyMachine.Any.{machine_state};
@@ -20,7 +20,6 @@ use schedule_log::write_schedule;
 use serving::{ServeRefusal, serve};
 use std::alloc::Global;
 use tree_config::TreeConfig;
-use witness_check::ops_of;
 
 fn refused(why: ServeRefusal) -> ServedRefusal
     ensures { (r : Result (List Turn) ServingRefusal) → served.Refuses why r
@@ -53,33 +52,29 @@ fn turns_for(alloc: Global, machine: AnyMachine, ops: &[Op]) -> Result<Vec<Turn>
     }
 }
 
-/// The text of the schedule on which the machine of a tree, before its first turn, completes the operations of a witness
-/// in their order and no other; or why there is none.
+/// The text of the schedule on which the machine of a tree, before its first turn, completes legal operations in their
+/// order and no other; or why there is none.
 #[tactic(auto, unfolding(crate::specs::Served::served_of))]
 pub fn served_text(
     alloc: Global,
     tree: &TreeConfig,
     machine: AnyMachine,
-    witness: &[u8],
+    ops: &[Op],
 ) -> Result<Vec<u8>, ServedRefusal>
-    requires { CanServe tree.now witness.now (machine_state machine) }
+    requires { CanServe tree.now ops.now (machine_state machine) }
     ensures text { IfOk result
         (λ text. (turns : List Turn)
-        × (served_of tree.now witness.now (machine_state machine).machine ≡ Ok turns)
+        × (served_of tree.now ops.now (machine_state machine).machine ≡ Ok turns)
         × (text.items ≡ schedule_text turns)) }
     ensures refused { IfErr result
         (λ r. (r ≡ refusal.NoMemory)
-        ⊎ Refuses r (served_of tree.now witness.now (machine_state machine).machine)) }
+        ⊎ Refuses r (served_of tree.now ops.now (machine_state machine).machine)) }
 {
     if !has_room(tree, machine.items().len()) {
         release(machine);
         return Err(ServedRefusal::NoRoom);
     }
-    let Ok(ops) = ops_of(alloc, witness) else {
-        release(machine);
-        return Err(ServedRefusal::NoMemory);
-    };
-    let turns = turns_for(alloc, machine, &ops)?;
+    let turns = turns_for(alloc, machine, ops)?;
     match write_schedule(alloc, &turns) {
         Ok(text) => Ok(text),
         Err(_) => Err(ServedRefusal::NoMemory),

@@ -2,6 +2,7 @@
 #![tactic(auto)]
 
 mod erasing;
+pub mod of_tree_model;
 mod parts;
 mod reading;
 mod taking;

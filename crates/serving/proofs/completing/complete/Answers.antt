@@ -1,7 +1,7 @@
 use Rattle.std.proofs.Common.{◌≡◌, Err, length, sym, ap, subst, ◌∙◌, arith, rules, true, length-append}
 use Rattle.std.proofs.lemmas.Result.{on_ok_weaker, IfErr-weaker}
-use Rattle.headline.specs.DdmTypes.declared.turns.Turn.{Turn}
-use Rattle.headline.specs.TreeModel.Turns.Machine.{names_part}
+use Rattle.serving.specs.DdmTypes.declared.turns.Turn.{Turn}
+use Rattle.serving.specs.TreeModel.Turns.Machine.{names_part}
 use Rattle.serving.proofs.Completes.{one-shorter, shaped-then, top-then, named-then, machine-one, turns-one, answers-one, told-for, length-for, turns-for, named-for, machine-for, answers-for}
 use Rattle.serving.proofs.completing.complete.Goals as goal
 

@@ -1,5 +1,5 @@
 use Rattle.std.proofs.Common.{◌≡◌, drop}
-use Rattle.serving_model.specs.Serving.{completes_op}
+use Rattle.serving.specs.ServingModel.Serving.{completes_op}
 use Rattle.serving.proofs.serving.completes.Given as goal
 
 abbrev pub invariant-loop-answer : goal.invariant-loop-answer

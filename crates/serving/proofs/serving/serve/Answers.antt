@@ -1,6 +1,6 @@
 use Rattle.std.proofs.Common.{◌≡◌, false, true, sym, ap, ◌∙◌}
-use Rattle.headline.specs.TreeModel.Turns.Machine.{run_of}
-use Rattle.serving_model.specs.Serving.{completes_op, turns_to_complete}
+use Rattle.serving.specs.TreeModel.Turns.Machine.{run_of}
+use Rattle.serving.specs.ServingModel.Serving.{completes_op, turns_to_complete}
 use Rattle.serving.proofs.Lines.{ends, goes-on, stops-many, stops-other}
 use Rattle.serving.proofs.serving.serve.Goals as goal
 

@@ -1,7 +1,7 @@
 use Rattle.std.proofs.Common.{Some, sym, ap, ◌++◌, ◌∙◌}
-use Rattle.headline.specs.TreeModel.State.Values.{root_of}
-use Rattle.serving_model.specs.Walk.{read_turns, erase_turns}
-use Rattle.serving_model.specs.Serving.{walk_by_kind}
+use Rattle.serving.specs.TreeModel.State.Values.{root_of}
+use Rattle.serving.specs.ServingModel.Walk.{read_turns, erase_turns}
+use Rattle.serving.specs.ServingModel.Serving.{walk_by_kind}
 use Rattle.serving_walk.specs.Parts.{part_at}
 use Rattle.serving.proofs.Walked.{root-part, other-kind}
 use Rattle.serving.proofs.walking.first_walk.Goals as goal

@@ -1,6 +1,6 @@
 use Rattle.std.proofs.Common.{Some, sym, ap, ◌++◌, ◌∙◌}
-use Rattle.serving_model.specs.Walk.{erase_turns}
-use Rattle.headline.specs.TreeModel.State.Values.{root_of}
+use Rattle.serving.specs.ServingModel.Walk.{erase_turns}
+use Rattle.serving.specs.TreeModel.State.Values.{root_of}
 use Rattle.serving_walk.specs.Parts.{part_at}
 use Rattle.serving.proofs.Walked.{root-part, waiting-walk}
 use Rattle.serving.proofs.walking.later_walk.Goals as goal

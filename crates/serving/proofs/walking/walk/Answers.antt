@@ -1,8 +1,8 @@
 use Rattle.std.proofs.Common.{◌≡◌, Err, length, sym, ap, ◌++◌, ◌∙◌, append_assoc, arith, rules}
 use Rattle.std.proofs.lemmas.List.{length-append}
 use Rattle.std.proofs.lemmas.Result.{on_ok_weaker, IfErr-weaker}
-use Rattle.headline.specs.TreeModel.Turns.Machine.{run_of}
-use Rattle.serving_model.proofs.Instruction.{run-on}
+use Rattle.serving.specs.TreeModel.Turns.Machine.{run_of}
+use Rattle.serving.proofs.ServingModel.Instruction.{run-on}
 use Rattle.serving.proofs.Walked.{run-on_answers, first-named, first-shorter, later-shaped, later-top, later-leaf, later-item, later-named, both-are}
 use Rattle.serving.proofs.walking.walk.Goals as goal
 

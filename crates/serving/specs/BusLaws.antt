@@ -1,0 +1,2 @@
+-- Of `bus_laws`, what this crate and those above it name.
+pub use Rattle.serving_walk.specs.BusLaws.IsTree

@@ -1,0 +1,2 @@
+-- Of `tree_rules`, what this crate and those above it name.
+pub use Rattle.serving_walk.specs.TreeRules.Bus
