@@ -1,0 +1,4 @@
+pub mod Either
+pub mod States
+pub mod Levels
+pub mod Counted

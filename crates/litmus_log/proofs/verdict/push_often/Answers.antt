@@ -1,0 +1,8 @@
+use Rattle.std.proofs.Common.{subst}
+use Rattle.ddm_text.specs.Adds.{Adds, ◌▸◌}
+use Rattle.litmus_log.proofs.verdict.push_often.Goals as goal
+
+pub returns : goal.returns
+returns c =
+    c.in_ok-push_bytes.ensures ▸ subst (Adds _ _) c.deref.ensures.value c.in_ok-push_bytes-2.ensures ▸ c.in_ok-push_bytes-3.ensures
+    ▸ subst (Adds _ _) c.often_text.ensures c.in_ok-push_bytes-4.ensures
